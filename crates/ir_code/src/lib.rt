@@ -1,0 +1,5 @@
+// The code of the word machine: its instructions, its images, and what a run does.
+#![tactic(auto)]
+
+pub mod image;
+pub mod instr;

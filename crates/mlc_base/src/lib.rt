@@ -1,0 +1,4 @@
+// What every layer of the compiler speaks of.
+#![tactic(auto)]
+
+pub mod memory;

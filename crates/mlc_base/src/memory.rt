@@ -1,0 +1,21 @@
+// Want of memory.
+
+use std::alloc::{AllocError, AllocFailed};
+use thiserror::Error;
+
+/// There was no memory for what the call had to keep.
+#[derive(Clone, Copy, PartialEq, Eq, Debug, Error)]
+#[error("out of memory")]
+pub struct NoMemory;
+
+impl From<AllocError> for NoMemory {
+    fn from(_error: AllocError) -> NoMemory {
+        NoMemory
+    }
+}
+
+impl<T: Drop> From<AllocFailed<T>> for NoMemory {
+    fn from(_error: AllocFailed<T>) -> NoMemory {
+        NoMemory
+    }
+}
