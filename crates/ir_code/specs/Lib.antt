@@ -1,1 +1,2 @@
+pub mod ImageBytes
 pub mod Program
