@@ -134,7 +134,7 @@ abbrev pub first_unknown : List ℕ → Option ℕ
 first_unknown bytes = position (λ r. not (is_instr r)) (fours (words (drop (code_start bytes) bytes)))
 
 -- the first of the checks that fails, in their order: the offset that it names
-abbrev pub first_failed : List ℕ → Option ℕ
+unfoldable pub first_failed : List ℕ → Option ℕ
 first_failed bytes =
   if nat_lt (length bytes) 16 then Some (length bytes)
   else (if not (starts_with eqb bytes magic) then Some 0

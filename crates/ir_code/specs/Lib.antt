@@ -1,2 +1,4 @@
 pub mod ImageBytes
 pub mod Program
+pub mod Reading
+pub mod Refused

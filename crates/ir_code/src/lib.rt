@@ -4,3 +4,6 @@
 pub mod image;
 pub mod instr;
 pub mod opcode;
+pub mod read;
+pub mod refused;
+pub mod write;

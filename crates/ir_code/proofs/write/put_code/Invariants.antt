@@ -1,0 +1,7 @@
+use Rattle.std.proofs.Common.{◌≡◌, ◌++◌, take}
+use Rattle.std.specs.List.{flat_map}
+use Rattle.ir_code.specs.Reading.{instr_bytes}
+use Rattle.ir_code.proofs.write.put_code.Given as goal
+
+abbrev pub invariant-loop-instr : goal.invariant-loop-instr
+invariant-loop-instr l = l.out.items ≡ l.initial.out.items ++ flat_map instr_bytes (take l.instr-index l.code)
