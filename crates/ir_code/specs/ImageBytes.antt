@@ -1,5 +1,5 @@
 -- Images as bytes. All numbers are words of four bytes, the least byte first.
-use Rattle.std.specs.Prelude.{◌≡◌, ℕ, ◌+◌, ◌*◌, ◌^◌, ◌<◌, ◌≤◌, min, Bool, not, ◌&&◌, ◌||◌, eqb, List, [], ◌∷◌, ◌++◌, length, map, drop, Option, Some, None, option_map, nat_lt, nat_le, ◌==◌, if◌then◌else◌, slice_index, codes}
+use Rattle.std.specs.Prelude.{◌≡◌, ℕ, ◌+◌, ◌*◌, ◌^◌, ◌<◌, ◌≤◌, min, Bool, not, ◌&&◌, ◌||◌, eqb, List, [], ◌∷◌, ◌++◌, length, map, drop, Option, Some, option_map, nat_lt, nat_le, ◌==◌, if◌then◌else◌, slice_index, codes}
 use Rattle.std.specs.List.{AllByRecursion, flat_map, list_any, position, starts_with}
 use Rattle.std.specs.Int.{w32, to_le_bytes, from_le_bytes}
 use Rattle.ir_code.specs.Program.{Program}
@@ -136,9 +136,9 @@ first_unknown bytes = position (λ r. not (is_instr r)) (fours (words (drop (cod
 -- the first of the checks that fails, in their order: the offset that it names
 unfoldable pub first_failed : List ℕ → Option ℕ
 first_failed bytes =
-  if nat_lt (length bytes) 16 then Some (length bytes)
-  else (if not (starts_with eqb bytes magic) then Some 0
-  else (if not (slice_index (words bytes) 1 == 1) then Some 4
-  else (if nat_lt (2 ^ 27) (constants_said bytes + 4 * code_said bytes) then Some 8
-  else (if not (length bytes == code_end bytes) then Some (min (length bytes) (code_end bytes))
-  else option_map (λ i. code_start bytes + 16 * i) (first_unknown bytes)))))
+    if nat_lt (length bytes) 16 then Some (length bytes)
+    else (if not (starts_with eqb bytes magic) then Some 0
+    else (if not (slice_index (words bytes) 1 == 1) then Some 4
+    else (if nat_lt (2 ^ 27) (constants_said bytes + 4 * code_said bytes) then Some 8
+    else (if not (length bytes == code_end bytes) then Some (min (length bytes) (code_end bytes))
+    else option_map (λ i. code_start bytes + 16 * i) (first_unknown bytes)))))

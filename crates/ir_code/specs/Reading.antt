@@ -1,5 +1,5 @@
 -- How far bytes are read.
-use Rattle.std.specs.Prelude.{◌≡◌, ℕ, ◌+◌, ◌-◌, ◌*◌, ◌^◌, ◌≤◌, false, not, List, [], ◌∷◌, ◌++◌, length, Option, option_map}
+use Rattle.std.specs.Prelude.{◌≡◌, ℕ, ◌+◌, ◌*◌, ◌^◌, ◌≤◌, false, not, List, [], ◌∷◌, ◌++◌, length, Option, option_map}
 use Rattle.std.specs.List.{AllByRecursion, flat_map, position}
 use Rattle.ir_code.specs.declared.instr.Instr.{Instr}
 use Rattle.ir_code.specs.ImageBytes.{Row, IsWord, magic, word_bytes, words_of, words, fours, is_instr}

@@ -114,8 +114,14 @@ fn of_two(op: u32, a: u32, b: u32) -> Option<Instr>
         2 => Some(Instr::Mov { dst: a, src: b }),
         4 => Some(Instr::Brz { test: a, target: b }),
         5 => Some(Instr::Switch { index: a, last: b }),
-        6 => Some(Instr::Call { target: a, frame: b }),
-        9 => Some(Instr::PushHandler { record: a, target: b }),
+        6 => Some(Instr::Call {
+            target: a,
+            frame: b,
+        }),
+        9 => Some(Instr::PushHandler {
+            record: a,
+            target: b,
+        }),
         13 => Some(Instr::Alloc { dst: a, words: b }),
         14 => Some(Instr::AllocVar { dst: a, words: b }),
         40 => Some(Instr::IText { dst: a, src: b }),
@@ -130,9 +136,21 @@ fn of_three(op: u32, a: u32, b: u32, c: u32) -> Instr
     ensures { row_of result ≡ (op, a, b, c) }
 {
     match op {
-        15 => Instr::Ld { dst: a, base: b, offset: c },
-        16 => Instr::St { base: a, offset: b, src: c },
-        17 => Instr::Copy { dst: a, src: b, count: c },
+        15 => Instr::Ld {
+            dst: a,
+            base: b,
+            offset: c,
+        },
+        16 => Instr::St {
+            base: a,
+            offset: b,
+            src: c,
+        },
+        17 => Instr::Copy {
+            dst: a,
+            src: b,
+            count: c,
+        },
         18..=24 => of_signed(op, a, b, c),
         25..=29 => of_word(op, a, b, c),
         30..=35 => of_bits(op, a, b, c),

@@ -97,7 +97,12 @@ fn read_instr(bytes: &[u8]) -> (Option<Instr>, &[u8])
 }
 
 /// The instructions that these bytes are, so many; the bytes begin at start.
-fn read_code(alloc: Global, start: u64, count: u32, bytes: &[u8]) -> Result<Vec<Instr>, ImageRefused>
+fn read_code(
+    alloc: Global,
+    start: u64,
+    count: u32,
+    bytes: &[u8],
+) -> Result<Vec<Instr>, ImageRefused>
     requires whole { length bytes.now ≡ 16 * count }
     requires fits { start + 16 * count < 2 ^ 64 }
     ensures found { IfOk result (λ code. HasCode bytes.now code.items []) }

@@ -1,0 +1,47 @@
+-- The checks of an image, one after the other.
+use Rattle.std.proofs.Common.{◌≡◌, ◌≢◌, ℕ, ◌+◌, ◌*◌, ◌^◌, ◌<◌, ◌≤◌, min, true, false, not, cond, eqb, ltb, List, ◌∷◌, ◌++◌, length, drop, Option, Some, refl, ◌∙◌}
+use Rattle.std.specs.List.{starts_with}
+use Rattle.std.proofs.lemmas.Bool.{lt-ltb, le-ltb, ne_eqb, eq-eqb}
+use Rattle.std.proofs.Math.Seq.{drop-append-add}
+use Rattle.ir_code.specs.ImageBytes.{magic, word_bytes, words, first_failed}
+use Rattle.ir_code.specs.Reading.{unknown_from}
+
+pub fails_short : (bytes : List ℕ) → length bytes < 16 → first_failed bytes ≡ Some (length bytes)
+unfolding first_failed
+fails_short bytes lt = rw (lt-ltb (length bytes) 16 lt) refl
+
+pub fails_magic : (bytes : List ℕ) → 16 ≤ length bytes → starts_with eqb bytes magic ≡ false → first_failed bytes ≡ Some 0
+unfolding first_failed
+fails_magic bytes le m = rw (le-ltb (length bytes) 16 le, m) refl
+
+pub fails_version : (bytes : List ℕ) (w v : ℕ) (rest : List ℕ) → 16 ≤ length bytes → starts_with eqb bytes magic ≡ true → words bytes ≡ w ∷ v ∷ rest → v ≢ 1 → first_failed bytes ≡ Some 4
+unfolding first_failed
+fails_version bytes w v rest le m e ne = rw (le-ltb (length bytes) 16 le, m, e, ne_eqb v 1 ne) refl
+
+-- the checks after the version's, where the header's words are these
+abbrev sized : List ℕ → ℕ → ℕ → Option ℕ
+sized bytes k n =
+    cond (ltb (2 ^ 27) (k + 4 * n)) (Some 8)
+    (cond (not (eqb (length bytes) (16 + 4 * k + 16 * n))) (Some (min (length bytes) (16 + 4 * k + 16 * n)))
+    (unknown_from (16 + 4 * k) (drop (16 + 4 * k) bytes)))
+
+checks : (bytes : List ℕ) (w k n : ℕ) (rest : List ℕ) → 16 ≤ length bytes → starts_with eqb bytes magic ≡ true → words bytes ≡ w ∷ 1 ∷ k ∷ n ∷ rest → first_failed bytes ≡ sized bytes k n
+unfolding first_failed unknown_from
+checks bytes w k n rest le m e = rw (le-ltb (length bytes) 16 le, m, e) refl
+
+pub fails_size : (bytes : List ℕ) (w k n : ℕ) (rest : List ℕ) → 16 ≤ length bytes → starts_with eqb bytes magic ≡ true → words bytes ≡ w ∷ 1 ∷ k ∷ n ∷ rest → 2 ^ 27 < k + 4 * n → first_failed bytes ≡ Some 8
+fails_size bytes w k n rest le m e big = checks bytes w k n rest le m e ∙ rw (lt-ltb (2 ^ 27) (k + 4 * n) big) refl
+
+pub fails_length : (bytes : List ℕ) (w k n : ℕ) (rest : List ℕ) → 16 ≤ length bytes → starts_with eqb bytes magic ≡ true → words bytes ≡ w ∷ 1 ∷ k ∷ n ∷ rest → k + 4 * n ≤ 2 ^ 27
+    → length bytes ≢ 16 + 4 * k + 16 * n → first_failed bytes ≡ Some (min (length bytes) (16 + 4 * k + 16 * n))
+fails_length bytes w k n rest le m e small ne =
+    checks bytes w k n rest le m e ∙ rw (le-ltb (2 ^ 27) (k + 4 * n) small, ne_eqb (length bytes) (16 + 4 * k + 16 * n) ne) refl
+
+pub goes_on : (bytes : List ℕ) (w k n : ℕ) (rest : List ℕ) → 16 ≤ length bytes → starts_with eqb bytes magic ≡ true → words bytes ≡ w ∷ 1 ∷ k ∷ n ∷ rest → k + 4 * n ≤ 2 ^ 27
+    → length bytes ≡ 16 + 4 * k + 16 * n → first_failed bytes ≡ unknown_from (16 + 4 * k) (drop (16 + 4 * k) bytes)
+goes_on bytes w k n rest le m e small whole =
+    checks bytes w k n rest le m e ∙ rw (le-ltb (2 ^ 27) (k + 4 * n) small, eq-eqb (length bytes) (16 + 4 * k + 16 * n) whole) refl
+
+-- what follows the header's four words
+pub past_header : (w v k n m : ℕ) (bytes r1 r2 r3 r4 : List ℕ) → bytes ≡ word_bytes w ++ r1 → r1 ≡ word_bytes v ++ r2 → r2 ≡ word_bytes k ++ r3 → r3 ≡ word_bytes n ++ r4 → drop (16 + m) bytes ≡ drop m r4
+past_header w v k n m bytes r1 r2 r3 r4 e1 e2 e3 e4 = rw (e1, e2, e3, e4) (drop-append-add (word_bytes w ++ word_bytes v ++ word_bytes k ++ word_bytes n) r4 m)
