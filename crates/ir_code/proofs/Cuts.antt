@@ -1,5 +1,5 @@
 -- Bytes as words, and words as instructions.
-use Rattle.std.proofs.Common.{◌≡◌, ℕ, ◌+◌, ◌*◌, true, false, not, List, [], ◌∷◌, ◌++◌, length, map, Some, None, refl, sym, ap, ◌∙◌, append_assoc, arith}
+use Rattle.std.proofs.Common.{◌≡◌, ℕ, suc, ◌^◌, ◌<◌, ◌+◌, ◌*◌, true, false, not, List, [], ◌∷◌, ◌++◌, length, get_or, map, Some, None, refl, sym, ap, ◌∙◌, append_assoc, arith}
 use Rattle.std.specs.List.{AllByRecursion, flat_map, prefix_len, position}
 use Rattle.std.proofs.lemmas.Bool.{lt-ltb, le-ltb}
 use Rattle.std.proofs.lemmas.List.{append-nil, length-append, length-map}
@@ -125,3 +125,8 @@ code_more bytes code rest i after h one = record {
       ∙ ap (λ (x : List ℕ). x ++ after) (sym (flat_map-append instr_bytes code (i ∷ []) ∙ ap (λ (y : List ℕ). flat_map instr_bytes code ++ y) (append-nil (instr_bytes i))));
   are_words = all_append HasWords code (i ∷ []) h.are_words (one.are_words, tt);
 }
+
+-- numbers that fit in a word each
+pub fit_words : (ws : List ℕ) → ((i : ℕ) → get_or ws i 0 < 2 ^ 32) → AllByRecursion IsWord ws
+fit_words [] h = tt
+fit_words (w ∷ ws) h = (h 0, fit_words ws (λ i. h (suc i)))

@@ -1,9 +1,9 @@
 // Images to bytes.
 
 ghost use Rattle.std.specs.Prelude.{◌≡◌, ◌++◌, IfOk, OnOk};
-ghost use Rattle.std.specs.List.{flat_map};
-ghost use Rattle.ir_code.specs.ImageBytes.{ImageBytes, word_bytes};
-ghost use Rattle.ir_code.specs.Reading.{instr_bytes};
+ghost use Rattle.std.specs.List.{AllByRecursion, flat_map};
+ghost use Rattle.ir_code.specs.ImageBytes.{ImageBytes, IsProgram, IsWord, word_bytes};
+ghost use Rattle.ir_code.specs.Reading.{instr_bytes, HasWords};
 
 use crate::image::Image;
 use crate::instr::Instr;
@@ -11,7 +11,8 @@ use mlc_base::memory::NoMemory;
 use std::alloc::Global;
 
 fn put_words(out: &mut Vec<u8>, words: &[u32]) -> Result<(), NoMemory>
-    ensures { OnOk result (out.new.items ≡ out.old.items ++ flat_map word_bytes words.now) }
+    ensures written { OnOk result (out.new.items ≡ out.old.items ++ flat_map word_bytes words.now) }
+    ensures are_words { AllByRecursion IsWord words.now }
 {
     for word in words {
         out.extend_from_slice(&word.to_le_bytes())?;
@@ -20,7 +21,8 @@ fn put_words(out: &mut Vec<u8>, words: &[u32]) -> Result<(), NoMemory>
 }
 
 fn put_code(out: &mut Vec<u8>, code: &[Instr]) -> Result<(), NoMemory>
-    ensures { OnOk result (out.new.items ≡ out.old.items ++ flat_map instr_bytes code.now) }
+    ensures written { OnOk result (out.new.items ≡ out.old.items ++ flat_map instr_bytes code.now) }
+    ensures are_words { OnOk result (AllByRecursion HasWords code.now) }
 {
     for instr in code {
         put_words(out, &instr.words())?;
@@ -30,7 +32,7 @@ fn put_code(out: &mut Vec<u8>, code: &[Instr]) -> Result<(), NoMemory>
 
 /// The image's bytes.
 pub fn write_image(alloc: Global, image: &Image) -> Result<Vec<u8>, NoMemory>
-    ensures { IfOk result (λ v. ImageBytes image.now v.items) }
+    ensures { IfOk result (λ v. IsProgram image.now × ImageBytes image.now v.items) }
 {
     let constants = image.constants();
     let code = image.code();
