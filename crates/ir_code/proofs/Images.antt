@@ -30,15 +30,18 @@ image_read bytes constants code k n rest after h c ck d dn =
     rw (h.parts, c.parts, last, ← ck, ← dn) refl in
     (record { constants = c.are_words; code = d.are_words; small = rw (ck, dn) h.small }, whole ∙ image_parts p)
 
+pub words-image : (p : Program) → IsProgram p → words (image_bytes p) ≡ 827870285 ∷ image_words p
+words-image p is =
+    let said : AllByRecursion IsWord (827870285 ∷ image_words p) =
+      (omega arith, (omega arith, (omega (arith, is.small), (omega (arith, is.small), all_append IsWord p.constants (flat_map words_of p.code) is.constants (code_words p.code is.code))))) in
+    ap words (sym (append-nil (image_bytes p))) ∙ words-all (827870285 ∷ image_words p) [] said ∙ append-nil (827870285 ∷ image_words p)
+
 -- every check passes on the bytes of a program
 pub passes : (p : Program) → IsProgram p → first_failed (image_bytes p) ≡ None
 passes p is =
     let k = length p.constants in
     let n = length p.code in
-    let said : AllByRecursion IsWord (827870285 ∷ image_words p) =
-    (omega arith, (omega arith, (omega (arith, is.small), (omega (arith, is.small), all_append IsWord p.constants (flat_map words_of p.code) is.constants (code_words p.code is.code))))) in
-    let e : words (image_bytes p) ≡ 827870285 ∷ image_words p =
-    ap words (sym (append-nil (image_bytes p))) ∙ words-all (827870285 ∷ image_words p) [] said ∙ append-nil (827870285 ∷ image_words p) in
+    let e : words (image_bytes p) ≡ 827870285 ∷ image_words p = words-image p is in
     let len : length (image_bytes p) ≡ 16 + 4 * k + 16 * n =
     length-bytes (827870285 ∷ image_words p) ∙ omega (arith, length-append p.constants (flat_map words_of p.code), length-code p.code) in
     let front = magic ++ flat_map word_bytes (1 ∷ k ∷ n ∷ []) ++ flat_map word_bytes p.constants in

@@ -2,6 +2,7 @@
 #![tactic(auto)]
 
 pub mod image;
+pub mod image_law;
 pub mod instr;
 pub mod opcode;
 pub mod read;
