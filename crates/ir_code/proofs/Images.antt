@@ -33,7 +33,7 @@ image_read bytes constants code k n rest after h c ck d dn =
 pub words-image : (p : Program) → IsProgram p → words (image_bytes p) ≡ 827870285 ∷ image_words p
 words-image p is =
     let said : AllByRecursion IsWord (827870285 ∷ image_words p) =
-      (omega arith, (omega arith, (omega (arith, is.small), (omega (arith, is.small), all_append IsWord p.constants (flat_map words_of p.code) is.constants (code_words p.code is.code))))) in
+    (omega arith, (omega arith, (omega (arith, is.small), (omega (arith, is.small), all_append IsWord p.constants (flat_map words_of p.code) is.constants (code_words p.code is.code))))) in
     ap words (sym (append-nil (image_bytes p))) ∙ words-all (827870285 ∷ image_words p) [] said ∙ append-nil (827870285 ∷ image_words p)
 
 -- every check passes on the bytes of a program

@@ -1,11 +1,11 @@
 -- No two programs have the same bytes.
-use Rattle.std.proofs.Common.{◌≡◌, ℕ, ◌+◌, ◌*◌, ◌^◌, ◌<◌, ◌≤◌, List, [], ◌∷◌, ◌++◌, length, drop, take, map, refl, sym, ap, ◌∙◌, arith}
-use Rattle.std.specs.List.{AllByRecursion, flat_map}
+use Rattle.std.proofs.Common.{◌≡◌, ℕ, List, [], ◌∷◌, ◌++◌, length, drop, take, map, refl, sym, ap, ◌∙◌}
+use Rattle.std.specs.List.{flat_map}
 use Rattle.std.proofs.lemmas.List.{append-nil}
 use Rattle.std.proofs.Math.Seq.{drop-append_seam, take-append_seam}
 use Rattle.ir_code.specs.Program.{Program}
 use Rattle.ir_code.specs.declared.instr.Instr.{Instr}
-use Rattle.ir_code.specs.ImageBytes.{Row, row_of, words_of, fours, image_words, image_bytes, IsProgram, words}
+use Rattle.ir_code.specs.ImageBytes.{row_of, words_of, fours, image_words, words}
 use Rattle.ir_code.specs.ImageLaws.{OneProgramPerImage}
 use Rattle.ir_code.proofs.Cuts.{fours-rows}
 use Rattle.ir_code.proofs.Images.{words-image}
