@@ -3,8 +3,7 @@ use Rattle.std.proofs.Common.{◌≡◌, ◌≢◌, ℕ, ◌+◌, ◌*◌, ◌^�
 use Rattle.std.specs.List.{starts_with}
 use Rattle.std.proofs.lemmas.Bool.{lt-ltb, le-ltb, ne_eqb, eq-eqb}
 use Rattle.std.proofs.Math.Seq.{drop-append-add}
-use Rattle.ir_code.specs.ImageBytes.{magic, word_bytes, words, first_failed}
-use Rattle.ir_code.specs.Reading.{unknown_from}
+use Rattle.ir_code.specs.ImageBytes.{magic, word_bytes, words, first_failed, unknown_from}
 
 pub fails_short : (bytes : List ℕ) → length bytes < 16 → first_failed bytes ≡ Some (length bytes)
 unfolding first_failed

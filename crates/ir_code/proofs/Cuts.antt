@@ -7,8 +7,8 @@ use Rattle.std.proofs.lemmas.List.Concat.{flat_map-append}
 use Rattle.std.proofs.lemmas.Nat.{from_le_bytes-to_le_bytes_4}
 use Rattle.ir_code.specs.declared.instr.Instr.{Instr}
 use Rattle.ir_code.specs.declared.instr.Instr.TheVariants.{Li, Mov, Jmp, Brz, Switch, Call, Ret, Acc, PushHandler, PopHandler, Raise, End, Alloc, AllocVar, Ld, St, Copy, Add, Sub, Mul, IDiv, IMod, IQuot, IRem, WAdd, WSub, WMul, WDiv, WMod, And, Or, Xor, Shl, Shr, Sar, ILt, ULt, Eq, SCmp, IText, Print}
-use Rattle.ir_code.specs.ImageBytes.{Row, row_of, words_of, word_bytes, IsWord, fours, words, is_instr}
-use Rattle.ir_code.specs.Reading.{instr_bytes, HasWords, HasInstr, HasCode, unknown_from}
+use Rattle.ir_code.specs.ImageBytes.{Row, row_of, words_of, word_bytes, IsWord, fours, words, is_instr, unknown_from}
+use Rattle.ir_code.specs.Reading.{instr_bytes, HasWords, HasInstr, HasCode}
 
 pub words-front : (n : ℕ) (rest : List ℕ) → IsWord n → words (word_bytes n ++ rest) ≡ n ∷ words rest
 words-front n rest lt = ap (λ (w : ℕ). w ∷ words rest) (from_le_bytes-to_le_bytes_4 n lt)

@@ -10,9 +10,9 @@ use Rattle.std.proofs.lemmas.Nat.{le_bytes_4}
 use Rattle.std.proofs.Math.Seq.{drop-append_seam}
 use Rattle.ir_code.specs.Program.{Program}
 use Rattle.ir_code.specs.declared.instr.Instr.{Instr}
-use Rattle.ir_code.specs.ImageBytes.{Row, row_of, listed, words_of, word_bytes, magic, image_words, ImageBytes, IsWord, IsProgram, fours, word_of, words, is_instr, constants_said, code_said, first_failed}
+use Rattle.ir_code.specs.ImageBytes.{Row, row_of, listed, words_of, word_bytes, magic, image_words, ImageBytes, IsWord, IsProgram, fours, word_of, words, is_instr, constants_said, code_said, first_failed, unknown_from}
 use Rattle.ir_code.specs.ImageLaws.{ChecksAreExact}
-use Rattle.ir_code.specs.Reading.{HasWords, unknown_from}
+use Rattle.ir_code.specs.Reading.{HasWords}
 use Rattle.ir_code.proofs.Cuts.{words-all, length-bytes}
 use Rattle.ir_code.proofs.Images.{passes}
 use Rattle.ir_code.proofs.Rows.{instr_at, row_again, both}

@@ -8,8 +8,8 @@ use Rattle.ir_code.specs.Program.{Program}
 use Rattle.ir_code.specs.declared.instr.Instr.{Instr}
 use Rattle.ir_code.specs.declared.refused.ImageRefused.{ImageRefused}
 use Rattle.ir_code.specs.declared.refused.ImageRefused.TheVariants.{BadImage, Memory}
-use Rattle.ir_code.specs.ImageBytes.{magic, word_bytes, words_of, image_words, image_bytes, ImageBytes, IsWord, IsProgram, words, first_failed}
-use Rattle.ir_code.specs.Reading.{instr_bytes, HasHeader, HasConstants, HasCode, unknown_from}
+use Rattle.ir_code.specs.ImageBytes.{magic, word_bytes, words_of, image_words, image_bytes, ImageBytes, IsWord, IsProgram, words, first_failed, unknown_from}
+use Rattle.ir_code.specs.Reading.{instr_bytes, HasHeader, HasConstants, HasCode}
 use Rattle.ir_code.specs.Refused.{IfOffset}
 use Rattle.ir_code.proofs.Cuts.{instrs-words, words-all, all_append, code_words, length-bytes, length-code, none_unknown}
 use Rattle.ir_code.proofs.Checks.{goes_on}

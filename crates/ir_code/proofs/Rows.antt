@@ -1,10 +1,12 @@
 -- The instruction that has a row.
-use Rattle.std.proofs.Common.{◌≡◌, ℕ, ◌<◌, ◌≤◌, Bool, true, false, ◌&&◌, ◌||◌, ◌⊎◌, inl, inr, eqb, leb, List, [], ◌∷◌, get_or, map, refl, arith, lit≤}
+use Rattle.std.proofs.Common.{◌≡◌, ℕ, ◌<◌, ◌≤◌, Bool, true, false, ◌&&◌, ◌||◌, ◌⊎◌, inl, inr, eqb, leb, List, [], ◌∷◌, get_or, map, refl, sym, ap, ◌∙◌, arith, lit≤}
 use borrow.Author.Count.{below_none, below_more}
 use Rattle.std.specs.List.{AllByRecursion, list_any}
 use Rattle.std.proofs.lemmas.Bool.{eqb-true, leb-true}
 use Rattle.ir_code.specs.declared.instr.Instr.{Instr}
 use Rattle.ir_code.specs.declared.instr.Instr.TheVariants.{Li, Mov, Jmp, Brz, Switch, Call, Ret, Acc, PushHandler, PopHandler, Raise, End, Alloc, AllocVar, Ld, St, Copy, Add, Sub, Mul, IDiv, IMod, IQuot, IRem, WAdd, WSub, WMul, WDiv, WMod, And, Or, Xor, Shl, Shr, Sar, ILt, ULt, Eq, SCmp, IText, Print}
+use Rattle.ir_code.specs.ImageLaws.{RowsAreExact, OneInstrPerRow}
+use Rattle.ir_code.proofs.Cuts.{row_is_instr}
 use Rattle.ir_code.specs.ImageBytes.{Row, row_of, is_instr, names_three, names_two, names_one}
 
 -- all instructions with these operands, by their numbers
@@ -176,3 +178,9 @@ each_op =
 -- an instruction has the row
 pub row_again : (r : Row) → is_instr r ≡ true → row_of (instr_at r) ≡ r
 row_again r e = each_op r.0 (last_op r.0 r.1 r.2 r.3 e) r.1 r.2 r.3 e
+
+pub rows_exact : RowsAreExact
+rows_exact r = (λ e. (instr_at r, row_again r e), λ h. ap is_instr (sym h.1) ∙ row_is_instr h.0)
+
+pub one_instr : OneInstrPerRow
+one_instr i j e = sym (instr_at-row_of i) ∙ ap instr_at e ∙ instr_at-row_of j

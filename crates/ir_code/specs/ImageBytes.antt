@@ -129,9 +129,9 @@ code_start bytes = 16 + 4 * constants_said bytes
 abbrev pub code_end : List ℕ → ℕ
 code_end bytes = code_start bytes + 16 * code_said bytes
 
--- the first instruction that is none
-abbrev pub first_unknown : List ℕ → Option ℕ
-first_unknown bytes = position (λ r. not (is_instr r)) (fours (words (drop (code_start bytes) bytes)))
+-- in bytes that begin at start: where the first four words that are no instruction begin
+unfoldable pub unknown_from : ℕ → List ℕ → Option ℕ
+unknown_from start bytes = option_map (λ i. start + 16 * i) (position (λ r. not (is_instr r)) (fours (words bytes)))
 
 -- the first of the checks that fails, in their order: the offset that it names
 unfoldable pub first_failed : List ℕ → Option ℕ
@@ -141,4 +141,4 @@ first_failed bytes =
     else (if not (slice_index (words bytes) 1 == 1) then Some 4
     else (if nat_lt (2 ^ 27) (constants_said bytes + 4 * code_said bytes) then Some 8
     else (if not (length bytes == code_end bytes) then Some (min (length bytes) (code_end bytes))
-    else option_map (λ i. code_start bytes + 16 * i) (first_unknown bytes)))))
+    else unknown_from (code_start bytes) (drop (code_start bytes) bytes)))))

@@ -1,6 +1,6 @@
 -- How far bytes are read.
-use Rattle.std.specs.Prelude.{◌≡◌, ℕ, ◌+◌, ◌*◌, ◌^◌, ◌≤◌, false, not, List, [], ◌∷◌, ◌++◌, length, Option, option_map}
-use Rattle.std.specs.List.{AllByRecursion, flat_map, position}
+use Rattle.std.specs.Prelude.{◌≡◌, ℕ, ◌+◌, ◌*◌, ◌^◌, ◌≤◌, false, List, [], ◌∷◌, ◌++◌, length}
+use Rattle.std.specs.List.{AllByRecursion, flat_map}
 use Rattle.ir_code.specs.declared.instr.Instr.{Instr}
 use Rattle.ir_code.specs.ImageBytes.{Row, IsWord, magic, word_bytes, words_of, words, fours, is_instr}
 
@@ -37,7 +37,3 @@ pub record HasNoInstr (bytes rest : List ℕ) : Type 0 where
 pub record HasCode (bytes : List ℕ) (code : List Instr) (rest : List ℕ) : Type 0 where
   pub parts : bytes ≡ flat_map instr_bytes code ++ rest
   pub are_words : AllByRecursion HasWords code
-
--- where the first four words that are no instruction begin, in bytes that begin at start
-unfoldable pub unknown_from : ℕ → List ℕ → Option ℕ
-unknown_from start bytes = option_map (λ i. start + 16 * i) (position (λ r. not (is_instr r)) (fours (words bytes)))

@@ -2,8 +2,8 @@
 
 ghost use Rattle.std.specs.Prelude.{◌≡◌, ◌+◌, ◌*◌, ◌^◌, ◌<◌, ◌≤◌, [], ◌∷◌, ◌++◌, length, drop, Some, IfOk, IfSome, IsNone};
 ghost use Rattle.ir_code.specs.Program.{Program};
-ghost use Rattle.ir_code.specs.ImageBytes.{ImageBytes, IsProgram, word_bytes, words, first_failed};
-ghost use Rattle.ir_code.specs.Reading.{HasHeader, HasConstants, HasInstr, HasNoInstr, HasCode, unknown_from};
+ghost use Rattle.ir_code.specs.ImageBytes.{ImageBytes, IsProgram, word_bytes, words, first_failed, unknown_from};
+ghost use Rattle.ir_code.specs.Reading.{HasHeader, HasConstants, HasInstr, HasNoInstr, HasCode};
 ghost use Rattle.ir_code.specs.Refused.{IfBadImage};
 
 use crate::image::Image;

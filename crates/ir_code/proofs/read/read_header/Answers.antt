@@ -1,6 +1,5 @@
 use Rattle.std.proofs.Common.{◌≡◌, ◌+◌, ◌*◌, Some, arith, refl, sym, ap, ◌∙◌}
-use Rattle.ir_code.specs.ImageBytes.{words}
-use Rattle.ir_code.specs.Reading.{unknown_from}
+use Rattle.ir_code.specs.ImageBytes.{words, unknown_from}
 use Rattle.ir_code.proofs.Checks.{fails_short, fails_magic, fails_version, fails_size, fails_length, goes_on, past_header}
 use Rattle.ir_code.proofs.read.read_header.Goals as goal
 
