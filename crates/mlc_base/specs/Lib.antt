@@ -1,0 +1,5 @@
+pub mod Code
+pub mod FaultLine
+pub mod File
+pub mod Files
+pub mod Names

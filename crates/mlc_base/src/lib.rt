@@ -1,4 +1,9 @@
 // What every layer of the compiler speaks of.
 #![tactic(auto)]
 
+pub mod code;
+pub mod fault;
+pub mod files;
 pub mod memory;
+pub mod names;
+pub mod place;
