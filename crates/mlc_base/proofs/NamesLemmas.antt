@@ -1,5 +1,5 @@
 -- Texts that are kept in a set, seen as a list.
-use Rattle.std.proofs.Common.{◌≡◌, ◌≢◌, ℕ, ◌<◌, inl, inr, Bool, true, false, ◌||◌, cond, nat_eq, nat_lt, if◌then◌else◌, List, [], ◌∷◌, ◌++◌, map, length, Option, Some, None, Vec, Global, refl, ap, subst, sym, ◌∙◌, option_map, slice_get, get_or, arith, position, AllPairs}
+use Rattle.std.proofs.Common.{◌≡◌, ◌≢◌, ℕ, ◌<◌, inl, inr, Bool, true, false, ◌||◌, cond, nat_eq, nat_lt, if◌then◌else◌, List, [], ◌∷◌, ◌++◌, map, length, Some, None, Vec, Global, refl, ap, subst, sym, ◌∙◌, option_map, slice_get, get_or, arith, position, AllPairs}
 use Rattle.std.specs.List.{AllByRecursion, IsDistinct, position_or_len, list_any}
 use Rattle.std.specs.Cmp.Lexicographic.{pointwise}
 use Rattle.std.specs.Str.{bytes_eq}

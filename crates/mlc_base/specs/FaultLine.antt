@@ -1,5 +1,5 @@
 -- The line that tells a refusal.
-use Rattle.std.specs.Prelude.{ℕ, List, [], ◌∷◌, ◌++◌, Option, Some, None, map, codes, decimal, nat_lt, if◌then◌else◌, slice_get}
+use Rattle.std.specs.Prelude.{ℕ, List, [], ◌++◌, Option, Some, None, map, codes, decimal, nat_lt, if◌then◌else◌, slice_get}
 use Rattle.mlc_base.specs.Code.{code_number, code_text}
 use Rattle.mlc_base.specs.File.{File}
 use Rattle.mlc_base.specs.Files.{line_of, column_of}

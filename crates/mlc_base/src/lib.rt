@@ -4,6 +4,9 @@
 pub mod code;
 pub mod fault;
 pub mod files;
+pub mod law;
 pub mod memory;
 pub mod names;
 pub mod place;
+#[cfg(test)]
+mod tests;

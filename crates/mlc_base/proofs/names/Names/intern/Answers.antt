@@ -1,7 +1,6 @@
-use Rattle.std.proofs.Common.{◌≡◌, ◌≢◌, true, false, arith, refl, ap, sym, ◌∙◌, subst, AllPairs, rules, Some, slice_get}
+use Rattle.std.proofs.Common.{◌≡◌, true, false, sym, subst}
 use Rattle.std.specs.List.{list_any}
-use Rattle.mlc_base.proofs.NamesLemmas.{texts_of, is_text, held_at, held_found, one_to_one, with_text-found, with_text-new}
-use Rattle.mlc_base.specs.Names.{with_text}
+use Rattle.mlc_base.proofs.NamesLemmas.{is_text, held_at, held_found, one_to_one, with_text-found, with_text-new}
 use Rattle.mlc_base.proofs.names.Names.intern.Goals as goal
 
 pub returns-in-Some-clause-kept : goal.returns-in-Some-clause-kept
