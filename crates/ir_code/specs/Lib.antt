@@ -1,1 +1,4 @@
+pub mod Machine
 pub mod Program
+pub mod Run
+pub mod Words
