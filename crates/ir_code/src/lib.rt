@@ -4,3 +4,4 @@
 pub mod halt;
 pub mod image;
 pub mod instr;
+pub mod law;
