@@ -8,11 +8,10 @@ use Rattle.ir_code.specs.declared.halt.Halt.{Halt}
 use Rattle.ir_code.specs.declared.halt.Halt.TheVariants.{Ended as at_end, Uncaught as at_packet, NoHeap as at_heap, NoStack as at_stack, Stuck as at_wrong}
 use Rattle.ir_code.specs.Machine.{State, StepResult, Goes, Prints, Halts, Ran, next, step, then_on, run}
 use Rattle.ir_code.specs.Laws.{IsSound, StepKeeps, go_on}
-use Rattle.ir_code.specs.Run.{halted_end}
 use Rattle.ir_code.proofs.Keeps.{step_keeps}
 use Rattle.ir_code.proofs.Runs.{run-add, run-step, run-none, run-stopped, run_grows}
 use Rattle.heap_vm.specs.declared.stop.Stop.TheVariants.{Steps}
-use Rattle.heap_vm.specs.Loaded.{halt_stop, told_end}
+use Rattle.heap_vm.specs.Loaded.{halt_stop}
 use Rattle.heap_vm.specs.Went.{Went, Whole, Cut}
 use Rattle.heap_vm.proofs.Sinks.{adds-append, adds-none, rose_after}
 
@@ -90,13 +89,6 @@ way_cut {code} {from} {steps} {s} {old} left t text k way lt h e w l rose =
       part = whole ∙ part;
     }
 
-told-halt : (h : Halt) (t : State) → told_end (halt_stop h) t ≡ Some (halted_end h t)
-told-halt at_end t = refl
-told-halt at_packet t = refl
-told-halt at_heap t = refl
-told-halt at_stack t = refl
-told-halt at_wrong t = refl
-
 -- a step that ends the run
 way_halts : {code : List Instr} {from : State} {steps : ℕ} {s : State} {old now : Option (List ℕ)} {before faults : ℕ} (left : ℕ) (t : State) (h : Halt) → OnTheWay code from steps left s old now before faults → 0 < left → Halts h t ≡ step code s → Whole (halt_stop h) (run code steps from []) t old now before faults
 way_halts {code} {from} {steps} {s} left t h way lt e =
@@ -104,14 +96,14 @@ way_halts {code} {from} {steps} {s} left t h way lt e =
     let count : (way.made + 1) + (left - 1) ≡ steps = omega (arith, way.all) in
     let stays = run-stopped code (way.made + 1) (left - 1) from [] h (ap (λ (r : Ran). r.halt) past) in
     let whole : run code steps from [] ≡ record { state = t; out = way.sofar; halt = Some h } = ap (λ n. run code n from []) (sym count) ∙ stays ∙ past in
-    rw whole (record { stopped = refl; came_to = refl; ended = told-halt h t; wrote = way.sent; kept = way.kept })
+    rw whole (record { stopped = refl; came_to = refl; wrote = way.sent; kept = way.kept })
 
 -- no step left
 pub way_over : {code : List Instr} {from : State} {steps : ℕ} {s : State} {old now : Option (List ℕ)} {before faults : ℕ} (left : ℕ) → OnTheWay code from steps left s old now before faults → left ≡ 0 → Whole Steps (run code steps from []) s old now before faults
 way_over {code} {from} {steps} {s} left way e =
     let count : way.made ≡ steps = omega (arith, way.all) in
     let whole : run code steps from [] ≡ record { state = s; out = way.sofar; halt = None } = ap (λ n. run code n from []) (sym count) ∙ way.came_to in
-    rw whole (record { stopped = refl; came_to = refl; ended = refl; wrote = way.sent; kept = way.kept })
+    rw whole (record { stopped = refl; came_to = refl; wrote = way.sent; kept = way.kept })
 
 -- by the halt
 pub went_halts : {code : List Instr} {from : State} {steps : ℕ} {s : State} {old now : Option (List ℕ)} {before faults : ℕ} (left : ℕ) (t : State) (h : Halt) → OnTheWay code from steps left s old now before faults → 0 < left → Halts h t ≡ step code s → Went (halt_stop h) code from steps t old now before faults

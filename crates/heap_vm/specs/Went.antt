@@ -1,20 +1,18 @@
 -- What a run of the machine did.
-use Rattle.std.specs.Prelude.{◌≡◌, ℕ, ◌<◌, ◌≤◌, List, [], ◌++◌, Option, Some, None, take}
+use Rattle.std.specs.Prelude.{◌≡◌, ℕ, ◌<◌, ◌≤◌, List, [], ◌++◌, Option, None, take}
 use Rattle.mlc_outside.specs.Faults.{Rose}
 use Rattle.mlc_outside.specs.Sink.{adds}
 use Rattle.ir_code.specs.Machine.{State, Prints, Ran, next, run, step}
-use Rattle.ir_code.specs.Run.{result_of}
 use Rattle.ir_code.specs.declared.instr.Instr.{Instr}
 use Rattle.heap_vm.specs.declared.stop.Stop.{Stop}
 use Rattle.heap_vm.specs.declared.stop.Stop.TheVariants.{Steps, Ended, Uncaught, NoHeap, NoStack, Stuck, WriteFault}
-use Rattle.heap_vm.specs.Loaded.{stop_of, told_end}
+use Rattle.heap_vm.specs.Loaded.{stop_of}
 
 -- all the steps were made, and all of their output taken
 pub record Whole (stop : Stop) (ran : Ran) (after : State) (old new : Option (List ℕ)) (before now : ℕ) : Type 0 where
   pub stopped : stop ≡ stop_of ran.halt
   pub came_to : after ≡ ran.state
-  pub ended : told_end stop after ≡ Some (result_of ran).end
-  pub wrote : new ≡ adds old (result_of ran).output
+  pub wrote : new ≡ adds old ran.out
   pub kept : before ≤ now
 
 -- a fault of the sink cut the run short at a Print, of whose text a part may have been taken
@@ -30,7 +28,7 @@ pub record Cut (code : List Instr) (from : State) (steps : ℕ) (after : State) 
   pub taken : ℕ
   pub wrote : new ≡ adds old (sofar ++ take taken text)
   pub rest : List ℕ
-  pub part : (result_of (run code steps from [])).output ≡ (sofar ++ take taken text) ++ rest
+  pub part : (run code steps from []).out ≡ (sofar ++ take taken text) ++ rest
 
 -- what a run of at most so many steps did, by its answer
 abbrev pub Went : Stop → List Instr → State → ℕ → State → Option (List ℕ) → Option (List ℕ) → ℕ → ℕ → Type 0

@@ -1,9 +1,12 @@
 // The machine.
 
-ghost use Rattle.std.specs.Prelude.{◌≡◌, ◌≢◌, ◌+◌, ◌^◌, ◌<◌, ◌≤◌, length, IfOk, []};
+ghost use Rattle.std.specs.Prelude.{ℕ, ◌≡◌, ◌≢◌, ◌+◌, ◌^◌, ◌<◌, ◌≤◌, length, IfOk, []};
+ghost use Rattle.ir_code.specs.Program.{Program};
+ghost use Rattle.ir_code.specs.Run.{run_of};
 ghost use Rattle.mlc_outside.specs.Sink.{WasPut};
 ghost use Rattle.heap_vm.specs.View.{state_of, Fits, Named};
 ghost use Rattle.heap_vm.specs.Loaded.{halt_stop, loaded, told_name};
+ghost use Rattle.heap_vm.specs.Told.{Tells};
 ghost use Rattle.heap_vm.specs.Went.{Went, Stayed};
 
 use crate::act::step_on;
@@ -129,6 +132,11 @@ impl Vm {
         ensures goes_on { self.old.stop ≡ Stop.Steps →
             Went result self.old.code self.old.state steps self.new.state
             (O.written out.old) (O.written out.new) (O.faults out.old) (O.faults out.new) }
+        // The first run of a program gives its output and its end.
+        ensures first { (program : Program) (heap stack : ℕ) → self.old ≡ loaded program heap stack →
+            Tells result (run_of program heap stack steps) self.new.state
+            (O.written out.old) (O.written out.new) (O.faults out.old) (O.faults out.new) }
+
         ensures stays { self.old.stop ≢ Stop.Steps →
             Stayed self.old self.new
             (O.written out.old) (O.written out.new) (O.faults out.old) (O.faults out.new) }
