@@ -1,1 +1,5 @@
+pub mod Laws
+pub mod Machine
 pub mod Program
+pub mod Run
+pub mod Words

@@ -1,5 +1,7 @@
 // The code of the word machine: its instructions, its images, and what a run does.
 #![tactic(auto)]
 
+pub mod halt;
 pub mod image;
 pub mod instr;
+pub mod law;
