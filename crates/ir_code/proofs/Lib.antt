@@ -2,5 +2,7 @@ pub mod Checks
 pub mod Cuts
 pub mod Exact
 pub mod Images
+pub mod Keeps
 pub mod Rows
+pub mod Runs
 pub mod Unique

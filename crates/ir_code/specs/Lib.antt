@@ -1,5 +1,9 @@
 pub mod ImageBytes
 pub mod ImageLaws
+pub mod Laws
+pub mod Machine
 pub mod Program
 pub mod Reading
 pub mod Refused
+pub mod Run
+pub mod Words

@@ -1,4 +1,12 @@
 // What every layer of the compiler speaks of.
 #![tactic(auto)]
 
+pub mod code;
+pub mod fault;
+pub mod files;
+pub mod law;
 pub mod memory;
+pub mod names;
+pub mod place;
+#[cfg(test)]
+mod tests;

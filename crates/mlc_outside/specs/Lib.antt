@@ -1,3 +1,9 @@
 pub mod Faults
+pub mod Files
+pub mod MemSink
+pub mod MemStore
 pub mod Sink
+pub mod SinkContents
 pub mod Store
+pub mod StoreContents
+pub mod Table

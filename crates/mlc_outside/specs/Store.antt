@@ -1,17 +1,12 @@
 -- What a call of a store does.
 use Rattle.std.specs.Prelude.{◌≡◌, ◌≢◌, ℕ, ◌≤◌, List, Option, Some, None, ⊤}
-use Rattle.std.specs.Cmp.Lexicographic.{slice_cmp}
-use Rattle.std.specs.Ordering.{nat_cmp}
-use Rattle.std.specs.FinMap.{FinMap, get, insert}
+use Rattle.std.specs.FinMap.{get, insert}
 use Rattle.mlc_outside.specs.Faults.{Rose}
+use Rattle.mlc_outside.specs.Files.{Files}
 use Rattle.mlc_outside.specs.declared.store.Read.{Read}
 use Rattle.mlc_outside.specs.declared.store.Read.TheVariants.{Bytes, Missing, Failed, Memory}
 use Rattle.mlc_outside.specs.declared.store.Wrote.{Wrote}
 use Rattle.mlc_outside.specs.declared.store.Wrote.TheVariants.{Done, Failed as Failed_write, Memory as Memory_write}
-
--- files by their paths: bytes by bytes
-abbrev pub Files : Type 0
-Files = FinMap (slice_cmp nat_cmp) (List ℕ)
 
 -- the file at a path is this, where the files are told
 abbrev pub HasFile : Option Files → List ℕ → Option (List ℕ) → Type 0

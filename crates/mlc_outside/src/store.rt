@@ -1,7 +1,8 @@
 // Where files lie.
 
 ghost use Rattle.std.specs.Prelude.{◌≡◌, ℕ, List, Option};
-ghost use Rattle.mlc_outside.specs.Store.{Files, WasRead, WasWritten, CountsRead, CountsWrite};
+ghost use Rattle.mlc_outside.specs.Files.{Files};
+ghost use Rattle.mlc_outside.specs.Store.{WasRead, WasWritten, CountsRead, CountsWrite};
 
 use std::alloc::Global;
 

@@ -1,0 +1,5 @@
+pub mod Bytes
+pub mod Runs
+pub mod Sent
+pub mod Sinks
+pub mod Writes

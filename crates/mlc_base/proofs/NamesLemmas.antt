@@ -1,0 +1,73 @@
+-- Texts that are kept in a set, seen as a list.
+use Rattle.std.proofs.Common.{◌≡◌, ◌≢◌, ℕ, ◌<◌, inl, inr, Bool, true, false, ◌||◌, cond, nat_eq, nat_lt, if◌then◌else◌, List, [], ◌∷◌, ◌++◌, map, length, Some, None, Vec, Global, refl, ap, subst, sym, ◌∙◌, option_map, slice_get, get_or, arith, position, AllPairs}
+use Rattle.std.specs.List.{AllByRecursion, IsDistinct, position_or_len, list_any}
+use Rattle.std.specs.Cmp.Lexicographic.{pointwise}
+use Rattle.std.specs.Str.{bytes_eq}
+use Rattle.std.proofs.lemmas.Bool.{ltb-true}
+use Rattle.std.proofs.lemmas.List.{map-append}
+use Rattle.std.proofs.lemmas.List.Sums.{passes_at_first}
+use Rattle.std.proofs.lemmas.Map.Made.{AllPairs-from_IsDistinct}
+use Rattle.std.proofs.lemmas.Option.{slice_get_cases, slice_get-map}
+use Rattle.std.proofs.lemmas.Slice.Eq.{bytes_eq-Decides}
+use Rattle.indexmap.specs.IndexSet.{insert_key}
+use Rattle.mlc_base.specs.Names.{with_text}
+
+abbrev pub Kept : Type 0
+Kept = Vec ℕ Global
+
+abbrev pub texts_of : List Kept → List (List ℕ)
+texts_of = map (λ t. t.items)
+
+abbrev pub is_text : List ℕ → Kept → Bool
+is_text text kept = pointwise nat_eq text kept.items
+
+abbrev pub same_text : Kept → Kept → Bool
+same_text t u = pointwise nat_eq t.items u.items
+
+list_any-texts_of : (text : List ℕ) (ks : List Kept) → list_any (bytes_eq text) (texts_of ks) ≡ list_any (is_text text) ks
+list_any-texts_of text [] = refl
+list_any-texts_of text (k ∷ ks) = ap (λ b. is_text text k || b) (list_any-texts_of text ks)
+
+-- a text that is there
+pub with_text-found : (text : List ℕ) (ks : List Kept) → list_any (is_text text) ks ≡ true → texts_of ks ≡ with_text (texts_of ks) text
+with_text-found text ks h = rw (list_any-texts_of text ks, h) refl
+
+-- a text that isn't
+pub with_text-new : (text : List ℕ) (ks ks' : List Kept) (kept : Kept) → kept.items ≡ text → list_any (is_text text) ks ≡ false → ks' ≡ insert_key same_text ks kept → texts_of ks' ≡ with_text (texts_of ks) text
+with_text-new text ks ks' kept e h i =
+    let g : list_any (same_text kept) ks ≡ false = subst (λ t. list_any (is_text t) ks ≡ false) (sym e) h in
+    let j : insert_key same_text ks kept ≡ ks ++ kept ∷ [] = ap (λ b. if b then ks else ks ++ kept ∷ []) g in
+    let m : texts_of (ks ++ kept ∷ []) ≡ texts_of ks ++ kept.items ∷ [] = map-append (λ t. t.items) ks (kept ∷ []) in
+    let w : with_text (texts_of ks) text ≡ texts_of ks ++ text ∷ [] = rw (list_any-texts_of text ks, h) refl in
+    ap texts_of (i ∙ j) ∙ m ∙ ap (λ t. texts_of ks ++ t ∷ []) e ∙ sym w
+
+-- the text at a place
+pub held_at : (text : List ℕ) (ks : List Kept) (i : ℕ) (k : Kept) → slice_get ks i ≡ Some k → is_text text k ≡ true → slice_get (texts_of ks) i ≡ Some text
+held_at text ks i k e h =
+    slice_get-map (λ t. t.items) ks i ∙ ap (option_map (λ t. t.items)) e ∙ ap Some (sym ((bytes_eq-Decides text k.items).0 h))
+
+found_place : (p : Kept → Bool) (ks : List Kept) (i : ℕ) (b : Bool) → nat_lt (position_or_len p ks) (length ks) ≡ b → cond b (Some (position_or_len p ks)) None ≡ Some i → (position_or_len p ks ≡ i) × (i < length ks)
+found_place p ks i true lt e = let at : position_or_len p ks ≡ i = cc in (at, subst (λ n. n < length ks) at (ltb-true _ _ lt))
+found_place p ks i false lt e = cc
+
+-- the text that was found
+pub held_found : (text : List ℕ) (ks : List Kept) (i : ℕ) → Some i ≡ position (is_text text) ks → slice_get (texts_of ks) i ≡ Some text
+held_found text ks i e =
+    let at = found_place (is_text text) ks i (nat_lt (position_or_len (is_text text) ks) (length ks)) refl (sym e) in
+    elim (slice_get_cases ks i).1 as (λ _. slice_get (texts_of ks) i ≡ Some text) [
+      | inl h ↦ held_at text ks i h.0 h.2 (ap (is_text text) (sym h.3 ∙ ap (λ n. get_or ks n h.0) (sym at.0)) ∙ passes_at_first (is_text text) ks h.0 (subst (λ n. n < length ks) (sym at.0) at.1))
+      | inr h ↦ absurd (omega (arith, at.1, h.0))
+    ]
+
+-- no text stands twice
+all-texts_of : (t : Kept) (ks : List Kept) → AllByRecursion (λ u. same_text t u ≡ false) ks → AllByRecursion (λ u. bytes_eq t.items u ≡ false) (texts_of ks)
+all-texts_of t [] h = tt
+all-texts_of t (k ∷ ks) h = (h.0, all-texts_of t ks h.1)
+
+distinct-texts_of : (ks : List Kept) → IsDistinct same_text ks → IsDistinct bytes_eq (texts_of ks)
+unfolding IsDistinct
+distinct-texts_of [] h = tt
+distinct-texts_of (k ∷ ks) h = (all-texts_of k ks h.0, distinct-texts_of ks h.1)
+
+pub one_to_one : (ks : List Kept) → IsDistinct same_text ks → AllPairs (λ text other. text ≢ other) (texts_of ks)
+one_to_one ks h = AllPairs-from_IsDistinct bytes_eq-Decides (texts_of ks) (distinct-texts_of ks h)
