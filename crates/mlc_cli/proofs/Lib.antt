@@ -1,0 +1,4 @@
+pub mod Sources
+pub mod Strings
+pub mod Texts
+pub mod Whole

@@ -1,0 +1,12 @@
+pub mod Command
+pub mod Constant
+pub mod Meaning
+pub mod Mlb
+pub mod Outside
+pub mod Project
+pub mod Reading
+pub mod Same
+pub mod Source
+pub mod Statuses
+pub mod Text
+pub mod Texts

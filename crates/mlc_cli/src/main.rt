@@ -1,0 +1,7 @@
+// The program mlc.
+#![tactic(auto)]
+
+mod source;
+mod text;
+
+fn main() {}
