@@ -1,6 +1,6 @@
 // Bytes to images.
 
-ghost use Rattle.std.specs.Prelude.{◌≡◌, ◌+◌, ◌*◌, ◌^◌, ◌<◌, ◌≤◌, [], ◌∷◌, ◌++◌, length, drop, Some, IfOk, IfSome, IsNone, None, Err, OnOk, IfErr};
+ghost use Rattle.std.specs.Prelude.{◌≡◌, ◌+◌, ◌*◌, ◌^◌, ◌<◌, ◌≤◌, [], ◌∷◌, ◌++◌, length, drop, Some, None, Err, IfOk, IfErr, OnOk, IfSome, IsNone};
 ghost use Rattle.ir_code.specs.Program.{Program};
 ghost use Rattle.ir_code.specs.ImageBytes.{ImageBytes, IsProgram, word_bytes, words, header_failed, first_failed, unknown_from};
 ghost use Rattle.ir_code.specs.Reading.{HasHeader, HasConstants, HasInstr, HasNoInstr, HasCode};
@@ -127,6 +127,8 @@ fn read_code(
 pub fn read_image(alloc: Global, bytes: &[u8]) -> Result<Image, ImageRefused>
     // What is read has these bytes.
     ensures found { IfOk result (λ i. IsProgram i × ImageBytes i bytes.now) }
+    // No other program has them.
+    ensures only { (p : Program) → IsProgram p → ImageBytes p bytes.now → IfOk result (λ i. i ≡ p) }
     // What the header or the length shows is refused before memory is asked for.
     ensures early { IfSome (header_failed bytes.now) (λ k. result ≡ Err (ImageRefused.BadImage k)) }
     // What is refused is refused at the first check that fails ..
