@@ -2,7 +2,7 @@
 use Rattle.std.proofs.Common.{◌≡◌, ℕ, zero, suc, ◌+◌, ◌*◌, ◌/◌, ◌%◌, ◌^◌, ◌<◌, ◌≤◌, min, Bool, true, false, not, ◌&&◌, cond, eqb, ltb, List, [], ◌∷◌, ◌++◌, length, get_or, drop, take, map, Option, Some, None, refl, sym, ap, ◌∙◌, arith}
 use Rattle.std.specs.List.{AllByRecursion, flat_map, prefix_len, position, starts_with}
 use Rattle.std.specs.Prelude.{slice_index}
-use Rattle.std.specs.Option.{option_map}
+use Rattle.std.specs.Option.{option_map, option_or}
 use Rattle.std.proofs.lemmas.Bool.{ltb-false, eqb-true}
 use Rattle.std.proofs.lemmas.List.{append-nil, length-map, length-take, length-drop, take-append-drop}
 use Rattle.std.proofs.lemmas.List.Concat.{flat_map-append}
@@ -10,7 +10,7 @@ use Rattle.std.proofs.lemmas.Nat.{le_bytes_4}
 use Rattle.std.proofs.Math.Seq.{drop-append_seam}
 use Rattle.ir_code.specs.Program.{Program}
 use Rattle.ir_code.specs.declared.instr.Instr.{Instr}
-use Rattle.ir_code.specs.ImageBytes.{Row, row_of, listed, words_of, word_bytes, magic, image_words, ImageBytes, IsWord, IsProgram, fours, word_of, words, is_instr, constants_said, code_said, first_failed, unknown_from}
+use Rattle.ir_code.specs.ImageBytes.{Row, row_of, listed, words_of, word_bytes, magic, image_words, ImageBytes, IsWord, IsProgram, fours, word_of, words, is_instr, constants_said, code_said, code_start, header_failed, first_failed, unknown_from}
 use Rattle.ir_code.specs.ImageLaws.{ChecksAreExact}
 use Rattle.ir_code.specs.Reading.{HasWords}
 use Rattle.ir_code.proofs.Cuts.{words-all, length-bytes}
@@ -119,11 +119,11 @@ record HasPassed (bytes : List ℕ) (v k n : ℕ) : Type 0 where
   whole : length bytes ≡ 16 + 4 * k + 16 * n
   known : unknown_from (16 + 4 * k) (drop (16 + 4 * k) bytes) ≡ None
 
-abbrev last_check : List ℕ → ℕ → ℕ → Option ℕ
-last_check bytes k n = unknown_from (16 + 4 * k) (drop (16 + 4 * k) bytes)
+abbrev last_check : Option ℕ
+last_check = None
 
 abbrev length_check : List ℕ → ℕ → ℕ → Option ℕ
-length_check bytes k n = cond (not (eqb (length bytes) (16 + 4 * k + 16 * n))) (Some (min (length bytes) (16 + 4 * k + 16 * n))) (last_check bytes k n)
+length_check bytes k n = cond (not (eqb (length bytes) (16 + 4 * k + 16 * n))) (Some (min (length bytes) (16 + 4 * k + 16 * n))) last_check
 
 abbrev size_check : List ℕ → ℕ → ℕ → Option ℕ
 size_check bytes k n = cond (ltb (2 ^ 27) (k + 4 * n)) (Some 8) (length_check bytes k n)
@@ -134,9 +134,9 @@ version_check bytes v k n = cond (not (eqb v 1)) (Some 4) (size_check bytes k n)
 abbrev magic_check : List ℕ → ℕ → ℕ → ℕ → Option ℕ
 magic_check bytes v k n = cond (not (starts_with eqb bytes magic)) (Some 0) (version_check bytes v k n)
 
-has_passed : (bytes : List ℕ) → first_failed bytes ≡ None → HasPassed bytes (slice_index (words bytes) 1) (constants_said bytes) (code_said bytes)
-unfolding first_failed unknown_from
-has_passed bytes e =
+header_passed : (bytes : List ℕ) → header_failed bytes ≡ None → unknown_from (code_start bytes) (drop (code_start bytes) bytes) ≡ None → HasPassed bytes (slice_index (words bytes) 1) (constants_said bytes) (code_said bytes)
+unfolding header_failed
+header_passed bytes e u =
     let v = slice_index (words bytes) 1 in
     let k = constants_said bytes in
     let n = code_said bytes in
@@ -144,15 +144,25 @@ has_passed bytes e =
     let b = passed (not (starts_with eqb bytes magic)) 0 (version_check bytes v k n) a.1 in
     let c = passed (not (eqb v 1)) 4 (size_check bytes k n) b.1 in
     let d = passed (ltb (2 ^ 27) (k + 4 * n)) 8 (length_check bytes k n) c.1 in
-    let f = passed (not (eqb (length bytes) (16 + 4 * k + 16 * n))) (min (length bytes) (16 + 4 * k + 16 * n)) (last_check bytes k n) d.1 in
+    let f = passed (not (eqb (length bytes) (16 + 4 * k + 16 * n))) (min (length bytes) (16 + 4 * k + 16 * n)) last_check d.1 in
     record {
       long = ltb-false (length bytes) 16 a.0;
       begins = not_false (starts_with eqb bytes magic) b.0;
       version = eqb-true v 1 (not_false (eqb v 1) c.0);
       small = ltb-false (2 ^ 27) (k + 4 * n) d.0;
       whole = eqb-true (length bytes) (16 + 4 * k + 16 * n) (not_false (eqb (length bytes) (16 + 4 * k + 16 * n)) f.0);
-      known = f.1;
+      known = u;
     }
+
+no_first : (o p : Option ℕ) → option_or o p ≡ None → (o ≡ None) × (p ≡ None)
+no_first None p e = (refl, e)
+no_first (Some x) p e = absurd cc
+
+has_passed : (bytes : List ℕ) → first_failed bytes ≡ None → HasPassed bytes (slice_index (words bytes) 1) (constants_said bytes) (code_said bytes)
+unfolding first_failed
+has_passed bytes e =
+    let h = no_first (header_failed bytes) (unknown_from (code_start bytes) (drop (code_start bytes) bytes)) e in
+    header_passed bytes h.0 h.1
 
 four_magic : (a b c d : ℕ) (rest : List ℕ) → starts_with eqb (a ∷ b ∷ c ∷ d ∷ rest) magic ≡ true → a ∷ b ∷ c ∷ d ∷ rest ≡ magic ++ rest
 four_magic a b c d rest e =

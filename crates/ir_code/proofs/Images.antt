@@ -8,11 +8,11 @@ use Rattle.ir_code.specs.Program.{Program}
 use Rattle.ir_code.specs.declared.instr.Instr.{Instr}
 use Rattle.ir_code.specs.declared.refused.ImageRefused.{ImageRefused}
 use Rattle.ir_code.specs.declared.refused.ImageRefused.TheVariants.{BadImage, Memory}
-use Rattle.ir_code.specs.ImageBytes.{magic, word_bytes, words_of, image_words, image_bytes, ImageBytes, IsWord, IsProgram, words, first_failed, unknown_from}
+use Rattle.ir_code.specs.ImageBytes.{magic, word_bytes, words_of, image_words, image_bytes, ImageBytes, IsWord, IsProgram, words, header_failed, first_failed, unknown_from}
 use Rattle.ir_code.specs.Reading.{instr_bytes, HasHeader, HasConstants, HasCode}
 use Rattle.ir_code.specs.Refused.{IfOffset}
 use Rattle.ir_code.proofs.Cuts.{instrs-words, words-all, all_append, code_words, length-bytes, length-code, none_unknown}
-use Rattle.ir_code.proofs.Checks.{goes_on}
+use Rattle.ir_code.proofs.Checks.{none_fails, goes_on}
 
 -- the image in the parts in which it is written and read
 pub image_parts : (p : Program) → magic ++ flat_map word_bytes (1 ∷ length p.constants ∷ length p.code ∷ []) ++ flat_map word_bytes p.constants ++ flat_map instr_bytes p.code ≡ image_bytes p
@@ -48,12 +48,16 @@ passes p is =
     let starts : 16 + 4 * k ≡ length front = omega (arith, length-bytes p.constants) in
     let past : drop (16 + 4 * k) (image_bytes p) ≡ flat_map instr_bytes p.code =
     ap (drop (16 + 4 * k)) (sym (image_parts p)) ∙ ap (λ (m : ℕ). drop m (front ++ flat_map instr_bytes p.code)) starts ∙ drop-append_seam front (flat_map instr_bytes p.code) in
-    goes_on (image_bytes p) 827870285 k n (p.constants ++ flat_map words_of p.code) (omega (arith, len)) refl e is.small len ∙ none_unknown (16 + 4 * k) p.code (drop (16 + 4 * k) (image_bytes p)) is.code past
+    let none : header_failed (image_bytes p) ≡ None = none_fails (image_bytes p) 827870285 k n (p.constants ++ flat_map words_of p.code) (omega (arith, len)) refl e is.small len in
+    goes_on (image_bytes p) 827870285 1 k n (p.constants ++ flat_map words_of p.code) e none ∙ none_unknown (16 + 4 * k) p.code (drop (16 + 4 * k) (image_bytes p)) is.code past
 
 -- so bytes with a failed check are no program's
+pub no_program : (bytes : List ℕ) (k : ℕ) → first_failed bytes ≡ Some k → (p : Program) → IsProgram p → ¬ ImageBytes p bytes
+no_program bytes k h = λ p is e. let clash : Some k ≡ None = sym h ∙ ap first_failed e ∙ passes p is in cc
+
 pub none_has : (bytes : List ℕ) (e : ImageRefused) → IfOffset e (λ k. first_failed bytes ≡ Some k) → IfOffset e (λ _. (p : Program) → IsProgram p → ¬ ImageBytes p bytes)
 none_has bytes Memory h = tt
-none_has bytes (BadImage k) h = λ p is e. let clash : Some k ≡ None = sym h ∙ ap first_failed e ∙ passes p is in cc
+none_has bytes (BadImage k) h = no_program bytes k h
 
 pub constants_left : (bytes constants rest : List ℕ) → HasConstants bytes constants rest → length bytes ≡ 4 * length constants + length rest
 constants_left bytes constants rest h = ap length h.parts ∙ omega (arith, length-append (flat_map word_bytes constants) rest, length-bytes constants)

@@ -1,6 +1,7 @@
 -- Images as bytes. All numbers are words of four bytes, the least byte first.
-use Rattle.std.specs.Prelude.{◌≡◌, ℕ, ◌+◌, ◌*◌, ◌^◌, ◌<◌, ◌≤◌, min, Bool, not, ◌&&◌, ◌||◌, eqb, List, [], ◌∷◌, ◌++◌, length, map, drop, Option, Some, option_map, nat_lt, nat_le, ◌==◌, if◌then◌else◌, slice_index, codes}
+use Rattle.std.specs.Prelude.{◌≡◌, ℕ, ◌+◌, ◌*◌, ◌^◌, ◌<◌, ◌≤◌, min, Bool, not, ◌&&◌, ◌||◌, eqb, List, [], ◌∷◌, ◌++◌, length, map, drop, Option, Some, None, option_map, nat_lt, nat_le, ◌==◌, if◌then◌else◌, slice_index, codes}
 use Rattle.std.specs.List.{AllByRecursion, flat_map, list_any, position, starts_with}
+use Rattle.std.specs.Option.{option_or}
 use Rattle.std.specs.Int.{w32, to_le_bytes, from_le_bytes}
 use Rattle.ir_code.specs.Program.{Program}
 use Rattle.ir_code.specs.declared.instr.Instr.{Instr}
@@ -133,12 +134,16 @@ code_end bytes = code_start bytes + 16 * code_said bytes
 unfoldable pub unknown_from : ℕ → List ℕ → Option ℕ
 unknown_from start bytes = option_map (λ i. start + 16 * i) (position (λ r. not (is_instr r)) (fours (words bytes)))
 
--- the first of the checks that fails, in their order: the offset that it names
-unfoldable pub first_failed : List ℕ → Option ℕ
-first_failed bytes =
+-- the checks of the header and of the length, in their order: the offset that the first failed one names
+unfoldable pub header_failed : List ℕ → Option ℕ
+header_failed bytes =
     if nat_lt (length bytes) 16 then Some (length bytes)
     else (if not (starts_with eqb bytes magic) then Some 0
     else (if not (slice_index (words bytes) 1 == 1) then Some 4
     else (if nat_lt (2 ^ 27) (constants_said bytes + 4 * code_said bytes) then Some 8
     else (if not (length bytes == code_end bytes) then Some (min (length bytes) (code_end bytes))
-    else unknown_from (code_start bytes) (drop (code_start bytes) bytes)))))
+    else None))))
+
+-- these, and then the instructions
+unfoldable pub first_failed : List ℕ → Option ℕ
+first_failed bytes = option_or (header_failed bytes) (unknown_from (code_start bytes) (drop (code_start bytes) bytes))

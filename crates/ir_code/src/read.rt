@@ -1,8 +1,8 @@
 // Bytes to images.
 
-ghost use Rattle.std.specs.Prelude.{◌≡◌, ◌+◌, ◌*◌, ◌^◌, ◌<◌, ◌≤◌, [], ◌∷◌, ◌++◌, length, drop, Some, IfOk, IfSome, IsNone};
+ghost use Rattle.std.specs.Prelude.{◌≡◌, ◌+◌, ◌*◌, ◌^◌, ◌<◌, ◌≤◌, [], ◌∷◌, ◌++◌, length, drop, Some, None, Err, IfOk, IfErr, OnOk, IfSome, IsNone};
 ghost use Rattle.ir_code.specs.Program.{Program};
-ghost use Rattle.ir_code.specs.ImageBytes.{ImageBytes, IsProgram, word_bytes, words, first_failed, unknown_from};
+ghost use Rattle.ir_code.specs.ImageBytes.{ImageBytes, IsProgram, word_bytes, words, header_failed, first_failed, unknown_from};
 ghost use Rattle.ir_code.specs.Reading.{HasHeader, HasConstants, HasInstr, HasNoInstr, HasCode};
 ghost use Rattle.ir_code.specs.Refused.{IfBadImage};
 
@@ -31,33 +31,34 @@ fn read_word(bytes: &[u8]) -> (u32, &[u8])
     (word, rest)
 }
 
-/// The header, where all that it is checked for holds.
-fn read_header(bytes: &[u8]) -> Result<Header<'_>, ImageRefused>
+/// The header, where it and the length are as they must be, and else the offset of what is not.
+fn read_header(bytes: &[u8]) -> Result<Header<'_>, u64>
     ensures found { IfOk result (λ h. HasHeader bytes.now h.constants h.code h.rest.now) }
+    ensures passed { OnOk result (header_failed bytes.now ≡ None) }
     ensures goes_on { IfOk result (λ h. first_failed bytes.now ≡ unknown_from (16 + 4 * h.constants) (drop (4 * h.constants) h.rest.now)) }
-    ensures refused { IfBadImage result (λ k. first_failed bytes.now ≡ Some k) }
+    ensures refused { IfErr result (λ k. header_failed bytes.now ≡ Some k) }
 {
     let len = bytes.len() as u64;
     if len < 16 {
-        return Err(ImageRefused::BadImage(len));
+        return Err(len);
     }
     if !bytes.starts_with(b"MLX1") {
-        return Err(ImageRefused::BadImage(0));
+        return Err(0);
     }
     let (_magic, rest) = read_word(bytes);
     let (version, rest) = read_word(rest);
     if version != 1 {
-        return Err(ImageRefused::BadImage(4));
+        return Err(4);
     }
     let (constants, rest) = read_word(rest);
     let (code, rest) = read_word(rest);
     let count = constants as u64 + 4 * code as u64;
     if count > 1 << 27 {
-        return Err(ImageRefused::BadImage(8));
+        return Err(8);
     }
     let whole = 16 + 4 * count;
     if len != whole {
-        return Err(ImageRefused::BadImage(len.min(whole)));
+        return Err(len.min(whole));
     }
     Ok(Header {
         constants,
@@ -126,12 +127,19 @@ fn read_code(
 pub fn read_image(alloc: Global, bytes: &[u8]) -> Result<Image, ImageRefused>
     // What is read has these bytes.
     ensures found { IfOk result (λ i. IsProgram i × ImageBytes i bytes.now) }
+    // No other program has them.
+    ensures only { (p : Program) → IsProgram p → ImageBytes p bytes.now → IfOk result (λ i. i ≡ p) }
+    // What the header or the length shows is refused before memory is asked for.
+    ensures early { IfSome (header_failed bytes.now) (λ k. result ≡ Err (ImageRefused.BadImage k)) }
     // What is refused is refused at the first check that fails ..
     ensures refused { IfBadImage result (λ k. first_failed bytes.now ≡ Some k) }
     // .. and is no program's.
     ensures none { IfBadImage result (λ _. (p : Program) → IsProgram p → ¬ ImageBytes p bytes.now) }
 {
-    let header = read_header(bytes)?;
+    let header = match read_header(bytes) {
+        Ok(header) => header,
+        Err(at) => return Err(ImageRefused::BadImage(at)),
+    };
     let (constants, rest) = read_constants(alloc, header.constants, header.rest)?;
     let start = 16 + 4 * header.constants as u64;
     let code = read_code(alloc, start, header.code, rest)?;
