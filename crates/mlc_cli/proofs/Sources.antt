@@ -60,7 +60,7 @@ record WithByte (b : ℕ) (r : Option (List ℕ × List ℕ)) (text o : List ℕ
 
 with_byte-Some : (b : ℕ) (r : Option (List ℕ × List ℕ)) (text o : List ℕ) → with_byte b r ≡ Some (text, o) → WithByte b r text o
 with_byte-Some b None text o e = cc
-with_byte-Some b (Some r) text o e = 
+with_byte-Some b (Some r) text o e =
     let both : ◌≡◌ {A = List ℕ × List ℕ} (b ∷ r.0, r.1) (text, o) = cc in
     let last : r.1 ≡ o = ap (λ p. p.1) both in
     record { rest = r.0; is = ap (λ x. Some (r.0, x)) last; all = ap (λ p. p.0) both }
@@ -103,12 +103,12 @@ Closes-at (b ∷ c ∷ i) text o e = two_bytes b c i text o (b == 34) (is_plain 
 
 -- Declarations.
 
-record AndThen {A B : Type 0} (f : A → Option B) (o : Option A) (b : B) : Type 0 where
-  value : A
-  is : o ≡ Some value
-  gives : f value ≡ Some b
+pub record AndThen {A B : Type 0} (f : A → Option B) (o : Option A) (b : B) : Type 0 where
+  pub value : A
+  pub is : o ≡ Some value
+  pub gives : f value ≡ Some b
 
-and_then-Some : {A B : Type 0} (f : A → Option B) (o : Option A) (b : B) → option_and_then f o ≡ Some b → AndThen f o b
+pub and_then-Some : {A B : Type 0} (f : A → Option B) (o : Option A) (b : B) → option_and_then f o ≡ Some b → AndThen f o b
 and_then-Some f None b e = cc
 and_then-Some f (Some a) b e = record { value = a; is = refl; gives = e }
 
@@ -120,8 +120,10 @@ Declares-at n i text o e =
     let printed = and_then-Some (after_token (codes "\"")) (after_token (codes "print") quoted.value) all.value quoted.gives in
     let val = and_then-Some (λ a. option_and_then (λ b. option_and_then (after_token (codes "=")) (after_token (codes ")") b)) (after_token (codes "(") a)) (after_token (codes "val") i) quoted.value quoted.is in
     let opened = and_then-Some (λ b. option_and_then (after_token (codes "=")) (after_token (codes ")") b)) (after_token (codes "(") val.value) quoted.value val.gives in
-    let closed_ = and_then-Some (after_token (codes "=")) (after_token (codes ")") opened.value) quoted.value opened.gives in
-    (record { byte = n - length (without_blanks quoted.value); text = text }, refl, record {
+    let closed_ = and_then-Some (after_token (codes "=")) (after_token (codes ")") opened.value) quoted.value opened.gives in (
+      record { byte = n - length (without_blanks quoted.value); text = text },
+      refl,
+      record {
         after_val = val.value;
         after_open = opened.value;
         after_close = closed_.value;
@@ -136,7 +138,8 @@ Declares-at n i text o e =
         quote_stands = Follows-after (codes "\"") printed.value all.value printed.gives;
         string_stands = Closes-at all.value text o all.gives;
         place = refl;
-    })
+      },
+    )
 
 pub at-Declares : (n : ℕ) (i : List ℕ) (print : Print) (o : List ℕ) → Declares n i print o → declaration_at i ≡ Some (print.text, o)
 at-Declares n i print o d =

@@ -1,5 +1,6 @@
 pub mod Command
 pub mod Constant
+pub mod ImageOf
 pub mod Meaning
 pub mod Mlb
 pub mod Outside

@@ -1,7 +1,9 @@
 -- The forms as functions: what the reader computes.
-use Rattle.std.specs.Prelude.{ℕ, Bool, ◌==◌, if◌then◌else◌, List, [], ◌∷◌, Option, Some, None, option_and_then, option_map, codes}
+use Rattle.std.specs.Prelude.{ℕ, Bool, ◌&&◌, nat_eq, nat_lt, ◌==◌, if◌then◌else◌, length, take, drop, List, [], ◌∷◌, Option, Some, None, option_and_then, option_map, codes}
+use Rattle.std.specs.List.{ends_with, prefix_len}
 use Rattle.mlc_cli.specs.Text.{without_blanks}
-use Rattle.mlc_cli.specs.Source.{is_plain, escaped}
+use Rattle.mlc_cli.specs.Source.{is_plain, escaped, most_bytes}
+use Rattle.mlc_cli.specs.Mlb.{basis, begins_with_blank, is_path_byte}
 
 -- what stands after a token that the bytes begin with
 abbrev pub strip : List ℕ → List ℕ → Option (List ℕ)
@@ -43,3 +45,14 @@ after_print i = option_and_then (after_token (codes "\"")) (after_token (codes "
 -- a declaration: its string, and what stands after it
 abbrev pub declaration_at : List ℕ → Option (List ℕ × List ℕ)
 declaration_at i = option_and_then closes_at (option_and_then after_print (after_head i))
+
+-- the bytes of a path at the front, where they end in `.sml` and nothing but white space stands after them
+abbrev pub path_word : List ℕ → Option (List ℕ)
+path_word i = if ends_with nat_eq (take (prefix_len is_path_byte i) i) (codes ".sml") && (length (without_blanks (drop (prefix_len is_path_byte i) i)) == 0) then Some (take (prefix_len is_path_byte i) i) else None
+
+abbrev pub parted_word : List ℕ → Option (List ℕ)
+parted_word i = if begins_with_blank i then path_word (without_blanks i) else None
+
+-- the source path that an ML Basis file names
+abbrev pub names_word : List ℕ → Option (List ℕ)
+names_word bytes = if nat_lt most_bytes (length bytes) then None else option_and_then parted_word (after_token basis bytes)

@@ -1,5 +1,6 @@
 use Rattle.std.proofs.Common.{◌≡◌, ◌≤◌, ◌==◌, ◌∙◌, ◌++◌, ◌∷◌, [], false, true, None, Some, sym, ap, subst, length, arith, List, ℕ}
-use Rattle.std.proofs.lemmas.List.{map-append}
+use Rattle.std.proofs.lemmas.Bool.{eqb-true}
+use Rattle.std.proofs.lemmas.List.{map-append, nil_from_length}
 use Rattle.mlc_cli.specs.Text.{without_blanks}
 use Rattle.mlc_cli.specs.Reading.{declaration_at}
 use Rattle.mlc_cli.specs.Constant.{read_constant, text_and_rest}
@@ -26,5 +27,6 @@ loop-rest-preserved c =
 
 pub returns-clause-read : goal.returns-clause-read
 returns-clause-read c =
-    let over : without_blanks c.loop-rest.rest.now ≡ [] = ? in
+    let nothing : (length c.skip_blanks.result.now == 0) ≡ true = sym c.is_empty.ensures ∙ c.loop-rest-test.false in
+    let over : without_blanks c.loop-rest.rest.now ≡ [] = sym c.skip_blanks.ensures ∙ nil_from_length c.skip_blanks.result.now (eqb-true (length c.skip_blanks.result.now) 0 nothing) in
     sofar_end c.args.bytes.now c.loop-rest.rest.now (texts_of c.loop-rest.texts.items) c.loop-rest.invariant (omega arith) over
