@@ -1,7 +1,10 @@
+pub mod Folders
 pub mod Images
 pub mod MlbLemmas
 pub mod SameLemmas
 pub mod Sources
 pub mod Strings
+pub mod Tellings
 pub mod Texts
 pub mod Whole
+pub mod Words

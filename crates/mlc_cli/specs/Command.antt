@@ -22,13 +22,10 @@ abbrev pub is_no_option : List ℕ → Bool
 is_no_option [] = true
 is_no_option (b ∷ word) = not (b == 45)
 
--- the words are this command, with its numbers in range
-pub record IsCommand (words : List (List ℕ)) (command : Command) : Type 0 where
-  pub heap_word : List ℕ
-  pub stack_word : List ℕ
-  pub steps_word : List ℕ
-  pub words_are : words ≡ codes "exec" ∷ command.input ∷ command.output ∷ heap_word ∷ stack_word ∷ steps_word ∷ []
-  pub no_options : list_all is_no_option words ≡ true
+-- the command of these words, with its numbers in range
+pub record HasNumbers (input output heap_word stack_word steps_word : List ℕ) (command : Command) : Type 0 where
+  pub input_is : command.input ≡ input
+  pub output_is : command.output ≡ output
   pub heap_is : IsNumber heap_word command.heap
   pub stack_is : IsNumber stack_word command.stack
   pub steps_are : IsNumber steps_word command.steps
@@ -36,3 +33,14 @@ pub record IsCommand (words : List (List ℕ)) (command : Command) : Type 0 wher
   pub heap_most : command.heap ≤ 2 ^ 28
   pub stack_least : 2 ^ 8 ≤ command.stack
   pub stack_most : command.stack ≤ 2 ^ 24
+
+-- the words are this command
+pub record IsCommand (words : List (List ℕ)) (command : Command) : Type 0 where
+  pub input : List ℕ
+  pub output : List ℕ
+  pub heap_word : List ℕ
+  pub stack_word : List ℕ
+  pub steps_word : List ℕ
+  pub words_are : words ≡ codes "exec" ∷ input ∷ output ∷ heap_word ∷ stack_word ∷ steps_word ∷ []
+  pub no_options : list_all is_no_option words ≡ true
+  pub numbers : HasNumbers input output heap_word stack_word steps_word command

@@ -1,9 +1,10 @@
 pub mod Command
+pub mod CommandOf
 pub mod Constant
+pub mod Exits
 pub mod ImageOf
 pub mod Meaning
 pub mod Mlb
-pub mod Outside
 pub mod Project
 pub mod Reading
 pub mod Same

@@ -1,7 +1,7 @@
 // ML Basis files: the path of the standard basis and one source path.
 
-ghost use Rattle.std.specs.Prelude.{◌≡◌, ◌≤◌, List, ℕ, length, option_map, IfSome, IfNone};
-ghost use Rattle.std.specs.List.{prefix_len};
+ghost use Rattle.std.specs.Prelude.{◌≡◌, ◌<◌, ◌≤◌, List, ℕ, length, option_map, IfSome, IfNone};
+ghost use Rattle.std.specs.List.{All, prefix_len};
 ghost use Rattle.mlc_cli.specs.Mlb.{Names, is_path_byte, begins_with_blank};
 ghost use Rattle.mlc_cli.specs.Reading.{path_word, parted_word, names_word};
 
@@ -76,6 +76,7 @@ fn named_word(bytes: &[u8]) -> Option<&[u8]>
 /// The source path that an ML Basis file names; none, where the bytes aren't of that form.
 pub fn source_word(bytes: &[u8]) -> Option<&[u8]>
     ensures found { IfSome result (λ word. Names bytes.now word.now) }
+    ensures ascii { IfSome result (λ word. All (λ b. b < 128) word.now) }
     ensures no_file { IfNone result ((word : List ℕ) → ¬ (Names bytes.now word)) }
 {
     match named_word(bytes) {

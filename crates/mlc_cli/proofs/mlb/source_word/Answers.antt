@@ -1,4 +1,5 @@
 use Rattle.std.proofs.Common.{sym}
+use Rattle.mlc_cli.proofs.Folders.{word_ascii}
 use Rattle.mlc_cli.proofs.MlbLemmas.{Names-word, no_names}
 use Rattle.mlc_cli.proofs.mlb.source_word.Goals as goal
 
@@ -7,3 +8,6 @@ returns-in-None-clause-no_file c = no_names c.args.bytes.now (sym c.in-None.ensu
 
 pub returns-in-Some-clause-found : goal.returns-in-Some-clause-found
 returns-in-Some-clause-found c = Names-word c.args.bytes.now c.in-Some.word.now (sym c.in-Some.ensures)
+
+pub returns-in-Some-clause-ascii : goal.returns-in-Some-clause-ascii
+returns-in-Some-clause-ascii c = let names = Names-word c.args.bytes.now c.in-Some.word.now (sym c.in-Some.ensures) in word_ascii c.in-Some.word.now names.bare
