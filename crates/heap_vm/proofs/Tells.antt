@@ -1,5 +1,5 @@
 -- What a first run tells, and the name after it.
-use Rattle.std.proofs.Common.{◌≡◌, ℕ, List, [], Option, Some, sym, ◌∙◌, ap}
+use Rattle.std.proofs.Common.{◌≡◌, ℕ, List, [], Option, Some, ◌∙◌}
 use Rattle.mlc_outside.specs.Sink.{adds, WasPut}
 use Rattle.mlc_outside.specs.declared.sink.Put.{Put}
 use Rattle.mlc_outside.specs.declared.sink.Put.TheVariants.{Done, Failed}

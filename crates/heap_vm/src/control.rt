@@ -1,6 +1,6 @@
 // The instructions on slots, control and handlers.
 
-ghost use Rattle.std.specs.Prelude.{◌≡◌, ◌+◌, ◌^◌, ◌<◌, ◌≤◌, length, slice_get};
+ghost use Rattle.std.specs.Prelude.{◌≡◌, ◌+◌, ◌^◌, ◌<◌};
 ghost use Rattle.ir_code.specs.Machine.{li_step, mov_step, jmp_step, brz_step, switch_step, call_step, ret_step, acc_step, push_handler_step, pop_handler_step, uncaught_step, caught_step, raise_step};
 ghost use Rattle.heap_vm.specs.View.{state_of, step_result, Fits, Sendable};
 

@@ -1,7 +1,7 @@
 // The instructions on the memory.
 
-ghost use Rattle.std.specs.Prelude.{◌≡◌, ◌+◌, ◌^◌, ◌<◌, ◌≤◌, length, slice_get};
-ghost use Rattle.ir_code.specs.Machine.{alloc_step, alloc_var_step, ld_step, st_step, copy_step, scmp_step, itext_step, print_step, string_at};
+ghost use Rattle.std.specs.Prelude.{◌≡◌, ◌+◌, ◌^◌, ◌<◌};
+ghost use Rattle.ir_code.specs.Machine.{alloc_step, alloc_var_step, ld_step, st_step, copy_step, scmp_step, itext_step, print_step};
 ghost use Rattle.heap_vm.specs.View.{state_of, step_result, Fits, Sendable};
 
 use crate::registers::{Flow, Registers};
