@@ -17,12 +17,12 @@ fn act_on(
     stack: &mut [u32],
     memory: &mut [u32],
 ) -> Result<Flow, Halt>
-    requires at { registers.old.pc + 1 < 2 ^ 32 }
+    requires next_fits { registers.old.pc + 1 < 2 ^ 32 }
     requires fits { Fits registers.old stack.old memory.old }
     ensures step { step_result result (state_of registers.new stack.new memory.new)
         ≡ act (state_of registers.old stack.old memory.old) instr }
     ensures fits { Fits registers.new stack.new memory.new }
-    ensures sound { Sendable result registers.new memory.new }
+    ensures sendable { Sendable result registers.new memory.new }
 {
     match instr {
         Instr::Li { dst, value } => control::li(registers, stack, memory, dst, value),
@@ -126,7 +126,7 @@ pub fn step_on(
     ensures step { step_result result (state_of registers.new stack.new memory.new)
         ≡ step code.now (state_of registers.old stack.old memory.old) }
     ensures fits { Fits registers.new stack.new memory.new }
-    ensures sound { Sendable result registers.new memory.new }
+    ensures sendable { Sendable result registers.new memory.new }
 {
     match code.get(registers.pc).copied() {
         None => Err(Halt::Stuck),

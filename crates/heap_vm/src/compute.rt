@@ -19,12 +19,12 @@ pub fn give<F: Total>(
     left: u32,
     right: u32,
 ) -> Result<Flow, Halt>
-    requires at { registers.old.pc + 1 < 2 ^ 32 }
+    requires next_fits { registers.old.pc + 1 < 2 ^ 32 }
     requires fits { Fits registers.old stack.old memory.old }
     ensures step { step_result result (state_of registers.new stack.new memory.new)
         ≡ total_step F.value (state_of registers.old stack.old memory.old) dst left right }
     ensures fits { Fits registers.new stack.new memory.new }
-    ensures sound { Sendable result registers.new memory.new }
+    ensures sendable { Sendable result registers.new memory.new }
 {
     let at = place(stack, registers.fp, dst)?;
     let x = slot(stack, registers.fp, left)?;
@@ -44,12 +44,12 @@ pub fn give_some<F: Partial>(
     left: u32,
     right: u32,
 ) -> Result<Flow, Halt>
-    requires at { registers.old.pc + 1 < 2 ^ 32 }
+    requires next_fits { registers.old.pc + 1 < 2 ^ 32 }
     requires fits { Fits registers.old stack.old memory.old }
     ensures step { step_result result (state_of registers.new stack.new memory.new)
         ≡ partial_step F.value (state_of registers.old stack.old memory.old) dst left right }
     ensures fits { Fits registers.new stack.new memory.new }
-    ensures sound { Sendable result registers.new memory.new }
+    ensures sendable { Sendable result registers.new memory.new }
 {
     let at = place(stack, registers.fp, dst)?;
     let x = slot(stack, registers.fp, left)?;
