@@ -2,4 +2,5 @@ pub mod Bytes
 pub mod Runs
 pub mod Sent
 pub mod Sinks
+pub mod Tells
 pub mod Writes

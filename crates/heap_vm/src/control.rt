@@ -1,6 +1,6 @@
 // The instructions on slots, control and handlers.
 
-ghost use Rattle.std.specs.Prelude.{◌≡◌, ◌+◌, ◌^◌, ◌<◌, ◌≤◌, length, slice_get};
+ghost use Rattle.std.specs.Prelude.{◌≡◌, ◌+◌, ◌^◌, ◌<◌};
 ghost use Rattle.ir_code.specs.Machine.{li_step, mov_step, jmp_step, brz_step, switch_step, call_step, ret_step, acc_step, push_handler_step, pop_handler_step, uncaught_step, caught_step, raise_step};
 ghost use Rattle.heap_vm.specs.View.{state_of, step_result, Fits, Sendable};
 
@@ -17,12 +17,12 @@ pub fn li(
     dst: u32,
     value: u32,
 ) -> Result<Flow, Halt>
-    requires at { registers.old.pc + 1 < 2 ^ 32 }
+    requires next_fits { registers.old.pc + 1 < 2 ^ 32 }
     requires fits { Fits registers.old stack.old memory.old }
     ensures step { step_result result (state_of registers.new stack.new memory.new)
         ≡ li_step (state_of registers.old stack.old memory.old) dst value }
     ensures fits { Fits registers.new stack.new memory.new }
-    ensures sound { Sendable result registers.new memory.new }
+    ensures sendable { Sendable result registers.new memory.new }
 {
     let at = place(stack, registers.fp, dst)?;
     stack[at] = value;
@@ -39,12 +39,12 @@ pub fn mov(
     dst: u32,
     src: u32,
 ) -> Result<Flow, Halt>
-    requires at { registers.old.pc + 1 < 2 ^ 32 }
+    requires next_fits { registers.old.pc + 1 < 2 ^ 32 }
     requires fits { Fits registers.old stack.old memory.old }
     ensures step { step_result result (state_of registers.new stack.new memory.new)
         ≡ mov_step (state_of registers.old stack.old memory.old) dst src }
     ensures fits { Fits registers.new stack.new memory.new }
-    ensures sound { Sendable result registers.new memory.new }
+    ensures sendable { Sendable result registers.new memory.new }
 {
     let at = place(stack, registers.fp, dst)?;
     stack[at] = slot(stack, registers.fp, src)?;
@@ -60,12 +60,12 @@ pub fn jmp(
     memory: &mut [u32],
     target: u32,
 ) -> Result<Flow, Halt>
-    requires at { registers.old.pc + 1 < 2 ^ 32 }
+    requires next_fits { registers.old.pc + 1 < 2 ^ 32 }
     requires fits { Fits registers.old stack.old memory.old }
     ensures step { step_result result (state_of registers.new stack.new memory.new)
         ≡ jmp_step (state_of registers.old stack.old memory.old) target }
     ensures fits { Fits registers.new stack.new memory.new }
-    ensures sound { Sendable result registers.new memory.new }
+    ensures sendable { Sendable result registers.new memory.new }
 {
     registers.pc = target as usize;
     Ok(Flow::Go)
@@ -80,12 +80,12 @@ pub fn brz(
     test: u32,
     target: u32,
 ) -> Result<Flow, Halt>
-    requires at { registers.old.pc + 1 < 2 ^ 32 }
+    requires next_fits { registers.old.pc + 1 < 2 ^ 32 }
     requires fits { Fits registers.old stack.old memory.old }
     ensures step { step_result result (state_of registers.new stack.new memory.new)
         ≡ brz_step (state_of registers.old stack.old memory.old) test target }
     ensures fits { Fits registers.new stack.new memory.new }
-    ensures sound { Sendable result registers.new memory.new }
+    ensures sendable { Sendable result registers.new memory.new }
 {
     let v = slot(stack, registers.fp, test)?;
     registers.pc = if v == 0 {
@@ -105,12 +105,12 @@ pub fn switch(
     index: u32,
     last: u32,
 ) -> Result<Flow, Halt>
-    requires at { registers.old.pc + 1 < 2 ^ 32 }
+    requires next_fits { registers.old.pc + 1 < 2 ^ 32 }
     requires fits { Fits registers.old stack.old memory.old }
     ensures step { step_result result (state_of registers.new stack.new memory.new)
         ≡ switch_step (state_of registers.old stack.old memory.old) index last }
     ensures fits { Fits registers.new stack.new memory.new }
-    ensures sound { Sendable result registers.new memory.new }
+    ensures sendable { Sendable result registers.new memory.new }
 {
     let v = slot(stack, registers.fp, index)?;
     registers.pc = registers.pc + 1 + v.min(last) as usize;
@@ -126,12 +126,12 @@ pub fn call(
     target: u32,
     frame: u32,
 ) -> Result<Flow, Halt>
-    requires at { registers.old.pc + 1 < 2 ^ 32 }
+    requires next_fits { registers.old.pc + 1 < 2 ^ 32 }
     requires fits { Fits registers.old stack.old memory.old }
     ensures step { step_result result (state_of registers.new stack.new memory.new)
         ≡ call_step (state_of registers.old stack.old memory.old) target frame }
     ensures fits { Fits registers.new stack.new memory.new }
-    ensures sound { Sendable result registers.new memory.new }
+    ensures sendable { Sendable result registers.new memory.new }
 {
     let at = place(stack, registers.fp, frame)?;
     if at + 1 >= stack.len() {
@@ -152,12 +152,12 @@ pub fn ret(
     memory: &mut [u32],
     value: u32,
 ) -> Result<Flow, Halt>
-    requires at { registers.old.pc + 1 < 2 ^ 32 }
+    requires next_fits { registers.old.pc + 1 < 2 ^ 32 }
     requires fits { Fits registers.old stack.old memory.old }
     ensures step { step_result result (state_of registers.new stack.new memory.new)
         ≡ ret_step (state_of registers.old stack.old memory.old) value }
     ensures fits { Fits registers.new stack.new memory.new }
-    ensures sound { Sendable result registers.new memory.new }
+    ensures sendable { Sendable result registers.new memory.new }
 {
     let v = slot(stack, registers.fp, value)?;
     let back = slot(stack, registers.fp, 0)?;
@@ -176,12 +176,12 @@ pub fn acc(
     memory: &mut [u32],
     dst: u32,
 ) -> Result<Flow, Halt>
-    requires at { registers.old.pc + 1 < 2 ^ 32 }
+    requires next_fits { registers.old.pc + 1 < 2 ^ 32 }
     requires fits { Fits registers.old stack.old memory.old }
     ensures step { step_result result (state_of registers.new stack.new memory.new)
         ≡ acc_step (state_of registers.old stack.old memory.old) dst }
     ensures fits { Fits registers.new stack.new memory.new }
-    ensures sound { Sendable result registers.new memory.new }
+    ensures sendable { Sendable result registers.new memory.new }
 {
     let at = place(stack, registers.fp, dst)?;
     stack[at] = registers.acc;
@@ -198,12 +198,12 @@ pub fn push_handler(
     a: u32,
     target: u32,
 ) -> Result<Flow, Halt>
-    requires at { registers.old.pc + 1 < 2 ^ 32 }
+    requires next_fits { registers.old.pc + 1 < 2 ^ 32 }
     requires fits { Fits registers.old stack.old memory.old }
     ensures step { step_result result (state_of registers.new stack.new memory.new)
         ≡ push_handler_step (state_of registers.old stack.old memory.old) a target }
     ensures fits { Fits registers.new stack.new memory.new }
-    ensures sound { Sendable result registers.new memory.new }
+    ensures sendable { Sendable result registers.new memory.new }
 {
     let at = registers.fp as usize + a as usize;
     if at + 2 >= stack.len() {
@@ -225,12 +225,12 @@ pub fn pop_handler(
     memory: &mut [u32],
     a: u32,
 ) -> Result<Flow, Halt>
-    requires at { registers.old.pc + 1 < 2 ^ 32 }
+    requires next_fits { registers.old.pc + 1 < 2 ^ 32 }
     requires fits { Fits registers.old stack.old memory.old }
     ensures step { step_result result (state_of registers.new stack.new memory.new)
         ≡ pop_handler_step (state_of registers.old stack.old memory.old) a }
     ensures fits { Fits registers.new stack.new memory.new }
-    ensures sound { Sendable result registers.new memory.new }
+    ensures sendable { Sendable result registers.new memory.new }
 {
     registers.handler = slot(stack, registers.fp, a)?;
     registers.pc += 1;
@@ -245,12 +245,12 @@ pub fn uncaught(
     memory: &mut [u32],
     v: u32,
 ) -> Result<Flow, Halt>
-    requires at { registers.old.pc + 1 < 2 ^ 32 }
+    requires next_fits { registers.old.pc + 1 < 2 ^ 32 }
     requires fits { Fits registers.old stack.old memory.old }
     ensures step { step_result result (state_of registers.new stack.new memory.new)
         ≡ uncaught_step (state_of registers.old stack.old memory.old) v }
     ensures fits { Fits registers.new stack.new memory.new }
-    ensures sound { Sendable result registers.new memory.new }
+    ensures sendable { Sendable result registers.new memory.new }
 {
     let limit = registers.limit;
     if v >= limit || memory[v as usize] >= limit {
@@ -272,12 +272,12 @@ pub fn caught(
     memory: &mut [u32],
     v: u32,
 ) -> Result<Flow, Halt>
-    requires at { registers.old.pc + 1 < 2 ^ 32 }
+    requires next_fits { registers.old.pc + 1 < 2 ^ 32 }
     requires fits { Fits registers.old stack.old memory.old }
     ensures step { step_result result (state_of registers.new stack.new memory.new)
         ≡ caught_step (state_of registers.old stack.old memory.old) v }
     ensures fits { Fits registers.new stack.new memory.new }
-    ensures sound { Sendable result registers.new memory.new }
+    ensures sendable { Sendable result registers.new memory.new }
 {
     let at = registers.handler as usize;
     if at + 2 >= stack.len() {
@@ -298,12 +298,12 @@ pub fn raise(
     memory: &mut [u32],
     packet: u32,
 ) -> Result<Flow, Halt>
-    requires at { registers.old.pc + 1 < 2 ^ 32 }
+    requires next_fits { registers.old.pc + 1 < 2 ^ 32 }
     requires fits { Fits registers.old stack.old memory.old }
     ensures step { step_result result (state_of registers.new stack.new memory.new)
         ≡ raise_step (state_of registers.old stack.old memory.old) packet }
     ensures fits { Fits registers.new stack.new memory.new }
-    ensures sound { Sendable result registers.new memory.new }
+    ensures sendable { Sendable result registers.new memory.new }
 {
     let v = slot(stack, registers.fp, packet)?;
     if registers.handler == NO_HANDLER {

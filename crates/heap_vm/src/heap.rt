@@ -1,7 +1,7 @@
 // The instructions on the memory.
 
-ghost use Rattle.std.specs.Prelude.{◌≡◌, ◌+◌, ◌^◌, ◌<◌, ◌≤◌, length, slice_get};
-ghost use Rattle.ir_code.specs.Machine.{alloc_step, alloc_var_step, ld_step, st_step, copy_step, scmp_step, itext_step, print_step, string_at};
+ghost use Rattle.std.specs.Prelude.{◌≡◌, ◌+◌, ◌^◌, ◌<◌};
+ghost use Rattle.ir_code.specs.Machine.{alloc_step, alloc_var_step, ld_step, st_step, copy_step, scmp_step, itext_step, print_step};
 ghost use Rattle.heap_vm.specs.View.{state_of, step_result, Fits, Sendable};
 
 use crate::registers::{Flow, Registers};
@@ -18,12 +18,12 @@ pub fn alloc(
     dst: u32,
     words: u32,
 ) -> Result<Flow, Halt>
-    requires at { registers.old.pc + 1 < 2 ^ 32 }
+    requires next_fits { registers.old.pc + 1 < 2 ^ 32 }
     requires fits { Fits registers.old stack.old memory.old }
     ensures step { step_result result (state_of registers.new stack.new memory.new)
         ≡ alloc_step (state_of registers.old stack.old memory.old) dst words }
     ensures fits { Fits registers.new stack.new memory.new }
-    ensures sound { Sendable result registers.new memory.new }
+    ensures sendable { Sendable result registers.new memory.new }
 {
     let at = place(stack, registers.fp, dst)?;
     if words as usize > memory.len() - registers.limit as usize {
@@ -44,12 +44,12 @@ pub fn alloc_var(
     dst: u32,
     words: u32,
 ) -> Result<Flow, Halt>
-    requires at { registers.old.pc + 1 < 2 ^ 32 }
+    requires next_fits { registers.old.pc + 1 < 2 ^ 32 }
     requires fits { Fits registers.old stack.old memory.old }
     ensures step { step_result result (state_of registers.new stack.new memory.new)
         ≡ alloc_var_step (state_of registers.old stack.old memory.old) dst words }
     ensures fits { Fits registers.new stack.new memory.new }
-    ensures sound { Sendable result registers.new memory.new }
+    ensures sendable { Sendable result registers.new memory.new }
 {
     let at = place(stack, registers.fp, dst)?;
     let n = slot(stack, registers.fp, words)?;
@@ -72,12 +72,12 @@ pub fn ld(
     base: u32,
     offset: u32,
 ) -> Result<Flow, Halt>
-    requires at { registers.old.pc + 1 < 2 ^ 32 }
+    requires next_fits { registers.old.pc + 1 < 2 ^ 32 }
     requires fits { Fits registers.old stack.old memory.old }
     ensures step { step_result result (state_of registers.new stack.new memory.new)
         ≡ ld_step (state_of registers.old stack.old memory.old) dst base offset }
     ensures fits { Fits registers.new stack.new memory.new }
-    ensures sound { Sendable result registers.new memory.new }
+    ensures sendable { Sendable result registers.new memory.new }
 {
     let at = place(stack, registers.fp, dst)?;
     let x = slot(stack, registers.fp, base)? as usize + offset as usize;
@@ -99,12 +99,12 @@ pub fn st(
     offset: u32,
     src: u32,
 ) -> Result<Flow, Halt>
-    requires at { registers.old.pc + 1 < 2 ^ 32 }
+    requires next_fits { registers.old.pc + 1 < 2 ^ 32 }
     requires fits { Fits registers.old stack.old memory.old }
     ensures step { step_result result (state_of registers.new stack.new memory.new)
         ≡ st_step (state_of registers.old stack.old memory.old) base offset src }
     ensures fits { Fits registers.new stack.new memory.new }
-    ensures sound { Sendable result registers.new memory.new }
+    ensures sendable { Sendable result registers.new memory.new }
 {
     let x = slot(stack, registers.fp, base)? as usize + offset as usize;
     let v = slot(stack, registers.fp, src)?;
@@ -126,12 +126,12 @@ pub fn copy(
     src: u32,
     count: u32,
 ) -> Result<Flow, Halt>
-    requires at { registers.old.pc + 1 < 2 ^ 32 }
+    requires next_fits { registers.old.pc + 1 < 2 ^ 32 }
     requires fits { Fits registers.old stack.old memory.old }
     ensures step { step_result result (state_of registers.new stack.new memory.new)
         ≡ copy_step (state_of registers.old stack.old memory.old) dst src count }
     ensures fits { Fits registers.new stack.new memory.new }
-    ensures sound { Sendable result registers.new memory.new }
+    ensures sendable { Sendable result registers.new memory.new }
 {
     let y = slot(stack, registers.fp, dst)?;
     let x = slot(stack, registers.fp, src)?;
@@ -157,12 +157,12 @@ pub fn scmp(
     left: u32,
     right: u32,
 ) -> Result<Flow, Halt>
-    requires at { registers.old.pc + 1 < 2 ^ 32 }
+    requires next_fits { registers.old.pc + 1 < 2 ^ 32 }
     requires fits { Fits registers.old stack.old memory.old }
     ensures step { step_result result (state_of registers.new stack.new memory.new)
         ≡ scmp_step (state_of registers.old stack.old memory.old) dst left right }
     ensures fits { Fits registers.new stack.new memory.new }
-    ensures sound { Sendable result registers.new memory.new }
+    ensures sendable { Sendable result registers.new memory.new }
 {
     let at = place(stack, registers.fp, dst)?;
     let x = slot(stack, registers.fp, left)?;
@@ -187,12 +187,12 @@ pub fn itext(
     dst: u32,
     src: u32,
 ) -> Result<Flow, Halt>
-    requires at { registers.old.pc + 1 < 2 ^ 32 }
+    requires next_fits { registers.old.pc + 1 < 2 ^ 32 }
     requires fits { Fits registers.old stack.old memory.old }
     ensures step { step_result result (state_of registers.new stack.new memory.new)
         ≡ itext_step (state_of registers.old stack.old memory.old) dst src }
     ensures fits { Fits registers.new stack.new memory.new }
-    ensures sound { Sendable result registers.new memory.new }
+    ensures sendable { Sendable result registers.new memory.new }
 {
     let at = place(stack, registers.fp, dst)?;
     let v = slot(stack, registers.fp, src)?;
@@ -214,12 +214,12 @@ pub fn print(
     memory: &mut [u32],
     text: u32,
 ) -> Result<Flow, Halt>
-    requires at { registers.old.pc + 1 < 2 ^ 32 }
+    requires next_fits { registers.old.pc + 1 < 2 ^ 32 }
     requires fits { Fits registers.old stack.old memory.old }
     ensures step { step_result result (state_of registers.new stack.new memory.new)
         ≡ print_step (state_of registers.old stack.old memory.old) text }
     ensures fits { Fits registers.new stack.new memory.new }
-    ensures sound { Sendable result registers.new memory.new }
+    ensures sendable { Sendable result registers.new memory.new }
 {
     let x = slot(stack, registers.fp, text)?;
     if !has_bytes_at(memory, registers.limit, x) {

@@ -9,6 +9,8 @@ mod registers;
 mod send;
 mod slots;
 pub mod stop;
+#[cfg(test)]
+mod tests;
 mod text;
 pub mod vm;
 mod words;

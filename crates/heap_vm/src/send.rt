@@ -1,6 +1,6 @@
 // A string is sent in pieces.
 
-ghost use Rattle.std.specs.Prelude.{◌≡◌, ◌+◌, ◌<◌, ◌≤◌, true, length, slice_index, take};
+ghost use Rattle.std.specs.Prelude.{◌≡◌, ◌<◌, ◌≤◌, length, take};
 ghost use Rattle.std.specs.List.{All};
 ghost use Rattle.ir_code.specs.Machine.{string_at};
 ghost use Rattle.heap_vm.specs.View.{IsString};

@@ -1,6 +1,6 @@
 // The slots of a frame, and the strings of the memory.
 
-ghost use Rattle.std.specs.Prelude.{◌≡◌, ◌+◌, ◌^◌, ◌<◌, ◌≤◌, true, IfOk, IfErr, length, slice_get, slice_index, nat_lt, nat_le};
+ghost use Rattle.std.specs.Prelude.{◌≡◌, ◌+◌, ◌<◌, ◌≤◌, true, IfOk, IfErr, length, slice_get};
 ghost use Rattle.ir_code.specs.Machine.{all_bytes, has_string, has_bytes};
 ghost use Rattle.heap_vm.specs.View.{IsString};
 

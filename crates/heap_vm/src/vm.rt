@@ -1,6 +1,6 @@
 // The machine.
 
-ghost use Rattle.std.specs.Prelude.{ℕ, ◌≡◌, ◌≢◌, ◌+◌, ◌^◌, ◌<◌, ◌≤◌, length, IfOk, []};
+ghost use Rattle.std.specs.Prelude.{ℕ, ◌≡◌, ◌≢◌, ◌^◌, ◌<◌, ◌≤◌, length, IfOk};
 ghost use Rattle.ir_code.specs.Program.{Program};
 ghost use Rattle.ir_code.specs.Run.{run_of};
 ghost use Rattle.mlc_outside.specs.Sink.{WasPut};
