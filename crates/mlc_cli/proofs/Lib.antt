@@ -1,7 +1,11 @@
+pub mod Carried
+pub mod Exiting
 pub mod Folders
 pub mod Images
+pub mod Loading
 pub mod MlbLemmas
 pub mod SameLemmas
+pub mod Small
 pub mod Sources
 pub mod Strings
 pub mod Tellings

@@ -7,6 +7,7 @@ pub mod Meaning
 pub mod Mlb
 pub mod Project
 pub mod Reading
+pub mod Running
 pub mod Same
 pub mod Source
 pub mod Statuses

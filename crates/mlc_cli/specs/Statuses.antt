@@ -62,6 +62,16 @@ pub record OutFailed (old new : Option Files) (before after : Option (List ℕ))
   pub part : IsPrefix sent (run_by command built.image).output
   pub output : after ≡ adds before sent
 
+-- nothing was sent to out
+abbrev pub Unwritten : Option (List ℕ) → Option (List ℕ) → ℕ → ℕ → Type 0
+Unwritten before after faults_before faults_after = (after ≡ before) × (faults_after ≡ faults_before)
+
+-- status 8: the store failed and out is untouched, or out failed
+abbrev pub WriteFailed : Option Files → Option Files → ℕ → ℕ → Option (List ℕ) → Option (List ℕ) → ℕ → ℕ → Command → Type 0
+WriteFailed old new writes writes' before after faults faults' command =
+    (StoreFailed old new writes writes' command × Unwritten before after faults faults')
+    ⊎ OutFailed old new before after faults faults' command
+
 -- the line that tells that a file isn't of its form
 abbrev pub refusal : File → List ℕ
 refusal file = fault_text (file ∷ []) [] (record { code = NotCompiled; place = record { file = 0; byte = 0 }; name = None }) ++ codes "\n"
