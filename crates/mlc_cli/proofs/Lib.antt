@@ -1,4 +1,5 @@
 pub mod Carried
+pub mod CommandWords
 pub mod Exiting
 pub mod Folders
 pub mod Images
@@ -11,4 +12,3 @@ pub mod Strings
 pub mod Tellings
 pub mod Texts
 pub mod Whole
-pub mod Words

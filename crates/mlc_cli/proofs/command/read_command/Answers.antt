@@ -2,7 +2,7 @@ use Rattle.std.proofs.Common.{◌≡◌, ◌∷◌, [], ◌∙◌, List, ℕ, St
 use Rattle.std.specs.List.{list_all}
 use Rattle.mlc_cli.specs.Command.{is_no_option}
 use Rattle.mlc_cli.specs.CommandOf.{words_of}
-use Rattle.mlc_cli.proofs.Words.{six_words, not_numbers}
+use Rattle.mlc_cli.proofs.CommandWords.{six_words, not_numbers}
 use Rattle.mlc_cli.proofs.command.read_command.Goals as goal
 
 pub returns-in-None-clause-is_none : goal.returns-in-None-clause-is_none
