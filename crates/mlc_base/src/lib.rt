@@ -7,3 +7,5 @@ pub mod files;
 pub mod memory;
 pub mod names;
 pub mod place;
+pub mod refused;
+pub mod token;
