@@ -1,0 +1,5 @@
+pub mod Chars
+pub mod Item
+pub mod ItemOf
+pub mod Lexeme
+pub mod Numbers
