@@ -3,3 +3,4 @@ pub mod Item
 pub mod ItemOf
 pub mod Lexeme
 pub mod Numbers
+pub mod Strings

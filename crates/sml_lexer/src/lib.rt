@@ -4,3 +4,4 @@
 mod chars;
 mod item;
 mod numbers;
+mod strings;

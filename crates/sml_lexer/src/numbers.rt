@@ -80,7 +80,7 @@ fn digit_value(c: u8) -> u64
 }
 
 /// The number that the digits write, where it's below 2^32.
-fn digits_value(base: u64, digits: &[u8]) -> Option<u32>
+pub fn digits_value(base: u64, digits: &[u8]) -> Option<u32>
     requires low { 0 < base }
     requires high { base ≤ 16 }
     ensures { MatchOption result (2 ^ 32 ≤ digits_value base digits.now) (λ value. value ≡ digits_value base digits.now) }

@@ -1,0 +1,123 @@
+// Character and string constants.
+
+ghost use Rattle.std.specs.Prelude.{◌≡◌, ◌≤◌, ◌<◌, ◌+◌, ◌&&◌, [], Some, None, drop, length, true, IfSome, IfOk, MatchOption};
+ghost use Rattle.std.specs.Str.Parse.{digits_value};
+ghost use Rattle.sml_lexer.specs.Chars.{byte, is_hex_digit, is_space};
+ghost use Rattle.sml_lexer.specs.Strings.{char_item, control_escape, decimal_escape, escape, gap, hex_escape, is_printable, letter_escape, of_one_byte, piece, quoted, string_item, written_in};
+
+use crate::chars::{Class, byte_at, front, is_digit, is_hex_digit, is_space, rest, run_len};
+use crate::numbers::digits_value;
+
+/// A character of a string constant, or a gap, which has no value; and how many bytes it's written in.
+#[derive(Clone, Copy)]
+pub struct Piece {
+    pub value: Option<u8>,
+    pub len: usize,
+}
+
+fn letter_escape(c: u8) -> Option<u8>
+    ensures { result ≡ letter_escape c }
+{
+    match c {
+        b'a' => Some(7),
+        b'b' => Some(8),
+        b't' => Some(9),
+        b'n' => Some(10),
+        b'v' => Some(11),
+        b'f' => Some(12),
+        b'r' => Some(13),
+        b'"' => Some(b'"'),
+        b'\\' => Some(b'\\'),
+        _ => None,
+    }
+}
+
+fn control_escape(c: u8) -> Option<u8>
+    ensures { result ≡ control_escape c }
+{
+    if 64 <= c && c <= 95 { Some(c - 64) } else { None }
+}
+
+/// The character that these digits number.
+fn numbered(base: u64, digits: &[u8]) -> Option<u8>
+    requires low { 0 < base }
+    requires high { base ≤ 16 }
+    ensures { result ≡ of_one_byte (digits_value base digits.now) }
+{
+    match digits_value(base, digits) {
+        Some(value) if value < 256 => Some(value as u8),
+        _ => None,
+    }
+}
+
+fn decimal_escape(text: &[u8]) -> Option<u8>
+    ensures { result ≡ decimal_escape text.now }
+{
+    if is_digit(byte_at(text, 0)) && is_digit(byte_at(text, 1)) && is_digit(byte_at(text, 2)) {
+        numbered(10, front(text, 3))
+    } else {
+        None
+    }
+}
+
+fn are_hex_digits(text: &[u8]) -> bool
+    ensures { result ≡ (is_hex_digit (byte text.now 0) && is_hex_digit (byte text.now 1) && is_hex_digit (byte text.now 2) && is_hex_digit (byte text.now 3)) }
+{
+    is_hex_digit(byte_at(text, 0))
+        && is_hex_digit(byte_at(text, 1))
+        && is_hex_digit(byte_at(text, 2))
+        && is_hex_digit(byte_at(text, 3))
+}
+
+fn hex_escape(text: &[u8]) -> Option<u8>
+    ensures { result ≡ hex_escape text.now }
+{
+    if are_hex_digits(text) { numbered(16, front(text, 4)) } else { None }
+}
+
+fn written_in(len: usize, c: Option<u8>) -> Option<Piece>
+    ensures { result ≡ written_in len c }
+{
+    match c {
+        Some(value) => Some(Piece {
+            value: Some(value),
+            len,
+        }),
+        None => None,
+    }
+}
+
+fn gap(text: &[u8]) -> Option<Piece>
+    ensures same { result ≡ gap text.now }
+    ensures within { IfSome result (λ p. p.len ≤ length text.now + 1) }
+{
+    let len = run_len(Class::Space, text);
+    if byte_at(text, len) == b'\\' {
+        Some(Piece {
+            value: None,
+            len: len + 2,
+        })
+    } else {
+        None
+    }
+}
+
+/// What stands after a backslash.
+fn escape(text: &[u8]) -> Option<Piece>
+    ensures same { result ≡ escape text.now }
+    ensures within { IfSome result (λ p. p.len ≤ length text.now + 6) }
+    ensures some { IfSome result (λ p. 0 < p.len) }
+{
+    let first = byte_at(text, 0);
+    if is_space(first) {
+        gap(text)
+    } else if is_digit(first) {
+        written_in(4, decimal_escape(text))
+    } else if first == b'u' {
+        written_in(6, hex_escape(rest(text, 1)))
+    } else if first == b'^' {
+        written_in(3, control_escape(byte_at(text, 1)))
+    } else {
+        written_in(2, letter_escape(first))
+    }
+}
