@@ -1,5 +1,6 @@
 -- Character and string constants: section 2.2.
-use Rattle.std.specs.Prelude.{ℕ, zero, suc, ◌+◌, ◌-◌, Bool, not, ◌&&◌, ◌==◌, nat_le, nat_lt, if◌then◌else◌, List, [], ◌∷◌, ◌++◌, Option, Some, None, take, drop, option_map, option_and_then, option_to_list}
+use Rattle.std.specs.Prelude.{ℕ, Vec, zero, suc, ◌+◌, ◌-◌, Bool, not, ◌&&◌, ◌==◌, nat_le, nat_lt, if◌then◌else◌, List, [], ◌∷◌, ◌++◌, Option, Some, None, take, drop, option_map, option_and_then, option_to_list}
+use Rattle.std.specs.Global.{Global}
 use Rattle.std.specs.Str.Parse.{digits_value}
 use Rattle.mlc_base.specs.declared.code.Code.TheVariants.{NoToken}
 use Rattle.sml_lexer.specs.declared.chars.Class.TheVariants.{Space}
@@ -65,8 +66,8 @@ abbrev pub is_printable : ℕ → Bool
 is_printable c = nat_le 32 c && not (c == 127)
 
 -- one character of a string constant, or a gap
-abbrev pub piece : List ℕ → Option Piece
-piece text =
+abbrev pub next_piece : List ℕ → Option Piece
+next_piece text =
     if byte text 0 == 92 then escape (drop 1 text)
     else (if is_printable (byte text 0) then Some (record { value = Some (byte text 0); len = 1 }) else None)
 
@@ -82,7 +83,7 @@ quoted (suc skipped) so_far (c ∷ text) = quoted skipped so_far text
 quoted zero so_far (c ∷ text) =
     if c == 34
     then Some (record { value = so_far; rest = text })
-    else option_and_then (λ p. quoted (p.len - 1) (so_far ++ option_to_list p.value) text) (piece (c ∷ text))
+    else option_and_then (λ p. quoted (p.len - 1) (so_far ++ option_to_list p.value) text) (next_piece (c ∷ text))
 
 abbrev pub string_of : Option Quoted → Item
 string_of None = refused NoToken
@@ -104,3 +105,7 @@ char_of (Some q) = char_of_value q.value q.rest
 -- a text that begins with # and a quote
 abbrev pub char_item : List ℕ → Item
 char_item text = char_of (quoted 0 [] (drop 2 text))
+
+-- what the code read: the characters, and the index of what follows
+abbrev pub quoted_of : List ℕ → Vec ℕ Global × ℕ → Quoted
+quoted_of text q = record { value = q.0.items; rest = drop q.1 text }

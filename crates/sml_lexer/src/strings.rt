@@ -1,12 +1,14 @@
 // Character and string constants.
 
-ghost use Rattle.std.specs.Prelude.{◌≡◌, ◌≤◌, ◌<◌, ◌+◌, ◌&&◌, [], Some, None, drop, length, true, IfSome, IfOk, MatchOption};
+ghost use Rattle.std.specs.Prelude.{◌≡◌, ◌≤◌, ◌<◌, ◌+◌, ◌^◌, ◌&&◌, ◌++◌, [], Some, None, drop, length, true, IfSome, IfOk, option_map, option_to_list};
 ghost use Rattle.std.specs.Str.Parse.{digits_value};
 ghost use Rattle.sml_lexer.specs.Chars.{byte, is_hex_digit, is_space};
-ghost use Rattle.sml_lexer.specs.Strings.{char_item, control_escape, decimal_escape, escape, gap, hex_escape, is_printable, letter_escape, of_one_byte, piece, quoted, string_item, written_in};
+ghost use Rattle.sml_lexer.specs.Strings.{char_item, control_escape, decimal_escape, escape, gap, hex_escape, is_printable, letter_escape, next_piece, of_one_byte, quoted, quoted_of, string_item, written_in};
 
 use crate::chars::{Class, byte_at, front, is_digit, is_hex_digit, is_space, rest, run_len};
 use crate::numbers::digits_value;
+use mlc_base::memory::NoMemory;
+use std::alloc::Global;
 
 /// A character of a string constant, or a gap, which has no value; and how many bytes it's written in.
 #[derive(Clone, Copy)]
@@ -120,4 +122,64 @@ fn escape(text: &[u8]) -> Option<Piece>
     } else {
         written_in(2, letter_escape(first))
     }
+}
+
+fn is_printable(c: u8) -> bool
+    ensures { result ≡ is_printable c }
+{
+    32 <= c && c != 127
+}
+
+/// One character of a string constant, or a gap.
+fn next_piece(text: &[u8]) -> Option<Piece>
+    ensures same { result ≡ next_piece text.now }
+    ensures within { IfSome result (λ p. p.len ≤ length text.now + 5) }
+    ensures some { IfSome result (λ p. 0 < p.len) }
+{
+    let first = byte_at(text, 0);
+    if first == b'\\' {
+        escape(rest(text, 1))
+    } else if is_printable(first) {
+        Some(Piece {
+            value: Some(first),
+            len: 1,
+        })
+    } else {
+        None
+    }
+}
+
+fn push_piece(value: &mut Vec<u8>, c: Option<u8>) -> Result<(), NoMemory>
+    ensures { IfOk result (λ _. value.new.items ≡ value.old.items ++ option_to_list c) }
+{
+    match c {
+        Some(c) => {
+            value.push(c)?;
+            Ok(())
+        }
+        None => Ok(()),
+    }
+}
+
+/// The characters of a string constant that begin here, and where its closing quote ends.
+fn quoted(alloc: Global, text: &[u8], from: usize) -> Result<Option<(Vec<u8>, usize)>, NoMemory>
+    requires small { length text.now < 2 ^ 32 }
+    ensures same { IfOk result (λ found. option_map (quoted_of text.now) found ≡ quoted 0 [] (drop from text.now)) }
+    ensures within { IfOk result (λ found. IfSome found (λ q. (from < q.1) × (q.1 ≤ length text.now))) }
+{
+    let mut value = Vec::new(alloc);
+    let mut at = from;
+    while at < text.len() {
+        if text[at] == b'"' {
+            return Ok(Some((value, at + 1)));
+        }
+        match next_piece(rest(text, at)) {
+            Some(piece) => {
+                push_piece(&mut value, piece.value)?;
+                at += piece.len;
+            }
+            None => return Ok(None),
+        }
+    }
+    Ok(None)
 }
