@@ -1,4 +1,5 @@
 pub mod Chars
+pub mod Comments
 pub mod Item
 pub mod ItemOf
 pub mod Lexeme

@@ -2,6 +2,7 @@
 #![tactic(auto)]
 
 mod chars;
+mod comments;
 mod item;
 mod numbers;
 mod strings;

@@ -3,11 +3,15 @@
 ghost use Rattle.std.specs.Prelude.{◌≡◌, ◌≤◌, ◌<◌, ◌+◌, ◌^◌, ◌&&◌, ◌++◌, [], Some, None, drop, length, true, IfSome, IfOk, option_map, option_to_list};
 ghost use Rattle.std.specs.Str.Parse.{digits_value};
 ghost use Rattle.sml_lexer.specs.Chars.{byte, is_hex_digit, is_space};
+ghost use Rattle.sml_lexer.specs.ItemOf.{IsConstant};
 ghost use Rattle.sml_lexer.specs.Strings.{char_item, control_escape, decimal_escape, escape, gap, hex_escape, is_printable, letter_escape, next_piece, of_one_byte, quoted, quoted_of, string_item, written_in};
 
 use crate::chars::{Class, byte_at, front, is_digit, is_hex_digit, is_space, rest, run_len};
+use crate::item::Item;
 use crate::numbers::digits_value;
+use mlc_base::code::Code;
 use mlc_base::memory::NoMemory;
+use mlc_base::token::TokenKind;
 use std::alloc::Global;
 
 /// A character of a string constant, or a gap, which has no value; and how many bytes it's written in.
@@ -182,4 +186,29 @@ fn quoted(alloc: Global, text: &[u8], from: usize) -> Result<Option<(Vec<u8>, us
         }
     }
     Ok(None)
+}
+
+/// The string constant whose opening quote a text begins with.
+pub fn string_item(alloc: Global, text: &[u8]) -> Result<Item, NoMemory>
+    requires small { length text.now < 2 ^ 32 }
+    ensures { IfOk result (λ item. IsConstant text.now item (string_item text.now)) }
+{
+    match quoted(alloc, text, 1)? {
+        Some((value, end)) => Ok(Item::Token(TokenKind::Str(value), end)),
+        None => Ok(Item::Refused(Code::NoToken)),
+    }
+}
+
+/// The character constant whose `#` a text begins with.
+pub fn char_item(alloc: Global, text: &[u8]) -> Result<Item, NoMemory>
+    requires small { length text.now < 2 ^ 32 }
+    ensures { IfOk result (λ item. IsConstant text.now item (char_item text.now)) }
+{
+    let Some((value, end)) = quoted(alloc, text, 2)? else {
+        return Ok(Item::Refused(Code::NoToken));
+    };
+    match value.as_slice() {
+        [c] => Ok(Item::Token(TokenKind::Char(*c), end)),
+        _ => Ok(Item::Refused(Code::NoToken)),
+    }
 }
