@@ -1,7 +1,9 @@
 pub mod Chars
 pub mod Comments
+pub mod Identifiers
 pub mod Item
 pub mod ItemOf
 pub mod Lexeme
 pub mod Numbers
+pub mod ReservedWords
 pub mod Strings

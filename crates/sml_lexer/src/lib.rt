@@ -3,6 +3,8 @@
 
 mod chars;
 mod comments;
+mod identifiers;
 mod item;
 mod numbers;
+mod reserved;
 mod strings;
