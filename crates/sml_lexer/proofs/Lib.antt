@@ -1,3 +1,5 @@
 pub mod CommentLemmas
+pub mod IdentifierLemmas
+pub mod NameLemmas
 pub mod NumberLemmas
 pub mod StringLemmas

@@ -2,6 +2,8 @@
 use Rattle.std.specs.Prelude.{◌≡◌, ℕ, ◌<◌, ◌≤◌, List, length, drop}
 use Rattle.sml_lexer.specs.declared.item.Item.TheVariants as code
 use Rattle.sml_lexer.specs.declared.item.Item as code_item
+use Rattle.sml_lexer.specs.declared.identifiers.Part.{Part}
+use Rattle.sml_lexer.specs.declared.identifiers.Part.TheVariants.{Letters, Symbols, Nothing}
 use Rattle.sml_lexer.specs.Lexeme.{lexeme_of, HoldsNames}
 use Rattle.sml_lexer.specs.Item.{Item, blank, found, refused}
 
@@ -24,3 +26,8 @@ pub record IsItem (names : List (List ℕ)) (text : List ℕ) (answer : code_ite
 -- the same of an answer that holds no names
 abbrev pub IsConstant : List ℕ → code_item.Item → Item → Type 0
 IsConstant text answer item = (names : List (List ℕ)) → IsItem names text answer item
+
+abbrev pub FitsPart : List ℕ → Part → Type 0
+FitsPart text (Letters len) = len ≤ length text
+FitsPart text (Symbols len) = len ≤ length text
+FitsPart text Nothing = Unit {0}

@@ -4,6 +4,7 @@ pub mod Identifiers
 pub mod Item
 pub mod ItemOf
 pub mod Lexeme
+pub mod NameTable
 pub mod Numbers
 pub mod ReservedWords
 pub mod Strings
