@@ -1,5 +1,6 @@
 pub mod CommentLemmas
 pub mod IdentifierLemmas
+pub mod ItemLemmas
 pub mod NameLemmas
 pub mod NumberLemmas
 pub mod StringLemmas

@@ -3,6 +3,7 @@ pub mod Comments
 pub mod Identifiers
 pub mod Item
 pub mod ItemOf
+pub mod Items
 pub mod Lexeme
 pub mod NameTable
 pub mod Numbers

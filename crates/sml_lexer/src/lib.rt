@@ -5,6 +5,7 @@ mod chars;
 mod comments;
 mod identifiers;
 mod item;
+mod items;
 mod numbers;
 mod reserved;
 mod strings;

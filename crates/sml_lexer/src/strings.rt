@@ -1,9 +1,9 @@
 // Character and string constants.
 
-ghost use Rattle.std.specs.Prelude.{◌≡◌, ◌≤◌, ◌<◌, ◌+◌, ◌^◌, ◌&&◌, ◌++◌, [], Some, None, drop, length, true, IfSome, IfOk, option_map, option_to_list};
+ghost use Rattle.std.specs.Prelude.{ℕ, List, ◌≡◌, ◌≤◌, ◌<◌, ◌+◌, ◌^◌, ◌&&◌, ◌++◌, [], Some, None, drop, length, true, IfSome, IfOk, option_map, option_to_list};
 ghost use Rattle.std.specs.Str.Parse.{digits_value};
 ghost use Rattle.sml_lexer.specs.Chars.{byte, is_hex_digit, is_space};
-ghost use Rattle.sml_lexer.specs.ItemOf.{IsConstant};
+ghost use Rattle.sml_lexer.specs.ItemOf.{IsItem};
 ghost use Rattle.sml_lexer.specs.Strings.{char_item, control_escape, decimal_escape, escape, gap, hex_escape, is_printable, letter_escape, next_piece, of_one_byte, quoted, quoted_of, string_item, written_in};
 
 use crate::chars::{Class, byte_at, front, is_digit, is_hex_digit, is_space, rest, run_len};
@@ -191,7 +191,7 @@ fn quoted(alloc: Global, text: &[u8], from: usize) -> Result<Option<(Vec<u8>, us
 /// The string constant whose opening quote a text begins with.
 pub fn string_item(alloc: Global, text: &[u8]) -> Result<Item, NoMemory>
     requires small { length text.now < 2 ^ 32 }
-    ensures { IfOk result (λ item. IsConstant text.now item (string_item text.now)) }
+    ensures { (names : List (List ℕ)) → IfOk result (λ item. IsItem names text.now item (string_item text.now)) }
 {
     match quoted(alloc, text, 1)? {
         Some((value, end)) => Ok(Item::Token(TokenKind::Str(value), end)),
@@ -202,7 +202,7 @@ pub fn string_item(alloc: Global, text: &[u8]) -> Result<Item, NoMemory>
 /// The character constant whose `#` a text begins with.
 pub fn char_item(alloc: Global, text: &[u8]) -> Result<Item, NoMemory>
     requires small { length text.now < 2 ^ 32 }
-    ensures { IfOk result (λ item. IsConstant text.now item (char_item text.now)) }
+    ensures { (names : List (List ℕ)) → IfOk result (λ item. IsItem names text.now item (char_item text.now)) }
 {
     let Some((value, end)) = quoted(alloc, text, 2)? else {
         return Ok(Item::Refused(Code::NoToken));
