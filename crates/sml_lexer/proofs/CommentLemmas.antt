@@ -1,6 +1,6 @@
 -- Going through a comment.
-use Rattle.std.proofs.Common.{◌≡◌, ℕ, ◌+◌, ◌-◌, ◌<◌, ◌≤◌, ◌==◌, Bool, true, false, List, [], ◌∷◌, Option, Some, None, length, get_or, drop, if◌then◌else◌, refl, arith, sym, ap, ◌∙◌, length-drop}
-use Rattle.std.proofs.lemmas.List.{at_drop_more, drop-drop}
+use Rattle.std.proofs.Common.{◌≡◌, ℕ, ◌+◌, ◌-◌, ◌<◌, ◌≤◌, ◌==◌, true, false, List, [], ◌∷◌, Some, None, length, get_or, drop, if◌then◌else◌, refl, arith, ◌∙◌, length-drop}
+use Rattle.std.proofs.lemmas.List.{at_drop_more}
 use Rattle.sml_lexer.specs.Comments.{after_comments, opens, closes}
 
 -- at two bytes of the text

@@ -5,7 +5,7 @@ use Rattle.std.specs.Str.Parse.{digits_value, digits_value_after}
 use Rattle.std.proofs.lemmas.List.{at_drop_more, drop-drop}
 use Rattle.sml_lexer.specs.Chars.{run, run_len, after_run}
 use Rattle.sml_lexer.specs.Numbers.{decimal_item, goes_on_as_real, int_item, is_plain, word_item}
-use Rattle.sml_lexer.specs.ItemOf.{IsConstant, IsItem}
+use Rattle.sml_lexer.specs.ItemOf.{IsConstant}
 use Rattle.sml_lexer.specs.declared.chars.Class.{Class}
 use Rattle.sml_lexer.specs.declared.chars.Class.TheVariants.{Digit}
 use Rattle.sml_lexer.specs.declared.item.Item.{Item}

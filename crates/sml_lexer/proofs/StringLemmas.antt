@@ -1,8 +1,8 @@
 -- Reading a string constant piece by piece.
-use Rattle.std.proofs.Common.{◌≡◌, ℕ, zero, suc, ◌+◌, ◌-◌, ◌<◌, ◌==◌, Bool, true, false, List, [], ◌∷◌, ◌++◌, Option, Some, None, length, get_or, drop, option_to_list, option_and_then, if◌then◌else◌, refl, arith, sym, ap, ◌∙◌}
+use Rattle.std.proofs.Common.{◌≡◌, ℕ, zero, suc, ◌+◌, ◌-◌, ◌<◌, ◌==◌, false, List, [], ◌∷◌, ◌++◌, Some, None, length, get_or, drop, option_to_list, option_and_then, if◌then◌else◌, refl, arith, ap, ◌∙◌}
 use Rattle.std.proofs.lemmas.List.{at_drop_more, drop-drop}
 use Rattle.sml_lexer.specs.declared.strings.Piece.{Piece}
-use Rattle.sml_lexer.specs.Strings.{next_piece, quoted, Quoted}
+use Rattle.sml_lexer.specs.Strings.{next_piece, quoted}
 
 -- bytes that belong to the piece before are skipped
 pub skip : (n : ℕ) (so_far text : List ℕ) → quoted n so_far text ≡ quoted 0 so_far (drop n text)

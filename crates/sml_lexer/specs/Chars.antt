@@ -1,5 +1,5 @@
 -- Classes of characters, and the runs that they make.
-use Rattle.std.specs.Prelude.{ℕ, Bool, ◌&&◌, ◌||◌, ◌==◌, nat_le, List, [], take, drop, codes, slice_index}
+use Rattle.std.specs.Prelude.{ℕ, Bool, ◌&&◌, ◌||◌, ◌==◌, nat_le, List, take, drop, codes, slice_index}
 use Rattle.std.specs.List.{prefix_len, list_any}
 use Rattle.sml_lexer.specs.declared.chars.Class.{Class}
 use Rattle.sml_lexer.specs.declared.chars.Class.TheVariants.{Space, Digit, HexDigit, NameChar, SymbolChar}

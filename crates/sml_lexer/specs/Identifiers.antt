@@ -1,5 +1,5 @@
 -- Identifiers: section 2.4.
-use Rattle.std.specs.Prelude.{ℕ, zero, suc, Bool, ◌==◌, if◌then◌else◌, List, [], ◌∷◌, ◌++◌, Option, Some, None, take, drop}
+use Rattle.std.specs.Prelude.{ℕ, zero, suc, ◌==◌, if◌then◌else◌, List, [], ◌∷◌, ◌++◌, Option, Some, None, take, drop}
 use Rattle.mlc_base.specs.declared.token.Reserved.{Reserved}
 use Rattle.sml_lexer.specs.declared.chars.Class.TheVariants.{NameChar, SymbolChar}
 use Rattle.sml_lexer.specs.declared.identifiers.Part.{Part}
@@ -39,10 +39,10 @@ qualified (suc skipped) qualifiers name (c ∷ text) = qualified skipped qualifi
 qualified zero qualifiers name (c ∷ text) =
     if c == 46
     then by_part
-        (λ len. qualified len (qualifiers ++ name ∷ []) (take len text) text)
-        (λ len. found (long_symbol (qualifiers ++ name ∷ []) (take len text)) (drop len text))
-        (found (named qualifiers name) (c ∷ text))
-        (next_part text)
+    (λ len. qualified len (qualifiers ++ name ∷ []) (take len text) text)
+    (λ len. found (long_symbol (qualifiers ++ name ∷ []) (take len text)) (drop len text))
+    (found (named qualifiers name) (c ∷ text))
+    (next_part text)
     else found (named qualifiers name) (c ∷ text)
 
 abbrev pub word_or : Option Reserved → List ℕ → Item → Item

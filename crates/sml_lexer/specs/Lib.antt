@@ -5,6 +5,7 @@ pub mod Item
 pub mod ItemOf
 pub mod Items
 pub mod Lexeme
+pub mod Lexes
 pub mod NameTable
 pub mod Numbers
 pub mod ReservedWords

@@ -95,10 +95,7 @@ fn qualified(
             Part::Symbols(len) => {
                 qualifiers.push(name)?;
                 let last = name_of(alloc, names, front(part, len))?;
-                return Ok(Item::Token(
-                    TokenKind::LongSymbol(qualifiers, last),
-                    at + 1 + len,
-                ));
+                return Ok(Item::Token(TokenKind::LongSymbol(qualifiers, last), at + 1 + len));
             }
             Part::Nothing => return Ok(Item::Token(named(qualifiers, name), at)),
         }

@@ -6,6 +6,7 @@ mod comments;
 mod identifiers;
 mod item;
 mod items;
+pub mod lex;
 mod numbers;
 mod reserved;
 mod strings;

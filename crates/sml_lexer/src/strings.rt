@@ -41,7 +41,11 @@ fn letter_escape(c: u8) -> Option<u8>
 fn control_escape(c: u8) -> Option<u8>
     ensures { result ≡ control_escape c }
 {
-    if 64 <= c && c <= 95 { Some(c - 64) } else { None }
+    if 64 <= c && c <= 95 {
+        Some(c - 64)
+    } else {
+        None
+    }
 }
 
 /// The character that these digits number.
@@ -78,7 +82,11 @@ fn are_hex_digits(text: &[u8]) -> bool
 fn hex_escape(text: &[u8]) -> Option<u8>
     ensures { result ≡ hex_escape text.now }
 {
-    if are_hex_digits(text) { numbered(16, front(text, 4)) } else { None }
+    if are_hex_digits(text) {
+        numbered(16, front(text, 4))
+    } else {
+        None
+    }
 }
 
 fn written_in(len: usize, c: Option<u8>) -> Option<Piece>

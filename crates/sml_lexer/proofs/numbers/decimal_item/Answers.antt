@@ -1,4 +1,4 @@
-use Rattle.std.proofs.Common.{◌≡◌, ◌+◌, ◌≤◌, false, length, take, drop, length-drop, arith, sym, ◌∙◌, subst, ap}
+use Rattle.std.proofs.Common.{length, length-drop, arith, ap}
 use Rattle.sml_lexer.proofs.NumberLemmas.{decimal_is_run}
 use Rattle.sml_lexer.proofs.numbers.decimal_item.Goals as goal
 

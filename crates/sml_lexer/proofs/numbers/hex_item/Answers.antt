@@ -1,4 +1,4 @@
-use Rattle.std.proofs.Common.{ap, ◌+◌, ◌≤◌, false, length, drop, arith}
+use Rattle.std.proofs.Common.{ap, ◌+◌, ◌≤◌, false, length, arith}
 use Rattle.std.proofs.Common.{length-drop}
 use Rattle.sml_lexer.specs.declared.chars.Class.TheVariants.{HexDigit}
 use Rattle.sml_lexer.proofs.NumberLemmas.{digits_are_run}

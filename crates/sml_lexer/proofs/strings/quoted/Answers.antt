@@ -1,5 +1,4 @@
-use Rattle.std.proofs.Common.{◌≡◌, ◌+◌, ◌≤◌, ◌==◌, false, Some, None, ap, sym, ◌∙◌, get_or, drop, arith, rules, length, [], ◌<◌}
-use Rattle.std.proofs.lemmas.Grind.{common_steps}
+use Rattle.std.proofs.Common.{◌≡◌, ◌+◌, ◌==◌, false, Some, None, ap, sym, ◌∙◌, get_or, drop, arith, rules, length, ◌<◌}
 use Rattle.sml_lexer.specs.Strings.{next_piece, quoted}
 use Rattle.sml_lexer.proofs.StringLemmas.{breaks, goes_on}
 use Rattle.sml_lexer.proofs.strings.quoted.Goals as goal
