@@ -4,5 +4,6 @@ pub mod ItemLemmas
 pub mod LexLemmas
 pub mod NameLemmas
 pub mod NumberLemmas
+pub mod ReservedLemmas
 pub mod StringLemmas
 pub mod TokenLemmas

@@ -184,8 +184,9 @@ static TABLE: &[u8] = b"\
     a.\x01E10 in 7 at 1\x02\
     .a\x01E10 in 7 at 0\x02\
     a.b.\x01E10 in 7 at 3\x02\
-    a.val\x01E10 in 7 at 1\x02\
-    a.b.val\x01E10 in 7 at 3\x02\
+    a.val\x01long a va 0-4; id l 4-5; \x02\
+    a.b.infixr\x01long a b infi 0-8; id xr 8-10; \x02\
+    A.->\x01long A - sym 0-3; sym > 3-4; \x02\
     val.x\x01E10 in 7 at 3\x02\
     a.=\x01E10 in 7 at 1\x02\
     a.:>\x01E10 in 7 at 1\x02\
@@ -219,7 +220,7 @@ fn reads_what_the_definition_says(rt: HostRuntime) -> Result<(), Fail> {
             rows += 1;
         }
     }
-    assert_eq!(rt; rows, 103);
+    assert_eq!(rt; rows, 104);
     Ok(())
 }
 
