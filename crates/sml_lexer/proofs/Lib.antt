@@ -1,9 +1,13 @@
+pub mod CommentCut
 pub mod CommentLemmas
+pub mod CutLemmas
 pub mod IdentifierLemmas
 pub mod ItemLemmas
 pub mod LexLemmas
+pub mod NameCut
 pub mod NameLemmas
 pub mod NumberLemmas
+pub mod PartCut
 pub mod ReservedLemmas
 pub mod StringLemmas
 pub mod TokenLemmas
