@@ -9,5 +9,6 @@ pub mod NameLemmas
 pub mod NumberLemmas
 pub mod PartCut
 pub mod ReservedLemmas
+pub mod StringCut
 pub mod StringLemmas
 pub mod TokenLemmas
