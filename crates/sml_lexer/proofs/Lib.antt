@@ -1,11 +1,14 @@
 pub mod CommentCut
 pub mod CommentLemmas
 pub mod CutLemmas
+pub mod Cuts
 pub mod IdentifierLemmas
+pub mod ItemCut
 pub mod ItemLemmas
 pub mod LexLemmas
 pub mod NameCut
 pub mod NameLemmas
+pub mod NumberCut
 pub mod NumberLemmas
 pub mod PartCut
 pub mod ReservedLemmas

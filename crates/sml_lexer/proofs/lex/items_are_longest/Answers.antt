@@ -1,5 +1,6 @@
-use Rattle.sml_lexer.proofs.StringCut.{string_cut}
+use Rattle.sml_lexer.proofs.NumberCut.{number_cut}
+use Rattle.sml_lexer.proofs.ItemCut.{mark_item_cut}
 use Rattle.sml_lexer.proofs.lex.items_are_longest.Goals as goal
 
 pub returns : goal.returns
-returns c = let h = string_cut in ?
+returns c = let h = number_cut in let k = mark_item_cut in ?
