@@ -173,7 +173,7 @@ quoted_char None lexeme rest e = cc
 quoted_char (Some q) lexeme rest e = let one = one_char q.value q.rest lexeme rest e in (q, refl, one.0, one.1)
 
 
-pub char_item_cut : (text : List ℕ) (lexeme : Lexeme) (rest : List ℕ) → char_item text ≡ found lexeme rest → Cuts char_item (found lexeme) text rest
+pub char_item_cut : (text : List ℕ) (lexeme : Lexeme) (rest : List ℕ) → char_item text ≡ found lexeme rest → (i : Cuts char_item (found lexeme) text rest) × (2 ≤ i.len)
 char_item_cut text lexeme rest e =
     let q = quoted_char (quoted 0 [] (drop 2 text)) lexeme rest e in
     let i = string_cut (drop 2 text) 0 [] q.0 q.1 in
@@ -184,14 +184,14 @@ char_item_cut text lexeme rest e =
       rest_is = sym q.2 ∙ i.rest_is;
       same = λ s h. ap char_of (i.same s h) ∙ q.3 (drop i.len (take s (drop 2 text)));
     } in
-    shift 2 (λ t. char_of (quoted 0 [] t)) char_item (found lexeme) text rest inner (λ s h. refl)
+    (shift 2 (λ t. char_of (quoted 0 [] t)) char_item (found lexeme) text rest inner (λ s h. refl), omega arith)
 
 -- comments
 comment_rest : (o : Option (List ℕ)) (rest : List ℕ) → comment_of o ≡ blank rest → o ≡ Some rest
 comment_rest None rest e = cc
 comment_rest (Some r) rest e = ap Some (blank_rest _ _ e)
 
-pub comment_item_cut : (text rest : List ℕ) → comment_item text ≡ blank rest → Cuts comment_item blank text rest
+pub comment_item_cut : (text rest : List ℕ) → comment_item text ≡ blank rest → (i : Cuts comment_item blank text rest) × (2 ≤ i.len)
 comment_item_cut text rest e =
     let i = comment_cut (drop 2 text) 1 rest (comment_rest (after_comments 1 (drop 2 text)) rest e) in
     let inner : Cuts (λ t. comment_of (after_comments 1 t)) blank (drop 2 text) rest = record {
@@ -201,7 +201,7 @@ comment_item_cut text rest e =
       rest_is = i.rest_is;
       same = λ s h. ap comment_of (i.same s h);
     } in
-    shift 2 (λ t. comment_of (after_comments 1 t)) comment_item blank text rest inner (λ s h. refl)
+    (shift 2 (λ t. comment_of (after_comments 1 t)) comment_item blank text rest inner (λ s h. refl), omega arith)
 
 -- marks
 dots_implies : (text : List ℕ) (s : ℕ) → Implies (begins_dots (take s text)) (begins_dots text)

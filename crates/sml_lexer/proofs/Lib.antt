@@ -6,8 +6,10 @@ pub mod IdentifierLemmas
 pub mod ItemCut
 pub mod ItemLemmas
 pub mod LexLemmas
+pub mod LongestLemmas
 pub mod NameCut
 pub mod NameLemmas
+pub mod NotBlank
 pub mod NumberCut
 pub mod NumberLemmas
 pub mod PartCut
