@@ -4,9 +4,13 @@
 pub mod code;
 pub mod fault;
 pub mod files;
+pub mod label;
 pub mod law;
 pub mod memory;
 pub mod names;
 pub mod place;
+pub mod refused;
+pub mod token;
+
 #[cfg(test)]
 mod tests;

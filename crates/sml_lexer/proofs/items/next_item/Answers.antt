@@ -1,0 +1,65 @@
+use Rattle.std.proofs.Common.{◌≡◌, ◌==◌, true, false, IfOk, sym, ap, ◌∙◌, subst, rules, eq-eqb}
+use Rattle.sml_lexer.specs.Chars.{byte, is_letter, is_space, is_symbol_char}
+use Rattle.sml_lexer.specs.ItemOf.{IsItem}
+use Rattle.sml_lexer.proofs.ItemLemmas.{is_char, is_comment, is_mark, is_number, is_string}
+use Rattle.sml_lexer.proofs.items.next_item.Goals as goal
+
+pub returns-then-begins_number-clause-item : goal.returns-then-begins_number-clause-item
+returns-then-begins_number-clause-item c =
+    let text = c.args.text.now in
+    let no_space : is_space (byte text 0) ≡ false = ap is_space (sym c.byte_at-first.ensures) ∙ sym c.is_space.ensures ∙ c.if-is_space.false in
+    let no_letter : is_letter (byte text 0) ≡ false = ap is_letter (sym c.byte_at-first.ensures) ∙ sym c.is_letter.ensures ∙ c.if-is_letter.false in
+    let is = is_number text no_space no_letter (sym c.begins_number.ensures ∙ c.if-begins_number.true) in
+    subst (IsItem c.args.names.now text c.number_item.result) (sym is) (c.number_item.ensures c.args.names.now)
+
+pub returns-then-first-eq34-clause-item : goal.returns-then-first-eq34-clause-item
+returns-then-first-eq34-clause-item c =
+    let text = c.args.text.now in
+    let first = c.byte_at-first.ensures in
+    let no_space : is_space (byte text 0) ≡ false = ap is_space (sym first) ∙ sym c.is_space.ensures ∙ c.if-is_space.false in
+    let no_letter : is_letter (byte text 0) ≡ false = ap is_letter (sym first) ∙ sym c.is_letter.ensures ∙ c.if-is_letter.false in
+    let no_number = sym c.begins_number.ensures ∙ c.if-begins_number.false in
+    let no_prime : (byte text 0 == 39) ≡ false = ap (λ b. b == 39) (sym first) ∙ search (rules, c.if-first-eq39.false) in
+    let is_quote : (byte text 0 == 34) ≡ true = eq-eqb _ _ (sym first ∙ c.if-first-eq34.true) in
+    let is = is_string text no_space no_letter no_number no_prime is_quote in
+    subst (λ i. IfOk c.string_item.result (λ item. IsItem c.args.names.now text item i)) (sym is) (c.string_item.ensures c.args.names.now)
+
+pub returns-then-begins_char-clause-item : goal.returns-then-begins_char-clause-item
+returns-then-begins_char-clause-item c =
+    let text = c.args.text.now in
+    let first = c.byte_at-first.ensures in
+    let no_space : is_space (byte text 0) ≡ false = ap is_space (sym first) ∙ sym c.is_space.ensures ∙ c.if-is_space.false in
+    let no_letter : is_letter (byte text 0) ≡ false = ap is_letter (sym first) ∙ sym c.is_letter.ensures ∙ c.if-is_letter.false in
+    let no_number = sym c.begins_number.ensures ∙ c.if-begins_number.false in
+    let no_prime : (byte text 0 == 39) ≡ false = ap (λ b. b == 39) (sym first) ∙ search (rules, c.if-first-eq39.false) in
+    let no_quote : (byte text 0 == 34) ≡ false = ap (λ b. b == 34) (sym first) ∙ search (rules, c.if-first-eq34.false) in
+    let is = is_char text no_space no_letter no_number no_prime no_quote (sym c.begins_char.ensures ∙ c.if-begins_char.true) in
+    subst (λ i. IfOk c.char_item.result (λ item. IsItem c.args.names.now text item i)) (sym is) (c.char_item.ensures c.args.names.now)
+
+pub returns-then-begins_comment-clause-item : goal.returns-then-begins_comment-clause-item
+returns-then-begins_comment-clause-item c =
+    let text = c.args.text.now in
+    let first = c.byte_at-first.ensures in
+    let no_space : is_space (byte text 0) ≡ false = ap is_space (sym first) ∙ sym c.is_space.ensures ∙ c.if-is_space.false in
+    let no_letter : is_letter (byte text 0) ≡ false = ap is_letter (sym first) ∙ sym c.is_letter.ensures ∙ c.if-is_letter.false in
+    let no_number = sym c.begins_number.ensures ∙ c.if-begins_number.false in
+    let no_prime : (byte text 0 == 39) ≡ false = ap (λ b. b == 39) (sym first) ∙ search (rules, c.if-first-eq39.false) in
+    let no_quote : (byte text 0 == 34) ≡ false = ap (λ b. b == 34) (sym first) ∙ search (rules, c.if-first-eq34.false) in
+    let no_char = sym c.begins_char.ensures ∙ c.if-begins_char.false in
+    let is = is_comment text no_space no_letter no_number no_prime no_quote no_char (sym c.begins_comment.ensures ∙ c.if-begins_comment.true) in
+    subst (IsItem c.args.names.now text c.comment_item.result) (sym is) (c.comment_item.ensures c.args.names.now)
+
+pub returns-else-is_symbol_char-clause-item : goal.returns-else-is_symbol_char-clause-item
+returns-else-is_symbol_char-clause-item c =
+    let text = c.args.text.now in
+    let first = c.byte_at-first.ensures in
+    let no_space : is_space (byte text 0) ≡ false = ap is_space (sym first) ∙ sym c.is_space.ensures ∙ c.if-is_space.false in
+    let no_letter : is_letter (byte text 0) ≡ false = ap is_letter (sym first) ∙ sym c.is_letter.ensures ∙ c.if-is_letter.false in
+    let no_number = sym c.begins_number.ensures ∙ c.if-begins_number.false in
+    let no_prime : (byte text 0 == 39) ≡ false = ap (λ b. b == 39) (sym first) ∙ search (rules, c.if-first-eq39.false) in
+    let no_quote : (byte text 0 == 34) ≡ false = ap (λ b. b == 34) (sym first) ∙ search (rules, c.if-first-eq34.false) in
+    let no_char = sym c.begins_char.ensures ∙ c.if-begins_char.false in
+    let no_comment = sym c.begins_comment.ensures ∙ c.if-begins_comment.false in
+    let no_symbol : is_symbol_char (byte text 0) ≡ false = ap is_symbol_char (sym first) ∙ sym c.is_symbol_char.ensures ∙ c.if-is_symbol_char.false in
+    let is = is_mark text no_space no_letter no_number no_prime no_quote no_char no_comment no_symbol in
+    subst (IsItem c.args.names.now text c.mark_item.result) (sym is) (c.mark_item.ensures c.args.names.now)

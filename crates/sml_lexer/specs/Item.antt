@@ -1,0 +1,10 @@
+-- What a text begins with.
+use Rattle.std.specs.Prelude.{ℕ, List}
+use Rattle.mlc_base.specs.declared.code.Code.{Code}
+use Rattle.sml_lexer.specs.Lexeme.{Lexeme}
+
+-- white space or a whole comment, and what follows it; a token, and what follows it; or why there is no item
+pub data Item : Type 0 where
+  blank : List ℕ → Item
+  found : Lexeme → List ℕ → Item
+  refused : Code → Item

@@ -1,0 +1,13 @@
+pub mod Chars
+pub mod Comments
+pub mod Identifiers
+pub mod Item
+pub mod ItemOf
+pub mod Items
+pub mod Lexeme
+pub mod Lexes
+pub mod Longest
+pub mod NameTable
+pub mod Numbers
+pub mod ReservedWords
+pub mod Strings
