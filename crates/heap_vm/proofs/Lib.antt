@@ -1,4 +1,5 @@
 pub mod Bytes
+pub mod Pieces
 pub mod Runs
 pub mod Sent
 pub mod Sinks

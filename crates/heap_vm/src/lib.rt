@@ -5,6 +5,7 @@ mod act;
 mod compute;
 mod control;
 mod heap;
+pub mod law;
 mod registers;
 mod send;
 mod slots;

@@ -1,6 +1,3 @@
-use Rattle.std.proofs.Common.{◌≡◌}
-use Rattle.mlc_outside.specs.Sink.{WasPut}
-use Rattle.heap_vm.specs.Loaded.{told_name}
 use Rattle.heap_vm.proofs.Tells.{tells_first}
 use Rattle.heap_vm.proofs.tests.first_run.Goals as goal
 
