@@ -12,6 +12,8 @@ mod program;
 mod say;
 mod source;
 mod standard;
+#[cfg(test)]
+mod tests;
 mod text;
 mod translate;
 
