@@ -8,7 +8,7 @@ use Rattle.ir_code.specs.Run.{ended, going}
 use Rattle.mlc_cli.specs.Command.{Command, IsCommand}
 use Rattle.mlc_cli.specs.Project.{Project, IsProject, IsNeeded, the_mlb, the_source, IsRefused, no_mlb, no_source, IfTold}
 use Rattle.mlc_cli.specs.Exits.{Exited, Tells, file_of, tells_ended, tells_step_limit, tells_refused, tells_no_line, tells_missing, tells_read_failed, tells_store_failed, tells_out_failed, tells_no_memory}
-use Rattle.mlc_cli.specs.Statuses.{NoCommand, ByCommand, Built, RanTo, WriteFailed, Unwritten, IsMissing, Says, says_nothing, says_refused, says_step_limit, says_missing, says_read_failed, says_write_failed, says_no_memory, IsBeforeRun, IsBeforeWrite, IsReady, IsRunOrMemory}
+use Rattle.mlc_cli.specs.Statuses.{ByCommand, Built, RanTo, WriteFailed, Unwritten, IsMissing, Says, says_nothing, says_refused, says_step_limit, says_missing, says_read_failed, says_write_failed, says_no_memory, IsBeforeRun, IsBeforeWrite, IsReady, IsRunOrMemory}
 use Rattle.mlc_cli.specs.declared.exit.Exit.{Exit}
 use Rattle.std.specs.String.{string_bytes}
 use Rattle.mlc_cli.specs.Mlb.{path_from}

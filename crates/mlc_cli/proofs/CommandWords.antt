@@ -1,8 +1,6 @@
 -- Six words.
-use Rattle.std.proofs.Common.{◌≡◌, ℕ, List, [], ◌∷◌, length, get_or, String, Global, arith, codes, sym, ap, ◌∙◌, refl}
-use Rattle.std.specs.String.{string_bytes}
+use Rattle.std.proofs.Common.{◌≡◌, ℕ, List, [], ◌∷◌, length, get_or, String, Global, arith, codes, sym, ◌∙◌}
 use Rattle.mlc_cli.specs.Command.{Command, HasNumbers, IsCommand}
-use Rattle.mlc_cli.specs.CommandOf.{words_of}
 
 pub six_words : (ws : List (String Global)) (a b c d e f : String Global) → length ws ≡ 6 → a ≡ get_or ws 0 a → b ≡ get_or ws 1 b → c ≡ get_or ws 2 c → d ≡ get_or ws 3 d → e ≡ get_or ws 4 e → f ≡ get_or ws 5 f → ws ≡ a ∷ b ∷ c ∷ d ∷ e ∷ f ∷ []
 six_words (x0 ∷ x1 ∷ x2 ∷ x3 ∷ x4 ∷ x5 ∷ []) a b c d e f l i0 i1 i2 i3 i4 i5 = cc

@@ -1,13 +1,13 @@
 -- The exits of a project's image.
-use Rattle.std.proofs.Common.{◌≡◌, ℕ, ◌⊎◌, inl, inr, List, Option, Some, None, refl, ap, subst, sym, ◌∙◌}
+use Rattle.std.proofs.Common.{◌≡◌, ℕ, ◌⊎◌, inl, inr, List, Option, refl}
 use Rattle.mlc_outside.specs.Files.{Files}
 use Rattle.ir_code.specs.Program.{Program}
 use Rattle.mlc_cli.specs.Command.{Command}
-use Rattle.mlc_cli.specs.Exits.{LoadExit, Exited, Loads}
+use Rattle.mlc_cli.specs.Exits.{LoadExit, Exited}
 use Rattle.mlc_cli.specs.Project.{Project, IsProject, IfTold}
 use Rattle.mlc_cli.specs.Running.{Holds, Runs, Builds}
 use Rattle.mlc_cli.specs.Same.{Same}
-use Rattle.mlc_cli.specs.Statuses.{Built, Compiles}
+use Rattle.mlc_cli.specs.Statuses.{Built}
 use Rattle.mlc_cli.specs.declared.exit.Exit.{Exit}
 use Rattle.mlc_cli.specs.declared.exit.Exit.TheVariants.{Ended, StepLimit, Refused, Missing, ReadFailed, StoreFailed, OutFailed, NoMemory}
 

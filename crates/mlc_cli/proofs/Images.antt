@@ -1,15 +1,14 @@
 -- The run of an image that prints strings.
-use Rattle.std.proofs.Common.{◌≡◌, ◌≢◌, ℕ, zero, suc, ◌+◌, ◌*◌, ◌^◌, ◌<◌, ◌≤◌, ◌⊎◌, inl, inr, Bool, true, false, ◌&&◌, nat_lt, nat_le, List, [], ◌∷◌, ◌++◌, length, map, take, drop, replicate, slice_get, slice_index, Option, Some, None, refl, ap, subst, sym, ◌∙◌, arith, length-append, append_assoc, append-nil}
-use Rattle.std.specs.List.{AllByRecursion, list_all}
+use Rattle.std.proofs.Common.{◌≡◌, ℕ, zero, suc, ◌+◌, ◌*◌, ◌<◌, ◌≤◌, Bool, true, ◌&&◌, nat_lt, nat_le, List, [], ◌∷◌, ◌++◌, length, take, drop, replicate, slice_get, slice_index, Some, refl, ap, subst, sym, ◌∙◌, arith, length-append, append_assoc}
+use Rattle.std.specs.List.{AllByRecursion}
 use Rattle.std.specs.Prelude.{slice_set}
 use Rattle.std.proofs.Math.Seq.{take-append_seam, drop-append_seam, get_or-append_seam}
 use Rattle.std.proofs.lemmas.Bool.{lt-ltb, le-leb}
 use Rattle.std.proofs.lemmas.List.{drop-drop, length-set, length-replicate}
-use Rattle.ir_code.specs.Program.{Program}
 use Rattle.ir_code.specs.declared.instr.Instr.{Instr}
 use Rattle.ir_code.specs.declared.instr.Instr.TheVariants.{Li, Print, End}
 use Rattle.ir_code.specs.declared.halt.Halt.TheVariants.{Ended}
-use Rattle.ir_code.specs.Machine.{State, Ran, Goes, Prints, Halts, act, run, start, put, next, has_string, has_bytes, all_bytes, string_at}
+use Rattle.ir_code.specs.Machine.{State, run, start, put, next, has_bytes, all_bytes, string_at}
 use Rattle.ir_code.specs.Laws.{NextLaws, ControlLaws, MemoryLaws}
 use Rattle.ir_code.specs.Run.{RunResult, result_of, run_of, going, ended}
 use Rattle.mlc_cli.specs.ImageOf.{string_words, constants_of, code_at, image_of, size_of}

@@ -1,5 +1,5 @@
 -- Exits while a project is read.
-use Rattle.std.proofs.Common.{◌≡◌, ℕ, ◌+◌, ◌≤◌, List, [], ◌∷◌, length, Option, Some, None, refl, ap, subst, sym, ◌∙◌, arith}
+use Rattle.std.proofs.Common.{◌≡◌, ℕ, ◌≤◌, List, Option, Some, None, ap, subst, sym, ◌∙◌, arith}
 use Rattle.std.specs.FinMap.{get}
 use Rattle.std.specs.String.{string_bytes}
 use Rattle.mlc_base.specs.File.{File}
@@ -7,10 +7,9 @@ use Rattle.mlc_outside.specs.Faults.{Rose}
 use Rattle.mlc_outside.specs.Files.{Files}
 use Rattle.mlc_outside.specs.Store.{HasFile}
 use Rattle.mlc_cli.specs.Mlb.{Names, path_from}
-use Rattle.mlc_cli.specs.Project.{Project, IsProject, IsNeeded, the_mlb, the_source, IsRefused, no_mlb, no_source, IfTold}
+use Rattle.mlc_cli.specs.Project.{IsProject, IsNeeded, the_mlb, the_source, IsRefused, no_mlb, no_source, IfTold}
 use Rattle.mlc_cli.specs.Source.{Print, Source}
 use Rattle.mlc_cli.specs.Statuses.{IsMissing}
-use Rattle.mlc_cli.specs.Texts.{texts_in}
 use Rattle.mlc_cli.specs.Exits.{file_of, LoadExit, ReadExit, RefusedExit, SourceExit, NamesSource, HasTexts, Loads}
 use Rattle.mlc_cli.specs.declared.exit.Exit.{Exit}
 use Rattle.mlc_cli.specs.declared.exit.Exit.TheVariants.{Ended, StepLimit, Refused, Missing, ReadFailed, StoreFailed as Store_failed, OutFailed as Out_failed, NoMemory}

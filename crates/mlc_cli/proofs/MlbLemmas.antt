@@ -1,15 +1,15 @@
 -- The reader computes the form of an ML Basis file.
-use Rattle.std.proofs.Common.{◌≡◌, ℕ, zero, suc, ◌+◌, ◌<◌, ◌≤◌, Bool, true, false, not, ◌&&◌, ◌||◌, ◌==◌, nat_eq, nat_lt, if◌then◌else◌, List, [], ◌∷◌, ◌++◌, length, take, drop, Option, Some, None, option_and_then, codes, refl, ap, subst, sym, ◌∙◌, arith, cond}
+use Rattle.std.proofs.Common.{◌≡◌, ℕ, suc, ◌+◌, Bool, true, false, ◌&&◌, ◌==◌, nat_eq, nat_lt, if◌then◌else◌, List, [], ◌∷◌, ◌++◌, length, take, drop, Some, None, option_and_then, codes, refl, ap, subst, sym, ◌∙◌, arith, cond}
 use Rattle.std.specs.List.{list_all, ends_with, prefix_len}
 use Rattle.std.proofs.lemmas.Bool.{eqb-true, ltb-false}
 use Rattle.std.proofs.lemmas.Bool.Decides.{nat_tests}
 use Rattle.std.proofs.lemmas.List.{take-append-drop, nil_from_length}
 use Rattle.std.proofs.Math.Seq.{take-append_seam, drop-append_seam}
-use Rattle.mlc_cli.specs.Text.{is_blank, without_blanks, Follows}
+use Rattle.mlc_cli.specs.Text.{is_blank, without_blanks}
 use Rattle.mlc_cli.specs.Source.{most_bytes}
-use Rattle.mlc_cli.specs.Mlb.{basis, is_letter_or_digit, is_path_byte, begins_with_blank, Names}
+use Rattle.mlc_cli.specs.Mlb.{basis, is_path_byte, begins_with_blank, Names}
 use Rattle.mlc_cli.specs.Reading.{after_token, path_word, parted_word, names_word}
-use Rattle.mlc_cli.proofs.Sources.{after-Follows, Follows-after, AndThen, and_then-Some}
+use Rattle.mlc_cli.proofs.Sources.{after-Follows, Follows-after, and_then-Some}
 
 blank_is_no_path : (b : ℕ) → is_blank b ≡ true → is_path_byte b ≡ false
 blank_is_no_path b h = grind (arith, nat_tests)

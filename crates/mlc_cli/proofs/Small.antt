@@ -1,8 +1,8 @@
 -- The strings of a source are bytes, and not too many.
-use Rattle.std.proofs.Common.{◌≡◌, ℕ, ◌+◌, ◌^◌, ◌<◌, ◌≤◌, Bool, true, false, ◌==◌, if◌then◌else◌, List, [], ◌∷◌, length, map, Option, Some, None, refl, ap, subst, sym, ◌∙◌, arith}
+use Rattle.std.proofs.Common.{◌≡◌, ℕ, ◌+◌, ◌^◌, ◌<◌, ◌≤◌, Bool, true, false, ◌==◌, if◌then◌else◌, List, length, Some, None, arith}
 use Rattle.std.specs.List.{AllByRecursion}
 use Rattle.std.proofs.lemmas.Bool.Decides.{nat_tests}
-use Rattle.mlc_cli.specs.Source.{Print, is_plain, escaped, Closes, quote, plain, escape, Declares, Declarations, no_more, one_more, Source}
+use Rattle.mlc_cli.specs.Source.{Print, is_plain, escaped, Closes, quote, plain, escape, Declarations, no_more, one_more, Source}
 use Rattle.mlc_cli.specs.ImageOf.{size_of}
 use Rattle.mlc_cli.specs.Texts.{texts_in}
 use Rattle.mlc_cli.proofs.Whole.{Declares-length}

@@ -1,9 +1,8 @@
 -- The reader computes the form: tokens, declarations and whole sources.
-use Rattle.std.proofs.Common.{◌≡◌, ◌≢◌, ℕ, zero, suc, ◌+◌, ◌-◌, ◌<◌, ◌≤◌, Bool, true, false, not, ◌&&◌, nat_le, ◌==◌, nat_eq, if◌then◌else◌, List, [], ◌∷◌, ◌++◌, length, map, Option, Some, None, option_and_then, codes, refl, ap, subst, sym, ◌∙◌, arith, length-append}
+use Rattle.std.proofs.Common.{◌≡◌, ℕ, ◌-◌, Bool, true, false, not, ◌&&◌, nat_le, ◌==◌, if◌then◌else◌, List, [], ◌∷◌, ◌++◌, length, Option, Some, None, option_and_then, codes, refl, ap, subst, ◌∙◌, arith}
 use Rattle.std.proofs.lemmas.Bool.{eqb-true}
-use Rattle.std.proofs.lemmas.Grind.{common_steps}
-use Rattle.mlc_cli.specs.Text.{is_blank, without_blanks, Follows}
-use Rattle.mlc_cli.specs.Source.{Print, is_plain, escaped, Closes, quote, plain, escape, Declares, Declarations, no_more, one_more}
+use Rattle.mlc_cli.specs.Text.{without_blanks, Follows}
+use Rattle.mlc_cli.specs.Source.{Print, is_plain, escaped, Closes, quote, plain, escape, Declares}
 use Rattle.mlc_cli.specs.Reading.{strip, after_token, closes_at, with_byte, with_escape, after_head, after_print, declaration_at}
 use Rattle.mlc_cli.proofs.Strings.{closes-quote, closes-plain, closes-escape}
 

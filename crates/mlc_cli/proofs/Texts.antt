@@ -1,10 +1,9 @@
 -- Lemmas on white space and tokens.
-use Rattle.std.proofs.Common.{◌≡◌, ℕ, zero, suc, ◌+◌, ◌<◌, ◌≤◌, Bool, true, false, ◌&&◌, nat_eq, cond, if◌then◌else◌, List, [], ◌∷◌, ◌++◌, length, take, drop, get_or, Option, Some, None, refl, ap, sym, ◌∙◌, arith}
+use Rattle.std.proofs.Common.{◌≡◌, ℕ, suc, ◌+◌, ◌<◌, Bool, true, false, ◌&&◌, nat_eq, if◌then◌else◌, List, [], ◌∷◌, length, take, drop, get_or, Some, None, refl, ap, sym, ◌∙◌, arith}
 use Rattle.std.proofs.Math.Seq.{drop-cons}
-use Rattle.std.proofs.lemmas.Grind.{common_steps}
 use Rattle.std.specs.Cmp.Lexicographic.{pointwise}
-use Rattle.mlc_cli.specs.Text.{is_blank, without_blanks, Follows}
-use Rattle.mlc_cli.specs.Reading.{strip, after_token}
+use Rattle.mlc_cli.specs.Text.{is_blank, without_blanks}
+use Rattle.mlc_cli.specs.Reading.{strip}
 
 -- white space is passed over, and stops at another byte
 pub without_blanks_step : (bytes : List ℕ) (i b : ℕ) → i < length bytes → get_or bytes i 0 ≡ b → is_blank b ≡ true → without_blanks (drop (i + 1) bytes) ≡ without_blanks (drop i bytes)

@@ -1,5 +1,5 @@
 -- A source as a whole.
-use Rattle.std.proofs.Common.{◌≡◌, ℕ, zero, suc, ◌+◌, ◌*◌, ◌<◌, ◌≤◌, Bool, true, false, if◌then◌else◌, List, [], ◌∷◌, ◌++◌, length, map, Option, Some, None, codes, refl, ap, subst, sym, ◌∙◌, arith, length-append, append_assoc, append-nil, IfSome}
+use Rattle.std.proofs.Common.{◌≡◌, ℕ, ◌+◌, ◌<◌, ◌≤◌, Bool, true, false, if◌then◌else◌, List, [], ◌∷◌, ◌++◌, length, Option, Some, None, codes, refl, ap, subst, sym, ◌∙◌, arith, length-append, append_assoc, append-nil}
 use Rattle.std.proofs.lemmas.List.{map-append}
 use Rattle.mlc_cli.specs.Text.{is_blank, without_blanks, Follows}
 use Rattle.mlc_cli.specs.Source.{Print, Closes, quote, plain, escape, Declares, Declarations, no_more, one_more, Source, most_bytes}

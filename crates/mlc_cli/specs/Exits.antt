@@ -1,7 +1,6 @@
 -- What each exit of the compiler says, and the status and line that tell it.
-use Rattle.std.specs.Prelude.{◌≡◌, ℕ, ◌⊎◌, ⊤, List, [], ◌∷◌, ◌++◌, Option, Some, None, String, codes}
+use Rattle.std.specs.Prelude.{◌≡◌, ℕ, ◌⊎◌, ⊤, List, [], ◌++◌, Option, Some, None, String, codes}
 use Rattle.std.specs.Global.{Global}
-use Rattle.std.specs.FinMap.{get}
 use Rattle.std.specs.String.{string_bytes}
 use Rattle.mlc_base.specs.File.{File}
 use Rattle.mlc_outside.specs.Faults.{Rose}

@@ -1,5 +1,5 @@
 -- The forms as functions: what the reader computes.
-use Rattle.std.specs.Prelude.{ℕ, Bool, ◌&&◌, nat_eq, nat_lt, ◌==◌, if◌then◌else◌, length, take, drop, List, [], ◌∷◌, Option, Some, None, option_and_then, option_map, codes}
+use Rattle.std.specs.Prelude.{ℕ, ◌&&◌, nat_eq, nat_lt, ◌==◌, if◌then◌else◌, length, take, drop, List, [], ◌∷◌, Option, Some, None, option_and_then, codes}
 use Rattle.std.specs.List.{ends_with, prefix_len}
 use Rattle.mlc_cli.specs.Text.{without_blanks}
 use Rattle.mlc_cli.specs.Source.{is_plain, escaped, most_bytes}

@@ -1,5 +1,5 @@
 -- The statuses of the program: what each says of the files, of what was written, and of the line on err.
-use Rattle.std.specs.Prelude.{◌≡◌, ◌≢◌, ℕ, ◌⊎◌, List, [], ◌∷◌, ◌++◌, Option, Some, None, codes}
+use Rattle.std.specs.Prelude.{◌≡◌, ℕ, ◌⊎◌, List, [], ◌∷◌, ◌++◌, Option, Some, None, codes}
 use Rattle.std.specs.FinMap.{get}
 use Rattle.mlc_base.specs.File.{File}
 use Rattle.mlc_base.specs.FaultLine.{fault_text}

@@ -1,4 +1,4 @@
-use Rattle.std.proofs.Common.{◌≡◌, ◌∷◌, [], ◌∙◌, List, ℕ, String, Global, true, codes, sym, ap, arith, rules}
+use Rattle.std.proofs.Common.{◌≡◌, ◌∷◌, [], ◌∙◌, true, codes, sym, ap, arith, rules}
 use Rattle.std.specs.List.{list_all}
 use Rattle.mlc_cli.specs.Command.{is_no_option}
 use Rattle.mlc_cli.specs.CommandOf.{words_of}

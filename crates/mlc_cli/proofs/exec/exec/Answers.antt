@@ -1,12 +1,10 @@
-use Rattle.std.proofs.Common.{◌≡◌, ◌≤◌, ◌^◌, ◌∙◌, sym, ap, subst, arith}
-use Rattle.std.specs.List.{AllByRecursion}
+use Rattle.std.proofs.Common.{◌≡◌, ◌∙◌, ap, arith}
 use Rattle.mlc_cli.specs.CommandOf.{command_of}
-use Rattle.mlc_cli.specs.ImageOf.{image_of, size_of}
-use Rattle.mlc_cli.specs.Running.{GoesOrEnds}
+use Rattle.mlc_cli.specs.ImageOf.{image_of}
 use Rattle.mlc_cli.specs.Texts.{texts_of, texts_in}
-use Rattle.mlc_cli.proofs.Exiting.{built-exit, loaded-exit}
+use Rattle.mlc_cli.proofs.Exiting.{built-exit}
 use Rattle.mlc_cli.proofs.SameLemmas.{image-same, image-end}
-use Rattle.mlc_cli.proofs.Small.{AreBytes, source_bytes, source_size}
+use Rattle.mlc_cli.proofs.Small.{source_bytes, source_size}
 use Rattle.mlc_cli.proofs.exec.exec.Goals as goal
 
 pub build-requires-clause-size : goal.build-requires-clause-size

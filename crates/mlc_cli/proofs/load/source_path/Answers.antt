@@ -1,5 +1,3 @@
-use Rattle.std.proofs.Common.{subst}
-use Rattle.mlc_cli.specs.Mlb.{Names}
 use Rattle.mlc_cli.proofs.Loading.{mlb-exit, mlb-refused}
 use Rattle.mlc_cli.proofs.load.source_path.Goals as goal
 

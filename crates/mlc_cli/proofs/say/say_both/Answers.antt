@@ -1,4 +1,3 @@
-use Rattle.std.proofs.Common.{sym, ap}
 use Rattle.mlc_cli.proofs.Tellings.{told_first, told_both}
 use Rattle.mlc_cli.proofs.say.say_both.Goals as goal
 

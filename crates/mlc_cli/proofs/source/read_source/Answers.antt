@@ -1,11 +1,11 @@
-use Rattle.std.proofs.Common.{◌≡◌, ◌≤◌, ◌==◌, ◌∙◌, ◌++◌, ◌∷◌, [], false, true, None, Some, sym, ap, subst, length, arith, List, ℕ}
+use Rattle.std.proofs.Common.{◌≡◌, ◌==◌, ◌∙◌, ◌++◌, ◌∷◌, [], false, true, None, Some, sym, ap, subst, length, arith, List, ℕ}
 use Rattle.std.proofs.lemmas.Bool.{eqb-true}
 use Rattle.std.proofs.lemmas.List.{map-append, nil_from_length}
 use Rattle.mlc_cli.specs.Text.{without_blanks}
 use Rattle.mlc_cli.specs.Reading.{declaration_at}
 use Rattle.mlc_cli.specs.Constant.{read_constant, text_and_rest}
 use Rattle.mlc_cli.specs.Texts.{texts_of}
-use Rattle.mlc_cli.proofs.Whole.{Sofar, sofar_start, sofar_more, sofar_end, sofar_none, shorter}
+use Rattle.mlc_cli.proofs.Whole.{Sofar, sofar_more, sofar_end, sofar_none, shorter}
 use Rattle.mlc_cli.proofs.source.read_source.Goals as goal
 
 pub returns-in-None-clause-no_source : goal.returns-in-None-clause-no_source

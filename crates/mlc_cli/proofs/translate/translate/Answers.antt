@@ -1,4 +1,4 @@
-use Rattle.std.proofs.Common.{◌≤◌, ◌≡◌, ◌+◌, ◌*◌, length, arith, ap}
+use Rattle.std.proofs.Common.{length, arith, ap}
 use Rattle.mlc_cli.specs.Texts.{texts_of}
 use Rattle.mlc_cli.proofs.Images.{size-of}
 use Rattle.mlc_cli.proofs.translate.translate.Goals as goal
