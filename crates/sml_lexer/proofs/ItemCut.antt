@@ -204,7 +204,7 @@ comment_item_cut text rest e =
     (shift 2 (λ t. comment_of (after_comments 1 t)) comment_item blank text rest inner (λ s h. refl), omega arith)
 
 -- marks
-dots_implies : (text : List ℕ) (s : ℕ) → Implies (begins_dots (take s text)) (begins_dots text)
+pub dots_implies : (text : List ℕ) (s : ℕ) → Implies (begins_dots (take s text)) (begins_dots text)
 dots_implies text s =
     implies_and _ _ _ _ (implies_and _ _ _ _ (implies_byte (λ c. c == 46) text s 0 refl) (implies_byte (λ c. c == 46) text s 1 refl)) (implies_byte (λ c. c == 46) text s 2 refl)
 
@@ -215,10 +215,10 @@ dots_same text s h =
     let c = byte_cut text s 2 (omega arith) in
     λ j. a j == 46 && b j == 46 && c j == 46
 
-dots_case : (text : List ℕ) → begins_dots text ≡ true → mark_item text ≡ found (reserved Dots) (drop 3 text)
+pub dots_case : (text : List ℕ) → begins_dots text ≡ true → mark_item text ≡ found (reserved Dots) (drop 3 text)
 dots_case text is = rw is refl
 
-mark_case : (text : List ℕ) → begins_dots text ≡ false → mark_item text ≡ mark_or_none (spelt marks (take 1 text)) (drop 1 text)
+pub mark_case : (text : List ℕ) → begins_dots text ≡ false → mark_item text ≡ mark_or_none (spelt marks (take 1 text)) (drop 1 text)
 mark_case text isnt = rw isnt refl
 
 dots_long : (text : List ℕ) → begins_dots text ≡ true → 3 ≤ length text

@@ -15,7 +15,7 @@ written_len n (Some c) p e = let same : record { value = Some c; len = n } ≡ p
 piece_len : (v : Option ℕ) (n : ℕ) (p : Piece) → Some (record { value = v; len = n }) ≡ Some p → p.len ≡ n
 piece_len v n p e = let same : record { value = v; len = n } ≡ p = cc in ap (λ q. q.len) (sym same)
 
-decimal_cut : (text : List ℕ) (s : ℕ) → 3 ≤ s → decimal_escape (take s text) ≡ decimal_escape text
+pub decimal_cut : (text : List ℕ) (s : ℕ) → 3 ≤ s → decimal_escape (take s text) ≡ decimal_escape text
 decimal_cut text s h =
     let a = byte_cut text s 0 (omega arith) in
     let b = byte_cut text s 1 (omega arith) in
@@ -23,7 +23,7 @@ decimal_cut text s h =
     let front = take-take 3 s text h in
     rw (a, b, c, front) refl
 
-hex_cut : (text : List ℕ) (s : ℕ) → 4 ≤ s → hex_escape (take s text) ≡ hex_escape text
+pub hex_cut : (text : List ℕ) (s : ℕ) → 4 ≤ s → hex_escape (take s text) ≡ hex_escape text
 hex_cut text s h =
     let a = byte_cut text s 0 (omega arith) in
     let b = byte_cut text s 1 (omega arith) in
@@ -56,7 +56,7 @@ gap_some text s p e h =
       | inr isnt ↦ let none : None ≡ Some p = rw isnt at e in absurd (none_some p none)
     ]
 
-digits_case : (text : List ℕ) → is_space (byte text 0) ≡ false → is_digit (byte text 0) ≡ true → escape text ≡ written_in 4 (decimal_escape text)
+pub digits_case : (text : List ℕ) → is_space (byte text 0) ≡ false → is_digit (byte text 0) ≡ true → escape text ≡ written_in 4 (decimal_escape text)
 digits_case text isnt is = rw (isnt, is) refl
 
 escape_cut : (text : List ℕ) (s : ℕ) (p : Piece) → escape text ≡ Some p → p.len ≤ s + 1 → escape (take s text) ≡ Some p
