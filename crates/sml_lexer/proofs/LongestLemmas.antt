@@ -1,5 +1,5 @@
 -- Items are the longest that begin at their places.
-use Rattle.std.proofs.Common.{◌≡◌, ℕ, zero, suc, ◌+◌, ◌-◌, ◌<◌, ◌≤◌, ◌⊎◌, inl, inr, min, Bool, true, false, ◌&&◌, ◌==◌, List, [], ◌∷◌, length, take, drop, Option, Some, None, refl, arith, sym, ap, ◌∙◌, subst, length-drop, length-take}
+use Rattle.std.proofs.Common.{◌≡◌, ℕ, zero, suc, ◌-◌, ◌<◌, ◌≤◌, ◌⊎◌, inl, inr, Bool, true, false, ◌&&◌, ◌==◌, List, [], length, take, drop, Option, Some, None, refl, arith, sym, ap, ◌∙◌, length-drop, length-take}
 use Rattle.std.proofs.lemmas.Bool.{cases_Bool, false≢true, true≢false}
 use Rattle.std.proofs.lemmas.List.{drop_all, take-take}
 use Rattle.mlc_base.specs.declared.code.Code.TheVariants.{NoToken}
@@ -11,7 +11,7 @@ use Rattle.sml_lexer.specs.Identifiers.{name_item, symbol_item, type_var_item}
 use Rattle.sml_lexer.specs.Item.{Item, blank, found, refused}
 use Rattle.sml_lexer.specs.Items.{begins_char, begins_dots, item_at, mark_item, mark_or_none}
 use Rattle.sml_lexer.specs.Lexeme.{Lexeme}
-use Rattle.sml_lexer.specs.Longest.{IsLongest, IsOneItem, ItemsAreLongest}
+use Rattle.sml_lexer.specs.Longest.{IsOneItem, ItemsAreLongest}
 use Rattle.sml_lexer.specs.Numbers.{begins_number, number_item}
 use Rattle.sml_lexer.specs.ReservedWords.{marks, spelt}
 use Rattle.sml_lexer.specs.Strings.{char_item, quoted, Quoted, string_item, string_of}
@@ -129,30 +129,30 @@ token_cut text lexeme rest e =
     elim (cases_Bool (is_space (byte text 0))) as (λ _. goal) [
       | inl is ↦ absurd (blank_found _ _ _ (sym (is_blank text is) ∙ e))
       | inr s ↦ elim (cases_Bool (is_letter (byte text 0))) as (λ _. goal) [
-          | inl is ↦
-              let i = name_item_cut text lexeme rest is (sym (is_name text s is) ∙ e) in
-              let some = i.some in
-              as_other name_item item_at (found lexeme) text rest i (λ n h. is_name (take n text) (ap is_space (byte_cut text n 0 (omega arith)) ∙ s) (ap is_letter (byte_cut text n 0 (omega arith)) ∙ is))
-          | inr l ↦ elim (cases_Bool (begins_number text)) as (λ _. goal) [
-              | inl is ↦ number_there text s l lexeme rest is e
-              | inr n ↦ elim (cases_Bool (byte text 0 == 39)) as (λ _. goal) [
-                  | inl is ↦ type_var_there text s l n lexeme rest is e
-                  | inr p ↦ elim (cases_Bool (byte text 0 == 34)) as (λ _. goal) [
-                      | inl is ↦ string_there text s l n p lexeme rest is e
-                      | inr q ↦ elim (cases_Bool (begins_char text)) as (λ _. goal) [
-                          | inl is ↦ char_there text s l n p q lexeme rest is e
-                          | inr c ↦ elim (cases_Bool (begins_comment text)) as (λ _. goal) [
-                              | inl is ↦ absurd (no_token (after_comments 1 (drop 2 text)) lexeme rest (sym (is_comment text s l n p q c is) ∙ e))
-                              | inr o ↦ elim (cases_Bool (is_symbol_char (byte text 0))) as (λ _. goal) [
-                                  | inl is ↦ symbol_there text s l n p q c o lexeme rest is e
-                                  | inr isnt ↦ mark_there text s l n p q c o lexeme rest isnt e
-                                ]
-                            ]
-                        ]
-                    ]
+        | inl is ↦
+            let i = name_item_cut text lexeme rest is (sym (is_name text s is) ∙ e) in
+            let some = i.some in
+            as_other name_item item_at (found lexeme) text rest i (λ n h. is_name (take n text) (ap is_space (byte_cut text n 0 (omega arith)) ∙ s) (ap is_letter (byte_cut text n 0 (omega arith)) ∙ is))
+        | inr l ↦ elim (cases_Bool (begins_number text)) as (λ _. goal) [
+          | inl is ↦ number_there text s l lexeme rest is e
+          | inr n ↦ elim (cases_Bool (byte text 0 == 39)) as (λ _. goal) [
+            | inl is ↦ type_var_there text s l n lexeme rest is e
+            | inr p ↦ elim (cases_Bool (byte text 0 == 34)) as (λ _. goal) [
+              | inl is ↦ string_there text s l n p lexeme rest is e
+              | inr q ↦ elim (cases_Bool (begins_char text)) as (λ _. goal) [
+                | inl is ↦ char_there text s l n p q lexeme rest is e
+                | inr c ↦ elim (cases_Bool (begins_comment text)) as (λ _. goal) [
+                  | inl is ↦ absurd (no_token (after_comments 1 (drop 2 text)) lexeme rest (sym (is_comment text s l n p q c is) ∙ e))
+                  | inr o ↦ elim (cases_Bool (is_symbol_char (byte text 0))) as (λ _. goal) [
+                    | inl is ↦ symbol_there text s l n p q c o lexeme rest is e
+                    | inr isnt ↦ mark_there text s l n p q c o lexeme rest isnt e
+                  ]
                 ]
+              ]
             ]
+          ]
         ]
+      ]
     ]
 
 pub blank_cut : (text rest : List ℕ) → item_at text ≡ blank rest → Cuts item_at blank text rest
@@ -164,27 +164,27 @@ blank_cut text rest e =
           let some = i.some in
           as_other (λ t. blank (after_run Space t)) item_at blank text rest i (λ n h. is_blank (take n text) (ap is_space (byte_cut text n 0 (omega arith)) ∙ is))
       | inr s ↦ elim (cases_Bool (is_letter (byte text 0))) as (λ _. goal) [
-          | inl is ↦ absurd (not_blank _ rest (name_no_blank text) (sym (is_name text s is) ∙ e))
-          | inr l ↦ elim (cases_Bool (begins_number text)) as (λ _. goal) [
-              | inl is ↦ absurd (not_blank _ rest (number_no_blank text) (sym (is_number text s l is) ∙ e))
-              | inr n ↦ elim (cases_Bool (byte text 0 == 39)) as (λ _. goal) [
-                  | inl is ↦ absurd (not_blank _ rest (type_var_no_blank text) (sym (is_type_var text s l n is) ∙ e))
-                  | inr p ↦ elim (cases_Bool (byte text 0 == 34)) as (λ _. goal) [
-                      | inl is ↦ absurd (not_blank _ rest (string_no_blank text) (sym (is_string text s l n p is) ∙ e))
-                      | inr q ↦ elim (cases_Bool (begins_char text)) as (λ _. goal) [
-                          | inl is ↦ absurd (not_blank _ rest (char_no_blank text) (sym (is_char text s l n p q is) ∙ e))
-                          | inr c ↦ elim (cases_Bool (begins_comment text)) as (λ _. goal) [
-                              | inl is ↦ comment_there text s l n p q c rest is e
-                              | inr o ↦ elim (cases_Bool (is_symbol_char (byte text 0))) as (λ _. goal) [
-                                  | inl is ↦ absurd (not_blank _ rest (symbol_no_blank text) (sym (is_symbol text s l n p q c o is) ∙ e))
-                                  | inr isnt ↦ absurd (not_blank _ rest (mark_no_blank text) (sym (is_mark text s l n p q c o isnt) ∙ e))
-                                ]
-                            ]
-                        ]
-                    ]
+        | inl is ↦ absurd (not_blank _ rest (name_no_blank text) (sym (is_name text s is) ∙ e))
+        | inr l ↦ elim (cases_Bool (begins_number text)) as (λ _. goal) [
+          | inl is ↦ absurd (not_blank _ rest (number_no_blank text) (sym (is_number text s l is) ∙ e))
+          | inr n ↦ elim (cases_Bool (byte text 0 == 39)) as (λ _. goal) [
+            | inl is ↦ absurd (not_blank _ rest (type_var_no_blank text) (sym (is_type_var text s l n is) ∙ e))
+            | inr p ↦ elim (cases_Bool (byte text 0 == 34)) as (λ _. goal) [
+              | inl is ↦ absurd (not_blank _ rest (string_no_blank text) (sym (is_string text s l n p is) ∙ e))
+              | inr q ↦ elim (cases_Bool (begins_char text)) as (λ _. goal) [
+                | inl is ↦ absurd (not_blank _ rest (char_no_blank text) (sym (is_char text s l n p q is) ∙ e))
+                | inr c ↦ elim (cases_Bool (begins_comment text)) as (λ _. goal) [
+                  | inl is ↦ comment_there text s l n p q c rest is e
+                  | inr o ↦ elim (cases_Bool (is_symbol_char (byte text 0))) as (λ _. goal) [
+                    | inl is ↦ absurd (not_blank _ rest (symbol_no_blank text) (sym (is_symbol text s l n p q c o is) ∙ e))
+                    | inr isnt ↦ absurd (not_blank _ rest (mark_no_blank text) (sym (is_mark text s l n p q c o isnt) ∙ e))
+                  ]
                 ]
+              ]
             ]
+          ]
         ]
+      ]
     ]
 
 -- no item begins where none is found
@@ -257,27 +257,27 @@ none_there text e c o (suc len) h one =
     elim (cases_Bool (is_space (byte text 0))) as (λ _. ⊥) [
       | inl is ↦ unless_no_token _ _ refl (sym (is_blank text is)) e
       | inr s ↦ elim (cases_Bool (is_letter (byte text 0))) as (λ _. ⊥) [
-          | inl is ↦ unless_no_token _ _ (name_fails is_no_token (λ _ _. refl) refl refl text) (sym (is_name text s is)) e
-          | inr l ↦ elim (cases_Bool (begins_number text)) as (λ _. ⊥) [
-              | inl is ↦ unless_no_token _ _ (number_fails is_no_token (λ _ _. refl) refl refl text) (sym (is_number text s l is)) e
-              | inr n ↦ elim (cases_Bool (byte text 0 == 39)) as (λ _. ⊥) [
-                  | inl is ↦ unless_no_token _ _ refl (sym (is_type_var text s l n is)) e
-                  | inr p ↦ elim (cases_Bool (byte text 0 == 34)) as (λ _. ⊥) [
-                      | inl is ↦
-                          let broken = string_stays_broken text (suc len) some (sym (is_string text s l n p is) ∙ e) in
-                          let at_cut = is_string (take (suc len) text) (ns text s l (suc len) some) (nl text s l (suc len) some) (nn text s l n (suc len)) (np text s l n p (suc len) some) (ap (λ b. b == 34) first ∙ is) in
-                          one_not_refused (take (suc len) text) (refused NoToken) refl (at_cut ∙ broken) one
-                      | inr q ↦ elim (cases_Bool (is_symbol_char (byte text 0))) as (λ _. ⊥) [
-                          | inl is ↦ unless_no_token _ _ (symbol_fails is_no_token (λ _ _. refl) refl refl text) (sym (is_symbol text s l n p q c o is)) e
-                          | inr isnt ↦
-                              let none = mark_stays_none text (suc len) some (sym (is_mark text s l n p q c o isnt) ∙ e) in
-                              let at_cut = is_mark (take (suc len) text) (ns text s l (suc len) some) (nl text s l (suc len) some) (nn text s l n (suc len)) (np text s l n p (suc len) some) (nq text s l n p q (suc len) some) (nc text s l n p q c (suc len)) (no_bracket text s l n p q c o (suc len)) (ap is_symbol_char first ∙ isnt) in
-                              one_not_refused (take (suc len) text) (refused NoToken) refl (at_cut ∙ none) one
-                        ]
-                    ]
-                ]
+        | inl is ↦ unless_no_token _ _ (name_fails is_no_token (λ _ _. refl) refl refl text) (sym (is_name text s is)) e
+        | inr l ↦ elim (cases_Bool (begins_number text)) as (λ _. ⊥) [
+          | inl is ↦ unless_no_token _ _ (number_fails is_no_token (λ _ _. refl) refl refl text) (sym (is_number text s l is)) e
+          | inr n ↦ elim (cases_Bool (byte text 0 == 39)) as (λ _. ⊥) [
+            | inl is ↦ unless_no_token _ _ refl (sym (is_type_var text s l n is)) e
+            | inr p ↦ elim (cases_Bool (byte text 0 == 34)) as (λ _. ⊥) [
+              | inl is ↦
+                  let broken = string_stays_broken text (suc len) some (sym (is_string text s l n p is) ∙ e) in
+                  let at_cut = is_string (take (suc len) text) (ns text s l (suc len) some) (nl text s l (suc len) some) (nn text s l n (suc len)) (np text s l n p (suc len) some) (ap (λ b. b == 34) first ∙ is) in
+                  one_not_refused (take (suc len) text) (refused NoToken) refl (at_cut ∙ broken) one
+              | inr q ↦ elim (cases_Bool (is_symbol_char (byte text 0))) as (λ _. ⊥) [
+                | inl is ↦ unless_no_token _ _ (symbol_fails is_no_token (λ _ _. refl) refl refl text) (sym (is_symbol text s l n p q c o is)) e
+                | inr isnt ↦
+                    let none = mark_stays_none text (suc len) some (sym (is_mark text s l n p q c o isnt) ∙ e) in
+                    let at_cut = is_mark (take (suc len) text) (ns text s l (suc len) some) (nl text s l (suc len) some) (nn text s l n (suc len)) (np text s l n p (suc len) some) (nq text s l n p q (suc len) some) (nc text s l n p q c (suc len)) (no_bracket text s l n p q c o (suc len)) (ap is_symbol_char first ∙ isnt) in
+                    one_not_refused (take (suc len) text) (refused NoToken) refl (at_cut ∙ none) one
+              ]
             ]
+          ]
         ]
+      ]
     ]
 
 -- no bytes are left after an item's own
@@ -296,32 +296,36 @@ blank_rest r s e = cc
 pub items_are_longest : ItemsAreLongest
 items_are_longest = record {
   tokens = λ text rest lexeme e.
-      let i = token_cut text lexeme rest e in
-      (i.len, record {
-        some = i.some;
-        within = i.within;
-        rest_is = i.rest_is;
-        by_itself = i.same i.len (omega arith) ∙ ap (found lexeme) (none_left text i.len);
-        none_longer = λ longer h k one.
-            let whole = i.same longer (omega arith) in
-            elim one as (λ _. ⊥) [
-              | inl b ↦ blank_found _ _ _ (sym b ∙ whole)
-              | inr f ↦ some_left text i.len longer h k (found_rest _ _ _ _ (sym whole ∙ f.1))
-            ];
-      });
+      let i = token_cut text lexeme rest e in (
+        i.len,
+        record {
+          some = i.some;
+          within = i.within;
+          rest_is = i.rest_is;
+          by_itself = i.same i.len (omega arith) ∙ ap (found lexeme) (none_left text i.len);
+          none_longer = λ longer h k one.
+              let whole = i.same longer (omega arith) in
+              elim one as (λ _. ⊥) [
+                | inl b ↦ blank_found _ _ _ (sym b ∙ whole)
+                | inr f ↦ some_left text i.len longer h k (found_rest _ _ _ _ (sym whole ∙ f.1))
+              ];
+        },
+      );
   blanks = λ text rest e.
-      let i = blank_cut text rest e in
-      (i.len, record {
-        some = i.some;
-        within = i.within;
-        rest_is = i.rest_is;
-        by_itself = i.same i.len (omega arith) ∙ ap blank (none_left text i.len);
-        none_longer = λ longer h k one.
-            let whole = i.same longer (omega arith) in
-            elim one as (λ _. ⊥) [
-              | inl b ↦ some_left text i.len longer h k (blank_rest _ _ (sym whole ∙ b))
-              | inr f ↦ blank_found _ _ _ (sym whole ∙ f.1)
-            ];
-      });
+      let i = blank_cut text rest e in (
+        i.len,
+        record {
+          some = i.some;
+          within = i.within;
+          rest_is = i.rest_is;
+          by_itself = i.same i.len (omega arith) ∙ ap blank (none_left text i.len);
+          none_longer = λ longer h k one.
+              let whole = i.same longer (omega arith) in
+              elim one as (λ _. ⊥) [
+                | inl b ↦ some_left text i.len longer h k (blank_rest _ _ (sym whole ∙ b))
+                | inr f ↦ blank_found _ _ _ (sym whole ∙ f.1)
+              ];
+        },
+      );
   none_there = none_there;
 }

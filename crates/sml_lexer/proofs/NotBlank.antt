@@ -1,20 +1,18 @@
 -- Which items are no white space and no comments.
-use Rattle.std.proofs.Common.{◌≡◌, ℕ, zero, suc, ◌^◌, ◌<◌, ◌⊎◌, inl, inr, Bool, true, false, ◌==◌, nat_le, nat_lt, cond, List, [], ◌∷◌, ◌++◌, length, take, drop, Option, Some, None, refl, sym, ap, ◌∙◌}
+use Rattle.std.proofs.Common.{◌≡◌, ℕ, zero, suc, ◌^◌, Bool, true, false, ◌==◌, nat_le, nat_lt, cond, List, [], ◌∷◌, ◌++◌, take, drop, Option, Some, None, refl}
 use Rattle.std.specs.Str.Parse.{digits_value}
-use Rattle.std.proofs.lemmas.Bool.{cases_Bool, cond_both}
-use Rattle.mlc_base.specs.declared.code.Code.{Code}
 use Rattle.mlc_base.specs.declared.code.Code.TheVariants.{ConstantRange, RealConstant}
 use Rattle.mlc_base.specs.declared.token.Reserved.{Reserved}
 use Rattle.sml_lexer.specs.declared.chars.Class.TheVariants.{Digit, HexDigit, NameChar, SymbolChar}
 use Rattle.sml_lexer.specs.declared.identifiers.Part.{Part}
 use Rattle.sml_lexer.specs.declared.identifiers.Part.TheVariants.{Letters, Symbols, Nothing}
-use Rattle.sml_lexer.specs.Chars.{after_run, byte, run}
+use Rattle.sml_lexer.specs.Chars.{after_run, run}
 use Rattle.sml_lexer.specs.Comments.{comment_of}
-use Rattle.sml_lexer.specs.Identifiers.{by_part, named, name_item, next_part, qualified, symbol_item, type_var_item, word_or}
+use Rattle.sml_lexer.specs.Identifiers.{by_part, name_item, next_part, qualified, symbol_item, type_var_item, word_or}
 use Rattle.sml_lexer.specs.Item.{Item, blank, found, refused}
 use Rattle.sml_lexer.specs.Items.{begins_dots, mark_item, mark_or_none}
-use Rattle.sml_lexer.specs.Lexeme.{Lexeme, int, word, symbol}
-use Rattle.sml_lexer.specs.Numbers.{begins_hex, begins_hex_word, begins_negative, begins_word, decimal_item, goes_on_as_real, hex_item, int_item, int_limit, is_plain, number_item, unsigned_item, word_item}
+use Rattle.sml_lexer.specs.Lexeme.{Lexeme}
+use Rattle.sml_lexer.specs.Numbers.{begins_hex, begins_hex_word, begins_negative, begins_word, goes_on_as_real, int_item, int_limit, is_plain, number_item, unsigned_item, word_item}
 use Rattle.sml_lexer.specs.ReservedWords.{marks, spelt, symbolic, words}
 use Rattle.sml_lexer.specs.Strings.{char_item, char_of, char_of_value, quoted, Quoted, string_item, string_of}
 

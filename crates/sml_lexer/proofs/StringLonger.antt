@@ -1,7 +1,6 @@
 -- String constants in texts that go on.
-use Rattle.std.proofs.Common.{◌≡◌, ℕ, zero, suc, ◌+◌, ◌-◌, ◌<◌, ◌≤◌, ◌⊎◌, inl, inr, min, Bool, true, false, ◌&&◌, ◌==◌, cond, List, [], ◌∷◌, ◌++◌, length, get_or, take, drop, Option, Some, None, option_to_list, refl, arith, sym, ap, ◌∙◌, subst, length-drop}
-use Rattle.std.proofs.lemmas.Bool.{and_parts, cases_Bool, cases_lt, eqb-true, true≢false}
-use Rattle.std.proofs.lemmas.List.{get_or_past, take-take}
+use Rattle.std.proofs.Common.{◌≡◌, ℕ, zero, suc, ◌+◌, ◌-◌, ◌<◌, ◌≤◌, ◌⊎◌, inl, inr, Bool, true, false, ◌&&◌, ◌==◌, cond, List, [], ◌∷◌, ◌++◌, take, drop, Option, Some, None, option_to_list, refl, arith, sym, ap, ◌∙◌}
+use Rattle.std.proofs.lemmas.Bool.{and_parts, cases_Bool, cases_lt, true≢false}
 use Rattle.sml_lexer.specs.declared.strings.Piece.{Piece}
 use Rattle.sml_lexer.specs.declared.chars.Class.TheVariants.{Space}
 use Rattle.sml_lexer.specs.Chars.{byte, is_between, is_digit, is_hex_digit, is_space, run_len}
@@ -64,31 +63,31 @@ escape_longer text (suc k) p e =
     elim (cases_Bool (is_space (byte text 0))) as (λ _. escape text ≡ Some p) [
       | inl is ↦ rw is (gap_longer text (suc k) p (rw (first, is) at e))
       | inr no_space ↦ elim (cases_Bool (is_digit (byte text 0))) as (λ _. escape text ≡ Some p) [
+        | inl is ↦
+            let w : written_in 4 (decimal_escape (take (suc k) text)) ≡ Some p = sym (digits_case (take (suc k) text) (ap is_space first ∙ no_space) (ap is_digit first ∙ is)) ∙ e in
+            let c = written_some 4 (decimal_escape (take (suc k) text)) p w in
+            let same = decimal_cut text (suc k) (decimal_long text (suc k) c.0 c.1) in
+            digits_case text no_space is ∙ ap (written_in 4) (sym same) ∙ w
+        | inr no_digit ↦ elim (cases_Bool (byte text 0 == 117)) as (λ _. escape text ≡ Some p) [
           | inl is ↦
-              let w : written_in 4 (decimal_escape (take (suc k) text)) ≡ Some p = sym (digits_case (take (suc k) text) (ap is_space first ∙ no_space) (ap is_digit first ∙ is)) ∙ e in
-              let c = written_some 4 (decimal_escape (take (suc k) text)) p w in
-              let same = decimal_cut text (suc k) (decimal_long text (suc k) c.0 c.1) in
-              digits_case text no_space is ∙ ap (written_in 4) (sym same) ∙ w
-          | inr no_digit ↦ elim (cases_Bool (byte text 0 == 117)) as (λ _. escape text ≡ Some p) [
-              | inl is ↦
-                  let w : written_in 6 (hex_escape (drop 1 (take (suc k) text))) ≡ Some p = rw (first, no_space, no_digit, is) at e in
-                  let cut : drop 1 (take (suc k) text) ≡ take (suc k - 1) (drop 1 text) = drop_cut text (suc k) 1 (omega arith) in
-                  let v : written_in 6 (hex_escape (take (suc k - 1) (drop 1 text))) ≡ Some p = ap (λ t. written_in 6 (hex_escape t)) (sym cut) ∙ w in
-                  let c = written_some 6 (hex_escape (take (suc k - 1) (drop 1 text))) p v in
-                  let same = hex_cut (drop 1 text) (suc k - 1) (hex_long (drop 1 text) (suc k - 1) c.0 c.1) in
-                  rw (no_space, no_digit, is) (ap (written_in 6) (sym same) ∙ v)
-              | inr no_u ↦ elim (cases_Bool (byte text 0 == 94)) as (λ _. escape text ≡ Some p) [
-                  | inl is ↦
-                      let w : written_in 3 (control_escape (byte (take (suc k) text) 1)) ≡ Some p = rw (first, no_space, no_digit, no_u, is) at e in
-                      let c = written_some 3 (control_escape (byte (take (suc k) text) 1)) p w in
-                      let second = byte_cut text (suc k) 1 (control_long text (suc k) c.0 c.1) in
-                      rw (no_space, no_digit, no_u, is) (ap (λ b. written_in 3 (control_escape b)) (sym second) ∙ w)
-                  | inr no_caret ↦
-                      let w : written_in 2 (letter_escape (byte text 0)) ≡ Some p = rw (first, no_space, no_digit, no_u, no_caret) at e in
-                      rw (no_space, no_digit, no_u, no_caret) w
-                ]
-            ]
+              let w : written_in 6 (hex_escape (drop 1 (take (suc k) text))) ≡ Some p = rw (first, no_space, no_digit, is) at e in
+              let cut : drop 1 (take (suc k) text) ≡ take (suc k - 1) (drop 1 text) = drop_cut text (suc k) 1 (omega arith) in
+              let v : written_in 6 (hex_escape (take (suc k - 1) (drop 1 text))) ≡ Some p = ap (λ t. written_in 6 (hex_escape t)) (sym cut) ∙ w in
+              let c = written_some 6 (hex_escape (take (suc k - 1) (drop 1 text))) p v in
+              let same = hex_cut (drop 1 text) (suc k - 1) (hex_long (drop 1 text) (suc k - 1) c.0 c.1) in
+              rw (no_space, no_digit, is) (ap (written_in 6) (sym same) ∙ v)
+          | inr no_u ↦ elim (cases_Bool (byte text 0 == 94)) as (λ _. escape text ≡ Some p) [
+            | inl is ↦
+                let w : written_in 3 (control_escape (byte (take (suc k) text) 1)) ≡ Some p = rw (first, no_space, no_digit, no_u, is) at e in
+                let c = written_some 3 (control_escape (byte (take (suc k) text) 1)) p w in
+                let second = byte_cut text (suc k) 1 (control_long text (suc k) c.0 c.1) in
+                rw (no_space, no_digit, no_u, is) (ap (λ b. written_in 3 (control_escape b)) (sym second) ∙ w)
+            | inr no_caret ↦
+                let w : written_in 2 (letter_escape (byte text 0)) ≡ Some p = rw (first, no_space, no_digit, no_u, no_caret) at e in
+                rw (no_space, no_digit, no_u, no_caret) w
+          ]
         ]
+      ]
     ]
 
 piece_longer : (text : List ℕ) (s : ℕ) (p : Piece) → 0 < s → next_piece (take s text) ≡ Some p → next_piece text ≡ Some p
@@ -122,11 +121,11 @@ string_longer (c ∷ text) (suc s) zero so_far q e =
     elim (cases_Bool (c == 34)) as (λ _. (r : Quoted) × (quoted 0 so_far (c ∷ text) ≡ Some r)) [
       | inl is ↦ (record { value = so_far; rest = text }, rw is refl)
       | inr isnt ↦ elim (piece_cases (next_piece (c ∷ take s text))) as (λ _. (r : Quoted) × (quoted 0 so_far (c ∷ text) ≡ Some r)) [
-          | inl p ↦
-              let long : next_piece (c ∷ text) ≡ Some p.0 = piece_longer (c ∷ text) (suc s) p.0 (omega arith) p.1 in
-              let on : quoted (p.0.len - 1) (so_far ++ option_to_list p.0.value) (take s text) ≡ Some q = rw (isnt, p.1) at e in
-              let r = string_longer text s (p.0.len - 1) (so_far ++ option_to_list p.0.value) q on in
-              (r.0, rw (isnt, long) r.1)
-          | inr none ↦ let nothing : None ≡ Some q = rw (isnt, none) at e in absurd (none_quoted q nothing)
-        ]
+        | inl p ↦
+            let long : next_piece (c ∷ text) ≡ Some p.0 = piece_longer (c ∷ text) (suc s) p.0 (omega arith) p.1 in
+            let on : quoted (p.0.len - 1) (so_far ++ option_to_list p.0.value) (take s text) ≡ Some q = rw (isnt, p.1) at e in
+            let r = string_longer text s (p.0.len - 1) (so_far ++ option_to_list p.0.value) q on in
+            (r.0, rw (isnt, long) r.1)
+        | inr none ↦ let nothing : None ≡ Some q = rw (isnt, none) at e in absurd (none_quoted q nothing)
+      ]
     ]
