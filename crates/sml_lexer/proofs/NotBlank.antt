@@ -1,4 +1,4 @@
--- Which items are no white space and no comments.
+-- What items of each class are not.
 use Rattle.std.proofs.Common.{◌≡◌, ℕ, zero, suc, ◌^◌, Bool, true, false, ◌==◌, nat_le, nat_lt, cond, List, [], ◌∷◌, ◌++◌, take, drop, Option, Some, None, refl}
 use Rattle.std.specs.Str.Parse.{digits_value}
 use Rattle.mlc_base.specs.declared.code.Code.TheVariants.{ConstantRange, RealConstant}

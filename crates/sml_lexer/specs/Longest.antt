@@ -6,7 +6,7 @@ use Rattle.sml_lexer.specs.Item.{Item, blank, found, refused}
 use Rattle.sml_lexer.specs.Items.{begins_char, item_at}
 use Rattle.sml_lexer.specs.Lexeme.{Lexeme}
 
--- the whole text is one item
+-- the whole text is white space, a comment or a token; a constant that is refused counts as none
 abbrev pub IsOneItem : List ℕ → Type 0
 IsOneItem text = (item_at text ≡ blank []) ⊎ ((lexeme : Lexeme) × (item_at text ≡ found lexeme []))
 
