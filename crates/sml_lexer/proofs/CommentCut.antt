@@ -1,5 +1,5 @@
 -- Comments in texts that are cut off.
-use Rattle.std.proofs.Common.{◌≡◌, ℕ, zero, suc, ◌+◌, ◌-◌, ◌<◌, ◌≤◌, ◌⊎◌, inl, inr, Bool, true, false, ◌==◌, List, [], ◌∷◌, length, take, drop, Option, Some, None, refl, arith, sym, ap, ◌∙◌}
+use Rattle.std.proofs.Common.{◌≡◌, ℕ, zero, suc, ◌+◌, ◌-◌, ◌<◌, ◌≤◌, inl, inr, ◌==◌, List, [], ◌∷◌, length, take, drop, Some, refl, arith, sym, ◌∙◌}
 use Rattle.std.proofs.lemmas.Bool.{cases_Bool}
 use Rattle.sml_lexer.specs.Comments.{after_comments, opens, closes}
 
@@ -20,9 +20,9 @@ bracket n m c d text rest step i = record {
   same = λ s. elim s as (λ s. suc (suc i.len) ≤ s → after_comments n (take s (c ∷ d ∷ text)) ≡ Some (drop (suc (suc i.len)) (take s (c ∷ d ∷ text)))) [
     | zero ↦ λ h. absurd (omega arith)
     | suc s ↦ elim s as (λ s. suc (suc i.len) ≤ suc s → after_comments n (take (suc s) (c ∷ d ∷ text)) ≡ Some (drop (suc (suc i.len)) (take (suc s) (c ∷ d ∷ text)))) [
-        | zero ↦ λ h. absurd (omega arith)
-        | suc s ↦ λ h. step (take s text) ∙ i.same s (omega arith)
-      ]
+      | zero ↦ λ h. absurd (omega arith)
+      | suc s ↦ λ h. step (take s text) ∙ i.same s (omega arith)
+    ]
   ];
 }
 
@@ -35,9 +35,9 @@ last n c d text rest step e = record {
   same = λ s. elim s as (λ s. 2 ≤ s → after_comments n (take s (c ∷ d ∷ text)) ≡ Some (drop 2 (take s (c ∷ d ∷ text)))) [
     | zero ↦ λ h. absurd (omega arith)
     | suc s ↦ elim s as (λ s. 2 ≤ suc s → after_comments n (take (suc s) (c ∷ d ∷ text)) ≡ Some (drop 2 (take (suc s) (c ∷ d ∷ text)))) [
-        | zero ↦ λ h. absurd (omega arith)
-        | suc s ↦ λ h. step (take s text)
-      ]
+      | zero ↦ λ h. absurd (omega arith)
+      | suc s ↦ λ h. step (take s text)
+    ]
   ];
 }
 
@@ -52,9 +52,9 @@ passed n c d text rest step i =
       same = λ s. elim s as (λ s. suc i.len ≤ s → after_comments n (take s (c ∷ d ∷ text)) ≡ Some (drop (suc i.len) (take s (c ∷ d ∷ text)))) [
         | zero ↦ λ h. absurd (omega arith)
         | suc s ↦ elim s as (λ s. suc i.len ≤ suc s → after_comments n (take (suc s) (c ∷ d ∷ text)) ≡ Some (drop (suc i.len) (take (suc s) (c ∷ d ∷ text)))) [
-            | zero ↦ λ h. absurd (omega (arith, some))
-            | suc s ↦ λ h. step (take s text) ∙ i.same (suc s) (omega arith)
-          ]
+          | zero ↦ λ h. absurd (omega (arith, some))
+          | suc s ↦ λ h. step (take s text) ∙ i.same (suc s) (omega arith)
+        ]
       ];
     }
 
@@ -68,10 +68,10 @@ comment_cut (c ∷ d ∷ text) n rest e =
     elim (cases_Bool (opens c d)) as (λ _. CutsComment n (c ∷ d ∷ text) rest) [
       | inl is ↦ bracket n (n + 1) c d text rest (λ t. rw is refl) (comment_cut text (n + 1) rest (rw is at e))
       | inr isnt ↦ elim (cases_Bool (closes c d)) as (λ _. CutsComment n (c ∷ d ∷ text) rest) [
-          | inl is ↦ elim (cases_Bool (n == 1)) as (λ _. CutsComment n (c ∷ d ∷ text) rest) [
-              | inl one ↦ last n c d text rest (λ t. rw (isnt, is, one) refl) (some_same text rest (rw (isnt, is, one) at e))
-              | inr more ↦ bracket n (n - 1) c d text rest (λ t. rw (isnt, is, more) refl) (comment_cut text (n - 1) rest (rw (isnt, is, more) at e))
-            ]
-          | inr neither ↦ passed n c d text rest (λ t. rw (isnt, neither) refl) (comment_cut (d ∷ text) n rest (rw (isnt, neither) at e))
+        | inl is ↦ elim (cases_Bool (n == 1)) as (λ _. CutsComment n (c ∷ d ∷ text) rest) [
+          | inl one ↦ last n c d text rest (λ t. rw (isnt, is, one) refl) (some_same text rest (rw (isnt, is, one) at e))
+          | inr more ↦ bracket n (n - 1) c d text rest (λ t. rw (isnt, is, more) refl) (comment_cut text (n - 1) rest (rw (isnt, is, more) at e))
         ]
+        | inr neither ↦ passed n c d text rest (λ t. rw (isnt, neither) refl) (comment_cut (d ∷ text) n rest (rw (isnt, neither) at e))
+      ]
     ]

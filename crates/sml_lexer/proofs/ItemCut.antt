@@ -1,21 +1,21 @@
 -- Each class of items in texts that are cut off.
-use Rattle.std.proofs.Common.{◌≡◌, ℕ, zero, suc, ◌+◌, ◌-◌, ◌<◌, ◌≤◌, ◌⊎◌, inl, inr, Bool, true, false, ◌&&◌, ◌||◌, ◌==◌, List, [], ◌∷◌, length, take, drop, Option, Some, None, refl, arith, sym, ap, ◌∙◌, subst, length-drop}
-use Rattle.std.proofs.lemmas.Bool.{and_parts, and_right, true≢false, cases_Bool, eqb-true}
-use Rattle.std.proofs.lemmas.List.{drop-drop, get_or-drop, take-take}
+use Rattle.std.proofs.Common.{◌≡◌, ℕ, ◌+◌, ◌-◌, ◌≤◌, ◌⊎◌, inl, inr, true, false, ◌&&◌, ◌==◌, List, [], ◌∷◌, length, take, drop, Option, Some, None, refl, arith, sym, ap, ◌∙◌, length-drop}
+use Rattle.std.proofs.lemmas.Bool.{and_right, true≢false, cases_Bool, eqb-true}
+use Rattle.std.proofs.lemmas.List.{drop-drop, take-take}
 use Rattle.mlc_base.specs.declared.code.Code.{Code}
 use Rattle.mlc_base.specs.declared.token.Reserved.{Reserved}
 use Rattle.mlc_base.specs.declared.token.Reserved.TheVariants.{Dots}
 use Rattle.sml_lexer.specs.declared.chars.Class.TheVariants.{NameChar, Space, SymbolChar}
 use Rattle.sml_lexer.specs.Chars.{after_run, byte, is_letter, is_name_char, is_space, is_symbol_char, run, run_len}
-use Rattle.sml_lexer.specs.Comments.{after_comments, begins_comment, comment_item, comment_of}
-use Rattle.sml_lexer.specs.Identifiers.{name_item, qualified, symbol_item, type_var_item, type_variable, word_or}
-use Rattle.sml_lexer.specs.Item.{Item, blank, found, refused}
-use Rattle.sml_lexer.specs.Items.{begins_char, begins_dots, mark_item, mark_or_none}
+use Rattle.sml_lexer.specs.Comments.{after_comments, comment_item, comment_of}
+use Rattle.sml_lexer.specs.Identifiers.{name_item, qualified, symbol_item, type_var_item, type_variable}
+use Rattle.sml_lexer.specs.Item.{blank, found, refused}
+use Rattle.sml_lexer.specs.Items.{begins_dots, mark_item, mark_or_none}
 use Rattle.sml_lexer.specs.Lexeme.{Lexeme, reserved, symbol}
 use Rattle.sml_lexer.specs.ReservedWords.{marks, spelt, symbolic, words}
 use Rattle.sml_lexer.specs.Strings.{char_item, char_of, char_of_value, quoted, Quoted, string_item, string_of}
 use Rattle.sml_lexer.proofs.CommentCut.{comment_cut}
-use Rattle.sml_lexer.proofs.CutLemmas.{after_run_cut, byte_cut, drop_cut, false_from, Implies, implies_and, implies_byte, run_len_same, run_same, run_some, run_within}
+use Rattle.sml_lexer.proofs.CutLemmas.{after_run_cut, byte_cut, drop_cut, false_from, Implies, implies_and, implies_byte, run_same, run_some, run_within}
 use Rattle.sml_lexer.proofs.Cuts.{Cuts, shift}
 use Rattle.sml_lexer.proofs.NameCut.{found_lexeme, found_rest, name_cut}
 use Rattle.sml_lexer.proofs.StringCut.{string_cut}
@@ -172,7 +172,6 @@ quoted_char : (o : Option Quoted) (lexeme : Lexeme) (rest : List ℕ) → char_o
 quoted_char None lexeme rest e = cc
 quoted_char (Some q) lexeme rest e = let one = one_char q.value q.rest lexeme rest e in (q, refl, one.0, one.1)
 
-
 pub char_item_cut : (text : List ℕ) (lexeme : Lexeme) (rest : List ℕ) → char_item text ≡ found lexeme rest → (i : Cuts char_item (found lexeme) text rest) × (2 ≤ i.len)
 char_item_cut text lexeme rest e =
     let q = quoted_char (quoted 0 [] (drop 2 text)) lexeme rest e in
@@ -204,7 +203,7 @@ comment_item_cut text rest e =
     (shift 2 (λ t. comment_of (after_comments 1 t)) comment_item blank text rest inner (λ s h. refl), omega arith)
 
 -- marks
-dots_implies : (text : List ℕ) (s : ℕ) → Implies (begins_dots (take s text)) (begins_dots text)
+pub dots_implies : (text : List ℕ) (s : ℕ) → Implies (begins_dots (take s text)) (begins_dots text)
 dots_implies text s =
     implies_and _ _ _ _ (implies_and _ _ _ _ (implies_byte (λ c. c == 46) text s 0 refl) (implies_byte (λ c. c == 46) text s 1 refl)) (implies_byte (λ c. c == 46) text s 2 refl)
 
@@ -215,10 +214,10 @@ dots_same text s h =
     let c = byte_cut text s 2 (omega arith) in
     λ j. a j == 46 && b j == 46 && c j == 46
 
-dots_case : (text : List ℕ) → begins_dots text ≡ true → mark_item text ≡ found (reserved Dots) (drop 3 text)
+pub dots_case : (text : List ℕ) → begins_dots text ≡ true → mark_item text ≡ found (reserved Dots) (drop 3 text)
 dots_case text is = rw is refl
 
-mark_case : (text : List ℕ) → begins_dots text ≡ false → mark_item text ≡ mark_or_none (spelt marks (take 1 text)) (drop 1 text)
+pub mark_case : (text : List ℕ) → begins_dots text ≡ false → mark_item text ≡ mark_or_none (spelt marks (take 1 text)) (drop 1 text)
 mark_case text isnt = rw isnt refl
 
 dots_long : (text : List ℕ) → begins_dots text ≡ true → 3 ≤ length text

@@ -16,4 +16,5 @@ pub mod PartCut
 pub mod ReservedLemmas
 pub mod StringCut
 pub mod StringLemmas
+pub mod StringLonger
 pub mod TokenLemmas

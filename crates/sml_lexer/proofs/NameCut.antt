@@ -1,12 +1,11 @@
 -- Long identifiers in texts that are cut off.
-use Rattle.std.proofs.Common.{◌≡◌, ℕ, zero, suc, ◌+◌, ◌-◌, ◌<◌, ◌≤◌, ◌⊎◌, inl, inr, Bool, true, false, ◌==◌, List, [], ◌∷◌, ◌++◌, length, take, drop, refl, arith, sym, ap, ◌∙◌, subst}
+use Rattle.std.proofs.Common.{◌≡◌, ℕ, zero, suc, ◌≤◌, ◌⊎◌, inl, inr, true, false, ◌==◌, List, [], ◌∷◌, ◌++◌, length, take, drop, refl, arith, sym, ap, ◌∙◌}
 use Rattle.std.proofs.lemmas.Bool.{cases_Bool}
 use Rattle.std.proofs.lemmas.List.{take-take}
-use Rattle.sml_lexer.specs.declared.chars.Class.TheVariants.{NameChar, SymbolChar}
 use Rattle.sml_lexer.specs.declared.identifiers.Part.{Part}
 use Rattle.sml_lexer.specs.declared.identifiers.Part.TheVariants.{Letters, Symbols, Nothing}
 use Rattle.sml_lexer.specs.Identifiers.{named, next_part, qualified}
-use Rattle.sml_lexer.specs.Item.{Item, blank, found, refused}
+use Rattle.sml_lexer.specs.Item.{found}
 use Rattle.sml_lexer.specs.Lexeme.{Lexeme, long_symbol}
 use Rattle.sml_lexer.proofs.PartCut.{part_cut, part_len, part_within}
 
@@ -124,13 +123,13 @@ name_cut (c ∷ text) zero qs name lexeme rest h e =
     elim (cases_Bool (c == 46)) as (λ _. CutsName 0 qs name (c ∷ text) lexeme rest) [
       | inr isnt ↦ no_dot c qs name text lexeme rest isnt e
       | inl is ↦ elim (part_cases (next_part text)) as (λ _. CutsName 0 qs name (c ∷ text) lexeme rest) [
-          | inl p ↦
-              let fits : p.0 ≤ length text = rw p.1 at (part_within text) in
-              let on : qualified p.0 (qs ++ name ∷ []) (take p.0 text) text ≡ found lexeme rest = rw (is, p.1) at e in
-              letters c p.0 qs name text lexeme rest is p.1 (name_cut text p.0 (qs ++ name ∷ []) (take p.0 text) lexeme rest fits on)
-          | inr q ↦ elim q as (λ _. CutsName 0 qs name (c ∷ text) lexeme rest) [
-              | inl p ↦ symbols c p.0 qs name text lexeme rest is p.1 e
-              | inr p ↦ no_part c qs name text lexeme rest is p e
-            ]
+        | inl p ↦
+            let fits : p.0 ≤ length text = rw p.1 at (part_within text) in
+            let on : qualified p.0 (qs ++ name ∷ []) (take p.0 text) text ≡ found lexeme rest = rw (is, p.1) at e in
+            letters c p.0 qs name text lexeme rest is p.1 (name_cut text p.0 (qs ++ name ∷ []) (take p.0 text) lexeme rest fits on)
+        | inr q ↦ elim q as (λ _. CutsName 0 qs name (c ∷ text) lexeme rest) [
+          | inl p ↦ symbols c p.0 qs name text lexeme rest is p.1 e
+          | inr p ↦ no_part c qs name text lexeme rest is p e
         ]
+      ]
     ]

@@ -1,5 +1,5 @@
 -- Number constants in texts that are cut off.
-use Rattle.std.proofs.Common.{◌≡◌, ℕ, zero, suc, ◌+◌, ◌-◌, ◌^◌, ◌<◌, ◌≤◌, ◌⊎◌, inl, inr, Bool, true, false, not, ◌&&◌, ◌||◌, ◌==◌, nat_le, nat_lt, List, [], ◌∷◌, length, take, drop, refl, arith, sym, ap, ◌∙◌}
+use Rattle.std.proofs.Common.{◌≡◌, ℕ, zero, suc, ◌+◌, ◌-◌, ◌^◌, ◌<◌, ◌≤◌, inl, inr, Bool, true, false, not, ◌&&◌, ◌||◌, ◌==◌, nat_le, nat_lt, List, [], take, drop, refl, arith, sym, ap, ◌∙◌}
 use Rattle.std.specs.Str.Parse.{digits_value}
 use Rattle.std.proofs.lemmas.List.{get_or-drop}
 use Rattle.std.proofs.lemmas.Bool.{and_parts, both_ways, cases_Bool, or_cases, or_left}
@@ -7,10 +7,10 @@ use Rattle.mlc_base.specs.declared.code.Code.{Code}
 use Rattle.mlc_base.specs.declared.code.Code.TheVariants.{ConstantRange, RealConstant}
 use Rattle.sml_lexer.specs.declared.chars.Class.{Class}
 use Rattle.sml_lexer.specs.declared.chars.Class.TheVariants.{Digit, HexDigit}
-use Rattle.sml_lexer.specs.Chars.{after_run, byte, is_digit, is_hex_digit, is_in, run, run_len}
+use Rattle.sml_lexer.specs.Chars.{after_run, byte, is_digit, is_hex_digit, run, run_len}
 use Rattle.sml_lexer.specs.Item.{Item, found, refused}
 use Rattle.sml_lexer.specs.Lexeme.{Lexeme, int, word}
-use Rattle.sml_lexer.specs.Numbers.{begins_exponent, begins_fraction, begins_hex, begins_hex_word, begins_negative, begins_number, begins_word, decimal_item, goes_on_as_real, hex_item, int_item, int_limit, int_value, is_plain, number_item, unsigned_item, word_item}
+use Rattle.sml_lexer.specs.Numbers.{begins_hex, begins_hex_word, begins_negative, begins_number, begins_word, decimal_item, goes_on_as_real, hex_item, int_item, int_limit, int_value, is_plain, number_item, unsigned_item, word_item}
 use Rattle.sml_lexer.proofs.CutLemmas.{after_run_cut, byte_cut, drop_cut, false_from, Implies, implies_and, implies_byte, implies_or, run_len_same, run_same, run_some, run_within}
 use Rattle.sml_lexer.proofs.Cuts.{Cuts, shift, as_other}
 
@@ -172,7 +172,6 @@ unsigned_cut neg text lexeme rest digit e =
           as_other (decimal_item neg) (unsigned_item neg) (found lexeme) text rest (decimal_run_cut neg text lexeme rest some (sym (decimal_case neg text isnt) ∙ e)) (λ s h. decimal_case neg (take s text) (false_from _ _ (hex_implies text s) isnt))
     ]
 
-
 -- the four first bytes
 four_same : (text : List ℕ) (s : ℕ) → 4 ≤ s → begins_hex_word (take s text) ≡ begins_hex_word text
 four_same text s h =
@@ -240,32 +239,32 @@ number_cut text lexeme rest number e =
             begins = λ s h. begins_two text s (omega (arith, more)) number;
           }
       | inr no_hex ↦ elim (cases_Bool (begins_word text)) as (λ _. NumberCuts lexeme text rest) [
+        | inl is ↦
+            let third : is_digit (byte text 2) ≡ true = (and_parts (byte text 0 == 48 && byte text 1 == 119) (is_digit (byte text 2)) is).1 in
+            let some = run_some Digit (drop 2 text) refl (ap is_digit (byte_drop text 2 0) ∙ third) in
+            let i = word_run_cut 10 Digit (drop 2 text) lexeme rest some (sym (word_case text no_hex is) ∙ e) in
+            let more = i.some in
+            record {
+              cuts = shift 2 (word_run 10 Digit) number_item (found lexeme) text rest i (λ s h. word_case (take s text) (false_from _ _ (hex_word_implies text s) no_hex) (word_three_same text s (omega (arith, more)) ∙ is));
+              begins = λ s h. begins_two text s (omega (arith, more)) number;
+            }
+        | inr no_word ↦ elim (cases_Bool (begins_negative text)) as (λ _. NumberCuts lexeme text rest) [
           | inl is ↦
-              let third : is_digit (byte text 2) ≡ true = (and_parts (byte text 0 == 48 && byte text 1 == 119) (is_digit (byte text 2)) is).1 in
-              let some = run_some Digit (drop 2 text) refl (ap is_digit (byte_drop text 2 0) ∙ third) in
-              let i = word_run_cut 10 Digit (drop 2 text) lexeme rest some (sym (word_case text no_hex is) ∙ e) in
+              let second : is_digit (byte text 1) ≡ true = (and_parts (byte text 0 == 126) (is_digit (byte text 1)) is).1 in
+              let i = unsigned_cut true (drop 1 text) lexeme rest (ap is_digit (byte_drop text 1 0) ∙ second) (sym (negative_case text no_hex no_word is) ∙ e) in
               let more = i.some in
               record {
-                cuts = shift 2 (word_run 10 Digit) number_item (found lexeme) text rest i (λ s h. word_case (take s text) (false_from _ _ (hex_word_implies text s) no_hex) (word_three_same text s (omega (arith, more)) ∙ is));
+                cuts = shift 1 (unsigned_item true) number_item (found lexeme) text rest i (λ s h. negative_case (take s text) (false_from _ _ (hex_word_implies text s) no_hex) (false_from _ _ (word_implies text s) no_word) (two_same text s (omega (arith, more)) ∙ is));
                 begins = λ s h. begins_two text s (omega (arith, more)) number;
               }
-          | inr no_word ↦ elim (cases_Bool (begins_negative text)) as (λ _. NumberCuts lexeme text rest) [
-              | inl is ↦
-                  let second : is_digit (byte text 1) ≡ true = (and_parts (byte text 0 == 126) (is_digit (byte text 1)) is).1 in
-                  let i = unsigned_cut true (drop 1 text) lexeme rest (ap is_digit (byte_drop text 1 0) ∙ second) (sym (negative_case text no_hex no_word is) ∙ e) in
-                  let more = i.some in
-                  record {
-                    cuts = shift 1 (unsigned_item true) number_item (found lexeme) text rest i (λ s h. negative_case (take s text) (false_from _ _ (hex_word_implies text s) no_hex) (false_from _ _ (word_implies text s) no_word) (two_same text s (omega (arith, more)) ∙ is));
-                    begins = λ s h. begins_two text s (omega (arith, more)) number;
-                  }
-              | inr no_minus ↦
-                  let digit : is_digit (byte text 0) ≡ true = first_digit text number no_minus in
-                  let i = unsigned_cut false text lexeme rest digit (sym (positive_case text no_hex no_word no_minus) ∙ e) in
-                  let more = i.some in
-                  record {
-                    cuts = as_other (unsigned_item false) number_item (found lexeme) text rest i (λ s h. positive_case (take s text) (false_from _ _ (hex_word_implies text s) no_hex) (false_from _ _ (word_implies text s) no_word) (false_from _ _ (negative_implies text s) no_minus));
-                    begins = λ s h. begins_one text s (omega (arith, more)) digit;
-                  }
-            ]
+          | inr no_minus ↦
+              let digit : is_digit (byte text 0) ≡ true = first_digit text number no_minus in
+              let i = unsigned_cut false text lexeme rest digit (sym (positive_case text no_hex no_word no_minus) ∙ e) in
+              let more = i.some in
+              record {
+                cuts = as_other (unsigned_item false) number_item (found lexeme) text rest i (λ s h. positive_case (take s text) (false_from _ _ (hex_word_implies text s) no_hex) (false_from _ _ (word_implies text s) no_word) (false_from _ _ (negative_implies text s) no_minus));
+                begins = λ s h. begins_one text s (omega (arith, more)) digit;
+              }
         ]
+      ]
     ]

@@ -1,5 +1,5 @@
 -- Identifiers in texts that are cut off.
-use Rattle.std.proofs.Common.{◌≡◌, ℕ, zero, suc, ◌+◌, ◌-◌, ◌<◌, ◌≤◌, ◌⊎◌, inl, inr, min, Bool, true, false, ◌==◌, cond, List, [], ◌∷◌, ◌++◌, length, get_or, take, drop, if◌then◌else◌, refl, arith, sym, ap, ◌∙◌, subst, length-take, length-drop, Option, Some, None}
+use Rattle.std.proofs.Common.{◌≡◌, ℕ, zero, suc, ◌<◌, ◌≤◌, inl, inr, false, ◌==◌, List, length, take, refl, arith, sym, ap, ◌∙◌, Some, None}
 use Rattle.std.proofs.lemmas.Bool.{cases_Bool, cases_lt, ne_eqb}
 use Rattle.std.proofs.lemmas.List.{take-take}
 use Rattle.mlc_base.specs.declared.token.Reserved.{Reserved}
@@ -36,9 +36,9 @@ free_from taken text (suc n) m h k =
     elim (cases_lt n m) as (λ _. free_len taken m text ≡ free_len taken (suc n) text) [
       | inl more ↦ let same : m ≡ suc n = omega arith in ap (λ x. free_len taken x text) same
       | inr less ↦ (elim (spelt taken (take (suc n) text)) as (λ o. free_or o (suc n) (free_len taken n text) ≤ m → free_len taken m text ≡ free_or o (suc n) (free_len taken n text)) [
-          | None ↦ λ bound. absurd (omega arith)
-          | Some w ↦ λ bound. free_from taken text n m less bound
-        ]) k
+        | None ↦ λ bound. absurd (omega arith)
+        | Some w ↦ λ bound. free_from taken text n m less bound
+      ]) k
     ]
 
 free_same : (taken : List Reserved) (class : Class) (text : List ℕ) (s : ℕ) → free_len taken (run_len class text) text ≤ s → free_len taken (run_len class (take s text)) (take s text) ≡ free_len taken (run_len class text) text
@@ -66,9 +66,9 @@ no_part text h =
     elim (cases_Bool (is_letter (byte text 0))) as (λ _. next_part text ≡ Nothing) [
       | inl is ↦ rw is (empty_none Letters (free_len words (run_len NameChar text) text) (λ _. refl) (rw is at h))
       | inr isnt ↦ elim (cases_Bool (is_symbol_char (byte text 0))) as (λ _. next_part text ≡ Nothing) [
-          | inl is ↦ rw (isnt, is) (empty_none Symbols (free_len symbolic (run_len SymbolChar text) text) (λ _. refl) (rw (isnt, is) at h))
-          | inr neither ↦ rw (isnt, neither) refl
-        ]
+        | inl is ↦ rw (isnt, is) (empty_none Symbols (free_len symbolic (run_len SymbolChar text) text) (λ _. refl) (rw (isnt, is) at h))
+        | inr neither ↦ rw (isnt, neither) refl
+      ]
     ]
 
 -- the identifier stays, where the cut leaves a byte and no less than the identifier
@@ -82,13 +82,13 @@ part_some text s some h =
           let same = free_same words NameChar text s (omega (arith, len, bound)) in
           rw (first, is) (ap (unless_empty Letters) same)
       | inr isnt ↦ elim (cases_Bool (is_symbol_char (byte text 0))) as (λ _. next_part (take s text) ≡ next_part text) [
-          | inl is ↦
-              let len = empty_len Symbols (free_len symbolic (run_len SymbolChar text) text) (λ _. refl) in
-              let bound : part_len (unless_empty Symbols (free_len symbolic (run_len SymbolChar text) text)) ≤ s = rw (isnt, is) at h in
-              let same = free_same symbolic SymbolChar text s (omega (arith, len, bound)) in
-              rw (first, isnt, is) (ap (unless_empty Symbols) same)
-          | inr neither ↦ rw (first, isnt, neither) refl
-        ]
+        | inl is ↦
+            let len = empty_len Symbols (free_len symbolic (run_len SymbolChar text) text) (λ _. refl) in
+            let bound : part_len (unless_empty Symbols (free_len symbolic (run_len SymbolChar text) text)) ≤ s = rw (isnt, is) at h in
+            let same = free_same symbolic SymbolChar text s (omega (arith, len, bound)) in
+            rw (first, isnt, is) (ap (unless_empty Symbols) same)
+        | inr neither ↦ rw (first, isnt, neither) refl
+      ]
     ]
 
 pub part_cut : (text : List ℕ) (s : ℕ) → part_len (next_part text) ≤ s → next_part (take s text) ≡ next_part text
@@ -102,9 +102,9 @@ part_within text =
           let len = empty_len Letters (free_len words (run_len NameChar text) text) (λ _. refl) in
           rw is (omega (arith, len, free_at_most words text (run_len NameChar text), run_within NameChar text))
       | inr isnt ↦ elim (cases_Bool (is_symbol_char (byte text 0))) as (λ _. part_len (next_part text) ≤ length text) [
-          | inl is ↦
-              let len = empty_len Symbols (free_len symbolic (run_len SymbolChar text) text) (λ _. refl) in
-              rw (isnt, is) (omega (arith, len, free_at_most symbolic text (run_len SymbolChar text), run_within SymbolChar text))
-          | inr neither ↦ rw (isnt, neither) (omega arith)
-        ]
+        | inl is ↦
+            let len = empty_len Symbols (free_len symbolic (run_len SymbolChar text) text) (λ _. refl) in
+            rw (isnt, is) (omega (arith, len, free_at_most symbolic text (run_len SymbolChar text), run_within SymbolChar text))
+        | inr neither ↦ rw (isnt, neither) (omega arith)
+      ]
     ]

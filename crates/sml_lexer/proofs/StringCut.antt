@@ -1,11 +1,11 @@
 -- String constants in texts that are cut off.
-use Rattle.std.proofs.Common.{◌≡◌, ℕ, zero, suc, ◌+◌, ◌-◌, ◌<◌, ◌≤◌, ◌⊎◌, inl, inr, Bool, true, false, ◌==◌, List, [], ◌∷◌, ◌++◌, length, take, drop, Option, Some, None, option_to_list, refl, arith, sym, ap, ◌∙◌, subst}
+use Rattle.std.proofs.Common.{◌≡◌, ℕ, zero, suc, ◌+◌, ◌-◌, ◌<◌, ◌≤◌, ◌⊎◌, inl, inr, true, false, ◌==◌, List, [], ◌∷◌, ◌++◌, length, take, drop, Option, Some, None, option_to_list, refl, arith, sym, ap, ◌∙◌}
 use Rattle.std.proofs.lemmas.Bool.{cases_Bool}
 use Rattle.std.proofs.lemmas.List.{take-take}
 use Rattle.sml_lexer.specs.declared.chars.Class.TheVariants.{Space}
 use Rattle.sml_lexer.specs.declared.strings.Piece.{Piece}
-use Rattle.sml_lexer.specs.Chars.{byte, is_digit, is_hex_digit, is_space, run_len}
-use Rattle.sml_lexer.specs.Strings.{control_escape, decimal_escape, escape, gap, hex_escape, is_printable, letter_escape, next_piece, quoted, Quoted, written_in}
+use Rattle.sml_lexer.specs.Chars.{byte, is_digit, is_space, run_len}
+use Rattle.sml_lexer.specs.Strings.{control_escape, decimal_escape, escape, gap, hex_escape, letter_escape, next_piece, quoted, Quoted, written_in}
 use Rattle.sml_lexer.proofs.CutLemmas.{byte_cut, drop_cut, run_len_same}
 
 written_len : (n : ℕ) (o : Option ℕ) (p : Piece) → written_in n o ≡ Some p → p.len ≡ n
@@ -15,7 +15,7 @@ written_len n (Some c) p e = let same : record { value = Some c; len = n } ≡ p
 piece_len : (v : Option ℕ) (n : ℕ) (p : Piece) → Some (record { value = v; len = n }) ≡ Some p → p.len ≡ n
 piece_len v n p e = let same : record { value = v; len = n } ≡ p = cc in ap (λ q. q.len) (sym same)
 
-decimal_cut : (text : List ℕ) (s : ℕ) → 3 ≤ s → decimal_escape (take s text) ≡ decimal_escape text
+pub decimal_cut : (text : List ℕ) (s : ℕ) → 3 ≤ s → decimal_escape (take s text) ≡ decimal_escape text
 decimal_cut text s h =
     let a = byte_cut text s 0 (omega arith) in
     let b = byte_cut text s 1 (omega arith) in
@@ -23,7 +23,7 @@ decimal_cut text s h =
     let front = take-take 3 s text h in
     rw (a, b, c, front) refl
 
-hex_cut : (text : List ℕ) (s : ℕ) → 4 ≤ s → hex_escape (take s text) ≡ hex_escape text
+pub hex_cut : (text : List ℕ) (s : ℕ) → 4 ≤ s → hex_escape (take s text) ≡ hex_escape text
 hex_cut text s h =
     let a = byte_cut text s 0 (omega arith) in
     let b = byte_cut text s 1 (omega arith) in
@@ -56,7 +56,7 @@ gap_some text s p e h =
       | inr isnt ↦ let none : None ≡ Some p = rw isnt at e in absurd (none_some p none)
     ]
 
-digits_case : (text : List ℕ) → is_space (byte text 0) ≡ false → is_digit (byte text 0) ≡ true → escape text ≡ written_in 4 (decimal_escape text)
+pub digits_case : (text : List ℕ) → is_space (byte text 0) ≡ false → is_digit (byte text 0) ≡ true → escape text ≡ written_in 4 (decimal_escape text)
 digits_case text isnt is = rw (isnt, is) refl
 
 escape_cut : (text : List ℕ) (s : ℕ) (p : Piece) → escape text ≡ Some p → p.len ≤ s + 1 → escape (take s text) ≡ Some p
@@ -67,34 +67,34 @@ escape_cut text s p e h =
           let first = byte_cut text s 0 (gap_some text s p g h) in
           rw (first, is) (gap_cut text s p g h)
       | inr no_space ↦ elim (cases_Bool (is_digit (byte text 0))) as (λ _. escape (take s text) ≡ Some p) [
+        | inl is ↦
+            let w : written_in 4 (decimal_escape text) ≡ Some p = sym (digits_case text no_space is) ∙ e in
+            let len = written_len 4 (decimal_escape text) p w in
+            let first = byte_cut text s 0 (omega (arith, len)) in
+            let same = decimal_cut text s (omega (arith, len)) in
+            digits_case (take s text) (ap is_space first ∙ no_space) (ap is_digit first ∙ is) ∙ ap (written_in 4) same ∙ w
+        | inr no_digit ↦ elim (cases_Bool (byte text 0 == 117)) as (λ _. escape (take s text) ≡ Some p) [
           | inl is ↦
-              let w : written_in 4 (decimal_escape text) ≡ Some p = sym (digits_case text no_space is) ∙ e in
-              let len = written_len 4 (decimal_escape text) p w in
+              let w : written_in 6 (hex_escape (drop 1 text)) ≡ Some p = rw (no_space, no_digit, is) at e in
+              let len = written_len 6 (hex_escape (drop 1 text)) p w in
               let first = byte_cut text s 0 (omega (arith, len)) in
-              let same = decimal_cut text s (omega (arith, len)) in
-              digits_case (take s text) (ap is_space first ∙ no_space) (ap is_digit first ∙ is) ∙ ap (written_in 4) same ∙ w
-          | inr no_digit ↦ elim (cases_Bool (byte text 0 == 117)) as (λ _. escape (take s text) ≡ Some p) [
-              | inl is ↦
-                  let w : written_in 6 (hex_escape (drop 1 text)) ≡ Some p = rw (no_space, no_digit, is) at e in
-                  let len = written_len 6 (hex_escape (drop 1 text)) p w in
-                  let first = byte_cut text s 0 (omega (arith, len)) in
-                  let same : hex_escape (drop 1 (take s text)) ≡ hex_escape (drop 1 text) = ap hex_escape (drop_cut text s 1 (omega (arith, len))) ∙ hex_cut (drop 1 text) (s - 1) (omega (arith, len)) in
-                  rw (first, no_space, no_digit, is) (ap (written_in 6) same ∙ w)
-              | inr no_u ↦ elim (cases_Bool (byte text 0 == 94)) as (λ _. escape (take s text) ≡ Some p) [
-                  | inl is ↦
-                      let w : written_in 3 (control_escape (byte text 1)) ≡ Some p = rw (no_space, no_digit, no_u, is) at e in
-                      let len = written_len 3 (control_escape (byte text 1)) p w in
-                      let first = byte_cut text s 0 (omega (arith, len)) in
-                      let second = byte_cut text s 1 (omega (arith, len)) in
-                      rw (first, no_space, no_digit, no_u, is) (ap (λ c. written_in 3 (control_escape c)) second ∙ w)
-                  | inr no_caret ↦
-                      let w : written_in 2 (letter_escape (byte text 0)) ≡ Some p = rw (no_space, no_digit, no_u, no_caret) at e in
-                      let len = written_len 2 (letter_escape (byte text 0)) p w in
-                      let first = byte_cut text s 0 (omega (arith, len)) in
-                      rw (first, no_space, no_digit, no_u, no_caret) w
-                ]
-            ]
+              let same : hex_escape (drop 1 (take s text)) ≡ hex_escape (drop 1 text) = ap hex_escape (drop_cut text s 1 (omega (arith, len))) ∙ hex_cut (drop 1 text) (s - 1) (omega (arith, len)) in
+              rw (first, no_space, no_digit, is) (ap (written_in 6) same ∙ w)
+          | inr no_u ↦ elim (cases_Bool (byte text 0 == 94)) as (λ _. escape (take s text) ≡ Some p) [
+            | inl is ↦
+                let w : written_in 3 (control_escape (byte text 1)) ≡ Some p = rw (no_space, no_digit, no_u, is) at e in
+                let len = written_len 3 (control_escape (byte text 1)) p w in
+                let first = byte_cut text s 0 (omega (arith, len)) in
+                let second = byte_cut text s 1 (omega (arith, len)) in
+                rw (first, no_space, no_digit, no_u, is) (ap (λ c. written_in 3 (control_escape c)) second ∙ w)
+            | inr no_caret ↦
+                let w : written_in 2 (letter_escape (byte text 0)) ≡ Some p = rw (no_space, no_digit, no_u, no_caret) at e in
+                let len = written_len 2 (letter_escape (byte text 0)) p w in
+                let first = byte_cut text s 0 (omega (arith, len)) in
+                rw (first, no_space, no_digit, no_u, no_caret) w
+          ]
         ]
+      ]
     ]
 
 -- a piece stays where the cut leaves its bytes
@@ -172,9 +172,9 @@ string_cut (c ∷ text) zero so_far q e =
     elim (cases_Bool (c == 34)) as (λ _. CutsString 0 so_far (c ∷ text) q) [
       | inl is ↦ closing c so_far text q is e
       | inr isnt ↦ elim (piece_cases (next_piece (c ∷ text))) as (λ _. CutsString 0 so_far (c ∷ text) q) [
-          | inl p ↦
-              let on : quoted (p.0.len - 1) (so_far ++ option_to_list p.0.value) text ≡ Some q = rw (isnt, p.1) at e in
-              piece_then c so_far text q p.0 isnt p.1 (string_cut text (p.0.len - 1) (so_far ++ option_to_list p.0.value) q on)
-          | inr none ↦ let nothing : None ≡ Some q = rw (isnt, none) at e in absurd (none_quoted q nothing)
-        ]
+        | inl p ↦
+            let on : quoted (p.0.len - 1) (so_far ++ option_to_list p.0.value) text ≡ Some q = rw (isnt, p.1) at e in
+            piece_then c so_far text q p.0 isnt p.1 (string_cut text (p.0.len - 1) (so_far ++ option_to_list p.0.value) q on)
+        | inr none ↦ let nothing : None ≡ Some q = rw (isnt, none) at e in absurd (none_quoted q nothing)
+      ]
     ]

@@ -60,7 +60,7 @@ pub fn one_reading()
     ensures { OneReading }
 {}
 
-/// Each item is the longest that begins at its place.
+/// Each item is the longest that begins at its place, and where a file is refused for want of a token, none begins.
 pub fn items_are_longest()
     ensures { ItemsAreLongest }
 {}

@@ -241,7 +241,7 @@ fn reads_comments_a_million_deep_and_many_tokens(rt: HostRuntime) -> Result<(), 
     push_many(&mut text, b"(", 1_000_000)?;
     assert!(rt; text.len() == 5_000_000);
     match lex(rt.alloc(), &mut names, 0, &text) {
-        Ok(tokens) => assert_eq!(rt; tokens.as_slice().len(), 1_000_000),
+        Ok(tokens) => assert_eq!(rt; tokens.into_vec().len(), 1_000_000),
         Err(_) => assert!(rt; false),
     }
     Ok(())
