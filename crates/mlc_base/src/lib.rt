@@ -4,6 +4,7 @@
 pub mod code;
 pub mod fault;
 pub mod files;
+pub mod label;
 pub mod memory;
 pub mod names;
 pub mod place;
