@@ -4,3 +4,6 @@ pub mod ReadTree
 pub mod Depth
 pub mod Levels
 pub mod Grammar
+pub mod BareTree
+pub mod Derived
+pub mod Bare
