@@ -6,43 +6,16 @@ use Rattle.sml_tree.specs.Terminal.{LongVid, LongId}
 use Rattle.sml_tree.specs.declared.ident.Vid.{Vid}
 use Rattle.sml_tree.specs.declared.ident.Vid.TheVariants.{Named}
 use Rattle.sml_tree.specs.BareTree as bare
-use Rattle.sml_tree.specs.Derived.{short, tuple, tuple_pat, product, unit, infix_app, infix_con, select, case_of, if_of, and_of, or_of, sequence_of, let_of, while_of, list_of, list_pat_of, Clause, Function, fun_dec_of, with_result, pun, withtype_of, tys_of}
+use Rattle.sml_tree.specs.declared.tree.Joint as tree
+use Rattle.sml_tree.specs.declared.tree.Joint.TheVariants.{AndAlso, OrElse, Infix}
+use Rattle.sml_tree.specs.Derived.{short, tuple, tuple_pat, product, unit, app_of, Operand, chain_of, VidAt, join, join_pats, TyAt, arrows, select, case_of, if_of, and_of, or_of, sequence_of, let_of, while_of, list_of, list_pat_of, Clause, Function, fun_dec_of, with_result, pun, withtype_of, tys_of}
 use Rattle.sml_tree.specs.ReadTree.{Placed, Ty, var_ty, record_ty, con_ty, product_ty, arrow_ty, paren_ty, Tys, no_tys, ty, TyFields, no_ty_fields, ty_field, ty_place, Pat, wild_pat, constant_pat, vid_pat, record_pat, unit_pat, list_pat, paren_pat, con_pat, chain_pat, typed_pat, as_pat, Pats, no_pats, pat, PatFields, no_pat_fields, pat_field, PatField, labelled, punned, punned_as, PatParts, last_pat_part, pat_part, pat_place, Joint, and_also, or_else, infixed, Head, prefix_head, infix_head, bracket_head, head_vid, head_place, TypeBind, ConBind, DataBind, ExBind, new_exn, same_exn, Exp, constant_exp, vid_exp, record_exp, selector, unit_exp, tuple_exp, list_exp, sequence, paren_exp, let_in, app, chain, typed, handle, raise, if_then, while, case, fn, Exps, no_exps, exp, ExpFields, no_exp_fields, exp_field, Parts, last_part, part, Rules, last_rule, rule, Decs, no_decs, dec, Dec, val_dec, fun_dec, type_dec, datatype_dec, withtype_dec, replicate_dec, exception_dec, local_dec, open_dec, fixity_dec, Binds, last_bind, bind, rec_binds, Funs, last_fun, fun_and, Clauses, last_clause, clause, exp_place}
 use Rattle.sml_tree.specs.ReadTree as read
 
 abbrev pub at : ℕ → ℕ → Place
 at file p = record { file = file; byte = p }
 
--- Operands of a chain: what joins one to what is before it, the place where it begins, and the operand.
-pub record Operand (J A : Type 0) : Type 0 where
-  pub joint : J
-  pub place : Place
-  pub operand : A
-
--- a j1 b1 j2 .. to the left, all at the place of a
-abbrev pub left_chain : {J A : Type 0} → (J → Place → A → A → A) → Place → A → List (Operand J A) → A
-left_chain join p a [] = a
-left_chain join p a (b ∷ bs) = left_chain join p (join b.joint p a b.operand) bs
-
--- a j1 (b1 j2 ..) to the right, each at the place of its first operand
-abbrev pub right_chain : {J A : Type 0} → (J → Place → A → A → A) → Place → A → List (Operand J A) → A
-right_chain join p a [] = a
-right_chain join p a (b ∷ bs) = join b.joint p a (right_chain join b.place b.operand bs)
-
-abbrev pub chain_of : {J A : Type 0} → (J → Place → A → A → A) → Bool → Place → A → List (Operand J A) → A
-chain_of join true p a bs = right_chain join p a bs
-chain_of join false p a bs = left_chain join p a bs
-
 -- Types.
-
--- t1 -> (t2 -> ..), each at the place of its first part
-pub record TyAt : Type 0 where
-  pub place : Place
-  pub ty : bare.Ty
-
-abbrev pub arrows : Place → bare.Ty → List TyAt → bare.Ty
-arrows p t [] = t
-arrows p t (u ∷ us) = bare.arrow p t (arrows u.place u.ty us)
 
 abbrev mutual
   pub bare_ty : ℕ → Ty → bare.Ty
@@ -75,8 +48,8 @@ bare_some f (Some t) = Some (bare_ty f t)
 
 -- Patterns.
 
-abbrev pub join_pats : ℕ → Placed ℕ → Place → bare.Pat → bare.Pat → bare.Pat
-join_pats f x p a b = infix_con p (at f x.place) (Named x.it) a b
+abbrev pub vid_at : ℕ → Placed ℕ → VidAt
+vid_at f x = record { place = at f x.place; vid = Named x.it }
 
 abbrev mutual
   pub bare_pat : ℕ → Pat → bare.Pat
@@ -89,7 +62,7 @@ abbrev mutual
   bare_pat f (list_pat p as_) = list_pat_of (at f p) (pat_list f as_)
   bare_pat f (paren_pat p a) = bare_pat f a
   bare_pat f (con_pat p x a) = bare.con_pat (at f p) (at f p) x (bare_pat f a)
-  bare_pat f (chain_pat r a ps) = chain_of (join_pats f) r (at f (pat_place a)) (bare_pat f a) (pat_operands f ps)
+  bare_pat f (chain_pat r a ps) = chain_of join_pats r (at f (pat_place a)) (bare_pat f a) (pat_operands f ps)
   bare_pat f (typed_pat a t) = bare.typed_pat (at f (pat_place a)) (bare_pat f a) (bare_ty f t)
   bare_pat f (as_pat p v t a) = bare.as_pat (at f p) v (bare_some f t) (bare_pat f a)
 
@@ -103,9 +76,9 @@ abbrev mutual
   bare_pat_fields f (pat_field (punned p x t) fs) = bare.pat_field (Word x) (pun (at f p) x (bare_some f t)) (bare_pat_fields f fs)
   bare_pat_fields f (pat_field (punned_as p x t a) fs) = bare.pat_field (Word x) (bare.as_pat (at f p) (Named x) (bare_some f t) (bare_pat f a)) (bare_pat_fields f fs)
 
-  pub pat_operands : ℕ → PatParts → List (Operand (Placed ℕ) bare.Pat)
-  pat_operands f (last_pat_part x a) = record { joint = x; place = at f (pat_place a); operand = bare_pat f a } ∷ []
-  pat_operands f (pat_part x a ps) = record { joint = x; place = at f (pat_place a); operand = bare_pat f a } ∷ pat_operands f ps
+  pub pat_operands : ℕ → PatParts → List (Operand VidAt bare.Pat)
+  pat_operands f (last_pat_part x a) = record { joint = vid_at f x; place = at f (pat_place a); operand = bare_pat f a } ∷ []
+  pat_operands f (pat_part x a ps) = record { joint = vid_at f x; place = at f (pat_place a); operand = bare_pat f a } ∷ pat_operands f ps
 
 -- The patterns of a clause: an infix head's first one is the pair of its two.
 abbrev pub head_pats : ℕ → Head → List bare.Pat
@@ -133,10 +106,10 @@ bare_long f x = record { place = at f x.place; long = x.it }
 
 -- Expressions and declarations.
 
-abbrev pub join_exps : ℕ → Joint → Place → bare.Exp → bare.Exp → bare.Exp
-join_exps f and_also p a b = and_of p a b
-join_exps f or_else p a b = or_of p a b
-join_exps f (infixed v) p a b = infix_app p (at f v.place) v.it a b
+abbrev pub joint_of : ℕ → Joint → tree.Joint
+joint_of f and_also = AndAlso
+joint_of f or_else = OrElse
+joint_of f (infixed v) = Infix (at f v.place) v.it
 
 -- the name and the place of a function are those of its first clause
 abbrev pub clauses_place : Clauses → ℕ
@@ -163,8 +136,8 @@ abbrev mutual
   bare_exp f (sequence p es) = bare_sequence f p es
   bare_exp f (paren_exp p e) = bare_exp f e
   bare_exp f (let_in p ds es) = bare.let_in (at f p) (bare_decs f ds) (bare_sequence f p es)
-  bare_exp f (app e a es) = bare_app f (at f (exp_place e)) (bare.app (at f (exp_place e)) (bare_exp f e) (bare_exp f a)) es
-  bare_exp f (chain r a ps) = chain_of (join_exps f) r (at f (exp_place a)) (bare_exp f a) (operands f ps)
+  bare_exp f (app e a es) = app_of (at f (exp_place e)) (bare_exp f e) (bare_exp f a ∷ exp_list f es)
+  bare_exp f (chain r a ps) = chain_of join r (at f (exp_place a)) (bare_exp f a) (operands f ps)
   bare_exp f (typed e t) = bare.typed (at f (exp_place e)) (bare_exp f e) (bare_ty f t)
   bare_exp f (handle e rs) = bare.handle (at f (exp_place e)) (bare_exp f e) (bare_rules f rs)
   bare_exp f (raise p e) = bare.raise (at f p) (bare_exp f e)
@@ -178,11 +151,6 @@ abbrev mutual
   bare_sequence f p no_exps = unit (at f p)
   bare_sequence f p (exp e es) = sequence_of (at f p) (bare_exp f e) (exp_list f es)
 
-  -- e1 e2 .. en to the left, all at one place
-  pub bare_app : ℕ → Place → bare.Exp → Exps → bare.Exp
-  bare_app f p g no_exps = g
-  bare_app f p g (exp e es) = bare_app f p (bare.app p g (bare_exp f e)) es
-
   pub exp_list : ℕ → Exps → List bare.Exp
   exp_list f no_exps = []
   exp_list f (exp e es) = bare_exp f e ∷ exp_list f es
@@ -191,9 +159,9 @@ abbrev mutual
   bare_exp_fields f no_exp_fields = bare.no_exp_fields
   bare_exp_fields f (exp_field l e fs) = bare.exp_field l (bare_exp f e) (bare_exp_fields f fs)
 
-  pub operands : ℕ → Parts → List (Operand Joint bare.Exp)
-  operands f (last_part j e) = record { joint = j; place = at f (exp_place e); operand = bare_exp f e } ∷ []
-  operands f (part j e ps) = record { joint = j; place = at f (exp_place e); operand = bare_exp f e } ∷ operands f ps
+  pub operands : ℕ → Parts → List (Operand tree.Joint bare.Exp)
+  operands f (last_part j e) = record { joint = joint_of f j; place = at f (exp_place e); operand = bare_exp f e } ∷ []
+  operands f (part j e ps) = record { joint = joint_of f j; place = at f (exp_place e); operand = bare_exp f e } ∷ operands f ps
 
   pub bare_rules : ℕ → Rules → bare.Rules
   bare_rules f (last_rule a e) = bare.rule (at f (pat_place a)) (bare_pat f a) (bare_exp f e) bare.no_rules

@@ -9,6 +9,8 @@ use Rattle.sml_tree.specs.declared.ident.Vid.{Vid}
 use Rattle.sml_tree.specs.declared.ident.Vid.TheVariants.{Named, Fresh}
 use Rattle.sml_tree.specs.declared.ident.BuiltIn.{BuiltIn}
 use Rattle.sml_tree.specs.declared.ident.BuiltIn.TheVariants.{True, False, Nil, Cons}
+use Rattle.sml_tree.specs.declared.tree.Joint.{Joint}
+use Rattle.sml_tree.specs.declared.tree.Joint.TheVariants.{AndAlso, OrElse, Infix}
 use Rattle.sml_tree.specs.BareTree.{Ty, var, fields, con, arrow, ill, Tys, no_tys, ty, TyFields, no_ty_fields, ty_field, Pat, wild_pat, constant_pat, vid_pat, built_pat, fields_pat, con_pat, built_con_pat, typed_pat, as_pat, PatFields, no_pat_fields, pat_field, TypeBind, ConBind, DataBind, ExBind, Exp, constant_exp, vid_exp, built_exp, fields_exp, let_in, app, typed, handle, raise, fn, ExpFields, no_exp_fields, exp_field, Rules, no_rules, rule, Decs, no_decs, dec, Dec, val_dec, type_dec, datatype_dec, sequence_dec, Binds, no_binds, bind}
 
 -- an identifier with no qualifier
@@ -54,6 +56,48 @@ infix_app p q v a b = app p (vid_exp q (short v)) (tuple p (a ∷ b ∷ []))
 abbrev pub infix_con : Place → Place → Vid → Pat → Pat → Pat
 infix_con p q v a b = con_pat p q (short v) (tuple_pat p (a ∷ b ∷ []))
 
+-- e e1 .. en: applications to the left, all at one place
+abbrev pub app_of : Place → Exp → List Exp → Exp
+app_of p e [] = e
+app_of p e (a ∷ as_) = app_of p (app p e a) as_
+
+-- Operands of a chain: what joins one to what is before it, the place where it begins, and the operand.
+pub record Operand (J A : Type 0) : Type 0 where
+  pub joint : J
+  pub place : Place
+  pub operand : A
+
+-- a j1 b1 j2 .. to the left, all at the place of a
+abbrev pub left_chain : {J A : Type 0} → (J → Place → A → A → A) → Place → A → List (Operand J A) → A
+left_chain join p a [] = a
+left_chain join p a (b ∷ bs) = left_chain join p (join b.joint p a b.operand) bs
+
+-- a j1 (b1 j2 ..) to the right, each at the place of its first operand
+abbrev pub right_chain : {J A : Type 0} → (J → Place → A → A → A) → Place → A → List (Operand J A) → A
+right_chain join p a [] = a
+right_chain join p a (b ∷ bs) = join b.joint p a (right_chain join b.place b.operand bs)
+
+abbrev pub chain_of : {J A : Type 0} → (J → Place → A → A → A) → Bool → Place → A → List (Operand J A) → A
+chain_of join true p a bs = right_chain join p a bs
+chain_of join false p a bs = left_chain join p a bs
+
+-- an infix identifier between patterns, and its place
+pub record VidAt : Type 0 where
+  pub place : Place
+  pub vid : Vid
+
+abbrev pub join_pats : VidAt → Place → Pat → Pat → Pat
+join_pats v p a b = infix_con p v.place v.vid a b
+
+-- t1 -> (t2 -> ..), each at the place of its first part
+pub record TyAt : Type 0 where
+  pub place : Place
+  pub ty : Ty
+
+abbrev pub arrows : Place → Ty → List TyAt → Ty
+arrows p t [] = t
+arrows p t (u ∷ us) = arrow p t (arrows u.place u.ty us)
+
 -- #lab: fn {lab = v, ...} => v
 abbrev pub select : Place → Label → Exp
 select p l = fn p (rule p (fields_pat p (pat_field l (fresh_pat p 0) no_pat_fields) true) (fresh_exp p 0) no_rules)
@@ -73,6 +117,12 @@ and_of p a b = if_of p a b (built_exp p False)
 -- a orelse b: if a then true else b
 abbrev pub or_of : Place → Exp → Exp → Exp
 or_of p a b = if_of p a (built_exp p True) b
+
+-- what a joint makes of the two expressions beside it
+abbrev pub join : Joint → Place → Exp → Exp → Exp
+join AndAlso p a b = and_of p a b
+join OrElse p a b = or_of p a b
+join (Infix q v) p a b = infix_app p q v a b
 
 -- (e1; ..; en; e): case e1 of _ => .. case en of _ => e. The first expression is given apart.
 abbrev pub sequence_of : Place → Exp → List Exp → Exp

@@ -7,3 +7,4 @@ pub mod Grammar
 pub mod BareTree
 pub mod Derived
 pub mod Bare
+pub mod TreeOf

@@ -27,3 +27,26 @@ pub enum BuiltIn {
     Nil,
     Cons,
 }
+
+/// An identifier of a value after the structures that qualify it.
+#[derive(Debug, Drop)]
+pub struct LongVid {
+    pub qualifiers: Vec<Name>,
+    pub vid: Vid,
+}
+
+/// An identifier of a type constructor or a structure after the structures that qualify it.
+#[derive(Debug, Drop)]
+pub struct LongId {
+    pub qualifiers: Vec<Name>,
+    pub id: Name,
+}
+
+/// A special constant.
+#[derive(Debug, Drop)]
+pub enum Constant {
+    Int(i32),
+    Word(u32),
+    Char(u8),
+    Str(Vec<u8>),
+}

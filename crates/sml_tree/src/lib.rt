@@ -3,3 +3,4 @@
 
 pub mod fixity;
 pub mod ident;
+pub mod tree;
