@@ -1,2 +1,4 @@
 pub mod Examples
 pub mod BareExamples
+pub mod TypeLemmas
+pub mod TyLemmas

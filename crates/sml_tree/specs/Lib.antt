@@ -8,3 +8,4 @@ pub mod BareTree
 pub mod Derived
 pub mod Bare
 pub mod TreeOf
+pub mod StandsFor

@@ -4,8 +4,9 @@ use Rattle.mlc_base.specs.declared.label.Label.{Label}
 use Rattle.mlc_base.specs.declared.place.Place.{Place}
 use Rattle.sml_tree.specs.Terminal as term
 use Rattle.sml_tree.specs.BareTree as bare
-use Rattle.sml_tree.specs.Derived.{tuple, tuple_pat, product, app_of, Operand, chain_of, VidAt, join, join_pats, TyAt, arrows, sequence_of, list_of, list_pat_of, fun_dec_of, tys_of}
+use Rattle.sml_tree.specs.Derived.{tuple, tuple_pat, product, app_of, Operand, chain_of, VidAt, join, join_pats, TyAt, arrows, sequence_of, list_of, list_pat_of, fun_dec_of, tys_of, put_ty, expand_ty}
 use Rattle.sml_tree.specs.Derived as derived
+use Rattle.sml_tree.specs.declared.ident.Tyvar.{Tyvar}
 use Rattle.sml_tree.specs.declared.ident.LongVid.{LongVid}
 use Rattle.sml_tree.specs.declared.ident.LongId.{LongId}
 use Rattle.sml_tree.specs.declared.ident.Constant.{Constant}
@@ -115,6 +116,20 @@ ty_part_of = fold-TyPart bare.Ty TyFieldOf TyAt node_ty node_ty_field node_ty_pa
 
 abbrev pub some_ty_of : Option Ty → Option bare.Ty
 some_ty_of t = option_map ty_of t
+
+-- Abbreviations, in elements of lists.
+
+abbrev pub put_field : List Tyvar → List bare.Ty → TyFieldOf → TyFieldOf
+put_field as_ ts a = record { label = a.label; ty = put_ty as_ ts a.ty }
+
+abbrev pub put_part : List Tyvar → List bare.Ty → TyAt → TyAt
+put_part as_ ts a = record { place = a.place; ty = put_ty as_ ts a.ty }
+
+abbrev pub expand_field : List bare.TypeBind → TyFieldOf → TyFieldOf
+expand_field bs a = record { label = a.label; ty = expand_ty bs a.ty }
+
+abbrev pub expand_part : List bare.TypeBind → TyAt → TyAt
+expand_part bs a = record { place = a.place; ty = expand_ty bs a.ty }
 
 -- Patterns.
 
