@@ -2,4 +2,5 @@ pub mod Code
 pub mod FaultLine
 pub mod File
 pub mod Files
+pub mod Labels
 pub mod Names

@@ -2,3 +2,4 @@ pub mod Examples
 pub mod BareExamples
 pub mod TypeLemmas
 pub mod TyLemmas
+pub mod Arms

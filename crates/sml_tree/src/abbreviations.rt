@@ -94,59 +94,60 @@ fn argument(alloc: Global, tyvars: &[Tyvar], types: &[Ty], place: Place, tyvar: 
 
 /// A type with arguments put for parameters.
 #[cycle(puts)]
-fn put_ty(alloc: Global, tyvars: &[Tyvar], args: &[Ty], ty: &Ty) -> Result<Ty, NoMemory>
+#[tactic(auto, using(crate::proofs::Arms::put_record, crate::proofs::Arms::put_con, crate::proofs::Arms::put_product, crate::proofs::Arms::put_arrow, crate::proofs::Arms::put_ill, crate::proofs::Arms::put_var))]
+fn put_ty(alloc: Global, ty: &Ty, tyvars: &[Tyvar], args: &[Ty]) -> Result<Ty, NoMemory>
     ensures { IfOk result (λ to. ty_of to ≡ put_ty tyvars.now (map ty_of args.now) (ty_of ty.now)) }
 {
     match ty {
         Ty::Var(place, tyvar) => argument(alloc, tyvars, args, *place, *tyvar),
-        Ty::Record(place, fields) => Ok(Ty::Record(*place, put_fields(alloc, tyvars, args, fields)?)),
+        Ty::Record(place, fields) => Ok(Ty::Record(*place, put_fields(alloc, fields, tyvars, args)?)),
         Ty::Con(place, types, at, long) => {
-            let types = put_types(alloc, tyvars, args, types)?;
+            let types = put_types(alloc, types, tyvars, args)?;
             Ok(Ty::Con(*place, types, *at, copy_long_id(alloc, long)?))
         }
-        Ty::Product(place, types) => Ok(Ty::Product(*place, put_types(alloc, tyvars, args, types)?)),
+        Ty::Product(place, types) => Ok(Ty::Product(*place, put_types(alloc, types, tyvars, args)?)),
         Ty::Arrow(place, first, more) => {
-            let first = Box::new(alloc, put_ty(alloc, tyvars, args, first)?)?;
-            Ok(Ty::Arrow(*place, first, put_parts(alloc, tyvars, args, more)?))
+            let first = Box::new(alloc, put_ty(alloc, first, tyvars, args)?)?;
+            Ok(Ty::Arrow(*place, first, put_parts(alloc, more, tyvars, args)?))
         }
         Ty::Ill(place) => Ok(Ty::Ill(*place)),
     }
 }
 
 #[cycle(puts)]
-fn put_types(alloc: Global, tyvars: &[Tyvar], args: &[Ty], types: &[Ty]) -> Result<Vec<Ty>, NoMemory>
+fn put_types(alloc: Global, types: &[Ty], tyvars: &[Tyvar], args: &[Ty]) -> Result<Vec<Ty>, NoMemory>
     ensures { IfOk result (λ to. map ty_of to.items ≡ map (put_ty tyvars.now (map ty_of args.now)) (map ty_of types.now)) }
 {
     let mut all = Vec::new(alloc);
     for i in 0..types.len() {
-        all.push(put_ty(alloc, tyvars, args, &types[i])?)?;
+        all.push(put_ty(alloc, &types[i], tyvars, args)?)?;
     }
     Ok(all)
 }
 
 #[cycle(puts)]
-fn put_fields(alloc: Global, tyvars: &[Tyvar], args: &[Ty], fields: &[TyField]) -> Result<Vec<TyField>, NoMemory>
+fn put_fields(alloc: Global, fields: &[TyField], tyvars: &[Tyvar], args: &[Ty]) -> Result<Vec<TyField>, NoMemory>
     ensures { IfOk result (λ to. map ty_field_of to.items ≡ map (put_field tyvars.now (map ty_of args.now)) (map ty_field_of fields.now)) }
 {
     let mut all = Vec::new(alloc);
     for i in 0..fields.len() {
         all.push(TyField {
             label: fields[i].label,
-            ty: put_ty(alloc, tyvars, args, &fields[i].ty)?,
+            ty: put_ty(alloc, &fields[i].ty, tyvars, args)?,
         })?;
     }
     Ok(all)
 }
 
 #[cycle(puts)]
-fn put_parts(alloc: Global, tyvars: &[Tyvar], args: &[Ty], parts: &[TyPart]) -> Result<Vec<TyPart>, NoMemory>
+fn put_parts(alloc: Global, parts: &[TyPart], tyvars: &[Tyvar], args: &[Ty]) -> Result<Vec<TyPart>, NoMemory>
     ensures { IfOk result (λ to. map ty_part_of to.items ≡ map (put_part tyvars.now (map ty_of args.now)) (map ty_part_of parts.now)) }
 {
     let mut all = Vec::new(alloc);
     for i in 0..parts.len() {
         all.push(TyPart {
             place: parts[i].place,
-            ty: put_ty(alloc, tyvars, args, &parts[i].ty)?,
+            ty: put_ty(alloc, &parts[i].ty, tyvars, args)?,
         })?;
     }
     Ok(all)
@@ -172,6 +173,7 @@ fn binding<'a>(binds: &'a [TypeBind], long: &LongId) -> Option<&'a TypeBind>
 
 /// A type with abbreviations written out.
 #[cycle(expands)]
+#[tactic(auto, using(crate::proofs::Arms::expand_record, crate::proofs::Arms::expand_con_arm, crate::proofs::Arms::expand_product, crate::proofs::Arms::expand_arrow))]
 fn expand_ty(alloc: Global, binds: &[TypeBind], ty: &Ty) -> Result<Ty, NoMemory>
     ensures { IfOk result (λ to. ty_of to ≡ expand_ty (map type_bind_of binds.now) (ty_of ty.now)) }
 {
@@ -201,7 +203,7 @@ fn written_out(alloc: Global, place: Place, types: Vec<Ty>, at: Place, long: &Lo
             if bind.tyvars.len() != types.len() {
                 return Ok(Ty::Ill(place));
             }
-            put_ty(alloc, bind.tyvars.as_slice(), types.as_slice(), &bind.ty)
+            put_ty(alloc, &bind.ty, bind.tyvars.as_slice(), types.as_slice())
         }
     }
 }
