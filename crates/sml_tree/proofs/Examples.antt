@@ -385,3 +385,13 @@ tree_loop = while 0 (vid_exp 6 (short (Named name_a))) (sequence 11 (exp (vid_ex
 
 pub loop : Reads with_all text_loop tree_loop []
 loop = of_while 0 8 (of_atom (of_vid (plain_long (alpha_vid 6 name_a) refl))) (of_atom (of_sequence 11 13 16 (of_atom (of_vid (plain_long (alpha_vid 12 name_b) refl))) (last_of_sequence (of_atom (of_vid (plain_long (alpha_vid 15 name_c) refl))))))
+
+-- x : t + y
+abbrev pub text_unbracketed_typed_plus : List Terminal
+text_unbracketed_typed_plus = alpha 0 name_x ∷ reserved 2 res.Colon ∷ alpha 4 name_t ∷ symbol 6 plus ∷ alpha 8 name_y ∷ []
+
+abbrev pub tree_unbracketed_typed_plus : Exp
+tree_unbracketed_typed_plus = typed (vid_exp 0 (short (Named name_x))) (con_ty 4 (ty (con_ty 4 (ty (con_ty 4 no_tys (record { place = 4; it = record { qualifiers = []; id = name_t } })) no_tys) (record { place = 6; it = record { qualifiers = []; id = plus } })) no_tys) (record { place = 8; it = record { qualifiers = []; id = name_y } }))
+
+pub unbracketed_typed_plus : Reads with_plus text_unbracketed_typed_plus tree_unbracketed_typed_plus []
+unbracketed_typed_plus = of_typed 2 (omega arith) refl (of_atom (of_vid (plain_long (alpha_vid 0 name_x) refl))) (of_tycon_1 (omega arith) (of_tycon_1 (omega arith) (of_tycon (short_tycon (alpha_tycon 4 name_t))) (short_tycon (symbol_tycon 6 plus)) refl) (short_tycon (alpha_tycon 8 name_y)) refl)

@@ -3,3 +3,4 @@ pub mod BareExamples
 pub mod TypeLemmas
 pub mod TyLemmas
 pub mod Arms
+pub mod NoTree
