@@ -18,9 +18,6 @@ at_two n text at h =
 pub opens_one : (n : ℕ) (text : List ℕ) (at : ℕ) → at + 1 < length text → opens (get_or text at 0) (get_or text (at + 1) 0) ≡ true → after_comments n (drop at text) ≡ after_comments (n + 1) (drop (at + 2) text)
 opens_one n text at h e = at_two n text at h ∙ rw e refl
 
-pub closes_last : (text : List ℕ) (at : ℕ) → at + 1 < length text → opens (get_or text at 0) (get_or text (at + 1) 0) ≡ false → closes (get_or text at 0) (get_or text (at + 1) 0) ≡ true → after_comments 1 (drop at text) ≡ Some (drop (at + 2) text)
-closes_last text at h e f = at_two 1 text at h ∙ rw (e, f) refl
-
 pub closes_one : (n : ℕ) (text : List ℕ) (at : ℕ) → at + 1 < length text → opens (get_or text at 0) (get_or text (at + 1) 0) ≡ false → closes (get_or text at 0) (get_or text (at + 1) 0) ≡ true → (n == 1) ≡ false → after_comments n (drop at text) ≡ after_comments (n - 1) (drop (at + 2) text)
 closes_one n text at h e f g = at_two n text at h ∙ rw (e, f, g) refl
 

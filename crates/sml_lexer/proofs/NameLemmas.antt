@@ -7,21 +7,21 @@ use Rattle.sml_lexer.specs.Lexeme.{text_of}
 use Rattle.sml_lexer.specs.NameTable.{Keeps}
 
 pub keeps_same : (a : List (List ℕ)) → Keeps a a
-keeps_same a = take_all (length a) a (omega arith)
+keeps_same a = record { held = take_all (length a) a (omega arith); apart = λ h. h }
 
 pub keeps_no_fewer : (a b : List (List ℕ)) → Keeps a b → length a ≤ length b
-keeps_no_fewer a b h = omega (arith, ap length h, length-take (length a) b)
+keeps_no_fewer a b h = omega (arith, ap length h.held, length-take (length a) b)
 
 pub keeps_on : (a b c : List (List ℕ)) → Keeps a b → Keeps b c → Keeps a c
 keeps_on a b c h k =
     let no_fewer = keeps_no_fewer a b h in
-    sym (take-take (length a) (length b) c no_fewer) ∙ ap (take (length a)) k ∙ h
+    record { held = sym (take-take (length a) (length b) c no_fewer) ∙ ap (take (length a)) k.held ∙ h.held; apart = λ x. k.apart (h.apart x) }
 
 pub held_stays : (a b : List (List ℕ)) (name : ℕ) → Keeps a b → name < length a → name < length b
 held_stays a b name h n = omega (arith, keeps_no_fewer a b h)
 
 pub text_stays : (a b : List (List ℕ)) (name : ℕ) → Keeps a b → name < length a → text_of b name ≡ text_of a name
-text_stays a b name h n = sym (get_or-take (length a) b name [] n) ∙ ap (λ l. get_or l name []) h
+text_stays a b name h n = sym (get_or-take (length a) b name [] n) ∙ ap (λ l. get_or l name []) h.held
 
 pub texts_stay : (a b : List (List ℕ)) (qs : List ℕ) → Keeps a b → All (λ q. q < length a) qs → map (text_of b) qs ≡ map (text_of a) qs
 texts_stay a b [] h n = refl

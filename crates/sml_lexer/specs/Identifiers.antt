@@ -7,18 +7,17 @@ use Rattle.sml_lexer.specs.declared.identifiers.Part.TheVariants.{Letters, Symbo
 use Rattle.sml_lexer.specs.Chars.{byte, is_letter, is_symbol_char, run_len, run, after_run}
 use Rattle.sml_lexer.specs.Lexeme.{Lexeme, reserved, ident, symbol, long_ident, long_symbol, type_var, eq_type_var}
 use Rattle.sml_lexer.specs.Item.{Item, found}
-use Rattle.sml_lexer.specs.ReservedWords.{spelt, symbolic, words}
+use Rattle.sml_lexer.specs.ReservedWords.{free_len, spelt, symbolic, words}
 
--- reserved words are no identifiers
-abbrev pub unless_reserved : Option Reserved → Part → Part
-unless_reserved None part = part
-unless_reserved (Some word) part = Nothing
+-- an identifier has a byte
+abbrev pub unless_empty : (ℕ → Part) → ℕ → Part
+unless_empty sort len = if len == 0 then Nothing else sort len
 
--- the identifier that a text begins with
+-- the longest identifier that a text begins with; reserved words are none
 abbrev pub next_part : List ℕ → Part
 next_part text =
-    if is_letter (byte text 0) then unless_reserved (spelt words (run NameChar text)) (Letters (run_len NameChar text))
-    else (if is_symbol_char (byte text 0) then unless_reserved (spelt symbolic (run SymbolChar text)) (Symbols (run_len SymbolChar text))
+    if is_letter (byte text 0) then unless_empty Letters (free_len words (run_len NameChar text) text)
+    else (if is_symbol_char (byte text 0) then unless_empty Symbols (free_len symbolic (run_len SymbolChar text) text)
     else Nothing)
 
 -- an alphanumeric identifier with these structure identifiers before it

@@ -6,6 +6,7 @@ pub mod ItemOf
 pub mod Items
 pub mod Lexeme
 pub mod Lexes
+pub mod Longest
 pub mod NameTable
 pub mod Numbers
 pub mod ReservedWords

@@ -1,5 +1,5 @@
 -- Reserved words: sections 2.1 and 3.1.
-use Rattle.std.specs.Prelude.{ℕ, List, [], ◌∷◌, Option, Some, None, codes, if◌then◌else◌}
+use Rattle.std.specs.Prelude.{ℕ, zero, suc, List, [], ◌∷◌, Option, Some, None, codes, take, if◌then◌else◌}
 use Rattle.std.specs.Str.{bytes_eq}
 use Rattle.mlc_base.specs.declared.token.Reserved.{Reserved}
 use Rattle.mlc_base.specs.declared.token.Reserved.TheVariants.{Abstype, And, Andalso, As, Case, Datatype, Do, Else, End, Eqtype, Exception, Fn, Fun, Functor, Handle, If, In, Include, Infix, Infixr, Let, Local, Nonfix, Of, Op, Open, Orelse, Raise, Rec, Sharing, Sig, Signature, Struct, Structure, Then, TypeWord, Val, Where, While, With, Withtype, LeftParen, RightParen, LeftBracket, RightBracket, LeftBrace, RightBrace, Comma, Semicolon, Dots, Underscore, Colon, ColonGreater, Bar, Equals, DoubleArrow, Arrow, Hash}
@@ -80,3 +80,12 @@ marks = LeftParen ∷ RightParen ∷ LeftBracket ∷ RightBracket ∷ LeftBrace 
 abbrev pub spelt : List Reserved → List ℕ → Option Reserved
 spelt [] text = None
 spelt (word ∷ others) text = if bytes_eq (spelling word) text then Some word else spelt others text
+
+abbrev pub free_or : Option Reserved → ℕ → ℕ → ℕ
+free_or None len shorter = len
+free_or (Some word) len shorter = shorter
+
+-- the length of the longest front that spells none of these words, of the fronts of at most so many bytes
+abbrev pub free_len : List Reserved → ℕ → List ℕ → ℕ
+free_len taken zero text = 0
+free_len taken (suc len) text = free_or (spelt taken (take (suc len) text)) (suc len) (free_len taken len text)

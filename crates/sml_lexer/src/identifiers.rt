@@ -9,7 +9,7 @@ ghost use Rattle.sml_lexer.specs.NameTable.{Keeps};
 
 use crate::chars::{Class, byte_at, front, is_letter, is_symbol_char, rest, run_len};
 use crate::item::Item;
-use crate::reserved::{symbolic_of, word_of};
+use crate::reserved::{free_symbol_len, free_word_len, symbolic_of, word_of};
 use mlc_base::memory::NoMemory;
 use mlc_base::names::{Name, Names};
 use mlc_base::token::TokenKind;
@@ -23,22 +23,20 @@ pub enum Part {
     Nothing,
 }
 
-/// The identifier that a text begins with.
+/// The longest identifier that a text begins with.
 fn next_part(text: &[u8]) -> Part
     ensures same { result ≡ next_part text.now }
     ensures within { FitsPart text.now result }
 {
     if is_letter(byte_at(text, 0)) {
-        let len = run_len(Class::NameChar, text);
-        match word_of(front(text, len)) {
-            Some(_) => Part::Nothing,
-            None => Part::Letters(len),
+        match free_word_len(run_len(Class::NameChar, text), text) {
+            0 => Part::Nothing,
+            len => Part::Letters(len),
         }
     } else if is_symbol_char(byte_at(text, 0)) {
-        let len = run_len(Class::SymbolChar, text);
-        match symbolic_of(front(text, len)) {
-            Some(_) => Part::Nothing,
-            None => Part::Symbols(len),
+        match free_symbol_len(run_len(Class::SymbolChar, text), text) {
+            0 => Part::Nothing,
+            len => Part::Symbols(len),
         }
     } else {
         Part::Nothing

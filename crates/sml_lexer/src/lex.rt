@@ -2,6 +2,7 @@
 
 ghost use Rattle.std.specs.Prelude.{◌≡◌, ◌+◌, ◌^◌, ◌<◌, List, length, map, All, IfOk};
 ghost use Rattle.sml_lexer.specs.Lexes.{HoldsAllNames, IfFault, IsRefused, IsSlice, Lexed, Lexes, OneReading, Rises, lexed_of};
+ghost use Rattle.sml_lexer.specs.Longest.{ItemsAreLongest};
 ghost use Rattle.sml_lexer.specs.NameTable.{Keeps};
 
 use crate::chars::rest;
@@ -57,4 +58,9 @@ pub fn lex(alloc: Global, names: &mut Names, file: u32, bytes: &[u8]) -> Result<
 /// No file has two lists of tokens.
 pub fn one_reading()
     ensures { OneReading }
+{}
+
+/// Each item is the longest that begins at its place.
+pub fn items_are_longest()
+    ensures { ItemsAreLongest }
 {}

@@ -10,3 +10,5 @@ pub mod lex;
 mod numbers;
 mod reserved;
 mod strings;
+#[cfg(test)]
+mod tests;

@@ -1,8 +1,9 @@
 // Reserved words.
 
-ghost use Rattle.std.specs.Prelude.{◌≡◌};
-ghost use Rattle.sml_lexer.specs.ReservedWords.{marks, spelling, spelt, symbolic, words};
+ghost use Rattle.std.specs.Prelude.{◌≡◌, ◌≤◌, length};
+ghost use Rattle.sml_lexer.specs.ReservedWords.{free_len, marks, spelling, spelt, symbolic, words};
 
+use crate::chars::front;
 use mlc_base::token::Reserved;
 
 const WORDS: [Reserved; 41] = [
@@ -146,6 +147,38 @@ fn spelt(words: &[Reserved], text: &[u8]) -> Option<Reserved>
         }
     }
     None
+}
+
+/// The length of the longest front that spells none of these words, of the fronts of at most so many bytes.
+#[tactic(auto, using(crate::proofs::ReservedLemmas::free_step))]
+fn free_len(words: &[Reserved], len: usize, text: &[u8]) -> usize
+    requires { len ≤ length text.now }
+    ensures longest { result ≡ free_len words.now len text.now }
+    ensures within { result ≤ len }
+{
+    let mut free = len;
+    while free > 0 && spelt(words, front(text, free)).is_some() {
+        free -= 1;
+    }
+    free
+}
+
+/// The length of the longest front that spells no alphanumeric reserved word.
+pub fn free_word_len(len: usize, text: &[u8]) -> usize
+    requires { len ≤ length text.now }
+    ensures longest { result ≡ free_len words len text.now }
+    ensures within { result ≤ len }
+{
+    free_len(&WORDS, len, text)
+}
+
+/// The length of the longest front that spells no symbolic reserved word.
+pub fn free_symbol_len(len: usize, text: &[u8]) -> usize
+    requires { len ≤ length text.now }
+    ensures longest { result ≡ free_len symbolic len text.now }
+    ensures within { result ≤ len }
+{
+    free_len(&SYMBOLIC, len, text)
 }
 
 /// The alphanumeric reserved word of this text.
