@@ -20,21 +20,21 @@ module _ (bs : List Tyvar) (us : List bare.Ty) (t : Ty) where
 
   pub put_record : (p : Place) (fs to : Vec TyField Global) → t ≡ Record p fs → map ty_field_of to.items ≡ map (put_field bs us) (map ty_field_of fs.items) → ty_of (Record p to) ≡ put_ty bs us (ty_of t)
   put_record p fs to e h = ty_of-Record p to ∙ ap (λ l. bare.fields p (ty_fields_of l)) h ∙ sym (ap (bare.fields p) (put_fields_of bs us (map ty_field_of fs.items)))
-    ∙ sym (ap (put_ty bs us) (ap ty_of e ∙ ty_of-Record p fs))
+      ∙ sym (ap (put_ty bs us) (ap ty_of e ∙ ty_of-Record p fs))
 
   pub put_con : (p : Place) (ts to : Vec Ty Global) (q : Place) (c d : LongId) → t ≡ Con p ts q c → map ty_of to.items ≡ map (put_ty bs us) (map ty_of ts.items) → long_id_of d ≡ long_id_of c →
-    ty_of (Con p to q d) ≡ put_ty bs us (ty_of t)
+      ty_of (Con p to q d) ≡ put_ty bs us (ty_of t)
   put_con p ts to q c d e h k = ty_of-Con p to q d ∙ ap (λ l. bare.con p (tys_of l) q (long_id_of d)) h ∙ ap (λ x. bare.con p (tys_of (map (put_ty bs us) (map ty_of ts.items))) q x) k
-    ∙ sym (ap (λ l. bare.con p l q (long_id_of c)) (put_tys_of bs us (map ty_of ts.items))) ∙ sym (ap (put_ty bs us) (ap ty_of e ∙ ty_of-Con p ts q c))
+      ∙ sym (ap (λ l. bare.con p l q (long_id_of c)) (put_tys_of bs us (map ty_of ts.items))) ∙ sym (ap (put_ty bs us) (ap ty_of e ∙ ty_of-Con p ts q c))
 
   pub put_product : (p : Place) (ts to : Vec Ty Global) → t ≡ Product p ts → map ty_of to.items ≡ map (put_ty bs us) (map ty_of ts.items) → ty_of (Product p to) ≡ put_ty bs us (ty_of t)
   put_product p ts to e h = ty_of-Product p to ∙ ap (λ l. product p l) h ∙ sym (ap (bare.fields p) (put_numbered bs us 1 (map ty_of ts.items)))
-    ∙ sym (ap (put_ty bs us) (ap ty_of e ∙ ty_of-Product p ts))
+      ∙ sym (ap (put_ty bs us) (ap ty_of e ∙ ty_of-Product p ts))
 
   pub put_arrow : (p : Place) (a b : Box Ty Global) (ts to : Vec TyPart Global) → t ≡ Arrow p a ts → ty_of b.value ≡ put_ty bs us (ty_of a.value) →
-    map ty_part_of to.items ≡ map (put_part bs us) (map ty_part_of ts.items) → ty_of (Arrow p b to) ≡ put_ty bs us (ty_of t)
+      map ty_part_of to.items ≡ map (put_part bs us) (map ty_part_of ts.items) → ty_of (Arrow p b to) ≡ put_ty bs us (ty_of t)
   put_arrow p a b ts to e h k = ty_of-Arrow p b to ∙ ap (λ x. arrows p x (map ty_part_of to.items)) h ∙ ap (λ l. arrows p (put_ty bs us (ty_of a.value)) l) k
-    ∙ sym (put_arrows bs us p (ty_of a.value) (map ty_part_of ts.items)) ∙ sym (ap (put_ty bs us) (ap ty_of e ∙ ty_of-Arrow p a ts))
+      ∙ sym (put_arrows bs us p (ty_of a.value) (map ty_part_of ts.items)) ∙ sym (ap (put_ty bs us) (ap ty_of e ∙ ty_of-Arrow p a ts))
 
   pub put_ill : (p : Place) → t ≡ Ill p → ty_of (Ill p) ≡ put_ty bs us (ty_of t)
   put_ill p e = ty_of-Ill p ∙ sym (ap (put_ty bs us) (ap ty_of e ∙ ty_of-Ill p))
@@ -42,21 +42,21 @@ module _ (bs : List Tyvar) (us : List bare.Ty) (t : Ty) where
 module _ (bs : List bare.TypeBind) (t : Ty) where
   pub expand_record : (p : Place) (fs to : Vec TyField Global) → t ≡ Record p fs → map ty_field_of to.items ≡ map (expand_field bs) (map ty_field_of fs.items) → ty_of (Record p to) ≡ expand_ty bs (ty_of t)
   expand_record p fs to e h = ty_of-Record p to ∙ ap (λ l. bare.fields p (ty_fields_of l)) h ∙ sym (ap (bare.fields p) (expand_fields_of bs (map ty_field_of fs.items)))
-    ∙ sym (ap (expand_ty bs) (ap ty_of e ∙ ty_of-Record p fs))
+      ∙ sym (ap (expand_ty bs) (ap ty_of e ∙ ty_of-Record p fs))
 
   pub expand_con_arm : (p : Place) (ts to : Vec Ty Global) (q : Place) (c : LongId) → t ≡ Con p ts q c → map ty_of to.items ≡ map (expand_ty bs) (map ty_of ts.items) →
-    written_out p (tys_of (map ty_of to.items)) q (long_id_of c) (abbreviation bs (long_id_of c)) ≡ expand_ty bs (ty_of t)
+      written_out p (tys_of (map ty_of to.items)) q (long_id_of c) (abbreviation bs (long_id_of c)) ≡ expand_ty bs (ty_of t)
   expand_con_arm p ts to q c e h = ap (λ l. written_out p (tys_of l) q (long_id_of c) (abbreviation bs (long_id_of c))) h
-    ∙ sym (ap (λ l. written_out p l q (long_id_of c) (abbreviation bs (long_id_of c))) (expand_tys_of bs (map ty_of ts.items))) ∙ sym (ap (expand_ty bs) (ap ty_of e ∙ ty_of-Con p ts q c))
+      ∙ sym (ap (λ l. written_out p l q (long_id_of c) (abbreviation bs (long_id_of c))) (expand_tys_of bs (map ty_of ts.items))) ∙ sym (ap (expand_ty bs) (ap ty_of e ∙ ty_of-Con p ts q c))
 
   pub expand_product : (p : Place) (ts to : Vec Ty Global) → t ≡ Product p ts → map ty_of to.items ≡ map (expand_ty bs) (map ty_of ts.items) → ty_of (Product p to) ≡ expand_ty bs (ty_of t)
   expand_product p ts to e h = ty_of-Product p to ∙ ap (λ l. product p l) h ∙ sym (ap (bare.fields p) (expand_numbered bs 1 (map ty_of ts.items)))
-    ∙ sym (ap (expand_ty bs) (ap ty_of e ∙ ty_of-Product p ts))
+      ∙ sym (ap (expand_ty bs) (ap ty_of e ∙ ty_of-Product p ts))
 
   pub expand_arrow : (p : Place) (a b : Box Ty Global) (ts to : Vec TyPart Global) → t ≡ Arrow p a ts → ty_of b.value ≡ expand_ty bs (ty_of a.value) →
-    map ty_part_of to.items ≡ map (expand_part bs) (map ty_part_of ts.items) → ty_of (Arrow p b to) ≡ expand_ty bs (ty_of t)
+      map ty_part_of to.items ≡ map (expand_part bs) (map ty_part_of ts.items) → ty_of (Arrow p b to) ≡ expand_ty bs (ty_of t)
   expand_arrow p a b ts to e h k = ty_of-Arrow p b to ∙ ap (λ x. arrows p x (map ty_part_of to.items)) h ∙ ap (λ l. arrows p (expand_ty bs (ty_of a.value)) l) k
-    ∙ sym (expand_arrows bs p (ty_of a.value) (map ty_part_of ts.items)) ∙ sym (ap (expand_ty bs) (ap ty_of e ∙ ty_of-Arrow p a ts))
+      ∙ sym (expand_arrows bs p (ty_of a.value) (map ty_part_of ts.items)) ∙ sym (ap (expand_ty bs) (ap ty_of e ∙ ty_of-Arrow p a ts))
 
 -- An abbreviation's parameters and its arguments.
 

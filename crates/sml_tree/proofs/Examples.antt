@@ -82,7 +82,6 @@ name_u = 23
 abbrev pub name_w : ℕ
 name_w = 24
 
-
 abbrev pub no_fixities : Fixity
 no_fixities = []
 
@@ -94,7 +93,7 @@ with_plusplus = record { vid = Named plusplus; status = Some (record { precedenc
 
 abbrev pub with_all : Fixity
 with_all = record { vid = Named plus; status = Some (record { precedence = 6; right = false }) } ∷ record { vid = Named cons_name; status = Some (record { precedence = 5; right = true }) }
-  ∷ record { vid = Equals; status = Some (record { precedence = 4; right = false }) } ∷ []
+    ∷ record { vid = Equals; status = Some (record { precedence = 4; right = false }) } ∷ []
 
 -- 1 ++ 2 ++ 3
 abbrev pub text_one_level_chain : List Terminal

@@ -48,7 +48,7 @@ expand_arrows bs p t (u ∷ ts) = ap (λ v. bare.arrow p (expand_ty bs t) v) (ex
 -- The loop of `argument`.
 
 pub argument_step : (bs : List Tyvar) (xs : List Ty) (i : ℕ) (b : Tyvar) (x : Ty) (p : Place) (a : Tyvar) → i < length bs → i < length xs →
-  argument (drop i bs) (drop i (map ty_of xs)) p a
+    argument (drop i bs) (drop i (map ty_of xs)) p a
     ≡ (if nat_eq a.name (get_or bs i b).name then ty_of (get_or xs i x) else argument (drop (i + 1) bs) (drop (i + 1) (map ty_of xs)) p a)
 argument_step bs xs i b x p a h k =
     ap (λ l. argument l (drop i (map ty_of xs)) p a) (drop_more bs i b h)
@@ -56,14 +56,14 @@ argument_step bs xs i b x p a h k =
     ∙ ap (λ l. if nat_eq a.name (get_or bs i b).name then ty_of (get_or xs i x) else argument (drop (i + 1) bs) l p a) (sym (drop-map ty_of (i + 1) xs))
 
 pub argument_here : (bs : List Tyvar) (xs : List Ty) (i : ℕ) (b : Tyvar) (x : Ty) (p : Place) (a : Tyvar) → i < length bs → i < length xs → nat_eq a.name (get_or bs i b).name ≡ true →
-  argument (drop i bs) (drop i (map ty_of xs)) p a ≡ ty_of (get_or xs i x)
+    argument (drop i bs) (drop i (map ty_of xs)) p a ≡ ty_of (get_or xs i x)
 argument_here bs xs i b x p a h k e = argument_step bs xs i b x p a h k
-  ∙ ap (λ y. if y then ty_of (get_or xs i x) else argument (drop (i + 1) bs) (drop (i + 1) (map ty_of xs)) p a) e
+    ∙ ap (λ y. if y then ty_of (get_or xs i x) else argument (drop (i + 1) bs) (drop (i + 1) (map ty_of xs)) p a) e
 
 pub argument_later : (bs : List Tyvar) (xs : List Ty) (i : ℕ) (b : Tyvar) (x : Ty) (p : Place) (a : Tyvar) → i < length bs → i < length xs → nat_eq a.name (get_or bs i b).name ≡ false →
-  argument (drop i bs) (drop i (map ty_of xs)) p a ≡ argument (drop (i + 1) bs) (drop (i + 1) (map ty_of xs)) p a
+    argument (drop i bs) (drop i (map ty_of xs)) p a ≡ argument (drop (i + 1) bs) (drop (i + 1) (map ty_of xs)) p a
 argument_later bs xs i b x p a h k e = argument_step bs xs i b x p a h k
-  ∙ ap (λ y. if y then ty_of (get_or xs i x) else argument (drop (i + 1) bs) (drop (i + 1) (map ty_of xs)) p a) e
+    ∙ ap (λ y. if y then ty_of (get_or xs i x) else argument (drop (i + 1) bs) (drop (i + 1) (map ty_of xs)) p a) e
 
 pub argument_no_types : (bs : List Tyvar) (p : Place) (a : Tyvar) → argument bs [] p a ≡ bare.var p a
 argument_no_types [] p a = refl

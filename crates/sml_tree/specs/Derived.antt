@@ -136,9 +136,9 @@ let_of p ds e es = let_in p ds (sequence_of p e es)
 -- while a do b: let val rec v = fn () => if a then (b; v ()) else () in v () end
 abbrev pub while_of : Place → Exp → Exp → Exp
 while_of p a b =
-  let_in p
+    let_in p
     (dec (val_dec p [] no_binds (bind p (fresh_pat p 0)
-      (fn p (rule p (tuple_pat p []) (if_of p a (sequence_of p b (app p (fresh_exp p 0) (unit p) ∷ [])) (unit p)) no_rules)) no_binds)) no_decs)
+    (fn p (rule p (tuple_pat p []) (if_of p a (sequence_of p b (app p (fresh_exp p 0) (unit p) ∷ [])) (unit p)) no_rules)) no_binds)) no_decs)
     (app p (fresh_exp p 0) (unit p))
 
 -- [e1, .., en]: e1 :: .. :: en :: nil, in patterns too

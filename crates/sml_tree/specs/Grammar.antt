@@ -23,9 +23,9 @@ mutual
     -- ty ::= tyseq longtycon, with no argument, with one, and with two or more in brackets; one type in brackets is a type in brackets
     of_tycon : {t : Terminal} {o : List Terminal} {p : ℕ} {c : LongId} → IsLongTycon t p c → ReadsTy (t ∷ o) (con_ty p no_tys (record { place = p; it = c })) o
     of_tycon_1 : {i o : List Terminal} {t : Terminal} {q : ℕ} {c : LongId} {a : Ty} {p : ℕ} → 2 ≤ ty_level a → ReadsTy i a (t ∷ o) → IsLongTycon t q c → ty_place a ≡ p →
-      ReadsTy i (con_ty p (ty a no_tys) (record { place = q; it = c })) o
+        ReadsTy i (con_ty p (ty a no_tys) (record { place = q; it = c })) o
     of_tycon_n : {i m o : List Terminal} {t : Terminal} {q : ℕ} {c : LongId} {a : Ty} {as_ : Tys} (p r s : ℕ) → ReadsTy i a (reserved r res.Comma ∷ m) → TyCommas m as_ (reserved s res.RightParen ∷ t ∷ o) → IsLongTycon t q c →
-      ReadsTy (reserved p res.LeftParen ∷ i) (con_ty p (ty a as_) (record { place = q; it = c })) o
+        ReadsTy (reserved p res.LeftParen ∷ i) (con_ty p (ty a as_) (record { place = q; it = c })) o
     -- ty ::= ty * .. * ty
     of_product : {i m o : List Terminal} {a : Ty} {as_ : Tys} → 2 ≤ ty_level a → ReadsTy i a m → Stars m as_ o → ReadsTy i (product_ty a as_) o
     -- ty ::= ty -> ty, where `->` associates to the right
@@ -37,7 +37,7 @@ mutual
   pub data TyRow : List Terminal → TyFields → List Terminal → Type 0 where
     last_ty_row : {t : Terminal} {i o : List Terminal} {l : Label} {a : Ty} (p : ℕ) → IsLabel t l → ReadsTy i a o → TyRow (t ∷ reserved p res.Colon ∷ i) (ty_field l a no_ty_fields) o
     more_ty_row : {t : Terminal} {i m o : List Terminal} {l : Label} {a : Ty} {fs : TyFields} (p q : ℕ) → IsLabel t l → ReadsTy i a (reserved q res.Comma ∷ m) → TyRow m fs o →
-      TyRow (t ∷ reserved p res.Colon ∷ i) (ty_field l a fs) o
+        TyRow (t ∷ reserved p res.Colon ∷ i) (ty_field l a fs) o
 
   -- types separated by commas, one or more
   pub data TyCommas : List Terminal → Tys → List Terminal → Type 0 where
@@ -67,7 +67,7 @@ pub data BindsVid : Fixity → List Terminal → ℕ → Vid → List Terminal �
 -- [op] longvid. `=` stands here only after `op`.
 pub data NamesVid : Fixity → List Terminal → ℕ → LongVid → List Terminal → Type 0 where
   plain_long : {f : Fixity} {t : Terminal} {o : List Terminal} {p x : ℕ} → IsVid t p x → fix_of (Named x) f ≡ None →
-    NamesVid f (t ∷ o) p (record { qualifiers = []; vid = Named x }) o
+      NamesVid f (t ∷ o) p (record { qualifiers = []; vid = Named x }) o
   qualified : {f : Fixity} {t : Terminal} {o : List Terminal} {p : ℕ} {x : LongVid} → IsQualifiedVid t p x → NamesVid f (t ∷ o) p x o
   op_long : {f : Fixity} {t : Terminal} {o : List Terminal} {x : LongVid} (p : ℕ) → IsAnyLongVid t x → NamesVid f (reserved p res.Op ∷ t ∷ o) p x o
 
@@ -95,11 +95,11 @@ mutual
     -- atpat ::= { [patrow] }
     of_no_pat_row : {f : Fixity} {o : List Terminal} (p q : ℕ) → AtPat f (reserved p res.LeftBrace ∷ reserved q res.RightBrace ∷ o) (record_pat p no_pat_fields false) o
     of_pat_row : {f : Fixity} {i o : List Terminal} {fs : PatFields} {b : Bool} (p q : ℕ) → PatRow f i fs b (reserved q res.RightBrace ∷ o) →
-      AtPat f (reserved p res.LeftBrace ∷ i) (record_pat p fs b) o
+        AtPat f (reserved p res.LeftBrace ∷ i) (record_pat p fs b) o
     -- atpat ::= () and (pat, .., pat)
     of_unit_pat : {f : Fixity} {o : List Terminal} (p q : ℕ) → AtPat f (reserved p res.LeftParen ∷ reserved q res.RightParen ∷ o) (unit_pat p) o
     of_tuple_pat : {f : Fixity} {i m o : List Terminal} {a : Pat} {as_ : Pats} (p q r : ℕ) → Pattern f i a (reserved q res.Comma ∷ m) → PatCommas f m as_ (reserved r res.RightParen ∷ o) →
-      AtPat f (reserved p res.LeftParen ∷ i) (tuple_pat p (pat a as_)) o
+        AtPat f (reserved p res.LeftParen ∷ i) (tuple_pat p (pat a as_)) o
     -- atpat ::= [pat, .., pat]
     of_nil_pat : {f : Fixity} {o : List Terminal} (p q : ℕ) → AtPat f (reserved p res.LeftBracket ∷ reserved q res.RightBracket ∷ o) (list_pat p no_pats) o
     of_list_pat : {f : Fixity} {i o : List Terminal} {as_ : Pats} (p q : ℕ) → PatCommas f i as_ (reserved q res.RightBracket ∷ o) → AtPat f (reserved p res.LeftBracket ∷ i) (list_pat p as_) o
@@ -118,7 +118,7 @@ mutual
     -- vid [: ty] [as pat]
     of_punned : {f : Fixity} {t : Terminal} {i o : List Terminal} {p x : ℕ} {s : Option Ty} → IsVid t p x → fix_of (Named x) f ≡ None → MaybeTy i s o → Field f (t ∷ i) (punned p x s) o
     of_punned_as : {f : Fixity} {t : Terminal} {i m o : List Terminal} {p x : ℕ} {s : Option Ty} {a : Pat} (q : ℕ) → IsVid t p x → fix_of (Named x) f ≡ None →
-      MaybeTy i s (reserved q res.As ∷ m) → Pattern f m a o → Field f (t ∷ i) (punned_as p x s a) o
+        MaybeTy i s (reserved q res.As ∷ m) → Pattern f m a o → Field f (t ∷ i) (punned_as p x s a) o
 
   -- patterns separated by commas, one or more
   pub data PatCommas : Fixity → List Terminal → Pats → List Terminal → Type 0 where
@@ -136,14 +136,14 @@ mutual
     of_typed_pat : {f : Fixity} {i m o : List Terminal} {a : Pat} {s : Ty} (p : ℕ) → 5 ≤ pat_level f a → Pattern f i a (reserved p res.Colon ∷ m) → ReadsTy m s o → Pattern f i (typed_pat a s) o
     -- pat ::= [op] vid [: ty] as pat
     of_as_pat : {f : Fixity} {i m n o : List Terminal} {p : ℕ} {v : Vid} {s : Option Ty} {a : Pat} (q : ℕ) → BindsVid f i p v m → MaybeTy m s (reserved q res.As ∷ n) → Pattern f n a o →
-      Pattern f i (as_pat p v s a) o
+        Pattern f i (as_pat p v s a) o
 
   -- the further operands of a chain
   pub data PatFollows : Fixity → ℕ → Bool → List Terminal → PatParts → List Terminal → Type 0 where
     of_last_pat_part : {f : Fixity} {l : ℕ} {r : Bool} {t : Terminal} {m o : List Terminal} {x : Placed ℕ} {b : Pat} →
-      PatFits f l r t x → l < pat_level f b → Pattern f m b o → PatFollows f l r (t ∷ m) (last_pat_part x b) o
+        PatFits f l r t x → l < pat_level f b → Pattern f m b o → PatFollows f l r (t ∷ m) (last_pat_part x b) o
     of_pat_part : {f : Fixity} {l : ℕ} {r : Bool} {t : Terminal} {m n o : List Terminal} {x : Placed ℕ} {b : Pat} {ps : PatParts} →
-      PatFits f l r t x → l < pat_level f b → Pattern f m b n → PatFollows f l r n ps o → PatFollows f l r (t ∷ m) (pat_part x b ps) o
+        PatFits f l r t x → l < pat_level f b → Pattern f m b n → PatFollows f l r n ps o → PatFollows f l r (t ∷ m) (pat_part x b ps) o
 
 -- atpat .. atpat, none or more
 pub data AtPats : Fixity → List Terminal → Pats → List Terminal → Type 0 where
@@ -158,7 +158,7 @@ pub data ReadsHead : Fixity → List Terminal → Head → List Terminal → Typ
   of_infix_head : {f : Fixity} {i m o : List Terminal} {t : Terminal} {x : Placed ℕ} {a b : Pat} → AtPat f i a (t ∷ m) → IsInfixVid f t x → AtPat f m b o → ReadsHead f i (infix_head a x.it b) o
   -- (atpat vid atpat) atpat .. atpat
   of_bracket_head : {f : Fixity} {i m n o : List Terminal} {t : Terminal} {x : Placed ℕ} {a b : Pat} {as_ : Pats} (p q : ℕ) → AtPat f i a (t ∷ m) → IsInfixVid f t x →
-    AtPat f m b (reserved q res.RightParen ∷ n) → AtPats f n as_ o → ReadsHead f (reserved p res.LeftParen ∷ i) (bracket_head p a x.it b as_) o
+      AtPat f m b (reserved q res.RightParen ∷ n) → AtPats f n as_ o → ReadsHead f (reserved p res.LeftParen ∷ i) (bracket_head p a x.it b as_) o
 
 -- tyvarseq (section 2.8): none, one, or one or more in brackets
 pub data TyvarCommas : List Terminal → List Tyvar → List Terminal → Type 0 where
@@ -179,7 +179,7 @@ pub data BeginsAt : List Terminal → ℕ → Type 0 where
 -- typbind ::= tyvarseq tycon = ty [and typbind]
 pub data OneTypeBind : List Terminal → TypeBind → List Terminal → Type 0 where
   type_bind : {i m o : List Terminal} {t : Terminal} {as_ : List Tyvar} {p q x : ℕ} {a : Ty} (r : ℕ) → BeginsAt i p → Tyvars i as_ (t ∷ reserved r res.Equals ∷ m) → IsTycon t q x → ReadsTy m a o →
-    OneTypeBind i (record { place = p; tyvars = as_; tycon = x; ty = a }) o
+      OneTypeBind i (record { place = p; tyvars = as_; tycon = x; ty = a }) o
 
 pub data TypeBinds : List Terminal → List TypeBind → List Terminal → Type 0 where
   last_type_bind : {i o : List Terminal} {b : TypeBind} → OneTypeBind i b o → TypeBinds i (b ∷ []) o
@@ -194,12 +194,12 @@ pub data MaybeOf : List Terminal → Option Ty → List Terminal → Type 0 wher
 pub data ConBinds : Fixity → List Terminal → List ConBind → List Terminal → Type 0 where
   last_con : {f : Fixity} {i m o : List Terminal} {p : ℕ} {v : Vid} {s : Option Ty} → BindsVid f i p v m → MaybeOf m s o → ConBinds f i (record { place = p; vid = v; of_ty = s } ∷ []) o
   more_cons : {f : Fixity} {i m n o : List Terminal} {p : ℕ} {v : Vid} {s : Option Ty} {cs : List ConBind} (q : ℕ) → BindsVid f i p v m → MaybeOf m s (reserved q res.Bar ∷ n) → ConBinds f n cs o →
-    ConBinds f i (record { place = p; vid = v; of_ty = s } ∷ cs) o
+      ConBinds f i (record { place = p; vid = v; of_ty = s } ∷ cs) o
 
 -- datbind ::= tyvarseq tycon = conbind [and datbind]
 pub data OneDataBind : Fixity → List Terminal → DataBind → List Terminal → Type 0 where
   data_bind : {f : Fixity} {i m o : List Terminal} {t : Terminal} {as_ : List Tyvar} {p q x : ℕ} {cs : List ConBind} (r : ℕ) → BeginsAt i p → Tyvars i as_ (t ∷ reserved r res.Equals ∷ m) → IsTycon t q x →
-    ConBinds f m cs o → OneDataBind f i (record { place = p; tyvars = as_; tycon = x; cons = cs }) o
+      ConBinds f m cs o → OneDataBind f i (record { place = p; tyvars = as_; tycon = x; cons = cs }) o
 
 pub data DataBinds : Fixity → List Terminal → List DataBind → List Terminal → Type 0 where
   last_data_bind : {f : Fixity} {i o : List Terminal} {b : DataBind} → OneDataBind f i b o → DataBinds f i (b ∷ []) o
@@ -209,7 +209,7 @@ pub data DataBinds : Fixity → List Terminal → List DataBind → List Termina
 pub data OneExBind : Fixity → List Terminal → ExBind → List Terminal → Type 0 where
   new_exception : {f : Fixity} {i m o : List Terminal} {p : ℕ} {v : Vid} {s : Option Ty} → BindsVid f i p v m → MaybeOf m s o → OneExBind f i (new_exn p v s) o
   same_exception : {f : Fixity} {i m o : List Terminal} {p q : ℕ} {v : Vid} {x : LongVid} (r : ℕ) → BindsVid f i p v (reserved r res.Equals ∷ m) → NamesVid f m q x o →
-    OneExBind f i (same_exn p v (record { place = q; it = x })) o
+      OneExBind f i (same_exn p v (record { place = q; it = x })) o
 
 pub data ExBinds : Fixity → List Terminal → List ExBind → List Terminal → Type 0 where
   last_exn : {f : Fixity} {i o : List Terminal} {b : ExBind} → OneExBind f i b o → ExBinds f i (b ∷ []) o
@@ -262,24 +262,24 @@ mutual
     -- atexp ::= () and (exp, .., exp)
     of_unit : {f : Fixity} {o : List Terminal} (p q : ℕ) → Atom f (reserved p res.LeftParen ∷ reserved q res.RightParen ∷ o) (unit_exp p) o
     of_tuple : {f : Fixity} {i m o : List Terminal} {e : Exp} {es : Exps} (p q r : ℕ) → Reads f i e (reserved q res.Comma ∷ m) → Commas f m es (reserved r res.RightParen ∷ o) →
-      Atom f (reserved p res.LeftParen ∷ i) (tuple_exp p (exp e es)) o
+        Atom f (reserved p res.LeftParen ∷ i) (tuple_exp p (exp e es)) o
     -- atexp ::= [exp, .., exp]
     of_nil : {f : Fixity} {o : List Terminal} (p q : ℕ) → Atom f (reserved p res.LeftBracket ∷ reserved q res.RightBracket ∷ o) (list_exp p no_exps) o
     of_list : {f : Fixity} {i o : List Terminal} {es : Exps} (p q : ℕ) → Commas f i es (reserved q res.RightBracket ∷ o) → Atom f (reserved p res.LeftBracket ∷ i) (list_exp p es) o
     -- atexp ::= (exp; ..; exp), two or more
     of_sequence : {f : Fixity} {i m o : List Terminal} {e : Exp} {es : Exps} (p q r : ℕ) → Reads f i e (reserved q res.Semicolon ∷ m) → Semicolons f m es (reserved r res.RightParen ∷ o) →
-      Atom f (reserved p res.LeftParen ∷ i) (sequence p (exp e es)) o
+        Atom f (reserved p res.LeftParen ∷ i) (sequence p (exp e es)) o
     -- atexp ::= (exp)
     of_paren : {f : Fixity} {i o : List Terminal} {e : Exp} (p q : ℕ) → Reads f i e (reserved q res.RightParen ∷ o) → Atom f (reserved p res.LeftParen ∷ i) (paren_exp p e) o
     -- atexp ::= let dec in exp; ..; exp end
     of_let : {f : Fixity} {i m o : List Terminal} {ds : Decs} {es : Exps} (p q r : ℕ) → Declares f i ds (reserved q res.In ∷ m) → Semicolons (after f ds) m es (reserved r res.End ∷ o) →
-      Atom f (reserved p res.Let ∷ i) (let_in p ds es) o
+        Atom f (reserved p res.Let ∷ i) (let_in p ds es) o
 
   -- exprow ::= lab = exp [, exprow]
   pub data ExpRow : Fixity → List Terminal → ExpFields → List Terminal → Type 0 where
     last_exp_row : {f : Fixity} {t : Terminal} {i o : List Terminal} {l : Label} {e : Exp} (p : ℕ) → IsLabel t l → Reads f i e o → ExpRow f (t ∷ reserved p res.Equals ∷ i) (exp_field l e no_exp_fields) o
     more_exp_row : {f : Fixity} {t : Terminal} {i m o : List Terminal} {l : Label} {e : Exp} {fs : ExpFields} (p q : ℕ) → IsLabel t l → Reads f i e (reserved q res.Comma ∷ m) → ExpRow f m fs o →
-      ExpRow f (t ∷ reserved p res.Equals ∷ i) (exp_field l e fs) o
+        ExpRow f (t ∷ reserved p res.Equals ∷ i) (exp_field l e fs) o
 
   -- expressions separated by commas, one or more
   pub data Commas : Fixity → List Terminal → Exps → List Terminal → Type 0 where
@@ -305,15 +305,15 @@ mutual
     of_chain : {f : Fixity} {i m o : List Terminal} {a : Exp} {ps : Parts} (l : ℕ) (r : Bool) → l < level f a → goes_on f a m ≡ false → Reads f i a m → Follows f l r m ps o → Reads f i (chain r a ps) o
     -- exp ::= exp : ty
     of_typed : {f : Fixity} {i m o : List Terminal} {e : Exp} {s : Ty} (p : ℕ) → 5 ≤ level f e → goes_on f e (reserved p res.Colon ∷ m) ≡ false → Reads f i e (reserved p res.Colon ∷ m) → ReadsTy m s o →
-      Reads f i (typed e s) o
+        Reads f i (typed e s) o
     -- exp ::= exp handle match
     of_handle : {f : Fixity} {i m o : List Terminal} {e : Exp} {rs : Rules} (p : ℕ) → goes_on f e (reserved p res.Handle ∷ m) ≡ false → Reads f i e (reserved p res.Handle ∷ m) → Match f m rs o →
-      Reads f i (handle e rs) o
+        Reads f i (handle e rs) o
     -- exp ::= raise exp
     of_raise : {f : Fixity} {i o : List Terminal} {e : Exp} (p : ℕ) → Reads f i e o → Reads f (reserved p res.Raise ∷ i) (raise p e) o
     -- exp ::= if exp then exp else exp
     of_if : {f : Fixity} {i m n o : List Terminal} {a b c : Exp} (p q r : ℕ) → Reads f i a (reserved q res.Then ∷ m) → Reads f m b (reserved r res.Else ∷ n) → Reads f n c o →
-      Reads f (reserved p res.If ∷ i) (if_then p a b c) o
+        Reads f (reserved p res.If ∷ i) (if_then p a b c) o
     -- exp ::= while exp do exp
     of_while : {f : Fixity} {i m o : List Terminal} {a b : Exp} (p q : ℕ) → Reads f i a (reserved q res.Do ∷ m) → Reads f m b o → Reads f (reserved p res.While ∷ i) (while p a b) o
     -- exp ::= case exp of match
@@ -324,15 +324,15 @@ mutual
   -- the further operands of a chain: every operand binds tighter than the chain, and all joints of it have one level and associate alike
   pub data Follows : Fixity → ℕ → Bool → List Terminal → Parts → List Terminal → Type 0 where
     of_last_part : {f : Fixity} {l : ℕ} {r : Bool} {t : Terminal} {m o : List Terminal} {j : Joint} {b : Exp} →
-      Fits f l r t j → l < level f b → Reads f m b o → Follows f l r (t ∷ m) (last_part j b) o
+        Fits f l r t j → l < level f b → Reads f m b o → Follows f l r (t ∷ m) (last_part j b) o
     of_part : {f : Fixity} {l : ℕ} {r : Bool} {t : Terminal} {m n o : List Terminal} {j : Joint} {b : Exp} {ps : Parts} →
-      Fits f l r t j → l < level f b → goes_on f b n ≡ false → Reads f m b n → Follows f l r n ps o → Follows f l r (t ∷ m) (part j b ps) o
+        Fits f l r t j → l < level f b → goes_on f b n ≡ false → Reads f m b n → Follows f l r n ps o → Follows f l r (t ∷ m) (part j b ps) o
 
   -- match ::= mrule [| match], mrule ::= pat => exp
   pub data Match : Fixity → List Terminal → Rules → List Terminal → Type 0 where
     of_last_rule : {f : Fixity} {i m o : List Terminal} {a : Pat} {e : Exp} (p : ℕ) → Pattern f i a (reserved p res.DoubleArrow ∷ m) → Reads f m e o → Match f i (last_rule a e) o
     of_rule : {f : Fixity} {i m n o : List Terminal} {a : Pat} {e : Exp} {rs : Rules} (p q : ℕ) → Pattern f i a (reserved p res.DoubleArrow ∷ m) → goes_on f e (reserved q res.Bar ∷ n) ≡ false →
-      Reads f m e (reserved q res.Bar ∷ n) → Match f n rs o → Match f i (rule a e rs) o
+        Reads f m e (reserved q res.Bar ∷ n) → Match f n rs o → Match f i (rule a e rs) o
 
   -- dec ::= empty | dec [;] dec: a `;` may stand first, last and several times in a row, and leaves nothing in the tree
   pub data Declares : Fixity → List Terminal → Decs → List Terminal → Type 0 where
@@ -350,29 +350,29 @@ mutual
     -- dec ::= datatype datbind [withtype typbind]
     of_datatype : {f : Fixity} {i o : List Terminal} {bs : List DataBind} (p : ℕ) → DataBinds f i bs o → Declare f (reserved p res.Datatype ∷ i) (datatype_dec p bs) o
     of_withtype : {f : Fixity} {i m o : List Terminal} {bs : List DataBind} {cs : List TypeBind} (p q : ℕ) → DataBinds f i bs (reserved q res.Withtype ∷ m) → TypeBinds m cs o →
-      Declare f (reserved p res.Datatype ∷ i) (withtype_dec p bs cs) o
+        Declare f (reserved p res.Datatype ∷ i) (withtype_dec p bs cs) o
     -- dec ::= datatype tycon = datatype longtycon
     of_replication : {f : Fixity} {t u : Terminal} {o : List Terminal} {x : Placed ℕ} {c : Placed LongId} (p q r : ℕ) → IsTycon t x.place x.it → IsLongTycon u c.place c.it →
-      Declare f (reserved p res.Datatype ∷ t ∷ reserved q res.Equals ∷ reserved r res.Datatype ∷ u ∷ o) (replicate_dec p x c) o
+        Declare f (reserved p res.Datatype ∷ t ∷ reserved q res.Equals ∷ reserved r res.Datatype ∷ u ∷ o) (replicate_dec p x c) o
     -- dec ::= exception exbind
     of_exception : {f : Fixity} {i o : List Terminal} {bs : List ExBind} (p : ℕ) → ExBinds f i bs o → Declare f (reserved p res.Exception ∷ i) (exception_dec p bs) o
     -- dec ::= local dec in dec end
     of_local : {f : Fixity} {i m o : List Terminal} {ds es : Decs} (p q r : ℕ) → Declares f i ds (reserved q res.In ∷ m) → Declares (after f ds) m es (reserved r res.End ∷ o) →
-      Declare f (reserved p res.Local ∷ i) (local_dec p ds es) o
+        Declare f (reserved p res.Local ∷ i) (local_dec p ds es) o
     -- dec ::= open longstrid .. longstrid
     of_open : {f : Fixity} {i o : List Terminal} {xs : List (Placed LongId)} (p : ℕ) → Strids i xs o → Declare f (reserved p res.Open ∷ i) (open_dec p xs) o
     -- dec ::= infix [d] vid .. vid | infixr [d] vid .. vid | nonfix vid .. vid
     of_infix : {f : Fixity} {i m o : List Terminal} {d : ℕ} {xs : List ℕ} (p : ℕ) → ReadsPrecedence i d m → DirectiveVids m xs o →
-      Declare f (reserved p res.Infix ∷ i) (fixity_dec p (Some (record { precedence = d; right = false })) xs) o
+        Declare f (reserved p res.Infix ∷ i) (fixity_dec p (Some (record { precedence = d; right = false })) xs) o
     of_infixr : {f : Fixity} {i m o : List Terminal} {d : ℕ} {xs : List ℕ} (p : ℕ) → ReadsPrecedence i d m → DirectiveVids m xs o →
-      Declare f (reserved p res.Infixr ∷ i) (fixity_dec p (Some (record { precedence = d; right = true })) xs) o
+        Declare f (reserved p res.Infixr ∷ i) (fixity_dec p (Some (record { precedence = d; right = true })) xs) o
     of_nonfix : {f : Fixity} {i o : List Terminal} {xs : List ℕ} (p : ℕ) → DirectiveVids i xs o → Declare f (reserved p res.Nonfix ∷ i) (fixity_dec p None xs) o
 
   -- valbind ::= pat = exp [and valbind] | rec valbind
   pub data ReadsBinds : Fixity → List Terminal → Binds → List Terminal → Type 0 where
     of_last_bind : {f : Fixity} {i m o : List Terminal} {a : Pat} {e : Exp} (p : ℕ) → Pattern f i a (reserved p res.Equals ∷ m) → Reads f m e o → ReadsBinds f i (last_bind a e) o
     of_bind : {f : Fixity} {i m n o : List Terminal} {a : Pat} {e : Exp} {bs : Binds} (p q : ℕ) → Pattern f i a (reserved p res.Equals ∷ m) → Reads f m e (reserved q res.And ∷ n) → ReadsBinds f n bs o →
-      ReadsBinds f i (bind a e bs) o
+        ReadsBinds f i (bind a e bs) o
     of_rec : {f : Fixity} {i o : List Terminal} {bs : Binds} (p : ℕ) → ReadsBinds f i bs o → ReadsBinds f (reserved p res.Rec ∷ i) (rec_binds bs) o
 
   -- fvalbind ::= fun1 [and fvalbind]
@@ -383,6 +383,6 @@ mutual
   -- fun1 ::= clause [| fun1], clause ::= head [: ty] = exp: all clauses have the name v and n patterns, and each but the last ends as a rule does
   pub data ReadsClauses : Fixity → Vid → ℕ → List Terminal → Clauses → List Terminal → Type 0 where
     of_last_clause : {f : Fixity} {v : Vid} {n : ℕ} {i m k o : List Terminal} {h : Head} {s : Option Ty} {e : Exp} (p : ℕ) → ReadsHead f i h m → head_vid h ≡ v → head_count h ≡ n →
-      MaybeTy m s (reserved p res.Equals ∷ k) → Reads f k e o → ReadsClauses f v n i (last_clause h s e) o
+        MaybeTy m s (reserved p res.Equals ∷ k) → Reads f k e o → ReadsClauses f v n i (last_clause h s e) o
     of_clause : {f : Fixity} {v : Vid} {n : ℕ} {i m k g o : List Terminal} {h : Head} {s : Option Ty} {e : Exp} {cs : Clauses} (p q : ℕ) → ReadsHead f i h m → head_vid h ≡ v → head_count h ≡ n →
-      MaybeTy m s (reserved p res.Equals ∷ k) → goes_on f e (reserved q res.Bar ∷ g) ≡ false → Reads f k e (reserved q res.Bar ∷ g) → ReadsClauses f v n g cs o → ReadsClauses f v n i (clause h s e cs) o
+        MaybeTy m s (reserved p res.Equals ∷ k) → goes_on f e (reserved q res.Bar ∷ g) ≡ false → Reads f k e (reserved q res.Bar ∷ g) → ReadsClauses f v n g cs o → ReadsClauses f v n i (clause h s e cs) o

@@ -79,7 +79,13 @@ fn copy_parts(alloc: Global, parts: &[TyPart]) -> Result<Vec<TyPart>, NoMemory>
 }
 
 /// The argument of a parameter, or the type variable itself.
-fn argument(alloc: Global, tyvars: &[Tyvar], types: &[Ty], place: Place, tyvar: Tyvar) -> Result<Ty, NoMemory>
+fn argument(
+    alloc: Global,
+    tyvars: &[Tyvar],
+    types: &[Ty],
+    place: Place,
+    tyvar: Tyvar,
+) -> Result<Ty, NoMemory>
     ensures { IfOk result (λ to. ty_of to ≡ argument tyvars.now (map ty_of types.now) place tyvar) }
 {
     let mut i = 0;
@@ -100,12 +106,18 @@ fn put_ty(alloc: Global, ty: &Ty, tyvars: &[Tyvar], args: &[Ty]) -> Result<Ty, N
 {
     match ty {
         Ty::Var(place, tyvar) => argument(alloc, tyvars, args, *place, *tyvar),
-        Ty::Record(place, fields) => Ok(Ty::Record(*place, put_fields(alloc, fields, tyvars, args)?)),
+        Ty::Record(place, fields) => Ok(Ty::Record(
+            *place,
+            put_fields(alloc, fields, tyvars, args)?,
+        )),
         Ty::Con(place, types, at, long) => {
             let types = put_types(alloc, types, tyvars, args)?;
             Ok(Ty::Con(*place, types, *at, copy_long_id(alloc, long)?))
         }
-        Ty::Product(place, types) => Ok(Ty::Product(*place, put_types(alloc, types, tyvars, args)?)),
+        Ty::Product(place, types) => Ok(Ty::Product(
+            *place,
+            put_types(alloc, types, tyvars, args)?,
+        )),
         Ty::Arrow(place, first, more) => {
             let first = Box::new(alloc, put_ty(alloc, first, tyvars, args)?)?;
             Ok(Ty::Arrow(*place, first, put_parts(alloc, more, tyvars, args)?))
@@ -115,7 +127,12 @@ fn put_ty(alloc: Global, ty: &Ty, tyvars: &[Tyvar], args: &[Ty]) -> Result<Ty, N
 }
 
 #[cycle(puts)]
-fn put_types(alloc: Global, types: &[Ty], tyvars: &[Tyvar], args: &[Ty]) -> Result<Vec<Ty>, NoMemory>
+fn put_types(
+    alloc: Global,
+    types: &[Ty],
+    tyvars: &[Tyvar],
+    args: &[Ty],
+) -> Result<Vec<Ty>, NoMemory>
     ensures { IfOk result (λ to. map ty_of to.items ≡ map (put_ty tyvars.now (map ty_of args.now)) (map ty_of types.now)) }
 {
     let mut all = Vec::new(alloc);
@@ -126,7 +143,12 @@ fn put_types(alloc: Global, types: &[Ty], tyvars: &[Tyvar], args: &[Ty]) -> Resu
 }
 
 #[cycle(puts)]
-fn put_fields(alloc: Global, fields: &[TyField], tyvars: &[Tyvar], args: &[Ty]) -> Result<Vec<TyField>, NoMemory>
+fn put_fields(
+    alloc: Global,
+    fields: &[TyField],
+    tyvars: &[Tyvar],
+    args: &[Ty],
+) -> Result<Vec<TyField>, NoMemory>
     ensures { IfOk result (λ to. map ty_field_of to.items ≡ map (put_field tyvars.now (map ty_of args.now)) (map ty_field_of fields.now)) }
 {
     let mut all = Vec::new(alloc);
@@ -140,7 +162,12 @@ fn put_fields(alloc: Global, fields: &[TyField], tyvars: &[Tyvar], args: &[Ty]) 
 }
 
 #[cycle(puts)]
-fn put_parts(alloc: Global, parts: &[TyPart], tyvars: &[Tyvar], args: &[Ty]) -> Result<Vec<TyPart>, NoMemory>
+fn put_parts(
+    alloc: Global,
+    parts: &[TyPart],
+    tyvars: &[Tyvar],
+    args: &[Ty],
+) -> Result<Vec<TyPart>, NoMemory>
     ensures { IfOk result (λ to. map ty_part_of to.items ≡ map (put_part tyvars.now (map ty_of args.now)) (map ty_part_of parts.now)) }
 {
     let mut all = Vec::new(alloc);
@@ -194,7 +221,14 @@ fn expand_ty(alloc: Global, binds: &[TypeBind], ty: &Ty) -> Result<Ty, NoMemory>
 }
 
 /// What a type constructor after its arguments stands for.
-fn written_out(alloc: Global, place: Place, types: Vec<Ty>, at: Place, long: &LongId, binds: &[TypeBind]) -> Result<Ty, NoMemory>
+fn written_out(
+    alloc: Global,
+    place: Place,
+    types: Vec<Ty>,
+    at: Place,
+    long: &LongId,
+    binds: &[TypeBind],
+) -> Result<Ty, NoMemory>
     ensures { IfOk result (λ to. ty_of to ≡ written_out place (tys_of (map ty_of types.items)) at (long_id_of long.now) (abbreviation (map type_bind_of binds.now) (long_id_of long.now))) }
 {
     match binding(binds, long) {
@@ -220,7 +254,11 @@ fn expand_types(alloc: Global, binds: &[TypeBind], types: &[Ty]) -> Result<Vec<T
 }
 
 #[cycle(expands)]
-fn expand_fields(alloc: Global, binds: &[TypeBind], fields: &[TyField]) -> Result<Vec<TyField>, NoMemory>
+fn expand_fields(
+    alloc: Global,
+    binds: &[TypeBind],
+    fields: &[TyField],
+) -> Result<Vec<TyField>, NoMemory>
     ensures { IfOk result (λ to. map ty_field_of to.items ≡ map (expand_field (map type_bind_of binds.now)) (map ty_field_of fields.now)) }
 {
     let mut all = Vec::new(alloc);
@@ -234,7 +272,11 @@ fn expand_fields(alloc: Global, binds: &[TypeBind], fields: &[TyField]) -> Resul
 }
 
 #[cycle(expands)]
-fn expand_parts(alloc: Global, binds: &[TypeBind], parts: &[TyPart]) -> Result<Vec<TyPart>, NoMemory>
+fn expand_parts(
+    alloc: Global,
+    binds: &[TypeBind],
+    parts: &[TyPart],
+) -> Result<Vec<TyPart>, NoMemory>
     ensures { IfOk result (λ to. map ty_part_of to.items ≡ map (expand_part (map type_bind_of binds.now)) (map ty_part_of parts.now)) }
 {
     let mut all = Vec::new(alloc);
@@ -257,7 +299,11 @@ fn expand_some(alloc: Global, binds: &[TypeBind], ty: &Option<Ty>) -> Result<Opt
     }
 }
 
-fn expand_cons(alloc: Global, binds: &[TypeBind], cons: &[ConBind]) -> Result<Vec<ConBind>, NoMemory>
+fn expand_cons(
+    alloc: Global,
+    binds: &[TypeBind],
+    cons: &[ConBind],
+) -> Result<Vec<ConBind>, NoMemory>
     ensures { IfOk result (λ to. map con_bind_of to.items ≡ map (expand_con (map type_bind_of binds.now)) (map con_bind_of cons.now)) }
 {
     let mut all = Vec::new(alloc);
@@ -272,7 +318,11 @@ fn expand_cons(alloc: Global, binds: &[TypeBind], cons: &[ConBind]) -> Result<Ve
 }
 
 /// Datatypes with abbreviations written out.
-pub fn expand_binds(alloc: Global, binds: &[TypeBind], datatypes: &[DataBind]) -> Result<Vec<DataBind>, NoMemory>
+pub fn expand_binds(
+    alloc: Global,
+    binds: &[TypeBind],
+    datatypes: &[DataBind],
+) -> Result<Vec<DataBind>, NoMemory>
     ensures { IfOk result (λ to. map data_bind_of to.items ≡ map (expand_bind (map type_bind_of binds.now)) (map data_bind_of datatypes.now)) }
 {
     let mut all = Vec::new(alloc);

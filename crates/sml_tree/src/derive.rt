@@ -204,7 +204,13 @@ fn while_loop(alloc: Global, place: Place, a: Exp, b: Exp) -> Result<Exp, NoMemo
 }
 
 /// `let d in e1; ..; en end`
-fn let_in(alloc: Global, place: Place, declarations: Vec<Dec>, first: Exp, more: Vec<Exp>) -> Result<Exp, NoMemory>
+fn let_in(
+    alloc: Global,
+    place: Place,
+    declarations: Vec<Dec>,
+    first: Exp,
+    more: Vec<Exp>,
+) -> Result<Exp, NoMemory>
     ensures { IfOk result (λ e. exp_of e ≡ let_of place (decs_of (map dec_of declarations.items)) (exp_of first) (map exp_of more.items)) }
 {
     let body = Exp::Sequence(place, Box::new(alloc, first)?, more);
@@ -239,7 +245,12 @@ fn field(alloc: Global, place: Place, name: Name, ty: Option<Ty>) -> Result<Pat,
 }
 
 /// `datatype d withtype b`
-fn withtype(alloc: Global, place: Place, datatypes: Vec<DataBind>, binds: Vec<TypeBind>) -> Result<Dec, NoMemory>
+fn withtype(
+    alloc: Global,
+    place: Place,
+    datatypes: Vec<DataBind>,
+    binds: Vec<TypeBind>,
+) -> Result<Dec, NoMemory>
     ensures { IfOk result (λ made. dec_of made ≡ withtype_of place (map data_bind_of datatypes.items) (map type_bind_of binds.items)) }
 {
     let expanded = expand_binds(alloc, &binds, &datatypes)?;
@@ -270,18 +281,27 @@ pub fn derive(alloc: Global, form: Derived) -> Result<Tree, NoMemory>
             let then = Exp::BuiltIn(place, BuiltIn::True);
             Ok(Tree::Exp(conditional(alloc, place, a, then, b)?))
         }
-        Derived::Sequence(place, e, es) => Ok(Tree::Exp(Exp::Sequence(place, Box::new(alloc, e)?, es))),
+        Derived::Sequence(place, e, es) => Ok(Tree::Exp(Exp::Sequence(
+            place,
+            Box::new(alloc, e)?,
+            es,
+        ))),
         Derived::Let(place, ds, e, es) => Ok(Tree::Exp(let_in(alloc, place, ds, e, es)?)),
         Derived::While(place, a, b) => Ok(Tree::Exp(while_loop(alloc, place, a, b)?)),
         Derived::List(place, exps) => Ok(Tree::Exp(Exp::List(place, exps))),
         Derived::ListPat(place, pats) => Ok(Tree::Pat(Pat::List(place, pats))),
         Derived::Fun(place, tyvars, functions) => Ok(Tree::Dec(Dec::Fun(place, tyvars, functions))),
         Derived::Result(place, e, ty) => Ok(Tree::Exp(with_result(alloc, place, e, ty)?)),
-        Derived::Field(place, name, ty) => Ok(Tree::Field(Label::Word(name), field(alloc, place, name, ty)?)),
+        Derived::Field(place, name, ty) => Ok(Tree::Field(
+            Label::Word(name),
+            field(alloc, place, name, ty)?,
+        )),
         Derived::FieldAs(place, name, ty, pat) => {
             let pat = Pat::As(place, Vid::Named(name), ty, Box::new(alloc, pat)?);
             Ok(Tree::Field(Label::Word(name), pat))
         }
-        Derived::Withtype(place, datatypes, binds) => Ok(Tree::Dec(withtype(alloc, place, datatypes, binds)?)),
+        Derived::Withtype(place, datatypes, binds) => Ok(Tree::Dec(withtype(
+            alloc, place, datatypes, binds,
+        )?)),
     }
 }
