@@ -3,6 +3,7 @@ pub mod Code
 pub mod FaultLine
 pub mod File
 pub mod Files
+pub mod Labels
 pub mod Names
 pub mod Outcome
 pub mod Run

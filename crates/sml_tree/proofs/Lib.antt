@@ -1,0 +1,6 @@
+pub mod Examples
+pub mod BareExamples
+pub mod TypeLemmas
+pub mod TyLemmas
+pub mod Arms
+pub mod NoTree

@@ -1,0 +1,11 @@
+pub mod Terminal
+pub mod Fixity
+pub mod ReadTree
+pub mod Depth
+pub mod Levels
+pub mod Grammar
+pub mod BareTree
+pub mod Derived
+pub mod Bare
+pub mod TreeOf
+pub mod StandsFor

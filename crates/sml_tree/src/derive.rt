@@ -1,0 +1,307 @@
+// The derived forms.
+
+ghost use Rattle.std.specs.Prelude.{◌≡◌, ◌∷◌, [], map, IfOk};
+ghost use Rattle.sml_tree.specs.Derived.{fresh_exp, fresh_pat, unit, tuple_pat, select, case_of, if_of, sequence_of, let_of, while_of, with_result, pun, withtype_of};
+ghost use Rattle.sml_tree.specs.BareTree as bare;
+ghost use Rattle.sml_tree.specs.TreeOf.{exp_of, pat_of, ty_of, dec_of, rule_of, rules_of, decs_of, some_ty_of, data_bind_of, type_bind_of};
+ghost use Rattle.sml_tree.specs.StandsFor.{phrase_of, stands_for};
+
+use crate::abbreviations::expand_binds;
+use crate::ident::{BuiltIn, LongVid, Tyvar, Vid};
+use crate::tree::{Bind, DataBind, Dec, Exp, Function, Pat, PatField, Rule, Ty, TypeBind};
+use mlc_base::label::Label;
+use mlc_base::memory::NoMemory;
+use mlc_base::names::Name;
+use mlc_base::place::Place;
+use std::alloc::Global;
+
+/// A derived form of the core language, with the place of its first byte.
+#[derive(Drop)]
+pub enum Derived {
+    /// `()`
+    Unit(Place),
+    UnitPat(Place),
+    /// `(e1, .., en)`
+    Tuple(Place, Vec<Exp>),
+    TuplePat(Place, Vec<Pat>),
+    /// `t1 * .. * tn`
+    Product(Place, Vec<Ty>),
+    /// `#lab`
+    Selector(Place, Label),
+    /// `case e of m`
+    Case(Place, Exp, Vec<Rule>),
+    /// `if a then b else c`
+    If(Place, Exp, Exp, Exp),
+    /// `a andalso b`
+    AndAlso(Place, Exp, Exp),
+    /// `a orelse b`
+    OrElse(Place, Exp, Exp),
+    /// `(e1; ..; en)`, the first apart.
+    Sequence(Place, Exp, Vec<Exp>),
+    /// `let d in e1; ..; en end`, the first expression apart.
+    Let(Place, Vec<Dec>, Exp, Vec<Exp>),
+    /// `while a do b`
+    While(Place, Exp, Exp),
+    /// `[e1, .., en]`
+    List(Place, Vec<Exp>),
+    ListPat(Place, Vec<Pat>),
+    /// `fun tyvarseq f p1 .. pn = e | .. and ..`
+    Fun(Place, Vec<Tyvar>, Vec<Function>),
+    /// The right side of `[: t] = e`, with the place of `e`.
+    Result(Place, Exp, Option<Ty>),
+    /// The field `x [: t]`
+    Field(Place, Name, Option<Ty>),
+    /// The field `x [: t] as p`
+    FieldAs(Place, Name, Option<Ty>, Pat),
+    /// `datatype d withtype b`
+    Withtype(Place, Vec<DataBind>, Vec<TypeBind>),
+}
+
+/// A phrase of a bare tree.
+#[derive(Drop)]
+pub enum Tree {
+    Exp(Exp),
+    Pat(Pat),
+    Ty(Ty),
+    Dec(Dec),
+    /// A field of a record pattern.
+    Field(Label, Pat),
+}
+
+/// A vector of one element.
+fn only<T: Drop>(alloc: Global, element: T) -> Result<Vec<T>, NoMemory>
+    ensures { IfOk result (λ v. v.items ≡ element ∷ []) }
+{
+    let mut all = Vec::new(alloc);
+    all.push(element)?;
+    Ok(all)
+}
+
+/// The fresh variable of this number.
+fn fresh(alloc: Global, place: Place, number: u32) -> Exp
+    ensures { exp_of result ≡ fresh_exp place number }
+{
+    Exp::Vid(
+        place,
+        LongVid {
+            qualifiers: Vec::new(alloc),
+            vid: Vid::Fresh(number),
+        },
+    )
+}
+
+fn fresh_pattern(alloc: Global, place: Place, number: u32) -> Pat
+    ensures { pat_of result ≡ fresh_pat place number }
+{
+    Pat::Vid(
+        place,
+        LongVid {
+            qualifiers: Vec::new(alloc),
+            vid: Vid::Fresh(number),
+        },
+    )
+}
+
+/// `()`
+fn unit(alloc: Global, place: Place) -> Exp
+    ensures { exp_of result ≡ unit place }
+{
+    Exp::Tuple(place, Vec::new(alloc))
+}
+
+/// `f a`
+fn apply(alloc: Global, place: Place, f: Exp, a: Exp) -> Result<Exp, NoMemory>
+    ensures { IfOk result (λ e. exp_of e ≡ bare.app place (exp_of f) (exp_of a)) }
+{
+    let arguments = only(alloc, a)?;
+    Ok(Exp::Apply(place, Box::new(alloc, f)?, arguments))
+}
+
+/// `fn pat => exp`
+fn lambda(alloc: Global, place: Place, pat: Pat, exp: Exp) -> Result<Exp, NoMemory>
+    ensures { IfOk result (λ e. exp_of e ≡ bare.fn place (bare.rule place (pat_of pat) (exp_of exp) bare.no_rules)) }
+{
+    let rules = only(alloc, Rule { place, pat, exp })?;
+    Ok(Exp::Fn(place, rules))
+}
+
+/// `#lab`
+fn selector(alloc: Global, place: Place, label: Label) -> Result<Exp, NoMemory>
+    ensures { IfOk result (λ e. exp_of e ≡ select place label) }
+{
+    let pat = fresh_pattern(alloc, place, 0);
+    let fields = only(alloc, PatField { label, pat })?;
+    lambda(
+        alloc,
+        place,
+        Pat::Record(place, fields, true),
+        fresh(alloc, place, 0),
+    )
+}
+
+/// `case e of rules`
+fn case(alloc: Global, place: Place, e: Exp, rules: Vec<Rule>) -> Result<Exp, NoMemory>
+    ensures { IfOk result (λ made. exp_of made ≡ case_of place (exp_of e) (rules_of (map rule_of rules.items))) }
+{
+    apply(alloc, place, Exp::Fn(place, rules), e)
+}
+
+/// `true => b | false => c`
+fn branches(alloc: Global, place: Place, b: Exp, c: Exp) -> Result<Vec<Rule>, NoMemory>
+    ensures { IfOk result (λ rs. rules_of (map rule_of rs.items)
+        ≡ bare.rule place (bare.built_pat place BuiltIn.True) (exp_of b) (bare.rule place (bare.built_pat place BuiltIn.False) (exp_of c) bare.no_rules)) }
+{
+    let mut rules = Vec::new(alloc);
+    rules.push(Rule {
+        place,
+        pat: Pat::BuiltIn(place, BuiltIn::True),
+        exp: b,
+    })?;
+    rules.push(Rule {
+        place,
+        pat: Pat::BuiltIn(place, BuiltIn::False),
+        exp: c,
+    })?;
+    Ok(rules)
+}
+
+/// `if a then b else c`
+fn conditional(alloc: Global, place: Place, a: Exp, b: Exp, c: Exp) -> Result<Exp, NoMemory>
+    ensures { IfOk result (λ e. exp_of e ≡ if_of place (exp_of a) (exp_of b) (exp_of c)) }
+{
+    let rules = branches(alloc, place, b, c)?;
+    case(alloc, place, a, rules)
+}
+
+/// `fn () => if a then (b; v ()) else ()`, where `v` is the fresh variable of number 0.
+fn round(alloc: Global, place: Place, a: Exp, b: Exp) -> Result<Exp, NoMemory>
+    ensures { IfOk result (λ e. exp_of e ≡ bare.fn place (bare.rule place (tuple_pat place [])
+        (if_of place (exp_of a) (sequence_of place (exp_of b) (bare.app place (fresh_exp place 0) (unit place) ∷ [])) (unit place)) bare.no_rules)) }
+{
+    let again = apply(alloc, place, fresh(alloc, place, 0), unit(alloc, place))?;
+    let more = only(alloc, again)?;
+    let body = Exp::Sequence(place, Box::new(alloc, b)?, more);
+    let choice = conditional(alloc, place, a, body, unit(alloc, place))?;
+    lambda(alloc, place, Pat::Tuple(place, Vec::new(alloc)), choice)
+}
+
+/// `while a do b`
+fn while_loop(alloc: Global, place: Place, a: Exp, b: Exp) -> Result<Exp, NoMemory>
+    ensures { IfOk result (λ e. exp_of e ≡ while_of place (exp_of a) (exp_of b)) }
+{
+    let bind = Bind {
+        place,
+        pat: fresh_pattern(alloc, place, 0),
+        exp: round(alloc, place, a, b)?,
+    };
+    let binds = only(alloc, bind)?;
+    let declarations = only(
+        alloc,
+        Dec::Val(place, Vec::new(alloc), Vec::new(alloc), binds),
+    )?;
+    let call = apply(alloc, place, fresh(alloc, place, 0), unit(alloc, place))?;
+    Ok(Exp::Let(place, declarations, Box::new(alloc, call)?))
+}
+
+/// `let d in e1; ..; en end`
+fn let_in(
+    alloc: Global,
+    place: Place,
+    declarations: Vec<Dec>,
+    first: Exp,
+    more: Vec<Exp>,
+) -> Result<Exp, NoMemory>
+    ensures { IfOk result (λ e. exp_of e ≡ let_of place (decs_of (map dec_of declarations.items)) (exp_of first) (map exp_of more.items)) }
+{
+    let body = Exp::Sequence(place, Box::new(alloc, first)?, more);
+    Ok(Exp::Let(place, declarations, Box::new(alloc, body)?))
+}
+
+/// The right side of `[: t] = e`.
+fn with_result(alloc: Global, place: Place, e: Exp, ty: Option<Ty>) -> Result<Exp, NoMemory>
+    ensures { IfOk result (λ made. exp_of made ≡ with_result place (exp_of e) (some_ty_of ty)) }
+{
+    match ty {
+        None => Ok(e),
+        Some(ty) => Ok(Exp::Typed(place, Box::new(alloc, e)?, ty)),
+    }
+}
+
+/// The pattern of a field `x [: t]`.
+fn field(alloc: Global, place: Place, name: Name, ty: Option<Ty>) -> Result<Pat, NoMemory>
+    ensures { IfOk result (λ made. pat_of made ≡ pun place name (some_ty_of ty)) }
+{
+    let variable = Pat::Vid(
+        place,
+        LongVid {
+            qualifiers: Vec::new(alloc),
+            vid: Vid::Named(name),
+        },
+    );
+    match ty {
+        None => Ok(variable),
+        Some(ty) => Ok(Pat::Typed(place, Box::new(alloc, variable)?, ty)),
+    }
+}
+
+/// `datatype d withtype b`
+fn withtype(
+    alloc: Global,
+    place: Place,
+    datatypes: Vec<DataBind>,
+    binds: Vec<TypeBind>,
+) -> Result<Dec, NoMemory>
+    ensures { IfOk result (λ made. dec_of made ≡ withtype_of place (map data_bind_of datatypes.items) (map type_bind_of binds.items)) }
+{
+    let expanded = expand_binds(alloc, &binds, &datatypes)?;
+    let mut both = Vec::new(alloc);
+    both.push(Dec::Datatype(place, expanded))?;
+    both.push(Dec::Abbreviation(place, binds))?;
+    Ok(Dec::Declarations(place, both))
+}
+
+/// What a derived form stands for.
+pub fn derive(alloc: Global, form: Derived) -> Result<Tree, NoMemory>
+    ensures { IfOk result (λ tree. phrase_of tree ≡ stands_for form) }
+{
+    match form {
+        Derived::Unit(place) => Ok(Tree::Exp(unit(alloc, place))),
+        Derived::UnitPat(place) => Ok(Tree::Pat(Pat::Tuple(place, Vec::new(alloc)))),
+        Derived::Tuple(place, exps) => Ok(Tree::Exp(Exp::Tuple(place, exps))),
+        Derived::TuplePat(place, pats) => Ok(Tree::Pat(Pat::Tuple(place, pats))),
+        Derived::Product(place, types) => Ok(Tree::Ty(Ty::Product(place, types))),
+        Derived::Selector(place, label) => Ok(Tree::Exp(selector(alloc, place, label)?)),
+        Derived::Case(place, e, rules) => Ok(Tree::Exp(case(alloc, place, e, rules)?)),
+        Derived::If(place, a, b, c) => Ok(Tree::Exp(conditional(alloc, place, a, b, c)?)),
+        Derived::AndAlso(place, a, b) => {
+            let otherwise = Exp::BuiltIn(place, BuiltIn::False);
+            Ok(Tree::Exp(conditional(alloc, place, a, b, otherwise)?))
+        }
+        Derived::OrElse(place, a, b) => {
+            let then = Exp::BuiltIn(place, BuiltIn::True);
+            Ok(Tree::Exp(conditional(alloc, place, a, then, b)?))
+        }
+        Derived::Sequence(place, e, es) => Ok(Tree::Exp(Exp::Sequence(
+            place,
+            Box::new(alloc, e)?,
+            es,
+        ))),
+        Derived::Let(place, ds, e, es) => Ok(Tree::Exp(let_in(alloc, place, ds, e, es)?)),
+        Derived::While(place, a, b) => Ok(Tree::Exp(while_loop(alloc, place, a, b)?)),
+        Derived::List(place, exps) => Ok(Tree::Exp(Exp::List(place, exps))),
+        Derived::ListPat(place, pats) => Ok(Tree::Pat(Pat::List(place, pats))),
+        Derived::Fun(place, tyvars, functions) => Ok(Tree::Dec(Dec::Fun(place, tyvars, functions))),
+        Derived::Result(place, e, ty) => Ok(Tree::Exp(with_result(alloc, place, e, ty)?)),
+        Derived::Field(place, name, ty) => Ok(Tree::Field(
+            Label::Word(name),
+            field(alloc, place, name, ty)?,
+        )),
+        Derived::FieldAs(place, name, ty, pat) => {
+            let pat = Pat::As(place, Vid::Named(name), ty, Box::new(alloc, pat)?);
+            Ok(Tree::Field(Label::Word(name), pat))
+        }
+        Derived::Withtype(place, datatypes, binds) => Ok(Tree::Dec(withtype(
+            alloc, place, datatypes, binds,
+        )?)),
+    }
+}
