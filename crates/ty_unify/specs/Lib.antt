@@ -1,0 +1,5 @@
+pub mod Substitution
+pub mod Weight
+pub mod Props
+pub mod SlotsOf
+pub mod Finding
