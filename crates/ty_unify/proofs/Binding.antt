@@ -13,7 +13,7 @@ use Rattle.ty_unify.proofs.Sigma.{sigma_of, sigma-resolves}
 abbrev mutual
   count : ℕ → Typ → ℕ
   count v (var x) = if nat_eq x v then 1 else 0
-  count v (con h ts) = counts v ts
+  count v (con c ts) = counts v ts
 
   counts : ℕ → Typs → ℕ
   counts v none = 0
@@ -22,7 +22,7 @@ abbrev mutual
 mutual
   count-none : (v : ℕ) (t : Typ) → is_in v t ≡ false → count v t ≡ 0
   count-none v (var x) h = ap (λ b. if b then 1 else 0) h
-  count-none v (con h ts) h = counts-none v ts h
+  count-none v (con c ts) h = counts-none v ts h
 
   counts-none : (v : ℕ) (ts : Typs) → are_in v ts ≡ false → counts v ts ≡ 0
   counts-none v none h = refl
@@ -36,7 +36,7 @@ module _ (w : ℕ → ℕ) (f : ℕ → Typ) (v k : ℕ) where
   mutual
     weight-heavier : (t : Typ) → weight heavier t ≡ weight w t + count v (sub f t) * k
     weight-heavier (var x) = refl
-    weight-heavier (con h ts) = let p = weights-heavier ts in omega arith
+    weight-heavier (con c ts) = let p = weights-heavier ts in omega arith
 
     weights-heavier : (ts : Typs) → weights heavier ts ≡ weights w ts + counts v (subs f ts) * k
     weights-heavier none = omega arith

@@ -48,7 +48,7 @@ look-set-other (y ∷ l) (suc v) (suc x) o h = look-set-other l v x o (λ e. h (
 mutual
   pub below-more : (n m : ℕ) → n ≤ m → (t : Typ) → is_below n t ≡ true → is_below m t ≡ true
   below-more n m h (var v) b = let p = ltb-true v n b in lt-ltb v m (omega arith)
-  below-more n m h (con h ts) b = belows-more n m h ts b
+  below-more n m h (con c ts) b = belows-more n m h ts b
 
   pub belows-more : (n m : ℕ) → n ≤ m → (ts : Typs) → are_below n ts ≡ true → are_below m ts ≡ true
   belows-more n m h none b = refl

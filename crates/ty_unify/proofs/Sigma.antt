@@ -16,7 +16,7 @@ deep s (suc k) v = resolved (deep s k) v (s v)
 mutual
   pub sub-light : (w : ℕ → ℕ) (f g : ℕ → Typ) (k : ℕ) → ((v : ℕ) → w v ≤ k → f v ≡ g v) → (t : Typ) → weight w t ≤ k → sub f t ≡ sub g t
   sub-light w f g k h (var v) b = h v b
-  sub-light w f g k h (con h ts) b = ap (con h) (subs-light w f g k h ts (omega arith))
+  sub-light w f g k h (con c ts) b = ap (con c) (subs-light w f g k h ts (omega arith))
 
   pub subs-light : (w : ℕ → ℕ) (f g : ℕ → Typ) (k : ℕ) → ((v : ℕ) → w v ≤ k → f v ≡ g v) → (ts : Typs) → weights w ts ≤ k → subs f ts ≡ subs g ts
   subs-light w f g k h none b = refl
@@ -77,7 +77,7 @@ solves-fits m s f h v = go (s v) (h v)
 mutual
   pub sub-below : (m n : ℕ) (f : ℕ → Typ) → ((v : ℕ) → v < n → is_below m (f v) ≡ true) → (t : Typ) → is_below n t ≡ true → is_below m (sub f t) ≡ true
   sub-below m n f h (var v) b = h v (ltb-true v n b)
-  sub-below m n f h (con h ts) b = subs-below m n f h ts b
+  sub-below m n f h (con c ts) b = subs-below m n f h ts b
 
   pub subs-below : (m n : ℕ) (f : ℕ → Typ) → ((v : ℕ) → v < n → is_below m (f v) ≡ true) → (ts : Typs) → are_below n ts ≡ true → are_below m (subs f ts) ≡ true
   subs-below m n f h none b = refl

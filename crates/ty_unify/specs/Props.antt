@@ -26,7 +26,7 @@ module _ (w u : ℕ → ℕ) where
   mutual
     weight-same : (k : ℕ) (same : (v : ℕ) → w v ≤ k → w v ≡ u v) (t : Typ) → weight w t ≤ k → weight w t ≡ weight u t
     weight-same k same (var v) h = same v h
-    weight-same k same (con h ts) h = ap suc (weights-same k same ts (omega arith))
+    weight-same k same (con c ts) h = ap suc (weights-same k same ts (omega arith))
 
     weights-same : (k : ℕ) (same : (v : ℕ) → w v ≤ k → w v ≡ u v) (ts : Typs) → weights w ts ≤ k → weights w ts ≡ weights u ts
     weights-same k same none h = refl

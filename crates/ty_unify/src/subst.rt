@@ -92,13 +92,13 @@ impl Subst {
     }
 
     /// Gives a free variable another mark.
-    pub fn set_mark(&mut self, v: usize, mark: Mark)
+    pub fn set_mark(&mut self, v: usize, next: Mark)
         requires in_range { v < length self.old.slots.items }
         requires is_free { look self.old.slots.items v ≡ free (mark (look self.old.slots.items v)) }
-        requires inhabited { is_inhabited mark ≡ true }
-        ensures { self.new.slots.items ≡ slice_set self.old.slots.items v (Slot.Open mark) }
+        requires inhabited { is_inhabited next ≡ true }
+        ensures { self.new.slots.items ≡ slice_set self.old.slots.items v (Slot.Open next) }
     {
-        self.slots[v] = Slot::Open(mark);
+        self.slots[v] = Slot::Open(next);
     }
 
     /// What a type stands for, if it is a bound variable.
