@@ -35,7 +35,7 @@ module _ (w : ℕ → ℕ) (f : ℕ → Typ) (v k : ℕ) where
 
   mutual
     weight-heavier : (t : Typ) → weight heavier t ≡ weight w t + count v (sub f t) * k
-    weight-heavier (var x) = refl
+    weight-heavier (var x) = omega arith
     weight-heavier (con c ts) = let p = weights-heavier ts in omega arith
 
     weights-heavier : (ts : Typs) → weights heavier ts ≡ weights w ts + counts v (subs f ts) * k

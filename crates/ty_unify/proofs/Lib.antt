@@ -4,3 +4,8 @@ pub mod Sigma
 pub mod Binding
 pub mod Setting
 pub mod Lists
+pub mod Finds
+pub mod StepArms
+pub mod PartsLeft
+pub mod Coming
+pub mod Pending

@@ -1,13 +1,14 @@
 -- A binding written into the vector.
-use Rattle.std.proofs.Common.{◌≡◌, ℕ, zero, suc, ◌<◌, List, [], ◌∷◌, length, set, Bool, false, refl, sym, ap, ◌∙◌, arith, subst}
+use Rattle.std.proofs.Common.{◌≡◌, ℕ, zero, suc, ◌<◌, List, [], ◌∷◌, length, set, Bool, true, false, refl, sym, ap, ◌∙◌, arith, subst}
 use Rattle.std.proofs.lemmas.List.{length-set}
 use Rattle.std.proofs.lemmas.Bool.{cases_eq}
 use mathlib.Core.Logic.{◌⊎◌, inl, inr}
 use Rattle.ty_core.specs.Types.{Typ}
-use Rattle.ty_unify.specs.Substitution.{sub, mark, free, bound, is_in, Resolves}
+use Rattle.ty_unify.specs.Substitution.{Entry, sub, mark, free, bound, is_in, Resolves}
 use Rattle.ty_core.specs.TypesOf.{type_of}
 use Rattle.ty_unify.specs.SlotsOf.{look, entry}
 use Rattle.ty_unify.specs.Weight.{BelowAt, AreBelow, WeighsAt, IsAcyclic, InhabitedAt, AreInhabited}
+use Rattle.ty_core.specs.Marks.{is_inhabited}
 use Rattle.ty_core.specs.declared.mark.Mark.{Mark}
 use Rattle.ty_unify.proofs.Look.{look-set-same, look-set-other}
 use Rattle.ty_unify.proofs.Binding.{Binds, bind-acyclic}
@@ -43,3 +44,6 @@ mark-acyclic l v k lt e a = (a.0, λ x. go x (cases_eq x v))
     go : (x : ℕ) → (x ≡ v) ⊎ (x ≡ v → ⊥) → WeighsAt a.0 (a.0 x) (look (set l v (Open k)) x)
     go x (inl p) = subst (WeighsAt a.0 (a.0 x)) (sym (ap (look (set l v (Open k))) p ∙ look-set-same l v (Open k) lt)) (subst (WeighsAt a.0 (a.0 x)) (ap (look l) p ∙ e) (a.1 x))
     go x (inr ne) = subst (WeighsAt a.0 (a.0 x)) (sym (look-set-other l v x (Open k) ne)) (a.1 x)
+
+pub at-inhabited : (s : ℕ → Entry) → AreInhabited s → (v : ℕ) → s v ≡ free (mark (s v)) → is_inhabited (mark (s v)) ≡ true
+at-inhabited s h v e = subst InhabitedAt e (h v)

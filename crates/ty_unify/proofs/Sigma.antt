@@ -15,7 +15,7 @@ deep s (suc k) v = resolved (deep s k) v (s v)
 -- f and g agree on what weighs at most k
 mutual
   pub sub-light : (w : ℕ → ℕ) (f g : ℕ → Typ) (k : ℕ) → ((v : ℕ) → w v ≤ k → f v ≡ g v) → (t : Typ) → weight w t ≤ k → sub f t ≡ sub g t
-  sub-light w f g k h (var v) b = h v b
+  sub-light w f g k h (var v) b = h v (omega arith)
   sub-light w f g k h (con c ts) b = ap (con c) (subs-light w f g k h ts (omega arith))
 
   pub subs-light : (w : ℕ → ℕ) (f g : ℕ → Typ) (k : ℕ) → ((v : ℕ) → w v ≤ k → f v ≡ g v) → (ts : Typs) → weights w ts ≤ k → subs f ts ≡ subs g ts

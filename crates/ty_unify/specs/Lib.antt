@@ -3,3 +3,8 @@ pub mod Weight
 pub mod Props
 pub mod SlotsOf
 pub mod Finding
+pub mod Forces
+pub mod Tasks
+pub mod Parts
+pub mod Pending
+pub mod Solve

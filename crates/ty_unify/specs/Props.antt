@@ -25,7 +25,7 @@ AreBelow-prop n s = Π_prop (λ v. BelowAt-prop n (s v))
 module _ (w u : ℕ → ℕ) where
   mutual
     weight-same : (k : ℕ) (same : (v : ℕ) → w v ≤ k → w v ≡ u v) (t : Typ) → weight w t ≤ k → weight w t ≡ weight u t
-    weight-same k same (var v) h = same v h
+    weight-same k same (var v) h = ap suc (same v (omega arith))
     weight-same k same (con c ts) h = ap suc (weights-same k same ts (omega arith))
 
     weights-same : (k : ℕ) (same : (v : ℕ) → w v ≤ k → w v ≡ u v) (ts : Typs) → weights w ts ≤ k → weights w ts ≡ weights u ts

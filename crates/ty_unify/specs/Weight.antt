@@ -7,7 +7,7 @@ use Rattle.ty_unify.specs.Substitution.{Entry, free, bound, is_below}
 -- the weight of a type, where variables have weights
 abbrev mutual
   pub weight : (ℕ → ℕ) → Typ → ℕ
-  weight w (var v) = w v
+  weight w (var v) = suc (w v)
   weight w (con h ts) = suc (weights w ts)
 
   pub weights : (ℕ → ℕ) → Typs → ℕ

@@ -1,4 +1,9 @@
 // The most general substitution that makes two types equal.
 #![tactic(auto)]
 
+pub mod refused;
+mod solve;
+mod step;
 pub mod subst;
+pub mod task;
+mod walk;

@@ -7,7 +7,7 @@ ghost use Rattle.ty_unify.specs.Substitution.{mark, sub, free, bound, is_below, 
 ghost use Rattle.ty_unify.specs.SlotsOf.{look};
 ghost use Rattle.ty_unify.specs.Weight.{IsAcyclic, AreBelow, AreInhabited, weight};
 ghost use Rattle.ty_unify.specs.Props.{IsAcyclic-prop, AreBelow-prop, AreInhabited-prop};
-ghost use Rattle.ty_unify.specs.Finding.{StandsFor, IsWalked};
+ghost use Rattle.ty_unify.specs.Finding.{StandsFor, IsWalked, Reads};
 
 use mlc_base::memory::NoMemory;
 use std::alloc::Global;
@@ -113,10 +113,7 @@ impl Subst {
 
     /// The type itself, or what it stands for in the end: a free variable, or a type that is no variable.
     pub fn find<'a>(&'a self, ty: &'a Ty) -> &'a Ty
-        ensures walked { IsWalked (look self.now.slots.items) (type_of result.now) }
-        ensures same { (f : ℕ → Typ) → Fits f (look self.now.slots.items) → sub f (type_of ty.now) ≡ sub f (type_of result.now) }
-        ensures in_bounds { is_below (length self.now.slots.items) (type_of ty.now) ≡ true → is_below (length self.now.slots.items) (type_of result.now) ≡ true }
-        ensures lighter { weight self.now.acyclic.0 (type_of result.now) ≤ weight self.now.acyclic.0 (type_of ty.now) }
+        ensures { Reads (length self.now.slots.items) (look self.now.slots.items) self.now.acyclic.0 (type_of ty.now) (type_of result.now) }
     {
         let mut found = ty;
         while let Some(next) = self.step(found) {
