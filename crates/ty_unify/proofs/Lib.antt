@@ -9,3 +9,8 @@ pub mod StepArms
 pub mod PartsLeft
 pub mod Coming
 pub mod Pending
+pub mod Searching
+pub mod Changing
+pub mod Circular
+pub mod Starts
+pub mod Solving

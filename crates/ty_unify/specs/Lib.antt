@@ -8,3 +8,4 @@ pub mod Tasks
 pub mod Parts
 pub mod Pending
 pub mod Solve
+pub mod Changes

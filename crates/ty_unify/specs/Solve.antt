@@ -41,6 +41,13 @@ IsCause s a b Circular = NoneMakesEqual s a b × Loops (record { before = s; lef
 IsCause s a b Large = IsLarge s a b
 IsCause s a b Memory = Unit {0}
 
+-- the same before sizes are looked at
+abbrev pub IsEarlyCause : (ℕ → Entry) → Typ → Typ → UnifyRefused → Type 0
+IsEarlyCause s a b Clash = NoneMakesEqual s a b × Clashes (record { before = s; left = a; right = b })
+IsEarlyCause s a b Circular = NoneMakesEqual s a b × Loops (record { before = s; left = a; right = b })
+IsEarlyCause s a b Large = ⊥
+IsEarlyCause s a b Memory = Unit {0}
+
 -- what was kept is put back, the last first
 abbrev pub undo : List Kept → List Slot → List Slot
 undo [] l = l

@@ -50,7 +50,7 @@ pub fn is_small(alloc: Global, s: &Subst, t: &Ty) -> Result<bool, NoMemory>
 {
     let mut pending = Vec::new(alloc);
     pending.push(t)?;
-    for _count in 0..NODE_LIMIT {
+    for count in 0..NODE_LIMIT {
         match pending.pop() {
             None => return Ok(true),
             Some(next) => match s.find(next) {

@@ -6,5 +6,5 @@ use Rattle.ty_unify.specs.SlotsOf.{look}
 use Rattle.ty_unify.specs.Pending.{pend}
 use Rattle.ty_unify.proofs.walk.is_small.Given as goal
 
-abbrev pub invariant-loop-_count : goal.invariant-loop-_count
-invariant-loop-_count l = (f : ℕ → Typ) → Resolves f (look l.s.slots.items) → l._count + all_nodes (subs f (pend l.pending.items)) ≡ nodes (sub f (type_of l.t))
+abbrev pub invariant-loop-count : goal.invariant-loop-count
+invariant-loop-count l = (f : ℕ → Typ) → Resolves f (look l.s.slots.items) → l.count + all_nodes (subs f (pend l.pending.items)) ≡ nodes (sub f (type_of l.t))
