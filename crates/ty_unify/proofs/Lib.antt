@@ -14,3 +14,4 @@ pub mod Changing
 pub mod Circular
 pub mod Starts
 pub mod Solving
+pub mod Solvable

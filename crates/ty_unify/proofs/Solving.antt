@@ -73,3 +73,6 @@ change-refused first now a b tasks left x Circular g c h =
      h.1 (problem (look first) a b) g.now_forced (c.forced (problem (look first) a b) g.now_forced g.tasks_forced).1)
 change-refused first now a b tasks left x Large g c h = h
 change-refused first now a b tasks left x Memory g c h = tt
+
+pub pushed : (none one : List Task) (x : Task) → none ≡ [] → one ≡ none ++ x ∷ [] → one ≡ [] ++ x ∷ []
+pushed none one x e h = h ∙ ap (λ l. l ++ x ∷ []) e

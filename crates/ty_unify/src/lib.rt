@@ -2,7 +2,7 @@
 #![tactic(auto)]
 
 pub mod refused;
-mod solve;
+pub mod solve;
 mod step;
 pub mod subst;
 pub mod task;

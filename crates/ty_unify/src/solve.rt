@@ -1,5 +1,5 @@
 // The most general substitution that makes two types equal.
-ghost use Rattle.std.specs.Prelude.{◌≡◌, ◌↔◌, ◌<◌, ℕ, Bool, List, length, slice_set, IfOk, IfErr, true};
+ghost use Rattle.std.specs.Prelude.{◌≡◌, ◌↔◌, ◌<◌, ℕ, Bool, List, length, slice_set, IfOk, IfErr, OnErr, Some, true};
 ghost use Rattle.ty_core.specs.Types.{Typ};
 ghost use Rattle.ty_core.specs.TypesOf.{type_of};
 ghost use Rattle.ty_unify.specs.Substitution.{is_below};
@@ -139,6 +139,57 @@ fn solve(
                     Ok(()) => {}
                 },
             },
+        }
+    }
+}
+
+/// Makes two types equal, where their type is not too large. What is changed is kept.
+fn attempt(
+    alloc: Global,
+    s: &mut Subst,
+    a: &Ty,
+    b: &Ty,
+    trail: &mut Vec<Kept>,
+) -> Result<(), UnifyRefused>
+    requires a_below { is_below (length s.old.slots.items) (type_of a.now) ≡ true }
+    requires b_below { is_below (length s.old.slots.items) (type_of b.now) ≡ true }
+    ensures undone { undo trail.new.items s.new.slots.items ≡ undo trail.old.items s.old.slots.items }
+    ensures same_length { length s.new.slots.items ≡ length s.old.slots.items }
+    ensures general { IfOk result (λ _. IsMostGeneral (look s.old.slots.items) (look s.new.slots.items) (type_of a.now) (type_of b.now)) }
+    ensures small { IfOk result (λ _. IsSmall (look s.new.slots.items) (type_of a.now)) }
+    ensures cause { IfErr result (IsCause (look s.old.slots.items) (type_of a.now) (type_of b.now)) }
+{
+    match solve(alloc, s, a, b, trail) {
+        Err(refused) => Err(refused),
+        Ok(()) => {
+            if is_small(alloc, s, a)? {
+                Ok(())
+            } else {
+                Err(UnifyRefused::Large)
+            }
+        }
+    }
+}
+
+/// Makes two types equal, by the least change to s. A refusal leaves s as it was.
+pub fn unify(alloc: Global, s: &mut Subst, a: &Ty, b: &Ty) -> Result<(), UnifyRefused>
+    requires a_below { is_below (length s.old.slots.items) (type_of a.now) ≡ true }
+    requires b_below { is_below (length s.old.slots.items) (type_of b.now) ≡ true }
+
+    ensures general { IfOk result (λ _. IsMostGeneral (look s.old.slots.items) (look s.new.slots.items) (type_of a.now) (type_of b.now)) }
+    ensures solvable { IfOk result (λ _. IsSolvable (look s.new.slots.items)) }
+    ensures small { IfOk result (λ _. IsSmall (look s.new.slots.items) (type_of a.now)) }
+    ensures same_length { IfOk result (λ _. length s.new.slots.items ≡ length s.old.slots.items) }
+
+    ensures cause { IfErr result (IsCause (look s.old.slots.items) (type_of a.now) (type_of b.now)) }
+    ensures unchanged { OnErr result (s.new.slots.items ≡ s.old.slots.items) }
+{
+    let mut trail = Vec::new(alloc);
+    match attempt(alloc, s, a, b, &mut trail) {
+        Ok(()) => Ok(()),
+        Err(refused) => {
+            put_back(&mut s.slots, &mut trail);
+            Err(refused)
         }
     }
 }
