@@ -15,3 +15,5 @@ pub mod Circular
 pub mod Starts
 pub mod Solving
 pub mod Solvable
+pub mod Noting
+pub mod Reaching

@@ -9,3 +9,4 @@ pub mod Parts
 pub mod Pending
 pub mod Solve
 pub mod Changes
+pub mod Noted
