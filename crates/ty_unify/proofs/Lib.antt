@@ -17,3 +17,4 @@ pub mod Solving
 pub mod Solvable
 pub mod Noting
 pub mod Reaching
+pub mod Knowing
