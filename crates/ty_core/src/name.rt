@@ -24,26 +24,31 @@ impl TyName {
         arity: 0,
         equality: Equality::Always,
     };
+
     pub const WORD: TyName = TyName {
         stamp: 1,
         arity: 0,
         equality: Equality::Always,
     };
+
     pub const CHAR: TyName = TyName {
         stamp: 2,
         arity: 0,
         equality: Equality::Always,
     };
+
     pub const STRING: TyName = TyName {
         stamp: 3,
         arity: 0,
         equality: Equality::Always,
     };
+
     pub const REF: TyName = TyName {
         stamp: 4,
         arity: 1,
         equality: Equality::Always,
     };
+
     pub const EXN: TyName = TyName {
         stamp: 5,
         arity: 0,

@@ -91,18 +91,21 @@ bind-changes l tasks v t ih b =
     let k = mark (look l v) in
     let e = set-binds l v t b.in_range b.is_free in
     record {
-      same = λ m f.
-        (λ h.
-           let p = (hold-push m f tasks (Admit (mark (look l v)) (Var v))).0 h.1 in
-           let q = subst (λ z. Allows (mark (look l v)) m (sub f z)) (type_of-Var v) p.1 in
-           let r = bind-solves m _ _ v (type_of t) e f q h.0 in
-           (r.0, p.0, r.1),
-         λ h.
-           (solves-bind m _ _ v (type_of t) e f h.0 h.2,
-            (hold-push m f tasks (Admit (mark (look l v)) (Var v))).1 (h.1, subst (λ z. Allows (mark (look l v)) m (sub f z)) (sym (type_of-Var v)) (free-allows m (look l) v f b.is_free h.0))));
-      forced = λ p i j g.
-        (set-forced p l v (Full t) b.in_range i g,
-         forced-push p tasks (Admit (mark (look l v)) (Var v)) j (subst (Asks p (mark (look l v))) (sym (type_of-Var v)) (subst (ForcedAt p v) b.is_free (i v))));
+      same = λ m f. (
+        λ h.
+            let p = (hold-push m f tasks (Admit (mark (look l v)) (Var v))).0 h.1 in
+            let q = subst (λ z. Allows (mark (look l v)) m (sub f z)) (type_of-Var v) p.1 in
+            let r = bind-solves m _ _ v (type_of t) e f q h.0 in
+            (r.0, p.0, r.1),
+        λ h. (
+          solves-bind m _ _ v (type_of t) e f h.0 h.2,
+          (hold-push m f tasks (Admit (mark (look l v)) (Var v))).1 (h.1, subst (λ z. Allows (mark (look l v)) m (sub f z)) (sym (type_of-Var v)) (free-allows m (look l) v f b.is_free h.0)),
+        ),
+      );
+      forced = λ p i j g. (
+        set-forced p l v (Full t) b.in_range i g,
+        forced-push p tasks (Admit (mark (look l v)) (Var v)) j (subst (Asks p (mark (look l v))) (sym (type_of-Var v)) (subst (ForcedAt p v) b.is_free (i v))),
+      );
       within = λ h. within-push (length l) tasks (Admit (mark (look l v)) (Var v)) h (at-inhabited (look l) ih v b.is_free, subst (λ z. is_below (length l) z ≡ true) (sym (type_of-Var v)) (lt-ltb v (length l) b.in_range));
       lower = ranks-full l v t _ b.in_range b.is_free;
     }
@@ -110,7 +113,7 @@ bind-changes l tasks v t ih b =
 pub remark-changes : (l : List Slot) (tasks : List Task) (v : ℕ) (r : Mark) → Lowers (length l) (look l) v r → Changes l (set l v (Open r)) tasks tasks (Remark v r)
 remark-changes l tasks v r b = record {
   same = λ m f.
-    (λ h. (old m f h.0, h.1, at-new m f h.0), λ h. (new m f h.0 h.2, h.1));
+      (λ h. (old m f h.0, h.1, at-new m f h.0), λ h. (new m f h.0 h.2, h.1));
   forced = λ p i j g. (set-forced p l v (Open r) b.in_range i g, j);
   within = λ h. h;
   lower = ranks-open l v _ r b.in_range b.is_free b.lower;
@@ -150,5 +153,5 @@ kept-back l d d' v j lt e p q =
 pub bind-changed : (l l' : List Slot) (tasks now : List Task) (v : ℕ) (t : Ty) (j : Mark) → AreInhabited (look l) → MayBind (length l) (look l) v (type_of t) → j ≡ mark (look l v) → l' ≡ set l v (Full t) → now ≡ tasks ++ Admit j (Var v) ∷ [] → Changes l l' tasks now (Bind v t)
 bind-changed l l' tasks now v t j ih b p q r =
     subst (λ x. Changes l x tasks now (Bind v t)) (sym q)
-      (subst (λ x. Changes l (set l v (Full t)) tasks x (Bind v t)) (sym (r ∙ ap (λ k. tasks ++ Admit k (Var v) ∷ []) p))
-        (bind-changes l tasks v t ih b))
+    (subst (λ x. Changes l (set l v (Full t)) tasks x (Bind v t)) (sym (r ∙ ap (λ k. tasks ++ Admit k (Var v) ∷ []) p))
+    (bind-changes l tasks v t ih b))

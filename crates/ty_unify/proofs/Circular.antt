@@ -73,10 +73,11 @@ pub circular : (s : ℕ → Entry) (a : IsAcyclic s) (v : ℕ) (t : Typ) → IsW
 circular s a v (var x) w ne h =
     let e : ⊥ = ne (ap var (eqb-true x v (sym (h (sigma_of s a) (sigma-resolves s a) ∙ ap (is_in v) (sigma-resolves s a x ∙ ap (resolved (sigma_of s a) x) w))))) in
     absurd e
-circular s a v (con c ts) w ne h =
-    (λ m f k e.
-       let p = within-sizes f v (subs (sigma_of s a) ts) (sym (h (sigma_of s a) (sigma-resolves s a))) in
-       let q = ap size (sigma-general s a f (solves-fits m s f k) (con c ts)) in
-       let r = ap size e in
-       absurd (omega arith),
-     λ p i e. loops p s i v a c ts e (sym (h (sigma_of s a) (sigma-resolves s a))))
+circular s a v (con c ts) w ne h = (
+  λ m f k e.
+      let p = within-sizes f v (subs (sigma_of s a) ts) (sym (h (sigma_of s a) (sigma-resolves s a))) in
+      let q = ap size (sigma-general s a f (solves-fits m s f k) (con c ts)) in
+      let r = ap size e in
+      absurd (omega arith),
+  λ p i e. loops p s i v a c ts e (sym (h (sigma_of s a) (sigma-resolves s a))),
+)

@@ -27,9 +27,10 @@ begins l old = record {
 
 pub goes-on : (l : List Slot) (w : ℕ → ℕ) (old now rest new : List Task) (task : Task) → now ≡ rest ++ task ∷ [] → Going l old now → Steps (length l) (look l) w rest task new None → Going l old new
 goes-on l w old now rest new task e g h = record {
-  same = λ m f k.
-    (λ a. ((h.same m f k).0 ((hold-push m f rest task).0 (subst (AllHold m f) e ((g.same m f k).0 a)))).0,
-     λ a. (g.same m f k).1 (subst (AllHold m f) (sym e) ((hold-push m f rest task).1 ((h.same m f k).1 (a, tt)))));
+  same = λ m f k. (
+    λ a. ((h.same m f k).0 ((hold-push m f rest task).0 (subst (AllHold m f) e ((g.same m f k).0 a)))).0,
+    λ a. (g.same m f k).1 (subst (AllHold m f) (sym e) ((hold-push m f rest task).1 ((h.same m f k).1 (a, tt)))),
+  );
   forced = λ p i a. let q = forced-pop p rest task (subst (AreForced p) e (g.forced p i a)) in (h.forced p i q.0 q.1).0;
   within = λ a. let q = within-pop (length l) rest task (subst (AreWithin (length l)) e (g.within a)) in h.within q.0 q.1;
 }
@@ -39,9 +40,10 @@ goes-down n s w now rest new task x e h = let p = ap (burdens w) e ∙ burdens-p
 
 pub comes-to : (l : List Slot) (w : ℕ → ℕ) (old now rest new : List Task) (task : Task) (x : Write) → now ≡ rest ++ task ∷ [] → Going l old now → Steps (length l) (look l) w rest task new (Some x) → Comes (length l) (look l) old new (Some x)
 comes-to l w old now rest new task x e g h = record {
-  same = λ m f k.
-    (λ a. (h.same m f k).0 ((hold-push m f rest task).0 (subst (AllHold m f) e ((g.same m f k).0 a))),
-     λ a. (g.same m f k).1 (subst (AllHold m f) (sym e) ((hold-push m f rest task).1 ((h.same m f k).1 a))));
+  same = λ m f k. (
+    λ a. (h.same m f k).0 ((hold-push m f rest task).0 (subst (AllHold m f) e ((g.same m f k).0 a))),
+    λ a. (g.same m f k).1 (subst (AllHold m f) (sym e) ((hold-push m f rest task).1 ((h.same m f k).1 a))),
+  );
   forced = λ p i a. let q = forced-pop p rest task (subst (AreForced p) e (g.forced p i a)) in h.forced p i q.0 q.1;
   within = λ a. let q = within-pop (length l) rest task (subst (AreWithin (length l)) e (g.within a)) in h.within q.0 q.1;
   fit = λ a. let q = within-pop (length l) rest task (subst (AreWithin (length l)) e (g.within a)) in h.fit q.1;

@@ -22,9 +22,10 @@ subs-last f [] [] t u n = (λ h. (refl, ap (λ z. head_of z (var 0)) h), λ h. a
 subs-last f [] (y ∷ r) t u n = cc
 subs-last f (x ∷ l) [] t u n = cc
 subs-last f (x ∷ l) (y ∷ r) t u n =
-    let e : length l ≡ length r = omega arith in
-    (λ h. let p = (subs-last f l r t u e).0 (ap tail_of h) in (ap₂ more (ap (λ z. head_of z (var 0)) h) p.0, p.1),
-     λ h. ap₂ more (ap (λ z. head_of z (var 0)) h.0) ((subs-last f l r t u e).1 (ap tail_of h.0, h.1)))
+    let e : length l ≡ length r = omega arith in (
+      λ h. let p = (subs-last f l r t u e).0 (ap tail_of h) in (ap₂ more (ap (λ z. head_of z (var 0)) h) p.0, p.1),
+      λ h. ap₂ more (ap (λ z. head_of z (var 0)) h.0) ((subs-last f l r t u e).1 (ap tail_of h.0, h.1)),
+    )
 
 beside-last : (l r : List Ty) (t u : Ty) → length l ≡ length r → Beside (type_of t) (type_of u) (all (l ++ t ∷ [])) (all (r ++ u ∷ []))
 beside-last [] [] t u n = Beside.here _ _ _ _
@@ -51,9 +52,10 @@ weights-last w (x ∷ l) t = let p = weights-last w l t in omega arith
 
 admit-last : (m : ℕ → Bool) (f : ℕ → Typ) (l : List Ty) (t : Ty) → (all_admit m (subs f (all (l ++ t ∷ []))) ≡ true) ↔ ((all_admit m (subs f (all l)) ≡ true) × (admits m (sub f (type_of t)) ≡ true))
 admit-last m f [] t = (λ h. (refl, (and_parts (admits m (sub f (type_of t))) true h).0), λ h. and_from _ _ h.1 refl)
-admit-last m f (x ∷ l) t =
-    (λ h. let p = and_parts (admits m (sub f (type_of x))) (all_admit m (subs f (all (l ++ t ∷ [])))) h in let q = (admit-last m f l t).0 p.1 in (and_from _ _ p.0 q.0, q.1),
-     λ h. let p = and_parts (admits m (sub f (type_of x))) (all_admit m (subs f (all l))) h.0 in and_from _ _ p.0 ((admit-last m f l t).1 (p.1, h.1)))
+admit-last m f (x ∷ l) t = (
+  λ h. let p = and_parts (admits m (sub f (type_of x))) (all_admit m (subs f (all (l ++ t ∷ [])))) h in let q = (admit-last m f l t).0 p.1 in (and_from _ _ p.0 q.0, q.1),
+  λ h. let p = and_parts (admits m (sub f (type_of x))) (all_admit m (subs f (all l))) h.0 in and_from _ _ p.0 ((admit-last m f l t).1 (p.1, h.1)),
+)
 
 -- the pairs of l and r are left
 pub record EqualLeft (old now : List Task) (ts us : Typs) (l r : List Ty) : Type 0 where
@@ -77,22 +79,23 @@ equal-begins old l r n = record {
 pub equal-next : (old now : List Task) (ts us : Typs) (l r : List Ty) (t u : Ty) → EqualLeft old now ts us (l ++ t ∷ []) (r ++ u ∷ []) → length l ≡ length r → EqualLeft old (now ++ Equal t u ∷ []) ts us l r
 equal-next old now ts us l r t u e n = record {
   lengths = n;
-  same = λ m f.
-    (λ h. let p = (hold-push m f now (Equal t u)).0 h.0 in (e.same m f).0 (p.0, (subs-last f l r t u n).1 (h.1, p.1)),
-     λ h. let q = (e.same m f).1 h in let p = (subs-last f l r t u n).0 q.1 in ((hold-push m f now (Equal t u)).1 (q.0, p.1), p.0));
+  same = λ m f. (
+    λ h. let p = (hold-push m f now (Equal t u)).0 h.0 in (e.same m f).0 (p.0, (subs-last f l r t u n).1 (h.1, p.1)),
+    λ h. let q = (e.same m f).1 h in let p = (subs-last f l r t u n).0 q.1 in ((hold-push m f now (Equal t u)).1 (q.0, p.1), p.0),
+  );
   forced = λ p h a g. forced-push p now (Equal t u) (e.forced p h a g) (Forces.part h ts us _ _ g (e.beside _ _ (beside-last l r t u n)));
   beside = λ x y h. e.beside x y (beside-front l r t u x y h);
   within = λ k a b c.
-    let p = e.within k a b c in
-    let q = below-last k l t p.1 in
-    let s = below-last k r u p.2 in
-    (within-push k now (Equal t u) p.0 (q.1, s.1), q.0, s.0);
+      let p = e.within k a b c in
+      let q = below-last k l t p.1 in
+      let s = below-last k r u p.2 in
+      (within-push k now (Equal t u) p.0 (q.1, s.1), q.0, s.0);
   burden_is = λ w.
-    let p = e.burden_is w in
-    let q = weights-last w l t in
-    let s = weights-last w r u in
-    let b = burdens-push w now (Equal t u) in
-    omega arith;
+      let p = e.burden_is w in
+      let q = weights-last w l t in
+      let s = weights-last w r u in
+      let b = burdens-push w now (Equal t u) in
+      omega arith;
 }
 
 pub equal-ends : (old now : List Task) (ts us : Typs) → EqualLeft old now ts us [] [] → EqualParts old now ts us
@@ -122,20 +125,21 @@ admit-begins old l = record {
 
 pub admit-next : (old now : List Task) (ts : Typs) (l : List Ty) (t : Ty) → AdmitLeft old now ts (l ++ t ∷ []) → AdmitLeft old (now ++ Admit Mark.Equality t ∷ []) ts l
 admit-next old now ts l t e = record {
-  same = λ m f.
-    (λ h. let p = (hold-push m f now (Admit Mark.Equality t)).0 h.0 in (e.same m f).0 (p.0, (admit-last m f l t).1 (h.1, p.1)),
-     λ h. let q = (e.same m f).1 h in let p = (admit-last m f l t).0 q.1 in ((hold-push m f now (Admit Mark.Equality t)).1 (q.0, p.1), p.0));
+  same = λ m f. (
+    λ h. let p = (hold-push m f now (Admit Mark.Equality t)).0 h.0 in (e.same m f).0 (p.0, (admit-last m f l t).1 (h.1, p.1)),
+    λ h. let q = (e.same m f).1 h in let p = (admit-last m f l t).0 q.1 in ((hold-push m f now (Admit Mark.Equality t)).1 (q.0, p.1), p.0),
+  );
   forced = λ p h g a q. forced-push p now (Admit Mark.Equality t) (e.forced p h g a q) (Asks.part h ts _ q g (e.beside _ _ (beside-last l l t t refl)));
   beside = λ x y h. e.beside x y (beside-front l l t t x y h);
   within = λ k a b.
-    let p = e.within k a b in
-    let q = below-last k l t p.1 in
-    (within-push k now (Admit Mark.Equality t) p.0 (refl, q.1), q.0);
+      let p = e.within k a b in
+      let q = below-last k l t p.1 in
+      (within-push k now (Admit Mark.Equality t) p.0 (refl, q.1), q.0);
   burden_is = λ w.
-    let p = e.burden_is w in
-    let q = weights-last w l t in
-    let b = burdens-push w now (Admit Mark.Equality t) in
-    omega arith;
+      let p = e.burden_is w in
+      let q = weights-last w l t in
+      let b = burdens-push w now (Admit Mark.Equality t) in
+      omega arith;
 }
 
 pub admit-ends : (old now : List Task) (ts : Typs) → AdmitLeft old now ts [] → AdmitParts old now ts

@@ -52,18 +52,18 @@ adds-none l = record { in_is = λ v f. sym (or-none (are_in v (subs f (pend l)))
 pub adds-next : (old now new : List (Bor Ty)) (l : List Ty) (i : ℕ) (r : Bor Ty) → new ≡ now ++ r ∷ [] → i < length l → r.now ≡ get_or l i r.now → Adds old now (all (take i l)) → Adds old new (all (take (suc i) l))
 adds-next old now new l i r e lt g a = record {
   in_is = λ v f.
-    ap (λ x. are_in v (subs f (pend x))) e ∙ in-push v f now r
-    ∙ ap (λ b. b || is_in v (sub f (type_of r.now))) (a.in_is v f)
-    ∙ sym (or-assoc (are_in v (subs f (pend old))) (are_in v (subs f (all (take i l)))) (is_in v (sub f (type_of r.now))))
-    ∙ ap (λ b. are_in v (subs f (pend old)) || b) (sym (in-take v f l i r.now lt g));
+      ap (λ x. are_in v (subs f (pend x))) e ∙ in-push v f now r
+      ∙ ap (λ b. b || is_in v (sub f (type_of r.now))) (a.in_is v f)
+      ∙ sym (or-assoc (are_in v (subs f (pend old))) (are_in v (subs f (all (take i l)))) (is_in v (sub f (type_of r.now))))
+      ∙ ap (λ b. are_in v (subs f (pend old)) || b) (sym (in-take v f l i r.now lt g));
   nodes_is = λ f.
-    let p = ap (λ x. all_nodes (subs f (pend x))) e ∙ nodes-push f now r in
-    let q = a.nodes_is f in
-    let s = nodes-take f l i r.now lt g in
-    omega arith;
+      let p = ap (λ x. all_nodes (subs f (pend x))) e ∙ nodes-push f now r in
+      let q = a.nodes_is f in
+      let s = nodes-take f l i r.now lt g in
+      omega arith;
   weights_is = λ w.
-    let p = ap (λ x. weights w (pend x)) e ∙ weights-push w now r in
-    let q = a.weights_is w in
-    let s = weights-take w l i r.now lt g in
-    omega arith;
+      let p = ap (λ x. weights w (pend x)) e ∙ weights-push w now r in
+      let q = a.weights_is w in
+      let s = weights-take w l i r.now lt g in
+      omega arith;
 }

@@ -29,7 +29,6 @@ set-binds l v t lt e = record { was = e; here = look-set-same l v (Full t) lt; o
 pub set-acyclic : (l : List Slot) (v : ℕ) (t : Ty) → v < length l → look l v ≡ free (mark (look l v)) → IsAcyclic (look l) → ((f : ℕ → Typ) → Resolves f (look l) → is_in v (sub f (type_of t)) ≡ false) → IsAcyclic (look (set l v (Full t)))
 set-acyclic l v t lt e a h = bind-acyclic _ _ v (type_of t) (set-binds l v t lt e) a h
 
-
 pub set-inhabited : (l : List Slot) (v : ℕ) (o : Slot) → v < length l → AreInhabited (look l) → InhabitedAt (entry o) → AreInhabited (look (set l v o))
 set-inhabited l v o lt h b x = go (cases_eq x v)
   where

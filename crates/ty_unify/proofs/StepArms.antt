@@ -85,9 +85,10 @@ pub steps-along : (n : ℕ) (s : ℕ → Entry) (w : ℕ → ℕ) (old new : Lis
 steps-along n s w old new x a b c d p q h =
     let l = h.lighter in let pl = p.lighter in let ql = q.lighter in
     record {
-      same = λ m f k.
-        (λ e. (h.same m f k).0 (e.0, sym (p.same f (solves-fits m s f k)) ∙ e.1 ∙ q.same f (solves-fits m s f k)),
-         λ e. let r = (h.same m f k).1 e in (r.0, p.same f (solves-fits m s f k) ∙ r.1 ∙ sym (q.same f (solves-fits m s f k))));
+      same = λ m f k. (
+        λ e. (h.same m f k).0 (e.0, sym (p.same f (solves-fits m s f k)) ∙ e.1 ∙ q.same f (solves-fits m s f k)),
+        λ e. let r = (h.same m f k).1 e in (r.0, p.same f (solves-fits m s f k) ∙ r.1 ∙ sym (q.same f (solves-fits m s f k))),
+      );
       forced = λ o i j r. h.forced o i j (Forces.along _ _ _ (Forces.back _ _ (p.forced o i)) (Forces.along _ _ _ r (q.forced o i)));
       within = λ i j. h.within i (p.in_bounds j.0, q.in_bounds j.1);
       lighter = omega arith;
@@ -105,9 +106,10 @@ pub steps-admit-along : (n : ℕ) (s : ℕ → Entry) (w : ℕ → ℕ) (old new
 steps-admit-along n s w old new x k a c p h =
     let l = h.lighter in let pl = p.lighter in
     record {
-      same = λ m f i.
-        (λ e. (h.same m f i).0 (e.0, subst (Allows k m) (p.same f (solves-fits m s f i)) e.1),
-         λ e. let r = (h.same m f i).1 e in (r.0, subst (Allows k m) (sym (p.same f (solves-fits m s f i))) r.1));
+      same = λ m f i. (
+        λ e. (h.same m f i).0 (e.0, subst (Allows k m) (p.same f (solves-fits m s f i)) e.1),
+        λ e. let r = (h.same m f i).1 e in (r.0, subst (Allows k m) (sym (p.same f (solves-fits m s f i))) r.1),
+      );
       forced = λ o i j r. h.forced o i j (Asks.along _ _ _ r (p.forced o i));
       within = λ i j. h.within i (j.0, p.in_bounds j.1);
       lighter = omega arith;
@@ -133,9 +135,10 @@ pub heads-clash : (s : ℕ → Entry) (h g : Symbol) (ts us : Typs) (a b : Ty) �
 heads-clash s h g ts us a b p q ne = (λ m f k e. let r = sym (ap (sub f) p) ∙ e ∙ ap (sub f) q in ne (cc), λ o i r. Clashes.heads h g ts us (subst (λ x. Forces o (con h ts) x) q (subst (λ x. Forces o x (type_of b)) p r)) ne)
 
 pub counts-clash : (s : ℕ → Entry) (h g : Symbol) (l r : List Ty) (a b : Ty) → type_of a ≡ con h (all l) → type_of b ≡ con g (all r) → (length l ≡ length r → ⊥) → RefusesTask s (Equal a b) Clash
-counts-clash s h g l r a b p q ne =
-    (λ m f k e. let x = ap parts_of (sym (ap (sub f) p) ∙ e ∙ ap (sub f) q) in ne (sym (count-subs f (all l) ∙ count-all l) ∙ ap count x ∙ count-subs f (all r) ∙ count-all r),
-     λ o i x. Clashes.counts h g (all l) (all r) (subst (λ y. Forces o (con h (all l)) y) q (subst (λ y. Forces o y (type_of b)) p x)) (λ e. ne (sym (count-all l) ∙ e ∙ count-all r)))
+counts-clash s h g l r a b p q ne = (
+  λ m f k e. let x = ap parts_of (sym (ap (sub f) p) ∙ e ∙ ap (sub f) q) in ne (sym (count-subs f (all l) ∙ count-all l) ∙ ap count x ∙ count-subs f (all r) ∙ count-all r),
+  λ o i x. Clashes.counts h g (all l) (all r) (subst (λ y. Forces o (con h (all l)) y) q (subst (λ y. Forces o y (type_of b)) p x)) (λ e. ne (sym (count-all l) ∙ e ∙ count-all r)),
+)
 
 pub parts-steps : (n : ℕ) (s : ℕ → Entry) (w : ℕ → ℕ) (old new : List Task) (h g : Symbol) (ts us : Typs) (a b : Ty) → type_of a ≡ con h ts → type_of b ≡ con g us → h ≡ g → EqualParts old new ts us → Steps n s w old (Equal a b) new None
 parts-steps n s w old new h g ts us a b p q e x =
@@ -143,9 +146,10 @@ parts-steps n s w old new h g ts us a b p q e x =
     let p1 = ap (weight w) p in
     let q1 = ap (weight w) q in
     record {
-      same = λ m f k.
-        (λ y. ((x.same m f).1 (y.0, ap parts_of (sym (ap (sub f) p) ∙ y.1 ∙ ap (sub f) q)), tt),
-         λ y. let z = (x.same m f).0 y.0 in (z.0, ap (sub f) p ∙ ap₂ con e z.1 ∙ sym (ap (sub f) q)));
+      same = λ m f k. (
+        λ y. ((x.same m f).1 (y.0, ap parts_of (sym (ap (sub f) p) ∙ y.1 ∙ ap (sub f) q)), tt),
+        λ y. let z = (x.same m f).0 y.0 in (z.0, ap (sub f) p ∙ ap₂ con e z.1 ∙ sym (ap (sub f) q)),
+      );
       forced = λ o i j r. (x.forced o h j (subst (λ y. Forces o (con h ts) (con y us)) (sym e) (subst (λ y. Forces o (con h ts) y) q (subst (λ y. Forces o y (type_of b)) p r))), tt);
       within = λ j y. x.within n j (subst (λ z. is_below n z ≡ true) p y.0) (subst (λ z. is_below n z ≡ true) q y.1);
       lighter = omega arith;
@@ -154,9 +158,10 @@ parts-steps n s w old new h g ts us a b p q e x =
 
 -- a mark on a type that is no variable
 pub never-clash : (s : ℕ → Entry) (h : Symbol) (ts : Typs) (t : Ty) → type_of t ≡ con h ts → Never ≡ attribute h → RefusesTask s (Admit Mark.Equality t) Clash
-never-clash s h ts t p e =
-    (λ m f k x. let y = subst (λ z. admits m (sub f z) ≡ true) p x in let z = subst (λ q. allowed q (all_admit m (subs f ts)) ≡ true) (sym e) y in cc,
-     λ o i x. Clashes.never h ts (subst (Asks o Mark.Equality) p x) (sym e))
+never-clash s h ts t p e = (
+  λ m f k x. let y = subst (λ z. admits m (sub f z) ≡ true) p x in let z = subst (λ q. allowed q (all_admit m (subs f ts)) ≡ true) (sym e) y in cc,
+  λ o i x. Clashes.never h ts (subst (Asks o Mark.Equality) p x) (sym e),
+)
 
 pub always-steps : (n : ℕ) (s : ℕ → Entry) (w : ℕ → ℕ) (old : List Task) (h : Symbol) (ts : Typs) (t : Ty) → type_of t ≡ con h ts → Always ≡ attribute h → Steps n s w old (Admit Mark.Equality t) old None
 always-steps n s w old h ts t p e = steps-nothing n s w old (Admit Mark.Equality t) (λ m f k. subst (λ z. admits m (sub f z) ≡ true) (sym p) (subst (λ q. allowed q (all_admit m (subs f ts)) ≡ true) e refl))
@@ -166,9 +171,10 @@ arguments-steps n s w old new h ts t p e x =
     let x1 = x.burden_is w in
     let p1 = ap (weight w) p in
     record {
-      same = λ m f k.
-        (λ y. ((x.same m f).1 (y.0, subst (λ q. allowed q (all_admit m (subs f ts)) ≡ true) (sym e) (subst (λ z. admits m (sub f z) ≡ true) p y.1)), tt),
-         λ y. let z = (x.same m f).0 y.0 in (z.0, subst (λ z. admits m (sub f z) ≡ true) (sym p) (subst (λ q. allowed q (all_admit m (subs f ts)) ≡ true) e z.1)));
+      same = λ m f k. (
+        λ y. ((x.same m f).1 (y.0, subst (λ q. allowed q (all_admit m (subs f ts)) ≡ true) (sym e) (subst (λ z. admits m (sub f z) ≡ true) p y.1)), tt),
+        λ y. let z = (x.same m f).0 y.0 in (z.0, subst (λ z. admits m (sub f z) ≡ true) (sym p) (subst (λ q. allowed q (all_admit m (subs f ts)) ≡ true) e z.1)),
+      );
       forced = λ o i j r. (x.forced o h (sym e) j (subst (Asks o Mark.Equality) p r), tt);
       within = λ j y. x.within n j (subst (λ z. is_below n z ≡ true) p y.1);
       lighter = omega arith;
@@ -181,9 +187,10 @@ class-steps n s w old c h (y ∷ l) t p e x = absurd (omega arith)
 
 pub arguments-outside : (s : ℕ → Entry) (c : Class) (h : Symbol) (l : List Ty) (t : Ty) → type_of t ≡ con h (all l) → (length l ≡ 0 → ⊥) → RefusesTask s (Admit (Mark.Class c) t) Clash
 arguments-outside s c h [] t p ne = absurd (ne refl)
-arguments-outside s c h (y ∷ l) t p ne =
-    (λ m f k x. let y = subst (λ z. IsOf c (sub f z)) p x in let e = y.is in cc,
-     λ o i x. Clashes.crowded c h (more (type_of y) (all l)) (subst (Asks o (Mark.Class c)) p x) (λ e. cc))
+arguments-outside s c h (y ∷ l) t p ne = (
+  λ m f k x. let y = subst (λ z. IsOf c (sub f z)) p x in let e = y.is in cc,
+  λ o i x. Clashes.crowded c h (more (type_of y) (all l)) (subst (Asks o (Mark.Class c)) p x) (λ e. cc),
+)
 
 pub class-outside : (s : ℕ → Entry) (c : Class) (h : Symbol) (l : List Ty) (t : Ty) → type_of t ≡ con h (all l) → length l ≡ 0 → (IsOf c (con h none) → ⊥) → RefusesTask s (Admit (Mark.Class c) t) Clash
 class-outside s c h [] t p e ne = (λ m f k x. ne (subst (λ z. IsOf c (sub f z)) p x), λ o i x. Clashes.outside c h (subst (Asks o (Mark.Class c)) p x) ne)
@@ -213,9 +220,10 @@ bind-steps n s w old a b t y p q u v ne = steps-write n s w old (Equal a b) (Bin
 
 -- a mark on a free variable
 pub remark-clash : (s : ℕ → Entry) (x : ℕ) (k : Mark) (t : Ty) → type_of t ≡ var x → IsWalked s (var x) → ((m : ℕ → Bool) (t : Typ) → Allows (mark (s x)) m t → Allows k m t → ⊥) → RefusesTask s (Admit k t) Clash
-remark-clash s x k t p u ne =
-    (λ m f h e. ne m (f x) (subst (Meets m f (f x)) u (h x)) (subst (λ z. Allows k m (sub f z)) p e),
-     λ o i r. Clashes.apart (mark (s x)) k (var x) (subst (ForcedAt o x) u (i x)) (subst (Asks o k) p r) ne)
+remark-clash s x k t p u ne = (
+  λ m f h e. ne m (f x) (subst (Meets m f (f x)) u (h x)) (subst (λ z. Allows k m (sub f z)) p e),
+  λ o i r. Clashes.apart (mark (s x)) k (var x) (subst (ForcedAt o x) u (i x)) (subst (Asks o k) p r) ne,
+)
 
 pub remark-nothing : (n : ℕ) (s : ℕ → Entry) (w : ℕ → ℕ) (old : List Task) (x : ℕ) (k r : Mark) (t : Ty) → type_of t ≡ var x → IsWalked s (var x) → IsMeet (mark (s x)) k r → r ≡ mark (s x) → Steps n s w old (Admit k t) old None
 remark-nothing n s w old x k r t p u e q = steps-nothing n s w old (Admit k t) (λ m f h. subst (λ z. Allows k m (sub f z)) (sym p) (e.right m (f x) (subst (λ j. Allows j m (f x)) (sym q) (subst (Meets m f (f x)) u (h x)))))

@@ -7,6 +7,6 @@ pub mod solve;
 mod step;
 pub mod subst;
 pub mod task;
-mod walk;
 #[cfg(test)]
 mod tests;
+mod walk;

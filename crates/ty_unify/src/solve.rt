@@ -75,7 +75,12 @@ fn bind_variable(
 }
 
 /// Gives a free variable a mark that allows less.
-fn lower_mark(s: &mut Subst, v: usize, mark: Mark, trail: &mut Vec<Kept>) -> Result<(), UnifyRefused>
+fn lower_mark(
+    s: &mut Subst,
+    v: usize,
+    mark: Mark,
+    trail: &mut Vec<Kept>,
+) -> Result<(), UnifyRefused>
     requires { Lowers (length s.old.slots.items) (look s.old.slots.items) v mark }
     ensures undone { undo trail.new.items s.new.slots.items ≡ undo trail.old.items s.old.slots.items }
     ensures same_length { length s.new.slots.items ≡ length s.old.slots.items }

@@ -66,7 +66,12 @@ fn equal_applied(
 }
 
 /// Makes two types equal that are no bound variables.
-fn equal_found(s: &Subst, left: Ty, right: Ty, tasks: &mut Vec<Task>) -> Result<Option<Write>, UnifyRefused>
+fn equal_found(
+    s: &Subst,
+    left: Ty,
+    right: Ty,
+    tasks: &mut Vec<Task>,
+) -> Result<Option<Write>, UnifyRefused>
     requires left_walked { IsWalked (look s.now.slots.items) (type_of left) }
     requires right_walked { IsWalked (look s.now.slots.items) (type_of right) }
     ensures steps { IfOk result (Steps (length s.now.slots.items) (look s.now.slots.items) s.now.acyclic.0 tasks.old.items (Equal left right) tasks.new.items) }
@@ -91,7 +96,13 @@ fn equal_found(s: &Subst, left: Ty, right: Ty, tasks: &mut Vec<Task>) -> Result<
 }
 
 /// Makes two types equal.
-fn equal(alloc: Global, s: &Subst, a: Ty, b: Ty, tasks: &mut Vec<Task>) -> Result<Option<Write>, UnifyRefused>
+fn equal(
+    alloc: Global,
+    s: &Subst,
+    a: Ty,
+    b: Ty,
+    tasks: &mut Vec<Task>,
+) -> Result<Option<Write>, UnifyRefused>
     ensures steps { IfOk result (Steps (length s.now.slots.items) (look s.now.slots.items) s.now.acyclic.0 tasks.old.items (Equal a b) tasks.new.items) }
     ensures cause { IfErr result (RefusesTask (look s.now.slots.items) (Equal a b)) }
 {
@@ -131,7 +142,13 @@ fn head_is_of(class: Class, head: &Head) -> bool
 }
 
 /// Lets a mark stand at a type that is no variable.
-fn admit_applied(s: &Subst, mark: Mark, head: &Head, ts: Vec<Ty>, tasks: &mut Vec<Task>) -> Result<(), UnifyRefused>
+fn admit_applied(
+    s: &Subst,
+    mark: Mark,
+    head: &Head,
+    ts: Vec<Ty>,
+    tasks: &mut Vec<Task>,
+) -> Result<(), UnifyRefused>
     ensures steps { IfOk result (λ _. (t : Ty) → type_of t ≡ con (head_of head.now) (typs_of (map type_of ts.items)) → Steps (length s.now.slots.items) (look s.now.slots.items) s.now.acyclic.0 tasks.old.items (Admit mark t) tasks.new.items None) }
     ensures cause { IfErr result (λ e. (t : Ty) → type_of t ≡ con (head_of head.now) (typs_of (map type_of ts.items)) → RefusesTask (look s.now.slots.items) (Admit mark t) e) }
 {
@@ -159,7 +176,12 @@ fn admit_applied(s: &Subst, mark: Mark, head: &Head, ts: Vec<Ty>, tasks: &mut Ve
 }
 
 /// Lets a mark stand at a type that is no bound variable.
-fn admit_found(s: &Subst, mark: Mark, found: Ty, tasks: &mut Vec<Task>) -> Result<Option<Write>, UnifyRefused>
+fn admit_found(
+    s: &Subst,
+    mark: Mark,
+    found: Ty,
+    tasks: &mut Vec<Task>,
+) -> Result<Option<Write>, UnifyRefused>
     requires { IsWalked (look s.now.slots.items) (type_of found) }
     ensures steps { IfOk result (Steps (length s.now.slots.items) (look s.now.slots.items) s.now.acyclic.0 tasks.old.items (Admit mark found) tasks.new.items) }
     ensures cause { IfErr result (RefusesTask (look s.now.slots.items) (Admit mark found)) }
@@ -174,7 +196,13 @@ fn admit_found(s: &Subst, mark: Mark, found: Ty, tasks: &mut Vec<Task>) -> Resul
 }
 
 /// Lets a mark stand at a type.
-fn admit(alloc: Global, s: &Subst, mark: Mark, ty: Ty, tasks: &mut Vec<Task>) -> Result<Option<Write>, UnifyRefused>
+fn admit(
+    alloc: Global,
+    s: &Subst,
+    mark: Mark,
+    ty: Ty,
+    tasks: &mut Vec<Task>,
+) -> Result<Option<Write>, UnifyRefused>
     ensures steps { IfOk result (Steps (length s.now.slots.items) (look s.now.slots.items) s.now.acyclic.0 tasks.old.items (Admit mark ty) tasks.new.items) }
     ensures cause { IfErr result (RefusesTask (look s.now.slots.items) (Admit mark ty)) }
 {
@@ -183,7 +211,12 @@ fn admit(alloc: Global, s: &Subst, mark: Mark, ty: Ty, tasks: &mut Vec<Task>) ->
 }
 
 /// Takes one task.
-fn take(alloc: Global, s: &Subst, task: Task, tasks: &mut Vec<Task>) -> Result<Option<Write>, UnifyRefused>
+fn take(
+    alloc: Global,
+    s: &Subst,
+    task: Task,
+    tasks: &mut Vec<Task>,
+) -> Result<Option<Write>, UnifyRefused>
     ensures steps { IfOk result (Steps (length s.now.slots.items) (look s.now.slots.items) s.now.acyclic.0 tasks.old.items task tasks.new.items) }
     ensures cause { IfErr result (RefusesTask (look s.now.slots.items) task) }
 {
@@ -194,7 +227,11 @@ fn take(alloc: Global, s: &Subst, task: Task, tasks: &mut Vec<Task>) -> Result<O
 }
 
 /// Takes tasks up to the first that asks for a change.
-pub fn next_write(alloc: Global, s: &Subst, tasks: &mut Vec<Task>) -> Result<Option<Write>, UnifyRefused>
+pub fn next_write(
+    alloc: Global,
+    s: &Subst,
+    tasks: &mut Vec<Task>,
+) -> Result<Option<Write>, UnifyRefused>
     ensures comes { IfOk result (Comes (length s.now.slots.items) (look s.now.slots.items) tasks.old.items tasks.new.items) }
     ensures cause { IfErr result (RefusesTasks (look s.now.slots.items) tasks.old.items) }
 {

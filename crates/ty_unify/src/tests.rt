@@ -6,7 +6,6 @@ use crate::solve::unify;
 use crate::subst::Subst;
 use mlc_base::memory::NoMemory;
 use std::alloc::Global;
-use std::process::Abort;
 use std::test::Fail;
 use ty_core::label::Label;
 use ty_core::mark::{Class, Mark};
@@ -143,77 +142,474 @@ fn answer(alloc: Global, s: &mut Subst, a: &Ty, b: &Ty) -> &'static str {
     }
 }
 
-/// Makes the first pair equal, then tells of the second.
-fn after(alloc: Global, marks: &str, first: (&str, &str), then: (&str, &str)) -> Result<&'static str, NoMemory> {
-    let mut s = variables(alloc, marks)?;
-    let _first = answer(alloc, &mut s, &read(alloc, first.0)?, &read(alloc, first.1)?);
-    Ok(answer(alloc, &mut s, &read(alloc, then.0)?, &read(alloc, then.1)?))
+/// The marks of the variables, a pair that is made equal first, a pair, and what the answer is.
+struct Row {
+    marks: &'static str,
+    before: (&'static str, &'static str),
+    pair: (&'static str, &'static str),
+    expected: &'static str,
 }
 
-fn alone(alloc: Global, marks: &str, a: &str, b: &str) -> Result<&'static str, NoMemory> {
-    let mut s = variables(alloc, marks)?;
-    Ok(answer(alloc, &mut s, &read(alloc, a)?, &read(alloc, b)?))
+fn told(alloc: Global, row: &Row) -> Result<&'static str, NoMemory> {
+    let mut s = variables(alloc, row.marks)?;
+    let _before = answer(
+        alloc,
+        &mut s,
+        &read(alloc, row.before.0)?,
+        &read(alloc, row.before.1)?,
+    );
+    Ok(answer(
+        alloc,
+        &mut s,
+        &read(alloc, row.pair.0)?,
+        &read(alloc, row.pair.1)?,
+    ))
 }
 
-fn check<R: Abort>(rt: &R, alloc: Global, marks: &str, a: &str, b: &str, expected: &str) -> Result<(), NoMemory> {
-    assert_eq!(rt; alone(alloc, marks, a, b)?, expected, "{a} and {b}");
-    assert_eq!(rt; alone(alloc, marks, b, a)?, expected, "{b} and {a}");
-    Ok(())
-}
+static PLAIN_PAIRS: [Row; 28] = [
+    Row {
+        marks: "",
+        before: ("i", "i"),
+        pair: ("i", "i"),
+        expected: "ok",
+    },
+    Row {
+        marks: "",
+        before: ("i", "i"),
+        pair: ("i", "i"),
+        expected: "ok",
+    },
+    Row {
+        marks: "",
+        before: ("i", "i"),
+        pair: ("i", "w"),
+        expected: "clash",
+    },
+    Row {
+        marks: "",
+        before: ("i", "i"),
+        pair: ("w", "i"),
+        expected: "clash",
+    },
+    Row {
+        marks: "..",
+        before: ("i", "i"),
+        pair: ("0", "0"),
+        expected: "ok",
+    },
+    Row {
+        marks: "..",
+        before: ("i", "i"),
+        pair: ("0", "0"),
+        expected: "ok",
+    },
+    Row {
+        marks: "..",
+        before: ("i", "i"),
+        pair: ("0", "1"),
+        expected: "ok",
+    },
+    Row {
+        marks: "..",
+        before: ("i", "i"),
+        pair: ("1", "0"),
+        expected: "ok",
+    },
+    Row {
+        marks: "..",
+        before: ("i", "i"),
+        pair: ("0", "0l"),
+        expected: "circular",
+    },
+    Row {
+        marks: "..",
+        before: ("i", "i"),
+        pair: ("0l", "0"),
+        expected: "circular",
+    },
+    Row {
+        marks: "..",
+        before: ("i", "i"),
+        pair: ("01p", "1l0lp"),
+        expected: "circular",
+    },
+    Row {
+        marks: "..",
+        before: ("i", "i"),
+        pair: ("1l0lp", "01p"),
+        expected: "circular",
+    },
+    Row {
+        marks: "..",
+        before: ("i", "i"),
+        pair: ("01f", "ilwf"),
+        expected: "ok",
+    },
+    Row {
+        marks: "..",
+        before: ("i", "i"),
+        pair: ("ilwf", "01f"),
+        expected: "ok",
+    },
+    Row {
+        marks: "..",
+        before: ("i", "i"),
+        pair: ("00f", "iwf"),
+        expected: "clash",
+    },
+    Row {
+        marks: "..",
+        before: ("i", "i"),
+        pair: ("iwf", "00f"),
+        expected: "clash",
+    },
+    Row {
+        marks: "..",
+        before: ("i", "i"),
+        pair: ("01p", "iwq"),
+        expected: "clash",
+    },
+    Row {
+        marks: "..",
+        before: ("i", "i"),
+        pair: ("iwq", "01p"),
+        expected: "clash",
+    },
+    Row {
+        marks: "..",
+        before: ("i", "i"),
+        pair: ("01p", "u"),
+        expected: "clash",
+    },
+    Row {
+        marks: "..",
+        before: ("i", "i"),
+        pair: ("u", "01p"),
+        expected: "clash",
+    },
+    Row {
+        marks: "..",
+        before: ("i", "i"),
+        pair: ("01f", "01p"),
+        expected: "clash",
+    },
+    Row {
+        marks: "..",
+        before: ("i", "i"),
+        pair: ("01p", "01f"),
+        expected: "clash",
+    },
+    Row {
+        marks: "..",
+        before: ("i", "i"),
+        pair: ("0r", "1l"),
+        expected: "clash",
+    },
+    Row {
+        marks: "..",
+        before: ("i", "i"),
+        pair: ("1l", "0r"),
+        expected: "clash",
+    },
+    Row {
+        marks: "...",
+        before: ("i", "i"),
+        pair: ("01p2p", "12p0p"),
+        expected: "ok",
+    },
+    Row {
+        marks: "...",
+        before: ("i", "i"),
+        pair: ("12p0p", "01p2p"),
+        expected: "ok",
+    },
+    Row {
+        marks: "...",
+        before: ("i", "i"),
+        pair: ("00p", "12p"),
+        expected: "ok",
+    },
+    Row {
+        marks: "...",
+        before: ("i", "i"),
+        pair: ("12p", "00p"),
+        expected: "ok",
+    },
+];
 
 #[test]
 fn plain_pairs(rt: HostRuntime) -> Result<(), Fail> {
-    let alloc = rt.alloc();
-    check(&rt, alloc, "", "i", "i", "ok")?;
-    check(&rt, alloc, "", "i", "w", "clash")?;
-    check(&rt, alloc, "..", "0", "0", "ok")?;
-    check(&rt, alloc, "..", "0", "1", "ok")?;
-    check(&rt, alloc, "..", "0", "0l", "circular")?;
-    check(&rt, alloc, "..", "01p", "1l0lp", "circular")?;
-    check(&rt, alloc, "..", "01f", "ilwf", "ok")?;
-    check(&rt, alloc, "..", "00f", "iwf", "clash")?;
-    check(&rt, alloc, "..", "01p", "iwq", "clash")?;
-    check(&rt, alloc, "..", "01p", "u", "clash")?;
-    check(&rt, alloc, "..", "01f", "01p", "clash")?;
-    check(&rt, alloc, "..", "0r", "1l", "clash")?;
-    check(&rt, alloc, "...", "01p2p", "12p0p", "ok")?;
-    check(&rt, alloc, "...", "00p", "12p", "ok")?;
+    for row in &PLAIN_PAIRS {
+        assert_eq!(rt;
+            told(rt.alloc(), row)?,
+            row.expected,
+            "{} and {}",
+            row.pair.0,
+            row.pair.1
+        );
+    }
     Ok(())
 }
+
+static EQUALITY_FLOWS: [Row; 19] = [
+    Row {
+        marks: "=",
+        before: ("i", "i"),
+        pair: ("0", "i"),
+        expected: "ok",
+    },
+    Row {
+        marks: "=",
+        before: ("i", "i"),
+        pair: ("i", "0"),
+        expected: "ok",
+    },
+    Row {
+        marks: "=",
+        before: ("i", "i"),
+        pair: ("0", "iif"),
+        expected: "clash",
+    },
+    Row {
+        marks: "=",
+        before: ("i", "i"),
+        pair: ("iif", "0"),
+        expected: "clash",
+    },
+    Row {
+        marks: "=",
+        before: ("i", "i"),
+        pair: ("0", "e"),
+        expected: "clash",
+    },
+    Row {
+        marks: "=",
+        before: ("i", "i"),
+        pair: ("e", "0"),
+        expected: "clash",
+    },
+    Row {
+        marks: "=",
+        before: ("i", "i"),
+        pair: ("0", "iifr"),
+        expected: "ok",
+    },
+    Row {
+        marks: "=",
+        before: ("i", "i"),
+        pair: ("iifr", "0"),
+        expected: "ok",
+    },
+    Row {
+        marks: "=",
+        before: ("i", "i"),
+        pair: ("0", "iifl"),
+        expected: "clash",
+    },
+    Row {
+        marks: "=",
+        before: ("i", "i"),
+        pair: ("iifl", "0"),
+        expected: "clash",
+    },
+    Row {
+        marks: "=",
+        before: ("i", "i"),
+        pair: ("0", "ia"),
+        expected: "clash",
+    },
+    Row {
+        marks: "=",
+        before: ("i", "i"),
+        pair: ("ia", "0"),
+        expected: "clash",
+    },
+    Row {
+        marks: "=",
+        before: ("i", "i"),
+        pair: ("0", "iiifp"),
+        expected: "clash",
+    },
+    Row {
+        marks: "=",
+        before: ("i", "i"),
+        pair: ("iiifp", "0"),
+        expected: "clash",
+    },
+    Row {
+        marks: "=.",
+        before: ("0", "1l"),
+        pair: ("1", "iif"),
+        expected: "clash",
+    },
+    Row {
+        marks: "=.",
+        before: ("0", "1r"),
+        pair: ("1", "iif"),
+        expected: "ok",
+    },
+    Row {
+        marks: "=.",
+        before: ("1", "0"),
+        pair: ("1", "iif"),
+        expected: "clash",
+    },
+    Row {
+        marks: ".=",
+        before: ("1", "0"),
+        pair: ("0", "iif"),
+        expected: "clash",
+    },
+    Row {
+        marks: "..",
+        before: ("1", "0"),
+        pair: ("0", "iif"),
+        expected: "ok",
+    },
+];
 
 #[test]
 fn equality_flows(rt: HostRuntime) -> Result<(), Fail> {
-    let alloc = rt.alloc();
-    check(&rt, alloc, "=", "0", "i", "ok")?;
-    check(&rt, alloc, "=", "0", "iif", "clash")?;
-    check(&rt, alloc, "=", "0", "e", "clash")?;
-    check(&rt, alloc, "=", "0", "iifr", "ok")?;
-    check(&rt, alloc, "=", "0", "iifl", "clash")?;
-    check(&rt, alloc, "=", "0", "ia", "clash")?;
-    check(&rt, alloc, "=", "0", "iiifp", "clash")?;
-    assert_eq!(rt; after(alloc, "=.", ("0", "1l"), ("1", "iif"))?, "clash");
-    assert_eq!(rt; after(alloc, "=.", ("0", "1r"), ("1", "iif"))?, "ok");
-    assert_eq!(rt; after(alloc, "=.", ("1", "0"), ("1", "iif"))?, "clash");
-    assert_eq!(rt; after(alloc, ".=", ("1", "0"), ("0", "iif"))?, "clash");
-    assert_eq!(rt; after(alloc, "..", ("1", "0"), ("0", "iif"))?, "ok");
+    for row in &EQUALITY_FLOWS {
+        assert_eq!(rt;
+            told(rt.alloc(), row)?,
+            row.expected,
+            "{} and {}",
+            row.pair.0,
+            row.pair.1
+        );
+    }
     Ok(())
 }
 
+static CLASSES_MEET: [Row; 19] = [
+    Row {
+        marks: "n",
+        before: ("i", "i"),
+        pair: ("0", "i"),
+        expected: "ok",
+    },
+    Row {
+        marks: "n",
+        before: ("i", "i"),
+        pair: ("i", "0"),
+        expected: "ok",
+    },
+    Row {
+        marks: "n",
+        before: ("i", "i"),
+        pair: ("0", "c"),
+        expected: "clash",
+    },
+    Row {
+        marks: "n",
+        before: ("i", "i"),
+        pair: ("c", "0"),
+        expected: "clash",
+    },
+    Row {
+        marks: "n",
+        before: ("i", "i"),
+        pair: ("0", "il"),
+        expected: "clash",
+    },
+    Row {
+        marks: "n",
+        before: ("i", "i"),
+        pair: ("il", "0"),
+        expected: "clash",
+    },
+    Row {
+        marks: "n",
+        before: ("i", "i"),
+        pair: ("0", "iif"),
+        expected: "clash",
+    },
+    Row {
+        marks: "n",
+        before: ("i", "i"),
+        pair: ("iif", "0"),
+        expected: "clash",
+    },
+    Row {
+        marks: "nt",
+        before: ("i", "i"),
+        pair: ("0", "1"),
+        expected: "clash",
+    },
+    Row {
+        marks: "nt",
+        before: ("i", "i"),
+        pair: ("1", "0"),
+        expected: "clash",
+    },
+    Row {
+        marks: "no",
+        before: ("i", "i"),
+        pair: ("0", "1"),
+        expected: "ok",
+    },
+    Row {
+        marks: "no",
+        before: ("i", "i"),
+        pair: ("1", "0"),
+        expected: "ok",
+    },
+    Row {
+        marks: "=o",
+        before: ("i", "i"),
+        pair: ("0", "1"),
+        expected: "ok",
+    },
+    Row {
+        marks: "=o",
+        before: ("i", "i"),
+        pair: ("1", "0"),
+        expected: "ok",
+    },
+    Row {
+        marks: "no",
+        before: ("0", "1"),
+        pair: ("1", "s"),
+        expected: "clash",
+    },
+    Row {
+        marks: "on",
+        before: ("0", "1"),
+        pair: ("0", "w"),
+        expected: "ok",
+    },
+    Row {
+        marks: "=o",
+        before: ("0", "1"),
+        pair: ("0", "s"),
+        expected: "ok",
+    },
+    Row {
+        marks: "o=",
+        before: ("0", "1"),
+        pair: ("1", "iif"),
+        expected: "clash",
+    },
+    Row {
+        marks: "to",
+        before: ("0", "1"),
+        pair: ("1", "i"),
+        expected: "clash",
+    },
+];
+
 #[test]
 fn classes_meet(rt: HostRuntime) -> Result<(), Fail> {
-    let alloc = rt.alloc();
-    check(&rt, alloc, "n", "0", "i", "ok")?;
-    check(&rt, alloc, "n", "0", "c", "clash")?;
-    check(&rt, alloc, "n", "0", "il", "clash")?;
-    check(&rt, alloc, "n", "0", "iif", "clash")?;
-    check(&rt, alloc, "nt", "0", "1", "clash")?;
-    check(&rt, alloc, "no", "0", "1", "ok")?;
-    check(&rt, alloc, "=o", "0", "1", "ok")?;
-    assert_eq!(rt; after(alloc, "no", ("0", "1"), ("1", "s"))?, "clash");
-    assert_eq!(rt; after(alloc, "on", ("0", "1"), ("0", "w"))?, "ok");
-    assert_eq!(rt; after(alloc, "=o", ("0", "1"), ("0", "s"))?, "ok");
-    assert_eq!(rt; after(alloc, "o=", ("0", "1"), ("1", "iif"))?, "clash");
-    assert_eq!(rt; after(alloc, "to", ("0", "1"), ("1", "i"))?, "clash");
+    for row in &CLASSES_MEET {
+        assert_eq!(rt;
+            told(rt.alloc(), row)?,
+            row.expected,
+            "{} and {}",
+            row.pair.0,
+            row.pair.1
+        );
+    }
     Ok(())
 }
 
@@ -230,10 +626,19 @@ fn wide(alloc: Global, count: usize) -> Result<Ty, NoMemory> {
 fn a_type_has_at_most_65536_nodes(rt: HostRuntime) -> Result<(), Fail> {
     let alloc = rt.alloc();
     let mut s = variables(alloc, "..")?;
-    assert_eq!(rt; answer(alloc, &mut s, &Ty::Var(0), &wide(alloc, 65_536)?), "large");
+    assert_eq!(rt;
+        answer(alloc, &mut s, &Ty::Var(0), &wide(alloc, 65_536)?),
+        "large"
+    );
     assert_eq!(rt; s.get(0).is_none(), true);
-    assert_eq!(rt; answer(alloc, &mut s, &Ty::Var(0), &wide(alloc, 65_535)?), "ok");
-    assert_eq!(rt; answer(alloc, &mut s, &wide(alloc, 65_535)?, &Ty::Var(0)), "ok");
+    assert_eq!(rt;
+        answer(alloc, &mut s, &Ty::Var(0), &wide(alloc, 65_535)?),
+        "ok"
+    );
+    assert_eq!(rt;
+        answer(alloc, &mut s, &wide(alloc, 65_535)?, &Ty::Var(0)),
+        "ok"
+    );
     Ok(())
 }
 
@@ -246,7 +651,10 @@ fn doubling(alloc: Global, count: usize) -> Result<(Ty, Ty), NoMemory> {
         let head = labels(alloc, 1, 2)?;
         rights.push(two(alloc, head, Some(Ty::Var(i)), Some(Ty::Var(i)))?)?;
     }
-    Ok((Ty::Apply(Head::Function, lefts), Ty::Apply(Head::Function, rights)))
+    Ok((
+        Ty::Apply(Head::Function, lefts),
+        Ty::Apply(Head::Function, rights),
+    ))
 }
 
 #[test]
@@ -260,7 +668,10 @@ fn doubled_types_are_not_built(rt: HostRuntime) -> Result<(), Fail> {
     assert_eq!(rt; answer(alloc, &mut s, &lefts, &rights), "large");
     let (lefts, rights) = doubling(alloc, 14)?;
     assert_eq!(rt; answer(alloc, &mut s, &lefts, &rights), "ok");
-    assert_eq!(rt; answer(alloc, &mut s, &Ty::Var(0), &Ty::Var(14)), "circular");
+    assert_eq!(rt;
+        answer(alloc, &mut s, &Ty::Var(0), &Ty::Var(14)),
+        "circular"
+    );
     Ok(())
 }
 
@@ -275,7 +686,10 @@ fn a_chain_of_ten_thousand(rt: HostRuntime) -> Result<(), Fail> {
         let list = one(alloc, Head::Named(LIST), Some(Ty::Var(i + 1)))?;
         assert_eq!(rt; answer(alloc, &mut s, &Ty::Var(i), &list), "ok");
     }
-    assert_eq!(rt; answer(alloc, &mut s, &Ty::Var(10_000), &Ty::Var(0)), "circular");
+    assert_eq!(rt;
+        answer(alloc, &mut s, &Ty::Var(10_000), &Ty::Var(0)),
+        "circular"
+    );
     assert_eq!(rt; answer(alloc, &mut s, &Ty::Var(0), &Ty::Var(0)), "ok");
     Ok(())
 }

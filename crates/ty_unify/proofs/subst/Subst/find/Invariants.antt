@@ -12,7 +12,7 @@ invariant-loop-next l = record {
   same : (f : ℕ → Typ) → Fits f (look l.self.slots.items) → sub f (type_of l.ty) ≡ sub f (type_of l.found);
   in_bounds : is_below (length l.self.slots.items) (type_of l.ty) ≡ true → is_below (length l.self.slots.items) (type_of l.found) ≡ true;
   lighter : weight l.self.acyclic.0 (type_of l.found) ≤ weight l.self.acyclic.0 (type_of l.ty);
-  forced : (p : Problem) → IsForced p (look l.self.slots.items) → Forces p (type_of l.ty) (type_of l.found)
+  forced : (p : Problem) → IsForced p (look l.self.slots.items) → Forces p (type_of l.ty) (type_of l.found);
 }
 
 abbrev pub decreases-loop-next : goal.decreases-loop-next
