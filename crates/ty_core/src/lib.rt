@@ -1,0 +1,9 @@
+// Types, type names, schemes and environments.
+#![tactic(auto)]
+
+pub mod env;
+pub mod label;
+pub mod mark;
+pub mod name;
+pub mod scheme;
+pub mod ty;

@@ -1,0 +1,67 @@
+-- What an equation of two types forces under a substitution, read off part by part.
+use Rattle.std.specs.Prelude.{◌≡◌, ◌≢◌, ℕ, suc, Bool}
+use Rattle.ty_core.specs.Types.{Typ, var, con, Typs, none, more, Symbol, attribute}
+use Rattle.ty_core.specs.Marks.{Allows, IsOf}
+use Rattle.ty_core.specs.declared.mark.Class.{Class}
+use Rattle.ty_core.specs.declared.mark.Mark.{Mark}
+use Rattle.ty_core.specs.declared.name.Equality.TheVariants.{Always, ByArguments, Never}
+use Rattle.ty_unify.specs.Substitution.{Entry, free, bound}
+
+-- t and u stand at the same place of two lists
+pub data Beside : Typ → Typ → Typs → Typs → Type 0 where
+  here : (t u : Typ) (ts us : Typs) → Beside t u (more t ts) (more u us)
+  later : (t u x y : Typ) (ts us : Typs) → Beside t u ts us → Beside t u (more x ts) (more y us)
+
+abbrev pub count : Typs → ℕ
+count none = 0
+count (more t ts) = suc (count ts)
+
+-- a substitution, and the two types that are to be equal
+pub record Problem : Type 0 where
+  pub before : ℕ → Entry
+  pub left : Typ
+  pub right : Typ
+
+-- the two types are forced to be equal
+pub data Forces (p : Problem) : Typ → Typ → Type 0 where
+  given : Forces p p.left p.right
+  stands : (v : ℕ) (t : Typ) → p.before v ≡ bound t → Forces p (var v) t
+  same : (t : Typ) → Forces p t t
+  back : (t u : Typ) → Forces p t u → Forces p u t
+  along : (t u x : Typ) → Forces p t u → Forces p u x → Forces p t x
+  part : (h : Symbol) (ts us : Typs) (t u : Typ) → Forces p (con h ts) (con h us) → Beside t u ts us → Forces p t u
+
+-- a mark is forced on a type
+pub data Asks (p : Problem) : Mark → Typ → Type 0 where
+  marked : (v : ℕ) (k : Mark) → p.before v ≡ free k → Asks p k (var v)
+  along : (k : Mark) (t u : Typ) → Asks p k t → Forces p t u → Asks p k u
+  part : (h : Symbol) (ts : Typs) (t : Typ) → Asks p Mark.Equality (con h ts) → attribute h ≡ ByArguments → Beside t t ts ts → Asks p Mark.Equality t
+  both : (j k r : Mark) (t : Typ) → Asks p j t → Asks p k t → ((m : ℕ → Bool) (u : Typ) → Allows j m u → Allows k m u → Allows r m u) → Asks p r t
+
+-- two heads differ, or a mark excludes a type, or two marks have no type in common
+pub data Clashes (p : Problem) : Type 0 where
+  heads : (h g : Symbol) (ts us : Typs) → Forces p (con h ts) (con g us) → h ≢ g → Clashes p
+  counts : (h g : Symbol) (ts us : Typs) → Forces p (con h ts) (con g us) → count ts ≢ count us → Clashes p
+  never : (h : Symbol) (ts : Typs) → Asks p Mark.Equality (con h ts) → attribute h ≡ Never → Clashes p
+  outside : (c : Class) (h : Symbol) → Asks p (Mark.Class c) (con h none) → (IsOf c (con h none) → ⊥) → Clashes p
+  crowded : (c : Class) (h : Symbol) (ts : Typs) → Asks p (Mark.Class c) (con h ts) → ts ≢ none → Clashes p
+  apart : (j k : Mark) (t : Typ) → Asks p j t → Asks p k t → ((m : ℕ → Bool) (u : Typ) → Allows j m u → Allows k m u → ⊥) → Clashes p
+
+-- t is forced to lie within u
+pub data Lies (p : Problem) : Typ → Typ → Type 0 where
+  part : (h : Symbol) (ts : Typs) (t u : Typ) → Forces p u (con h ts) → Beside t t ts ts → Lies p t u
+  deeper : (t u x : Typ) → Lies p t u → Lies p u x → Lies p t x
+  along : (t u x : Typ) → Forces p t u → Lies p u x → Lies p t x
+
+-- a variable is forced to lie within its own value
+pub record Loops (p : Problem) : Type 0 where
+  pub variable : ℕ
+  pub within : Lies p (var variable) (var variable)
+
+-- a substitution says no more of a variable than is forced
+abbrev pub ForcedAt : Problem → ℕ → Entry → Type 0
+ForcedAt p v (free k) = Asks p k (var v)
+ForcedAt p v (bound t) = Forces p (var v) t
+
+abbrev pub IsForced : Problem → (ℕ → Entry) → Type 0
+IsForced p s = (v : ℕ) → ForcedAt p v (s v)

@@ -1,0 +1,12 @@
+pub mod Substitution
+pub mod Weight
+pub mod Props
+pub mod SlotsOf
+pub mod Finding
+pub mod Forces
+pub mod Tasks
+pub mod Parts
+pub mod Pending
+pub mod Solve
+pub mod Changes
+pub mod Noted

@@ -1,0 +1,124 @@
+// What each type variable stands for.
+ghost use Rattle.std.specs.Prelude.{◌≡◌, ℕ, ◌+◌, ◌<◌, ◌≤◌, length, MatchOption, IfOk, OnErr, true, false, ◌++◌, ◌∷◌, [], slice_set};
+ghost use Rattle.ty_core.specs.Types.{Typ};
+ghost use Rattle.ty_core.specs.TypesOf.{type_of};
+ghost use Rattle.ty_core.specs.Marks.{is_inhabited};
+ghost use Rattle.ty_unify.specs.Substitution.{mark, sub, free, bound, is_below, is_in, Resolves, Fits};
+ghost use Rattle.ty_unify.specs.SlotsOf.{look};
+ghost use Rattle.ty_unify.specs.Weight.{IsAcyclic, AreBelow, AreInhabited, weight};
+ghost use Rattle.ty_unify.specs.Props.{IsAcyclic-prop, AreBelow-prop, AreInhabited-prop};
+ghost use Rattle.ty_unify.specs.Finding.{StandsFor, IsWalked, Reads};
+
+use mlc_base::memory::NoMemory;
+use std::alloc::Global;
+use ty_core::mark::Mark;
+use ty_core::ty::Ty;
+
+/// What one variable stands for: any type that its mark allows, or one type.
+#[derive(Drop)]
+pub enum Slot {
+    Open(Mark),
+    Full(Ty),
+}
+
+/// What each variable stands for.
+#[derive(Drop)]
+pub struct Subst {
+    pub slots: Vec<Slot>,
+    pub ghost below: { AreBelow (length slots.items) (look slots.items) } by { AreBelow-prop (length slots.items) (look slots.items) },
+    pub ghost acyclic: { IsAcyclic (look slots.items) } by { IsAcyclic-prop (look slots.items) },
+    pub ghost inhabited: { AreInhabited (look slots.items) } by { AreInhabited-prop (look slots.items) },
+}
+
+impl Subst {
+    /// No variables.
+    pub fn new(alloc: Global) -> Result<Subst, NoMemory>
+        ensures { IfOk result (λ s. s.slots.items ≡ []) }
+    {
+        Ok(Subst {
+            slots: Vec::new(alloc),
+        })
+    }
+
+    /// A new variable, with its mark.
+    pub fn fresh(&mut self, mark: Mark) -> Result<usize, NoMemory>
+        requires { is_inhabited mark ≡ true }
+        ensures next { IfOk result (λ v. v ≡ length self.old.slots.items) }
+        ensures marked { IfOk result (λ _. self.new.slots.items ≡ self.old.slots.items ++ Slot.Open mark ∷ []) }
+        ensures err { OnErr result (self.new.slots.items ≡ self.old.slots.items) }
+    {
+        let v = self.slots.len();
+        self.slots.push(Slot::Open(mark))?;
+        Ok(v)
+    }
+
+    /// The type that a bound variable stands for.
+    pub fn get(&self, v: usize) -> Option<&Ty>
+        ensures { MatchOption result (look self.now.slots.items v ≡ free (mark (look self.now.slots.items v))) (λ t. look self.now.slots.items v ≡ bound (type_of t.now)) }
+    {
+        if v < self.slots.len() {
+            match &self.slots[v] {
+                Slot::Full(t) => Some(t),
+                Slot::Open(_) => None,
+            }
+        } else {
+            None
+        }
+    }
+
+    /// The mark of a free variable.
+    pub fn mark_of(&self, v: usize) -> Mark
+        ensures { result ≡ mark (look self.now.slots.items v) }
+    {
+        if v < self.slots.len() {
+            match &self.slots[v] {
+                Slot::Full(_) => Mark::Any,
+                Slot::Open(k) => *k,
+            }
+        } else {
+            Mark::Any
+        }
+    }
+
+    /// Lets a free variable stand for a type in which it doesn't lie.
+    pub fn bind(&mut self, v: usize, t: Ty)
+        requires in_range { v < length self.old.slots.items }
+        requires is_free { look self.old.slots.items v ≡ free (mark (look self.old.slots.items v)) }
+        requires in_bounds { is_below (length self.old.slots.items) (type_of t) ≡ true }
+        requires avoids { (f : ℕ → Typ) → Resolves f (look self.old.slots.items) → is_in v (sub f (type_of t)) ≡ false }
+        ensures { self.new.slots.items ≡ slice_set self.old.slots.items v (Slot.Full t) }
+    {
+        self.slots[v] = Slot::Full(t);
+    }
+
+    /// Gives a free variable another mark.
+    pub fn set_mark(&mut self, v: usize, next: Mark)
+        requires in_range { v < length self.old.slots.items }
+        requires is_free { look self.old.slots.items v ≡ free (mark (look self.old.slots.items v)) }
+        requires inhabited { is_inhabited next ≡ true }
+        ensures { self.new.slots.items ≡ slice_set self.old.slots.items v (Slot.Open next) }
+    {
+        self.slots[v] = Slot::Open(next);
+    }
+
+    /// What a type stands for, if it is a bound variable.
+    pub fn step<'a>(&'a self, ty: &'a Ty) -> Option<&'a Ty>
+        ensures { MatchOption result (IsWalked (look self.now.slots.items) (type_of ty.now)) (λ t. StandsFor (look self.now.slots.items) (type_of ty.now) (type_of t.now)) }
+    {
+        match ty {
+            Ty::Var(v) => self.get(*v),
+            Ty::Apply(_, _) => None,
+        }
+    }
+
+    /// The type itself, or what it stands for in the end: a free variable, or a type that is no variable.
+    pub fn find<'a>(&'a self, ty: &'a Ty) -> &'a Ty
+        ensures { Reads (length self.now.slots.items) (look self.now.slots.items) self.now.acyclic.0 (type_of ty.now) (type_of result.now) }
+    {
+        let mut found = ty;
+        while let Some(next) = self.step(found) {
+            found = next;
+        }
+        found
+    }
+}
