@@ -10,7 +10,6 @@ pub mod memory;
 pub mod names;
 pub mod place;
 pub mod refused;
-pub mod token;
-
 #[cfg(test)]
 mod tests;
+pub mod token;
