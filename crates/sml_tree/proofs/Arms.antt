@@ -1,5 +1,5 @@
 -- One lemma for each kind of type, over plain variables.
-use Rattle.std.proofs.Common.{◌≡◌, ◌≢◌, ℕ, suc, List, [], ◌∷◌, map, length, Vec, Box, Global, Option, Some, None, Bool, true, false, if◌then◌else◌, refl, sym, ap, ◌∙◌}
+use Rattle.std.proofs.Common.{◌≡◌, ◌≢◌, suc, List, [], ◌∷◌, map, length, Vec, Box, Global, Option, Some, true, false, if◌then◌else◌, refl, sym, ap, ◌∙◌}
 use Rattle.mlc_base.specs.declared.place.Place.{Place}
 use Rattle.sml_tree.specs.declared.ident.Tyvar.{Tyvar}
 use Rattle.sml_tree.specs.declared.ident.LongId.{LongId}
@@ -9,7 +9,7 @@ use Rattle.sml_tree.specs.declared.tree.TyPart.{TyPart}
 use Rattle.sml_tree.specs.declared.tree.Ty.TheVariants.{Var, Record, Con, Product, Arrow, Ill}
 use Rattle.sml_tree.specs.BareTree as bare
 use Rattle.sml_tree.specs.Terminal as term
-use Rattle.sml_tree.specs.Derived.{product, arrows, tys_of, tys_list, argument, put_ty, expand_ty, same_length, written_out, abbreviation, numbered_tys}
+use Rattle.sml_tree.specs.Derived.{product, arrows, tys_of, argument, put_ty, expand_ty, same_length, written_out, abbreviation}
 use Rattle.sml_tree.specs.TreeOf.{ty_of, ty_field_of, ty_part_of, ty_fields_of, long_id_of, put_field, put_part, expand_field, expand_part}
 use Rattle.sml_tree.proofs.TyLemmas.{ty_of-Var, ty_of-Record, ty_of-Con, ty_of-Product, ty_of-Arrow, ty_of-Ill}
 use Rattle.sml_tree.proofs.TypeLemmas.{tys_list_of, put_tys_of, put_fields_of, put_numbered, put_arrows, expand_tys_of, expand_fields_of, expand_numbered, expand_arrows}

@@ -1,14 +1,13 @@
 -- Worked examples: the bare trees of trees that were read, and their depths.
-use Rattle.std.proofs.Common.{◌≡◌, ℕ, List, [], ◌∷◌, refl, true, false, Option, Some, None}
+use Rattle.std.proofs.Common.{◌≡◌, ℕ, [], ◌∷◌, refl, true, false, Some, None}
 use Rattle.std.specs.Prelude.{pos}
 use Rattle.mlc_base.specs.declared.label.Label.TheVariants as label
-use Rattle.mlc_base.specs.declared.place.Place.{Place}
-use Rattle.sml_tree.specs.declared.ident.Vid.TheVariants.{Named, Equals, Fresh}
-use Rattle.sml_tree.specs.declared.ident.BuiltIn.TheVariants.{True, False, Nil, Cons}
+use Rattle.sml_tree.specs.declared.ident.Vid.TheVariants.{Named, Fresh}
+use Rattle.sml_tree.specs.declared.ident.BuiltIn.TheVariants.{True, False}
 use Rattle.sml_tree.specs.Terminal.{int}
 use Rattle.sml_tree.specs.BareTree
 use Rattle.sml_tree.specs.Derived.{short}
-use Rattle.sml_tree.specs.Depth.{depth, depth_decs}
+use Rattle.sml_tree.specs.Depth.{depth}
 use Rattle.sml_tree.specs.Bare.{at, bare_exp, bare_decs}
 use Rattle.sml_tree.proofs.Examples
 

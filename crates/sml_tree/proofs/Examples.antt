@@ -1,14 +1,14 @@
 -- Worked examples: a derivation of the tree that each text has. The numbers are the places of first bytes in the text above.
-use Rattle.std.proofs.Common.{◌≡◌, ℕ, suc, ◌<◌, ◌≤◌, List, [], ◌∷◌, refl, arith, Bool, true, false, Option, Some, None}
-use Rattle.std.specs.Prelude.{ℤ, pos}
+use Rattle.std.proofs.Common.{ℕ, List, [], ◌∷◌, refl, arith, true, false, Some, None}
+use Rattle.std.specs.Prelude.{pos}
 use Rattle.mlc_base.specs.declared.label.Label.TheVariants as label
 use Rattle.mlc_base.specs.declared.token.Reserved.TheVariants as res
 use Rattle.sml_tree.specs.declared.ident.Vid.TheVariants.{Named, Equals}
 use Rattle.sml_tree.specs.Fixity.{Fixity}
 use Rattle.sml_tree.specs.Derived.{short}
-use Rattle.sml_tree.specs.Terminal.{Constant, int, word, char, string, LongVid, LongId, Terminal, reserved, number, constant, alpha, symbol, star, long_alpha, long_symbol, long_star, type_var, IsConstant, is_number, is_constant, IsVid, alpha_vid, symbol_vid, star_vid, IsQualifiedVid, long_alpha_vid, long_symbol_vid, long_star_vid, IsAnyVid, any_named, any_equals, IsAnyLongVid, any_short, any_long, IsTycon, alpha_tycon, symbol_tycon, IsLongTycon, short_tycon, long_alpha_tycon, long_symbol_tycon, IsLongStrid, short_strid, long_strid, IsLabel, number_label, word_label}
-use Rattle.sml_tree.specs.ReadTree.{Placed, Ty, var_ty, record_ty, con_ty, product_ty, arrow_ty, paren_ty, Tys, no_tys, ty, TyFields, no_ty_fields, ty_field, Pat, wild_pat, constant_pat, vid_pat, record_pat, unit_pat, tuple_pat, list_pat, paren_pat, con_pat, chain_pat, typed_pat, as_pat, Pats, no_pats, pat, PatFields, no_pat_fields, pat_field, PatField, labelled, punned, punned_as, PatParts, last_pat_part, pat_part, Joint, and_also, or_else, infixed, Head, prefix_head, infix_head, bracket_head, TypeBind, ConBind, DataBind, ExBind, new_exn, same_exn, Exp, constant_exp, vid_exp, record_exp, selector, unit_exp, tuple_exp, list_exp, sequence, paren_exp, let_in, app, chain, typed, handle, raise, if_then, while, case, fn, Exps, no_exps, exp, ExpFields, no_exp_fields, exp_field, Parts, last_part, part, Rules, last_rule, rule, Decs, no_decs, dec, Dec, val_dec, fun_dec, type_dec, datatype_dec, withtype_dec, replicate_dec, exception_dec, local_dec, open_dec, fixity_dec, Binds, last_bind, bind, rec_binds, Funs, last_fun, fun_and, Clauses, last_clause, clause}
-use Rattle.sml_tree.specs.Grammar.{ReadsTy, of_tyvar, of_no_ty_row, of_ty_row, of_tycon, of_tycon_1, of_tycon_n, of_product, of_arrow, of_paren_ty, TyRow, last_ty_row, more_ty_row, TyCommas, last_ty, more_tys, Stars, last_star, more_stars, Arrows, last_arrow, more_arrows, MaybeTy, without_ty, with_ty, BindsVid, plain_vid, op_vid, NamesVid, plain_long, qualified, op_long, IsInfixVid, PatFits, AtPat, of_wild, of_pat_constant, of_pat_vid, of_no_pat_row, of_pat_row, of_unit_pat, of_tuple_pat, of_nil_pat, of_list_pat, of_paren_pat, PatRow, row_dots, last_row, more_row, Field, of_labelled, of_punned, of_punned_as, PatCommas, last_pat, more_pats, Pattern, of_atpat, of_con_pat, of_chain_pat, of_typed_pat, of_as_pat, PatFollows, of_last_pat_part, of_pat_part, AtPats, no_atpats, more_atpats, ReadsHead, of_prefix_head, of_infix_head, of_bracket_head, TyvarCommas, last_tyvar, more_tyvars, Tyvars, no_tyvars, one_tyvar, tyvars_in_brackets, BeginsAt, at_tyvar, at_bracket, at_tycon, OneTypeBind, type_bind, TypeBinds, last_type_bind, more_type_binds, MaybeOf, without_of, with_of, ConBinds, last_con, more_cons, OneDataBind, data_bind, DataBinds, last_data_bind, more_data_binds, OneExBind, new_exception, same_exception, ExBinds, last_exn, more_exns, IsPlacedStrid, is_placed_strid, Strids, last_strid, more_strids, DirectiveVids, last_vid, more_vids, ReadsPrecedence, no_precedence, a_precedence, IsJoint, is_andalso, is_orelse, is_infix, is_infix_equals, Fits, Atom, of_constant, of_vid, of_equals, of_no_row, of_row, of_selector, of_unit, of_tuple, of_nil, of_list, of_sequence, of_paren, of_let, ExpRow, last_exp_row, more_exp_row, Commas, last_exp, more_exps, Semicolons, last_of_sequence, more_of_sequence, Atoms, no_atoms, more_atoms, Reads, of_atom, of_app, of_chain, of_typed, of_handle, of_raise, of_if, of_while, of_case, of_fn, Follows, of_last_part, of_part, Match, of_last_rule, of_rule, Declares, nothing_more, of_semicolon, of_dec, Declare, of_val, of_fun, of_type, of_datatype, of_withtype, of_replication, of_exception, of_local, of_open, of_infix, of_infixr, of_nonfix, ReadsBinds, of_last_bind, of_bind, of_rec, ReadsFuns, of_last_fun, of_fun_and, ReadsClauses, of_last_clause, of_clause}
+use Rattle.sml_tree.specs.Terminal.{int, Terminal, reserved, number, alpha, symbol, star, type_var, is_number, alpha_vid, symbol_vid, any_named, any_short, alpha_tycon, symbol_tycon, short_tycon, number_label, word_label}
+use Rattle.sml_tree.specs.ReadTree.{var_ty, con_ty, product_ty, arrow_ty, no_tys, ty, constant_pat, vid_pat, record_pat, list_pat, paren_pat, chain_pat, no_pats, pat, no_pat_fields, pat_field, labelled, punned, punned_as, last_pat_part, and_also, or_else, infixed, prefix_head, infix_head, bracket_head, Exp, constant_exp, vid_exp, selector, tuple_exp, sequence, paren_exp, let_in, app, chain, typed, handle, raise, if_then, while, case, fn, no_exps, exp, last_part, part, last_rule, rule, Decs, no_decs, dec, val_dec, fun_dec, type_dec, withtype_dec, local_dec, fixity_dec, last_bind, bind, rec_binds, last_fun, last_clause, clause}
+use Rattle.sml_tree.specs.Grammar.{of_tyvar, of_tycon, of_tycon_1, of_product, of_arrow, last_star, last_arrow, more_arrows, without_ty, with_ty, plain_vid, plain_long, op_long, of_pat_constant, of_pat_vid, of_pat_row, of_nil_pat, of_paren_pat, row_dots, last_row, more_row, of_labelled, of_punned, of_punned_as, of_atpat, of_chain_pat, of_last_pat_part, no_atpats, more_atpats, of_prefix_head, of_infix_head, of_bracket_head, no_tyvars, one_tyvar, at_tyvar, type_bind, last_type_bind, without_of, with_of, last_con, more_cons, data_bind, last_data_bind, last_vid, no_precedence, a_precedence, is_andalso, is_orelse, is_infix, is_infix_equals, of_constant, of_vid, of_selector, of_tuple, of_sequence, of_paren, of_let, last_exp, last_of_sequence, no_atoms, more_atoms, Reads, of_atom, of_app, of_chain, of_typed, of_handle, of_raise, of_if, of_while, of_case, of_fn, of_last_part, of_part, of_last_rule, of_rule, Declares, nothing_more, of_semicolon, of_dec, of_val, of_fun, of_type, of_withtype, of_local, of_infix, of_last_bind, of_bind, of_rec, of_last_fun, of_last_clause, of_clause}
 
 abbrev pub plusplus : ℕ
 plusplus = 1

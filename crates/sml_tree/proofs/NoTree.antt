@@ -1,13 +1,13 @@
 -- Worked examples of texts that no tree reads.
-use Rattle.std.proofs.Common.{◌≡◌, ◌<◌, ℕ, List, [], ◌∷◌, refl, sym, arith, Bool, true, false, Option, Some, None, ◌⊎◌, inl, inr, subst, ap, ◌∙◌}
+use Rattle.std.proofs.Common.{◌≡◌, ◌<◌, ℕ, List, [], ◌∷◌, refl, sym, arith, Bool, true, false, Some, ◌⊎◌, inl, inr, subst, ◌∙◌}
 use Rattle.std.specs.Prelude.{ℤ, pos}
 use Rattle.mlc_base.specs.declared.token.Reserved.TheVariants as res
-use Rattle.sml_tree.specs.declared.ident.Vid.TheVariants.{Named, Equals}
-use Rattle.sml_tree.specs.Fixity.{Fixity, fix_of}
-use Rattle.sml_tree.specs.Terminal.{Terminal, reserved, number, alpha, symbol, IsVid, alpha_vid, symbol_vid, is_number}
-use Rattle.sml_tree.specs.ReadTree.{Exp, Parts, Joint, infixed}
+use Rattle.sml_tree.specs.declared.ident.Vid.TheVariants.{Named}
+use Rattle.sml_tree.specs.Fixity.{Fixity}
+use Rattle.sml_tree.specs.Terminal.{Terminal, reserved, number, alpha, symbol, alpha_vid, symbol_vid, is_number}
+use Rattle.sml_tree.specs.ReadTree.{Exp, Parts, Joint}
 use Rattle.sml_tree.specs.Levels.{level, parts_level, joint_level, joint_right}
-use Rattle.sml_tree.specs.Grammar.{Atom, of_constant, of_vid, Reads, of_atom, of_app, of_chain, of_typed, of_handle, Follows, of_last_part, of_part, Fits, IsJoint, is_infix, NamesVid, plain_long, qualified}
+use Rattle.sml_tree.specs.Grammar.{Atom, of_constant, of_vid, Reads, of_atom, of_app, of_chain, of_typed, of_handle, Follows, of_last_part, of_part, IsJoint, is_infix, plain_long, qualified}
 
 -- An infix identifier begins no expression.
 

@@ -1,12 +1,12 @@
 -- Products, function types and arguments under substitution and expansion.
-use Rattle.std.proofs.Common.{◌≡◌, ℕ, suc, ◌+◌, ◌<◌, ◌≤◌, List, [], ◌∷◌, map, refl, ap, sym, ◌∙◌, Bool, true, false, nat_eq, if◌then◌else◌, length, drop, get_or, arith}
+use Rattle.std.proofs.Common.{◌≡◌, ℕ, suc, ◌+◌, ◌<◌, ◌≤◌, List, [], ◌∷◌, map, refl, ap, sym, ◌∙◌, true, false, nat_eq, if◌then◌else◌, length, drop, get_or}
 use Rattle.std.proofs.lemmas.List.{drop_more, drop-map, drop_all}
 use Rattle.mlc_base.specs.declared.label.Label.TheVariants.{Number}
 use Rattle.mlc_base.specs.declared.place.Place.{Place}
 use Rattle.sml_tree.specs.declared.ident.Tyvar.{Tyvar}
 use Rattle.sml_tree.specs.declared.tree.Ty.{Ty}
 use Rattle.sml_tree.specs.BareTree as bare
-use Rattle.sml_tree.specs.Derived.{numbered_tys, product, TyAt, arrows, tys_of, tys_list, argument, put_ty, put_tys, put_ty_fields, expand_ty, expand_tys, expand_ty_fields}
+use Rattle.sml_tree.specs.Derived.{numbered_tys, TyAt, arrows, tys_of, tys_list, argument, put_ty, put_tys, put_ty_fields, expand_ty, expand_tys, expand_ty_fields}
 use Rattle.sml_tree.specs.TreeOf.{ty_of, ty_fields_of, put_field, put_part, expand_field, expand_part, TyFieldOf}
 
 pub tys_list_of : (ts : List bare.Ty) → tys_list (tys_of ts) ≡ ts

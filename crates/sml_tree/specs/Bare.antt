@@ -1,14 +1,14 @@
 -- The bare tree of a tree that was read from a file: brackets are gone, and each derived form is what it stands for.
-use Rattle.std.specs.Prelude.{ℕ, suc, Bool, true, false, List, [], ◌∷◌, ◌++◌, map, Option, Some, None, if◌then◌else◌}
+use Rattle.std.specs.Prelude.{ℕ, Bool, true, false, List, [], ◌∷◌, map, Option, Some, None, if◌then◌else◌}
 use Rattle.mlc_base.specs.declared.label.Label.TheVariants.{Word}
 use Rattle.mlc_base.specs.declared.place.Place.{Place}
-use Rattle.sml_tree.specs.Terminal.{LongVid, LongId}
+use Rattle.sml_tree.specs.Terminal.{LongId}
 use Rattle.sml_tree.specs.declared.ident.Vid.{Vid}
 use Rattle.sml_tree.specs.declared.ident.Vid.TheVariants.{Named}
 use Rattle.sml_tree.specs.BareTree as bare
 use Rattle.sml_tree.specs.declared.tree.Joint as tree
 use Rattle.sml_tree.specs.declared.tree.Joint.TheVariants.{AndAlso, OrElse, Infix}
-use Rattle.sml_tree.specs.Derived.{short, tuple, tuple_pat, product, unit, app_of, Operand, chain_of, VidAt, join, join_pats, TyAt, arrows, select, case_of, if_of, and_of, or_of, sequence_of, let_of, while_of, list_of, list_pat_of, Clause, Function, fun_dec_of, with_result, pun, withtype_of, tys_of}
+use Rattle.sml_tree.specs.Derived.{tuple, tuple_pat, product, unit, app_of, Operand, chain_of, VidAt, join, join_pats, TyAt, arrows, select, case_of, if_of, sequence_of, while_of, list_of, list_pat_of, Clause, Function, fun_dec_of, with_result, pun, withtype_of}
 use Rattle.sml_tree.specs.ReadTree.{Placed, Ty, var_ty, record_ty, con_ty, product_ty, arrow_ty, paren_ty, Tys, no_tys, ty, TyFields, no_ty_fields, ty_field, ty_place, Pat, wild_pat, constant_pat, vid_pat, record_pat, unit_pat, list_pat, paren_pat, con_pat, chain_pat, typed_pat, as_pat, Pats, no_pats, pat, PatFields, no_pat_fields, pat_field, PatField, labelled, punned, punned_as, PatParts, last_pat_part, pat_part, pat_place, Joint, and_also, or_else, infixed, Head, prefix_head, infix_head, bracket_head, head_vid, head_place, TypeBind, ConBind, DataBind, ExBind, new_exn, same_exn, Exp, constant_exp, vid_exp, record_exp, selector, unit_exp, tuple_exp, list_exp, sequence, paren_exp, let_in, app, chain, typed, handle, raise, if_then, while, case, fn, Exps, no_exps, exp, ExpFields, no_exp_fields, exp_field, Parts, last_part, part, Rules, last_rule, rule, Decs, no_decs, dec, Dec, val_dec, fun_dec, type_dec, datatype_dec, withtype_dec, replicate_dec, exception_dec, local_dec, open_dec, fixity_dec, Binds, last_bind, bind, rec_binds, Funs, last_fun, fun_and, Clauses, last_clause, clause, exp_place}
 use Rattle.sml_tree.specs.ReadTree as read
 

@@ -1,6 +1,6 @@
 -- The bare tree of the core (the Definition, sections 2.8 and 2.9, figures of the bare language): what every later definition speaks of.
 -- Each phrase carries the place of its first byte. The constructors that derived forms name are apart from identifiers.
-use Rattle.std.specs.Prelude.{ℕ, Bool, List, [], ◌∷◌, Option}
+use Rattle.std.specs.Prelude.{ℕ, Bool, List, Option}
 use Rattle.mlc_base.specs.declared.label.Label.{Label}
 use Rattle.mlc_base.specs.declared.place.Place.{Place}
 use Rattle.sml_tree.specs.Terminal.{Constant, LongVid, LongId}

@@ -1,5 +1,5 @@
 -- Fixities (the Definition, section 2.6).
-use Rattle.std.specs.Prelude.{ℕ, Bool, true, false, List, [], ◌∷◌, ◌++◌, Option, Some, None, map, reverse, nat_eq, if◌then◌else◌}
+use Rattle.std.specs.Prelude.{ℕ, Bool, true, false, List, [], ◌∷◌, Option, None, map, reverse, nat_eq, if◌then◌else◌}
 use Rattle.sml_tree.specs.declared.fixity.Infix.{Infix}
 use Rattle.sml_tree.specs.declared.fixity.Directive.{Directive}
 use Rattle.sml_tree.specs.declared.ident.Vid.{Vid}

@@ -1,6 +1,6 @@
 -- The tree that is read: one constructor per production of the core (the Definition, sections 2.8 and 2.9 and Appendix B), with brackets and
 -- derived forms (Appendix A) kept. A number that comes first is the place of the phrase's first byte; the others have it from their first part.
-use Rattle.std.specs.Prelude.{ℕ, suc, max, Bool, List, [], ◌∷◌, Option, Some, None}
+use Rattle.std.specs.Prelude.{ℕ, suc, Bool, List, Option}
 use Rattle.mlc_base.specs.declared.label.Label.{Label}
 use Rattle.sml_tree.specs.Terminal.{Constant, LongVid, LongId}
 use Rattle.sml_tree.specs.declared.ident.Tyvar.{Tyvar}

@@ -1,5 +1,5 @@
 -- The table of derived forms, as a function of the form.
-use Rattle.std.specs.Prelude.{List, [], ◌∷◌, Option, Some, None, map}
+use Rattle.std.specs.Prelude.{[], map}
 use Rattle.mlc_base.specs.declared.label.Label.{Label}
 use Rattle.mlc_base.specs.declared.label.Label.TheVariants.{Word}
 use Rattle.sml_tree.specs.declared.ident.Vid.TheVariants.{Named}

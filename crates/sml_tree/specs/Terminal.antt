@@ -1,5 +1,5 @@
 -- The terminals of the grammar: tokens with the place of their first byte, and with `*` told from other identifiers.
-use Rattle.std.specs.Prelude.{ℕ, suc, ℤ, pos, Bool, true, false, List, [], ◌∷◌, map, nat_eq, if◌then◌else◌}
+use Rattle.std.specs.Prelude.{ℕ, suc, ℤ, pos, Bool, true, false, List, [], map, nat_eq, if◌then◌else◌}
 use Rattle.mlc_base.specs.declared.label.Label.{Label}
 use Rattle.mlc_base.specs.declared.label.Label.TheVariants as label
 use Rattle.mlc_base.specs.declared.token.Reserved.{Reserved}

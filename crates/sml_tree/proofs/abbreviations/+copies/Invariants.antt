@@ -1,4 +1,4 @@
-use Rattle.std.proofs.Common.{◌≡◌, map, take, drop}
+use Rattle.std.proofs.Common.{◌≡◌, map, take}
 use Rattle.sml_tree.specs.TreeOf.{ty_of, ty_field_of, ty_part_of}
 use Rattle.sml_tree.proofs.abbreviations.+copies.Given as goal
 

@@ -1,4 +1,4 @@
-use Rattle.std.proofs.Common.{◌≡◌, map, take, drop}
+use Rattle.std.proofs.Common.{◌≡◌, map, take}
 use Rattle.sml_tree.specs.TreeOf.{ty_of, ty_field_of, ty_part_of, put_field, put_part}
 use Rattle.sml_tree.specs.Derived.{put_ty}
 use Rattle.sml_tree.proofs.abbreviations.+puts.Given as goal

@@ -1,4 +1,4 @@
-use Rattle.std.proofs.Common.{◌≡◌, map, refl, ap, sym, ◌∙◌, arith, drop, subst}
+use Rattle.std.proofs.Common.{◌≡◌, map, ap, sym, ◌∙◌, arith, drop, subst}
 use Rattle.std.specs.Prelude.{IfOk}
 use Rattle.sml_tree.specs.TreeOf.{ty_of}
 use Rattle.sml_tree.specs.declared.tree.Ty.TheVariants.{Ill}

@@ -1,4 +1,4 @@
-use Rattle.std.proofs.Common.{◌≡◌, map, take, drop, length, ◌-◌}
+use Rattle.std.proofs.Common.{◌≡◌, map, drop, length, ◌-◌}
 use Rattle.sml_tree.specs.TreeOf.{ty_of}
 use Rattle.sml_tree.specs.Derived.{argument}
 use Rattle.sml_tree.proofs.abbreviations.argument.Given as goal

@@ -1,4 +1,4 @@
-use Rattle.std.proofs.Common.{◌≡◌, map, take, drop, length, ◌-◌}
+use Rattle.std.proofs.Common.{◌≡◌, map, drop, length, ◌-◌}
 use Rattle.sml_tree.specs.TreeOf.{type_bind_of, long_id_of}
 use Rattle.sml_tree.specs.Derived.{binding_of, abbreviation}
 use Rattle.sml_tree.proofs.abbreviations.binding.Given as goal

@@ -1,4 +1,4 @@
-use Rattle.std.proofs.Common.{◌≡◌, map, take, drop}
+use Rattle.std.proofs.Common.{◌≡◌, map, take}
 use Rattle.sml_tree.specs.TreeOf.{data_bind_of, type_bind_of}
 use Rattle.sml_tree.specs.Derived.{expand_bind}
 use Rattle.sml_tree.proofs.abbreviations.expand_binds.Given as goal

@@ -1,4 +1,4 @@
-use Rattle.std.proofs.Common.{◌≡◌, map, take, drop}
+use Rattle.std.proofs.Common.{◌≡◌, map, take}
 use Rattle.sml_tree.specs.TreeOf.{con_bind_of, type_bind_of}
 use Rattle.sml_tree.specs.Derived.{expand_con}
 use Rattle.sml_tree.proofs.abbreviations.expand_cons.Given as goal

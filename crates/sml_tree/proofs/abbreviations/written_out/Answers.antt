@@ -1,4 +1,4 @@
-use Rattle.std.proofs.Common.{◌≡◌, map, ap, sym, ◌∙◌, subst, arith, length, IfOk}
+use Rattle.std.proofs.Common.{◌≡◌, map, ap, sym, ◌∙◌, subst, arith, IfOk}
 use Rattle.std.proofs.lemmas.List.{length-map}
 use Rattle.sml_tree.specs.Derived.{put_ty}
 use Rattle.sml_tree.specs.TreeOf.{ty_of, long_id_of, type_bind_of}
