@@ -1,6 +1,6 @@
 -- Types in a list, one by one.
-use Rattle.std.proofs.Common.{◌≡◌, ℕ, zero, suc, ◌+◌, ◌<◌, List, [], ◌∷◌, length, get_or, take, map, Bool, true, false, ◌&&◌, refl, sym, ap, ap₂, ◌∙◌, arith}
-use Rattle.ty_core.specs.Types.{Typ, Typs, none, more, typs_of, admits, all_admit, nodes, all_nodes}
+use Rattle.std.proofs.Common.{◌≡◌, ℕ, zero, suc, ◌+◌, ◌<◌, List, [], ◌∷◌, length, get_or, take, map, Bool, true, false, ◌&&◌, refl, sym, ap, ◌∙◌, arith}
+use Rattle.ty_core.specs.Types.{Typs, typs_of, admits, all_admit, nodes, all_nodes}
 use Rattle.ty_core.specs.TypesOf.{type_of}
 use Rattle.ty_core.specs.declared.ty.Ty.{Ty}
 

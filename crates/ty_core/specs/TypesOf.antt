@@ -1,5 +1,4 @@
 -- The clean type that a type of the code stands for.
-use Rattle.std.specs.Prelude.{ℕ, List}
 use Rattle.ty_core.specs.Types.{Symbol, arrow, labels, name, Typ, var, con, typs_of}
 use Rattle.ty_core.specs.declared.ty.Head.{Head}
 use Rattle.ty_core.specs.declared.ty.Head.TheVariants.{Function, Record, Named}

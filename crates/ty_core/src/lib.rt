@@ -6,4 +6,6 @@ pub mod label;
 pub mod mark;
 pub mod name;
 pub mod scheme;
+#[cfg(test)]
+mod tests;
 pub mod ty;

@@ -1,5 +1,5 @@
 -- One more binding.
-use Rattle.std.proofs.Common.{◌≡◌, ◌≢◌, ℕ, suc, ◌+◌, ◌*◌, Bool, true, false, nat_eq, if◌then◌else◌, refl, sym, ap, ◌∙◌, arith, subst}
+use Rattle.std.proofs.Common.{◌≡◌, ◌≢◌, ℕ, suc, ◌+◌, ◌*◌, Bool, false, nat_eq, if◌then◌else◌, refl, sym, ap, ◌∙◌, arith, subst}
 use Rattle.std.proofs.lemmas.Bool.{eq-eqb, ne_eqb, or_parts, cases_eq}
 use mathlib.Core.Logic.{◌⊎◌, inl, inr}
 use Rattle.ty_core.specs.Types.{Typ, var, con, Typs, none, more}

@@ -1,20 +1,19 @@
 -- One change to a substitution.
-use Rattle.std.proofs.Common.{◌≡◌, ◌≢◌, ◌<◌, ◌≤◌, ◌↔◌, ℕ, zero, suc, ◌+◌, Bool, true, false, List, [], ◌∷◌, ◌++◌, length, set, Some, ap, sym, ◌∙◌, subst, refl, arith}
+use Rattle.std.proofs.Common.{◌≡◌, ◌<◌, ◌≤◌, ℕ, zero, suc, Bool, true, List, [], ◌∷◌, ◌++◌, length, set, ap, sym, ◌∙◌, subst, refl, arith}
 use Rattle.std.proofs.lemmas.Bool.{cases_eq, lt-ltb}
-use Rattle.std.proofs.lemmas.List.{length-set}
 use mathlib.Core.Logic.{◌⊎◌, inl, inr}
-use Rattle.ty_core.specs.Types.{Typ, var, con, Typs}
+use Rattle.ty_core.specs.Types.{Typ}
 use Rattle.ty_core.specs.TypesOf.{type_of}
-use Rattle.ty_core.specs.Marks.{Allows, is_inhabited, rank_of}
+use Rattle.ty_core.specs.Marks.{Allows, rank_of}
 use Rattle.ty_core.specs.declared.mark.Mark.{Mark}
 use Rattle.ty_core.specs.declared.ty.Ty.{Ty}
 use Rattle.ty_core.specs.declared.ty.Ty.TheVariants.{Var}
 use Rattle.ty_core.proofs.TreeLemmas.{type_of-Var}
-use Rattle.ty_unify.specs.Substitution.{Entry, free, bound, mark, Meets, Solves, sub, is_below}
+use Rattle.ty_unify.specs.Substitution.{free, bound, mark, Meets, Solves, sub, is_below}
 use Rattle.ty_unify.specs.SlotsOf.{entry, look}
 use Rattle.ty_unify.specs.Weight.{AreInhabited}
-use Rattle.ty_unify.specs.Forces.{Problem, Forces, Asks, ForcedAt, IsForced}
-use Rattle.ty_unify.specs.Tasks.{AllHold, Holds, AreForced, IsForcedTask, AreWithin, IsWithin, Does, Lowers, Binds as MayBind}
+use Rattle.ty_unify.specs.Forces.{Problem, Asks, ForcedAt, IsForced}
+use Rattle.ty_unify.specs.Tasks.{Lowers, Binds as MayBind}
 use Rattle.ty_unify.specs.Solve.{undo}
 use Rattle.ty_unify.specs.Changes.{Changes, ranks}
 use Rattle.ty_unify.specs.declared.solve.Kept.{Kept}
@@ -23,7 +22,7 @@ use Rattle.ty_unify.specs.declared.subst.Slot.TheVariants.{Open, Full}
 use Rattle.ty_unify.specs.declared.task.Task.{Task}
 use Rattle.ty_unify.specs.declared.task.Task.TheVariants.{Admit}
 use Rattle.ty_unify.specs.declared.task.Write.TheVariants.{Bind, Remark}
-use Rattle.ty_unify.proofs.Binding.{Binds, bind-solves, solves-bind, free-allows}
+use Rattle.ty_unify.proofs.Binding.{bind-solves, solves-bind, free-allows}
 use Rattle.ty_unify.proofs.Look.{look-set-same, look-set-other}
 use Rattle.ty_unify.proofs.Setting.{set-binds, at-inhabited}
 use Rattle.ty_unify.proofs.StepArms.{hold-push, forced-push, within-push}

@@ -1,9 +1,9 @@
 -- A variable within its own value.
-use Rattle.std.proofs.Common.{◌≡◌, ◌≢◌, ◌≤◌, ℕ, zero, suc, Bool, true, false, ◌||◌, sym, ap, ◌∙◌, subst, refl, arith}
+use Rattle.std.proofs.Common.{◌≡◌, ◌≢◌, ℕ, zero, suc, Bool, true, false, ◌||◌, sym, ap, ◌∙◌, subst, refl, arith}
 use Rattle.std.proofs.lemmas.Bool.{eqb-true}
 use mathlib.Core.Logic.{◌⊎◌, inl, inr}
 use Rattle.ty_core.specs.Types.{Typ, var, con, Typs, none, more, Symbol}
-use Rattle.ty_unify.specs.Substitution.{Entry, free, bound, mark, Solves, Resolves, resolved, sub, subs, is_in, are_in}
+use Rattle.ty_unify.specs.Substitution.{Entry, free, bound, Solves, Resolves, resolved, sub, subs, is_in, are_in}
 use Rattle.ty_unify.specs.Weight.{IsAcyclic}
 use Rattle.ty_unify.specs.Finding.{IsWalked}
 use Rattle.ty_unify.specs.Forces.{Problem, Forces, Lies, Loops, Beside, ForcedAt, IsForced}

@@ -1,10 +1,10 @@
 -- Taking tasks one by one.
-use Rattle.std.proofs.Common.{◌≡◌, ◌<◌, ◌↔◌, ℕ, ◌+◌, Bool, true, List, [], ◌∷◌, ◌++◌, length, Option, Some, None, ap, sym, ◌∙◌, subst, refl, arith}
+use Rattle.std.proofs.Common.{◌≡◌, ◌<◌, ◌↔◌, ℕ, Bool, List, [], ◌∷◌, ◌++◌, length, Option, Some, None, ap, sym, ◌∙◌, subst, refl, arith}
 use Rattle.ty_core.specs.Types.{Typ}
 use Rattle.ty_unify.specs.Substitution.{Entry, Solves}
 use Rattle.ty_unify.specs.SlotsOf.{look}
 use Rattle.ty_unify.specs.Forces.{Problem, IsForced}
-use Rattle.ty_unify.specs.Tasks.{Holds, AllHold, Does, IsForcedTask, AreForced, IsWithin, AreWithin, burden, burdens, Steps, Refuses, RefusesTask, RefusesTasks, Comes}
+use Rattle.ty_unify.specs.Tasks.{AllHold, AreForced, AreWithin, burdens, Steps, RefusesTask, RefusesTasks, Comes}
 use Rattle.ty_unify.specs.declared.subst.Slot.{Slot}
 use Rattle.ty_unify.specs.declared.task.Task.{Task}
 use Rattle.ty_unify.specs.declared.task.Write.{Write}

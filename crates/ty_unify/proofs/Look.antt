@@ -1,7 +1,6 @@
 -- Looking a variable up in the vector of bindings.
 use Rattle.std.proofs.Common.{◌≡◌, ◌≢◌, ℕ, zero, suc, ◌<◌, ◌≤◌, List, [], ◌∷◌, ◌++◌, length, get_or, set, Bool, true, false, if◌then◌else◌, refl, sym, ap, ◌∙◌, arith, subst}
 use Rattle.std.proofs.lemmas.Bool.{and_parts, and_from, ltb-true, lt-ltb}
-use mathlib.Core.Path.{fun_ext}
 use Rattle.ty_core.specs.Types.{Typ, var, con, Typs, none, more}
 use Rattle.ty_unify.specs.Substitution.{Entry, free, bound, mark, is_below, are_below}
 use Rattle.ty_unify.specs.SlotsOf.{look, entry}

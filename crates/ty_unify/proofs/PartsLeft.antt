@@ -1,5 +1,5 @@
 -- Going through the parts of two types from the last one on.
-use Rattle.std.proofs.Common.{◌≡◌, ◌↔◌, ℕ, suc, ◌+◌, Bool, true, List, [], ◌∷◌, ◌++◌, length, map, length-append, refl, sym, ap, ap₂, ◌∙◌, subst, arith}
+use Rattle.std.proofs.Common.{◌≡◌, ◌↔◌, ℕ, ◌+◌, Bool, true, List, [], ◌∷◌, ◌++◌, length, length-append, refl, sym, ap, ap₂, subst, arith}
 use Rattle.std.proofs.lemmas.Bool.{and_parts, and_from}
 use Rattle.ty_core.specs.Types.{Typ, var, con, Typs, none, more, Symbol, attribute, admits, all_admit}
 use Rattle.ty_core.specs.TypesOf.{type_of}

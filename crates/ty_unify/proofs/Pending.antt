@@ -1,6 +1,6 @@
 -- Types put on those that are pending, one by one.
-use Rattle.std.proofs.Common.{◌≡◌, ℕ, zero, suc, ◌+◌, ◌<◌, Bool, true, false, ◌||◌, List, [], ◌∷◌, ◌++◌, length, get_or, take, map, Bor, refl, sym, ap, ◌∙◌, subst, arith}
-use Rattle.ty_core.specs.Types.{Typ, Typs, none, more, nodes, all_nodes}
+use Rattle.std.proofs.Common.{◌≡◌, ℕ, zero, suc, ◌+◌, ◌<◌, Bool, true, false, ◌||◌, List, [], ◌∷◌, ◌++◌, length, get_or, take, Bor, refl, sym, ap, ◌∙◌, arith}
+use Rattle.ty_core.specs.Types.{Typ, none, nodes, all_nodes}
 use Rattle.ty_core.specs.TypesOf.{type_of}
 use Rattle.ty_core.specs.declared.ty.Ty.{Ty}
 use Rattle.ty_unify.specs.Substitution.{sub, subs, is_in, are_in}

@@ -1,13 +1,13 @@
 -- Looking at one type after the other.
-use Rattle.std.proofs.Common.{◌≡◌, ◌<◌, ◌≤◌, ℕ, suc, ◌+◌, Bool, true, false, ◌||◌, List, [], ◌∷◌, ◌++◌, length, map, Vec, Global, Bor, nat_eq, refl, sym, ap, ◌∙◌, subst, arith}
+use Rattle.std.proofs.Common.{◌≡◌, ◌<◌, ◌≤◌, ℕ, suc, ◌+◌, Bool, true, false, ◌||◌, List, [], ◌∷◌, ◌++◌, length, Vec, Global, Bor, refl, sym, ap, ◌∙◌, subst, arith}
 use Rattle.std.proofs.lemmas.Bool.{eq-eqb, ne_eqb, or_right}
-use Rattle.ty_core.specs.Types.{Typ, var, con, Typs, none, more, nodes, all_nodes}
+use Rattle.ty_core.specs.Types.{Typ, var, con, nodes, all_nodes}
 use Rattle.ty_core.specs.TypesOf.{type_of, head_of}
 use Rattle.ty_core.specs.declared.ty.Head.{Head}
 use Rattle.ty_core.specs.declared.ty.Ty.{Ty}
 use Rattle.ty_core.specs.declared.ty.Ty.TheVariants.{Var, Apply}
 use Rattle.ty_core.proofs.TreeLemmas.{type_of-Var, type_of-Apply}
-use Rattle.ty_unify.specs.Substitution.{Entry, free, mark, resolved, Resolves, sub, subs, is_in, are_in}
+use Rattle.ty_unify.specs.Substitution.{Entry, resolved, Resolves, sub, subs, is_in, are_in}
 use Rattle.ty_unify.specs.Weight.{weight, weights}
 use Rattle.ty_unify.specs.Finding.{Reads, IsWalked}
 use Rattle.ty_unify.specs.Pending.{pend, Adds}

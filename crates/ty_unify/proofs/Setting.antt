@@ -1,10 +1,10 @@
 -- A binding written into the vector.
-use Rattle.std.proofs.Common.{◌≡◌, ℕ, zero, suc, ◌<◌, List, [], ◌∷◌, length, set, Bool, true, false, refl, sym, ap, ◌∙◌, arith, subst}
+use Rattle.std.proofs.Common.{◌≡◌, ℕ, ◌<◌, List, length, set, true, false, sym, ap, ◌∙◌, subst}
 use Rattle.std.proofs.lemmas.List.{length-set}
 use Rattle.std.proofs.lemmas.Bool.{cases_eq}
 use mathlib.Core.Logic.{◌⊎◌, inl, inr}
 use Rattle.ty_core.specs.Types.{Typ}
-use Rattle.ty_unify.specs.Substitution.{Entry, sub, mark, free, bound, is_in, Resolves}
+use Rattle.ty_unify.specs.Substitution.{Entry, sub, mark, free, is_in, Resolves}
 use Rattle.ty_core.specs.TypesOf.{type_of}
 use Rattle.ty_unify.specs.SlotsOf.{look, entry}
 use Rattle.ty_unify.specs.Weight.{BelowAt, AreBelow, WeighsAt, IsAcyclic, InhabitedAt, AreInhabited}

@@ -1,5 +1,5 @@
 -- A substitution with no cycle as a function that needs no second look, and that it is the most general solution.
-use Rattle.std.proofs.Common.{◌≡◌, ℕ, zero, suc, ◌<◌, ◌≤◌, Bool, true, false, refl, sym, ap, ap₂, ◌∙◌, arith}
+use Rattle.std.proofs.Common.{◌≡◌, ℕ, zero, suc, ◌<◌, ◌≤◌, Bool, true, refl, sym, ap, ap₂, ◌∙◌, arith}
 use Rattle.ty_core.specs.Types.{Typ, var, con, Typs, none, more}
 use Rattle.ty_unify.specs.Substitution.{sub, subs, Entry, free, bound, Meets, Solves, FitsAt, Fits, resolved, Resolves, is_below, are_below}
 use Rattle.ty_unify.specs.Weight.{weight, weights}

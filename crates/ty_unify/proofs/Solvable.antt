@@ -1,10 +1,10 @@
 -- A substitution with no cycle whose marks are inhabited has a solution.
-use Rattle.std.proofs.Common.{◌≡◌, ◌≤◌, ◌<◌, ◌↔◌, IsTrue, ℕ, zero, suc, Bool, true, false, ◌||◌, List, [], refl, sym, ap, ◌∙◌, subst}
-use Rattle.ty_core.specs.Types.{Typ, var, con, Typs, none, labels, name}
+use Rattle.std.proofs.Common.{◌≡◌, ◌≤◌, ◌<◌, ◌↔◌, IsTrue, ℕ, Bool, true, false, ◌||◌, [], refl, sym, ap, ◌∙◌, subst}
+use Rattle.ty_core.specs.Types.{Typ, con, none, labels, name}
 use Rattle.ty_core.specs.Marks.{Allows, IsOf, overloaded, has, is_inhabited}
 use Rattle.ty_core.specs.declared.mark.Class.{Class}
 use Rattle.ty_core.specs.declared.mark.Mark.{Mark}
-use Rattle.ty_unify.specs.Substitution.{Entry, free, bound, mark, Meets, Solves, resolved, sub}
+use Rattle.ty_unify.specs.Substitution.{Entry, free, bound, mark, Meets, resolved, sub}
 use Rattle.ty_unify.specs.Weight.{IsAcyclic, InhabitedAt, AreInhabited}
 use Rattle.std.proofs.Math.Nat.{lt_of_not-le}
 use Rattle.ty_unify.specs.Solve.{IsSolvable, node_limit}

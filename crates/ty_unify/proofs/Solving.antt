@@ -1,15 +1,14 @@
 -- Tasks and changes up to the end.
-use Rattle.std.proofs.Common.{◌≡◌, ◌<◌, ◌↔◌, ℕ, Bool, true, List, [], ◌∷◌, ◌++◌, length, Option, Some, None, ap, sym, ◌∙◌, subst, refl}
+use Rattle.std.proofs.Common.{◌≡◌, ◌↔◌, ℕ, Bool, true, List, [], ◌∷◌, ◌++◌, length, Some, None, ap, sym, ◌∙◌, subst, refl}
 use Rattle.ty_core.specs.Types.{Typ}
 use Rattle.ty_core.specs.TypesOf.{type_of}
 use Rattle.ty_core.specs.declared.ty.Ty.{Ty}
 use Rattle.ty_unify.specs.Substitution.{Entry, Solves, sub, is_below}
 use Rattle.ty_unify.specs.SlotsOf.{look}
-use Rattle.ty_unify.specs.Forces.{Problem, Forces, ForcedAt, IsForced, Asks}
-use Rattle.ty_unify.specs.Tasks.{AllHold, AreForced, AreWithin, Comes, RefusesTasks, Fit}
+use Rattle.ty_unify.specs.Forces.{Problem, Forces, IsForced}
+use Rattle.ty_unify.specs.Tasks.{AllHold, AreForced, AreWithin, Comes, RefusesTasks}
 use Rattle.ty_unify.specs.Changes.{Changes, RefusesWrite}
-use Rattle.ty_unify.specs.Solve.{IsMostGeneral, IsEarlyCause, undo}
-use Rattle.ty_unify.specs.declared.solve.Kept.{Kept}
+use Rattle.ty_unify.specs.Solve.{IsMostGeneral, IsEarlyCause}
 use Rattle.ty_unify.specs.declared.subst.Slot.{Slot}
 use Rattle.ty_unify.specs.declared.task.Task.{Task}
 use Rattle.ty_unify.specs.declared.task.Task.TheVariants.{Equal}

@@ -1,6 +1,5 @@
 -- A substitution says no more than it says.
-use Rattle.std.proofs.Common.{◌≡◌, ℕ, refl}
-use Rattle.ty_core.specs.Types.{var}
+use Rattle.std.proofs.Common.{◌≡◌, refl}
 use Rattle.ty_unify.specs.Substitution.{Entry, free, bound}
 use Rattle.ty_unify.specs.Forces.{Problem, Forces, Asks, ForcedAt, IsForced}
 

@@ -1,5 +1,5 @@
 -- What each kind of step comes to.
-use Rattle.std.proofs.Common.{◌≡◌, ◌≢◌, ◌<◌, ◌≤◌, ◌↔◌, ℕ, suc, ◌+◌, Bool, true, List, [], ◌∷◌, ◌++◌, Option, Some, None, Result, Ok, Err, IfOk, IfErr, Vec, Global, length, ap, ap₂, sym, ◌∙◌, subst, refl, arith}
+use Rattle.std.proofs.Common.{◌≡◌, ◌≢◌, ◌<◌, ◌↔◌, ℕ, suc, ◌+◌, Bool, true, List, [], ◌∷◌, ◌++◌, Option, Some, None, Result, Ok, Err, IfOk, IfErr, Vec, Global, length, ap, ap₂, sym, ◌∙◌, subst, refl, arith}
 use Rattle.ty_core.specs.Types.{Typ, var, con, Typs, none, more, Symbol, attribute, allowed, admits, all_admit}
 use Rattle.ty_core.specs.declared.name.Equality.TheVariants.{Always, ByArguments, Never}
 use Rattle.ty_core.specs.declared.mark.Class.{Class}
@@ -14,7 +14,7 @@ use Rattle.ty_core.specs.declared.ty.Ty.TheVariants.{Apply}
 use Rattle.ty_core.proofs.TreeLemmas.{type_of-Apply}
 use Rattle.ty_unify.specs.Finding.{Reads, IsWalked}
 use Rattle.ty_unify.specs.Forces.{Problem, Forces, Asks, Clashes, ForcedAt, IsForced, count}
-use Rattle.ty_unify.specs.Tasks.{Holds, AllHold, Does, IsForcedTask, AreForced, IsForcedWrite, IsWithin, AreWithin, burden, burdens, Fit, Steps, Refuses, RefusesTask, RefusesTasks, Comes}
+use Rattle.ty_unify.specs.Tasks.{Holds, AllHold, Does, IsForcedTask, AreForced, IsForcedWrite, IsWithin, AreWithin, burden, burdens, Fit, Steps, RefusesTask}
 use Rattle.ty_unify.specs.declared.task.Task.{Task}
 use Rattle.ty_unify.specs.declared.task.Task.TheVariants.{Equal, Admit}
 use Rattle.ty_unify.specs.declared.task.Write.{Write}

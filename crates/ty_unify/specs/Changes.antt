@@ -1,5 +1,5 @@
 -- What a change to a substitution comes to.
-use Rattle.std.specs.Prelude.{◌≡◌, ◌↔◌, ◌<◌, ℕ, ◌+◌, Bool, List, [], ◌∷◌, length, Some}
+use Rattle.std.specs.Prelude.{◌↔◌, ◌<◌, ℕ, ◌+◌, Bool, List, [], ◌∷◌, length, Some}
 use Rattle.ty_core.specs.Types.{Typ}
 use Rattle.ty_core.specs.Marks.{rank_of}
 use Rattle.ty_unify.specs.Substitution.{Entry, Solves}

@@ -4,7 +4,7 @@ use Rattle.ty_core.specs.Types.{Typ, var, con, Typs, none, more, Symbol, attribu
 use Rattle.ty_core.specs.Marks.{Allows, IsOf}
 use Rattle.ty_core.specs.declared.mark.Class.{Class}
 use Rattle.ty_core.specs.declared.mark.Mark.{Mark}
-use Rattle.ty_core.specs.declared.name.Equality.TheVariants.{Always, ByArguments, Never}
+use Rattle.ty_core.specs.declared.name.Equality.TheVariants.{ByArguments, Never}
 use Rattle.ty_unify.specs.Substitution.{Entry, free, bound}
 
 -- t and u stand at the same place of two lists

@@ -1,5 +1,5 @@
 -- Substitutions and their solutions (section 4.2 and 4.4 of the Definition).
-use Rattle.std.specs.Prelude.{◌≡◌, ℕ, ◌+◌, suc, Bool, true, false, ◌&&◌, ◌||◌, nat_lt, nat_eq, ⊤}
+use Rattle.std.specs.Prelude.{◌≡◌, ℕ, Bool, true, false, ◌&&◌, ◌||◌, nat_lt, nat_eq, ⊤}
 use Rattle.ty_core.specs.Types.{Typ, var, con, Typs, none, more}
 use Rattle.ty_core.specs.Marks.{Allows}
 use Rattle.ty_core.specs.declared.mark.Mark.{Mark}

@@ -1,10 +1,10 @@
 -- What is still to be made so, and the next change to a substitution.
-use Rattle.std.specs.Prelude.{◌≡◌, ◌≢◌, ◌↔◌, ◌<◌, ◌≤◌, ℕ, ◌+◌, suc, Bool, true, List, [], ◌∷◌, Option, Some, None, ⊤}
+use Rattle.std.specs.Prelude.{◌≡◌, ◌≢◌, ◌↔◌, ◌<◌, ℕ, ◌+◌, Bool, true, List, [], ◌∷◌, Option, Some, None, ⊤}
 use Rattle.ty_core.specs.Types.{Typ, var}
 use Rattle.ty_core.specs.TypesOf.{type_of}
 use Rattle.ty_core.specs.Marks.{Allows, is_inhabited, rank_of}
 use Rattle.ty_core.specs.declared.mark.Mark.{Mark}
-use Rattle.ty_unify.specs.Substitution.{Entry, free, bound, mark, sub, is_below, Solves}
+use Rattle.ty_unify.specs.Substitution.{Entry, free, mark, sub, is_below, Solves}
 use Rattle.ty_unify.specs.Finding.{IsWalked}
 use Rattle.ty_unify.specs.Weight.{weight}
 use Rattle.ty_unify.specs.Forces.{Problem, Forces, Asks, Clashes, Loops, IsForced}

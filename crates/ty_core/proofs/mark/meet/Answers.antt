@@ -1,5 +1,5 @@
-use Rattle.std.proofs.Common.{subst, ap₂}
-use Rattle.ty_core.specs.Marks.{Allows, IsMeet, IsOf, is_inhabited}
+use Rattle.std.proofs.Common.{subst}
+use Rattle.ty_core.specs.Marks.{Allows}
 use Rattle.ty_core.specs.declared.mark.Mark.{Mark}
 use Rattle.ty_core.proofs.Classes.{empty-meet}
 use Rattle.ty_core.proofs.mark.meet.Goals as goal

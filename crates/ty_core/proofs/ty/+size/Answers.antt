@@ -1,4 +1,4 @@
-use Rattle.std.proofs.Common.{◌≡◌, ◌+◌, add-one, arith, ap, ◌∙◌}
+use Rattle.std.proofs.Common.{add-one, arith}
 use Rattle.ty_core.proofs.Lists.{next-nodes}
 use Rattle.ty_core.proofs.ty.+size.Goals as goal
 

@@ -1,4 +1,4 @@
-use Rattle.std.proofs.Common.{add-one, sym, ◌∙◌, arith}
+use Rattle.std.proofs.Common.{add-one, sym, ◌∙◌}
 use Rattle.ty_unify.proofs.Knowing.{one-unknown, next-known}
 use Rattle.ty_unify.proofs.known.+known.Goals as goal
 

@@ -1,5 +1,3 @@
-use Rattle.std.proofs.Common.{sym, arith}
-use Rattle.ty_core.specs.TypesOf.{type_of}
 use Rattle.ty_unify.specs.SlotsOf.{look}
 use Rattle.ty_unify.proofs.Solvable.{solvable, large}
 use Rattle.ty_unify.proofs.solve.attempt.Goals as goal

@@ -1,4 +1,4 @@
-use Rattle.std.proofs.Common.{◌∙◌, ap, sym, subst, refl}
+use Rattle.std.proofs.Common.{◌∙◌, sym}
 use Rattle.ty_core.specs.TypesOf.{type_of}
 use Rattle.ty_unify.specs.SlotsOf.{look}
 use Rattle.ty_unify.proofs.Changing.{changed-back, kept-back, bind-changed}

@@ -1,5 +1,4 @@
-use Rattle.std.proofs.Common.{◌∙◌, ap, sym, subst}
-use Rattle.ty_unify.specs.Solve.{undo}
+use Rattle.std.proofs.Common.{sym, subst}
 use Rattle.ty_unify.specs.Changes.{Changes}
 use Rattle.ty_unify.specs.declared.task.Write.TheVariants.{Remark}
 use Rattle.ty_unify.proofs.Changing.{changed-back, remark-changes}

@@ -1,6 +1,4 @@
 use Rattle.std.proofs.Common.{◌∙◌, subst, refl}
-use Rattle.ty_core.specs.TypesOf.{type_of}
-use Rattle.ty_unify.specs.SlotsOf.{look}
 use Rattle.ty_unify.specs.Tasks.{Comes}
 use Rattle.ty_unify.proofs.Solving.{solving-begins, solving-next, solving-ends, solving-refused, change-refused, pushed}
 use Rattle.ty_unify.proofs.solve.solve.Goals as goal

@@ -1,8 +1,8 @@
-use Rattle.std.proofs.Common.{◌≡◌, length, subst, sym, ap, arith, rules, None}
+use Rattle.std.proofs.Common.{◌≡◌, length, subst, sym, rules, None}
 use Rattle.ty_core.specs.declared.mark.Mark.{Mark}
 use Rattle.ty_core.specs.Types.{con, none}
 use Rattle.ty_core.specs.Marks.{IsOf}
-use Rattle.ty_core.specs.TypesOf.{type_of, head_of}
+use Rattle.ty_core.specs.TypesOf.{head_of}
 use Rattle.ty_unify.specs.SlotsOf.{look}
 use Rattle.ty_unify.specs.Tasks.{Steps, RefusesTask}
 use Rattle.ty_unify.specs.declared.task.Task.TheVariants.{Admit}

@@ -1,4 +1,4 @@
-use Rattle.std.proofs.Common.{◌≡◌, length, arith, rules}
+use Rattle.std.proofs.Common.{◌≡◌, length, rules}
 use Rattle.ty_core.specs.TypesOf.{head_of}
 use Rattle.ty_unify.proofs.StepArms.{heads-clash, counts-clash, parts-steps}
 use Rattle.ty_unify.proofs.step.equal_applied.Goals as goal

@@ -1,4 +1,4 @@
-use Rattle.std.proofs.Common.{sym, ap, ◌∙◌, subst, refl}
+use Rattle.std.proofs.Common.{sym, ap, ◌∙◌, subst}
 use Rattle.ty_core.proofs.TreeLemmas.{type_of-Var, type_of-Apply}
 use Rattle.ty_core.specs.TypesOf.{type_of}
 use Rattle.ty_unify.specs.SlotsOf.{look}

@@ -1,7 +1,7 @@
-use Rattle.std.proofs.Common.{◌≡◌, length, arith, subst}
+use Rattle.std.proofs.Common.{length, subst}
 use Rattle.ty_unify.specs.SlotsOf.{look}
 use Rattle.ty_unify.specs.Tasks.{Steps}
-use Rattle.ty_unify.proofs.Coming.{goes-on, goes-down, comes-to, comes-to-end, comes-refused}
+use Rattle.ty_unify.proofs.Coming.{goes-on, goes-down, comes-to, comes-refused}
 use Rattle.ty_unify.proofs.step.next_write.Goals as goal
 
 pub returns-in-Err-clause-cause : goal.returns-in-Err-clause-cause

@@ -1,6 +1,4 @@
-use Rattle.std.proofs.Common.{None}
 use Rattle.ty_unify.specs.Tasks.{burdens}
-use Rattle.ty_unify.specs.SlotsOf.{look}
 use Rattle.ty_unify.proofs.Coming.{Going}
 use Rattle.ty_unify.proofs.step.next_write.Given as goal
 

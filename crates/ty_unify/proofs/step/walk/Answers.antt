@@ -1,5 +1,3 @@
-use Rattle.std.proofs.Common.{ap, sym, subst, refl, ◌∙◌, arith}
-use Rattle.ty_core.specs.TypesOf.{type_of}
 use Rattle.ty_unify.proofs.StepArms.{reads-itself}
 use Rattle.ty_unify.proofs.step.walk.Goals as goal
 

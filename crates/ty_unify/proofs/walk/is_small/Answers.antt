@@ -1,4 +1,4 @@
-use Rattle.std.proofs.Common.{◌≡◌, ◌↔◌, IsTrue, length, subst, sym, add-one, arith, rules}
+use Rattle.std.proofs.Common.{◌≡◌, ◌↔◌, IsTrue, length, subst, add-one, arith, rules}
 use Rattle.ty_unify.specs.Pending.{Adds}
 use Rattle.ty_unify.specs.Solve.{node_limit}
 use Rattle.ty_unify.proofs.Lists.{all}
