@@ -2,7 +2,6 @@
 #![tactic(auto)]
 
 pub mod env;
-pub mod label;
 pub mod mark;
 pub mod name;
 pub mod scheme;

@@ -7,7 +7,7 @@ use crate::subst::Subst;
 use mlc_base::memory::NoMemory;
 use std::alloc::Global;
 use std::test::Fail;
-use ty_core::label::Label;
+use mlc_base::label::Label;
 use ty_core::mark::{Class, Mark};
 use ty_core::name::{Equality, TyName};
 use ty_core::ty::{Head, Ty};
