@@ -3,8 +3,8 @@ ghost use Rattle.std.specs.Prelude.{◌≡◌, ◌^◌, ◌-◌, map, min, IfOk,
 ghost use Rattle.ty_core.specs.Types.{admits, all_admit, nodes, all_nodes, no_variable, typs_of, attribute};
 ghost use Rattle.ty_core.specs.TypesOf.{type_of, head_of};
 
-use mlc_base::label::Label;
 use crate::name::{Equality, TyName};
+use mlc_base::label::Label;
 use mlc_base::memory::NoMemory;
 use std::alloc::Global;
 
