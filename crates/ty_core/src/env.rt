@@ -1,5 +1,9 @@
 // Environments and bases.
 
+ghost use Rattle.std.specs.Prelude.{◌≡◌, []};
+ghost use Rattle.indexmap.specs.IndexMap.{IsEmpty};
+ghost use Rattle.ty_core.specs.declared.env.Env.{out-Env};
+
 use crate::name::TyName;
 use crate::scheme::{Scheme, TypeFunction};
 use indexmap::IndexMap;
@@ -78,7 +82,11 @@ pub struct Basis {
 
 impl Env {
     /// The environment with nothing in it.
-    pub fn new(alloc: Global) -> Env {
+    pub fn new(alloc: Global) -> Env
+        ensures values { IsEmpty (out-Env result).values }
+        ensures types { IsEmpty (out-Env result).types }
+        ensures structures { (out-Env result).structures.items ≡ [] }
+    {
         Env {
             values: IndexMap::new(alloc),
             types: IndexMap::new(alloc),
@@ -89,7 +97,14 @@ impl Env {
 
 impl Basis {
     /// The basis with nothing in it.
-    pub fn new(alloc: Global) -> Basis {
+    pub fn new(alloc: Global) -> Basis
+        ensures values { IsEmpty (out-Env result.env).values }
+        ensures types { IsEmpty (out-Env result.env).types }
+        ensures structures { (out-Env result.env).structures.items ≡ [] }
+        ensures signatures { IsEmpty result.signatures }
+        ensures functors { IsEmpty result.functors }
+        ensures fixities { IsEmpty result.fixities }
+    {
         Basis {
             env: Env::new(alloc),
             signatures: IndexMap::new(alloc),
