@@ -1,0 +1,4 @@
+pub mod Answer
+pub mod Terminals
+pub mod Types
+pub mod PartialTypes

@@ -1,0 +1,5 @@
+// The grammar of the core as a function that reads it, and the laws of both.
+#![tactic(auto)]
+
+/// Nothing yet.
+pub fn nothing() {}
