@@ -1,0 +1,121 @@
+// What the tokens that are left begin with.
+
+ghost use Rattle.std.specs.Prelude.{◌≡◌, ◌<◌, ◌≤◌, length, map, Some, None, MatchOption, IfSome};
+ghost use Rattle.sml_tree.specs.Bare as bare;
+ghost use Rattle.sml_grammar.specs.Terminals.{after_word, after_star, place_at, word_at, tail, first_as, as_label, as_vid, as_tycon, as_tyvar, taken};
+ghost use Rattle.sml_parser.specs.Left.{left};
+
+use crate::source::Source;
+use mlc_base::label::Label;
+use mlc_base::names::Name;
+use mlc_base::place::Place;
+use mlc_base::token::{Reserved, Token, TokenKind};
+use sml_tree::ident::Tyvar;
+
+/// The reserved word that stands first.
+pub fn word_at(source: Source, tokens: &[Token]) -> Option<Reserved>
+    ensures { result ≡ word_at (left source tokens.now) }
+{
+    match tokens {
+        [first, ..] => match &first.kind {
+            TokenKind::Reserved(word) => Some(*word),
+            _ => None,
+        },
+        [] => None,
+    }
+}
+
+/// What follows the first token.
+pub fn tail<'a>(source: Source, tokens: &'a [Token]) -> &'a [Token]
+    ensures { left source result.now ≡ tail (left source tokens.now) }
+{
+    match tokens {
+        [_, rest @ ..] => rest,
+        [] => tokens,
+    }
+}
+
+/// What follows a reserved word, where it stands first.
+pub fn after_word<'a>(source: Source, word: Reserved, tokens: &'a [Token]) -> Option<&'a [Token]>
+    ensures { MatchOption result (after_word word (left source tokens.now) ≡ None) (λ rest. after_word word (left source tokens.now) ≡ Some (left source rest.now)) }
+{
+    match tokens {
+        [first, rest @ ..] => match &first.kind {
+            TokenKind::Reserved(found) => {
+                if *found == word {
+                    Some(rest)
+                } else {
+                    None
+                }
+            }
+            _ => None,
+        },
+        [] => None,
+    }
+}
+
+/// Where the first token begins; nobody asks where there is none.
+pub fn place_at(source: Source, tokens: &[Token]) -> Place
+    ensures { result ≡ bare.at source.file (place_at (left source tokens.now)) }
+{
+    match tokens {
+        [first, ..] => Place { file: source.file, byte: first.span.first },
+        [] => Place { file: source.file, byte: 0 },
+    }
+}
+
+/// The label that stands first.
+pub fn label_at<'a>(source: Source, tokens: &'a [Token]) -> Option<(Label, &'a [Token])>
+    ensures { MatchOption result (first_as as_label (left source tokens.now) ≡ None)
+        (λ x. first_as as_label (left source tokens.now) ≡ taken (record { place = place_at (left source tokens.now); it = x.0 }) (left source x.1.now)) }
+{
+    match tokens {
+        [first, rest @ ..] => match &first.kind {
+            TokenKind::Int { value, plain } => {
+                if *plain && *value > 0 {
+                    Some((Label::Number(value.unsigned_abs()), rest))
+                } else {
+                    None
+                }
+            }
+            TokenKind::Ident(name) => Some((Label::Word(*name), rest)),
+            TokenKind::Symbol(name) => Some((Label::Word(*name), rest)),
+            _ => None,
+        },
+        [] => None,
+    }
+}
+
+/// The type variable that stands first.
+pub fn tyvar_at<'a>(source: Source, tokens: &'a [Token]) -> Option<(Tyvar, &'a [Token])>
+    ensures { MatchOption result (first_as as_tyvar (left source tokens.now) ≡ None)
+        (λ x. first_as as_tyvar (left source tokens.now) ≡ taken (record { place = place_at (left source tokens.now); it = x.0 }) (left source x.1.now)) }
+{
+    match tokens {
+        [first, rest @ ..] => match &first.kind {
+            TokenKind::TypeVar(name) => Some((Tyvar { name: *name, equality: false }, rest)),
+            TokenKind::EqTypeVar(name) => Some((Tyvar { name: *name, equality: true }, rest)),
+            _ => None,
+        },
+        [] => None,
+    }
+}
+
+/// What follows `*`, where it stands first.
+pub fn after_star<'a>(source: Source, tokens: &'a [Token]) -> Option<&'a [Token]>
+    ensures { MatchOption result (after_star (left source tokens.now) ≡ None) (λ rest. after_star (left source tokens.now) ≡ Some (left source rest.now)) }
+{
+    match tokens {
+        [first, rest @ ..] => match &first.kind {
+            TokenKind::Symbol(name) => {
+                if *name == source.star {
+                    Some(rest)
+                } else {
+                    None
+                }
+            }
+            _ => None,
+        },
+        [] => None,
+    }
+}
