@@ -1,5 +1,7 @@
 -- Tests, answers, and loops.
 use Rattle.std.proofs.Common.{◌≡◌, ℕ, zero, suc, List, ◌∷◌, Option, Some, None, Bool, true, false, ◌||◌, ◌⊎◌, inl, inr, refl, sym, ap, ◌∙◌, subst, if◌then◌else◌}
+use Rattle.std.proofs.Common.{max, nat_le, ◌≤◌, ◌<◌, arith}
+use Rattle.std.proofs.lemmas.Bool.{leb-true, leb-false}
 use Rattle.mlc_base.specs.declared.token.Reserved.{Reserved}
 use Rattle.sml_tree.specs.Terminal.{Terminal, reserved}
 use Rattle.sml_grammar.specs.Answer.{Read, Answer, ok, bad, deep, read, then_read, deep_if, Turn, last, more, after_turn, many}
@@ -184,6 +186,17 @@ many-far {B} {S} step Q ends goes (suc k) s i h =
     go g again (last b) m e h = not_deep h
     go g again (more put t) m e h = elim (then_deep (g t m) (λ b o. read (put b) o) h) [ inl d ↦ goes s i put t m e (again t m d) | inr u ↦ not_deep u.2 ]
 
+-- the same, where what a turn gives is told as a whole
+abbrev pub FarTurn : {B S : Type 0} → (S → List Terminal → Type 0) → S → List Terminal → Turn B S → List Terminal → Type 0
+FarTurn Q s i (last b) m = Unit {0}
+FarTurn Q s i (more put t) m = Q t m → Q s i
+
+pub many-reach : {B S : Type 0} (step : S → List Terminal → Answer (Turn B S)) (Q : S → List Terminal → Type 0) →
+  ((s : S) (i : List Terminal) → step s i ≡ deep → Q s i) →
+  ((s : S) (i : List Terminal) (y : Read (Turn B S)) → step s i ≡ ok y → FarTurn Q s i y.tree y.rest) →
+  (k : ℕ) (s : S) (i : List Terminal) → many step k s i ≡ deep → Q s i
+many-reach step Q ends goes k s i h = many-far step Q ends (λ s i put t m e. goes s i (record { tree = more put t; rest = m }) e) k s i h
+
 pub many-last : {B S : Type 0} (step : S → List Terminal → Answer (Turn B S)) (k : ℕ) {s : S} {i : List Terminal} {b : B} {o : List Terminal} → step s i ≡ read (last b) o → many step (suc k) s i ≡ read b o
 unfolding many
 many-last step k e = rw e refl
@@ -204,3 +217,35 @@ many-deep step k {put} e h = many-turn step k e ∙ ap (λ z. then_read z (λ b 
 pub many-stop : {B S : Type 0} (step : S → List Terminal → Answer (Turn B S)) (k : ℕ) {s : S} {i : List Terminal} → step s i ≡ deep → many step (suc k) s i ≡ deep
 unfolding many
 many-stop step k e = rw e refl
+
+-- Complete trees: either the tree is at most n deep, and is read, or it is deeper, and the answer says so.
+pub data Settled {A : Type 0} (x : Answer A) (n d : ℕ) (t : A) (o : List Terminal) : Type 0 where
+  fits : d ≤ n → x ≡ read t o → Settled x n d t o
+  over : n < d → x ≡ deep → Settled x n d t o
+
+pub settled-by : {A : Type 0} {x y : Answer A} {n d : ℕ} {t : A} {o : List Terminal} → x ≡ y → Settled y n d t o → Settled x n d t o
+settled-by e (fits le h) = fits le (e ∙ h)
+settled-by e (over lt h) = over lt (e ∙ h)
+
+pub settled-fits : {A : Type 0} {x : Answer A} {n d : ℕ} {t : A} {o : List Terminal} → Settled x n d t o → d ≤ n → x ≡ read t o
+settled-fits (fits le h) c = h
+settled-fits (over lt h) c = absurd (omega arith)
+
+pub settled-over : {A : Type 0} {x : Answer A} {n d : ℕ} {t : A} {o : List Terminal} → Settled x n d t o → n < d → x ≡ deep
+settled-over (fits le h) c = absurd (omega arith)
+settled-over (over lt h) c = h
+
+pub le_or : (a b : ℕ) → (a ≤ b) ⊎ (b < a)
+le_or a b = go (nat_le a b) refl
+  where
+    go : (t : Bool) → nat_le a b ≡ t → (a ≤ b) ⊎ (b < a)
+    go true e = inl (leb-true a b e)
+    go false e = inr (leb-false a b e)
+
+pub le_max : (k a b : ℕ) → k ≤ max a b → (k ≤ a) ⊎ (k ≤ b)
+le_max k a b h = elim (le_or k a) [ inl p ↦ inl p | inr p ↦ inr (omega arith) ]
+
+pub then_in : {A B C : Type 0} (m : Answer A) (f : A → List Terminal → Answer B) (g : B → List Terminal → Answer C) → then_read m (λ a o. then_read (f a o) g) ≡ then_read (then_read m f) g
+then_in (ok x) f g = refl
+then_in bad f g = refl
+then_in deep f g = refl
