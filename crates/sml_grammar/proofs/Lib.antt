@@ -1,1 +1,5 @@
-
+pub mod Words
+pub mod Answers
+pub mod Terminals
+pub mod Vids
+pub mod TypeShapes
