@@ -214,6 +214,15 @@ pub many-deep : {B S : Type 0} (step : S → List Terminal → Answer (Turn B S)
   many step (suc k) s i ≡ deep
 many-deep step k {put} e h = many-turn step k e ∙ ap (λ z. then_read z (λ b o. read (put b) o)) h
 
+then-same : {A : Type 0} (m : Answer A) → then_read m (λ b o. read b o) ≡ m
+then-same (ok x) = refl
+then-same bad = refl
+then-same deep = refl
+
+-- a turn that puts nothing around the rest
+pub many-pass : {B S : Type 0} (step : S → List Terminal → Answer (Turn B S)) (k : ℕ) {s t : S} {i m : List Terminal} → step s i ≡ read (more (λ b. b) t) m → many step (suc k) s i ≡ many step k t m
+many-pass step k {t} {m} e = many-turn step k e ∙ then-same (many step k t m)
+
 pub many-stop : {B S : Type 0} (step : S → List Terminal → Answer (Turn B S)) (k : ℕ) {s : S} {i : List Terminal} → step s i ≡ deep → many step (suc k) s i ≡ deep
 unfolding many
 many-stop step k e = rw e refl

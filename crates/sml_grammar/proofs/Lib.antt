@@ -3,3 +3,7 @@ pub mod Answers
 pub mod Terminals
 pub mod Vids
 pub mod TypeShapes
+pub mod TypeSound
+pub mod TypeComplete
+pub mod TypePaths
+pub mod TypeOver
