@@ -7,3 +7,4 @@ pub mod TypeSound
 pub mod TypeComplete
 pub mod TypePaths
 pub mod TypeOver
+pub mod TypeFar
