@@ -8,3 +8,4 @@ pub mod TypeComplete
 pub mod TypePaths
 pub mod TypeOver
 pub mod TypeFar
+pub mod MaybeTypes

@@ -1,16 +1,16 @@
 -- Where a partial type is too deep, the answer is that it is.
-use Rattle.std.proofs.Common.{◌≡◌, ℕ, zero, suc, ◌≤◌, ◌<◌, List, ◌∷◌, length, Option, Some, None, ◌⊎◌, inl, inr, refl, ◌∙◌, arith}
+use Rattle.std.proofs.Common.{◌≡◌, ℕ, zero, suc, ◌≤◌, ◌<◌, List, ◌∷◌, length, None, inl, inr, refl, ◌∙◌, arith}
 use Rattle.mlc_base.specs.declared.token.Reserved.TheVariants as res
-use Rattle.sml_tree.specs.Terminal.{LongId, Terminal, reserved, star, IsLongTycon}
+use Rattle.sml_tree.specs.Terminal.{LongId, Terminal, reserved, IsLongTycon}
 use Rattle.sml_tree.specs.ReadTree.{Ty}
 use Rattle.sml_tree.specs.Depth.{depth_ty}
 use Rattle.sml_tree.specs.Levels.{ty_level}
 use Rattle.sml_tree.specs.Grammar.{ReadsTy}
-use Rattle.sml_grammar.specs.Answer.{Answer, deep, read, many, whole}
-use Rattle.sml_grammar.specs.Terminals.{first_as, as_label, after_word, NoState, no_state, tail}
+use Rattle.sml_grammar.specs.Answer.{deep, many}
+use Rattle.sml_grammar.specs.Terminals.{after_word, NoState, no_state, tail}
 use Rattle.sml_grammar.specs.Types.{TyReader, ty_start, ty_atom, ty_field_turn, ty_commas_turn, star_turn, arrow_turn, brace_ty, postfix_turn, ty_from, read_ty}
 use Rattle.sml_grammar.specs.PartialTypes.{OpensTy, begun_ty, in_paren_ty, in_arguments, in_ty_row, applied_ty, starred, in_product, arrowed, in_function, OpensTys, in_ty, past_ty, OpensTyRow, in_ty_field, past_ty_field, OpensStars, in_star, past_star, OpensArrows, in_arrow, past_arrow}
-use Rattle.sml_grammar.proofs.Answers.{Settled, fits, over, le_or, many-last, many-deep, many-stop}
+use Rattle.sml_grammar.proofs.Answers.{fits, over, le_or, many-deep, many-stop}
 use Rattle.sml_grammar.proofs.Words.{WordAt, at_word, StarAt, at_star}
 use Rattle.sml_grammar.proofs.Terminals.{label-word, not-word}
 use Rattle.sml_grammar.proofs.TypeShapes.{ty-shorter, star-no_con, arrow-no_con, arrow-no_star}
@@ -38,45 +38,45 @@ module _ (n : ℕ) (self : TyReader) (settles : SettlesTy n self) (overs : OverT
   row-over s o lt zero fuel = absurd (omega arith)
   row-over s (in_ty_field {i} {d} p l o) lt (suc k) fuel = many-stop (ty_field_turn self) k (row-deep n self settles s p l (overs 0 i d o lt))
   row-over s (past_ty_field p q l d o) lt (suc k) fuel =
-    let sh = ty-shorter d in
-    elim (settles 0 _ _ _ d (omega arith) refl) [
-        fits le h ↦ many-deep (ty_field_turn self) k (row-turns n self settles s p q l h) (row-over s o lt k (omega arith))
-      | over g h ↦ many-stop (ty_field_turn self) k (row-deep n self settles s p l h)
-    ]
+      let sh = ty-shorter d in
+      elim (settles 0 _ _ _ d (omega arith) refl) [
+        | fits le h ↦ many-deep (ty_field_turn self) k (row-turns n self settles s p q l h) (row-over s o lt k (omega arith))
+        | over g h ↦ many-stop (ty_field_turn self) k (row-deep n self settles s p l h)
+      ]
 
   commas-over : {i : List Terminal} {d : ℕ} (s : NoState) → OpensTys i d → n < d → (k : ℕ) → length i < k → many (ty_commas_turn self) k s i ≡ deep
   commas-over s o lt zero fuel = absurd (omega arith)
   commas-over s (in_ty {i} {d} o) lt (suc k) fuel = many-stop (ty_commas_turn self) k (commas-deep n self settles s (overs 0 i d o lt))
   commas-over s (past_ty q d o) lt (suc k) fuel =
-    let sh = ty-shorter d in
-    elim (settles 0 _ _ _ d (omega arith) refl) [
-        fits le h ↦ many-deep (ty_commas_turn self) k (commas-turns n self settles s q h) (commas-over s o lt k (omega arith))
-      | over g h ↦ many-stop (ty_commas_turn self) k (commas-deep n self settles s h)
-    ]
+      let sh = ty-shorter d in
+      elim (settles 0 _ _ _ d (omega arith) refl) [
+        | fits le h ↦ many-deep (ty_commas_turn self) k (commas-turns n self settles s q h) (commas-over s o lt k (omega arith))
+        | over g h ↦ many-stop (ty_commas_turn self) k (commas-deep n self settles s h)
+      ]
 
   stars-over : {i : List Terminal} {d : ℕ} (s : NoState) → OpensStars i d → n < d → (k : ℕ) → length i ≤ k → many (star_turn self) k s (tail i) ≡ deep
   stars-over s (in_star p x o) lt zero fuel = absurd (omega arith)
   stars-over s (past_star p x lv d o) lt zero fuel = absurd (omega arith)
   stars-over s (in_star {i} {d} p x o) lt (suc k) fuel = many-stop (star_turn self) k (stars-deep n self settles s (overs 2 i d o lt))
   stars-over s (past_star p x lv d o) lt (suc k) fuel =
-    let sh = ty-shorter d in
-    let w = stars-front o in
-    elim (operand n self settles lv d (star-no_con w)) [
-        fits le h ↦ many-deep (star_turn self) k (stars-turns n self settles s h w) (stars-over s o lt k (omega arith))
-      | over g h ↦ many-stop (star_turn self) k (stars-deep n self settles s h)
-    ]
+      let sh = ty-shorter d in
+      let w = stars-front o in
+      elim (operand n self settles lv d (star-no_con w)) [
+        | fits le h ↦ many-deep (star_turn self) k (stars-turns n self settles s h w) (stars-over s o lt k (omega arith))
+        | over g h ↦ many-stop (star_turn self) k (stars-deep n self settles s h)
+      ]
 
   arrows-over : {i : List Terminal} {d : ℕ} (s : NoState) → OpensArrows i d → n < d → (k : ℕ) → length i ≤ k → many (arrow_turn self) k s (tail i) ≡ deep
   arrows-over s (in_arrow p o) lt zero fuel = absurd (omega arith)
   arrows-over s (past_arrow p lv d o) lt zero fuel = absurd (omega arith)
   arrows-over s (in_arrow {i} {d} p o) lt (suc k) fuel = many-stop (arrow_turn self) k (arrows-deep n self settles s (overs 1 i d o lt))
   arrows-over s (past_arrow p lv d o) lt (suc k) fuel =
-    let sh = ty-shorter d in
-    let w = arrows-front o in
-    elim (domain n self settles lv d (arrow-no_con w) (arrow-no_star w)) [
-        fits le h ↦ many-deep (arrow_turn self) k (arrows-turns n self settles s h w) (arrows-over s o lt k (omega arith))
-      | over g h ↦ many-stop (arrow_turn self) k (arrows-deep n self settles s h)
-    ]
+      let sh = ty-shorter d in
+      let w = arrows-front o in
+      elim (domain n self settles lv d (arrow-no_con w) (arrow-no_star w)) [
+        | fits le h ↦ many-deep (arrow_turn self) k (arrows-turns n self settles s h w) (arrows-over s o lt k (omega arith))
+        | over g h ↦ many-stop (arrow_turn self) k (arrows-deep n self settles s h)
+      ]
 
   -- deep from the first part on
   from-atom : (l : ℕ) (i : List Terminal) → ty_atom self (ty_start i) ≡ deep → ty_from self n l i ≡ deep
@@ -95,49 +95,49 @@ module _ (n : ℕ) (self : TyReader) (settles : SettlesTy n self) (overs : OverT
 
   starred-over : (l : ℕ) {i m k : List Terminal} {a : Ty} → l ≤ 1 → 2 ≤ ty_level a → ReadsTy i a m → StarAt m k → n < depth_ty a → products n self settles l i ≡ deep
   starred-over l {a} low lv d w lt =
-    elim (simple-settled n self settles lv d (star-no_con w)) [
-        fits le h ↦ (let e = product-deep n self settles l a low w lt in rw (h, e) refl)
-      | over g h ↦ rw h refl
-    ]
+      elim (simple-settled n self settles lv d (star-no_con w)) [
+        | fits le h ↦ (let e = product-deep n self settles l a low w lt in rw (h, e) refl)
+        | over g h ↦ rw h refl
+      ]
 
   product-over : (l : ℕ) {i m : List Terminal} {a : Ty} {d : ℕ} → l ≤ 1 → 2 ≤ ty_level a → ReadsTy i a m → OpensStars m d → n < d → products n self settles l i ≡ deep
   product-over l {m} {a} low lv d o lt =
-    let w = stars-front o in
-    elim (le_or (depth_ty a) n) [
-        inl p ↦ elim (simple-settled n self settles lv d (star-no_con w)) [
-            fits le h ↦ (let e = product-goes n self settles l a low w p in let r = stars-over no_state o lt (suc (length (tail m))) (star-length w) in rw (h, e, r) refl)
+      let w = stars-front o in
+      elim (le_or (depth_ty a) n) [
+        | inl p ↦ elim (simple-settled n self settles lv d (star-no_con w)) [
+          | fits le h ↦ (let e = product-goes n self settles l a low w p in let r = stars-over no_state o lt (suc (length (tail m))) (star-length w) in rw (h, e, r) refl)
           | over g h ↦ rw h refl
         ]
-      | inr p ↦ starred-over l low lv d w p
-    ]
+        | inr p ↦ starred-over l low lv d w p
+      ]
 
   arrowed-over : (l : ℕ) {i m k : List Terminal} {a : Ty} → l ≤ 0 → 1 ≤ ty_level a → ReadsTy i a m → WordAt res.Arrow m k → n < depth_ty a → arrows n self settles l i ≡ deep
   arrowed-over l {a} low lv d w lt =
-    elim (products-settled n self settles l d lv (omega arith) (arrow-no_con w) (λ e. arrow-no_star w)) [
-        fits le h ↦ (let e = arrow-deep n self settles l a low w lt in rw (h, e) refl)
-      | over g h ↦ rw h refl
-    ]
+      elim (products-settled n self settles l d lv (omega arith) (arrow-no_con w) (λ e. arrow-no_star w)) [
+        | fits le h ↦ (let e = arrow-deep n self settles l a low w lt in rw (h, e) refl)
+        | over g h ↦ rw h refl
+      ]
 
   function-over : (l : ℕ) {i m : List Terminal} {a : Ty} {d : ℕ} → l ≤ 0 → 1 ≤ ty_level a → ReadsTy i a m → OpensArrows m d → n < d → arrows n self settles l i ≡ deep
   function-over l {m} {a} low lv d o lt =
-    let w = arrows-front o in
-    elim (le_or (depth_ty a) n) [
-        inl p ↦ elim (products-settled n self settles l d lv (omega arith) (arrow-no_con w) (λ e. arrow-no_star w)) [
-            fits le h ↦ (let e = arrow-goes n self settles l a low w p in let r = arrows-over no_state o lt (suc (length (tail m))) (arrow-length w) in rw (h, e, r) refl)
+      let w = arrows-front o in
+      elim (le_or (depth_ty a) n) [
+        | inl p ↦ elim (products-settled n self settles l d lv (omega arith) (arrow-no_con w) (λ e. arrow-no_star w)) [
+          | fits le h ↦ (let e = arrow-goes n self settles l a low w p in let r = arrows-over no_state o lt (suc (length (tail m))) (arrow-length w) in rw (h, e, r) refl)
           | over g h ↦ rw h refl
         ]
-      | inr p ↦ arrowed-over l low lv d w p
-    ]
+        | inr p ↦ arrowed-over l low lv d w p
+      ]
 
   brace-over : {i : List Terminal} {d : ℕ} (p : ℕ) → OpensTyRow i d → n < d → brace_ty self p i ≡ deep
   brace-over {i} p o lt = let e = row-front o in let r = row-over no_state o lt (suc (length i)) (omega arith) in rw (e, r) refl
 
   arguments-over : {i m : List Terminal} {a : Ty} {d : ℕ} (p q : ℕ) → ReadsTy i a (reserved q res.Comma ∷ m) → OpensTys m d → n < d → ty_atom self (ty_start (reserved p res.LeftParen ∷ i)) ≡ deep
   arguments-over {m} p q d o lt =
-    elim (settles 0 _ _ _ d (omega arith) refl) [
-        fits le h ↦ (let r = commas-over no_state o lt (suc (length m)) (omega arith) in rw (h, r) refl)
-      | over g h ↦ rw h refl
-    ]
+      elim (settles 0 _ _ _ d (omega arith) refl) [
+        | fits le h ↦ (let r = commas-over no_state o lt (suc (length m)) (omega arith) in rw (h, r) refl)
+        | over g h ↦ rw h refl
+      ]
 
   from-over : (l : ℕ) (i : List Terminal) (d : ℕ) → OpensTy l i d → suc n < d → ty_from self n l i ≡ deep
   from-over l i d (begun_ty e) lt = absurd (omega arith)

@@ -1,8 +1,7 @@
 -- A type has partial types of each depth up to its own.
-use Rattle.std.proofs.Common.{◌≡◌, ℕ, zero, suc, ◌≤◌, ◌<◌, List, ◌∷◌, ◌⊎◌, inl, inr, arith, max, true, refl}
-use Rattle.mlc_base.specs.declared.token.Reserved.TheVariants as res
-use Rattle.sml_tree.specs.Terminal.{Terminal, reserved, star}
-use Rattle.sml_tree.specs.ReadTree.{Ty, Tys, no_tys, ty, TyFields}
+use Rattle.std.proofs.Common.{◌≡◌, ℕ, zero, suc, ◌≤◌, ◌<◌, List, inl, inr, arith, true, refl}
+use Rattle.sml_tree.specs.Terminal.{Terminal}
+use Rattle.sml_tree.specs.ReadTree.{Ty, Tys, TyFields}
 use Rattle.sml_tree.specs.Depth.{depth_ty, depth_tys, depth_ty_fields}
 use Rattle.sml_tree.specs.Levels.{ty_level}
 use Rattle.sml_tree.specs.Grammar.{ReadsTy, of_tyvar, of_no_ty_row, of_ty_row, of_tycon, of_tycon_1, of_tycon_n, of_product, of_arrow, of_paren_ty, TyRow, last_ty_row, more_ty_row, TyCommas, last_ty, more_tys, Stars, last_star, more_stars, Arrows, last_arrow, more_arrows}
@@ -40,53 +39,53 @@ mutual
   opens l (of_tycon c) high (suc (suc k)) pos le = absurd (omega arith)
   opens l (of_tycon_1 lv d c e) high (suc (suc k)) pos le = applied_ty lv d c (omega arith)
   opens l (of_tycon_n {a} {as_} p r s d ds c) high (suc (suc k)) pos le =
-    elim (le_max (suc k) (depth_ty a) (depth_tys as_) (omega arith)) [
-        inl q ↦ in_paren_ty p (opens 0 d (omega arith) (suc k) (omega arith) q)
-      | inr q ↦ in_arguments p r d (commas-opens ds (suc k) (omega arith) q)
-    ]
+      elim (le_max (suc k) (depth_ty a) (depth_tys as_) (omega arith)) [
+        | inl q ↦ in_paren_ty p (opens 0 d (omega arith) (suc k) (omega arith) q)
+        | inr q ↦ in_arguments p r d (commas-opens ds (suc k) (omega arith) q)
+      ]
   opens l (of_product {a} {as_} lv d ds) high (suc (suc k)) pos le =
-    elim (le_max (suc k) (depth_ty a) (depth_tys as_) (omega arith)) [
-        inl q ↦ starred-opens high lv d ds q
-      | inr q ↦ in_product high lv d (stars-opens ds (suc k) (omega arith) q)
-    ]
+      elim (le_max (suc k) (depth_ty a) (depth_tys as_) (omega arith)) [
+        | inl q ↦ starred-opens high lv d ds q
+        | inr q ↦ in_product high lv d (stars-opens ds (suc k) (omega arith) q)
+      ]
   opens l (of_arrow {a} {as_} lv d ds) high (suc (suc k)) pos le =
-    elim (le_max (suc k) (depth_ty a) (depth_tys as_) (omega arith)) [
-        inl q ↦ arrowed-opens high lv d ds q
-      | inr q ↦ in_function high lv d (arrows-opens ds (suc k) (omega arith) q)
-    ]
+      elim (le_max (suc k) (depth_ty a) (depth_tys as_) (omega arith)) [
+        | inl q ↦ arrowed-opens high lv d ds q
+        | inr q ↦ in_function high lv d (arrows-opens ds (suc k) (omega arith) q)
+      ]
   opens l (of_paren_ty p q d) high (suc (suc k)) pos le = in_paren_ty p (opens 0 d (omega arith) (suc k) (omega arith) (omega arith))
 
   row-opens : {i o : List Terminal} {fs : TyFields} → TyRow i fs o → (k : ℕ) → 0 < k → k ≤ depth_ty_fields fs → OpensTyRow i k
   row-opens (last_ty_row p l d) k pos le = in_ty_field p l (opens 0 d (omega arith) k pos (omega arith))
   row-opens (more_ty_row {a} {fs} p q l d ds) k pos le =
-    elim (le_max k (depth_ty a) (depth_ty_fields fs) le) [
-        inl r ↦ in_ty_field p l (opens 0 d (omega arith) k pos r)
-      | inr r ↦ past_ty_field p q l d (row-opens ds k pos r)
-    ]
+      elim (le_max k (depth_ty a) (depth_ty_fields fs) le) [
+        | inl r ↦ in_ty_field p l (opens 0 d (omega arith) k pos r)
+        | inr r ↦ past_ty_field p q l d (row-opens ds k pos r)
+      ]
 
   commas-opens : {i o : List Terminal} {ts : Tys} → TyCommas i ts o → (k : ℕ) → 0 < k → k ≤ depth_tys ts → OpensTys i k
   commas-opens (last_ty d) k pos le = in_ty (opens 0 d (omega arith) k pos (omega arith))
   commas-opens (more_tys {a} {as_} p d ds) k pos le =
-    elim (le_max k (depth_ty a) (depth_tys as_) le) [
-        inl r ↦ in_ty (opens 0 d (omega arith) k pos r)
-      | inr r ↦ past_ty p d (commas-opens ds k pos r)
-    ]
+      elim (le_max k (depth_ty a) (depth_tys as_) le) [
+        | inl r ↦ in_ty (opens 0 d (omega arith) k pos r)
+        | inr r ↦ past_ty p d (commas-opens ds k pos r)
+      ]
 
   stars-opens : {i o : List Terminal} {ts : Tys} → Stars i ts o → (k : ℕ) → 0 < k → k ≤ depth_tys ts → OpensStars i k
   stars-opens (last_star p x lv d) k pos le = in_star p x (opens 2 d lv k pos (omega arith))
   stars-opens (more_stars {a} {as_} p x lv d ds) k pos le =
-    elim (le_max k (depth_ty a) (depth_tys as_) le) [
-        inl r ↦ in_star p x (opens 2 d lv k pos r)
-      | inr r ↦ past_star p x lv d (stars-opens ds k pos r)
-    ]
+      elim (le_max k (depth_ty a) (depth_tys as_) le) [
+        | inl r ↦ in_star p x (opens 2 d lv k pos r)
+        | inr r ↦ past_star p x lv d (stars-opens ds k pos r)
+      ]
 
   arrows-opens : {i o : List Terminal} {ts : Tys} → Arrows i ts o → (k : ℕ) → 0 < k → k ≤ depth_tys ts → OpensArrows i k
   arrows-opens (last_arrow p lv d) k pos le = in_arrow p (opens 1 d lv k pos (omega arith))
   arrows-opens (more_arrows {a} {as_} p lv d ds) k pos le =
-    elim (le_max k (depth_ty a) (depth_tys as_) le) [
-        inl r ↦ in_arrow p (opens 1 d lv k pos r)
-      | inr r ↦ past_arrow p lv d (arrows-opens ds k pos r)
-    ]
+      elim (le_max k (depth_ty a) (depth_tys as_) le) [
+        | inl r ↦ in_arrow p (opens 1 d lv k pos r)
+        | inr r ↦ past_arrow p lv d (arrows-opens ds k pos r)
+      ]
 
 pub ty-opens : {l : ℕ} {i o : List Terminal} {t : Ty} → ReadsTy i t o → l ≤ ty_level t → (k : ℕ) → 0 < k → k ≤ depth_ty t → OpensTy l i k
 ty-opens {l} d high k pos le = opens l d high k pos le
