@@ -2,3 +2,10 @@ pub mod Answer
 pub mod Terminals
 pub mod Types
 pub mod PartialTypes
+pub mod Patterns
+pub mod PartialPatterns
+pub mod Bindings
+pub mod Expressions
+pub mod PartialBindings
+pub mod Partial
+pub mod Laws

@@ -56,10 +56,11 @@ abbrev mutual
   depth_pat_parts (last_pat_part x a) = depth_pat a
   depth_pat_parts (pat_part x a ps) = max (depth_pat a) (depth_pat_parts ps)
 
+-- what stands in the brackets of a head counts as it would in a pattern
 abbrev pub depth_head : Head → ℕ
 depth_head (prefix_head p v a as_) = max (depth_pat a) (depth_pats as_)
 depth_head (infix_head a x b) = max (depth_pat a) (depth_pat b)
-depth_head (bracket_head p a x b as_) = max (max (depth_pat a) (depth_pat b)) (depth_pats as_)
+depth_head (bracket_head p a x b as_) = max (suc (suc (max (depth_pat a) (depth_pat b)))) (depth_pats as_)
 
 abbrev pub depth_type_binds : List TypeBind → ℕ
 depth_type_binds [] = 0
