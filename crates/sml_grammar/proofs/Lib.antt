@@ -3,3 +3,5 @@ pub mod Answers
 pub mod Terminals
 pub mod Vids
 pub mod BindTyvars
+pub mod BindNames
+pub mod BindStops
