@@ -5,3 +5,5 @@ pub mod Vids
 pub mod BindTyvars
 pub mod BindNames
 pub mod BindStops
+pub mod TyFacts
+pub mod BindTypes
