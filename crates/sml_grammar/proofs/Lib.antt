@@ -7,3 +7,7 @@ pub mod BindNames
 pub mod BindStops
 pub mod TyFacts
 pub mod BindTypes
+pub mod BindOf
+pub mod BindCons
+pub mod BindDatatypes
+pub mod BindExceptions
