@@ -1,5 +1,5 @@
 -- A datatype's constructors.
-use Rattle.std.proofs.Common.{◌≡◌, ℕ, zero, suc, ◌≤◌, ◌<◌, List, [], ◌∷◌, length, Option, Some, None, max, ◌⊎◌, inl, inr, refl, ap, ◌∙◌, subst, arith}
+use Rattle.std.proofs.Common.{◌≡◌, ℕ, zero, suc, ◌≤◌, ◌<◌, List, [], ◌∷◌, length, Option, inl, inr, refl, ap, ◌∙◌, subst, arith}
 use Rattle.mlc_base.specs.declared.token.Reserved.TheVariants as res
 use Rattle.sml_tree.specs.Terminal.{Terminal, reserved}
 use Rattle.sml_tree.specs.declared.ident.Vid.{Vid}
@@ -8,7 +8,7 @@ use Rattle.sml_tree.specs.ReadTree.{Placed, Ty, ConBind}
 use Rattle.sml_tree.specs.Depth.{depth_some, depth_cons}
 use Rattle.sml_tree.specs.Grammar.{BindsVid, MaybeOf, ConBinds, last_con, more_cons}
 use Rattle.sml_grammar.specs.Answer.{Read, Answer, ok, deep, read, then_read, Turn, last, more, many}
-use Rattle.sml_grammar.specs.Terminals.{after_word, then_taken, separated, NoState, no_state, binds_vid}
+use Rattle.sml_grammar.specs.Terminals.{after_word, separated, NoState, no_state, binds_vid}
 use Rattle.sml_grammar.specs.Bindings.{con_turn, read_cons}
 use Rattle.sml_grammar.specs.PartialBindings.{OpensCons, in_con, past_con}
 use Rattle.sml_grammar.proofs.Words.{WordAt, at_word, word-at}

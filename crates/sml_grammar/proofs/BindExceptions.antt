@@ -1,5 +1,5 @@
 -- Bindings of exceptions.
-use Rattle.std.proofs.Common.{◌≡◌, ℕ, zero, suc, ◌≤◌, ◌<◌, List, [], ◌∷◌, length, Option, Some, None, max, inl, inr, refl, ap, ◌∙◌, subst, arith, false}
+use Rattle.std.proofs.Common.{◌≡◌, ℕ, zero, suc, ◌≤◌, ◌<◌, List, [], ◌∷◌, length, Option, None, max, inl, inr, refl, ap, ◌∙◌, subst, arith, false}
 use Rattle.mlc_base.specs.declared.token.Reserved.TheVariants as res
 use Rattle.sml_tree.specs.Terminal.{LongVid, Terminal, reserved}
 use Rattle.sml_tree.specs.declared.ident.Vid.{Vid}
@@ -17,7 +17,7 @@ use Rattle.sml_grammar.proofs.Answers.{got, then_ok, then_deep, not_deep, on_som
 use Rattle.sml_grammar.proofs.Vids.{binds-is, binds-found, binds-shorter, names-is, names-found, names-shorter}
 use Rattle.sml_grammar.proofs.BindStops.{BindStops, binds-end, cons-end}
 use Rattle.sml_grammar.proofs.TyFacts.{TyFacts, le_or}
-use Rattle.sml_grammar.proofs.BindOf.{read_of, OpensOf, in_of, of-shorter, of-sound, of-complete, of-far, of-over, of-opens, of-too_deep}
+use Rattle.sml_grammar.proofs.BindOf.{read_of, OpensOf, in_of, of-shorter, of-sound, of-complete, of-far, of-over, of-opens}
 
 abbrev depth_ex : ExBind → ℕ
 depth_ex (new_exn p v t) = depth_some t

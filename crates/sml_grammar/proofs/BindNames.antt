@@ -1,13 +1,13 @@
 -- What `open` and directives name, and a directive's precedence.
-use Rattle.std.proofs.Common.{◌≡◌, ℕ, zero, suc, ℤ, pos, ◌≤◌, ◌<◌, List, [], ◌∷◌, length, Option, Some, None, Bool, true, false, ◌⊎◌, inl, inr, refl, sym, ap, ◌∙◌, subst, arith, nat_le, if◌then◌else◌}
+use Rattle.std.proofs.Common.{◌≡◌, ℕ, zero, suc, ℤ, pos, ◌≤◌, ◌<◌, List, [], ◌∷◌, length, Option, Some, None, Bool, true, false, inl, inr, refl, sym, ap, subst, arith, nat_le, if◌then◌else◌}
 use Rattle.std.proofs.lemmas.Bool.{leb-true, le-leb}
-use Rattle.sml_tree.specs.Terminal.{LongId, Terminal, number, constant, reserved, alpha, symbol, star, long_alpha, long_symbol, long_star, type_var, IsVid, alpha_vid, symbol_vid, star_vid, IsLongStrid}
+use Rattle.sml_tree.specs.Terminal.{LongId, Terminal, number, IsVid, alpha_vid, symbol_vid, star_vid, IsLongStrid}
 use Rattle.sml_tree.specs.ReadTree.{Placed}
-use Rattle.sml_tree.specs.Grammar.{IsPlacedStrid, is_placed_strid, Strids, last_strid, more_strids, DirectiveVids, last_vid, more_vids, ReadsPrecedence, no_precedence, a_precedence}
-use Rattle.sml_grammar.specs.Answer.{Read, Answer, ok, bad, deep, read, then_read, Turn, last, more, many, whole}
-use Rattle.sml_grammar.specs.Terminals.{Taken, taken, place_of, first_as, as_long_strid, as_vid, on_taken, then_taken, separated, NoState, no_state}
+use Rattle.sml_tree.specs.Grammar.{is_placed_strid, Strids, last_strid, more_strids, DirectiveVids, last_vid, more_vids, ReadsPrecedence, no_precedence, a_precedence}
+use Rattle.sml_grammar.specs.Answer.{Read, Answer, ok, deep, read, Turn, last, more, many}
+use Rattle.sml_grammar.specs.Terminals.{Taken, taken, place_of, first_as, as_long_strid, as_vid, separated, NoState, no_state}
 use Rattle.sml_grammar.specs.Bindings.{put_more, strid_turn, read_strids, vid_turn, read_vids, digit, as_digit, precedence_then}
-use Rattle.sml_grammar.proofs.Answers.{got, got_some, not_some, on_taken-split, then_taken-ok, then_taken-deep, then_taken-step, separated-ok, separated-deep, GoodTurn, many-ok, many-far, many-last, many-more}
+use Rattle.sml_grammar.proofs.Answers.{got_some, not_some, on_taken-split, then_taken-ok, then_taken-deep, then_taken-step, separated-ok, separated-deep, GoodTurn, many-ok, many-far, many-last, many-more}
 use Rattle.sml_grammar.proofs.Terminals.{Holds, holds, nothing, Front, front, front-is, long_strid-is, long_strid-found, vid-is, vid-found}
 
 -- the loop goes on exactly where a further one is, and takes nothing to see it

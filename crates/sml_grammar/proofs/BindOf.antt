@@ -1,15 +1,15 @@
 -- `of` and a type, where they are written.
-use Rattle.std.proofs.Common.{◌≡◌, ℕ, suc, ◌≤◌, ◌<◌, List, ◌∷◌, length, Option, Some, None, inl, inr, refl, ap, subst, arith, false}
+use Rattle.std.proofs.Common.{◌≡◌, ℕ, suc, ◌≤◌, ◌<◌, List, ◌∷◌, length, Option, Some, None, inl, inr, ap, subst, arith, false}
 use Rattle.mlc_base.specs.declared.token.Reserved.TheVariants as res
 use Rattle.sml_tree.specs.Terminal.{Terminal, reserved}
 use Rattle.sml_tree.specs.ReadTree.{Ty}
-use Rattle.sml_tree.specs.Depth.{depth_ty, depth_some}
-use Rattle.sml_tree.specs.Grammar.{ReadsTy, MaybeOf, without_of, with_of}
+use Rattle.sml_tree.specs.Depth.{depth_some}
+use Rattle.sml_tree.specs.Grammar.{MaybeOf, without_of, with_of}
 use Rattle.sml_grammar.specs.Answer.{Read, Answer, ok, deep, read, then_read}
 use Rattle.sml_grammar.specs.Terminals.{after_word}
 use Rattle.sml_grammar.specs.Types.{read_ty, maybe_ty, ty_could_go_on}
 use Rattle.sml_grammar.specs.PartialTypes.{OpensTy}
-use Rattle.sml_grammar.proofs.Words.{WordAt, at_word, AfterWord, found, absent, after-is}
+use Rattle.sml_grammar.proofs.Words.{AfterWord, found, absent, after-is}
 use Rattle.sml_grammar.proofs.Answers.{got, then_ok, then_deep, not_deep}
 use Rattle.sml_grammar.proofs.TyFacts.{TyFacts}
 

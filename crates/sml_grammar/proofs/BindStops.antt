@@ -5,8 +5,7 @@ use Rattle.mlc_base.specs.declared.token.Reserved.TheVariants as res
 use Rattle.sml_tree.specs.Terminal.{Terminal, reserved}
 use Rattle.sml_grammar.specs.Terminals.{word_number, after_word}
 use Rattle.sml_grammar.specs.Types.{ty_could_go_on}
-use Rattle.sml_grammar.proofs.Answers.{both_false, or_split}
-use Rattle.sml_grammar.proofs.Words.{word-other}
+use Rattle.sml_grammar.proofs.Answers.{or_split}
 
 abbrev pub is_some : {A : Type 0} → Option A → Bool
 is_some (Some a) = true

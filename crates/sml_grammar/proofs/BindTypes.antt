@@ -1,19 +1,19 @@
 -- Bindings of types.
-use Rattle.std.proofs.Common.{◌≡◌, ℕ, zero, suc, ◌≤◌, ◌<◌, List, [], ◌∷◌, length, Option, Some, None, max, ◌⊎◌, inl, inr, refl, sym, ap, ◌∙◌, subst, arith}
+use Rattle.std.proofs.Common.{◌≡◌, ℕ, zero, suc, ◌≤◌, ◌<◌, List, [], ◌∷◌, length, inl, inr, refl, ap, ◌∙◌, subst, arith}
 use Rattle.mlc_base.specs.declared.token.Reserved.TheVariants as res
 use Rattle.sml_tree.specs.Terminal.{Terminal, reserved}
 use Rattle.sml_tree.specs.declared.ident.Tyvar.{Tyvar}
 use Rattle.sml_tree.specs.ReadTree.{Ty, TypeBind}
 use Rattle.sml_tree.specs.Depth.{depth_ty, depth_type_binds}
 use Rattle.sml_tree.specs.Grammar.{ReadsTy, OneTypeBind, type_bind, TypeBinds, last_type_bind, more_type_binds}
-use Rattle.sml_grammar.specs.Answer.{Read, Answer, ok, bad, deep, read, then_read, Turn, last, more, many, whole}
+use Rattle.sml_grammar.specs.Answer.{Read, Answer, ok, deep, read, then_read, Turn, last, more, many}
 use Rattle.sml_grammar.specs.Terminals.{place_at, after_word, separated, NoState, no_state}
-use Rattle.sml_grammar.specs.Types.{read_ty, ty_could_go_on}
+use Rattle.sml_grammar.specs.Types.{read_ty}
 use Rattle.sml_grammar.specs.Bindings.{type_bind_turn, read_type_binds}
 use Rattle.sml_grammar.specs.PartialTypes.{OpensTy}
 use Rattle.sml_grammar.specs.PartialBindings.{OpensTypeBinds, in_type_bind, past_type_bind}
 use Rattle.sml_grammar.proofs.Words.{WordAt, at_word, word-at}
-use Rattle.sml_grammar.proofs.Answers.{got, then_ok, then_deep, separated-ok, separated-more, separated-deep, GoodTurn, many-ok, many-far, many-last, many-more, many-deep, many-stop}
+use Rattle.sml_grammar.proofs.Answers.{then_ok, then_deep, separated-ok, separated-more, separated-deep, GoodTurn, many-ok, many-far, many-last, many-more, many-deep, many-stop}
 use Rattle.sml_grammar.proofs.BindTyvars.{Bound, bound, bound-begins, bound-shorter, begins-place, bound-ok, bound-deep, bound-step}
 use Rattle.sml_grammar.proofs.BindStops.{BindStops, binds-end, stops-ty}
 use Rattle.sml_grammar.proofs.TyFacts.{TyFacts, le_or}

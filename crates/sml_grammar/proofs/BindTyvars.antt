@@ -1,15 +1,15 @@
 -- Sequences of type variables, and what stands before the `=` of a binding of a type.
-use Rattle.std.proofs.Common.{◌≡◌, ℕ, zero, suc, ◌≤◌, ◌<◌, List, [], ◌∷◌, length, Option, Some, None, ◌⊎◌, inl, inr, refl, sym, ap, ◌∙◌, subst, arith}
+use Rattle.std.proofs.Common.{◌≡◌, ℕ, zero, suc, ◌≤◌, ◌<◌, List, [], ◌∷◌, length, inl, inr, refl, ap, ◌∙◌, subst, arith}
 use Rattle.mlc_base.specs.declared.token.Reserved.TheVariants as res
 use Rattle.sml_tree.specs.Terminal.{Terminal, reserved, type_var, IsTycon, alpha_tycon, symbol_tycon}
 use Rattle.sml_tree.specs.declared.ident.Tyvar.{Tyvar}
 use Rattle.sml_tree.specs.ReadTree.{Placed}
 use Rattle.sml_tree.specs.Grammar.{TyvarCommas, last_tyvar, more_tyvars, Tyvars, no_tyvars, one_tyvar, tyvars_in_brackets, BeginsAt, at_tyvar, at_bracket, at_tycon}
-use Rattle.sml_grammar.specs.Answer.{Read, Answer, ok, bad, deep, read, then_read, Turn, last, more, many, whole}
-use Rattle.sml_grammar.specs.Terminals.{Taken, taken, place_at, first_as, as_tyvar, as_tycon, after_word, on_some, on_taken, then_taken, word_then, NoState, no_state}
+use Rattle.sml_grammar.specs.Answer.{Read, Answer, ok, deep, read, then_read, Turn, last, more, many, whole}
+use Rattle.sml_grammar.specs.Terminals.{place_at, first_as, as_tyvar, as_tycon, after_word, on_some, then_taken, word_then, NoState, no_state}
 use Rattle.sml_grammar.specs.Bindings.{tyvar_turn, bracketed_tyvars, read_tyvars, bound_tycon}
-use Rattle.sml_grammar.proofs.Words.{WordAt, at_word, word-at, word-found}
-use Rattle.sml_grammar.proofs.Answers.{got, then_ok, then_deep, not_deep, bad_deep, on_some-split, on_taken-split, then_taken-ok, then_taken-deep, word_then-ok, word_then-deep, GoodTurn, many-ok, many-far, many-last, many-more}
+use Rattle.sml_grammar.proofs.Words.{WordAt, at_word, word-at}
+use Rattle.sml_grammar.proofs.Answers.{got, then_ok, then_deep, not_deep, on_some-split, on_taken-split, then_taken-ok, then_taken-deep, word_then-ok, word_then-deep, GoodTurn, many-ok, many-far, many-last, many-more}
 use Rattle.sml_grammar.proofs.Terminals.{Front, front, IsTyvar, is_tyvar, tyvar-is, tycon-is, tycon-found}
 
 abbrev Commas : NoState → List Terminal → List Tyvar → List Terminal → Type 0
