@@ -1,21 +1,17 @@
 -- Facts about types that are read.
-use Rattle.std.proofs.Common.{◌≡◌, ℕ, zero, suc, ◌≤◌, ◌<◌, List, [], ◌∷◌, length, Option, Some, None, Bool, true, false, ◌⊎◌, inl, inr, refl, sym, ap, ◌∙◌, subst, arith, max, nat_le, if◌then◌else◌}
-use Rattle.std.proofs.lemmas.Bool.{leb-true, leb-false, le-leb, lt-leb}
-use Rattle.mlc_base.specs.declared.label.Label.{Label}
-use Rattle.mlc_base.specs.declared.token.Reserved.{Reserved}
+use Rattle.std.proofs.Common.{◌≡◌, ℕ, ◌≤◌, ◌<◌, List, ◌∷◌, length, Option, Some, None, Bool, true, false, refl, ap, arith, nat_le}
+use Rattle.std.proofs.lemmas.Bool.{leb-true, leb-false, le-leb}
 use Rattle.mlc_base.specs.declared.token.Reserved.TheVariants as res
-use Rattle.sml_tree.specs.Terminal.{LongId, Terminal, reserved, number, constant, alpha, symbol, star, long_alpha, long_symbol, long_star, type_var, IsTycon, alpha_tycon, symbol_tycon, IsLongTycon, short_tycon, long_alpha_tycon, long_symbol_tycon, IsLabel}
+use Rattle.sml_tree.specs.Terminal.{LongId, Terminal, reserved, type_var, alpha_tycon, symbol_tycon, IsLongTycon, short_tycon, long_alpha_tycon, long_symbol_tycon}
 use Rattle.sml_tree.specs.declared.ident.Tyvar.{Tyvar}
-use Rattle.sml_tree.specs.ReadTree.{Placed, Ty, var_ty, record_ty, con_ty, product_ty, arrow_ty, paren_ty, Tys, no_tys, ty, TyFields, no_ty_fields, ty_field, ty_place}
-use Rattle.sml_tree.specs.Depth.{depth_ty, depth_tys, depth_ty_fields}
+use Rattle.sml_tree.specs.ReadTree.{Placed, Ty, var_ty, record_ty, con_ty, product_ty, arrow_ty, paren_ty, Tys, TyFields}
+use Rattle.sml_tree.specs.Depth.{depth_ty}
 use Rattle.sml_tree.specs.Levels.{ty_level}
 use Rattle.sml_tree.specs.Grammar.{ReadsTy, of_tyvar, of_no_ty_row, of_ty_row, of_tycon, of_tycon_1, of_tycon_n, of_product, of_arrow, of_paren_ty, TyRow, last_ty_row, more_ty_row, TyCommas, last_ty, more_tys, Stars, last_star, more_stars, Arrows, last_arrow, more_arrows}
-use Rattle.sml_grammar.specs.Answer.{Read, Answer, ok, bad, deep, read}
-use Rattle.sml_grammar.specs.Terminals.{Taken, taken, first_as, as_label, as_long_tycon, after_word, after_star, on_some, on_taken, tail}
+use Rattle.sml_grammar.specs.Terminals.{Taken, first_as, as_long_tycon, after_word, after_star, on_some, on_taken, tail}
 use Rattle.sml_grammar.specs.Types.{TyStart, var_start, con_start, brace_start, paren_start, no_start, con_if, ty_start, is_ty_start, begins_ty, ty_could_go_on}
-use Rattle.sml_grammar.proofs.Answers.{not_some}
 use Rattle.sml_grammar.proofs.Words.{WordAt, at_word, StarAt, at_star}
-use Rattle.sml_grammar.proofs.Terminals.{Front, front, long_tycon-is, label-word, not-word}
+use Rattle.sml_grammar.proofs.Terminals.{Front, long_tycon-is, label-word, not-word}
 
 -- a type has terminals
 mutual
@@ -126,6 +122,7 @@ stops-all l i c s a = rw c (star-part (nat_le l 1) refl)
         const : (v : Option (List Terminal)) → on_some v (λ o. false) false ≡ false
         const None = refl
         const (Some x) = refl
+
     star-part : (b : Bool) → nat_le l 1 ≡ b → on_some (after_star i) (λ o. b) (on_some (after_word res.Arrow i) (λ o. nat_le l 0) false) ≡ false
     star-part true e = let h = s (leb-true l 1 e) in rw h (arrow-part (nat_le l 0) refl)
     star-part false e = const (after_star i)

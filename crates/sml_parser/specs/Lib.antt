@@ -1,2 +1,3 @@
 pub mod Gives
 pub mod Left
+pub mod TypesRead

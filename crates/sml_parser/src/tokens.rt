@@ -13,8 +13,8 @@ use mlc_base::token::{Reserved, Token, TokenKind};
 use sml_tree::ident::Tyvar;
 
 /// The reserved word that stands first.
-pub fn word_at(source: Source, tokens: &[Token]) -> Option<Reserved>
-    ensures { result ≡ word_at (left source tokens.now) }
+pub fn word_at(source: &Source, tokens: &[Token]) -> Option<Reserved>
+    ensures { result ≡ word_at (left source.now tokens.now) }
 {
     match tokens {
         [first, ..] => match &first.kind {
@@ -26,8 +26,8 @@ pub fn word_at(source: Source, tokens: &[Token]) -> Option<Reserved>
 }
 
 /// What follows the first token.
-pub fn tail<'a>(source: Source, tokens: &'a [Token]) -> &'a [Token]
-    ensures { left source result.now ≡ tail (left source tokens.now) }
+pub fn tail<'a>(source: &Source, tokens: &'a [Token]) -> &'a [Token]
+    ensures { left source.now result.now ≡ tail (left source.now tokens.now) }
 {
     match tokens {
         [_, rest @ ..] => rest,
@@ -36,27 +36,24 @@ pub fn tail<'a>(source: Source, tokens: &'a [Token]) -> &'a [Token]
 }
 
 /// What follows a reserved word, where it stands first.
-pub fn after_word<'a>(source: Source, word: Reserved, tokens: &'a [Token]) -> Option<&'a [Token]>
-    ensures { MatchOption result (after_word word (left source tokens.now) ≡ None) (λ rest. after_word word (left source tokens.now) ≡ Some (left source rest.now)) }
+pub fn after_word<'a>(source: &Source, word: Reserved, tokens: &'a [Token]) -> Option<&'a [Token]>
+    ensures { MatchOption result (after_word word (left source.now tokens.now) ≡ None) (λ rest. after_word word (left source.now tokens.now) ≡ Some (left source.now rest.now)) }
 {
-    match tokens {
-        [first, rest @ ..] => match &first.kind {
-            TokenKind::Reserved(found) => {
-                if *found == word {
-                    Some(rest)
-                } else {
-                    None
-                }
+    match word_at(source, tokens) {
+        Some(first) => {
+            if first == word {
+                Some(tail(source, tokens))
+            } else {
+                None
             }
-            _ => None,
-        },
-        [] => None,
+        }
+        None => None,
     }
 }
 
 /// Where the first token begins; nobody asks where there is none.
-pub fn place_at(source: Source, tokens: &[Token]) -> Place
-    ensures { result ≡ bare.at source.file (place_at (left source tokens.now)) }
+pub fn place_at(source: &Source, tokens: &[Token]) -> Place
+    ensures { result ≡ bare.at source.now.file (place_at (left source.now tokens.now)) }
 {
     match tokens {
         [first, ..] => Place { file: source.file, byte: first.span.first },
@@ -65,9 +62,9 @@ pub fn place_at(source: Source, tokens: &[Token]) -> Place
 }
 
 /// The label that stands first.
-pub fn label_at<'a>(source: Source, tokens: &'a [Token]) -> Option<(Label, &'a [Token])>
-    ensures { MatchOption result (first_as as_label (left source tokens.now) ≡ None)
-        (λ x. first_as as_label (left source tokens.now) ≡ taken (record { place = place_at (left source tokens.now); it = x.0 }) (left source x.1.now)) }
+pub fn label_at<'a>(source: &Source, tokens: &'a [Token]) -> Option<(Label, &'a [Token])>
+    ensures { MatchOption result (first_as as_label (left source.now tokens.now) ≡ None)
+        (λ x. first_as as_label (left source.now tokens.now) ≡ taken (record { place = place_at (left source.now tokens.now); it = x.0 }) (left source.now x.1.now)) }
 {
     match tokens {
         [first, rest @ ..] => match &first.kind {
@@ -87,9 +84,9 @@ pub fn label_at<'a>(source: Source, tokens: &'a [Token]) -> Option<(Label, &'a [
 }
 
 /// The type variable that stands first.
-pub fn tyvar_at<'a>(source: Source, tokens: &'a [Token]) -> Option<(Tyvar, &'a [Token])>
-    ensures { MatchOption result (first_as as_tyvar (left source tokens.now) ≡ None)
-        (λ x. first_as as_tyvar (left source tokens.now) ≡ taken (record { place = place_at (left source tokens.now); it = x.0 }) (left source x.1.now)) }
+pub fn tyvar_at<'a>(source: &Source, tokens: &'a [Token]) -> Option<(Tyvar, &'a [Token])>
+    ensures { MatchOption result (first_as as_tyvar (left source.now tokens.now) ≡ None)
+        (λ x. first_as as_tyvar (left source.now tokens.now) ≡ taken (record { place = place_at (left source.now tokens.now); it = x.0 }) (left source.now x.1.now)) }
 {
     match tokens {
         [first, rest @ ..] => match &first.kind {
@@ -102,8 +99,8 @@ pub fn tyvar_at<'a>(source: Source, tokens: &'a [Token]) -> Option<(Tyvar, &'a [
 }
 
 /// What follows `*`, where it stands first.
-pub fn after_star<'a>(source: Source, tokens: &'a [Token]) -> Option<&'a [Token]>
-    ensures { MatchOption result (after_star (left source tokens.now) ≡ None) (λ rest. after_star (left source tokens.now) ≡ Some (left source rest.now)) }
+pub fn after_star<'a>(source: &Source, tokens: &'a [Token]) -> Option<&'a [Token]>
+    ensures { MatchOption result (after_star (left source.now tokens.now) ≡ None) (λ rest. after_star (left source.now tokens.now) ≡ Some (left source.now rest.now)) }
 {
     match tokens {
         [first, rest @ ..] => match &first.kind {
