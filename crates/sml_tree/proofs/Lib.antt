@@ -4,3 +4,4 @@ pub mod TypeLemmas
 pub mod TyLemmas
 pub mod Arms
 pub mod NoTree
+pub mod FixityLemmas
