@@ -1,3 +1,4 @@
 pub mod Gives
 pub mod Left
 pub mod TypesRead
+pub mod Core
