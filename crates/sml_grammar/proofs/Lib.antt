@@ -11,3 +11,4 @@ pub mod BindOf
 pub mod BindCons
 pub mod BindDatatypes
 pub mod BindExceptions
+pub mod NoTree
