@@ -13,11 +13,11 @@ use Rattle.sml_grammar.specs.Types.{ty_could_go_on}
 use Rattle.sml_grammar.specs.Bindings.{ex_bind_rest, ex_bind_turn, read_ex_binds}
 use Rattle.sml_grammar.specs.PartialBindings.{OpensExBinds, in_exn, past_exn}
 use Rattle.sml_grammar.proofs.Words.{WordAt, at_word, word-at}
-use Rattle.sml_grammar.proofs.Answers.{got, then_ok, then_deep, not_deep, on_some-split, then_taken-ok, then_taken-deep, then_taken-step, separated-ok, separated-more, separated-deep, GoodTurn, many-ok, many-far, many-last, many-more, many-deep, many-stop}
+use Rattle.sml_grammar.proofs.Answers.{le_or, got, then_ok, then_deep, not_deep, on_some-split, then_taken-ok, then_taken-deep, then_taken-step, separated-ok, separated-more, separated-deep, GoodTurn, many-ok, many-far, many-last, many-more, many-deep, many-stop}
 use Rattle.sml_grammar.proofs.Vids.{binds-is, binds-found, binds-shorter, names-is, names-found, names-shorter}
 use Rattle.sml_grammar.proofs.BindStops.{BindStops, binds-end, cons-end}
-use Rattle.sml_grammar.proofs.TyFacts.{TyFacts, le_or}
-use Rattle.sml_grammar.proofs.BindOf.{read_of, OpensOf, in_of, of-shorter, of-sound, of-complete, of-far, of-over, of-opens}
+use Rattle.sml_grammar.proofs.MaybeTypes.{of-sound, of-shorter}
+use Rattle.sml_grammar.proofs.BindOf.{read_of, OpensOf, in_of, of-read, of-far, of-over, of-opens, of-too_deep}
 
 abbrev depth_ex : ExBind → ℕ
 depth_ex (new_exn p v t) = depth_some t
@@ -39,6 +39,27 @@ after_ex s b o = separated (after_word res.And o) (λ bs. b ∷ bs) (b ∷ []) s
 abbrev after_vid : ℕ → Fixity → NoState → Placed Vid → List Terminal → Answer (Turn (List ExBind) NoState)
 after_vid n f s v m = then_read (ex_bind_rest n f v m) (after_ex s)
 
+one-shorter : {f : Fixity} {i o : List Terminal} {b : ExBind} → OneExBind f i b o → length o < length i
+one-shorter (new_exception b d) = let s = binds-shorter b in let r = of-shorter d in omega arith
+one-shorter (same_exception r b d) = let s = binds-shorter b in let t = names-shorter d in omega arith
+
+pub ex_binds-shorter : {f : Fixity} {i o : List Terminal} {bs : List ExBind} → ExBinds f i bs o → length o < length i
+ex_binds-shorter (last_exn d) = one-shorter d
+ex_binds-shorter (more_exns p d e) = let s = one-shorter d in let r = ex_binds-shorter e in omega arith
+
+in-exn : {f : Fixity} {i m : List Terminal} {p : ℕ} {v : Vid} {d : ℕ} → BindsVid f i p v m → OpensOf m d → OpensExBinds f i d
+in-exn b (in_of q o) = in_exn q b o
+
+one-opens : {f : Fixity} {i o : List Terminal} {b : ExBind} → OneExBind f i b o → (d : ℕ) → 1 ≤ d → d ≤ depth_ex b → OpensExBinds f i d
+one-opens (new_exception b e) d low le = in-exn b (of-opens e d low le)
+one-opens (same_exception r b e) d low le = absurd (omega arith)
+
+pub ex_binds-opens : {f : Fixity} {i o : List Terminal} {bs : List ExBind} → ExBinds f i bs o → (d : ℕ) → 1 ≤ d → d ≤ depth_ex_binds bs → OpensExBinds f i d
+ex_binds-opens (last_exn {b} e) d low le = let h = depth-ex b [] in one-opens e d low (omega arith)
+ex_binds-opens (more_exns {b} {bs} p e r) d low le =
+  let w = depth-ex b bs in
+  elim (le_or d (depth_ex b)) [ inl h ↦ one-opens e d low h | inr h ↦ past_exn p e (ex_binds-opens r d low (omega arith)) ]
+
 pub record GoodExBinds (n : ℕ) (f : Fixity) (i : List Terminal) (y : Read (List ExBind)) : Type 0 where
   pub reads : ExBinds f i y.tree y.rest
   pub fits : depth_ex_binds y.tree ≤ n
@@ -48,7 +69,7 @@ record GoodRest (n : ℕ) (f : Fixity) (i : List Terminal) (y : Read ExBind) : T
   reads : OneExBind f i y.tree y.rest
   fits : depth_ex y.tree ≤ n
 
-module _ (n : ℕ) (types : TyFacts n) (f : Fixity) where
+module _ (n : ℕ) (f : Fixity) where
   same-sound : {i m k : List Terminal} {p : ℕ} {v : Vid} → BindsVid f i p v m → WordAt res.Equals m k → (y : Read ExBind) →
     then_taken (names_vid f k) (as_same (record { place = p; it = v })) ≡ ok y → GoodRest n f i y
   same-sound {i} {k} {p} {v} b (at_word r) y h =
@@ -61,7 +82,7 @@ module _ (n : ℕ) (types : TyFacts n) (f : Fixity) where
         inl u ↦ same-sound b (word-at res.Equals m u.0 u.1) y u.2
       | inr u ↦
           let t = then_ok (read_of n m) (as_new v) y u.1 in
-          let g = of-sound n types m t.0 t.1 in
+          let g = of-sound n m t.0 t.1 in
           subst (λ (z : Read ExBind). GoodRest n f i z) (got t.2) (record { reads = new_exception b g.reads; fits = g.fits })
     ]
 
@@ -97,7 +118,7 @@ module _ (n : ℕ) (types : TyFacts n) (f : Fixity) where
   rest-new : (v : Placed Vid) {m o : List Terminal} {t : Option Ty} → MaybeOf m t o → depth_some t ≤ n → after_word res.Of o ≡ None → after_word res.Equals o ≡ None → ty_could_go_on 0 o ≡ false →
     ex_bind_rest n f v m ≡ read (new_exn v.place v.it t) o
   rest-new v {m} d le e q c =
-    ap (λ z. on_some z (λ k. then_taken (names_vid f k) (as_same v)) (then_read (read_of n m) (as_new v))) (of-no_equals d q) ∙ ap (λ z. then_read z (as_new v)) (of-complete n types d le e c)
+    ap (λ z. on_some z (λ k. then_taken (names_vid f k) (as_same v)) (then_read (read_of n m) (as_new v))) (of-no_equals d q) ∙ ap (λ z. then_read z (as_new v)) (of-read n d le e c)
 
   rest-same : (v : Placed Vid) (r : ℕ) {m o : List Terminal} {q : ℕ} {x : LongVid} → NamesVid f m q x o → ex_bind_rest n f v (reserved r res.Equals ∷ m) ≡ read (same_exn v.place v.it (record { place = q; it = x })) o
   rest-same v r d = then_taken-step (as_same v) (names-found d) refl
@@ -119,14 +140,6 @@ module _ (n : ℕ) (types : TyFacts n) (f : Fixity) where
     let c = cons-end o e.cons in
     one-complete d le c.of_ e.equals c.ty ∙ ap (λ z. separated z (λ bs. b ∷ bs) (b ∷ []) no_state o) e.and_
 
-  one-shorter : {i o : List Terminal} {b : ExBind} → OneExBind f i b o → length o < length i
-  one-shorter (new_exception b d) = let s = binds-shorter b in let r = of-shorter n types d in omega arith
-  one-shorter (same_exception r b d) = let s = binds-shorter b in let t = names-shorter d in omega arith
-
-  pub ex_binds-shorter : {i o : List Terminal} {bs : List ExBind} → ExBinds f i bs o → length o < length i
-  ex_binds-shorter (last_exn d) = one-shorter d
-  ex_binds-shorter (more_exns p d e) = let s = one-shorter d in let r = ex_binds-shorter e in omega arith
-
   turns-complete : {i o : List Terminal} {bs : List ExBind} → ExBinds f i bs o → depth_ex_binds bs ≤ n → BindStops o → (k : ℕ) → length i < k → many (ex_bind_turn n f) k no_state i ≡ read bs o
   turns-complete d le stops zero lt = absurd (omega arith)
   turns-complete (last_exn {b} d) le stops (suc k) lt = let e = depth-ex b [] in many-last (ex_bind_turn n f) k (turn-ends d (omega arith) stops)
@@ -139,14 +152,11 @@ module _ (n : ℕ) (types : TyFacts n) (f : Fixity) where
 
   -- too deep
 
-  in-exn : {i m : List Terminal} {p : ℕ} {v : Vid} {d : ℕ} → BindsVid f i p v m → OpensOf m d → OpensExBinds f i d
-  in-exn b (in_of q o) = in_exn q b o
-
   rest-far : (v : Placed Vid) (m : List Terminal) → ex_bind_rest n f v m ≡ deep → OpensOf m (suc n)
   rest-far v m h =
     elim (on_some-split (after_word res.Equals m) (λ k. then_taken (names_vid f k) (as_same v)) (then_read (read_of n m) (as_new v)) h) [
         inl u ↦ let x = then_taken-deep (names_vid f u.0) (as_same v) u.2 in not_deep x.3
-      | inr u ↦ elim (then_deep (read_of n m) (as_new v) u.1) [ inl e ↦ of-far n types m e | inr t ↦ not_deep t.2 ]
+      | inr u ↦ elim (then_deep (read_of n m) (as_new v) u.1) [ inl e ↦ of-far n m e | inr t ↦ not_deep t.2 ]
     ]
 
   turn-far : (s : NoState) (i : List Terminal) → ex_bind_turn n f s i ≡ deep → OpensExBinds f i (suc n)
@@ -174,13 +184,13 @@ module _ (n : ℕ) (types : TyFacts n) (f : Fixity) where
 
   -- `of` is there, and no `=`
   rest-over : (v : Placed Vid) {m : List Terminal} {d : ℕ} → OpensOf m d → n < d → ex_bind_rest n f v m ≡ deep
-  rest-over v (in_of q o) lt = ap (λ z. then_read z (as_new v)) (of-over n types (in_of q o) lt)
+  rest-over v (in_of q o) lt = ap (λ z. then_read z (as_new v)) (of-over n (in_of q o) lt)
 
   vid-over : {i m : List Terminal} {p : ℕ} {v : Vid} {d : ℕ} → BindsVid f i p v m → OpensOf m d → n < d → ex_bind_turn n f no_state i ≡ deep
   vid-over {p} {v} b o lt = then_taken-step (after_vid n f no_state) (binds-found b) (ap (λ z. then_read z (after_ex no_state)) (rest-over (record { place = p; it = v }) o lt))
 
   one-over : {i o : List Terminal} {b : ExBind} → OneExBind f i b o → n < depth_ex b → ex_bind_turn n f no_state i ≡ deep
-  one-over (new_exception {s = t} b d) lt = vid-over b (of-opens n types d (depth_some t) (omega arith) (omega arith)) lt
+  one-over (new_exception {s = t} b d) lt = vid-over b (of-opens d (depth_some t) (omega arith) (omega arith)) lt
   one-over (same_exception r b d) lt = absurd (omega arith)
 
   turns-over : {i : List Terminal} {d : ℕ} → OpensExBinds f i d → n < d → (k : ℕ) → length i < k → many (ex_bind_turn n f) k no_state i ≡ deep
@@ -195,13 +205,3 @@ module _ (n : ℕ) (types : TyFacts n) (f : Fixity) where
 
   pub ex_binds-over : {i : List Terminal} {d : ℕ} → OpensExBinds f i d → n < d → read_ex_binds n f i ≡ deep
   ex_binds-over {i} o lt = turns-over o lt (suc (length i)) (omega arith)
-
-  one-opens : {i o : List Terminal} {b : ExBind} → OneExBind f i b o → (d : ℕ) → 1 ≤ d → d ≤ depth_ex b → OpensExBinds f i d
-  one-opens (new_exception b e) d low le = in-exn b (of-opens n types e d low le)
-  one-opens (same_exception r b e) d low le = absurd (omega arith)
-
-  pub ex_binds-opens : {i o : List Terminal} {bs : List ExBind} → ExBinds f i bs o → (d : ℕ) → 1 ≤ d → d ≤ depth_ex_binds bs → OpensExBinds f i d
-  ex_binds-opens (last_exn {b} e) d low le = let h = depth-ex b [] in one-opens e d low (omega arith)
-  ex_binds-opens (more_exns {b} {bs} p e r) d low le =
-    let w = depth-ex b bs in
-    elim (le_or d (depth_ex b)) [ inl h ↦ one-opens e d low h | inr h ↦ past_exn p e (ex_binds-opens r d low (omega arith)) ]
