@@ -17,7 +17,7 @@ use Rattle.sml_grammar.proofs.Answers.{le_or, got, then_ok, then_deep, not_deep,
 use Rattle.sml_grammar.proofs.Vids.{binds-is, binds-found, binds-shorter, names-is, names-found, names-shorter}
 use Rattle.sml_grammar.proofs.BindStops.{BindStops, binds-end, cons-end}
 use Rattle.sml_grammar.proofs.MaybeTypes.{of-sound, of-shorter}
-use Rattle.sml_grammar.proofs.BindOf.{read_of, OpensOf, in_of, of-read, of-far, of-over, of-opens, of-too_deep}
+use Rattle.sml_grammar.proofs.BindOf.{read_of, OpensOf, in_of, of-read, of-far, of-over, of-opens}
 
 abbrev depth_ex : ExBind → ℕ
 depth_ex (new_exn p v t) = depth_some t

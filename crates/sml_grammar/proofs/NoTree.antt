@@ -1,10 +1,9 @@
 -- Texts that are in no declaration, by computation.
-use Rattle.std.proofs.Common.{◌≡◌, ℕ, List, [], ◌∷◌, refl, true, false, Some, None}
+use Rattle.std.proofs.Common.{◌≡◌, ℕ, List, [], ◌∷◌, refl, true}
 use Rattle.std.specs.Prelude.{pos}
 use Rattle.mlc_base.specs.declared.token.Reserved.TheVariants as res
-use Rattle.sml_tree.specs.declared.ident.Vid.TheVariants.{Named}
 use Rattle.sml_tree.specs.Fixity.{Fixity}
-use Rattle.sml_tree.specs.Terminal.{Terminal, reserved, number, alpha, symbol}
+use Rattle.sml_tree.specs.Terminal.{Terminal, reserved, number, alpha}
 use Rattle.sml_grammar.specs.Answer.{bad, many}
 use Rattle.sml_grammar.specs.Types.{read_ty}
 use Rattle.sml_grammar.specs.Patterns.{read_pats}
