@@ -1,7 +1,7 @@
 -- What patterns and bindings of datatypes don't begin with: type variables, and what a replication begins with.
-use Rattle.std.proofs.Common.{◌≡◌, ℕ, List, [], ◌∷◌, Option, Some, None, refl}
+use Rattle.std.proofs.Common.{◌≡◌, ℕ, List, [], ◌∷◌, None, refl}
 use Rattle.mlc_base.specs.declared.token.Reserved.TheVariants as res
-use Rattle.sml_tree.specs.Terminal.{LongVid, Terminal, reserved, IsConstant, is_number, is_constant, IsVid, alpha_vid, symbol_vid, star_vid, IsQualifiedVid, long_alpha_vid, long_symbol_vid, long_star_vid, IsTycon, alpha_tycon, symbol_tycon}
+use Rattle.sml_tree.specs.Terminal.{LongVid, Terminal, reserved, is_number, is_constant, IsVid, alpha_vid, symbol_vid, star_vid, IsQualifiedVid, long_alpha_vid, long_symbol_vid, long_star_vid, IsTycon, alpha_tycon, symbol_tycon}
 use Rattle.sml_tree.specs.declared.ident.Tyvar.{Tyvar}
 use Rattle.sml_tree.specs.declared.ident.Vid.{Vid}
 use Rattle.sml_tree.specs.Fixity.{Fixity}

@@ -19,15 +19,15 @@ settles n d f g = elim (le_or d n) [ inl h ↦ fits h (f h) | inr h ↦ over h (
 
 pub type_binds-settled : (n : ℕ) {i o : List Terminal} {bs : List TypeBind} → TypeBinds i bs o → BindStops o → Settled (read_type_binds n i) n (depth_type_binds bs) bs o
 type_binds-settled n {bs} d stops =
-  settles n (depth_type_binds bs) (λ le. type_binds-complete n d le stops) (λ lt. type_binds-over n (type_binds-opens d (depth_type_binds bs) (omega arith) (omega arith)) lt)
+    settles n (depth_type_binds bs) (λ le. type_binds-complete n d le stops) (λ lt. type_binds-over n (type_binds-opens d (depth_type_binds bs) (omega arith) (omega arith)) lt)
 
 pub cons-settled : (n : ℕ) {f : Fixity} {i o : List Terminal} {cs : List ConBind} → ConBinds f i cs o → ConsStop o → Settled (read_cons n f i) n (depth_cons cs) cs o
 cons-settled n {f} {cs} d stops = settles n (depth_cons cs) (λ le. cons-complete n f d le stops) (λ lt. cons-over n f (cons-opens d (depth_cons cs) (omega arith) (omega arith)) lt)
 
 pub data_binds-settled : (n : ℕ) {f : Fixity} {i o : List Terminal} {bs : List DataBind} → DataBinds f i bs o → BindStops o → Settled (read_data_binds n f i) n (depth_data_binds bs) bs o
 data_binds-settled n {f} {bs} d stops =
-  settles n (depth_data_binds bs) (λ le. data_binds-complete n f d le stops) (λ lt. data_binds-over n f (data_binds-opens d (depth_data_binds bs) (omega arith) (omega arith)) lt)
+    settles n (depth_data_binds bs) (λ le. data_binds-complete n f d le stops) (λ lt. data_binds-over n f (data_binds-opens d (depth_data_binds bs) (omega arith) (omega arith)) lt)
 
 pub ex_binds-settled : (n : ℕ) {f : Fixity} {i o : List Terminal} {bs : List ExBind} → ExBinds f i bs o → BindStops o → Settled (read_ex_binds n f i) n (depth_ex_binds bs) bs o
 ex_binds-settled n {f} {bs} d stops =
-  settles n (depth_ex_binds bs) (λ le. ex_binds-complete n f d le stops) (λ lt. ex_binds-over n f (ex_binds-opens d (depth_ex_binds bs) (omega arith) (omega arith)) lt)
+    settles n (depth_ex_binds bs) (λ le. ex_binds-complete n f d le stops) (λ lt. ex_binds-over n f (ex_binds-opens d (depth_ex_binds bs) (omega arith) (omega arith)) lt)
