@@ -21,3 +21,4 @@ pub mod BindSettled
 pub mod BindHeads
 pub mod BindEnds
 pub mod NoTree
+pub mod ExpLevels
