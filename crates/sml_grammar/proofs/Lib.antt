@@ -2,3 +2,4 @@ pub mod Words
 pub mod Answers
 pub mod Terminals
 pub mod Vids
+pub mod ExpLevels
