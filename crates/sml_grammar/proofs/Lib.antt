@@ -3,3 +3,9 @@ pub mod Answers
 pub mod Terminals
 pub mod Vids
 pub mod ExpLevels
+pub mod CompFacts
+pub mod CompShapes
+pub mod CompQuiet
+pub mod CompLists
+pub mod CompSuffix
+pub mod CompReaches
