@@ -9,3 +9,5 @@ pub mod CompQuiet
 pub mod CompLists
 pub mod CompSuffix
 pub mod CompReaches
+pub mod CompHeads
+pub mod CompDecs
