@@ -11,3 +11,4 @@ pub mod CompSuffix
 pub mod CompReaches
 pub mod CompHeads
 pub mod CompDecs
+pub mod CompMain
