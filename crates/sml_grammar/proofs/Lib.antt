@@ -22,3 +22,12 @@ pub mod BindHeads
 pub mod BindEnds
 pub mod NoTree
 pub mod ExpLevels
+pub mod CompFacts
+pub mod CompShapes
+pub mod CompQuiet
+pub mod CompLists
+pub mod CompSuffix
+pub mod CompReaches
+pub mod CompHeads
+pub mod CompDecs
+pub mod CompMain
