@@ -3,3 +3,7 @@ pub mod Answers
 pub mod Terminals
 pub mod Vids
 pub mod ExpLevels
+pub mod ExpBelow
+pub mod ExpTurns
+pub mod ExpSoundAtoms
+pub mod ExpSoundChains
