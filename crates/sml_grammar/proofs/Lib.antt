@@ -7,3 +7,7 @@ pub mod ExpBelow
 pub mod ExpTurns
 pub mod ExpSoundAtoms
 pub mod ExpSoundChains
+pub mod ExpSoundForms
+pub mod ExpSoundBinds
+pub mod ExpSoundDecs
+pub mod ExpSound
