@@ -31,3 +31,11 @@ pub mod CompReaches
 pub mod CompHeads
 pub mod CompDecs
 pub mod CompMain
+pub mod ExpBelow
+pub mod ExpTurns
+pub mod ExpSoundAtoms
+pub mod ExpSoundChains
+pub mod ExpSoundForms
+pub mod ExpSoundBinds
+pub mod ExpSoundDecs
+pub mod ExpSound
