@@ -39,3 +39,4 @@ pub mod ExpSoundForms
 pub mod ExpSoundBinds
 pub mod ExpSoundDecs
 pub mod ExpSound
+pub mod BindFacts
