@@ -17,9 +17,6 @@ pub mod BindOf
 pub mod BindCons
 pub mod BindDatatypes
 pub mod BindExceptions
-pub mod BindSettled
-pub mod BindHeads
-pub mod BindEnds
 pub mod NoTree
 pub mod ExpLevels
 pub mod CompFacts
