@@ -1,5 +1,5 @@
 -- Words at the head of terminals that are told by a path, and one turn of a loop over a list.
-use Rattle.std.proofs.Common.{◌≡◌, ℕ, List, ◌∷◌, Option, Some, None, inl, inr, refl, subst}
+use Rattle.std.proofs.Common.{◌≡◌, ℕ, List, ◌∷◌, Option, Some, None, inl, inr, refl, sym, subst}
 use Rattle.mlc_base.specs.declared.label.Label.{Label}
 use Rattle.mlc_base.specs.declared.token.Reserved.{Reserved}
 use Rattle.mlc_base.specs.declared.token.Reserved.TheVariants as res
@@ -53,3 +53,18 @@ sep-good {B} {S} P s s' i o w put end y h ends goes =
 pub sep-more : {B S : Type 0} (o : List Terminal) (w : Reserved) (put : B → B) (end : B) (s : S) (put' : B → B) (t : S) (m : List Terminal) →
   separated (after_word w o) put end s o ≡ read (more put' t) m → WordAt w o m × (s ≡ t)
 sep-more o w put end s put' t m h = let q = separated-more (after_word w o) put end s o put' t m h in (word-at w o m q.0, q.2)
+
+-- the loop goes on with the state of a turn
+abbrev Went : {B S : Type 0} → (S → List Terminal → Type 0) → Turn B S → List Terminal → Type 0
+Went Q (last b) m = Unit
+Went Q (more put t) m = Q t m
+
+pub went : {B S : Type 0} (Q : S → List Terminal → Type 0) {put put' : B → B} {t t' : S} {m m' : List Terminal} → read (more put t) m ≡ read (more put' t') m' → Q t' m' → Q t m
+went {B} {S} Q e q = subst (λ (z : Read (Turn B S)). Went Q z.tree z.rest) (sym (got e)) q
+
+abbrev Ended : {B S : Type 0} → Type 0 → Turn B S → Type 0
+Ended A (last b) = Unit
+Ended A (more put t) = A
+
+pub last-more : {A B S : Type 0} {put : B → B} {b : B} {t : S} {m m' : List Terminal} → read (last b) m ≡ read (more put t) m' → A
+last-more {A} {B} {S} e = subst (λ (z : Read (Turn B S)). Ended A z.tree) (got e) tt

@@ -11,3 +11,9 @@ pub mod ExpSoundForms
 pub mod ExpSoundBinds
 pub mod ExpSoundDecs
 pub mod ExpSound
+pub mod ExpFarAtoms
+pub mod ExpFarChains
+pub mod ExpFarForms
+pub mod ExpFarBinds
+pub mod ExpFarDecs
+pub mod ExpFar
