@@ -17,3 +17,10 @@ pub mod ExpFarForms
 pub mod ExpFarBinds
 pub mod ExpFarDecs
 pub mod ExpFar
+pub mod TypeShapes
+pub mod TypeSound
+pub mod TypeComplete
+pub mod TypePaths
+pub mod TypeOver
+pub mod TypeFar
+pub mod MaybeTypes
