@@ -24,3 +24,15 @@ pub mod TypePaths
 pub mod TypeOver
 pub mod TypeFar
 pub mod MaybeTypes
+pub mod BindTyvars
+pub mod BindNames
+pub mod BindStops
+pub mod BindTypes
+pub mod BindOf
+pub mod BindCons
+pub mod BindDatatypes
+pub mod BindExceptions
+pub mod BindSettled
+pub mod BindHeads
+pub mod BindEnds
+pub mod NoTree
