@@ -1,1 +1,4 @@
-
+pub mod Words
+pub mod Answers
+pub mod Terminals
+pub mod Vids
