@@ -2,3 +2,10 @@ pub mod Words
 pub mod Answers
 pub mod Terminals
 pub mod Vids
+pub mod TypeShapes
+pub mod TypeSound
+pub mod TypeComplete
+pub mod TypePaths
+pub mod TypeOver
+pub mod TypeFar
+pub mod MaybeTypes

@@ -4,3 +4,8 @@ pub mod Types
 pub mod PartialTypes
 pub mod Patterns
 pub mod PartialPatterns
+pub mod Bindings
+pub mod Expressions
+pub mod PartialBindings
+pub mod Partial
+pub mod Laws
