@@ -17,3 +17,4 @@ pub mod PatAtComplete
 pub mod PatComplete
 pub mod PatOpens
 pub mod PatAtOver
+pub mod PatHeads
