@@ -36,3 +36,12 @@ pub mod BindSettled
 pub mod BindHeads
 pub mod BindEnds
 pub mod NoTree
+pub mod PatStarts
+pub mod PatShapes
+pub mod PatAtSound
+pub mod PatSound
+pub mod PatAtComplete
+pub mod PatComplete
+pub mod PatOpens
+pub mod PatAtOver
+pub mod PatHeads
