@@ -14,8 +14,9 @@ use Rattle.sml_grammar.specs.Expressions.{Reader, AtomReader, DecsReader, Reader
 use Rattle.sml_grammar.specs.Partial.{Opens, OpensAtom, in_row, in_paren, in_tuple, in_sequence, in_list, in_decs, in_body, OpensRow, in_field, past_field, OpensCommas, in_comma, past_comma, OpensSemicolons, in_semicolon, past_semicolon, OpensDecs}
 use Rattle.sml_grammar.proofs.Words.{WordAt, at_word, word-at}
 use Rattle.sml_grammar.proofs.Answers.{then_ok, then_deep, then_taken-ok, then_taken-deep, word_then-deep, on_some-split, bad_deep, not_deep, separated-deep, many-far}
+use Rattle.sml_grammar.proofs.PatAtSound.{LabelEquals, label_equals_at, label_equals-is}
 use Rattle.sml_grammar.proofs.ExpLevels.{AtomStartIs, is_constant_start, is_vid_start, is_equals_start, is_brace_start, is_hash_start, is_paren_start, is_bracket_start, is_let_start, is_no_atom}
-use Rattle.sml_grammar.proofs.ExpTurns.{at-head, LabelEquals, label_at, label_equals-is, sep-more}
+use Rattle.sml_grammar.proofs.ExpTurns.{at-head, sep-more}
 use Rattle.sml_grammar.proofs.ExpSoundAtoms.{Good, Sounds, SoundsDecs}
 
 abbrev pub Fars : ℕ → Reader → Type 0
@@ -63,7 +64,7 @@ module _ (n : ℕ) (self : Reader) (sound : Sounds n self) (far : Fars n self) (
   field_read s l m = then_read (self f 0 m) (λ e o. separated (after_word res.Comma o) (exp_field l e) (exp_field l e no_exp_fields) s o)
 
   field-ends : (s : NoState) {i m : List Terminal} {l : Label} → LabelEquals i l m → field_read s l m ≡ deep → OpensRow f i (suc n)
-  field-ends s {m} {l} (label_at p v) h =
+  field-ends s {m} {l} (label_equals_at p v) h =
     elim (then_deep (self f 0 m) _ h) [
         inl x ↦ in_field p v (far f 0 m (omega arith) x)
       | inr t ↦ separated-deep (after_word res.Comma t.0.rest) (exp_field l t.0.tree) (exp_field l t.0.tree no_exp_fields) s t.0.rest t.2
@@ -71,7 +72,7 @@ module _ (n : ℕ) (self : Reader) (sound : Sounds n self) (far : Fars n self) (
 
   field-goes : (s : NoState) {i m : List Terminal} {l : Label} (put : ExpFields → ExpFields) (s' : NoState) (k : List Terminal) → LabelEquals i l m → field_read s l m ≡ read (more put s') k → OpensRow f k (suc n) →
     OpensRow f i (suc n)
-  field-goes s {m} {l} put s' k (label_at p v) h r =
+  field-goes s {m} {l} put s' k (label_equals_at p v) h r =
     let t = then_ok (self f 0 m) _ (record { tree = more put s'; rest = k }) h in
     let w = sep-more t.0.rest res.Comma (exp_field l t.0.tree) (exp_field l t.0.tree no_exp_fields) s put s' k t.2 in
     let a = at-head w.0 (λ z. Reads f m t.0.tree z) (sound f 0 m t.0 (omega arith) t.1).reads in

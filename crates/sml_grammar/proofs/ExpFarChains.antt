@@ -16,11 +16,12 @@ use Rattle.sml_grammar.specs.Expressions.{Reader, rule_turn, read_match, Next, n
 use Rattle.sml_grammar.specs.Partial.{Opens, joined, in_chain, marked, in_typed, handled, in_handler, OpensPart, in_part, past_part, OpensMatch, in_rule_pat, in_rule, past_rule}
 use Rattle.sml_grammar.proofs.Words.{WordAt, at_word, word-at}
 use Rattle.sml_grammar.proofs.Answers.{chosen, both_false, then_ok, then_deep, word_then-ok, word_then-deep, bad_ok, deep_ok, bad_deep, not_deep, separated-deep, many-far}
+use Rattle.sml_grammar.proofs.PatSound.{same-is}
 use Rattle.sml_grammar.proofs.ExpLevels.{NextIs, is_joint, is_mark, is_handler, is_nothing, next-is, level-low}
 use Rattle.sml_grammar.proofs.ExpBelow.{Below, FarBelow}
 use Rattle.sml_grammar.proofs.ExpTurns.{at-head, sep-more, went, last-more}
 use Rattle.sml_grammar.proofs.ExpSoundAtoms.{Good, Sounds}
-use Rattle.sml_grammar.proofs.ExpSoundChains.{same-is, match-sound, whole_parts-sound}
+use Rattle.sml_grammar.proofs.ExpSoundChains.{match-sound, whole_parts-sound}
 use Rattle.sml_grammar.proofs.ExpFarAtoms.{Fars}
 
 pub over : (n m : ℕ) → nat_le m n ≡ false → suc n ≤ m

@@ -14,11 +14,12 @@ use Rattle.sml_grammar.specs.Expressions.{Reader, DecsReader, read_binds, read_f
 use Rattle.sml_grammar.specs.Partial.{OpensDecs, past_empty, in_dec, past_dec, OpensDec, in_val, in_fun, in_type, in_datatype, in_withtype, in_exception}
 use Rattle.sml_grammar.proofs.Words.{WordAt, at_word, word-at}
 use Rattle.sml_grammar.proofs.Answers.{chosen, then_ok, then_deep, then_taken-deep, word_then-deep, on_some-split, on_taken-split, bad_deep, not_deep, many-far}
+use Rattle.sml_grammar.proofs.BindNames.{precedence-sound}
 use Rattle.sml_grammar.proofs.ExpLevels.{DecStartIs, is_val, is_fun, is_type, is_datatype, is_exception, is_local, is_open, is_infix_dec, is_infixr_dec, is_nonfix_dec, is_no_dec, dec-start-is}
 use Rattle.sml_grammar.proofs.ExpBelow.{Within, Below, FarBelow}
 use Rattle.sml_grammar.proofs.ExpTurns.{at-head, at-front, went, last-more}
 use Rattle.sml_grammar.proofs.ExpSoundAtoms.{Good, Sounds}
-use Rattle.sml_grammar.proofs.ExpSoundDecs.{precedence-is, dec-sound}
+use Rattle.sml_grammar.proofs.ExpSoundDecs.{dec-sound}
 use Rattle.sml_grammar.proofs.ExpFarAtoms.{Fars}
 use Rattle.sml_grammar.proofs.ExpFarBinds.{binds-far, funs-far}
 
@@ -76,10 +77,10 @@ module _ (n : ℕ) (below : Below n) (far_below : FarBelow n) (self : Reader) (s
       elim (then_deep (inner f o) (local_rest inner f p) h) [ inl x ↦ far_inner.first f p o x | inr t ↦ local-far p o t.0.tree t.0.rest (sound_inner f o t.0 t.1).reads t.2 ]
     dec-far (is_open {o} p) h = elim (then_deep (read_strids o) _ h) [ inl x ↦ absurd (far_below.strids o x) | inr u ↦ not_deep u.2 ]
     dec-far (is_infix_dec {o} p) h =
-      let q = precedence-is (infix_directive p false) o h in
+      let q = precedence-sound (infix_directive p false) o h in
       elim (then_deep (read_vids q.1) _ q.3) [ inl x ↦ absurd (far_below.vids q.1 x) | inr u ↦ not_deep u.2 ]
     dec-far (is_infixr_dec {o} p) h =
-      let q = precedence-is (infix_directive p true) o h in
+      let q = precedence-sound (infix_directive p true) o h in
       elim (then_deep (read_vids q.1) _ q.3) [ inl x ↦ absurd (far_below.vids q.1 x) | inr u ↦ not_deep u.2 ]
     dec-far (is_nonfix_dec {o} p) h = elim (then_deep (read_vids o) _ h) [ inl x ↦ absurd (far_below.vids o x) | inr u ↦ not_deep u.2 ]
     dec-far is_no_dec h = bad_deep {A = Dec} h

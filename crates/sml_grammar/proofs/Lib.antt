@@ -45,3 +45,6 @@ pub mod PatComplete
 pub mod PatOpens
 pub mod PatAtOver
 pub mod PatHeads
+pub mod ExpGiven
+pub mod LawSound
+pub mod LawDeepSound
