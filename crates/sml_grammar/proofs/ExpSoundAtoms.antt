@@ -16,9 +16,10 @@ use Rattle.sml_grammar.specs.Expressions.{Reader, AtomReader, DecsReader, Reader
 use Rattle.sml_grammar.proofs.Words.{WordAt, at_word, word-at}
 use Rattle.sml_grammar.proofs.Answers.{then_ok, then_taken-ok, word_then-ok, on_some-split, bad_ok, GoodTurn, many-ok}
 use Rattle.sml_grammar.proofs.Terminals.{Front, front, label-is}
+use Rattle.sml_grammar.proofs.PatAtSound.{LabelEquals, label_equals_at, label_equals-is}
 use Rattle.sml_grammar.proofs.ExpLevels.{AtomStartIs, is_constant_start, is_vid_start, is_equals_start, is_brace_start, is_hash_start, is_paren_start, is_bracket_start, is_let_start, is_no_atom}
 use Rattle.sml_grammar.proofs.ExpBelow.{Within}
-use Rattle.sml_grammar.proofs.ExpTurns.{at-head, at-front, given, LabelEquals, label_at, label_equals-is, sep-good}
+use Rattle.sml_grammar.proofs.ExpTurns.{at-head, at-front, given, sep-good}
 
 -- read, of a level of at least l and at most n deep, and nothing at its end goes on with what follows
 pub record Good (n : ℕ) (f : Fixity) (l : ℕ) (i : List Terminal) (y : Read Exp) : Type 0 where
@@ -66,7 +67,7 @@ module _ (n : ℕ) (self : Reader) (sound : Sounds n self) (f : Fixity) where
 
   field-sound : (s : NoState) {i m : List Terminal} {l : Label} (y : Read (Turn ExpFields NoState)) → LabelEquals i l m →
     then_read (self f 0 m) (λ e o. separated (after_word res.Comma o) (exp_field l e) (exp_field l e no_exp_fields) s o) ≡ ok y → GoodTurn GoodRow s i y.tree y.rest
-  field-sound s {m} {l} y (label_at {t} p v) h =
+  field-sound s {m} {l} y (label_equals_at {t} p v) h =
     let u = then_ok (self f 0 m) _ y h in
     let g = sound f 0 m u.0 (omega arith) u.1 in
     sep-good GoodRow s s (t ∷ reserved p res.Equals ∷ m) u.0.rest res.Comma (exp_field l u.0.tree) (exp_field l u.0.tree no_exp_fields) y u.2

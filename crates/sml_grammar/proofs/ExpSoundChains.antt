@@ -16,6 +16,7 @@ use Rattle.sml_grammar.specs.Patterns.{same, read_pat}
 use Rattle.sml_grammar.specs.Expressions.{Reader, rule_turn, read_match, Next, joint, mark, handler, nothing, next_of, part_next, part_turn, whole_parts, suffix_next, suffix_turn}
 use Rattle.sml_grammar.proofs.Words.{WordAt, at_word, word-at}
 use Rattle.sml_grammar.proofs.Answers.{chosen, both_false, then_ok, word_then-ok, bad_ok, deep_ok, GoodTurn, many-ok}
+use Rattle.sml_grammar.proofs.PatSound.{same-is}
 use Rattle.sml_grammar.proofs.ExpLevels.{NextIs, is_joint, is_mark, is_handler, is_nothing, next-is, joint-tie, level-low}
 use Rattle.sml_grammar.proofs.ExpBelow.{Within, Below}
 use Rattle.sml_grammar.proofs.ExpTurns.{at-head, given, sep-good}
@@ -24,12 +25,6 @@ use Rattle.sml_grammar.proofs.ExpSoundAtoms.{Good, Sounds}
 pub no-bar : (o : List Terminal) → after_word res.Bar o ≡ None → begins_bar o ≡ false
 no-bar (reserved p res.Bar ∷ o) e = absurd (cc)
 no-bar _ e = refl
-
-pub same-is : (a b : Bool) → same a b ≡ true → a ≡ b
-same-is true true e = refl
-same-is true false e = absurd (cc)
-same-is false true e = absurd (cc)
-same-is false false e = refl
 
 pub record GoodMatch (n : ℕ) (f : Fixity) (i : List Terminal) (rs : Rules) (o : List Terminal) : Type 0 where
   pub reads : Match f i rs o

@@ -17,33 +17,12 @@ use Rattle.sml_grammar.specs.Expressions.{Reader, DecsReader, read_binds, read_f
 use Rattle.sml_grammar.proofs.Words.{WordAt, at_word, word-at}
 use Rattle.sml_grammar.proofs.Answers.{chosen, got_some, not_some, then_ok, then_taken-ok, word_then-ok, on_some-split, on_taken-split, bad_ok, GoodTurn, many-ok}
 use Rattle.sml_grammar.proofs.Terminals.{Holds, holds, nothing, Front, front, front-is, tycon-is, long_tycon-is}
+use Rattle.sml_grammar.proofs.BindNames.{precedence-sound}
 use Rattle.sml_grammar.proofs.ExpLevels.{DecStartIs, is_val, is_fun, is_type, is_datatype, is_exception, is_local, is_open, is_infix_dec, is_infixr_dec, is_nonfix_dec, is_no_dec, dec-start-is}
 use Rattle.sml_grammar.proofs.ExpBelow.{Within, Below}
 use Rattle.sml_grammar.proofs.ExpTurns.{at-head, at-front, given}
 use Rattle.sml_grammar.proofs.ExpSoundAtoms.{Good, Sounds}
 use Rattle.sml_grammar.proofs.ExpSoundBinds.{binds-sound, funs-sound}
-
--- a precedence
-data IsDigit : Terminal → ℕ → ℕ → Type 0 where
-  is_digit : (p d : ℕ) → d ≤ 9 → IsDigit (number p (pos d) true) p d
-
-digit-holds : (t : Terminal) → Holds (IsDigit t (place_of t)) (as_digit t)
-digit-holds (number p (pos d) true) = go (nat_le d 9) refl
-  where
-    go : (b : Bool) → nat_le d 9 ≡ b → Holds (IsDigit (number p (pos d) true) p) (if b then Some d else None)
-    go true e = holds (is_digit p d (leb-true d 9 e))
-    go false e = nothing
-digit-holds _ = nothing
-
-pub precedence-is : {A : Type 0} (g : ℕ → List Terminal → Answer A) (i : List Terminal) {z : Answer A} → precedence_then g i ≡ z → (d : ℕ) × (o : List Terminal) × ReadsPrecedence i d o × (g d o ≡ z)
-precedence-is g i h =
-  elim (on_taken-split (first_as as_digit i) (λ d o. g d.it o) (g 0 i) h) [
-      inl q ↦ (q.0.it, q.1, go (front-is as_digit IsDigit digit-holds i q.0 q.1 q.2), q.3)
-    | inr q ↦ (0, i, no_precedence, q.1)
-  ]
-  where
-    go : {i : List Terminal} {x : Placed ℕ} {o : List Terminal} → Front IsDigit i x o → ReadsPrecedence i x.it o
-    go (front (is_digit p d le)) = a_precedence p d le
 
 -- `tycon = datatype`
 pub data Replicated : List Terminal → Placed ℕ → List Terminal → Type 0 where
@@ -131,11 +110,11 @@ module _ (n : ℕ) (below : Below n) (self : Reader) (sound : Sounds n self)
       let t = then_ok (read_strids o) _ y h in
       given (GoodDec (reserved p res.Open ∷ o)) t.2 (record { reads = of_open p (below.strids o t.0 t.1); fits = omega arith })
     dec-sound y (is_infix_dec {o} p) h =
-      let q = precedence-is (infix_directive p false) o h in
+      let q = precedence-sound (infix_directive p false) o h in
       let t = then_ok (read_vids q.1) _ y q.3 in
       given (GoodDec (reserved p res.Infix ∷ o)) t.2 (record { reads = of_infix p q.2 (below.vids q.1 t.0 t.1); fits = omega arith })
     dec-sound y (is_infixr_dec {o} p) h =
-      let q = precedence-is (infix_directive p true) o h in
+      let q = precedence-sound (infix_directive p true) o h in
       let t = then_ok (read_vids q.1) _ y q.3 in
       given (GoodDec (reserved p res.Infixr ∷ o)) t.2 (record { reads = of_infixr p q.2 (below.vids q.1 t.0 t.1); fits = omega arith })
     dec-sound y (is_nonfix_dec {o} p) h =

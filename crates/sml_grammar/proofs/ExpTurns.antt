@@ -1,5 +1,5 @@
 -- Words at the head of terminals that are told by a path, and one turn of a loop over a list.
-use Rattle.std.proofs.Common.{◌≡◌, ℕ, List, ◌∷◌, Option, Some, None, inl, inr, refl, subst}
+use Rattle.std.proofs.Common.{◌≡◌, ℕ, List, ◌∷◌, Option, Some, None, inl, inr, refl, sym, subst}
 use Rattle.mlc_base.specs.declared.label.Label.{Label}
 use Rattle.mlc_base.specs.declared.token.Reserved.{Reserved}
 use Rattle.mlc_base.specs.declared.token.Reserved.TheVariants as res
@@ -22,23 +22,6 @@ at-front (at_word p) R k = k p
 pub given : {B : Type 0} (P : B → List Terminal → Type 0) {b : B} {o : List Terminal} {y : Read B} → read b o ≡ ok y → P b o → P y.tree y.rest
 given {B} P {y} e k = subst (λ (z : Read B). P z.tree z.rest) (got e) k
 
--- a label and the `=` after it
-pub data LabelEquals : List Terminal → Label → List Terminal → Type 0 where
-  label_at : {t : Terminal} {o : List Terminal} {l : Label} (p : ℕ) → IsLabel t l → LabelEquals (t ∷ reserved p res.Equals ∷ o) l o
-
-pub label_equals-is : (i : List Terminal) (l : Label) (o : List Terminal) → label_equals i ≡ taken l o → LabelEquals i l o
-label_equals-is i l o h =
-  elim (on_taken-split (first_as as_label i) (λ x m. label_if x.it (after_word res.Equals m)) None h) [
-      inl q ↦ go (label-is i q.0 q.1 q.2) (after_word res.Equals q.1) refl q.3
-    | inr q ↦ not_some q.1
-  ]
-  where
-    put : {i : List Terminal} {x : Placed Label} {m k : List Terminal} → Front (λ t p l'. IsLabel t l') i x m → WordAt res.Equals m k → LabelEquals i x.it k
-    put (front v) (at_word p) = label_at p v
-    go : {x : Placed Label} {m : List Terminal} → Front (λ t p l'. IsLabel t l') i x m → (v : Option (List Terminal)) → after_word res.Equals m ≡ v → label_if x.it v ≡ taken l o → LabelEquals i l o
-    go {m} a (Some k) e h = subst (λ (z : Taken Label). LabelEquals i z.it z.rest) (got_some h) (put a (word-at res.Equals m k e))
-    go a None e h = not_some h
-
 -- an element of a list, and a separator or none after it
 pub sep-good : {B S : Type 0} (P : S → List Terminal → B → List Terminal → Type 0) (s s' : S) (i o : List Terminal) (w : Reserved) (put : B → B) (end : B) (y : Read (Turn B S)) →
   separated (after_word w o) put end s' o ≡ ok y → (after_word w o ≡ None → P s i end o) → ((m : List Terminal) → WordAt w o m → (b : B) (k : List Terminal) → P s' m b k → P s i (put b) k) →
@@ -53,3 +36,18 @@ sep-good {B} {S} P s s' i o w put end y h ends goes =
 pub sep-more : {B S : Type 0} (o : List Terminal) (w : Reserved) (put : B → B) (end : B) (s : S) (put' : B → B) (t : S) (m : List Terminal) →
   separated (after_word w o) put end s o ≡ read (more put' t) m → WordAt w o m × (s ≡ t)
 sep-more o w put end s put' t m h = let q = separated-more (after_word w o) put end s o put' t m h in (word-at w o m q.0, q.2)
+
+-- the loop goes on with the state of a turn
+abbrev Went : {B S : Type 0} → (S → List Terminal → Type 0) → Turn B S → List Terminal → Type 0
+Went Q (last b) m = Unit
+Went Q (more put t) m = Q t m
+
+pub went : {B S : Type 0} (Q : S → List Terminal → Type 0) {put put' : B → B} {t t' : S} {m m' : List Terminal} → read (more put t) m ≡ read (more put' t') m' → Q t' m' → Q t m
+went {B} {S} Q e q = subst (λ (z : Read (Turn B S)). Went Q z.tree z.rest) (sym (got e)) q
+
+abbrev Ended : {B S : Type 0} → Type 0 → Turn B S → Type 0
+Ended A (last b) = Unit
+Ended A (more put t) = A
+
+pub last-more : {A B S : Type 0} {put : B → B} {b : B} {t : S} {m m' : List Terminal} → read (last b) m ≡ read (more put t) m' → A
+last-more {A} {B} {S} e = subst (λ (z : Read (Turn B S)). Ended A z.tree) (got e) tt
