@@ -18,3 +18,4 @@ pub mod PatComplete
 pub mod PatOpens
 pub mod PatAtOver
 pub mod PatHeads
+pub mod PatOver
