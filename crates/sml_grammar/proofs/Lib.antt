@@ -64,3 +64,4 @@ pub mod PatHeads
 pub mod ExpGiven
 pub mod LawSound
 pub mod LawDeepSound
+pub mod PatOver

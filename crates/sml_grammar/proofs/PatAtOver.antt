@@ -43,7 +43,7 @@ abbrev pub OverAtPat : ℕ → AtPatReader → Type 0
 OverAtPat n self = (f : Fixity) (i : List Terminal) (d : ℕ) → OpensAtPat f i d → n < d → self f i ≡ deep
 
 -- an optional type that is too deep
-maybe-too : (n : ℕ) {i o : List Terminal} {s : Option Ty} → MaybeTy i s o → n < depth_some s → maybe_ty n (after_word res.Colon i) i ≡ deep
+pub maybe-too : (n : ℕ) {i o : List Terminal} {s : Option Ty} → MaybeTy i s o → n < depth_some s → maybe_ty n (after_word res.Colon i) i ≡ deep
 maybe-too n without_ty lt = absurd (omega arith)
 maybe-too n (with_ty {i} {a} p d) lt = let h : read_ty n 0 i ≡ deep = ty-over n 0 (ty-opens d (omega arith) (depth_ty a) (omega arith) (omega arith)) lt in rw h refl
 

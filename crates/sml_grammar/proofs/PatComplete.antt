@@ -118,7 +118,7 @@ module _ (n : ℕ) (self : PatReaders) (complete : CompletePat n self.pat) (comp
     alone : {i m : List Terminal} {p : ℕ} {v : Vid} → BindsVid f i p v m → Reached 0 i (vid_pat p (short v)) m
     along : {l : ℕ} {i m : List Terminal} {a : Pat} → Reaches l i a m → Reached l i a m
 
-  plain-unbound : (l : ℕ) (i : List Terminal) → binds_vid f i ≡ None → pat_form self n f l i ≡ plain_form self n f l i
+  pub plain-unbound : (l : ℕ) (i : List Terminal) → binds_vid f i ≡ None → pat_form self n f l i ≡ plain_form self n f l i
   plain-unbound zero i e = rw e refl
   plain-unbound (suc l) i e = refl
 
