@@ -33,7 +33,6 @@ pub mod BindCons
 pub mod BindDatatypes
 pub mod BindExceptions
 pub mod NoTree
-pub mod ExpLevels
 pub mod CompFacts
 pub mod CompShapes
 pub mod CompQuiet
@@ -43,14 +42,6 @@ pub mod CompReaches
 pub mod CompHeads
 pub mod CompDecs
 pub mod CompMain
-pub mod ExpBelow
-pub mod ExpTurns
-pub mod ExpSoundAtoms
-pub mod ExpSoundChains
-pub mod ExpSoundForms
-pub mod ExpSoundBinds
-pub mod ExpSoundDecs
-pub mod ExpSound
 pub mod BindFacts
 pub mod PatStarts
 pub mod PatShapes
