@@ -1,20 +1,18 @@
 -- Where the readers answer deep, a partial phrase is there, by induction on the depth.
-use Rattle.std.proofs.Common.{◌≡◌, ℕ, zero, suc, ◌≤◌, List, ◌∷◌, refl, arith, max}
-use Rattle.sml_tree.specs.Terminal.{Terminal}
-use Rattle.sml_tree.specs.Fixity.{Fixity}
-use Rattle.sml_tree.specs.ReadTree.{Exp, Decs}
+use Rattle.std.proofs.Common.{ℕ, zero, suc, arith}
+use Rattle.sml_tree.specs.ReadTree.{Exp}
 use Rattle.sml_tree.specs.Levels.{after}
-use Rattle.sml_grammar.specs.Answer.{Read, Answer, ok, deep, deep_if}
+use Rattle.sml_grammar.specs.Answer.{deep, deep_if}
 use Rattle.sml_grammar.specs.Expressions.{readers, begins, begins_atom, exp_from}
-use Rattle.sml_grammar.specs.Partial.{Opens, begun, begun_atom, OpensDec, begun_local, in_local, in_local_body}
+use Rattle.sml_grammar.specs.Partial.{begun, begun_atom, begun_local, in_local, in_local_body}
 use Rattle.sml_grammar.proofs.Answers.{deep_if-ok, deep_ok, if-deep}
 use Rattle.sml_grammar.proofs.ExpLevels.{atom-start-is}
-use Rattle.sml_grammar.proofs.ExpBelow.{Within, Below, FarBelow}
+use Rattle.sml_grammar.proofs.ExpBelow.{Below, FarBelow}
 use Rattle.sml_grammar.proofs.ExpSoundForms.{exp_from-sound}
-use Rattle.sml_grammar.proofs.ExpSound.{SoundReaders, readers-sound}
+use Rattle.sml_grammar.proofs.ExpSound.{readers-sound}
 use Rattle.sml_grammar.proofs.ExpFarAtoms.{Fars, FarsAtom, FarsDecs, atom-far}
 use Rattle.sml_grammar.proofs.ExpFarForms.{exp_from-far}
-use Rattle.sml_grammar.proofs.ExpFarDecs.{FarInner, decs_from-far}
+use Rattle.sml_grammar.proofs.ExpFarDecs.{decs_from-far}
 
 pub record FarReaders (n : ℕ) : Type 0 where
   pub exp : Fars n (readers n).exp

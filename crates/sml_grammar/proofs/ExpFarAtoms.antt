@@ -1,5 +1,5 @@
 -- Where lists of expressions and atomic expressions are too deep, a partial one is there.
-use Rattle.std.proofs.Common.{◌≡◌, ℕ, zero, suc, ◌≤◌, List, [], ◌∷◌, length, Option, Some, None, inl, inr, refl, arith}
+use Rattle.std.proofs.Common.{◌≡◌, ℕ, suc, ◌≤◌, List, ◌∷◌, length, inl, inr, arith}
 use Rattle.mlc_base.specs.declared.label.Label.{Label}
 use Rattle.mlc_base.specs.declared.token.Reserved.TheVariants as res
 use Rattle.sml_tree.specs.Terminal.{Terminal, reserved}
@@ -7,17 +7,17 @@ use Rattle.sml_tree.specs.Fixity.{Fixity}
 use Rattle.sml_tree.specs.ReadTree.{Exp, Exps, no_exps, exp, ExpFields, no_exp_fields, exp_field, Decs}
 use Rattle.sml_tree.specs.Levels.{after}
 use Rattle.sml_tree.specs.Grammar.{Reads, Declares}
-use Rattle.sml_grammar.specs.Answer.{Read, Answer, ok, deep, read, then_read, Turn, last, more, whole}
+use Rattle.sml_grammar.specs.Answer.{Answer, deep, read, then_read, Turn, more, whole}
 use Rattle.sml_grammar.specs.Terminals.{first_as, as_label, after_word, word_then, separated, NoState, no_state}
 use Rattle.sml_grammar.specs.Patterns.{label_equals}
-use Rattle.sml_grammar.specs.Expressions.{Reader, AtomReader, DecsReader, Readers, AtomStart, commas_turn, semicolons_turn, row_turn, brace_exp, hash_exp, bracket_exp, tuple_rest, sequence_rest, paren_rest, paren_in, let_body, let_exp, atom_by}
+use Rattle.sml_grammar.specs.Expressions.{Reader, AtomReader, DecsReader, Readers, AtomStart, commas_turn, semicolons_turn, row_turn, brace_exp, bracket_exp, paren_rest, paren_in, let_body, let_exp, atom_by}
 use Rattle.sml_grammar.specs.Partial.{Opens, OpensAtom, in_row, in_paren, in_tuple, in_sequence, in_list, in_decs, in_body, OpensRow, in_field, past_field, OpensCommas, in_comma, past_comma, OpensSemicolons, in_semicolon, past_semicolon, OpensDecs}
-use Rattle.sml_grammar.proofs.Words.{WordAt, at_word, word-at}
+use Rattle.sml_grammar.proofs.Words.{word-at}
 use Rattle.sml_grammar.proofs.Answers.{then_ok, then_deep, then_taken-ok, then_taken-deep, word_then-deep, on_some-split, bad_deep, not_deep, separated-deep, many-far}
 use Rattle.sml_grammar.proofs.PatAtSound.{LabelEquals, label_equals_at, label_equals-is}
 use Rattle.sml_grammar.proofs.ExpLevels.{AtomStartIs, is_constant_start, is_vid_start, is_equals_start, is_brace_start, is_hash_start, is_paren_start, is_bracket_start, is_let_start, is_no_atom}
 use Rattle.sml_grammar.proofs.ExpTurns.{at-head, sep-more}
-use Rattle.sml_grammar.proofs.ExpSoundAtoms.{Good, Sounds, SoundsDecs}
+use Rattle.sml_grammar.proofs.ExpSoundAtoms.{Sounds, SoundsDecs}
 
 abbrev pub Fars : ℕ → Reader → Type 0
 Fars n self = (f : Fixity) (l : ℕ) (i : List Terminal) → l ≤ 1000 → self f l i ≡ deep → Opens f l i (suc n)

@@ -1,24 +1,24 @@
 -- Where bindings of values or functions are too deep, a partial one is there.
-use Rattle.std.proofs.Common.{◌≡◌, ℕ, zero, suc, ◌≤◌, List, [], ◌∷◌, length, Option, Some, None, Bool, true, false, inl, inr, refl, sym, subst, arith, if◌then◌else◌}
+use Rattle.std.proofs.Common.{◌≡◌, ℕ, suc, List, ◌∷◌, length, Option, Some, None, true, false, inl, inr, sym, subst, arith}
 use Rattle.mlc_base.specs.declared.token.Reserved.TheVariants as res
 use Rattle.sml_tree.specs.Terminal.{Terminal, reserved}
 use Rattle.sml_tree.specs.Fixity.{Fixity}
-use Rattle.sml_tree.specs.ReadTree.{Ty, Exp, Head, Binds, last_bind, bind, Funs, last_fun, fun_and, Clauses, last_clause, clause}
+use Rattle.sml_tree.specs.ReadTree.{Ty, Head, Binds, last_bind, bind, Funs, last_fun, fun_and, Clauses, last_clause, clause}
 use Rattle.sml_tree.specs.Levels.{goes_on}
 use Rattle.sml_tree.specs.Grammar.{MaybeTy, Pattern, ReadsHead, Reads, ReadsClauses}
-use Rattle.sml_grammar.specs.Answer.{Read, Answer, ok, bad, deep, read, then_read, Turn, last, more, whole}
+use Rattle.sml_grammar.specs.Answer.{Read, deep, read, Turn, more}
 use Rattle.sml_grammar.specs.Terminals.{after_word, NoState, no_state}
 use Rattle.sml_grammar.specs.Types.{read_ty, maybe_ty}
 use Rattle.sml_grammar.specs.Patterns.{read_pat, read_head}
 use Rattle.sml_grammar.specs.Expressions.{Reader, bind_turn, read_binds, Shape, shape_of, agrees, clause_body, clause_rest, clause_turn, read_clauses, fun_turn, read_funs}
 use Rattle.sml_grammar.specs.Partial.{OpensBinds, past_rec, in_bind_pat, in_bind, past_bind, OpensFuns, in_clauses, past_clauses, OpensClauses, in_head, in_result, in_clause, past_clause}
 use Rattle.sml_grammar.specs.PartialTypes.{OpensTy}
-use Rattle.sml_grammar.proofs.Words.{WordAt, at_word, word-at, AfterWord, found, absent, after-is}
+use Rattle.sml_grammar.proofs.Words.{word-at, AfterWord, found, absent, after-is}
 use Rattle.sml_grammar.proofs.Answers.{chosen, then_ok, then_deep, word_then-ok, word_then-deep, on_some-split, bad_ok, bad_deep, not_deep, separated-deep, many-far}
-use Rattle.sml_grammar.proofs.ExpBelow.{Within, Below, FarBelow}
+use Rattle.sml_grammar.proofs.ExpBelow.{Below, FarBelow}
 use Rattle.sml_grammar.proofs.ExpTurns.{at-head, at-front, sep-more, went}
-use Rattle.sml_grammar.proofs.ExpSoundAtoms.{Good, Sounds}
-use Rattle.sml_grammar.proofs.ExpSoundBinds.{GoodClauses, clauses-sound}
+use Rattle.sml_grammar.proofs.ExpSoundAtoms.{Sounds}
+use Rattle.sml_grammar.proofs.ExpSoundBinds.{clauses-sound}
 use Rattle.sml_grammar.proofs.ExpFarAtoms.{Fars}
 
 -- a type after `:` that is too deep

@@ -1,20 +1,19 @@
 -- Where matches, the operands of chains, or what follows an expression are too deep, a partial expression is there.
-use Rattle.std.proofs.Common.{◌≡◌, ℕ, zero, suc, ◌+◌, ◌≤◌, ◌<◌, List, [], ◌∷◌, length, Option, Some, None, Bool, true, false, ◌||◌, inl, inr, refl, sym, ap, ◌∙◌, subst, arith, nat_le, nat_eq, if◌then◌else◌}
+use Rattle.std.proofs.Common.{◌≡◌, ℕ, suc, ◌≤◌, List, ◌∷◌, length, Bool, false, inl, inr, refl, sym, subst, arith, nat_le, nat_eq}
 use Rattle.std.proofs.lemmas.Bool.{leb-true, leb-false, eqb-true}
 use Rattle.mlc_base.specs.declared.token.Reserved.TheVariants as res
-use Rattle.sml_tree.specs.Terminal.{Terminal, reserved}
+use Rattle.sml_tree.specs.Terminal.{Terminal}
 use Rattle.sml_tree.specs.Fixity.{Fixity}
-use Rattle.sml_tree.specs.ReadTree.{Joint, Exp, chain, typed, handle, Parts, last_part, part, Rules, last_rule, rule}
+use Rattle.sml_tree.specs.ReadTree.{Joint, Exp, Parts, Rules, last_rule, rule}
 use Rattle.sml_tree.specs.Depth.{depth}
 use Rattle.sml_tree.specs.Levels.{joint_level, joint_right, level, begins_bar, goes_on, rules_go_on}
 use Rattle.sml_tree.specs.Grammar.{Fits, Pattern, Reads, of_chain, of_typed, of_handle}
-use Rattle.sml_grammar.specs.Answer.{Read, Answer, ok, bad, deep, read, Turn, last, more, many, whole}
+use Rattle.sml_grammar.specs.Answer.{Read, deep, read, Turn, more, many, whole}
 use Rattle.sml_grammar.specs.Terminals.{after_word, NoState, no_state}
 use Rattle.sml_grammar.specs.Types.{read_ty}
 use Rattle.sml_grammar.specs.Patterns.{same, read_pat}
-use Rattle.sml_grammar.specs.Expressions.{Reader, rule_turn, read_match, Next, next_of, part_next, part_turn, whole_parts, suffix_next, suffix_turn}
+use Rattle.sml_grammar.specs.Expressions.{Reader, rule_turn, read_match, Next, part_next, part_turn, whole_parts, suffix_next, suffix_turn}
 use Rattle.sml_grammar.specs.Partial.{Opens, joined, in_chain, marked, in_typed, handled, in_handler, OpensPart, in_part, past_part, OpensMatch, in_rule_pat, in_rule, past_rule}
-use Rattle.sml_grammar.proofs.Words.{WordAt, at_word, word-at}
 use Rattle.sml_grammar.proofs.Answers.{chosen, both_false, then_ok, then_deep, word_then-ok, word_then-deep, bad_ok, deep_ok, bad_deep, not_deep, separated-deep, many-far}
 use Rattle.sml_grammar.proofs.PatSound.{same-is}
 use Rattle.sml_grammar.proofs.ExpLevels.{NextIs, is_joint, is_mark, is_handler, is_nothing, next-is, level-low}

@@ -1,24 +1,24 @@
 -- Where declarations are too deep, partial ones are there.
-use Rattle.std.proofs.Common.{◌≡◌, ℕ, zero, suc, ◌≤◌, List, [], ◌∷◌, length, Option, Some, None, Bool, true, false, inl, inr, refl, sym, subst, arith, if◌then◌else◌}
+use Rattle.std.proofs.Common.{◌≡◌, ℕ, suc, List, ◌∷◌, length, true, false, inl, inr}
 use Rattle.mlc_base.specs.declared.token.Reserved.TheVariants as res
 use Rattle.sml_tree.specs.Terminal.{Terminal, reserved}
 use Rattle.sml_tree.specs.Fixity.{Fixity}
-use Rattle.sml_tree.specs.ReadTree.{DataBind, Decs, no_decs, dec, Dec}
+use Rattle.sml_tree.specs.ReadTree.{DataBind, Decs, Dec}
 use Rattle.sml_tree.specs.Depth.{depth_decs}
-use Rattle.sml_tree.specs.Levels.{after, after_dec}
-use Rattle.sml_tree.specs.Grammar.{DataBinds, Declares, Declare}
-use Rattle.sml_grammar.specs.Answer.{Read, Answer, ok, bad, deep, read, Turn, last, more, whole}
+use Rattle.sml_tree.specs.Levels.{after}
+use Rattle.sml_tree.specs.Grammar.{DataBinds, Declares}
+use Rattle.sml_grammar.specs.Answer.{Read, ok, deep, read, more}
 use Rattle.sml_grammar.specs.Terminals.{first_as, as_long_tycon, after_word}
 use Rattle.sml_grammar.specs.Bindings.{read_tyvars, read_type_binds, read_data_binds, read_ex_binds, read_strids, read_vids}
 use Rattle.sml_grammar.specs.Expressions.{Reader, DecsReader, read_binds, read_funs, DecStart, dec_start, infix_directive, withtype_rest, replicated, datatype_form, local_rest, dec_by, is_dec_start, dec_turn, decs_from}
 use Rattle.sml_grammar.specs.Partial.{OpensDecs, past_empty, in_dec, past_dec, OpensDec, in_val, in_fun, in_type, in_datatype, in_withtype, in_exception}
-use Rattle.sml_grammar.proofs.Words.{WordAt, at_word, word-at}
+use Rattle.sml_grammar.proofs.Words.{word-at}
 use Rattle.sml_grammar.proofs.Answers.{chosen, then_ok, then_deep, then_taken-deep, word_then-deep, on_some-split, on_taken-split, bad_deep, not_deep, many-far}
 use Rattle.sml_grammar.proofs.BindNames.{precedence-sound}
 use Rattle.sml_grammar.proofs.ExpLevels.{DecStartIs, is_val, is_fun, is_type, is_datatype, is_exception, is_local, is_open, is_infix_dec, is_infixr_dec, is_nonfix_dec, is_no_dec, dec-start-is}
 use Rattle.sml_grammar.proofs.ExpBelow.{Within, Below, FarBelow}
 use Rattle.sml_grammar.proofs.ExpTurns.{at-head, at-front, went, last-more}
-use Rattle.sml_grammar.proofs.ExpSoundAtoms.{Good, Sounds}
+use Rattle.sml_grammar.proofs.ExpSoundAtoms.{Sounds}
 use Rattle.sml_grammar.proofs.ExpSoundDecs.{dec-sound}
 use Rattle.sml_grammar.proofs.ExpFarAtoms.{Fars}
 use Rattle.sml_grammar.proofs.ExpFarBinds.{binds-far, funs-far}

@@ -1,24 +1,22 @@
 -- Where applications, forms that begin with a keyword, or whole expressions are too deep, a partial expression is there.
-use Rattle.std.proofs.Common.{◌≡◌, ℕ, zero, suc, ◌≤◌, List, [], ◌∷◌, length, Bool, true, false, inl, inr, refl, sym, subst, arith, nat_le, if◌then◌else◌}
+use Rattle.std.proofs.Common.{◌≡◌, ℕ, suc, ◌≤◌, List, ◌∷◌, length, inl, inr, sym, subst, arith, nat_le}
 use Rattle.std.proofs.lemmas.Bool.{leb-true}
 use Rattle.mlc_base.specs.declared.token.Reserved.TheVariants as res
 use Rattle.sml_tree.specs.Terminal.{Terminal, reserved}
 use Rattle.sml_tree.specs.Fixity.{Fixity}
 use Rattle.sml_tree.specs.ReadTree.{Exp, Exps, no_exps, exp}
 use Rattle.sml_tree.specs.Depth.{depth}
-use Rattle.sml_tree.specs.Levels.{level}
 use Rattle.sml_tree.specs.Grammar.{Atoms, no_atoms, more_atoms, Reads}
-use Rattle.sml_grammar.specs.Answer.{Read, Answer, ok, bad, deep, read, Turn, last, more, many, whole}
+use Rattle.sml_grammar.specs.Answer.{deep, read, more, many, whole}
 use Rattle.sml_grammar.specs.Terminals.{NoState, no_state}
-use Rattle.sml_grammar.specs.Expressions.{Reader, Readers, atom_start, begins_atom, Start, start_of, is_keyword, atom_by, atoms_turn, applied, apply_to, application, read_match, suffix_turn, if_rest, while_rest, case_rest, keyword_form, exp_from}
+use Rattle.sml_grammar.specs.Expressions.{Reader, Readers, atom_start, begins_atom, Start, start_of, is_keyword, atom_by, atoms_turn, apply_to, application, read_match, if_rest, while_rest, case_rest, keyword_form, exp_from}
 use Rattle.sml_grammar.specs.Partial.{Opens, in_atom, applied_to, in_argument, in_raise, in_condition, in_then, in_else, in_while, in_do, in_subject, in_case, in_fn, OpensAtom}
-use Rattle.sml_grammar.proofs.Words.{WordAt, at_word}
 use Rattle.sml_grammar.proofs.Answers.{chosen, then_ok, then_deep, word_then-deep, bad_deep, not_deep, many-far}
 use Rattle.sml_grammar.proofs.ExpLevels.{StartIs, is_raise, is_if, is_while, is_case, is_fn, is_other, start-is, atom-start-is}
-use Rattle.sml_grammar.proofs.ExpBelow.{Within, Below, FarBelow}
+use Rattle.sml_grammar.proofs.ExpBelow.{Below, FarBelow}
 use Rattle.sml_grammar.proofs.ExpTurns.{at-head, went, last-more}
-use Rattle.sml_grammar.proofs.ExpSoundAtoms.{Good, Sounds, SoundsAtom, SoundsDecs, atom-sound}
-use Rattle.sml_grammar.proofs.ExpSoundForms.{GoodApp, application-sound}
+use Rattle.sml_grammar.proofs.ExpSoundAtoms.{Sounds, SoundsAtom, SoundsDecs, atom-sound}
+use Rattle.sml_grammar.proofs.ExpSoundForms.{application-sound}
 use Rattle.sml_grammar.proofs.ExpFarAtoms.{Fars, FarsAtom, FarsDecs, atom-far}
 use Rattle.sml_grammar.proofs.ExpFarChains.{over, match-far, suffix-far}
 

@@ -1,24 +1,21 @@
 -- The facts on types, patterns, heads and bindings that expressions and declarations ask for.
 use Rattle.std.proofs.Common.{◌≡◌, ℕ, suc, List, arith}
-use Rattle.mlc_base.specs.declared.token.Reserved.TheVariants as res
-use Rattle.sml_tree.specs.Depth.{depth_ty, depth_some, depth_pat, depth_head, depth_type_binds, depth_data_binds, depth_ex_binds}
 use Rattle.sml_tree.specs.Terminal.{Terminal}
 use Rattle.sml_tree.specs.Fixity.{Fixity}
 use Rattle.sml_grammar.specs.Answer.{deep}
 use Rattle.sml_grammar.specs.Patterns.{read_pat, read_head}
 use Rattle.sml_grammar.specs.PartialPatterns.{OpensPat, OpensHead}
-use Rattle.sml_grammar.proofs.TypeSound.{GoodTy, ty-sound}
+use Rattle.sml_grammar.proofs.TypeSound.{ty-sound}
 use Rattle.sml_grammar.proofs.TypeFar.{ty-far}
-use Rattle.sml_grammar.proofs.MaybeTypes.{GoodColon, colon-sound}
-use Rattle.sml_grammar.proofs.PatAtSound.{GoodPat}
+use Rattle.sml_grammar.proofs.MaybeTypes.{colon-sound}
 use Rattle.sml_grammar.proofs.PatSound.{pat-sound}
-use Rattle.sml_grammar.proofs.PatHeads.{GoodHead, head-sound}
+use Rattle.sml_grammar.proofs.PatHeads.{head-sound}
 use Rattle.sml_grammar.proofs.BindTyvars.{tyvars-sound, tyvars-never-deep}
-use Rattle.sml_grammar.proofs.BindTypes.{GoodTypeBinds, type_binds-sound, type_binds-far}
-use Rattle.sml_grammar.proofs.BindDatatypes.{GoodDataBinds, data_binds-sound, data_binds-far}
-use Rattle.sml_grammar.proofs.BindExceptions.{GoodExBinds, ex_binds-sound, ex_binds-far}
+use Rattle.sml_grammar.proofs.BindTypes.{type_binds-sound, type_binds-far}
+use Rattle.sml_grammar.proofs.BindDatatypes.{data_binds-sound, data_binds-far}
+use Rattle.sml_grammar.proofs.BindExceptions.{ex_binds-sound, ex_binds-far}
 use Rattle.sml_grammar.proofs.BindNames.{strids-sound, strids-never-deep, vids-sound, vids-never-deep}
-use Rattle.sml_grammar.proofs.ExpBelow.{Within, Below, FarBelow}
+use Rattle.sml_grammar.proofs.ExpBelow.{Below, FarBelow}
 
 pub below : (n : ℕ) → Below n
 below n = record {

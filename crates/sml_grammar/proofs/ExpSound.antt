@@ -1,16 +1,11 @@
 -- What the readers read is in the grammar, by induction on the depth.
-use Rattle.std.proofs.Common.{◌≡◌, ℕ, zero, suc, ◌≤◌, List, arith, max}
-use Rattle.sml_tree.specs.Terminal.{Terminal}
-use Rattle.sml_tree.specs.Fixity.{Fixity}
-use Rattle.sml_tree.specs.ReadTree.{Exp, Decs}
-use Rattle.sml_tree.specs.Depth.{depth, depth_decs}
-use Rattle.sml_tree.specs.Grammar.{Atom, Declares}
-use Rattle.sml_grammar.specs.Answer.{Read, Answer, ok, deep, deep_if}
-use Rattle.sml_grammar.specs.Expressions.{readers, begins, begins_atom, exp_from, atom_start}
+use Rattle.std.proofs.Common.{ℕ, zero, suc, arith}
+use Rattle.sml_grammar.specs.Answer.{deep, deep_if}
+use Rattle.sml_grammar.specs.Expressions.{readers, begins, begins_atom, exp_from}
 use Rattle.sml_grammar.proofs.Answers.{deep_if-ok, deep_ok}
 use Rattle.sml_grammar.proofs.ExpLevels.{atom-start-is}
-use Rattle.sml_grammar.proofs.ExpBelow.{Within, Below}
-use Rattle.sml_grammar.proofs.ExpSoundAtoms.{Good, Sounds, SoundsAtom, SoundsDecs, atom-sound}
+use Rattle.sml_grammar.proofs.ExpBelow.{Below}
+use Rattle.sml_grammar.proofs.ExpSoundAtoms.{Sounds, SoundsAtom, SoundsDecs, atom-sound}
 use Rattle.sml_grammar.proofs.ExpSoundForms.{exp_from-sound}
 use Rattle.sml_grammar.proofs.ExpSoundDecs.{decs_from-sound}
 

@@ -1,19 +1,18 @@
 -- Lists of expressions, and atomic expressions, that are read are in the grammar.
-use Rattle.std.proofs.Common.{◌≡◌, ℕ, zero, suc, ◌+◌, ◌≤◌, ◌<◌, List, [], ◌∷◌, length, Option, Some, None, Bool, true, false, inl, inr, refl, sym, ap, ◌∙◌, subst, arith, max}
+use Rattle.std.proofs.Common.{◌≡◌, ℕ, suc, ◌≤◌, List, ◌∷◌, length, false, inl, inr, arith}
 use Rattle.mlc_base.specs.declared.label.Label.{Label}
-use Rattle.mlc_base.specs.declared.token.Reserved.{Reserved}
 use Rattle.mlc_base.specs.declared.token.Reserved.TheVariants as res
-use Rattle.sml_tree.specs.Terminal.{Constant, LongVid, Terminal, reserved, IsLabel}
+use Rattle.sml_tree.specs.Terminal.{Terminal, reserved, IsLabel}
 use Rattle.sml_tree.specs.Fixity.{Fixity}
-use Rattle.sml_tree.specs.ReadTree.{Placed, Exp, constant_exp, vid_exp, record_exp, selector, unit_exp, tuple_exp, list_exp, sequence, paren_exp, let_in, Exps, no_exps, exp, ExpFields, no_exp_fields, exp_field, Decs}
+use Rattle.sml_tree.specs.ReadTree.{Placed, Exp, record_exp, selector, unit_exp, list_exp, Exps, no_exps, exp, ExpFields, no_exp_fields, exp_field, Decs}
 use Rattle.sml_tree.specs.Depth.{depth, depth_exps, depth_exp_fields, depth_decs}
 use Rattle.sml_tree.specs.Levels.{after, level, could_go_on, goes_on}
 use Rattle.sml_tree.specs.Grammar.{Atom, of_constant, of_vid, of_equals, of_no_row, of_row, of_selector, of_unit, of_tuple, of_nil, of_list, of_sequence, of_paren, of_let, ExpRow, last_exp_row, more_exp_row, Commas, last_exp, more_exps, Semicolons, last_of_sequence, more_of_sequence, Reads, Declares}
-use Rattle.sml_grammar.specs.Answer.{Read, Answer, ok, read, then_read, Turn, last, more, whole}
-use Rattle.sml_grammar.specs.Terminals.{Taken, taken, first_as, as_label, after_word, word_then, separated, NoState, no_state}
+use Rattle.sml_grammar.specs.Answer.{Read, ok, then_read, Turn, whole}
+use Rattle.sml_grammar.specs.Terminals.{first_as, as_label, after_word, separated, NoState, no_state}
 use Rattle.sml_grammar.specs.Patterns.{label_equals}
-use Rattle.sml_grammar.specs.Expressions.{Reader, AtomReader, DecsReader, Readers, AtomStart, commas_turn, semicolons_turn, row_turn, brace_exp, hash_exp, bracket_exp, tuple_rest, sequence_rest, paren_rest, paren_in, let_body, let_exp, atom_by}
-use Rattle.sml_grammar.proofs.Words.{WordAt, at_word, word-at}
+use Rattle.sml_grammar.specs.Expressions.{Reader, AtomReader, DecsReader, Readers, AtomStart, commas_turn, semicolons_turn, row_turn, brace_exp, hash_exp, bracket_exp, tuple_rest, sequence_rest, paren_rest, paren_in, let_exp, atom_by}
+use Rattle.sml_grammar.proofs.Words.{word-at}
 use Rattle.sml_grammar.proofs.Answers.{then_ok, then_taken-ok, word_then-ok, on_some-split, bad_ok, GoodTurn, many-ok}
 use Rattle.sml_grammar.proofs.Terminals.{Front, front, label-is}
 use Rattle.sml_grammar.proofs.PatAtSound.{LabelEquals, label_equals_at, label_equals-is}

@@ -1,25 +1,25 @@
 -- Bindings of values and functions that are read are in the grammar.
-use Rattle.std.proofs.Common.{◌≡◌, ℕ, zero, suc, ◌≤◌, List, [], ◌∷◌, length, Option, Some, None, Bool, true, false, ◌&&◌, inl, inr, refl, sym, ap, subst, arith, nat_eq, max, if◌then◌else◌}
+use Rattle.std.proofs.Common.{◌≡◌, ℕ, suc, ◌≤◌, List, length, Option, Some, None, Bool, true, false, ◌&&◌, inl, inr, refl, ap, subst, arith, nat_eq}
 use Rattle.std.proofs.lemmas.Bool.{eqb-true}
 use Rattle.mlc_base.specs.declared.token.Reserved.TheVariants as res
-use Rattle.sml_tree.specs.Terminal.{Terminal, reserved}
+use Rattle.sml_tree.specs.Terminal.{Terminal}
 use Rattle.sml_tree.specs.declared.ident.Vid.{Vid}
 use Rattle.sml_tree.specs.declared.ident.Vid.TheVariants.{Named, Equals, Fresh}
 use Rattle.sml_tree.specs.Fixity.{Fixity, is_vid}
-use Rattle.sml_tree.specs.ReadTree.{Ty, Pat, Exp, Head, head_vid, head_count, Binds, last_bind, bind, rec_binds, Funs, last_fun, fun_and, Clauses, last_clause, clause}
-use Rattle.sml_tree.specs.Depth.{depth, depth_some, depth_head, depth_binds, depth_funs, depth_clauses}
+use Rattle.sml_tree.specs.ReadTree.{Ty, Head, head_vid, head_count, Binds, last_bind, bind, rec_binds, Funs, last_fun, fun_and, Clauses, last_clause, clause}
+use Rattle.sml_tree.specs.Depth.{depth_some, depth_head, depth_binds, depth_funs, depth_clauses}
 use Rattle.sml_tree.specs.Levels.{goes_on}
 use Rattle.sml_tree.specs.Grammar.{MaybeTy, Pattern, ReadsHead, Reads, ReadsBinds, of_last_bind, of_bind, of_rec, ReadsFuns, of_last_fun, of_fun_and, ReadsClauses, of_last_clause, of_clause}
-use Rattle.sml_grammar.specs.Answer.{Read, Answer, ok, bad, read, then_read, Turn, last, more, whole}
+use Rattle.sml_grammar.specs.Answer.{Read, ok, Turn}
 use Rattle.sml_grammar.specs.Terminals.{after_word, NoState, no_state}
 use Rattle.sml_grammar.specs.Types.{maybe_ty}
 use Rattle.sml_grammar.specs.Patterns.{read_pat, read_head}
 use Rattle.sml_grammar.specs.Expressions.{Reader, bind_turn, read_binds, Shape, shape_of, agrees, clause_body, clause_rest, clause_turn, read_clauses, fun_turn, read_funs}
-use Rattle.sml_grammar.proofs.Words.{WordAt, at_word, word-at}
+use Rattle.sml_grammar.proofs.Words.{word-at}
 use Rattle.sml_grammar.proofs.Answers.{chosen, then_ok, word_then-ok, on_some-split, bad_ok, GoodTurn, many-ok}
 use Rattle.sml_grammar.proofs.ExpBelow.{Within, Below}
 use Rattle.sml_grammar.proofs.ExpTurns.{at-head, at-front, given, sep-good}
-use Rattle.sml_grammar.proofs.ExpSoundAtoms.{Good, Sounds}
+use Rattle.sml_grammar.proofs.ExpSoundAtoms.{Sounds}
 
 pub and-split : (a b : Bool) → (a && b) ≡ true → (a ≡ true) × (b ≡ true)
 and-split true b e = (refl, e)

@@ -1,24 +1,22 @@
 -- Matches, the operands of chains, and what follows an expression, that are read are in the grammar.
-use Rattle.std.proofs.Common.{◌≡◌, ℕ, zero, suc, ◌+◌, ◌≤◌, ◌<◌, List, [], ◌∷◌, length, Option, Some, None, Bool, true, false, ◌||◌, inl, inr, refl, sym, ap, ◌∙◌, subst, arith, nat_le, nat_eq, max, if◌then◌else◌}
-use Rattle.std.proofs.lemmas.Bool.{leb-true, leb-false, eqb-true}
-use Rattle.mlc_base.specs.declared.token.Reserved.{Reserved}
+use Rattle.std.proofs.Common.{◌≡◌, ℕ, suc, ◌≤◌, List, ◌∷◌, length, None, Bool, false, inl, inr, refl, sym, ap, ◌∙◌, subst, arith, nat_le, nat_eq}
+use Rattle.std.proofs.lemmas.Bool.{leb-true, eqb-true}
 use Rattle.mlc_base.specs.declared.token.Reserved.TheVariants as res
 use Rattle.sml_tree.specs.Terminal.{Terminal, reserved}
 use Rattle.sml_tree.specs.Fixity.{Fixity}
-use Rattle.sml_tree.specs.ReadTree.{Joint, Exp, chain, typed, handle, Parts, last_part, part, Rules, last_rule, rule}
+use Rattle.sml_tree.specs.ReadTree.{Joint, Exp, Parts, last_part, Rules, last_rule, rule}
 use Rattle.sml_tree.specs.Depth.{depth, depth_parts, depth_rules}
-use Rattle.sml_tree.specs.Levels.{joint_level, joint_right, parts_level, level, tie, at_least, could_go_on, begins_bar, goes_on, parts_go_on, rules_go_on}
+use Rattle.sml_tree.specs.Levels.{joint_level, joint_right, parts_level, level, at_least, could_go_on, begins_bar, goes_on, parts_go_on, rules_go_on}
 use Rattle.sml_tree.specs.Grammar.{Fits, Pattern, Reads, of_chain, of_typed, of_handle, Follows, of_last_part, of_part, Match, of_last_rule, of_rule}
-use Rattle.sml_grammar.specs.Answer.{Read, Answer, ok, bad, read, Turn, last, more, many, whole}
+use Rattle.sml_grammar.specs.Answer.{Read, ok, Turn, many, whole}
 use Rattle.sml_grammar.specs.Terminals.{after_word, NoState, no_state}
 use Rattle.sml_grammar.specs.Types.{read_ty}
 use Rattle.sml_grammar.specs.Patterns.{same, read_pat}
-use Rattle.sml_grammar.specs.Expressions.{Reader, rule_turn, read_match, Next, joint, mark, handler, nothing, next_of, part_next, part_turn, whole_parts, suffix_next, suffix_turn}
-use Rattle.sml_grammar.proofs.Words.{WordAt, at_word, word-at}
+use Rattle.sml_grammar.specs.Expressions.{Reader, rule_turn, read_match, Next, part_next, part_turn, whole_parts, suffix_next, suffix_turn}
 use Rattle.sml_grammar.proofs.Answers.{chosen, both_false, then_ok, word_then-ok, bad_ok, deep_ok, GoodTurn, many-ok}
 use Rattle.sml_grammar.proofs.PatSound.{same-is}
 use Rattle.sml_grammar.proofs.ExpLevels.{NextIs, is_joint, is_mark, is_handler, is_nothing, next-is, joint-tie, level-low}
-use Rattle.sml_grammar.proofs.ExpBelow.{Within, Below}
+use Rattle.sml_grammar.proofs.ExpBelow.{Below}
 use Rattle.sml_grammar.proofs.ExpTurns.{at-head, given, sep-good}
 use Rattle.sml_grammar.proofs.ExpSoundAtoms.{Good, Sounds}
 

@@ -1,27 +1,24 @@
 -- Declarations that are read are in the grammar.
-use Rattle.std.proofs.Common.{◌≡◌, ℕ, zero, suc, ℤ, pos, ◌≤◌, List, [], ◌∷◌, length, Option, Some, None, Bool, true, false, inl, inr, refl, sym, ap, subst, arith, nat_le, max, if◌then◌else◌}
-use Rattle.std.proofs.lemmas.Bool.{leb-true}
+use Rattle.std.proofs.Common.{◌≡◌, ℕ, suc, List, ◌∷◌, length, Option, Some, None, true, false, inl, inr, refl, subst, arith}
 use Rattle.mlc_base.specs.declared.token.Reserved.TheVariants as res
-use Rattle.sml_tree.specs.Terminal.{LongId, Terminal, reserved, number, IsTycon, IsLongTycon}
-use Rattle.sml_tree.specs.declared.ident.Tyvar.{Tyvar}
-use Rattle.sml_tree.specs.declared.fixity.Infix.{Infix}
+use Rattle.sml_tree.specs.Terminal.{LongId, Terminal, reserved, IsTycon, IsLongTycon}
 use Rattle.sml_tree.specs.Fixity.{Fixity}
-use Rattle.sml_tree.specs.ReadTree.{Placed, DataBind, Decs, no_decs, dec, Dec, val_dec, fun_dec, type_dec, datatype_dec, withtype_dec, replicate_dec, exception_dec, local_dec, open_dec, fixity_dec}
-use Rattle.sml_tree.specs.Depth.{depth_data_binds, depth_type_binds, depth_binds, depth_funs, depth_decs, depth_dec}
-use Rattle.sml_tree.specs.Levels.{after, after_dec}
-use Rattle.sml_tree.specs.Grammar.{DataBinds, ReadsPrecedence, no_precedence, a_precedence, Declares, nothing_more, of_semicolon, of_dec, Declare, of_val, of_fun, of_type, of_datatype, of_withtype, of_replication, of_exception, of_local, of_open, of_infix, of_infixr, of_nonfix}
-use Rattle.sml_grammar.specs.Answer.{Read, Answer, ok, bad, read, Turn, last, more, whole}
-use Rattle.sml_grammar.specs.Terminals.{Taken, taken, place_of, first_as, as_tycon, as_long_tycon, after_word}
-use Rattle.sml_grammar.specs.Bindings.{digit, as_digit, precedence_then, read_tyvars, read_type_binds, read_data_binds, read_ex_binds, read_strids, read_vids}
-use Rattle.sml_grammar.specs.Expressions.{Reader, DecsReader, read_binds, read_funs, DecStart, dec_start, directive, infix_directive, withtype_rest, replicated_if, replicated, datatype_form, local_rest, dec_by, is_dec_start, dec_turn, decs_from}
+use Rattle.sml_tree.specs.ReadTree.{Placed, DataBind, Decs, Dec, replicate_dec}
+use Rattle.sml_tree.specs.Depth.{depth_data_binds, depth_decs, depth_dec}
+use Rattle.sml_tree.specs.Levels.{after}
+use Rattle.sml_tree.specs.Grammar.{DataBinds, Declares, nothing_more, of_semicolon, of_dec, Declare, of_val, of_fun, of_type, of_datatype, of_withtype, of_replication, of_exception, of_local, of_open, of_infix, of_infixr, of_nonfix}
+use Rattle.sml_grammar.specs.Answer.{Read, ok, Turn}
+use Rattle.sml_grammar.specs.Terminals.{Taken, taken, first_as, as_tycon, as_long_tycon, after_word}
+use Rattle.sml_grammar.specs.Bindings.{read_tyvars, read_type_binds, read_data_binds, read_ex_binds, read_strids, read_vids}
+use Rattle.sml_grammar.specs.Expressions.{Reader, DecsReader, read_binds, read_funs, DecStart, dec_start, infix_directive, withtype_rest, replicated_if, replicated, datatype_form, local_rest, dec_by, is_dec_start, dec_turn, decs_from}
 use Rattle.sml_grammar.proofs.Words.{WordAt, at_word, word-at}
 use Rattle.sml_grammar.proofs.Answers.{chosen, got_some, not_some, then_ok, then_taken-ok, word_then-ok, on_some-split, on_taken-split, bad_ok, GoodTurn, many-ok}
-use Rattle.sml_grammar.proofs.Terminals.{Holds, holds, nothing, Front, front, front-is, tycon-is, long_tycon-is}
+use Rattle.sml_grammar.proofs.Terminals.{Front, front, tycon-is, long_tycon-is}
 use Rattle.sml_grammar.proofs.BindNames.{precedence-sound}
 use Rattle.sml_grammar.proofs.ExpLevels.{DecStartIs, is_val, is_fun, is_type, is_datatype, is_exception, is_local, is_open, is_infix_dec, is_infixr_dec, is_nonfix_dec, is_no_dec, dec-start-is}
 use Rattle.sml_grammar.proofs.ExpBelow.{Within, Below}
 use Rattle.sml_grammar.proofs.ExpTurns.{at-head, at-front, given}
-use Rattle.sml_grammar.proofs.ExpSoundAtoms.{Good, Sounds}
+use Rattle.sml_grammar.proofs.ExpSoundAtoms.{Sounds}
 use Rattle.sml_grammar.proofs.ExpSoundBinds.{binds-sound, funs-sound}
 
 -- `tycon = datatype`

@@ -1,18 +1,16 @@
 -- Applications, forms that begin with a keyword, and whole expressions, that are read are in the grammar.
-use Rattle.std.proofs.Common.{◌≡◌, ℕ, zero, suc, ◌+◌, ◌≤◌, ◌<◌, List, [], ◌∷◌, length, Option, Bool, true, false, ◌||◌, inl, inr, refl, sym, ap, ◌∙◌, subst, arith, nat_le, max, if◌then◌else◌}
-use Rattle.std.proofs.lemmas.Bool.{leb-true, leb-false}
-use Rattle.mlc_base.specs.declared.token.Reserved.{Reserved}
+use Rattle.std.proofs.Common.{◌≡◌, ℕ, suc, ◌≤◌, List, ◌∷◌, length, false, ◌||◌, inl, inr, refl, sym, subst, arith, nat_le}
+use Rattle.std.proofs.lemmas.Bool.{leb-true}
 use Rattle.mlc_base.specs.declared.token.Reserved.TheVariants as res
 use Rattle.sml_tree.specs.Terminal.{Terminal, reserved}
 use Rattle.sml_tree.specs.Fixity.{Fixity}
-use Rattle.sml_tree.specs.ReadTree.{Exp, app, raise, if_then, while, case, fn, Exps, no_exps, exp, Rules}
-use Rattle.sml_tree.specs.Depth.{depth, depth_exps, depth_rules}
+use Rattle.sml_tree.specs.ReadTree.{Exp, Exps, Rules}
+use Rattle.sml_tree.specs.Depth.{depth, depth_exps}
 use Rattle.sml_tree.specs.Levels.{level, could_go_on, begins_bar, goes_on, rules_go_on}
-use Rattle.sml_tree.specs.Grammar.{Atom, of_constant, of_vid, of_equals, of_no_row, of_row, of_selector, of_unit, of_tuple, of_nil, of_list, of_sequence, of_paren, of_let, Atoms, no_atoms, more_atoms, Reads, of_atom, of_app, of_raise, of_if, of_while, of_case, of_fn, Match}
-use Rattle.sml_grammar.specs.Answer.{Read, Answer, ok, bad, read, Turn, last, more, many, whole}
+use Rattle.sml_tree.specs.Grammar.{Atom, of_constant, of_vid, of_equals, of_no_row, of_row, of_selector, of_unit, of_tuple, of_nil, of_list, of_sequence, of_paren, of_let, Atoms, no_atoms, more_atoms, Reads, of_atom, of_app, of_raise, of_if, of_while, of_case, of_fn}
+use Rattle.sml_grammar.specs.Answer.{Read, ok, Turn, many, whole}
 use Rattle.sml_grammar.specs.Terminals.{NoState, no_state}
-use Rattle.sml_grammar.specs.Expressions.{Reader, Readers, atom_start, begins_atom, Start, start_of, is_keyword, atom_by, atoms_turn, applied, apply_to, application, read_match, suffix_turn, if_rest, while_rest, case_rest, keyword_form, exp_from}
-use Rattle.sml_grammar.proofs.Words.{WordAt, at_word}
+use Rattle.sml_grammar.specs.Expressions.{Reader, Readers, atom_start, begins_atom, Start, start_of, is_keyword, atom_by, atoms_turn, applied, apply_to, application, read_match, if_rest, while_rest, case_rest, keyword_form, exp_from}
 use Rattle.sml_grammar.proofs.Answers.{chosen, both_false, then_ok, word_then-ok, bad_ok, deep_ok, GoodTurn, many-ok}
 use Rattle.sml_grammar.proofs.ExpLevels.{StartIs, is_raise, is_if, is_while, is_case, is_fn, is_other, start-is, atom-start-is, stops-more, rules-stop}
 use Rattle.sml_grammar.proofs.ExpBelow.{Within, Below}

@@ -1,16 +1,11 @@
 -- Words at the head of terminals that are told by a path, and one turn of a loop over a list.
-use Rattle.std.proofs.Common.{◌≡◌, ℕ, List, ◌∷◌, Option, Some, None, inl, inr, refl, sym, subst}
-use Rattle.mlc_base.specs.declared.label.Label.{Label}
+use Rattle.std.proofs.Common.{◌≡◌, ℕ, List, ◌∷◌, None, inl, inr, sym, subst}
 use Rattle.mlc_base.specs.declared.token.Reserved.{Reserved}
-use Rattle.mlc_base.specs.declared.token.Reserved.TheVariants as res
-use Rattle.sml_tree.specs.Terminal.{Terminal, reserved, IsLabel}
-use Rattle.sml_tree.specs.ReadTree.{Placed}
+use Rattle.sml_tree.specs.Terminal.{Terminal, reserved}
 use Rattle.sml_grammar.specs.Answer.{Read, ok, read, Turn, last, more}
-use Rattle.sml_grammar.specs.Terminals.{Taken, taken, first_as, as_label, after_word, separated}
-use Rattle.sml_grammar.specs.Patterns.{label_if, label_equals}
+use Rattle.sml_grammar.specs.Terminals.{after_word, separated}
 use Rattle.sml_grammar.proofs.Words.{WordAt, at_word, word-at}
-use Rattle.sml_grammar.proofs.Answers.{got, got_some, not_some, on_taken-split, separated-ok, separated-more, GoodTurn}
-use Rattle.sml_grammar.proofs.Terminals.{Front, front, label-is}
+use Rattle.sml_grammar.proofs.Answers.{got, separated-ok, separated-more, GoodTurn}
 
 -- what is said of the terminals m, said of the word that they begin with
 pub at-head : {w : Reserved} {m o : List Terminal} → WordAt w m o → (R : List Terminal → Type 0) → R m → (p : ℕ) × R (reserved p w ∷ o)

@@ -3,14 +3,14 @@ use Rattle.std.proofs.Common.{◌≡◌, ℕ, suc, List, [], ◌∷◌, inl, inr
 use Rattle.sml_tree.specs.Terminal.{Terminal}
 use Rattle.sml_tree.specs.Fixity.{Fixity}
 use Rattle.sml_tree.specs.ReadTree.{Decs}
-use Rattle.sml_grammar.specs.Answer.{Answer, deep}
+use Rattle.sml_grammar.specs.Answer.{deep}
 use Rattle.sml_grammar.specs.Expressions.{readers, at_end}
 use Rattle.sml_grammar.specs.Patterns.{read_pat, read_head}
 use Rattle.sml_grammar.specs.PartialPatterns.{OpensPat, OpensHead}
 use Rattle.sml_grammar.specs.Laws as laws
 use Rattle.sml_grammar.proofs.Answers.{then_deep, not_deep, bad_deep}
 use Rattle.sml_grammar.proofs.ExpGiven.{below, far_below}
-use Rattle.sml_grammar.proofs.ExpFar.{FarReaders, readers-far}
+use Rattle.sml_grammar.proofs.ExpFar.{readers-far}
 
 never-deep : (ds : Decs) (o : List Terminal) {A : Type 0} → at_end ds o ≡ deep → A
 never-deep ds [] h = not_deep h

@@ -53,6 +53,7 @@ pub mod PatOpens
 pub mod PatAtOver
 pub mod PatHeads
 pub mod ExpGiven
+pub mod ExpReaders
 pub mod LawSound
 pub mod LawDeepSound
 pub mod PatOver
