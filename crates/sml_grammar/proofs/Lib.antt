@@ -12,3 +12,4 @@ pub mod CompReaches
 pub mod CompHeads
 pub mod CompDecs
 pub mod CompMain
+pub mod CompPaths
