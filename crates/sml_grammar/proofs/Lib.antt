@@ -13,3 +13,5 @@ pub mod CompHeads
 pub mod CompDecs
 pub mod CompMain
 pub mod CompPaths
+pub mod CompBegins
+pub mod CompOverLists
