@@ -15,3 +15,5 @@ pub mod CompMain
 pub mod CompPaths
 pub mod CompBegins
 pub mod CompOverLists
+pub mod CompOverSuffix
+pub mod CompOver
