@@ -17,3 +17,5 @@ pub mod CompBegins
 pub mod CompOverLists
 pub mod CompOverSuffix
 pub mod CompOver
+pub mod CompOverDecs
+pub mod CompDeep
