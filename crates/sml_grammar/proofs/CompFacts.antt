@@ -79,3 +79,5 @@ pub record Facts : Type 0 where
   pub type_binds-opens : {i : List Terminal} {bs : List TypeBind} {o : List Terminal} → TypeBinds i bs o → (k : ℕ) → 0 < k → k ≤ depth_type_binds bs → OpensTypeBinds i k
   pub data_binds-opens : {f : Fixity} {i : List Terminal} {bs : List DataBind} {o : List Terminal} → DataBinds f i bs o → (k : ℕ) → 0 < k → k ≤ depth_data_binds bs → OpensDataBinds f i k
   pub ex_binds-opens : {f : Fixity} {i : List Terminal} {bs : List ExBind} {o : List Terminal} → ExBinds f i bs o → (k : ℕ) → 0 < k → k ≤ depth_ex_binds bs → OpensExBinds f i k
+
+  pub opens_pat-begins : {f : Fixity} {i : List Terminal} {d : ℕ} → OpensPat f 0 i d → begins_pat f i ≡ true

@@ -85,7 +85,7 @@ funs-tyvars (of_fun_and v n p c d) = clauses-tyvars c
 
 -- A datatype that is bound isn't replicated.
 
-binds-no_datatype : {f : Fixity} {i o : List Terminal} {p : ℕ} {v : Vid} → BindsVid f i p v o → after_word res.Datatype i ≡ None
+pub binds-no_datatype : {f : Fixity} {i o : List Terminal} {p : ℕ} {v : Vid} → BindsVid f i p v o → after_word res.Datatype i ≡ None
 binds-no_datatype (plain_vid (alpha_vid p x) e) = refl
 binds-no_datatype (plain_vid (symbol_vid p x) e) = refl
 binds-no_datatype (plain_vid (star_vid p x) e) = refl
@@ -95,7 +95,7 @@ cons-no_datatype : {f : Fixity} {i o : List Terminal} {cs : List ConBind} → Co
 cons-no_datatype (last_con v s) = binds-no_datatype v
 cons-no_datatype (more_cons q v s d) = binds-no_datatype v
 
-bind-not_replicated : {f : Fixity} {i o : List Terminal} {b : DataBind} → OneDataBind f i b o → replicated i ≡ None
+pub bind-not_replicated : {f : Fixity} {i o : List Terminal} {b : DataBind} → OneDataBind f i b o → replicated i ≡ None
 bind-not_replicated (data_bind {m} r at as_ tycon cons) = go as_ tycon (cons-no_datatype cons)
   where
     go : {i : List Terminal} {t : Terminal} {ys : List Tyvar} {q x : ℕ} → Tyvars i ys (t ∷ reserved r res.Equals ∷ m) → IsTycon t q x → after_word res.Datatype m ≡ None → replicated i ≡ None

@@ -184,7 +184,7 @@ chain-head (of_last_part {m} fit lt d) = record { next = joint-next m fit.is; ti
 chain-head (of_part {m} fit lt e d fs) = record { next = joint-next m fit.is; ties = joint-tie m fit.is ∙ ap Some fit.level; level = fit.level; right = fit.right; atom = joint-no_atom m fit.is; parts = fit.level; size = omega arith }
 
 -- Where a type is at the right edge of an operand, a joint after it isn't infix, so that the type does not go on.
-joint-no_ty : {f : Fixity} {t : Terminal} {j : Joint} (m : List Terminal) → IsJoint f t j → joint_level f j ≤ 5 → ty_could_go_on 0 (t ∷ m) ≡ false
+pub joint-no_ty : {f : Fixity} {t : Terminal} {j : Joint} (m : List Terminal) → IsJoint f t j → joint_level f j ≤ 5 → ty_could_go_on 0 (t ∷ m) ≡ false
 joint-no_ty m (is_andalso p) le = refl
 joint-no_ty m (is_orelse p) le = refl
 joint-no_ty {f} m (is_infix {x} v e) le = absurd (high (fix_of (Named x) f) le)

@@ -57,3 +57,10 @@ pub mod ExpReaders
 pub mod LawSound
 pub mod LawDeepSound
 pub mod PatOver
+pub mod CompPaths
+pub mod CompBegins
+pub mod CompOverLists
+pub mod CompOverSuffix
+pub mod CompOver
+pub mod CompOverDecs
+pub mod CompDeep
