@@ -32,7 +32,6 @@ pub mod BindOf
 pub mod BindCons
 pub mod BindDatatypes
 pub mod BindExceptions
-pub mod NoTree
 pub mod CompFacts
 pub mod CompShapes
 pub mod CompQuiet
@@ -42,7 +41,6 @@ pub mod CompReaches
 pub mod CompHeads
 pub mod CompDecs
 pub mod CompMain
-pub mod BindFacts
 pub mod PatStarts
 pub mod PatShapes
 pub mod PatAtSound
@@ -64,3 +62,5 @@ pub mod CompOverSuffix
 pub mod CompOver
 pub mod CompOverDecs
 pub mod CompDeep
+pub mod CompGiven
+pub mod NoTree
