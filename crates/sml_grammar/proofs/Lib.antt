@@ -19,3 +19,4 @@ pub mod PatOpens
 pub mod PatAtOver
 pub mod PatHeads
 pub mod PatOver
+pub mod PatAtFar
