@@ -20,3 +20,4 @@ pub mod PatAtOver
 pub mod PatHeads
 pub mod PatOver
 pub mod PatAtFar
+pub mod PatFar
