@@ -21,3 +21,4 @@ pub mod PatHeads
 pub mod PatOver
 pub mod PatAtFar
 pub mod PatFar
+pub mod PatHeadsDeep
