@@ -64,3 +64,6 @@ pub mod CompOverDecs
 pub mod CompDeep
 pub mod CompGiven
 pub mod NoTree
+pub mod PatAtFar
+pub mod PatFar
+pub mod PatHeadsDeep
