@@ -20,6 +20,7 @@ use Rattle.sml_grammar.proofs.PatComplete.{pat-complete}
 use Rattle.sml_grammar.proofs.PatOver.{pat-over}
 use Rattle.sml_grammar.proofs.PatOpens.{pat-opens, opens_pat-begins}
 use Rattle.sml_grammar.proofs.PatHeads.{head-complete, head-shorter}
+use Rattle.sml_grammar.proofs.PatHeadsDeep.{head-opens, head-over}
 use Rattle.sml_grammar.proofs.BindTyvars.{tyvars-complete, tyvars-shorter}
 use Rattle.sml_grammar.proofs.BindNames.{strids-complete, strids-shorter, vids-complete, vids-shorter}
 use Rattle.sml_grammar.proofs.BindStops.{BindStops}
@@ -48,12 +49,8 @@ pub ends-stop : (o : List Terminal) → ends_binds o ≡ true → BindStops o
 ends-stop (reserved p res.Withtype ∷ r) h = refl
 ends-stop o h = quiet-stops o h
 
-pub record HeadFacts : Type 0 where
-  pub head-over : (n : ℕ) {f : Fixity} {i : List Terminal} {d : ℕ} → OpensHead f i d → n < d → read_head n f i ≡ deep
-  pub head-opens : {f : Fixity} {i : List Terminal} {h : Head} {o : List Terminal} → ReadsHead f i h o → (k : ℕ) → 0 < k → k ≤ depth_head h → OpensHead f i k
-
-pub facts : HeadFacts → Facts
-facts heads = record {
+pub facts : Facts
+facts = record {
   ty-shorter = λ d. ty-shorter d;
   pat-shorter = λ d. pat-shorter d;
   head-shorter = λ d. head-shorter d;
@@ -75,13 +72,13 @@ facts heads = record {
   vids-complete = λ d e. vids-complete d e;
   ty-over = λ n o lt. ty-over n 0 o lt;
   pat-over = λ n o lt. pat-over n _ 0 o lt;
-  head-over = λ n o lt. heads.head-over n o lt;
+  head-over = λ n o lt. head-over n _ o lt;
   type_binds-over = λ n o lt. type_binds-over n o lt;
   data_binds-over = λ n o lt. data_binds-over n _ o lt;
   ex_binds-over = λ n o lt. ex_binds-over n _ o lt;
   ty-opens = λ d k low le. ty-opens d (omega arith) k low le;
   pat-opens = λ d k low le. pat-opens 0 d (omega arith) k low le;
-  head-opens = λ d k low le. heads.head-opens d k low le;
+  head-opens = λ d k low le. head-opens d k low le;
   type_binds-opens = λ d k low le. type_binds-opens d k low le;
   data_binds-opens = λ d k low le. data_binds-opens d k low le;
   ex_binds-opens = λ d k low le. ex_binds-opens d k low le;

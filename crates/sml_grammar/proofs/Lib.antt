@@ -62,8 +62,8 @@ pub mod CompOverSuffix
 pub mod CompOver
 pub mod CompOverDecs
 pub mod CompDeep
-pub mod CompGiven
-pub mod NoTree
 pub mod PatAtFar
 pub mod PatFar
 pub mod PatHeadsDeep
+pub mod CompGiven
+pub mod NoTree
