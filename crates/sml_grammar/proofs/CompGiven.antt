@@ -1,14 +1,7 @@
 -- The facts on types, patterns, heads and bindings that completeness of expressions and declarations takes.
-use Rattle.std.proofs.Common.{◌≡◌, ℕ, ◌≤◌, ◌<◌, List, [], ◌∷◌, true, refl, arith}
+use Rattle.std.proofs.Common.{◌≡◌, List, [], ◌∷◌, true, refl, arith}
 use Rattle.mlc_base.specs.declared.token.Reserved.TheVariants as res
 use Rattle.sml_tree.specs.Terminal.{Terminal, reserved}
-use Rattle.sml_tree.specs.Fixity.{Fixity}
-use Rattle.sml_tree.specs.ReadTree.{Head}
-use Rattle.sml_tree.specs.Depth.{depth_head}
-use Rattle.sml_tree.specs.Grammar.{ReadsHead}
-use Rattle.sml_grammar.specs.Answer.{deep}
-use Rattle.sml_grammar.specs.Patterns.{read_head}
-use Rattle.sml_grammar.specs.PartialPatterns.{OpensHead}
 use Rattle.sml_grammar.proofs.CompFacts.{quiet, ends_binds, Facts}
 use Rattle.sml_grammar.proofs.TypeShapes.{ty-shorter}
 use Rattle.sml_grammar.proofs.TypeComplete.{ty-complete}
@@ -82,5 +75,5 @@ facts = record {
   type_binds-opens = λ d k low le. type_binds-opens d k low le;
   data_binds-opens = λ d k low le. data_binds-opens d k low le;
   ex_binds-opens = λ d k low le. ex_binds-opens d k low le;
-  opens_pat-begins = λ o. opens_pat-begins o
+  opens_pat-begins = λ o. opens_pat-begins o;
 }
