@@ -53,7 +53,6 @@ pub mod PatHeads
 pub mod ExpGiven
 pub mod ExpReaders
 pub mod LawSound
-pub mod LawDeepSound
 pub mod PatOver
 pub mod CompPaths
 pub mod CompBegins
@@ -67,3 +66,4 @@ pub mod PatFar
 pub mod PatHeadsDeep
 pub mod CompGiven
 pub mod NoTree
+pub mod LawDeepSound
