@@ -1,5 +1,5 @@
 -- What partial trees begin with.
-use Rattle.std.proofs.Common.{◌≡◌, ℕ, zero, suc, ◌≤◌, ◌<◌, List, [], ◌∷◌, Option, Some, None, Bool, true, false, ◌||◌, ◌&&◌, refl, arith, nat_le}
+use Rattle.std.proofs.Common.{◌≡◌, ℕ, List, ◌∷◌, Option, None, true, ◌&&◌, refl, arith, nat_le}
 use Rattle.std.proofs.lemmas.Bool.{le-leb}
 use Rattle.mlc_base.specs.declared.token.Reserved.TheVariants as res
 use Rattle.sml_tree.specs.declared.ident.Tyvar.{Tyvar}

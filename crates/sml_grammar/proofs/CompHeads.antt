@@ -1,20 +1,19 @@
 -- What patterns, heads and bindings begin with, where type variables, `rec` or a datatype's replication may stand.
-use Rattle.std.proofs.Common.{◌≡◌, ℕ, zero, suc, ◌≤◌, List, [], ◌∷◌, Option, Some, None, Bool, true, false, ◌&&◌, refl, sym, ap, ◌∙◌, nat_eq}
+use Rattle.std.proofs.Common.{◌≡◌, ℕ, List, [], ◌∷◌, Option, Some, None, true, false, refl, sym, ap, ◌∙◌, nat_eq}
 use Rattle.std.proofs.lemmas.Bool.{eq-eqb, le-leb}
 use Rattle.mlc_base.specs.declared.token.Reserved.TheVariants as res
 use Rattle.sml_tree.specs.declared.ident.Tyvar.{Tyvar}
 use Rattle.sml_tree.specs.declared.ident.Vid.{Vid}
 use Rattle.sml_tree.specs.declared.ident.Vid.TheVariants.{Named, Equals, Fresh}
-use Rattle.sml_tree.specs.Terminal.{LongVid, LongId, Terminal, reserved, is_number, is_constant, IsVid, alpha_vid, symbol_vid, star_vid, long_alpha_vid, long_symbol_vid, long_star_vid, IsTycon, alpha_tycon, symbol_tycon}
+use Rattle.sml_tree.specs.Terminal.{LongVid, Terminal, reserved, is_number, is_constant, IsVid, alpha_vid, symbol_vid, star_vid, long_alpha_vid, long_symbol_vid, long_star_vid, IsTycon, alpha_tycon, symbol_tycon}
 use Rattle.sml_tree.specs.Fixity.{Fixity, is_vid}
 use Rattle.sml_tree.specs.ReadTree.{Ty, Pat, Head, head_vid, head_count, ConBind, DataBind, Binds, Funs, Clauses}
 use Rattle.sml_tree.specs.Grammar.{MaybeTy, without_ty, with_ty, BindsVid, plain_vid, op_vid, NamesVid, plain_long, qualified, op_long, AtPat, of_wild, of_pat_constant, of_pat_vid, of_no_pat_row, of_pat_row, of_unit_pat, of_tuple_pat, of_nil_pat, of_list_pat, of_paren_pat, Pattern, of_atpat, of_con_pat, of_chain_pat, of_typed_pat, of_as_pat, ReadsHead, of_prefix_head, of_infix_head, of_bracket_head, Tyvars, no_tyvars, one_tyvar, tyvars_in_brackets, ConBinds, last_con, more_cons, OneDataBind, data_bind, DataBinds, last_data_bind, more_data_binds, DirectiveVids, last_vid, more_vids, ReadsPrecedence, no_precedence, a_precedence, ReadsBinds, of_last_bind, of_bind, of_rec, ReadsFuns, of_last_fun, of_fun_and, ReadsClauses, of_last_clause, of_clause}
 use Rattle.sml_grammar.specs.Answer.{Answer, read}
-use Rattle.sml_grammar.specs.Terminals.{first_as, as_tyvar, as_tycon, after_word, infix_vid}
+use Rattle.sml_grammar.specs.Terminals.{first_as, as_tyvar, after_word, infix_vid}
 use Rattle.sml_grammar.specs.Patterns.{begins_pat}
 use Rattle.sml_grammar.specs.Bindings.{read_tyvars, as_digit, precedence_then}
 use Rattle.sml_grammar.specs.Expressions.{Shape, shape_of, agrees, replicated}
-use Rattle.sml_grammar.proofs.Terminals.{tycon-found}
 
 -- no type variables are here, nor `rec`
 record NoTyvars (i : List Terminal) : Type 0 where
@@ -139,9 +138,9 @@ agree-none v c h a b = refl
 
 pub agree-some : (v : Vid) (c : ℕ) (g : Head) → head_vid g ≡ v → head_count g ≡ c → Agree (Some (shape_of g)) v c
 agree-some v c g a b h a' b' =
-  let x : is_vid (head_vid h) (head_vid g) ≡ true = ap (λ z. is_vid z (head_vid g)) a' ∙ ap (is_vid v) a ∙ is_vid-self v in
-  let y : nat_eq (head_count h) (head_count g) ≡ true = eq-eqb (head_count h) (head_count g) (b' ∙ sym b) in
-  rw (x, y) refl
+    let x : is_vid (head_vid h) (head_vid g) ≡ true = ap (λ z. is_vid z (head_vid g)) a' ∙ ap (is_vid v) a ∙ is_vid-self v in
+    let y : nat_eq (head_count h) (head_count g) ≡ true = eq-eqb (head_count h) (head_count g) (b' ∙ sym b) in
+    rw (x, y) refl
 
 -- what follows a head
 pub maybe-head : (f : Fixity) {m o : List Terminal} {s : Option Ty} → MaybeTy m s o → begins_pat f o ≡ false → infix_vid f o ≡ None → (begins_pat f m ≡ false) × (infix_vid f m ≡ None)

@@ -28,11 +28,11 @@ below n = record {
   data_binds = λ f i y h. let g = data_binds-sound n f i y h in record { reads = g.reads; fits = g.fits };
   ex_binds = λ f i y h. let g = ex_binds-sound n f i y h in record { reads = g.reads; fits = g.fits };
   strids = strids-sound;
-  vids = vids-sound
+  vids = vids-sound;
 }
 
 pub far_below : ((n : ℕ) (f : Fixity) (i : List Terminal) → read_pat n f i ≡ deep → OpensPat f 0 i (suc n)) → ((n : ℕ) (f : Fixity) (i : List Terminal) → read_head n f i ≡ deep → OpensHead f i (suc n)) →
-  (n : ℕ) → FarBelow n
+    (n : ℕ) → FarBelow n
 far_below pats heads n = record {
   tys = λ i h. ty-far n 0 i (omega arith) h;
   pats = pats n;
@@ -42,5 +42,5 @@ far_below pats heads n = record {
   data_binds = λ f i h. data_binds-far n f i h;
   ex_binds = λ f i h. ex_binds-far n f i h;
   strids = λ i h. strids-never-deep i h;
-  vids = λ i h. vids-never-deep i h
+  vids = λ i h. vids-never-deep i h;
 }

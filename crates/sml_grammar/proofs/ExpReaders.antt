@@ -3,7 +3,7 @@ use Rattle.std.proofs.Common.{ℕ}
 use Rattle.sml_grammar.specs.Expressions.{readers}
 use Rattle.sml_grammar.proofs.ExpGiven.{below}
 use Rattle.sml_grammar.proofs.ExpSoundAtoms.{Sounds, SoundsAtom, SoundsDecs}
-use Rattle.sml_grammar.proofs.ExpSound.{SoundReaders, readers-sound}
+use Rattle.sml_grammar.proofs.ExpSound.{readers-sound}
 
 pub exp-sound : (n : ℕ) → Sounds n (readers n).exp
 exp-sound n = (readers-sound below n).exp
