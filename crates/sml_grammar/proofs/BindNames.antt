@@ -34,21 +34,21 @@ strid-last (front c) = last_strid (is_placed_strid c)
 
 strid-turn-ok : (s : NoState) (i : List Terminal) (y : Read (Turn (List (Placed LongId)) NoState)) → strid_turn s i ≡ ok y → GoodTurn StridsTurn s i y.tree y.rest
 strid-turn-ok s i y h =
-  let t = then_taken-ok (first_as as_long_strid i) (λ x o. separated (put_more (first_as as_long_strid o) o) (λ xs. x ∷ xs) (x ∷ []) s o) y h in
-  let f = long_strid-is i t.0 t.1 t.2 in
-  elim (separated-ok (put_more (first_as as_long_strid t.1) t.1) (λ xs. t.0 ∷ xs) (t.0 ∷ []) s t.1 t.3) [
-      inl u ↦ subst (λ (z : Read (Turn (List (Placed LongId)) NoState)). GoodTurn StridsTurn s i z.tree z.rest) u.1 (strid-last f)
-    | inr u ↦ subst (λ (z : Read (Turn (List (Placed LongId)) NoState)). GoodTurn StridsTurn s i z.tree z.rest) u.2
-        (λ xs k d. strid-placed f xs k (subst (λ (z : List Terminal). Strids z xs k) (sym (put_more-some (first_as as_long_strid t.1) t.1 u.0 u.1)) d))
-  ]
+    let t = then_taken-ok (first_as as_long_strid i) (λ x o. separated (put_more (first_as as_long_strid o) o) (λ xs. x ∷ xs) (x ∷ []) s o) y h in
+    let f = long_strid-is i t.0 t.1 t.2 in
+    elim (separated-ok (put_more (first_as as_long_strid t.1) t.1) (λ xs. t.0 ∷ xs) (t.0 ∷ []) s t.1 t.3) [
+      | inl u ↦ subst (λ (z : Read (Turn (List (Placed LongId)) NoState)). GoodTurn StridsTurn s i z.tree z.rest) u.1 (strid-last f)
+      | inr u ↦ subst (λ (z : Read (Turn (List (Placed LongId)) NoState)). GoodTurn StridsTurn s i z.tree z.rest) u.2
+          (λ xs k d. strid-placed f xs k (subst (λ (z : List Terminal). Strids z xs k) (sym (put_more-some (first_as as_long_strid t.1) t.1 u.0 u.1)) d))
+    ]
 
 pub strids-sound : (i : List Terminal) (y : Read (List (Placed LongId))) → read_strids i ≡ ok y → Strids i y.tree y.rest
 strids-sound i y h = many-ok strid_turn StridsTurn strid-turn-ok (suc (length i)) no_state i y h
 
 strid-turn-deep : {A : Type 0} (s : NoState) (i : List Terminal) → strid_turn s i ≡ deep → A
 strid-turn-deep s i h =
-  let t = then_taken-deep (first_as as_long_strid i) (λ x o. separated (put_more (first_as as_long_strid o) o) (λ xs. x ∷ xs) (x ∷ []) s o) h in
-  separated-deep (put_more (first_as as_long_strid t.1) t.1) (λ xs. t.0 ∷ xs) (t.0 ∷ []) s t.1 t.3
+    let t = then_taken-deep (first_as as_long_strid i) (λ x o. separated (put_more (first_as as_long_strid o) o) (λ xs. x ∷ xs) (x ∷ []) s o) h in
+    separated-deep (put_more (first_as as_long_strid t.1) t.1) (λ xs. t.0 ∷ xs) (t.0 ∷ []) s t.1 t.3
 
 pub strids-never-deep : {A : Type 0} (i : List Terminal) → read_strids i ≡ deep → A
 strids-never-deep {A} i h = many-far strid_turn (λ s m. A) (λ s k e. strid-turn-deep s k e) (λ s k put t o e a. a) (suc (length i)) no_state i h
@@ -70,7 +70,7 @@ strids-turns : {i o : List Terminal} {xs : List (Placed LongId)} → Strids i xs
 strids-turns d e zero lt = absurd (omega arith)
 strids-turns (last_strid {t} {o} {x} (is_placed_strid c)) e (suc k) lt = many-last strid_turn k (then_taken-step (after_strid no_state) (long_strid-found c o) (strid-ends x o e))
 strids-turns (more_strids {t} {i} {x} (is_placed_strid c) d) e (suc k) lt =
-  many-more strid_turn k (then_taken-step (after_strid no_state) (long_strid-found c i) (strid-goes x d)) (strids-turns d e k (omega arith))
+    many-more strid_turn k (then_taken-step (after_strid no_state) (long_strid-found c i) (strid-goes x d)) (strids-turns d e k (omega arith))
 
 pub strids-complete : {i o : List Terminal} {xs : List (Placed LongId)} → Strids i xs o → first_as as_long_strid o ≡ None → read_strids i ≡ read xs o
 strids-complete {i} d e = strids-turns d e (suc (length i)) (omega arith)
@@ -95,21 +95,21 @@ after_vid s x o = separated (put_more (first_as as_vid o) o) (λ xs. x.it ∷ xs
 
 vid-turn-ok : (s : NoState) (i : List Terminal) (y : Read (Turn (List ℕ) NoState)) → vid_turn s i ≡ ok y → GoodTurn VidsTurn s i y.tree y.rest
 vid-turn-ok s i y h =
-  let t = then_taken-ok (first_as as_vid i) (after_vid s) y h in
-  let f = vid-is i t.0 t.1 t.2 in
-  elim (separated-ok (put_more (first_as as_vid t.1) t.1) (λ xs. t.0.it ∷ xs) (t.0.it ∷ []) s t.1 t.3) [
-      inl u ↦ subst (λ (z : Read (Turn (List ℕ) NoState)). GoodTurn VidsTurn s i z.tree z.rest) u.1 (vid-last f)
-    | inr u ↦ subst (λ (z : Read (Turn (List ℕ) NoState)). GoodTurn VidsTurn s i z.tree z.rest) u.2
-        (λ xs k d. vid-more f xs k (subst (λ (z : List Terminal). DirectiveVids z xs k) (sym (put_more-some (first_as as_vid t.1) t.1 u.0 u.1)) d))
-  ]
+    let t = then_taken-ok (first_as as_vid i) (after_vid s) y h in
+    let f = vid-is i t.0 t.1 t.2 in
+    elim (separated-ok (put_more (first_as as_vid t.1) t.1) (λ xs. t.0.it ∷ xs) (t.0.it ∷ []) s t.1 t.3) [
+      | inl u ↦ subst (λ (z : Read (Turn (List ℕ) NoState)). GoodTurn VidsTurn s i z.tree z.rest) u.1 (vid-last f)
+      | inr u ↦ subst (λ (z : Read (Turn (List ℕ) NoState)). GoodTurn VidsTurn s i z.tree z.rest) u.2
+          (λ xs k d. vid-more f xs k (subst (λ (z : List Terminal). DirectiveVids z xs k) (sym (put_more-some (first_as as_vid t.1) t.1 u.0 u.1)) d))
+    ]
 
 pub vids-sound : (i : List Terminal) (y : Read (List ℕ)) → read_vids i ≡ ok y → DirectiveVids i y.tree y.rest
 vids-sound i y h = many-ok vid_turn VidsTurn vid-turn-ok (suc (length i)) no_state i y h
 
 vid-turn-deep : {A : Type 0} (s : NoState) (i : List Terminal) → vid_turn s i ≡ deep → A
 vid-turn-deep s i h =
-  let t = then_taken-deep (first_as as_vid i) (after_vid s) h in
-  separated-deep (put_more (first_as as_vid t.1) t.1) (λ xs. t.0.it ∷ xs) (t.0.it ∷ []) s t.1 t.3
+    let t = then_taken-deep (first_as as_vid i) (after_vid s) h in
+    separated-deep (put_more (first_as as_vid t.1) t.1) (λ xs. t.0.it ∷ xs) (t.0.it ∷ []) s t.1 t.3
 
 pub vids-never-deep : {A : Type 0} (i : List Terminal) → read_vids i ≡ deep → A
 vids-never-deep {A} i h = many-far vid_turn (λ s m. A) (λ s k e. vid-turn-deep s k e) (λ s k put t o e a. a) (suc (length i)) no_state i h
@@ -128,7 +128,7 @@ vids-turns : {i o : List Terminal} {xs : List ℕ} → DirectiveVids i xs o → 
 vids-turns d e zero lt = absurd (omega arith)
 vids-turns (last_vid {t} {o} {p} {x} c) e (suc k) lt = many-last vid_turn k (then_taken-step (after_vid no_state) (vid-found c o) (vid-ends (record { place = p; it = x }) o e))
 vids-turns (more_vids {t} {i} {p} {x} c d) e (suc k) lt =
-  many-more vid_turn k (then_taken-step (after_vid no_state) (vid-found c i) (vid-goes (record { place = p; it = x }) d)) (vids-turns d e k (omega arith))
+    many-more vid_turn k (then_taken-step (after_vid no_state) (vid-found c i) (vid-goes (record { place = p; it = x }) d)) (vids-turns d e k (omega arith))
 
 pub vids-complete : {i o : List Terminal} {xs : List ℕ} → DirectiveVids i xs o → first_as as_vid o ≡ None → read_vids i ≡ read xs o
 vids-complete {i} d e = vids-turns d e (suc (length i)) (omega arith)
@@ -157,9 +157,9 @@ digit-holds _ = nothing
 -- what follows the precedence gives the answer
 pub precedence-sound : {A : Type 0} (g : ℕ → List Terminal → Answer A) (i : List Terminal) {z : Answer A} → precedence_then g i ≡ z → (d : ℕ) × (m : List Terminal) × ReadsPrecedence i d m × (g d m ≡ z)
 precedence-sound g i h = elim (on_taken-split (first_as as_digit i) (λ d o. g d.it o) (g 0 i) h) [
-      inl u ↦ (u.0.it, u.1, go (front-is as_digit IsDigit digit-holds i u.0 u.1 u.2), u.3)
-    | inr u ↦ (0, i, no_precedence, u.1)
-  ]
+  | inl u ↦ (u.0.it, u.1, go (front-is as_digit IsDigit digit-holds i u.0 u.1 u.2), u.3)
+  | inr u ↦ (0, i, no_precedence, u.1)
+]
   where
     go : {i : List Terminal} {x : Placed ℕ} {o : List Terminal} → Front IsDigit i x o → ReadsPrecedence i x.it o
     go (front (is_digit p d le)) = a_precedence p d le

@@ -20,15 +20,17 @@ after_tyvar s a m = on_some (after_word res.Comma m) (λ o. read (more (λ as_. 
 
 after_tyvar-ok : (s : NoState) (p : ℕ) (a : Tyvar) (m : List Terminal) (y : Read (Turn (List Tyvar) NoState)) → after_tyvar s a m ≡ ok y → GoodTurn Commas s (type_var p a ∷ m) y.tree y.rest
 after_tyvar-ok s p a m y h =
-  elim (on_some-split (after_word res.Comma m) (λ o. read (more (λ as_. a ∷ as_) s) o) (word_then res.RightParen (λ o. read (last (a ∷ [])) o) m) h) [
-      inl u ↦ subst (λ (z : Read (Turn (List Tyvar) NoState)). GoodTurn Commas s (type_var p a ∷ m) z.tree z.rest) (got u.2) (comma (word-at res.Comma m u.0 u.1))
-    | inr u ↦ close (word_then-ok res.RightParen (λ o. read (last (a ∷ [])) o) m y u.1)
-  ]
+    elim (on_some-split (after_word res.Comma m) (λ o. read (more (λ as_. a ∷ as_) s) o) (word_then res.RightParen (λ o. read (last (a ∷ [])) o) m) h) [
+      | inl u ↦ subst (λ (z : Read (Turn (List Tyvar) NoState)). GoodTurn Commas s (type_var p a ∷ m) z.tree z.rest) (got u.2) (comma (word-at res.Comma m u.0 u.1))
+      | inr u ↦ close (word_then-ok res.RightParen (λ o. read (last (a ∷ [])) o) m y u.1)
+    ]
   where
     comma : {m o : List Terminal} → WordAt res.Comma m o → (as_ : List Tyvar) (k : List Terminal) → TyvarCommas o as_ k → TyvarCommas (type_var p a ∷ m) (a ∷ as_) k
     comma (at_word q) as_ k d = more_tyvars p q a d
+
     paren : {m o : List Terminal} → WordAt res.RightParen m o → TyvarCommas (type_var p a ∷ m) (a ∷ []) o
     paren (at_word q) = last_tyvar p q a
+
     close : (o : List Terminal) × WordAt res.RightParen m o × (read (last (a ∷ [])) o ≡ ok y) → GoodTurn Commas s (type_var p a ∷ m) y.tree y.rest
     close u = subst (λ (z : Read (Turn (List Tyvar) NoState)). GoodTurn Commas s (type_var p a ∷ m) z.tree z.rest) (got u.2) (paren u.1)
 
@@ -40,45 +42,45 @@ tyvar-turn-ok s i y h = let t = then_taken-ok (first_as as_tyvar i) (λ a m. aft
 
 tyvar-turn-deep : {A : Type 0} (s : NoState) (i : List Terminal) → tyvar_turn s i ≡ deep → A
 tyvar-turn-deep {A} s i h =
-  let t = then_taken-deep (first_as as_tyvar i) (λ a m. after_tyvar s a.it m) h in
-  elim (on_some-split (after_word res.Comma t.1) (λ o. read (more (λ as_. t.0.it ∷ as_) s) o) (word_then res.RightParen (λ o. read (last (t.0.it ∷ [])) o) t.1) t.3) [
-      inl u ↦ not_deep u.2
-    | inr u ↦ let v = word_then-deep res.RightParen (λ o. read (last (t.0.it ∷ [])) o) t.1 u.1 in not_deep v.2
-  ]
+    let t = then_taken-deep (first_as as_tyvar i) (λ a m. after_tyvar s a.it m) h in
+    elim (on_some-split (after_word res.Comma t.1) (λ o. read (more (λ as_. t.0.it ∷ as_) s) o) (word_then res.RightParen (λ o. read (last (t.0.it ∷ [])) o) t.1) t.3) [
+      | inl u ↦ not_deep u.2
+      | inr u ↦ let v = word_then-deep res.RightParen (λ o. read (last (t.0.it ∷ [])) o) t.1 u.1 in not_deep v.2
+    ]
 
 brackets-ok : {i o : List Terminal} → WordAt res.LeftParen i o → (y : Read (List Tyvar)) → bracketed_tyvars i o ≡ ok y → Tyvars i y.tree y.rest
 brackets-ok {o} (at_word p) y h =
-  elim (on_taken-split (first_as as_tyvar o) (λ a k. whole tyvar_turn no_state o) (read [] (reserved p res.LeftParen ∷ o)) h) [
-      inl u ↦ tyvars_in_brackets p (many-ok tyvar_turn Commas tyvar-turn-ok (suc (length o)) no_state o y u.3)
-    | inr u ↦ subst (λ (z : Read (List Tyvar)). Tyvars (reserved p res.LeftParen ∷ o) z.tree z.rest) (got u.1) no_tyvars
-  ]
+    elim (on_taken-split (first_as as_tyvar o) (λ a k. whole tyvar_turn no_state o) (read [] (reserved p res.LeftParen ∷ o)) h) [
+      | inl u ↦ tyvars_in_brackets p (many-ok tyvar_turn Commas tyvar-turn-ok (suc (length o)) no_state o y u.3)
+      | inr u ↦ subst (λ (z : Read (List Tyvar)). Tyvars (reserved p res.LeftParen ∷ o) z.tree z.rest) (got u.1) no_tyvars
+    ]
 
 pub tyvars-sound : (i : List Terminal) (y : Read (List Tyvar)) → read_tyvars i ≡ ok y → Tyvars i y.tree y.rest
 tyvars-sound i y h =
-  elim (on_taken-split (first_as as_tyvar i) (λ a o. read (a.it ∷ []) o) (on_some (after_word res.LeftParen i) (bracketed_tyvars i) (read [] i)) h) [
-      inl t ↦ subst (λ (z : Read (List Tyvar)). Tyvars i z.tree z.rest) (got t.3) (one (tyvar-is i t.0 t.1 t.2))
-    | inr t ↦ elim (on_some-split (after_word res.LeftParen i) (bracketed_tyvars i) (read [] i) t.1) [
-          inl u ↦ brackets-ok (word-at res.LeftParen i u.0 u.1) y u.2
+    elim (on_taken-split (first_as as_tyvar i) (λ a o. read (a.it ∷ []) o) (on_some (after_word res.LeftParen i) (bracketed_tyvars i) (read [] i)) h) [
+      | inl t ↦ subst (λ (z : Read (List Tyvar)). Tyvars i z.tree z.rest) (got t.3) (one (tyvar-is i t.0 t.1 t.2))
+      | inr t ↦ elim (on_some-split (after_word res.LeftParen i) (bracketed_tyvars i) (read [] i) t.1) [
+        | inl u ↦ brackets-ok (word-at res.LeftParen i u.0 u.1) y u.2
         | inr u ↦ subst (λ (z : Read (List Tyvar)). Tyvars i z.tree z.rest) (got u.1) no_tyvars
       ]
-  ]
+    ]
   where
     one : {i : List Terminal} {a : Placed Tyvar} {m : List Terminal} → Front IsTyvar i a m → Tyvars i (a.it ∷ []) m
     one (front (is_tyvar p a)) = one_tyvar p a
 
 pub tyvars-never-deep : {A : Type 0} (i : List Terminal) → read_tyvars i ≡ deep → A
 tyvars-never-deep {A} i h =
-  elim (on_taken-split (first_as as_tyvar i) (λ a o. read (a.it ∷ []) o) (on_some (after_word res.LeftParen i) (bracketed_tyvars i) (read [] i)) h) [
-      inl t ↦ not_deep t.3
-    | inr t ↦ elim (on_some-split (after_word res.LeftParen i) (bracketed_tyvars i) (read [] i) t.1) [ inl u ↦ inner u.0 u.2 | inr u ↦ not_deep u.1 ]
-  ]
+    elim (on_taken-split (first_as as_tyvar i) (λ a o. read (a.it ∷ []) o) (on_some (after_word res.LeftParen i) (bracketed_tyvars i) (read [] i)) h) [
+      | inl t ↦ not_deep t.3
+      | inr t ↦ elim (on_some-split (after_word res.LeftParen i) (bracketed_tyvars i) (read [] i) t.1) [ inl u ↦ inner u.0 u.2 | inr u ↦ not_deep u.1 ]
+    ]
   where
     inner : (m : List Terminal) → bracketed_tyvars i m ≡ deep → A
     inner m h =
-      elim (on_taken-split (first_as as_tyvar m) (λ a o. whole tyvar_turn no_state m) (read [] i) h) [
-          inl u ↦ many-far tyvar_turn (λ s m. A) (λ s k e. tyvar-turn-deep s k e) (λ s k put t o e a. a) (suc (length m)) no_state m u.3
-        | inr u ↦ not_deep u.1
-      ]
+        elim (on_taken-split (first_as as_tyvar m) (λ a o. whole tyvar_turn no_state m) (read [] i) h) [
+          | inl u ↦ many-far tyvar_turn (λ s m. A) (λ s k e. tyvar-turn-deep s k e) (λ s k put t o e a. a) (suc (length m)) no_state m u.3
+          | inr u ↦ not_deep u.1
+        ]
 
 commas-complete : {i o : List Terminal} {as_ : List Tyvar} → TyvarCommas i as_ o → (k : ℕ) → length i < k → many tyvar_turn k no_state i ≡ read as_ o
 commas-complete d zero lt = absurd (omega arith)
@@ -136,20 +138,20 @@ bound-end d (front c) (at_word r) = bound r d c
 
 pub bound-ok : {A : Type 0} (g : List Tyvar → ℕ → List Terminal → Answer A) (i : List Terminal) (y : Read A) → bound_tycon g i ≡ ok y → BoundThen g i (ok y)
 bound-ok g i y h =
-  let t = then_ok (read_tyvars i) (after_bound g) y h in
-  let c = then_taken-ok (first_as as_tycon t.0.rest) (λ c k. word_then res.Equals (g t.0.tree c.it) k) y t.2 in
-  let w = word_then-ok res.Equals (g t.0.tree c.0.it) c.1 y c.3 in
-  (t.0.tree, c.0.it, w.0, bound-end (tyvars-sound i t.0 t.1) (tycon-is t.0.rest c.0 c.1 c.2) w.1, w.2)
+    let t = then_ok (read_tyvars i) (after_bound g) y h in
+    let c = then_taken-ok (first_as as_tycon t.0.rest) (λ c k. word_then res.Equals (g t.0.tree c.it) k) y t.2 in
+    let w = word_then-ok res.Equals (g t.0.tree c.0.it) c.1 y c.3 in
+    (t.0.tree, c.0.it, w.0, bound-end (tyvars-sound i t.0 t.1) (tycon-is t.0.rest c.0 c.1 c.2) w.1, w.2)
 
 pub bound-deep : {A : Type 0} (g : List Tyvar → ℕ → List Terminal → Answer A) (i : List Terminal) → bound_tycon g i ≡ deep → BoundThen g i deep
 bound-deep g i h =
-  elim (then_deep (read_tyvars i) (after_bound g) h) [
-      inl e ↦ tyvars-never-deep i e
-    | inr t ↦
-        let c = then_taken-deep (first_as as_tycon t.0.rest) (λ c k. word_then res.Equals (g t.0.tree c.it) k) t.2 in
-        let w = word_then-deep res.Equals (g t.0.tree c.0.it) c.1 c.3 in
-        (t.0.tree, c.0.it, w.0, bound-end (tyvars-sound i t.0 t.1) (tycon-is t.0.rest c.0 c.1 c.2) w.1, w.2)
-  ]
+    elim (then_deep (read_tyvars i) (after_bound g) h) [
+      | inl e ↦ tyvars-never-deep i e
+      | inr t ↦
+          let c = then_taken-deep (first_as as_tycon t.0.rest) (λ c k. word_then res.Equals (g t.0.tree c.it) k) t.2 in
+          let w = word_then-deep res.Equals (g t.0.tree c.0.it) c.1 c.3 in
+          (t.0.tree, c.0.it, w.0, bound-end (tyvars-sound i t.0 t.1) (tycon-is t.0.rest c.0 c.1 c.2) w.1, w.2)
+    ]
 
 tycon-tyvars : {t : Terminal} {q x : ℕ} → IsTycon t q x → (o : List Terminal) → read_tyvars (t ∷ o) ≡ read [] (t ∷ o)
 tycon-tyvars (alpha_tycon p x) o = refl
@@ -157,5 +159,5 @@ tycon-tyvars (symbol_tycon p x) o = refl
 
 pub bound-step : {A : Type 0} (g : List Tyvar → ℕ → List Terminal → Answer A) {i m : List Terminal} {as_ : List Tyvar} {x : ℕ} → Bound i as_ x m → bound_tycon g i ≡ g as_ x m
 bound-step g {m} {as_} (bound {t} r d c) =
-  let e = tyvars-complete d (tycon-tyvars c (reserved r res.Equals ∷ m)) in
-  ap (λ z. then_read z (after_bound g)) e ∙ ap (λ z. then_taken z (λ c k. word_then res.Equals (g as_ c.it) k)) (tycon-found c (reserved r res.Equals ∷ m))
+    let e = tyvars-complete d (tycon-tyvars c (reserved r res.Equals ∷ m)) in
+    ap (λ z. then_read z (after_bound g)) e ∙ ap (λ z. then_taken z (λ c k. word_then res.Equals (g as_ c.it) k)) (tycon-found c (reserved r res.Equals ∷ m))
