@@ -58,7 +58,9 @@ impl Fixities {
     pub fn new(alloc: Global) -> Fixities
         ensures { result ≡ [] }
     {
-        Fixities { directives: Vec::new(alloc) }
+        Fixities {
+            directives: Vec::new(alloc),
+        }
     }
 
     /// How many directives there are.
@@ -89,7 +91,10 @@ impl Fixities {
         ensures { IfOk result (λ _. self.new ≡ directives_for status vids.now ++ self.old) }
     {
         'vids: for vid in vids {
-            self.directives.push(Directive { vid: Vid::Named(*vid), status })?;
+            self.directives.push(Directive {
+                vid: Vid::Named(*vid),
+                status,
+            })?;
         }
         Ok(())
     }
@@ -99,7 +104,8 @@ impl Fixities {
         requires { skipped ≤ length inner.now }
         ensures { IfOk result (λ _. self.new ≡ take (length inner.now - skipped) inner.now ++ self.old) }
     {
-        self.directives.extend_from_slice(&inner.directives[skipped..])?;
+        self.directives
+            .extend_from_slice(&inner.directives[skipped..])?;
         Ok(())
     }
 
@@ -107,6 +113,8 @@ impl Fixities {
     pub fn copy(&self, alloc: Global) -> Result<Fixities, NoMemory>
         ensures { IfOk result (λ copy. copy ≡ self.now) }
     {
-        Ok(Fixities { directives: Vec::from_slice(alloc, self.directives.as_slice())? })
+        Ok(Fixities {
+            directives: Vec::from_slice(alloc, self.directives.as_slice())?,
+        })
     }
 }

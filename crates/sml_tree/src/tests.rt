@@ -1,4 +1,5 @@
 use crate::derive::{Derived, Tree, derive};
+use crate::fixity::{Fixities, Infix};
 use crate::ident::{Constant, LongId, Vid};
 use crate::tree::{ConBind, DataBind, Dec, Exp, Rule, Ty, TypeBind};
 use mlc_base::memory::NoMemory;
@@ -150,5 +151,35 @@ fn an_abbreviation_is_written_out_with_ample_memory(rt: HostRuntime) -> Result<(
         Tree::Dec(dec) => assert!(rt; first_of_both(&dec) == Some(t)),
         _ => assert!(rt; false),
     }
+    Ok(())
+}
+
+#[test]
+fn directives_end_with_their_scope(rt: HostRuntime) -> Result<(), Fail> {
+    let alloc = rt.alloc();
+    let mut names = Names::new(alloc)?;
+    let plus = names.intern(alloc, b"+")?;
+    let times = names.intern(alloc, b"*")?;
+    let six = Infix {
+        precedence: 6,
+        right: false,
+    };
+    let seven = Infix {
+        precedence: 7,
+        right: true,
+    };
+    let mut outer = Fixities::new(alloc);
+    outer.add(Some(six), &[plus])?;
+    let mut inner = outer.copy(alloc)?;
+    inner.add(None, &[plus])?;
+    let first_part = inner.len();
+    assert!(rt; inner.of(&Vid::Named(plus)) == None);
+    inner.add(Some(seven), &[times])?;
+    assert!(rt; first_part <= inner.len());
+    outer.add_newest(&inner, first_part)?;
+    assert!(rt; outer.of(&Vid::Named(plus)) == Some(six));
+    assert!(rt; outer.of(&Vid::Named(times)) == Some(seven));
+    assert!(rt; outer.of(&Vid::Equals) == None);
+    assert_eq!(rt; outer.len(), 2);
     Ok(())
 }

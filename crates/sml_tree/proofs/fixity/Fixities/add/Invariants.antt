@@ -4,5 +4,5 @@ use Rattle.sml_tree.proofs.fixity.Fixities.add.Given as goal
 
 abbrev pub invariant-vids : goal.invariant-vids
 invariant-vids l = record {
-  added : reverse l.self-inside.directives.items ≡ directives_for l.status (take l.vid-index l.vids) ++ l.fn.self
+  added : reverse l.self-inside.directives.items ≡ directives_for l.status (take l.vid-index l.vids) ++ l.fn.self;
 }
