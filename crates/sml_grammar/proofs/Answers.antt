@@ -1,5 +1,7 @@
 -- Tests, answers, and loops.
 use Rattle.std.proofs.Common.{◌≡◌, ℕ, zero, suc, List, ◌∷◌, Option, Some, None, Bool, true, false, ◌||◌, ◌⊎◌, inl, inr, refl, sym, ap, ◌∙◌, subst, if◌then◌else◌}
+use Rattle.std.proofs.Common.{max, nat_le, ◌≤◌, ◌<◌, arith}
+use Rattle.std.proofs.lemmas.Bool.{leb-true, leb-false}
 use Rattle.mlc_base.specs.declared.token.Reserved.{Reserved}
 use Rattle.sml_tree.specs.Terminal.{Terminal, reserved}
 use Rattle.sml_grammar.specs.Answer.{Read, Answer, ok, bad, deep, read, then_read, deep_if, Turn, last, more, after_turn, many}
@@ -77,7 +79,7 @@ on_some-split (Some a) g e h = inl (a, refl, h)
 on_some-split None g e h = inr (refl, h)
 
 pub on_taken-split : {A B : Type 0} (x : Option (Taken A)) (g : A → List Terminal → B) (e : B) {z : B} → on_taken x g e ≡ z →
-  ((a : A) × (o : List Terminal) × (x ≡ taken a o) × (g a o ≡ z)) ⊎ ((x ≡ None) × (e ≡ z))
+    ((a : A) × (o : List Terminal) × (x ≡ taken a o) × (g a o ≡ z)) ⊎ ((x ≡ None) × (e ≡ z))
 on_taken-split (Some a) g e h = inl (a.it, a.rest, refl, h)
 on_taken-split None g e h = inr (refl, h)
 
@@ -127,18 +129,18 @@ not-last : {A B S : Type 0} {b : B} {f : B → B} {s : S} → more f s ≡ last 
 not-last e = absurd (cc)
 
 pub separated-ok : {B S : Type 0} (x : Option (List Terminal)) (put : B → B) (end : B) (s : S) (o : List Terminal) {y : Read (Turn B S)} → separated x put end s o ≡ ok y →
-  ((x ≡ None) × (record { tree = last end; rest = o } ≡ y)) ⊎ ((m : List Terminal) × (x ≡ Some m) × (record { tree = more put s; rest = m } ≡ y))
+    ((x ≡ None) × (record { tree = last end; rest = o } ≡ y)) ⊎ ((m : List Terminal) × (x ≡ Some m) × (record { tree = more put s; rest = m } ≡ y))
 separated-ok (Some k) put end s o h = inr (k, refl, got h)
 separated-ok None put end s o h = inl (refl, got h)
 
 pub separated-last : {B S : Type 0} (x : Option (List Terminal)) (put : B → B) (end : B) (s : S) (o : List Terminal) (b : B) (m : List Terminal) →
-  separated x put end s o ≡ read (last b) m → (x ≡ None) × (end ≡ b) × (o ≡ m)
+    separated x put end s o ≡ read (last b) m → (x ≡ None) × (end ≡ b) × (o ≡ m)
 separated-last (Some k) put end s o b m h = not-last (parts h).0
 separated-last None put end s o b m h = (refl, last-one (parts h).0, (parts h).1)
 
 -- what is put is told by what it gives
 pub separated-more : {B S : Type 0} (x : Option (List Terminal)) (put : B → B) (end : B) (s : S) (o : List Terminal) (put' : B → B) (t : S) (m : List Terminal) →
-  separated x put end s o ≡ read (more put' t) m → (x ≡ Some m) × (put ≡ put') × (s ≡ t)
+    separated x put end s o ≡ read (more put' t) m → (x ≡ Some m) × (put ≡ put') × (s ≡ t)
 separated-more (Some k) put end s o put' t m h = (ap Some (parts h).1, (more-one (parts h).0).0, (more-one (parts h).0).1)
 separated-more None put end s o put' t m h = not-last (sym (parts h).0)
 
@@ -155,52 +157,104 @@ GoodTurn {B} P s i (more put t) m = (b : B) (o : List Terminal) → P t m b o �
 
 -- what a loop reads is read by turns
 pub many-ok : {B S : Type 0} (step : S → List Terminal → Answer (Turn B S)) (P : S → List Terminal → B → List Terminal → Type 0) →
-  ((s : S) (i : List Terminal) (y : Read (Turn B S)) → step s i ≡ ok y → GoodTurn P s i y.tree y.rest) →
-  (k : ℕ) (s : S) (i : List Terminal) (y : Read B) → many step k s i ≡ ok y → P s i y.tree y.rest
+    ((s : S) (i : List Terminal) (y : Read (Turn B S)) → step s i ≡ ok y → GoodTurn P s i y.tree y.rest) →
+    (k : ℕ) (s : S) (i : List Terminal) (y : Read B) → many step k s i ≡ ok y → P s i y.tree y.rest
 unfolding many
 many-ok step P good zero s i y h = bad_ok h
 many-ok {B} {S} step P good (suc k) s i y h =
-  let u = then_ok (step s i) (after_turn (many step k)) y h in
-  go (many step k) (λ t m x e. many-ok step P good k t m x e) u.0.tree u.0.rest (good s i u.0 u.1) u.2
+    let u = then_ok (step s i) (after_turn (many step k)) y h in
+    go (many step k) (λ t m x e. many-ok step P good k t m x e) u.0.tree u.0.rest (good s i u.0 u.1) u.2
   where
     go : (g : S → List Terminal → Answer B) → ((t : S) (m : List Terminal) (x : Read B) → g t m ≡ ok x → P t m x.tree x.rest) →
-      (t : Turn B S) (m : List Terminal) → GoodTurn P s i t m → after_turn g t m ≡ ok y → P s i y.tree y.rest
+        (t : Turn B S) (m : List Terminal) → GoodTurn P s i t m → after_turn g t m ≡ ok y → P s i y.tree y.rest
     go g again (last b) m e h = subst (λ (z : Read B). P s i z.tree z.rest) (got h) e
     go g again (more put t) m e h =
-      let u = then_ok (g t m) (λ b o. read (put b) o) y h in
-      subst (λ (z : Read B). P s i z.tree z.rest) (got u.2) (e u.0.tree u.0.rest (again t m u.0 u.1))
+        let u = then_ok (g t m) (λ b o. read (put b) o) y h in
+        subst (λ (z : Read B). P s i z.tree z.rest) (got u.2) (e u.0.tree u.0.rest (again t m u.0 u.1))
 
 -- where a loop answers deep, one of its turns does
 pub many-far : {B S : Type 0} (step : S → List Terminal → Answer (Turn B S)) (Q : S → List Terminal → Type 0) →
-  ((s : S) (i : List Terminal) → step s i ≡ deep → Q s i) →
-  ((s : S) (i : List Terminal) (put : B → B) (t : S) (m : List Terminal) → step s i ≡ read (more put t) m → Q t m → Q s i) →
-  (k : ℕ) (s : S) (i : List Terminal) → many step k s i ≡ deep → Q s i
+    ((s : S) (i : List Terminal) → step s i ≡ deep → Q s i) →
+    ((s : S) (i : List Terminal) (put : B → B) (t : S) (m : List Terminal) → step s i ≡ read (more put t) m → Q t m → Q s i) →
+    (k : ℕ) (s : S) (i : List Terminal) → many step k s i ≡ deep → Q s i
 unfolding many
 many-far {B} step Q ends goes zero s i h = bad_deep {A = B} h
 many-far {B} {S} step Q ends goes (suc k) s i h =
-  elim (then_deep (step s i) (after_turn (many step k)) h) [ inl e ↦ ends s i e | inr u ↦ go (many step k) (λ t m e. many-far step Q ends goes k t m e) u.0.tree u.0.rest u.1 u.2 ]
+    elim (then_deep (step s i) (after_turn (many step k)) h) [ inl e ↦ ends s i e | inr u ↦ go (many step k) (λ t m e. many-far step Q ends goes k t m e) u.0.tree u.0.rest u.1 u.2 ]
   where
     go : (g : S → List Terminal → Answer B) → ((t : S) (m : List Terminal) → g t m ≡ deep → Q t m) → (t : Turn B S) (m : List Terminal) → step s i ≡ read t m → after_turn g t m ≡ deep → Q s i
     go g again (last b) m e h = not_deep h
     go g again (more put t) m e h = elim (then_deep (g t m) (λ b o. read (put b) o) h) [ inl d ↦ goes s i put t m e (again t m d) | inr u ↦ not_deep u.2 ]
+
+-- the same, where what a turn gives is told as a whole
+abbrev pub FarTurn : {B S : Type 0} → (S → List Terminal → Type 0) → S → List Terminal → Turn B S → List Terminal → Type 0
+FarTurn Q s i (last b) m = Unit {0}
+FarTurn Q s i (more put t) m = Q t m → Q s i
+
+pub many-reach : {B S : Type 0} (step : S → List Terminal → Answer (Turn B S)) (Q : S → List Terminal → Type 0) →
+    ((s : S) (i : List Terminal) → step s i ≡ deep → Q s i) →
+    ((s : S) (i : List Terminal) (y : Read (Turn B S)) → step s i ≡ ok y → FarTurn Q s i y.tree y.rest) →
+    (k : ℕ) (s : S) (i : List Terminal) → many step k s i ≡ deep → Q s i
+many-reach step Q ends goes k s i h = many-far step Q ends (λ s i put t m e. goes s i (record { tree = more put t; rest = m }) e) k s i h
 
 pub many-last : {B S : Type 0} (step : S → List Terminal → Answer (Turn B S)) (k : ℕ) {s : S} {i : List Terminal} {b : B} {o : List Terminal} → step s i ≡ read (last b) o → many step (suc k) s i ≡ read b o
 unfolding many
 many-last step k e = rw e refl
 
 pub many-turn : {B S : Type 0} (step : S → List Terminal → Answer (Turn B S)) (k : ℕ) {s t : S} {i m : List Terminal} {put : B → B} → step s i ≡ read (more put t) m →
-  many step (suc k) s i ≡ then_read (many step k t m) (λ b o. read (put b) o)
+    many step (suc k) s i ≡ then_read (many step k t m) (λ b o. read (put b) o)
 unfolding many
 many-turn step k e = rw e refl
 
 pub many-more : {B S : Type 0} (step : S → List Terminal → Answer (Turn B S)) (k : ℕ) {s t : S} {i m o : List Terminal} {put : B → B} {b : B} → step s i ≡ read (more put t) m → many step k t m ≡ read b o →
-  many step (suc k) s i ≡ read (put b) o
+    many step (suc k) s i ≡ read (put b) o
 many-more step k {put} e h = many-turn step k e ∙ ap (λ z. then_read z (λ b o. read (put b) o)) h
 
 pub many-deep : {B S : Type 0} (step : S → List Terminal → Answer (Turn B S)) (k : ℕ) {s t : S} {i m : List Terminal} {put : B → B} → step s i ≡ read (more put t) m → many step k t m ≡ deep →
-  many step (suc k) s i ≡ deep
+    many step (suc k) s i ≡ deep
 many-deep step k {put} e h = many-turn step k e ∙ ap (λ z. then_read z (λ b o. read (put b) o)) h
+
+then-same : {A : Type 0} (m : Answer A) → then_read m (λ b o. read b o) ≡ m
+then-same (ok x) = refl
+then-same bad = refl
+then-same deep = refl
+
+-- a turn that puts nothing around the rest
+pub many-pass : {B S : Type 0} (step : S → List Terminal → Answer (Turn B S)) (k : ℕ) {s t : S} {i m : List Terminal} → step s i ≡ read (more (λ b. b) t) m → many step (suc k) s i ≡ many step k t m
+many-pass step k {t} {m} e = many-turn step k e ∙ then-same (many step k t m)
 
 pub many-stop : {B S : Type 0} (step : S → List Terminal → Answer (Turn B S)) (k : ℕ) {s : S} {i : List Terminal} → step s i ≡ deep → many step (suc k) s i ≡ deep
 unfolding many
 many-stop step k e = rw e refl
+
+-- Complete trees: either the tree is at most n deep, and is read, or it is deeper, and the answer says so.
+pub data Settled {A : Type 0} (x : Answer A) (n d : ℕ) (t : A) (o : List Terminal) : Type 0 where
+  fits : d ≤ n → x ≡ read t o → Settled x n d t o
+  over : n < d → x ≡ deep → Settled x n d t o
+
+pub settled-by : {A : Type 0} {x y : Answer A} {n d : ℕ} {t : A} {o : List Terminal} → x ≡ y → Settled y n d t o → Settled x n d t o
+settled-by e (fits le h) = fits le (e ∙ h)
+settled-by e (over lt h) = over lt (e ∙ h)
+
+pub settled-fits : {A : Type 0} {x : Answer A} {n d : ℕ} {t : A} {o : List Terminal} → Settled x n d t o → d ≤ n → x ≡ read t o
+settled-fits (fits le h) c = h
+settled-fits (over lt h) c = absurd (omega arith)
+
+pub settled-over : {A : Type 0} {x : Answer A} {n d : ℕ} {t : A} {o : List Terminal} → Settled x n d t o → n < d → x ≡ deep
+settled-over (fits le h) c = absurd (omega arith)
+settled-over (over lt h) c = h
+
+pub le_or : (a b : ℕ) → (a ≤ b) ⊎ (b < a)
+le_or a b = go (nat_le a b) refl
+  where
+    go : (t : Bool) → nat_le a b ≡ t → (a ≤ b) ⊎ (b < a)
+    go true e = inl (leb-true a b e)
+    go false e = inr (leb-false a b e)
+
+pub le_max : (k a b : ℕ) → k ≤ max a b → (k ≤ a) ⊎ (k ≤ b)
+le_max k a b h = elim (le_or k a) [ inl p ↦ inl p | inr p ↦ inr (omega arith) ]
+
+pub then_in : {A B C : Type 0} (m : Answer A) (f : A → List Terminal → Answer B) (g : B → List Terminal → Answer C) → then_read m (λ a o. then_read (f a o) g) ≡ then_read (then_read m f) g
+then_in (ok x) f g = refl
+then_in bad f g = refl
+then_in deep f g = refl

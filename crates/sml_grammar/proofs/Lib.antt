@@ -19,3 +19,10 @@ pub mod CompOverSuffix
 pub mod CompOver
 pub mod CompOverDecs
 pub mod CompDeep
+pub mod TypeShapes
+pub mod TypeSound
+pub mod TypeComplete
+pub mod TypePaths
+pub mod TypeOver
+pub mod TypeFar
+pub mod MaybeTypes

@@ -25,7 +25,7 @@ pub data Front {B : Type 0} (R : Terminal → ℕ → B → Type 0) : List Termi
   front : {t : Terminal} {p : ℕ} {b : B} {o : List Terminal} → R t p b → Front R (t ∷ o) (record { place = p; it = b }) o
 
 pub front-is : {B : Type 0} (g : Terminal → Option B) (R : Terminal → ℕ → B → Type 0) → ((t : Terminal) → Holds (R t (place_of t)) (g t)) →
-  (i : List Terminal) (x : Placed B) (o : List Terminal) → first_as g i ≡ taken x o → Front R i x o
+    (i : List Terminal) (x : Placed B) (o : List Terminal) → first_as g i ≡ taken x o → Front R i x o
 front-is g R is [] x o h = not_some h
 front-is {B} g R is (t ∷ m) x o h = go (is t) h
   where
@@ -38,7 +38,7 @@ pub data AfterOp {B : Type 0} (R : Terminal → B → Type 0) (p : ℕ) : List T
   after_it : {t : Terminal} {b : B} {o : List Terminal} → R t b → AfterOp R p (t ∷ o) (record { place = p; it = b }) o
 
 pub after_op-is : {B : Type 0} (g : Terminal → Option B) (R : Terminal → B → Type 0) → ((t : Terminal) → Holds (R t) (g t)) →
-  (p : ℕ) (i : List Terminal) (x : Placed B) (o : List Terminal) → after_op g p i ≡ taken x o → AfterOp R p i x o
+    (p : ℕ) (i : List Terminal) (x : Placed B) (o : List Terminal) → after_op g p i ≡ taken x o → AfterOp R p i x o
 after_op-is g R is p [] x o h = not_some h
 after_op-is {B} g R is p (t ∷ m) x o h = go (is t) h
   where

@@ -62,6 +62,7 @@ plain-binds f i x o h = go (plain_vid f i) refl h
   where
     named : {i : List Terminal} {y : Placed ℕ} {m : List Terminal} → Front (IsPlain f) i y m → BindsVid f i y.place (Named y.it) m
     named (front (is_plain v e)) = grammar.plain_vid v e
+
     go : (v : Option (Taken (Placed ℕ))) → plain_vid f i ≡ v → named_if v ≡ taken x o → BindsVid f i x.place x.it o
     go None e h = not_some h
     go (Some v) e h = subst (λ (z : Taken (Placed Vid)). BindsVid f i z.it.place z.it.it z.rest) (got_some h) (named (plain-is f i v.it v.rest e))
@@ -91,8 +92,10 @@ plain-names f i x o h = go (plain_vid f i) refl h
   where
     named : {i : List Terminal} {y : Placed ℕ} {m : List Terminal} → Front (IsPlain f) i y m → NamesVid f i y.place (short (Named y.it)) m
     named (front (is_plain v e)) = plain_long v e
+
     long : {i : List Terminal} {y : Placed LongVid} {m : List Terminal} → Front IsQualifiedVid i y m → NamesVid f i y.place y.it m
     long (front v) = qualified v
+
     go : (v : Option (Taken (Placed ℕ))) → plain_vid f i ≡ v → long_named_if (first_as as_qualified i) v ≡ taken x o → NamesVid f i x.place x.it o
     go None e h = long (qualified-is i x o h)
     go (Some v) e h = subst (λ (z : Taken (Placed LongVid)). NamesVid f i z.it.place z.it.it z.rest) (got_some h) (named (plain-is f i v.it v.rest e))
