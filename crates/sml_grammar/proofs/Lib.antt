@@ -26,3 +26,13 @@ pub mod TypePaths
 pub mod TypeOver
 pub mod TypeFar
 pub mod MaybeTypes
+pub mod PatStarts
+pub mod PatShapes
+pub mod PatAtSound
+pub mod PatSound
+pub mod PatAtComplete
+pub mod PatComplete
+pub mod PatOpens
+pub mod PatAtOver
+pub mod PatHeads
+pub mod PatOver
