@@ -36,3 +36,12 @@ pub mod PatOpens
 pub mod PatAtOver
 pub mod PatHeads
 pub mod PatOver
+pub mod BindTyvars
+pub mod BindNames
+pub mod BindStops
+pub mod BindTypes
+pub mod BindOf
+pub mod BindCons
+pub mod BindDatatypes
+pub mod BindExceptions
+pub mod NoTree
