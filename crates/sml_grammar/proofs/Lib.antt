@@ -59,9 +59,6 @@ pub mod ExpFarForms
 pub mod ExpFarBinds
 pub mod ExpFarDecs
 pub mod ExpFar
-pub mod BindSettled
-pub mod BindHeads
-pub mod BindEnds
 pub mod ExpGiven
 pub mod ExpReaders
 pub mod LawSound
