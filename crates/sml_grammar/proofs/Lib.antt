@@ -63,3 +63,4 @@ pub mod ExpGiven
 pub mod ExpReaders
 pub mod LawSound
 pub mod LawDeepSound
+pub mod CompGiven
