@@ -64,3 +64,6 @@ pub mod ExpReaders
 pub mod LawSound
 pub mod LawDeepSound
 pub mod CompGiven
+pub mod PatAtFar
+pub mod PatFar
+pub mod PatHeadsDeep
