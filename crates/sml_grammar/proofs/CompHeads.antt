@@ -108,21 +108,6 @@ pub data-not_replicated : {f : Fixity} {i o : List Terminal} {bs : List DataBind
 data-not_replicated (last_data_bind d) = bind-not_replicated d
 data-not_replicated (more_data_binds p d ds) = bind-not_replicated d
 
--- Directives.
-
-vid-no_digit : {t : Terminal} {p x : ℕ} (o : List Terminal) → IsVid t p x → first_as as_digit (t ∷ o) ≡ None
-vid-no_digit o (alpha_vid p x) = refl
-vid-no_digit o (symbol_vid p x) = refl
-vid-no_digit o (star_vid p x) = refl
-
-pub vids-no_digit : {i o : List Terminal} {xs : List ℕ} → DirectiveVids i xs o → first_as as_digit i ≡ None
-vids-no_digit (last_vid {o} v) = vid-no_digit o v
-vids-no_digit (more_vids {i} v d) = vid-no_digit i v
-
-pub precedence-complete : {A : Type 0} (g : ℕ → List Terminal → Answer A) {i m : List Terminal} {d : ℕ} → ReadsPrecedence i d m → first_as as_digit m ≡ None → precedence_then g i ≡ g d m
-precedence-complete g no_precedence h = rw h refl
-precedence-complete g (a_precedence p d le) h = let c = le-leb d 9 le in rw c refl
-
 -- Clauses.
 
 pub is_vid-self : (v : Vid) → is_vid v v ≡ true

@@ -63,7 +63,6 @@ pub mod ExpGiven
 pub mod ExpReaders
 pub mod LawSound
 pub mod LawDeepSound
-pub mod CompGiven
 pub mod PatAtFar
 pub mod PatFar
 pub mod PatHeadsDeep
