@@ -87,14 +87,6 @@ opens_decs-quiet (past_empty p o) = refl
 opens_decs-quiet (in_dec o) = (opens_dec-word o).quiet
 opens_decs-quiet (past_dec d o) = dec-quiet d
 
--- a pattern does not begin with `rec`
-pub begins_pat-no_rec : (f : Fixity) (i : List Terminal) → begins_pat f i ≡ true → after_word res.Rec i ≡ None
-begins_pat-no_rec f i h = go (after-is res.Rec i) h
-  where
-    go : {i : List Terminal} {v : Option (List Terminal)} → AfterWord res.Rec i v → begins_pat f i ≡ true → v ≡ None
-    go (found p) h = not_true h
-    go (absent n) h = refl
-
 cons-no_datatype : {f : Fixity} {i : List Terminal} {d : ℕ} → OpensCons f i d → after_word res.Datatype i ≡ None
 cons-no_datatype (in_con q v o) = binds-no_datatype v
 cons-no_datatype (past_con q v s o) = binds-no_datatype v

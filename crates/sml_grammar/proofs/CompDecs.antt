@@ -15,14 +15,13 @@ use Rattle.sml_grammar.specs.Types.{read_ty, maybe_ty, ty_could_go_on}
 use Rattle.sml_grammar.specs.Patterns.{begins_pat, read_pat, read_head}
 use Rattle.sml_grammar.specs.Bindings.{read_tyvars, read_type_binds, read_data_binds, read_ex_binds, read_strids, read_vids}
 use Rattle.sml_grammar.specs.Expressions.{Reader, DecsReader, bind_turn, read_binds, Shape, shape_of, agrees, clause_turn, read_clauses, fun_turn, read_funs, dec_start, is_dec_start, dec_by, dec_turn, infix_directive, decs_from}
-use Rattle.sml_grammar.proofs.Answers.{many-last, many-more}
+use Rattle.sml_grammar.proofs.Answers.{many-pass, many-last, many-more}
 use Rattle.sml_grammar.proofs.Terminals.{tycon-found, long_tycon-found}
 use Rattle.sml_grammar.proofs.CompFacts.{quiet, ends_binds}
 use Rattle.sml_grammar.proofs.CompFacts as facts
 use Rattle.sml_grammar.proofs.CompShapes.{shorter, decs-shorter, dec-shorter, binds-shorter, clauses-shorter}
 use Rattle.sml_grammar.proofs.CompQuiet.{Plain, plain-word, Quiet, quiet-is, decs-quiet, Ends, ends-in, ends-end, no-bar}
 use Rattle.sml_grammar.proofs.CompLists.{CompleteExp, CompleteDecs, plain-exp}
-use Rattle.sml_grammar.proofs.CompSuffix.{many-pass}
 use Rattle.sml_grammar.proofs.CompHeads.{pat-no_rec, binds-tyvars, funs-tyvars, data-not_replicated, Agree, agree-none, agree-some, maybe-head}
 
 quiet-ends : (o : List Terminal) → quiet o ≡ true → ends_binds o ≡ true

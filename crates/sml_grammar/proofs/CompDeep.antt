@@ -9,15 +9,17 @@ use Rattle.sml_grammar.specs.Answer.{Answer, ok, bad, deep, deep_if, read, then_
 use Rattle.sml_grammar.specs.Expressions.{begins, begins_atom, decs_from, readers, at_end, read_all}
 use Rattle.sml_grammar.specs.Partial.{OpensDecs}
 use Rattle.sml_grammar.specs.Laws as laws
+use Rattle.sml_grammar.proofs.Answers.{le_or}
 use Rattle.sml_grammar.proofs.CompFacts as facts
 use Rattle.sml_grammar.proofs.CompShapes.{depth-pos}
 use Rattle.sml_grammar.proofs.CompLists.{CompleteExp}
-use Rattle.sml_grammar.proofs.CompPaths.{le_or, decs-opens}
+use Rattle.sml_grammar.proofs.CompPaths.{decs-opens}
 use Rattle.sml_grammar.proofs.CompBegins.{opens-begins, opens_atom-begins}
-use Rattle.sml_grammar.proofs.CompOverLists.{OverExp, OverAtom, OverDecs, atom-over}
+use Rattle.sml_grammar.proofs.CompOverLists.{OverExp, OverAtom, OverDecs}
+use Rattle.sml_grammar.proofs.CompOverLists as lists
 use Rattle.sml_grammar.proofs.CompOver.{from-over}
 use Rattle.sml_grammar.proofs.CompOverDecs.{OverInner, from-decs-over}
-use Rattle.sml_grammar.proofs.CompMain.{AllComplete, all-complete, complete}
+use Rattle.sml_grammar.proofs.CompMain.{AllComplete, all-complete}
 
 pub record AllOver (n : ℕ) : Type 0 where
   pub exp : OverExp n (readers n).exp
@@ -46,7 +48,7 @@ over-suc n a =
   let e : OverExp (suc n) (readers (suc n)).exp = λ f l i d o lt. from-over n (readers n) c.exp c.atom c.decs a.exp a.atom a.decs f o lt in
   record {
     exp = e;
-    atom = λ f i d o lt. atom-over n (readers n) c.exp c.decs a.exp a.decs o lt;
+    atom = λ f i d o lt. lists.atom-over n (readers n) c.exp c.decs a.exp a.decs o lt;
     decs = from-decs-over (suc n) (readers (suc n)).exp (all-complete (suc n)).exp e (readers n).decs (λ f i ds o d lt ends. c.decs f i ds o d (omega arith) ends)
       (record { opened = λ f i d o le. a.decs f i d o (omega arith); none = λ lt f i. absurd (omega arith) })
   }
@@ -55,12 +57,13 @@ pub all-over : (n : ℕ) → AllOver n
 all-over zero = over-zero
 all-over (suc n) = over-suc n (all-over n)
 
-pub deep-complete : laws.DeepComplete
-deep-complete n f i o = ap (λ (r : Answer Decs). then_read r at_end) ((all-over n).decs f i (suc n) o (omega arith))
+-- by name
 
-pub bad-sound : laws.BadSound
-bad-sound n f i ds h d =
-  elim (le_or (depth_decs ds) n) [
-      inl p ↦ let c : read_all n f i ≡ read ds [] = complete n f i ds (d, p) in absurd (cc)
-    | inr p ↦ let c : read_all n f i ≡ deep = deep-complete n f i (decs-opens d (suc n) (omega arith) (omega arith)) in absurd (cc)
-  ]
+pub exp-over : (n : ℕ) → OverExp n (readers n).exp
+exp-over n = (all-over n).exp
+
+pub atom-over : (n : ℕ) → OverAtom n (readers n).atom
+atom-over n = (all-over n).atom
+
+pub decs-over : (n : ℕ) → OverDecs n (readers n).decs
+decs-over n = (all-over n).decs

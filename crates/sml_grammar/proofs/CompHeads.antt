@@ -14,45 +14,45 @@ use Rattle.sml_grammar.specs.Terminals.{first_as, as_tyvar, as_tycon, after_word
 use Rattle.sml_grammar.specs.Patterns.{begins_pat}
 use Rattle.sml_grammar.specs.Bindings.{read_tyvars, as_digit, precedence_then}
 use Rattle.sml_grammar.specs.Expressions.{Shape, shape_of, agrees, replicated}
-use Rattle.sml_grammar.proofs.Terminals.{tycon-found}
+use Rattle.sml_grammar.proofs.PatStarts.{begins-no_word}
+use Rattle.sml_grammar.proofs.PatShapes.{pat-begins}
 
--- no type variables are here, nor `rec`
+-- no type variables are here
 record NoTyvars (i : List Terminal) : Type 0 where
   all : read_tyvars i ≡ read [] i
   first : first_as as_tyvar i ≡ None
-  rec_ : after_word res.Rec i ≡ None
 
 names-no_tyvars : {f : Fixity} {i o : List Terminal} {p : ℕ} {x : LongVid} → NamesVid f i p x o → NoTyvars i
-names-no_tyvars (plain_long (alpha_vid p x) e) = record { all = refl; first = refl; rec_ = refl }
-names-no_tyvars (plain_long (symbol_vid p x) e) = record { all = refl; first = refl; rec_ = refl }
-names-no_tyvars (plain_long (star_vid p x) e) = record { all = refl; first = refl; rec_ = refl }
-names-no_tyvars (qualified (long_alpha_vid p qs x)) = record { all = refl; first = refl; rec_ = refl }
-names-no_tyvars (qualified (long_symbol_vid p qs x)) = record { all = refl; first = refl; rec_ = refl }
-names-no_tyvars (qualified (long_star_vid p qs x)) = record { all = refl; first = refl; rec_ = refl }
-names-no_tyvars (op_long p v) = record { all = refl; first = refl; rec_ = refl }
+names-no_tyvars (plain_long (alpha_vid p x) e) = record { all = refl; first = refl }
+names-no_tyvars (plain_long (symbol_vid p x) e) = record { all = refl; first = refl }
+names-no_tyvars (plain_long (star_vid p x) e) = record { all = refl; first = refl }
+names-no_tyvars (qualified (long_alpha_vid p qs x)) = record { all = refl; first = refl }
+names-no_tyvars (qualified (long_symbol_vid p qs x)) = record { all = refl; first = refl }
+names-no_tyvars (qualified (long_star_vid p qs x)) = record { all = refl; first = refl }
+names-no_tyvars (op_long p v) = record { all = refl; first = refl }
 
 binds-no_tyvars : {f : Fixity} {i o : List Terminal} {p : ℕ} {v : Vid} → BindsVid f i p v o → NoTyvars i
-binds-no_tyvars (plain_vid (alpha_vid p x) e) = record { all = refl; first = refl; rec_ = refl }
-binds-no_tyvars (plain_vid (symbol_vid p x) e) = record { all = refl; first = refl; rec_ = refl }
-binds-no_tyvars (plain_vid (star_vid p x) e) = record { all = refl; first = refl; rec_ = refl }
-binds-no_tyvars (op_vid p v) = record { all = refl; first = refl; rec_ = refl }
+binds-no_tyvars (plain_vid (alpha_vid p x) e) = record { all = refl; first = refl }
+binds-no_tyvars (plain_vid (symbol_vid p x) e) = record { all = refl; first = refl }
+binds-no_tyvars (plain_vid (star_vid p x) e) = record { all = refl; first = refl }
+binds-no_tyvars (op_vid p v) = record { all = refl; first = refl }
 
 -- after a bracket, a type variable would begin type variables
 after-paren : (p : ℕ) {i : List Terminal} → NoTyvars i → NoTyvars (reserved p res.LeftParen ∷ i)
-after-paren p w = record { all = let h = w.first in rw h refl; first = refl; rec_ = refl }
+after-paren p w = record { all = let h = w.first in rw h refl; first = refl }
 
 mutual
   atpat-no_tyvars : {f : Fixity} {i o : List Terminal} {a : Pat} → AtPat f i a o → NoTyvars i
-  atpat-no_tyvars (of_wild p) = record { all = refl; first = refl; rec_ = refl }
-  atpat-no_tyvars (of_pat_constant (is_number p n b)) = record { all = refl; first = refl; rec_ = refl }
-  atpat-no_tyvars (of_pat_constant (is_constant p c)) = record { all = refl; first = refl; rec_ = refl }
+  atpat-no_tyvars (of_wild p) = record { all = refl; first = refl }
+  atpat-no_tyvars (of_pat_constant (is_number p n b)) = record { all = refl; first = refl }
+  atpat-no_tyvars (of_pat_constant (is_constant p c)) = record { all = refl; first = refl }
   atpat-no_tyvars (of_pat_vid v) = names-no_tyvars v
-  atpat-no_tyvars (of_no_pat_row p q) = record { all = refl; first = refl; rec_ = refl }
-  atpat-no_tyvars (of_pat_row p q d) = record { all = refl; first = refl; rec_ = refl }
-  atpat-no_tyvars (of_unit_pat p q) = record { all = refl; first = refl; rec_ = refl }
+  atpat-no_tyvars (of_no_pat_row p q) = record { all = refl; first = refl }
+  atpat-no_tyvars (of_pat_row p q d) = record { all = refl; first = refl }
+  atpat-no_tyvars (of_unit_pat p q) = record { all = refl; first = refl }
   atpat-no_tyvars (of_tuple_pat p q r d ds) = after-paren p (pat-no_tyvars d)
-  atpat-no_tyvars (of_nil_pat p q) = record { all = refl; first = refl; rec_ = refl }
-  atpat-no_tyvars (of_list_pat p q d) = record { all = refl; first = refl; rec_ = refl }
+  atpat-no_tyvars (of_nil_pat p q) = record { all = refl; first = refl }
+  atpat-no_tyvars (of_list_pat p q d) = record { all = refl; first = refl }
   atpat-no_tyvars (of_paren_pat p q d) = after-paren p (pat-no_tyvars d)
 
   pat-no_tyvars : {f : Fixity} {i o : List Terminal} {a : Pat} → Pattern f i a o → NoTyvars i
@@ -67,8 +67,12 @@ head-no_tyvars (of_prefix_head v d ds) = binds-no_tyvars v
 head-no_tyvars (of_infix_head d x e) = atpat-no_tyvars d
 head-no_tyvars (of_bracket_head p q d x e ds) = after-paren p (atpat-no_tyvars d)
 
+-- a pattern does not begin with `rec`
+pub begins_pat-no_rec : (f : Fixity) (i : List Terminal) → begins_pat f i ≡ true → after_word res.Rec i ≡ None
+begins_pat-no_rec f i h = begins-no_word f res.Rec i (λ p o. refl) h
+
 pub pat-no_rec : {f : Fixity} {i o : List Terminal} {a : Pat} → Pattern f i a o → after_word res.Rec i ≡ None
-pat-no_rec d = (pat-no_tyvars d).rec_
+pat-no_rec {f} {i} d = begins_pat-no_rec f i (pat-begins d)
 
 pub binds-tyvars : {f : Fixity} {i o : List Terminal} {bs : Binds} → ReadsBinds f i bs o → read_tyvars i ≡ read [] i
 binds-tyvars (of_last_bind p a d) = (pat-no_tyvars a).all

@@ -1,4 +1,4 @@
--- What is in the grammar, and at most n deep, the readers of depth n read; so no terminals have two trees.
+-- What is in the grammar, and at most n deep, the readers of depth n read.
 use Rattle.std.proofs.Common.{◌≡◌, ℕ, zero, suc, ◌+◌, ◌≤◌, ◌<◌, List, [], refl, sym, ap, ◌∙◌, arith}
 use Rattle.sml_tree.specs.Terminal.{Terminal}
 use Rattle.sml_tree.specs.Fixity.{Fixity}
@@ -12,7 +12,8 @@ use Rattle.sml_grammar.proofs.Answers.{got}
 use Rattle.sml_grammar.proofs.CompFacts as facts
 use Rattle.sml_grammar.proofs.CompShapes.{depth-pos}
 use Rattle.sml_grammar.proofs.CompQuiet.{Ends, ends-nil}
-use Rattle.sml_grammar.proofs.CompLists.{CompleteExp, CompleteAtom, CompleteDecs, atom-complete}
+use Rattle.sml_grammar.proofs.CompLists.{CompleteExp, CompleteAtom, CompleteDecs}
+use Rattle.sml_grammar.proofs.CompLists as lists
 use Rattle.sml_grammar.proofs.CompReaches.{from-complete}
 use Rattle.sml_grammar.proofs.CompDecs.{CompleteInner, from-decs-complete}
 
@@ -38,7 +39,7 @@ all-suc n a =
   let e : CompleteExp (suc n) (readers (suc n)).exp = λ f l i t o. from-complete n (readers n) a.exp a.atom a.decs f l i t o in
   record {
     exp = e;
-    atom = λ f i t o d le. atom-complete n (readers n) a.exp a.decs d le;
+    atom = λ f i t o d le. lists.atom-complete n (readers n) a.exp a.decs d le;
     decs = from-decs-complete (suc n) (readers (suc n)).exp e (readers n).decs (λ f i ds o d lt ends. a.decs f i ds o d (omega arith) ends)
   }
 
@@ -46,14 +47,13 @@ pub all-complete : (n : ℕ) → AllComplete n
 all-complete zero = all-zero
 all-complete (suc n) = all-suc n (all-complete n)
 
-pub complete : laws.Complete
-complete n f i ds h =
-  let a : (readers n).decs f i ≡ read ds [] = (all-complete n).decs f i ds [] h.0 h.1 ends-nil in
-  ap (λ (r : Answer Decs). then_read r at_end) a
+-- by name
 
-pub one-tree : laws.OneTree
-one-tree f i ds es d e =
-  let n = depth_decs ds + depth_decs es in
-  let a : (readers n).decs f i ≡ read ds [] = (all-complete n).decs f i ds [] d (omega arith) ends-nil in
-  let b : (readers n).decs f i ≡ read es [] = (all-complete n).decs f i es [] e (omega arith) ends-nil in
-  ap (λ (r : Read Decs). r.tree) (got (sym a ∙ b))
+pub exp-complete : (n : ℕ) → CompleteExp n (readers n).exp
+exp-complete n = (all-complete n).exp
+
+pub atom-complete : (n : ℕ) → CompleteAtom n (readers n).atom
+atom-complete n = (all-complete n).atom
+
+pub decs-complete : (n : ℕ) → CompleteDecs n (readers n).decs
+decs-complete n = (all-complete n).decs

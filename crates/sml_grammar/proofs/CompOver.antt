@@ -12,14 +12,14 @@ use Rattle.sml_grammar.specs.Answer.{Answer, Turn, deep, read, many, whole}
 use Rattle.sml_grammar.specs.Terminals.{no_state}
 use Rattle.sml_grammar.specs.Expressions.{Readers, start_of, other_start, atom_start, begins_atom, atom_by, atoms_turn, application, read_match, suffix_turn, exp_from}
 use Rattle.sml_grammar.specs.Partial.{Opens, begun, in_atom, applied_to, in_argument, joined, in_chain, marked, in_typed, handled, in_handler, in_raise, in_condition, in_then, in_else, in_while, in_do, in_subject, in_case, in_fn}
-use Rattle.sml_grammar.proofs.Answers.{many-stop}
+use Rattle.sml_grammar.proofs.Answers.{le_or, many-stop}
 use Rattle.sml_grammar.proofs.ExpLevels.{joint-tie, joint-no_atom}
 use Rattle.sml_grammar.proofs.CompFacts as facts
 use Rattle.sml_grammar.proofs.CompShapes.{ChainHead, chain-head, chain-no_ty, joint-no_ty, chain_goes_on, chain-mark, chain-handler, chain-joint}
 use Rattle.sml_grammar.proofs.CompQuiet.{atom-start, atom-begins}
 use Rattle.sml_grammar.proofs.CompLists.{TyStops, CompleteExp, CompleteAtom, CompleteDecs, atom-complete}
 use Rattle.sml_grammar.proofs.CompReaches.{Reaches, reaches}
-use Rattle.sml_grammar.proofs.CompPaths.{le_or, FarArgs, atom-opens, atoms-opens, reads-opens, follows-opens, match-opens}
+use Rattle.sml_grammar.proofs.CompPaths.{FarArgs, atom-opens, atoms-opens, reads-opens, follows-opens, match-opens}
 use Rattle.sml_grammar.proofs.CompBegins.{opens_atom-start, as-begins}
 use Rattle.sml_grammar.proofs.CompOverLists.{OverExp, OverAtom, OverDecs, too, plain-or, whole-match-over, atom-over, atoms-over}
 use Rattle.sml_grammar.proofs.CompOverSuffix.{FarPart, part-over, joint-deep, chain-deep, part-deep, mark-deep, ty-deep, handle-deep, rules-deep}

@@ -15,16 +15,15 @@ use Rattle.sml_grammar.specs.Bindings.{read_type_binds, read_data_binds, read_ex
 use Rattle.sml_grammar.specs.PartialPatterns.{OpensPat}
 use Rattle.sml_grammar.specs.Expressions.{Reader, DecsReader, bind_turn, read_binds, Shape, shape_of, agrees, clause_turn, read_clauses, fun_turn, read_funs, dec_start, dec_by, dec_turn, decs_from}
 use Rattle.sml_grammar.specs.Partial.{OpensDecs, past_empty, in_dec, past_dec, OpensDec, in_val, in_fun, in_type, in_datatype, in_withtype, in_exception, begun_local, in_local, in_local_body, OpensBinds, past_rec, in_bind_pat, in_bind, past_bind, OpensFuns, in_clauses, past_clauses, OpensClauses, in_head, in_result, in_clause, past_clause}
-use Rattle.sml_grammar.proofs.Answers.{many-deep, many-stop}
+use Rattle.sml_grammar.proofs.Answers.{many-pass, le_or, many-deep, many-stop}
 use Rattle.sml_grammar.proofs.CompFacts as facts
 use Rattle.sml_grammar.proofs.CompShapes.{shorter, dec-shorter, clauses-shorter}
 use Rattle.sml_grammar.proofs.CompQuiet.{plain-word, Ends, ends-in}
 use Rattle.sml_grammar.proofs.CompLists.{CompleteExp}
-use Rattle.sml_grammar.proofs.CompSuffix.{many-pass}
-use Rattle.sml_grammar.proofs.CompHeads.{pat-no_rec, data-not_replicated, agree-none, maybe-head}
+use Rattle.sml_grammar.proofs.CompHeads.{begins_pat-no_rec, pat-no_rec, data-not_replicated, agree-none, maybe-head}
 use Rattle.sml_grammar.proofs.CompDecs.{CompleteInner, maybe-complete, clauses-whole, dec-step}
-use Rattle.sml_grammar.proofs.CompPaths.{le_or, decs-opens, dec-opens, clauses-opens}
-use Rattle.sml_grammar.proofs.CompBegins.{DecWord, opens_dec-word, opens_decs-quiet, begins_pat-no_rec, opens_data-not_replicated}
+use Rattle.sml_grammar.proofs.CompPaths.{decs-opens, dec-opens, clauses-opens}
+use Rattle.sml_grammar.proofs.CompBegins.{DecWord, opens_dec-word, opens_decs-quiet, opens_data-not_replicated}
 use Rattle.sml_grammar.proofs.CompOverLists.{OverExp, OverDecs, ReadOrDeep, exp-or, plain-or}
 
 -- what reads the declarations in a `local`, where they are too deep, or where there is no room for any

@@ -13,12 +13,12 @@ use Rattle.sml_grammar.specs.Terminals.{after_word, no_state}
 use Rattle.sml_grammar.specs.Patterns.{read_pat}
 use Rattle.sml_grammar.specs.Expressions.{Reader, AtomReader, DecsReader, Readers, atom_start, begins_atom, commas_turn, semicolons_turn, row_turn, atom_by, atoms_turn, rule_turn, read_match}
 use Rattle.sml_grammar.specs.Partial.{Opens, OpensAtom, begun_atom, in_row, in_paren, in_tuple, in_sequence, in_list, in_decs, in_body, OpensRow, in_field, past_field, OpensCommas, in_comma, past_comma, OpensSemicolons, in_semicolon, past_semicolon, OpensMatch, in_rule_pat, in_rule, past_rule, OpensDecs}
-use Rattle.sml_grammar.proofs.Answers.{many-deep, many-stop}
+use Rattle.sml_grammar.proofs.Answers.{le_or, many-deep, many-stop}
 use Rattle.sml_grammar.proofs.CompFacts as facts
 use Rattle.sml_grammar.proofs.CompShapes.{atom-shorter, shorter}
 use Rattle.sml_grammar.proofs.CompQuiet.{Plain, plain-word, calm, Ends, ends-in, atom-begins, reads-begins, begins-no_paren, begins-no_bracket}
 use Rattle.sml_grammar.proofs.CompLists.{TyStops, CompleteExp, CompleteAtom, CompleteDecs, equals-label, plain-exp}
-use Rattle.sml_grammar.proofs.CompPaths.{le_or, reads-opens, decs-opens, atom-opens}
+use Rattle.sml_grammar.proofs.CompPaths.{reads-opens, decs-opens, atom-opens}
 use Rattle.sml_grammar.proofs.CompBegins.{opens_atom-begins, opens-begins, opens_commas-begins, opens_row-no_brace}
 
 abbrev pub OverExp : ℕ → Reader → Type 0

@@ -14,13 +14,12 @@ use Rattle.sml_grammar.specs.Types.{read_ty, ty_could_go_on}
 use Rattle.sml_grammar.specs.Expressions.{Reader, begins_atom, read_match, joint, next_of, part_turn, whole_parts, suffix_turn}
 use Rattle.sml_grammar.specs.PartialTypes.{OpensTy}
 use Rattle.sml_grammar.specs.Partial.{OpensPart, in_part, past_part, OpensMatch}
-use Rattle.sml_grammar.proofs.Answers.{many-deep, many-stop}
+use Rattle.sml_grammar.proofs.Answers.{le_or, many-deep, many-stop}
 use Rattle.sml_grammar.proofs.ExpLevels.{joint-tie, joint-next, joint-no_atom}
 use Rattle.sml_grammar.proofs.CompFacts as facts
 use Rattle.sml_grammar.proofs.CompShapes.{shorter, joint-no_ty}
 use Rattle.sml_grammar.proofs.CompLists.{CompleteExp}
 use Rattle.sml_grammar.proofs.CompSuffix.{part-step}
-use Rattle.sml_grammar.proofs.CompPaths.{le_or}
 use Rattle.sml_grammar.proofs.CompOverLists.{OverExp, exp-or, whole-match-over}
 
 module _ (n : ℕ) (self : Reader) (complete : CompleteExp n self) (over : OverExp n self) (f : Fixity) where

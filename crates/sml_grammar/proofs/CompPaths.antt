@@ -11,20 +11,11 @@ use Rattle.sml_tree.specs.Levels.{level, goes_on}
 use Rattle.sml_tree.specs.Grammar.{MaybeTy, without_ty, with_ty, ReadsHead, Atom, of_constant, of_vid, of_equals, of_no_row, of_row, of_selector, of_unit, of_tuple, of_nil, of_list, of_sequence, of_paren, of_let, ExpRow, last_exp_row, more_exp_row, Commas, last_exp, more_exps, Semicolons, last_of_sequence, more_of_sequence, Atoms, no_atoms, more_atoms, Reads, of_atom, of_app, of_chain, of_typed, of_handle, of_raise, of_if, of_while, of_case, of_fn, Follows, of_last_part, of_part, Match, of_last_rule, of_rule, Declares, nothing_more, of_semicolon, of_dec, Declare, of_val, of_fun, of_type, of_datatype, of_withtype, of_replication, of_exception, of_local, of_open, of_infix, of_infixr, of_nonfix, ReadsBinds, of_last_bind, of_bind, of_rec, ReadsFuns, of_last_fun, of_fun_and, ReadsClauses, of_last_clause, of_clause}
 use Rattle.sml_grammar.specs.Expressions.{Shape, shape_of, agrees}
 use Rattle.sml_grammar.specs.Partial.{Opens, begun, in_atom, applied_to, in_argument, joined, in_chain, marked, in_typed, handled, in_handler, in_raise, in_condition, in_then, in_else, in_while, in_do, in_subject, in_case, in_fn, OpensAtom, begun_atom, in_row, in_paren, in_tuple, in_sequence, in_list, in_decs, in_body, OpensRow, in_field, past_field, OpensCommas, in_comma, past_comma, OpensSemicolons, in_semicolon, past_semicolon, OpensPart, in_part, past_part, OpensMatch, in_rule_pat, in_rule, past_rule, OpensDecs, past_empty, in_dec, past_dec, OpensDec, in_val, in_fun, in_type, in_datatype, in_withtype, in_exception, begun_local, in_local, in_local_body, OpensBinds, past_rec, in_bind_pat, in_bind, past_bind, OpensFuns, in_clauses, past_clauses, OpensClauses, in_head, in_result, in_clause, past_clause}
+use Rattle.sml_grammar.proofs.Answers.{le_or, le_max}
 use Rattle.sml_grammar.proofs.CompFacts as facts
 use Rattle.sml_grammar.proofs.CompShapes.{ChainHead, chain-head}
 use Rattle.sml_grammar.proofs.CompQuiet.{atom-begins, reads-begins}
 use Rattle.sml_grammar.proofs.CompHeads.{binds-tyvars, funs-tyvars, Agree, agree-none, agree-some}
-
-pub le_or : (a b : ℕ) → (a ≤ b) ⊎ (b < a)
-le_or a b = go (nat_le a b) refl
-  where
-    go : (t : Bool) → nat_le a b ≡ t → (a ≤ b) ⊎ (b < a)
-    go true e = inl (leb-true a b e)
-    go false e = inr (leb-false a b e)
-
-pub le_max : (k a b : ℕ) → k ≤ max a b → (k ≤ a) ⊎ (k ≤ b)
-le_max k a b h = elim (le_or k a) [ inl p ↦ inl p | inr p ↦ inr (omega arith) ]
 
 -- arguments before the one that is cut off
 pub record FarArgs (f : Fixity) (i : List Terminal) (k : ℕ) : Type 0 where

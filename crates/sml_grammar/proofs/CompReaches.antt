@@ -12,13 +12,13 @@ use Rattle.sml_grammar.specs.Answer.{Turn, last, more, read, many, whole}
 use Rattle.sml_grammar.specs.Terminals.{no_state}
 use Rattle.sml_grammar.specs.Types.{ty_could_go_on}
 use Rattle.sml_grammar.specs.Expressions.{Readers, start_of, other_start, atom_start, begins_atom, atom_by, atoms_turn, application, read_match, suffix_turn, exp_from}
-use Rattle.sml_grammar.proofs.Answers.{or_split, many-last}
+use Rattle.sml_grammar.proofs.Answers.{many-pass, or_split, many-last}
 use Rattle.sml_grammar.proofs.ExpLevels.{stops-more, rules-stop}
 use Rattle.sml_grammar.proofs.CompFacts as facts
 use Rattle.sml_grammar.proofs.CompShapes.{shorter, follows-shorter, match-shorter, ChainHead, chain-head, chain-no_ty, chain_goes_on, chain-stops, chain-mark, chain-handler, chain-joint}
 use Rattle.sml_grammar.proofs.CompQuiet.{plain-word, atom-start, atom-begins}
 use Rattle.sml_grammar.proofs.CompLists.{TyStops, CompleteExp, CompleteAtom, CompleteDecs, plain-exp, whole-match, atom-complete, atoms-complete}
-use Rattle.sml_grammar.proofs.CompSuffix.{many-pass, stop-step, chain-step, mark-step, handler-step}
+use Rattle.sml_grammar.proofs.CompSuffix.{stop-step, chain-step, mark-step, handler-step}
 
 module _ (n : ℕ) (self : Readers) (complete : CompleteExp n self.exp) (complete_atom : CompleteAtom n self.atom) (complete_decs : CompleteDecs n self.decs) (f : Fixity) where
   atom-only : {i o : List Terminal} {e : Exp} → Atom f i e o → depth e ≤ suc n → begins_atom f o ≡ false → application self n f i ≡ read e o

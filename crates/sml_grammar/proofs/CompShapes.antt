@@ -209,9 +209,6 @@ chain-handler f (chain r a (last_part j e)) i h = let g = level-pos f j in ap (a
 chain-handler f (chain r a (part j e ps)) i h = let g = level-pos f j in ap (at_least (joint_level f j)) h ∙ lt-leb (joint_level f j) 0 (omega arith)
 chain-handler f _ i h = refl
 
-pub chain-dead : (f : Fixity) (t : Exp) (i : List Terminal) → could_go_on f 0 i ≡ false → chain_goes_on f t i ≡ false
-chain-dead f t i h = chain-stops f t i (stops-more f 0 (level f t) i (omega arith) h)
-
 -- before a joint of a lower level
 pub chain-joint : (f : Fixity) (t : Exp) (i : List Terminal) (l : ℕ) → l < level f t → tie f i ≡ Some l → chain_goes_on f t i ≡ false
 chain-joint f t i l lt h = chain-stops f t i (ap (at_least (level f t)) h ∙ lt-leb (level f t) l lt)

@@ -23,15 +23,6 @@ pub same-self : (a : Bool) → same a a ≡ true
 same-self true = refl
 same-self false = refl
 
-then-same : {A : Type 0} (x : Answer A) → then_read x (λ b o. read b o) ≡ x
-then-same (ok r) = refl
-then-same bad = refl
-then-same deep = refl
-
--- a turn that only goes on
-pub many-pass : {B S : Type 0} (step : S → List Terminal → Answer (Turn B S)) (k : ℕ) {s t : S} {i m : List Terminal} → step s i ≡ read (more (λ b. b) t) m → many step (suc k) s i ≡ many step k t m
-many-pass step k {t} {m} e = many-turn step k e ∙ then-same (many step k t m)
-
 module _ (n : ℕ) (self : Reader) (complete : CompleteExp n self) (f : Fixity) where
   pub stop-step : (l : ℕ) (t : Exp) (o : List Terminal) → could_go_on f l o ≡ false → suffix_turn self n f l t o ≡ read (last t) o
   stop-step l t o c = go (next-is f o) c

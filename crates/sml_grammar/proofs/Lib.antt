@@ -66,3 +66,4 @@ pub mod LawDeepSound
 pub mod PatAtFar
 pub mod PatFar
 pub mod PatHeadsDeep
+pub mod LawComplete
