@@ -1,26 +1,25 @@
 -- What is in the grammar, and not too deep, is read: declarations.
-use Rattle.std.proofs.Common.{◌≡◌, ℕ, zero, suc, ◌≤◌, ◌<◌, List, [], ◌∷◌, length, Option, Some, None, Bool, true, false, ◌||◌, ◌&&◌, refl, sym, ap, ◌∙◌, subst, arith}
+use Rattle.std.proofs.Common.{◌≡◌, ℕ, zero, suc, ◌≤◌, ◌<◌, List, ◌∷◌, length, Option, Some, None, true, false, refl, ◌∙◌, arith}
 use Rattle.mlc_base.specs.declared.token.Reserved.TheVariants as res
-use Rattle.sml_tree.specs.declared.ident.Tyvar.{Tyvar}
 use Rattle.sml_tree.specs.declared.ident.Vid.{Vid}
-use Rattle.sml_tree.specs.Terminal.{LongId, Terminal, reserved}
+use Rattle.sml_tree.specs.Terminal.{Terminal, reserved}
 use Rattle.sml_tree.specs.Fixity.{Fixity}
-use Rattle.sml_tree.specs.ReadTree.{Placed, Ty, Pat, Head, TypeBind, DataBind, ExBind, Exp, Decs, no_decs, dec, Dec, Binds, last_bind, bind, rec_binds, Funs, last_fun, fun_and, Clauses, last_clause, clause}
-use Rattle.sml_tree.specs.Depth.{depth, depth_ty, depth_some, depth_pat, depth_head, depth_type_binds, depth_data_binds, depth_ex_binds, depth_decs, depth_dec, depth_binds, depth_funs, depth_clauses}
+use Rattle.sml_tree.specs.ReadTree.{Ty, Head, Exp, Decs, dec, Dec, Binds, bind, rec_binds, Funs, fun_and, Clauses, last_clause, clause}
+use Rattle.sml_tree.specs.Depth.{depth_some, depth_decs, depth_dec, depth_binds, depth_funs, depth_clauses}
 use Rattle.sml_tree.specs.Levels.{after, after_dec}
 use Rattle.sml_tree.specs.Grammar.{MaybeTy, without_ty, with_ty, Declares, nothing_more, of_semicolon, of_dec, Declare, of_val, of_fun, of_type, of_datatype, of_withtype, of_replication, of_exception, of_local, of_open, of_infix, of_infixr, of_nonfix, ReadsBinds, of_last_bind, of_bind, of_rec, ReadsFuns, of_last_fun, of_fun_and, ReadsClauses, of_last_clause, of_clause}
-use Rattle.sml_grammar.specs.Answer.{Answer, read, then_read, Turn, last, more, many, whole}
-use Rattle.sml_grammar.specs.Terminals.{no_state, after_word, infix_vid}
+use Rattle.sml_grammar.specs.Answer.{read, last, more, many}
+use Rattle.sml_grammar.specs.Terminals.{no_state, after_word}
 use Rattle.sml_grammar.specs.Types.{read_ty, maybe_ty, ty_could_go_on}
-use Rattle.sml_grammar.specs.Patterns.{begins_pat, read_pat, read_head}
+use Rattle.sml_grammar.specs.Patterns.{read_pat, read_head}
 use Rattle.sml_grammar.specs.Bindings.{read_tyvars, read_type_binds, read_data_binds, read_ex_binds, read_strids, read_vids}
 use Rattle.sml_grammar.specs.Expressions.{Reader, DecsReader, bind_turn, read_binds, Shape, shape_of, agrees, clause_turn, read_clauses, fun_turn, read_funs, dec_start, is_dec_start, dec_by, dec_turn, infix_directive, decs_from}
 use Rattle.sml_grammar.proofs.Answers.{many-pass, many-last, many-more}
 use Rattle.sml_grammar.proofs.Terminals.{tycon-found, long_tycon-found}
 use Rattle.sml_grammar.proofs.CompFacts.{quiet, ends_binds}
 use Rattle.sml_grammar.proofs.CompFacts as facts
-use Rattle.sml_grammar.proofs.CompShapes.{shorter, decs-shorter, dec-shorter, binds-shorter, clauses-shorter}
-use Rattle.sml_grammar.proofs.CompQuiet.{Plain, plain-word, Quiet, quiet-is, decs-quiet, Ends, ends-in, ends-end, no-bar}
+use Rattle.sml_grammar.proofs.CompShapes.{shorter, dec-shorter, clauses-shorter}
+use Rattle.sml_grammar.proofs.CompQuiet.{Plain, plain-word, quiet-is, decs-quiet, Ends, ends-in, ends-end, no-bar}
 use Rattle.sml_grammar.proofs.CompLists.{CompleteExp, CompleteDecs, plain-exp}
 use Rattle.sml_grammar.proofs.CompHeads.{pat-no_rec, binds-tyvars, funs-tyvars, data-not_replicated, Agree, agree-none, agree-some, maybe-head}
 

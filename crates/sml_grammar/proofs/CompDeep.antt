@@ -1,25 +1,15 @@
 -- What is more than n deep the readers of depth n tell to be too deep.
-use Rattle.std.proofs.Common.{◌≡◌, ℕ, zero, suc, ◌≤◌, ◌<◌, List, [], ◌⊎◌, inl, inr, refl, sym, ap, ◌∙◌, arith}
-use Rattle.sml_tree.specs.Terminal.{Terminal}
-use Rattle.sml_tree.specs.Fixity.{Fixity}
-use Rattle.sml_tree.specs.ReadTree.{Decs}
-use Rattle.sml_tree.specs.Depth.{depth_decs}
-use Rattle.sml_tree.specs.Grammar.{Declares}
-use Rattle.sml_grammar.specs.Answer.{Answer, ok, bad, deep, deep_if, read, then_read}
-use Rattle.sml_grammar.specs.Expressions.{begins, begins_atom, decs_from, readers, at_end, read_all}
-use Rattle.sml_grammar.specs.Partial.{OpensDecs}
-use Rattle.sml_grammar.specs.Laws as laws
-use Rattle.sml_grammar.proofs.Answers.{le_or}
-use Rattle.sml_grammar.proofs.CompFacts as facts
+use Rattle.std.proofs.Common.{ℕ, zero, suc, refl, arith}
+use Rattle.sml_grammar.specs.Answer.{deep, deep_if}
+use Rattle.sml_grammar.specs.Expressions.{begins, readers}
 use Rattle.sml_grammar.proofs.CompShapes.{depth-pos}
 use Rattle.sml_grammar.proofs.CompLists.{CompleteExp}
-use Rattle.sml_grammar.proofs.CompPaths.{decs-opens}
 use Rattle.sml_grammar.proofs.CompBegins.{opens-begins, opens_atom-begins}
 use Rattle.sml_grammar.proofs.CompOverLists.{OverExp, OverAtom, OverDecs}
 use Rattle.sml_grammar.proofs.CompOverLists as lists
 use Rattle.sml_grammar.proofs.CompOver.{from-over}
-use Rattle.sml_grammar.proofs.CompOverDecs.{OverInner, from-decs-over}
-use Rattle.sml_grammar.proofs.CompMain.{AllComplete, all-complete}
+use Rattle.sml_grammar.proofs.CompOverDecs.{from-decs-over}
+use Rattle.sml_grammar.proofs.CompMain.{all-complete}
 
 pub record AllOver (n : ℕ) : Type 0 where
   pub exp : OverExp n (readers n).exp

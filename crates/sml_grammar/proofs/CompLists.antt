@@ -1,14 +1,14 @@
 -- What is in the grammar, and not too deep, is read: lists of expressions, matches, and atomic expressions.
-use Rattle.std.proofs.Common.{◌≡◌, ℕ, zero, suc, ◌≤◌, ◌<◌, List, [], ◌∷◌, length, Option, Some, None, Bool, true, false, ◌||◌, refl, sym, ap, ◌∙◌, arith}
+use Rattle.std.proofs.Common.{◌≡◌, ℕ, zero, suc, ◌≤◌, ◌<◌, List, ◌∷◌, length, None, false, refl, arith}
 use Rattle.mlc_base.specs.declared.label.Label.{Label}
 use Rattle.mlc_base.specs.declared.token.Reserved.TheVariants as res
 use Rattle.sml_tree.specs.Terminal.{Terminal, reserved, IsLabel, is_number, is_constant}
 use Rattle.sml_tree.specs.Fixity.{Fixity}
-use Rattle.sml_tree.specs.ReadTree.{Pat, Exp, record_exp, selector, tuple_exp, list_exp, sequence, paren_exp, let_in, Exps, no_exps, exp, ExpFields, no_exp_fields, exp_field, Rules, last_rule, rule, Decs}
-use Rattle.sml_tree.specs.Depth.{depth, depth_pat, depth_exps, depth_exp_fields, depth_rules, depth_decs}
+use Rattle.sml_tree.specs.ReadTree.{Exp, Exps, exp, ExpFields, exp_field, Rules, rule, Decs}
+use Rattle.sml_tree.specs.Depth.{depth, depth_exps, depth_exp_fields, depth_rules, depth_decs}
 use Rattle.sml_tree.specs.Levels.{after, level, could_go_on, goes_on, rules_go_on, begins_bar}
 use Rattle.sml_tree.specs.Grammar.{Atom, of_constant, of_vid, of_equals, of_no_row, of_row, of_selector, of_unit, of_tuple, of_nil, of_list, of_sequence, of_paren, of_let, ExpRow, last_exp_row, more_exp_row, Commas, last_exp, more_exps, Semicolons, last_of_sequence, more_of_sequence, Atoms, no_atoms, more_atoms, Reads, Match, of_last_rule, of_rule, Declares}
-use Rattle.sml_grammar.specs.Answer.{Answer, read, then_read, last, more, many, whole}
+use Rattle.sml_grammar.specs.Answer.{read, many, whole}
 use Rattle.sml_grammar.specs.Terminals.{taken, after_word, no_state}
 use Rattle.sml_grammar.specs.Types.{ty_could_go_on}
 use Rattle.sml_grammar.specs.Patterns.{label_equals, read_pat}

@@ -1,21 +1,12 @@
 -- What is in the grammar, and at most n deep, the readers of depth n read.
-use Rattle.std.proofs.Common.{◌≡◌, ℕ, zero, suc, ◌+◌, ◌≤◌, ◌<◌, List, [], refl, sym, ap, ◌∙◌, arith}
-use Rattle.sml_tree.specs.Terminal.{Terminal}
-use Rattle.sml_tree.specs.Fixity.{Fixity}
-use Rattle.sml_tree.specs.ReadTree.{Exp, Decs}
-use Rattle.sml_tree.specs.Depth.{depth, depth_decs}
-use Rattle.sml_tree.specs.Grammar.{Declares}
-use Rattle.sml_grammar.specs.Answer.{Read, Answer, deep, deep_if, read, then_read}
-use Rattle.sml_grammar.specs.Expressions.{begins, begins_atom, decs_from, readers, at_end, read_all}
-use Rattle.sml_grammar.specs.Laws as laws
-use Rattle.sml_grammar.proofs.Answers.{got}
-use Rattle.sml_grammar.proofs.CompFacts as facts
+use Rattle.std.proofs.Common.{ℕ, zero, suc, arith}
+use Rattle.sml_grammar.specs.Answer.{deep, deep_if}
+use Rattle.sml_grammar.specs.Expressions.{begins, readers}
 use Rattle.sml_grammar.proofs.CompShapes.{depth-pos}
-use Rattle.sml_grammar.proofs.CompQuiet.{Ends, ends-nil}
 use Rattle.sml_grammar.proofs.CompLists.{CompleteExp, CompleteAtom, CompleteDecs}
 use Rattle.sml_grammar.proofs.CompLists as lists
 use Rattle.sml_grammar.proofs.CompReaches.{from-complete}
-use Rattle.sml_grammar.proofs.CompDecs.{CompleteInner, from-decs-complete}
+use Rattle.sml_grammar.proofs.CompDecs.{from-decs-complete}
 
 pub record AllComplete (n : ℕ) : Type 0 where
   pub exp : CompleteExp n (readers n).exp

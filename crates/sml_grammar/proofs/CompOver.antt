@@ -1,5 +1,5 @@
 -- What is too deep is told to be: expressions.
-use Rattle.std.proofs.Common.{◌≡◌, ℕ, zero, suc, ◌≤◌, ◌<◌, List, [], ◌∷◌, length, Option, Some, None, Bool, true, false, ◌⊎◌, inl, inr, refl, sym, ap, ◌∙◌, subst, arith, nat_le, max}
+use Rattle.std.proofs.Common.{◌≡◌, ℕ, zero, suc, ◌≤◌, ◌<◌, List, ◌∷◌, length, Some, true, false, inl, inr, refl, ap, ◌∙◌, subst, arith, nat_le, max}
 use Rattle.std.proofs.lemmas.Bool.{le-leb, lt-leb}
 use Rattle.mlc_base.specs.declared.token.Reserved.TheVariants as res
 use Rattle.sml_tree.specs.Terminal.{Terminal, reserved}
@@ -7,22 +7,22 @@ use Rattle.sml_tree.specs.Fixity.{Fixity}
 use Rattle.sml_tree.specs.ReadTree.{Exp}
 use Rattle.sml_tree.specs.Depth.{depth, depth_ty, depth_exps, depth_parts, depth_rules}
 use Rattle.sml_tree.specs.Levels.{level, goes_on}
-use Rattle.sml_tree.specs.Grammar.{Atom, Atoms, more_atoms, Reads, of_atom, of_app, of_chain, of_typed, of_handle, of_raise, of_if, of_while, of_case, of_fn}
-use Rattle.sml_grammar.specs.Answer.{Answer, Turn, deep, read, many, whole}
+use Rattle.sml_tree.specs.Grammar.{Atom, more_atoms, Reads, of_atom, of_app, of_chain, of_typed, of_handle, of_raise, of_if, of_while, of_case, of_fn}
+use Rattle.sml_grammar.specs.Answer.{deep, read, whole}
 use Rattle.sml_grammar.specs.Terminals.{no_state}
 use Rattle.sml_grammar.specs.Expressions.{Readers, start_of, other_start, atom_start, begins_atom, atom_by, atoms_turn, application, read_match, suffix_turn, exp_from}
 use Rattle.sml_grammar.specs.Partial.{Opens, begun, in_atom, applied_to, in_argument, joined, in_chain, marked, in_typed, handled, in_handler, in_raise, in_condition, in_then, in_else, in_while, in_do, in_subject, in_case, in_fn}
 use Rattle.sml_grammar.proofs.Answers.{le_or, many-stop}
 use Rattle.sml_grammar.proofs.ExpLevels.{joint-tie, joint-no_atom}
 use Rattle.sml_grammar.proofs.CompFacts as facts
-use Rattle.sml_grammar.proofs.CompShapes.{ChainHead, chain-head, chain-no_ty, joint-no_ty, chain_goes_on, chain-mark, chain-handler, chain-joint}
+use Rattle.sml_grammar.proofs.CompShapes.{chain-head, chain-no_ty, joint-no_ty, chain_goes_on, chain-mark, chain-handler, chain-joint}
 use Rattle.sml_grammar.proofs.CompQuiet.{atom-start, atom-begins}
 use Rattle.sml_grammar.proofs.CompLists.{TyStops, CompleteExp, CompleteAtom, CompleteDecs, atom-complete}
 use Rattle.sml_grammar.proofs.CompReaches.{Reaches, reaches}
-use Rattle.sml_grammar.proofs.CompPaths.{FarArgs, atom-opens, atoms-opens, reads-opens, follows-opens, match-opens}
+use Rattle.sml_grammar.proofs.CompPaths.{atom-opens, atoms-opens, follows-opens, match-opens}
 use Rattle.sml_grammar.proofs.CompBegins.{opens_atom-start, as-begins}
 use Rattle.sml_grammar.proofs.CompOverLists.{OverExp, OverAtom, OverDecs, too, plain-or, whole-match-over, atom-over, atoms-over}
-use Rattle.sml_grammar.proofs.CompOverSuffix.{FarPart, part-over, joint-deep, chain-deep, part-deep, mark-deep, ty-deep, handle-deep, rules-deep}
+use Rattle.sml_grammar.proofs.CompOverSuffix.{part-over, joint-deep, chain-deep, part-deep, mark-deep, ty-deep, handle-deep, rules-deep}
 
 module _ (n : ℕ) (self : Readers) (complete : CompleteExp n self.exp) (complete_atom : CompleteAtom n self.atom) (complete_decs : CompleteDecs n self.decs) (over : OverExp n self.exp) (over_atom : OverAtom n self.atom) (over_decs : OverDecs n self.decs) (f : Fixity) where
   app-over : {i m : List Terminal} {e : Exp} → Atom f i e m → begins_atom f m ≡ true → (depth e ≤ n → whole (atoms_turn self.atom f) no_state m ≡ deep) → application self n f i ≡ deep

@@ -1,19 +1,18 @@
 -- What is too deep is told to be: declarations.
-use Rattle.std.proofs.Common.{◌≡◌, ℕ, zero, suc, ◌≤◌, ◌<◌, List, [], ◌∷◌, length, Option, Some, None, Bool, true, false, ◌⊎◌, inl, inr, refl, sym, ap, ◌∙◌, arith}
+use Rattle.std.proofs.Common.{◌≡◌, ℕ, zero, suc, ◌≤◌, ◌<◌, List, ◌∷◌, length, Option, Some, None, false, inl, inr, refl, ◌∙◌, arith}
 use Rattle.mlc_base.specs.declared.token.Reserved.TheVariants as res
 use Rattle.sml_tree.specs.Terminal.{Terminal, reserved}
 use Rattle.sml_tree.specs.Fixity.{Fixity}
-use Rattle.sml_tree.specs.ReadTree.{Ty, Pat, Head, Exp, TypeBind, DataBind, Decs, Dec, dec, bind, rec_binds, Clauses, clause, fun_and}
-use Rattle.sml_tree.specs.Depth.{depth, depth_pat, depth_head, depth_some, depth_data_binds, depth_decs, depth_dec, depth_clauses}
-use Rattle.sml_tree.specs.Levels.{after, after_dec}
-use Rattle.sml_tree.specs.Grammar.{Pattern, ReadsHead, MaybeTy, without_ty, with_ty, DataBinds, Declares, Declare, ReadsClauses}
-use Rattle.sml_grammar.specs.Answer.{Answer, deep, read, then_read, many}
+use Rattle.sml_tree.specs.ReadTree.{Ty, Pat, Head, Decs, dec, bind, rec_binds, clause, fun_and}
+use Rattle.sml_tree.specs.Depth.{depth_pat, depth_head, depth_some, depth_data_binds, depth_decs, depth_dec, depth_clauses}
+use Rattle.sml_tree.specs.Levels.{after}
+use Rattle.sml_tree.specs.Grammar.{Pattern, ReadsHead, MaybeTy, without_ty, with_ty, Declares}
+use Rattle.sml_grammar.specs.Answer.{deep, read, many}
 use Rattle.sml_grammar.specs.Terminals.{no_state, after_word, infix_vid}
-use Rattle.sml_grammar.specs.Types.{read_ty, maybe_ty, ty_could_go_on}
+use Rattle.sml_grammar.specs.Types.{read_ty, maybe_ty}
 use Rattle.sml_grammar.specs.Patterns.{begins_pat, read_pat, read_head}
 use Rattle.sml_grammar.specs.Bindings.{read_type_binds, read_data_binds, read_ex_binds}
-use Rattle.sml_grammar.specs.PartialPatterns.{OpensPat}
-use Rattle.sml_grammar.specs.Expressions.{Reader, DecsReader, bind_turn, read_binds, Shape, shape_of, agrees, clause_turn, read_clauses, fun_turn, read_funs, dec_start, dec_by, dec_turn, decs_from}
+use Rattle.sml_grammar.specs.Expressions.{Reader, DecsReader, bind_turn, read_binds, Shape, clause_turn, read_clauses, fun_turn, read_funs, dec_start, dec_by, dec_turn, decs_from}
 use Rattle.sml_grammar.specs.Partial.{OpensDecs, past_empty, in_dec, past_dec, OpensDec, in_val, in_fun, in_type, in_datatype, in_withtype, in_exception, begun_local, in_local, in_local_body, OpensBinds, past_rec, in_bind_pat, in_bind, past_bind, OpensFuns, in_clauses, past_clauses, OpensClauses, in_head, in_result, in_clause, past_clause}
 use Rattle.sml_grammar.proofs.Answers.{many-pass, le_or, many-deep, many-stop}
 use Rattle.sml_grammar.proofs.CompFacts as facts
@@ -23,7 +22,7 @@ use Rattle.sml_grammar.proofs.CompLists.{CompleteExp}
 use Rattle.sml_grammar.proofs.CompHeads.{begins_pat-no_rec, pat-no_rec, data-not_replicated, agree-none, maybe-head}
 use Rattle.sml_grammar.proofs.CompDecs.{CompleteInner, maybe-complete, clauses-whole, dec-step}
 use Rattle.sml_grammar.proofs.CompPaths.{decs-opens, dec-opens, clauses-opens}
-use Rattle.sml_grammar.proofs.CompBegins.{DecWord, opens_dec-word, opens_decs-quiet, opens_data-not_replicated}
+use Rattle.sml_grammar.proofs.CompBegins.{opens_dec-word, opens_decs-quiet, opens_data-not_replicated}
 use Rattle.sml_grammar.proofs.CompOverLists.{OverExp, OverDecs, ReadOrDeep, exp-or, plain-or}
 
 -- what reads the declarations in a `local`, where they are too deep, or where there is no room for any

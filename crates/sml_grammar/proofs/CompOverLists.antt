@@ -1,5 +1,5 @@
 -- What is too deep is told to be: lists of expressions, matches, and atomic expressions.
-use Rattle.std.proofs.Common.{◌≡◌, ℕ, zero, suc, ◌≤◌, ◌<◌, List, [], ◌∷◌, length, Option, Some, None, Bool, true, false, ◌⊎◌, inl, inr, refl, arith}
+use Rattle.std.proofs.Common.{◌≡◌, ℕ, zero, suc, ◌≤◌, ◌<◌, List, ◌∷◌, length, true, false, ◌⊎◌, inl, inr, refl, arith}
 use Rattle.mlc_base.specs.declared.token.Reserved.{Reserved}
 use Rattle.mlc_base.specs.declared.token.Reserved.TheVariants as res
 use Rattle.sml_tree.specs.Terminal.{Terminal, reserved}
@@ -7,16 +7,16 @@ use Rattle.sml_tree.specs.Fixity.{Fixity}
 use Rattle.sml_tree.specs.ReadTree.{Pat, Exp, Exps, exp, exp_field, rule, Decs}
 use Rattle.sml_tree.specs.Depth.{depth, depth_pat, depth_decs}
 use Rattle.sml_tree.specs.Levels.{after, level, could_go_on, goes_on}
-use Rattle.sml_tree.specs.Grammar.{Pattern, Atom, Atoms, no_atoms, more_atoms, Reads, Declares}
-use Rattle.sml_grammar.specs.Answer.{Answer, deep, read, then_read, many, whole}
-use Rattle.sml_grammar.specs.Terminals.{after_word, no_state}
+use Rattle.sml_tree.specs.Grammar.{Pattern, Atoms, no_atoms, more_atoms, Reads, Declares}
+use Rattle.sml_grammar.specs.Answer.{Answer, deep, read, many, whole}
+use Rattle.sml_grammar.specs.Terminals.{no_state}
 use Rattle.sml_grammar.specs.Patterns.{read_pat}
 use Rattle.sml_grammar.specs.Expressions.{Reader, AtomReader, DecsReader, Readers, atom_start, begins_atom, commas_turn, semicolons_turn, row_turn, atom_by, atoms_turn, rule_turn, read_match}
 use Rattle.sml_grammar.specs.Partial.{Opens, OpensAtom, begun_atom, in_row, in_paren, in_tuple, in_sequence, in_list, in_decs, in_body, OpensRow, in_field, past_field, OpensCommas, in_comma, past_comma, OpensSemicolons, in_semicolon, past_semicolon, OpensMatch, in_rule_pat, in_rule, past_rule, OpensDecs}
 use Rattle.sml_grammar.proofs.Answers.{le_or, many-deep, many-stop}
 use Rattle.sml_grammar.proofs.CompFacts as facts
 use Rattle.sml_grammar.proofs.CompShapes.{atom-shorter, shorter}
-use Rattle.sml_grammar.proofs.CompQuiet.{Plain, plain-word, calm, Ends, ends-in, atom-begins, reads-begins, begins-no_paren, begins-no_bracket}
+use Rattle.sml_grammar.proofs.CompQuiet.{plain-word, calm, Ends, ends-in, atom-begins, reads-begins, begins-no_paren, begins-no_bracket}
 use Rattle.sml_grammar.proofs.CompLists.{TyStops, CompleteExp, CompleteAtom, CompleteDecs, equals-label, plain-exp}
 use Rattle.sml_grammar.proofs.CompPaths.{reads-opens, decs-opens, atom-opens}
 use Rattle.sml_grammar.proofs.CompBegins.{opens_atom-begins, opens-begins, opens_commas-begins, opens_row-no_brace}

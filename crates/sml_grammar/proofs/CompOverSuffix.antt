@@ -1,5 +1,5 @@
 -- What is too deep is told to be: what may follow an expression.
-use Rattle.std.proofs.Common.{◌≡◌, ℕ, zero, suc, ◌≤◌, ◌<◌, List, [], ◌∷◌, length, Option, Some, None, Bool, true, false, ◌⊎◌, inl, inr, refl, sym, ap, ◌∙◌, subst, arith, nat_le}
+use Rattle.std.proofs.Common.{◌≡◌, ℕ, zero, suc, ◌≤◌, ◌<◌, List, ◌∷◌, length, Some, Bool, true, false, inl, inr, refl, sym, ap, ◌∙◌, subst, arith, nat_le}
 use Rattle.std.proofs.lemmas.Bool.{le-leb, lt-leb}
 use Rattle.mlc_base.specs.declared.token.Reserved.TheVariants as res
 use Rattle.sml_tree.specs.Terminal.{Terminal, reserved}
@@ -8,7 +8,7 @@ use Rattle.sml_tree.specs.ReadTree.{Joint, Exp, Parts, part}
 use Rattle.sml_tree.specs.Depth.{depth}
 use Rattle.sml_tree.specs.Levels.{joint_level, joint_right, level, tie, at_least, could_go_on}
 use Rattle.sml_tree.specs.Grammar.{IsJoint, Follows, of_last_part, of_part}
-use Rattle.sml_grammar.specs.Answer.{deep, read, many}
+use Rattle.sml_grammar.specs.Answer.{deep, many}
 use Rattle.sml_grammar.specs.Terminals.{tail}
 use Rattle.sml_grammar.specs.Types.{read_ty, ty_could_go_on}
 use Rattle.sml_grammar.specs.Expressions.{Reader, begins_atom, read_match, joint, next_of, part_turn, whole_parts, suffix_turn}

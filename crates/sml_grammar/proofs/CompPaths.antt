@@ -1,19 +1,17 @@
 -- A tree has a partial tree of each depth up to its own.
-use Rattle.std.proofs.Common.{◌≡◌, ℕ, zero, suc, ◌+◌, ◌≤◌, ◌<◌, List, [], ◌∷◌, length, Option, Some, None, Bool, true, false, ◌⊎◌, inl, inr, refl, subst, arith, nat_le, max}
-use Rattle.std.proofs.lemmas.Bool.{leb-true, leb-false}
-use Rattle.mlc_base.specs.declared.token.Reserved.TheVariants as res
-use Rattle.sml_tree.specs.Terminal.{Terminal, reserved}
+use Rattle.std.proofs.Common.{◌≡◌, ℕ, zero, suc, ◌≤◌, ◌<◌, List, Option, Some, None, Bool, true, false, inl, inr, subst, arith, max}
+use Rattle.sml_tree.specs.Terminal.{Terminal}
 use Rattle.sml_tree.specs.declared.ident.Vid.{Vid}
 use Rattle.sml_tree.specs.Fixity.{Fixity}
-use Rattle.sml_tree.specs.ReadTree.{Ty, Head, head_vid, head_count, Exp, Exps, no_exps, exp, ExpFields, Parts, Rules, Decs, Dec, Binds, Funs, Clauses}
+use Rattle.sml_tree.specs.ReadTree.{Ty, Head, Exp, Exps, no_exps, exp, ExpFields, Parts, Rules, Decs, Dec, Binds, Funs, Clauses}
 use Rattle.sml_tree.specs.Depth.{depth_ty, depth_some, depth_pat, depth_head, depth_type_binds, depth_data_binds, depth, depth_exps, depth_exp_fields, depth_parts, depth_rules, depth_decs, depth_dec, depth_binds, depth_funs, depth_clauses}
 use Rattle.sml_tree.specs.Levels.{level, goes_on}
 use Rattle.sml_tree.specs.Grammar.{MaybeTy, without_ty, with_ty, ReadsHead, Atom, of_constant, of_vid, of_equals, of_no_row, of_row, of_selector, of_unit, of_tuple, of_nil, of_list, of_sequence, of_paren, of_let, ExpRow, last_exp_row, more_exp_row, Commas, last_exp, more_exps, Semicolons, last_of_sequence, more_of_sequence, Atoms, no_atoms, more_atoms, Reads, of_atom, of_app, of_chain, of_typed, of_handle, of_raise, of_if, of_while, of_case, of_fn, Follows, of_last_part, of_part, Match, of_last_rule, of_rule, Declares, nothing_more, of_semicolon, of_dec, Declare, of_val, of_fun, of_type, of_datatype, of_withtype, of_replication, of_exception, of_local, of_open, of_infix, of_infixr, of_nonfix, ReadsBinds, of_last_bind, of_bind, of_rec, ReadsFuns, of_last_fun, of_fun_and, ReadsClauses, of_last_clause, of_clause}
 use Rattle.sml_grammar.specs.Expressions.{Shape, shape_of, agrees}
 use Rattle.sml_grammar.specs.Partial.{Opens, begun, in_atom, applied_to, in_argument, joined, in_chain, marked, in_typed, handled, in_handler, in_raise, in_condition, in_then, in_else, in_while, in_do, in_subject, in_case, in_fn, OpensAtom, begun_atom, in_row, in_paren, in_tuple, in_sequence, in_list, in_decs, in_body, OpensRow, in_field, past_field, OpensCommas, in_comma, past_comma, OpensSemicolons, in_semicolon, past_semicolon, OpensPart, in_part, past_part, OpensMatch, in_rule_pat, in_rule, past_rule, OpensDecs, past_empty, in_dec, past_dec, OpensDec, in_val, in_fun, in_type, in_datatype, in_withtype, in_exception, begun_local, in_local, in_local_body, OpensBinds, past_rec, in_bind_pat, in_bind, past_bind, OpensFuns, in_clauses, past_clauses, OpensClauses, in_head, in_result, in_clause, past_clause}
-use Rattle.sml_grammar.proofs.Answers.{le_or, le_max}
+use Rattle.sml_grammar.proofs.Answers.{le_max}
 use Rattle.sml_grammar.proofs.CompFacts as facts
-use Rattle.sml_grammar.proofs.CompShapes.{ChainHead, chain-head}
+use Rattle.sml_grammar.proofs.CompShapes.{chain-head}
 use Rattle.sml_grammar.proofs.CompQuiet.{atom-begins, reads-begins}
 use Rattle.sml_grammar.proofs.CompHeads.{binds-tyvars, funs-tyvars, Agree, agree-none, agree-some}
 

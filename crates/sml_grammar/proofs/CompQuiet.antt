@@ -1,23 +1,22 @@
 -- What expressions and declarations end before, and what they begin with.
-use Rattle.std.proofs.Common.{◌≡◌, ℕ, zero, suc, ◌≤◌, ◌<◌, List, [], ◌∷◌, Option, Some, None, Bool, true, false, ◌||◌, ◌&&◌, refl, sym, ap, ◌∙◌, subst, arith, nat_le}
+use Rattle.std.proofs.Common.{◌≡◌, ℕ, ◌≤◌, List, [], ◌∷◌, Option, None, Bool, true, false, ◌||◌, ◌&&◌, refl, ap, ◌∙◌, subst, arith, nat_le}
 use Rattle.std.proofs.lemmas.Bool.{le-leb}
 use Rattle.mlc_base.specs.declared.token.Reserved.{Reserved}
 use Rattle.mlc_base.specs.declared.token.Reserved.TheVariants as res
-use Rattle.sml_tree.specs.declared.ident.Vid.TheVariants.{Equals}
 use Rattle.sml_tree.specs.Terminal.{LongVid, Terminal, reserved, is_number, is_constant, alpha_vid, symbol_vid, star_vid, long_alpha_vid, long_symbol_vid, long_star_vid}
-use Rattle.sml_tree.specs.Fixity.{Fixity, fix_of}
-use Rattle.sml_tree.specs.ReadTree.{Placed, Exp, ExpFields, Exps, Decs, Dec}
+use Rattle.sml_tree.specs.Fixity.{Fixity}
+use Rattle.sml_tree.specs.ReadTree.{Exp, ExpFields, Exps, Decs, Dec}
 use Rattle.sml_tree.specs.Levels.{level, could_go_on, begins_bar}
 use Rattle.sml_tree.specs.Grammar.{NamesVid, plain_long, qualified, op_long, Atom, of_constant, of_vid, of_equals, of_no_row, of_row, of_selector, of_unit, of_tuple, of_nil, of_list, of_sequence, of_paren, of_let, ExpRow, last_exp_row, more_exp_row, Commas, last_exp, more_exps, Reads, of_atom, of_app, of_chain, of_typed, of_handle, of_raise, of_if, of_while, of_case, of_fn, Declares, nothing_more, of_semicolon, of_dec, Declare, of_val, of_fun, of_type, of_datatype, of_withtype, of_replication, of_exception, of_local, of_open, of_infix, of_infixr, of_nonfix}
-use Rattle.sml_grammar.specs.Terminals.{taken, first_as, as_vid, as_long_strid, after_word, names_vid}
+use Rattle.sml_grammar.specs.Terminals.{first_as, as_vid, as_long_strid, after_word, names_vid}
 use Rattle.sml_grammar.specs.Types.{ty_could_go_on}
-use Rattle.sml_grammar.specs.Expressions.{AtomStart, vid_start, vid_if, atom_start, begins_atom, Start, other_start, start_of, is_keyword, begins, dec_start, is_dec_start}
+use Rattle.sml_grammar.specs.Expressions.{vid_start, vid_if, atom_start, begins_atom, other_start, start_of, is_keyword, begins, dec_start, is_dec_start}
 use Rattle.sml_grammar.proofs.Words.{AfterWord, found, absent, after-is}
 use Rattle.sml_grammar.proofs.Answers.{not_true, not_false}
 use Rattle.sml_grammar.proofs.Terminals.{not-word, label-word}
 use Rattle.sml_grammar.proofs.Vids.{names-found}
 use Rattle.sml_grammar.proofs.CompFacts.{quiet}
-use Rattle.sml_grammar.proofs.CompShapes.{ChainHead, chain-head}
+use Rattle.sml_grammar.proofs.CompShapes.{chain-head}
 
 -- Nothing goes on here.
 pub record Plain (f : Fixity) (o : List Terminal) : Type 0 where

@@ -1,21 +1,20 @@
 -- What is in the grammar, and not too deep, is read: expressions.
-use Rattle.std.proofs.Common.{◌≡◌, ℕ, zero, suc, ◌≤◌, ◌<◌, List, [], ◌∷◌, length, Option, Some, None, Bool, true, false, ◌||◌, refl, sym, ap, ◌∙◌, subst, arith, nat_le}
+use Rattle.std.proofs.Common.{◌≡◌, ℕ, zero, suc, ◌≤◌, ◌<◌, List, ◌∷◌, length, false, refl, sym, ◌∙◌, subst, arith}
 use Rattle.std.proofs.lemmas.Bool.{le-leb}
 use Rattle.mlc_base.specs.declared.token.Reserved.TheVariants as res
 use Rattle.sml_tree.specs.Terminal.{Terminal, reserved}
 use Rattle.sml_tree.specs.Fixity.{Fixity}
-use Rattle.sml_tree.specs.ReadTree.{Exp, app, chain, typed, handle, raise, if_then, while, case, fn, Exps, exp, Rules}
+use Rattle.sml_tree.specs.ReadTree.{Exp, app, chain, typed, handle, raise, if_then, while, case, fn, Exps, exp}
 use Rattle.sml_tree.specs.Depth.{depth, depth_exps}
 use Rattle.sml_tree.specs.Levels.{level, could_go_on, goes_on, rules_go_on, begins_bar}
 use Rattle.sml_tree.specs.Grammar.{Atom, Atoms, more_atoms, Reads, of_atom, of_app, of_chain, of_typed, of_handle, of_raise, of_if, of_while, of_case, of_fn}
-use Rattle.sml_grammar.specs.Answer.{Turn, last, more, read, many, whole}
+use Rattle.sml_grammar.specs.Answer.{more, read, many, whole}
 use Rattle.sml_grammar.specs.Terminals.{no_state}
-use Rattle.sml_grammar.specs.Types.{ty_could_go_on}
 use Rattle.sml_grammar.specs.Expressions.{Readers, start_of, other_start, atom_start, begins_atom, atom_by, atoms_turn, application, read_match, suffix_turn, exp_from}
 use Rattle.sml_grammar.proofs.Answers.{many-pass, or_split, many-last}
 use Rattle.sml_grammar.proofs.ExpLevels.{stops-more, rules-stop}
 use Rattle.sml_grammar.proofs.CompFacts as facts
-use Rattle.sml_grammar.proofs.CompShapes.{shorter, follows-shorter, match-shorter, ChainHead, chain-head, chain-no_ty, chain_goes_on, chain-stops, chain-mark, chain-handler, chain-joint}
+use Rattle.sml_grammar.proofs.CompShapes.{follows-shorter, match-shorter, chain-head, chain-no_ty, chain_goes_on, chain-stops, chain-mark, chain-handler, chain-joint}
 use Rattle.sml_grammar.proofs.CompQuiet.{plain-word, atom-start, atom-begins}
 use Rattle.sml_grammar.proofs.CompLists.{TyStops, CompleteExp, CompleteAtom, CompleteDecs, plain-exp, whole-match, atom-complete, atoms-complete}
 use Rattle.sml_grammar.proofs.CompSuffix.{stop-step, chain-step, mark-step, handler-step}

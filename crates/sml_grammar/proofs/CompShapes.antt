@@ -1,16 +1,15 @@
 -- Facts about readings of expressions and declarations alone.
-use Rattle.std.proofs.Common.{◌≡◌, ℕ, zero, suc, ◌+◌, ◌≤◌, ◌<◌, List, [], ◌∷◌, length, Option, Some, None, Bool, true, false, ◌||◌, refl, sym, ap, ◌∙◌, arith, max}
+use Rattle.std.proofs.Common.{◌≡◌, ℕ, suc, ◌≤◌, ◌<◌, List, ◌∷◌, length, Option, Some, None, Bool, false, refl, ap, ◌∙◌, arith}
 use Rattle.std.proofs.lemmas.Bool.{lt-leb}
-use Rattle.mlc_base.specs.declared.token.Reserved.TheVariants as res
-use Rattle.sml_tree.specs.Terminal.{Terminal, reserved}
+use Rattle.sml_tree.specs.Terminal.{Terminal}
 use Rattle.sml_tree.specs.declared.ident.Vid.{Vid}
 use Rattle.sml_tree.specs.declared.ident.Vid.TheVariants.{Named}
 use Rattle.sml_tree.specs.declared.fixity.Infix.{Infix}
 use Rattle.sml_tree.specs.Fixity.{Fixity, fix_of}
-use Rattle.sml_tree.specs.ReadTree.{Ty, Joint, and_also, or_else, infixed, Exp, constant_exp, vid_exp, record_exp, selector, unit_exp, tuple_exp, list_exp, sequence, paren_exp, let_in, app, chain, typed, handle, raise, if_then, while, case, fn, Exps, ExpFields, Parts, last_part, part, Rules, last_rule, rule, Decs, Dec, Binds, Funs, Clauses}
+use Rattle.sml_tree.specs.ReadTree.{Joint, Exp, constant_exp, vid_exp, record_exp, selector, unit_exp, tuple_exp, list_exp, sequence, paren_exp, let_in, app, chain, typed, handle, raise, if_then, while, case, fn, Exps, ExpFields, Parts, last_part, part, Rules, last_rule, rule, Decs, Dec, Binds, Funs, Clauses}
 use Rattle.sml_tree.specs.Depth.{depth}
 use Rattle.sml_tree.specs.Levels.{infix_level, joint_level, joint_right, parts_level, level, tie, at_least, could_go_on, goes_on, parts_go_on, rules_go_on, begins_bar}
-use Rattle.sml_tree.specs.Grammar.{IsJoint, is_andalso, is_orelse, is_infix, is_infix_equals, MaybeTy, without_ty, with_ty, NamesVid, ReadsPrecedence, no_precedence, a_precedence, Fits, Atom, of_constant, of_vid, of_equals, of_no_row, of_row, of_selector, of_unit, of_tuple, of_nil, of_list, of_sequence, of_paren, of_let, ExpRow, last_exp_row, more_exp_row, Commas, last_exp, more_exps, Semicolons, last_of_sequence, more_of_sequence, Atoms, no_atoms, more_atoms, Reads, of_atom, of_app, of_chain, of_typed, of_handle, of_raise, of_if, of_while, of_case, of_fn, Follows, of_last_part, of_part, Match, of_last_rule, of_rule, Declares, nothing_more, of_semicolon, of_dec, Declare, of_val, of_fun, of_type, of_datatype, of_withtype, of_replication, of_exception, of_local, of_open, of_infix, of_infixr, of_nonfix, ReadsBinds, of_last_bind, of_bind, of_rec, ReadsFuns, of_last_fun, of_fun_and, ReadsClauses, of_last_clause, of_clause}
+use Rattle.sml_tree.specs.Grammar.{IsJoint, is_andalso, is_orelse, is_infix, is_infix_equals, Atom, of_constant, of_vid, of_equals, of_no_row, of_row, of_selector, of_unit, of_tuple, of_nil, of_list, of_sequence, of_paren, of_let, ExpRow, last_exp_row, more_exp_row, Commas, last_exp, more_exps, Semicolons, last_of_sequence, more_of_sequence, Atoms, no_atoms, more_atoms, Reads, of_atom, of_app, of_chain, of_typed, of_handle, of_raise, of_if, of_while, of_case, of_fn, Follows, of_last_part, of_part, Match, of_last_rule, of_rule, Declares, nothing_more, of_semicolon, of_dec, Declare, of_val, of_fun, of_type, of_datatype, of_withtype, of_replication, of_exception, of_local, of_open, of_infix, of_infixr, of_nonfix, ReadsBinds, of_last_bind, of_bind, of_rec, ReadsFuns, of_last_fun, of_fun_and, ReadsClauses, of_last_clause, of_clause}
 use Rattle.sml_grammar.specs.Terminals.{tail}
 use Rattle.sml_grammar.specs.Types.{ty_could_go_on}
 use Rattle.sml_grammar.specs.Expressions.{begins_atom, joint, next_of}

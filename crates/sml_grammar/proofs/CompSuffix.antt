@@ -1,5 +1,5 @@
 -- What is in the grammar, and not too deep, is read: what may follow an expression, one turn at a time.
-use Rattle.std.proofs.Common.{◌≡◌, ℕ, zero, suc, ◌≤◌, ◌<◌, List, [], ◌∷◌, length, Option, Some, None, Bool, true, false, ◌||◌, refl, sym, ap, ◌∙◌, subst, arith, nat_le, nat_eq}
+use Rattle.std.proofs.Common.{◌≡◌, ℕ, zero, suc, ◌≤◌, ◌<◌, List, ◌∷◌, length, Bool, true, false, refl, sym, ap, ◌∙◌, subst, arith, nat_le, nat_eq}
 use Rattle.std.proofs.lemmas.Bool.{leb-false, le-leb, lt-leb, eq-eqb, ne_eqb}
 use Rattle.mlc_base.specs.declared.token.Reserved.TheVariants as res
 use Rattle.sml_tree.specs.Terminal.{Terminal, reserved}
@@ -8,15 +8,15 @@ use Rattle.sml_tree.specs.ReadTree.{Ty, Joint, Exp, chain, typed, handle, Parts,
 use Rattle.sml_tree.specs.Depth.{depth, depth_ty, depth_parts}
 use Rattle.sml_tree.specs.Levels.{joint_level, joint_right, level, at_least, could_go_on, goes_on, parts_go_on}
 use Rattle.sml_tree.specs.Grammar.{ReadsTy, Follows, of_last_part, of_part}
-use Rattle.sml_grammar.specs.Answer.{Read, Answer, ok, bad, deep, read, then_read, Turn, last, more, many}
+use Rattle.sml_grammar.specs.Answer.{read, last, more, many}
 use Rattle.sml_grammar.specs.Terminals.{tail}
 use Rattle.sml_grammar.specs.Types.{read_ty, ty_could_go_on}
 use Rattle.sml_grammar.specs.Patterns.{same}
-use Rattle.sml_grammar.specs.Expressions.{Reader, begins_atom, read_match, Next, joint, mark, handler, nothing, next_of, part_next, part_turn, whole_parts, suffix_next, suffix_turn}
-use Rattle.sml_grammar.proofs.Answers.{or_split, many-last, many-more, many-turn}
+use Rattle.sml_grammar.specs.Expressions.{Reader, begins_atom, read_match, Next, joint, next_of, part_next, part_turn, whole_parts, suffix_next, suffix_turn}
+use Rattle.sml_grammar.proofs.Answers.{or_split, many-last, many-more}
 use Rattle.sml_grammar.proofs.ExpLevels.{NextIs, is_joint, is_mark, is_handler, is_nothing, next-is, joint-tie, stops-more}
 use Rattle.sml_grammar.proofs.CompFacts as facts
-use Rattle.sml_grammar.proofs.CompShapes.{shorter, follows-shorter, first_joint, ChainHead, chain-head, chain-no_ty}
+use Rattle.sml_grammar.proofs.CompShapes.{shorter, follows-shorter, first_joint, chain-head, chain-no_ty}
 use Rattle.sml_grammar.proofs.CompLists.{TyStops, CompleteExp}
 
 pub same-self : (a : Bool) → same a a ≡ true

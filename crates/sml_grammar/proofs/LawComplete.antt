@@ -1,10 +1,8 @@
 -- What the grammar has at most n deep is read, no terminals have two trees, what is deeper is told to be, and where bad is answered there is no tree.
-use Rattle.std.proofs.Common.{◌≡◌, ℕ, suc, ◌+◌, ◌≤◌, ◌<◌, List, [], ◌⊎◌, inl, inr, sym, ap, ◌∙◌, arith}
-use Rattle.sml_tree.specs.Terminal.{Terminal}
-use Rattle.sml_tree.specs.Fixity.{Fixity}
+use Rattle.std.proofs.Common.{◌≡◌, suc, ◌+◌, [], inl, inr, sym, ap, ◌∙◌, arith}
 use Rattle.sml_tree.specs.ReadTree.{Decs}
 use Rattle.sml_tree.specs.Depth.{depth_decs}
-use Rattle.sml_grammar.specs.Answer.{Read, Answer, bad, deep, read, then_read}
+use Rattle.sml_grammar.specs.Answer.{Read, Answer, deep, read, then_read}
 use Rattle.sml_grammar.specs.Expressions.{readers, at_end, read_all}
 use Rattle.sml_grammar.specs.Laws as laws
 use Rattle.sml_grammar.proofs.Answers.{got, le_or}
