@@ -44,7 +44,6 @@ pub mod BindOf
 pub mod BindCons
 pub mod BindDatatypes
 pub mod BindExceptions
-pub mod NoTree
 pub mod ExpBelow
 pub mod ExpTurns
 pub mod ExpSoundAtoms
@@ -67,3 +66,4 @@ pub mod PatAtFar
 pub mod PatFar
 pub mod PatHeadsDeep
 pub mod LawComplete
+pub mod NoTree

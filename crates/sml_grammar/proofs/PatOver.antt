@@ -1,42 +1,33 @@
 -- Patterns that are too deep are told to be.
-use Rattle.std.proofs.Common.{◌≡◌, ℕ, zero, suc, ◌+◌, ◌≤◌, ◌<◌, List, [], ◌∷◌, length, Option, Some, None, Bool, true, false, ◌&&◌, ◌⊎◌, inl, inr, refl, sym, ap, ◌∙◌, subst, arith, nat_le, nat_eq, min, max, if◌then◌else◌}
-use Rattle.std.proofs.lemmas.Bool.{leb-true, leb-false, le-leb, lt-leb, eqb-true, eq-eqb, ne_eqb}
-use Rattle.mlc_base.specs.declared.label.Label.{Label}
-use Rattle.mlc_base.specs.declared.token.Reserved.{Reserved}
+use Rattle.std.proofs.Common.{◌≡◌, ℕ, zero, suc, ◌≤◌, ◌<◌, List, ◌∷◌, length, Option, None, Bool, true, false, inl, inr, refl, sym, ◌∙◌, subst, arith, nat_le}
+use Rattle.std.proofs.lemmas.Bool.{le-leb, lt-leb}
 use Rattle.mlc_base.specs.declared.token.Reserved.TheVariants as res
 use Rattle.sml_tree.specs.declared.ident.Vid.{Vid}
 use Rattle.sml_tree.specs.declared.ident.Vid.TheVariants.{Named}
-use Rattle.sml_tree.specs.declared.fixity.Infix.{Infix}
-use Rattle.sml_tree.specs.Fixity.{Fixity, fix_of}
-use Rattle.sml_tree.specs.Terminal.{Constant, LongVid, Terminal, reserved, IsConstant, IsVid, IsQualifiedVid, long_alpha_vid, long_symbol_vid, long_star_vid, IsAnyVid, IsAnyLongVid, any_short, any_long, IsLabel, word_label}
-use Rattle.sml_tree.specs.ReadTree.{Placed, Ty, Pat, wild_pat, constant_pat, vid_pat, record_pat, unit_pat, tuple_pat, list_pat, paren_pat, con_pat, chain_pat, typed_pat, as_pat, Pats, no_pats, pat, PatFields, no_pat_fields, pat_field, PatField, labelled, punned, punned_as, PatParts, last_pat_part, pat_part, Head, prefix_head, infix_head, bracket_head}
-use Rattle.sml_tree.specs.Depth.{depth_ty, depth_some, depth_pat, depth_pats, depth_pat_fields, depth_pat_field, depth_pat_parts, depth_head}
-use Rattle.sml_tree.specs.Levels.{vid_level, vid_right, pat_level, pat_parts_level}
-use Rattle.sml_tree.specs.Grammar.{ReadsTy, MaybeTy, without_ty, with_ty, BindsVid, op_vid, NamesVid, plain_long, qualified, op_long, IsInfixVid, PatFits, AtPat, of_wild, of_pat_constant, of_pat_vid, of_no_pat_row, of_pat_row, of_unit_pat, of_tuple_pat, of_nil_pat, of_list_pat, of_paren_pat, PatRow, row_dots, last_row, more_row, Field, of_labelled, of_punned, of_punned_as, PatCommas, last_pat, more_pats, Pattern, of_atpat, of_con_pat, of_chain_pat, of_typed_pat, of_as_pat, PatFollows, of_last_pat_part, of_pat_part, AtPats, no_atpats, more_atpats, ReadsHead, of_prefix_head, of_infix_head, of_bracket_head}
-use Rattle.sml_tree.specs.Grammar as grammar
-use Rattle.sml_grammar.specs.Answer.{Read, Answer, ok, bad, deep, read, then_read, deep_if, Turn, last, more, many, whole}
-use Rattle.sml_grammar.specs.Terminals.{Taken, taken, first_as, as_label, place_of, word_of, after_word, tail, on_some, on_taken, word_then, separated, NoState, no_state, short, plain_vid, infix_vid, binds_vid, names_vid}
-use Rattle.sml_grammar.specs.Types.{read_ty, maybe_ty, ty_could_go_on}
-use Rattle.sml_grammar.specs.Patterns.{PatStart, wild_start, constant_start, vid_start, brace_start, paren_start, bracket_start, no_start, vid_if, pat_start, is_pat_start, begins_pat, PatReader, AtPatReader, PatReaders, pat_commas_turn, label_if, label_equals, pun, punned_field, field, PatRowRead, put_field, only_field, only_dots, pat_row_turn, brace_pat, bracket_pat, paren_pat_rest, paren_pat_in, at_pat, same, pat_part_next, pat_part_turn, whole_pat_parts, pat_suffix_mark, pat_suffix_joint, pat_suffix_turn, pat_suffix, pat_first, plain_form, typed_or_as, typed_form, vid_form, pat_form, read_pats, read_pat, read_atpat, atpats_turn, read_atpats, infix_rest, prefix_rest, vid_head, Bracketed, is_atpat, bracketed_parts, bracketed_chain, bracketed, bracket_rest, pat_head, read_head}
-use Rattle.sml_grammar.proofs.Answers.{chosen, got, got_some, not_some, not_none, not_true, not_false, then_ok, then_deep, not_deep, bad_deep, bad_ok, deep_ok, deep_if-ok, if-deep, on_some-split, on_taken-split, word_then-ok, word_then-deep, at-path, separated-ok, separated-more, separated-deep, GoodTurn, many-ok, many-far, many-last, many-turn, many-more, many-deep, many-stop, many-pass, le_or, le_max}
-use Rattle.sml_grammar.proofs.Words.{WordAt, at_word, AfterWord, found, absent, after-is, word-at, word-found}
-use Rattle.sml_grammar.proofs.Terminals.{Front, front, label-is, vid-found, label-found, not-word, vid-word, label-word}
-use Rattle.sml_grammar.proofs.Vids.{IsPlain, is_plain, InfixAt, infix_at, plain-is, infix-is, plain-found, infix-found, binds-is, binds-found, binds-shorter, names-is, names-found, names-shorter, infix-no_names, infix-no_binds, constant-no_names, constant-no_binds, names-no_infix}
-use Rattle.sml_grammar.proofs.TypeShapes.{ty-shorter, ty-pos}
-use Rattle.sml_grammar.proofs.TypeSound.{GoodTy, ty-sound}
+use Rattle.sml_tree.specs.Fixity.{Fixity}
+use Rattle.sml_tree.specs.Terminal.{LongVid, Terminal, reserved}
+use Rattle.sml_tree.specs.ReadTree.{Placed, Ty, Pat, pat_part}
+use Rattle.sml_tree.specs.Depth.{depth_ty, depth_some, depth_pat, depth_pat_parts}
+use Rattle.sml_tree.specs.Levels.{vid_level, vid_right, pat_level}
+use Rattle.sml_tree.specs.Grammar.{MaybeTy, without_ty, with_ty, BindsVid, NamesVid, Pattern, of_atpat, of_con_pat, of_chain_pat, of_typed_pat, of_as_pat}
+use Rattle.sml_grammar.specs.Answer.{deep, read, many}
+use Rattle.sml_grammar.specs.Terminals.{tail, binds_vid, names_vid}
+use Rattle.sml_grammar.specs.Types.{read_ty}
+use Rattle.sml_grammar.specs.Patterns.{pat_start, PatReader, PatReaders, at_pat, pat_part_turn, whole_pat_parts, pat_suffix_turn, pat_first, plain_form, pat_form, read_pats}
+use Rattle.sml_grammar.proofs.Answers.{many-deep, many-stop, le_or}
+use Rattle.sml_grammar.proofs.Vids.{binds-found, names-found}
+use Rattle.sml_grammar.proofs.TypeShapes.{ty-pos}
 use Rattle.sml_grammar.proofs.TypeComplete.{ty-complete}
 use Rattle.sml_grammar.proofs.TypePaths.{ty-opens}
 use Rattle.sml_grammar.proofs.TypeOver.{ty-over}
-use Rattle.sml_grammar.proofs.TypeFar.{ty-far}
-use Rattle.sml_grammar.proofs.MaybeTypes.{MaybeStops, GoodColon, colon-sound, colon-complete, colon-shorter, maybe-far}
-use Rattle.sml_grammar.proofs.PatStarts.{with-word, PatStartIs, is_wild, is_brace, is_paren, is_bracket, is_scon, is_name, is_none, pat-start-is, names-start, names-begin, constant-start, infix-no_pat, begins-no_infix, begins-no_word, level-high, level-low, infix_ties, PatStops, ends_pat, pat-stops-word, pat-stops-end, infix_ties-more, stops-higher, infix-tie, infix-no_word, infix-stops}
-use Rattle.sml_grammar.proofs.PatShapes.{atpat-shorter, row-shorter, field-shorter, commas-shorter, pat-shorter, follows-shorter, atpats-shorter, pat-pos, binds-names, atpat-high, atpat-begins, pat-begins, commas-begin, field-no_word, row-no_brace, first_vid, PartHead, fits-head, part-head, follows-level, head-stops, parts-high, pat_goes_on, ends-mark, ends-joint, ends-stop}
-use Rattle.sml_grammar.proofs.PatAtComplete.{CompletePat, CompleteAtPat, FieldEnds, before_comma, before_brace, ends-stops, ends-no_equals, maybe-no_equals, colon-reads, label_equals-found, vid-no_label, before, commas-whole, field-complete, row-whole, at-complete}
+use Rattle.sml_grammar.proofs.PatStarts.{begins-no_word, level-high}
+use Rattle.sml_grammar.proofs.PatShapes.{pat-shorter, PartHead, fits-head, part-head, follows-level, head-stops, ends-mark, ends-joint}
+use Rattle.sml_grammar.proofs.PatAtComplete.{CompletePat, CompleteAtPat}
 use Rattle.sml_grammar.specs.PartialTypes.{OpensTy}
-use Rattle.sml_grammar.specs.PartialPatterns.{OpensPat, begun_pat, in_atpat, in_con_pat, joined_pat, in_pat_chain, marked_pat, in_pat_ty, in_as, OpensAtPat, begun_atpat, in_paren_pat, in_tuple_pat, in_list_pat, in_record_pat, OpensPats, in_pat, past_pat, OpensPatRow, in_pat_field, past_pat_field, OpensField, in_labelled, in_punned_ty, in_punned_as, OpensPatPart, in_pat_part, past_pat_part, OpensAtPats, in_one_atpat, past_atpat, OpensHead, in_first, first_is_vid, in_second, in_prefix, in_bracketed}
-use Rattle.sml_grammar.proofs.PatOpens.{atpat-opens, row-opens, field-opens, commas-opens, pat-opens, as-opens, follows-opens, opens_pat-begins, opens_atpat-begins, opens_pats-begin, opens_field-no_word, opens_row-no_word}
-use Rattle.sml_grammar.proofs.PatComplete.{part-next, parts-complete, stop-step, chain-step, mark-step, Reaches, Reached, alone, along, plain-unbound, plain-bound, plain-named, first-atom, settle, reached, ends-here, form-complete, pat-reads, atpat-reads, pat-complete, atpat-complete}
-use Rattle.sml_grammar.proofs.PatAtOver.{OverPat, OverAtPat, maybe-too, too, commas-deep, at-over}
+use Rattle.sml_grammar.specs.PartialPatterns.{OpensPat, begun_pat, in_atpat, in_con_pat, joined_pat, in_pat_chain, marked_pat, in_pat_ty, in_as, OpensAtPat, begun_atpat, in_paren_pat, in_tuple_pat, in_list_pat, in_record_pat, OpensPatPart, in_pat_part, past_pat_part}
+use Rattle.sml_grammar.proofs.PatOpens.{atpat-opens, follows-opens, opens_pat-begins, opens_atpat-begins}
+use Rattle.sml_grammar.proofs.PatComplete.{part-next, Reaches, Reached, alone, along, plain-unbound, plain-named, settle, reached, pat-reads, atpat-reads}
+use Rattle.sml_grammar.proofs.PatAtOver.{OverPat, OverAtPat, too, at-over}
 
 module _ (n : ℕ) (self : PatReader) (complete : CompletePat n self) (over : OverPat n self) (f : Fixity) where
   -- a chain's further operands, one of them too deep
@@ -56,54 +47,54 @@ module _ (n : ℕ) (self : PatReader) (complete : CompletePat n self) (over : Ov
       go : OverPart l r p → (k : ℕ) → suc (length m) ≤ k → many (pat_part_turn self f l r) k x m ≡ deep
       go w zero le = absurd (omega arith)
       go w (suc k) le =
-        elim (le_or (depth_pat b) n) [
-            inl q ↦
-              let sh = pat-shorter db in
-              let h : self f (suc l) m ≡ read b p = complete f (suc l) m p b db q high (head-stops w.head (suc l) (omega arith)) in
-              let e = part-next n self complete f x b w.head in
-              many-deep (pat_part_turn self f l r) k {put = pat_part x b} (rw h e) (w.runs k (omega arith))
-          | inr q ↦ let h : self f (suc l) m ≡ deep = too n self complete over f (suc l) m b p db high q in many-stop (pat_part_turn self f l r) k (rw h refl)
-        ]
+          elim (le_or (depth_pat b) n) [
+            | inl q ↦
+                let sh = pat-shorter db in
+                let h : self f (suc l) m ≡ read b p = complete f (suc l) m p b db q high (head-stops w.head (suc l) (omega arith)) in
+                let e = part-next n self complete f x b w.head in
+                many-deep (pat_part_turn self f l r) k {put = pat_part x b} (rw h e) (w.runs k (omega arith))
+            | inr q ↦ let h : self f (suc l) m ≡ deep = too n self complete over f (suc l) m b p db high q in many-stop (pat_part_turn self f l r) k (rw h refl)
+          ]
 
   -- the turns that tell so
   pub joint-over : (l : ℕ) (a : Pat) {k : ℕ} {r : Bool} {i : List Terminal} {x : Placed ℕ} → PartHead f k r i x → l ≤ k → k < pat_level f a → n < depth_pat a → pat_suffix_turn self n f l a i ≡ deep
   joint-over l a {x} w low high lt =
-    let nx = w.next in let lv = w.level in
-    let c1 : nat_le l (vid_level f (Named x.it)) ≡ true = le-leb l (vid_level f (Named x.it)) (omega arith) in
-    let c2 : nat_le (suc (vid_level f (Named x.it))) (pat_level f a) ≡ true = le-leb (suc (vid_level f (Named x.it))) (pat_level f a) (omega arith) in
-    let c3 : nat_le (depth_pat a) n ≡ false = lt-leb (depth_pat a) n lt in
-    rw (nx, c1, c2, c3) refl
+      let nx = w.next in let lv = w.level in
+      let c1 : nat_le l (vid_level f (Named x.it)) ≡ true = le-leb l (vid_level f (Named x.it)) (omega arith) in
+      let c2 : nat_le (suc (vid_level f (Named x.it))) (pat_level f a) ≡ true = le-leb (suc (vid_level f (Named x.it))) (pat_level f a) (omega arith) in
+      let c3 : nat_le (depth_pat a) n ≡ false = lt-leb (depth_pat a) n lt in
+      rw (nx, c1, c2, c3) refl
 
   pub parts-over : (l0 : ℕ) (a : Pat) {l : ℕ} {r : Bool} {i : List Terminal} → OverPart l r i → l0 ≤ l → l < pat_level f a → pat_suffix_turn self n f l0 a i ≡ deep
   parts-over l0 a {l} {r} {i} w low high =
-    let x = w.first in let u = w.head in
-    let nx = u.next in let lv = u.level in let sz = u.size in
-    let c1 : nat_le l0 (vid_level f (Named x.it)) ≡ true = le-leb l0 (vid_level f (Named x.it)) (omega arith) in
-    let c2 : nat_le (suc (vid_level f (Named x.it))) (pat_level f a) ≡ true = le-leb (suc (vid_level f (Named x.it))) (pat_level f a) (omega arith) in
-    elim (le_or (depth_pat a) n) [
-        inl p ↦
-          let c3 = le-leb (depth_pat a) n p in
-          let k = suc (length (tail i)) in
-          let q : whole_pat_parts self f x (tail i) ≡ deep =
+      let x = w.first in let u = w.head in
+      let nx = u.next in let lv = u.level in let sz = u.size in
+      let c1 : nat_le l0 (vid_level f (Named x.it)) ≡ true = le-leb l0 (vid_level f (Named x.it)) (omega arith) in
+      let c2 : nat_le (suc (vid_level f (Named x.it))) (pat_level f a) ≡ true = le-leb (suc (vid_level f (Named x.it))) (pat_level f a) (omega arith) in
+      elim (le_or (depth_pat a) n) [
+        | inl p ↦
+            let c3 = le-leb (depth_pat a) n p in
+            let k = suc (length (tail i)) in
+            let q : whole_pat_parts self f x (tail i) ≡ deep =
             subst (λ (z : ℕ). many (pat_part_turn self f z (vid_right f (Named x.it))) k x (tail i) ≡ deep) (sym u.level)
-              (subst (λ (z : Bool). many (pat_part_turn self f l z) k x (tail i) ≡ deep) (sym u.right) (w.runs k sz)) in
-          rw (nx, c1, c2, c3, q) refl
-      | inr p ↦ joint-over l0 a u low high p
-    ]
+            (subst (λ (z : Bool). many (pat_part_turn self f l z) k x (tail i) ≡ deep) (sym u.right) (w.runs k sz)) in
+            rw (nx, c1, c2, c3, q) refl
+        | inr p ↦ joint-over l0 a u low high p
+      ]
 
   pub mark-over : (l : ℕ) (a : Pat) (p : ℕ) (m : List Terminal) → l ≤ 5 → 5 ≤ pat_level f a → n < depth_pat a → pat_suffix_turn self n f l a (reserved p res.Colon ∷ m) ≡ deep
   mark-over l a p m low five lt =
-    let c1 = le-leb l 5 low in let c2 = le-leb 5 (pat_level f a) five in let c3 : nat_le (depth_pat a) n ≡ false = lt-leb (depth_pat a) n lt in rw (c1, c2, c3) refl
+      let c1 = le-leb l 5 low in let c2 = le-leb 5 (pat_level f a) five in let c3 : nat_le (depth_pat a) n ≡ false = lt-leb (depth_pat a) n lt in rw (c1, c2, c3) refl
 
   pub type-over : (l : ℕ) (a : Pat) (p : ℕ) (m : List Terminal) {d : ℕ} → l ≤ 5 → 5 ≤ pat_level f a → OpensTy 0 m d → n < d → pat_suffix_turn self n f l a (reserved p res.Colon ∷ m) ≡ deep
   type-over l a p m low five o lt =
-    elim (le_or (depth_pat a) n) [
-        inl q ↦
-          let c1 = le-leb l 5 low in let c2 = le-leb 5 (pat_level f a) five in let c3 = le-leb (depth_pat a) n q in
-          let h : read_ty n 0 m ≡ deep = ty-over n 0 o lt in
-          rw (c1, c2, c3, h) refl
-      | inr q ↦ mark-over l a p m low five q
-    ]
+      elim (le_or (depth_pat a) n) [
+        | inl q ↦
+            let c1 = le-leb l 5 low in let c2 = le-leb 5 (pat_level f a) five in let c3 = le-leb (depth_pat a) n q in
+            let h : read_ty n 0 m ≡ deep = ty-over n 0 o lt in
+            rw (c1, c2, c3, h) refl
+        | inr q ↦ mark-over l a p m low five q
+      ]
 
 module _ (n : ℕ) (self : PatReaders) (complete : CompletePat n self.pat) (complete_at : CompleteAtPat n self.atpat) (over : OverPat n self.pat) (over_at : OverAtPat n self.atpat) (f : Fixity) where
   abbrev IsDeep : ℕ → List Terminal → Type 0
@@ -127,10 +118,10 @@ module _ (n : ℕ) (self : PatReaders) (complete : CompletePat n self.pat) (comp
 
   con-deep : (l : ℕ) {i m : List Terminal} {p : ℕ} {x : LongVid} {d : ℕ} → NamesVid f i p x m → OpensAtPat f m d → n < d → IsDeep l i
   con-deep l {i} {m} {d} x o lt =
-    let h = names-found x in
-    let b = opens_atpat-begins o in
-    let g : self.atpat f m ≡ deep = over_at f m d o lt in
-    plain-deep l i (plain-named n self complete complete_at f l x (begins-no_word f res.As m (λ p o. refl) b) (begins-no_word f res.Colon m (λ p o. refl) b)) (rw (h, b, g) refl)
+      let h = names-found x in
+      let b = opens_atpat-begins o in
+      let g : self.atpat f m ≡ deep = over_at f m d o lt in
+      plain-deep l i (plain-named n self complete complete_at f l x (begins-no_word f res.As m (λ p o. refl) b) (begins-no_word f res.Colon m (λ p o. refl) b)) (rw (h, b, g) refl)
 
   -- what comes after a left operand
   after-left : (l : ℕ) (i m : List Terminal) (a : Pat) → Reaches n self complete complete_at f l i a m → pat_suffix_turn self.pat n f l a m ≡ deep → IsDeep l i
@@ -139,8 +130,8 @@ module _ (n : ℕ) (self : PatReaders) (complete : CompletePat n self.pat) (comp
 
   after-joint : (l : ℕ) {k : ℕ} {r : Bool} {i m : List Terminal} {x : Placed ℕ} (a : Pat) → Pattern f i a m → depth_pat a ≤ suc n → PartHead f k r m x → l ≤ k → k < pat_level f a → pat_suffix_turn self.pat n f l a m ≡ deep → IsDeep l i
   after-joint l {k} {i} {m} {x} a d le w low high step =
-    let hi = level-high f (Named x.it) in let lv = w.level in
-    after-left l i m a (settle n self complete complete_at f (reached n self complete complete_at f l d le (omega arith) (omega arith) w.no_pat (ends-joint f a k w high) (λ h. w.no_word res.As)) w.no_pat (λ h. w.no_word res.As) (λ h. w.no_word res.Colon)) step
+      let hi = level-high f (Named x.it) in let lv = w.level in
+      after-left l i m a (settle n self complete complete_at f (reached n self complete complete_at f l d le (omega arith) (omega arith) w.no_pat (ends-joint f a k w high) (λ h. w.no_word res.As)) w.no_pat (λ h. w.no_word res.As) (λ h. w.no_word res.Colon)) step
 
   -- an identifier and `:`
   alone-mark : {i m : List Terminal} (q : ℕ) {p : ℕ} {v : Vid} → BindsVid f i p v (reserved q res.Colon ∷ m) → n < 1 → IsDeep 0 i
@@ -148,9 +139,9 @@ module _ (n : ℕ) (self : PatReaders) (complete : CompletePat n self.pat) (comp
 
   alone-type : {i m : List Terminal} (q : ℕ) {p : ℕ} {v : Vid} {d : ℕ} → BindsVid f i p v (reserved q res.Colon ∷ m) → OpensTy 0 m d → n < d → IsDeep 0 i
   alone-type {m} q b o lt = elim (le_or 1 n) [
-      inl p ↦ let h = binds-found b in let c = le-leb 1 n p in let t : read_ty n 0 m ≡ deep = ty-over n 0 o lt in rw (h, c, t) refl
+    | inl p ↦ let h = binds-found b in let c = le-leb 1 n p in let t : read_ty n 0 m ≡ deep = ty-over n 0 o lt in rw (h, c, t) refl
     | inr p ↦ alone-mark q b p
-    ]
+  ]
 
   came-mark : {l : ℕ} {i m : List Terminal} {a : Pat} (q : ℕ) → Came l i a (reserved q res.Colon ∷ m) → l ≤ 5 → 5 ≤ pat_level f a → n < depth_pat a → IsDeep l i
   came-mark q (alone b) low five lt = alone-mark q b lt
@@ -167,11 +158,11 @@ module _ (n : ℕ) (self : PatReaders) (complete : CompletePat n self.pat) (comp
   as-deep : {i m k : List Terminal} {p : ℕ} {v : Vid} {s : Option Ty} (q : ℕ) → BindsVid f i p v m → MaybeTy m s (reserved q res.As ∷ k) → depth_some s ≤ n → self.pat f 0 k ≡ deep → IsDeep 0 i
   as-deep q b without_ty ls g = let h = binds-found b in rw (h, g) refl
   as-deep {k} q b (with_ty {i = m} {a = s} p t) ls g =
-    let h = binds-found b in
-    let pos = ty-pos s in
-    let c : nat_le 1 n ≡ true = le-leb 1 n (omega arith) in
-    let j : read_ty n 0 m ≡ read s (reserved q res.As ∷ k) = ty-complete n 0 t ls (omega arith) refl in
-    rw (h, c, j, g) refl
+      let h = binds-found b in
+      let pos = ty-pos s in
+      let c : nat_le 1 n ≡ true = le-leb 1 n (omega arith) in
+      let j : read_ty n 0 m ≡ read s (reserved q res.As ∷ k) = ty-complete n 0 t ls (omega arith) refl in
+      rw (h, c, j, g) refl
 
   as-type : {i m k : List Terminal} {p : ℕ} {v : Vid} {s : Option Ty} → BindsVid f i p v m → MaybeTy m s k → n < depth_some s → IsDeep 0 i
   as-type b without_ty lt = absurd (omega arith)
@@ -186,60 +177,60 @@ module _ (n : ℕ) (self : PatReaders) (complete : CompletePat n self.pat) (comp
   pattern-deep l {a} (of_atpat d) high lt = atpat-deep l (atpat-opens d (depth_pat a) (omega arith) (omega arith)) lt
   pattern-deep l (of_con_pat {a} x d) high lt = con-deep l x (atpat-opens d (depth_pat a) (omega arith) (omega arith)) (omega arith)
   pattern-deep l (of_chain_pat {i} {m} {a} {ps} l' r high' d fs) high lt =
-    let w = part-head fs in
-    let low : l ≤ l' = subst (λ (z : ℕ). l ≤ z) (follows-level fs) high in
-    elim (le_or (depth_pat a) (suc n)) [
-        inl p ↦ elim (le_or (depth_pat a) n) [
-            inl q ↦
+      let w = part-head fs in
+      let low : l ≤ l' = subst (λ (z : ℕ). l ≤ z) (follows-level fs) high in
+      elim (le_or (depth_pat a) (suc n)) [
+        | inl p ↦ elim (le_or (depth_pat a) n) [
+          | inl q ↦
               let u = part-over n self.pat complete over f (follows-opens fs (depth_pat_parts ps) (omega arith) (omega arith)) (omega arith) in
               after-joint l a d p w low high' (parts-over n self.pat complete over f l a u low high')
           | inr q ↦ after-joint l a d p w low high' (joint-over n self.pat complete over f l a w low high' q)
         ]
-      | inr p ↦ pattern-deep l d (omega arith) p
-    ]
+        | inr p ↦ pattern-deep l d (omega arith) p
+      ]
   pattern-deep l (of_typed_pat {i} {m} {a} {s} q five d t) high lt =
-    elim (le_or (depth_pat a) (suc n)) [
-        inl p ↦
-          let c = before-mark l q d p high five in
-          elim (le_or (depth_pat a) n) [
-              inl x ↦ came-type q c high five (ty-opens t (omega arith) (depth_ty s) (omega arith) (omega arith)) (omega arith)
-            | inr x ↦ came-mark q c high five x
-          ]
-      | inr p ↦ pattern-deep l d (omega arith) p
-    ]
+      elim (le_or (depth_pat a) (suc n)) [
+        | inl p ↦
+            let c = before-mark l q d p high five in
+            elim (le_or (depth_pat a) n) [
+              | inl x ↦ came-type q c high five (ty-opens t (omega arith) (depth_ty s) (omega arith) (omega arith)) (omega arith)
+              | inr x ↦ came-mark q c high five x
+            ]
+        | inr p ↦ pattern-deep l d (omega arith) p
+      ]
   pattern-deep (suc l) (of_as_pat q b t d) high lt = absurd (omega arith)
   pattern-deep zero (of_as_pat {n = k} {o} {s} {a} q b t d) high lt =
-    elim (le_or (depth_some s) n) [
-        inl p ↦ as-deep q b t p (too n self.pat complete over f 0 k a o d (omega arith) (omega arith))
-      | inr p ↦ as-type b t p
-    ]
+      elim (le_or (depth_some s) n) [
+        | inl p ↦ as-deep q b t p (too n self.pat complete over f 0 k a o d (omega arith) (omega arith))
+        | inr p ↦ as-type b t p
+      ]
 
   pub opens-deep : {l : ℕ} {i : List Terminal} {d : ℕ} → OpensPat f l i d → suc n < d → IsDeep l i
   opens-deep (begun_pat e) lt = absurd (omega arith)
   opens-deep {l} (in_atpat o) lt = atpat-deep l o lt
   opens-deep {l} (in_con_pat x o) lt = con-deep l x o (omega arith)
   opens-deep {l} (joined_pat {m} {a} low high d fit h) lt =
-    let w = fits-head m fit in
-    elim (le_or (depth_pat a) (suc n)) [
-        inl p ↦ after-joint l a d p w low high (joint-over n self.pat complete over f l a w low high (omega arith))
-      | inr p ↦ pattern-deep l d (omega arith) p
-    ]
+      let w = fits-head m fit in
+      elim (le_or (depth_pat a) (suc n)) [
+        | inl p ↦ after-joint l a d p w low high (joint-over n self.pat complete over f l a w low high (omega arith))
+        | inr p ↦ pattern-deep l d (omega arith) p
+      ]
   opens-deep {l} (in_pat_chain {a} low high d o) lt =
-    let u = part-over n self.pat complete over f o (omega arith) in
-    elim (le_or (depth_pat a) (suc n)) [
-        inl p ↦ after-joint l a d p u.head low high (parts-over n self.pat complete over f l a u low high)
-      | inr p ↦ pattern-deep l d (omega arith) p
-    ]
+      let u = part-over n self.pat complete over f o (omega arith) in
+      elim (le_or (depth_pat a) (suc n)) [
+        | inl p ↦ after-joint l a d p u.head low high (parts-over n self.pat complete over f l a u low high)
+        | inr p ↦ pattern-deep l d (omega arith) p
+      ]
   opens-deep {l} (marked_pat {a} q low five d h) lt =
-    elim (le_or (depth_pat a) (suc n)) [
-        inl p ↦ came-mark q (before-mark l q d p low five) low five (omega arith)
-      | inr p ↦ pattern-deep l d (omega arith) p
-    ]
+      elim (le_or (depth_pat a) (suc n)) [
+        | inl p ↦ came-mark q (before-mark l q d p low five) low five (omega arith)
+        | inr p ↦ pattern-deep l d (omega arith) p
+      ]
   opens-deep {l} (in_pat_ty {a} q low five d o) lt =
-    elim (le_or (depth_pat a) (suc n)) [
-        inl p ↦ came-type q (before-mark l q d p low five) low five o (omega arith)
-      | inr p ↦ pattern-deep l d (omega arith) p
-    ]
+      elim (le_or (depth_pat a) (suc n)) [
+        | inl p ↦ came-type q (before-mark l q d p low five) low five o (omega arith)
+        | inr p ↦ pattern-deep l d (omega arith) p
+      ]
   opens-deep {l} (in_as {n = k} {d} q low b t o) lt = as-over l q low b t (over f 0 k d o (omega arith))
 
 mutual
