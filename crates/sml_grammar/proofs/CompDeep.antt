@@ -28,20 +28,20 @@ over-zero = record {
   exp = exp-over-none;
   atom = λ f i d o lt. let b = opens_atom-begins o in rw b refl;
   decs = from-decs-over 0 (λ f l i. deep_if (begins f l i)) exp-complete-none exp-over-none (λ f i. deep) (λ f i ds o d lt e. absurd (omega arith))
-    (record { opened = λ f i d o le. refl; none = λ lt f i. refl })
+      (record { opened = λ f i d o le. refl; none = λ lt f i. refl });
 }
 
 over-suc : (n : ℕ) → AllOver n → AllOver (suc n)
 unfolding readers
 over-suc n a =
-  let c = all-complete n in
-  let e : OverExp (suc n) (readers (suc n)).exp = λ f l i d o lt. from-over n (readers n) c.exp c.atom c.decs a.exp a.atom a.decs f o lt in
-  record {
-    exp = e;
-    atom = λ f i d o lt. lists.atom-over n (readers n) c.exp c.decs a.exp a.decs o lt;
-    decs = from-decs-over (suc n) (readers (suc n)).exp (all-complete (suc n)).exp e (readers n).decs (λ f i ds o d lt ends. c.decs f i ds o d (omega arith) ends)
-      (record { opened = λ f i d o le. a.decs f i d o (omega arith); none = λ lt f i. absurd (omega arith) })
-  }
+    let c = all-complete n in
+    let e : OverExp (suc n) (readers (suc n)).exp = λ f l i d o lt. from-over n (readers n) c.exp c.atom c.decs a.exp a.atom a.decs f o lt in
+    record {
+      exp = e;
+      atom = λ f i d o lt. lists.atom-over n (readers n) c.exp c.decs a.exp a.decs o lt;
+      decs = from-decs-over (suc n) (readers (suc n)).exp (all-complete (suc n)).exp e (readers n).decs (λ f i ds o d lt ends. c.decs f i ds o d (omega arith) ends)
+          (record { opened = λ f i d o le. a.decs f i d o (omega arith); none = λ lt f i. absurd (omega arith) });
+    }
 
 pub all-over : (n : ℕ) → AllOver n
 all-over zero = over-zero

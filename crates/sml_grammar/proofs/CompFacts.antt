@@ -95,11 +95,11 @@ ty-opens d k pos le = types_paths.ty-opens d (omega arith) k pos le
 
 -- the left side of a rule, and of a binding
 pub pat-complete-arrow : (n : ℕ) {f : Fixity} {i : List Terminal} {a : Pat} {p : ℕ} {o : List Terminal} → Pattern f i a (reserved p res.DoubleArrow ∷ o) → depth_pat a ≤ n →
-  read_pat n f i ≡ read a (reserved p res.DoubleArrow ∷ o)
+    read_pat n f i ≡ read a (reserved p res.DoubleArrow ∷ o)
 pat-complete-arrow n {f} {p} {o} d le = pat-complete n f 0 d le (omega arith) (pat-stops-word res.DoubleArrow refl f 0 p o)
 
 pub pat-complete-equals : (n : ℕ) {f : Fixity} {i : List Terminal} {a : Pat} {p : ℕ} {o : List Terminal} → Pattern f i a (reserved p res.Equals ∷ o) → depth_pat a ≤ n →
-  read_pat n f i ≡ read a (reserved p res.Equals ∷ o)
+    read_pat n f i ≡ read a (reserved p res.Equals ∷ o)
 pat-complete-equals n {f} {p} {o} d le = pat-complete n f 0 d le (omega arith) (pat-stops-word res.Equals refl f 0 p o)
 
 pub pat-over : (n : ℕ) (f : Fixity) {i : List Terminal} {d : ℕ} → OpensPat f 0 i d → n < d → read_pat n f i ≡ deep
@@ -112,7 +112,7 @@ pub type_binds-complete : (n : ℕ) {i : List Terminal} {bs : List TypeBind} {o 
 type_binds-complete n {o} d le h = type_binds.type_binds-complete n d le (quiet-stops o h)
 
 pub data_binds-complete : (n : ℕ) (f : Fixity) {i : List Terminal} {bs : List DataBind} {o : List Terminal} → DataBinds f i bs o → depth_data_binds bs ≤ n → ends_binds o ≡ true →
-  read_data_binds n f i ≡ read bs o
+    read_data_binds n f i ≡ read bs o
 data_binds-complete n f {o} d le h = data_binds.data_binds-complete n f d le (ends-stops o h)
 
 pub ex_binds-complete : (n : ℕ) (f : Fixity) {i : List Terminal} {bs : List ExBind} {o : List Terminal} → ExBinds f i bs o → depth_ex_binds bs ≤ n → quiet o ≡ true → read_ex_binds n f i ≡ read bs o

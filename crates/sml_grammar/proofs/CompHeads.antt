@@ -128,9 +128,9 @@ agree-none v c h a b = refl
 
 pub agree-some : (v : Vid) (c : ℕ) (g : Head) → head_vid g ≡ v → head_count g ≡ c → Agree (Some (shape_of g)) v c
 agree-some v c g a b h a' b' =
-  let x : is_vid (head_vid h) (head_vid g) ≡ true = ap (λ z. is_vid z (head_vid g)) a' ∙ ap (is_vid v) a ∙ is_vid-self v in
-  let y : nat_eq (head_count h) (head_count g) ≡ true = eq-eqb (head_count h) (head_count g) (b' ∙ sym b) in
-  rw (x, y) refl
+    let x : is_vid (head_vid h) (head_vid g) ≡ true = ap (λ z. is_vid z (head_vid g)) a' ∙ ap (is_vid v) a ∙ is_vid-self v in
+    let y : nat_eq (head_count h) (head_count g) ≡ true = eq-eqb (head_count h) (head_count g) (b' ∙ sym b) in
+    rw (x, y) refl
 
 -- what follows a head
 pub maybe-head : (f : Fixity) {m o : List Terminal} {s : Option Ty} → MaybeTy m s o → begins_pat f o ≡ false → infix_vid f o ≡ None → (begins_pat f m ≡ false) × (infix_vid f m ≡ None)

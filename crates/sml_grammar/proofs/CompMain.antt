@@ -21,18 +21,18 @@ unfolding readers
 all-zero = record {
   exp = exp-none;
   atom = λ f i e o d le. let h = depth-pos e in absurd (omega arith);
-  decs = from-decs-complete 0 (λ f l i. deep_if (begins f l i)) exp-none (λ f i. deep) (λ f i ds o d lt e. absurd (omega arith))
+  decs = from-decs-complete 0 (λ f l i. deep_if (begins f l i)) exp-none (λ f i. deep) (λ f i ds o d lt e. absurd (omega arith));
 }
 
 all-suc : (n : ℕ) → AllComplete n → AllComplete (suc n)
 unfolding readers
 all-suc n a =
-  let e : CompleteExp (suc n) (readers (suc n)).exp = λ f l i t o. from-complete n (readers n) a.exp a.atom a.decs f l i t o in
-  record {
-    exp = e;
-    atom = λ f i t o d le. lists.atom-complete n (readers n) a.exp a.decs d le;
-    decs = from-decs-complete (suc n) (readers (suc n)).exp e (readers n).decs (λ f i ds o d lt ends. a.decs f i ds o d (omega arith) ends)
-  }
+    let e : CompleteExp (suc n) (readers (suc n)).exp = λ f l i t o. from-complete n (readers n) a.exp a.atom a.decs f l i t o in
+    record {
+      exp = e;
+      atom = λ f i t o d le. lists.atom-complete n (readers n) a.exp a.decs d le;
+      decs = from-decs-complete (suc n) (readers (suc n)).exp e (readers n).decs (λ f i ds o d lt ends. a.decs f i ds o d (omega arith) ends);
+    }
 
 pub all-complete : (n : ℕ) → AllComplete n
 all-complete zero = all-zero

@@ -33,11 +33,11 @@ pub record OverInner (n : ℕ) (inner : DecsReader) : Type 0 where
 module _ (n : ℕ) where
   bound-or : {f : Fixity} {i m : List Terminal} {a : Pat} {p : ℕ} → Pattern f i a (reserved p res.Equals ∷ m) → ReadOrDeep (read_pat n f i) a (reserved p res.Equals ∷ m)
   bound-or {f} {a} da =
-    elim (le_or (depth_pat a) n) [ inl q ↦ inl (facts.pat-complete-equals n da q) | inr q ↦ inr (facts.pat-over n f (facts.pat-opens da (depth_pat a) (omega arith) (omega arith)) q) ]
+      elim (le_or (depth_pat a) n) [ inl q ↦ inl (facts.pat-complete-equals n da q) | inr q ↦ inr (facts.pat-over n f (facts.pat-opens da (depth_pat a) (omega arith) (omega arith)) q) ]
 
   head-or : {f : Fixity} {i m : List Terminal} {h : Head} → ReadsHead f i h m → begins_pat f m ≡ false → infix_vid f m ≡ None → ReadOrDeep (read_head n f i) h m
   head-or {f} {h} dh b c =
-    elim (le_or (depth_head h) n) [ inl q ↦ inl (facts.head-complete n f dh q b c) | inr q ↦ inr (facts.head-over n f (facts.head-opens dh (depth_head h) (omega arith) (omega arith)) q) ]
+      elim (le_or (depth_head h) n) [ inl q ↦ inl (facts.head-complete n f dh q b c) | inr q ↦ inr (facts.head-over n f (facts.head-opens dh (depth_head h) (omega arith) (omega arith)) q) ]
 
   maybe-over : {m o : List Terminal} {s : Option Ty} → MaybeTy m s o → n < depth_some s → maybe_ty n (after_word res.Colon m) m ≡ deep
   maybe-over without_ty lt = absurd (omega arith)
@@ -51,56 +51,56 @@ module _ (n : ℕ) (self : Reader) (complete : CompleteExp n self) (over : OverE
   binds-over o lt zero le = absurd (omega arith)
   binds-over {f} (past_rec {i} p o) lt (suc k) le = many-deep (bind_turn n self f) k {put = rec_binds} refl (binds-over o lt k (omega arith))
   binds-over {f} (in_bind_pat {i} o) lt (suc k) le =
-    let r = begins_pat-no_rec f i (facts.opens_pat-begins o) in
-    let g : read_pat n f i ≡ deep = facts.pat-over n f o lt in
-    many-stop (bind_turn n self f) k (rw (r, g) refl)
+      let r = begins_pat-no_rec f i (facts.opens_pat-begins o) in
+      let g : read_pat n f i ≡ deep = facts.pat-over n f o lt in
+      many-stop (bind_turn n self f) k (rw (r, g) refl)
   binds-over {f} (in_bind {i} {m} {a} {d} p da o) lt (suc k) le =
-    let r = pat-no_rec da in
-    elim (bound-or n da) [
-        inl g ↦ let h : self f 0 m ≡ deep = over f 0 m d o lt in many-stop (bind_turn n self f) k (rw (r, g, h) refl)
-      | inr g ↦ many-stop (bind_turn n self f) k (rw (r, g) refl)
-    ]
+      let r = pat-no_rec da in
+      elim (bound-or n da) [
+        | inl g ↦ let h : self f 0 m ≡ deep = over f 0 m d o lt in many-stop (bind_turn n self f) k (rw (r, g, h) refl)
+        | inr g ↦ many-stop (bind_turn n self f) k (rw (r, g) refl)
+      ]
   binds-over {f} (past_bind {i} {m} {n = j} {a} {e} p q da de o) lt (suc k) le =
-    let r = pat-no_rec da in
-    let s = shorter de in let s2 = facts.pat-shorter da in
-    elim (bound-or n da) [
-        inl g ↦ elim (plain-or n self complete over f m e q res.And j de refl) [
-            inl h ↦ many-deep (bind_turn n self f) k {put = bind a e} (rw (r, g, h) refl) (binds-over o lt k (omega arith))
+      let r = pat-no_rec da in
+      let s = shorter de in let s2 = facts.pat-shorter da in
+      elim (bound-or n da) [
+        | inl g ↦ elim (plain-or n self complete over f m e q res.And j de refl) [
+          | inl h ↦ many-deep (bind_turn n self f) k {put = bind a e} (rw (r, g, h) refl) (binds-over o lt k (omega arith))
           | inr h ↦ many-stop (bind_turn n self f) k (rw (r, g, h) refl)
         ]
-      | inr g ↦ many-stop (bind_turn n self f) k (rw (r, g) refl)
-    ]
+        | inr g ↦ many-stop (bind_turn n self f) k (rw (r, g) refl)
+      ]
 
   clauses-over : {f : Fixity} {s : Option Shape} {i : List Terminal} {d : ℕ} → OpensClauses f s i d → n < d → (k : ℕ) → length i < k → many (clause_turn n self f) k s i ≡ deep
   clauses-over o lt zero le = absurd (omega arith)
   clauses-over {f} {s} (in_head {i} o) lt (suc k) le = let g : read_head n f i ≡ deep = facts.head-over n f o lt in many-stop (clause_turn n self f) k (rw g refl)
   clauses-over {f} {s} (in_result {i} {m} {h} p dh ag o) lt (suc k) le =
-    elim (head-or n dh refl refl) [
-        inl g ↦ let t : read_ty n 0 m ≡ deep = facts.ty-over n o lt in many-stop (clause_turn n self f) k (rw (g, ag, t) refl)
-      | inr g ↦ many-stop (clause_turn n self f) k (rw g refl)
-    ]
+      elim (head-or n dh refl refl) [
+        | inl g ↦ let t : read_ty n 0 m ≡ deep = facts.ty-over n o lt in many-stop (clause_turn n self f) k (rw (g, ag, t) refl)
+        | inr g ↦ many-stop (clause_turn n self f) k (rw g refl)
+      ]
   clauses-over {f} {s} (in_clause {i} {m} {k = j} {h} {t} {d} p dh ag dt o) lt (suc k) le =
-    let w = maybe-head f dt refl refl in
-    elim (head-or n dh w.0 w.1) [
-        inl g ↦ elim (maybe-or n dt) [
-            inl x ↦ let y : self f 0 j ≡ deep = over f 0 j d o lt in many-stop (clause_turn n self f) k (rw (g, ag, x, y) refl)
+      let w = maybe-head f dt refl refl in
+      elim (head-or n dh w.0 w.1) [
+        | inl g ↦ elim (maybe-or n dt) [
+          | inl x ↦ let y : self f 0 j ≡ deep = over f 0 j d o lt in many-stop (clause_turn n self f) k (rw (g, ag, x, y) refl)
           | inr x ↦ many-stop (clause_turn n self f) k (rw (g, ag, x) refl)
         ]
-      | inr g ↦ many-stop (clause_turn n self f) k (rw g refl)
-    ]
+        | inr g ↦ many-stop (clause_turn n self f) k (rw g refl)
+      ]
   clauses-over {f} {s} (past_clause {i} {m} {k = j} {n = c} {h} {t} {e} p q dh ag dt ends de o) lt (suc k) le =
-    let w = maybe-head f dt refl refl in
-    let s1 = facts.head-shorter dh in let s2 = facts.maybe-shorter dt in let s3 = shorter de in
-    elim (head-or n dh w.0 w.1) [
-        inl g ↦ elim (maybe-or n dt) [
-            inl x ↦ elim (exp-or n self complete over f 0 j e (reserved q res.Bar ∷ c) de (omega arith) ends refl refl (λ z. refl)) [
-                inl y ↦ many-deep (clause_turn n self f) k {put = clause h t e} (rw (g, ag, x, y) refl) (clauses-over o lt k (omega arith))
-              | inr y ↦ many-stop (clause_turn n self f) k (rw (g, ag, x, y) refl)
-            ]
+      let w = maybe-head f dt refl refl in
+      let s1 = facts.head-shorter dh in let s2 = facts.maybe-shorter dt in let s3 = shorter de in
+      elim (head-or n dh w.0 w.1) [
+        | inl g ↦ elim (maybe-or n dt) [
+          | inl x ↦ elim (exp-or n self complete over f 0 j e (reserved q res.Bar ∷ c) de (omega arith) ends refl refl (λ z. refl)) [
+            | inl y ↦ many-deep (clause_turn n self f) k {put = clause h t e} (rw (g, ag, x, y) refl) (clauses-over o lt k (omega arith))
+            | inr y ↦ many-stop (clause_turn n self f) k (rw (g, ag, x, y) refl)
+          ]
           | inr x ↦ many-stop (clause_turn n self f) k (rw (g, ag, x) refl)
         ]
-      | inr g ↦ many-stop (clause_turn n self f) k (rw g refl)
-    ]
+        | inr g ↦ many-stop (clause_turn n self f) k (rw g refl)
+      ]
 
   clauses-deep : {f : Fixity} {i : List Terminal} {d : ℕ} → OpensClauses f None i d → n < d → read_clauses n self f i ≡ deep
   clauses-deep {i} o lt = clauses-over o lt (suc (length i)) (omega arith)
@@ -109,66 +109,66 @@ module _ (n : ℕ) (self : Reader) (complete : CompleteExp n self) (over : OverE
   funs-over o lt zero le = absurd (omega arith)
   funs-over {f} (in_clauses {i} o) lt (suc k) le = let h : read_clauses n self f i ≡ deep = clauses-deep o lt in many-stop (fun_turn n self f) k (rw h refl)
   funs-over {f} (past_clauses {i} {m} {cs} v c p dc o) lt (suc k) le =
-    let s = clauses-shorter dc in
-    elim (le_or (depth_clauses cs) n) [
-        inl x ↦
-          let h : read_clauses n self f i ≡ read cs (reserved p res.And ∷ m) = clauses-whole n self complete dc x (plain-word f p res.And m refl) in
-          many-deep (fun_turn n self f) k {put = fun_and cs} (rw h refl) (funs-over o lt k (omega arith))
-      | inr x ↦
-          let h : read_clauses n self f i ≡ deep = clauses-deep (clauses-opens None dc (agree-none v c) (depth_clauses cs) (omega arith) (omega arith)) x in
-          many-stop (fun_turn n self f) k (rw h refl)
-    ]
+      let s = clauses-shorter dc in
+      elim (le_or (depth_clauses cs) n) [
+        | inl x ↦
+            let h : read_clauses n self f i ≡ read cs (reserved p res.And ∷ m) = clauses-whole n self complete dc x (plain-word f p res.And m refl) in
+            many-deep (fun_turn n self f) k {put = fun_and cs} (rw h refl) (funs-over o lt k (omega arith))
+        | inr x ↦
+            let h : read_clauses n self f i ≡ deep = clauses-deep (clauses-opens None dc (agree-none v c) (depth_clauses cs) (omega arith) (omega arith)) x in
+            many-stop (fun_turn n self f) k (rw h refl)
+      ]
 
   module _ (inner : DecsReader) (complete_inner : CompleteInner n inner) (over_inner : OverInner n inner) where
     -- the declarations of a `local` between it and its `in`
     inner-or : (f : Fixity) (i : List Terminal) (ds : Decs) (o : List Terminal) → Declares f i ds o → Ends o → ReadOrDeep (inner f i) ds o
     inner-or f i ds o d e =
-      elim (le_or (suc (depth_decs ds)) n) [
-          inl x ↦ inl (complete_inner f i ds o d x e)
-        | inr x ↦ elim (le_or 1 n) [
-              inl y ↦ inr (over_inner.opened f i (depth_decs ds) (decs-opens d (depth_decs ds) (omega arith) (omega arith)) (omega arith))
+        elim (le_or (suc (depth_decs ds)) n) [
+          | inl x ↦ inl (complete_inner f i ds o d x e)
+          | inr x ↦ elim (le_or 1 n) [
+            | inl y ↦ inr (over_inner.opened f i (depth_decs ds) (decs-opens d (depth_decs ds) (omega arith) (omega arith)) (omega arith))
             | inr y ↦ inr (over_inner.none y f i)
           ]
-      ]
+        ]
 
     dec-over : {f : Fixity} {i : List Terminal} {d : ℕ} → OpensDec f i d → n < d → dec_by n self inner f (dec_start i) ≡ deep
     dec-over {f} (in_val {i} {m} p h o) lt = let g : read_binds n self f m ≡ deep = binds-over o lt (suc (length m)) (omega arith) in rw (h, g) refl
     dec-over {f} (in_fun {i} {m} p h o) lt = let g : read_funs n self f m ≡ deep = funs-over o lt (suc (length m)) (omega arith) in rw (h, g) refl
     dec-over (in_type {i} p o) lt = let g : read_type_binds n i ≡ deep = facts.type_binds-over n o lt in rw g refl
     dec-over {f} (in_datatype {i} p o) lt =
-      let r = opens_data-not_replicated o in let g : read_data_binds n f i ≡ deep = facts.data_binds-over n f o lt in rw (r, g) refl
+        let r = opens_data-not_replicated o in let g : read_data_binds n f i ≡ deep = facts.data_binds-over n f o lt in rw (r, g) refl
     dec-over {f} (in_withtype {i} {m} {bs} p q db o) lt =
-      let r = data-not_replicated db in
-      elim (le_or (depth_data_binds bs) n) [
-          inl x ↦
-            let g : read_data_binds n f i ≡ read bs (reserved q res.Withtype ∷ m) = facts.data_binds-complete n f db x refl in
-            let h : read_type_binds n m ≡ deep = facts.type_binds-over n o lt in
-            rw (r, g, h) refl
-        | inr x ↦ let g : read_data_binds n f i ≡ deep = facts.data_binds-over n f (facts.data_binds-opens db (depth_data_binds bs) (omega arith) (omega arith)) x in rw (r, g) refl
-      ]
+        let r = data-not_replicated db in
+        elim (le_or (depth_data_binds bs) n) [
+          | inl x ↦
+              let g : read_data_binds n f i ≡ read bs (reserved q res.Withtype ∷ m) = facts.data_binds-complete n f db x refl in
+              let h : read_type_binds n m ≡ deep = facts.type_binds-over n o lt in
+              rw (r, g, h) refl
+          | inr x ↦ let g : read_data_binds n f i ≡ deep = facts.data_binds-over n f (facts.data_binds-opens db (depth_data_binds bs) (omega arith) (omega arith)) x in rw (r, g) refl
+        ]
     dec-over {f} (in_exception {i} p o) lt = let g : read_ex_binds n f i ≡ deep = facts.ex_binds-over n f o lt in rw g refl
     dec-over {f} (begun_local {i} p) lt = let g : inner f i ≡ deep = over_inner.none lt f i in rw g refl
     dec-over {f} (in_local {i} {d} p o) lt = let g : inner f i ≡ deep = over_inner.opened f i d o (omega arith) in rw g refl
     dec-over {f} (in_local_body {i} {m} {ds} {d} p q dd o) lt =
-      let h : inner (after f ds) m ≡ deep = over_inner.opened (after f ds) m d o (omega arith) in
-      elim (inner-or f i ds (reserved q res.In ∷ m) dd (ends-in q m)) [ inl g ↦ rw (g, h) refl | inr g ↦ rw g refl ]
+        let h : inner (after f ds) m ≡ deep = over_inner.opened (after f ds) m d o (omega arith) in
+        elim (inner-or f i ds (reserved q res.In ∷ m) dd (ends-in q m)) [ inl g ↦ rw (g, h) refl | inr g ↦ rw g refl ]
 
     dec-deep : {f : Fixity} {i : List Terminal} {d : ℕ} → OpensDec f i d → n < d → dec_turn n self inner f i ≡ deep
     dec-deep {f} {i} o lt =
-      let w = opens_dec-word o in let a = w.semicolon in let b = w.starts in
-      let h : dec_by n self inner f (dec_start i) ≡ deep = dec-over o lt in
-      rw (a, b, h) refl
+        let w = opens_dec-word o in let a = w.semicolon in let b = w.starts in
+        let h : dec_by n self inner f (dec_start i) ≡ deep = dec-over o lt in
+        rw (a, b, h) refl
 
     decs-over : {f : Fixity} {i : List Terminal} {d : ℕ} → OpensDecs f i d → n < d → (k : ℕ) → length i < k → many (dec_turn n self inner) k f i ≡ deep
     decs-over o lt zero le = absurd (omega arith)
     decs-over {f} (past_empty {i} p o) lt (suc k) le = many-pass (dec_turn n self inner) k {s = f} {t = f} refl ∙ decs-over o lt k (omega arith)
     decs-over {f} (in_dec o) lt (suc k) le = many-stop (dec_turn n self inner) k (dec-deep o lt)
     decs-over {f} (past_dec {i} {m} {x} dx o) lt (suc k) le =
-      let s = dec-shorter dx in
-      elim (le_or (depth_dec x) n) [
-          inl p ↦ many-deep (dec_turn n self inner) k {put = dec x} (dec-step n self complete inner complete_inner dx p (opens_decs-quiet o)) (decs-over o lt k (omega arith))
-        | inr p ↦ many-stop (dec_turn n self inner) k (dec-deep (dec-opens dx (depth_dec x) (omega arith) (omega arith)) p)
-      ]
+        let s = dec-shorter dx in
+        elim (le_or (depth_dec x) n) [
+          | inl p ↦ many-deep (dec_turn n self inner) k {put = dec x} (dec-step n self complete inner complete_inner dx p (opens_decs-quiet o)) (decs-over o lt k (omega arith))
+          | inr p ↦ many-stop (dec_turn n self inner) k (dec-deep (dec-opens dx (depth_dec x) (omega arith) (omega arith)) p)
+        ]
 
     pub from-decs-over : OverDecs n (decs_from n self inner)
     from-decs-over f i d o lt = decs-over o lt (suc (length i)) (omega arith)

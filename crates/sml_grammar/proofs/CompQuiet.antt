@@ -188,6 +188,7 @@ begins-no_paren f l i h = go (after-is res.RightParen i) h
     never : (b : Bool) → (b && false) ≡ true → {A : Type 0} → A
     never true h = not_true h
     never false h = not_true h
+
     go : {i : List Terminal} {v : Option (List Terminal)} → AfterWord res.RightParen i v → begins f l i ≡ true → v ≡ None
     go (found p) h = never (nat_le l 4) h
     go (absent n) h = refl
@@ -198,6 +199,7 @@ begins-no_bracket f l i h = go (after-is res.RightBracket i) h
     never : (b : Bool) → (b && false) ≡ true → {A : Type 0} → A
     never true h = not_true h
     never false h = not_true h
+
     go : {i : List Terminal} {v : Option (List Terminal)} → AfterWord res.RightBracket i v → begins f l i ≡ true → v ≡ None
     go (found p) h = never (nat_le l 4) h
     go (absent n) h = refl
