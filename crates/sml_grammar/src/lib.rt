@@ -1,5 +1,4 @@
 // The grammar of the core as a function that reads it, and the laws of both.
 #![tactic(auto)]
 
-/// Nothing yet.
-pub fn nothing() {}
+pub mod law;
