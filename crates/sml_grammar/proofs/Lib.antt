@@ -49,3 +49,7 @@ pub mod ExpGiven
 pub mod ExpReaders
 pub mod LawSound
 pub mod LawDeepSound
+pub mod PatOver
+pub mod PatAtFar
+pub mod PatFar
+pub mod PatHeadsDeep

@@ -1,37 +1,29 @@
 -- Patterns that are in the grammar and not too deep are read.
-use Rattle.std.proofs.Common.{◌≡◌, ℕ, zero, suc, ◌+◌, ◌≤◌, ◌<◌, List, [], ◌∷◌, length, Option, Some, None, Bool, true, false, ◌&&◌, ◌⊎◌, inl, inr, refl, sym, ap, ◌∙◌, subst, arith, nat_le, nat_eq, min, max, if◌then◌else◌}
-use Rattle.std.proofs.lemmas.Bool.{leb-true, leb-false, le-leb, lt-leb, eqb-true, eq-eqb, ne_eqb}
-use Rattle.mlc_base.specs.declared.label.Label.{Label}
+use Rattle.std.proofs.Common.{◌≡◌, ℕ, zero, suc, ◌≤◌, ◌<◌, List, ◌∷◌, length, Option, Some, None, Bool, true, false, inl, inr, refl, sym, ap, ◌∙◌, subst, arith, nat_le, nat_eq}
+use Rattle.std.proofs.lemmas.Bool.{leb-false, le-leb, lt-leb, eq-eqb, ne_eqb}
 use Rattle.mlc_base.specs.declared.token.Reserved.{Reserved}
 use Rattle.mlc_base.specs.declared.token.Reserved.TheVariants as res
 use Rattle.sml_tree.specs.declared.ident.Vid.{Vid}
 use Rattle.sml_tree.specs.declared.ident.Vid.TheVariants.{Named}
-use Rattle.sml_tree.specs.declared.fixity.Infix.{Infix}
-use Rattle.sml_tree.specs.Fixity.{Fixity, fix_of}
-use Rattle.sml_tree.specs.Terminal.{Constant, LongVid, Terminal, reserved, IsConstant, IsVid, IsQualifiedVid, long_alpha_vid, long_symbol_vid, long_star_vid, IsAnyVid, IsAnyLongVid, any_short, any_long, IsLabel, word_label}
-use Rattle.sml_tree.specs.ReadTree.{Placed, Ty, Pat, wild_pat, constant_pat, vid_pat, record_pat, unit_pat, tuple_pat, list_pat, paren_pat, con_pat, chain_pat, typed_pat, as_pat, Pats, no_pats, pat, PatFields, no_pat_fields, pat_field, PatField, labelled, punned, punned_as, PatParts, last_pat_part, pat_part, Head, prefix_head, infix_head, bracket_head}
-use Rattle.sml_tree.specs.Depth.{depth_ty, depth_some, depth_pat, depth_pats, depth_pat_fields, depth_pat_field, depth_pat_parts, depth_head}
-use Rattle.sml_tree.specs.Levels.{vid_level, vid_right, pat_level, pat_parts_level}
+use Rattle.sml_tree.specs.Fixity.{Fixity}
+use Rattle.sml_tree.specs.Terminal.{LongVid, Terminal, reserved, IsQualifiedVid, long_alpha_vid, long_symbol_vid, long_star_vid, any_short, any_long}
+use Rattle.sml_tree.specs.ReadTree.{Placed, Ty, Pat, vid_pat, con_pat, chain_pat, typed_pat, as_pat, PatParts, last_pat_part, pat_part}
+use Rattle.sml_tree.specs.Depth.{depth_ty, depth_some, depth_pat, depth_pat_parts}
+use Rattle.sml_tree.specs.Levels.{vid_level, vid_right, pat_level}
 use Rattle.sml_tree.specs.Grammar.{ReadsTy, MaybeTy, without_ty, with_ty, BindsVid, op_vid, NamesVid, plain_long, qualified, op_long, IsInfixVid, PatFits, AtPat, of_wild, of_pat_constant, of_pat_vid, of_no_pat_row, of_pat_row, of_unit_pat, of_tuple_pat, of_nil_pat, of_list_pat, of_paren_pat, PatRow, row_dots, last_row, more_row, Field, of_labelled, of_punned, of_punned_as, PatCommas, last_pat, more_pats, Pattern, of_atpat, of_con_pat, of_chain_pat, of_typed_pat, of_as_pat, PatFollows, of_last_pat_part, of_pat_part, AtPats, no_atpats, more_atpats, ReadsHead, of_prefix_head, of_infix_head, of_bracket_head}
 use Rattle.sml_tree.specs.Grammar as grammar
-use Rattle.sml_grammar.specs.Answer.{Read, Answer, ok, bad, deep, read, then_read, deep_if, Turn, last, more, many, whole}
-use Rattle.sml_grammar.specs.Terminals.{Taken, taken, first_as, as_label, place_of, word_of, after_word, tail, on_some, on_taken, word_then, separated, NoState, no_state, short, plain_vid, infix_vid, binds_vid, names_vid}
-use Rattle.sml_grammar.specs.Types.{read_ty, maybe_ty, ty_could_go_on}
-use Rattle.sml_grammar.specs.Patterns.{PatStart, wild_start, constant_start, vid_start, brace_start, paren_start, bracket_start, no_start, vid_if, pat_start, is_pat_start, begins_pat, PatReader, AtPatReader, PatReaders, pat_commas_turn, label_if, label_equals, pun, punned_field, field, PatRowRead, put_field, only_field, only_dots, pat_row_turn, brace_pat, bracket_pat, paren_pat_rest, paren_pat_in, at_pat, same, pat_part_next, pat_part_turn, whole_pat_parts, pat_suffix_mark, pat_suffix_joint, pat_suffix_turn, pat_suffix, pat_first, plain_form, typed_or_as, typed_form, vid_form, pat_form, read_pats, read_pat, read_atpat, atpats_turn, read_atpats, infix_rest, prefix_rest, vid_head, Bracketed, is_atpat, bracketed_parts, bracketed_chain, bracketed, bracket_rest, pat_head, read_head}
-use Rattle.sml_grammar.proofs.Answers.{chosen, got, got_some, not_some, not_none, not_true, not_false, then_ok, then_deep, not_deep, bad_deep, bad_ok, deep_ok, deep_if-ok, if-deep, on_some-split, on_taken-split, word_then-ok, word_then-deep, at-path, separated-ok, separated-more, separated-deep, GoodTurn, many-ok, many-far, many-last, many-turn, many-more, many-deep, many-stop, many-pass, le_or, le_max}
-use Rattle.sml_grammar.proofs.Words.{WordAt, at_word, AfterWord, found, absent, after-is, word-at, word-found}
-use Rattle.sml_grammar.proofs.Terminals.{Front, front, label-is, vid-found, label-found, not-word, vid-word, label-word}
-use Rattle.sml_grammar.proofs.Vids.{IsPlain, is_plain, InfixAt, infix_at, plain-is, infix-is, plain-found, infix-found, binds-is, binds-found, binds-shorter, names-is, names-found, names-shorter, infix-no_names, infix-no_binds, constant-no_names, constant-no_binds, names-no_infix}
+use Rattle.sml_grammar.specs.Answer.{read, last, more, many}
+use Rattle.sml_grammar.specs.Terminals.{Taken, after_word, tail, on_taken, short, infix_vid, binds_vid, names_vid}
+use Rattle.sml_grammar.specs.Types.{read_ty, ty_could_go_on}
+use Rattle.sml_grammar.specs.Patterns.{pat_start, begins_pat, PatReader, PatReaders, at_pat, same, pat_part_next, pat_part_turn, whole_pat_parts, pat_suffix_mark, pat_suffix_joint, pat_suffix_turn, pat_first, plain_form, pat_form, read_pats, read_pat}
+use Rattle.sml_grammar.proofs.Answers.{not_none, many-last, many-more, many-pass, le_or}
+use Rattle.sml_grammar.proofs.Words.{AfterWord, found, absent, after-is}
+use Rattle.sml_grammar.proofs.Vids.{binds-found, names-found, constant-no_names, constant-no_binds}
 use Rattle.sml_grammar.proofs.TypeShapes.{ty-shorter, ty-pos}
-use Rattle.sml_grammar.proofs.TypeSound.{GoodTy, ty-sound}
 use Rattle.sml_grammar.proofs.TypeComplete.{ty-complete}
-use Rattle.sml_grammar.proofs.TypePaths.{ty-opens}
-use Rattle.sml_grammar.proofs.TypeOver.{ty-over}
-use Rattle.sml_grammar.proofs.TypeFar.{ty-far}
-use Rattle.sml_grammar.proofs.MaybeTypes.{MaybeStops, GoodColon, colon-sound, colon-complete, colon-shorter, maybe-far}
-use Rattle.sml_grammar.proofs.PatStarts.{with-word, PatStartIs, is_wild, is_brace, is_paren, is_bracket, is_scon, is_name, is_none, pat-start-is, names-start, names-begin, constant-start, infix-no_pat, begins-no_infix, begins-no_word, level-high, level-low, infix_ties, PatStops, ends_pat, pat-stops-word, pat-stops-end, infix_ties-more, stops-higher, infix-tie, infix-no_word, infix-stops}
-use Rattle.sml_grammar.proofs.PatShapes.{atpat-shorter, row-shorter, field-shorter, commas-shorter, pat-shorter, follows-shorter, atpats-shorter, pat-pos, binds-names, atpat-high, atpat-begins, pat-begins, commas-begin, field-no_word, row-no_brace, first_vid, PartHead, fits-head, part-head, follows-level, head-stops, parts-high, pat_goes_on, ends-mark, ends-joint, ends-stop}
-use Rattle.sml_grammar.proofs.PatAtComplete.{CompletePat, CompleteAtPat, FieldEnds, before_comma, before_brace, ends-stops, ends-no_equals, maybe-no_equals, colon-reads, label_equals-found, vid-no_label, before, commas-whole, field-complete, row-whole, at-complete}
+use Rattle.sml_grammar.proofs.PatStarts.{begins-no_word, infix_ties, PatStops, ends_pat, pat-stops-word, stops-higher}
+use Rattle.sml_grammar.proofs.PatShapes.{pat-shorter, follows-shorter, pat-pos, binds-names, atpat-high, atpat-begins, first_vid, PartHead, part-head, follows-level, head-stops, parts-high, pat_goes_on, ends-mark, ends-joint, ends-stop}
+use Rattle.sml_grammar.proofs.PatAtComplete.{CompletePat, CompleteAtPat, at-complete}
 
 same-self : (a : Bool) → same a a ≡ true
 same-self true = refl
@@ -45,37 +37,37 @@ module _ (n : ℕ) (self : PatReader) (complete : CompletePat n self) (f : Fixit
       go : (v : Option (Taken (Placed ℕ))) → on_taken v (λ y m. nat_le l (vid_level f (Named y.it))) false ≡ false → pat_part_next f l r x b o v ≡ read (last (last_pat_part x b)) o
       go None e = refl
       go (Some y) e =
-        let lt = leb-false l (vid_level f (Named y.it.it)) e in
-        let ne : nat_eq (vid_level f (Named y.it.it)) l ≡ false = ne_eqb (vid_level f (Named y.it.it)) l (λ (q : vid_level f (Named y.it.it) ≡ l). omega arith) in
-        rw ne refl
+          let lt = leb-false l (vid_level f (Named y.it.it)) e in
+          let ne : nat_eq (vid_level f (Named y.it.it)) l ≡ false = ne_eqb (vid_level f (Named y.it.it)) l (λ (q : vid_level f (Named y.it.it) ≡ l). omega arith) in
+          rw ne refl
 
   pub part-next : {l : ℕ} {r : Bool} {o : List Terminal} {y : Placed ℕ} (x : Placed ℕ) (b : Pat) → PartHead f l r o y → pat_part_next f l r x b o (infix_vid f o) ≡ read (more (pat_part x b) y) (tail o)
   part-next {l} {r} {y} x b w =
-    let nx = w.next in
-    let ne : nat_eq (vid_level f (Named y.it)) l ≡ true = eq-eqb (vid_level f (Named y.it)) l w.level in
-    let sa : same (vid_right f (Named y.it)) r ≡ true = ap (λ (z : Bool). same z r) w.right ∙ same-self r in
-    rw (nx, ne, sa) refl
+      let nx = w.next in
+      let ne : nat_eq (vid_level f (Named y.it)) l ≡ true = eq-eqb (vid_level f (Named y.it)) l w.level in
+      let sa : same (vid_right f (Named y.it)) r ≡ true = ap (λ (z : Bool). same z r) w.right ∙ same-self r in
+      rw (nx, ne, sa) refl
 
   pub parts-complete : {l : ℕ} {r : Bool} {i o : List Terminal} {ps : PatParts} → PatFollows f l r i ps o → depth_pat_parts ps ≤ n → PatStops f l o → (k : ℕ) → length i ≤ k →
-    many (pat_part_turn self f l r) k (first_vid ps) (tail i) ≡ read ps o
+      many (pat_part_turn self f l r) k (first_vid ps) (tail i) ≡ read ps o
   parts-complete d le s zero lt = let h = follows-shorter d in absurd (omega arith)
   parts-complete {l} {r} (of_last_pat_part {m} {o} {x} {b} fit high d) le s (suc k) lt =
-    let h : self f (suc l) m ≡ read b o = complete f (suc l) m o b d le high (stops-higher (omega arith) s) in
-    let e = last-next l r x b o s.no_infix in
-    many-last (pat_part_turn self f l r) k (rw h e)
+      let h : self f (suc l) m ≡ read b o = complete f (suc l) m o b d le high (stops-higher (omega arith) s) in
+      let e = last-next l r x b o s.no_infix in
+      many-last (pat_part_turn self f l r) k (rw h e)
   parts-complete {l} {r} (of_pat_part {m} {n = p} {o} {x} {b} {ps} fit high d fs) le s (suc k) lt =
-    let w = part-head fs in
-    let h : self f (suc l) m ≡ read b p = complete f (suc l) m p b d (omega arith) high (head-stops w (suc l) (omega arith)) in
-    let e = part-next x b w in
-    let sh = pat-shorter d in
-    many-more (pat_part_turn self f l r) k {put = pat_part x b} (rw h e) (parts-complete fs (omega arith) s k (omega arith))
+      let w = part-head fs in
+      let h : self f (suc l) m ≡ read b p = complete f (suc l) m p b d (omega arith) high (head-stops w (suc l) (omega arith)) in
+      let e = part-next x b w in
+      let sh = pat-shorter d in
+      many-more (pat_part_turn self f l r) k {put = pat_part x b} (rw h e) (parts-complete fs (omega arith) s k (omega arith))
 
   parts-whole : {l : ℕ} {r : Bool} {i o : List Terminal} {ps : PatParts} → PatFollows f l r i ps o → depth_pat_parts ps ≤ n → PatStops f l o → whole_pat_parts self f (first_vid ps) (tail i) ≡ read ps o
   parts-whole {l} {r} {i} {o} {ps} d le s =
-    let w = part-head d in let sz = w.size in
-    let x = first_vid ps in let k = suc (length (tail i)) in
-    let q : many (pat_part_turn self f l r) k x (tail i) ≡ read ps o = parts-complete d le s k sz in
-    subst (λ (z : ℕ). many (pat_part_turn self f z (vid_right f (Named x.it))) k x (tail i) ≡ read ps o) (sym w.level)
+      let w = part-head d in let sz = w.size in
+      let x = first_vid ps in let k = suc (length (tail i)) in
+      let q : many (pat_part_turn self f l r) k x (tail i) ≡ read ps o = parts-complete d le s k sz in
+      subst (λ (z : ℕ). many (pat_part_turn self f z (vid_right f (Named x.it))) k x (tail i) ≡ read ps o) (sym w.level)
       (subst (λ (z : Bool). many (pat_part_turn self f l z) k x (tail i) ≡ read ps o) (sym w.right) q)
 
   -- the turns after a pattern
@@ -85,28 +77,29 @@ module _ (n : ℕ) (self : PatReader) (complete : CompletePat n self) (f : Fixit
       mark : {m : List Terminal} {v : Option (List Terminal)} → AfterWord res.Colon m v → (l ≤ 5 → v ≡ None) → pat_suffix_mark n f l a m v ≡ read (last a) m
       mark (found p) h = elim (le_or l 5) [ inl q ↦ not_none (h q) | inr q ↦ let e : nat_le l 5 ≡ false = lt-leb l 5 q in rw e refl ]
       mark (absent e) h = refl
+
       go : (v : Option (Taken (Placed ℕ))) → on_taken v (λ x m. nat_le l (vid_level f (Named x.it))) false ≡ false →
-        on_taken v (pat_suffix_joint self n f l a o) (pat_suffix_mark n f l a o (after_word res.Colon o)) ≡ read (last a) o
+          on_taken v (pat_suffix_joint self n f l a o) (pat_suffix_mark n f l a o (after_word res.Colon o)) ≡ read (last a) o
       go None e = mark (after-is res.Colon o) s.no_mark
       go (Some x) e = rw e refl
 
   pub chain-step : (l0 : ℕ) (a : Pat) {l : ℕ} {r : Bool} {i o : List Terminal} {ps : PatParts} → PatFollows f l r i ps o → l0 ≤ l → l < pat_level f a → depth_pat a ≤ n → depth_pat_parts ps ≤ n → PatStops f l o →
-    pat_suffix_turn self n f l0 a i ≡ read (more (λ b. b) (chain_pat r a ps)) o
+      pat_suffix_turn self n f l0 a i ≡ read (more (λ b. b) (chain_pat r a ps)) o
   chain-step l0 a {l} {r} {i} {o} {ps} d low high la lp s =
-    let w = part-head d in let nx = w.next in let lv = w.level in let rt = w.right in
-    let x = first_vid ps in
-    let q : whole_pat_parts self f x (tail i) ≡ read ps o = parts-whole d lp s in
-    let c1 : nat_le l0 (vid_level f (Named x.it)) ≡ true = le-leb l0 (vid_level f (Named x.it)) (omega arith) in
-    let c2 : nat_le (suc (vid_level f (Named x.it))) (pat_level f a) ≡ true = le-leb (suc (vid_level f (Named x.it))) (pat_level f a) (omega arith) in
-    let c3 = le-leb (depth_pat a) n la in
-    rw (nx, c1, c2, c3, q, rt) refl
+      let w = part-head d in let nx = w.next in let lv = w.level in let rt = w.right in
+      let x = first_vid ps in
+      let q : whole_pat_parts self f x (tail i) ≡ read ps o = parts-whole d lp s in
+      let c1 : nat_le l0 (vid_level f (Named x.it)) ≡ true = le-leb l0 (vid_level f (Named x.it)) (omega arith) in
+      let c2 : nat_le (suc (vid_level f (Named x.it))) (pat_level f a) ≡ true = le-leb (suc (vid_level f (Named x.it))) (pat_level f a) (omega arith) in
+      let c3 = le-leb (depth_pat a) n la in
+      rw (nx, c1, c2, c3, q, rt) refl
 
   pub mark-step : (l : ℕ) (a : Pat) (p : ℕ) {m o : List Terminal} {s : Ty} → l ≤ 5 → 5 ≤ pat_level f a → depth_pat a ≤ n → ReadsTy m s o → depth_ty s ≤ n → ty_could_go_on 0 o ≡ false →
-    pat_suffix_turn self n f l a (reserved p res.Colon ∷ m) ≡ read (more (λ b. b) (typed_pat a s)) o
+      pat_suffix_turn self n f l a (reserved p res.Colon ∷ m) ≡ read (more (λ b. b) (typed_pat a s)) o
   mark-step l a p {m} {o} {s} low five la d ls g =
-    let h : read_ty n 0 m ≡ read s o = ty-complete n 0 d ls (omega arith) g in
-    let c1 = le-leb l 5 low in let c2 = le-leb 5 (pat_level f a) five in let c3 = le-leb (depth_pat a) n la in
-    rw (c1, c2, c3, h) refl
+      let h : read_ty n 0 m ≡ read s o = ty-complete n 0 d ls (omega arith) g in
+      let c1 = le-leb l 5 low in let c2 = le-leb 5 (pat_level f a) five in let c3 = le-leb (depth_pat a) n la in
+      rw (c1, c2, c3, h) refl
 
 module _ (n : ℕ) (self : PatReaders) (complete : CompletePat n self.pat) (complete_at : CompleteAtPat n self.atpat) (f : Fixity) where
   -- The function has come as far as to look for what follows the pattern a.
@@ -118,7 +111,7 @@ module _ (n : ℕ) (self : PatReaders) (complete : CompletePat n self.pat) (comp
     alone : {i m : List Terminal} {p : ℕ} {v : Vid} → BindsVid f i p v m → Reached 0 i (vid_pat p (short v)) m
     along : {l : ℕ} {i m : List Terminal} {a : Pat} → Reaches l i a m → Reached l i a m
 
-  plain-unbound : (l : ℕ) (i : List Terminal) → binds_vid f i ≡ None → pat_form self n f l i ≡ plain_form self n f l i
+  pub plain-unbound : (l : ℕ) (i : List Terminal) → binds_vid f i ≡ None → pat_form self n f l i ≡ plain_form self n f l i
   plain-unbound zero i e = rw e refl
   plain-unbound (suc l) i e = refl
 
@@ -154,10 +147,10 @@ module _ (n : ℕ) (self : PatReaders) (complete : CompletePat n self.pat) (comp
 
   first-con : {i m o : List Terminal} {p : ℕ} {x : LongVid} {a : Pat} → NamesVid f i p x m → AtPat f m a o → depth_pat a ≤ n → pat_first self n f i ≡ read (con_pat p x a) o
   first-con {m} {o} {a} x d le =
-    let h = names-found x in
-    let b = atpat-begins d in
-    let g : self.atpat f m ≡ read a o = complete_at f m o a d le in
-    rw (h, b, g) refl
+      let h = names-found x in
+      let b = atpat-begins d in
+      let g : self.atpat f m ≡ read a o = complete_at f m o a d le in
+      rw (h, b, g) refl
 
   pub settle : {l : ℕ} {i m : List Terminal} {a : Pat} → Reached l i a m → begins_pat f m ≡ false → (l ≤ 0 → after_word res.As m ≡ None) → (l ≤ 0 → after_word res.Colon m ≡ None) → Reaches l i a m
   settle (along r) b ea ec = r
@@ -192,38 +185,42 @@ module _ (n : ℕ) (self : PatReaders) (complete : CompletePat n self.pat) (comp
 
   con-reaches : (l : ℕ) {i m o : List Terminal} {p : ℕ} {x : LongVid} {a : Pat} → NamesVid f i p x m → AtPat f m a o → depth_pat a ≤ n → Reaches l i (con_pat p x a) o
   con-reaches l {i} {m} {o} {p} {x} {a} d da le =
-    let b = atpat-begins da in
-    plain-reaches l i (con_pat p x a) o (plain-named l d (begins-no_word f res.As m (λ p o. refl) b) (begins-no_word f res.Colon m (λ p o. refl) b)) (first-con d da le)
+      let b = atpat-begins da in
+      plain-reaches l i (con_pat p x a) o (plain-named l d (begins-no_word f res.As m (λ p o. refl) b) (begins-no_word f res.Colon m (λ p o. refl) b)) (first-con d da le)
 
   -- a type after what was reached
   typed-reaches : {l : ℕ} (p : ℕ) {i m o : List Terminal} {a : Pat} {s : Ty} → Reached l i a (reserved p res.Colon ∷ m) → l ≤ 5 → 5 ≤ pat_level f a → depth_pat a ≤ n → ReadsTy m s o → depth_ty s ≤ n →
-    ty_could_go_on 0 o ≡ false → (l ≤ 0 → after_word res.As o ≡ None) → Reaches l i (typed_pat a s) o
+      ty_could_go_on 0 o ≡ false → (l ≤ 0 → after_word res.As o ≡ None) → Reaches l i (typed_pat a s) o
   typed-reaches {l} p {i} {m} {o} {a} {s} (along r) low five la d ls g ea =
-    let sh = ty-shorter d in
-    reaches-more l i a (typed_pat a s) (reserved p res.Colon ∷ m) o (omega arith) (mark-step n self.pat complete f l a p low five la d ls g) r
+      let sh = ty-shorter d in
+      reaches-more l i a (typed_pat a s) (reserved p res.Colon ∷ m) o (omega arith) (mark-step n self.pat complete f l a p low five la d ls g) r
   typed-reaches p {i} {m} {o} {a} {s} (alone {v} b) low five la d ls g ea =
-    let h = binds-found b in
-    let t : read_ty n 0 m ≡ read s o = ty-complete n 0 d ls (omega arith) g in
-    let c : nat_le 1 n ≡ true = le-leb 1 n la in
-    let na : after_word res.As o ≡ None = ea (omega arith) in
-    (suc (length o), omega arith, rw (h, c, t, na) refl)
+      let h = binds-found b in
+      let t : read_ty n 0 m ≡ read s o = ty-complete n 0 d ls (omega arith) g in
+      let c : nat_le 1 n ≡ true = le-leb 1 n la in
+      let na : after_word res.As o ≡ None = ea (omega arith) in
+      (suc (length o), omega arith, rw (h, c, t, na) refl)
 
   pub reached : (l : ℕ) {i o : List Terminal} {a : Pat} → Pattern f i a o → depth_pat a ≤ suc n → l ≤ pat_level f a → 5 ≤ pat_level f a → begins_pat f o ≡ false → pat_goes_on f a o ≡ false → (l ≤ 0 → after_word res.As o ≡ None) → Reached l i a o
   reached l (of_atpat d) le high five b ends ea = atpat-reached l d le b
   reached l (of_con_pat x d) le high five b ends ea = along (con-reaches l x d (omega arith))
   reached l (of_chain_pat {i} {m} {o} {a} {ps} l' r lt d fs) le high five b ends ea =
-    let w = part-head fs in
-    let lv = follows-level fs in
-    let hi = parts-high f ps in
-    let st : PatStops f l' o = record {
-      no_pat = b; no_infix = subst (λ (z : ℕ). infix_ties f z o ≡ false) lv ends;
-      no_mark = λ (h : l' ≤ 5). absurd (omega arith); no_as = λ (h : l' ≤ 0). absurd (omega arith); no_ty = λ (h : l' ≤ 5). absurd (omega arith) } in
-    let low : l ≤ l' = subst (λ (z : ℕ). l ≤ z) lv high in
-    let sh = follows-shorter fs in
-    let left = settle (reached l d (omega arith) (omega arith) (omega arith) w.no_pat (ends-joint f a l' w lt) (λ h. w.no_word res.As)) w.no_pat (λ h. w.no_word res.As) (λ h. w.no_word res.Colon) in
-    along (reaches-more l i a (chain_pat r a ps) m o sh (chain-step n self.pat complete f l a fs low lt (omega arith) (omega arith) st) left)
+      let w = part-head fs in
+      let lv = follows-level fs in
+      let hi = parts-high f ps in
+      let st : PatStops f l' o = record {
+        no_pat = b;
+        no_infix = subst (λ (z : ℕ). infix_ties f z o ≡ false) lv ends;
+        no_mark = λ (h : l' ≤ 5). absurd (omega arith);
+        no_as = λ (h : l' ≤ 0). absurd (omega arith);
+        no_ty = λ (h : l' ≤ 5). absurd (omega arith);
+      } in
+      let low : l ≤ l' = subst (λ (z : ℕ). l ≤ z) lv high in
+      let sh = follows-shorter fs in
+      let left = settle (reached l d (omega arith) (omega arith) (omega arith) w.no_pat (ends-joint f a l' w lt) (λ h. w.no_word res.As)) w.no_pat (λ h. w.no_word res.As) (λ h. w.no_word res.Colon) in
+      along (reaches-more l i a (chain_pat r a ps) m o sh (chain-step n self.pat complete f l a fs low lt (omega arith) (omega arith) st) left)
   reached l (of_typed_pat {i} {m} {o} {a} {s} p five' d ty) le high five b ends ea =
-    along (typed-reaches p (reached l d (omega arith) (omega arith) five' refl (ends-mark f a p m) (λ h. refl)) high five' (omega arith) ty (omega arith) ends ea)
+      along (typed-reaches p (reached l d (omega arith) (omega arith) five' refl (ends-mark f a p m) (λ h. refl)) high five' (omega arith) ty (omega arith) ends ea)
   reached l (of_as_pat q v s d) le high five b ends ea = absurd (omega arith)
 
   pub ends-here : {l : ℕ} {i o : List Terminal} (a : Pat) → PatStops f l o → Reached l i a o → pat_form self n f l i ≡ read a o
@@ -234,18 +231,18 @@ module _ (n : ℕ) (self : PatReaders) (complete : CompletePat n self.pat) (comp
       go (suc k, le, e) = e ∙ many-last (pat_suffix_turn self.pat n f l) k (stop-step n self.pat complete f a s)
 
   as-complete : {i m k o : List Terminal} {p : ℕ} {v : Vid} {s : Option Ty} {a : Pat} (q : ℕ) → BindsVid f i p v m → MaybeTy m s (reserved q res.As ∷ k) → Pattern f k a o → depth_some s ≤ n → depth_pat a ≤ n → PatStops f 0 o →
-    pat_form self n f 0 i ≡ read (as_pat p v s a) o
+      pat_form self n f 0 i ≡ read (as_pat p v s a) o
   as-complete {k} {o} {a} q b without_ty d ls le st =
-    let h = binds-found b in
-    let g : self.pat f 0 k ≡ read a o = complete f 0 k o a d le (omega arith) st in
-    rw (h, g) refl
+      let h = binds-found b in
+      let g : self.pat f 0 k ≡ read a o = complete f 0 k o a d le (omega arith) st in
+      rw (h, g) refl
   as-complete {k} {o} {a} q b (with_ty {i = m} {a = s} p t) d ls le st =
-    let h = binds-found b in
-    let pos = ty-pos s in
-    let c : nat_le 1 n ≡ true = le-leb 1 n (omega arith) in
-    let j : read_ty n 0 m ≡ read s (reserved q res.As ∷ k) = ty-complete n 0 t ls (omega arith) refl in
-    let g : self.pat f 0 k ≡ read a o = complete f 0 k o a d le (omega arith) st in
-    rw (h, c, j, g) refl
+      let h = binds-found b in
+      let pos = ty-pos s in
+      let c : nat_le 1 n ≡ true = le-leb 1 n (omega arith) in
+      let j : read_ty n 0 m ≡ read s (reserved q res.As ∷ k) = ty-complete n 0 t ls (omega arith) refl in
+      let g : self.pat f 0 k ≡ read a o = complete f 0 k o a d le (omega arith) st in
+      rw (h, c, j, g) refl
 
   pub form-complete : (l : ℕ) {i o : List Terminal} {a : Pat} → Pattern f i a o → depth_pat a ≤ suc n → l ≤ pat_level f a → PatStops f l o → pat_form self n f l i ≡ read a o
   form-complete zero (of_as_pat q b s d) le high st = as-complete q b s d (omega arith) (omega arith) st
@@ -271,3 +268,7 @@ pat-complete n f l {i} {o} {a} d le high st = pat-reads n f l i o a d le high st
 
 pub atpat-complete : (n : ℕ) (f : Fixity) {i o : List Terminal} {a : Pat} → AtPat f i a o → depth_pat a ≤ n → (read_pats n).atpat f i ≡ read a o
 atpat-complete n f {i} {o} {a} d le = atpat-reads n f i o a d le
+
+-- before a word that ends patterns
+pub pat-before : (n : ℕ) (f : Fixity) (w : Reserved) → ends_pat w ≡ true → {p : ℕ} {i o : List Terminal} {a : Pat} → Pattern f i a (reserved p w ∷ o) → depth_pat a ≤ n → read_pat n f i ≡ read a (reserved p w ∷ o)
+pat-before n f w e {p} {o} d le = pat-complete n f 0 d le (omega arith) (pat-stops-word w e f 0 p o)

@@ -1,35 +1,24 @@
 -- Facts about readings of patterns alone.
-use Rattle.std.proofs.Common.{◌≡◌, ℕ, zero, suc, ◌+◌, ◌≤◌, ◌<◌, List, [], ◌∷◌, length, Option, Some, None, Bool, true, false, ◌&&◌, ◌⊎◌, inl, inr, refl, sym, ap, ◌∙◌, subst, arith, nat_le, nat_eq, min, max, if◌then◌else◌}
-use Rattle.std.proofs.lemmas.Bool.{leb-true, leb-false, le-leb, lt-leb, eqb-true, eq-eqb, ne_eqb}
-use Rattle.mlc_base.specs.declared.label.Label.{Label}
+use Rattle.std.proofs.Common.{◌≡◌, ℕ, suc, ◌≤◌, ◌<◌, List, ◌∷◌, length, None, Bool, true, false, refl, ap, arith}
 use Rattle.mlc_base.specs.declared.token.Reserved.{Reserved}
 use Rattle.mlc_base.specs.declared.token.Reserved.TheVariants as res
 use Rattle.sml_tree.specs.declared.ident.Vid.{Vid}
 use Rattle.sml_tree.specs.declared.ident.Vid.TheVariants.{Named}
-use Rattle.sml_tree.specs.declared.fixity.Infix.{Infix}
-use Rattle.sml_tree.specs.Fixity.{Fixity, fix_of}
-use Rattle.sml_tree.specs.Terminal.{Constant, LongVid, Terminal, reserved, IsConstant, IsVid, IsQualifiedVid, IsAnyVid, IsAnyLongVid, any_short, any_long, IsLabel, word_label}
-use Rattle.sml_tree.specs.ReadTree.{Placed, Ty, Pat, wild_pat, constant_pat, vid_pat, record_pat, unit_pat, tuple_pat, list_pat, paren_pat, con_pat, chain_pat, typed_pat, as_pat, Pats, no_pats, pat, PatFields, no_pat_fields, pat_field, PatField, labelled, punned, punned_as, PatParts, last_pat_part, pat_part, Head, prefix_head, infix_head, bracket_head}
-use Rattle.sml_tree.specs.Depth.{depth_ty, depth_some, depth_pat, depth_pats, depth_pat_fields, depth_pat_field, depth_pat_parts, depth_head}
+use Rattle.sml_tree.specs.Fixity.{Fixity}
+use Rattle.sml_tree.specs.Terminal.{Terminal, reserved, any_short}
+use Rattle.sml_tree.specs.ReadTree.{Placed, Pat, wild_pat, constant_pat, vid_pat, record_pat, unit_pat, tuple_pat, list_pat, paren_pat, con_pat, chain_pat, typed_pat, as_pat, Pats, PatFields, PatField, PatParts, last_pat_part, pat_part}
+use Rattle.sml_tree.specs.Depth.{depth_pat}
 use Rattle.sml_tree.specs.Levels.{vid_level, vid_right, pat_level, pat_parts_level}
 use Rattle.sml_tree.specs.Grammar.{ReadsTy, MaybeTy, without_ty, with_ty, BindsVid, op_vid, NamesVid, plain_long, qualified, op_long, IsInfixVid, PatFits, AtPat, of_wild, of_pat_constant, of_pat_vid, of_no_pat_row, of_pat_row, of_unit_pat, of_tuple_pat, of_nil_pat, of_list_pat, of_paren_pat, PatRow, row_dots, last_row, more_row, Field, of_labelled, of_punned, of_punned_as, PatCommas, last_pat, more_pats, Pattern, of_atpat, of_con_pat, of_chain_pat, of_typed_pat, of_as_pat, PatFollows, of_last_pat_part, of_pat_part, AtPats, no_atpats, more_atpats, ReadsHead, of_prefix_head, of_infix_head, of_bracket_head}
 use Rattle.sml_tree.specs.Grammar as grammar
-use Rattle.sml_grammar.specs.Answer.{Read, Answer, ok, bad, deep, read, then_read, deep_if, Turn, last, more, many, whole}
-use Rattle.sml_grammar.specs.Terminals.{Taken, taken, first_as, as_label, place_of, word_of, after_word, tail, on_some, on_taken, word_then, separated, NoState, no_state, short, plain_vid, infix_vid, binds_vid, names_vid}
-use Rattle.sml_grammar.specs.Types.{read_ty, maybe_ty, ty_could_go_on}
-use Rattle.sml_grammar.specs.Patterns.{PatStart, wild_start, constant_start, vid_start, brace_start, paren_start, bracket_start, no_start, vid_if, pat_start, is_pat_start, begins_pat, PatReader, AtPatReader, PatReaders, pat_commas_turn, label_if, label_equals, pun, punned_field, field, PatRowRead, put_field, only_field, only_dots, pat_row_turn, brace_pat, bracket_pat, paren_pat_rest, paren_pat_in, at_pat, same, pat_part_next, pat_part_turn, whole_pat_parts, pat_suffix_mark, pat_suffix_joint, pat_suffix_turn, pat_suffix, pat_first, plain_form, typed_or_as, typed_form, vid_form, pat_form, read_pats, read_pat, read_atpat, atpats_turn, read_atpats, infix_rest, prefix_rest, vid_head, Bracketed, is_atpat, bracketed_parts, bracketed_chain, bracketed, bracket_rest, pat_head, read_head}
-use Rattle.sml_grammar.proofs.Answers.{chosen, got, got_some, not_some, not_none, not_true, not_false, then_ok, then_deep, not_deep, bad_deep, bad_ok, deep_ok, deep_if-ok, if-deep, on_some-split, on_taken-split, word_then-ok, word_then-deep, at-path, separated-ok, separated-more, separated-deep, GoodTurn, many-ok, many-far, many-last, many-turn, many-more, many-deep, many-stop, many-pass, le_or, le_max}
-use Rattle.sml_grammar.proofs.Words.{WordAt, at_word, AfterWord, found, absent, after-is, word-at, word-found}
-use Rattle.sml_grammar.proofs.Terminals.{Front, front, label-is, vid-found, label-found, not-word, vid-word, label-word}
-use Rattle.sml_grammar.proofs.Vids.{IsPlain, is_plain, InfixAt, infix_at, plain-is, infix-is, plain-found, infix-found, binds-is, binds-found, binds-shorter, names-is, names-found, names-shorter, infix-no_names, infix-no_binds, constant-no_names, constant-no_binds, names-no_infix}
-use Rattle.sml_grammar.proofs.TypeShapes.{ty-shorter, ty-pos}
-use Rattle.sml_grammar.proofs.TypeSound.{GoodTy, ty-sound}
-use Rattle.sml_grammar.proofs.TypeComplete.{ty-complete}
-use Rattle.sml_grammar.proofs.TypePaths.{ty-opens}
-use Rattle.sml_grammar.proofs.TypeOver.{ty-over}
-use Rattle.sml_grammar.proofs.TypeFar.{ty-far}
-use Rattle.sml_grammar.proofs.MaybeTypes.{MaybeStops, GoodColon, colon-sound, colon-complete, colon-shorter, maybe-far}
-use Rattle.sml_grammar.proofs.PatStarts.{with-word, PatStartIs, is_wild, is_brace, is_paren, is_bracket, is_scon, is_name, is_none, pat-start-is, names-start, names-begin, constant-start, infix-no_pat, begins-no_infix, begins-no_word, level-high, level-low, infix_ties, PatStops, ends_pat, pat-stops-word, pat-stops-end, infix_ties-more, stops-higher, infix-tie, infix-no_word, infix-stops}
+use Rattle.sml_grammar.specs.Terminals.{taken, after_word, tail, short, infix_vid}
+use Rattle.sml_grammar.specs.Types.{ty_could_go_on}
+use Rattle.sml_grammar.specs.Patterns.{is_pat_start, begins_pat}
+use Rattle.sml_grammar.proofs.Terminals.{not-word, vid-word, label-word}
+use Rattle.sml_grammar.proofs.Vids.{infix-found, binds-shorter, names-shorter}
+use Rattle.sml_grammar.proofs.TypeShapes.{ty-shorter}
+use Rattle.sml_grammar.proofs.MaybeTypes.{colon-shorter}
+use Rattle.sml_grammar.proofs.PatStarts.{names-begin, constant-start, infix-no_pat, level-high, infix_ties, PatStops, infix_ties-more, infix-tie, infix-no_word}
 
 -- a pattern has terminals
 mutual
@@ -161,7 +150,7 @@ fits-head {f} {x} m fit = record {
   no_pat = infix-no_pat fit.is m;
   no_word = λ w. infix-no_word fit.is w m;
   ties = λ k lt. let e = fit.level in infix-tie fit.is k m (omega arith);
-  size = omega arith
+  size = omega arith;
 }
 
 pub part-head : {f : Fixity} {l : ℕ} {r : Bool} {i o : List Terminal} {ps : PatParts} → PatFollows f l r i ps o → PartHead f l r i (first_vid ps)
@@ -178,7 +167,7 @@ head-stops {f} {x} w k lt = let hi = level-high f (Named x.it) in let lv = w.lev
   no_infix = w.ties k lt;
   no_mark = λ h. w.no_word res.Colon;
   no_as = λ h. w.no_word res.As;
-  no_ty = λ (h : k ≤ 5). absurd (omega arith)
+  no_ty = λ (h : k ≤ 5). absurd (omega arith);
 }
 
 pub parts-high : (f : Fixity) (ps : PatParts) → 8 ≤ pat_parts_level f ps

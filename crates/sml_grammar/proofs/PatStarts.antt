@@ -1,20 +1,20 @@
 -- What patterns begin with, and what may follow them.
-use Rattle.std.proofs.Common.{◌≡◌, ℕ, zero, suc, ◌+◌, ◌≤◌, ◌<◌, List, [], ◌∷◌, length, Option, Some, None, Bool, true, false, refl, sym, ap, ◌∙◌, subst, arith, nat_le, min}
-use Rattle.std.proofs.lemmas.Bool.{leb-true, leb-false, le-leb, lt-leb}
+use Rattle.std.proofs.Common.{◌≡◌, ℕ, suc, ◌≤◌, ◌<◌, List, [], ◌∷◌, Option, Some, None, Bool, true, false, refl, sym, ap, ◌∙◌, arith, nat_le}
+use Rattle.std.proofs.lemmas.Bool.{leb-false, lt-leb}
 use Rattle.mlc_base.specs.declared.token.Reserved.{Reserved}
 use Rattle.mlc_base.specs.declared.token.Reserved.TheVariants as res
 use Rattle.sml_tree.specs.declared.ident.Vid.{Vid}
 use Rattle.sml_tree.specs.declared.ident.Vid.TheVariants.{Named}
 use Rattle.sml_tree.specs.declared.fixity.Infix.{Infix}
 use Rattle.sml_tree.specs.Fixity.{Fixity, fix_of}
-use Rattle.sml_tree.specs.Terminal.{Constant, LongVid, Terminal, reserved, number, constant, IsConstant, is_number, is_constant, IsVid, alpha_vid, symbol_vid, star_vid, IsQualifiedVid, long_alpha_vid, long_symbol_vid, long_star_vid}
+use Rattle.sml_tree.specs.Terminal.{Constant, LongVid, Terminal, reserved, number, constant, IsConstant, is_number, is_constant, IsVid, alpha_vid, symbol_vid, star_vid, long_alpha_vid, long_symbol_vid, long_star_vid}
 use Rattle.sml_tree.specs.ReadTree.{Placed}
 use Rattle.sml_tree.specs.Levels.{infix_level, vid_level}
-use Rattle.sml_tree.specs.Grammar.{NamesVid, plain_long, qualified, op_long, BindsVid, IsInfixVid}
-use Rattle.sml_grammar.specs.Terminals.{Taken, taken, after_word, on_taken, infix_vid, names_vid, word_of}
+use Rattle.sml_tree.specs.Grammar.{NamesVid, plain_long, qualified, op_long, IsInfixVid}
+use Rattle.sml_grammar.specs.Terminals.{Taken, after_word, on_taken, infix_vid, names_vid}
 use Rattle.sml_grammar.specs.Types.{ty_could_go_on}
 use Rattle.sml_grammar.specs.Patterns.{PatStart, wild_start, constant_start, vid_start, brace_start, paren_start, bracket_start, no_start, vid_if, pat_start, is_pat_start, begins_pat}
-use Rattle.sml_grammar.proofs.Answers.{not_true, not_false}
+use Rattle.sml_grammar.proofs.Answers.{not_true}
 use Rattle.sml_grammar.proofs.Words.{WordAt, at_word, word-at, AfterWord, found, absent, after-is}
 use Rattle.sml_grammar.proofs.Terminals.{not-word, vid-word}
 use Rattle.sml_grammar.proofs.Vids.{InfixAt, infix_at, infix-is, infix-found, infix-no_names, names-is, names-found}
@@ -83,6 +83,7 @@ begins-no_infix f i b = go (infix_vid f i) refl
   where
     at : {i : List Terminal} {x : Placed ℕ} {o : List Terminal} {A : Type 0} → InfixAt f i x o → begins_pat f i ≡ true → A
     at (infix_at {o} v) b = not_true (sym (infix-no_pat v o) ∙ b)
+
     go : (v : Option (Taken (Placed ℕ))) → infix_vid f i ≡ v → v ≡ None
     go None e = refl
     go (Some x) e = at (infix-is f i x.it x.rest e) b
@@ -161,7 +162,7 @@ stops-higher {f} {k} {l} {o} le s = record {
   no_infix = infix_ties-more f k l o le s.no_infix;
   no_mark = λ h. s.no_mark (omega arith);
   no_as = λ h. s.no_as (omega arith);
-  no_ty = λ h. s.no_ty (omega arith)
+  no_ty = λ h. s.no_ty (omega arith);
 }
 
 pub infix-tie : {f : Fixity} {t : Terminal} {x : Placed ℕ} → IsInfixVid f t x → (l : ℕ) (o : List Terminal) → vid_level f (Named x.it) < l → infix_ties f l (t ∷ o) ≡ false
@@ -177,5 +178,5 @@ infix-stops {f} {x} v l o lt = let hi = level-high f (Named x.it) in record {
   no_infix = infix-tie v l o lt;
   no_mark = λ h. infix-no_word v res.Colon o;
   no_as = λ h. infix-no_word v res.As o;
-  no_ty = λ (h : l ≤ 5). absurd (omega arith)
+  no_ty = λ (h : l ≤ 5). absurd (omega arith);
 }
