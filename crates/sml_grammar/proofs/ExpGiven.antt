@@ -25,7 +25,7 @@ below n = record {
   data_binds = λ f i y h. let g = data_binds-sound n f i y h in record { reads = g.reads; fits = g.fits };
   ex_binds = λ f i y h. let g = ex_binds-sound n f i y h in record { reads = g.reads; fits = g.fits };
   strids = strids-sound;
-  vids = vids-sound
+  vids = vids-sound;
 }
 
 pub far_below : (n : ℕ) → FarBelow n
@@ -38,5 +38,5 @@ far_below n = record {
   data_binds = λ f i h. data_binds-far n f i h;
   ex_binds = λ f i h. ex_binds-far n f i h;
   strids = λ i h. strids-never-deep i h;
-  vids = λ i h. vids-never-deep i h
+  vids = λ i h. vids-never-deep i h;
 }
