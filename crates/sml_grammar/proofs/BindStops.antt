@@ -1,15 +1,11 @@
 -- What bindings of types and exceptions could go on with.
-use Rattle.std.proofs.Common.{◌≡◌, ℕ, List, [], ◌∷◌, Option, Some, None, Bool, true, false, ◌||◌, refl, nat_eq}
-use Rattle.mlc_base.specs.declared.token.Reserved.{Reserved}
+use Rattle.std.proofs.Common.{◌≡◌, ℕ, List, [], ◌∷◌, Option, Some, None, Bool, false, ◌||◌, refl}
+use Rattle.std.specs.Option.{is_some}
 use Rattle.mlc_base.specs.declared.token.Reserved.TheVariants as res
 use Rattle.sml_tree.specs.Terminal.{Terminal, reserved}
-use Rattle.sml_grammar.specs.Terminals.{word_number, after_word}
+use Rattle.sml_grammar.specs.Terminals.{after_word}
 use Rattle.sml_grammar.specs.Types.{ty_could_go_on}
 use Rattle.sml_grammar.proofs.Answers.{or_split}
-
-abbrev pub is_some : {A : Type 0} → Option A → Bool
-is_some (Some a) = true
-is_some None = false
 
 none-is : {A : Type 0} (x : Option A) → is_some x ≡ false → x ≡ None
 none-is None e = refl
@@ -56,24 +52,6 @@ stops-cons o h = (binds-end o h).cons
 
 pub stops-ty : (o : List Terminal) → BindStops o → ty_could_go_on 0 o ≡ false
 stops-ty o h = (cons-end o (stops-cons o h)).ty
-
--- reserved words that bindings go on with
-abbrev pub is_binding_word : Reserved → Bool
-is_binding_word w = nat_eq (word_number w) (word_number res.And) || (nat_eq (word_number w) (word_number res.Bar) || (nat_eq (word_number w) (word_number res.Of) || (nat_eq (word_number w) (word_number res.Equals) || nat_eq (word_number w) (word_number res.Arrow))))
-
--- no other word goes on with them
-pub word-stops : (w : Reserved) → is_binding_word w ≡ false → (p : ℕ) (o : List Terminal) → BindStops (reserved p w ∷ o)
-word-stops w h p o =
-    let a = or_split (nat_eq (word_number w) (word_number res.And)) (nat_eq (word_number w) (word_number res.Bar) || (nat_eq (word_number w) (word_number res.Of) || (nat_eq (word_number w) (word_number res.Equals) || nat_eq (word_number w) (word_number res.Arrow)))) h in
-    let b = or_split (nat_eq (word_number w) (word_number res.Bar)) (nat_eq (word_number w) (word_number res.Of) || (nat_eq (word_number w) (word_number res.Equals) || nat_eq (word_number w) (word_number res.Arrow))) a.1 in
-    let c = or_split (nat_eq (word_number w) (word_number res.Of)) (nat_eq (word_number w) (word_number res.Equals) || nat_eq (word_number w) (word_number res.Arrow)) b.1 in
-    let d = or_split (nat_eq (word_number w) (word_number res.Equals)) (nat_eq (word_number w) (word_number res.Arrow)) c.1 in
-    let and_ : nat_eq (word_number w) (word_number res.And) ≡ false = a.0 in
-    let bar : nat_eq (word_number w) (word_number res.Bar) ≡ false = b.0 in
-    let of_ : nat_eq (word_number w) (word_number res.Of) ≡ false = c.0 in
-    let equals : nat_eq (word_number w) (word_number res.Equals) ≡ false = d.0 in
-    let arrow : nat_eq (word_number w) (word_number res.Arrow) ≡ false = d.1 in
-    rw (and_, bar, of_, equals, arrow) refl
 
 -- By computation: at the end, and where a declaration or a phrase around declarations begins or ends.
 

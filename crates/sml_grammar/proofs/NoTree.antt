@@ -10,7 +10,8 @@ use Rattle.sml_grammar.specs.Patterns.{read_pats}
 use Rattle.sml_tree.specs.ReadTree.{Decs}
 use Rattle.sml_tree.specs.Grammar.{Declares}
 use Rattle.sml_grammar.specs.Expressions.{readers, read_all}
-use Rattle.sml_grammar.specs.Laws.{BadSound}
+use Rattle.sml_grammar.proofs.CompGiven.{facts}
+use Rattle.sml_grammar.proofs.CompDeep.{bad-sound}
 
 abbrev name_f : ℕ
 name_f = 1
@@ -52,12 +53,12 @@ unfolding many readers read_ty read_pats
 two_counts-bad = refl
 
 -- a text that is bad has no tree of any depth
-module _ (bad_sound : BadSound) where
-  pub no_expression : {ds : Decs} → Declares no_fixities text_no_expression ds [] → ⊥
-  no_expression {ds} d = bad_sound 10 no_fixities text_no_expression ds no_expression-bad d
 
-  pub two_names : {ds : Decs} → Declares no_fixities text_two_names ds [] → ⊥
-  two_names {ds} d = bad_sound 10 no_fixities text_two_names ds two_names-bad d
+pub no_expression : {ds : Decs} → Declares no_fixities text_no_expression ds [] → ⊥
+no_expression {ds} d = bad-sound facts 10 no_fixities text_no_expression ds no_expression-bad d
 
-  pub two_counts : {ds : Decs} → Declares no_fixities text_two_counts ds [] → ⊥
-  two_counts {ds} d = bad_sound 10 no_fixities text_two_counts ds two_counts-bad d
+pub two_names : {ds : Decs} → Declares no_fixities text_two_names ds [] → ⊥
+two_names {ds} d = bad-sound facts 10 no_fixities text_two_names ds two_names-bad d
+
+pub two_counts : {ds : Decs} → Declares no_fixities text_two_counts ds [] → ⊥
+two_counts {ds} d = bad-sound facts 10 no_fixities text_two_counts ds two_counts-bad d
