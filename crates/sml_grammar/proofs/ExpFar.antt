@@ -25,17 +25,17 @@ readers-far below far_below zero = record {
   exp = λ f l i low h. begun (if-deep {A = Exp} (begins f l i) h);
   atom = λ f i h. begun_atom (if-deep {A = Exp} (begins_atom f i) h);
   decs = λ f i h. decs_from-far 0 (below 0) (far_below 0) (λ g l m. deep_if (begins g l m)) (λ g l m x low e. deep_if-ok (begins g l m) x e) (λ g l m low e. begun (if-deep {A = Exp} (begins g l m) e))
-    (λ g m. deep) (λ g m x e. deep_ok e) (record { first = λ g p m e. begun_local p; second = λ g p q m ds k d e. begun_local p }) f i h
+      (λ g m. deep) (λ g m x e. deep_ok e) (record { first = λ g p m e. begun_local p; second = λ g p q m ds k d e. begun_local p }) f i h;
 }
 readers-far below far_below (suc n) =
-  let s = readers-sound below n in
-  let r = readers-far below far_below n in
-  record {
-    exp = λ f l i low h. exp_from-far n (below n) (far_below n) (readers n) s.exp s.atom s.decs r.exp r.atom r.decs f l i low h;
-    atom = λ f i h. atom-far n (readers n) s.exp s.decs r.exp r.decs f (atom-start-is f i) h;
-    decs = λ f i h. decs_from-far (suc n) (below (suc n)) (far_below (suc n)) (λ g l m. exp_from (readers n) n g l m)
-      (λ g l m x low e. exp_from-sound n (below n) (readers n) s.exp s.atom s.decs g l m x low e)
-      (λ g l m low e. exp_from-far n (below n) (far_below n) (readers n) s.exp s.atom s.decs r.exp r.atom r.decs g l m low e)
-      (readers n).decs (λ g m x e. let d = s.decs g m x e in record { reads = d.reads; fits = omega (arith, d.fits) })
-      (record { first = λ g p m e. in_local p (r.decs g m e); second = λ g p q m ds k d e. in_local_body p q d (r.decs (after g ds) k e) }) f i h
-  }
+    let s = readers-sound below n in
+    let r = readers-far below far_below n in
+    record {
+      exp = λ f l i low h. exp_from-far n (below n) (far_below n) (readers n) s.exp s.atom s.decs r.exp r.atom r.decs f l i low h;
+      atom = λ f i h. atom-far n (readers n) s.exp s.decs r.exp r.decs f (atom-start-is f i) h;
+      decs = λ f i h. decs_from-far (suc n) (below (suc n)) (far_below (suc n)) (λ g l m. exp_from (readers n) n g l m)
+          (λ g l m x low e. exp_from-sound n (below n) (readers n) s.exp s.atom s.decs g l m x low e)
+          (λ g l m low e. exp_from-far n (below n) (far_below n) (readers n) s.exp s.atom s.decs r.exp r.atom r.decs g l m low e)
+          (readers n).decs (λ g m x e. let d = s.decs g m x e in record { reads = d.reads; fits = omega (arith, d.fits) })
+          (record { first = λ g p m e. in_local p (r.decs g m e); second = λ g p q m ds k d e. in_local_body p q d (r.decs (after g ds) k e) }) f i h;
+    }

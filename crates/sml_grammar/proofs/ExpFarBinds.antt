@@ -35,36 +35,36 @@ maybe-far n far_below i h = go (after-is res.Colon i) i h
 module _ (n : ℕ) (below : Below n) (far_below : FarBelow n) (self : Reader) (sound : Sounds n self) (far : Fars n self) (f : Fixity) where
   bind-ends : (s : NoState) (i : List Terminal) → bind_turn n self f s i ≡ deep → OpensBinds f i (suc n)
   bind-ends s i h =
-    elim (on_some-split (after_word res.Rec i) _ _ h) [
-        inl q ↦ not_deep q.2
-      | inr q ↦ elim (then_deep (read_pat n f i) _ q.1) [
-            inl x ↦ in_bind_pat (far_below.pats f i x)
+      elim (on_some-split (after_word res.Rec i) _ _ h) [
+        | inl q ↦ not_deep q.2
+        | inr q ↦ elim (then_deep (read_pat n f i) _ q.1) [
+          | inl x ↦ in_bind_pat (far_below.pats f i x)
           | inr t ↦
               let w = word_then-deep res.Equals _ t.0.rest t.2 in
               let a = at-head w.1 (λ z. Pattern f i t.0.tree z) (below.pats f i t.0 t.1).reads in
               elim (then_deep (self f 0 w.0) _ w.2) [
-                  inl x ↦ in_bind a.0 a.1 (far f 0 w.0 (omega arith) x)
+                | inl x ↦ in_bind a.0 a.1 (far f 0 w.0 (omega arith) x)
                 | inr u ↦ separated-deep (after_word res.And u.0.rest) (bind t.0.tree u.0.tree) (last_bind t.0.tree u.0.tree) s u.0.rest u.2
               ]
         ]
-    ]
+      ]
 
   bind-goes : (s : NoState) (i : List Terminal) (put : Binds → Binds) (s' : NoState) (m : List Terminal) → bind_turn n self f s i ≡ read (more put s') m → OpensBinds f m (suc n) → OpensBinds f i (suc n)
   bind-goes s i put s' m h k =
-    elim (on_some-split (after_word res.Rec i) _ _ h) [
-        inl q ↦
-          let r = went (λ z o. OpensBinds f o (suc n)) q.2 k in
-          at-front (word-at res.Rec i q.0 q.1) (λ z. OpensBinds f z (suc n)) (λ p. past_rec p r)
-      | inr q ↦
-          let y : Read (Turn Binds NoState) = record { tree = more put s'; rest = m } in
-          let t = then_ok (read_pat n f i) _ y q.1 in
-          let w = word_then-ok res.Equals _ t.0.rest y t.2 in
-          let a = at-head w.1 (λ z. Pattern f i t.0.tree z) (below.pats f i t.0 t.1).reads in
-          let u = then_ok (self f 0 w.0) _ y w.2 in
-          let v = sep-more u.0.rest res.And (bind t.0.tree u.0.tree) (last_bind t.0.tree u.0.tree) s put s' m u.2 in
-          let c = at-head v.0 (λ z. Reads f w.0 u.0.tree z) (sound f 0 w.0 u.0 (omega arith) u.1).reads in
-          past_bind a.0 c.0 a.1 c.1 k
-    ]
+      elim (on_some-split (after_word res.Rec i) _ _ h) [
+        | inl q ↦
+            let r = went (λ z o. OpensBinds f o (suc n)) q.2 k in
+            at-front (word-at res.Rec i q.0 q.1) (λ z. OpensBinds f z (suc n)) (λ p. past_rec p r)
+        | inr q ↦
+            let y : Read (Turn Binds NoState) = record { tree = more put s'; rest = m } in
+            let t = then_ok (read_pat n f i) _ y q.1 in
+            let w = word_then-ok res.Equals _ t.0.rest y t.2 in
+            let a = at-head w.1 (λ z. Pattern f i t.0.tree z) (below.pats f i t.0 t.1).reads in
+            let u = then_ok (self f 0 w.0) _ y w.2 in
+            let v = sep-more u.0.rest res.And (bind t.0.tree u.0.tree) (last_bind t.0.tree u.0.tree) s put s' m u.2 in
+            let c = at-head v.0 (λ z. Reads f w.0 u.0.tree z) (sound f 0 w.0 u.0 (omega arith) u.1).reads in
+            past_bind a.0 c.0 a.1 c.1 k
+      ]
 
   pub binds-far : (i : List Terminal) → read_binds n self f i ≡ deep → OpensBinds f i (suc n)
   binds-far i h = many-far (bind_turn n self f) (λ s m. OpensBinds f m (suc n)) bind-ends bind-goes (suc (length i)) no_state i h
@@ -73,71 +73,71 @@ module _ (n : ℕ) (below : Below n) (far_below : FarBelow n) (self : Reader) (s
   result-far s d ag (far_maybe p o) = in_result p d ag o
 
   body-ends : (s : Option Shape) (i : List Terminal) (h : Head) (m : List Terminal) (t : Option Ty) (k : List Terminal) → ReadsHead f i h m → agrees s h ≡ true → MaybeTy m t k →
-    clause_body self f h t k ≡ deep → OpensClauses f s i (suc n)
+      clause_body self f h t k ≡ deep → OpensClauses f s i (suc n)
   body-ends s i h m t k d ag q e =
-    let w = word_then-deep res.Equals _ k e in
-    let a = at-head w.1 (λ z. MaybeTy m t z) q in
-    elim (then_deep (self f 0 w.0) _ w.2) [
-        inl x ↦ in_clause a.0 d ag a.1 (far f 0 w.0 (omega arith) x)
-      | inr u ↦ separated-deep (after_word res.Bar u.0.rest) (clause h t u.0.tree) (last_clause h t u.0.tree) (Some (shape_of h)) u.0.rest u.2
-    ]
+      let w = word_then-deep res.Equals _ k e in
+      let a = at-head w.1 (λ z. MaybeTy m t z) q in
+      elim (then_deep (self f 0 w.0) _ w.2) [
+        | inl x ↦ in_clause a.0 d ag a.1 (far f 0 w.0 (omega arith) x)
+        | inr u ↦ separated-deep (after_word res.Bar u.0.rest) (clause h t u.0.tree) (last_clause h t u.0.tree) (Some (shape_of h)) u.0.rest u.2
+      ]
 
   clause-ends : (s : Option Shape) (i : List Terminal) → clause_turn n self f s i ≡ deep → OpensClauses f s i (suc n)
   clause-ends s i e =
-    elim (then_deep (read_head n f i) (clause_rest n self f s) e) [
-        inl x ↦ in_head (far_below.heads f i x)
-      | inr t ↦
-          let d = (below.heads f i t.0 t.1).reads in
-          elim (chosen (agrees s t.0.tree) _ _ t.2) [
-              inl p ↦ elim (then_deep (maybe_ty n (after_word res.Colon t.0.rest) t.0.rest) (clause_body self f t.0.tree) p.1) [
-                  inl x ↦ result-far s d p.0 (maybe-far n far_below t.0.rest x)
+      elim (then_deep (read_head n f i) (clause_rest n self f s) e) [
+        | inl x ↦ in_head (far_below.heads f i x)
+        | inr t ↦
+            let d = (below.heads f i t.0 t.1).reads in
+            elim (chosen (agrees s t.0.tree) _ _ t.2) [
+              | inl p ↦ elim (then_deep (maybe_ty n (after_word res.Colon t.0.rest) t.0.rest) (clause_body self f t.0.tree) p.1) [
+                | inl x ↦ result-far s d p.0 (maybe-far n far_below t.0.rest x)
                 | inr u ↦ body-ends s i t.0.tree t.0.rest u.0.tree u.0.rest d p.0 (below.maybe_tys t.0.rest u.0 u.1).reads u.2
               ]
-            | inr p ↦ bad_deep {A = Turn Clauses (Option Shape)} p.1
-          ]
-    ]
+              | inr p ↦ bad_deep {A = Turn Clauses (Option Shape)} p.1
+            ]
+      ]
 
   body-goes : (s : Option Shape) (i : List Terminal) (h : Head) (m : List Terminal) (t : Option Ty) (k : List Terminal) (put : Clauses → Clauses) (s' : Option Shape) (x : List Terminal) →
-    ReadsHead f i h m → agrees s h ≡ true → MaybeTy m t k → clause_body self f h t k ≡ read (more put s') x → OpensClauses f s' x (suc n) → OpensClauses f s i (suc n)
+      ReadsHead f i h m → agrees s h ≡ true → MaybeTy m t k → clause_body self f h t k ≡ read (more put s') x → OpensClauses f s' x (suc n) → OpensClauses f s i (suc n)
   body-goes s i h m t k put s' x d ag q e r =
-    let y : Read (Turn Clauses (Option Shape)) = record { tree = more put s'; rest = x } in
-    let w = word_then-ok res.Equals _ k y e in
-    let a = at-head w.1 (λ z. MaybeTy m t z) q in
-    let u = then_ok (self f 0 w.0) _ y w.2 in
-    let g = sound f 0 w.0 u.0 (omega arith) u.1 in
-    let v = sep-more u.0.rest res.Bar (clause h t u.0.tree) (last_clause h t u.0.tree) (Some (shape_of h)) put s' x u.2 in
-    let c = at-head v.0 (λ z. Reads f w.0 u.0.tree z × (goes_on f u.0.tree z ≡ false)) (g.reads, g.ends) in
-    past_clause a.0 c.0 d ag a.1 c.1.1 c.1.0 (subst (λ (z : Option Shape). OpensClauses f z x (suc n)) (sym v.1) r)
+      let y : Read (Turn Clauses (Option Shape)) = record { tree = more put s'; rest = x } in
+      let w = word_then-ok res.Equals _ k y e in
+      let a = at-head w.1 (λ z. MaybeTy m t z) q in
+      let u = then_ok (self f 0 w.0) _ y w.2 in
+      let g = sound f 0 w.0 u.0 (omega arith) u.1 in
+      let v = sep-more u.0.rest res.Bar (clause h t u.0.tree) (last_clause h t u.0.tree) (Some (shape_of h)) put s' x u.2 in
+      let c = at-head v.0 (λ z. Reads f w.0 u.0.tree z × (goes_on f u.0.tree z ≡ false)) (g.reads, g.ends) in
+      past_clause a.0 c.0 d ag a.1 c.1.1 c.1.0 (subst (λ (z : Option Shape). OpensClauses f z x (suc n)) (sym v.1) r)
 
   clause-goes : (s : Option Shape) (i : List Terminal) (put : Clauses → Clauses) (s' : Option Shape) (x : List Terminal) → clause_turn n self f s i ≡ read (more put s') x → OpensClauses f s' x (suc n) →
-    OpensClauses f s i (suc n)
+      OpensClauses f s i (suc n)
   clause-goes s i put s' x e r =
-    let y : Read (Turn Clauses (Option Shape)) = record { tree = more put s'; rest = x } in
-    let t = then_ok (read_head n f i) (clause_rest n self f s) y e in
-    elim (chosen (agrees s t.0.tree) _ _ t.2) [
-        inl p ↦
-          let u = then_ok (maybe_ty n (after_word res.Colon t.0.rest) t.0.rest) (clause_body self f t.0.tree) y p.1 in
-          body-goes s i t.0.tree t.0.rest u.0.tree u.0.rest put s' x (below.heads f i t.0 t.1).reads p.0 (below.maybe_tys t.0.rest u.0 u.1).reads u.2 r
-      | inr p ↦ bad_ok p.1
-    ]
+      let y : Read (Turn Clauses (Option Shape)) = record { tree = more put s'; rest = x } in
+      let t = then_ok (read_head n f i) (clause_rest n self f s) y e in
+      elim (chosen (agrees s t.0.tree) _ _ t.2) [
+        | inl p ↦
+            let u = then_ok (maybe_ty n (after_word res.Colon t.0.rest) t.0.rest) (clause_body self f t.0.tree) y p.1 in
+            body-goes s i t.0.tree t.0.rest u.0.tree u.0.rest put s' x (below.heads f i t.0 t.1).reads p.0 (below.maybe_tys t.0.rest u.0 u.1).reads u.2 r
+        | inr p ↦ bad_ok p.1
+      ]
 
   clauses-far : (i : List Terminal) → read_clauses n self f i ≡ deep → OpensClauses f None i (suc n)
   clauses-far i h = many-far (clause_turn n self f) (λ s m. OpensClauses f s m (suc n)) clause-ends clause-goes (suc (length i)) None i h
 
   fun-ends : (s : NoState) (i : List Terminal) → fun_turn n self f s i ≡ deep → OpensFuns f i (suc n)
   fun-ends s i h =
-    elim (then_deep (read_clauses n self f i) _ h) [
-        inl x ↦ in_clauses (clauses-far i x)
-      | inr t ↦ separated-deep (after_word res.And t.0.rest) (fun_and t.0.tree) (last_fun t.0.tree) s t.0.rest t.2
-    ]
+      elim (then_deep (read_clauses n self f i) _ h) [
+        | inl x ↦ in_clauses (clauses-far i x)
+        | inr t ↦ separated-deep (after_word res.And t.0.rest) (fun_and t.0.tree) (last_fun t.0.tree) s t.0.rest t.2
+      ]
 
   fun-goes : (s : NoState) (i : List Terminal) (put : Funs → Funs) (s' : NoState) (m : List Terminal) → fun_turn n self f s i ≡ read (more put s') m → OpensFuns f m (suc n) → OpensFuns f i (suc n)
   fun-goes s i put s' m h k =
-    let t = then_ok (read_clauses n self f i) _ (record { tree = more put s'; rest = m }) h in
-    let c = clauses-sound n below self sound f i t.0 t.1 in
-    let v = sep-more t.0.rest res.And (fun_and t.0.tree) (last_fun t.0.tree) s put s' m t.2 in
-    let a = at-head v.0 (λ z. ReadsClauses f c.vid c.count i t.0.tree z) c.reads in
-    past_clauses c.vid c.count a.0 a.1 k
+      let t = then_ok (read_clauses n self f i) _ (record { tree = more put s'; rest = m }) h in
+      let c = clauses-sound n below self sound f i t.0 t.1 in
+      let v = sep-more t.0.rest res.And (fun_and t.0.tree) (last_fun t.0.tree) s put s' m t.2 in
+      let a = at-head v.0 (λ z. ReadsClauses f c.vid c.count i t.0.tree z) c.reads in
+      past_clauses c.vid c.count a.0 a.1 k
 
   pub funs-far : (i : List Terminal) → read_funs n self f i ≡ deep → OpensFuns f i (suc n)
   funs-far i h = many-far (fun_turn n self f) (λ s m. OpensFuns f m (suc n)) fun-ends fun-goes (suc (length i)) no_state i h

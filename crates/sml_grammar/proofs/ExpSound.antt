@@ -19,13 +19,13 @@ unfolding readers
 readers-sound below zero = record {
   exp = λ f l i y low h. deep_if-ok (begins f l i) y h;
   atom = λ f i y h. deep_if-ok (begins_atom f i) y h;
-  decs = λ f i y h. decs_from-sound 0 (below 0) (λ g l m. deep_if (begins g l m)) (λ g l m x low e. deep_if-ok (begins g l m) x e) (λ g m. deep) (λ g m x e. deep_ok e) f i y h
+  decs = λ f i y h. decs_from-sound 0 (below 0) (λ g l m. deep_if (begins g l m)) (λ g l m x low e. deep_if-ok (begins g l m) x e) (λ g m. deep) (λ g m x e. deep_ok e) f i y h;
 }
 readers-sound below (suc n) =
-  let s = readers-sound below n in
-  record {
-    exp = λ f l i y low h. exp_from-sound n (below n) (readers n) s.exp s.atom s.decs f l i y low h;
-    atom = λ f i y h. atom-sound n (readers n) s.exp s.decs f y (atom-start-is f i) h;
-    decs = λ f i y h. decs_from-sound (suc n) (below (suc n)) (λ g l m. exp_from (readers n) n g l m) (λ g l m x low e. exp_from-sound n (below n) (readers n) s.exp s.atom s.decs g l m x low e)
-      (readers n).decs (λ g m x e. let d = s.decs g m x e in record { reads = d.reads; fits = omega (arith, d.fits) }) f i y h
-  }
+    let s = readers-sound below n in
+    record {
+      exp = λ f l i y low h. exp_from-sound n (below n) (readers n) s.exp s.atom s.decs f l i y low h;
+      atom = λ f i y h. atom-sound n (readers n) s.exp s.decs f y (atom-start-is f i) h;
+      decs = λ f i y h. decs_from-sound (suc n) (below (suc n)) (λ g l m. exp_from (readers n) n g l m) (λ g l m x low e. exp_from-sound n (below n) (readers n) s.exp s.atom s.decs g l m x low e)
+          (readers n).decs (λ g m x e. let d = s.decs g m x e in record { reads = d.reads; fits = omega (arith, d.fits) }) f i y h;
+    }

@@ -19,17 +19,17 @@ given {B} P {y} e k = subst (λ (z : Read B). P z.tree z.rest) (got e) k
 
 -- an element of a list, and a separator or none after it
 pub sep-good : {B S : Type 0} (P : S → List Terminal → B → List Terminal → Type 0) (s s' : S) (i o : List Terminal) (w : Reserved) (put : B → B) (end : B) (y : Read (Turn B S)) →
-  separated (after_word w o) put end s' o ≡ ok y → (after_word w o ≡ None → P s i end o) → ((m : List Terminal) → WordAt w o m → (b : B) (k : List Terminal) → P s' m b k → P s i (put b) k) →
-  GoodTurn P s i y.tree y.rest
+    separated (after_word w o) put end s' o ≡ ok y → (after_word w o ≡ None → P s i end o) → ((m : List Terminal) → WordAt w o m → (b : B) (k : List Terminal) → P s' m b k → P s i (put b) k) →
+    GoodTurn P s i y.tree y.rest
 sep-good {B} {S} P s s' i o w put end y h ends goes =
-  elim (separated-ok (after_word w o) put end s' o h) [
-      inl q ↦ subst (λ (z : Read (Turn B S)). GoodTurn P s i z.tree z.rest) q.1 (ends q.0)
-    | inr q ↦ subst (λ (z : Read (Turn B S)). GoodTurn P s i z.tree z.rest) q.2 (goes q.0 (word-at w o q.0 q.1))
-  ]
+    elim (separated-ok (after_word w o) put end s' o h) [
+      | inl q ↦ subst (λ (z : Read (Turn B S)). GoodTurn P s i z.tree z.rest) q.1 (ends q.0)
+      | inr q ↦ subst (λ (z : Read (Turn B S)). GoodTurn P s i z.tree z.rest) q.2 (goes q.0 (word-at w o q.0 q.1))
+    ]
 
 -- the loop goes on after a separator
 pub sep-more : {B S : Type 0} (o : List Terminal) (w : Reserved) (put : B → B) (end : B) (s : S) (put' : B → B) (t : S) (m : List Terminal) →
-  separated (after_word w o) put end s o ≡ read (more put' t) m → WordAt w o m × (s ≡ t)
+    separated (after_word w o) put end s o ≡ read (more put' t) m → WordAt w o m × (s ≡ t)
 sep-more o w put end s put' t m h = let q = separated-more (after_word w o) put end s o put' t m h in (word-at w o m q.0, q.2)
 
 -- the loop goes on with the state of a turn

@@ -20,5 +20,5 @@ end-is n f i x (t ∷ o) ds d e = bad_ok e
 
 pub sound : laws.Sound
 sound n f i ds h =
-  let t = then_ok ((readers n).decs f i) at_end (record { tree = ds; rest = [] }) h in
-  end-is n f i t.0.tree t.0.rest ds ((readers-sound below n).decs f i t.0 t.1) t.2
+    let t = then_ok ((readers n).decs f i) at_end (record { tree = ds; rest = [] }) h in
+    end-is n f i t.0.tree t.0.rest ds ((readers-sound below n).decs f i t.0 t.1) t.2
