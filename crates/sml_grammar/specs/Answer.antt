@@ -1,5 +1,5 @@
 -- What a reader answers: it has read a phrase, no phrase is there, or the phrase is nested too deep.
-use Rattle.std.specs.Prelude.{ℕ, zero, suc, List, [], ◌∷◌, length, Option, Some, None, Bool, true, false, nat_eq, if◌then◌else◌}
+use Rattle.std.specs.Prelude.{ℕ, zero, suc, List, length, Bool, true, false}
 use Rattle.sml_tree.specs.Terminal.{Terminal}
 
 -- a phrase, and the terminals after it

@@ -1,15 +1,13 @@
 -- How expressions and declarations are read. `(readers n).exp f l` reads an expression of a level of at least l that is at most n deep,
 -- `(readers n).atom f` an atomic one, and `(readers n).decs f` declarations.
 use Rattle.std.specs.Prelude.{ℕ, zero, suc, List, [], ◌∷◌, Option, Some, None, Bool, true, false, ◌||◌, ◌&&◌, nat_eq, nat_le, if◌then◌else◌}
-use Rattle.mlc_base.specs.declared.label.Label.{Label}
 use Rattle.mlc_base.specs.declared.token.Reserved.TheVariants as res
-use Rattle.sml_tree.specs.Terminal.{Constant, int, LongVid, LongId, Terminal, reserved, number, constant}
-use Rattle.sml_tree.specs.declared.ident.Tyvar.{Tyvar}
+use Rattle.sml_tree.specs.Terminal.{Constant, int, LongVid, Terminal, reserved, number, constant}
 use Rattle.sml_tree.specs.declared.ident.Vid.{Vid}
 use Rattle.sml_tree.specs.declared.ident.Vid.TheVariants.{Named, Equals}
 use Rattle.sml_tree.specs.declared.fixity.Infix.{Infix}
 use Rattle.sml_tree.specs.Fixity.{Fixity, fix_of, is_vid}
-use Rattle.sml_tree.specs.ReadTree.{Placed, Ty, Pat, Joint, and_also, or_else, infixed, Head, head_vid, head_count, TypeBind, ConBind, DataBind, ExBind, Exp, constant_exp, vid_exp, record_exp, selector, unit_exp, tuple_exp, list_exp, sequence, paren_exp, let_in, app, chain, typed, handle, raise, if_then, while, case, fn, Exps, no_exps, exp, ExpFields, no_exp_fields, exp_field, Parts, last_part, part, Rules, last_rule, rule, Decs, no_decs, dec, Dec, val_dec, fun_dec, type_dec, datatype_dec, withtype_dec, replicate_dec, exception_dec, local_dec, open_dec, fixity_dec, Binds, last_bind, bind, rec_binds, Funs, last_fun, fun_and, Clauses, last_clause, clause}
+use Rattle.sml_tree.specs.ReadTree.{Placed, Ty, Joint, and_also, or_else, infixed, Head, head_vid, head_count, DataBind, Exp, constant_exp, vid_exp, record_exp, selector, unit_exp, tuple_exp, list_exp, sequence, paren_exp, let_in, app, chain, typed, handle, raise, if_then, while, case, fn, Exps, no_exps, exp, ExpFields, no_exp_fields, exp_field, Parts, last_part, part, Rules, last_rule, rule, Decs, no_decs, dec, Dec, val_dec, fun_dec, type_dec, datatype_dec, withtype_dec, replicate_dec, exception_dec, local_dec, open_dec, fixity_dec, Binds, last_bind, bind, rec_binds, Funs, last_fun, fun_and, Clauses, last_clause, clause}
 use Rattle.sml_tree.specs.Depth.{depth}
 use Rattle.sml_tree.specs.Levels.{after, after_dec, joint_level, joint_right, level}
 use Rattle.sml_grammar.specs.Answer.{Answer, bad, deep, read, then_read, deep_if, Turn, last, more, whole}
@@ -114,13 +112,13 @@ semicolons_turn self f s i = then_read (self f 0 i) (λ e o. separated (after_wo
 
 abbrev pub row_turn : Reader → Fixity → NoState → List Terminal → Answer (Turn ExpFields NoState)
 row_turn self f s i =
-  then_taken (label_equals i) (λ l m. then_read (self f 0 m) (λ e o. separated (after_word res.Comma o) (exp_field l e) (exp_field l e no_exp_fields) s o))
+    then_taken (label_equals i) (λ l m. then_read (self f 0 m) (λ e o. separated (after_word res.Comma o) (exp_field l e) (exp_field l e no_exp_fields) s o))
 
 -- Atomic expressions, after their first terminal.
 
 abbrev pub brace_exp : Reader → Fixity → ℕ → List Terminal → Answer Exp
 brace_exp self f p i =
-  on_some (after_word res.RightBrace i) (λ o. read (record_exp p no_exp_fields) o)
+    on_some (after_word res.RightBrace i) (λ o. read (record_exp p no_exp_fields) o)
     (then_read (whole (row_turn self f) no_state i) (λ fs m. word_then res.RightBrace (λ o. read (record_exp p fs) o) m))
 
 abbrev pub hash_exp : ℕ → List Terminal → Answer Exp
@@ -128,7 +126,7 @@ hash_exp p i = then_taken (first_as as_label i) (λ l o. read (selector p l.it) 
 
 abbrev pub bracket_exp : Reader → Fixity → ℕ → List Terminal → Answer Exp
 bracket_exp self f p i =
-  on_some (after_word res.RightBracket i) (λ o. read (list_exp p no_exps) o)
+    on_some (after_word res.RightBracket i) (λ o. read (list_exp p no_exps) o)
     (then_read (whole (commas_turn self f) no_state i) (λ es m. word_then res.RightBracket (λ o. read (list_exp p es) o) m))
 
 abbrev pub tuple_rest : Reader → Fixity → ℕ → Exp → List Terminal → Answer Exp
@@ -140,7 +138,7 @@ sequence_rest self f p e i = then_read (whole (semicolons_turn self f) no_state 
 -- after `(e`
 abbrev pub paren_rest : Reader → Fixity → ℕ → Exp → List Terminal → Answer Exp
 paren_rest self f p e i =
-  on_some (after_word res.Comma i) (tuple_rest self f p e)
+    on_some (after_word res.Comma i) (tuple_rest self f p e)
     (on_some (after_word res.Semicolon i) (sequence_rest self f p e) (word_then res.RightParen (λ o. read (paren_exp p e) o) i))
 
 abbrev pub paren_in : Reader → Fixity → ℕ → List Terminal → Answer Exp
@@ -175,9 +173,9 @@ applied e (exp a es) = app e a es
 -- e is an application's first part only if there is room for it
 abbrev pub apply_to : Readers → ℕ → Fixity → Exp → List Terminal → Answer Exp
 apply_to self n f e m =
-  if begins_atom f m
-  then (if nat_le (depth e) n then then_read (whole (atoms_turn self.atom f) no_state m) (λ es o. read (applied e es) o) else deep)
-  else read e m
+    if begins_atom f m
+    then (if nat_le (depth e) n then then_read (whole (atoms_turn self.atom f) no_state m) (λ es o. read (applied e es) o) else deep)
+    else read e m
 
 abbrev pub application : Readers → ℕ → Fixity → List Terminal → Answer Exp
 application self n f i = then_read (atom_by self f (atom_start f i)) (apply_to self n f)
@@ -186,7 +184,7 @@ application self n f i = then_read (atom_by self f (atom_start f i)) (apply_to s
 
 abbrev pub rule_turn : ℕ → Reader → Fixity → NoState → List Terminal → Answer (Turn Rules NoState)
 rule_turn n self f s i =
-  then_read (read_pat n f i) (λ a m. word_then res.DoubleArrow (λ k. then_read (self f 0 k) (λ e o. separated (after_word res.Bar o) (rule a e) (last_rule a e) s o)) m)
+    then_read (read_pat n f i) (λ a m. word_then res.DoubleArrow (λ k. then_read (self f 0 k) (λ e o. separated (after_word res.Bar o) (rule a e) (last_rule a e) s o)) m)
 
 abbrev pub read_match : ℕ → Reader → Fixity → List Terminal → Answer Rules
 read_match n self f i = whole (rule_turn n self f) no_state i
@@ -217,9 +215,9 @@ next_of f i = infix_next (infix_vid f i)
 -- what follows an operand in a chain of level l that associates as r says, after the joint j
 abbrev pub part_next : Fixity → ℕ → Bool → Joint → Exp → List Terminal → Next → Answer (Turn Parts Joint)
 part_next f l r j b i (joint j' m) =
-  if nat_eq (joint_level f j') l
-  then (if same (joint_right f j') r then read (more (part j b) j') m else bad)
-  else read (last (last_part j b)) i
+    if nat_eq (joint_level f j') l
+    then (if same (joint_right f j') r then read (more (part j b) j') m else bad)
+    else read (last (last_part j b)) i
 part_next f l r j b i (mark m) = read (last (last_part j b)) i
 part_next f l r j b i (handler m) = read (last (last_part j b)) i
 part_next f l r j b i nothing = read (last (last_part j b)) i
@@ -234,19 +232,19 @@ whole_parts self f j m = whole (part_turn self f (joint_level f j) (joint_right 
 abbrev pub suffix_next : Reader → ℕ → Fixity → ℕ → Exp → List Terminal → Next → Answer (Turn Exp Exp)
 suffix_next self n f l a i nothing = read (last a) i
 suffix_next self n f l a i (joint j m) =
-  if nat_le l (joint_level f j)
-  then (if nat_le (suc (joint_level f j)) (level f a)
+    if nat_le l (joint_level f j)
+    then (if nat_le (suc (joint_level f j)) (level f a)
     then (if nat_le (depth a) n then then_read (whole_parts self f j m) (λ ps o. read (more (λ b. b) (chain (joint_right f j) a ps)) o) else deep)
     else bad)
-  else read (last a) i
+    else read (last a) i
 suffix_next self n f l a i (mark m) =
-  if nat_le l 5
-  then (if nat_le 5 (level f a) then (if nat_le (depth a) n then then_read (read_ty n 0 m) (λ t o. read (more (λ b. b) (typed a t)) o) else deep) else bad)
-  else read (last a) i
+    if nat_le l 5
+    then (if nat_le 5 (level f a) then (if nat_le (depth a) n then then_read (read_ty n 0 m) (λ t o. read (more (λ b. b) (typed a t)) o) else deep) else bad)
+    else read (last a) i
 suffix_next self n f l a i (handler m) =
-  if nat_le l 0
-  then (if nat_le (depth a) n then then_read (read_match n self f m) (λ rs o. read (more (λ b. b) (handle a rs)) o) else deep)
-  else read (last a) i
+    if nat_le l 0
+    then (if nat_le (depth a) n then then_read (read_match n self f m) (λ rs o. read (more (λ b. b) (handle a rs)) o) else deep)
+    else read (last a) i
 
 abbrev pub suffix_turn : Reader → ℕ → Fixity → ℕ → Exp → List Terminal → Answer (Turn Exp Exp)
 suffix_turn self n f l a i = suffix_next self n f l a i (next_of f i)
@@ -255,7 +253,7 @@ suffix_turn self n f l a i = suffix_next self n f l a i (next_of f i)
 
 abbrev pub if_rest : Reader → Fixity → ℕ → Exp → List Terminal → Answer Exp
 if_rest self f p a i =
-  word_then res.Then (λ m. then_read (self f 0 m) (λ b k. word_then res.Else (λ k'. then_read (self f 0 k') (λ c o. read (if_then p a b c) o)) k)) i
+    word_then res.Then (λ m. then_read (self f 0 m) (λ b k. word_then res.Else (λ k'. then_read (self f 0 k') (λ c o. read (if_then p a b c) o)) k)) i
 
 abbrev pub while_rest : Reader → Fixity → ℕ → Exp → List Terminal → Answer Exp
 while_rest self f p a i = word_then res.Do (λ m. then_read (self f 0 m) (λ b o. read (while p a b) o)) i
@@ -273,15 +271,15 @@ keyword_form n self f other_start = bad
 
 abbrev pub exp_from : Readers → ℕ → Fixity → ℕ → List Terminal → Answer Exp
 exp_from self n f l i =
-  if is_keyword (start_of i)
-  then (if nat_le l 4 then keyword_form n self.exp f (start_of i) else bad)
-  else then_read (application self n f i) (λ a m. whole (suffix_turn self.exp n f l) a m)
+    if is_keyword (start_of i)
+    then (if nat_le l 4 then keyword_form n self.exp f (start_of i) else bad)
+    else then_read (application self n f i) (λ a m. whole (suffix_turn self.exp n f l) a m)
 
 -- Declarations. `n` is how deep their phrases may be, and `inner` reads the declarations in a `local`.
 
 abbrev pub bind_turn : ℕ → Reader → Fixity → NoState → List Terminal → Answer (Turn Binds NoState)
 bind_turn n self f s i =
-  on_some (after_word res.Rec i) (λ m. read (more rec_binds s) m)
+    on_some (after_word res.Rec i) (λ m. read (more rec_binds s) m)
     (then_read (read_pat n f i) (λ a m. word_then res.Equals (λ k. then_read (self f 0 k) (λ e o. separated (after_word res.And o) (bind a e) (last_bind a e) s o)) m))
 
 abbrev pub read_binds : ℕ → Reader → Fixity → List Terminal → Answer Binds
@@ -301,11 +299,11 @@ agrees (Some s) h = is_vid (head_vid h) s.vid && nat_eq (head_count h) s.count
 
 abbrev pub clause_body : Reader → Fixity → Head → Option Ty → List Terminal → Answer (Turn Clauses (Option Shape))
 clause_body self f h t i =
-  word_then res.Equals (λ k. then_read (self f 0 k) (λ e o. separated (after_word res.Bar o) (clause h t e) (last_clause h t e) (Some (shape_of h)) o)) i
+    word_then res.Equals (λ k. then_read (self f 0 k) (λ e o. separated (after_word res.Bar o) (clause h t e) (last_clause h t e) (Some (shape_of h)) o)) i
 
 abbrev pub clause_rest : ℕ → Reader → Fixity → Option Shape → Head → List Terminal → Answer (Turn Clauses (Option Shape))
 clause_rest n self f s h i =
-  if agrees s h then then_read (maybe_ty n (after_word res.Colon i) i) (clause_body self f h) else bad
+    if agrees s h then then_read (maybe_ty n (after_word res.Colon i) i) (clause_body self f h) else bad
 
 abbrev pub clause_turn : ℕ → Reader → Fixity → Option Shape → List Terminal → Answer (Turn Clauses (Option Shape))
 clause_turn n self f s i = then_read (read_head n f i) (clause_rest n self f s)
@@ -354,7 +352,7 @@ infix_directive p right d i = directive p (Some (record { precedence = d; right 
 
 abbrev pub withtype_rest : ℕ → ℕ → List DataBind → List Terminal → Answer Dec
 withtype_rest n p bs i =
-  on_some (after_word res.Withtype i) (λ m. then_read (read_type_binds n m) (λ cs o. read (withtype_dec p bs cs) o)) (read (datatype_dec p bs) i)
+    on_some (after_word res.Withtype i) (λ m. then_read (read_type_binds n m) (λ cs o. read (withtype_dec p bs cs) o)) (read (datatype_dec p bs) i)
 
 -- `tycon = datatype`, as a replication has it after its first word
 abbrev pub replicated_if : Placed ℕ → Option (List Terminal) → Option (Taken (Placed ℕ))
@@ -366,12 +364,12 @@ replicated i = on_taken (first_as as_tycon i) (λ x m. replicated_if x (after_wo
 
 abbrev pub datatype_form : ℕ → Fixity → ℕ → List Terminal → Answer Dec
 datatype_form n f p i =
-  on_taken (replicated i) (λ x m. then_taken (first_as as_long_tycon m) (λ c o. read (replicate_dec p x c) o))
+    on_taken (replicated i) (λ x m. then_taken (first_as as_long_tycon m) (λ c o. read (replicate_dec p x c) o))
     (then_read (read_data_binds n f i) (withtype_rest n p))
 
 abbrev pub local_rest : DecsReader → Fixity → ℕ → Decs → List Terminal → Answer Dec
 local_rest inner f p ds i =
-  word_then res.In (λ k. then_read (inner (after f ds) k) (λ es m. word_then res.End (λ o. read (local_dec p ds es) o) m)) i
+    word_then res.In (λ k. then_read (inner (after f ds) k) (λ es m. word_then res.End (λ o. read (local_dec p ds es) o) m)) i
 
 abbrev pub dec_by : ℕ → Reader → DecsReader → Fixity → DecStart → Answer Dec
 dec_by n self inner f (val_start p i) = then_read (read_tyvars i) (λ as_ m. then_read (read_binds n self f m) (λ bs o. read (val_dec p as_ bs) o))
@@ -401,10 +399,10 @@ is_dec_start no_dec = false
 
 abbrev pub dec_turn : ℕ → Reader → DecsReader → Fixity → List Terminal → Answer (Turn Decs Fixity)
 dec_turn n self inner f i =
-  on_some (after_word res.Semicolon i) (λ m. read (more (λ ds. ds) f) m)
+    on_some (after_word res.Semicolon i) (λ m. read (more (λ ds. ds) f) m)
     (if is_dec_start (dec_start i)
-     then then_read (dec_by n self inner f (dec_start i)) (λ d o. read (more (dec d) (after_dec f d)) o)
-     else read (last no_decs) i)
+    then then_read (dec_by n self inner f (dec_start i)) (λ d o. read (more (dec d) (after_dec f d)) o)
+    else read (last no_decs) i)
 
 abbrev pub decs_from : ℕ → Reader → DecsReader → DecsReader
 decs_from n self inner f i = whole (dec_turn n self inner) f i
@@ -414,12 +412,12 @@ unfoldable pub readers : ℕ → Readers
 readers zero = record {
   exp = λ f l i. deep_if (begins f l i);
   atom = λ f i. deep_if (begins_atom f i);
-  decs = λ f i. decs_from 0 (λ g l m. deep_if (begins g l m)) (λ g m. deep) f i
+  decs = λ f i. decs_from 0 (λ g l m. deep_if (begins g l m)) (λ g m. deep) f i;
 }
 readers (suc n) = record {
   exp = λ f l i. exp_from (readers n) n f l i;
   atom = λ f i. atom_by (readers n) f (atom_start f i);
-  decs = λ f i. decs_from (suc n) (λ g l m. exp_from (readers n) n g l m) (readers n).decs f i
+  decs = λ f i. decs_from (suc n) (λ g l m. exp_from (readers n) n g l m) (readers n).decs f i;
 }
 
 -- all terminals as declarations

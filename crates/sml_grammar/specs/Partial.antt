@@ -28,24 +28,24 @@ mutual
     in_argument : {f : Fixity} {l : ℕ} {i m n : List Terminal} {e : Exp} {es : Exps} {d : ℕ} → Atom f i e m → Atoms f m es n → OpensAtom f n d → Opens f l i (suc d)
     -- a chain, cut off after its first joint, or in an operand
     joined : {f : Fixity} {l k : ℕ} {r : Bool} {i m : List Terminal} {t : Terminal} {j : Joint} {a : Exp} {d : ℕ} →
-      l ≤ k → k < level f a → goes_on f a (t ∷ m) ≡ false → Reads f i a (t ∷ m) → Fits f k r t j → d ≤ depth a → Opens f l i (suc d)
+        l ≤ k → k < level f a → goes_on f a (t ∷ m) ≡ false → Reads f i a (t ∷ m) → Fits f k r t j → d ≤ depth a → Opens f l i (suc d)
     in_chain : {f : Fixity} {l k : ℕ} {r : Bool} {i m : List Terminal} {a : Exp} {d : ℕ} →
-      l ≤ k → k < level f a → goes_on f a m ≡ false → Reads f i a m → OpensPart f k r m d → Opens f l i (suc d)
+        l ≤ k → k < level f a → goes_on f a m ≡ false → Reads f i a m → OpensPart f k r m d → Opens f l i (suc d)
     -- a typed expression, cut off after `:`, or in the type
     marked : {f : Fixity} {l : ℕ} {i m : List Terminal} {a : Exp} {d : ℕ} (p : ℕ) →
-      l ≤ 5 → 5 ≤ level f a → goes_on f a (reserved p res.Colon ∷ m) ≡ false → Reads f i a (reserved p res.Colon ∷ m) → d ≤ depth a → Opens f l i (suc d)
+        l ≤ 5 → 5 ≤ level f a → goes_on f a (reserved p res.Colon ∷ m) ≡ false → Reads f i a (reserved p res.Colon ∷ m) → d ≤ depth a → Opens f l i (suc d)
     in_typed : {f : Fixity} {l : ℕ} {i m : List Terminal} {a : Exp} {d : ℕ} (p : ℕ) →
-      l ≤ 5 → 5 ≤ level f a → goes_on f a (reserved p res.Colon ∷ m) ≡ false → Reads f i a (reserved p res.Colon ∷ m) → OpensTy 0 m d → Opens f l i (suc d)
+        l ≤ 5 → 5 ≤ level f a → goes_on f a (reserved p res.Colon ∷ m) ≡ false → Reads f i a (reserved p res.Colon ∷ m) → OpensTy 0 m d → Opens f l i (suc d)
     -- a handled expression, cut off after `handle`, or in the match
     handled : {f : Fixity} {l : ℕ} {i m : List Terminal} {a : Exp} {d : ℕ} (p : ℕ) →
-      l ≤ 0 → goes_on f a (reserved p res.Handle ∷ m) ≡ false → Reads f i a (reserved p res.Handle ∷ m) → d ≤ depth a → Opens f l i (suc d)
+        l ≤ 0 → goes_on f a (reserved p res.Handle ∷ m) ≡ false → Reads f i a (reserved p res.Handle ∷ m) → d ≤ depth a → Opens f l i (suc d)
     in_handler : {f : Fixity} {l : ℕ} {i m : List Terminal} {a : Exp} {d : ℕ} (p : ℕ) →
-      l ≤ 0 → goes_on f a (reserved p res.Handle ∷ m) ≡ false → Reads f i a (reserved p res.Handle ∷ m) → OpensMatch f m d → Opens f l i (suc d)
+        l ≤ 0 → goes_on f a (reserved p res.Handle ∷ m) ≡ false → Reads f i a (reserved p res.Handle ∷ m) → OpensMatch f m d → Opens f l i (suc d)
     in_raise : {f : Fixity} {l : ℕ} {i : List Terminal} {d : ℕ} (p : ℕ) → l ≤ 4 → Opens f 0 i d → Opens f l (reserved p res.Raise ∷ i) (suc d)
     in_condition : {f : Fixity} {l : ℕ} {i : List Terminal} {d : ℕ} (p : ℕ) → l ≤ 4 → Opens f 0 i d → Opens f l (reserved p res.If ∷ i) (suc d)
     in_then : {f : Fixity} {l : ℕ} {i m : List Terminal} {a : Exp} {d : ℕ} (p q : ℕ) → l ≤ 4 → Reads f i a (reserved q res.Then ∷ m) → Opens f 0 m d → Opens f l (reserved p res.If ∷ i) (suc d)
     in_else : {f : Fixity} {l : ℕ} {i m n : List Terminal} {a b : Exp} {d : ℕ} (p q r : ℕ) →
-      l ≤ 4 → Reads f i a (reserved q res.Then ∷ m) → Reads f m b (reserved r res.Else ∷ n) → Opens f 0 n d → Opens f l (reserved p res.If ∷ i) (suc d)
+        l ≤ 4 → Reads f i a (reserved q res.Then ∷ m) → Reads f m b (reserved r res.Else ∷ n) → Opens f 0 n d → Opens f l (reserved p res.If ∷ i) (suc d)
     in_while : {f : Fixity} {l : ℕ} {i : List Terminal} {d : ℕ} (p : ℕ) → l ≤ 4 → Opens f 0 i d → Opens f l (reserved p res.While ∷ i) (suc d)
     in_do : {f : Fixity} {l : ℕ} {i m : List Terminal} {a : Exp} {d : ℕ} (p q : ℕ) → l ≤ 4 → Reads f i a (reserved q res.Do ∷ m) → Opens f 0 m d → Opens f l (reserved p res.While ∷ i) (suc d)
     in_subject : {f : Fixity} {l : ℕ} {i : List Terminal} {d : ℕ} (p : ℕ) → l ≤ 4 → Opens f 0 i d → Opens f l (reserved p res.Case ∷ i) (suc d)
@@ -65,7 +65,7 @@ mutual
   pub data OpensRow : Fixity → List Terminal → ℕ → Type 0 where
     in_field : {f : Fixity} {t : Terminal} {i : List Terminal} {l : Label} {d : ℕ} (p : ℕ) → IsLabel t l → Opens f 0 i d → OpensRow f (t ∷ reserved p res.Equals ∷ i) d
     past_field : {f : Fixity} {t : Terminal} {i m : List Terminal} {l : Label} {e : Exp} {d : ℕ} (p q : ℕ) → IsLabel t l → Reads f i e (reserved q res.Comma ∷ m) → OpensRow f m d →
-      OpensRow f (t ∷ reserved p res.Equals ∷ i) d
+        OpensRow f (t ∷ reserved p res.Equals ∷ i) d
 
   pub data OpensCommas : Fixity → List Terminal → ℕ → Type 0 where
     in_comma : {f : Fixity} {i : List Terminal} {d : ℕ} → Opens f 0 i d → OpensCommas f i d
@@ -78,13 +78,13 @@ mutual
   pub data OpensPart : Fixity → ℕ → Bool → List Terminal → ℕ → Type 0 where
     in_part : {f : Fixity} {l : ℕ} {r : Bool} {t : Terminal} {j : Joint} {m : List Terminal} {d : ℕ} → Fits f l r t j → Opens f (suc l) m d → OpensPart f l r (t ∷ m) d
     past_part : {f : Fixity} {l : ℕ} {r : Bool} {t : Terminal} {j : Joint} {m n : List Terminal} {b : Exp} {d : ℕ} →
-      Fits f l r t j → l < level f b → goes_on f b n ≡ false → Reads f m b n → OpensPart f l r n d → OpensPart f l r (t ∷ m) d
+        Fits f l r t j → l < level f b → goes_on f b n ≡ false → Reads f m b n → OpensPart f l r n d → OpensPart f l r (t ∷ m) d
 
   pub data OpensMatch : Fixity → List Terminal → ℕ → Type 0 where
     in_rule_pat : {f : Fixity} {i : List Terminal} {d : ℕ} → OpensPat f 0 i d → OpensMatch f i d
     in_rule : {f : Fixity} {i m : List Terminal} {a : Pat} {d : ℕ} (p : ℕ) → Pattern f i a (reserved p res.DoubleArrow ∷ m) → Opens f 0 m d → OpensMatch f i d
     past_rule : {f : Fixity} {i m n : List Terminal} {a : Pat} {e : Exp} {d : ℕ} (p q : ℕ) → Pattern f i a (reserved p res.DoubleArrow ∷ m) →
-      goes_on f e (reserved q res.Bar ∷ n) ≡ false → Reads f m e (reserved q res.Bar ∷ n) → OpensMatch f n d → OpensMatch f i d
+        goes_on f e (reserved q res.Bar ∷ n) ≡ false → Reads f m e (reserved q res.Bar ∷ n) → OpensMatch f n d → OpensMatch f i d
 
   pub data OpensDecs : Fixity → List Terminal → ℕ → Type 0 where
     past_empty : {f : Fixity} {i : List Terminal} {d : ℕ} (p : ℕ) → OpensDecs f i d → OpensDecs f (reserved p res.Semicolon ∷ i) d
@@ -118,6 +118,6 @@ mutual
     in_head : {f : Fixity} {s : Option Shape} {i : List Terminal} {d : ℕ} → OpensHead f i d → OpensClauses f s i d
     in_result : {f : Fixity} {s : Option Shape} {i m : List Terminal} {h : Head} {d : ℕ} (p : ℕ) → ReadsHead f i h (reserved p res.Colon ∷ m) → agrees s h ≡ true → OpensTy 0 m d → OpensClauses f s i d
     in_clause : {f : Fixity} {s : Option Shape} {i m k : List Terminal} {h : Head} {t : Option Ty} {d : ℕ} (p : ℕ) → ReadsHead f i h m → agrees s h ≡ true → MaybeTy m t (reserved p res.Equals ∷ k) → Opens f 0 k d →
-      OpensClauses f s i d
+        OpensClauses f s i d
     past_clause : {f : Fixity} {s : Option Shape} {i m k n : List Terminal} {h : Head} {t : Option Ty} {e : Exp} {d : ℕ} (p q : ℕ) → ReadsHead f i h m → agrees s h ≡ true → MaybeTy m t (reserved p res.Equals ∷ k) →
-      goes_on f e (reserved q res.Bar ∷ n) ≡ false → Reads f k e (reserved q res.Bar ∷ n) → OpensClauses f (Some (shape_of h)) n d → OpensClauses f s i d
+        goes_on f e (reserved q res.Bar ∷ n) ≡ false → Reads f k e (reserved q res.Bar ∷ n) → OpensClauses f (Some (shape_of h)) n d → OpensClauses f s i d

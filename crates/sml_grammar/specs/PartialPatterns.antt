@@ -23,9 +23,9 @@ mutual
     in_con_pat : {f : Fixity} {l : ℕ} {i m : List Terminal} {p : ℕ} {x : LongVid} {d : ℕ} → NamesVid f i p x m → OpensAtPat f m d → OpensPat f l i (suc d)
     -- a chain, cut off after its first joint, or in an operand
     joined_pat : {f : Fixity} {l k : ℕ} {r : Bool} {i m : List Terminal} {t : Terminal} {x : Placed ℕ} {a : Pat} {d : ℕ} →
-      l ≤ k → k < pat_level f a → Pattern f i a (t ∷ m) → PatFits f k r t x → d ≤ depth_pat a → OpensPat f l i (suc d)
+        l ≤ k → k < pat_level f a → Pattern f i a (t ∷ m) → PatFits f k r t x → d ≤ depth_pat a → OpensPat f l i (suc d)
     in_pat_chain : {f : Fixity} {l k : ℕ} {r : Bool} {i m : List Terminal} {a : Pat} {d : ℕ} →
-      l ≤ k → k < pat_level f a → Pattern f i a m → OpensPatPart f k r m d → OpensPat f l i (suc d)
+        l ≤ k → k < pat_level f a → Pattern f i a m → OpensPatPart f k r m d → OpensPat f l i (suc d)
     -- a typed pattern, cut off after `:`, or in the type
     marked_pat : {f : Fixity} {l : ℕ} {i m : List Terminal} {a : Pat} {d : ℕ} (p : ℕ) → l ≤ 5 → 5 ≤ pat_level f a → Pattern f i a (reserved p res.Colon ∷ m) → d ≤ depth_pat a → OpensPat f l i (suc d)
     in_pat_ty : {f : Fixity} {l : ℕ} {i m : List Terminal} {a : Pat} {d : ℕ} (p : ℕ) → l ≤ 5 → 5 ≤ pat_level f a → Pattern f i a (reserved p res.Colon ∷ m) → OpensTy 0 m d → OpensPat f l i (suc d)
@@ -50,12 +50,12 @@ mutual
     in_labelled : {f : Fixity} {t : Terminal} {i : List Terminal} {l : Label} {d : ℕ} (p : ℕ) → IsLabel t l → OpensPat f 0 i d → OpensField f (t ∷ reserved p res.Equals ∷ i) d
     in_punned_ty : {f : Fixity} {t : Terminal} {i : List Terminal} {p x : ℕ} {d : ℕ} (q : ℕ) → IsVid t p x → fix_of (Named x) f ≡ None → OpensTy 0 i d → OpensField f (t ∷ reserved q res.Colon ∷ i) d
     in_punned_as : {f : Fixity} {t : Terminal} {i m : List Terminal} {p x : ℕ} {s : Option Ty} {d : ℕ} (q : ℕ) → IsVid t p x → fix_of (Named x) f ≡ None →
-      MaybeTy i s (reserved q res.As ∷ m) → OpensPat f 0 m d → OpensField f (t ∷ i) d
+        MaybeTy i s (reserved q res.As ∷ m) → OpensPat f 0 m d → OpensField f (t ∷ i) d
 
   pub data OpensPatPart : Fixity → ℕ → Bool → List Terminal → ℕ → Type 0 where
     in_pat_part : {f : Fixity} {l : ℕ} {r : Bool} {t : Terminal} {x : Placed ℕ} {m : List Terminal} {d : ℕ} → PatFits f l r t x → OpensPat f (suc l) m d → OpensPatPart f l r (t ∷ m) d
     past_pat_part : {f : Fixity} {l : ℕ} {r : Bool} {t : Terminal} {x : Placed ℕ} {m n : List Terminal} {b : Pat} {d : ℕ} →
-      PatFits f l r t x → l < pat_level f b → Pattern f m b n → OpensPatPart f l r n d → OpensPatPart f l r (t ∷ m) d
+        PatFits f l r t x → l < pat_level f b → Pattern f m b n → OpensPatPart f l r n d → OpensPatPart f l r (t ∷ m) d
 
 pub data OpensAtPats : Fixity → List Terminal → ℕ → Type 0 where
   in_one_atpat : {f : Fixity} {i : List Terminal} {d : ℕ} → OpensAtPat f i d → OpensAtPats f i d

@@ -1,6 +1,6 @@
 -- How patterns, and the heads of clauses, are read. `(read_pats n).pat f l` reads a pattern of a level of at least l that is at most n deep, and
 -- `(read_pats n).atpat f` an atomic one.
-use Rattle.std.specs.Prelude.{ℕ, zero, suc, ◌+◌, List, [], ◌∷◌, Option, Some, None, Bool, true, false, ◌&&◌, nat_eq, nat_le, if◌then◌else◌}
+use Rattle.std.specs.Prelude.{ℕ, zero, suc, List, ◌∷◌, Option, Some, None, Bool, true, false, ◌&&◌, nat_eq, nat_le, if◌then◌else◌}
 use Rattle.mlc_base.specs.declared.label.Label.{Label}
 use Rattle.mlc_base.specs.declared.token.Reserved.TheVariants as res
 use Rattle.sml_tree.specs.Terminal.{Constant, int, LongVid, Terminal, reserved, number, constant}
@@ -98,25 +98,25 @@ only_dots = record { fields = no_pat_fields; dots = true }
 
 abbrev pub pat_row_turn : ℕ → PatReader → Fixity → NoState → List Terminal → Answer (Turn PatRowRead NoState)
 pat_row_turn n self f s i =
-  on_some (after_word res.Dots i) (λ o. read (last only_dots) o)
+    on_some (after_word res.Dots i) (λ o. read (last only_dots) o)
     (then_read (field n self f i) (λ a o. separated (after_word res.Comma o) (put_field a) (only_field a) s o))
 
 -- after `{`
 abbrev pub brace_pat : ℕ → PatReader → Fixity → ℕ → List Terminal → Answer Pat
 brace_pat n self f p i =
-  on_some (after_word res.RightBrace i) (λ o. read (record_pat p no_pat_fields false) o)
+    on_some (after_word res.RightBrace i) (λ o. read (record_pat p no_pat_fields false) o)
     (then_read (whole (pat_row_turn n self f) no_state i) (λ r m. word_then res.RightBrace (λ o. read (record_pat p r.fields r.dots) o) m))
 
 -- after `[`
 abbrev pub bracket_pat : PatReader → Fixity → ℕ → List Terminal → Answer Pat
 bracket_pat self f p i =
-  on_some (after_word res.RightBracket i) (λ o. read (list_pat p no_pats) o)
+    on_some (after_word res.RightBracket i) (λ o. read (list_pat p no_pats) o)
     (then_read (whole (pat_commas_turn self f) no_state i) (λ as_ m. word_then res.RightBracket (λ o. read (list_pat p as_) o) m))
 
 -- after `(a`
 abbrev pub paren_pat_rest : PatReader → Fixity → ℕ → Pat → List Terminal → Answer Pat
 paren_pat_rest self f p a i =
-  on_some (after_word res.Comma i) (λ m. then_read (whole (pat_commas_turn self f) no_state m) (λ as_ k. word_then res.RightParen (λ o. read (tuple_pat p (pat a as_)) o) k))
+    on_some (after_word res.Comma i) (λ m. then_read (whole (pat_commas_turn self f) no_state m) (λ as_ k. word_then res.RightParen (λ o. read (tuple_pat p (pat a as_)) o) k))
     (word_then res.RightParen (λ o. read (paren_pat p a) o) i)
 
 -- after `(`
@@ -141,9 +141,9 @@ same false false = true
 abbrev pub pat_part_next : Fixity → ℕ → Bool → Placed ℕ → Pat → List Terminal → Option (Taken (Placed ℕ)) → Answer (Turn PatParts (Placed ℕ))
 pat_part_next f l r x b i None = read (last (last_pat_part x b)) i
 pat_part_next f l r x b i (Some y) =
-  if nat_eq (vid_level f (Named y.it.it)) l
-  then (if same (vid_right f (Named y.it.it)) r then read (more (pat_part x b) y.it) y.rest else bad)
-  else read (last (last_pat_part x b)) i
+    if nat_eq (vid_level f (Named y.it.it)) l
+    then (if same (vid_right f (Named y.it.it)) r then read (more (pat_part x b) y.it) y.rest else bad)
+    else read (last (last_pat_part x b)) i
 
 abbrev pub pat_part_turn : PatReader → Fixity → ℕ → Bool → Placed ℕ → List Terminal → Answer (Turn PatParts (Placed ℕ))
 pat_part_turn self f l r x i = then_read (self f (suc l) i) (λ b o. pat_part_next f l r x b o (infix_vid f o))
@@ -155,17 +155,17 @@ whole_pat_parts self f x m = whole (pat_part_turn self f (vid_level f (Named x.i
 abbrev pub pat_suffix_mark : ℕ → Fixity → ℕ → Pat → List Terminal → Option (List Terminal) → Answer (Turn Pat Pat)
 pat_suffix_mark n f l a i None = read (last a) i
 pat_suffix_mark n f l a i (Some m) =
-  if nat_le l 5
-  then (if nat_le 5 (pat_level f a) then (if nat_le (depth_pat a) n then then_read (read_ty n 0 m) (λ t o. read (more (λ b. b) (typed_pat a t)) o) else deep) else bad)
-  else read (last a) i
+    if nat_le l 5
+    then (if nat_le 5 (pat_level f a) then (if nat_le (depth_pat a) n then then_read (read_ty n 0 m) (λ t o. read (more (λ b. b) (typed_pat a t)) o) else deep) else bad)
+    else read (last a) i
 
 abbrev pub pat_suffix_joint : PatReader → ℕ → Fixity → ℕ → Pat → List Terminal → Placed ℕ → List Terminal → Answer (Turn Pat Pat)
 pat_suffix_joint self n f l a i x m =
-  if nat_le l (vid_level f (Named x.it))
-  then (if nat_le (suc (vid_level f (Named x.it))) (pat_level f a)
+    if nat_le l (vid_level f (Named x.it))
+    then (if nat_le (suc (vid_level f (Named x.it))) (pat_level f a)
     then (if nat_le (depth_pat a) n then then_read (whole_pat_parts self f x m) (λ ps o. read (more (λ b. b) (chain_pat (vid_right f (Named x.it)) a ps)) o) else deep)
     else bad)
-  else read (last a) i
+    else read (last a) i
 
 abbrev pub pat_suffix_turn : PatReader → ℕ → Fixity → ℕ → Pat → List Terminal → Answer (Turn Pat Pat)
 pat_suffix_turn self n f l a i = on_taken (infix_vid f i) (pat_suffix_joint self n f l a i) (pat_suffix_mark n f l a i (after_word res.Colon i))
@@ -176,7 +176,7 @@ pat_suffix self n f l a i = whole (pat_suffix_turn self n f l) a i
 -- a constructor and its argument, or an atomic pattern
 abbrev pub pat_first : PatReaders → ℕ → Fixity → List Terminal → Answer Pat
 pat_first self n f i =
-  on_taken (names_vid f i) (λ x m. if begins_pat f m then then_read (self.atpat f m) (λ a o. read (con_pat x.place x.it a) o) else read (vid_pat x.place x.it) m)
+    on_taken (names_vid f i) (λ x m. if begins_pat f m then then_read (self.atpat f m) (λ a o. read (con_pat x.place x.it a) o) else read (vid_pat x.place x.it) m)
     (at_pat n self.pat f (pat_start f i))
 
 abbrev pub plain_form : PatReaders → ℕ → Fixity → ℕ → List Terminal → Answer Pat
@@ -185,7 +185,7 @@ plain_form self n f l i = then_read (pat_first self n f i) (pat_suffix self.pat 
 -- after `v :` and a type: `as` and a pattern, or the end of `v : t`
 abbrev pub typed_or_as : PatReaders → ℕ → Fixity → Placed Vid → Ty → List Terminal → Answer Pat
 typed_or_as self n f v t i =
-  on_some (after_word res.As i) (λ m. then_read (self.pat f 0 m) (λ a o. read (as_pat v.place v.it (Some t) a) o))
+    on_some (after_word res.As i) (λ m. then_read (self.pat f 0 m) (λ a o. read (as_pat v.place v.it (Some t) a) o))
     (pat_suffix self.pat n f 0 (typed_pat (vid_pat v.place (short v.it)) t) i)
 
 abbrev pub typed_form : PatReaders → ℕ → Fixity → Placed Vid → List Terminal → Answer Pat
@@ -194,7 +194,7 @@ typed_form self n f v m = if nat_le 1 n then then_read (read_ty n 0 m) (typed_or
 -- after a value identifier at the head of a whole pattern
 abbrev pub vid_form : PatReaders → ℕ → Fixity → List Terminal → Placed Vid → List Terminal → Answer Pat
 vid_form self n f i v m =
-  on_some (after_word res.As m) (λ k. then_read (self.pat f 0 k) (λ a o. read (as_pat v.place v.it None a) o))
+    on_some (after_word res.As m) (λ k. then_read (self.pat f 0 k) (λ a o. read (as_pat v.place v.it None a) o))
     (on_some (after_word res.Colon m) (typed_form self n f v) (plain_form self n f 0 i))
 
 abbrev pub pat_form : PatReaders → ℕ → Fixity → ℕ → List Terminal → Answer Pat
@@ -228,7 +228,7 @@ prefix_rest n f v m = then_read (read_atpat n f m) (λ a k. then_read (read_atpa
 -- after an identifier: it is the first operand where an infix identifier follows, and the function's name where none does
 abbrev pub vid_head : ℕ → Fixity → Placed Vid → List Terminal → Answer Head
 vid_head n f v m =
-  on_taken (infix_vid f m) (λ x k. if nat_le 1 n then infix_rest n f (vid_pat v.place (short v.it)) x k else deep) (prefix_rest n f v m)
+    on_taken (infix_vid f m) (λ x k. if nat_le 1 n then infix_rest n f (vid_pat v.place (short v.it)) x k else deep) (prefix_rest n f v m)
 
 -- `(a x b)`, where a and b are atomic
 pub record Bracketed : Type 0 where

@@ -5,8 +5,7 @@ ghost use Rattle.sml_grammar.specs.Laws.{BadSound, Complete, DeepComplete, DeepS
 /// No tokens are declarations in two ways.
 pub fn one_tree()
     ensures { OneTree }
-{
-}
+{}
 
 /// The reading function gives exactly the trees of the grammar that aren't too deep, and tells the two refusals apart.
 pub fn reads_exactly()
@@ -15,5 +14,4 @@ pub fn reads_exactly()
     ensures deep_sound { DeepSound }
     ensures deep_complete { DeepComplete }
     ensures bad_sound { BadSound }
-{
-}
+{}
