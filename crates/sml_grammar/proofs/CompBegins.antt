@@ -1,5 +1,5 @@
 -- What partial trees begin with.
-use Rattle.std.proofs.Common.{◌≡◌, ℕ, List, ◌∷◌, Option, None, true, ◌&&◌, refl, arith, nat_le}
+use Rattle.std.proofs.Common.{◌≡◌, ℕ, List, ◌∷◌, None, true, ◌&&◌, refl, arith, nat_le}
 use Rattle.std.proofs.lemmas.Bool.{le-leb}
 use Rattle.mlc_base.specs.declared.token.Reserved.TheVariants as res
 use Rattle.sml_tree.specs.declared.ident.Tyvar.{Tyvar}
@@ -8,12 +8,9 @@ use Rattle.sml_tree.specs.Fixity.{Fixity}
 use Rattle.sml_tree.specs.ReadTree.{Exps}
 use Rattle.sml_tree.specs.Grammar.{Tyvars, no_tyvars, one_tyvar, tyvars_in_brackets, Atoms, no_atoms, more_atoms}
 use Rattle.sml_grammar.specs.Terminals.{after_word}
-use Rattle.sml_grammar.specs.Patterns.{begins_pat}
 use Rattle.sml_grammar.specs.PartialBindings.{OpensCons, in_con, past_con, OpensDataBinds, in_data_bind, past_data_bind}
 use Rattle.sml_grammar.specs.Expressions.{begins_atom, begins, start_of, other_start, is_keyword, dec_start, is_dec_start, replicated}
 use Rattle.sml_grammar.specs.Partial.{Opens, begun, in_atom, applied_to, in_argument, joined, in_chain, marked, in_typed, handled, in_handler, in_raise, in_condition, in_then, in_else, in_while, in_do, in_subject, in_case, in_fn, OpensAtom, begun_atom, in_row, in_paren, in_tuple, in_sequence, in_list, in_decs, in_body, OpensRow, in_field, past_field, OpensCommas, in_comma, past_comma, OpensDecs, past_empty, in_dec, past_dec, OpensDec, in_val, in_fun, in_type, in_datatype, in_withtype, in_exception, begun_local, in_local, in_local_body}
-use Rattle.sml_grammar.proofs.Words.{AfterWord, found, absent, after-is}
-use Rattle.sml_grammar.proofs.Answers.{not_true}
 use Rattle.sml_grammar.proofs.Terminals.{not-word, label-word}
 use Rattle.sml_grammar.proofs.CompFacts.{quiet}
 use Rattle.sml_grammar.proofs.CompQuiet.{dec-quiet, atom-begins, begins-start, true-or, reads-begins}
@@ -86,14 +83,6 @@ pub opens_decs-quiet : {f : Fixity} {i : List Terminal} {d : ℕ} → OpensDecs 
 opens_decs-quiet (past_empty p o) = refl
 opens_decs-quiet (in_dec o) = (opens_dec-word o).quiet
 opens_decs-quiet (past_dec d o) = dec-quiet d
-
--- a pattern does not begin with `rec`
-pub begins_pat-no_rec : (f : Fixity) (i : List Terminal) → begins_pat f i ≡ true → after_word res.Rec i ≡ None
-begins_pat-no_rec f i h = go (after-is res.Rec i) h
-  where
-    go : {i : List Terminal} {v : Option (List Terminal)} → AfterWord res.Rec i v → begins_pat f i ≡ true → v ≡ None
-    go (found p) h = not_true h
-    go (absent n) h = refl
 
 cons-no_datatype : {f : Fixity} {i : List Terminal} {d : ℕ} → OpensCons f i d → after_word res.Datatype i ≡ None
 cons-no_datatype (in_con q v o) = binds-no_datatype v

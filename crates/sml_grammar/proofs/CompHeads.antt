@@ -1,57 +1,58 @@
 -- What patterns, heads and bindings begin with, where type variables, `rec` or a datatype's replication may stand.
 use Rattle.std.proofs.Common.{◌≡◌, ℕ, List, [], ◌∷◌, Option, Some, None, true, false, refl, sym, ap, ◌∙◌, nat_eq}
-use Rattle.std.proofs.lemmas.Bool.{eq-eqb, le-leb}
+use Rattle.std.proofs.lemmas.Bool.{eq-eqb}
 use Rattle.mlc_base.specs.declared.token.Reserved.TheVariants as res
 use Rattle.sml_tree.specs.declared.ident.Tyvar.{Tyvar}
 use Rattle.sml_tree.specs.declared.ident.Vid.{Vid}
 use Rattle.sml_tree.specs.declared.ident.Vid.TheVariants.{Named, Equals, Fresh}
-use Rattle.sml_tree.specs.Terminal.{LongVid, Terminal, reserved, is_number, is_constant, IsVid, alpha_vid, symbol_vid, star_vid, long_alpha_vid, long_symbol_vid, long_star_vid, IsTycon, alpha_tycon, symbol_tycon}
+use Rattle.sml_tree.specs.Terminal.{LongVid, Terminal, reserved, is_number, is_constant, alpha_vid, symbol_vid, star_vid, long_alpha_vid, long_symbol_vid, long_star_vid, IsTycon, alpha_tycon, symbol_tycon}
 use Rattle.sml_tree.specs.Fixity.{Fixity, is_vid}
 use Rattle.sml_tree.specs.ReadTree.{Ty, Pat, Head, head_vid, head_count, ConBind, DataBind, Binds, Funs, Clauses}
-use Rattle.sml_tree.specs.Grammar.{MaybeTy, without_ty, with_ty, BindsVid, plain_vid, op_vid, NamesVid, plain_long, qualified, op_long, AtPat, of_wild, of_pat_constant, of_pat_vid, of_no_pat_row, of_pat_row, of_unit_pat, of_tuple_pat, of_nil_pat, of_list_pat, of_paren_pat, Pattern, of_atpat, of_con_pat, of_chain_pat, of_typed_pat, of_as_pat, ReadsHead, of_prefix_head, of_infix_head, of_bracket_head, Tyvars, no_tyvars, one_tyvar, tyvars_in_brackets, ConBinds, last_con, more_cons, OneDataBind, data_bind, DataBinds, last_data_bind, more_data_binds, DirectiveVids, last_vid, more_vids, ReadsPrecedence, no_precedence, a_precedence, ReadsBinds, of_last_bind, of_bind, of_rec, ReadsFuns, of_last_fun, of_fun_and, ReadsClauses, of_last_clause, of_clause}
-use Rattle.sml_grammar.specs.Answer.{Answer, read}
+use Rattle.sml_tree.specs.Grammar.{MaybeTy, without_ty, with_ty, BindsVid, plain_vid, op_vid, NamesVid, plain_long, qualified, op_long, AtPat, of_wild, of_pat_constant, of_pat_vid, of_no_pat_row, of_pat_row, of_unit_pat, of_tuple_pat, of_nil_pat, of_list_pat, of_paren_pat, Pattern, of_atpat, of_con_pat, of_chain_pat, of_typed_pat, of_as_pat, ReadsHead, of_prefix_head, of_infix_head, of_bracket_head, Tyvars, no_tyvars, one_tyvar, tyvars_in_brackets, ConBinds, last_con, more_cons, OneDataBind, data_bind, DataBinds, last_data_bind, more_data_binds, ReadsBinds, of_last_bind, of_bind, of_rec, ReadsFuns, of_last_fun, of_fun_and, ReadsClauses, of_last_clause, of_clause}
+use Rattle.sml_grammar.specs.Answer.{read}
 use Rattle.sml_grammar.specs.Terminals.{first_as, as_tyvar, after_word, infix_vid}
 use Rattle.sml_grammar.specs.Patterns.{begins_pat}
-use Rattle.sml_grammar.specs.Bindings.{read_tyvars, as_digit, precedence_then}
+use Rattle.sml_grammar.specs.Bindings.{read_tyvars}
 use Rattle.sml_grammar.specs.Expressions.{Shape, shape_of, agrees, replicated}
+use Rattle.sml_grammar.proofs.PatStarts.{begins-no_word}
+use Rattle.sml_grammar.proofs.PatShapes.{pat-begins}
 
--- no type variables are here, nor `rec`
+-- no type variables are here
 record NoTyvars (i : List Terminal) : Type 0 where
   all : read_tyvars i ≡ read [] i
   first : first_as as_tyvar i ≡ None
-  rec_ : after_word res.Rec i ≡ None
 
 names-no_tyvars : {f : Fixity} {i o : List Terminal} {p : ℕ} {x : LongVid} → NamesVid f i p x o → NoTyvars i
-names-no_tyvars (plain_long (alpha_vid p x) e) = record { all = refl; first = refl; rec_ = refl }
-names-no_tyvars (plain_long (symbol_vid p x) e) = record { all = refl; first = refl; rec_ = refl }
-names-no_tyvars (plain_long (star_vid p x) e) = record { all = refl; first = refl; rec_ = refl }
-names-no_tyvars (qualified (long_alpha_vid p qs x)) = record { all = refl; first = refl; rec_ = refl }
-names-no_tyvars (qualified (long_symbol_vid p qs x)) = record { all = refl; first = refl; rec_ = refl }
-names-no_tyvars (qualified (long_star_vid p qs x)) = record { all = refl; first = refl; rec_ = refl }
-names-no_tyvars (op_long p v) = record { all = refl; first = refl; rec_ = refl }
+names-no_tyvars (plain_long (alpha_vid p x) e) = record { all = refl; first = refl }
+names-no_tyvars (plain_long (symbol_vid p x) e) = record { all = refl; first = refl }
+names-no_tyvars (plain_long (star_vid p x) e) = record { all = refl; first = refl }
+names-no_tyvars (qualified (long_alpha_vid p qs x)) = record { all = refl; first = refl }
+names-no_tyvars (qualified (long_symbol_vid p qs x)) = record { all = refl; first = refl }
+names-no_tyvars (qualified (long_star_vid p qs x)) = record { all = refl; first = refl }
+names-no_tyvars (op_long p v) = record { all = refl; first = refl }
 
 binds-no_tyvars : {f : Fixity} {i o : List Terminal} {p : ℕ} {v : Vid} → BindsVid f i p v o → NoTyvars i
-binds-no_tyvars (plain_vid (alpha_vid p x) e) = record { all = refl; first = refl; rec_ = refl }
-binds-no_tyvars (plain_vid (symbol_vid p x) e) = record { all = refl; first = refl; rec_ = refl }
-binds-no_tyvars (plain_vid (star_vid p x) e) = record { all = refl; first = refl; rec_ = refl }
-binds-no_tyvars (op_vid p v) = record { all = refl; first = refl; rec_ = refl }
+binds-no_tyvars (plain_vid (alpha_vid p x) e) = record { all = refl; first = refl }
+binds-no_tyvars (plain_vid (symbol_vid p x) e) = record { all = refl; first = refl }
+binds-no_tyvars (plain_vid (star_vid p x) e) = record { all = refl; first = refl }
+binds-no_tyvars (op_vid p v) = record { all = refl; first = refl }
 
 -- after a bracket, a type variable would begin type variables
 after-paren : (p : ℕ) {i : List Terminal} → NoTyvars i → NoTyvars (reserved p res.LeftParen ∷ i)
-after-paren p w = record { all = let h = w.first in rw h refl; first = refl; rec_ = refl }
+after-paren p w = record { all = let h = w.first in rw h refl; first = refl }
 
 mutual
   atpat-no_tyvars : {f : Fixity} {i o : List Terminal} {a : Pat} → AtPat f i a o → NoTyvars i
-  atpat-no_tyvars (of_wild p) = record { all = refl; first = refl; rec_ = refl }
-  atpat-no_tyvars (of_pat_constant (is_number p n b)) = record { all = refl; first = refl; rec_ = refl }
-  atpat-no_tyvars (of_pat_constant (is_constant p c)) = record { all = refl; first = refl; rec_ = refl }
+  atpat-no_tyvars (of_wild p) = record { all = refl; first = refl }
+  atpat-no_tyvars (of_pat_constant (is_number p n b)) = record { all = refl; first = refl }
+  atpat-no_tyvars (of_pat_constant (is_constant p c)) = record { all = refl; first = refl }
   atpat-no_tyvars (of_pat_vid v) = names-no_tyvars v
-  atpat-no_tyvars (of_no_pat_row p q) = record { all = refl; first = refl; rec_ = refl }
-  atpat-no_tyvars (of_pat_row p q d) = record { all = refl; first = refl; rec_ = refl }
-  atpat-no_tyvars (of_unit_pat p q) = record { all = refl; first = refl; rec_ = refl }
+  atpat-no_tyvars (of_no_pat_row p q) = record { all = refl; first = refl }
+  atpat-no_tyvars (of_pat_row p q d) = record { all = refl; first = refl }
+  atpat-no_tyvars (of_unit_pat p q) = record { all = refl; first = refl }
   atpat-no_tyvars (of_tuple_pat p q r d ds) = after-paren p (pat-no_tyvars d)
-  atpat-no_tyvars (of_nil_pat p q) = record { all = refl; first = refl; rec_ = refl }
-  atpat-no_tyvars (of_list_pat p q d) = record { all = refl; first = refl; rec_ = refl }
+  atpat-no_tyvars (of_nil_pat p q) = record { all = refl; first = refl }
+  atpat-no_tyvars (of_list_pat p q d) = record { all = refl; first = refl }
   atpat-no_tyvars (of_paren_pat p q d) = after-paren p (pat-no_tyvars d)
 
   pat-no_tyvars : {f : Fixity} {i o : List Terminal} {a : Pat} → Pattern f i a o → NoTyvars i
@@ -66,8 +67,12 @@ head-no_tyvars (of_prefix_head v d ds) = binds-no_tyvars v
 head-no_tyvars (of_infix_head d x e) = atpat-no_tyvars d
 head-no_tyvars (of_bracket_head p q d x e ds) = after-paren p (atpat-no_tyvars d)
 
+-- a pattern does not begin with `rec`
+pub begins_pat-no_rec : (f : Fixity) (i : List Terminal) → begins_pat f i ≡ true → after_word res.Rec i ≡ None
+begins_pat-no_rec f i h = begins-no_word f res.Rec i (λ p o. refl) h
+
 pub pat-no_rec : {f : Fixity} {i o : List Terminal} {a : Pat} → Pattern f i a o → after_word res.Rec i ≡ None
-pat-no_rec d = (pat-no_tyvars d).rec_
+pat-no_rec {f} {i} d = begins_pat-no_rec f i (pat-begins d)
 
 pub binds-tyvars : {f : Fixity} {i o : List Terminal} {bs : Binds} → ReadsBinds f i bs o → read_tyvars i ≡ read [] i
 binds-tyvars (of_last_bind p a d) = (pat-no_tyvars a).all
@@ -106,21 +111,6 @@ bind-not_replicated (data_bind {m} r at as_ tycon cons) = go as_ tycon (cons-no_
 pub data-not_replicated : {f : Fixity} {i o : List Terminal} {bs : List DataBind} → DataBinds f i bs o → replicated i ≡ None
 data-not_replicated (last_data_bind d) = bind-not_replicated d
 data-not_replicated (more_data_binds p d ds) = bind-not_replicated d
-
--- Directives.
-
-vid-no_digit : {t : Terminal} {p x : ℕ} (o : List Terminal) → IsVid t p x → first_as as_digit (t ∷ o) ≡ None
-vid-no_digit o (alpha_vid p x) = refl
-vid-no_digit o (symbol_vid p x) = refl
-vid-no_digit o (star_vid p x) = refl
-
-pub vids-no_digit : {i o : List Terminal} {xs : List ℕ} → DirectiveVids i xs o → first_as as_digit i ≡ None
-vids-no_digit (last_vid {o} v) = vid-no_digit o v
-vids-no_digit (more_vids {i} v d) = vid-no_digit i v
-
-pub precedence-complete : {A : Type 0} (g : ℕ → List Terminal → Answer A) {i m : List Terminal} {d : ℕ} → ReadsPrecedence i d m → first_as as_digit m ≡ None → precedence_then g i ≡ g d m
-precedence-complete g no_precedence h = rw h refl
-precedence-complete g (a_precedence p d le) h = let c = le-leb d 9 le in rw c refl
 
 -- Clauses.
 

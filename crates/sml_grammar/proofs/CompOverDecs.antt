@@ -14,16 +14,15 @@ use Rattle.sml_grammar.specs.Patterns.{begins_pat, read_pat, read_head}
 use Rattle.sml_grammar.specs.Bindings.{read_type_binds, read_data_binds, read_ex_binds}
 use Rattle.sml_grammar.specs.Expressions.{Reader, DecsReader, bind_turn, read_binds, Shape, clause_turn, read_clauses, fun_turn, read_funs, dec_start, dec_by, dec_turn, decs_from}
 use Rattle.sml_grammar.specs.Partial.{OpensDecs, past_empty, in_dec, past_dec, OpensDec, in_val, in_fun, in_type, in_datatype, in_withtype, in_exception, begun_local, in_local, in_local_body, OpensBinds, past_rec, in_bind_pat, in_bind, past_bind, OpensFuns, in_clauses, past_clauses, OpensClauses, in_head, in_result, in_clause, past_clause}
-use Rattle.sml_grammar.proofs.Answers.{many-deep, many-stop}
-use Rattle.sml_grammar.proofs.CompFacts.{Facts}
-use Rattle.sml_grammar.proofs.CompShapes.{shorter, maybe-shorter, dec-shorter, clauses-shorter}
+use Rattle.sml_grammar.proofs.Answers.{many-pass, le_or, many-deep, many-stop}
+use Rattle.sml_grammar.proofs.CompFacts as facts
+use Rattle.sml_grammar.proofs.CompShapes.{shorter, dec-shorter, clauses-shorter}
 use Rattle.sml_grammar.proofs.CompQuiet.{plain-word, Ends, ends-in}
 use Rattle.sml_grammar.proofs.CompLists.{CompleteExp}
-use Rattle.sml_grammar.proofs.CompSuffix.{many-pass}
-use Rattle.sml_grammar.proofs.CompHeads.{pat-no_rec, data-not_replicated, agree-none, maybe-head}
+use Rattle.sml_grammar.proofs.CompHeads.{begins_pat-no_rec, pat-no_rec, data-not_replicated, agree-none, maybe-head}
 use Rattle.sml_grammar.proofs.CompDecs.{CompleteInner, maybe-complete, clauses-whole, dec-step}
-use Rattle.sml_grammar.proofs.CompPaths.{le_or, decs-opens, dec-opens, clauses-opens}
-use Rattle.sml_grammar.proofs.CompBegins.{opens_dec-word, opens_decs-quiet, begins_pat-no_rec, opens_data-not_replicated}
+use Rattle.sml_grammar.proofs.CompPaths.{decs-opens, dec-opens, clauses-opens}
+use Rattle.sml_grammar.proofs.CompBegins.{opens_dec-word, opens_decs-quiet, opens_data-not_replicated}
 use Rattle.sml_grammar.proofs.CompOverLists.{OverExp, OverDecs, ReadOrDeep, exp-or, plain-or}
 
 -- what reads the declarations in a `local`, where they are too deep, or where there is no room for any
@@ -31,41 +30,41 @@ pub record OverInner (n : ℕ) (inner : DecsReader) : Type 0 where
   pub opened : (f : Fixity) (i : List Terminal) (d : ℕ) → OpensDecs f i d → n ≤ d → inner f i ≡ deep
   pub none : n < 1 → (f : Fixity) (i : List Terminal) → inner f i ≡ deep
 
-module _ (facts : Facts) (n : ℕ) where
+module _ (n : ℕ) where
   bound-or : {f : Fixity} {i m : List Terminal} {a : Pat} {p : ℕ} → Pattern f i a (reserved p res.Equals ∷ m) → ReadOrDeep (read_pat n f i) a (reserved p res.Equals ∷ m)
-  bound-or {a} da =
-      elim (le_or (depth_pat a) n) [ inl q ↦ inl (facts.pat-complete-equals n da q) | inr q ↦ inr (facts.pat-over n (facts.pat-opens da (depth_pat a) (omega arith) (omega arith)) q) ]
+  bound-or {f} {a} da =
+      elim (le_or (depth_pat a) n) [ inl q ↦ inl (facts.pat-complete-equals n da q) | inr q ↦ inr (facts.pat-over n f (facts.pat-opens da (depth_pat a) (omega arith) (omega arith)) q) ]
 
   head-or : {f : Fixity} {i m : List Terminal} {h : Head} → ReadsHead f i h m → begins_pat f m ≡ false → infix_vid f m ≡ None → ReadOrDeep (read_head n f i) h m
-  head-or {h} dh b c =
-      elim (le_or (depth_head h) n) [ inl q ↦ inl (facts.head-complete n dh q b c) | inr q ↦ inr (facts.head-over n (facts.head-opens dh (depth_head h) (omega arith) (omega arith)) q) ]
+  head-or {f} {h} dh b c =
+      elim (le_or (depth_head h) n) [ inl q ↦ inl (facts.head-complete n f dh q b c) | inr q ↦ inr (facts.head-over n f (facts.head-opens dh (depth_head h) (omega arith) (omega arith)) q) ]
 
   maybe-over : {m o : List Terminal} {s : Option Ty} → MaybeTy m s o → n < depth_some s → maybe_ty n (after_word res.Colon m) m ≡ deep
   maybe-over without_ty lt = absurd (omega arith)
   maybe-over (with_ty {i} {o} {a} p d) lt = let h : read_ty n 0 i ≡ deep = facts.ty-over n (facts.ty-opens d (depth_some (Some a)) (omega arith) (omega arith)) lt in rw h refl
 
   maybe-or : {m k : List Terminal} {p : ℕ} {s : Option Ty} → MaybeTy m s (reserved p res.Equals ∷ k) → ReadOrDeep (maybe_ty n (after_word res.Colon m) m) s (reserved p res.Equals ∷ k)
-  maybe-or {s} d = elim (le_or (depth_some s) n) [ inl q ↦ inl (maybe-complete facts n d q refl refl) | inr q ↦ inr (maybe-over d q) ]
+  maybe-or {s} d = elim (le_or (depth_some s) n) [ inl q ↦ inl (maybe-complete n d q refl refl) | inr q ↦ inr (maybe-over d q) ]
 
-module _ (facts : Facts) (n : ℕ) (self : Reader) (complete : CompleteExp n self) (over : OverExp n self) where
+module _ (n : ℕ) (self : Reader) (complete : CompleteExp n self) (over : OverExp n self) where
   binds-over : {f : Fixity} {i : List Terminal} {d : ℕ} → OpensBinds f i d → n < d → (k : ℕ) → length i < k → many (bind_turn n self f) k no_state i ≡ deep
   binds-over o lt zero le = absurd (omega arith)
   binds-over {f} (past_rec {i} p o) lt (suc k) le = many-deep (bind_turn n self f) k {put = rec_binds} refl (binds-over o lt k (omega arith))
   binds-over {f} (in_bind_pat {i} o) lt (suc k) le =
       let r = begins_pat-no_rec f i (facts.opens_pat-begins o) in
-      let g : read_pat n f i ≡ deep = facts.pat-over n o lt in
+      let g : read_pat n f i ≡ deep = facts.pat-over n f o lt in
       many-stop (bind_turn n self f) k (rw (r, g) refl)
   binds-over {f} (in_bind {i} {m} {a} {d} p da o) lt (suc k) le =
       let r = pat-no_rec da in
-      elim (bound-or facts n da) [
+      elim (bound-or n da) [
         | inl g ↦ let h : self f 0 m ≡ deep = over f 0 m d o lt in many-stop (bind_turn n self f) k (rw (r, g, h) refl)
         | inr g ↦ many-stop (bind_turn n self f) k (rw (r, g) refl)
       ]
   binds-over {f} (past_bind {i} {m} {n = j} {a} {e} p q da de o) lt (suc k) le =
       let r = pat-no_rec da in
-      let s = shorter facts de in let s2 = facts.pat-shorter da in
-      elim (bound-or facts n da) [
-        | inl g ↦ elim (plain-or facts n self complete over f m e q res.And j de refl) [
+      let s = shorter de in let s2 = facts.pat-shorter da in
+      elim (bound-or n da) [
+        | inl g ↦ elim (plain-or n self complete over f m e q res.And j de refl) [
           | inl h ↦ many-deep (bind_turn n self f) k {put = bind a e} (rw (r, g, h) refl) (binds-over o lt k (omega arith))
           | inr h ↦ many-stop (bind_turn n self f) k (rw (r, g, h) refl)
         ]
@@ -74,16 +73,16 @@ module _ (facts : Facts) (n : ℕ) (self : Reader) (complete : CompleteExp n sel
 
   clauses-over : {f : Fixity} {s : Option Shape} {i : List Terminal} {d : ℕ} → OpensClauses f s i d → n < d → (k : ℕ) → length i < k → many (clause_turn n self f) k s i ≡ deep
   clauses-over o lt zero le = absurd (omega arith)
-  clauses-over {f} {s} (in_head {i} o) lt (suc k) le = let g : read_head n f i ≡ deep = facts.head-over n o lt in many-stop (clause_turn n self f) k (rw g refl)
+  clauses-over {f} {s} (in_head {i} o) lt (suc k) le = let g : read_head n f i ≡ deep = facts.head-over n f o lt in many-stop (clause_turn n self f) k (rw g refl)
   clauses-over {f} {s} (in_result {i} {m} {h} p dh ag o) lt (suc k) le =
-      elim (head-or facts n dh refl refl) [
+      elim (head-or n dh refl refl) [
         | inl g ↦ let t : read_ty n 0 m ≡ deep = facts.ty-over n o lt in many-stop (clause_turn n self f) k (rw (g, ag, t) refl)
         | inr g ↦ many-stop (clause_turn n self f) k (rw g refl)
       ]
   clauses-over {f} {s} (in_clause {i} {m} {k = j} {h} {t} {d} p dh ag dt o) lt (suc k) le =
       let w = maybe-head f dt refl refl in
-      elim (head-or facts n dh w.0 w.1) [
-        | inl g ↦ elim (maybe-or facts n dt) [
+      elim (head-or n dh w.0 w.1) [
+        | inl g ↦ elim (maybe-or n dt) [
           | inl x ↦ let y : self f 0 j ≡ deep = over f 0 j d o lt in many-stop (clause_turn n self f) k (rw (g, ag, x, y) refl)
           | inr x ↦ many-stop (clause_turn n self f) k (rw (g, ag, x) refl)
         ]
@@ -91,10 +90,10 @@ module _ (facts : Facts) (n : ℕ) (self : Reader) (complete : CompleteExp n sel
       ]
   clauses-over {f} {s} (past_clause {i} {m} {k = j} {n = c} {h} {t} {e} p q dh ag dt ends de o) lt (suc k) le =
       let w = maybe-head f dt refl refl in
-      let s1 = facts.head-shorter dh in let s2 = maybe-shorter facts dt in let s3 = shorter facts de in
-      elim (head-or facts n dh w.0 w.1) [
-        | inl g ↦ elim (maybe-or facts n dt) [
-          | inl x ↦ elim (exp-or facts n self complete over f 0 j e (reserved q res.Bar ∷ c) de (omega arith) ends refl refl (λ z. refl)) [
+      let s1 = facts.head-shorter dh in let s2 = facts.maybe-shorter dt in let s3 = shorter de in
+      elim (head-or n dh w.0 w.1) [
+        | inl g ↦ elim (maybe-or n dt) [
+          | inl x ↦ elim (exp-or n self complete over f 0 j e (reserved q res.Bar ∷ c) de (omega arith) ends refl refl (λ z. refl)) [
             | inl y ↦ many-deep (clause_turn n self f) k {put = clause h t e} (rw (g, ag, x, y) refl) (clauses-over o lt k (omega arith))
             | inr y ↦ many-stop (clause_turn n self f) k (rw (g, ag, x, y) refl)
           ]
@@ -110,13 +109,13 @@ module _ (facts : Facts) (n : ℕ) (self : Reader) (complete : CompleteExp n sel
   funs-over o lt zero le = absurd (omega arith)
   funs-over {f} (in_clauses {i} o) lt (suc k) le = let h : read_clauses n self f i ≡ deep = clauses-deep o lt in many-stop (fun_turn n self f) k (rw h refl)
   funs-over {f} (past_clauses {i} {m} {cs} v c p dc o) lt (suc k) le =
-      let s = clauses-shorter facts dc in
+      let s = clauses-shorter dc in
       elim (le_or (depth_clauses cs) n) [
         | inl x ↦
-            let h : read_clauses n self f i ≡ read cs (reserved p res.And ∷ m) = clauses-whole facts n self complete dc x (plain-word f p res.And m refl) in
+            let h : read_clauses n self f i ≡ read cs (reserved p res.And ∷ m) = clauses-whole n self complete dc x (plain-word f p res.And m refl) in
             many-deep (fun_turn n self f) k {put = fun_and cs} (rw h refl) (funs-over o lt k (omega arith))
         | inr x ↦
-            let h : read_clauses n self f i ≡ deep = clauses-deep (clauses-opens facts None dc (agree-none v c) (depth_clauses cs) (omega arith) (omega arith)) x in
+            let h : read_clauses n self f i ≡ deep = clauses-deep (clauses-opens None dc (agree-none v c) (depth_clauses cs) (omega arith) (omega arith)) x in
             many-stop (fun_turn n self f) k (rw h refl)
       ]
 
@@ -127,7 +126,7 @@ module _ (facts : Facts) (n : ℕ) (self : Reader) (complete : CompleteExp n sel
         elim (le_or (suc (depth_decs ds)) n) [
           | inl x ↦ inl (complete_inner f i ds o d x e)
           | inr x ↦ elim (le_or 1 n) [
-            | inl y ↦ inr (over_inner.opened f i (depth_decs ds) (decs-opens facts d (depth_decs ds) (omega arith) (omega arith)) (omega arith))
+            | inl y ↦ inr (over_inner.opened f i (depth_decs ds) (decs-opens d (depth_decs ds) (omega arith) (omega arith)) (omega arith))
             | inr y ↦ inr (over_inner.none y f i)
           ]
         ]
@@ -137,17 +136,17 @@ module _ (facts : Facts) (n : ℕ) (self : Reader) (complete : CompleteExp n sel
     dec-over {f} (in_fun {i} {m} p h o) lt = let g : read_funs n self f m ≡ deep = funs-over o lt (suc (length m)) (omega arith) in rw (h, g) refl
     dec-over (in_type {i} p o) lt = let g : read_type_binds n i ≡ deep = facts.type_binds-over n o lt in rw g refl
     dec-over {f} (in_datatype {i} p o) lt =
-        let r = opens_data-not_replicated o in let g : read_data_binds n f i ≡ deep = facts.data_binds-over n o lt in rw (r, g) refl
+        let r = opens_data-not_replicated o in let g : read_data_binds n f i ≡ deep = facts.data_binds-over n f o lt in rw (r, g) refl
     dec-over {f} (in_withtype {i} {m} {bs} p q db o) lt =
         let r = data-not_replicated db in
         elim (le_or (depth_data_binds bs) n) [
           | inl x ↦
-              let g : read_data_binds n f i ≡ read bs (reserved q res.Withtype ∷ m) = facts.data_binds-complete n db x refl in
+              let g : read_data_binds n f i ≡ read bs (reserved q res.Withtype ∷ m) = facts.data_binds-complete n f db x refl in
               let h : read_type_binds n m ≡ deep = facts.type_binds-over n o lt in
               rw (r, g, h) refl
-          | inr x ↦ let g : read_data_binds n f i ≡ deep = facts.data_binds-over n (facts.data_binds-opens db (depth_data_binds bs) (omega arith) (omega arith)) x in rw (r, g) refl
+          | inr x ↦ let g : read_data_binds n f i ≡ deep = facts.data_binds-over n f (facts.data_binds-opens db (depth_data_binds bs) (omega arith) (omega arith)) x in rw (r, g) refl
         ]
-    dec-over {f} (in_exception {i} p o) lt = let g : read_ex_binds n f i ≡ deep = facts.ex_binds-over n o lt in rw g refl
+    dec-over {f} (in_exception {i} p o) lt = let g : read_ex_binds n f i ≡ deep = facts.ex_binds-over n f o lt in rw g refl
     dec-over {f} (begun_local {i} p) lt = let g : inner f i ≡ deep = over_inner.none lt f i in rw g refl
     dec-over {f} (in_local {i} {d} p o) lt = let g : inner f i ≡ deep = over_inner.opened f i d o (omega arith) in rw g refl
     dec-over {f} (in_local_body {i} {m} {ds} {d} p q dd o) lt =
@@ -165,10 +164,10 @@ module _ (facts : Facts) (n : ℕ) (self : Reader) (complete : CompleteExp n sel
     decs-over {f} (past_empty {i} p o) lt (suc k) le = many-pass (dec_turn n self inner) k {s = f} {t = f} refl ∙ decs-over o lt k (omega arith)
     decs-over {f} (in_dec o) lt (suc k) le = many-stop (dec_turn n self inner) k (dec-deep o lt)
     decs-over {f} (past_dec {i} {m} {x} dx o) lt (suc k) le =
-        let s = dec-shorter facts dx in
+        let s = dec-shorter dx in
         elim (le_or (depth_dec x) n) [
-          | inl p ↦ many-deep (dec_turn n self inner) k {put = dec x} (dec-step facts n self complete inner complete_inner dx p (opens_decs-quiet o)) (decs-over o lt k (omega arith))
-          | inr p ↦ many-stop (dec_turn n self inner) k (dec-deep (dec-opens facts dx (depth_dec x) (omega arith) (omega arith)) p)
+          | inl p ↦ many-deep (dec_turn n self inner) k {put = dec x} (dec-step n self complete inner complete_inner dx p (opens_decs-quiet o)) (decs-over o lt k (omega arith))
+          | inr p ↦ many-stop (dec_turn n self inner) k (dec-deep (dec-opens dx (depth_dec x) (omega arith) (omega arith)) p)
         ]
 
     pub from-decs-over : OverDecs n (decs_from n self inner)

@@ -14,16 +14,15 @@ use Rattle.sml_grammar.specs.Types.{read_ty, ty_could_go_on}
 use Rattle.sml_grammar.specs.Expressions.{Reader, begins_atom, read_match, joint, next_of, part_turn, whole_parts, suffix_turn}
 use Rattle.sml_grammar.specs.PartialTypes.{OpensTy}
 use Rattle.sml_grammar.specs.Partial.{OpensPart, in_part, past_part, OpensMatch}
-use Rattle.sml_grammar.proofs.Answers.{many-deep, many-stop}
+use Rattle.sml_grammar.proofs.Answers.{le_or, many-deep, many-stop}
 use Rattle.sml_grammar.proofs.ExpLevels.{joint-tie, joint-next, joint-no_atom}
-use Rattle.sml_grammar.proofs.CompFacts.{Facts}
+use Rattle.sml_grammar.proofs.CompFacts as facts
 use Rattle.sml_grammar.proofs.CompShapes.{shorter, joint-no_ty}
 use Rattle.sml_grammar.proofs.CompLists.{CompleteExp}
 use Rattle.sml_grammar.proofs.CompSuffix.{part-step}
-use Rattle.sml_grammar.proofs.CompPaths.{le_or}
 use Rattle.sml_grammar.proofs.CompOverLists.{OverExp, exp-or, whole-match-over}
 
-module _ (facts : Facts) (n : ℕ) (self : Reader) (complete : CompleteExp n self) (over : OverExp n self) (f : Fixity) where
+module _ (n : ℕ) (self : Reader) (complete : CompleteExp n self) (over : OverExp n self) (f : Fixity) where
   -- a chain's further operands, where one is too deep
   pub record FarPart (l : ℕ) (r : Bool) (i : List Terminal) : Type 0 where
     pub first : Joint
@@ -68,9 +67,9 @@ module _ (facts : Facts) (n : ℕ) (self : Reader) (complete : CompleteExp n sel
       go w zero le = absurd (omega arith)
       go w (suc k) le =
           let s : could_go_on f (suc l) p ≡ false = ap (at_least (suc l)) w.ties ∙ lt-leb (suc l) l (omega arith) in
-          let sh = shorter facts db in
-          elim (exp-or facts n self complete over f (suc l) m b p db high en s w.atom (λ z. w.no_ty (omega arith))) [
-            | inl h ↦ many-deep (part_turn self f l r) k {put = part j b} (part-step facts n self complete f j w.first h w.next w.level w.right) (w.runs k (omega arith))
+          let sh = shorter db in
+          elim (exp-or n self complete over f (suc l) m b p db high en s w.atom (λ z. w.no_ty (omega arith))) [
+            | inl h ↦ many-deep (part_turn self f l r) k {put = part j b} (part-step n self complete f j w.first h w.next w.level w.right) (w.runs k (omega arith))
             | inr h ↦ many-stop (part_turn self f l r) k (rw h refl)
           ]
 
@@ -125,7 +124,7 @@ module _ (facts : Facts) (n : ℕ) (self : Reader) (complete : CompleteExp n sel
       elim (le_or (depth a) n) [
         | inl q ↦
             let c1 = le-leb l 0 low in let c3 = le-leb (depth a) n q in
-            let h : read_match n self f m ≡ deep = whole-match-over facts n self complete over o lt in
+            let h : read_match n self f m ≡ deep = whole-match-over n self complete over o lt in
             rw (c1, c3, h) refl
         | inr q ↦ handle-deep l a p m low q
       ]

@@ -56,9 +56,6 @@ plain-word f p res.End o h = record { ties = refl; bar = refl; atom = refl; ty =
 plain-word f p res.In o h = record { ties = refl; bar = refl; atom = refl; ty = refl }
 plain-word f p _ o h = not_true h
 
-pub plain-end : (f : Fixity) → Plain f []
-plain-end f = record { ties = refl; bar = refl; atom = refl; ty = refl }
-
 pub record Quiet (f : Fixity) (i : List Terminal) : Type 0 where
   pub plain : Plain f i
   pub strid : first_as as_long_strid i ≡ None

@@ -8,14 +8,14 @@ use Rattle.sml_tree.specs.ReadTree.{Ty, Joint, Exp, chain, typed, handle, Parts,
 use Rattle.sml_tree.specs.Depth.{depth, depth_ty, depth_parts}
 use Rattle.sml_tree.specs.Levels.{joint_level, joint_right, level, at_least, could_go_on, goes_on, parts_go_on}
 use Rattle.sml_tree.specs.Grammar.{ReadsTy, Follows, of_last_part, of_part}
-use Rattle.sml_grammar.specs.Answer.{Answer, ok, bad, deep, read, then_read, Turn, last, more, many}
+use Rattle.sml_grammar.specs.Answer.{read, last, more, many}
 use Rattle.sml_grammar.specs.Terminals.{tail}
 use Rattle.sml_grammar.specs.Types.{read_ty, ty_could_go_on}
 use Rattle.sml_grammar.specs.Patterns.{same}
 use Rattle.sml_grammar.specs.Expressions.{Reader, begins_atom, read_match, Next, joint, next_of, part_next, part_turn, whole_parts, suffix_next, suffix_turn}
-use Rattle.sml_grammar.proofs.Answers.{or_split, many-last, many-more, many-turn}
+use Rattle.sml_grammar.proofs.Answers.{or_split, many-last, many-more}
 use Rattle.sml_grammar.proofs.ExpLevels.{NextIs, is_joint, is_mark, is_handler, is_nothing, next-is, joint-tie, stops-more}
-use Rattle.sml_grammar.proofs.CompFacts.{Facts}
+use Rattle.sml_grammar.proofs.CompFacts as facts
 use Rattle.sml_grammar.proofs.CompShapes.{shorter, follows-shorter, first_joint, chain-head, chain-no_ty}
 use Rattle.sml_grammar.proofs.CompLists.{TyStops, CompleteExp}
 
@@ -23,16 +23,7 @@ pub same-self : (a : Bool) → same a a ≡ true
 same-self true = refl
 same-self false = refl
 
-then-same : {A : Type 0} (x : Answer A) → then_read x (λ b o. read b o) ≡ x
-then-same (ok r) = refl
-then-same bad = refl
-then-same deep = refl
-
--- a turn that only goes on
-pub many-pass : {B S : Type 0} (step : S → List Terminal → Answer (Turn B S)) (k : ℕ) {s t : S} {i m : List Terminal} → step s i ≡ read (more (λ b. b) t) m → many step (suc k) s i ≡ many step k t m
-many-pass step k {t} {m} e = many-turn step k e ∙ then-same (many step k t m)
-
-module _ (facts : Facts) (n : ℕ) (self : Reader) (complete : CompleteExp n self) (f : Fixity) where
+module _ (n : ℕ) (self : Reader) (complete : CompleteExp n self) (f : Fixity) where
   pub stop-step : (l : ℕ) (t : Exp) (o : List Terminal) → could_go_on f l o ≡ false → suffix_turn self n f l t o ≡ read (last t) o
   stop-step l t o c = go (next-is f o) c
     where
@@ -65,7 +56,7 @@ module _ (facts : Facts) (n : ℕ) (self : Reader) (complete : CompleteExp n sel
 
   pub parts-complete : {l : ℕ} {r : Bool} {i o : List Terminal} {ps : Parts} → Follows f l r i ps o → depth_parts ps ≤ n → parts_go_on f ps o ≡ false → could_go_on f l o ≡ false → begins_atom f o ≡ false → TyStops l o →
       (k : ℕ) → length i ≤ k → many (part_turn self f l r) k (first_joint ps) (tail i) ≡ read ps o
-  parts-complete d le e c b y zero lt = let s = follows-shorter facts d in absurd (omega arith)
+  parts-complete d le e c b y zero lt = let s = follows-shorter d in absurd (omega arith)
   parts-complete {l} {r} (of_last_part {t} {m} {o} {j} {b = x} fit high d) le e c b y (suc k) lt =
       let lv = fit.level in
       let s = or_split (could_go_on f (suc (joint_level f j)) o) (goes_on f x o) e in
@@ -76,7 +67,7 @@ module _ (facts : Facts) (n : ℕ) (self : Reader) (complete : CompleteExp n sel
       let w = chain-head fs in
       let s : could_go_on f (suc l) p ≡ false = ap (at_least (suc l)) w.ties ∙ lt-leb (suc l) l (omega arith) in
       let h : self f (suc l) m ≡ read x p = complete f (suc l) m x p d (omega arith) high ends s w.atom (λ z. chain-no_ty fs (omega arith)) in
-      let sh = shorter facts d in
+      let sh = shorter d in
       let q : many (part_turn self f l r) k (first_joint ps) (tail p) ≡ read ps o = parts-complete fs (omega arith) e c b y k (omega arith) in
       many-more (part_turn self f l r) k {put = part j x} (part-step j (first_joint ps) h w.next w.level w.right) q
 

@@ -74,7 +74,8 @@ module _ (n : ℕ) (self : Reader) (sound : Sounds n self) (far : Fars n self) (
         | inr t ↦ separated-deep (after_word res.Comma t.0.rest) (exp_field l t.0.tree) (exp_field l t.0.tree no_exp_fields) s t.0.rest t.2
       ]
 
-  field-goes : (s : NoState) {i m : List Terminal} {l : Label} (put : ExpFields → ExpFields) (s' : NoState) (k : List Terminal) → LabelEquals i l m → field_read s l m ≡ read (more put s') k → OpensRow f k (suc n) →
+  field-goes : (s : NoState) {i m : List Terminal} {l : Label} (put : ExpFields → ExpFields) (s' : NoState) (k : List Terminal) → LabelEquals i l m → field_read s l m ≡ read (more put s') k →
+      OpensRow f k (suc n) →
       OpensRow f i (suc n)
   field-goes s {m} {l} put s' k (label_equals_at p v) h r =
       let t = then_ok (self f 0 m) _ (record { tree = more put s'; rest = k }) h in

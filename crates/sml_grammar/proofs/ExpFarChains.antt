@@ -157,7 +157,8 @@ module _ (n : ℕ) (below : Below n) (far_below : FarBelow n) (self : Reader) (s
           | inr p ↦ not_deep p.1
         ]
 
-    suffix_next-goes : (a : Exp) {m : List Terminal} {v : Next} (put : Exp → Exp) (b : Exp) (k : List Terminal) → NextIs f m v → suffix_next self n f l a m v ≡ read (more put b) k → FarGoing b k → FarGoing a m
+    suffix_next-goes : (a : Exp) {m : List Terminal} {v : Next} (put : Exp → Exp) (b : Exp) (k : List Terminal) → NextIs f m v → suffix_next self n f l a m v ≡ read (more put b) k →
+        FarGoing b k → FarGoing a m
     suffix_next-goes a put b k (is_nothing z) h g = last-more h
     suffix_next-goes a put b k (is_joint {t} {j} {o} is) h g =
         elim (chosen (nat_le l (joint_level f j)) _ _ h) [

@@ -26,10 +26,12 @@ use Rattle.sml_grammar.proofs.ExpFarBinds.{binds-far, funs-far}
 -- where the declarations in a `local` are too deep, so is it
 pub record FarInner (n : ℕ) (inner : DecsReader) : Type 0 where
   pub first : (f : Fixity) (p : ℕ) (i : List Terminal) → inner f i ≡ deep → OpensDec f (reserved p res.Local ∷ i) (suc n)
-  pub second : (f : Fixity) (p q : ℕ) (i : List Terminal) (ds : Decs) (m : List Terminal) → Declares f i ds (reserved q res.In ∷ m) → inner (after f ds) m ≡ deep → OpensDec f (reserved p res.Local ∷ i) (suc n)
+  pub second : (f : Fixity) (p q : ℕ) (i : List Terminal) (ds : Decs) (m : List Terminal) → Declares f i ds (reserved q res.In ∷ m) → inner (after f ds) m ≡ deep →
+      OpensDec f (reserved p res.Local ∷ i) (suc n)
 
 module _ (n : ℕ) (below : Below n) (far_below : FarBelow n) (self : Reader) (sound : Sounds n self) (far : Fars n self)
-    (inner : DecsReader) (sound_inner : (f : Fixity) (i : List Terminal) (y : Read Decs) → inner f i ≡ ok y → Within (Declares f) (λ ds. suc (depth_decs ds)) n i y.tree y.rest) (far_inner : FarInner n inner) where
+    (inner : DecsReader) (sound_inner : (f : Fixity) (i : List Terminal) (y : Read Decs) → inner f i ≡ ok y → Within (Declares f) (λ ds. suc (depth_decs ds)) n i y.tree y.rest)
+    (far_inner : FarInner n inner) where
   module _ (f : Fixity) where
     withtype-far : (p : ℕ) (i : List Terminal) (bs : List DataBind) (m : List Terminal) → DataBinds f i bs m → withtype_rest n p bs m ≡ deep → OpensDec f (reserved p res.Datatype ∷ i) (suc n)
     withtype-far p i bs m d h =

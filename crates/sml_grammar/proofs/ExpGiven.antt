@@ -1,15 +1,12 @@
 -- The facts on types, patterns, heads and bindings that expressions and declarations ask for.
-use Rattle.std.proofs.Common.{◌≡◌, ℕ, suc, List, arith}
-use Rattle.sml_tree.specs.Terminal.{Terminal}
-use Rattle.sml_tree.specs.Fixity.{Fixity}
-use Rattle.sml_grammar.specs.Answer.{deep}
-use Rattle.sml_grammar.specs.Patterns.{read_pat, read_head}
-use Rattle.sml_grammar.specs.PartialPatterns.{OpensPat, OpensHead}
+use Rattle.std.proofs.Common.{ℕ, arith}
 use Rattle.sml_grammar.proofs.TypeSound.{ty-sound}
 use Rattle.sml_grammar.proofs.TypeFar.{ty-far}
 use Rattle.sml_grammar.proofs.MaybeTypes.{colon-sound}
 use Rattle.sml_grammar.proofs.PatSound.{pat-sound}
+use Rattle.sml_grammar.proofs.PatFar.{pat-far}
 use Rattle.sml_grammar.proofs.PatHeads.{head-sound}
+use Rattle.sml_grammar.proofs.PatHeadsDeep.{head-far}
 use Rattle.sml_grammar.proofs.BindTyvars.{tyvars-sound, tyvars-never-deep}
 use Rattle.sml_grammar.proofs.BindTypes.{type_binds-sound, type_binds-far}
 use Rattle.sml_grammar.proofs.BindDatatypes.{data_binds-sound, data_binds-far}
@@ -31,12 +28,11 @@ below n = record {
   vids = vids-sound;
 }
 
-pub far_below : ((n : ℕ) (f : Fixity) (i : List Terminal) → read_pat n f i ≡ deep → OpensPat f 0 i (suc n)) → ((n : ℕ) (f : Fixity) (i : List Terminal) → read_head n f i ≡ deep → OpensHead f i (suc n)) →
-    (n : ℕ) → FarBelow n
-far_below pats heads n = record {
+pub far_below : (n : ℕ) → FarBelow n
+far_below n = record {
   tys = λ i h. ty-far n 0 i (omega arith) h;
-  pats = pats n;
-  heads = heads n;
+  pats = λ f i h. pat-far n f 0 i h (omega arith);
+  heads = λ f i h. head-far n f i h;
   tyvars = λ i h. tyvars-never-deep i h;
   type_binds = λ i h. type_binds-far n i h;
   data_binds = λ f i h. data_binds-far n f i h;

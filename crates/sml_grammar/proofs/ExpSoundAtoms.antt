@@ -85,7 +85,8 @@ module _ (n : ℕ) (self : Reader) (sound : Sounds n self) (f : Fixity) where
   brace-sound p i y h =
       elim (on_some-split (after_word res.RightBrace i) _ _ h) [
         | inl q ↦ given (Within (Atom f) depth (suc n) (reserved p res.LeftBrace ∷ i)) q.2
-            (at-front (word-at res.RightBrace i q.0 q.1) (λ z. Within (Atom f) depth (suc n) (reserved p res.LeftBrace ∷ z) (record_exp p no_exp_fields) q.0) (λ r. record { reads = of_no_row p r; fits = omega arith }))
+            (at-front (word-at res.RightBrace i q.0 q.1) (λ z. Within (Atom f) depth (suc n) (reserved p res.LeftBrace ∷ z) (record_exp p no_exp_fields) q.0)
+            (λ r. record { reads = of_no_row p r; fits = omega arith }))
         | inr q ↦
             let t = then_ok (whole (row_turn self f) no_state i) _ y q.1 in
             let g = row-sound i t.0 t.1 in
@@ -104,7 +105,8 @@ module _ (n : ℕ) (self : Reader) (sound : Sounds n self) (f : Fixity) where
   bracket-sound p i y h =
       elim (on_some-split (after_word res.RightBracket i) _ _ h) [
         | inl q ↦ given (Within (Atom f) depth (suc n) (reserved p res.LeftBracket ∷ i)) q.2
-            (at-front (word-at res.RightBracket i q.0 q.1) (λ z. Within (Atom f) depth (suc n) (reserved p res.LeftBracket ∷ z) (list_exp p no_exps) q.0) (λ r. record { reads = of_nil p r; fits = omega arith }))
+            (at-front (word-at res.RightBracket i q.0 q.1) (λ z. Within (Atom f) depth (suc n) (reserved p res.LeftBracket ∷ z) (list_exp p no_exps) q.0)
+            (λ r. record { reads = of_nil p r; fits = omega arith }))
         | inr q ↦
             let t = then_ok (whole (commas_turn self f) no_state i) _ y q.1 in
             let g = commas-sound i t.0 t.1 in

@@ -57,7 +57,8 @@ module _ (n : ℕ) (below : Below n) (self : Reader) (sound : Sounds n self) (f 
   bind-turn s i y h =
       elim (on_some-split (after_word res.Rec i) _ _ h) [
         | inl q ↦ given (GoodTurn GoodBinds s i) q.2
-            (at-front (word-at res.Rec i q.0 q.1) (λ z. (bs : Binds) (o : List Terminal) → GoodBinds s q.0 bs o → GoodBinds s z (rec_binds bs) o) (λ p bs o k. record { reads = of_rec p k.reads; fits = k.fits }))
+            (at-front (word-at res.Rec i q.0 q.1) (λ z. (bs : Binds) (o : List Terminal) → GoodBinds s q.0 bs o → GoodBinds s z (rec_binds bs) o)
+            (λ p bs o k. record { reads = of_rec p k.reads; fits = k.fits }))
         | inr q ↦
             let t = then_ok (read_pat n f i) _ y q.1 in
             let p = below.pats f i t.0 t.1 in

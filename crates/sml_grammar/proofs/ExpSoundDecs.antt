@@ -49,7 +49,8 @@ module _ (n : ℕ) (below : Below n) (self : Reader) (sound : Sounds n self)
     abbrev GoodDec : List Terminal → Dec → List Terminal → Type 0
     GoodDec i d o = Within (Declare f) depth_dec n i d o
 
-    replication-sound : (p : ℕ) {i m : List Terminal} {x : Placed ℕ} {c : Placed LongId} {o : List Terminal} → Replicated i x m → Front IsLongTycon m c o → GoodDec (reserved p res.Datatype ∷ i) (replicate_dec p x c) o
+    replication-sound : (p : ℕ) {i m : List Terminal} {x : Placed ℕ} {c : Placed LongId} {o : List Terminal} → Replicated i x m → Front IsLongTycon m c o →
+        GoodDec (reserved p res.Datatype ∷ i) (replicate_dec p x c) o
     replication-sound p (replicated_at q r v) (front w) = record { reads = of_replication p q r v w; fits = omega arith }
 
     withtype-sound : (p : ℕ) (i : List Terminal) (bs : List DataBind) (m : List Terminal) (y : Read Dec) → Within (DataBinds f) depth_data_binds n i bs m → withtype_rest n p bs m ≡ ok y →
@@ -127,7 +128,8 @@ module _ (n : ℕ) (below : Below n) (self : Reader) (sound : Sounds n self)
   dec-turn f i y h =
       elim (on_some-split (after_word res.Semicolon i) _ _ h) [
         | inl q ↦ given (GoodTurn GoodDecs f i) q.2
-            (at-front (word-at res.Semicolon i q.0 q.1) (λ z. (ds : Decs) (o : List Terminal) → GoodDecs f q.0 ds o → GoodDecs f z ds o) (λ p ds o k. record { reads = of_semicolon p k.reads; fits = k.fits }))
+            (at-front (word-at res.Semicolon i q.0 q.1) (λ z. (ds : Decs) (o : List Terminal) → GoodDecs f q.0 ds o → GoodDecs f z ds o)
+            (λ p ds o k. record { reads = of_semicolon p k.reads; fits = k.fits }))
         | inr q ↦ elim (chosen (is_dec_start (dec_start i)) _ _ q.1) [
           | inl p ↦
               let t = then_ok (dec_by n self inner f (dec_start i)) _ y p.1 in

@@ -10,8 +10,7 @@ use Rattle.sml_grammar.specs.Patterns.{read_pats}
 use Rattle.sml_tree.specs.ReadTree.{Decs}
 use Rattle.sml_tree.specs.Grammar.{Declares}
 use Rattle.sml_grammar.specs.Expressions.{readers, read_all}
-use Rattle.sml_grammar.proofs.CompGiven.{facts}
-use Rattle.sml_grammar.proofs.CompDeep.{bad-sound}
+use Rattle.sml_grammar.proofs.LawComplete.{bad-sound}
 
 abbrev name_f : ℕ
 name_f = 1
@@ -55,10 +54,10 @@ two_counts-bad = refl
 -- a text that is bad has no tree of any depth
 
 pub no_expression : {ds : Decs} → Declares no_fixities text_no_expression ds [] → ⊥
-no_expression {ds} d = bad-sound facts 10 no_fixities text_no_expression ds no_expression-bad d
+no_expression {ds} d = bad-sound 10 no_fixities text_no_expression ds no_expression-bad d
 
 pub two_names : {ds : Decs} → Declares no_fixities text_two_names ds [] → ⊥
-two_names {ds} d = bad-sound facts 10 no_fixities text_two_names ds two_names-bad d
+two_names {ds} d = bad-sound 10 no_fixities text_two_names ds two_names-bad d
 
 pub two_counts : {ds : Decs} → Declares no_fixities text_two_counts ds [] → ⊥
-two_counts {ds} d = bad-sound facts 10 no_fixities text_two_counts ds two_counts-bad d
+two_counts {ds} d = bad-sound 10 no_fixities text_two_counts ds two_counts-bad d

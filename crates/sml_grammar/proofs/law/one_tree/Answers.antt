@@ -1,6 +1,5 @@
-use Rattle.sml_grammar.proofs.CompMain.{one-tree}
-use Rattle.sml_grammar.proofs.CompGiven.{facts}
+use Rattle.sml_grammar.proofs.LawComplete.{one-tree}
 use Rattle.sml_grammar.proofs.law.one_tree.Goals as goal
 
 pub returns : goal.returns
-returns c = one-tree facts
+returns c = one-tree
