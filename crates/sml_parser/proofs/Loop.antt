@@ -1,7 +1,7 @@
 -- Loops of the parser, against `many`; what a failure of a step is for what it is a part of.
-use Rattle.std.proofs.Common.{◌≡◌, ℕ, zero, suc, ◌<◌, ◌≤◌, List, [], ◌∷◌, length, Option, Some, None, refl, sym, ap, ◌∙◌, subst, arith}
+use Rattle.std.proofs.Common.{◌≡◌, ℕ, zero, suc, ◌<◌, List, length, refl, sym, ap, ◌∙◌, subst, arith}
 use Rattle.sml_tree.specs.Terminal.{Terminal}
-use Rattle.sml_grammar.specs.Answer.{Read, Answer, ok, bad, deep, read, then_read, Turn, last, more, after_turn, many, whole}
+use Rattle.sml_grammar.specs.Answer.{Answer, ok, bad, deep, read, then_read, Turn, last, more, after_turn, many, whole}
 use Rattle.sml_parser.specs.declared.stop.Stop.{Stop}
 use Rattle.sml_parser.specs.declared.stop.Stop.TheVariants as stop
 use Rattle.sml_parser.specs.Gives.{Fails}
@@ -41,8 +41,8 @@ module _ {B S : Type 0} (step : S → List Terminal → Answer (Turn B S)) where
       go : (k : ℕ) → length i < k → then_read (many step k s i) (λ b o. read (put b) o) ≡ total → Going step t m (λ b. put (c b)) total
       go zero le e = absurd (omega arith)
       go (suc k) le e =
-        let one : many step (suc k) s i ≡ then_read (many step k t m) (λ b o. read (c b) o) = ap (λ (x : Answer (Turn B S)). then_read x (after_turn (many step k))) h in
-        record { fuel = k; enough = omega arith; same = sym (then-put put c (many step k t m)) ∙ sym (ap (λ (x : Answer B). then_read x (λ b o. read (put b) o)) one) ∙ e }
+          let one : many step (suc k) s i ≡ then_read (many step k t m) (λ b o. read (c b) o) = ap (λ (x : Answer (Turn B S)). then_read x (after_turn (many step k))) h in
+          record { fuel = k; enough = omega arith; same = sym (then-put put c (many step k t m)) ∙ sym (ap (λ (x : Answer B). then_read x (λ b o. read (put b) o)) one) ∙ e }
 
   pub going-last : {s : S} {i o : List Terminal} {b : B} {put : B → B} {total : Answer B} → step s i ≡ read (last b) o → Going step s i put total → total ≡ read (put b) o
   unfolding many
@@ -51,8 +51,8 @@ module _ {B S : Type 0} (step : S → List Terminal → Answer (Turn B S)) where
       go : (k : ℕ) → length i < k → then_read (many step k s i) (λ b o. read (put b) o) ≡ total → total ≡ read (put b) o
       go zero le e = absurd (omega arith)
       go (suc k) le e =
-        let one : many step (suc k) s i ≡ read b o = ap (λ (x : Answer (Turn B S)). then_read x (after_turn (many step k))) h in
-        sym e ∙ ap (λ (x : Answer B). then_read x (λ b o. read (put b) o)) one
+          let one : many step (suc k) s i ≡ read b o = ap (λ (x : Answer (Turn B S)). then_read x (after_turn (many step k))) h in
+          sym e ∙ ap (λ (x : Answer B). then_read x (λ b o. read (put b) o)) one
 
   pub going-fails : (e : Stop) {s : S} {i : List Terminal} {put : B → B} {total : Answer B} → Fails e (step s i) → Going step s i put total → Fails e total
   unfolding many

@@ -1,5 +1,5 @@
 -- What a function of the parser returned, against the answer of the reading function.
-use Rattle.std.specs.Prelude.{ℕ, ◌≡◌, Result, Ok, Err}
+use Rattle.std.specs.Prelude.{◌≡◌, Result, Ok, Err}
 use Rattle.sml_grammar.specs.Answer.{Read, Answer, ok, bad, deep}
 use Rattle.sml_parser.specs.declared.stop.Stop.{Stop}
 use Rattle.sml_parser.specs.declared.stop.Stop.TheVariants as stop

@@ -1,5 +1,5 @@
 -- The terminals that are left.
-use Rattle.std.specs.Prelude.{ℕ, List}
+use Rattle.std.specs.Prelude.{List}
 use Rattle.mlc_base.specs.declared.token.Token.{Token}
 use Rattle.sml_tree.specs.Terminal.{Terminal, terminals}
 use Rattle.sml_parser.specs.declared.source.Source.{Source}

@@ -1,9 +1,9 @@
 // Why reading stops.
 
-use std::alloc::{AllocError, AllocFailed};
-
 ghost use Rattle.std.specs.Prelude.{◌≡◌};
 ghost use Rattle.sml_parser.specs.declared.stop.Stop.TheVariants.{Memory};
+
+use std::alloc::{AllocError, AllocFailed};
 
 /// Why reading stops, with the number of tokens that were left there.
 #[derive(Clone, Copy, PartialEq, Eq, Debug)]

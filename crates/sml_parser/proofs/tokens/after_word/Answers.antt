@@ -1,4 +1,4 @@
-use Rattle.std.proofs.Common.{◌≡◌, Some, None, ◌∙◌, sym, ap}
+use Rattle.std.proofs.Common.{Some, ◌∙◌, sym, ap}
 use Rattle.sml_parser.specs.Left.{left}
 use Rattle.sml_parser.proofs.Words.{after_here, after_elsewhere}
 use Rattle.sml_parser.proofs.tokens.after_word.Goals as goal
