@@ -6,7 +6,7 @@ use Rattle.ty_unify.specs.Forces.{Clashes, Loops}
 use Rattle.ty_unify.specs.declared.refused.UnifyRefused.{UnifyRefused}
 use Rattle.ty_unify.specs.declared.refused.UnifyRefused.TheVariants.{Clash, Circular, Large, Memory}
 use Rattle.ty_unify.specs.declared.subst.Slot.{Slot}
-use Rattle.ty_unify.specs.declared.solve.Kept.{Kept}
+use Rattle.ty_unify.specs.declared.trail.Kept.{Kept}
 
 -- the least change that makes a and b equal: what solves the new substitution is what solves the old one and makes them equal
 abbrev pub IsMostGeneral : (ℕ → Entry) → (ℕ → Entry) → Typ → Typ → Type 0
