@@ -1,16 +1,15 @@
 -- What is known of the record that an open variable stands for.
-use Rattle.std.proofs.Common.{◌≡◌, ◌≤◌, ◌↔◌, ℕ, Bool, true, false, List, [], ◌∷◌, Option, Some, None, MatchOption, map, length, refl, sym, ap, ◌∙◌, subst, arith}
+use Rattle.std.proofs.Common.{◌≡◌, ℕ, Bool, true, false, [], Option, Some, None, MatchOption, map, refl, sym, ap, ◌∙◌, subst, arith}
 use Rattle.std.proofs.lemmas.Bool.{false≢true}
-use Rattle.mlc_base.specs.declared.label.Label.{Label}
-use Rattle.ty_core.specs.Types.{Typ, var, Typs, none, typs_of, admits}
+use Rattle.ty_core.specs.Types.{Typ, var, none, typs_of}
 use Rattle.ty_core.specs.TypesOf.{type_of}
 use Rattle.ty_core.specs.declared.mark.Class.{Class}
 use Rattle.ty_core.specs.declared.mark.Mark.{Mark}
 use Rattle.ty_unify.specs.Rows.{IsProper, Extends}
-use Rattle.ty_unify.specs.Substitution.{Entry, free, bound, row, mark, Meets, Solves, sub, subs, are_below}
+use Rattle.ty_unify.specs.Substitution.{Entry, free, bound, row, mark, Meets, subs, are_below}
 use Rattle.ty_unify.specs.SlotsOf.{types_of, row_of}
 use Rattle.ty_unify.specs.Weight.{AreBelow, AreInhabited}
-use Rattle.ty_unify.specs.Forces.{Problem, Records, Asks, Strict, Clashes, ForcedAt, IsForced, IsForcedRow}
+use Rattle.ty_unify.specs.Forces.{Problem, Strict, Clashes, ForcedAt, IsForcedRow}
 use Rattle.ty_unify.specs.Changes.{RefusesRow, IsFitRow, row_rank, entry_rank}
 use Rattle.ty_unify.specs.Fields.{IsBase}
 use Rattle.ty_unify.specs.declared.row.Row.{Row}

@@ -1,7 +1,7 @@
 -- One change to a substitution.
-use Rattle.std.proofs.Common.{◌≡◌, ◌<◌, ◌≤◌, ◌+◌, ◌-◌, ℕ, zero, suc, Bool, true, false, List, [], ◌∷◌, ◌++◌, length, set, get_or, ap, sym, ◌∙◌, subst, refl, arith}
+use Rattle.std.proofs.Common.{◌≡◌, ◌<◌, ◌≤◌, ◌+◌, ◌-◌, ℕ, zero, suc, true, false, List, [], ◌∷◌, ◌++◌, length, set, get_or, ap, sym, ◌∙◌, subst, refl, arith}
 use Rattle.std.proofs.lemmas.Bool.{cases_eq, lt-ltb}
-use Rattle.std.proofs.lemmas.List.{length-set, length-append}
+use Rattle.std.proofs.lemmas.List.{length-append}
 use Rattle.std.proofs.Math.Seq.{set-append_seam}
 use mathlib.Core.Logic.{◌⊎◌, inl, inr}
 use Rattle.ty_core.specs.Types.{Typ}
@@ -11,7 +11,7 @@ use Rattle.ty_core.specs.declared.mark.Mark.{Mark}
 use Rattle.ty_core.specs.declared.ty.Ty.{Ty}
 use Rattle.ty_core.specs.declared.ty.Ty.TheVariants.{Var}
 use Rattle.ty_core.proofs.TreeLemmas.{type_of-Var}
-use Rattle.ty_unify.specs.Substitution.{Entry, free, bound, mark, Meets, Solves, Resolves, aside, sub, is_in, is_below}
+use Rattle.ty_unify.specs.Substitution.{free, bound, mark, Meets, Resolves, aside, sub, is_in, is_below}
 use Rattle.ty_unify.specs.SlotsOf.{entry, look}
 use Rattle.ty_unify.specs.Weight.{AreInhabited}
 use Rattle.ty_unify.specs.Forces.{Problem, Asks, ForcedAt, IsForced}
@@ -24,7 +24,7 @@ use Rattle.ty_unify.specs.declared.subst.Slot.TheVariants.{Open, Partial, Full}
 use Rattle.ty_unify.specs.declared.task.Task.{Task}
 use Rattle.ty_unify.specs.declared.task.Task.TheVariants.{Admit}
 use Rattle.ty_unify.specs.declared.task.Write.TheVariants.{Bind, Remark}
-use Rattle.ty_unify.proofs.Binding.{Puts, solves-put, put-solves, put-meets}
+use Rattle.ty_unify.proofs.Binding.{solves-put, put-solves, put-meets}
 use Rattle.ty_unify.proofs.Look.{look-set-same, look-set-other}
 use Rattle.ty_unify.proofs.Setting.{set-puts, at-inhabited}
 use Rattle.ty_unify.proofs.StepArms.{hold-push, forced-push, within-push}

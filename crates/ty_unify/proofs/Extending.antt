@@ -1,11 +1,11 @@
 -- Records that have the fields of a row.
-use Rattle.std.proofs.Common.{◌≡◌, ℕ, Bool, true, false, ◌||◌, List, [], ◌∷◌, refl, sym, ap, ap₂, ◌∙◌, subst}
+use Rattle.std.proofs.Common.{◌≡◌, ℕ, Bool, true, false, List, [], refl, sym, ap, ◌∙◌, subst}
 use Rattle.std.proofs.lemmas.Bool.{false≢true}
 use mathlib.Core.Logic.{◌⊎◌, inl, inr}
 use Rattle.mlc_base.specs.declared.label.Label.{Label}
-use Rattle.ty_core.specs.Types.{Symbol, arrow, labels, name, Typ, var, con, Typs, none, more, admits, all_admit}
+use Rattle.ty_core.specs.Types.{arrow, labels, name, Typ, var, con, Typs, none, admits, all_admit}
 use Rattle.ty_unify.specs.Rows.{Among, At, IsProper, Extends}
-use Rattle.ty_unify.proofs.Labels.{among-cases, at-among, among-at, at-unique, at-admit, admit-at}
+use Rattle.ty_unify.proofs.Labels.{among-cases, among-at, at-unique, at-admit, admit-at}
 
 -- a record's field
 abbrev pub Field : Typ → Label → Typ → Type 0

@@ -3,21 +3,20 @@ use Rattle.std.proofs.Common.{◌≡◌, ◌↔◌, ◌<◌, ◌≤◌, IsTrue, 
 use Rattle.std.proofs.lemmas.Bool.{false≢true, and_from, and_parts}
 use mathlib.Core.Logic.{◌⊎◌, inl, inr}
 use Rattle.mlc_base.specs.declared.label.Label.{Label}
-use Rattle.ty_core.specs.Types.{Typ, Typs, none, more, admits}
+use Rattle.ty_core.specs.Types.{Typ, Typs, none, admits}
 use Rattle.ty_core.specs.TypesOf.{type_of}
 use Rattle.ty_core.specs.declared.mark.Mark.{Mark}
 use Rattle.ty_core.specs.declared.ty.Ty.{Ty}
 use Rattle.ty_unify.specs.Rows.{Among, At, IsProper}
 use Rattle.ty_unify.specs.Substitution.{sub, is_below, are_below}
-use Rattle.ty_unify.specs.Forces.{Problem, Forces, Asks}
-use Rattle.ty_unify.specs.Tasks.{AllHold, AreForced, AreWithin}
-use Rattle.ty_unify.specs.Fields.{IsPlace, IsLacking, FieldMeets, FieldsMeet, OthersAdmit, IsUnion}
+use Rattle.ty_unify.specs.Forces.{Forces, Asks}
+use Rattle.ty_unify.specs.Fields.{IsPlace, FieldMeets, FieldsMeet, OthersAdmit, IsUnion}
 use Rattle.ty_unify.specs.declared.task.Task.{Task}
 use Rattle.ty_unify.specs.declared.task.Task.TheVariants.{Equal, Admit}
 use Rattle.ty_unify.proofs.Lists.{all}
 use Rattle.ty_unify.proofs.PartsLeft.{below-last}
 use Rattle.ty_unify.proofs.StepArms.{hold-push, forced-push, within-push}
-use Rattle.ty_unify.proofs.Labels.{among-last, among-front, among-end, among-take, at-last, at-front, at-end, at-among, among-at, at-below, at-unique, proper-last, proper-apart, proper-lengths, proper-take, take-next, take-whole, place-among, place-at}
+use Rattle.ty_unify.proofs.Labels.{among-last, at-last, at-front, at-end, at-among, among-at, at-below, at-unique, proper-last, proper-apart, proper-lengths, proper-take, take-next, take-whole, place-among, place-at}
 
 pub no : {A : Type 0} → (A → ⊥) → IsTrue false ↔ A
 no n = (λ h. absurd (false≢true h), λ a. absurd (n a))

@@ -1,11 +1,11 @@
 -- One more variable.
-use Rattle.std.proofs.Common.{◌≡◌, ◌≢◌, ◌<◌, ℕ, zero, suc, List, [], ◌∷◌, ◌++◌, length, Bool, true, false, ◌||◌, if◌then◌else◌, refl, sym, ap, ◌∙◌, subst, arith}
+use Rattle.std.proofs.Common.{◌≡◌, ◌<◌, ℕ, List, [], ◌∷◌, ◌++◌, length, Bool, true, false, if◌then◌else◌, refl, sym, ap, ◌∙◌, subst, arith}
 use Rattle.std.proofs.lemmas.Bool.{cases_eq, and_parts, or_from, ltb-true, ne_eqb}
 use mathlib.Core.Logic.{◌⊎◌, inl, inr}
 use Rattle.ty_core.specs.Types.{Typ, var, con, Typs, none, more, labels}
 use Rattle.ty_core.specs.declared.mark.Mark.{Mark}
-use Rattle.ty_unify.specs.Substitution.{Entry, free, bound, mark, sub, is_in, are_in, is_below, are_below}
-use Rattle.ty_unify.specs.SlotsOf.{look, entry, row_of, types_of}
+use Rattle.ty_unify.specs.Substitution.{Entry, free, sub, is_in, are_in, is_below, are_below}
+use Rattle.ty_unify.specs.SlotsOf.{look, types_of}
 use Rattle.ty_unify.specs.Weight.{AreBelow, WeighsAt, IsAcyclic}
 use Rattle.ty_unify.specs.declared.row.Row.{Row}
 use Rattle.ty_unify.specs.declared.subst.Slot.{Slot}

@@ -1,17 +1,15 @@
 -- The fields of two rows, and of a row and a record.
-use Rattle.std.proofs.Common.{◌≡◌, ◌≢◌, ◌≤◌, ◌↔◌, ℕ, Bool, true, false, ◌||◌, List, [], ◌∷◌, refl, sym, ap, ◌∙◌, subst, arith}
+use Rattle.std.proofs.Common.{◌≡◌, ◌≢◌, ◌≤◌, ℕ, Bool, true, false, ◌||◌, List, [], refl, sym, ap, ◌∙◌, subst, arith}
 use Rattle.std.proofs.lemmas.Bool.{false≢true, or_right}
 use mathlib.Core.Logic.{◌⊎◌, inl, inr}
 use Rattle.mlc_base.specs.declared.label.Label.{Label}
-use Rattle.ty_core.specs.Types.{Symbol, arrow, labels, name, Typ, var, con, Typs, none, more, admits, all_admit}
-use Rattle.ty_core.specs.declared.mark.Mark.{Mark}
+use Rattle.ty_core.specs.Types.{Symbol, arrow, labels, name, Typ, var, con, Typs, admits}
 use Rattle.ty_core.specs.declared.name.TyName.{TyName}
 use Rattle.ty_unify.specs.Rows.{Among, At, IsProper, Extends}
-use Rattle.ty_unify.specs.Substitution.{Entry, Solves, sub, subs, is_below, are_below}
+use Rattle.ty_unify.specs.Substitution.{Entry, sub, subs}
 use Rattle.ty_unify.specs.SlotsOf.{types_of}
-use Rattle.ty_unify.specs.Forces.{Problem, Forces, Has, Asks, Strict, Clashes, IsForced, IsForcedRow}
-use Rattle.ty_unify.specs.Tasks.{AllHold, AreForced}
-use Rattle.ty_unify.specs.Changes.{row_rank, RefusesRow, IsFitRow}
+use Rattle.ty_unify.specs.Forces.{Problem, Forces, Has, Asks, Strict, Clashes, IsForcedRow}
+use Rattle.ty_unify.specs.Changes.{row_rank, RefusesRow}
 use Rattle.ty_unify.specs.Fields.{FieldsMeet, OthersAdmit, IsUnion, Joins, Closes, IsLacking}
 use Rattle.ty_unify.specs.declared.task.Task.{Task}
 use Rattle.ty_unify.specs.declared.row.Row.{Row}

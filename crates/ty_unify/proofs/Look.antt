@@ -6,7 +6,6 @@ use Rattle.ty_unify.specs.Substitution.{Entry, free, bound, row, mark, is_open, 
 use Rattle.ty_unify.specs.SlotsOf.{look, entry}
 use Rattle.std.proofs.lemmas.Bool.{cases_eq}
 use mathlib.Core.Logic.{◌⊎◌, inl, inr}
-use Rattle.ty_core.specs.Marks.{is_inhabited}
 use Rattle.ty_core.specs.declared.mark.Mark.{Mark}
 use Rattle.ty_unify.specs.Weight.{BelowAt, AreBelow, InhabitedAt, AreInhabited}
 use Rattle.ty_unify.specs.declared.subst.Slot.{Slot}

@@ -1,17 +1,14 @@
 -- A variable doesn't lie in its own row.
-use Rattle.std.proofs.Common.{◌≡◌, ◌≢◌, ◌<◌, ◌≤◌, ℕ, zero, suc, ◌+◌, Bool, true, false, List, map, length, nat_eq, if◌then◌else◌, refl, sym, ap, ◌∙◌, subst, arith}
+use Rattle.std.proofs.Common.{◌≡◌, ◌<◌, ◌≤◌, ℕ, zero, suc, Bool, true, false, List, nat_eq, if◌then◌else◌, refl, sym, ap, ◌∙◌, subst, arith}
 use Rattle.std.proofs.lemmas.Bool.{eqb-true}
 use Rattle.mlc_base.specs.declared.label.Label.{Label}
-use Rattle.ty_core.specs.Types.{Typ, var, con, Typs, labels, typs_of}
-use Rattle.ty_core.specs.TypesOf.{type_of}
+use Rattle.ty_core.specs.Types.{Typ, var, con, Typs, labels}
 use Rattle.ty_core.specs.declared.mark.Mark.{Mark}
-use Rattle.ty_core.specs.declared.ty.Ty.{Ty}
-use Rattle.ty_unify.specs.Substitution.{Entry, free, bound, row, aside, resolved, Resolves, sub, subs, is_in, are_in}
-use Rattle.ty_unify.specs.SlotsOf.{row_of, types_of, look}
-use Rattle.ty_unify.specs.Weight.{weight, weights, WeighsAt, IsAcyclic, AreBelow, AreInhabited, BelowAt, InhabitedAt}
+use Rattle.ty_unify.specs.Substitution.{Entry, free, bound, row, aside, resolved, Resolves, subs, is_in, are_in}
+use Rattle.ty_unify.specs.SlotsOf.{row_of, types_of}
+use Rattle.ty_unify.specs.Weight.{weight, WeighsAt, IsAcyclic, AreBelow, AreInhabited, BelowAt, InhabitedAt}
 use Rattle.ty_unify.specs.Tasks.{MayPut}
 use Rattle.ty_unify.specs.declared.row.Row.{Row}
-use Rattle.ty_unify.specs.declared.subst.Slot.{Slot}
 use Rattle.ty_unify.proofs.Reaching.{comes-from, come-from, within-weight, within-weights}
 
 module _ (s : ℕ → Entry) (a : IsAcyclic s) (v : ℕ) (f : ℕ → Typ) (h : Resolves f (aside v s)) where

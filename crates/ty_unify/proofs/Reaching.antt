@@ -8,7 +8,6 @@ use Rattle.ty_core.specs.declared.ty.Head.{Head}
 use Rattle.ty_core.specs.declared.ty.Ty.{Ty}
 use Rattle.ty_core.specs.declared.ty.Ty.TheVariants.{Var, Apply}
 use Rattle.ty_core.proofs.TreeLemmas.{type_of-Var, type_of-Apply}
-use Rattle.ty_core.specs.declared.mark.Mark.{Mark}
 use Rattle.ty_unify.specs.Substitution.{Entry, free, bound, row, aside, resolved, Resolves, sub, subs, is_in, are_in}
 use Rattle.ty_unify.specs.Weight.{weight, weights, WeighsAt, IsAcyclic}
 use Rattle.ty_unify.specs.Pending.{pend, inner, Adds}

@@ -1,8 +1,8 @@
 -- A mark on a variable that stands for a record.
-use Rattle.std.proofs.Common.{◌≡◌, ◌<◌, ◌↔◌, ℕ, suc, ◌+◌, Bool, true, false, List, [], Option, Some, None, Result, Ok, Err, IfOk, map, ap, sym, ◌∙◌, subst, refl, arith}
-use Rattle.std.proofs.lemmas.Bool.{ltb-true, false≢true}
+use Rattle.std.proofs.Common.{◌≡◌, ℕ, suc, Bool, true, false, List, [], Option, Some, None, Result, Ok, Err, IfOk, map, ap, sym, ◌∙◌, subst, arith}
+use Rattle.std.proofs.lemmas.Bool.{ltb-true}
 use Rattle.mlc_base.specs.declared.label.Label.{Label}
-use Rattle.ty_core.specs.Types.{Typ, var, con, Typs, labels, name, none, typs_of, admits, all_admit}
+use Rattle.ty_core.specs.Types.{Typ, var, Typs, typs_of, admits}
 use Rattle.ty_core.specs.TypesOf.{type_of}
 use Rattle.ty_core.specs.Marks.{IsOf}
 use Rattle.ty_core.specs.declared.mark.Class.{Class}
@@ -13,7 +13,7 @@ use Rattle.ty_unify.specs.Substitution.{Entry, row, Meets, sub, subs, is_below, 
 use Rattle.ty_unify.specs.SlotsOf.{row_of, types_of}
 use Rattle.ty_unify.specs.declared.row.Row.{Row}
 use Rattle.ty_unify.specs.Weight.{weight, weights, WeighsAt, Weighs, InhabitedAt, AreInhabited, BelowAt, AreBelow}
-use Rattle.ty_unify.specs.Forces.{Problem, Asks, Strict, Clashes, ForcedAt, IsForcedRow}
+use Rattle.ty_unify.specs.Forces.{Asks, Strict, Clashes, ForcedAt, IsForcedRow}
 use Rattle.ty_unify.specs.Tasks.{Steps, RefusesTask, IsLoose}
 use Rattle.ty_unify.specs.Parts.{AdmitParts}
 use Rattle.ty_unify.specs.declared.task.Task.{Task}

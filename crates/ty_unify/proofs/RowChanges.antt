@@ -1,19 +1,18 @@
 -- Changes to what a row stands for.
-use Rattle.std.proofs.Common.{◌≡◌, ◌<◌, ◌≤◌, ◌+◌, ℕ, suc, Bool, true, false, ◌||◌, List, [], map, length, set, ap, sym, ◌∙◌, subst, refl, arith}
+use Rattle.std.proofs.Common.{◌≡◌, ◌<◌, ℕ, Bool, true, false, List, [], map, length, set, ap, sym, ◌∙◌, subst, refl, arith}
 use Rattle.std.proofs.lemmas.List.{length-set}
 use Rattle.mlc_base.specs.declared.label.Label.{Label}
-use Rattle.ty_core.specs.Types.{Typ, var, con, Typs, typs_of, admits}
+use Rattle.ty_core.specs.Types.{Typ, var, con, Typs, typs_of}
 use Rattle.ty_core.specs.TypesOf.{type_of}
-use Rattle.ty_core.specs.declared.mark.Mark.{Mark}
 use Rattle.ty_core.specs.declared.ty.Ty.{Ty}
 use Rattle.ty_unify.specs.Rows.{IsProper, Extends}
-use Rattle.ty_unify.specs.Substitution.{Entry, bound, row, is_open, Meets, Solves, Resolves, aside, sub, subs, is_in, are_in, is_below, are_below}
-use Rattle.ty_unify.specs.SlotsOf.{entry, look, row_of, types_of}
+use Rattle.ty_unify.specs.Substitution.{Entry, bound, row, is_open, Meets, Solves, Resolves, aside, sub, subs, are_in, is_below}
+use Rattle.ty_unify.specs.SlotsOf.{look, row_of, types_of}
 use Rattle.ty_unify.specs.Weight.{InhabitedAt, AreInhabited, BelowAt, AreBelow, IsAcyclic}
 use Rattle.ty_unify.specs.Finding.{IsWalked}
 use Rattle.ty_unify.specs.Forces.{Problem, Forces, Has, Records, Asks, Strict, ForcedAt, IsForced, IsForcedRow}
 use Rattle.ty_unify.specs.Tasks.{AreWithin, MayPut, Binds as MayBind, IsLoose, Narrows}
-use Rattle.ty_unify.specs.Changes.{Changes, Demands, RefusesRow, RefusesWrite, IsFitRow, ranks, row_rank, entry_rank}
+use Rattle.ty_unify.specs.Changes.{Changes, Demands, RefusesRow, RefusesWrite, IsFitRow, row_rank, entry_rank}
 use Rattle.ty_unify.specs.Fields.{Joins, IsBase, Closes}
 use Rattle.ty_unify.specs.Parts.{AdmitParts}
 use Rattle.ty_unify.specs.declared.row.Row.{Row}

@@ -1,12 +1,12 @@
 -- What calls answer, of the same rows and types.
-use Rattle.std.proofs.Common.{◌≡◌, ◌≢◌, ◌↔◌, ℕ, Bool, true, false, ◌||◌, List, map, length, set, Result, Ok, Err, IfOk, IfErr, refl, sym, ap, ◌∙◌, subst}
+use Rattle.std.proofs.Common.{◌≡◌, ℕ, Bool, true, List, length, set, Result, Ok, Err, IfOk, IfErr, sym, ap, ◌∙◌, subst}
 use Rattle.mlc_base.specs.declared.label.Label.{Label}
-use Rattle.ty_core.specs.Types.{Typ, Typs, var, con, labels, typs_of}
+use Rattle.ty_core.specs.Types.{Typ, Typs}
 use Rattle.ty_core.specs.TypesOf.{type_of}
 use Rattle.ty_core.specs.declared.ty.Ty.{Ty}
 use Rattle.ty_unify.specs.Rows.{Among, IsProper}
 use Rattle.ty_unify.specs.Substitution.{Entry, is_below}
-use Rattle.ty_unify.specs.SlotsOf.{look, row_of, types_of}
+use Rattle.ty_unify.specs.SlotsOf.{look, row_of}
 use Rattle.ty_unify.specs.Finding.{IsWalked}
 use Rattle.ty_unify.specs.Tasks.{Binds as MayBind}
 use Rattle.ty_unify.specs.Changes.{Changes, Demands, RefusesRow, RefusesWrite, IsFitRow}

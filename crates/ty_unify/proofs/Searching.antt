@@ -1,6 +1,5 @@
 -- Looking at one type after the other.
-use Rattle.std.proofs.Common.{◌≡◌, ◌<◌, ◌≤◌, ℕ, suc, ◌+◌, Bool, true, false, ◌||◌, List, [], ◌∷◌, ◌++◌, length, Vec, Global, Bor, refl, sym, ap, ◌∙◌, subst, arith}
-use Rattle.std.proofs.lemmas.Bool.{eq-eqb, ne_eqb, or_right}
+use Rattle.std.proofs.Common.{◌≡◌, ◌<◌, ◌≤◌, ℕ, suc, ◌+◌, Bool, true, List, [], ◌∷◌, ◌++◌, length, Vec, Global, Bor, refl, ap, ◌∙◌, subst, arith}
 use Rattle.ty_core.specs.Types.{Typ, var, con, nodes, all_nodes}
 use Rattle.ty_core.specs.TypesOf.{type_of, head_of}
 use Rattle.ty_core.specs.declared.ty.Head.{Head}
@@ -8,14 +7,13 @@ use Rattle.ty_core.specs.declared.ty.Ty.{Ty}
 use Rattle.ty_core.specs.declared.ty.Ty.TheVariants.{Var, Apply}
 use Rattle.ty_core.proofs.TreeLemmas.{type_of-Var, type_of-Apply}
 use Rattle.ty_unify.specs.Substitution.{Entry, free, bound, row, is_open, resolved, Resolves, sub, subs}
-use Rattle.ty_unify.specs.Weight.{weight, weights}
 use Rattle.ty_unify.specs.Finding.{Reads, IsWalked}
 use Rattle.ty_unify.specs.Pending.{pend, inner, Adds}
 use Rattle.std.proofs.Common.{IsTrue, ◌↔◌}
 use Rattle.ty_unify.specs.Solve.{node_limit}
 use Rattle.ty_unify.proofs.Lists.{all}
 use Rattle.ty_unify.proofs.Sigma.{resolves-fits}
-use Rattle.ty_unify.proofs.Pending.{in-push, nodes-push, weights-push}
+use Rattle.ty_unify.proofs.Pending.{nodes-push}
 
 module _ (n : ℕ) (s : ℕ → Entry) (w : ℕ → ℕ) (old rest : List (Bor Ty)) (r : Bor Ty) (u : Ty) (e : old ≡ rest ++ r ∷ []) (g : Reads n s w (type_of r.now) (type_of u)) where
   module _ (x : ℕ) (p : u ≡ Var x) (new : List (Bor Ty)) (a : Adds rest new (inner (s x))) where

@@ -1,18 +1,18 @@
 -- An entry written into the vector.
-use Rattle.std.proofs.Common.{◌≡◌, ◌≢◌, ℕ, suc, ◌<◌, List, length, set, true, false, refl, sym, ap, ◌∙◌, subst}
+use Rattle.std.proofs.Common.{◌≡◌, ◌≢◌, ℕ, suc, ◌<◌, List, length, set, true, sym, ap, ◌∙◌, subst}
 use Rattle.std.proofs.lemmas.List.{length-set}
 use Rattle.std.proofs.lemmas.Bool.{cases_eq}
 use mathlib.Core.Logic.{◌⊎◌, inl, inr}
 use Rattle.ty_core.specs.Types.{Typ, con, labels}
 use Rattle.ty_core.specs.Marks.{is_inhabited}
-use Rattle.ty_unify.specs.Substitution.{Entry, free, bound, row, mark, aside, sub, is_in, Resolves}
+use Rattle.ty_unify.specs.Substitution.{Entry, free, bound, row, mark, aside, Resolves}
 use Rattle.ty_unify.specs.SlotsOf.{look, entry}
 use Rattle.ty_unify.specs.Weight.{weight, BelowAt, AreBelow, WeighsAt, IsAcyclic, InhabitedAt, AreInhabited}
 use Rattle.ty_unify.specs.Tasks.{Avoids}
 use Rattle.ty_unify.proofs.Look.{look-set-same, look-set-other}
 use Rattle.ty_unify.proofs.Binding.{Puts, Weighty, bind-acyclic}
 use Rattle.ty_unify.proofs.Freeing.{aside-here, aside-other, aside-acyclic}
-use Rattle.ty_unify.proofs.Sigma.{sigma_of, sigma-resolves}
+use Rattle.ty_unify.proofs.Sigma.{sigma-resolves}
 use Rattle.ty_unify.specs.declared.subst.Slot.{Slot}
 
 pub set-puts : (l : List Slot) (v : ℕ) (o : Slot) → v < length l → Puts (look l) (look (set l v o)) v (entry o)

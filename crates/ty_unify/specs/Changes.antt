@@ -1,6 +1,6 @@
 -- What a change to a substitution comes to.
 use Rattle.std.specs.Prelude.{◌↔◌, ◌<◌, ◌≤◌, ◌≡◌, ℕ, ◌+◌, Bool, true, false, List, [], ◌∷◌, length, Some}
-use Rattle.ty_core.specs.Types.{Typ, Typs}
+use Rattle.ty_core.specs.Types.{Typ}
 use Rattle.ty_core.specs.Marks.{rank_of}
 use Rattle.ty_unify.specs.Substitution.{Entry, free, bound, row, Solves, sub, subs, are_below}
 use Rattle.ty_unify.specs.Rows.{Extends, IsProper}

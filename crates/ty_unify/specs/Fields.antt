@@ -1,10 +1,10 @@
 -- What is asked of the fields of two records.
 use Rattle.std.specs.Prelude.{◌≡◌, ◌⊎◌, ◌↔◌, ◌<◌, ◌≤◌, ℕ, Bool, true, List, slice_index_or}
 use Rattle.mlc_base.specs.declared.label.Label.{Label}
-use Rattle.ty_core.specs.Types.{Typ, var, con, Typs, admits}
+use Rattle.ty_core.specs.Types.{Typ, var, Typs, admits}
 use Rattle.ty_core.specs.declared.mark.Mark.{Mark}
 use Rattle.ty_unify.specs.Rows.{Among, At, IsProper, Extends}
-use Rattle.ty_unify.specs.Substitution.{Entry, free, bound, row, Meets, sub, subs, is_below, are_below}
+use Rattle.ty_unify.specs.Substitution.{Entry, Meets, sub, subs, is_below, are_below}
 use Rattle.ty_unify.specs.SlotsOf.{types_of}
 use Rattle.ty_unify.specs.Forces.{Problem, Forces, Asks, Records, ForcedAt, IsForcedRow}
 use Rattle.ty_unify.specs.Tasks.{AllHold, AreForced, AreWithin}

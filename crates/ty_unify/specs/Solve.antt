@@ -23,7 +23,7 @@ NoneMakesEqual s a b = (m : ℕ → Bool) (f : ℕ → Typ) → Solves m f s →
 abbrev pub node_limit : ℕ
 node_limit = 65536
 
--- the type that a stands for under s has at most that many nodes, written out as a tree
+-- the type that a stands for under s has at most that many nodes, written out as a tree; a row is the record of its known fields
 abbrev pub IsSmall : (ℕ → Entry) → Typ → Type 0
 IsSmall s a = (f : ℕ → Typ) → Resolves f s → nodes (sub f a) ≤ node_limit
 

@@ -7,6 +7,8 @@ mod extend;
 pub mod known;
 pub mod refused;
 pub mod row;
+#[cfg(test)]
+mod row_tests;
 pub mod solve;
 mod step;
 pub mod subst;

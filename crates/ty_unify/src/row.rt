@@ -186,9 +186,30 @@ pub fn join(alloc: Global, row: Row, other: &Row, tasks: &mut Vec<Task>) -> Resu
     requires other_proper { IsProper other.now.labels.items (types_of other.now) }
     ensures { IfOk result (Joins tasks.old.items tasks.new.items row other.now) }
 {
-    admit_others(alloc, tasks, row.equality, &other.labels, &other.types, &row.labels)?;
-    admit_others(alloc, tasks, other.equality, &row.labels, &row.types, &other.labels)?;
-    equal_common(alloc, tasks, &row.labels, &row.types, &other.labels, &other.types)?;
+    admit_others(
+        alloc,
+        tasks,
+        row.equality,
+        &other.labels,
+        &other.types,
+        &row.labels,
+    )?;
+    admit_others(
+        alloc,
+        tasks,
+        other.equality,
+        &row.labels,
+        &row.types,
+        &other.labels,
+    )?;
+    equal_common(
+        alloc,
+        tasks,
+        &row.labels,
+        &row.types,
+        &other.labels,
+        &other.types,
+    )?;
     let mut all = row;
     unite(alloc, &mut all, &other.labels, &other.types)?;
     all.equality = all.equality || other.equality;

@@ -1,7 +1,5 @@
-use Rattle.std.proofs.Common.{◌≡◌, refl, subst, ◌∙◌, ap, map}
+use Rattle.std.proofs.Common.{refl, ◌∙◌, ap, map}
 use Rattle.ty_core.specs.TypesOf.{type_of}
-use Rattle.ty_unify.specs.Substitution.{is_open, free, mark}
-use Rattle.ty_unify.specs.SlotsOf.{look, row_of}
 use Rattle.ty_unify.proofs.Bases.{owned}
 use Rattle.ty_unify.proofs.Narrowing.{may-narrow}
 use Rattle.ty_unify.proofs.RowChanges.{narrow-changed}

@@ -1,10 +1,8 @@
-use Rattle.std.proofs.Common.{◌≡◌, map, refl, sym, ap, ◌∙◌, subst}
-use Rattle.ty_core.specs.Types.{con, arrow, name, labels, typs_of}
+use Rattle.std.proofs.Common.{map, sym, ap, ◌∙◌}
+use Rattle.ty_core.specs.Types.{con, labels, typs_of}
 use Rattle.ty_core.specs.TypesOf.{type_of, head_of}
 use Rattle.ty_core.specs.declared.ty.Head.{Head}
-use Rattle.ty_unify.specs.Changes.{RefusesRow}
-use Rattle.ty_unify.specs.declared.refused.UnifyRefused.TheVariants.{Clash}
-use Rattle.ty_unify.proofs.RowResults.{refuses-as, closes-as}
+use Rattle.ty_unify.proofs.RowResults.{refuses-as}
 use Rattle.ty_unify.proofs.Joining.{function-clash, name-clash}
 use Rattle.ty_unify.proofs.close.close.Goals as goal
 

@@ -1,4 +1,4 @@
-use Rattle.std.proofs.Common.{◌≡◌, length, map, rules, refl, sym, subst}
+use Rattle.std.proofs.Common.{map, rules, refl}
 use Rattle.ty_core.specs.Types.{typs_of}
 use Rattle.ty_core.specs.TypesOf.{type_of}
 use Rattle.ty_unify.specs.Rows.{IsProper}

@@ -1,5 +1,3 @@
-use Rattle.std.proofs.Common.{◌∙◌, ap, sym}
-use Rattle.ty_unify.specs.Substitution.{free}
 use Rattle.ty_unify.proofs.Bases.{base-none, base-class, marked}
 use Rattle.ty_unify.proofs.extend.base.Goals as goal
 

@@ -1,4 +1,4 @@
-use Rattle.std.proofs.Common.{◌≡◌, List, map, sym, ap, ◌∙◌}
+use Rattle.std.proofs.Common.{List, map, sym, ap, ◌∙◌}
 use Rattle.ty_core.specs.Types.{con, typs_of}
 use Rattle.ty_core.specs.TypesOf.{type_of, head_of}
 use Rattle.ty_core.specs.declared.ty.Ty.{Ty}

@@ -1,11 +1,11 @@
-use Rattle.std.proofs.Common.{◌≡◌, List, map, sym, ap, ◌∙◌, subst}
+use Rattle.std.proofs.Common.{List, map, sym, ap, ◌∙◌, subst}
 use Rattle.ty_core.specs.Types.{var, typs_of}
 use Rattle.ty_core.specs.TypesOf.{type_of}
 use Rattle.ty_core.specs.declared.ty.Ty.{Ty}
 use Rattle.ty_unify.specs.Changes.{Demands}
 use Rattle.ty_unify.specs.Substitution.{subs, are_in}
 use Rattle.ty_unify.specs.declared.subst.Slot.{Slot}
-use Rattle.ty_unify.proofs.RowChanges.{extend-demands, extend-circular, may-extend, joined-fit}
+use Rattle.ty_unify.proofs.RowChanges.{extend-demands, extend-circular}
 use Rattle.ty_unify.proofs.extend.extend_known.Goals as goal
 
 pub returns-then-branch-clause-cause : goal.returns-then-branch-clause-cause

@@ -1,5 +1,5 @@
 use Rattle.std.proofs.Common.{◌≡◌, length, add-one, arith}
-use Rattle.ty_unify.proofs.FieldLists.{fields-begin, fields-next, fields-end}
+use Rattle.ty_unify.proofs.FieldLists.{fields-next, fields-end}
 use Rattle.ty_unify.proofs.row.equal_common.Goals as goal
 
 pub loop-i-preserved : goal.loop-i-preserved

@@ -1,6 +1,5 @@
-use Rattle.std.proofs.Common.{◌≡◌, ◌∙◌, ap, sym, arith, true}
-use Rattle.ty_unify.specs.Substitution.{is_open}
-use Rattle.ty_unify.specs.SlotsOf.{entry, look}
+use Rattle.std.proofs.Common.{◌∙◌, ap, arith}
+use Rattle.ty_unify.specs.SlotsOf.{entry}
 use Rattle.ty_unify.proofs.Look.{look-get, look-past, free-mark, never-open}
 use Rattle.ty_unify.proofs.subst.Subst.row.Goals as goal
 
