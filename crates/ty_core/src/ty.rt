@@ -87,7 +87,7 @@ fn size_all(types: &[Ty]) -> u64
 }
 
 /// The same labels in memory of their own.
-fn copy_labels(alloc: Global, labels: &[Label]) -> Result<Vec<Label>, NoMemory>
+pub fn copy_labels(alloc: Global, labels: &[Label]) -> Result<Vec<Label>, NoMemory>
     ensures { IfOk result (λ to. to.items ≡ labels.now) }
 {
     Ok(Vec::from_slice(alloc, labels)?)
@@ -118,8 +118,9 @@ pub fn copy(alloc: Global, ty: &Ty) -> Result<Ty, NoMemory>
     }
 }
 
+/// The same types in memory of their own.
 #[cycle(copy)]
-fn copy_all(alloc: Global, types: &[Ty]) -> Result<Vec<Ty>, NoMemory>
+pub fn copy_all(alloc: Global, types: &[Ty]) -> Result<Vec<Ty>, NoMemory>
     ensures { IfOk result (λ to. map type_of to.items ≡ map type_of types.now) }
 {
     let mut all = Vec::new(alloc);

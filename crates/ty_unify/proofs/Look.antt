@@ -1,16 +1,14 @@
 -- Looking a variable up in the vector of bindings.
 use Rattle.std.proofs.Common.{◌≡◌, ◌≢◌, ℕ, zero, suc, ◌<◌, ◌≤◌, List, [], ◌∷◌, ◌++◌, length, get_or, set, Bool, true, false, if◌then◌else◌, refl, sym, ap, ◌∙◌, arith, subst}
-use Rattle.std.proofs.lemmas.Bool.{and_parts, and_from, ltb-true, lt-ltb}
+use Rattle.std.proofs.lemmas.Bool.{and_parts, and_from, ltb-true, lt-ltb, false≢true}
 use Rattle.ty_core.specs.Types.{Typ, var, con, Typs, none, more}
-use Rattle.ty_unify.specs.Substitution.{Entry, free, bound, mark, is_below, are_below}
+use Rattle.ty_unify.specs.Substitution.{Entry, free, bound, row, mark, is_open, is_below, are_below}
 use Rattle.ty_unify.specs.SlotsOf.{look, entry}
 use Rattle.std.proofs.lemmas.Bool.{cases_eq}
 use mathlib.Core.Logic.{◌⊎◌, inl, inr}
-use Rattle.ty_core.specs.Marks.{is_inhabited}
 use Rattle.ty_core.specs.declared.mark.Mark.{Mark}
-use Rattle.ty_unify.specs.Weight.{BelowAt, AreBelow, WeighsAt, IsAcyclic, InhabitedAt, AreInhabited}
+use Rattle.ty_unify.specs.Weight.{BelowAt, AreBelow, InhabitedAt, AreInhabited}
 use Rattle.ty_unify.specs.declared.subst.Slot.{Slot}
-use Rattle.ty_unify.specs.declared.subst.Slot.TheVariants.{Open}
 
 pub look-get : (l : List Slot) (v : ℕ) (o : Slot) → v < length l → o ≡ get_or l v o → look l v ≡ entry o
 look-get [] v o h e = absurd (omega arith)
@@ -22,15 +20,15 @@ look-past [] v h = refl
 look-past (x ∷ l) zero h = absurd (omega arith)
 look-past (x ∷ l) (suc v) h = look-past l v (omega arith)
 
-pub look-grow-other : (l : List Slot) (k : Mark) (v : ℕ) → v ≢ length l → look (l ++ Open k ∷ []) v ≡ look l v
-look-grow-other [] k zero h = absurd (h refl)
-look-grow-other [] k (suc v) h = refl
-look-grow-other (x ∷ l) k zero h = refl
-look-grow-other (x ∷ l) k (suc v) h = look-grow-other l k v (λ e. h (ap suc e))
+pub look-grow-other : (l : List Slot) (o : Slot) (v : ℕ) → v ≢ length l → look (l ++ o ∷ []) v ≡ look l v
+look-grow-other [] o zero h = absurd (h refl)
+look-grow-other [] o (suc v) h = refl
+look-grow-other (x ∷ l) o zero h = refl
+look-grow-other (x ∷ l) o (suc v) h = look-grow-other l o v (λ e. h (ap suc e))
 
-pub look-grow-here : (l : List Slot) (k : Mark) → look (l ++ Open k ∷ []) (length l) ≡ free k
-look-grow-here [] k = refl
-look-grow-here (x ∷ l) k = look-grow-here l k
+pub look-grow-here : (l : List Slot) (o : Slot) → look (l ++ o ∷ []) (length l) ≡ entry o
+look-grow-here [] o = refl
+look-grow-here (x ∷ l) o = look-grow-here l o
 
 pub look-set-same : (l : List Slot) (v : ℕ) (o : Slot) → v < length l → look (set l v o) v ≡ entry o
 look-set-same [] v o h = absurd (omega arith)
@@ -58,46 +56,36 @@ mutual
 pub BelowAt-more : (n m : ℕ) → n ≤ m → (b : Entry) → BelowAt n b → BelowAt m b
 BelowAt-more n m h (free e) b = tt
 BelowAt-more n m h (bound t) b = below-more n m h t b
+BelowAt-more n m h (row e ks us) b = belows-more n m h us b
 
 pub AreBelow-more : (n m : ℕ) → n ≤ m → (s : ℕ → Entry) → AreBelow n s → AreBelow m s
 AreBelow-more n m h s b v = BelowAt-more n m h (s v) (b v)
 
-longer : (l : List Slot) (k : Mark) → length l ≤ length (l ++ Open k ∷ [])
-longer [] k = omega arith
-longer (x ∷ l) k = let p = longer l k in omega arith
+longer : (l : List Slot) (o : Slot) → length l ≤ length (l ++ o ∷ [])
+longer [] o = omega arith
+longer (x ∷ l) o = let p = longer l o in omega arith
 
 -- what holds of each entry holds with one more
-pub grown-all : (P : Entry → Type 0) (l : List Slot) (k : Mark) → P (free k) → ((v : ℕ) → P (look l v)) → (v : ℕ) → P (look (l ++ Open k ∷ []) v)
-grown-all P l k p h v = go (cases_eq v (length l))
+pub grown-all : (P : Entry → Type 0) (l : List Slot) (o : Slot) → P (entry o) → ((v : ℕ) → P (look l v)) → (v : ℕ) → P (look (l ++ o ∷ []) v)
+grown-all P l o p h v = go (cases_eq v (length l))
   where
-    go : (v ≡ length l) ⊎ (v ≡ length l → ⊥) → P (look (l ++ Open k ∷ []) v)
-    go (inl e) = subst P (sym (ap (look (l ++ Open k ∷ [])) e ∙ look-grow-here l k)) p
-    go (inr ne) = subst P (sym (look-grow-other l k v ne)) (h v)
+    go : (v ≡ length l) ⊎ (v ≡ length l → ⊥) → P (look (l ++ o ∷ []) v)
+    go (inl e) = subst P (sym (ap (look (l ++ o ∷ [])) e ∙ look-grow-here l o)) p
+    go (inr ne) = subst P (sym (look-grow-other l o v ne)) (h v)
 
-grow-below : (l : List Slot) (k : Mark) → AreBelow (length l) (look l) → AreBelow (length (l ++ Open k ∷ [])) (look (l ++ Open k ∷ []))
-grow-below l k h = grown-all (BelowAt (length (l ++ Open k ∷ []))) l k tt (AreBelow-more (length l) (length (l ++ Open k ∷ [])) (longer l k) (look l) h)
+pub grow-below : (l : List Slot) (o : Slot) → BelowAt (length l) (entry o) → AreBelow (length l) (look l) → AreBelow (length (l ++ o ∷ [])) (look (l ++ o ∷ []))
+grow-below l o b h = grown-all (BelowAt (length (l ++ o ∷ []))) l o (BelowAt-more (length l) (length (l ++ o ∷ [])) (longer l o) (entry o) b) (AreBelow-more (length l) (length (l ++ o ∷ [])) (longer l o) (look l) h)
 
-grow-acyclic : (l : List Slot) (k : Mark) → IsAcyclic (look l) → IsAcyclic (look (l ++ Open k ∷ []))
-grow-acyclic l k a = (a.0, λ v. go v (cases_eq v (length l)))
-  where
-    at-free : (w j : ℕ) (e : Entry) → e ≡ free Mark.Any → WeighsAt a.0 w e → WeighsAt a.0 w (free k)
-    at-free w j e p h = subst (WeighsAt a.0 w) p h
+pub grown-below : (b : Bool) (o : Slot) (old new : List Slot) → new ≡ (if b then old ++ o ∷ [] else old) → BelowAt (length old) (entry o) → AreBelow (length old) (look old) → AreBelow (length new) (look new)
+grown-below true o old new e k h = subst (λ l. AreBelow (length l) (look l)) (sym e) (grow-below old o k h)
+grown-below false o old new e k h = subst (λ l. AreBelow (length l) (look l)) (sym e) h
 
-    go : (v : ℕ) → (v ≡ length l) ⊎ (v ≡ length l → ⊥) → WeighsAt a.0 (a.0 v) (look (l ++ Open k ∷ []) v)
-    go v (inl e) = subst (WeighsAt a.0 (a.0 v)) (sym (ap (look (l ++ Open k ∷ [])) e ∙ look-grow-here l k)) (at-free (a.0 v) 0 (look l v) (look-past l v (omega arith)) (a.1 v))
-    go v (inr ne) = subst (WeighsAt a.0 (a.0 v)) (sym (look-grow-other l k v ne)) (a.1 v)
-
-pub grown-below : (b : Bool) (k : Mark) (old new : List Slot) → new ≡ (if b then old ++ Open k ∷ [] else old) → AreBelow (length old) (look old) → AreBelow (length new) (look new)
-grown-below true k old new e h = subst (λ l. AreBelow (length l) (look l)) (sym e) (grow-below old k h)
-grown-below false k old new e h = subst (λ l. AreBelow (length l) (look l)) (sym e) h
-
-pub grown-acyclic : (b : Bool) (k : Mark) (old new : List Slot) → new ≡ (if b then old ++ Open k ∷ [] else old) → IsAcyclic (look old) → IsAcyclic (look new)
-grown-acyclic true k old new e h = subst (λ l. IsAcyclic (look l)) (sym e) (grow-acyclic old k h)
-grown-acyclic false k old new e h = subst (λ l. IsAcyclic (look l)) (sym e) h
-
-pub grown-inhabited : (b : Bool) (k : Mark) (old new : List Slot) → new ≡ (if b then old ++ Open k ∷ [] else old) → is_inhabited k ≡ true → AreInhabited (look old) → AreInhabited (look new)
-grown-inhabited true k old new e i h = subst (λ l. AreInhabited (look l)) (sym e) (grown-all InhabitedAt old k i h)
-grown-inhabited false k old new e i h = subst (λ l. AreInhabited (look l)) (sym e) h
+pub grown-inhabited : (b : Bool) (o : Slot) (old new : List Slot) → new ≡ (if b then old ++ o ∷ [] else old) → InhabitedAt (entry o) → AreInhabited (look old) → AreInhabited (look new)
+grown-inhabited true o old new e i h = subst (λ l. AreInhabited (look l)) (sym e) (grown-all InhabitedAt old o i h)
+grown-inhabited false o old new e i h = subst (λ l. AreInhabited (look l)) (sym e) h
 
 pub free-mark : (b : Entry) (k : Mark) → b ≡ free k → b ≡ free (mark b)
 free-mark b k e = e ∙ ap (λ y. free (mark y)) (sym e)
+
+pub never-open : (b : Entry) (t : Typ) → b ≡ bound t → is_open b ≡ true → b ≡ free (mark b)
+never-open b t e h = absurd (false≢true (sym (ap is_open e) ∙ h))

@@ -1,10 +1,9 @@
 -- Going through the parts of two types from the last one on.
 use Rattle.std.proofs.Common.{◌≡◌, ◌↔◌, ℕ, ◌+◌, Bool, true, List, [], ◌∷◌, ◌++◌, length, length-append, refl, sym, ap, ap₂, subst, arith}
 use Rattle.std.proofs.lemmas.Bool.{and_parts, and_from}
-use Rattle.ty_core.specs.Types.{Typ, var, con, Typs, none, more, Symbol, attribute, admits, all_admit}
+use Rattle.ty_core.specs.Types.{Typ, var, con, Typs, none, more, Symbol, admits, all_admit}
 use Rattle.ty_core.specs.TypesOf.{type_of}
 use Rattle.ty_core.specs.declared.mark.Mark.{Mark}
-use Rattle.ty_core.specs.declared.name.Equality.TheVariants.{ByArguments}
 use Rattle.ty_core.specs.declared.ty.Ty.{Ty}
 use Rattle.ty_unify.specs.Substitution.{sub, subs, is_below, are_below}
 use Rattle.ty_unify.specs.Weight.{weight, weights}
@@ -39,7 +38,7 @@ beside-front (x ∷ l) [] t u a b h = elim h [ ]
 beside-front (x ∷ l) (y ∷ r) t u a b (Beside.here _ _ _ _) = Beside.here _ _ _ _
 beside-front (x ∷ l) (y ∷ r) t u a b (Beside.later _ _ _ _ _ _ h) = Beside.later _ _ _ _ _ _ (beside-front l r t u a b h)
 
-below-last : (n : ℕ) (l : List Ty) (t : Ty) → are_below n (all (l ++ t ∷ [])) ≡ true → (are_below n (all l) ≡ true) × (is_below n (type_of t) ≡ true)
+pub below-last : (n : ℕ) (l : List Ty) (t : Ty) → are_below n (all (l ++ t ∷ [])) ≡ true → (are_below n (all l) ≡ true) × (is_below n (type_of t) ≡ true)
 below-last n [] t h = (refl, (and_parts (is_below n (type_of t)) true h).0)
 below-last n (x ∷ l) t h =
     let p = and_parts (is_below n (type_of x)) (are_below n (all (l ++ t ∷ []))) h in
@@ -109,7 +108,7 @@ equal-ends old now ts us e = record {
 -- the types of l are left
 pub record AdmitLeft (old now : List Task) (ts : Typs) (l : List Ty) : Type 0 where
   pub same : (m : ℕ → Bool) (f : ℕ → Typ) → (AllHold m f now × (all_admit m (subs f (all l)) ≡ true)) ↔ (AllHold m f old × (all_admit m (subs f ts) ≡ true))
-  pub forced : (p : Problem) (h : Symbol) → attribute h ≡ ByArguments → AreForced p old → Asks p Mark.Equality (con h ts) → AreForced p now
+  pub forced : (p : Problem) → AreForced p old → ((t : Typ) → Beside t t ts ts → Asks p Mark.Equality t) → AreForced p now
   pub beside : (t u : Typ) → Beside t u (all l) (all l) → Beside t u ts ts
   pub within : (n : ℕ) → AreWithin n old → are_below n ts ≡ true → (AreWithin n now) × (are_below n (all l) ≡ true)
   pub burden_is : (w : ℕ → ℕ) → burdens w now + weights w (all l) ≡ burdens w old + weights w ts
@@ -117,7 +116,7 @@ pub record AdmitLeft (old now : List Task) (ts : Typs) (l : List Ty) : Type 0 wh
 pub admit-begins : (old : List Task) (l : List Ty) → AdmitLeft old old (all l) l
 admit-begins old l = record {
   same = λ m f. (λ h. h, λ h. h);
-  forced = λ p h g a e. a;
+  forced = λ p a e. a;
   beside = λ t u h. h;
   within = λ n a b. (a, b);
   burden_is = λ w. refl;
@@ -129,7 +128,7 @@ admit-next old now ts l t e = record {
     λ h. let p = (hold-push m f now (Admit Mark.Equality t)).0 h.0 in (e.same m f).0 (p.0, (admit-last m f l t).1 (h.1, p.1)),
     λ h. let q = (e.same m f).1 h in let p = (admit-last m f l t).0 q.1 in ((hold-push m f now (Admit Mark.Equality t)).1 (q.0, p.1), p.0),
   );
-  forced = λ p h g a q. forced-push p now (Admit Mark.Equality t) (e.forced p h g a q) (Asks.part h ts _ q g (e.beside _ _ (beside-last l l t t refl)));
+  forced = λ p a q. forced-push p now (Admit Mark.Equality t) (e.forced p a q) (q _ (e.beside _ _ (beside-last l l t t refl)));
   beside = λ x y h. e.beside x y (beside-front l l t t x y h);
   within = λ k a b.
       let p = e.within k a b in

@@ -1,11 +1,12 @@
 -- Types put on those that are pending, one by one.
-use Rattle.std.proofs.Common.{◌≡◌, ℕ, zero, suc, ◌+◌, ◌<◌, Bool, true, false, ◌||◌, List, [], ◌∷◌, ◌++◌, length, get_or, take, Bor, refl, sym, ap, ◌∙◌, arith}
-use Rattle.ty_core.specs.Types.{Typ, none, nodes, all_nodes}
+use Rattle.std.proofs.Common.{◌≡◌, ℕ, zero, suc, ◌+◌, ◌<◌, Bool, true, false, ◌||◌, List, [], ◌∷◌, ◌++◌, length, get_or, take, Bor, Result, Ok, Err, IfOk, refl, sym, ap, ◌∙◌, subst, arith}
+use Rattle.mlc_base.specs.declared.memory.NoMemory.{NoMemory}
+use Rattle.ty_core.specs.Types.{Typ, Typs, none, more, nodes, all_nodes}
 use Rattle.ty_core.specs.TypesOf.{type_of}
 use Rattle.ty_core.specs.declared.ty.Ty.{Ty}
-use Rattle.ty_unify.specs.Substitution.{sub, subs, is_in, are_in}
+use Rattle.ty_unify.specs.Substitution.{Entry, sub, subs, is_in, are_in}
 use Rattle.ty_unify.specs.Weight.{weight, weights}
-use Rattle.ty_unify.specs.Pending.{pend, Adds}
+use Rattle.ty_unify.specs.Pending.{pend, inner, Adds}
 use Rattle.ty_unify.proofs.Lists.{all}
 
 or-assoc : (a b c : Bool) → (a || (b || c)) ≡ ((a || b) || c)
@@ -67,3 +68,25 @@ adds-next old now new l i r e lt g a = record {
       let s = weights-take w l i r.now lt g in
       omega arith;
 }
+
+pub adds-one : (old new : List (Bor Ty)) (r : Bor Ty) → new ≡ old ++ r ∷ [] → Adds old new (more (type_of r.now) none)
+adds-one old new r e = record {
+  in_is = λ v f. ap (λ x. are_in v (subs f (pend x))) e ∙ in-push v f old r ∙ ap (λ b. are_in v (subs f (pend old)) || b) (sym (or-none (is_in v (sub f (type_of r.now)))));
+  nodes_is = λ f. let p = ap (λ x. all_nodes (subs f (pend x))) e ∙ nodes-push f old r in omega arith;
+  weights_is = λ w. let p = ap (λ x. weights w (pend x)) e ∙ weights-push w old r in omega arith;
+}
+
+-- what was added is what a variable stands for
+pub adds-inner : (old new : List (Bor Ty)) (ts : Typs) (e b : Entry) → e ≡ b → inner b ≡ ts → Adds old new ts → Adds old new (inner e)
+adds-inner old new ts e b p q a = subst (Adds old new) (sym (ap inner p ∙ q)) a
+
+pub pend-one : (v : ℕ) (f : ℕ → Typ) (empty l : List (Bor Ty)) (r : Bor Ty) → empty ≡ [] → l ≡ empty ++ r ∷ [] → are_in v (subs f (pend l)) ≡ is_in v (sub f (type_of r.now))
+pend-one v f empty l r p e = ap (λ x. are_in v (subs f (pend x))) e ∙ in-push v f empty r ∙ ap (λ x. are_in v (subs f (pend x)) || is_in v (sub f (type_of r.now))) p
+
+pub pend-all : (v : ℕ) (f : ℕ → Typ) (empty l : List (Bor Ty)) (ts : Typs) → empty ≡ [] → Adds empty l ts → are_in v (subs f (pend l)) ≡ are_in v (subs f ts)
+pend-all v f empty l ts p a = a.in_is v f ∙ ap (λ x. are_in v (subs f (pend x)) || are_in v (subs f ts)) p
+
+-- what was found, of the same types
+pub found-as : (R : (ℕ → Typ) → Type 0) (X Y : (ℕ → Typ) → Bool) (r : Result Bool NoMemory) → ((f : ℕ → Typ) → X f ≡ Y f) → IfOk r (λ found. (f : ℕ → Typ) → R f → found ≡ X f) → IfOk r (λ found. (f : ℕ → Typ) → R f → found ≡ Y f)
+found-as R X Y (Ok b) e h = λ f k. h f k ∙ e f
+found-as R X Y (Err m) e h = h

@@ -1,56 +1,37 @@
 -- Looking at one type after the other.
-use Rattle.std.proofs.Common.{◌≡◌, ◌<◌, ◌≤◌, ℕ, suc, ◌+◌, Bool, true, false, ◌||◌, List, [], ◌∷◌, ◌++◌, length, Vec, Global, Bor, refl, sym, ap, ◌∙◌, subst, arith}
-use Rattle.std.proofs.lemmas.Bool.{eq-eqb, ne_eqb, or_right}
+use Rattle.std.proofs.Common.{◌≡◌, ◌<◌, ◌≤◌, ℕ, suc, ◌+◌, Bool, true, List, [], ◌∷◌, ◌++◌, length, Vec, Global, Bor, refl, ap, ◌∙◌, subst, arith}
 use Rattle.ty_core.specs.Types.{Typ, var, con, nodes, all_nodes}
 use Rattle.ty_core.specs.TypesOf.{type_of, head_of}
 use Rattle.ty_core.specs.declared.ty.Head.{Head}
 use Rattle.ty_core.specs.declared.ty.Ty.{Ty}
 use Rattle.ty_core.specs.declared.ty.Ty.TheVariants.{Var, Apply}
 use Rattle.ty_core.proofs.TreeLemmas.{type_of-Var, type_of-Apply}
-use Rattle.ty_unify.specs.Substitution.{Entry, resolved, Resolves, sub, subs, is_in, are_in}
-use Rattle.ty_unify.specs.Weight.{weight, weights}
+use Rattle.ty_unify.specs.Substitution.{Entry, free, bound, row, is_open, resolved, Resolves, sub, subs}
 use Rattle.ty_unify.specs.Finding.{Reads, IsWalked}
-use Rattle.ty_unify.specs.Pending.{pend, Adds}
+use Rattle.ty_unify.specs.Pending.{pend, inner, Adds}
 use Rattle.std.proofs.Common.{IsTrue, ◌↔◌}
 use Rattle.ty_unify.specs.Solve.{node_limit}
 use Rattle.ty_unify.proofs.Lists.{all}
 use Rattle.ty_unify.proofs.Sigma.{resolves-fits}
-use Rattle.ty_unify.proofs.Pending.{in-push, nodes-push, weights-push}
-
-or-none : (a b : Bool) → b ≡ false → (a || b) ≡ a
-or-none true b e = refl
-or-none false b e = e
+use Rattle.ty_unify.proofs.Pending.{nodes-push}
 
 module _ (n : ℕ) (s : ℕ → Entry) (w : ℕ → ℕ) (old rest : List (Bor Ty)) (r : Bor Ty) (u : Ty) (e : old ≡ rest ++ r ∷ []) (g : Reads n s w (type_of r.now) (type_of u)) where
-  module _ (x : ℕ) (p : u ≡ Var x) where
+  module _ (x : ℕ) (p : u ≡ Var x) (new : List (Bor Ty)) (a : Adds rest new (inner (s x))) where
     is-var : type_of u ≡ var x
     is-var = ap type_of p ∙ type_of-Var x
 
-    value : (f : ℕ → Typ) → Resolves f s → sub f (type_of r.now) ≡ var x
-    value f h = g.same f (resolves-fits s f h) ∙ ap (sub f) is-var ∙ h x ∙ ap (resolved f x) (subst (IsWalked s) is-var g.walked)
+    -- what an open variable's value has besides its symbol
+    nodes-inner : (f : ℕ → Typ) (e : Entry) → is_open e ≡ true → nodes (resolved f x e) ≡ suc (all_nodes (subs f (inner e)))
+    nodes-inner f (free k) o = refl
+    nodes-inner f (bound t) o = cc
+    nodes-inner f (row d ks us) o = refl
 
-    pub found : (v : ℕ) → x ≡ v → (f : ℕ → Typ) → Resolves f s → (b : Bool) → are_in v (subs f (pend old)) ≡ b → true ≡ b
-    found v q f h b k =
-        sym (or_right (are_in v (subs f (pend rest))) (is_in v (sub f (type_of r.now))) (ap (is_in v) (value f h) ∙ eq-eqb x v q))
-        ∙ sym (in-push v f rest r) ∙ ap (λ l. are_in v (subs f (pend l))) (sym e) ∙ k
-
-    pub passed : (v : ℕ) → (x ≡ v → ⊥) → (f : ℕ → Typ) → Resolves f s → (b : Bool) → are_in v (subs f (pend old)) ≡ b → are_in v (subs f (pend rest)) ≡ b
-    passed v q f h b k =
-        sym (or-none (are_in v (subs f (pend rest))) (is_in v (sub f (type_of r.now))) (ap (is_in v) (value f h) ∙ ne_eqb x v q))
-        ∙ sym (in-push v f rest r) ∙ ap (λ l. are_in v (subs f (pend l))) (sym e) ∙ k
-
-    pub passed-nodes : (f : ℕ → Typ) → Resolves f s → (k t : ℕ) → k + all_nodes (subs f (pend old)) ≡ t → suc k + all_nodes (subs f (pend rest)) ≡ t
-    passed-nodes f h k t q =
-        let a = ap (λ l. all_nodes (subs f (pend l))) e ∙ nodes-push f rest r in
-        let b = ap nodes (value f h) in
+    pub looked-nodes : (f : ℕ → Typ) → Resolves f s → (k t : ℕ) → k + all_nodes (subs f (pend old)) ≡ t → suc k + all_nodes (subs f (pend new)) ≡ t
+    looked-nodes f h k t q =
+        let b = ap (λ l. all_nodes (subs f (pend l))) e ∙ nodes-push f rest r in
+        let c = ap nodes (g.same f (resolves-fits s f h) ∙ ap (sub f) is-var ∙ h x) ∙ nodes-inner f (s x) (subst (IsWalked s) is-var g.walked) in
+        let d = a.nodes_is f in
         omega arith
-
-  pub passed-weights : weights w (pend rest) < weights w (pend old)
-  passed-weights = let a = ap (λ l. weights w (pend l)) e ∙ weights-push w rest r in let b = positive (type_of r.now) in omega arith
-    where
-      positive : (t : Typ) → 0 < weight w t
-      positive (var v) = omega arith
-      positive (con c ts) = omega arith
 
   module _ (h : Head) (ts : Vec Ty Global) (p : u ≡ Apply h ts) (new : List (Bor Ty)) (a : Adds rest new (all ts.items)) where
     is-con : type_of u ≡ con (head_of h) (all ts.items)
@@ -59,24 +40,11 @@ module _ (n : ℕ) (s : ℕ → Entry) (w : ℕ → ℕ) (old rest : List (Bor T
     parts : (f : ℕ → Typ) → Resolves f s → sub f (type_of r.now) ≡ con (head_of h) (subs f (all ts.items))
     parts f k = g.same f (resolves-fits s f k) ∙ ap (sub f) is-con
 
-    pub opened : (v : ℕ) → (f : ℕ → Typ) → Resolves f s → (b : Bool) → are_in v (subs f (pend old)) ≡ b → are_in v (subs f (pend new)) ≡ b
-    opened v f k b q =
-        a.in_is v f ∙ ap (λ x. are_in v (subs f (pend rest)) || x) (sym (ap (is_in v) (parts f k)))
-        ∙ sym (in-push v f rest r) ∙ ap (λ l. are_in v (subs f (pend l))) (sym e) ∙ q
-
     pub opened-nodes : (f : ℕ → Typ) → Resolves f s → (j t : ℕ) → j + all_nodes (subs f (pend old)) ≡ t → suc j + all_nodes (subs f (pend new)) ≡ t
     opened-nodes f k j t q =
         let b = ap (λ l. all_nodes (subs f (pend l))) e ∙ nodes-push f rest r in
         let c = ap nodes (parts f k) in
         let d = a.nodes_is f in
-        omega arith
-
-    pub opened-weights : weights w (pend new) < weights w (pend old)
-    opened-weights =
-        let b = ap (λ l. weights w (pend l)) e ∙ weights-push w rest r in
-        let c = ap (weight w) is-con in
-        let d = a.weights_is w in
-        let i = g.lighter in
         omega arith
 
 pub nodes-positive : (t : Typ) → 0 < nodes t

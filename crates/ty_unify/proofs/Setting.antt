@@ -1,20 +1,22 @@
--- A binding written into the vector.
-use Rattle.std.proofs.Common.{◌≡◌, ℕ, ◌<◌, List, length, set, true, false, sym, ap, ◌∙◌, subst}
+-- An entry written into the vector.
+use Rattle.std.proofs.Common.{◌≡◌, ◌≢◌, ℕ, suc, ◌<◌, List, length, set, true, sym, ap, ◌∙◌, subst}
 use Rattle.std.proofs.lemmas.List.{length-set}
 use Rattle.std.proofs.lemmas.Bool.{cases_eq}
 use mathlib.Core.Logic.{◌⊎◌, inl, inr}
-use Rattle.ty_core.specs.Types.{Typ}
-use Rattle.ty_unify.specs.Substitution.{Entry, sub, mark, free, is_in, Resolves}
-use Rattle.ty_core.specs.TypesOf.{type_of}
-use Rattle.ty_unify.specs.SlotsOf.{look, entry}
-use Rattle.ty_unify.specs.Weight.{BelowAt, AreBelow, WeighsAt, IsAcyclic, InhabitedAt, AreInhabited}
+use Rattle.ty_core.specs.Types.{Typ, con, labels}
 use Rattle.ty_core.specs.Marks.{is_inhabited}
-use Rattle.ty_core.specs.declared.mark.Mark.{Mark}
+use Rattle.ty_unify.specs.Substitution.{Entry, free, bound, row, mark, aside, Resolves}
+use Rattle.ty_unify.specs.SlotsOf.{look, entry}
+use Rattle.ty_unify.specs.Weight.{weight, BelowAt, AreBelow, WeighsAt, IsAcyclic, InhabitedAt, AreInhabited}
+use Rattle.ty_unify.specs.Tasks.{Avoids}
 use Rattle.ty_unify.proofs.Look.{look-set-same, look-set-other}
-use Rattle.ty_unify.proofs.Binding.{Binds, bind-acyclic}
-use Rattle.ty_core.specs.declared.ty.Ty.{Ty}
+use Rattle.ty_unify.proofs.Binding.{Puts, Weighty, bind-acyclic}
+use Rattle.ty_unify.proofs.Freeing.{aside-here, aside-other, aside-acyclic}
+use Rattle.ty_unify.proofs.Sigma.{sigma-resolves}
 use Rattle.ty_unify.specs.declared.subst.Slot.{Slot}
-use Rattle.ty_unify.specs.declared.subst.Slot.TheVariants.{Open, Full}
+
+pub set-puts : (l : List Slot) (v : ℕ) (o : Slot) → v < length l → Puts (look l) (look (set l v o)) v (entry o)
+set-puts l v o lt = record { here = look-set-same l v o lt; other = λ x ne. look-set-other l v x o ne }
 
 pub set-below : (l : List Slot) (v : ℕ) (o : Slot) → v < length l → AreBelow (length l) (look l) → BelowAt (length l) (entry o) → AreBelow (length (set l v o)) (look (set l v o))
 set-below l v o lt h b = subst (λ n. AreBelow n (look (set l v o))) (sym (length-set l v o)) (λ x. go x (cases_eq x v))
@@ -23,12 +25,6 @@ set-below l v o lt h b = subst (λ n. AreBelow n (look (set l v o))) (sym (lengt
     go x (inl e) = subst (BelowAt (length l)) (sym (ap (look (set l v o)) e ∙ look-set-same l v o lt)) b
     go x (inr ne) = subst (BelowAt (length l)) (sym (look-set-other l v x o ne)) (h x)
 
-pub set-binds : (l : List Slot) (v : ℕ) (t : Ty) → v < length l → look l v ≡ free (mark (look l v)) → Binds (look l) (look (set l v (Full t))) v (type_of t)
-set-binds l v t lt e = record { was = e; here = look-set-same l v (Full t) lt; other = λ x ne. look-set-other l v x (Full t) ne }
-
-pub set-acyclic : (l : List Slot) (v : ℕ) (t : Ty) → v < length l → look l v ≡ free (mark (look l v)) → IsAcyclic (look l) → ((f : ℕ → Typ) → Resolves f (look l) → is_in v (sub f (type_of t)) ≡ false) → IsAcyclic (look (set l v (Full t)))
-set-acyclic l v t lt e a h = bind-acyclic _ _ v (type_of t) (set-binds l v t lt e) a h
-
 pub set-inhabited : (l : List Slot) (v : ℕ) (o : Slot) → v < length l → AreInhabited (look l) → InhabitedAt (entry o) → AreInhabited (look (set l v o))
 set-inhabited l v o lt h b x = go (cases_eq x v)
   where
@@ -36,13 +32,28 @@ set-inhabited l v o lt h b x = go (cases_eq x v)
     go (inl e) = subst InhabitedAt (sym (ap (look (set l v o)) e ∙ look-set-same l v o lt)) b
     go (inr ne) = subst InhabitedAt (sym (look-set-other l v x o ne)) (h x)
 
--- another mark for a free variable
-pub mark-acyclic : (l : List Slot) (v : ℕ) (k : Mark) → v < length l → look l v ≡ free (mark (look l v)) → IsAcyclic (look l) → IsAcyclic (look (set l v (Open k)))
-mark-acyclic l v k lt e a = (a.0, λ x. go x (cases_eq x v))
-  where
-    go : (x : ℕ) → (x ≡ v) ⊎ (x ≡ v → ⊥) → WeighsAt a.0 (a.0 x) (look (set l v (Open k)) x)
-    go x (inl p) = subst (WeighsAt a.0 (a.0 x)) (sym (ap (look (set l v (Open k))) p ∙ look-set-same l v (Open k) lt)) (subst (WeighsAt a.0 (a.0 x)) (ap (look l) p ∙ e) (a.1 x))
-    go x (inr ne) = subst (WeighsAt a.0 (a.0 x)) (sym (look-set-other l v x (Open k) ne)) (a.1 x)
+module _ (s s' : ℕ → Entry) (v : ℕ) (e : Entry) (p : Puts s s' v e) (a : IsAcyclic s) where
+  beside : (x : ℕ) → x ≢ v → s' x ≡ aside v s x
+  beside x ne = p.other x ne ∙ sym (aside-other s v x ne)
+
+  weighty : (t : Typ) → ((w : ℕ → ℕ) (k : ℕ) → k ≡ suc (weight w t) → WeighsAt w k e) → Weighty (aside v s) s' v t
+  weighty t h = record {
+    was = aside-here s v ∙ ap (λ x. free (mark x)) (sym (aside-here s v));
+    here = λ w k i. subst (WeighsAt w k) (sym p.here) (h w k i);
+    other = beside;
+  }
+
+  freed : ((w : ℕ → ℕ) (k : ℕ) → k ≡ 0 → WeighsAt w k e) → IsAcyclic s'
+  freed h = let b = aside-acyclic s v a in (b.0, λ x. go b x (cases_eq x v))
+    where
+      go : (b : IsAcyclic (aside v s)) (x : ℕ) → (x ≡ v) ⊎ (x ≡ v → ⊥) → WeighsAt b.0 (b.0 x) (s' x)
+      go b x (inl i) = subst (λ y. WeighsAt b.0 (b.0 y) (s' y)) (sym i) (subst (WeighsAt b.0 (b.0 v)) (sym p.here) (h b.0 (b.0 v) (subst (WeighsAt b.0 (b.0 v)) (aside-here s v) (b.1 v))))
+      go b x (inr ne) = subst (WeighsAt b.0 (b.0 x)) (sym (beside x ne)) (b.1 x)
+
+pub put-acyclic : (s s' : ℕ → Entry) (v : ℕ) (e : Entry) → Puts s s' v e → IsAcyclic s → ((f : ℕ → Typ) → Resolves f (aside v s) → Avoids v f e) → IsAcyclic s'
+put-acyclic s s' v (free k) p a h = freed s s' v (free k) p a (λ w k i. i)
+put-acyclic s s' v (bound t) p a h = bind-acyclic (aside v s) s' v t (weighty s s' v (bound t) p a t (λ w k i. i)) (aside-acyclic s v a) (h _ (sigma-resolves (aside v s) (aside-acyclic s v a)))
+put-acyclic s s' v (row d ks us) p a h = bind-acyclic (aside v s) s' v (con (labels ks) us) (weighty s s' v (row d ks us) p a (con (labels ks) us) (λ w k i. i)) (aside-acyclic s v a) (h _ (sigma-resolves (aside v s) (aside-acyclic s v a)))
 
 pub at-inhabited : (s : ℕ → Entry) → AreInhabited s → (v : ℕ) → s v ≡ free (mark (s v)) → is_inhabited (mark (s v)) ≡ true
 at-inhabited s h v e = subst InhabitedAt e (h v)

@@ -7,7 +7,7 @@ use Rattle.ty_core.specs.TypesOf.{type_of}
 use Rattle.ty_core.specs.Marks.{Allows, IsOf, IsMeet, is_inhabited, rank_of}
 use Rattle.ty_core.specs.declared.mark.Mark.{Mark}
 use Rattle.ty_core.specs.declared.ty.Ty.{Ty}
-use Rattle.ty_unify.specs.Substitution.{Entry, Meets, mark, Solves, sub, subs, is_below}
+use Rattle.ty_unify.specs.Substitution.{Entry, free, Meets, mark, Solves, sub, subs, is_below}
 use Rattle.ty_unify.specs.Weight.{weight}
 use Rattle.ty_core.specs.declared.ty.Head.{Head}
 use Rattle.ty_core.specs.declared.ty.Ty.TheVariants.{Apply}
@@ -175,7 +175,7 @@ arguments-steps n s w old new h ts t p e x =
         λ y. ((x.same m f).1 (y.0, subst (λ q. allowed q (all_admit m (subs f ts)) ≡ true) (sym e) (subst (λ z. admits m (sub f z) ≡ true) p y.1)), tt),
         λ y. let z = (x.same m f).0 y.0 in (z.0, subst (λ z. admits m (sub f z) ≡ true) (sym p) (subst (λ q. allowed q (all_admit m (subs f ts)) ≡ true) e z.1)),
       );
-      forced = λ o i j r. (x.forced o h (sym e) j (subst (Asks o Mark.Equality) p r), tt);
+      forced = λ o i j r. (x.forced o j (λ y b. Asks.part h ts y (subst (Asks o Mark.Equality) p r) (sym e) b), tt);
       within = λ j y. x.within n j (subst (λ z. is_below n z ≡ true) p y.1);
       lighter = omega arith;
       fit = λ r. tt;
@@ -212,23 +212,23 @@ bind-steps n s w old a b t y p q u v ne = steps-write n s w old (Equal a b) (Bin
     (λ o i r. subst (λ x. Forces o (var y) x) (sym q) (Forces.back _ _ (subst (λ x. Forces o (type_of a) x) p r)))
     (λ r. record {
       in_range = ltb-true y n (subst (λ x. is_below n x ≡ true) p r.1);
-      is_free = u;
+      is_open = u;
       in_bounds = subst (λ x. is_below n x ≡ true) (sym q) r.0;
       walked = subst (IsWalked s) (sym q) v;
       unlike = λ e. ne (sym q ∙ e);
     })
 
 -- a mark on a free variable
-pub remark-clash : (s : ℕ → Entry) (x : ℕ) (k : Mark) (t : Ty) → type_of t ≡ var x → IsWalked s (var x) → ((m : ℕ → Bool) (t : Typ) → Allows (mark (s x)) m t → Allows k m t → ⊥) → RefusesTask s (Admit k t) Clash
+pub remark-clash : (s : ℕ → Entry) (x : ℕ) (k : Mark) (t : Ty) → type_of t ≡ var x → s x ≡ free (mark (s x)) → ((m : ℕ → Bool) (t : Typ) → Allows (mark (s x)) m t → Allows k m t → ⊥) → RefusesTask s (Admit k t) Clash
 remark-clash s x k t p u ne = (
   λ m f h e. ne m (f x) (subst (Meets m f (f x)) u (h x)) (subst (λ z. Allows k m (sub f z)) p e),
   λ o i r. Clashes.apart (mark (s x)) k (var x) (subst (ForcedAt o x) u (i x)) (subst (Asks o k) p r) ne,
 )
 
-pub remark-nothing : (n : ℕ) (s : ℕ → Entry) (w : ℕ → ℕ) (old : List Task) (x : ℕ) (k r : Mark) (t : Ty) → type_of t ≡ var x → IsWalked s (var x) → IsMeet (mark (s x)) k r → r ≡ mark (s x) → Steps n s w old (Admit k t) old None
+pub remark-nothing : (n : ℕ) (s : ℕ → Entry) (w : ℕ → ℕ) (old : List Task) (x : ℕ) (k r : Mark) (t : Ty) → type_of t ≡ var x → s x ≡ free (mark (s x)) → IsMeet (mark (s x)) k r → r ≡ mark (s x) → Steps n s w old (Admit k t) old None
 remark-nothing n s w old x k r t p u e q = steps-nothing n s w old (Admit k t) (λ m f h. subst (λ z. Allows k m (sub f z)) (sym p) (e.right m (f x) (subst (λ j. Allows j m (f x)) (sym q) (subst (Meets m f (f x)) u (h x)))))
 
-pub remark-steps : (n : ℕ) (s : ℕ → Entry) (w : ℕ → ℕ) (old : List Task) (x : ℕ) (k r : Mark) (t : Ty) → type_of t ≡ var x → IsWalked s (var x) → IsMeet (mark (s x)) k r → (r ≡ mark (s x) → ⊥) → (r ≢ mark (s x) → rank_of r < rank_of (mark (s x))) → is_inhabited (mark (s x)) ≡ true → (is_inhabited (mark (s x)) ≡ true → is_inhabited k ≡ true → is_inhabited r ≡ true) → Steps n s w old (Admit k t) old (Some (Remark x r))
+pub remark-steps : (n : ℕ) (s : ℕ → Entry) (w : ℕ → ℕ) (old : List Task) (x : ℕ) (k r : Mark) (t : Ty) → type_of t ≡ var x → s x ≡ free (mark (s x)) → IsMeet (mark (s x)) k r → (r ≡ mark (s x) → ⊥) → (r ≢ mark (s x) → rank_of r < rank_of (mark (s x))) → is_inhabited (mark (s x)) ≡ true → (is_inhabited (mark (s x)) ≡ true → is_inhabited k ≡ true → is_inhabited r ≡ true) → Steps n s w old (Admit k t) old (Some (Remark x r))
 remark-steps n s w old x k r t p u e ne lower i j = steps-write n s w old (Admit k t) (Remark x r)
     (λ m f h. (λ a. e.both m (f x) (subst (Meets m f (f x)) u (h x)) (subst (λ z. Allows k m (sub f z)) p a), λ a. subst (λ z. Allows k m (sub f z)) (sym p) (e.right m (f x) a)))
     (λ o g a. Asks.both (mark (s x)) k r (var x) (subst (ForcedAt o x) u (g x)) (subst (Asks o k) p a) (λ m z b d. e.both m z b d))

@@ -1,3 +1,4 @@
+pub mod Rows
 pub mod Substitution
 pub mod Weight
 pub mod Props
@@ -9,4 +10,5 @@ pub mod Parts
 pub mod Pending
 pub mod Solve
 pub mod Changes
+pub mod Fields
 pub mod Noted

@@ -1,11 +1,10 @@
 -- Tasks for the parts of two types.
 use Rattle.std.specs.Prelude.{◌≡◌, ◌↔◌, ℕ, ◌+◌, Bool, true, List}
-use Rattle.ty_core.specs.Types.{Typ, Typs, con, Symbol, attribute, all_admit}
+use Rattle.ty_core.specs.Types.{Typ, Typs, con, Symbol, all_admit}
 use Rattle.ty_core.specs.declared.mark.Mark.{Mark}
-use Rattle.ty_core.specs.declared.name.Equality.TheVariants.{ByArguments}
 use Rattle.ty_unify.specs.Substitution.{subs, are_below}
 use Rattle.ty_unify.specs.Weight.{weights}
-use Rattle.ty_unify.specs.Forces.{Problem, Forces, Asks}
+use Rattle.ty_unify.specs.Forces.{Problem, Forces, Asks, Beside}
 use Rattle.ty_unify.specs.Tasks.{AllHold, AreForced, AreWithin, burdens}
 use Rattle.ty_unify.specs.declared.task.Task.{Task}
 
@@ -19,6 +18,6 @@ pub record EqualParts (old new : List Task) (ts us : Typs) : Type 0 where
 -- to the tasks come those that make the types of a list admit equality
 pub record AdmitParts (old new : List Task) (ts : Typs) : Type 0 where
   pub same : (m : ℕ → Bool) (f : ℕ → Typ) → AllHold m f new ↔ (AllHold m f old × (all_admit m (subs f ts) ≡ true))
-  pub forced : (p : Problem) (h : Symbol) → attribute h ≡ ByArguments → AreForced p old → Asks p Mark.Equality (con h ts) → AreForced p new
+  pub forced : (p : Problem) → AreForced p old → ((t : Typ) → Beside t t ts ts → Asks p Mark.Equality t) → AreForced p new
   pub within : (n : ℕ) → AreWithin n old → are_below n ts ≡ true → AreWithin n new
   pub burden_is : (w : ℕ → ℕ) → burdens w new ≡ burdens w old + weights w ts

@@ -1,14 +1,20 @@
 -- Types that are still to be looked at.
 use Rattle.std.specs.Prelude.{◌≡◌, ℕ, ◌+◌, ◌||◌, List, map}
 use Rattle.std.specs.Borrow.{Bor}
-use Rattle.ty_core.specs.Types.{Typ, Typs, typs_of, all_nodes}
+use Rattle.ty_core.specs.Types.{Typ, Typs, none, more, typs_of, all_nodes}
 use Rattle.ty_core.specs.TypesOf.{type_of}
 use Rattle.ty_core.specs.declared.ty.Ty.{Ty}
-use Rattle.ty_unify.specs.Substitution.{subs, are_in}
+use Rattle.ty_unify.specs.Substitution.{Entry, free, bound, row, subs, are_in}
 use Rattle.ty_unify.specs.Weight.{weights}
 
 abbrev pub pend : List (Bor Ty) → Typs
 pend l = typs_of (map (λ r. type_of r.now) l)
+
+-- the types that a variable stands for, or those of its fields
+abbrev pub inner : Entry → Typs
+inner (free k) = none
+inner (bound t) = more t none
+inner (row e ks us) = us
 
 -- the types ts have come to those that are pending
 pub record Adds (old new : List (Bor Ty)) (ts : Typs) : Type 0 where

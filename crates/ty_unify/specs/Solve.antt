@@ -6,7 +6,7 @@ use Rattle.ty_unify.specs.Forces.{Clashes, Loops}
 use Rattle.ty_unify.specs.declared.refused.UnifyRefused.{UnifyRefused}
 use Rattle.ty_unify.specs.declared.refused.UnifyRefused.TheVariants.{Clash, Circular, Large, Memory}
 use Rattle.ty_unify.specs.declared.subst.Slot.{Slot}
-use Rattle.ty_unify.specs.declared.solve.Kept.{Kept}
+use Rattle.ty_unify.specs.declared.trail.Kept.{Kept}
 
 -- the least change that makes a and b equal: what solves the new substitution is what solves the old one and makes them equal
 abbrev pub IsMostGeneral : (ℕ → Entry) → (ℕ → Entry) → Typ → Typ → Type 0
@@ -23,7 +23,7 @@ NoneMakesEqual s a b = (m : ℕ → Bool) (f : ℕ → Typ) → Solves m f s →
 abbrev pub node_limit : ℕ
 node_limit = 65536
 
--- the type that a stands for under s has at most that many nodes, written out as a tree
+-- the type that a stands for under s has at most that many nodes, written out as a tree; a row is the record of its known fields
 abbrev pub IsSmall : (ℕ → Entry) → Typ → Type 0
 IsSmall s a = (f : ℕ → Typ) → Resolves f s → nodes (sub f a) ≤ node_limit
 

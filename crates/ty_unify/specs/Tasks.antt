@@ -1,17 +1,17 @@
 -- What is still to be made so, and the next change to a substitution.
-use Rattle.std.specs.Prelude.{◌≡◌, ◌≢◌, ◌↔◌, ◌<◌, ℕ, ◌+◌, Bool, true, List, [], ◌∷◌, Option, Some, None, ⊤}
-use Rattle.ty_core.specs.Types.{Typ, var}
+use Rattle.std.specs.Prelude.{◌≡◌, ◌≢◌, ◌↔◌, ◌<◌, ℕ, ◌+◌, Bool, true, false, List, [], ◌∷◌, Option, Some, None, ⊤}
+use Rattle.ty_core.specs.Types.{Typ, var, admits}
 use Rattle.ty_core.specs.TypesOf.{type_of}
 use Rattle.ty_core.specs.Marks.{Allows, is_inhabited, rank_of}
 use Rattle.ty_core.specs.declared.mark.Mark.{Mark}
-use Rattle.ty_unify.specs.Substitution.{Entry, free, mark, sub, is_below, Solves}
+use Rattle.ty_unify.specs.Substitution.{Entry, free, bound, row, mark, is_open, sub, subs, is_below, is_in, are_in, Resolves, aside, Solves}
 use Rattle.ty_unify.specs.Finding.{IsWalked}
-use Rattle.ty_unify.specs.Weight.{weight}
+use Rattle.ty_unify.specs.Weight.{weight, BelowAt, InhabitedAt}
 use Rattle.ty_unify.specs.Forces.{Problem, Forces, Asks, Clashes, Loops, IsForced}
 use Rattle.ty_unify.specs.declared.task.Task.{Task}
 use Rattle.ty_unify.specs.declared.task.Task.TheVariants.{Equal, Admit}
 use Rattle.ty_unify.specs.declared.task.Write.{Write}
-use Rattle.ty_unify.specs.declared.task.Write.TheVariants.{Bind, Remark}
+use Rattle.ty_unify.specs.declared.task.Write.TheVariants.{Bind, Remark, Further}
 use Rattle.ty_unify.specs.declared.refused.UnifyRefused.{UnifyRefused}
 use Rattle.ty_unify.specs.declared.refused.UnifyRefused.TheVariants.{Clash, Circular, Large, Memory}
 
@@ -27,6 +27,7 @@ abbrev pub Does : (ℕ → Bool) → (ℕ → Typ) → Option Write → Type 0
 Does m f None = ⊤
 Does m f (Some (Bind v t)) = f v ≡ sub f (type_of t)
 Does m f (Some (Remark v k)) = Allows k m (f v)
+Does m f (Some (Further v)) = admits m (f v) ≡ true
 
 abbrev pub IsForcedTask : Problem → Task → Type 0
 IsForcedTask p (Equal a b) = Forces p (type_of a) (type_of b)
@@ -40,6 +41,7 @@ abbrev pub IsForcedWrite : Problem → Option Write → Type 0
 IsForcedWrite p None = ⊤
 IsForcedWrite p (Some (Bind v t)) = Forces p (var v) (type_of t)
 IsForcedWrite p (Some (Remark v k)) = Asks p k (var v)
+IsForcedWrite p (Some (Further v)) = Asks p Mark.Equality (var v)
 
 abbrev pub IsWithin : ℕ → Task → Type 0
 IsWithin n (Equal a b) = (is_below n (type_of a) ≡ true) × (is_below n (type_of b) ≡ true)
@@ -60,7 +62,7 @@ burdens w (x ∷ l) = burden w x + burdens w l
 -- v may be bound to t
 pub record Binds (n : ℕ) (s : ℕ → Entry) (v : ℕ) (t : Typ) : Type 0 where
   pub in_range : v < n
-  pub is_free : s v ≡ free (mark (s v))
+  pub is_open : is_open (s v) ≡ true
   pub in_bounds : is_below n t ≡ true
   pub walked : IsWalked s t
   pub unlike : t ≢ var v
@@ -73,10 +75,23 @@ pub record Lowers (n : ℕ) (s : ℕ → Entry) (v : ℕ) (k : Mark) : Type 0 wh
   pub lower : rank_of k < rank_of (mark (s v))
   pub less : (m : ℕ → Bool) (t : Typ) → Allows k m t → Allows (mark (s v)) m t
 
+-- the further fields of a row need not admit equality
+abbrev pub IsLoose : Entry → Type 0
+IsLoose (free k) = ⊥
+IsLoose (bound t) = ⊥
+IsLoose (row true ks us) = ⊥
+IsLoose (row false ks us) = ⊤
+
+-- the row v may be one whose fields all admit equality
+pub record Narrows (n : ℕ) (s : ℕ → Entry) (v : ℕ) : Type 0 where
+  pub in_range : v < n
+  pub loose : IsLoose (s v)
+
 abbrev pub Fit : ℕ → (ℕ → Entry) → Option Write → Type 0
 Fit n s None = ⊤
 Fit n s (Some (Bind v t)) = Binds n s v (type_of t)
 Fit n s (Some (Remark v k)) = Lowers n s v k
+Fit n s (Some (Further v)) = Narrows n s v
 
 -- the tasks `old` and one more come to the tasks `new` and one change
 pub record Steps (n : ℕ) (s : ℕ → Entry) (w : ℕ → ℕ) (old : List Task) (task : Task) (new : List Task) (write : Option Write) : Type 0 where
@@ -106,3 +121,16 @@ pub record Comes (n : ℕ) (s : ℕ → Entry) (old new : List Task) (write : Op
   pub within : AreWithin n old → AreWithin n new
   pub fit : AreWithin n old → Fit n s write
   pub ended : write ≡ None → new ≡ []
+
+-- v doesn't lie in what is written for it
+abbrev pub Avoids : ℕ → (ℕ → Typ) → Entry → Type 0
+Avoids v f (free k) = ⊤
+Avoids v f (bound t) = is_in v (sub f t) ≡ false
+Avoids v f (row e ks us) = are_in v (subs f us) ≡ false
+
+-- the entry e may be written for v
+pub record MayPut (n : ℕ) (s : ℕ → Entry) (v : ℕ) (e : Entry) : Type 0 where
+  pub in_range : v < n
+  pub below : BelowAt n e
+  pub inhabited : InhabitedAt e
+  pub avoids : (f : ℕ → Typ) → Resolves f (aside v s) → Avoids v f e

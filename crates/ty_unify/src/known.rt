@@ -1,9 +1,11 @@
 // Whether a substitution has the variables of a type.
-ghost use Rattle.std.specs.Prelude.{◌≡◌, length, map};
+ghost use Rattle.std.specs.Prelude.{◌≡◌, ◌↔◌, IsTrue, length, map};
 ghost use Rattle.ty_core.specs.Types.{typs_of};
 ghost use Rattle.ty_core.specs.TypesOf.{type_of};
+ghost use Rattle.ty_unify.specs.Changes.{IsFitRow};
 ghost use Rattle.ty_unify.specs.Substitution.{is_below, are_below};
 
+use crate::row::{Row, is_proper};
 use crate::subst::Subst;
 use ty_core::ty::Ty;
 
@@ -28,4 +30,11 @@ fn are_known(s: &Subst, types: &[Ty]) -> bool
         }
     }
     true
+}
+
+/// Whether a row has each label once, each with a type, and the substitution has their variables.
+pub fn fits(s: &Subst, row: &Row) -> bool
+    ensures { IsTrue result ↔ IsFitRow (length s.now.slots.items) row.now }
+{
+    is_proper(&row.labels, &row.types) && are_known(s, &row.types)
 }

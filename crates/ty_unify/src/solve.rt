@@ -1,100 +1,21 @@
 // The most general substitution that makes two types equal.
-ghost use Rattle.std.specs.Prelude.{◌≡◌, ◌↔◌, ◌<◌, ℕ, Bool, List, length, slice_set, IfOk, IfErr, OnErr, Some, true};
-ghost use Rattle.ty_core.specs.Types.{Typ};
+ghost use Rattle.std.specs.Prelude.{◌≡◌, length, IfOk, IfErr, OnErr, Some, true};
 ghost use Rattle.ty_core.specs.TypesOf.{type_of};
 ghost use Rattle.ty_unify.specs.Substitution.{is_below};
 ghost use Rattle.ty_unify.specs.SlotsOf.{look};
-ghost use Rattle.ty_unify.specs.Weight.{IsAcyclic, AreBelow, AreInhabited};
-ghost use Rattle.ty_unify.specs.Tasks.{Binds, Lowers, Fit};
-ghost use Rattle.ty_unify.specs.Changes.{Changes, RefusesWrite, ranks};
-ghost use Rattle.ty_unify.specs.declared.task.Task.{Task};
-ghost use Rattle.ty_unify.specs.declared.task.Write.TheVariants.{Bind, Remark};
+ghost use Rattle.ty_unify.specs.Tasks.{Fit};
+ghost use Rattle.ty_unify.specs.Changes.{Changes, RefusesWrite};
 ghost use Rattle.ty_unify.specs.Solve.{IsMostGeneral, IsSolvable, IsSmall, IsCause, IsEarlyCause, undo};
 
+use crate::bind::{bind_variable, lower_mark, narrow};
 use crate::refused::UnifyRefused;
 use crate::step::next_write;
-use crate::subst::{Slot, Subst};
+use crate::subst::Subst;
 use crate::task::{Task, Write};
-use crate::walk::{is_small, occurs};
+use crate::trail::{Kept, put_back};
+use crate::walk::is_small;
 use std::alloc::Global;
-use ty_core::mark::Mark;
 use ty_core::ty::{Ty, copy};
-
-/// What a variable stood for before a change.
-#[derive(Drop)]
-pub struct Kept {
-    pub variable: usize,
-    pub slot: Slot,
-}
-
-/// Puts back what was kept of one variable.
-fn restore(slots: &mut Vec<Slot>, kept: Kept)
-    ensures { slots.new.items ≡ slice_set slots.old.items kept.variable kept.slot }
-{
-    let Kept { variable, slot } = kept;
-    if variable < slots.len() {
-        slots[variable] = slot;
-    }
-}
-
-/// Puts back what was kept, the last first.
-fn put_back(slots: &mut Vec<Slot>, trail: &mut Vec<Kept>)
-    ensures { slots.new.items ≡ undo trail.old.items slots.old.items }
-{
-    while let Some(kept) = trail.pop() {
-        restore(slots, kept);
-    }
-}
-
-/// Lets a free variable stand for a type, and its mark stand at that type.
-fn bind_variable(
-    alloc: Global,
-    s: &mut Subst,
-    v: usize,
-    t: Ty,
-    tasks: &mut Vec<Task>,
-    trail: &mut Vec<Kept>,
-) -> Result<(), UnifyRefused>
-    requires { Binds (length s.old.slots.items) (look s.old.slots.items) v (type_of t) }
-    ensures undone { undo trail.new.items s.new.slots.items ≡ undo trail.old.items s.old.slots.items }
-    ensures same_length { length s.new.slots.items ≡ length s.old.slots.items }
-    ensures changes { IfOk result (λ _. Changes s.old.slots.items s.new.slots.items tasks.old.items tasks.new.items (Bind v t)) }
-    ensures cause { IfErr result (RefusesWrite (look s.old.slots.items) (Bind v t)) }
-{
-    if occurs(alloc, s, v, &t)? {
-        return Err(UnifyRefused::Circular);
-    }
-    let mark = s.mark_of(v);
-    trail.push(Kept {
-        variable: v,
-        slot: Slot::Open(mark),
-    })?;
-    tasks.push(Task::Admit(mark, Ty::Var(v)))?;
-    s.bind(v, t);
-    Ok(())
-}
-
-/// Gives a free variable a mark that allows less.
-fn lower_mark(
-    s: &mut Subst,
-    v: usize,
-    mark: Mark,
-    trail: &mut Vec<Kept>,
-) -> Result<(), UnifyRefused>
-    requires { Lowers (length s.old.slots.items) (look s.old.slots.items) v mark }
-    ensures undone { undo trail.new.items s.new.slots.items ≡ undo trail.old.items s.old.slots.items }
-    ensures same_length { length s.new.slots.items ≡ length s.old.slots.items }
-    ensures changes { IfOk result (λ _. (tasks : List Task) → Changes s.old.slots.items s.new.slots.items tasks tasks (Remark v mark)) }
-    ensures cause { IfErr result (λ e. e ≡ UnifyRefused.Memory) }
-{
-    let old = s.mark_of(v);
-    trail.push(Kept {
-        variable: v,
-        slot: Slot::Open(old),
-    })?;
-    s.set_mark(v, mark);
-    Ok(())
-}
 
 /// Makes a change.
 fn change(
@@ -113,6 +34,7 @@ fn change(
     match write {
         Write::Bind(v, t) => bind_variable(alloc, s, v, t, tasks, trail),
         Write::Remark(v, mark) => lower_mark(s, v, mark, trail),
+        Write::Further(v) => narrow(alloc, s, v, tasks, trail),
     }
 }
 

@@ -3,8 +3,8 @@ ghost use Rattle.std.specs.Prelude.{◌≡◌, ◌↔◌, ℕ, IsTrue, IfOk, IfE
 ghost use Rattle.ty_core.specs.Types.{Typ, var, con, typs_of, none};
 ghost use Rattle.ty_core.specs.Marks.{IsOf, Allows, is_inhabited};
 ghost use Rattle.ty_core.specs.TypesOf.{type_of, head_of};
-ghost use Rattle.ty_unify.specs.Substitution.{is_below, are_below};
-ghost use Rattle.ty_unify.specs.SlotsOf.{look};
+ghost use Rattle.ty_unify.specs.Substitution.{is_below, are_below, is_open, free, mark as mark_of};
+ghost use Rattle.ty_unify.specs.SlotsOf.{look, row_of};
 ghost use Rattle.ty_unify.specs.Finding.{Reads, IsWalked};
 ghost use Rattle.ty_unify.specs.Tasks.{Steps, RefusesTask, Comes, RefusesTasks, AreWithin};
 ghost use Rattle.ty_core.specs.declared.ty.Ty.{Ty};
@@ -12,13 +12,14 @@ ghost use Rattle.ty_unify.specs.declared.task.Task.{Task};
 ghost use Rattle.ty_unify.specs.declared.task.Task.TheVariants.{Equal, Admit};
 
 use crate::refused::UnifyRefused;
+use crate::row::Row;
 use crate::subst::Subst;
 use crate::task::{Task, Write, admit_parts, equal_parts};
 use mlc_base::memory::NoMemory;
 use std::alloc::Global;
 use ty_core::mark::{Class, Mark, is_of, meet};
 use ty_core::name::Equality;
-use ty_core::ty::{Head, Ty, copy, equality_of, same_head};
+use ty_core::ty::{Head, Ty, copy, copy_all, equality_of, same_head};
 
 /// What a type reads as, in memory of its own.
 fn walk(alloc: Global, s: &Subst, ty: Ty) -> Result<Ty, NoMemory>
@@ -113,7 +114,7 @@ fn equal(
 
 /// Lets a mark stand at a free variable.
 fn remark(s: &Subst, x: usize, mark: Mark) -> Result<Option<Write>, UnifyRefused>
-    requires { IsWalked (look s.now.slots.items) (var x) }
+    requires { look s.now.slots.items x ≡ free (mark_of (look s.now.slots.items x)) }
     ensures steps { IfOk result (λ write. (tasks : List Task) (t : Ty) → type_of t ≡ var x → Steps (length s.now.slots.items) (look s.now.slots.items) s.now.acyclic.0 tasks (Admit mark t) tasks write) }
     ensures cause { IfErr result (λ e. (t : Ty) → type_of t ≡ var x → RefusesTask (look s.now.slots.items) (Admit mark t) e) }
 {
@@ -127,6 +128,51 @@ fn remark(s: &Subst, x: usize, mark: Mark) -> Result<Option<Write>, UnifyRefused
                 Ok(Some(Write::Remark(x, next)))
             }
         }
+    }
+}
+
+/// Lets a mark stand at a variable that stands for a record.
+fn remark_row(
+    alloc: Global,
+    s: &Subst,
+    x: usize,
+    row: &Row,
+    mark: Mark,
+    tasks: &mut Vec<Task>,
+) -> Result<Option<Write>, UnifyRefused>
+    requires { look s.now.slots.items x ≡ row_of row.now }
+    ensures steps { IfOk result (λ write. (t : Ty) → type_of t ≡ var x → Steps (length s.now.slots.items) (look s.now.slots.items) s.now.acyclic.0 tasks.old.items (Admit mark t) tasks.new.items write) }
+    ensures cause { IfErr result (λ e. (t : Ty) → type_of t ≡ var x → RefusesTask (look s.now.slots.items) (Admit mark t) e) }
+{
+    match mark {
+        Mark::Any => Ok(None),
+        Mark::Class(_) => Err(UnifyRefused::Clash),
+        Mark::Equality => {
+            if row.equality {
+                admit_parts(tasks, copy_all(alloc, &row.types)?)?;
+                Ok(None)
+            } else {
+                Ok(Some(Write::Further(x)))
+            }
+        }
+    }
+}
+
+/// Lets a mark stand at a variable that stands for no type yet.
+fn admit_variable(
+    alloc: Global,
+    s: &Subst,
+    x: usize,
+    mark: Mark,
+    tasks: &mut Vec<Task>,
+) -> Result<Option<Write>, UnifyRefused>
+    requires { is_open (look s.now.slots.items x) ≡ true }
+    ensures steps { IfOk result (λ write. (t : Ty) → type_of t ≡ var x → Steps (length s.now.slots.items) (look s.now.slots.items) s.now.acyclic.0 tasks.old.items (Admit mark t) tasks.new.items write) }
+    ensures cause { IfErr result (λ e. (t : Ty) → type_of t ≡ var x → RefusesTask (look s.now.slots.items) (Admit mark t) e) }
+{
+    match s.row(x) {
+        None => remark(s, x, mark),
+        Some(row) => remark_row(alloc, s, x, row, mark, tasks),
     }
 }
 
@@ -177,6 +223,7 @@ fn admit_applied(
 
 /// Lets a mark stand at a type that is no bound variable.
 fn admit_found(
+    alloc: Global,
     s: &Subst,
     mark: Mark,
     found: Ty,
@@ -187,7 +234,7 @@ fn admit_found(
     ensures cause { IfErr result (RefusesTask (look s.now.slots.items) (Admit mark found)) }
 {
     match found {
-        Ty::Var(x) => remark(s, x, mark),
+        Ty::Var(x) => admit_variable(alloc, s, x, mark, tasks),
         Ty::Apply(head, ts) => {
             admit_applied(s, mark, &head, ts, tasks)?;
             Ok(None)
@@ -207,7 +254,7 @@ fn admit(
     ensures cause { IfErr result (RefusesTask (look s.now.slots.items) (Admit mark ty)) }
 {
     let found = walk(alloc, s, ty)?;
-    admit_found(s, mark, found, tasks)
+    admit_found(alloc, s, mark, found, tasks)
 }
 
 /// Takes one task.

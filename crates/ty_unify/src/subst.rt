@@ -1,23 +1,28 @@
 // What each type variable stands for.
-ghost use Rattle.std.specs.Prelude.{◌≡◌, ℕ, ◌+◌, ◌<◌, ◌≤◌, length, MatchOption, IfOk, OnErr, true, false, ◌++◌, ◌∷◌, [], slice_set};
+ghost use Rattle.std.specs.Prelude.{◌≡◌, ℕ, ◌+◌, ◌<◌, ◌≤◌, length, MatchOption, IfOk, OnErr, true, false, ◌++◌, ◌∷◌, [], slice_set, slice_index_or};
 ghost use Rattle.ty_core.specs.Types.{Typ};
 ghost use Rattle.ty_core.specs.TypesOf.{type_of};
 ghost use Rattle.ty_core.specs.Marks.{is_inhabited};
-ghost use Rattle.ty_unify.specs.Substitution.{mark, sub, free, bound, is_below, is_in, Resolves, Fits};
-ghost use Rattle.ty_unify.specs.SlotsOf.{look};
+ghost use Rattle.ty_unify.specs.Substitution.{mark, free, bound, is_open, Fits};
+ghost use Rattle.ty_unify.specs.SlotsOf.{look, entry, row_of, types_of};
 ghost use Rattle.ty_unify.specs.Weight.{IsAcyclic, AreBelow, AreInhabited, weight};
 ghost use Rattle.ty_unify.specs.Props.{IsAcyclic-prop, AreBelow-prop, AreInhabited-prop};
+ghost use Rattle.ty_unify.specs.Tasks.{MayPut};
+ghost use Rattle.ty_unify.specs.Changes.{IsFitRow};
 ghost use Rattle.ty_unify.specs.Finding.{StandsFor, IsWalked, Reads};
 
+use crate::row::Row;
 use mlc_base::memory::NoMemory;
 use std::alloc::Global;
+use std::mem;
 use ty_core::mark::Mark;
 use ty_core::ty::Ty;
 
-/// What one variable stands for: any type that its mark allows, or one type.
+/// What one variable stands for: any type that its mark allows, a record with the fields of a row, or one type.
 #[derive(Drop)]
 pub enum Slot {
     Open(Mark),
+    Partial(Row),
     Full(Ty),
 }
 
@@ -52,14 +57,42 @@ impl Subst {
         Ok(v)
     }
 
+    /// A new variable that stands for a record with the fields of a row. They may come in any order.
+    pub fn fresh_row(&mut self, row: Row) -> Result<usize, NoMemory>
+        requires { IsFitRow (length self.old.slots.items) row }
+        ensures next { IfOk result (λ v. v ≡ length self.old.slots.items) }
+        ensures known { IfOk result (λ _. self.new.slots.items ≡ self.old.slots.items ++ Slot.Partial row ∷ []) }
+        ensures err { OnErr result (self.new.slots.items ≡ self.old.slots.items) }
+    {
+        let v = self.slots.len();
+        self.slots.push(Slot::Partial(row))?;
+        Ok(v)
+    }
+
     /// The type that a bound variable stands for.
     pub fn get(&self, v: usize) -> Option<&Ty>
-        ensures { MatchOption result (look self.now.slots.items v ≡ free (mark (look self.now.slots.items v))) (λ t. look self.now.slots.items v ≡ bound (type_of t.now)) }
+        ensures { MatchOption result (is_open (look self.now.slots.items v) ≡ true) (λ t. look self.now.slots.items v ≡ bound (type_of t.now)) }
     {
         if v < self.slots.len() {
             match &self.slots[v] {
                 Slot::Full(t) => Some(t),
                 Slot::Open(_) => None,
+                Slot::Partial(_) => None,
+            }
+        } else {
+            None
+        }
+    }
+
+    /// The row of a variable that stands for a record with its fields.
+    pub fn row(&self, v: usize) -> Option<&Row>
+        ensures { MatchOption result (is_open (look self.now.slots.items v) ≡ true → look self.now.slots.items v ≡ free (mark (look self.now.slots.items v))) (λ r. look self.now.slots.items v ≡ row_of r.now) }
+    {
+        if v < self.slots.len() {
+            match &self.slots[v] {
+                Slot::Partial(row) => Some(row),
+                Slot::Open(_) => None,
+                Slot::Full(_) => None,
             }
         } else {
             None
@@ -73,6 +106,7 @@ impl Subst {
         if v < self.slots.len() {
             match &self.slots[v] {
                 Slot::Full(_) => Mark::Any,
+                Slot::Partial(_) => Mark::Any,
                 Slot::Open(k) => *k,
             }
         } else {
@@ -80,25 +114,13 @@ impl Subst {
         }
     }
 
-    /// Lets a free variable stand for a type in which it doesn't lie.
-    pub fn bind(&mut self, v: usize, t: Ty)
-        requires in_range { v < length self.old.slots.items }
-        requires is_free { look self.old.slots.items v ≡ free (mark (look self.old.slots.items v)) }
-        requires in_bounds { is_below (length self.old.slots.items) (type_of t) ≡ true }
-        requires avoids { (f : ℕ → Typ) → Resolves f (look self.old.slots.items) → is_in v (sub f (type_of t)) ≡ false }
-        ensures { self.new.slots.items ≡ slice_set self.old.slots.items v (Slot.Full t) }
+    /// Lets a variable stand for something else. What it stood for before.
+    pub fn put(&mut self, v: usize, slot: Slot) -> Slot
+        requires { MayPut (length self.old.slots.items) (look self.old.slots.items) v (entry slot) }
+        ensures before { result ≡ slice_index_or self.old.slots.items v result }
+        ensures after { self.new.slots.items ≡ slice_set self.old.slots.items v slot }
     {
-        self.slots[v] = Slot::Full(t);
-    }
-
-    /// Gives a free variable another mark.
-    pub fn set_mark(&mut self, v: usize, next: Mark)
-        requires in_range { v < length self.old.slots.items }
-        requires is_free { look self.old.slots.items v ≡ free (mark (look self.old.slots.items v)) }
-        requires inhabited { is_inhabited next ≡ true }
-        ensures { self.new.slots.items ≡ slice_set self.old.slots.items v (Slot.Open next) }
-    {
-        self.slots[v] = Slot::Open(next);
+        mem::replace(&mut self.slots[v], slot)
     }
 
     /// What a type stands for, if it is a bound variable.

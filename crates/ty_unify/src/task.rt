@@ -24,6 +24,8 @@ pub enum Write {
     Bind(usize, Ty),
     /// The variable gets this mark.
     Remark(usize, Mark),
+    /// The fields of the row all admit equality.
+    Further(usize),
 }
 
 /// Asks that the types of two lists are equal, one by one.

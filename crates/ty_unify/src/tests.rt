@@ -54,8 +54,8 @@ fn labels(alloc: Global, first: u32, second: u32) -> Result<Head, NoMemory> {
     Ok(Head::Record(all))
 }
 
-/// A type in postfix: digits are variables, `f` is an arrow, `p` and `q` records of two fields.
-fn read(alloc: Global, text: &str) -> Result<Ty, NoMemory> {
+/// A type in postfix: digits are variables, `f` is an arrow, `p`, `q` and `d` records of two fields, in `d` of the same label.
+pub fn read(alloc: Global, text: &str) -> Result<Ty, NoMemory> {
     let mut done: Vec<Ty> = Vec::new(alloc);
     for byte in text.as_bytes() {
         let next = match *byte {
@@ -82,6 +82,11 @@ fn read(alloc: Global, text: &str) -> Result<Ty, NoMemory> {
                 let head = labels(alloc, 1, 3)?;
                 two(alloc, head, done.pop(), right)?
             }
+            b'd' => {
+                let right = done.pop();
+                let head = labels(alloc, 1, 1)?;
+                two(alloc, head, done.pop(), right)?
+            }
             digit => Ty::Var(digit.saturating_sub(b'0') as usize),
         };
         done.push(next)?;
@@ -92,32 +97,37 @@ fn read(alloc: Global, text: &str) -> Result<Ty, NoMemory> {
     }
 }
 
-/// A variable for each letter: `.` any, `=` equality, `n` int or word, `o` all four, `t` char or string.
+/// A variable for a letter: `.` any, `=` equality, `n` int or word, `o` all four, `t` char or string.
+pub fn variable(s: &mut Subst, mark: u8) -> Result<usize, NoMemory> {
+    match mark {
+        b'=' => s.fresh(Mark::Equality),
+        b'n' => s.fresh(Mark::Class(Class {
+            int: true,
+            word: true,
+            char: false,
+            string: false,
+        })),
+        b't' => s.fresh(Mark::Class(Class {
+            int: false,
+            word: false,
+            char: true,
+            string: true,
+        })),
+        b'o' => s.fresh(Mark::Class(Class {
+            int: true,
+            word: true,
+            char: true,
+            string: true,
+        })),
+        _ => s.fresh(Mark::Any),
+    }
+}
+
+/// A variable for each letter.
 fn variables(alloc: Global, marks: &str) -> Result<Subst, NoMemory> {
     let mut s = Subst::new(alloc)?;
     for mark in marks.as_bytes() {
-        let _variable = match *mark {
-            b'=' => s.fresh(Mark::Equality)?,
-            b'n' => s.fresh(Mark::Class(Class {
-                int: true,
-                word: true,
-                char: false,
-                string: false,
-            }))?,
-            b't' => s.fresh(Mark::Class(Class {
-                int: false,
-                word: false,
-                char: true,
-                string: true,
-            }))?,
-            b'o' => s.fresh(Mark::Class(Class {
-                int: true,
-                word: true,
-                char: true,
-                string: true,
-            }))?,
-            _ => s.fresh(Mark::Any)?,
-        };
+        let _variable = variable(&mut s, *mark)?;
     }
     Ok(s)
 }
@@ -134,7 +144,7 @@ fn letter(answer: &Result<(), UnifyRefused>) -> &'static str {
     }
 }
 
-fn answer(alloc: Global, s: &mut Subst, a: &Ty, b: &Ty) -> &'static str {
+pub fn answer(alloc: Global, s: &mut Subst, a: &Ty, b: &Ty) -> &'static str {
     if is_known(s, a) && is_known(s, b) {
         letter(&unify(alloc, s, a, b))
     } else {
@@ -643,7 +653,7 @@ fn a_type_has_at_most_65536_nodes(rt: HostRuntime) -> Result<(), Fail> {
 }
 
 /// The variables 1 to `count`, and pairs of 0 to `count - 1` with themselves.
-fn doubling(alloc: Global, count: usize) -> Result<(Ty, Ty), NoMemory> {
+pub fn doubling(alloc: Global, count: usize) -> Result<(Ty, Ty), NoMemory> {
     let mut lefts = Vec::new(alloc);
     let mut rights = Vec::new(alloc);
     for i in 0..count {

@@ -1,10 +1,10 @@
 // Looking through the type that a type stands for.
-ghost use Rattle.std.specs.Prelude.{◌≡◌, ◌↔◌, ◌≤◌, ℕ, ◌||◌, nat_eq, IfOk, IsTrue, length, map};
+ghost use Rattle.std.specs.Prelude.{◌≡◌, ◌↔◌, ◌≤◌, ℕ, ◌||◌, nat_eq, ◌++◌, ◌∷◌, [], IfOk, IsTrue, length, map};
 ghost use Rattle.ty_core.specs.Types.{Typ, typs_of, nodes};
 ghost use Rattle.ty_core.specs.TypesOf.{type_of};
-ghost use Rattle.ty_unify.specs.Substitution.{Resolves, sub, is_in};
+ghost use Rattle.ty_unify.specs.Substitution.{Resolves, aside, sub, subs, is_in, are_in};
 ghost use Rattle.ty_unify.specs.SlotsOf.{look};
-ghost use Rattle.ty_unify.specs.Pending.{Adds};
+ghost use Rattle.ty_unify.specs.Pending.{Adds, inner, pend};
 ghost use Rattle.ty_unify.specs.Noted.{is_noted};
 ghost use Rattle.ty_unify.specs.Solve.{node_limit};
 
@@ -39,34 +39,61 @@ fn note(seen: &mut Vec<bool>, v: usize) -> Result<bool, NoMemory>
     Ok(was)
 }
 
-/// Whether a variable lies in the type that t stands for. Each bound variable is looked through once.
-pub fn occurs(alloc: Global, s: &Subst, v: usize, t: &Ty) -> Result<bool, NoMemory>
-    ensures { IfOk result (λ found. (f : ℕ → Typ) → Resolves f (look s.now.slots.items) → found ≡ is_in v (sub f (type_of t.now))) }
+/// Puts what a variable stands for on the types that are pending.
+fn look_in<'a>(s: &'a Subst, v: usize, pending: &mut Vec<&'a Ty>) -> Result<(), NoMemory>
+    ensures { IfOk result (λ _. Adds pending.old.items pending.new.items (inner (look s.now.slots.items v))) }
+{
+    match s.get(v) {
+        Some(t) => pending.push(t)?,
+        None => match s.row(v) {
+            Some(row) => add_all(pending, &row.types)?,
+            None => {}
+        },
+    }
+    Ok(())
+}
+
+/// Whether a variable lies in what the pending types stand for. Each variable is looked through once.
+fn reaches<'a>(alloc: Global, s: &'a Subst, v: usize, types: Vec<&'a Ty>) -> Result<bool, NoMemory>
+    ensures { IfOk result (λ found. (f : ℕ → Typ) → Resolves f (aside v (look s.now.slots.items)) → found ≡ are_in v (subs f (pend types.entry.items))) }
 {
     let mut seen = Vec::new(alloc);
-    let mut pending = Vec::new(alloc);
-    pending.push(t)?;
+    let mut pending = types;
     while let Some(next) = pending.pop() {
         match next {
-            Ty::Var(x) => match s.get(*x) {
-                None => {
-                    if *x == v {
-                        return Ok(true);
-                    }
+            Ty::Var(x) => {
+                if *x == v {
+                    return Ok(true);
                 }
-                Some(u) => {
-                    if !note(&mut seen, *x)? {
-                        pending.push(u)?;
-                    }
+                if !note(&mut seen, *x)? {
+                    look_in(s, *x, &mut pending)?;
                 }
-            },
+            }
             Ty::Apply(_, arguments) => add_all(&mut pending, arguments)?,
         }
     }
     Ok(false)
 }
 
-/// Whether the type that t stands for has at most `NODE_LIMIT` nodes.
+/// Whether a variable lies in the type that t stands for.
+pub fn occurs(alloc: Global, s: &Subst, v: usize, t: &Ty) -> Result<bool, NoMemory>
+    ensures { IfOk result (λ found. (f : ℕ → Typ) → Resolves f (aside v (look s.now.slots.items)) → found ≡ is_in v (sub f (type_of t.now))) }
+{
+    let mut pending = Vec::new(alloc);
+    pending.push(t)?;
+    reaches(alloc, s, v, pending)
+}
+
+/// Whether a variable lies in one of the types that these stand for.
+pub fn occurs_in(alloc: Global, s: &Subst, v: usize, types: &[Ty]) -> Result<bool, NoMemory>
+    ensures { IfOk result (λ found. (f : ℕ → Typ) → Resolves f (aside v (look s.now.slots.items)) → found ≡ are_in v (subs f (typs_of (map type_of types.now)))) }
+{
+    let mut pending = Vec::new(alloc);
+    add_all(&mut pending, types)?;
+    reaches(alloc, s, v, pending)
+}
+
+/// Whether the type that t stands for has at most `NODE_LIMIT` nodes. A row counts as the record of its known fields.
 pub fn is_small(alloc: Global, s: &Subst, t: &Ty) -> Result<bool, NoMemory>
     ensures { IfOk result (λ small. (f : ℕ → Typ) → Resolves f (look s.now.slots.items) → IsTrue small ↔ (nodes (sub f (type_of t.now)) ≤ node_limit)) }
 {
@@ -76,7 +103,7 @@ pub fn is_small(alloc: Global, s: &Subst, t: &Ty) -> Result<bool, NoMemory>
         match pending.pop() {
             None => return Ok(true),
             Some(next) => match s.find(next) {
-                Ty::Var(_) => {}
+                Ty::Var(x) => look_in(s, *x, &mut pending)?,
                 Ty::Apply(_, arguments) => add_all(&mut pending, arguments)?,
             },
         }

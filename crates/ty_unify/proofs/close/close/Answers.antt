@@ -1,0 +1,16 @@
+use Rattle.std.proofs.Common.{map, sym, ap, ◌∙◌}
+use Rattle.ty_core.specs.Types.{con, labels, typs_of}
+use Rattle.ty_core.specs.TypesOf.{type_of, head_of}
+use Rattle.ty_core.specs.declared.ty.Head.{Head}
+use Rattle.ty_unify.proofs.RowResults.{refuses-as}
+use Rattle.ty_unify.proofs.Joining.{function-clash, name-clash}
+use Rattle.ty_unify.proofs.close.close.Goals as goal
+
+pub returns-in-Function-clause-cause : goal.returns-in-Function-clause-cause
+returns-in-Function-clause-cause c = λ s. function-clash s c.args.row.now (head_of c.args.head.now) _ (ap head_of c.in-Function.is)
+
+pub returns-in-Named-clause-cause : goal.returns-in-Named-clause-cause
+returns-in-Named-clause-cause c = λ s. name-clash s c.args.row.now (head_of c.args.head.now) _ _ (ap head_of c.in-Named.is)
+
+pub returns-in-Record-clause-cause : goal.returns-in-Record-clause-cause
+returns-in-Record-clause-cause c = refuses-as c.args.row.now _ _ c.close_record.result (ap (λ l. con (labels l) (typs_of (map type_of c.args.types.now))) c.deref.ensures.value ∙ ap (λ (h : Head). con (head_of h) (typs_of (map type_of c.args.types.now))) (sym c.in-Record.is)) c.close_record.ensures.cause
