@@ -1,2 +1,4 @@
 mod Native
 mod Typings
+mod Determined
+mod Sound

@@ -6,3 +6,13 @@ ghost use Rattle.sml_rules.specs.Laws.{PhrasesAreTyped, BrokenIsUntyped, NeverWr
 pub fn phrases_are_typed()
     ensures { PhrasesAreTyped }
 {}
+
+/// No source that elaborates has a phrase that breaks a rule.
+pub fn broken_is_untyped()
+    ensures { BrokenIsUntyped }
+{}
+
+/// A source that elaborates never goes wrong.
+pub fn never_wrong()
+    ensures { NeverWrong }
+{}
