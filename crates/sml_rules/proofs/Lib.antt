@@ -1,4 +1,5 @@
-mod Native
-mod Typings
-mod Determined
-mod Sound
+pub mod Native
+pub mod Typings
+pub mod Determined
+pub mod Sound
+mod Examples

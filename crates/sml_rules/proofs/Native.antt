@@ -12,7 +12,7 @@ use Rattle.sml_tree.specs.Terminal as term
 use Rattle.sml_tree.specs.Derived.{short}
 use Rattle.sml_tree.specs.BareTree.{Exp, constant_exp, vid_exp, built_exp, fields_exp, let_in, app, typed, handle, raise, fn, ExpFields, no_exp_fields, exp_field, Pat, wild_pat, constant_pat, vid_pat, built_pat, fields_pat, con_pat, built_con_pat, typed_pat, as_pat, PatFields, no_pat_fields, pat_field, Decs, no_decs, dec, Dec, val_dec, type_dec, datatype_dec, replicate_dec, exception_dec, local_dec, open_dec, sequence_dec, Binds, no_binds, bind}
 use Rattle.sml_rules.specs.Values.{is_number}
-use Rattle.sml_rules.specs.Phrases.{Phrase, integer, text, identifier, nothing, applies, applies_pair, binds_any, binds, binds_nothing, declares, foreign, Shape, one, pair, phrases_in, FieldPhrases, record_shape, same_place, pair_phrases, applied_phrases, shape, field_phrases, exp_phrases, pat_phrase, dec_phrases, decs_phrases, first_foreign}
+use Rattle.sml_rules.specs.Phrases.{Phrase, integer, text, identifier, nothing, applies, applies_pair, binds_any, binds, binds_nothing, declares, foreign, Shape, one, pair, phrases_in, FieldPhrases, record_shape, same_place, pair_phrases, applied_phrases, is_vid, is_made, unless_made, shape, field_phrases, exp_phrases, pat_phrase, dec_phrases, decs_phrases, first_foreign}
 
 pub data NativeExp : Exp → List Phrase → Type 0 where
   native_int : (p : Place) (z : ℤ) → NativeExp (constant_exp p (term.int z)) (integer p z ∷ [])
@@ -103,7 +103,7 @@ inner (as_one x) = x
 -- an expression that isn't a pair
 one-native : (e : Exp) (s : Shape) → (IsNativeShape s → NativeShape e s) → first_foreign (phrases_in s) ≡ None → NativeExp e (phrases_in s)
 one-native e (one ps) h n = inner (h n)
-one-native e (pair p a b) h n = absurd (no-foreign p [] n)
+one-native e (pair p a b) h n = absurd (no-foreign p [] (foreign-back b (foreign p ∷ []) (foreign-back a (b ++ foreign p ∷ []) n)))
 
 vid-native : (p : Place) (qs : List ℕ) (v : Vid) → IsNativeShape (shape (vid_exp p (record { qualifiers = qs; vid = v }))) → NativeShape (vid_exp p (record { qualifiers = qs; vid = v })) (shape (vid_exp p (record { qualifiers = qs; vid = v })))
 vid-native p [] (Named x) n = as_one (native_vid p x)
@@ -129,13 +129,13 @@ pairs : (p : Place) (o : Bool) {f a : Exp} {fs as_ bs : List Phrase} {q : Place}
 pairs p true nf (as_pair q x y) = native_infix p q nf x y
 pairs p false nf (as_pair q x y) = native_prefix p q nf x y
 
-app-native : (p : Place) (f a : Exp) (fs : List Phrase) (s : Shape) → (first_foreign fs ≡ None → NativeExp f fs) → (IsNativeShape s → NativeShape a s) → first_foreign (applied_phrases p fs s) ≡ None →
-    NativeExp (app p f a) (applied_phrases p fs s)
-app-native p f a fs (one as_) hf ha n =
+app-native : (p : Place) (f a : Exp) (v : Bool) (fs : List Phrase) (s : Shape) → (first_foreign fs ≡ None → NativeExp f fs) → (IsNativeShape s → NativeShape a s) → first_foreign (applied_phrases p v fs s) ≡ None →
+    NativeExp (app p f a) (applied_phrases p v fs s)
+app-native p f a v fs (one as_) hf ha n =
     let nf = foreign-front fs (as_ ++ applies p ∷ []) n in
     let na = foreign-front as_ (applies p ∷ []) (foreign-back fs (as_ ++ applies p ∷ []) n) in
     native_app p (hf nf) (inner (ha na))
-app-native p f a fs (pair q as_ bs) hf ha n = by_order (same_place p q) n
+app-native p f a v fs (pair q as_ bs) hf ha n = by_order (v && same_place p q) n
   where
     by_order : (b : Bool) → first_foreign (pair_phrases p b fs as_ bs) ≡ None → NativeExp (app p f a) (pair_phrases p b fs as_ bs)
     by_order true n =
@@ -151,6 +151,11 @@ app-native p f a fs (pair q as_ bs) hf ha n = by_order (same_place p q) n
         let nb = foreign-front bs (applies_pair p false ∷ []) (foreign-back as_ (bs ++ applies_pair p false ∷ []) rest) in
         pairs p false (hf nf) (ha (na, nb))
 
+made-native : (p : Place) (f a : Exp) (m v : Bool) (fs : List Phrase) (s : Shape) → (first_foreign fs ≡ None → NativeExp f fs) → (IsNativeShape s → NativeShape a s) → first_foreign (unless_made p m (applied_phrases p v fs s)) ≡ None →
+    NativeExp (app p f a) (unless_made p m (applied_phrases p v fs s))
+made-native p f a true v fs s hf ha n = absurd (no-foreign p [] n)
+made-native p f a false v fs s hf ha n = app-native p f a v fs s hf ha n
+
 constant-native : (p : Place) (c : term.Constant) → IsNativeShape (shape (constant_exp p c)) → NativeShape (constant_exp p c) (shape (constant_exp p c))
 constant-native p (term.int z) n = as_one (native_int p z)
 constant-native p (term.word k) n = absurd (no-foreign p [] n)
@@ -164,7 +169,7 @@ mutual
   native-shape (built_exp p b) n = absurd (no-foreign p [] n)
   native-shape (fields_exp p fs) n = record-native p (native-fields fs) n
   native-shape (let_in p ds e) n = absurd (no-foreign p [] n)
-  native-shape (app p f a) n = as_one (app-native p f a (phrases_in (shape f)) (shape a) (one-native f (shape f) (native-shape f)) (native-shape a) n)
+  native-shape (app p f a) n = as_one (made-native p f a (is_made f) (is_vid f) (phrases_in (shape f)) (shape a) (one-native f (shape f) (native-shape f)) (native-shape a) n)
   native-shape (typed p e t) n = absurd (no-foreign p [] n)
   native-shape (handle p e rs) n = absurd (no-foreign p [] n)
   native-shape (raise p e) n = absurd (no-foreign p [] n)

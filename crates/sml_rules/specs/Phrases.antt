@@ -1,5 +1,5 @@
 -- The phrases of a source in the order of their ends; of two that end together the inner one is first. Static rules are looked at in this order.
--- The operator of an infix application stands between its operands. The language that is compiled so far: a phrase that is outside it is foreign, and stands for all that is in it.
+-- The operator of an infix application stands between its operands. A phrase outside the language that is compiled so far is foreign, and stands for all that is in it; a pair may only be an argument.
 use Rattle.std.specs.Prelude.{ℕ, ◌+◌, ℤ, Bool, true, false, ◌&&◌, nat_eq, if◌then◌else◌, List, [], ◌∷◌, ◌++◌, length, Option, Some, None}
 use Rattle.mlc_base.specs.declared.label.Label.{Label}
 use Rattle.mlc_base.specs.declared.place.Place.{Place}
@@ -34,10 +34,10 @@ pub data Shape : Type 0 where
   one : List Phrase → Shape
   pair : Place → List Phrase → List Phrase → Shape
 
--- a pair stands for itself only as an argument
+-- a pair that is no argument is foreign
 abbrev pub phrases_in : Shape → List Phrase
 phrases_in (one ps) = ps
-phrases_in (pair p a b) = foreign p ∷ []
+phrases_in (pair p a b) = a ++ (b ++ foreign p ∷ [])
 
 pub record FieldPhrases : Type 0 where
   pub label : Label
@@ -52,14 +52,44 @@ record_shape p (a ∷ b ∷ c ∷ fs) = one (foreign p ∷ [])
 abbrev pub same_place : Place → Place → Bool
 same_place p q = nat_eq p.file q.file && nat_eq p.byte q.byte
 
--- the operator of an infix application stands between: the pair begins where the application does
+abbrev pub is_vid : Exp → Bool
+is_vid (constant_exp p c) = false
+is_vid (vid_exp p x) = true
+is_vid (built_exp p b) = false
+is_vid (fields_exp p fs) = false
+is_vid (let_in p ds e) = false
+is_vid (app p f a) = false
+is_vid (typed p e t) = false
+is_vid (handle p e rs) = false
+is_vid (raise p e) = false
+is_vid (fn p rs) = false
+
+-- an identifier stands between the parts of a pair, where the pair begins where the application does
 abbrev pub pair_phrases : Place → Bool → List Phrase → List Phrase → List Phrase → List Phrase
 pair_phrases p true f a b = a ++ (f ++ (b ++ applies_pair p true ∷ []))
 pair_phrases p false f a b = f ++ (a ++ (b ++ applies_pair p false ∷ []))
 
-abbrev pub applied_phrases : Place → List Phrase → Shape → List Phrase
-applied_phrases p f (one a) = f ++ (a ++ applies p ∷ [])
-applied_phrases p f (pair q a b) = pair_phrases p (same_place p q) f a b
+-- an application, and whether its operator is an identifier
+abbrev pub applied_phrases : Place → Bool → List Phrase → Shape → List Phrase
+applied_phrases p v f (one a) = f ++ (a ++ applies p ∷ [])
+applied_phrases p v f (pair q a b) = pair_phrases p (v && same_place p q) f a b
+
+-- operators of derived forms, whose applications are foreign as a whole
+abbrev pub is_made : Exp → Bool
+is_made (constant_exp p c) = false
+is_made (vid_exp p x) = false
+is_made (built_exp p b) = true
+is_made (fields_exp p fs) = false
+is_made (let_in p ds e) = false
+is_made (app p f a) = false
+is_made (typed p e t) = false
+is_made (handle p e rs) = false
+is_made (raise p e) = false
+is_made (fn p rs) = true
+
+abbrev pub unless_made : Place → Bool → List Phrase → List Phrase
+unless_made p true ps = foreign p ∷ []
+unless_made p false ps = ps
 
 abbrev pub vid_phrase : Place → Vid → Phrase
 vid_phrase p (Named x) = identifier p x
@@ -83,7 +113,7 @@ abbrev mutual
   shape (built_exp p b) = one (foreign p ∷ [])
   shape (fields_exp p fs) = record_shape p (field_phrases fs)
   shape (let_in p ds e) = one (foreign p ∷ [])
-  shape (app p f a) = one (applied_phrases p (phrases_in (shape f)) (shape a))
+  shape (app p f a) = one (unless_made p (is_made f) (applied_phrases p (is_vid f) (phrases_in (shape f)) (shape a)))
   shape (typed p e t) = one (foreign p ∷ [])
   shape (handle p e rs) = one (foreign p ∷ [])
   shape (raise p e) = one (foreign p ∷ [])
