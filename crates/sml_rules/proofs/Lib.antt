@@ -3,3 +3,4 @@ pub mod Typings
 pub mod Determined
 pub mod Sound
 mod Examples
+mod Growing

@@ -1,6 +1,6 @@
 -- What holds of every source.
-use Rattle.std.specs.Prelude.{◌≡◌, ◌≢◌, ◌↔◌, ℕ, List, None}
-use Rattle.mlc_base.specs.Outcome.{wrong}
+use Rattle.std.specs.Prelude.{◌≡◌, ◌≢◌, ◌↔◌, ℕ, ◌≤◌, List, ◌++◌, None}
+use Rattle.mlc_base.specs.Outcome.{Outcome, wrong, going}
 use Rattle.mlc_base.specs.declared.fault.Fault.{Fault}
 use Rattle.sml_tree.specs.BareTree.{Decs}
 use Rattle.sml_rules.specs.Broken.{Typed, AllTypes, nothing_yet, FirstBroken}
@@ -22,3 +22,15 @@ BrokenIsUntyped = (texts : List (List ℕ)) (ds : Decs) (f : Fault) → first_fo
 abbrev pub NeverWrong : Type 0
 NeverWrong = (texts : List (List ℕ)) (ds : Decs) (m : ℕ) → first_foreign (decs_phrases ds) ≡ None →
     Elaborates texts ds → (meaning texts ds m).end ≢ wrong
+
+-- a is a prefix of b
+abbrev pub IsPrefix : List ℕ → List ℕ → Type 0
+IsPrefix a b = (rest : List ℕ) × (b ≡ a ++ rest)
+
+-- with more turns the output goes on from what it was, and an end other than going stays, with its output
+pub record GrowsTo (few many : Outcome) : Type 0 where
+  pub output : IsPrefix few.output many.output
+  pub end : few.end ≢ going → (many.end ≡ few.end) × (many.output ≡ few.output)
+
+abbrev pub MeaningGrows : Type 0
+MeaningGrows = (texts : List (List ℕ)) (ds : Decs) (m n : ℕ) → m ≤ n → GrowsTo (meaning texts ds m) (meaning texts ds n)
