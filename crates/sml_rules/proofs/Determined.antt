@@ -1,13 +1,11 @@
 -- Phrases have at most one typing, so what breaks a rule has none.
-use Rattle.std.proofs.Common.{◌≡◌, ℕ, List, [], ◌∷◌, ◌++◌, Option, Some, None, refl, sym, ap, ◌∙◌, subst, Bool, false, true}
+use Rattle.std.proofs.Common.{◌≡◌, ℕ, List, [], ◌∷◌, Some, None, refl, sym, ap, ◌∙◌, subst, Bool, false, true}
 use Rattle.mlc_base.specs.declared.fault.Fault.{Fault}
 use Rattle.mlc_base.specs.declared.place.Place.{Place}
-use Rattle.sml_tree.specs.BareTree.{Decs}
-use Rattle.sml_tree.specs.declared.ident.Vid.TheVariants.{Named}
 use Rattle.ty_core.specs.Types.{Typ}
 use Rattle.sml_rules.specs.Basis.{is_restricted}
 use Rattle.sml_rules.specs.Laws.{BrokenIsUntyped}
-use Rattle.sml_rules.specs.Phrases.{Phrase, identifier, applies, applies_pair, binds, decs_phrases}
+use Rattle.sml_rules.specs.Phrases.{Phrase, identifier, applies, applies_pair, binds}
 use Rattle.sml_rules.specs.Typing.{Context, type_in, function_type, pair_type}
 use Rattle.sml_rules.specs.Broken.{Pattern, any, Typed, push, Binding, binds_none, binds_variable, binds_unit, Types, integer_types, text_types, identifier_types, nothing_types, applies_types, prefix_types, infix_types, any_types, variable_types, unit_types, declares_types, AllTypes, no_phrase, next_phrase, nothing_yet, Breaks, is_unbound, is_never_bound, has_no_typing}
 use Rattle.sml_rules.proofs.Typings.{phrases-are-typed, all-split}

@@ -1,15 +1,14 @@
 -- Worked examples: phrases in order, typings, refusals and meanings of small sources.
-use Rattle.std.proofs.Common.{◌≡◌, ℕ, List, [], ◌∷◌, ◌++◌, Option, Some, None, true, false, refl, codes}
+use Rattle.std.proofs.Common.{◌≡◌, ℕ, List, [], ◌∷◌, Some, true, refl, codes}
 use Rattle.std.specs.Prelude.{pos}
-use Rattle.mlc_base.specs.declared.label.Label.TheVariants.{Number}
 use Rattle.mlc_base.specs.declared.place.Place.{Place}
 use Rattle.mlc_base.specs.Outcome.{ended, uncaught, going}
 use Rattle.sml_tree.specs.declared.ident.Vid.TheVariants.{Named}
 use Rattle.sml_tree.specs.Terminal.{int, string}
-use Rattle.sml_tree.specs.Derived.{short, tuple, infix_app, tuple_pat, if_of}
-use Rattle.sml_tree.specs.BareTree.{Exp, constant_exp, vid_exp, app, Pat, vid_pat, Dec, val_dec, bind, no_binds, Decs, no_decs, dec}
+use Rattle.sml_tree.specs.Derived.{short, infix_app, tuple_pat, if_of}
+use Rattle.sml_tree.specs.BareTree.{Exp, constant_exp, vid_exp, app, vid_pat, Dec, val_dec, bind, no_binds, Decs, no_decs, dec}
 use Rattle.sml_rules.specs.Meaning.{meaning}
-use Rattle.sml_rules.specs.Phrases.{integer, text, identifier, nothing, applies, applies_pair, binds, binds_nothing, declares, foreign, dec_phrases, first_foreign, nodes_in}
+use Rattle.sml_rules.specs.Phrases.{integer, text, identifier, applies, applies_pair, binds, binds_nothing, declares, dec_phrases, first_foreign, nodes_in}
 
 -- the names of the sources: print, +, x, and the exceptions of the basis
 abbrev names : List (List ℕ)

@@ -1,18 +1,18 @@
 -- With more turns a run does the same, or goes on from where it was cut short.
-use Rattle.std.proofs.Common.{◌≡◌, ◌≢◌, ℕ, zero, suc, ◌+◌, ◌≤◌, Bool, true, false, List, [], ◌∷◌, ◌++◌, Option, Some, None, refl, sym, ap, ◌∙◌, subst, append_assoc, append-nil, arith}
+use Rattle.std.proofs.Common.{◌≡◌, ℕ, zero, suc, ◌≤◌, List, [], ◌∷◌, ◌++◌, Option, Some, None, refl, sym, ap, ◌∙◌, subst, append_assoc, append-nil, arith}
 use Rattle.std.specs.Prelude.{slice_get}
 use Rattle.mlc_base.specs.declared.place.Place.{Place}
-use Rattle.mlc_base.specs.Outcome.{Outcome, going}
-use Rattle.mlc_base.specs.Run.{World, Cut, out_of_turns, went_wrong, Answer, gives, raises, stops, then_do, or_fail, turn_from, outcome_of, uncaught_end}
+use Rattle.mlc_base.specs.Outcome.{Outcome}
+use Rattle.mlc_base.specs.Run.{World, out_of_turns, went_wrong, Answer, gives, raises, stops, then_do, or_fail, turn_from, outcome_of, uncaught_end}
 use Rattle.mlc_prims.specs.LitOf.{Literal, int, word, char, string, truth}
 use Rattle.mlc_prims.specs.PrimOf.{Gives, made, raised, prim_of}
 use Rattle.mlc_prims.specs.declared.prim.Prim.{Prim as Primitive}
 use Rattle.mlc_prims.specs.declared.prim.Prim.TheVariants.{Add, Sub, Mul, Cat, Print}
 use Rattle.sml_tree.specs.BareTree.{Exp, constant_exp, vid_exp, built_exp, fields_exp, let_in, app, typed, handle, raise, fn, ExpFields, no_exp_fields, exp_field, Decs, no_decs, dec, Dec, val_dec, type_dec, datatype_dec, replicate_dec, exception_dec, local_dec, open_dec, sequence_dec, Binds, no_binds, bind}
 use Rattle.sml_rules.specs.Laws.{IsPrefix, GrowsTo, MeaningGrows}
-use Rattle.sml_rules.specs.Meaning.{packet_identifier, begin, meaning}
-use Rattle.sml_rules.specs.Values.{Value, literal, record_of, primitive, packet, Fields, field, Env, nothing_bound}
-use Rattle.sml_rules.specs.Eval.{constant_value, long_value, giving, print_literals, perform, enter, literals_in, bind_pat, eval, eval_fields, eval_binds, eval_val, eval_dec, eval_decs}
+use Rattle.sml_rules.specs.Meaning.{packet_identifier, begin}
+use Rattle.sml_rules.specs.Values.{Value, literal, record_of, primitive, packet, field, Env, nothing_bound}
+use Rattle.sml_rules.specs.Eval.{long_value, giving, print_literals, perform, enter, literals_in, bind_pat, eval, eval_fields, eval_binds, eval_val, eval_dec, eval_decs}
 
 prefix-refl : (o : List ℕ) → IsPrefix o o
 prefix-refl o = ([], sym (append-nil o))

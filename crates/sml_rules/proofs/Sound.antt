@@ -3,25 +3,24 @@ use Rattle.std.proofs.Common.{◌≡◌, ◌≢◌, ℕ, zero, suc, Bool, true, 
 use Rattle.std.specs.Prelude.{ℤ, ◌+ℤ◌, ◌-ℤ◌, ◌*ℤ◌, ◌+◌, length, slice_get, map, nat_eq, nat_le, option_map, codes}
 use Rattle.mlc_base.specs.declared.label.Label.TheVariants.{Number}
 use Rattle.mlc_base.specs.declared.place.Place.{Place}
-use Rattle.mlc_base.specs.Outcome.{End, wrong, uncaught, ended, going, Outcome}
-use Rattle.mlc_base.specs.Run.{World, Cut, out_of_turns, went_wrong, Answer, gives, raises, stops, then_do, or_fail, take_turn, turn_from, writes, outcome_of, uncaught_end}
-use Rattle.mlc_prims.specs.LitOf.{Literal, int, word, char, string, truth, ints_in}
-use Rattle.mlc_prims.specs.PrimOf.{max_size, Gives, made, raised, prim_of, int_result, exact, fitting, joined}
+use Rattle.mlc_base.specs.Outcome.{wrong, uncaught, ended, going}
+use Rattle.mlc_base.specs.Run.{World, out_of_turns, Answer, gives, raises, stops, then_do, or_fail, turn_from, outcome_of, uncaught_end}
+use Rattle.mlc_prims.specs.LitOf.{int, word, char, string, truth, ints_in}
+use Rattle.mlc_prims.specs.PrimOf.{max_size, made, raised, int_result, exact, fitting}
 use Rattle.mlc_prims.specs.declared.prim.Prim.{Prim as Primitive}
 use Rattle.mlc_prims.specs.declared.prim.Prim.TheVariants.{Add, Sub, Mul, Cat, Print}
 use Rattle.mlc_prims.specs.declared.prim.PrimExn.{PrimExn}
 use Rattle.mlc_prims.specs.declared.prim.PrimExn.TheVariants.{Overflow, Div, Subscript, Size, Chr}
-use Rattle.sml_tree.specs.declared.ident.Vid.TheVariants.{Named}
 use Rattle.sml_tree.specs.BareTree.{Exp, fields_exp, no_exp_fields, exp_field, Pat, Decs}
 use Rattle.ty_core.specs.Types.{Typ, var, con, Typs, none, more, Symbol, arrow, labels, name}
 use Rattle.mlc_base.specs.declared.label.Label.{Label}
 use Rattle.sml_rules.specs.Basis.{text_in, basis_prim, basis_exceptions, identifier_of}
-use Rattle.sml_rules.specs.Values.{Value, literal, record_of, primitive, packet, Fields, no_fields, field, unit_value, exn_number, Env, nothing_bound, bound, value_of, basis_value}
+use Rattle.sml_rules.specs.Values.{Value, literal, record_of, primitive, packet, Fields, no_fields, field, exn_number, Env, nothing_bound, bound, value_of, basis_value}
 use Rattle.sml_rules.specs.Eval.{literals_in, giving, perform, enter, eval, bind_pat, eval_decs, is_unit, if_unit}
 use Rattle.sml_rules.specs.Laws.{NeverWrong}
-use Rattle.sml_rules.specs.Meaning.{packet_identifier, begin, meaning}
-use Rattle.sml_rules.specs.Phrases.{Phrase, decs_phrases, first_foreign}
-use Rattle.sml_rules.specs.Typing.{Context, nothing_typed, typed, type_in, basis_type, int_type, string_type, unit_type, pair_type, function_type, prim_type, HasType, constant_has, vid_has, record_has, app_has, no_field_has, field_has, PatHasType, wild_has, variable_has, unit_has, DecHasType, val_has, DecsHaveType, no_dec_has, dec_has}
+use Rattle.sml_rules.specs.Meaning.{packet_identifier, begin}
+use Rattle.sml_rules.specs.Phrases.{Phrase}
+use Rattle.sml_rules.specs.Typing.{Context, nothing_typed, typed, type_in, basis_type, int_type, string_type, unit_type, pair_type, function_type, prim_type, HasType, constant_has, vid_has, record_has, app_has, no_field_has, field_has, PatHasType, wild_has, variable_has, unit_has, val_has, DecsHaveType, no_dec_has, dec_has}
 use Rattle.sml_rules.proofs.Native.{NativeExp, native_int, native_string, native_vid, native_unit, native_app, native_infix, native_prefix, NativePat, native_any, native_variable, native_equals, native_nothing, NativeDecs, native_none, native_val, native-decs}
 
 abbrev mutual

@@ -1,17 +1,17 @@
 -- Typings of trees and of their phrases.
-use Rattle.std.proofs.Common.{◌≡◌, ℕ, Bool, true, false, List, [], ◌∷◌, ◌++◌, Option, Some, None, refl, sym, ap, ◌∙◌, subst, append_assoc}
+use Rattle.std.proofs.Common.{◌≡◌, ℕ, true, false, List, [], ◌∷◌, ◌++◌}
 use Rattle.mlc_base.specs.declared.label.Label.TheVariants.{Number}
 use Rattle.mlc_base.specs.declared.place.Place.{Place}
-use Rattle.sml_tree.specs.declared.ident.Vid.TheVariants.{Named, Equals}
+use Rattle.sml_tree.specs.declared.ident.Vid.TheVariants.{Named}
 use Rattle.std.specs.Prelude.{ℤ}
 use Rattle.sml_tree.specs.Terminal as term
 use Rattle.sml_tree.specs.Derived.{short}
-use Rattle.sml_tree.specs.BareTree.{Exp, constant_exp, vid_exp, app, Dec, wild_pat, vid_pat, fields_pat, no_pat_fields, fields_exp, ExpFields, no_exp_fields, exp_field, Pat, Decs, no_decs, dec, val_dec, no_binds, bind}
+use Rattle.sml_tree.specs.BareTree.{Exp, constant_exp, vid_exp, app, Dec, wild_pat, vid_pat, fields_pat, no_pat_fields, fields_exp, no_exp_fields, exp_field, Pat, Decs, dec, val_dec, no_binds, bind}
 use Rattle.ty_core.specs.Types.{Typ}
 use Rattle.sml_rules.specs.Basis.{is_restricted}
 use Rattle.sml_rules.specs.Laws.{PhrasesAreTyped}
-use Rattle.sml_rules.specs.Phrases.{Phrase, integer, text, identifier, nothing, applies, applies_pair, binds_any, binds, binds_nothing, declares, foreign, decs_phrases, first_foreign}
-use Rattle.sml_rules.specs.Typing.{Context, nothing_typed, typed, type_in, int_type, string_type, unit_type, pair_type, function_type, HasType, constant_has, vid_has, record_has, app_has, HaveTypes, no_field_has, field_has, PatHasType, wild_has, variable_has, unit_has, DecHasType, val_has, DecsHaveType, no_dec_has, dec_has, Elaborates}
+use Rattle.sml_rules.specs.Phrases.{Phrase, integer, text, identifier, nothing, applies, applies_pair, declares}
+use Rattle.sml_rules.specs.Typing.{Context, int_type, string_type, unit_type, pair_type, function_type, HasType, constant_has, vid_has, record_has, app_has, no_field_has, field_has, PatHasType, wild_has, variable_has, unit_has, DecHasType, val_has, DecsHaveType, no_dec_has, dec_has}
 use Rattle.sml_rules.specs.Broken.{Pattern, any, variable, unit, Typed, push, Binding, binds_none, binds_variable, binds_unit, Types, integer_types, text_types, identifier_types, nothing_types, applies_types, prefix_types, infix_types, any_types, variable_types, unit_types, declares_types, AllTypes, no_phrase, next_phrase, nothing_yet}
 use Rattle.sml_rules.proofs.Native.{NativeExp, native_int, native_string, native_vid, native_unit, native_app, native_infix, native_prefix, NativePat, native_any, native_variable, native_equals, native_nothing, NativeDecs, native_none, native_val, native-decs}
 

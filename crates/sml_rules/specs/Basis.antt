@@ -1,5 +1,5 @@
 -- What the path of the standard basis brings so far: `+`, `-` and `*` on int, `^` and `print`. Identifiers are names, and texts tells what each is written as.
-use Rattle.std.specs.Prelude.{ℕ, suc, Bool, true, false, ◌||◌, if◌then◌else◌, List, [], ◌∷◌, map, Option, Some, None, codes, slice_get}
+use Rattle.std.specs.Prelude.{ℕ, suc, Bool, true, false, ◌||◌, if◌then◌else◌, List, [], ◌∷◌, Option, Some, None, codes, slice_get}
 use Rattle.std.specs.Str.{bytes_eq}
 use Rattle.mlc_base.specs.Labels.{held_text}
 use Rattle.mlc_prims.specs.declared.prim.Prim.{Prim as Primitive}

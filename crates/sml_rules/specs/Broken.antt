@@ -1,6 +1,5 @@
 -- The first phrase that breaks a static rule, and which rule.
-use Rattle.std.specs.Prelude.{◌≡◌, ℕ, ◌^◌, ◌<◌, ◌≤◌, ⊤, ℤ, Bool, true, false, List, [], ◌∷◌, ◌++◌, Option, Some, None}
-use Rattle.mlc_base.specs.declared.code.Code.{Code}
+use Rattle.std.specs.Prelude.{◌≡◌, ℕ, ◌^◌, ◌<◌, ◌≤◌, ⊤, ℤ, true, false, List, [], ◌∷◌, ◌++◌, Some, None}
 use Rattle.mlc_base.specs.declared.code.Code.TheVariants.{Unbound, NoTyping, Restriction, NotCompiled, ExpansionTooLarge}
 use Rattle.mlc_base.specs.declared.fault.Fault.{Fault}
 use Rattle.mlc_base.specs.declared.place.Place.{Place}

@@ -1,9 +1,9 @@
 -- Evaluation in the run algebra. [Definition 6.7] An application whose operator isn't written as `fn` takes one turn once operator and argument are values.
 -- A phrase for which there is no case yet goes wrong; the checker refuses it.
-use Rattle.std.specs.Prelude.{ℕ, ℤ, Bool, true, false, List, [], ◌∷◌, ◌++◌, Option, Some, None}
+use Rattle.std.specs.Prelude.{ℕ, Bool, true, false, List, [], ◌∷◌, Option, Some, None}
 use Rattle.mlc_base.specs.Run.{World, Answer, gives, raises, then_do, or_fail, fail, take_turn, writes}
 use Rattle.mlc_base.specs.declared.place.Place.{Place}
-use Rattle.mlc_prims.specs.LitOf.{Literal, int, word, char, string, truth}
+use Rattle.mlc_prims.specs.LitOf.{Literal, int, word, char, string}
 use Rattle.mlc_prims.specs.PrimOf.{Gives, made, raised, prim_of}
 use Rattle.mlc_prims.specs.declared.prim.Prim.{Prim as Primitive}
 use Rattle.mlc_prims.specs.declared.prim.Prim.TheVariants.{Add, Sub, Mul, Cat, Print}
@@ -11,7 +11,7 @@ use Rattle.sml_tree.specs.declared.ident.Vid.{Vid}
 use Rattle.sml_tree.specs.declared.ident.Vid.TheVariants.{Named, Equals, Fresh}
 use Rattle.sml_tree.specs.Terminal as term
 use Rattle.sml_tree.specs.BareTree.{Exp, constant_exp, vid_exp, built_exp, fields_exp, let_in, app, typed, handle, raise, fn, ExpFields, no_exp_fields, exp_field, Pat, wild_pat, constant_pat, vid_pat, built_pat, fields_pat, con_pat, built_con_pat, typed_pat, as_pat, PatFields, no_pat_fields, pat_field, Decs, no_decs, dec, Dec, val_dec, type_dec, datatype_dec, replicate_dec, exception_dec, local_dec, open_dec, sequence_dec, Binds, no_binds, bind}
-use Rattle.sml_rules.specs.Values.{Value, literal, record_of, primitive, packet, Fields, no_fields, field, unit_value, exn_number, field_at, Env, nothing_bound, bound, value_of}
+use Rattle.sml_rules.specs.Values.{Value, literal, record_of, primitive, packet, Fields, no_fields, field, unit_value, exn_number, field_at, Env, bound, value_of}
 
 abbrev pub constant_value : term.Constant → Value
 constant_value (term.int z) = literal (int z)

@@ -1,17 +1,15 @@
 -- Core typing: a relation that guesses types. [Definition 4.10] A phrase for which there is no rule yet has no typing.
-use Rattle.std.specs.Prelude.{◌≡◌, ℕ, true, false, List, [], ◌∷◌, Option, Some, None, nat_eq, if◌then◌else◌}
+use Rattle.std.specs.Prelude.{◌≡◌, ℕ, false, List, [], ◌∷◌, Option, Some, None, nat_eq, if◌then◌else◌}
 use Rattle.mlc_base.specs.declared.label.Label.{Label}
 use Rattle.mlc_base.specs.declared.label.Label.TheVariants.{Number}
 use Rattle.mlc_base.specs.declared.place.Place.{Place}
 use Rattle.mlc_prims.specs.declared.prim.Prim.{Prim as Primitive}
 use Rattle.mlc_prims.specs.declared.prim.Prim.TheVariants.{Add, Sub, Mul, Cat, Print}
-use Rattle.sml_tree.specs.declared.ident.Vid.{Vid}
 use Rattle.sml_tree.specs.declared.ident.Vid.TheVariants.{Named}
 use Rattle.sml_tree.specs.Terminal as term
 use Rattle.sml_tree.specs.Derived.{short}
-use Rattle.sml_tree.specs.BareTree.{Exp, constant_exp, vid_exp, fields_exp, app, ExpFields, no_exp_fields, exp_field, Pat, wild_pat, vid_pat, fields_pat, no_pat_fields, Decs, no_decs, dec, Dec, val_dec, Binds, no_binds, bind}
-use Rattle.ty_core.specs.Types.{Typ, con, Typs, none, more, Symbol, arrow, labels, name}
-use Rattle.ty_core.specs.declared.name.TyName.{TyName}
+use Rattle.sml_tree.specs.BareTree.{Exp, constant_exp, vid_exp, fields_exp, app, ExpFields, no_exp_fields, exp_field, Pat, wild_pat, vid_pat, fields_pat, no_pat_fields, Decs, no_decs, dec, Dec, val_dec, no_binds, bind}
+use Rattle.ty_core.specs.Types.{Typ, con, Typs, none, more, arrow, labels, name}
 use Rattle.ty_core.specs.declared.name.Equality.TheVariants.{Always}
 use Rattle.sml_rules.specs.Basis.{text_in, basis_prim, is_restricted}
 
