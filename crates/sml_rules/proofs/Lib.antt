@@ -4,3 +4,4 @@ pub mod Determined
 pub mod Sound
 mod Examples
 mod Growing
+mod Refusals
