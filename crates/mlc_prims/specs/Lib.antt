@@ -1,0 +1,2 @@
+pub mod LitOf
+pub mod PrimOf

@@ -1,4 +1,0 @@
-pub mod Gives
-pub mod Left
-pub mod TypesRead
-pub mod Core

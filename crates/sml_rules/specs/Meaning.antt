@@ -1,0 +1,22 @@
+-- What a source does: its output and its end at m turns. An exception that nothing handles ends it.
+use Rattle.std.specs.Prelude.{ℕ, List, map, Option, None, slice_get}
+use Rattle.mlc_base.specs.Outcome.{Outcome}
+use Rattle.mlc_base.specs.Run.{World, start, outcome_of}
+use Rattle.sml_tree.specs.BareTree.{Decs}
+use Rattle.sml_rules.specs.Basis.{basis_exceptions, identifier_of}
+use Rattle.sml_rules.specs.Values.{Value, literal, record_of, primitive, packet, nothing_bound}
+use Rattle.sml_rules.specs.Eval.{eval_decs}
+
+-- the identifier of a packet's exception
+abbrev pub packet_identifier : Value → World Value → Option ℕ
+packet_identifier (packet n) w = slice_get w.exceptions n
+packet_identifier (literal l) w = None
+packet_identifier (record_of fs) w = None
+packet_identifier (primitive p) w = None
+
+-- before the first turn: the exceptions of the initial basis are made
+abbrev pub begin : List (List ℕ) → ℕ → World Value
+begin texts m = record (start m) { exceptions = map (identifier_of texts) basis_exceptions }
+
+abbrev pub meaning : List (List ℕ) → Decs → ℕ → Outcome
+meaning texts ds m = outcome_of packet_identifier (eval_decs texts nothing_bound ds (begin texts m))

@@ -1,0 +1,97 @@
+-- Core typing: a relation that guesses types. [Definition 4.10] A phrase for which there is no rule yet has no typing.
+use Rattle.std.specs.Prelude.{◌≡◌, ℕ, false, List, [], ◌∷◌, Option, Some, None, nat_eq, if◌then◌else◌}
+use Rattle.mlc_base.specs.declared.label.Label.{Label}
+use Rattle.mlc_base.specs.declared.label.Label.TheVariants.{Number}
+use Rattle.mlc_base.specs.declared.place.Place.{Place}
+use Rattle.mlc_prims.specs.declared.prim.Prim.{Prim as Primitive}
+use Rattle.mlc_prims.specs.declared.prim.Prim.TheVariants.{Add, Sub, Mul, Cat, Print}
+use Rattle.sml_tree.specs.declared.ident.Vid.TheVariants.{Named}
+use Rattle.sml_tree.specs.Terminal as term
+use Rattle.sml_tree.specs.Derived.{short}
+use Rattle.sml_tree.specs.BareTree.{Exp, constant_exp, vid_exp, fields_exp, app, ExpFields, no_exp_fields, exp_field, Pat, wild_pat, vid_pat, fields_pat, no_pat_fields, Decs, no_decs, dec, Dec, val_dec, no_binds, bind}
+use Rattle.ty_core.specs.Types.{Typ, con, Typs, none, more, arrow, labels, name}
+use Rattle.ty_core.specs.declared.name.Equality.TheVariants.{Always}
+use Rattle.sml_rules.specs.Basis.{text_in, basis_prim, is_restricted}
+
+abbrev pub named_type : ℕ → Typ
+named_type n = con (name (record { stamp = n; arity = 0; equality = Always })) none
+
+-- types of the initial basis
+abbrev pub int_type : Typ
+int_type = named_type 0
+
+abbrev pub word_type : Typ
+word_type = named_type 1
+
+abbrev pub char_type : Typ
+char_type = named_type 2
+
+abbrev pub string_type : Typ
+string_type = named_type 3
+
+abbrev pub unit_type : Typ
+unit_type = con (labels []) none
+
+abbrev pub pair_type : Typ → Typ → Typ
+pair_type t u = con (labels (Number 1 ∷ Number 2 ∷ [])) (more t (more u none))
+
+abbrev pub function_type : Typ → Typ → Typ
+function_type t u = con arrow (more t (more u none))
+
+abbrev pub constant_type : term.Constant → Typ
+constant_type (term.int z) = int_type
+constant_type (term.word n) = word_type
+constant_type (term.char n) = char_type
+constant_type (term.string s) = string_type
+
+-- `+`, `-` and `*` are on int so far
+abbrev pub prim_type : Primitive → Typ
+prim_type Add = function_type (pair_type int_type int_type) int_type
+prim_type Sub = function_type (pair_type int_type int_type) int_type
+prim_type Mul = function_type (pair_type int_type int_type) int_type
+prim_type Cat = function_type (pair_type string_type string_type) string_type
+prim_type Print = function_type string_type unit_type
+
+-- types of identifiers, the latest first: what isn't there is what the basis says
+pub data Context : Type 0 where
+  nothing_typed : Context
+  typed : ℕ → Typ → Context → Context
+
+abbrev pub basis_type : Option Primitive → Option Typ
+basis_type None = None
+basis_type (Some p) = Some (prim_type p)
+
+abbrev pub type_in : List (List ℕ) → Context → ℕ → Option Typ
+type_in texts nothing_typed x = basis_type (basis_prim (text_in texts x))
+type_in texts (typed y t c) x = if nat_eq x y then Some t else type_in texts c x
+
+mutual
+  pub data HasType (texts : List (List ℕ)) (c : Context) : Exp → Typ → Type 0 where
+    constant_has : (p : Place) (k : term.Constant) → HasType texts c (constant_exp p k) (constant_type k)
+    vid_has : (p : Place) (x : ℕ) {t : Typ} → type_in texts c x ≡ Some t → HasType texts c (vid_exp p (short (Named x))) t
+    record_has : (p : Place) {fs : ExpFields} {ls : List Label} {ts : Typs} → HaveTypes texts c fs ls ts → HasType texts c (fields_exp p fs) (con (labels ls) ts)
+    app_has : (p : Place) {f a : Exp} {t u : Typ} → HasType texts c f (function_type t u) → HasType texts c a t → HasType texts c (app p f a) u
+
+  pub data HaveTypes (texts : List (List ℕ)) (c : Context) : ExpFields → List Label → Typs → Type 0 where
+    no_field_has : HaveTypes texts c no_exp_fields [] none
+    field_has : (l : Label) {e : Exp} {fs : ExpFields} {t : Typ} {ls : List Label} {ts : Typs} → HasType texts c e t → HaveTypes texts c fs ls ts →
+        HaveTypes texts c (exp_field l e fs) (l ∷ ls) (more t ts)
+
+-- a pattern of a type, and the context with its bindings; no restriction is broken
+pub data PatHasType (texts : List (List ℕ)) (c : Context) : Pat → Typ → Context → Type 0 where
+  wild_has : (p : Place) (t : Typ) → PatHasType texts c (wild_pat p) t c
+  variable_has : (p : Place) (x : ℕ) (t : Typ) → is_restricted texts (Named x) ≡ false → PatHasType texts c (vid_pat p (short (Named x))) t (typed x t c)
+  unit_has : (p : Place) → PatHasType texts c (fields_pat p no_pat_fields false) unit_type c
+
+-- a declaration, and the context after it. A binding without variables of types has nothing to generalise.
+pub data DecHasType (texts : List (List ℕ)) (c : Context) : Dec → Context → Type 0 where
+  val_has : (p q : Place) {a : Pat} {e : Exp} {t : Typ} {c' : Context} → HasType texts c e t → PatHasType texts c a t c' →
+      DecHasType texts c (val_dec p [] (bind q a e no_binds) no_binds) c'
+
+pub data DecsHaveType (texts : List (List ℕ)) : Context → Decs → Context → Type 0 where
+  no_dec_has : (c : Context) → DecsHaveType texts c no_decs c
+  dec_has : {c c' c'' : Context} {d : Dec} {ds : Decs} → DecHasType texts c d c' → DecsHaveType texts c' ds c'' → DecsHaveType texts c (dec d ds) c''
+
+-- the source elaborates
+abbrev pub Elaborates : List (List ℕ) → Decs → Type 0
+Elaborates texts ds = (c : Context) × DecsHaveType texts nothing_typed ds c

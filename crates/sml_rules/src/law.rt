@@ -1,0 +1,23 @@
+// Laws of the rules, as contracts.
+
+ghost use Rattle.sml_rules.specs.Laws.{PhrasesAreTyped, BrokenIsUntyped, NeverWrong, MeaningGrows};
+
+/// A source elaborates exactly where its phrases have a typing one after the other.
+pub fn phrases_are_typed()
+    ensures { PhrasesAreTyped }
+{}
+
+/// No source that elaborates has a phrase that breaks a rule.
+pub fn broken_is_untyped()
+    ensures { BrokenIsUntyped }
+{}
+
+/// A source that elaborates never goes wrong.
+pub fn never_wrong()
+    ensures { NeverWrong }
+{}
+
+/// With more turns the output goes on from what it was, and an end other than going stays.
+pub fn meaning_grows()
+    ensures { MeaningGrows }
+{}
