@@ -3,3 +3,4 @@ pub mod Marks
 pub mod TypesOf
 pub mod Statics
 pub mod StaticsOf
+pub mod Laws
