@@ -1,11 +1,11 @@
 -- Look-up in a modified map.
-use Rattle.std.proofs.Common.{◌≡◌, ◌≢◌, ℕ, Bool, true, false, not, List, [], ◌∷◌, ◌++◌, map, Option, Some, None, nat_eq, ◌⊎◌, inl, inr, refl, sym, ap, ◌∙◌}
+use Rattle.std.proofs.Common.{◌≡◌, ◌≢◌, ℕ, Bool, true, false, not, [], ◌∷◌, ◌++◌, map, Option, Some, None, nat_eq, ◌⊎◌, inl, inr, refl, sym, ap, ◌∙◌}
 use Rattle.std.specs.Prelude.{filter, unwrap_or, is_some, cond}
 use Rattle.std.specs.Option.{option_or, option_map}
 use Rattle.std.specs.Map.{lookup}
 use Rattle.std.proofs.lemmas.Bool.Decides.{eqb_tells}
 use Rattle.ty_core.specs.Laws.{LaterWins}
-use Rattle.ty_core.specs.Statics.{Map, Env, Structures, no_structures, structure, at, has_key, plus, structures_of, structure_map, values, types, structures}
+use Rattle.ty_core.specs.Statics.{Map, Env, at, has_key, plus, structures_of, structure_map, values, types, structures}
 
 lookup-append : {A : Type 0} (t : ℕ → Bool) (f g : Map A) → lookup t (f ++ g) ≡ option_or (lookup t f) (lookup t g)
 lookup-append t [] g = refl
@@ -67,6 +67,7 @@ map-structures (e ∷ f) = ap (λ g. e ∷ g) (map-structures f)
 
 pub later-wins : LaterWins
 later-wins e d x = record {
-    value = at-plus (values e) (values d) x;
-    ty = at-plus (types e) (types d) x;
-    structure = ap (λ f. at f x) (map-structures (plus (structures e) (structures d))) ∙ at-plus (structures e) (structures d) x }
+  value = at-plus (values e) (values d) x;
+  ty = at-plus (types e) (types d) x;
+  structure = ap (λ f. at f x) (map-structures (plus (structures e) (structures d))) ∙ at-plus (structures e) (structures d) x;
+}

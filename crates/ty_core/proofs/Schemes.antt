@@ -1,9 +1,9 @@
 -- Instances of schemes, and type names as functions.
-use Rattle.std.proofs.Common.{◌≡◌, ℕ, zero, suc, ◌+◌, Bool, true, false, Option, Some, None, nat_eq, refl, sym, ap, ◌∙◌, arith}
+use Rattle.std.proofs.Common.{◌≡◌, ℕ, suc, ◌+◌, Some, None, refl, sym, ap, ◌∙◌, arith}
 use Rattle.std.specs.Prelude.{unwrap_or, cond}
 use Rattle.std.proofs.lemmas.Bool.{eq-eqb}
 use Rattle.ty_core.specs.Types.{Typ, var, con, Typs, none, more, name}
-use Rattle.ty_core.specs.Statics.{replace, replace_all, argument, count, variables, Generalises, monomorphic}
+use Rattle.ty_core.specs.Statics.{replace, replace_all, argument, count, variables}
 use Rattle.ty_core.specs.Laws.{MonomorphicIsItself, NamesGiveTheirTypes}
 
 mutual

@@ -2,7 +2,7 @@
 use Rattle.std.specs.Prelude.{◌≡◌, ◌↔◌, ℕ, Bool, Some}
 use Rattle.std.specs.Option.{option_or}
 use Rattle.ty_core.specs.Types.{Typ, Typs, con, name}
-use Rattle.ty_core.specs.Statics.{Map, Env, plus, plus_env, value_in, type_in, structure_in, Generalises, monomorphic, apply, named, count}
+use Rattle.ty_core.specs.Statics.{Env, plus_env, value_in, type_in, structure_in, Generalises, monomorphic, apply, named, count}
 use Rattle.ty_core.specs.declared.name.TyName.{TyName}
 
 -- E + E' has at an identifier what E' has, and where E' has nothing what E has

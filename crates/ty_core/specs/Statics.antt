@@ -1,5 +1,5 @@
 -- The semantic objects of the static semantics (sections 4.2 to 4.5 and 5.1 of the Definition). An identifier is the number of its name.
-use Rattle.std.specs.Prelude.{◌≡◌, ℕ, zero, suc, Bool, true, false, ◌||◌, not, nat_eq, nat_lt, if◌then◌else◌, List, [], ◌∷◌, ◌++◌, map, filter, Option, Some, None, unwrap_or, is_some, ⊤}
+use Rattle.std.specs.Prelude.{◌≡◌, ℕ, zero, suc, Bool, false, ◌||◌, not, nat_eq, nat_lt, if◌then◌else◌, List, [], ◌∷◌, ◌++◌, map, filter, Option, Some, None, unwrap_or, is_some, ⊤}
 use Rattle.std.specs.Map.{lookup}
 use Rattle.std.specs.Option.{option_and_then}
 use Rattle.ty_core.specs.Types.{Typ, var, con, Typs, none, more, name, admits}
@@ -183,7 +183,8 @@ no_basis = record { body = no_env; signatures = []; functors = []; fixities = []
 
 abbrev pub plus_basis : Basis → Basis → Basis
 plus_basis b c = record {
-    body = plus_env b.body c.body;
-    signatures = plus b.signatures c.signatures;
-    functors = plus b.functors c.functors;
-    fixities = plus b.fixities c.fixities }
+  body = plus_env b.body c.body;
+  signatures = plus b.signatures c.signatures;
+  functors = plus b.functors c.functors;
+  fixities = plus b.fixities c.fixities;
+}

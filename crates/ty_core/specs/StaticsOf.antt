@@ -1,5 +1,5 @@
 -- The semantic objects that those of the code stand for.
-use Rattle.std.specs.Prelude.{ℕ, List, map}
+use Rattle.std.specs.Prelude.{ℕ, map}
 use Rattle.indexmap.specs.IndexMap.{IndexMap}
 use Rattle.ty_core.specs.TypesOf.{type_of}
 use Rattle.ty_core.specs.Statics as static
@@ -49,7 +49,8 @@ functor_of f = record { parameter = signature_of f.parameter; result = signature
 
 abbrev pub basis_of : Basis → static.Basis
 basis_of b = record {
-    body = env_of b.env;
-    signatures = map_of signature_of b.signatures;
-    functors = map_of functor_of b.functors;
-    fixities = b.fixities.entries }
+  body = env_of b.env;
+  signatures = map_of signature_of b.signatures;
+  functors = map_of functor_of b.functors;
+  fixities = b.fixities.entries;
+}
