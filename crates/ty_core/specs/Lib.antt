@@ -1,3 +1,6 @@
 pub mod Types
 pub mod Marks
 pub mod TypesOf
+pub mod Statics
+pub mod StaticsOf
+pub mod Laws

@@ -1,8 +1,8 @@
 // Environments and bases.
 
-ghost use Rattle.std.specs.Prelude.{◌≡◌, []};
-ghost use Rattle.indexmap.specs.IndexMap.{IsEmpty};
-ghost use Rattle.ty_core.specs.declared.env.Env.{out-Env};
+ghost use Rattle.std.specs.Prelude.{◌≡◌};
+ghost use Rattle.ty_core.specs.Statics.{no_env, no_basis};
+ghost use Rattle.ty_core.specs.StaticsOf.{env_of, basis_of};
 
 use crate::name::TyName;
 use crate::scheme::{Scheme, TypeFunction};
@@ -83,9 +83,7 @@ pub struct Basis {
 impl Env {
     /// The environment with nothing in it.
     pub fn new(alloc: Global) -> Env
-        ensures values { IsEmpty (out-Env result).values }
-        ensures types { IsEmpty (out-Env result).types }
-        ensures structures { (out-Env result).structures.items ≡ [] }
+        ensures { env_of result ≡ no_env }
     {
         Env {
             values: IndexMap::new(alloc),
@@ -98,12 +96,7 @@ impl Env {
 impl Basis {
     /// The basis with nothing in it.
     pub fn new(alloc: Global) -> Basis
-        ensures values { IsEmpty (out-Env result.env).values }
-        ensures types { IsEmpty (out-Env result.env).types }
-        ensures structures { (out-Env result.env).structures.items ≡ [] }
-        ensures signatures { IsEmpty result.signatures }
-        ensures functors { IsEmpty result.functors }
-        ensures fixities { IsEmpty result.fixities }
+        ensures { basis_of result ≡ no_basis }
     {
         Basis {
             env: Env::new(alloc),

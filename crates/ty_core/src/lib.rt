@@ -2,6 +2,7 @@
 #![tactic(auto)]
 
 pub mod env;
+pub mod law;
 pub mod mark;
 pub mod name;
 pub mod scheme;
