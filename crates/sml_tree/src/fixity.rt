@@ -1,6 +1,6 @@
 // Fixities.
 
-ghost use Rattle.std.specs.Prelude.{◌≡◌, ◌≤◌, ◌∷◌, [], ◌++◌, ◌-◌, length, take, IfOk};
+ghost use Rattle.std.specs.Prelude.{◌≡◌, ◌≤◌, ◌∷◌, [], ◌++◌, ◌-◌, length, take, IfOk, OnErr};
 ghost use Rattle.sml_tree.specs.Fixity.{fix_of, is_vid, directives_for};
 
 use crate::ident::Vid;
@@ -96,6 +96,15 @@ impl Fixities {
                 status,
             })?;
         }
+        Ok(())
+    }
+
+    /// Puts one directive in force, of any identifier.
+    pub fn put(&mut self, status: Option<Infix>, vid: Vid) -> Result<(), NoMemory>
+        ensures ok { IfOk result (λ _. self.new ≡ record { vid = vid; status = status } ∷ self.old) }
+        ensures err { OnErr result (self.new ≡ self.old) }
+    {
+        self.directives.push(Directive { vid, status })?;
         Ok(())
     }
 

@@ -181,5 +181,7 @@ fn directives_end_with_their_scope(rt: HostRuntime) -> Result<(), Fail> {
     assert!(rt; outer.of(&Vid::Named(times)) == Some(seven));
     assert!(rt; outer.of(&Vid::Equals) == None);
     assert_eq!(rt; outer.len(), 2);
+    outer.put(Some(seven), Vid::Equals)?;
+    assert!(rt; outer.of(&Vid::Equals) == Some(seven));
     Ok(())
 }
