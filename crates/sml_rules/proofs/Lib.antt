@@ -4,5 +4,5 @@ pub mod Determined
 pub mod Sound
 mod Examples
 mod Growing
-mod Names
+pub mod Names
 mod Refusals
