@@ -7,7 +7,7 @@ use Rattle.sml_rules.specs.Basis.{is_restricted}
 use Rattle.sml_rules.specs.Laws.{BrokenIsUntyped}
 use Rattle.sml_rules.specs.Phrases.{Phrase, identifier, applies, applies_pair, binds}
 use Rattle.sml_rules.specs.Typing.{Context, type_in, function_type, pair_type}
-use Rattle.sml_rules.specs.Broken.{Pattern, any, Typed, push, Binding, binds_none, binds_variable, binds_unit, Types, integer_types, text_types, identifier_types, nothing_types, applies_types, prefix_types, infix_types, any_types, variable_types, unit_types, declares_types, AllTypes, no_phrase, next_phrase, nothing_yet, Breaks, is_unbound, is_never_bound, has_no_typing}
+use Rattle.sml_rules.specs.Broken.{Pattern, any, Typed, push, Binding, binds_none, binds_variable, binds_unit, Types, integer_types, text_types, identifier_types, nothing_types, applies_types, prefix_types, infix_types, any_types, variable_types, unit_types, declares_types, basis_types, AllTypes, no_phrase, next_phrase, nothing_yet, Breaks, is_unbound, is_never_bound, has_no_typing}
 use Rattle.sml_rules.proofs.Typings.{phrases-are-typed, all-split}
 
 same-some : {A : Type 0} (a b : A) → Some a ≡ Some b → a ≡ b
@@ -67,6 +67,7 @@ module _ (texts : List (List ℕ)) where
   one-typing (variable_types s p x e) (variable_types s0 p0 x0 e0) = refl
   one-typing (unit_types s p) (unit_types s0 p0) = refl
   one-typing (declares_types p c c' a t ts b) (declares_types p0 c0 c1 a0 t0 ts0 b0) = ap (λ z. record { context = z; pattern = any; types = ts }) (one-binding b b0)
+  one-typing (basis_types s) (basis_types s0) = refl
 
   all-one : {s s' s'' : Typed} (xs : List Phrase) → AllTypes texts s xs s' → AllTypes texts s xs s'' → s' ≡ s''
   all-one [] (no_phrase s) (no_phrase s0) = refl
@@ -87,8 +88,8 @@ module _ (texts : List (List ℕ)) where
   first-of (next_phrase {s' = s1} t a) = (s1, t)
 
 pub broken-is-untyped : BrokenIsUntyped
-broken-is-untyped texts ds f n b el =
-    let all = (phrases-are-typed texts ds n).0 el in
+broken-is-untyped texts parts f n b el =
+    let all = (phrases-are-typed texts parts n).0 el in
     let cut = all-split texts b.before (b.broken ∷ b.after) (subst (λ z. AllTypes texts nothing_yet z all.0) b.are all.1) in
     let same = all-one texts b.before cut.1 b.typed in
     let first = first-of texts (subst (λ z. AllTypes texts z (b.broken ∷ b.after) all.0) same cut.2) in

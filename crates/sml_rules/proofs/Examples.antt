@@ -1,14 +1,20 @@
--- Worked examples: phrases in order, typings, refusals and meanings of small sources.
-use Rattle.std.proofs.Common.{◌≡◌, ℕ, List, [], ◌∷◌, Some, true, refl, codes}
+-- Worked examples: phrases in order, typings, refusals and meanings of small projects.
+use Rattle.std.proofs.Common.{◌≡◌, ℕ, ◌≤◌, arith, List, [], ◌∷◌, Some, None, true, refl, codes}
 use Rattle.std.specs.Prelude.{pos}
 use Rattle.mlc_base.specs.declared.place.Place.{Place}
 use Rattle.mlc_base.specs.Outcome.{ended, uncaught, going}
-use Rattle.sml_tree.specs.declared.ident.Vid.TheVariants.{Named}
+use Rattle.sml_tree.specs.declared.ident.Vid.TheVariants.{Named, Equals}
+use Rattle.sml_tree.specs.Fixity.{fix_of}
 use Rattle.sml_tree.specs.Terminal.{int, string}
 use Rattle.sml_tree.specs.Derived.{short, infix_app, tuple_pat, if_of}
-use Rattle.sml_tree.specs.BareTree.{Exp, constant_exp, vid_exp, app, vid_pat, Dec, val_dec, bind, no_binds, Decs, no_decs, dec}
+use Rattle.sml_tree.specs.BareTree.{Exp, constant_exp, vid_exp, app, Pat, vid_pat, Dec, val_dec, bind, no_binds, no_decs, dec}
+use Rattle.sml_rules.specs.Project.{Part, standard_basis, source}
 use Rattle.sml_rules.specs.Meaning.{meaning}
-use Rattle.sml_rules.specs.Phrases.{integer, text, identifier, applies, applies_pair, binds, binds_nothing, declares, dec_phrases, first_foreign, nodes_in}
+use Rattle.sml_rules.specs.Phrases.{integer, text, identifier, applies, applies_pair, binds, binds_nothing, declares, brings_basis, dec_phrases, parts_phrases, first_foreign, nodes_in}
+use Rattle.sml_rules.specs.Basis.{identifier_of, infix_left, infix_right, standard_fixities, basis_words, IsTable}
+use Rattle.sml_rules.specs.Broken.{max_nodes, IsAccepted}
+use Rattle.sml_rules.specs.Typing.{Elaborates, constant_has, vid_has, app_has, variable_has, unit_has, val_has, no_dec_has, dec_has, no_part_has, basis_has, source_has}
+use Rattle.sml_rules.proofs.Names.{texts-apart, contains-own}
 
 -- the names of the sources: print, +, x, and the exceptions of the basis
 abbrev names : List (List ℕ)
@@ -38,8 +44,8 @@ print_dec = val_dec (at 0) [] (bind (at 4) (tuple_pat (at 4) []) (app (at 9) (vi
 print_phrases : dec_phrases print_dec ≡ binds_nothing (at 4) ∷ identifier (at 9) 0 ∷ text (at 15) (codes "a") ∷ applies (at 9) ∷ declares (at 0) ∷ []
 print_phrases = refl
 
-abbrev overflows : Decs
-overflows = dec print_dec (dec (sum_dec 2147483647) no_decs)
+abbrev overflows : List Part
+overflows = standard_basis ∷ source (dec print_dec (dec (sum_dec 2147483647) no_decs)) ∷ []
 
 -- `a` is written, and the sum raises Overflow, whose identifier is the fourth name; each application takes a turn
 overflow_output : (meaning names overflows 2).output ≡ codes "a"
@@ -59,9 +65,95 @@ no_turn_output : (meaning names overflows 0).output ≡ []
 no_turn_output = refl
 
 -- a sum that fits
-sum_ends : (meaning names (dec (sum_dec 2) no_decs) 1).end ≡ ended
+sum_ends : (meaning names (standard_basis ∷ source (dec (sum_dec 2) no_decs) ∷ []) 1).end ≡ ended
 sum_ends = refl
 
 -- if x then 1 else 2 is foreign as a whole, at its first byte
 foreign_if : first_foreign (dec_phrases (val_dec (at 0) [] (bind (at 4) (vid_pat (at 4) (short (Named 2))) (if_of (at 8) (vid_exp (at 11) (short (Named 2))) (num 18 1) (num 25 2)) no_binds) no_binds)) ≡ Some (at 8)
 foreign_if = refl
+
+-- Projects of several parts.
+
+abbrev accepted : (parts : List Part) → first_foreign (parts_phrases parts) ≡ None → Elaborates names parts → nodes_in (parts_phrases parts) ≤ max_nodes → IsAccepted names parts
+accepted parts n e s = record { checks = record { native = n; elaborates = e }; small = s }
+
+abbrev val : Pat → Exp → Dec
+val a e = val_dec (at 0) [] (bind (at 4) a e no_binds) no_binds
+
+abbrev variable : ℕ → Pat
+variable x = vid_pat (at 4) (short (Named x))
+
+abbrev name : ℕ → Exp
+name x = vid_exp (at 9) (short (Named x))
+
+abbrev letter : Exp
+letter = constant_exp (at 9) (string (codes "a"))
+
+-- a project of no parts ends, and writes nothing
+empty_accepted : IsAccepted names []
+empty_accepted = accepted [] refl (_, no_part_has _) (omega arith)
+
+empty_meaning : meaning names [] 0 ≡ record { output = []; end = ended; turns = [] }
+empty_meaning = refl
+
+-- the path of the standard basis, and two sources: val x = print; and val () = x "a", which sees what the first one binds
+abbrev two_sources : List Part
+two_sources = standard_basis ∷ source (dec (val (variable 2) (name 0)) no_decs) ∷ source (dec (val (tuple_pat (at 4) []) (app (at 9) (name 2) letter)) no_decs) ∷ []
+
+two_accepted : IsAccepted names two_sources
+two_accepted = accepted two_sources refl (
+  _,
+  basis_has
+      (source_has (dec_has (val_has _ _ (vid_has _ _ refl) (variable_has _ _ _ refl)) (no_dec_has _))
+      (source_has (dec_has (val_has _ _ (app_has _ (vid_has _ _ refl) (constant_has _ _)) (unit_has _)) (no_dec_has _))
+      (no_part_has _))),
+)
+    (omega arith)
+
+two_meaning : meaning names two_sources 1 ≡ record { output = codes "a"; end = ended; turns = at 9 ∷ [] }
+two_meaning = refl
+
+-- val print = "a" val x = print; then the path of the standard basis once more, after which `print` is that of the basis again and x stays: val () = print x
+abbrev rebinds : List Part
+rebinds =
+    standard_basis
+    ∷ source (dec (val (variable 0) letter) (dec (val (variable 2) (name 0)) no_decs))
+    ∷ standard_basis
+    ∷ source (dec (val (tuple_pat (at 4) []) (app (at 9) (name 0) (name 2))) no_decs)
+    ∷ []
+
+rebinds_accepted : IsAccepted names rebinds
+rebinds_accepted = accepted rebinds refl (
+  _,
+  basis_has
+      (source_has (dec_has (val_has _ _ (constant_has _ _) (variable_has _ _ _ refl)) (dec_has (val_has _ _ (vid_has _ _ refl) (variable_has _ _ _ refl)) (no_dec_has _)))
+      (basis_has
+      (source_has (dec_has (val_has _ _ (app_has _ (vid_has _ _ refl) (vid_has _ _ refl)) (unit_has _)) (no_dec_has _))
+      (no_part_has _)))),
+)
+    (omega arith)
+
+rebinds_meaning : meaning names rebinds 1 ≡ record { output = codes "a"; end = ended; turns = at 9 ∷ [] }
+rebinds_meaning = refl
+
+-- the phrases of a project stand part by part
+rebinds_phrases : parts_phrases (standard_basis ∷ source (dec (val (variable 2) (name 0)) no_decs) ∷ standard_basis ∷ []) ≡ brings_basis ∷ binds (at 4) (Named 2) ∷ identifier (at 9) 0 ∷ declares (at 0) ∷ brings_basis ∷ []
+rebinds_phrases = refl
+
+-- Fixities and tables.
+
+-- the words of the standard basis by themselves are a table
+words_are_table : IsTable basis_words
+words_are_table = record { apart = texts-apart basis_words refl; with_basis = contains-own basis_words }
+
+div_binds : fix_of (Named (identifier_of basis_words (codes "div"))) (standard_fixities basis_words) ≡ Some (infix_left 7)
+div_binds = refl
+
+cons_binds : fix_of (Named (identifier_of basis_words (codes "::"))) (standard_fixities basis_words) ≡ Some (infix_right 5)
+cons_binds = refl
+
+equals_binds : fix_of Equals (standard_fixities basis_words) ≡ Some (infix_left 4)
+equals_binds = refl
+
+print_is_nonfix : fix_of (Named (identifier_of basis_words (codes "print"))) (standard_fixities basis_words) ≡ None
+print_is_nonfix = refl

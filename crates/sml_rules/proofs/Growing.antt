@@ -9,10 +9,11 @@ use Rattle.mlc_prims.specs.PrimOf.{Gives, made, raised, prim_of}
 use Rattle.mlc_prims.specs.declared.prim.Prim.{Prim as Primitive}
 use Rattle.mlc_prims.specs.declared.prim.Prim.TheVariants.{Add, Sub, Mul, Cat, Print}
 use Rattle.sml_tree.specs.BareTree.{Exp, constant_exp, vid_exp, built_exp, fields_exp, let_in, app, typed, handle, raise, fn, ExpFields, no_exp_fields, exp_field, Decs, no_decs, dec, Dec, val_dec, type_dec, datatype_dec, replicate_dec, exception_dec, local_dec, open_dec, sequence_dec, Binds, no_binds, bind}
+use Rattle.sml_rules.specs.Project.{Part, standard_basis, source}
 use Rattle.sml_rules.specs.Laws.{IsPrefix, GrowsTo, MeaningGrows}
 use Rattle.sml_rules.specs.Meaning.{packet_identifier, begin}
-use Rattle.sml_rules.specs.Values.{Value, literal, record_of, primitive, packet, field, Env, nothing_bound}
-use Rattle.sml_rules.specs.Eval.{long_value, giving, print_literals, perform, enter, literals_in, bind_pat, eval, eval_fields, eval_binds, eval_val, eval_dec, eval_decs}
+use Rattle.sml_rules.specs.Values.{Value, literal, record_of, primitive, packet, field, Env, nothing_bound, basis_bound}
+use Rattle.sml_rules.specs.Eval.{long_value, giving, print_literals, perform, enter, literals_in, bind_pat, eval, eval_fields, eval_binds, eval_val, eval_dec, eval_decs, eval_parts}
 
 prefix-refl : (o : List ℕ) → IsPrefix o o
 prefix-refl o = ([], sym (append-nil o))
@@ -221,6 +222,16 @@ module _ (texts : List (List ℕ)) where
   decs-follow env no_decs w w' x = both_give _ x
   decs-follow env (dec d ds) w w' x = then-follows (λ env w. eval_decs texts env ds w) (dec-follows env d w w' x) (λ env' u. decs-grow env' ds u) (λ env' u u' y. decs-follow env' ds u u' y)
 
+  parts-grow : (env : Env) (parts : List Part) (w : World Value) → Grows w (eval_parts texts env parts w)
+  parts-grow env [] w = prefix-refl w.output
+  parts-grow env (standard_basis ∷ parts) w = parts-grow (basis_bound env) parts w
+  parts-grow env (source ds ∷ parts) w = then-grows w (eval_decs texts env ds w) (λ env w. eval_parts texts env parts w) (decs-grow env ds w) (λ env' u. parts-grow env' parts u)
+
+  parts-follow : (env : Env) (parts : List Part) (w w' : World Value) → Wider w w' → Follows (eval_parts texts env parts w) (eval_parts texts env parts w')
+  parts-follow env [] w w' x = both_give _ x
+  parts-follow env (standard_basis ∷ parts) w w' x = parts-follow (basis_bound env) parts w w' x
+  parts-follow env (source ds ∷ parts) w w' x = then-follows (λ env w. eval_parts texts env parts w) (decs-follow env ds w w' x) (λ env' u. parts-grow env' parts u) (λ env' u u' y. parts-follow env' parts u u' y)
+
 abbrev out_of : {A : Type 0} → Answer Value A → Outcome
 out_of r = outcome_of packet_identifier r
 
@@ -248,4 +259,4 @@ grown (both_wrong {w = w} {w' = w'} x) = record { output = same-prefix w.output 
 grown (cut_short w r k) = record { output = subst (IsPrefix w.output) (sym (out-output r)) k; end = λ h. absurd (h refl) }
 
 pub meaning-grows : MeaningGrows
-meaning-grows texts ds m n le = grown (decs-follow texts nothing_bound ds (begin texts m) (begin texts n) (record { same = refl; more = le }))
+meaning-grows texts parts m n le = grown (parts-follow texts nothing_bound parts (begin texts m) (begin texts n) (record { same = refl; more = le }))

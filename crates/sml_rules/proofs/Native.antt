@@ -1,4 +1,4 @@
--- Expressions of the language that is compiled so far, with their phrases.
+-- Expressions, declarations and projects of the language that is compiled so far, with their phrases.
 use Rattle.std.proofs.Common.{◌≡◌, ℕ, Bool, true, false, ◌&&◌, if◌then◌else◌, List, [], ◌∷◌, ◌++◌, Some, None, refl, sym, ap, subst}
 use Rattle.std.proofs.lemmas.Bool.{eqb-true}
 use Rattle.mlc_base.specs.declared.label.Label.{Label}
@@ -10,8 +10,9 @@ use Rattle.sml_tree.specs.declared.ident.Vid.TheVariants.{Named, Equals, Fresh}
 use Rattle.sml_tree.specs.Terminal as term
 use Rattle.sml_tree.specs.Derived.{short}
 use Rattle.sml_tree.specs.BareTree.{Exp, constant_exp, vid_exp, built_exp, fields_exp, let_in, app, typed, handle, raise, fn, ExpFields, no_exp_fields, exp_field, Pat, wild_pat, constant_pat, vid_pat, built_pat, fields_pat, con_pat, built_con_pat, typed_pat, as_pat, PatFields, no_pat_fields, pat_field, Decs, no_decs, dec, Dec, val_dec, type_dec, datatype_dec, replicate_dec, exception_dec, local_dec, open_dec, sequence_dec, no_binds, bind}
+use Rattle.sml_rules.specs.Project.{Part, standard_basis, source}
 use Rattle.sml_rules.specs.Values.{is_number}
-use Rattle.sml_rules.specs.Phrases.{Phrase, integer, text, identifier, nothing, applies, applies_pair, binds_any, binds, binds_nothing, declares, foreign, Shape, one, pair, phrases_in, FieldPhrases, record_shape, same_place, pair_phrases, applied_phrases, is_vid, is_made, unless_made, shape, field_phrases, exp_phrases, pat_phrase, dec_phrases, decs_phrases, first_foreign}
+use Rattle.sml_rules.specs.Phrases.{Phrase, integer, text, identifier, nothing, applies, applies_pair, binds_any, binds, binds_nothing, declares, brings_basis, foreign, Shape, one, pair, phrases_in, FieldPhrases, record_shape, same_place, pair_phrases, applied_phrases, is_vid, is_made, unless_made, shape, field_phrases, exp_phrases, pat_phrase, dec_phrases, decs_phrases, parts_phrases, first_foreign}
 
 pub data NativeExp : Exp → List Phrase → Type 0 where
   native_int : (p : Place) (z : ℤ) → NativeExp (constant_exp p (term.int z)) (integer p z ∷ [])
@@ -35,6 +36,11 @@ pub data NativeDecs : Decs → List Phrase → Type 0 where
   native_val : (p q : Place) {a : Pat} {x : Phrase} {e : Exp} {es : List Phrase} {ds : Decs} {xs : List Phrase} → NativePat a x → NativeExp e es → NativeDecs ds xs →
       NativeDecs (dec (val_dec p [] (bind q a e no_binds) no_binds) ds) ((x ∷ (es ++ declares p ∷ [])) ++ xs)
 
+pub data NativeParts : List Part → List Phrase → Type 0 where
+  native_end : NativeParts [] []
+  native_basis : {parts : List Part} {xs : List Phrase} → NativeParts parts xs → NativeParts (standard_basis ∷ parts) (brings_basis ∷ xs)
+  native_source : {ds : Decs} {xs ys : List Phrase} {parts : List Part} → NativeDecs ds xs → NativeParts parts ys → NativeParts (source ds ∷ parts) (xs ++ ys)
+
 -- Foreign phrases of lists.
 
 pub foreign-front : (xs ys : List Phrase) → first_foreign (xs ++ ys) ≡ None → first_foreign xs ≡ None
@@ -49,6 +55,7 @@ foreign-front (binds_any p ∷ xs) ys e = foreign-front xs ys e
 foreign-front (binds p v ∷ xs) ys e = foreign-front xs ys e
 foreign-front (binds_nothing p ∷ xs) ys e = foreign-front xs ys e
 foreign-front (declares p ∷ xs) ys e = foreign-front xs ys e
+foreign-front (brings_basis ∷ xs) ys e = foreign-front xs ys e
 foreign-front (foreign p ∷ xs) ys e = e
 
 pub foreign-back : (xs ys : List Phrase) → first_foreign (xs ++ ys) ≡ None → first_foreign ys ≡ None
@@ -63,6 +70,7 @@ foreign-back (binds_any p ∷ xs) ys e = foreign-back xs ys e
 foreign-back (binds p v ∷ xs) ys e = foreign-back xs ys e
 foreign-back (binds_nothing p ∷ xs) ys e = foreign-back xs ys e
 foreign-back (declares p ∷ xs) ys e = foreign-back xs ys e
+foreign-back (brings_basis ∷ xs) ys e = foreign-back xs ys e
 foreign-back (foreign p ∷ xs) ys e = absurd (no-some e)
   where
     no-some : Some p ≡ None → ⊥
@@ -181,7 +189,7 @@ mutual
 pub native-exp : (e : Exp) → first_foreign (exp_phrases e) ≡ None → NativeExp e (exp_phrases e)
 native-exp e n = one-native e (shape e) (native-shape e) n
 
--- Patterns and declarations.
+-- Patterns, declarations and projects.
 
 vid-pat-native : (p : Place) (qs : List ℕ) (v : Vid) → first_foreign (pat_phrase (vid_pat p (record { qualifiers = qs; vid = v })) ∷ []) ≡ None → NativePat (vid_pat p (record { qualifiers = qs; vid = v })) (pat_phrase (vid_pat p (record { qualifiers = qs; vid = v })))
 vid-pat-native p [] (Named x) n = native_variable p x
@@ -225,3 +233,9 @@ dec-native (sequence_dec p es) ds xs n rest = absurd (no-foreign p [] n)
 pub native-decs : (ds : Decs) → first_foreign (decs_phrases ds) ≡ None → NativeDecs ds (decs_phrases ds)
 native-decs no_decs n = native_none
 native-decs (dec d ds) n = dec-native d ds (decs_phrases ds) (foreign-front (dec_phrases d) (decs_phrases ds) n) (native-decs ds (foreign-back (dec_phrases d) (decs_phrases ds) n))
+
+pub native-parts : (parts : List Part) → first_foreign (parts_phrases parts) ≡ None → NativeParts parts (parts_phrases parts)
+native-parts [] n = native_end
+native-parts (standard_basis ∷ parts) n = native_basis (native-parts parts n)
+native-parts (source ds ∷ parts) n =
+    native_source (native-decs ds (foreign-front (decs_phrases ds) (parts_phrases parts) n)) (native-parts parts (foreign-back (decs_phrases ds) (parts_phrases parts) n))

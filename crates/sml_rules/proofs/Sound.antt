@@ -1,4 +1,4 @@
--- A source that elaborates never goes wrong.
+-- A project that elaborates never goes wrong.
 use Rattle.std.proofs.Common.{◌≡◌, ◌≢◌, ℕ, zero, suc, Bool, true, false, if◌then◌else◌, List, [], ◌∷◌, ◌++◌, Option, Some, None, refl, sym, ap, ◌∙◌, subst, arith}
 use Rattle.std.specs.Prelude.{ℤ, ◌+ℤ◌, ◌-ℤ◌, ◌*ℤ◌, ◌+◌, length, slice_get, map, nat_eq, nat_le, option_map, codes}
 use Rattle.mlc_base.specs.declared.label.Label.TheVariants.{Number}
@@ -14,14 +14,15 @@ use Rattle.mlc_prims.specs.declared.prim.PrimExn.TheVariants.{Overflow, Div, Sub
 use Rattle.sml_tree.specs.BareTree.{Exp, fields_exp, no_exp_fields, exp_field, Pat, Decs}
 use Rattle.ty_core.specs.Types.{Typ, var, con, Typs, none, more, Symbol, arrow, labels, name}
 use Rattle.mlc_base.specs.declared.label.Label.{Label}
+use Rattle.sml_rules.specs.Project.{Part}
 use Rattle.sml_rules.specs.Basis.{text_in, basis_prim, basis_exceptions, identifier_of}
-use Rattle.sml_rules.specs.Values.{Value, literal, record_of, primitive, packet, Fields, no_fields, field, exn_number, Env, nothing_bound, bound, value_of, basis_value}
-use Rattle.sml_rules.specs.Eval.{literals_in, giving, perform, enter, eval, bind_pat, eval_decs, is_unit, if_unit}
+use Rattle.sml_rules.specs.Values.{Value, literal, record_of, primitive, packet, Fields, no_fields, field, exn_number, Env, nothing_bound, bound, basis_bound, value_of, basis_value}
+use Rattle.sml_rules.specs.Eval.{literals_in, giving, perform, enter, eval, bind_pat, eval_decs, eval_parts, is_unit, if_unit}
 use Rattle.sml_rules.specs.Laws.{NeverWrong}
 use Rattle.sml_rules.specs.Meaning.{packet_identifier, begin}
 use Rattle.sml_rules.specs.Phrases.{Phrase}
-use Rattle.sml_rules.specs.Typing.{Context, nothing_typed, typed, type_in, basis_type, int_type, string_type, unit_type, pair_type, function_type, prim_type, HasType, constant_has, vid_has, record_has, app_has, no_field_has, field_has, PatHasType, wild_has, variable_has, unit_has, val_has, DecsHaveType, no_dec_has, dec_has}
-use Rattle.sml_rules.proofs.Native.{NativeExp, native_int, native_string, native_vid, native_unit, native_app, native_infix, native_prefix, NativePat, native_any, native_variable, native_equals, native_nothing, NativeDecs, native_none, native_val, native-decs}
+use Rattle.sml_rules.specs.Typing.{Context, nothing_typed, typed, basis_typed, type_in, basis_type, int_type, string_type, unit_type, pair_type, function_type, prim_type, HasType, constant_has, vid_has, record_has, app_has, no_field_has, field_has, PatHasType, wild_has, variable_has, unit_has, val_has, DecsHaveType, no_dec_has, dec_has, PartsHaveType, no_part_has, basis_has, source_has}
+use Rattle.sml_rules.proofs.Native.{NativeExp, native_int, native_string, native_vid, native_unit, native_app, native_infix, native_prefix, NativePat, native_any, native_variable, native_equals, native_nothing, NativeDecs, native_none, native_val, NativeParts, native_end, native_basis, native_source, native-parts}
 
 abbrev mutual
   pub HasValue : Value → Typ → Type 0
@@ -153,12 +154,15 @@ module _ (texts : List (List ℕ)) where
   abbrev pub EnvHas : Env → Context → Type 0
   EnvHas env c = (x : ℕ) → Found (value_of texts env x) (type_in texts c x)
 
-  basis-found : (o : Option Primitive) → Found (basis_value o) (basis_type o)
-  basis-found None = not_there
-  basis-found (Some p) = is_there (primitive p) (prim_type p) refl
-
   pub nothing-has : EnvHas nothing_bound nothing_typed
-  nothing-has x = basis-found (basis_prim (text_in texts x))
+  nothing-has x = not_there
+
+  basis-found : (o : Option Primitive) (v : Option Value) (t : Option Typ) → Found v t → Found (basis_value o v) (basis_type o t)
+  basis-found None v t before = before
+  basis-found (Some p) v t before = is_there (primitive p) (prim_type p) refl
+
+  pub basis-has : (env : Env) (c : Context) → EnvHas env c → EnvHas (basis_bound env) (basis_typed c)
+  basis-has env c has x = basis-found (basis_prim (text_in texts x)) (value_of texts env x) (type_in texts c x) (has x)
 
   pub bound-has : (env : Env) (c : Context) (v : Value) (t : Typ) (y : ℕ) → EnvHas env c → HasValue v t → EnvHas (bound y v env) (typed y t c)
   bound-has env c v t y has h x = by (nat_eq x y)
@@ -310,6 +314,11 @@ module _ (texts : List (List ℕ)) where
   decs-fine {c = c} env (native_val p q na ne nds) (dec_has (val_has p' q' {c' = c1} he ha) hds) has w e =
       then-fine (then-fine (eval-fine env c has ne he w e) (λ v w' hv e'. pat-fine env v w' na ha has hv e')) (λ env' w' has' e'. decs-fine env' nds hds has' w' e')
 
+  parts-fine : {parts : List Part} {xs : List Phrase} {c c' : Context} (env : Env) → NativeParts parts xs → PartsHaveType texts c parts c' → EnvHas env c → (w : World Value) → w.exceptions ≡ exceptions → Fine (Suits c') (eval_parts texts env parts w)
+  parts-fine env native_end (no_part_has c) has w e = fine_gives has e
+  parts-fine {c = c} env (native_basis nps) (basis_has hps) has w e = parts-fine (basis_bound env) nps hps (basis-has env c has) w e
+  parts-fine env (native_source nds nps) (source_has hds hps) has w e = then-fine (decs-fine env nds hds has w e) (λ env' w' has' e'. parts-fine env' nps hps has' w' e')
+
   -- the end of an answer that isn't wrong
   raised-end : (x : PrimExn) (w : World Value) → w.exceptions ≡ exceptions → uncaught_end (packet_identifier (packet (exn_number x)) w) ≢ wrong
   raised-end Overflow w e h = let k = ap (λ l. uncaught_end (slice_get l 2)) e in let n : uncaught (identifier_of texts (codes "Overflow")) ≡ wrong = sym k ∙ h in cc
@@ -324,4 +333,4 @@ module _ (texts : List (List ℕ)) where
   fine-end fine_stops h = let k : going ≡ wrong = h in cc
 
 pub never-wrong : NeverWrong
-never-wrong texts ds m n el = fine-end texts (decs-fine texts nothing_bound (native-decs ds n) el.1 (nothing-has texts) (begin texts m) refl)
+never-wrong texts parts m n el = fine-end texts (parts-fine texts nothing_bound (native-parts parts n) el.1 (nothing-has texts) (begin texts m) refl)

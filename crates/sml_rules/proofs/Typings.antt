@@ -8,12 +8,13 @@ use Rattle.sml_tree.specs.Terminal as term
 use Rattle.sml_tree.specs.Derived.{short}
 use Rattle.sml_tree.specs.BareTree.{Exp, constant_exp, vid_exp, app, Dec, wild_pat, vid_pat, fields_pat, no_pat_fields, fields_exp, no_exp_fields, exp_field, Pat, Decs, dec, val_dec, no_binds, bind}
 use Rattle.ty_core.specs.Types.{Typ}
+use Rattle.sml_rules.specs.Project.{Part, standard_basis}
 use Rattle.sml_rules.specs.Basis.{is_restricted}
 use Rattle.sml_rules.specs.Laws.{PhrasesAreTyped}
-use Rattle.sml_rules.specs.Phrases.{Phrase, integer, text, identifier, nothing, applies, applies_pair, declares}
-use Rattle.sml_rules.specs.Typing.{Context, int_type, string_type, unit_type, pair_type, function_type, HasType, constant_has, vid_has, record_has, app_has, no_field_has, field_has, PatHasType, wild_has, variable_has, unit_has, DecHasType, val_has, DecsHaveType, no_dec_has, dec_has}
-use Rattle.sml_rules.specs.Broken.{Pattern, any, variable, unit, Typed, push, Binding, binds_none, binds_variable, binds_unit, Types, integer_types, text_types, identifier_types, nothing_types, applies_types, prefix_types, infix_types, any_types, variable_types, unit_types, declares_types, AllTypes, no_phrase, next_phrase, nothing_yet}
-use Rattle.sml_rules.proofs.Native.{NativeExp, native_int, native_string, native_vid, native_unit, native_app, native_infix, native_prefix, NativePat, native_any, native_variable, native_equals, native_nothing, NativeDecs, native_none, native_val, native-decs}
+use Rattle.sml_rules.specs.Phrases.{Phrase, integer, text, identifier, nothing, applies, applies_pair, declares, brings_basis}
+use Rattle.sml_rules.specs.Typing.{Context, int_type, string_type, unit_type, pair_type, function_type, HasType, constant_has, vid_has, record_has, app_has, no_field_has, field_has, PatHasType, wild_has, variable_has, unit_has, DecHasType, val_has, DecsHaveType, no_dec_has, dec_has, PartsHaveType, no_part_has, basis_has, source_has}
+use Rattle.sml_rules.specs.Broken.{Pattern, any, variable, unit, Typed, push, Binding, binds_none, binds_variable, binds_unit, Types, integer_types, text_types, identifier_types, nothing_types, applies_types, prefix_types, infix_types, any_types, variable_types, unit_types, declares_types, basis_types, AllTypes, no_phrase, next_phrase, nothing_yet}
+use Rattle.sml_rules.proofs.Native.{NativeExp, native_int, native_string, native_vid, native_unit, native_app, native_infix, native_prefix, NativePat, native_any, native_variable, native_equals, native_nothing, NativeDecs, native_none, native_val, NativeParts, native_end, native_basis, native_source, native-parts}
 
 module _ (texts : List (List ℕ)) where
   pub all-append : {s s' s'' : Typed} (xs ys : List Phrase) → AllTypes texts s xs s' → AllTypes texts s' ys s'' → AllTypes texts s (xs ++ ys) s''
@@ -137,13 +138,22 @@ module _ (texts : List (List ℕ)) where
   pat-forth (native_nothing p) (unit_has p') ts b = (unit, unit_types _ p, binds_unit)
 
   decs-forth : {ds : Decs} {xs : List Phrase} {c c' : Context} (b : Pattern) (ts : List Typ) → NativeDecs ds xs → DecsHaveType texts c ds c' →
-      (s : Typed) × AllTypes texts (record { context = c; pattern = b; types = ts }) xs s
-  decs-forth b ts native_none (no_dec_has c) = (_, no_phrase _)
+      (b' : Pattern) × AllTypes texts (record { context = c; pattern = b; types = ts }) xs (record { context = c'; pattern = b'; types = ts })
+  decs-forth b ts native_none (no_dec_has c) = (b, no_phrase _)
   decs-forth {c = c} b ts (native_val p q {x = x} {es = es} {xs = xs} na ne nds) (dec_has (val_has p' q' {t = t} {c' = c1} he ha) hds) =
       let pat = pat-forth na ha ts b in
       let open_state : Typed = record { context = c; pattern = pat.0; types = ts } in
       let rest = decs-forth any ts nds hds in
       (rest.0, all-append (x ∷ (es ++ declares p ∷ [])) xs (next_phrase pat.1 (all-append es (declares p ∷ []) (exp-forth open_state ne he) (single (declares_types p c c1 pat.0 t ts pat.2)))) rest.1)
+
+  parts-forth : {parts : List Part} {xs : List Phrase} {c c' : Context} (b : Pattern) (ts : List Typ) → NativeParts parts xs → PartsHaveType texts c parts c' →
+      (b' : Pattern) × AllTypes texts (record { context = c; pattern = b; types = ts }) xs (record { context = c'; pattern = b'; types = ts })
+  parts-forth b ts native_end (no_part_has c) = (b, no_phrase _)
+  parts-forth b ts (native_basis nps) (basis_has hps) = let rest = parts-forth b ts nps hps in (rest.0, next_phrase (basis_types _) rest.1)
+  parts-forth b ts (native_source {xs = xs} {ys = ys} nds nps) (source_has hds hps) =
+      let first = decs-forth b ts nds hds in
+      let rest = parts-forth first.0 ts nps hps in
+      (rest.0, all-append xs ys first.1 rest.1)
 
   -- a pattern that was read
   data IsOpened (a : Pat) (s : Typed) : Typed → Type 0 where
@@ -183,19 +193,26 @@ module _ (texts : List (List ℕ)) where
       IsDeclared (val_dec p [] (bind q a e no_binds) no_binds) s s'
   dec-back na ne (next_phrase t l) = dec-pat ne (pat-back na t) l
 
-  abbrev AreDeclared : Decs → Context → Type 0
-  AreDeclared ds c = (c' : Context) × DecsHaveType texts c ds c'
+  decs-rest : {d : Dec} {ds : Decs} {xs : List Phrase} {s s1 s' : Typed} → ((s2 : Typed) → AllTypes texts s2 xs s' → DecsHaveType texts s2.context ds s'.context) → IsDeclared d s s1 → AllTypes texts s1 xs s' →
+      DecsHaveType texts s.context (dec d ds) s'.context
+  decs-rest go (declared_as c' h) l = dec_has h (go _ l)
 
-  decs-rest : {d : Dec} {ds : Decs} {xs : List Phrase} {s s1 s' : Typed} → ((s2 : Typed) → AllTypes texts s2 xs s' → AreDeclared ds s2.context) → IsDeclared d s s1 → AllTypes texts s1 xs s' → AreDeclared (dec d ds) s.context
-  decs-rest go (declared_as c' h) l = let r = go _ l in (r.0, dec_has h r.1)
-
-  decs-back : {ds : Decs} {xs : List Phrase} {s' : Typed} → NativeDecs ds xs → (s : Typed) → AllTypes texts s xs s' → AreDeclared ds s.context
-  decs-back native_none s l = (s.context, no_dec_has s.context)
+  decs-back : {ds : Decs} {xs : List Phrase} {s' : Typed} → NativeDecs ds xs → (s : Typed) → AllTypes texts s xs s' → DecsHaveType texts s.context ds s'.context
+  decs-back native_none s (no_phrase s0) = no_dec_has s0.context
   decs-back (native_val p q {x = x} {es = es} {xs = xs} na ne nds) s l =
       let y = all-split (x ∷ (es ++ declares p ∷ [])) xs l in decs-rest (decs-back nds) (dec-back na ne y.1) y.2
 
+  basis-back : {parts : List Part} {xs : List Phrase} {s s1 s' : Typed} → ((s2 : Typed) → AllTypes texts s2 xs s' → PartsHaveType texts s2.context parts s'.context) → Types texts s brings_basis s1 → AllTypes texts s1 xs s' →
+      PartsHaveType texts s.context (standard_basis ∷ parts) s'.context
+  basis-back go (basis_types s0) l = basis_has (go _ l)
+
+  parts-back : {parts : List Part} {xs : List Phrase} {s' : Typed} → NativeParts parts xs → (s : Typed) → AllTypes texts s xs s' → PartsHaveType texts s.context parts s'.context
+  parts-back native_end s (no_phrase s0) = no_part_has s0.context
+  parts-back (native_basis nps) s (next_phrase t l) = basis-back (parts-back nps) t l
+  parts-back (native_source {xs = xs} {ys = ys} nds nps) s l = let y = all-split xs ys l in source_has (decs-back nds s y.1) (parts-back nps y.0 y.2)
+
 pub phrases-are-typed : PhrasesAreTyped
-phrases-are-typed texts ds n = (
-  (λ h. decs-forth texts any [] (native-decs ds n) h.1),
-  (λ h. decs-back texts (native-decs ds n) nothing_yet h.1),
+phrases-are-typed texts parts n = (
+  (λ h. let all = parts-forth texts any [] (native-parts parts n) h.1 in (record { context = h.0; pattern = all.0; types = [] }, all.1)),
+  (λ h. (h.0.context, parts-back texts (native-parts parts n) nothing_yet h.1)),
 )

@@ -6,10 +6,10 @@ use Rattle.mlc_base.specs.declared.place.Place.{Place}
 use Rattle.sml_tree.specs.declared.ident.Vid.{Vid}
 use Rattle.sml_tree.specs.declared.ident.Vid.TheVariants.{Named}
 use Rattle.ty_core.specs.Types.{Typ}
-use Rattle.sml_tree.specs.BareTree.{Decs}
+use Rattle.sml_rules.specs.Project.{Part}
 use Rattle.sml_rules.specs.Basis.{is_restricted}
-use Rattle.sml_rules.specs.Phrases.{Phrase, integer, text, identifier, nothing, applies, applies_pair, binds_any, binds, binds_nothing, declares, foreign, decs_phrases, first_foreign, nodes_in}
-use Rattle.sml_rules.specs.Typing.{Context, nothing_typed, typed, type_in, int_type, string_type, unit_type, pair_type, function_type, Elaborates}
+use Rattle.sml_rules.specs.Phrases.{Phrase, integer, text, identifier, nothing, applies, applies_pair, binds_any, binds, binds_nothing, declares, brings_basis, foreign, parts_phrases, first_foreign, nodes_in}
+use Rattle.sml_rules.specs.Typing.{Context, nothing_typed, typed, basis_typed, type_in, int_type, string_type, unit_type, pair_type, function_type, Elaborates}
 
 -- what the pattern of a declaration binds
 pub data Pattern : Type 0 where
@@ -49,6 +49,7 @@ pub data Types (texts : List (List ℕ)) : Typed → Phrase → Typed → Type 0
   unit_types : (s : Typed) (p : Place) → Types texts s (binds_nothing p) (record s { pattern = unit })
   declares_types : (p : Place) (c c' : Context) (a : Pattern) (t : Typ) (ts : List Typ) → Binding c a t c' →
       Types texts (record { context = c; pattern = a; types = t ∷ ts }) (declares p) (record { context = c'; pattern = any; types = ts })
+  basis_types : (s : Typed) → Types texts s brings_basis (record s { context = basis_typed s.context })
 
 -- a run of phrases has a typing
 pub data AllTypes (texts : List (List ℕ)) : Typed → List Phrase → Typed → Type 0 where
@@ -71,6 +72,7 @@ declaration_at (binds_any p ∷ xs) = declaration_at xs
 declaration_at (binds p v ∷ xs) = declaration_at xs
 declaration_at (binds_nothing p ∷ xs) = declaration_at xs
 declaration_at (declares p ∷ xs) = p
+declaration_at (brings_basis ∷ xs) = declaration_at xs
 declaration_at (foreign p ∷ xs) = declaration_at xs
 
 -- applications and declarations alone ask their parts for types
@@ -85,6 +87,7 @@ AsksTypes (binds_any p) = ⊥
 AsksTypes (binds p v) = ⊥
 AsksTypes (binds_nothing p) = ⊥
 AsksTypes (declares p) = ⊤
+AsksTypes brings_basis = ⊥
 AsksTypes (foreign p) = ⊥
 
 -- what a phrase breaks, where all before it have the types s, and the fault that tells it: its identifier isn't bound there; its identifier is never bound; the phrases up to this one have no typing
@@ -110,15 +113,19 @@ pub record FirstBroken (texts : List (List ℕ)) (xs : List Phrase) (f : Fault) 
 abbrev pub max_nodes : ℕ
 max_nodes = 2 ^ 20
 
--- Why a source is refused, in the one order: a foreign phrase; the first broken rule; too many nodes. A binding has one type here, so the expansion is the source.
-pub data IsRefused (texts : List (List ℕ)) (ds : Decs) : Fault → Type 0 where
-  by_form : {p : Place} → first_foreign (decs_phrases ds) ≡ Some p → IsRefused texts ds (record { code = NotCompiled; place = p; name = None })
-  by_rule : {f : Fault} → first_foreign (decs_phrases ds) ≡ None → FirstBroken texts (decs_phrases ds) f → IsRefused texts ds f
-  by_size : first_foreign (decs_phrases ds) ≡ None → Elaborates texts ds → max_nodes < nodes_in (decs_phrases ds) →
-      IsRefused texts ds (record { code = ExpansionTooLarge; place = record { file = 0; byte = 0 }; name = None })
+-- Why a project is refused, in the one order: a foreign phrase; the first broken rule; too many nodes, told at the first byte of the ML Basis file. A binding has one type here, so the expansion is the project.
+pub data IsRefused (texts : List (List ℕ)) (parts : List Part) : Fault → Type 0 where
+  by_form : {p : Place} → first_foreign (parts_phrases parts) ≡ Some p → IsRefused texts parts (record { code = NotCompiled; place = p; name = None })
+  by_rule : {f : Fault} → first_foreign (parts_phrases parts) ≡ None → FirstBroken texts (parts_phrases parts) f → IsRefused texts parts f
+  by_size : first_foreign (parts_phrases parts) ≡ None → Elaborates texts parts → max_nodes < nodes_in (parts_phrases parts) →
+      IsRefused texts parts (record { code = ExpansionTooLarge; place = record { file = 0; byte = 0 }; name = None })
 
--- the source is of the language that is compiled so far, elaborates, and is within the limits
-pub record IsAccepted (texts : List (List ℕ)) (ds : Decs) : Type 0 where
-  pub native : first_foreign (decs_phrases ds) ≡ None
-  pub elaborates : Elaborates texts ds
-  pub small : nodes_in (decs_phrases ds) ≤ max_nodes
+-- the project is of the language that is compiled so far, and elaborates
+pub record Checks (texts : List (List ℕ)) (parts : List Part) : Type 0 where
+  pub native : first_foreign (parts_phrases parts) ≡ None
+  pub elaborates : Elaborates texts parts
+
+-- and it is within the limits
+pub record IsAccepted (texts : List (List ℕ)) (parts : List Part) : Type 0 where
+  pub checks : Checks texts parts
+  pub small : nodes_in (parts_phrases parts) ≤ max_nodes

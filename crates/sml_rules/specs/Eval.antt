@@ -11,7 +11,8 @@ use Rattle.sml_tree.specs.declared.ident.Vid.{Vid}
 use Rattle.sml_tree.specs.declared.ident.Vid.TheVariants.{Named, Equals, Fresh}
 use Rattle.sml_tree.specs.Terminal as term
 use Rattle.sml_tree.specs.BareTree.{Exp, constant_exp, vid_exp, built_exp, fields_exp, let_in, app, typed, handle, raise, fn, ExpFields, no_exp_fields, exp_field, Pat, wild_pat, constant_pat, vid_pat, built_pat, fields_pat, con_pat, built_con_pat, typed_pat, as_pat, PatFields, no_pat_fields, pat_field, Decs, no_decs, dec, Dec, val_dec, type_dec, datatype_dec, replicate_dec, exception_dec, local_dec, open_dec, sequence_dec, Binds, no_binds, bind}
-use Rattle.sml_rules.specs.Values.{Value, literal, record_of, primitive, packet, Fields, no_fields, field, unit_value, exn_number, field_at, Env, bound, value_of}
+use Rattle.sml_rules.specs.Values.{Value, literal, record_of, primitive, packet, Fields, no_fields, field, unit_value, exn_number, field_at, Env, bound, basis_bound, value_of}
+use Rattle.sml_rules.specs.Project.{Part, standard_basis, source}
 
 abbrev pub constant_value : term.Constant → Value
 constant_value (term.int z) = literal (int z)
@@ -159,3 +160,10 @@ eval_dec texts env (sequence_dec p ds) w = fail w
 abbrev pub eval_decs : List (List ℕ) → Env → Decs → World Value → Answer Value Env
 eval_decs texts env no_decs w = gives env w
 eval_decs texts env (dec d ds) w = then_do (eval_dec texts env d w) (λ env w. eval_decs texts env ds w)
+
+-- The parts of a project, one after the other. [ML Basis, basdec]
+
+abbrev pub eval_parts : List (List ℕ) → Env → List Part → World Value → Answer Value Env
+eval_parts texts env [] w = gives env w
+eval_parts texts env (standard_basis ∷ parts) w = eval_parts texts (basis_bound env) parts w
+eval_parts texts env (source ds ∷ parts) w = then_do (eval_decs texts env ds w) (λ env w. eval_parts texts env parts w)

@@ -1,27 +1,28 @@
--- What holds of every source.
-use Rattle.std.specs.Prelude.{◌≡◌, ◌≢◌, ◌↔◌, ℕ, ◌≤◌, List, ◌++◌, None}
+-- What holds of every project.
+use Rattle.std.specs.Prelude.{◌≡◌, ◌≢◌, ◌↔◌, ℕ, ◌≤◌, List, ◌++◌, AllPairs, Some, None, slice_get}
 use Rattle.mlc_base.specs.Outcome.{Outcome, wrong, going}
 use Rattle.mlc_base.specs.declared.fault.Fault.{Fault}
-use Rattle.sml_tree.specs.BareTree.{Decs}
+use Rattle.sml_rules.specs.Project.{Part}
+use Rattle.sml_rules.specs.Basis.{identifier_of}
 use Rattle.sml_rules.specs.Broken.{Typed, AllTypes, nothing_yet, FirstBroken}
 use Rattle.sml_rules.specs.Meaning.{meaning}
-use Rattle.sml_rules.specs.Phrases.{decs_phrases, first_foreign}
+use Rattle.sml_rules.specs.Phrases.{parts_phrases, first_foreign}
 use Rattle.sml_rules.specs.Typing.{Elaborates}
 
--- a source elaborates exactly where its phrases have a typing one after the other
+-- a project elaborates exactly where its phrases have a typing one after the other
 abbrev pub PhrasesAreTyped : Type 0
-PhrasesAreTyped = (texts : List (List ℕ)) (ds : Decs) → first_foreign (decs_phrases ds) ≡ None →
-    Elaborates texts ds ↔ ((s : Typed) × AllTypes texts nothing_yet (decs_phrases ds) s)
+PhrasesAreTyped = (texts : List (List ℕ)) (parts : List Part) → first_foreign (parts_phrases parts) ≡ None →
+    Elaborates texts parts ↔ ((s : Typed) × AllTypes texts nothing_yet (parts_phrases parts) s)
 
--- no source that elaborates has a phrase that breaks a rule
+-- no project that elaborates has a phrase that breaks a rule
 abbrev pub BrokenIsUntyped : Type 0
-BrokenIsUntyped = (texts : List (List ℕ)) (ds : Decs) (f : Fault) → first_foreign (decs_phrases ds) ≡ None →
-    FirstBroken texts (decs_phrases ds) f → ¬ (Elaborates texts ds)
+BrokenIsUntyped = (texts : List (List ℕ)) (parts : List Part) (f : Fault) → first_foreign (parts_phrases parts) ≡ None →
+    FirstBroken texts (parts_phrases parts) f → ¬ (Elaborates texts parts)
 
--- a source that elaborates never goes wrong
+-- a project that elaborates never goes wrong
 abbrev pub NeverWrong : Type 0
-NeverWrong = (texts : List (List ℕ)) (ds : Decs) (m : ℕ) → first_foreign (decs_phrases ds) ≡ None →
-    Elaborates texts ds → (meaning texts ds m).end ≢ wrong
+NeverWrong = (texts : List (List ℕ)) (parts : List Part) (m : ℕ) → first_foreign (parts_phrases parts) ≡ None →
+    Elaborates texts parts → (meaning texts parts m).end ≢ wrong
 
 -- a is a prefix of b
 abbrev pub IsPrefix : List ℕ → List ℕ → Type 0
@@ -33,4 +34,9 @@ pub record GrowsTo (few many : Outcome) : Type 0 where
   pub end : few.end ≢ going → (many.end ≡ few.end) × (many.output ≡ few.output)
 
 abbrev pub MeaningGrows : Type 0
-MeaningGrows = (texts : List (List ℕ)) (ds : Decs) (m n : ℕ) → m ≤ n → GrowsTo (meaning texts ds m) (meaning texts ds n)
+MeaningGrows = (texts : List (List ℕ)) (parts : List Part) (m n : ℕ) → m ≤ n → GrowsTo (meaning texts parts m) (meaning texts parts n)
+
+-- where no two names are written alike, a name is found by what it is written as
+abbrev pub NamesAreFound : Type 0
+NamesAreFound = (texts : List (List ℕ)) (x : ℕ) (text : List ℕ) → AllPairs (λ text other. text ≢ other) texts → slice_get texts x ≡ Some text →
+    identifier_of texts text ≡ x

@@ -4,5 +4,6 @@ pub mod Eval
 pub mod Laws
 pub mod Meaning
 pub mod Phrases
+pub mod Project
 pub mod Typing
 pub mod Values

@@ -1,11 +1,11 @@
--- What a source does: its output and its end at m turns. An exception that nothing handles ends it.
+-- What a project does: its output and its end at m turns. An exception that nothing handles ends it.
 use Rattle.std.specs.Prelude.{ℕ, List, map, Option, None, slice_get}
 use Rattle.mlc_base.specs.Outcome.{Outcome}
 use Rattle.mlc_base.specs.Run.{World, start, outcome_of}
-use Rattle.sml_tree.specs.BareTree.{Decs}
+use Rattle.sml_rules.specs.Project.{Part}
 use Rattle.sml_rules.specs.Basis.{basis_exceptions, identifier_of}
 use Rattle.sml_rules.specs.Values.{Value, literal, record_of, primitive, packet, nothing_bound}
-use Rattle.sml_rules.specs.Eval.{eval_decs}
+use Rattle.sml_rules.specs.Eval.{eval_parts}
 
 -- the identifier of a packet's exception
 abbrev pub packet_identifier : Value → World Value → Option ℕ
@@ -18,5 +18,5 @@ packet_identifier (primitive p) w = None
 abbrev pub begin : List (List ℕ) → ℕ → World Value
 begin texts m = record (start m) { exceptions = map (identifier_of texts) basis_exceptions }
 
-abbrev pub meaning : List (List ℕ) → Decs → ℕ → Outcome
-meaning texts ds m = outcome_of packet_identifier (eval_decs texts nothing_bound ds (begin texts m))
+abbrev pub meaning : List (List ℕ) → List Part → ℕ → Outcome
+meaning texts parts m = outcome_of packet_identifier (eval_parts texts nothing_bound parts (begin texts m))

@@ -1,4 +1,4 @@
--- The phrases of a source in the order of their ends; of two that end together the inner one is first. Static rules are looked at in this order.
+-- The phrases of a project in the order of their ends, part by part; of two that end together the inner one is first. Static rules are looked at in this order.
 -- The operator of an infix application stands between its operands. A phrase outside the language that is compiled so far is foreign, and stands for all that is in it; a pair may only be an argument.
 use Rattle.std.specs.Prelude.{ℕ, ◌+◌, ℤ, Bool, true, false, ◌&&◌, nat_eq, if◌then◌else◌, List, [], ◌∷◌, ◌++◌, length, Option, Some, None}
 use Rattle.mlc_base.specs.declared.label.Label.{Label}
@@ -8,6 +8,7 @@ use Rattle.sml_tree.specs.declared.ident.Vid.{Vid}
 use Rattle.sml_tree.specs.declared.ident.Vid.TheVariants.{Named, Equals, Fresh}
 use Rattle.sml_tree.specs.Terminal as term
 use Rattle.sml_tree.specs.BareTree.{Exp, constant_exp, vid_exp, built_exp, fields_exp, let_in, app, typed, handle, raise, fn, ExpFields, no_exp_fields, exp_field, Pat, wild_pat, constant_pat, vid_pat, built_pat, fields_pat, con_pat, built_con_pat, typed_pat, as_pat, PatFields, no_pat_fields, pat_field, Decs, no_decs, dec, Dec, val_dec, type_dec, datatype_dec, replicate_dec, exception_dec, local_dec, open_dec, sequence_dec, Binds, no_binds, bind}
+use Rattle.sml_rules.specs.Project.{Part, standard_basis, source}
 use Rattle.sml_rules.specs.Values.{is_number}
 
 pub data Phrase : Type 0 where
@@ -26,6 +27,8 @@ pub data Phrase : Type 0 where
   binds_nothing : Place → Phrase
   -- a declaration, after its pattern and its expression
   declares : Place → Phrase
+  -- the path of the standard basis in the ML Basis file
+  brings_basis : Phrase
   -- a phrase outside the language that is compiled so far
   foreign : Place → Phrase
 
@@ -179,6 +182,12 @@ abbrev pub decs_phrases : Decs → List Phrase
 decs_phrases no_decs = []
 decs_phrases (dec d ds) = dec_phrases d ++ decs_phrases ds
 
+-- the phrases of a project
+abbrev pub parts_phrases : List Part → List Phrase
+parts_phrases [] = []
+parts_phrases (standard_basis ∷ parts) = brings_basis ∷ parts_phrases parts
+parts_phrases (source ds ∷ parts) = decs_phrases ds ++ parts_phrases parts
+
 -- the first foreign phrase
 abbrev pub first_foreign : List Phrase → Option Place
 first_foreign [] = None
@@ -192,9 +201,10 @@ first_foreign (binds_any p ∷ ps) = first_foreign ps
 first_foreign (binds p v ∷ ps) = first_foreign ps
 first_foreign (binds_nothing p ∷ ps) = first_foreign ps
 first_foreign (declares p ∷ ps) = first_foreign ps
+first_foreign (brings_basis ∷ ps) = first_foreign ps
 first_foreign (foreign p ∷ ps) = Some p
 
--- Nodes: each phrase counts one, a pair is one of its own, and a string constant counts one more a byte.
+-- Nodes: each phrase of a source counts one, a pair is one of its own, and a string constant counts one more a byte.
 abbrev pub node_count : Phrase → ℕ
 node_count (integer p z) = 1
 node_count (text p s) = 1 + length s
@@ -206,6 +216,7 @@ node_count (binds_any p) = 1
 node_count (binds p v) = 1
 node_count (binds_nothing p) = 1
 node_count (declares p) = 1
+node_count brings_basis = 0
 node_count (foreign p) = 1
 
 abbrev pub nodes_in : List Phrase → ℕ

@@ -11,6 +11,7 @@ use Rattle.sml_tree.specs.Derived.{short}
 use Rattle.sml_tree.specs.BareTree.{Exp, constant_exp, vid_exp, fields_exp, app, ExpFields, no_exp_fields, exp_field, Pat, wild_pat, vid_pat, fields_pat, no_pat_fields, Decs, no_decs, dec, Dec, val_dec, no_binds, bind}
 use Rattle.ty_core.specs.Types.{Typ, con, Typs, none, more, arrow, labels, name}
 use Rattle.ty_core.specs.declared.name.Equality.TheVariants.{Always}
+use Rattle.sml_rules.specs.Project.{Part, standard_basis, source}
 use Rattle.sml_rules.specs.Basis.{text_in, basis_prim, is_restricted}
 
 abbrev pub named_type : ℕ → Typ
@@ -52,18 +53,21 @@ prim_type Mul = function_type (pair_type int_type int_type) int_type
 prim_type Cat = function_type (pair_type string_type string_type) string_type
 prim_type Print = function_type string_type unit_type
 
--- types of identifiers, the latest first: what isn't there is what the basis says
+-- what is in scope, the latest first: identifiers with their types, and the standard basis
 pub data Context : Type 0 where
   nothing_typed : Context
   typed : ℕ → Typ → Context → Context
+  basis_typed : Context → Context
 
-abbrev pub basis_type : Option Primitive → Option Typ
-basis_type None = None
-basis_type (Some p) = Some (prim_type p)
+-- the type that the standard basis gives, or what stood before it
+abbrev pub basis_type : Option Primitive → Option Typ → Option Typ
+basis_type None before = before
+basis_type (Some p) before = Some (prim_type p)
 
 abbrev pub type_in : List (List ℕ) → Context → ℕ → Option Typ
-type_in texts nothing_typed x = basis_type (basis_prim (text_in texts x))
+type_in texts nothing_typed x = None
 type_in texts (typed y t c) x = if nat_eq x y then Some t else type_in texts c x
+type_in texts (basis_typed c) x = basis_type (basis_prim (text_in texts x)) (type_in texts c x)
 
 mutual
   pub data HasType (texts : List (List ℕ)) (c : Context) : Exp → Typ → Type 0 where
@@ -92,6 +96,13 @@ pub data DecsHaveType (texts : List (List ℕ)) : Context → Decs → Context �
   no_dec_has : (c : Context) → DecsHaveType texts c no_decs c
   dec_has : {c c' c'' : Context} {d : Dec} {ds : Decs} → DecHasType texts c d c' → DecsHaveType texts c' ds c'' → DecsHaveType texts c (dec d ds) c''
 
--- the source elaborates
-abbrev pub Elaborates : List (List ℕ) → Decs → Type 0
-Elaborates texts ds = (c : Context) × DecsHaveType texts nothing_typed ds c
+-- the parts of a project, one after the other: each sees what those before it brought
+pub data PartsHaveType (texts : List (List ℕ)) : Context → List Part → Context → Type 0 where
+  no_part_has : (c : Context) → PartsHaveType texts c [] c
+  basis_has : {c c' : Context} {parts : List Part} → PartsHaveType texts (basis_typed c) parts c' → PartsHaveType texts c (standard_basis ∷ parts) c'
+  source_has : {c c' c'' : Context} {ds : Decs} {parts : List Part} → DecsHaveType texts c ds c' → PartsHaveType texts c' parts c'' →
+      PartsHaveType texts c (source ds ∷ parts) c''
+
+-- the project elaborates, in the empty basis
+abbrev pub Elaborates : List (List ℕ) → List Part → Type 0
+Elaborates texts parts = (c : Context) × PartsHaveType texts nothing_typed parts c

@@ -41,15 +41,18 @@ abbrev pub field_at : ℕ → Fields → Option Value
 field_at n no_fields = None
 field_at n (field l v fs) = if is_number n l then Some v else field_at n fs
 
--- what identifiers are bound to, the latest first: what isn't there is what the basis says
+-- what is in scope, the latest first: identifiers with their values, and the standard basis
 pub data Env : Type 0 where
   nothing_bound : Env
   bound : ℕ → Value → Env → Env
+  basis_bound : Env → Env
 
-abbrev pub basis_value : Option Primitive → Option Value
-basis_value None = None
-basis_value (Some p) = Some (primitive p)
+-- the value that the standard basis gives, or what stood before it
+abbrev pub basis_value : Option Primitive → Option Value → Option Value
+basis_value None before = before
+basis_value (Some p) before = Some (primitive p)
 
 abbrev pub value_of : List (List ℕ) → Env → ℕ → Option Value
-value_of texts nothing_bound x = basis_value (basis_prim (text_in texts x))
+value_of texts nothing_bound x = None
 value_of texts (bound y v env) x = if nat_eq x y then Some v else value_of texts env x
+value_of texts (basis_bound env) x = basis_value (basis_prim (text_in texts x)) (value_of texts env x)

@@ -1,23 +1,28 @@
 // Laws of the rules, as contracts.
 
-ghost use Rattle.sml_rules.specs.Laws.{PhrasesAreTyped, BrokenIsUntyped, NeverWrong, MeaningGrows};
+ghost use Rattle.sml_rules.specs.Laws.{PhrasesAreTyped, BrokenIsUntyped, NeverWrong, MeaningGrows, NamesAreFound};
 
-/// A source elaborates exactly where its phrases have a typing one after the other.
+/// A project without foreign phrases elaborates exactly where its phrases have a typing one after the other.
 pub fn phrases_are_typed()
     ensures { PhrasesAreTyped }
 {}
 
-/// No source that elaborates has a phrase that breaks a rule.
+/// No project without foreign phrases that elaborates has a phrase that breaks a rule.
 pub fn broken_is_untyped()
     ensures { BrokenIsUntyped }
 {}
 
-/// A source that elaborates never goes wrong.
+/// A project without foreign phrases that elaborates never goes wrong.
 pub fn never_wrong()
     ensures { NeverWrong }
 {}
 
-/// With more turns the output goes on from what it was, and an end other than going stays.
+/// With more turns the output of a project goes on from what it was, and an end other than going stays.
 pub fn meaning_grows()
     ensures { MeaningGrows }
+{}
+
+/// Where no two names are written alike, a name is found by what it is written as.
+pub fn names_are_found()
+    ensures { NamesAreFound }
 {}
