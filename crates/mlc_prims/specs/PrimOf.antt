@@ -2,8 +2,8 @@
 use Rattle.std.specs.Prelude.{◌≡◌, ℕ, ◌+◌, ◌^◌, ◌≤◌, ℤ, pos, negsuc, ◌+ℤ◌, ◌-ℤ◌, ◌*ℤ◌, Bool, nat_lt, nat_le, if◌then◌else◌, List, ◌++◌, length, Option, Some, None, option_map, ⊤}
 use Rattle.std.specs.List.{AllByRecursion}
 use Rattle.mlc_prims.specs.LitOf.{Literal, int, string, word, char, truth, lit_of, ints_in, strings_in}
-use Rattle.mlc_prims.specs.declared.prim.Prim.{Prim as Primitive}
-use Rattle.mlc_prims.specs.declared.prim.Prim.TheVariants.{Add, Sub, Mul, Cat, Print}
+use Rattle.mlc_prims.specs.declared.prim.Primitive.{Primitive}
+use Rattle.mlc_prims.specs.declared.prim.Primitive.TheVariants.{Add, Sub, Mul, Cat, Print}
 use Rattle.mlc_prims.specs.declared.prim.PrimExn.{PrimExn}
 use Rattle.mlc_prims.specs.declared.prim.PrimExn.TheVariants.{Overflow, Size}
 use Rattle.mlc_prims.specs.declared.apply.Applied.{Applied}

@@ -5,7 +5,7 @@ ghost use Rattle.mlc_prims.specs.LitOf.{lits_of, ints_in, strings_in, as_ints, a
 ghost use Rattle.mlc_prims.specs.PrimOf.{exact, int_result, joined, prim_of, HasRow, AreShort, Meets, MeetsRow};
 
 use crate::lit::Lit;
-use crate::prim::{Prim, PrimExn};
+use crate::prim::{Primitive, PrimExn};
 use mlc_base::memory::NoMemory;
 use std::alloc::Global;
 
@@ -122,28 +122,28 @@ fn mul(args: IntPair) -> Applied
 }
 
 /// What the row of a primitive gives for these values.
-pub fn apply_prim(alloc: Global, prim: Prim, args: &[Lit]) -> Applied
+pub fn apply_prim(alloc: Global, prim: Primitive, args: &[Lit]) -> Applied
     requires row { HasRow prim (lits_of args.now) }
     requires short { AreShort (lits_of args.now) }
     ensures { MeetsRow result (prim_of prim (lits_of args.now)) }
 {
     match prim {
-        Prim::Add => match ints(args) {
+        Primitive::Add => match ints(args) {
             Some(both) => add(both),
             None => unreachable!(),
         },
-        Prim::Sub => match ints(args) {
+        Primitive::Sub => match ints(args) {
             Some(both) => sub(both),
             None => unreachable!(),
         },
-        Prim::Mul => match ints(args) {
+        Primitive::Mul => match ints(args) {
             Some(both) => mul(both),
             None => unreachable!(),
         },
-        Prim::Cat => match strings(args) {
+        Primitive::Cat => match strings(args) {
             Some(both) => cat(alloc, both.left, both.right),
             None => unreachable!(),
         },
-        Prim::Print => unreachable!(),
+        Primitive::Print => unreachable!(),
     }
 }

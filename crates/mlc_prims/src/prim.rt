@@ -1,12 +1,12 @@
 // Primitives, and the exceptions that they raise.
 
 ghost use Rattle.std.specs.Prelude.{◌≡◌};
-ghost use Rattle.mlc_prims.specs.declared.prim.Prim.{Prim as Primitive};
+ghost use Rattle.mlc_prims.specs.declared.prim.Primitive.{Primitive};
 ghost use Rattle.mlc_prims.specs.PrimOf.{prim_number};
 
 /// A primitive of the initial basis.
 #[derive(Clone, Copy, PartialEq, Eq, Debug)]
-pub enum Prim {
+pub enum Primitive {
     /// `+`
     Add,
     /// `-`
@@ -19,17 +19,17 @@ pub enum Prim {
     Print,
 }
 
-impl Prim {
+impl Primitive {
     /// Its number, which no other primitive has.
     pub fn number(self) -> u32
         ensures { result ≡ prim_number self }
     {
         match self {
-            Prim::Add => 0,
-            Prim::Sub => 1,
-            Prim::Mul => 2,
-            Prim::Cat => 3,
-            Prim::Print => 4,
+            Primitive::Add => 0,
+            Primitive::Sub => 1,
+            Primitive::Mul => 2,
+            Primitive::Cat => 3,
+            Primitive::Print => 4,
         }
     }
 }

@@ -4,7 +4,7 @@ ghost use Rattle.std.specs.Prelude.{◌≤◌, length};
 
 use crate::apply::{Applied, apply_prim};
 use crate::lit::Lit;
-use crate::prim::{Prim, PrimExn, numbers_are_one_to_one};
+use crate::prim::{Primitive, PrimExn, numbers_are_one_to_one};
 use mlc_base::memory::NoMemory;
 use std::alloc::Global;
 use std::test::Fail;
@@ -31,15 +31,15 @@ fn raises(applied: &Applied, exn: PrimExn) -> bool {
 }
 
 fn sum(alloc: Global, left: i32, right: i32) -> Applied {
-    apply_prim(alloc, Prim::Add, &[Lit::Int(left), Lit::Int(right)])
+    apply_prim(alloc, Primitive::Add, &[Lit::Int(left), Lit::Int(right)])
 }
 
 fn difference(alloc: Global, left: i32, right: i32) -> Applied {
-    apply_prim(alloc, Prim::Sub, &[Lit::Int(left), Lit::Int(right)])
+    apply_prim(alloc, Primitive::Sub, &[Lit::Int(left), Lit::Int(right)])
 }
 
 fn product(alloc: Global, left: i32, right: i32) -> Applied {
-    apply_prim(alloc, Prim::Mul, &[Lit::Int(left), Lit::Int(right)])
+    apply_prim(alloc, Primitive::Mul, &[Lit::Int(left), Lit::Int(right)])
 }
 
 #[test]
@@ -60,7 +60,7 @@ fn concatenation(alloc: Global, left: &[u8], right: &[u8]) -> Result<Applied, No
 {
     let left = Lit::Str(Vec::from_slice(alloc, left)?);
     let right = Lit::Str(Vec::from_slice(alloc, right)?);
-    Ok(apply_prim(alloc, Prim::Cat, &[left, right]))
+    Ok(apply_prim(alloc, Primitive::Cat, &[left, right]))
 }
 
 #[test]
@@ -72,7 +72,7 @@ fn strings_are_joined_in_order(rt: HostRuntime) -> Result<(), Fail> {
 #[test]
 fn numbers_are_those_of_the_table(rt: HostRuntime) -> Result<(), Fail> {
     numbers_are_one_to_one();
-    assert_eq!(rt; Prim::Add.number(), 0);
-    assert_eq!(rt; Prim::Print.number(), 4);
+    assert_eq!(rt; Primitive::Add.number(), 0);
+    assert_eq!(rt; Primitive::Print.number(), 4);
     Ok(())
 }

@@ -6,8 +6,8 @@ use Rattle.mlc_base.specs.Outcome.{Outcome}
 use Rattle.mlc_base.specs.Run.{World, out_of_turns, went_wrong, Answer, gives, raises, stops, then_do, or_fail, turn_from, outcome_of, uncaught_end}
 use Rattle.mlc_prims.specs.LitOf.{Literal, int, word, char, string, truth}
 use Rattle.mlc_prims.specs.PrimOf.{Gives, made, raised, prim_of}
-use Rattle.mlc_prims.specs.declared.prim.Prim.{Prim as Primitive}
-use Rattle.mlc_prims.specs.declared.prim.Prim.TheVariants.{Add, Sub, Mul, Cat, Print}
+use Rattle.mlc_prims.specs.declared.prim.Primitive.{Primitive}
+use Rattle.mlc_prims.specs.declared.prim.Primitive.TheVariants.{Add, Sub, Mul, Cat, Print}
 use Rattle.sml_tree.specs.BareTree.{Exp, constant_exp, vid_exp, built_exp, fields_exp, let_in, app, typed, handle, raise, fn, ExpFields, no_exp_fields, exp_field, Decs, no_decs, dec, Dec, val_dec, type_dec, datatype_dec, replicate_dec, exception_dec, local_dec, open_dec, sequence_dec, Binds, no_binds, bind}
 use Rattle.sml_rules.specs.Project.{Part, standard_basis, source}
 use Rattle.sml_rules.specs.Laws.{IsPrefix, GrowsTo, MeaningGrows}

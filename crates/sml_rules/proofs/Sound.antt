@@ -7,8 +7,8 @@ use Rattle.mlc_base.specs.Outcome.{wrong, uncaught, ended, going}
 use Rattle.mlc_base.specs.Run.{World, out_of_turns, Answer, gives, raises, stops, then_do, or_fail, turn_from, outcome_of, uncaught_end}
 use Rattle.mlc_prims.specs.LitOf.{int, word, char, string, truth, ints_in}
 use Rattle.mlc_prims.specs.PrimOf.{max_size, made, raised, int_result, exact, fitting}
-use Rattle.mlc_prims.specs.declared.prim.Prim.{Prim as Primitive}
-use Rattle.mlc_prims.specs.declared.prim.Prim.TheVariants.{Add, Sub, Mul, Cat, Print}
+use Rattle.mlc_prims.specs.declared.prim.Primitive.{Primitive}
+use Rattle.mlc_prims.specs.declared.prim.Primitive.TheVariants.{Add, Sub, Mul, Cat, Print}
 use Rattle.mlc_prims.specs.declared.prim.PrimExn.{PrimExn}
 use Rattle.mlc_prims.specs.declared.prim.PrimExn.TheVariants.{Overflow, Div, Subscript, Size, Chr}
 use Rattle.sml_tree.specs.BareTree.{Exp, fields_exp, no_exp_fields, exp_field, Pat, Decs}

@@ -5,8 +5,8 @@ use Rattle.mlc_base.specs.Run.{World, Answer, gives, raises, then_do, or_fail, f
 use Rattle.mlc_base.specs.declared.place.Place.{Place}
 use Rattle.mlc_prims.specs.LitOf.{Literal, int, word, char, string}
 use Rattle.mlc_prims.specs.PrimOf.{Gives, made, raised, prim_of}
-use Rattle.mlc_prims.specs.declared.prim.Prim.{Prim as Primitive}
-use Rattle.mlc_prims.specs.declared.prim.Prim.TheVariants.{Add, Sub, Mul, Cat, Print}
+use Rattle.mlc_prims.specs.declared.prim.Primitive.{Primitive}
+use Rattle.mlc_prims.specs.declared.prim.Primitive.TheVariants.{Add, Sub, Mul, Cat, Print}
 use Rattle.sml_tree.specs.declared.ident.Vid.{Vid}
 use Rattle.sml_tree.specs.declared.ident.Vid.TheVariants.{Named, Equals, Fresh}
 use Rattle.sml_tree.specs.Terminal as term

@@ -3,7 +3,7 @@ use Rattle.std.specs.Prelude.{ℕ, Bool, false, List, Option, Some, None, nat_eq
 use Rattle.mlc_base.specs.declared.label.Label.{Label}
 use Rattle.mlc_base.specs.declared.label.Label.TheVariants.{Number, Word}
 use Rattle.mlc_prims.specs.LitOf.{Literal}
-use Rattle.mlc_prims.specs.declared.prim.Prim.{Prim as Primitive}
+use Rattle.mlc_prims.specs.declared.prim.Primitive.{Primitive}
 use Rattle.mlc_prims.specs.declared.prim.PrimExn.{PrimExn}
 use Rattle.mlc_prims.specs.declared.prim.PrimExn.TheVariants.{Overflow, Div, Subscript, Size, Chr}
 use Rattle.sml_rules.specs.Basis.{text_in, basis_prim}
