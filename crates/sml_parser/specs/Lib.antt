@@ -1,0 +1,10 @@
+pub mod ExpressionsRead
+pub mod Gives
+pub mod Left
+pub mod Ties
+pub mod PatternsRead
+pub mod HeadsRead
+pub mod TypesRead
+pub mod Core
+pub mod DeclarationsRead
+pub mod BindingsRead
