@@ -28,6 +28,7 @@ use Rattle.sml_parser.specs.Left.{left}
 use Rattle.sml_parser.specs.BindingsRead.{IsTyvars}
 use Rattle.sml_parser.specs.ExpressionsRead.{IsDecs, dec_list}
 use Rattle.sml_parser.specs.DeclarationsRead.{IsDec, IsBinds, simple_by, word_start, inner_decs, local_by, plain_list, bind_list, recursive_list}
+use Rattle.sml_parser.proofs.ExpLemmas.{decs_all}
 use Rattle.sml_parser.proofs.Loop.{fails-then}
 
 word-start : (w : Reserved) (p : ℕ) (o : List Terminal) → dec_start (reserved p w ∷ o) ≡ word_start (Some w) p o
@@ -288,14 +289,6 @@ val-done s n self inner f i as_ d o a ps rs e o2 b t w by1 is1 by2 is2 is_dec =
 
 -- The parts of a `local`.
 
-list-step : (b : Bool) (x : bare.Dec) (xs : List bare.Dec) (ys : bare.Decs) → decs_of xs ≡ ys → decs_of (if b then xs else x ∷ xs) ≡ (if b then ys else bare.dec x ys)
-list-step true x xs ys h = h
-list-step false x xs ys h = ap (bare.dec x) h
-
-list-bare : (file : ℕ) (ds : Decs) → decs_of (dec_list file ds) ≡ bare_decs file ds
-list-bare file no_decs = refl
-list-bare file (dec d ds) = list-step (is_directive d) (bare_dec file d) (dec_list file ds) (bare_decs file ds) (list-bare file ds)
-
 newest-are : (xs ys : Fixity) → take (length (xs ++ ys) - length ys) (xs ++ ys) ≡ xs
 newest-are xs ys = ap (λ (k : ℕ). take k (xs ++ ys)) (fewer (length-append xs ys)) ∙ take-append_seam xs ys
   where
@@ -330,8 +323,8 @@ module _ (s : Source) (n : ℕ) (f f1 : Fixity) (p : ℕ) (i : List Terminal) (d
           dec_of t ≡ bare.local_dec (at s.file p) (decs_of (map dec_of ds)) (decs_of (map dec_of es)) → d' ≡ suc (max d e) → f' ≡ take (length f2 - length f1) f2 ++ f →
           Gave (λ (_ : Unit {0}) r. IsDec f f' s (suc n) i (Some t) d' o3 r) tt (local_by n f p i)
       local-done o3 t d' f' h lt is_dec deeper force =
-          let b1 : decs_of (map dec_of ds) ≡ bare_decs s.file first.tree = ap decs_of is.same ∙ list-bare s.file first.tree in
-          let b2 : decs_of (map dec_of es) ≡ bare_decs s.file second.tree = ap decs_of is2.same ∙ list-bare s.file second.tree in
+          let b1 : decs_of (map dec_of ds) ≡ bare_decs s.file first.tree = ap decs_of is.same ∙ decs_all s.file first.tree in
+          let b2 : decs_of (map dec_of es) ≡ bare_decs s.file second.tree = ap decs_of is2.same ∙ decs_all s.file second.tree in
           let e1 = is.deep in let e2 = is2.deep in let l1 = is.fits in let l2 = is2.fits in
           record {
             got = record { tree = local_dec p first.tree second.tree; rest = left s o3 };

@@ -32,3 +32,4 @@ pub mod TypeLists
 pub mod VidForms
 pub mod VidShorter
 pub mod Words
+pub mod ReadForms

@@ -1,15 +1,16 @@
 // The parser of the core.
 #![tactic(auto)]
 
-mod bindings;
 mod atoms;
-mod got;
-mod heads;
-mod nodes;
+mod bindings;
 mod declarations;
 mod expressions;
+mod got;
 mod headings;
+mod heads;
+mod nodes;
 mod patterns;
+pub mod read;
 mod simple_decs;
 pub mod source;
 mod stop;
@@ -17,3 +18,6 @@ mod ties;
 mod tokens;
 mod types;
 mod vids;
+
+#[cfg(test)]
+mod tests;
