@@ -1,5 +1,5 @@
--- What the answer of the reading function for all terminals says of their trees.
-use Rattle.std.proofs.Common.{◌≡◌, ◌≤◌, ℕ, List, [], ◌∷◌, map, refl, sym, ap, ◌∙◌}
+-- From what was read of declarations, where no tokens are left, to the tree of all the tokens.
+use Rattle.std.proofs.Common.{◌≡◌, ◌≤◌, ◌<◌, ℕ, List, [], ◌∷◌, length, map, refl, sym, ap, ◌∙◌, arith}
 use Rattle.mlc_base.specs.declared.code.Code.TheVariants as code
 use Rattle.mlc_base.specs.declared.token.Token.{Token}
 use Rattle.sml_tree.specs.Terminal.{Terminal}
@@ -7,6 +7,7 @@ use Rattle.sml_tree.specs.Fixity.{Fixity}
 use Rattle.sml_tree.specs.ReadTree.{Decs}
 use Rattle.sml_tree.specs.Grammar.{Declares}
 use Rattle.sml_tree.specs.Bare.{bare_decs}
+use Rattle.sml_tree.specs.Levels.{after}
 use Rattle.sml_tree.specs.TreeOf.{dec_of, decs_of}
 use Rattle.sml_tree.specs.declared.tree.Dec.{Dec}
 use Rattle.sml_grammar.specs.Answer.{Read, Answer, ok, bad, deep, read, then_read}
@@ -20,46 +21,21 @@ use Rattle.sml_parser.specs.Left.{left}
 use Rattle.sml_parser.specs.ExpressionsRead.{IsDecs, dec_list}
 use Rattle.sml_parser.proofs.ExpLemmas.{decs_all}
 
-read-not-bad : {A : Type 0} (t : A) (o : List Terminal) → read t o ≡ bad → ⊥
-read-not-bad t o ()
+no-terminals : (s : Source) (o : List Token) → length o < 1 → left s o ≡ []
+no-terminals s [] none = refl
+no-terminals s (t ∷ o) none = absurd (omega arith)
 
-read-not-deep : {A : Type 0} (t : A) (o : List Terminal) → read t o ≡ deep → ⊥
-read-not-deep t o ()
-
-bad-not-deep : {A : Type 0} → bad {A} ≡ deep → ⊥
-bad-not-deep ()
-
--- Syntax.
-
-pub bad-cause : BadSound → DeepComplete → (f : Fixity) (i : List Terminal) → read_all 400 f i ≡ bad → Cause f i code.Syntax
-bad-cause sound complete f i h = (λ tree reads. sound 400 f i tree h reads) , (λ opens. bad-not-deep (sym h ∙ complete 400 f i opens))
-
--- TooDeep.
-
-pub deep-cause : Complete → DeepSound → (f : Fixity) (i : List Terminal) → read_all 400 f i ≡ deep → Cause f i code.TooDeep
-deep-cause complete sound f i h = sound 400 f i h , (λ tree is. read-not-deep tree [] (sym (complete 400 f i tree (is.reads , is.shallow)) ∙ h))
-
--- From the answer for declarations to that for all terminals.
-
-pub all-bad : (f : Fixity) (i : List Terminal) → (readers 400).decs f i ≡ bad → read_all 400 f i ≡ bad
-all-bad f i h = ap (λ (a : Answer Decs). then_read a at_end) h
-
-pub all-deep : (f : Fixity) (i : List Terminal) → (readers 400).decs f i ≡ deep → read_all 400 f i ≡ deep
-all-deep f i h = ap (λ (a : Answer Decs). then_read a at_end) h
-
-pub all-left : (f : Fixity) (i : List Terminal) (got : Read Decs) (t : Terminal) (o : List Terminal) → (readers 400).decs f i ≡ ok got → t ∷ o ≡ got.rest → read_all 400 f i ≡ bad
-all-left f i got t o h rest = ap (λ (a : Answer Decs). then_read a at_end) h ∙ ap (at_end got.tree) (sym rest)
-
-pub all-read : (f : Fixity) (i : List Terminal) (got : Read Decs) → (readers 400).decs f i ≡ ok got → [] ≡ got.rest → read_all 400 f i ≡ read got.tree []
-all-read f i got h rest = ap (λ (a : Answer Decs). then_read a at_end) h ∙ ap (at_end got.tree) (sym rest)
-
-pub core-is : Sound → (f f' : Fixity) (s : Source) (tokens : List Token) (ds : List Dec) (d : ℕ) (got : Read Decs) →
-    (readers 400).decs f (left s tokens) ≡ ok got → IsDecs f f' s 400 (left s tokens) ds d [] got → IsCore f s tokens ds f'
-core-is sound f f' s tokens ds d got h is =
-    let both = sound 400 f (left s tokens) got.tree (all-read f (left s tokens) got h is.rest) in
+-- f1 and tokens1 are what the code reads under and reads
+pub core-is : Sound → (f f1 f' : Fixity) (s : Source) (tokens tokens1 : List Token) (ds : List Dec) (d : ℕ) (o : List Token) (got : Read Decs) → f1 ≡ f → tokens1 ≡ tokens → length o < 1 →
+    (readers 400).decs f1 (left s tokens1) ≡ ok got → IsDecs f1 f' s 400 (left s tokens1) ds d o got → IsCore f s tokens ds f'
+core-is sound f f1 f' s tokens tokens1 ds d o got same_fix same_tokens none h is =
+    let by : (readers 400).decs f (left s tokens) ≡ ok got =
+        ap (λ (z : Fixity). (readers 400).decs z (left s tokens)) (sym same_fix) ∙ ap (λ (z : List Token). (readers 400).decs f1 (left s z)) (sym same_tokens) ∙ h in
+    let all : read_all 400 f (left s tokens) ≡ read got.tree [] = ap (λ (a : Answer Decs). then_read a at_end) by ∙ ap (at_end got.tree) (sym is.rest ∙ no-terminals s o none) in
+    let both = sound 400 f (left s tokens) got.tree all in
     record {
       tree = got.tree;
-      is = record { reads = both.1; shallow = both.2 };
+      is = record { reads = both.0; shallow = both.1 };
       bare = ap decs_of is.same ∙ decs_all s.file got.tree;
-      after = is.force
+      after = is.force ∙ ap (λ (z : Fixity). after z got.tree) same_fix
     }
