@@ -44,7 +44,6 @@ pub record BindsGoing (s : Source) (n : ℕ) (f : Fixity) (i : List Terminal) (p
   pub deep : (b : Binds) → depth_binds (put b) ≡ max d (depth_binds b)
   pub fits : d ≤ n
 
-
 rec-plain : (f : ℕ) (r : Bool) (b : Binds) → plain_from f r (rec_binds b) ≡ plain_from f true b
 rec-plain f true b = refl
 rec-plain f false b = refl
@@ -91,7 +90,6 @@ map-if-not false xs xs' x q = ap (map bind_of) q
 map-if-not true xs xs' x q = ap (map bind_of) q ∙ map_push bind_of xs x
 
 module _ (s : Source) (n : ℕ) (f : Fixity) where
-
   pub binds-start : (i : List Terminal) (ps rs : List Bind) → ps ≡ [] → rs ≡ [] → BindsGoing s n f i ps rs false 0 (read_binds n (readers n).exp f i)
   binds-start i ps rs p q = record { put = λ b. b; going = going-start (bind_turn n (readers n).exp f) no_state i; plain = λ b. rw p refl; recursive = λ b. rw q refl; deep = λ b. omega arith; fits = omega arith }
 
@@ -169,6 +167,6 @@ module _ (s : Source) (n : ℕ) (f : Fixity) where
                 recursive = sym (g.recursive (last_bind a.tree y.tree) ∙ last-after s.file r (map bind_of rs) (map bind_of rs') (bind_of x) a.tree y.tree item (map-if-not r rs rs' x put_recursive));
                 deep = omega (arith, deeper);
                 fits = omega (arith, deeper);
-                shorter = omega arith
-              }
+                shorter = omega arith;
+              };
             }

@@ -87,7 +87,6 @@ abbrev pub goes_on : HeadingRead → read_tree.Exp → List Terminal → Answer 
 goes_on x e o = separated (after_word res.Bar o) (clause x.head x.ty e) (last_clause x.head x.ty e) (Some (shape_of x.head)) o
 
 module _ (n : ℕ) (f : Fixity) (s : Option Shape) where
-
   word-split : (w : Option (List Terminal)) (c : read_tree.Exp → List Terminal → Answer (Turn Clauses (Option Shape))) →
       on_some w (λ k. then_read ((readers n).exp f 0 k) c) bad ≡ then_read (on_some w ((readers n).exp f 0) bad) c
   word-split (Some m) c = refl
@@ -199,6 +198,6 @@ module _ (s : Source) (n : ℕ) (f : Fixity) where
                 same = is ∙ rw (e1, e2, e3) refl;
                 deep = dd;
                 fits = subst (λ (z : ℕ). z ≤ n) dd k6;
-                shorter = omega arith
-              }
+                shorter = omega arith;
+              };
             }

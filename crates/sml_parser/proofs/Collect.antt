@@ -28,23 +28,23 @@ module _ {B S C : Type 0} (list : B → List C) (depth_of : B → ℕ) (step : S
   pub collects-more : {s t : S} {i m : List Terminal} {front front' : List C} {d d' : ℕ} {total : Answer B} (c : B → B) (x : C) (e : ℕ) → step s i ≡ read (more c t) m → length m < length i →
       ((b : B) → list (c b) ≡ x ∷ list b) → ((b : B) → depth_of (c b) ≡ max e (depth_of b)) → front' ≡ front ++ x ∷ [] → d' ≡ max e d → Collects s i front d total → Collects t m front' d' total
   collects-more {front} {d} c x e h lt lists deeps f' e' g =
-    record {
-      put = λ b. g.put (c b);
-      going = going-more step h lt g.going;
-      items = λ b. g.items (c b) ∙ ap (λ z. front ++ z) (lists b) ∙ sym (append_assoc front (x ∷ []) (list b)) ∙ ap (λ z. z ++ list b) (sym f');
-      deepest = λ b. g.deepest (c b) ∙ ap (max d) (deeps b) ∙ rw e' (omega arith)
-    }
+      record {
+        put = λ b. g.put (c b);
+        going = going-more step h lt g.going;
+        items = λ b. g.items (c b) ∙ ap (λ z. front ++ z) (lists b) ∙ sym (append_assoc front (x ∷ []) (list b)) ∙ ap (λ z. z ++ list b) (sym f');
+        deepest = λ b. g.deepest (c b) ∙ ap (max d) (deeps b) ∙ rw e' (omega arith);
+      }
 
   -- what was read is not part of any list: a directive, `rec`, a semicolon
   pub collects-pass : {s t : S} {i m : List Terminal} {front : List C} {d d' : ℕ} {total : Answer B} (c : B → B) (e : ℕ) → step s i ≡ read (more c t) m → length m < length i →
       ((b : B) → list (c b) ≡ list b) → ((b : B) → depth_of (c b) ≡ max e (depth_of b)) → d' ≡ max e d → Collects s i front d total → Collects t m front d' total
   collects-pass {front} {d} c e h lt lists deeps e' g =
-    record {
-      put = λ b. g.put (c b);
-      going = going-more step h lt g.going;
-      items = λ b. g.items (c b) ∙ ap (λ z. front ++ z) (lists b);
-      deepest = λ b. g.deepest (c b) ∙ ap (max d) (deeps b) ∙ rw e' (omega arith)
-    }
+      record {
+        put = λ b. g.put (c b);
+        going = going-more step h lt g.going;
+        items = λ b. g.items (c b) ∙ ap (λ z. front ++ z) (lists b);
+        deepest = λ b. g.deepest (c b) ∙ ap (max d) (deeps b) ∙ rw e' (omega arith);
+      }
 
   some-push : (front : List C) (x : C) → 0 < length (front ++ x ∷ [])
   some-push [] x = omega arith
@@ -54,38 +54,38 @@ module _ {B S C : Type 0} (list : B → List C) (depth_of : B → ℕ) (step : S
       list b ≡ x ∷ [] → depth_of b ≡ e → front' ≡ front ++ x ∷ [] → d' ≡ max e d → left src out ≡ o → length o < length start → e ≤ n → d ≤ n → Collects s i front d total →
       Gave (λ (y : Unit {0}) r. IsList list depth_of src n start front' d' out r) tt total
   collects-last {src} {n} {s} {i} {o} {start} {out} {front} {front'} {d} {d'} b x e h lists deeps f' e' l lt le1 le2 g =
-    let q = g.deepest b ∙ ap (max d) deeps in
-    record {
-      got = record { tree = g.put b; rest = o };
-      is = going-last step h g.going;
-      same = record {
-        rest = l;
-        same = f' ∙ ap (λ z. front ++ z) (sym lists) ∙ sym (g.items b);
-        deep = e' ∙ sym (q ∙ omega arith);
-        fits = subst (λ z. z ≤ n) (sym q) (omega arith);
-        some = subst (λ z. 0 < length z) (sym f') (some-push front x);
-        shorter = lt
+      let q = g.deepest b ∙ ap (max d) deeps in
+      record {
+        got = record { tree = g.put b; rest = o };
+        is = going-last step h g.going;
+        same = record {
+          rest = l;
+          same = f' ∙ ap (λ z. front ++ z) (sym lists) ∙ sym (g.items b);
+          deep = e' ∙ sym (q ∙ omega arith);
+          fits = subst (λ z. z ≤ n) (sym q) (omega arith);
+          some = subst (λ z. 0 < length z) (sym f') (some-push front x);
+          shorter = lt;
+        };
       }
-    }
 
   -- where the last turn reads nothing
   pub collects-end : {src : Source} {n : ℕ} {s : S} {i : List Terminal} {start : List Terminal} {out : List Token} {d : ℕ} {total : Answer B} (front : List C) (x : C) (b : B) → step s i ≡ read (last b) i →
       list b ≡ [] → depth_of b ≡ 0 → left src out ≡ i → length i < length start → d ≤ n → Collects s i (front ++ x ∷ []) d total →
       Gave (λ (y : Unit {0}) r. IsList list depth_of src n start (front ++ x ∷ []) d out r) tt total
   collects-end {src} {n} {s} {i} {start} {out} {d} front x b h lists deeps l lt le g =
-    let q = g.deepest b ∙ ap (max d) deeps in
-    record {
-      got = record { tree = g.put b; rest = i };
-      is = going-last step h g.going;
-      same = record {
-        rest = l;
-        same = sym (append-nil (front ++ x ∷ [])) ∙ ap (λ z. (front ++ x ∷ []) ++ z) (sym lists) ∙ sym (g.items b);
-        deep = sym (q ∙ omega arith);
-        fits = subst (λ z. z ≤ n) (sym q) (omega arith);
-        some = some-push front x;
-        shorter = lt
+      let q = g.deepest b ∙ ap (max d) deeps in
+      record {
+        got = record { tree = g.put b; rest = i };
+        is = going-last step h g.going;
+        same = record {
+          rest = l;
+          same = sym (append-nil (front ++ x ∷ [])) ∙ ap (λ z. (front ++ x ∷ []) ++ z) (sym lists) ∙ sym (g.items b);
+          deep = sym (q ∙ omega arith);
+          fits = subst (λ z. z ≤ n) (sym q) (omega arith);
+          some = some-push front x;
+          shorter = lt;
+        };
       }
-    }
 
   pub collects-at : {s : S} {i : List Terminal} {front front' : List C} {d d' : ℕ} {total : Answer B} → front' ≡ front → d' ≡ d → Collects s i front d total → Collects s i front' d' total
   collects-at {s} {i} {front} {front'} {d} {d'} {total} e h g = subst (λ z. Collects s i z d' total) (sym e) (subst (λ z. Collects s i front z total) (sym h) g)
@@ -108,7 +108,7 @@ closed-list {src} {close} {total} c g at =
     record {
       got = record { tree = g.got.tree; rest = left src close };
       is = e;
-      same = record { rest = refl; same = g.same.same; deep = g.same.deep; fits = g.same.fits; some = g.same.some; shorter = omega (arith, after-shorter c g.got.rest (left src close) q, g.same.shorter) }
+      same = record { rest = refl; same = g.same.same; deep = g.same.deep; fits = g.same.fits; some = g.same.some; shorter = omega (arith, after-shorter c g.got.rest (left src close) q, g.same.shorter) };
     }
 
 pub closed-bad : {B C : Type 0} {list : B → List C} {depth_of : B → ℕ} {src : Source} {n : ℕ} {start : List Terminal} {xs : List C} {d : ℕ} {out : List Token} {total : Answer B} (c : Reserved) →

@@ -126,6 +126,7 @@ precedence-is {A} g i d o h = go (first_as as_digit i) h
         got-tree (ok r) = r.tree
         got-tree bad = 0
         got-tree deep = 0
+
         got-rest : Answer ℕ → List Terminal
         got-rest (ok r) = r.rest
         got-rest bad = []
@@ -136,6 +137,7 @@ precedence-is {A} g i d o h = go (first_as as_digit i) h
         got-tree (ok r) = r.tree
         got-tree bad = 0
         got-tree deep = 0
+
         got-rest : Answer ℕ → List Terminal
         got-rest (ok r) = r.rest
         got-rest bad = []
@@ -284,7 +286,7 @@ val-done s n self inner f i as_ d o a ps rs e o2 b t w by1 is1 by2 is2 is_dec =
     record {
       got = record { tree = val_dec (place_at i) a.tree b.tree; rest = b.rest };
       is = rw (start, by1, by3) refl;
-      same = record { rest = is2.rest; same = ap (λ (z : bare.Dec). z ∷ []) (is_dec ∙ rw (p1, p2, p3) refl); deep = is2.deep; fits = is2.fits; shorter = omega arith; force = refl }
+      same = record { rest = is2.rest; same = ap (λ (z : bare.Dec). z ∷ []) (is_dec ∙ rw (p1, p2, p3) refl); deep = is2.deep; fits = is2.fits; shorter = omega arith; force = refl };
     }
 
 -- The parts of a `local`.
@@ -335,6 +337,6 @@ module _ (s : Source) (n : ℕ) (f f1 : Fixity) (p : ℕ) (i : List Terminal) (d
               deep = omega (arith, deeper);
               fits = omega arith;
               shorter = lt;
-              force = force ∙ ap (λ (z : Fixity). z ++ f) (ap (λ (z : Fixity). take (length z - length f1) z) is2.force ∙ newest-are (added second.tree) f1)
-            }
+              force = force ∙ ap (λ (z : Fixity). z ++ f) (ap (λ (z : Fixity). take (length z - length f1) z) is2.force ∙ newest-are (added second.tree) f1);
+            };
           }

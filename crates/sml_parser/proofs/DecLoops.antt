@@ -106,8 +106,8 @@ module _ (s : Source) (n : ℕ) (f0 : Fixity) where
             deep = omega arith;
             fits = omega arith;
             short = le;
-            force = sym (g.force no_decs)
-          }
+            force = sym (g.force no_decs);
+          };
         }
       where
         append-none : (xs : List bare.Dec) → xs ++ [] ≡ xs
@@ -155,8 +155,8 @@ module _ (s : Source) (n : ℕ) (f : Fixity) where
               deep = omega arith;
               fits = omega arith;
               some = subst (λ (z : List derived.Function). 0 < length z) (sym all-are) (some-pushed (map function_of all) (function_from s.file got.tree));
-              shorter = omega arith
-            }
+              shorter = omega arith;
+            };
           }
         where
           some-pushed : (xs : List derived.Function) (y : derived.Function) → 0 < length (xs ++ y ∷ [])

@@ -127,11 +127,11 @@ module _ (s : Source) (n : ℕ) (f g g' : Fixity) {ds : List Dec} {d : ℕ} {o :
         is = record {
           rest = l.rest;
           bare = h ∙ ap (λ z. bare.let_in (at s.file (place_at i)) z (sequence_of (at s.file (place_at i)) (exp_of x) (map exp_of ys))) (ap decs_of is.same ∙ decs_all s.file t.tree)
-            ∙ ap (bare.let_in (at s.file (place_at i)) (bare_decs s.file t.tree)) (sequence-same s.file (place_at i) es.tree (exp_of x) (map exp_of ys) b);
+              ∙ ap (bare.let_in (at s.file (place_at i)) (bare_decs s.file t.tree)) (sequence-same s.file (place_at i) es.tree (exp_of x) (map exp_of ys) b);
           deep = omega (arith, q, q2);
           place = refl;
           fits = omega (arith, is.fits, l.fits);
-          shorter = omega (arith, l.shorter, lt, ls, tail-short i)
+          shorter = omega (arith, l.shorter, lt, ls, tail-short i);
         };
-        high = refl
+        high = refl;
       }

@@ -36,13 +36,13 @@ module _ (f : Fixity) (s : Source) (n : ℕ) (i : List Terminal) where
         is = record {
           rest = l.rest;
           bare = h ∙ ap (λ p. app_of (at s.file p) (exp_of e) xs) (sym is.is.place) ∙ ap (λ z. app_of (at s.file (exp_place r.tree)) z xs) is.is.bare
-            ∙ ap (λ z. app_of (at s.file (exp_place r.tree)) (bare_exp s.file r.tree) z) l.same ∙ sym (applied-bare s.file r.tree es.tree);
+              ∙ ap (λ z. app_of (at s.file (exp_place r.tree)) (bare_exp s.file r.tree) z) l.same ∙ sym (applied-bare s.file r.tree es.tree);
           deep = omega (arith, deep, q, q2);
           place = applied-place r.tree es.tree ∙ is.is.place;
           fits = omega (arith, deep, q, q2, l.fits, low);
-          shorter = omega (arith, l.shorter, lt)
+          shorter = omega (arith, l.shorter, lt);
         };
-        high = applied-level f s.file r.tree es.tree some
+        high = applied-level f s.file r.tree es.tree some;
       }
 
   pub is-record : {made : Exp} {d : ℕ} {o : List Token} {xs : List ExpFieldOf} (fs : Read ExpFields) → IsList (field_list s.file) depth_exp_fields s n (tail i) xs d o fs → exp_of made ≡ bare.fields_exp (at s.file (place_at i)) (exp_fields_of xs) →
@@ -56,9 +56,9 @@ module _ (f : Fixity) (s : Source) (n : ℕ) (i : List Terminal) where
           deep = omega (arith, q);
           place = refl;
           fits = omega (arith, l.fits);
-          shorter = omega (arith, l.shorter, tail-short i)
+          shorter = omega (arith, l.shorter, tail-short i);
         };
-        high = refl
+        high = refl;
       }
 
   pub is-list : {made : Exp} {d : ℕ} {o : List Token} {xs : List bare.Exp} (es : Read Exps) → IsList (exp_list s.file) depth_exps s n (tail i) xs d o es → exp_of made ≡ list_of (at s.file (place_at i)) xs →
@@ -67,7 +67,7 @@ module _ (f : Fixity) (s : Source) (n : ℕ) (i : List Terminal) where
       let q = l.deep in
       record {
         is = record { rest = l.rest; bare = h ∙ ap (list_of (at s.file (place_at i))) l.same; deep = omega (arith, q); place = refl; fits = omega (arith, l.fits); shorter = omega (arith, l.shorter, tail-short i) };
-        high = refl
+        high = refl;
       }
 
   module _ {e : Exp} {d : ℕ} {o : List Token} (r : Read read.Exp) (is : IsExp s n (tail i) e d o r) where
@@ -84,9 +84,9 @@ module _ (f : Fixity) (s : Source) (n : ℕ) (i : List Terminal) where
             deep = omega (arith, q, q2);
             place = refl;
             fits = omega (arith, is.fits, l.fits);
-            shorter = omega (arith, l.shorter, lt, ls, tail-short i)
+            shorter = omega (arith, l.shorter, lt, ls, tail-short i);
           };
-          high = refl
+          high = refl;
         }
 
     pub is-sequence : {made : Exp} {d2 : ℕ} {o2 : List Token} {m : List Terminal} {xs : List bare.Exp} (es : Read Exps) → length m < length (left s o) → IsList (exp_list s.file) depth_exps s n m xs d2 o2 es →
@@ -102,9 +102,9 @@ module _ (f : Fixity) (s : Source) (n : ℕ) (i : List Terminal) where
             deep = omega (arith, q, q2);
             place = refl;
             fits = omega (arith, is.fits, l.fits);
-            shorter = omega (arith, l.shorter, lt, ls, tail-short i)
+            shorter = omega (arith, l.shorter, lt, ls, tail-short i);
           };
-          high = refl
+          high = refl;
         }
 
     pub is-raise : {made : Exp} → exp_of made ≡ bare.raise (at s.file (place_at i)) (exp_of e) → IsExp s (n + 1) i made (d + 1) o (record { tree = raise (place_at i) r.tree; rest = r.rest })
@@ -123,7 +123,7 @@ module _ (f : Fixity) (s : Source) (n : ℕ) (i : List Terminal) where
             deep = omega (arith, q, q2);
             place = refl;
             fits = omega (arith, is.fits, is2.fits);
-            shorter = omega (arith, is.shorter, is2.shorter, tail-short i, tail-short r.rest)
+            shorter = omega (arith, is.shorter, is2.shorter, tail-short i, tail-short r.rest);
           }
 
       pub is-if : {e3 made : Exp} {d3 : ℕ} {o3 : List Token} (r3 : Read read.Exp) → IsExp s n (tail r2.rest) e3 d3 o3 r3 → exp_of made ≡ if_of (at s.file (place_at i)) (exp_of e) (exp_of e2) (exp_of e3) →
@@ -135,11 +135,11 @@ module _ (f : Fixity) (s : Source) (n : ℕ) (i : List Terminal) where
           record {
             rest = is3.rest;
             bare = h ∙ ap (λ z. if_of (at s.file (place_at i)) z (exp_of e2) (exp_of e3)) is.bare ∙ ap (λ z. if_of (at s.file (place_at i)) (bare_exp s.file r.tree) z (exp_of e3)) is2.bare
-              ∙ ap (λ z. if_of (at s.file (place_at i)) (bare_exp s.file r.tree) (bare_exp s.file r2.tree) z) is3.bare;
+                ∙ ap (λ z. if_of (at s.file (place_at i)) (bare_exp s.file r.tree) (bare_exp s.file r2.tree) z) is3.bare;
             deep = omega (arith, q, q2, q3);
             place = refl;
             fits = omega (arith, is.fits, is2.fits, is3.fits);
-            shorter = omega (arith, is.shorter, is2.shorter, is3.shorter, tail-short i, tail-short r.rest, tail-short r2.rest)
+            shorter = omega (arith, is.shorter, is2.shorter, is3.shorter, tail-short i, tail-short r.rest, tail-short r2.rest);
           }
 
 -- `case`, and a match after `fn`
@@ -153,11 +153,11 @@ module _ (f : Fixity) (s : Source) (n : ℕ) (i : List Terminal) where
       record {
         rest = l.rest;
         bare = h ∙ ap (λ z. case_of (at s.file (place_at i)) z (rules_of xs)) is.bare ∙ ap (λ z. case_of (at s.file (place_at i)) (bare_exp s.file r.tree) (rules_of z)) l.same
-          ∙ ap (case_of (at s.file (place_at i)) (bare_exp s.file r.tree)) (rules_all s.file rs.tree);
+            ∙ ap (case_of (at s.file (place_at i)) (bare_exp s.file r.tree)) (rules_all s.file rs.tree);
         deep = omega (arith, q, q2);
         place = refl;
         fits = omega (arith, is.fits, l.fits);
-        shorter = omega (arith, l.shorter, lt, ls, tail-short i)
+        shorter = omega (arith, l.shorter, lt, ls, tail-short i);
       }
 
   pub is-fn : {made : Exp} {d : ℕ} {o : List Token} {xs : List RuleOf} (rs : Read Rules) → IsList (rule_list s.file) depth_rules s n (tail i) xs d o rs → exp_of made ≡ bare.fn (at s.file (place_at i)) (rules_of xs) →

@@ -28,7 +28,7 @@ module _ (self : Reader) (f : Fixity) (s : Source) (n : ℕ) (i : List Terminal)
   pub is-chain : {xs : List (Operand tree.Joint bare.Exp)} (j : tree.Joint) (ps : Read Parts) → whole_parts self f (joint_from j) i ≡ ok ps → IsList (operands s.file) depth_parts s n i xs d o ps →
       exp_of made ≡ chain_of join (joint_right f (joint_from j)) p (exp_of before) xs →
       Gave (λ (y : Unit {0}) r. IsLarger f s (n + 1) i (exp_place a) (joint_level f (joint_from j)) made (max below d + 1) o r) tt
-        (then_read (whole_parts self f (joint_from j) i) (λ qs k. read (chain (joint_right f (joint_from j)) a qs) k))
+      (then_read (whole_parts self f (joint_from j) i) (λ qs k. read (chain (joint_right f (joint_from j)) a qs) k))
   is-chain {xs} j ps h l m =
       let q = l.deep in
       record {
@@ -37,13 +37,13 @@ module _ (self : Reader) (f : Fixity) (s : Source) (n : ℕ) (i : List Terminal)
         same = record {
           rest = l.rest;
           bare = m ∙ ap (λ z. chain_of join (joint_right f (joint_from j)) z (exp_of before) xs) pq ∙ ap (λ z. chain_of join (joint_right f (joint_from j)) (at s.file (exp_place a)) z xs) e
-            ∙ ap (λ z. chain_of join (joint_right f (joint_from j)) (at s.file (exp_place a)) (bare_exp s.file a) z) l.same;
+              ∙ ap (λ z. chain_of join (joint_right f (joint_from j)) (at s.file (exp_place a)) (bare_exp s.file a) z) l.same;
           deep = omega (arith, q, dq);
           place = refl;
           fits = omega (arith, l.fits, dq, low);
           shorter = l.shorter;
-          high = chain-level self f (joint_from j) i ps h
-        }
+          high = chain-level self f (joint_from j) i ps h;
+        };
       }
 
   pub is-handle : {xs : List RuleOf} (rs : Read Rules) → read_match n self f i ≡ ok rs → IsList (rule_list s.file) depth_rules s n i xs d o rs → exp_of made ≡ bare.handle p (exp_of before) (rules_of xs) →
@@ -56,11 +56,11 @@ module _ (self : Reader) (f : Fixity) (s : Source) (n : ℕ) (i : List Terminal)
         same = record {
           rest = l.rest;
           bare = m ∙ ap (λ z. bare.handle z (exp_of before) (rules_of xs)) pq ∙ ap (λ z. bare.handle (at s.file (exp_place a)) z (rules_of xs)) e
-            ∙ ap (λ z. bare.handle (at s.file (exp_place a)) (bare_exp s.file a) (rules_of z)) l.same ∙ ap (bare.handle (at s.file (exp_place a)) (bare_exp s.file a)) (rules_all s.file rs.tree);
+              ∙ ap (λ z. bare.handle (at s.file (exp_place a)) (bare_exp s.file a) (rules_of z)) l.same ∙ ap (bare.handle (at s.file (exp_place a)) (bare_exp s.file a)) (rules_all s.file rs.tree);
           deep = omega (arith, q, dq);
           place = refl;
           fits = omega (arith, l.fits, dq, low);
           shorter = l.shorter;
-          high = refl
-        }
+          high = refl;
+        };
       }

@@ -25,12 +25,13 @@ part-good f l r j b i i0 (mark m) y e = part-last f j b i i0 y e
 part-good f l r j b i i0 (handler m) y e = part-last f j b i i0 y e
 part-good f l r j b i i0 (joint k m) y e =
     elim (chosen (nat_eq (joint_level f k) l) _ _ e) [
-      inl p ↦ elim (chosen (same (joint_right f k) r) _ _ p.1) [ inl q ↦ part-more f j k b i0 m y q.1 | inr q ↦ bad_ok q.1 ]
-    | inr p ↦ part-last f j b i i0 y p.1 ]
+      | inl p ↦ elim (chosen (same (joint_right f k) r) _ _ p.1) [ inl q ↦ part-more f j k b i0 m y q.1 | inr q ↦ bad_ok q.1 ]
+      | inr p ↦ part-last f j b i i0 y p.1
+    ]
 
 pub chain-level : (self : Reader) (f : Fixity) (j : Joint) (m : List Terminal) (y : Read Parts) → whole_parts self f j m ≡ ok y → parts_level f y.tree ≡ joint_level f j
 chain-level self f j m y h =
     many-ok (part_turn self f (joint_level f j) (joint_right f j)) (LevelOf f)
-      (λ s i z e. let u = then_ok (self f (suc (joint_level f j)) i) (λ b o. part_next f (joint_level f j) (joint_right f j) s b o (next_of f o)) z e in
-        part-good f (joint_level f j) (joint_right f j) s u.0.tree u.0.rest i (next_of f u.0.rest) z u.2)
-      (suc (length m)) j m y h
+    (λ s i z e. let u = then_ok (self f (suc (joint_level f j)) i) (λ b o. part_next f (joint_level f j) (joint_right f j) s b o (next_of f o)) z e in
+    part-good f (joint_level f j) (joint_right f j) s u.0.tree u.0.rest i (next_of f u.0.rest) z u.2)
+    (suc (length m)) j m y h

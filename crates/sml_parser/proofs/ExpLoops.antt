@@ -39,8 +39,8 @@ module _ (src : Source) (n : ℕ) (w : Reserved) (self : Reader) (f : Fixity) {i
   pub exps-more : {m : List Terminal} → self f 0 i ≡ ok r → IsExp src n i x h o r → after_word w (left src o) ≡ Some m → Collects (exp_list src.file) depth_exps (exps_turn w self f) no_state i front d total →
       Collects (exp_list src.file) depth_exps (exps_turn w self f) no_state m (front ++ exp_of x ∷ []) (max h d) total
   exps-more {m} e is at g =
-    let q = subst (λ z. after_word w z ≡ Some m) is.rest at in
-    collects-more (exp_list src.file) depth_exps (exps_turn w self f) (exp r.tree) (exp_of x) h
+      let q = subst (λ z. after_word w z ≡ Some m) is.rest at in
+      collects-more (exp_list src.file) depth_exps (exps_turn w self f) (exp r.tree) (exp_of x) h
       (after-ok _ e ∙ sep-more (exp r.tree) (exp r.tree no_exps) no_state r.rest q) (omega (arith, after-shorter w r.rest m q, is.shorter))
       (λ b. ap (λ z. z ∷ exp_list src.file b) (sym is.bare)) (λ b. ap (λ z. max z (depth_exps b)) (sym is.deep)) refl refl g
 
@@ -48,8 +48,8 @@ module _ (src : Source) (n : ℕ) (w : Reserved) (self : Reader) (f : Fixity) {i
       Collects (exp_list src.file) depth_exps (exps_turn w self f) no_state i front d total →
       Gave (λ (y : Unit {0}) a. IsList (exp_list src.file) depth_exps src n start (front ++ exp_of x ∷ []) (max h d) o a) tt total
   exps-last {start} e is at le fits g =
-    let q = subst (λ z. after_word w z ≡ None) is.rest at in
-    collects-last (exp_list src.file) depth_exps (exps_turn w self f) (exp r.tree no_exps) (exp_of x) h
+      let q = subst (λ z. after_word w z ≡ None) is.rest at in
+      collects-last (exp_list src.file) depth_exps (exps_turn w self f) (exp r.tree no_exps) (exp_of x) h
       (after-ok _ e ∙ sep-last (exp r.tree) (exp r.tree no_exps) no_state r.rest q)
       (ap (λ z. z ∷ []) (sym is.bare)) (ap (λ z. max z 0) (sym is.deep) ∙ omega arith) refl refl is.rest (omega (arith, is.shorter)) (subst (λ z. z ≤ n) (sym is.deep) is.fits) fits g
 
@@ -59,8 +59,8 @@ module _ (src : Source) (n : ℕ) (self : Reader) (f : Fixity) {i k : List Termi
       Collects (field_list src.file) depth_exp_fields (row_turn self f) no_state i front d total →
       Collects (field_list src.file) depth_exp_fields (row_turn self f) no_state m (front ++ record { label = l.it; exp = exp_of x } ∷ []) (max h d) total
   rows-more {m} fl e is at g =
-    let q = subst (λ z. after_word res.Comma z ≡ Some m) is.rest at in
-    collects-more (field_list src.file) depth_exp_fields (row_turn self f) (exp_field l.it r.tree) (record { label = l.it; exp = exp_of x }) h
+      let q = subst (λ z. after_word res.Comma z ≡ Some m) is.rest at in
+      collects-more (field_list src.file) depth_exp_fields (row_turn self f) (exp_field l.it r.tree) (record { label = l.it; exp = exp_of x }) h
       (row-as self f no_state i l k fl ∙ after-ok _ e ∙ sep-more (exp_field l.it r.tree) (exp_field l.it r.tree no_exp_fields) no_state r.rest q)
       (omega (arith, after-shorter res.Comma r.rest m q, is.shorter, tail-short k, label-shorter i l k fl))
       (λ b. ap (λ z. record { label = l.it; exp = z } ∷ field_list src.file b) (sym is.bare)) (λ b. ap (λ z. max z (depth_exp_fields b)) (sym is.deep)) refl refl g
@@ -69,8 +69,8 @@ module _ (src : Source) (n : ℕ) (self : Reader) (f : Fixity) {i k : List Termi
       Collects (field_list src.file) depth_exp_fields (row_turn self f) no_state i front d total →
       Gave (λ (y : Unit {0}) a. IsList (field_list src.file) depth_exp_fields src n start (front ++ record { label = l.it; exp = exp_of x } ∷ []) (max h d) o a) tt total
   rows-last {start} fl e is at le fits g =
-    let q = subst (λ z. after_word res.Comma z ≡ None) is.rest at in
-    collects-last (field_list src.file) depth_exp_fields (row_turn self f) (exp_field l.it r.tree no_exp_fields) (record { label = l.it; exp = exp_of x }) h
+      let q = subst (λ z. after_word res.Comma z ≡ None) is.rest at in
+      collects-last (field_list src.file) depth_exp_fields (row_turn self f) (exp_field l.it r.tree no_exp_fields) (record { label = l.it; exp = exp_of x }) h
       (row-as self f no_state i l k fl ∙ after-ok _ e ∙ sep-last (exp_field l.it r.tree) (exp_field l.it r.tree no_exp_fields) no_state r.rest q)
       (ap (λ z. record { label = l.it; exp = z } ∷ []) (sym is.bare)) (ap (λ z. max z 0) (sym is.deep) ∙ omega arith) refl refl is.rest
       (omega (arith, is.shorter, tail-short k, label-shorter i l k fl)) (subst (λ z. z ≤ n) (sym is.deep) is.fits) fits g
@@ -89,8 +89,8 @@ module _ (src : Source) (n : ℕ) (self : Reader) (f : Fixity) {i : List Termina
       Collects (rule_list src.file) depth_rules (rule_turn n self f) no_state i front d total →
       Collects (rule_list src.file) depth_rules (rule_turn n self f) no_state m (front ++ rule_read src p x (place_at i) ∷ []) (max (max hp h) d) total
   rules-more {m} ep ip e is at g =
-    let q = subst (λ z. after_word res.Bar z ≡ Some m) is.rest at in
-    collects-more (rule_list src.file) depth_rules (rule_turn n self f) (rule a.tree r.tree) (rule_read src p x (place_at i)) (max hp h)
+      let q = subst (λ z. after_word res.Bar z ≡ Some m) is.rest at in
+      collects-more (rule_list src.file) depth_rules (rule_turn n self f) (rule a.tree r.tree) (rule_read src p x (place_at i)) (max hp h)
       (rule-as n self f no_state i a ep ∙ after-ok _ e ∙ sep-more (rule a.tree r.tree) (last_rule a.tree r.tree) no_state r.rest q)
       (omega (arith, after-shorter res.Bar r.rest m q, is.shorter, ip.shorter, tail-short a.rest))
       (λ b. ap (λ z. z ∷ rule_list src.file b) (sym (elements src n a r ip is))) (λ b. ap (λ z. max (max z (depth r.tree)) (depth_rules b)) (sym ip.depth) ∙ ap (λ z. max (max hp z) (depth_rules b)) (sym is.deep)) refl refl g
@@ -99,8 +99,8 @@ module _ (src : Source) (n : ℕ) (self : Reader) (f : Fixity) {i : List Termina
       Collects (rule_list src.file) depth_rules (rule_turn n self f) no_state i front d total →
       Gave (λ (y : Unit {0}) z. IsList (rule_list src.file) depth_rules src n start (front ++ rule_read src p x (place_at i) ∷ []) (max (max hp h) d) o z) tt total
   rules-last {start} ep ip e is at le fits g =
-    let q = subst (λ z. after_word res.Bar z ≡ None) is.rest at in
-    collects-last (rule_list src.file) depth_rules (rule_turn n self f) (last_rule a.tree r.tree) (rule_read src p x (place_at i)) (max hp h)
+      let q = subst (λ z. after_word res.Bar z ≡ None) is.rest at in
+      collects-last (rule_list src.file) depth_rules (rule_turn n self f) (last_rule a.tree r.tree) (rule_read src p x (place_at i)) (max hp h)
       (rule-as n self f no_state i a ep ∙ after-ok _ e ∙ sep-last (rule a.tree r.tree) (last_rule a.tree r.tree) no_state r.rest q)
       (ap (λ z. z ∷ []) (sym (elements src n a r ip is))) (ap (λ z. max z (depth r.tree)) (sym ip.depth) ∙ ap (λ z. max hp z) (sym is.deep)) refl refl is.rest
       (omega (arith, is.shorter, ip.shorter, tail-short a.rest)) (subst (λ z. max z h ≤ n) (sym ip.depth) (subst (λ z. max (depth_pat a.tree) z ≤ n) (sym is.deep) (omega (arith, ip.fits, is.fits)))) fits g
@@ -120,9 +120,9 @@ module _ (src : Source) (n : ℕ) (self : Reader) (f : Fixity) (l : ℕ) (right 
       Collects (operands src.file) depth_parts (part_turn self f l right) (joint_from j) i front d total →
       Collects (operands src.file) depth_parts (part_turn self f l right) (joint_from k) m (front ++ part_read src j (place_at i) x ∷ []) (max h d) total
   parts-more {m} k e is file goes lt g =
-    let q = subst (λ z. PartGoes f l right z k m) is.rest goes in
-    let s = subst (λ z. length m < length z) is.rest lt in
-    collects-more (operands src.file) depth_parts (part_turn self f l right) (part (joint_from j) r.tree) (part_read src j (place_at i) x) h
+      let q = subst (λ z. PartGoes f l right z k m) is.rest goes in
+      let s = subst (λ z. length m < length z) is.rest lt in
+      collects-more (operands src.file) depth_parts (part_turn self f l right) (part (joint_from j) r.tree) (part_read src j (place_at i) x) h
       (after-ok _ e ∙ q (joint_from j) r.tree) (omega (arith, s, is.shorter))
       (λ b. ap (λ z. z ∷ operands src.file b) (sym (operand src n r is file))) (λ b. ap (λ z. max z (depth_parts b)) (sym is.deep)) refl refl g
 
@@ -130,8 +130,8 @@ module _ (src : Source) (n : ℕ) (self : Reader) (f : Fixity) (l : ℕ) (right 
       Collects (operands src.file) depth_parts (part_turn self f l right) (joint_from j) i front d total →
       Gave (λ (y : Unit {0}) a. IsList (operands src.file) depth_parts src n start (front ++ part_read src j (place_at i) x ∷ []) (max h d) o a) tt total
   parts-last {start} e is file ends le fits g =
-    let q = subst (λ z. PartEnds f l right z) is.rest ends in
-    collects-last (operands src.file) depth_parts (part_turn self f l right) (last_part (joint_from j) r.tree) (part_read src j (place_at i) x) h
+      let q = subst (λ z. PartEnds f l right z) is.rest ends in
+      collects-last (operands src.file) depth_parts (part_turn self f l right) (last_part (joint_from j) r.tree) (part_read src j (place_at i) x) h
       (after-ok _ e ∙ q (joint_from j) r.tree)
       (ap (λ z. z ∷ []) (sym (operand src n r is file))) (sym is.deep) refl refl is.rest (omega (arith, is.shorter)) (subst (λ z. z ≤ n) (sym is.deep) is.fits) fits g
 
@@ -140,15 +140,15 @@ module _ (src : Source) (n : ℕ) (atom : AtomReader) (f : Fixity) {i : List Ter
   pub atoms-more : begins_atom f i ≡ true → atom f i ≡ ok r → IsExp src n i x h o r → Collects (exp_list src.file) depth_exps (atoms_turn atom f) no_state i front d total →
       Collects (exp_list src.file) depth_exps (atoms_turn atom f) no_state (left src o) (front ++ exp_of x ∷ []) (max h d) total
   atoms-more b e is g =
-    subst (λ z. Collects (exp_list src.file) depth_exps (atoms_turn atom f) no_state z (front ++ exp_of x ∷ []) (max h d) total) (sym is.rest)
+      subst (λ z. Collects (exp_list src.file) depth_exps (atoms_turn atom f) no_state z (front ++ exp_of x ∷ []) (max h d) total) (sym is.rest)
       (collects-more (exp_list src.file) depth_exps (atoms_turn atom f) (exp r.tree) (exp_of x) h (atoms-as atom f no_state i b ∙ after-ok _ e) is.shorter
-        (λ b. ap (λ z. z ∷ exp_list src.file b) (sym is.bare)) (λ b. ap (λ z. max z (depth_exps b)) (sym is.deep)) refl refl g)
+      (λ b. ap (λ z. z ∷ exp_list src.file b) (sym is.bare)) (λ b. ap (λ z. max z (depth_exps b)) (sym is.deep)) refl refl g)
 
   pub atoms-last : {start : List Terminal} → begins_atom f i ≡ true → atom f i ≡ ok r → IsExp src n i x h o r → begins_atom f (left src o) ≡ false → length i ≤ length start → d ≤ n →
       Collects (exp_list src.file) depth_exps (atoms_turn atom f) no_state i front d total →
       Gave (λ (y : Unit {0}) a. IsList (exp_list src.file) depth_exps src n start (front ++ exp_of x ∷ []) (max h d) o a) tt total
   atoms-last {start} b e is stops le fits g =
-    collects-end (exp_list src.file) depth_exps (atoms_turn atom f) front (exp_of x) no_exps (atoms-none atom f no_state (left src o) stops) refl refl refl
+      collects-end (exp_list src.file) depth_exps (atoms_turn atom f) front (exp_of x) no_exps (atoms-none atom f no_state (left src o) stops) refl refl refl
       (subst (λ z. length z < length start) (sym is.rest) (omega (arith, is.shorter))) (subst (λ z. max z d ≤ n) (sym is.deep) (omega (arith, is.fits, fits))) (atoms-more b e is g)
 
 -- failures
@@ -157,14 +157,14 @@ pub exps-fails : (src : Source) (w c : Reserved) (self : Reader) (f : Fixity) (e
     Collects (exp_list src.file) depth_exps (exps_turn w self f) no_state i front d (whole (exps_turn w self f) no_state i0) → Fails e (closed_exps w c self f i0)
 exps-fails src w c self f e i0 {i} h g =
     fails-then e (whole (exps_turn w self f) no_state i0) (λ es m. word_then c (λ o. read es o) m)
-      (collects-fails (exp_list src.file) depth_exps (exps_turn w self f) e (fails-then e (self f 0 i) (λ x o. separated (after_word w o) (exp x) (exp x no_exps) no_state o) h) g)
+    (collects-fails (exp_list src.file) depth_exps (exps_turn w self f) e (fails-then e (self f 0 i) (λ x o. separated (after_word w o) (exp x) (exp x no_exps) no_state o) h) g)
 
 pub rows-fails : (src : Source) (self : Reader) (f : Fixity) (e : Stop) (i0 : List Terminal) {i k : List Terminal} {l : Placed Label} {front : List ExpFieldOf} {d : ℕ} → first_as as_label i ≡ taken l k → Fails e (word_then res.Equals (self f 0) k) →
     Collects (field_list src.file) depth_exp_fields (row_turn self f) no_state i front d (whole (row_turn self f) no_state i0) → Fails e (closed_rows self f i0)
 rows-fails src self f e i0 {i} {k} {l} fl h g =
     fails-then e (whole (row_turn self f) no_state i0) (λ fs m. word_then res.RightBrace (λ o. read fs o) m)
-      (collects-fails (field_list src.file) depth_exp_fields (row_turn self f) e
-        (fails-by e _ _ (row-as self f no_state i l k fl) (fails-then e (word_then res.Equals (self f 0) k) (λ x q. separated (after_word res.Comma q) (exp_field l.it x) (exp_field l.it x no_exp_fields) no_state q) h)) g)
+    (collects-fails (field_list src.file) depth_exp_fields (row_turn self f) e
+    (fails-by e _ _ (row-as self f no_state i l k fl) (fails-then e (word_then res.Equals (self f 0) k) (λ x q. separated (after_word res.Comma q) (exp_field l.it x) (exp_field l.it x no_exp_fields) no_state q) h)) g)
 
 pub rows-none : (src : Source) (self : Reader) (f : Fixity) (left_ : ℕ) (i0 : List Terminal) {i : List Terminal} {front : List ExpFieldOf} {d : ℕ} → first_as as_label i ≡ None →
     Collects (field_list src.file) depth_exp_fields (row_turn self f) no_state i front d (whole (row_turn self f) no_state i0) → closed_rows self f i0 ≡ bad
@@ -175,13 +175,13 @@ pub rules-fails-pat : (src : Source) (n : ℕ) (self : Reader) (f : Fixity) (e :
     Collects (rule_list src.file) depth_rules (rule_turn n self f) no_state i front d (read_match n self f i0) → Fails e (read_match n self f i0)
 rules-fails-pat src n self f e i0 {i} h g =
     collects-fails (rule_list src.file) depth_rules (rule_turn n self f) e
-      (fails-then e (read_pat n f i) (λ a m. word_then res.DoubleArrow (λ k. then_read (self f 0 k) (λ x o. separated (after_word res.Bar o) (rule a x) (last_rule a x) no_state o)) m) h) g
+    (fails-then e (read_pat n f i) (λ a m. word_then res.DoubleArrow (λ k. then_read (self f 0 k) (λ x o. separated (after_word res.Bar o) (rule a x) (last_rule a x) no_state o)) m) h) g
 
 pub rules-fails : (src : Source) (n : ℕ) (self : Reader) (f : Fixity) (e : Stop) (i0 : List Terminal) {i : List Terminal} {front : List RuleOf} {d : ℕ} (a : Read read.Pat) → read_pat n f i ≡ ok a → Fails e (word_then res.DoubleArrow (self f 0) a.rest) →
     Collects (rule_list src.file) depth_rules (rule_turn n self f) no_state i front d (read_match n self f i0) → Fails e (read_match n self f i0)
 rules-fails src n self f e i0 {i} a ep h g =
     collects-fails (rule_list src.file) depth_rules (rule_turn n self f) e
-      (fails-by e _ _ (rule-as n self f no_state i a ep) (fails-then e (word_then res.DoubleArrow (self f 0) a.rest) (λ x o. separated (after_word res.Bar o) (rule a.tree x) (last_rule a.tree x) no_state o) h)) g
+    (fails-by e _ _ (rule-as n self f no_state i a ep) (fails-then e (word_then res.DoubleArrow (self f 0) a.rest) (λ x o. separated (after_word res.Bar o) (rule a.tree x) (last_rule a.tree x) no_state o) h)) g
 
 -- what a turn takes
 pub exp-shorter : (src : Source) (n : ℕ) (w : Reserved) {i m : List Terminal} {x : Exp} {h : ℕ} {o : List Token} (r : Read read.Exp) → IsExp src n i x h o r → after_word w (left src o) ≡ Some m → length m < length i
@@ -208,7 +208,7 @@ pub parts-fails-next : (src : Source) (n : ℕ) (self : Reader) (f : Fixity) (l 
     self f (l + 1) i ≡ ok r → IsExp src n i x h o r → PartFails f l right (left src o) e → Collects (operands src.file) depth_parts (part_turn self f l right) j i front d total → Fails e total
 parts-fails-next src n self f l right e {i} j r q is w g =
     collects-fails (operands src.file) depth_parts (part_turn self f l right) e
-      (fails-by e _ _ (after-ok (λ b o. part_next f l right j b o (next_of f o)) (exp-at self f l i ∙ q)) (subst (λ z. PartFails f l right z e) is.rest w j r.tree)) g
+    (fails-by e _ _ (after-ok (λ b o. part_next f l right j b o (next_of f o)) (exp-at self f l i ∙ q)) (subst (λ z. PartFails f l right z e) is.rest w j r.tree)) g
 
 pub rule-shorter : (src : Source) (n : ℕ) {i m : List Terminal} {p : Pat} {hp : ℕ} {op : List Token} (a : Read read.Pat) {x : Exp} {h : ℕ} {o : List Token} (r : Read read.Exp) → IsPat src n i p hp op a → IsExp src n (tail a.rest) x h o r →
     after_word res.Bar (left src o) ≡ Some m → length m < length i

@@ -23,14 +23,14 @@ module _ (self : Reader) (n : ℕ) (f : Fixity) (l : ℕ) (s : Source) where
   pub seek-start : {i : List Terminal} {e : Exp} {d : ℕ} {o : List Token} {total : Answer read.Exp} (r : Read read.Exp) → IsAtom f s (n + 1) i e d o r → total ≡ whole (suffix_turn self n f l) r.tree r.rest →
       Seeking self n f l s (place_at i) (left s o) e d 1000 total
   seek-start {total} r is q = record {
-      tree = r.tree;
-      going = subst (λ z. Going (suffix_turn self n f l) r.tree z (λ b. b) total) (sym is.is.rest) (subst (λ z. Going (suffix_turn self n f l) r.tree r.rest (λ b. b) z) (sym q) (going-start (suffix_turn self n f l) r.tree r.rest));
-      bare = is.is.bare;
-      deep = is.is.deep;
-      place = is.is.place;
-      fits = is.is.fits;
-      above = sym is.high
-    }
+    tree = r.tree;
+    going = subst (λ z. Going (suffix_turn self n f l) r.tree z (λ b. b) total) (sym is.is.rest) (subst (λ z. Going (suffix_turn self n f l) r.tree r.rest (λ b. b) z) (sym q) (going-start (suffix_turn self n f l) r.tree r.rest));
+    bare = is.is.bare;
+    deep = is.is.deep;
+    place = is.is.place;
+    fits = is.is.fits;
+    above = sym is.high;
+  }
 
   module _ (i0 : List Terminal) (o : List Token) {e : Exp} {d high : ℕ} {total : Answer read.Exp} where
     ends : (g : Seeking self n f l s (place_at i0) (left s o) e d high total) → length (left s o) < length i0 → total ≡ read g.tree (left s o) → Gave (λ (y : Unit {0}) r. IsExp s (n + 1) i0 e d o r) tt total
@@ -59,12 +59,12 @@ module _ (self : Reader) (n : ℕ) (f : Fixity) (l : ℕ) (s : Source) where
       pub seek-more : {e' : Exp} {d' : ℕ} {o' : List Token} (r : Read read.Exp) → l ≤ tie_level f t → tie_least f t ≤ high → d ≤ n → length m < length (left s o) → tie_rest self n f g.tree t m ≡ ok r →
           IsLarger f s (n + 1) m (read.exp_place g.tree) (tie_level f t) e' d' o' r → Seeking self n f l s (place_at i0) (left s o') e' d' (tie_level f t) total
       seek-more r h b q lt w is = record {
-          tree = r.tree;
-          going = subst (λ z. Going (suffix_turn self n f l) r.tree z (λ y. y) total) (sym is.rest)
+        tree = r.tree;
+        going = subst (λ z. Going (suffix_turn self n f l) r.tree z (λ y. y) total) (sym is.rest)
             (going-more (suffix_turn self n f l) (goes h b q ∙ after-ok (λ z k. read (more (λ y. y) z) k) w) (omega (arith, is.shorter, lt)) g.going);
-          bare = is.bare;
-          deep = is.deep;
-          place = is.place ∙ g.place;
-          fits = is.fits;
-          above = sym is.high
-        }
+        bare = is.bare;
+        deep = is.deep;
+        place = is.place ∙ g.place;
+        fits = is.fits;
+        above = sym is.high;
+      }

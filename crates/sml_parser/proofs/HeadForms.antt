@@ -20,7 +20,7 @@ use Rattle.sml_grammar.proofs.PatHeads.{is-atpat, BracketAt, bracket_at, bracket
 use Rattle.sml_parser.specs.HeadsRead.{NoPattern}
 
 whole-bracket : {f : Fixity} {i m ar k br o : List Terminal} (a b : Pat) (x : Placed ℕ) → WordAt res.LeftParen i m → AtPat f m a ar → InfixAt f ar x k → AtPat f k b br → WordAt res.RightParen br o →
-  AtPat f i (paren_pat (place_at i) (chain_pat (vid_right f (Named x.it)) a (last_pat_part x b))) o
+    AtPat f i (paren_pat (place_at i) (chain_pat (vid_right f (Named x.it)) a (last_pat_part x b))) o
 whole-bracket a b x (at_word p) d (infix_at v) e (at_word q) = bracket-pattern p q d v e
 
 pub record Again (b : Bracketed) (i : List Terminal) (left right : Pat) (vid : ℕ) (y : Read Pat) : Type 0 where
@@ -32,16 +32,16 @@ pub record Again (b : Bracketed) (i : List Terminal) (left right : Pat) (vid : �
   pub depth : depth_pat y.tree ≡ suc (suc (max (depth_pat b.left) (depth_pat b.right)))
 
 pub again-some : (n : ℕ) (f : Fixity) (i m k o : List Terminal) (y a b : Read Pat) (x : Placed ℕ) → 2 ≤ n → read_atpat n f i ≡ ok y → after_word res.LeftParen i ≡ Some m → read_atpat (n - 2) f m ≡ ok a → infix_vid f a.rest ≡ taken x k → read_atpat (n - 2) f k ≡ ok b → after_word res.RightParen b.rest ≡ Some o →
-  Again (record { place = place_at i; left = a.tree; vid = x.it; right = b.tree }) i a.tree b.tree x.it y
+    Again (record { place = place_at i; left = a.tree; vid = x.it; right = b.tree }) i a.tree b.tree x.it y
 again-some n f i m k o y a b x two h p ha j hb q =
-  let ga = atpat-sound (n - 2) f m a ha in
-  let gb = atpat-sound (n - 2) f k b hb in
-  let d = whole-bracket a.tree b.tree x (word-at res.LeftParen i m p) ga.reads (infix-is f a.rest x k j) gb.reads (word-at res.RightParen b.rest o q) in
-  let fa = ga.fits in let fb = gb.fits in
-  let r : read_atpat n f i ≡ read (paren_pat (place_at i) (chain_pat (vid_right f (Named x.it)) a.tree (last_pat_part x b.tree))) o = atpat-complete n f d (omega arith) in
-  let e : y.tree ≡ paren_pat (place_at i) (chain_pat (vid_right f (Named x.it)) a.tree (last_pat_part x b.tree)) = ap (λ (z : Read Pat). z.tree) (got (sym h ∙ r)) in
-  let ca = is-atpat ga.reads in let cb = is-atpat gb.reads in
-  record { is = ap bracketed e ∙ rw (ca, cb) refl; left_is = refl; right_is = refl; vid_is = refl; place = refl; depth = ap depth_pat e }
+    let ga = atpat-sound (n - 2) f m a ha in
+    let gb = atpat-sound (n - 2) f k b hb in
+    let d = whole-bracket a.tree b.tree x (word-at res.LeftParen i m p) ga.reads (infix-is f a.rest x k j) gb.reads (word-at res.RightParen b.rest o q) in
+    let fa = ga.fits in let fb = gb.fits in
+    let r : read_atpat n f i ≡ read (paren_pat (place_at i) (chain_pat (vid_right f (Named x.it)) a.tree (last_pat_part x b.tree))) o = atpat-complete n f d (omega arith) in
+    let e : y.tree ≡ paren_pat (place_at i) (chain_pat (vid_right f (Named x.it)) a.tree (last_pat_part x b.tree)) = ap (λ (z : Read Pat). z.tree) (got (sym h ∙ r)) in
+    let ca = is-atpat ga.reads in let cb = is-atpat gb.reads in
+    record { is = ap bracketed e ∙ rw (ca, cb) refl; left_is = refl; right_is = refl; vid_is = refl; place = refl; depth = ap depth_pat e }
 
 bracket-depth : (a : Pat) (x : Bracketed) → bracketed a ≡ Some x → suc (suc (max (depth_pat x.left) (depth_pat x.right))) ≤ depth_pat a
 bracket-depth (paren_pat p (chain_pat r a (last_pat_part y b))) x h =
@@ -67,11 +67,19 @@ record Parts (n : ℕ) (f : Fixity) (i : List Terminal) : Type 0 where
 
 parts-from : (n : ℕ) (f : Fixity) {i o : List Terminal} {z : Bracketed} → BracketAt f i z o → suc (suc (max (depth_pat z.left) (depth_pat z.right))) ≤ n → Parts n f i
 parts-from n f (bracket_at {i} {m} {n = o} {t} {x} {a} {b} p q d v e) le = record {
-  two = omega arith; inner = i; open_at = word-self res.LeftParen p i;
-  first = record { tree = a; rest = t ∷ m }; first_is = atpat-complete (n - 2) f d (omega arith);
-  vid = x; more_at = m; vid_is = infix-found v m;
-  second = record { tree = b; rest = reserved q res.RightParen ∷ o }; second_is = atpat-complete (n - 2) f e (omega arith);
-  end = o; end_is = word-self res.RightParen q o }
+  two = omega arith;
+  inner = i;
+  open_at = word-self res.LeftParen p i;
+  first = record { tree = a; rest = t ∷ m };
+  first_is = atpat-complete (n - 2) f d (omega arith);
+  vid = x;
+  more_at = m;
+  vid_is = infix-found v m;
+  second = record { tree = b; rest = reserved q res.RightParen ∷ o };
+  second_is = atpat-complete (n - 2) f e (omega arith);
+  end = o;
+  end_is = word-self res.RightParen q o;
+}
 
 none-of : {A : Type 0} (v : Option A) → ((z : A) → v ≡ Some z → ⊥) → v ≡ None
 none-of (Some z) h = absurd (h z refl)
@@ -88,9 +96,9 @@ taken-rest h = ap taken_rest h
 module _ (n : ℕ) (f : Fixity) (i : List Terminal) (y : Read Pat) (h : read_atpat n f i ≡ ok y) where
   none-by : (Parts n f i → ⊥) → bracketed y.tree ≡ None
   none-by never = none-of (bracketed y.tree) (λ z e.
-    let g = atpat-sound n f i y h in
-    let d = bracket-depth y.tree z e in let ff = g.fits in
-    never (parts-from n f (bracket-is z g.reads e) (omega arith)))
+      let g = atpat-sound n f i y h in
+      let d = bracket-depth y.tree z e in let ff = g.fits in
+      never (parts-from n f (bracket-is z g.reads e) (omega arith)))
 
   pub none-two : n < 2 → bracketed y.tree ≡ None
   none-two lt = none-by (λ p. let t = p.two in omega arith)
@@ -124,5 +132,5 @@ module _ (n : ℕ) (f : Fixity) (i : List Terminal) (y : Read Pat) (h : read_atp
 
         pub none-close : (b : Read Pat) → read_atpat (n - 2) f k ≡ ok b → after_word res.RightParen b.rest ≡ None → bracketed y.tree ≡ None
         none-close b right_ e = none-by (λ p.
-          let s : p.second ≡ b = got (sym (subst (λ (z : List Terminal). read_atpat (n - 2) f z ≡ ok p.second) (more-is p) p.second_is) ∙ right_) in
-          not_some (sym e ∙ subst (λ (z : Read Pat). after_word res.RightParen z.rest ≡ Some p.end) s p.end_is))
+            let s : p.second ≡ b = got (sym (subst (λ (z : List Terminal). read_atpat (n - 2) f z ≡ ok p.second) (more-is p) p.second_is) ∙ right_) in
+            not_some (sym e ∙ subst (λ (z : Read Pat). after_word res.RightParen z.rest ≡ Some p.end) s p.end_is))

@@ -53,6 +53,6 @@ module _ (n : ℕ) (f : Fixity) (s : Option Shape) (i : List Terminal) (h : Read
           deep = omega (arith, deeper);
           fits = omega arith;
           shorter = omega arith;
-          agrees = subst (λ (z : Option Shape). agrees z h.tree ≡ true) e a
-        }
+          agrees = subst (λ (z : Option Shape). agrees z h.tree ≡ true) e a;
+        };
       }

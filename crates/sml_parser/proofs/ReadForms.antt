@@ -30,12 +30,12 @@ pub core-is : Sound → (f f1 f' : Fixity) (s : Source) (tokens tokens1 : List T
     (readers 400).decs f1 (left s tokens1) ≡ ok got → IsDecs f1 f' s 400 (left s tokens1) ds d o got → IsCore f s tokens ds f'
 core-is sound f f1 f' s tokens tokens1 ds d o got same_fix same_tokens none h is =
     let by : (readers 400).decs f (left s tokens) ≡ ok got =
-        ap (λ (z : Fixity). (readers 400).decs z (left s tokens)) (sym same_fix) ∙ ap (λ (z : List Token). (readers 400).decs f1 (left s z)) (sym same_tokens) ∙ h in
+    ap (λ (z : Fixity). (readers 400).decs z (left s tokens)) (sym same_fix) ∙ ap (λ (z : List Token). (readers 400).decs f1 (left s z)) (sym same_tokens) ∙ h in
     let all : read_all 400 f (left s tokens) ≡ read got.tree [] = ap (λ (a : Answer Decs). then_read a at_end) by ∙ ap (at_end got.tree) (sym is.rest ∙ no-terminals s o none) in
     let both = sound 400 f (left s tokens) got.tree all in
     record {
       tree = got.tree;
       is = record { reads = both.0; shallow = both.1 };
       bare = ap decs_of is.same ∙ decs_all s.file got.tree;
-      after = is.force ∙ ap (λ (z : Fixity). after z got.tree) same_fix
+      after = is.force ∙ ap (λ (z : Fixity). after z got.tree) same_fix;
     }

@@ -34,6 +34,7 @@ plain-shorter f i x o h = go (first_as as_vid i) refl h
     then : (t : Taken (Placed ℕ)) (d : Option Infix) → first_as as_vid i ≡ Some t → plain_if t.it t.rest d ≡ taken x o → length o < length i
     then t None q e = let r : t.rest ≡ o = same-rest e in let r2 = ap length r in let k = first-shorter as_vid i t.it t.rest q in omega arith
     then t (Some d) q e = absurd (cc)
+
     go : (y : Option (Taken (Placed ℕ))) → first_as as_vid i ≡ y → plain_from f y ≡ taken x o → length o < length i
     go (Some t) q e = then t (fix_of (Named t.it.it) f) q e
     go None q e = absurd (cc)
@@ -44,6 +45,7 @@ infix-shorter f i x o h = go (first_as as_vid i) refl h
     then : (t : Taken (Placed ℕ)) (d : Option Infix) → first_as as_vid i ≡ Some t → infix_if t.it t.rest d ≡ taken x o → length o < length i
     then t (Some d) q e = let r : t.rest ≡ o = same-rest e in let r2 = ap length r in let k = first-shorter as_vid i t.it t.rest q in omega arith
     then t None q e = absurd (cc)
+
     go : (y : Option (Taken (Placed ℕ))) → first_as as_vid i ≡ y → infix_from f y ≡ taken x o → length o < length i
     go (Some t) q e = then t (fix_of (Named t.it.it) f) q e
     go None q e = absurd (cc)
@@ -54,6 +56,7 @@ binds-shorter f i x o h = go (after_word res.Op i) refl
     plain : (y : Option (Taken (Placed ℕ))) → plain_vid f i ≡ y → named_if y ≡ taken x o → length o < length i
     plain (Some t) q e = let r : t.rest ≡ o = same-rest e in let r2 = ap length r in let k = plain-shorter f i t.it t.rest q in omega arith
     plain None q e = absurd (cc)
+
     go : (y : Option (List Terminal)) → after_word res.Op i ≡ y → length o < length i
     go (Some m) q = let a = word-shorter res.Op i m q in let b = op-shorter as_any_vid (place_at i) m x o (sym (binds-op f i m q) ∙ h) in omega arith
     go None q = plain (plain_vid f i) refl (sym (binds-plain f i q) ∙ h)
@@ -64,6 +67,7 @@ names-shorter f i x o h = go (after_word res.Op i) refl
     plain : (y : Option (Taken (Placed ℕ))) → plain_vid f i ≡ y → long_named_if (first_as as_qualified i) y ≡ taken x o → length o < length i
     plain (Some t) q e = let r : t.rest ≡ o = same-rest e in let r2 = ap length r in let k = plain-shorter f i t.it t.rest q in omega arith
     plain None q e = first-shorter as_qualified i x o e
+
     go : (y : Option (List Terminal)) → after_word res.Op i ≡ y → length o < length i
     go (Some m) q = let a = word-shorter res.Op i m q in let b = op-shorter as_any_long (place_at i) m x o (sym (names-op f i m q) ∙ h) in omega arith
     go None q = plain (plain_vid f i) refl (sym (names-plain f i q) ∙ h)

@@ -108,4 +108,3 @@ field_list f (exp_field l e fs) = record { label = l; exp = bare_exp f e } ∷ f
 abbrev pub rule_list : ℕ → Rules → List RuleOf
 rule_list f (last_rule a e) = record { place = at f (pat_place a); pat = bare_pat f a; exp = bare_exp f e } ∷ []
 rule_list f (rule a e rs) = record { place = at f (pat_place a); pat = bare_pat f a; exp = bare_exp f e } ∷ rule_list f rs
-

@@ -15,9 +15,9 @@ use crate::got::Got;
 use crate::nodes::{constant, derived_exp, name};
 use crate::source::Source;
 use crate::stop::Stop;
-use crate::vids::{constant_at, names_vid};
 use crate::ties::is_infix;
 use crate::tokens::{after_word, label_at, place_at};
+use crate::vids::{constant_at, names_vid};
 use mlc_base::token::{Reserved, Token, TokenKind};
 use sml_tree::derive::Derived;
 use sml_tree::fixity::Fixities;
@@ -59,7 +59,9 @@ fn is_op_name(source: &Source, tokens: &[Token]) -> bool
 pub fn begins_atom(source: &Source, fix: &Fixities, tokens: &[Token]) -> bool
     ensures { result ≡ begins_atom fix.now (left source.now tokens.now) }
 {
-    let [first, rest @ ..] = tokens else { return false };
+    let [first, rest @ ..] = tokens else {
+        return false
+    };
     match &first.kind {
         TokenKind::Reserved(Reserved::LeftBrace) => true,
         TokenKind::Reserved(Reserved::Hash) => true,
@@ -105,7 +107,12 @@ pub fn no_atom_room(source: &Source, fix: &Fixities, tokens: &[Token]) -> Stop
 }
 
 /// The identifier that an atomic expression is.
-fn atom_vid<'a>(alloc: Global, source: &Source, fix: &Fixities, tokens: &'a [Token]) -> Result<Option<(LongVid, &'a [Token])>, Stop>
+fn atom_vid<'a>(
+    alloc: Global,
+    source: &Source,
+    fix: &Fixities,
+    tokens: &'a [Token],
+) -> Result<Option<(LongVid, &'a [Token])>, Stop>
     ensures { MatchResult result (λ found. MatchOption found (atom_vid fix.now (left source.now tokens.now) ≡ None)
         (λ x. atom_vid fix.now (left source.now tokens.now) ≡ taken (record { place = place_at (left source.now tokens.now); it = long_vid_of x.0 }) (left source.now x.1.now)))
         (λ e. e ≡ Memory) }
@@ -115,27 +122,48 @@ fn atom_vid<'a>(alloc: Global, source: &Source, fix: &Fixities, tokens: &'a [Tok
             if is_infix(fix, &Vid::Equals) {
                 return Ok(None);
             }
-            Ok(Some((LongVid { qualifiers: Vec::new(alloc), vid: Vid::Equals }, rest)))
+            Ok(Some((
+                LongVid {
+                    qualifiers: Vec::new(alloc),
+                    vid: Vid::Equals,
+                },
+                rest,
+            )))
         }
         None => names_vid(alloc, source, fix, tokens),
     }
 }
 
 /// An atomic expression that no bracket begins.
-pub fn leaf_atom<'a>(alloc: Global, source: &Source, fix: &Fixities, tokens: &'a [Token]) -> Result<Got<'a, Exp>, Stop>
+pub fn leaf_atom<'a>(
+    alloc: Global,
+    source: &Source,
+    fix: &Fixities,
+    tokens: &'a [Token],
+) -> Result<Got<'a, Exp>, Stop>
     ensures gives { Gives (λ x r. IsAtom fix.now source.now 1 (left source.now tokens.now) x.it x.depth x.rest.now r) result (leaf_by (atom_start fix.now (left source.now tokens.now))) }
 {
     let place = place_at(source, tokens);
     if let Some((it, rest)) = constant_at(alloc, source, tokens)? {
-        return Ok(Got { it: constant(place, it), depth: 1, rest });
+        return Ok(Got {
+            it: constant(place, it),
+            depth: 1,
+            rest,
+        });
     }
     if let Some(after) = after_word(source, Reserved::Hash, tokens) {
-        let Some((label, rest)) = label_at(source, after) else { return Err(Stop::Bad(after.len())) };
+        let Some((label, rest)) = label_at(source, after) else {
+            return Err(Stop::Bad(after.len()))
+        };
         let it = derived_exp(alloc, Derived::Selector(place, label))?;
         return Ok(Got { it, depth: 1, rest });
     }
     match atom_vid(alloc, source, fix, tokens)? {
-        Some((long, rest)) => Ok(Got { it: name(place, long), depth: 1, rest }),
+        Some((long, rest)) => Ok(Got {
+            it: name(place, long),
+            depth: 1,
+            rest,
+        }),
         None => Err(Stop::Bad(tokens.len())),
     }
 }

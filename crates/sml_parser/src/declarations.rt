@@ -17,7 +17,7 @@ ghost use Rattle.sml_parser.specs.DeclarationsRead.{IsBinds, IsFunction, IsDec, 
 use crate::bindings::read_tyvars;
 use crate::expressions::read_after;
 use crate::got::Got;
-use crate::headings::{clause_from, read_heading, Shape};
+use crate::headings::{Shape, clause_from, read_heading};
 use crate::nodes::{bind, function, functions, local, val};
 use crate::patterns::read_pat;
 use crate::simple_decs::{begins_dec, simple_dec};
@@ -34,7 +34,13 @@ use std::alloc::Global;
 
 /// Declarations, and what they do to the fixities in force.
 #[cycle(expressions)]
-pub fn read_decs<'a>(alloc: Global, source: &Source, fix: &mut Fixities, n: u32, tokens: &'a [Token]) -> Result<Got<'a, Vec<Dec>>, Stop>
+pub fn read_decs<'a>(
+    alloc: Global,
+    source: &Source,
+    fix: &mut Fixities,
+    n: u32,
+    tokens: &'a [Token],
+) -> Result<Got<'a, Vec<Dec>>, Stop>
     requires { n < 1000 }
     ensures gives { Gives (λ x r. IsDecs fix.old fix.new source.now n (left source.now tokens.now) x.it.items x.depth x.rest.now r) result ((readers n).decs fix.old (left source.now tokens.now)) }
 {
@@ -47,9 +53,17 @@ pub fn read_decs<'a>(alloc: Global, source: &Source, fix: &mut Fixities, n: u32,
             continue 'decs;
         }
         if !begins_dec(source, rest) {
-            return Ok(Got { it: all, depth: deepest, rest });
+            return Ok(Got {
+                it: all,
+                depth: deepest,
+                rest,
+            });
         }
-        let Got { it, depth, rest: after } = read_dec(alloc, source, fix, n, rest)?;
+        let Got {
+            it,
+            depth,
+            rest: after,
+        } = read_dec(alloc, source, fix, n, rest)?;
         put_dec(&mut all, it)?;
         deepest = depth.max(deepest);
         rest = after;
@@ -58,7 +72,13 @@ pub fn read_decs<'a>(alloc: Global, source: &Source, fix: &mut Fixities, n: u32,
 
 /// A declaration, and what it does to the fixities in force.
 #[cycle(expressions)]
-fn read_dec<'a>(alloc: Global, source: &Source, fix: &mut Fixities, n: u32, tokens: &'a [Token]) -> Result<Got<'a, Option<Dec>>, Stop>
+fn read_dec<'a>(
+    alloc: Global,
+    source: &Source,
+    fix: &mut Fixities,
+    n: u32,
+    tokens: &'a [Token],
+) -> Result<Got<'a, Option<Dec>>, Stop>
     requires { n < 1000 }
     ensures gives { Gives (λ x r. IsDec fix.old fix.new source.now n (left source.now tokens.now) x.it x.depth x.rest.now r) result
         (dec_by n (readers n).exp (inner_decs n) fix.old (dec_start (left source.now tokens.now))) }
@@ -66,14 +86,34 @@ fn read_dec<'a>(alloc: Global, source: &Source, fix: &mut Fixities, n: u32, toke
     let place = place_at(source, tokens);
     match word_at(source, tokens) {
         Some(Reserved::Val) => {
-            let Got { it: tyvars, depth: _, rest: after } = read_tyvars(alloc, source, tail(source, tokens))?;
-            let Got { it: (plain, recursive), depth, rest } = read_binds(alloc, source, fix, n, after)?;
-            Ok(Got { it: Some(val(place, tyvars, plain, recursive)), depth, rest })
+            let Got {
+                it: tyvars,
+                depth: _,
+                rest: after,
+            } = read_tyvars(alloc, source, tail(source, tokens))?;
+            let Got {
+                it: (plain, recursive),
+                depth,
+                rest,
+            } = read_binds(alloc, source, fix, n, after)?;
+            Ok(Got {
+                it: Some(val(place, tyvars, plain, recursive)),
+                depth,
+                rest,
+            })
         }
         Some(Reserved::Fun) => {
-            let Got { it: tyvars, depth: _, rest: after } = read_tyvars(alloc, source, tail(source, tokens))?;
+            let Got {
+                it: tyvars,
+                depth: _,
+                rest: after,
+            } = read_tyvars(alloc, source, tail(source, tokens))?;
             let Got { it, depth, rest } = read_functions(alloc, source, fix, n, after)?;
-            Ok(Got { it: Some(functions(place, tyvars, it)), depth, rest })
+            Ok(Got {
+                it: Some(functions(place, tyvars, it)),
+                depth,
+                rest,
+            })
         }
         Some(Reserved::Local) => {
             if n == 0 {
@@ -87,24 +127,53 @@ fn read_dec<'a>(alloc: Global, source: &Source, fix: &mut Fixities, n: u32, toke
 
 /// `local d in d' end`, after its first word.
 #[cycle(expressions)]
-fn read_local<'a>(alloc: Global, source: &Source, fix: &mut Fixities, n: u32, place: Place, tokens: &'a [Token]) -> Result<Got<'a, Option<Dec>>, Stop>
+fn read_local<'a>(
+    alloc: Global,
+    source: &Source,
+    fix: &mut Fixities,
+    n: u32,
+    place: Place,
+    tokens: &'a [Token],
+) -> Result<Got<'a, Option<Dec>>, Stop>
     requires { n < 999 }
     ensures gives { (p : ℕ) → place ≡ at source.now.file p →
         Gives (λ x r. IsDec fix.old fix.new source.now (n + 1) (left source.now tokens.now) x.it x.depth x.rest.now r) result (local_by n fix.old p (left source.now tokens.now)) }
 {
     let mut inner = fix.copy(alloc)?;
-    let Got { it: first, depth: first_depth, rest: after_first } = read_decs(alloc, source, &mut inner, n, tokens)?;
+    let Got {
+        it: first,
+        depth: first_depth,
+        rest: after_first,
+    } = read_decs(alloc, source, &mut inner, n, tokens)?;
     let hidden = inner.len();
-    let Some(inside) = after_word(source, Reserved::In, after_first) else { return Err(Stop::Bad(after_first.len())) };
-    let Got { it: second, depth, rest: after_second } = read_decs(alloc, source, &mut inner, n, inside)?;
-    let Some(rest) = after_word(source, Reserved::End, after_second) else { return Err(Stop::Bad(after_second.len())) };
+    let Some(inside) = after_word(source, Reserved::In, after_first) else {
+        return Err(Stop::Bad(after_first.len()))
+    };
+    let Got {
+        it: second,
+        depth,
+        rest: after_second,
+    } = read_decs(alloc, source, &mut inner, n, inside)?;
+    let Some(rest) = after_word(source, Reserved::End, after_second) else {
+        return Err(Stop::Bad(after_second.len()))
+    };
     fix.add_newest(&inner, hidden)?;
-    Ok(Got { it: Some(local(place, first, second)), depth: first_depth.max(depth) + 1, rest })
+    Ok(Got {
+        it: Some(local(place, first, second)),
+        depth: first_depth.max(depth) + 1,
+        rest,
+    })
 }
 
 /// Value bindings: those before `rec`, and those after it.
 #[cycle(expressions)]
-fn read_binds<'a>(alloc: Global, source: &Source, fix: &Fixities, n: u32, tokens: &'a [Token]) -> Result<Got<'a, (Vec<Bind>, Vec<Bind>)>, Stop>
+fn read_binds<'a>(
+    alloc: Global,
+    source: &Source,
+    fix: &Fixities,
+    n: u32,
+    tokens: &'a [Token],
+) -> Result<Got<'a, (Vec<Bind>, Vec<Bind>)>, Stop>
     requires { n < 1000 }
     ensures gives { Gives (λ x r. IsBinds source.now n (left source.now tokens.now) x.it.0.items x.it.1.items x.depth x.rest.now r) result
         (read_binds n (readers n).exp fix.now (left source.now tokens.now)) }
@@ -121,17 +190,36 @@ fn read_binds<'a>(alloc: Global, source: &Source, fix: &Fixities, n: u32, tokens
             continue 'binds;
         }
         let place = place_at(source, rest);
-        let Got { it: pat, depth: pat_depth, rest: after_pat } = read_pat(alloc, source, fix, n, 0, rest)?;
-        let Got { it: exp, depth, rest: after } = read_after(alloc, source, fix, n, Reserved::Equals, after_pat)?;
+        let Got {
+            it: pat,
+            depth: pat_depth,
+            rest: after_pat,
+        } = read_pat(alloc, source, fix, n, 0, rest)?;
+        let Got {
+            it: exp,
+            depth,
+            rest: after,
+        } = read_after(alloc, source, fix, n, Reserved::Equals, after_pat)?;
         put_bind(&mut plain, &mut recursive, after_rec, bind(place, pat, exp))?;
         deepest = pat_depth.max(depth).max(deepest);
-        let Some(next) = after_word(source, Reserved::And, after) else { return Ok(Got { it: (plain, recursive), depth: deepest, rest: after }) };
+        let Some(next) = after_word(source, Reserved::And, after) else {
+            return Ok(Got {
+                it: (plain, recursive),
+                depth: deepest,
+                rest: after,
+            })
+        };
         rest = next;
     }
 }
 
 /// Puts a binding at the end of those before or after `rec`.
-fn put_bind(plain: &mut Vec<Bind>, recursive: &mut Vec<Bind>, after_rec: bool, bind: Bind) -> Result<(), NoMemory>
+fn put_bind(
+    plain: &mut Vec<Bind>,
+    recursive: &mut Vec<Bind>,
+    after_rec: bool,
+    bind: Bind,
+) -> Result<(), NoMemory>
     ensures plain { IfOk result (λ _. plain.new.items ≡ (if after_rec then plain.old.items else (plain.old.items ++ bind ∷ []))) }
     ensures rec { IfOk result (λ _. recursive.new.items ≡ (if after_rec then (recursive.old.items ++ bind ∷ []) else recursive.old.items)) }
 {
@@ -155,7 +243,13 @@ fn put_dec(decs: &mut Vec<Dec>, item: Option<Dec>) -> Result<(), NoMemory>
 
 /// Functions of `fun`.
 #[cycle(expressions)]
-fn read_functions<'a>(alloc: Global, source: &Source, fix: &Fixities, n: u32, tokens: &'a [Token]) -> Result<Got<'a, Vec<Function>>, Stop>
+fn read_functions<'a>(
+    alloc: Global,
+    source: &Source,
+    fix: &Fixities,
+    n: u32,
+    tokens: &'a [Token],
+) -> Result<Got<'a, Vec<Function>>, Stop>
     requires { n < 1000 }
     ensures gives { Gives (λ x r. IsList (functions source.now.file) depth_funs source.now n (left source.now tokens.now) (map function_of x.it.items) x.depth x.rest.now r) result
         (read_funs n (readers n).exp fix.now (left source.now tokens.now)) }
@@ -164,17 +258,33 @@ fn read_functions<'a>(alloc: Global, source: &Source, fix: &Fixities, n: u32, to
     let mut deepest = 0;
     let mut rest = tokens;
     'functions: loop {
-        let Got { it, depth, rest: after } = read_clauses(alloc, source, fix, n, rest)?;
+        let Got {
+            it,
+            depth,
+            rest: after,
+        } = read_clauses(alloc, source, fix, n, rest)?;
         all.push(it)?;
         deepest = depth.max(deepest);
-        let Some(next) = after_word(source, Reserved::And, after) else { return Ok(Got { it: all, depth: deepest, rest: after }) };
+        let Some(next) = after_word(source, Reserved::And, after) else {
+            return Ok(Got {
+                it: all,
+                depth: deepest,
+                rest: after,
+            })
+        };
         rest = next;
     }
 }
 
 /// The clauses of a function.
 #[cycle(expressions)]
-fn read_clauses<'a>(alloc: Global, source: &Source, fix: &Fixities, n: u32, tokens: &'a [Token]) -> Result<Got<'a, Function>, Stop>
+fn read_clauses<'a>(
+    alloc: Global,
+    source: &Source,
+    fix: &Fixities,
+    n: u32,
+    tokens: &'a [Token],
+) -> Result<Got<'a, Function>, Stop>
     requires { n < 1000 }
     ensures gives { Gives (λ x r. IsFunction source.now n (left source.now tokens.now) x.it x.depth x.rest.now r) result
         (read_clauses n (readers n).exp fix.now (left source.now tokens.now)) }
@@ -184,14 +294,26 @@ fn read_clauses<'a>(alloc: Global, source: &Source, fix: &Fixities, n: u32, toke
     let mut deepest = 0;
     let mut rest = tokens;
     'clauses: loop {
-        let Got { it: heading, depth: heading_depth, rest: after_heading } = read_heading(alloc, source, fix, n, shape, rest)?;
+        let Got {
+            it: heading,
+            depth: heading_depth,
+            rest: after_heading,
+        } = read_heading(alloc, source, fix, n, shape, rest)?;
         let first = shape.unwrap_or(heading.shape);
         let place = place_at(source, tail(source, after_heading));
-        let Got { it: exp, depth, rest: after } = read_after(alloc, source, fix, n, Reserved::Equals, after_heading)?;
+        let Got {
+            it: exp,
+            depth,
+            rest: after,
+        } = read_after(alloc, source, fix, n, Reserved::Equals, after_heading)?;
         clauses.push(clause_from(alloc, heading, place, exp)?)?;
         deepest = heading_depth.max(depth).max(deepest);
         let Some(next) = after_word(source, Reserved::Bar, after) else {
-            return Ok(Got { it: function(first.place, first.vid, clauses), depth: deepest, rest: after });
+            return Ok(Got {
+                it: function(first.place, first.vid, clauses),
+                depth: deepest,
+                rest: after,
+            });
         };
         shape = Some(first);
         rest = next;

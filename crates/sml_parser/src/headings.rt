@@ -11,8 +11,8 @@ ghost use Rattle.sml_parser.specs.Left.{left};
 ghost use Rattle.sml_parser.specs.DeclarationsRead.{IsHeading, read_heading, shape_from};
 
 use crate::got::Got;
+use crate::heads::{Head, read_head};
 use crate::nodes::{clause, derived_exp};
-use crate::heads::{read_head, Head};
 use crate::source::Source;
 use crate::stop::Stop;
 use crate::types::maybe_ty;
@@ -20,7 +20,7 @@ use mlc_base::memory::NoMemory;
 use mlc_base::place::Place;
 use mlc_base::token::{Reserved, Token};
 use sml_tree::derive::Derived;
-use sml_tree::fixity::{same_vid, Fixities};
+use sml_tree::fixity::{Fixities, same_vid};
 use sml_tree::ident::Vid;
 use sml_tree::tree::{Clause, Exp, Pat, Ty};
 use std::alloc::Global;
@@ -52,21 +52,49 @@ fn agrees(shape: Option<Shape>, vid: &Vid, count: usize) -> bool
 }
 
 /// A clause up to its `=`, after clauses of this shape.
-pub fn read_heading<'a>(alloc: Global, source: &Source, fix: &Fixities, n: u32, shape: Option<Shape>, tokens: &'a [Token]) -> Result<Got<'a, Heading>, Stop>
+pub fn read_heading<'a>(
+    alloc: Global,
+    source: &Source,
+    fix: &Fixities,
+    n: u32,
+    shape: Option<Shape>,
+    tokens: &'a [Token],
+) -> Result<Got<'a, Heading>, Stop>
     requires { n < 1000 }
     ensures gives { Gives (λ x r. IsHeading shape source.now n (left source.now tokens.now) x.it x.depth x.rest.now r) result (read_heading n fix.now (shape_from shape) (left source.now tokens.now)) }
 {
-    let Got { it: Head { place, vid, pats }, depth: head_depth, rest: after_head } = read_head(alloc, source, fix, n, tokens)?;
+    let Got {
+        it: Head { place, vid, pats },
+        depth: head_depth,
+        rest: after_head,
+    } = read_head(alloc, source, fix, n, tokens)?;
     let count = pats.as_slice().len();
     if !agrees(shape, &vid, count) {
         return Err(Stop::Bad(after_head.len()));
     }
-    let Got { it: ty, depth, rest } = maybe_ty(alloc, source, n, Reserved::Colon, after_head)?;
-    Ok(Got { it: Heading { shape: Shape { place, vid, count }, pats, ty }, depth: head_depth.max(depth), rest })
+    let Got {
+        it: ty,
+        depth,
+        rest,
+    } = maybe_ty(alloc, source, n, Reserved::Colon, after_head)?;
+    Ok(Got {
+        it: Heading {
+            shape: Shape { place, vid, count },
+            pats,
+            ty,
+        },
+        depth: head_depth.max(depth),
+        rest,
+    })
 }
 
 /// A clause of a heading and an expression at a place.
-pub fn clause_from(alloc: Global, heading: Heading, place: Place, exp: Exp) -> Result<Clause, NoMemory>
+pub fn clause_from(
+    alloc: Global,
+    heading: Heading,
+    place: Place,
+    exp: Exp,
+) -> Result<Clause, NoMemory>
     ensures { IfOk result (λ c. clause_of c ≡ record { place = heading.shape.place; pats = map pat_of heading.pats.items; body = with_result place (exp_of exp) (some_ty_of heading.ty) }) }
 {
     let body = derived_exp(alloc, Derived::Result(place, exp, heading.ty))?;

@@ -14,10 +14,9 @@ pub mod read;
 mod simple_decs;
 pub mod source;
 mod stop;
+#[cfg(test)]
+mod tests;
 mod ties;
 mod tokens;
 mod types;
 mod vids;
-
-#[cfg(test)]
-mod tests;

@@ -12,9 +12,12 @@ use mlc_base::label::Label;
 use mlc_base::memory::NoMemory;
 use mlc_base::names::Name;
 use mlc_base::place::Place;
-use sml_tree::derive::{derive, Derived, Tree};
+use sml_tree::derive::{Derived, Tree, derive};
 use sml_tree::ident::{Constant, LongVid, Tyvar, Vid};
-use sml_tree::tree::{Bind, Clause, DataBind, Dec, ExBind, Exp, ExpField, Function, Joint, LongIdAt, Part, Pat, Rule, Ty, TypeBind};
+use sml_tree::tree::{
+    Bind, Clause, DataBind, Dec, ExBind, Exp, ExpField, Function, Joint, LongIdAt, Part, Pat, Rule,
+    Ty, TypeBind,
+};
 use std::alloc::Global;
 
 /// The expression that a derived form of an expression stands for.
@@ -75,13 +78,24 @@ pub fn list(place: Place, exps: Vec<Exp>) -> Exp
     Exp::List(place, exps)
 }
 
-pub fn applied(alloc: Global, place: Place, first: Exp, arguments: Vec<Exp>) -> Result<Exp, NoMemory>
+pub fn applied(
+    alloc: Global,
+    place: Place,
+    first: Exp,
+    arguments: Vec<Exp>,
+) -> Result<Exp, NoMemory>
     ensures { IfOk result (λ e. exp_of e ≡ app_of place (exp_of first) (map exp_of arguments.items)) }
 {
     Ok(Exp::Apply(place, Box::new(alloc, first)?, arguments))
 }
 
-pub fn chain(alloc: Global, place: Place, right: bool, first: Exp, parts: Vec<Part>) -> Result<Exp, NoMemory>
+pub fn chain(
+    alloc: Global,
+    place: Place,
+    right: bool,
+    first: Exp,
+    parts: Vec<Part>,
+) -> Result<Exp, NoMemory>
     ensures { IfOk result (λ e. exp_of e ≡ chain_of join right place (exp_of first) (map part_of parts.items)) }
 {
     Ok(Exp::Chain(place, right, Box::new(alloc, first)?, parts))
@@ -144,7 +158,11 @@ pub fn clause(place: Place, pats: Vec<Pat>, exp: Exp) -> Clause
 pub fn function(place: Place, vid: Vid, clauses: Vec<Clause>) -> Function
     ensures { function_of result ≡ record { place = place; vid = vid; clauses = map clause_of clauses.items } }
 {
-    Function { place, vid, clauses }
+    Function {
+        place,
+        vid,
+        clauses,
+    }
 }
 
 pub fn val(place: Place, tyvars: Vec<Tyvar>, plain: Vec<Bind>, recursive: Vec<Bind>) -> Dec

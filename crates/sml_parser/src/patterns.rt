@@ -27,7 +27,10 @@ use crate::source::Source;
 use crate::stop::Stop;
 use crate::tokens::{after_word, label_at, place_at};
 use crate::types::{maybe_ty, read_ty};
-use crate::vids::{binds_vid, constant_at, infix_level, infix_vid, joint_at, names_vid, plain_vid, vid_level, vid_right};
+use crate::vids::{
+    binds_vid, constant_at, infix_level, infix_vid, joint_at, names_vid, plain_vid, vid_level,
+    vid_right,
+};
 use mlc_base::label::Label;
 use mlc_base::names::Name;
 use mlc_base::place::Place;
@@ -52,7 +55,11 @@ pub struct PatRow {
 }
 
 /// The suffix that stands first.
-fn suffix_at<'a>(source: &Source, fix: &Fixities, tokens: &'a [Token]) -> Option<(Suffix, &'a [Token])>
+fn suffix_at<'a>(
+    source: &Source,
+    fix: &Fixities,
+    tokens: &'a [Token],
+) -> Option<(Suffix, &'a [Token])>
     ensures none { MatchOption result (infix_vid fix.now (left source.now tokens.now) ≡ None) (λ x. Suffixed fix.now (left source.now tokens.now) x.0 (left source.now x.1.now)) }
     ensures no_colon { MatchOption result (after_word Colon (left source.now tokens.now) ≡ None) (λ x. length (left source.now x.1.now) < length (left source.now tokens.now)) }
 {
@@ -153,7 +160,14 @@ fn label_equals<'a>(source: &Source, tokens: &'a [Token]) -> Option<(Label, &'a 
 
 /// A pattern of a level of at least `level`, at most `n` deep.
 #[cycle(pats)]
-pub fn read_pat<'a>(alloc: Global, source: &Source, fix: &Fixities, n: u32, level: u32, tokens: &'a [Token]) -> Result<Got<'a, Pat>, Stop>
+pub fn read_pat<'a>(
+    alloc: Global,
+    source: &Source,
+    fix: &Fixities,
+    n: u32,
+    level: u32,
+    tokens: &'a [Token],
+) -> Result<Got<'a, Pat>, Stop>
     requires { n < 1000 }
     ensures gives { Gives (λ x r. IsPat source.now n (left source.now tokens.now) x.it x.depth x.rest.now r) result ((read_pats n).pat fix.now level (left source.now tokens.now)) }
 {
@@ -174,7 +188,15 @@ pub fn read_pat<'a>(alloc: Global, source: &Source, fix: &Fixities, n: u32, leve
 
 /// A pattern that begins with an identifier, which `after` follows.
 #[cycle(pats)]
-fn vid_form<'a>(alloc: Global, source: &Source, fix: &Fixities, n: u32, vid: Vid, tokens: &'a [Token], after: &'a [Token]) -> Result<Got<'a, Pat>, Stop>
+fn vid_form<'a>(
+    alloc: Global,
+    source: &Source,
+    fix: &Fixities,
+    n: u32,
+    vid: Vid,
+    tokens: &'a [Token],
+    after: &'a [Token],
+) -> Result<Got<'a, Pat>, Stop>
     requires room { n < 1000 }
     requires shorter { length (left source.now after.now) < length (left source.now tokens.now) }
     ensures gives { Gives (λ x r. IsPat source.now (n + 1) (left source.now tokens.now) x.it x.depth x.rest.now r) result (vid_form (read_pats n) n fix.now (left source.now tokens.now) (record { place = place_at (left source.now tokens.now); it = vid }) (left source.now after.now)) }
@@ -191,7 +213,17 @@ fn vid_form<'a>(alloc: Global, source: &Source, fix: &Fixities, n: u32, vid: Vid
 
 /// The pattern after `vid [: ty] as`.
 #[cycle(pats)]
-fn as_form<'a>(alloc: Global, source: &Source, fix: &Fixities, n: u32, place: Place, vid: Vid, ty: Option<Ty>, ty_depth: u32, tokens: &'a [Token]) -> Result<Got<'a, Pat>, Stop>
+fn as_form<'a>(
+    alloc: Global,
+    source: &Source,
+    fix: &Fixities,
+    n: u32,
+    place: Place,
+    vid: Vid,
+    ty: Option<Ty>,
+    ty_depth: u32,
+    tokens: &'a [Token],
+) -> Result<Got<'a, Pat>, Stop>
     requires room { n < 1000 }
     requires fits { ty_depth ≤ n }
     ensures gives { (i : List Terminal) (t : Option read.Ty) → place ≡ bare.at source.now.file (place_at i) → some_ty_of ty ≡ bare_some source.now.file t → ty_depth ≡ depth_some t → length (left source.now tokens.now) < length i →
@@ -199,12 +231,24 @@ fn as_form<'a>(alloc: Global, source: &Source, fix: &Fixities, n: u32, place: Pl
 {
     let Got { it, depth, rest } = read_pat(alloc, source, fix, n, 0, tokens)?;
     let pat = Box::new(alloc, it)?;
-    Ok(Got { it: Pat::As(place, vid, ty, pat), depth: ty_depth.max(depth) + 1, rest })
+    Ok(Got {
+        it: Pat::As(place, vid, ty, pat),
+        depth: ty_depth.max(depth) + 1,
+        rest,
+    })
 }
 
 /// The pattern after `vid :`.
 #[cycle(pats)]
-fn typed_form<'a>(alloc: Global, source: &Source, fix: &Fixities, n: u32, place: Place, vid: Vid, tokens: &'a [Token]) -> Result<Got<'a, Pat>, Stop>
+fn typed_form<'a>(
+    alloc: Global,
+    source: &Source,
+    fix: &Fixities,
+    n: u32,
+    place: Place,
+    vid: Vid,
+    tokens: &'a [Token],
+) -> Result<Got<'a, Pat>, Stop>
     requires { n < 1000 }
     ensures gives { (i : List Terminal) → place ≡ bare.at source.now.file (place_at i) → length (left source.now tokens.now) < length i →
         Gives (λ x r. IsPat source.now (n + 1) i x.it x.depth x.rest.now r) result (typed_form (read_pats n) n fix.now (record { place = place_at i; it = vid }) (left source.now tokens.now)) }
@@ -212,17 +256,48 @@ fn typed_form<'a>(alloc: Global, source: &Source, fix: &Fixities, n: u32, place:
     if n == 0 {
         return Err(Stop::Deep(tokens.len()));
     }
-    let Got { it: ty, depth: ty_depth, rest: after } = read_ty(alloc, source, n, 0, tokens)?;
+    let Got {
+        it: ty,
+        depth: ty_depth,
+        rest: after,
+    } = read_ty(alloc, source, n, 0, tokens)?;
     if let Some(more) = after_word(source, Reserved::As, after) {
         return as_form(alloc, source, fix, n, place, vid, Some(ty), ty_depth, more);
     }
-    let variable = Box::new(alloc, Pat::Vid(place, LongVid { qualifiers: Vec::new(alloc), vid }))?;
-    suffixes(alloc, source, fix, n, 0, place, Pat::Typed(place, variable, ty), ty_depth.max(1) + 1, 5, after)
+    let variable = Box::new(
+        alloc,
+        Pat::Vid(
+            place,
+            LongVid {
+                qualifiers: Vec::new(alloc),
+                vid,
+            },
+        ),
+    )?;
+    suffixes(
+        alloc,
+        source,
+        fix,
+        n,
+        0,
+        place,
+        Pat::Typed(place, variable, ty),
+        ty_depth.max(1) + 1,
+        5,
+        after,
+    )
 }
 
 /// A pattern that isn't `vid [: ty] as pat`.
 #[cycle(pats)]
-fn plain_form<'a>(alloc: Global, source: &Source, fix: &Fixities, n: u32, level: u32, tokens: &'a [Token]) -> Result<Got<'a, Pat>, Stop>
+fn plain_form<'a>(
+    alloc: Global,
+    source: &Source,
+    fix: &Fixities,
+    n: u32,
+    level: u32,
+    tokens: &'a [Token],
+) -> Result<Got<'a, Pat>, Stop>
     requires { n < 1000 }
     ensures gives { Gives (λ x r. IsPat source.now (n + 1) (left source.now tokens.now) x.it x.depth x.rest.now r) result (plain_form (read_pats n) n fix.now level (left source.now tokens.now)) }
 {
@@ -233,7 +308,13 @@ fn plain_form<'a>(alloc: Global, source: &Source, fix: &Fixities, n: u32, level:
 
 /// A constructor and its argument, or an atomic pattern.
 #[cycle(pats)]
-fn first_pat<'a>(alloc: Global, source: &Source, fix: &Fixities, n: u32, tokens: &'a [Token]) -> Result<Got<'a, Pat>, Stop>
+fn first_pat<'a>(
+    alloc: Global,
+    source: &Source,
+    fix: &Fixities,
+    n: u32,
+    tokens: &'a [Token],
+) -> Result<Got<'a, Pat>, Stop>
     requires { n < 1000 }
     ensures gives { Gives (λ x r. IsPatAt source.now fix.now 1000 (n + 1) (left source.now tokens.now) x.it x.depth x.rest.now r) result (pat_first (read_pats n) n fix.now (left source.now tokens.now)) }
 {
@@ -243,9 +324,17 @@ fn first_pat<'a>(alloc: Global, source: &Source, fix: &Fixities, n: u32, tokens:
             if begins_pat(source, fix, after) {
                 let Got { it, depth, rest } = read_atpat(alloc, source, fix, n, after)?;
                 let argument = Box::new(alloc, it)?;
-                return Ok(Got { it: Pat::Con(place, place, long, argument), depth: depth + 1, rest });
+                return Ok(Got {
+                    it: Pat::Con(place, place, long, argument),
+                    depth: depth + 1,
+                    rest,
+                });
             }
-            Ok(Got { it: Pat::Vid(place, long), depth: 1, rest: after })
+            Ok(Got {
+                it: Pat::Vid(place, long),
+                depth: 1,
+                rest: after,
+            })
         }
         None => atomic_pat(alloc, source, fix, n, tokens),
     }
@@ -253,7 +342,13 @@ fn first_pat<'a>(alloc: Global, source: &Source, fix: &Fixities, n: u32, tokens:
 
 /// An atomic pattern, at most `n` deep.
 #[cycle(pats)]
-pub fn read_atpat<'a>(alloc: Global, source: &Source, fix: &Fixities, n: u32, tokens: &'a [Token]) -> Result<Got<'a, Pat>, Stop>
+pub fn read_atpat<'a>(
+    alloc: Global,
+    source: &Source,
+    fix: &Fixities,
+    n: u32,
+    tokens: &'a [Token],
+) -> Result<Got<'a, Pat>, Stop>
     requires { n < 1000 }
     ensures gives { Gives (λ x r. IsPatAt source.now fix.now 1000 n (left source.now tokens.now) x.it x.depth x.rest.now r) result ((read_pats n).atpat fix.now (left source.now tokens.now)) }
 {
@@ -267,7 +362,13 @@ pub fn read_atpat<'a>(alloc: Global, source: &Source, fix: &Fixities, n: u32, to
 }
 
 #[cycle(pats)]
-fn atomic_pat<'a>(alloc: Global, source: &Source, fix: &Fixities, n: u32, tokens: &'a [Token]) -> Result<Got<'a, Pat>, Stop>
+fn atomic_pat<'a>(
+    alloc: Global,
+    source: &Source,
+    fix: &Fixities,
+    n: u32,
+    tokens: &'a [Token],
+) -> Result<Got<'a, Pat>, Stop>
     requires { n < 1000 }
     ensures gives { Gives (λ x r. IsPatAt source.now fix.now 1000 (n + 1) (left source.now tokens.now) x.it x.depth x.rest.now r) result (at_pat n (read_pats n).pat fix.now (pat_start fix.now (left source.now tokens.now))) }
 {
@@ -285,43 +386,85 @@ fn atomic_pat<'a>(alloc: Global, source: &Source, fix: &Fixities, n: u32, tokens
 }
 
 /// An atomic pattern without brackets.
-fn plain_atpat<'a>(alloc: Global, source: &Source, fix: &Fixities, tokens: &'a [Token]) -> Result<Got<'a, Pat>, Stop>
+fn plain_atpat<'a>(
+    alloc: Global,
+    source: &Source,
+    fix: &Fixities,
+    tokens: &'a [Token],
+) -> Result<Got<'a, Pat>, Stop>
     ensures gives { (n : ℕ) (self : PatReader) → Gives (λ x r. IsPatAt source.now fix.now 1000 1 (left source.now tokens.now) x.it x.depth x.rest.now r) result (at_pat n self fix.now (plain_pat_start fix.now (left source.now tokens.now))) }
 {
     let place = place_at(source, tokens);
     if let Some(rest) = after_word(source, Reserved::Underscore, tokens) {
-        return Ok(Got { it: Pat::Wild(place), depth: 1, rest });
+        return Ok(Got {
+            it: Pat::Wild(place),
+            depth: 1,
+            rest,
+        });
     }
     if let Some((constant, rest)) = constant_at(alloc, source, tokens)? {
-        return Ok(Got { it: Pat::Constant(place, constant), depth: 1, rest });
+        return Ok(Got {
+            it: Pat::Constant(place, constant),
+            depth: 1,
+            rest,
+        });
     }
     match names_vid(alloc, source, fix, tokens)? {
-        Some((long, rest)) => Ok(Got { it: Pat::Vid(place, long), depth: 1, rest }),
+        Some((long, rest)) => Ok(Got {
+            it: Pat::Vid(place, long),
+            depth: 1,
+            rest,
+        }),
         None => Err(Stop::Bad(tokens.len())),
     }
 }
 
 /// A record pattern, after its `{`.
 #[cycle(pats)]
-fn brace_pat<'a>(alloc: Global, source: &Source, fix: &Fixities, n: u32, place: Place, tokens: &'a [Token]) -> Result<Got<'a, Pat>, Stop>
+fn brace_pat<'a>(
+    alloc: Global,
+    source: &Source,
+    fix: &Fixities,
+    n: u32,
+    place: Place,
+    tokens: &'a [Token],
+) -> Result<Got<'a, Pat>, Stop>
     requires { n < 1000 }
     ensures gives { (i : List Terminal) → place ≡ bare.at source.now.file (place_at i) → length (left source.now tokens.now) < length i →
         Gives (λ x r. IsPatAt source.now fix.now 1000 (n + 1) i x.it x.depth x.rest.now r) result (brace_pat n (read_pats n).pat fix.now (place_at i) (left source.now tokens.now)) }
 {
     if let Some(rest) = after_word(source, Reserved::RightBrace, tokens) {
-        return Ok(Got { it: Pat::Record(place, Vec::new(alloc), false), depth: 1, rest });
+        return Ok(Got {
+            it: Pat::Record(place, Vec::new(alloc), false),
+            depth: 1,
+            rest,
+        });
     }
-    let Got { it: row, depth, rest: after } = pat_row(alloc, source, fix, n, tokens)?;
+    let Got {
+        it: row,
+        depth,
+        rest: after,
+    } = pat_row(alloc, source, fix, n, tokens)?;
     let PatRow { fields, dots } = row;
     match after_word(source, Reserved::RightBrace, after) {
-        Some(rest) => Ok(Got { it: Pat::Record(place, fields, dots), depth: depth + 1, rest }),
+        Some(rest) => Ok(Got {
+            it: Pat::Record(place, fields, dots),
+            depth: depth + 1,
+            rest,
+        }),
         None => Err(Stop::Bad(after.len())),
     }
 }
 
 /// The fields of a record pattern.
 #[cycle(pats)]
-fn pat_row<'a>(alloc: Global, source: &Source, fix: &Fixities, n: u32, tokens: &'a [Token]) -> Result<Got<'a, PatRow>, Stop>
+fn pat_row<'a>(
+    alloc: Global,
+    source: &Source,
+    fix: &Fixities,
+    n: u32,
+    tokens: &'a [Token],
+) -> Result<Got<'a, PatRow>, Stop>
     requires { n < 1000 }
     ensures gives { Gives (λ x r. IsPatRow source.now n (left source.now tokens.now) x.it.fields.items x.it.dots x.depth x.rest.now r) result (whole (pat_row_turn n (read_pats n).pat fix.now) no_state (left source.now tokens.now)) }
 {
@@ -330,47 +473,104 @@ fn pat_row<'a>(alloc: Global, source: &Source, fix: &Fixities, n: u32, tokens: &
     let mut rest = tokens;
     'fields: loop {
         if let Some(end) = after_word(source, Reserved::Dots, rest) {
-            return Ok(Got { it: PatRow { fields, dots: true }, depth: deepest, rest: end });
+            return Ok(Got {
+                it: PatRow { fields, dots: true },
+                depth: deepest,
+                rest: end,
+            });
         }
-        let Got { it, depth, rest: after } = pat_field(alloc, source, fix, n, rest)?;
+        let Got {
+            it,
+            depth,
+            rest: after,
+        } = pat_field(alloc, source, fix, n, rest)?;
         fields.push(it)?;
         deepest = depth.max(deepest);
-        let Some(next) = after_word(source, Reserved::Comma, after) else { return Ok(Got { it: PatRow { fields, dots: false }, depth: deepest, rest: after }) };
+        let Some(next) = after_word(source, Reserved::Comma, after) else {
+            return Ok(Got {
+                it: PatRow {
+                    fields,
+                    dots: false,
+                },
+                depth: deepest,
+                rest: after,
+            })
+        };
         rest = next;
     }
 }
 
 /// A field of a record pattern.
 #[cycle(pats)]
-fn pat_field<'a>(alloc: Global, source: &Source, fix: &Fixities, n: u32, tokens: &'a [Token]) -> Result<Got<'a, PatField>, Stop>
+fn pat_field<'a>(
+    alloc: Global,
+    source: &Source,
+    fix: &Fixities,
+    n: u32,
+    tokens: &'a [Token],
+) -> Result<Got<'a, PatField>, Stop>
     requires { n < 1000 }
     ensures gives { Gives (λ x r. IsPatField source.now n (left source.now tokens.now) x.it x.depth x.rest.now r) result (field n (read_pats n).pat fix.now (left source.now tokens.now)) }
 {
     if let Some((label, rest)) = label_equals(source, tokens) {
-        let Got { it, depth, rest: after } = read_pat(alloc, source, fix, n, 0, rest)?;
-        return Ok(Got { it: PatField { label, pat: it }, depth, rest: after });
+        let Got {
+            it,
+            depth,
+            rest: after,
+        } = read_pat(alloc, source, fix, n, 0, rest)?;
+        return Ok(Got {
+            it: PatField { label, pat: it },
+            depth,
+            rest: after,
+        });
     }
     punned_field(alloc, source, fix, n, tokens)
 }
 
 /// A field whose identifier is its label.
 #[cycle(pats)]
-fn punned_field<'a>(alloc: Global, source: &Source, fix: &Fixities, n: u32, tokens: &'a [Token]) -> Result<Got<'a, PatField>, Stop>
+fn punned_field<'a>(
+    alloc: Global,
+    source: &Source,
+    fix: &Fixities,
+    n: u32,
+    tokens: &'a [Token],
+) -> Result<Got<'a, PatField>, Stop>
     requires { n < 1000 }
     ensures gives { Gives (λ x r. IsPatField source.now n (left source.now tokens.now) x.it x.depth x.rest.now r) result (punned_field n (read_pats n).pat fix.now (left source.now tokens.now)) }
 {
     let place = place_at(source, tokens);
-    let Some((name, after_name)) = plain_vid(source, fix, tokens) else { return Err(Stop::Bad(tokens.len())) };
-    let Got { it: ty, depth: ty_depth, rest: after_ty } = maybe_ty(alloc, source, n, Reserved::Colon, after_name)?;
+    let Some((name, after_name)) = plain_vid(source, fix, tokens) else {
+        return Err(Stop::Bad(tokens.len()))
+    };
+    let Got {
+        it: ty,
+        depth: ty_depth,
+        rest: after_ty,
+    } = maybe_ty(alloc, source, n, Reserved::Colon, after_name)?;
     match after_word(source, Reserved::As, after_ty) {
         Some(more) => {
             let Got { it, depth, rest } = read_pat(alloc, source, fix, n, 0, more)?;
             let pat = Pat::As(place, Vid::Named(name), ty, Box::new(alloc, it)?);
-            Ok(Got { it: PatField { label: Label::Word(name), pat }, depth: ty_depth.max(depth), rest })
+            Ok(Got {
+                it: PatField {
+                    label: Label::Word(name),
+                    pat,
+                },
+                depth: ty_depth.max(depth),
+                rest,
+            })
         }
         None => {
             let pat = punned(alloc, place, name, ty)?;
-            Ok(Got { it: PatField { label: Label::Word(name), pat }, depth: ty_depth, rest: after_ty })
+            Ok(Got {
+                it: PatField {
+                    label: Label::Word(name),
+                    pat,
+                },
+                depth: ty_depth,
+                rest: after_ty,
+            })
         }
     }
 }
@@ -379,7 +579,13 @@ fn punned_field<'a>(alloc: Global, source: &Source, fix: &Fixities, n: u32, toke
 fn punned(alloc: Global, place: Place, name: Name, ty: Option<Ty>) -> Result<Pat, Stop>
     ensures { MatchResult result (λ made. pat_of made ≡ derived.pun place name (some_ty_of ty)) (λ e. e ≡ Memory) }
 {
-    let variable = Pat::Vid(place, LongVid { qualifiers: Vec::new(alloc), vid: Vid::Named(name) });
+    let variable = Pat::Vid(
+        place,
+        LongVid {
+            qualifiers: Vec::new(alloc),
+            vid: Vid::Named(name),
+        },
+    );
     match ty {
         None => Ok(variable),
         Some(ty) => Ok(Pat::Typed(place, Box::new(alloc, variable)?, ty)),
@@ -388,27 +594,55 @@ fn punned(alloc: Global, place: Place, name: Name, ty: Option<Ty>) -> Result<Pat
 
 /// `()`, a tuple or a pattern in brackets, after the bracket.
 #[cycle(pats)]
-fn paren_pat<'a>(alloc: Global, source: &Source, fix: &Fixities, n: u32, place: Place, tokens: &'a [Token]) -> Result<Got<'a, Pat>, Stop>
+fn paren_pat<'a>(
+    alloc: Global,
+    source: &Source,
+    fix: &Fixities,
+    n: u32,
+    place: Place,
+    tokens: &'a [Token],
+) -> Result<Got<'a, Pat>, Stop>
     requires { n < 1000 }
     ensures gives { (i : List Terminal) → place ≡ bare.at source.now.file (place_at i) → length (left source.now tokens.now) < length i →
         Gives (λ x r. IsPatAt source.now fix.now 1000 (n + 1) i x.it x.depth x.rest.now r) result (paren_pat_in (read_pats n).pat fix.now (place_at i) (left source.now tokens.now)) }
 {
     if let Some(rest) = after_word(source, Reserved::RightParen, tokens) {
-        return Ok(Got { it: Pat::Tuple(place, Vec::new(alloc)), depth: 1, rest });
+        return Ok(Got {
+            it: Pat::Tuple(place, Vec::new(alloc)),
+            depth: 1,
+            rest,
+        });
     }
-    let Got { it, depth, rest: after } = read_pat(alloc, source, fix, n, 0, tokens)?;
+    let Got {
+        it,
+        depth,
+        rest: after,
+    } = read_pat(alloc, source, fix, n, 0, tokens)?;
     if let Some(more) = after_word(source, Reserved::Comma, after) {
         return tuple_pat(alloc, source, fix, n, place, it, depth, more);
     }
     match after_word(source, Reserved::RightParen, after) {
-        Some(rest) => Ok(Got { it, depth: depth + 1, rest }),
+        Some(rest) => Ok(Got {
+            it,
+            depth: depth + 1,
+            rest,
+        }),
         None => Err(Stop::Bad(after.len())),
     }
 }
 
 /// A tuple, after its first pattern and the comma.
 #[cycle(pats)]
-fn tuple_pat<'a>(alloc: Global, source: &Source, fix: &Fixities, n: u32, place: Place, first: Pat, depth: u32, tokens: &'a [Token]) -> Result<Got<'a, Pat>, Stop>
+fn tuple_pat<'a>(
+    alloc: Global,
+    source: &Source,
+    fix: &Fixities,
+    n: u32,
+    place: Place,
+    first: Pat,
+    depth: u32,
+    tokens: &'a [Token],
+) -> Result<Got<'a, Pat>, Stop>
     requires room { n < 1000 }
     requires fits { depth ≤ n }
     ensures gives { (i : List Terminal) (a : read.Pat) → place ≡ bare.at source.now.file (place_at i) → pat_of first ≡ bare_pat source.now.file a → depth ≡ depth_pat a → length (left source.now tokens.now) < length i →
@@ -416,33 +650,68 @@ fn tuple_pat<'a>(alloc: Global, source: &Source, fix: &Fixities, n: u32, place: 
 {
     let mut front = Vec::new(alloc);
     front.push(first)?;
-    let Got { it, depth: deepest, rest: after } = more_pats(alloc, source, fix, n, front, depth, tokens)?;
+    let Got {
+        it,
+        depth: deepest,
+        rest: after,
+    } = more_pats(alloc, source, fix, n, front, depth, tokens)?;
     match after_word(source, Reserved::RightParen, after) {
-        Some(rest) => Ok(Got { it: Pat::Tuple(place, it), depth: deepest + 1, rest }),
+        Some(rest) => Ok(Got {
+            it: Pat::Tuple(place, it),
+            depth: deepest + 1,
+            rest,
+        }),
         None => Err(Stop::Bad(after.len())),
     }
 }
 
 /// A list, after its `[`.
 #[cycle(pats)]
-fn bracket_pat<'a>(alloc: Global, source: &Source, fix: &Fixities, n: u32, place: Place, tokens: &'a [Token]) -> Result<Got<'a, Pat>, Stop>
+fn bracket_pat<'a>(
+    alloc: Global,
+    source: &Source,
+    fix: &Fixities,
+    n: u32,
+    place: Place,
+    tokens: &'a [Token],
+) -> Result<Got<'a, Pat>, Stop>
     requires { n < 1000 }
     ensures gives { (i : List Terminal) → place ≡ bare.at source.now.file (place_at i) → length (left source.now tokens.now) < length i →
         Gives (λ x r. IsPatAt source.now fix.now 1000 (n + 1) i x.it x.depth x.rest.now r) result (bracket_pat (read_pats n).pat fix.now (place_at i) (left source.now tokens.now)) }
 {
     if let Some(rest) = after_word(source, Reserved::RightBracket, tokens) {
-        return Ok(Got { it: Pat::List(place, Vec::new(alloc)), depth: 1, rest });
+        return Ok(Got {
+            it: Pat::List(place, Vec::new(alloc)),
+            depth: 1,
+            rest,
+        });
     }
-    let Got { it, depth, rest: after } = more_pats(alloc, source, fix, n, Vec::new(alloc), 0, tokens)?;
+    let Got {
+        it,
+        depth,
+        rest: after,
+    } = more_pats(alloc, source, fix, n, Vec::new(alloc), 0, tokens)?;
     match after_word(source, Reserved::RightBracket, after) {
-        Some(rest) => Ok(Got { it: Pat::List(place, it), depth: depth + 1, rest }),
+        Some(rest) => Ok(Got {
+            it: Pat::List(place, it),
+            depth: depth + 1,
+            rest,
+        }),
         None => Err(Stop::Bad(after.len())),
     }
 }
 
 /// Patterns with commas between them, after those of `front`.
 #[cycle(pats)]
-fn more_pats<'a>(alloc: Global, source: &Source, fix: &Fixities, n: u32, front: Vec<Pat>, depth: u32, tokens: &'a [Token]) -> Result<Got<'a, Vec<Pat>>, Stop>
+fn more_pats<'a>(
+    alloc: Global,
+    source: &Source,
+    fix: &Fixities,
+    n: u32,
+    front: Vec<Pat>,
+    depth: u32,
+    tokens: &'a [Token],
+) -> Result<Got<'a, Vec<Pat>>, Stop>
     requires room { n < 1000 }
     requires fits { depth ≤ n }
     ensures gives { Gives (λ x r. IsPats source.now n (left source.now tokens.now) front.items depth x.it.items x.depth x.rest.now r) result (whole (pat_commas_turn (read_pats n).pat fix.now) no_state (left source.now tokens.now)) }
@@ -451,17 +720,38 @@ fn more_pats<'a>(alloc: Global, source: &Source, fix: &Fixities, n: u32, front: 
     let mut deepest = depth;
     let mut rest = tokens;
     'patterns: loop {
-        let Got { it, depth, rest: after } = read_pat(alloc, source, fix, n, 0, rest)?;
+        let Got {
+            it,
+            depth,
+            rest: after,
+        } = read_pat(alloc, source, fix, n, 0, rest)?;
         all.push(it)?;
         deepest = depth.max(deepest);
-        let Some(next) = after_word(source, Reserved::Comma, after) else { return Ok(Got { it: all, depth: deepest, rest: after }) };
+        let Some(next) = after_word(source, Reserved::Comma, after) else {
+            return Ok(Got {
+                it: all,
+                depth: deepest,
+                rest: after,
+            })
+        };
         rest = next;
     }
 }
 
 /// What follows the pattern `first`, of this depth and level, in a pattern of a level of at least `least`.
 #[cycle(pats)]
-fn suffixes<'a>(alloc: Global, source: &Source, fix: &Fixities, n: u32, least: u32, place: Place, first: Pat, depth: u32, level: u32, tokens: &'a [Token]) -> Result<Got<'a, Pat>, Stop>
+fn suffixes<'a>(
+    alloc: Global,
+    source: &Source,
+    fix: &Fixities,
+    n: u32,
+    least: u32,
+    place: Place,
+    first: Pat,
+    depth: u32,
+    level: u32,
+    tokens: &'a [Token],
+) -> Result<Got<'a, Pat>, Stop>
     requires { n < 1000 }
     ensures gives { (i : List Terminal) (a : Read read.Pat) → place ≡ bare.at source.now.file (place_at i) → IsPatAt source.now fix.now level (n + 1) i first depth tokens.now a →
         Gives (λ x r. IsPat source.now (n + 1) i x.it x.depth x.rest.now r) result (pat_suffix (read_pats n).pat n fix.now least a.tree a.rest) }
@@ -471,10 +761,20 @@ fn suffixes<'a>(alloc: Global, source: &Source, fix: &Fixities, n: u32, least: u
     let mut high = level;
     let mut rest = tokens;
     'suffixes: loop {
-        let Some((suffix, more)) = suffix_at(source, fix, rest) else { return Ok(Got { it: pat, depth: deep, rest }) };
+        let Some((suffix, more)) = suffix_at(source, fix, rest) else {
+            return Ok(Got {
+                it: pat,
+                depth: deep,
+                rest,
+            })
+        };
         let tie = suffix_level(&suffix);
         if least > tie {
-            return Ok(Got { it: pat, depth: deep, rest });
+            return Ok(Got {
+                it: pat,
+                depth: deep,
+                rest,
+            });
         }
         if suffix_least(&suffix) > high {
             return Err(Stop::Bad(rest.len()));
@@ -483,7 +783,13 @@ fn suffixes<'a>(alloc: Global, source: &Source, fix: &Fixities, n: u32, least: u
             return Err(Stop::Deep(rest.len()));
         }
         let joint = place_at(source, rest);
-        let Got { it, depth: next, rest: after } = extended(alloc, source, fix, n, place, pat, deep, joint, &suffix, more)?;
+        let Got {
+            it,
+            depth: next,
+            rest: after,
+        } = extended(
+            alloc, source, fix, n, place, pat, deep, joint, &suffix, more,
+        )?;
         pat = it;
         deep = next;
         high = tie;
@@ -493,7 +799,18 @@ fn suffixes<'a>(alloc: Global, source: &Source, fix: &Fixities, n: u32, least: u
 
 /// The pattern `first` with what a suffix makes of it, after the suffix.
 #[cycle(pats)]
-fn extended<'a>(alloc: Global, source: &Source, fix: &Fixities, n: u32, place: Place, first: Pat, depth: u32, joint: Place, suffix: &Suffix, tokens: &'a [Token]) -> Result<Got<'a, Pat>, Stop>
+fn extended<'a>(
+    alloc: Global,
+    source: &Source,
+    fix: &Fixities,
+    n: u32,
+    place: Place,
+    first: Pat,
+    depth: u32,
+    joint: Place,
+    suffix: &Suffix,
+    tokens: &'a [Token],
+) -> Result<Got<'a, Pat>, Stop>
     requires room { n < 1000 }
     requires fits { depth ≤ n }
     ensures gives { (i k : List Terminal) (a : read.Pat) → place ≡ bare.at source.now.file (place_at i) → joint ≡ bare.at source.now.file (place_at k) → pat_of first ≡ bare_pat source.now.file a → depth ≡ depth_pat a → pat_place a ≡ place_at i → length (left source.now tokens.now) < length i → Suffixed fix.now k suffix.now (left source.now tokens.now) →
@@ -502,21 +819,46 @@ fn extended<'a>(alloc: Global, source: &Source, fix: &Fixities, n: u32, place: P
 {
     match suffix {
         Suffix::Colon => {
-            let Got { it, depth: ty_depth, rest } = read_ty(alloc, source, n, 0, tokens)?;
+            let Got {
+                it,
+                depth: ty_depth,
+                rest,
+            } = read_ty(alloc, source, n, 0, tokens)?;
             let pat = Box::new(alloc, first)?;
-            Ok(Got { it: Pat::Typed(place, pat, it), depth: depth.max(ty_depth) + 1, rest })
+            Ok(Got {
+                it: Pat::Typed(place, pat, it),
+                depth: depth.max(ty_depth) + 1,
+                rest,
+            })
         }
         Suffix::Joint(name, how) => {
-            let Got { it, depth: deepest, rest } = pat_parts(alloc, source, fix, n, joint, *name, *how, tokens)?;
+            let Got {
+                it,
+                depth: deepest,
+                rest,
+            } = pat_parts(alloc, source, fix, n, joint, *name, *how, tokens)?;
             let pat = Box::new(alloc, first)?;
-            Ok(Got { it: Pat::Chain(place, how.right, pat, it), depth: depth.max(deepest) + 1, rest })
+            Ok(Got {
+                it: Pat::Chain(place, how.right, pat, it),
+                depth: depth.max(deepest) + 1,
+                rest,
+            })
         }
     }
 }
 
 /// The operands of a chain after the first joint.
 #[cycle(pats)]
-fn pat_parts<'a>(alloc: Global, source: &Source, fix: &Fixities, n: u32, joint: Place, name: Name, how: Infix, tokens: &'a [Token]) -> Result<Got<'a, Vec<PatPart>>, Stop>
+fn pat_parts<'a>(
+    alloc: Global,
+    source: &Source,
+    fix: &Fixities,
+    n: u32,
+    joint: Place,
+    name: Name,
+    how: Infix,
+    tokens: &'a [Token],
+) -> Result<Got<'a, Vec<PatPart>>, Stop>
     requires { n < 1000 }
     ensures gives { (p : ℕ) → joint ≡ bare.at source.now.file p → fix_of (Named name) fix.now ≡ Some how →
         Gives (λ x r. IsPatParts source.now fix.now n (left source.now tokens.now) name x.it.items x.depth x.rest.now r) result (whole_pat_parts (read_pats n).pat fix.now (record { place = p; it = name }) (left source.now tokens.now)) }
@@ -531,14 +873,33 @@ fn pat_parts<'a>(alloc: Global, source: &Source, fix: &Fixities, n: u32, joint: 
     let mut rest = tokens;
     'parts: loop {
         let place = place_at(source, rest);
-        let Got { it, depth, rest: after } = read_pat(alloc, source, fix, n, level + 1, rest)?;
-        all.push(PatPart { vid_place, vid: Vid::Named(vid), place, pat: it })?;
+        let Got {
+            it,
+            depth,
+            rest: after,
+        } = read_pat(alloc, source, fix, n, level + 1, rest)?;
+        all.push(PatPart {
+            vid_place,
+            vid: Vid::Named(vid),
+            place,
+            pat: it,
+        })?;
         deepest = depth.max(deepest);
-        let Some(found) = joint_at(source, fix, after) else { return Ok(Got { it: all, depth: deepest, rest: after }) };
+        let Some(found) = joint_at(source, fix, after) else {
+            return Ok(Got {
+                it: all,
+                depth: deepest,
+                rest: after,
+            })
+        };
         let next_level = vid_level(fix, found.0);
         let next_right = vid_right(fix, found.0);
         if next_level != level {
-            return Ok(Got { it: all, depth: deepest, rest: after });
+            return Ok(Got {
+                it: all,
+                depth: deepest,
+                rest: after,
+            });
         }
         if next_right != how.right {
             return Err(Stop::Bad(after.len()));

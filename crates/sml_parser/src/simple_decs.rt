@@ -9,7 +9,9 @@ ghost use Rattle.sml_parser.specs.Gives.{Gives};
 ghost use Rattle.sml_parser.specs.Left.{left};
 ghost use Rattle.sml_parser.specs.DeclarationsRead.{IsDec, simple_by};
 
-use crate::bindings::{read_data_binds, read_ex_binds, read_precedence, read_strids, read_type_binds, read_vids};
+use crate::bindings::{
+    read_data_binds, read_ex_binds, read_precedence, read_strids, read_type_binds, read_vids,
+};
 use crate::got::Got;
 use crate::nodes::{abbreviations, datatypes, derived_dec, exceptions, opened, replicated};
 use crate::source::Source;
@@ -43,7 +45,13 @@ pub fn begins_dec(source: &Source, tokens: &[Token]) -> bool
 }
 
 /// A declaration in which there are no expressions, and what it does to the fixities in force.
-pub fn simple_dec<'a>(alloc: Global, source: &Source, fix: &mut Fixities, n: u32, tokens: &'a [Token]) -> Result<Got<'a, Option<Dec>>, Stop>
+pub fn simple_dec<'a>(
+    alloc: Global,
+    source: &Source,
+    fix: &mut Fixities,
+    n: u32,
+    tokens: &'a [Token],
+) -> Result<Got<'a, Option<Dec>>, Stop>
     requires { n < 1000 }
     ensures gives { Gives (λ x r. IsDec fix.old fix.new source.now n (left source.now tokens.now) x.it x.depth x.rest.now r) result (simple_by n fix.old (dec_start (left source.now tokens.now))) }
 {
@@ -52,16 +60,28 @@ pub fn simple_dec<'a>(alloc: Global, source: &Source, fix: &mut Fixities, n: u32
     match word_at(source, tokens) {
         Some(Reserved::TypeWord) => {
             let Got { it, depth, rest } = read_type_binds(alloc, source, n, inner)?;
-            Ok(Got { it: Some(abbreviations(place, it)), depth, rest })
+            Ok(Got {
+                it: Some(abbreviations(place, it)),
+                depth,
+                rest,
+            })
         }
         Some(Reserved::Datatype) => datatype_dec(alloc, source, fix, n, place, inner),
         Some(Reserved::Exception) => {
             let Got { it, depth, rest } = read_ex_binds(alloc, source, fix, n, inner)?;
-            Ok(Got { it: Some(exceptions(place, it)), depth, rest })
+            Ok(Got {
+                it: Some(exceptions(place, it)),
+                depth,
+                rest,
+            })
         }
         Some(Reserved::Open) => {
             let Got { it, depth, rest } = read_strids(alloc, source, inner)?;
-            Ok(Got { it: Some(opened(place, it)), depth, rest })
+            Ok(Got {
+                it: Some(opened(place, it)),
+                depth,
+                rest,
+            })
         }
         Some(Reserved::Infix) => infix_dec(alloc, source, fix, false, inner),
         Some(Reserved::Infixr) => infix_dec(alloc, source, fix, true, inner),
@@ -75,8 +95,12 @@ fn replicated_at<'a>(source: &Source, tokens: &'a [Token]) -> Option<(Name, &'a 
     ensures { MatchOption result (replicated (left source.now tokens.now) ≡ None)
         (λ x. replicated (left source.now tokens.now) ≡ taken (record { place = place_at (left source.now tokens.now); it = x.0 }) (left source.now x.1.now)) }
 {
-    let Some((tycon, after_tycon)) = tycon_at(source, tokens) else { return None };
-    let Some(after_equals) = after_word(source, Reserved::Equals, after_tycon) else { return None };
+    let Some((tycon, after_tycon)) = tycon_at(source, tokens) else {
+        return None
+    };
+    let Some(after_equals) = after_word(source, Reserved::Equals, after_tycon) else {
+        return None
+    };
     match after_word(source, Reserved::Datatype, after_equals) {
         Some(rest) => Some((tycon, rest)),
         None => None,
@@ -84,27 +108,65 @@ fn replicated_at<'a>(source: &Source, tokens: &'a [Token]) -> Option<(Name, &'a 
 }
 
 /// Datatypes, or the replication of one, after the first word.
-fn datatype_dec<'a>(alloc: Global, source: &Source, fix: &Fixities, n: u32, place: Place, tokens: &'a [Token]) -> Result<Got<'a, Option<Dec>>, Stop>
+fn datatype_dec<'a>(
+    alloc: Global,
+    source: &Source,
+    fix: &Fixities,
+    n: u32,
+    place: Place,
+    tokens: &'a [Token],
+) -> Result<Got<'a, Option<Dec>>, Stop>
     requires { n < 1000 }
     ensures gives { (p : ℕ) → place ≡ at source.now.file p →
         Gives (λ x r. IsDec fix.now fix.now source.now n (left source.now tokens.now) x.it x.depth x.rest.now r) result (datatype_form n fix.now p (left source.now tokens.now)) }
 {
     if let Some((tycon, named)) = replicated_at(source, tokens) {
-        let Some((long, rest)) = long_tycon_at(alloc, source, named)? else { return Err(Stop::Bad(named.len())) };
-        let of = LongIdAt { place: place_at(source, named), long };
-        return Ok(Got { it: Some(replicated(place, tycon, of)), depth: 0, rest });
+        let Some((long, rest)) = long_tycon_at(alloc, source, named)? else {
+            return Err(Stop::Bad(named.len()))
+        };
+        let of = LongIdAt {
+            place: place_at(source, named),
+            long,
+        };
+        return Ok(Got {
+            it: Some(replicated(place, tycon, of)),
+            depth: 0,
+            rest,
+        });
     }
-    let Got { it: binds, depth: binds_depth, rest: after_binds } = read_data_binds(alloc, source, fix, n, tokens)?;
+    let Got {
+        it: binds,
+        depth: binds_depth,
+        rest: after_binds,
+    } = read_data_binds(alloc, source, fix, n, tokens)?;
     let Some(with) = after_word(source, Reserved::Withtype, after_binds) else {
-        return Ok(Got { it: Some(datatypes(place, binds)), depth: binds_depth, rest: after_binds });
+        return Ok(Got {
+            it: Some(datatypes(place, binds)),
+            depth: binds_depth,
+            rest: after_binds,
+        });
     };
-    let Got { it: types, depth, rest } = read_type_binds(alloc, source, n, with)?;
+    let Got {
+        it: types,
+        depth,
+        rest,
+    } = read_type_binds(alloc, source, n, with)?;
     let dec = derived_dec(alloc, Derived::Withtype(place, binds, types))?;
-    Ok(Got { it: Some(dec), depth: binds_depth.max(depth), rest })
+    Ok(Got {
+        it: Some(dec),
+        depth: binds_depth.max(depth),
+        rest,
+    })
 }
 
 /// A directive that makes identifiers infix, after its word.
-fn infix_dec<'a>(alloc: Global, source: &Source, fix: &mut Fixities, right: bool, tokens: &'a [Token]) -> Result<Got<'a, Option<Dec>>, Stop>
+fn infix_dec<'a>(
+    alloc: Global,
+    source: &Source,
+    fix: &mut Fixities,
+    right: bool,
+    tokens: &'a [Token],
+) -> Result<Got<'a, Option<Dec>>, Stop>
     ensures gives { (n p : ℕ) →
         Gives (λ x r. IsDec fix.old fix.new source.now n (left source.now tokens.now) x.it x.depth x.rest.now r) result (precedence_then (infix_directive p right) (left source.now tokens.now)) }
 {
@@ -113,11 +175,21 @@ fn infix_dec<'a>(alloc: Global, source: &Source, fix: &mut Fixities, right: bool
 }
 
 /// A directive, after its word and precedence.
-fn directive<'a>(alloc: Global, source: &Source, fix: &mut Fixities, status: Option<Infix>, tokens: &'a [Token]) -> Result<Got<'a, Option<Dec>>, Stop>
+fn directive<'a>(
+    alloc: Global,
+    source: &Source,
+    fix: &mut Fixities,
+    status: Option<Infix>,
+    tokens: &'a [Token],
+) -> Result<Got<'a, Option<Dec>>, Stop>
     ensures gives { (n p : ℕ) →
         Gives (λ x r. IsDec fix.old fix.new source.now n (left source.now tokens.now) x.it x.depth x.rest.now r) result (directive p status (left source.now tokens.now)) }
 {
     let Got { it, depth: _, rest } = read_vids(alloc, source, tokens)?;
     fix.add(status, &it)?;
-    Ok(Got { it: None, depth: 0, rest })
+    Ok(Got {
+        it: None,
+        depth: 0,
+        rest,
+    })
 }

@@ -15,9 +15,15 @@ use std::alloc::Global;
 use std::test::Fail;
 
 // The fixities of the standard basis but that of `=`, which no directive gives.
-static STANDARD: &[u8] = b"infix 7 * / div mod infix 6 + - ^ infixr 5 :: @ infix 4 <> > >= < <= infix 3 := o infix 0 before";
+static STANDARD: &[u8] =
+    b"infix 7 * / div mod infix 6 + - ^ infixr 5 :: @ infix 4 <> > >= < <= infix 3 := o infix 0 before";
 
-fn read_under(alloc: Global, names: &mut Names, fix: &Fixities, text: &[u8]) -> Result<Core, Refused>
+fn read_under(
+    alloc: Global,
+    names: &mut Names,
+    fix: &Fixities,
+    text: &[u8],
+) -> Result<Core, Refused>
     requires { length text.now + 1 < 2 ^ 32 }
 {
     let star = names.intern(alloc, b"*")?;
@@ -142,7 +148,8 @@ fn reads_what_the_grammar_says(rt: HostRuntime) -> Result<(), Fail> {
 }
 
 // Reserved words that begin no expression, and `op`, which needs its identifier; `=` is an identifier.
-static OTHERS: &[u8] = b"abstype and andalso as datatype do else end eqtype exception fun functor handle in include infix infixr local nonfix of op open orelse rec \
+static OTHERS: &[u8] =
+    b"abstype and andalso as datatype do else end eqtype exception fun functor handle in include infix infixr local nonfix of op open orelse rec \
     sharing sig signature struct structure then type val where with withtype ) ] } , ; ... _ : :> | => ->";
 
 // Those that begin one, of which each needs more after it.
@@ -205,7 +212,12 @@ fn brackets(alloc: Global, times: u32) -> Result<Vec<u8>, NoMemory> {
 
 #[test]
 fn phrases_are_at_most_400_deep(rt: HostRuntime) -> Result<(), Fail> {
-    let deep = [(100, "1"), (399, "1"), (400, "E14 at 408"), (500, "E14 at 408")];
+    let deep = [
+        (100, "1"),
+        (399, "1"),
+        (400, "E14 at 408"),
+        (500, "E14 at 408"),
+    ];
     for (times, want) in deep {
         let text = brackets(rt.alloc(), times)?;
         assert!(rt; text.len() < 2000);
@@ -241,7 +253,8 @@ fn first_clause_rules(decs: &[Dec]) -> usize {
 
 #[test]
 fn the_inner_case_takes_the_last_rule(rt: HostRuntime) -> Result<(), Fail> {
-    let text = b"fun f x y = case x of 1 => case y of 1 => \"p\" | _ => \"q\" val () = print (f 2 1)";
+    let text =
+        b"fun f x y = case x of 1 => case y of 1 => \"p\" | _ => \"q\" val () = print (f 2 1)";
     match read(rt.alloc(), text) {
         Ok(core) => {
             assert_eq!(rt; core.decs.len(), 2);
@@ -280,7 +293,13 @@ fn chain_shown(alloc: Global, dec: &Dec) -> Result<String, NoMemory> {
     let mut text = String::new(alloc);
     if let Dec::Val(place, _, plain, _) = dec {
         push_place(alloc, &mut text, *place)?;
-        if let [Bind { exp: Exp::Chain(place, right, first, parts), .. }] = plain.as_slice() {
+        if let [
+            Bind {
+                exp: Exp::Chain(place, right, first, parts),
+                ..
+            },
+        ] = plain.as_slice()
+        {
             push_place(alloc, &mut text, *place)?;
             text.push_str(if *right { "right " } else { "left " })?;
             push_vid(alloc, &mut text, first)?;
@@ -295,7 +314,10 @@ fn a_chain_has_its_tree(rt: HostRuntime) -> Result<(), Fail> {
     let mut shapes = 0;
     let rows = [
         ("val x = y - y - y", "7.0 7.8 left 7.8 7.10 7.12 7.14 7.16 "),
-        ("val x = y :: y :: y", "7.0 7.8 right 7.8 7.10 7.13 7.15 7.18 "),
+        (
+            "val x = y :: y :: y",
+            "7.0 7.8 right 7.8 7.10 7.13 7.15 7.18 ",
+        ),
     ];
     for (text, want) in rows {
         match read(rt.alloc(), text.as_bytes()) {

@@ -34,14 +34,23 @@ pub fn is_infix(fix: &Fixities, vid: &Vid) -> bool
 }
 
 /// What follows an expression and may make it part of a larger one.
-pub fn tie_at<'a>(source: &Source, fix: &Fixities, tokens: &'a [Token]) -> Option<(Tie, &'a [Token])>
+pub fn tie_at<'a>(
+    source: &Source,
+    fix: &Fixities,
+    tokens: &'a [Token],
+) -> Option<(Tie, &'a [Token])>
     ensures next { MatchOption result (next_of fix.now (left source.now tokens.now) ≡ nothing) (λ x. next_of fix.now (left source.now tokens.now) ≡ next_from x.0 (left source.now x.1.now)) }
     ensures rest { MatchOption result ⊤ (λ x. left source.now x.1.now ≡ tail (left source.now tokens.now)) }
     ensures place { MatchOption result ⊤ (λ x. FromFile source.now.file x.0) }
     ensures shorter { MatchOption result ⊤ (λ x. length (left source.now x.1.now) < length (left source.now tokens.now)) }
 {
-    let [first, rest @ ..] = tokens else { return None };
-    let place = Place { file: source.file, byte: first.span.first };
+    let [first, rest @ ..] = tokens else {
+        return None
+    };
+    let place = Place {
+        file: source.file,
+        byte: first.span.first,
+    };
     let vid = match &first.kind {
         TokenKind::Reserved(Reserved::Colon) => return Some((Tie::Mark, rest)),
         TokenKind::Reserved(Reserved::Handle) => return Some((Tie::Handle, rest)),
@@ -112,14 +121,22 @@ pub fn tie_least(fix: &Fixities, tie: &Tie) -> u32
 }
 
 /// The joint after an operand of a chain, where the chain goes on.
-pub fn next_joint(source: &Source, fix: &Fixities, level: u32, right: bool, tokens: &[Token]) -> Result<Option<Joint>, Stop>
+pub fn next_joint(
+    source: &Source,
+    fix: &Fixities,
+    level: u32,
+    right: bool,
+    tokens: &[Token],
+) -> Result<Option<Joint>, Stop>
     ensures next { MatchResult result
         (λ found. MatchOption found (PartEnds fix.now level right (left source.now tokens.now)) (λ joint. PartGoes fix.now level right (left source.now tokens.now) joint (tail (left source.now tokens.now))))
         (λ e. PartFails fix.now level right (left source.now tokens.now) e) }
     ensures place { MatchResult result (λ found. MatchOption found ⊤ (λ joint. joint_of source.now.file (joint_from joint) ≡ joint)) (λ e. ⊤) }
     ensures shorter { MatchResult result (λ found. MatchOption found ⊤ (λ joint. length (tail (left source.now tokens.now)) < length (left source.now tokens.now))) (λ e. ⊤) }
 {
-    let Some((tie, _after)) = tie_at(source, fix, tokens) else { return Ok(None) };
+    let Some((tie, _after)) = tie_at(source, fix, tokens) else {
+        return Ok(None)
+    };
     match tie {
         Tie::Joint(joint) => {
             if joint_level(fix, &joint) != level {

@@ -88,8 +88,8 @@ declarations::read_dec-returns-in_ok-plain-in-Some-Val t c =
     let a = c.in_ok-tyvars-in-Some-Val.ensures.gives in
     let b = c.in_ok-plain-in-Some-Val.ensures.gives in
     let g = val-done s c.args.n (readers c.args.n).exp (inner_decs c.args.n) c.args.fix.now i c.in_ok-tyvars-in-Some-Val.field-0.it.items c.in_ok-tyvars-in-Some-Val.field-0.depth c.in_ok-tyvars-in-Some-Val.field-0.rest.now a.got
-        c.in_ok-plain-in-Some-Val.field-0.it.0.items c.in_ok-plain-in-Some-Val.field-0.it.1.items c.in_ok-plain-in-Some-Val.field-0.depth c.in_ok-plain-in-Some-Val.field-0.rest.now b.got c.val.result w
-        (rw c.tail.ensures at a.is) (rw c.tail.ensures at a.same) b.is b.same (rw c.place_at-place.ensures at c.val.ensures) in
+    c.in_ok-plain-in-Some-Val.field-0.it.0.items c.in_ok-plain-in-Some-Val.field-0.it.1.items c.in_ok-plain-in-Some-Val.field-0.depth c.in_ok-plain-in-Some-Val.field-0.rest.now b.got c.val.result w
+    (rw c.tail.ensures at a.is) (rw c.tail.ensures at a.same) b.is b.same (rw c.place_at-place.ensures at c.val.ensures) in
     record { gives = record { got = g.got; is = g.is; same = record { rest = g.same.rest; same = g.same.same; deep = g.same.deep; fits = g.same.fits; shorter = g.same.shorter; force = g.same.force } } }
 
 pub declarations::read_dec-returns-else-n-eq0 : goal.declarations::read_dec-returns-else-n-eq0
@@ -128,8 +128,8 @@ declarations::read_local-returns t c =
           let l3 = a.same.short in let l4 = b.same.short in
           let l5 = ap (λ (z : List Terminal). length z) a.same.rest in let l6 = ap (λ (z : List Terminal). length z) b.same.rest in
           let g = local-done s c.args.n c.args.fix.now c.read_decs.new.fix p i c.in_ok-first.field-0.it.items c.in_ok-first.field-0.depth c.in_ok-first.field-0.rest.now a.got (rw c.in_ok-inner.ensures at a.is) (rw c.in_ok-inner.ensures at a.same)
-              (left s c.in-Some.inside.now) c.in-Some.ensures c.read_decs-2.new.fix c.in_ok-second.field-0.it.items c.in_ok-second.field-0.depth c.in_ok-second.field-0.rest.now b.got b.is b.same
-              c.in-Some-after_word.rest.now c.local.result (c.max.result + 1) _ c.in-Some-after_word.ensures (omega arith) (rw e at c.local.ensures) (omega (arith, c.max.ensures)) (rw c.len-hidden.ensures at c.in_ok-add_newest.ensures) in
+          (left s c.in-Some.inside.now) c.in-Some.ensures c.read_decs-2.new.fix c.in_ok-second.field-0.it.items c.in_ok-second.field-0.depth c.in_ok-second.field-0.rest.now b.got b.is b.same
+          c.in-Some-after_word.rest.now c.local.result (c.max.result + 1) _ c.in-Some-after_word.ensures (omega arith) (rw e at c.local.ensures) (omega (arith, c.max.ensures)) (rw c.len-hidden.ensures at c.in_ok-add_newest.ensures) in
           let fit = g.same.fits in
           record { got = g.got; is = g.is; same = record { rest = g.same.rest; same = g.same.same; deep = g.same.deep; fits = omega arith; shorter = g.same.shorter; force = g.same.force } };
     }
@@ -152,7 +152,7 @@ declarations::read_functions-returns-in_default t c =
     let s = c.args.source.now in
     let h = c.in_ok-it.ensures.gives in
     let g = funs-last s c.args.n c.args.fix.now (left s c.functions.rest.now) c.functions.all.items c.functions.deepest _ c.functions.invariant.going c.in_ok-it.field-0.it c.in_ok-it.field-0.depth c.in_ok-it.field-0.rest.now h.got h.is h.same
-        c.push.new.self.items c.in_ok-push.ensures.items c.max-deepest.result c.max-deepest.ensures (left s c.args.tokens.now) c.in_default.ensures c.functions.invariant.short in
+    c.push.new.self.items c.in_ok-push.ensures.items c.max-deepest.result c.max-deepest.ensures (left s c.args.tokens.now) c.in_default.ensures c.functions.invariant.short in
     record { gives = record { got = g.got; is = g.is; same = g.same } }
 
 pub declarations::read_functions-functions-preserved : goal.declarations::read_functions-functions-preserved
@@ -207,9 +207,9 @@ declarations::read_binds-returns-in_default-after_word t c =
     let by = subst (λ (z : List Terminal). word_then res.Equals ((readers c.args.n).exp c.args.fix.now 0) z ≡ ok y.got) a.same.rest y.is in
     let l1 = a.same.shorter in let l2 = y.same.shorter in let l3 = ap (λ (z : List Terminal). length z) a.same.rest in let l4 = tail-less (left s c.in_ok-pat.field-0.rest.now) in
     let g = binds-last s c.args.n c.args.fix.now c.binds.invariant.going a.got c.in_default.ensures a.is c.bind.result
-        c.place_at-place.result c.in_ok-pat.field-0.it c.in_ok-exp.field-0.it c.bind.ensures c.place_at-place.ensures c.in_ok-pat.field-0.depth c.max-deepest.result (tail (left s c.in_ok-pat.field-0.rest.now)) c.in_ok-pat.field-0.rest.now c.in_ok-exp.field-0.rest.now a.same
-        y.got c.in_ok-exp.field-0.depth by y.same (c.max-deepest.ensures ∙ ap (λ (z : ℕ). Rattle.std.proofs.Common.max z c.binds.deepest) c.max.ensures) c.put_bind.new.plain.items c.put_bind.new.recursive.items c.in_ok-put_bind.ensures.plain c.in_ok-put_bind.ensures.rec
-        (left s c.args.tokens.now) c.in_default-after_word.ensures c.binds.invariant.short (omega arith) in
+    c.place_at-place.result c.in_ok-pat.field-0.it c.in_ok-exp.field-0.it c.bind.ensures c.place_at-place.ensures c.in_ok-pat.field-0.depth c.max-deepest.result (tail (left s c.in_ok-pat.field-0.rest.now)) c.in_ok-pat.field-0.rest.now c.in_ok-exp.field-0.rest.now a.same
+    y.got c.in_ok-exp.field-0.depth by y.same (c.max-deepest.ensures ∙ ap (λ (z : ℕ). Rattle.std.proofs.Common.max z c.binds.deepest) c.max.ensures) c.put_bind.new.plain.items c.put_bind.new.recursive.items c.in_ok-put_bind.ensures.plain c.in_ok-put_bind.ensures.rec
+    (left s c.args.tokens.now) c.in_default-after_word.ensures c.binds.invariant.short (omega arith) in
     record { gives = record { got = g.got; is = g.is; same = record { rest = g.same.rest; plain = g.same.plain; recursive = g.same.recursive; deep = g.same.deep; fits = g.same.fits; shorter = g.same.shorter } } }
 
 pub declarations::read_binds-binds-smaller : goal.declarations::read_binds-binds-smaller
@@ -270,9 +270,9 @@ declarations::read_clauses-returns-in_default t c =
     let first = first-is c.clauses.shape c.in_ok-heading.field-0.it.shape in
     let u = c.unwrap_or-first.ensures ∙ first in
     let g = clauses-last s c.args.n c.args.fix.now c.clauses.invariant.going a.got a.is c.in_ok-heading.field-0.it c.in_ok-heading.field-0.depth c.in_ok-heading.field-0.rest.now a.same y.got by (tail (left s c.in_ok-heading.field-0.rest.now))
-        c.in_ok-exp.field-0.it c.in_ok-exp.field-0.depth c.in_ok-exp.field-0.rest.now y.same c.place_at-place.result (rw c.tail.ensures at c.place_at-place.ensures) c.in_ok-clause_from.field-0 c.in_ok-clause_from.ensures
-        c.max-deepest.result (c.max-deepest.ensures ∙ ap (λ (z : ℕ). Rattle.std.proofs.Common.max z c.clauses.deepest) c.max.ensures) c.push.new.self.items c.in_ok-push.ensures.items (left s c.args.tokens.now) c.function.result (rw u at c.function.ensures)
-        c.in_default.ensures c.clauses.invariant.short (omega arith) in
+    c.in_ok-exp.field-0.it c.in_ok-exp.field-0.depth c.in_ok-exp.field-0.rest.now y.same c.place_at-place.result (rw c.tail.ensures at c.place_at-place.ensures) c.in_ok-clause_from.field-0 c.in_ok-clause_from.ensures
+    c.max-deepest.result (c.max-deepest.ensures ∙ ap (λ (z : ℕ). Rattle.std.proofs.Common.max z c.clauses.deepest) c.max.ensures) c.push.new.self.items c.in_ok-push.ensures.items (left s c.args.tokens.now) c.function.result (rw u at c.function.ensures)
+    c.in_default.ensures c.clauses.invariant.short (omega arith) in
     record { gives = record { got = g.got; is = g.is; same = g.same } }
 
 pub declarations::read_clauses-clauses-smaller : goal.declarations::read_clauses-clauses-smaller
@@ -297,8 +297,8 @@ declarations::read_clauses-clauses-preserved t c =
     let le = c.clauses.invariant.short in
     let u = c.unwrap_or-first.ensures ∙ first-is c.clauses.shape c.in_ok-heading.field-0.it.shape in
     let g = clauses-more s c.args.n c.args.fix.now c.clauses.invariant.going a.got a.is c.in_ok-heading.field-0.it c.in_ok-heading.field-0.depth c.in_ok-heading.field-0.rest.now a.same y.got by (tail (left s c.in_ok-heading.field-0.rest.now))
-        c.in_ok-exp.field-0.it c.in_ok-exp.field-0.depth c.in_ok-exp.field-0.rest.now y.same c.place_at-place.result (rw c.tail.ensures at c.place_at-place.ensures) c.in_ok-clause_from.field-0 c.in_ok-clause_from.ensures
-        c.max-deepest.result (c.max-deepest.ensures ∙ ap (λ (z : ℕ). Rattle.std.proofs.Common.max z c.clauses.deepest) c.max.ensures) c.push.new.self.items c.in_ok-push.ensures.items (left s c.in-Some.next.now) c.in-Some.ensures (omega arith) in
+    c.in_ok-exp.field-0.it c.in_ok-exp.field-0.depth c.in_ok-exp.field-0.rest.now y.same c.place_at-place.result (rw c.tail.ensures at c.place_at-place.ensures) c.in_ok-clause_from.field-0 c.in_ok-clause_from.ensures
+    c.max-deepest.result (c.max-deepest.ensures ∙ ap (λ (z : ℕ). Rattle.std.proofs.Common.max z c.clauses.deepest) c.max.ensures) c.push.new.self.items c.in_ok-push.ensures.items (left s c.in-Some.next.now) c.in-Some.ensures (omega arith) in
     record {
       going = rw (sym u) at g;
       short = omega arith;
@@ -306,8 +306,10 @@ declarations::read_clauses-clauses-preserved t c =
 
 pub expressions::application-returns-in_err-first : goal.expressions::application-returns-in_err-first
 expressions::application-returns-in_err-first t c =
-    let p = err_from_is_err_and c.from_residual.result c.from_residual.ensures.1 in rw (p.1, p.2) (record { gives = fails-then c.in_err-first.field-0.0 (atom_by (readers c.args.n) c.args.fix.now (atom_start c.args.fix.now (left c.args.source.now c.args.tokens.now))) (apply_to (readers c.args.n) c.args.n c.args.fix.now)
-      (fails-by c.in_err-first.field-0.0 _ _ (sym (atom-next c.args.n c.args.fix.now (left c.args.source.now c.args.tokens.now))) c.in_err-first.ensures.gives) })
+    let p = err_from_is_err_and c.from_residual.result c.from_residual.ensures.1 in rw (p.1, p.2) (record {
+      gives = fails-then c.in_err-first.field-0.0 (atom_by (readers c.args.n) c.args.fix.now (atom_start c.args.fix.now (left c.args.source.now c.args.tokens.now))) (apply_to (readers c.args.n) c.args.n c.args.fix.now)
+          (fails-by c.in_err-first.field-0.0 _ _ (sym (atom-next c.args.n c.args.fix.now (left c.args.source.now c.args.tokens.now))) c.in_err-first.ensures.gives);
+    })
 
 pub expressions::application-returns-then-not-begins_atom : goal.expressions::application-returns-then-not-begins_atom
 expressions::application-returns-then-not-begins_atom t c =
@@ -326,8 +328,10 @@ expressions::application-returns-in_err-arguments t c =
     let g = c.in_ok-first.ensures.gives in
     let b : begins_atom c.args.fix.now g.got.rest ≡ true = subst (λ z. begins_atom c.args.fix.now z ≡ true) g.same.is.rest (cc) in
     let h = subst (λ z. Fails c.in_err-arguments.field-0.0 (whole (atoms_turn (readers c.args.n).atom c.args.fix.now) no_state z)) g.same.is.rest c.in_err-arguments.ensures.gives in
-    let p = err_from_is_err_and c.from_residual-in_err-arguments.result c.from_residual-in_err-arguments.ensures.1 in rw (p.1, p.2) (record { gives = fails-by c.in_err-arguments.field-0.0 _ _ (apply-goes (readers c.args.n) c.args.n c.args.fix.now (left c.args.source.now c.args.tokens.now) g.got (sym (atom-next c.args.n c.args.fix.now (left c.args.source.now c.args.tokens.now)) ∙ g.is) b (omega (arith, g.same.is.deep)))
-      (fails-then c.in_err-arguments.field-0.0 (whole (atoms_turn (readers c.args.n).atom c.args.fix.now) no_state g.got.rest) (λ es o. read (applied g.got.tree es) o) h) })
+    let p = err_from_is_err_and c.from_residual-in_err-arguments.result c.from_residual-in_err-arguments.ensures.1 in rw (p.1, p.2) (record {
+      gives = fails-by c.in_err-arguments.field-0.0 _ _ (apply-goes (readers c.args.n) c.args.n c.args.fix.now (left c.args.source.now c.args.tokens.now) g.got (sym (atom-next c.args.n c.args.fix.now (left c.args.source.now c.args.tokens.now)) ∙ g.is) b (omega (arith, g.same.is.deep)))
+          (fails-then c.in_err-arguments.field-0.0 (whole (atoms_turn (readers c.args.n).atom c.args.fix.now) no_state g.got.rest) (λ es o. read (applied g.got.tree es) o) h);
+    })
 
 pub expressions::application-returns : goal.expressions::application-returns
 expressions::application-returns t c =
@@ -335,11 +339,13 @@ expressions::application-returns t c =
     let b : begins_atom c.args.fix.now g.got.rest ≡ true = subst (λ z. begins_atom c.args.fix.now z ≡ true) g.same.is.rest (cc) in
     let a = c.in_ok-arguments.ensures.gives in
     let q = ap (λ z. whole (atoms_turn (readers c.args.n).atom c.args.fix.now) no_state z) (sym g.same.is.rest) ∙ a.is in
-    record { gives = record {
-      got = record { tree = applied g.got.tree a.got.tree; rest = a.got.rest };
-      is = apply-goes (readers c.args.n) c.args.n c.args.fix.now (left c.args.source.now c.args.tokens.now) g.got (sym (atom-next c.args.n c.args.fix.now (left c.args.source.now c.args.tokens.now)) ∙ g.is) b (omega (arith, g.same.is.deep)) ∙ after-ok (λ es o. read (applied g.got.tree es) o) q;
-      same = rw c.max-depth.ensures (is-applied c.args.fix.now c.args.source.now c.args.n (left c.args.source.now c.args.tokens.now) g.got a.got g.same (omega arith) a.same (rw c.place_at-place.ensures at c.in_ok-applied.ensures))
-    } }
+    record {
+      gives = record {
+        got = record { tree = applied g.got.tree a.got.tree; rest = a.got.rest };
+        is = apply-goes (readers c.args.n) c.args.n c.args.fix.now (left c.args.source.now c.args.tokens.now) g.got (sym (atom-next c.args.n c.args.fix.now (left c.args.source.now c.args.tokens.now)) ∙ g.is) b (omega (arith, g.same.is.deep)) ∙ after-ok (λ es o. read (applied g.got.tree es) o) q;
+        same = rw c.max-depth.ensures (is-applied c.args.fix.now c.args.source.now c.args.n (left c.args.source.now c.args.tokens.now) g.got a.got g.same (omega arith) a.same (rw c.place_at-place.ensures at c.in_ok-applied.ensures));
+      };
+    }
 
 pub expressions::case-returns : goal.expressions::case-returns
 expressions::case-returns t c =
@@ -350,48 +356,54 @@ expressions::case-returns t c =
     let r = c.in_ok-rules.ensures.gives in
     let m = left c.args.source.now c.in-Some.after.now in
     let at = subst (λ z. after_word res.Of z ≡ Some m) g.same.rest c.in-Some.ensures in
-    record { gives = record {
-      got = record { tree = tree.case (place_at i) g.got.tree r.got.tree; rest = r.got.rest };
-      is = after-ok (case_rest c.args.n self f (place_at i)) (rw c.tail.ensures at g.is) ∙ ap (λ v. on_some v (λ k. then_read (read_match c.args.n self f k) (λ rs o. read (tree.case (place_at i) g.got.tree rs) o)) bad) at
-        ∙ after-ok (λ rs o. read (tree.case (place_at i) g.got.tree rs) o) r.is;
-      same = rw c.max-depth.ensures (is-case f c.args.source.now c.args.n i g.got r.got (rw c.tail.ensures at g.same) (after-shorter res.Of (left c.args.source.now c.in_ok-exp.exp.rest.now) m c.in-Some.ensures) r.same (exp_same (rw c.place_at.ensures at c.in_ok-it.ensures)))
-    } }
+    record {
+      gives = record {
+        got = record { tree = tree.case (place_at i) g.got.tree r.got.tree; rest = r.got.rest };
+        is = after-ok (case_rest c.args.n self f (place_at i)) (rw c.tail.ensures at g.is) ∙ ap (λ v. on_some v (λ k. then_read (read_match c.args.n self f k) (λ rs o. read (tree.case (place_at i) g.got.tree rs) o)) bad) at
+            ∙ after-ok (λ rs o. read (tree.case (place_at i) g.got.tree rs) o) r.is;
+        same = rw c.max-depth.ensures (is-case f c.args.source.now c.args.n i g.got r.got (rw c.tail.ensures at g.same) (after-shorter res.Of (left c.args.source.now c.in_ok-exp.exp.rest.now) m c.in-Some.ensures) r.same (exp_same (rw c.place_at.ensures at c.in_ok-it.ensures)));
+      };
+    }
 
 pub expressions::go_on-returns-in_ok-it-in-Joint : goal.expressions::go_on-returns-in_ok-it-in-Joint
 expressions::go_on-returns-in_ok-it-in-Joint t c = rw c.in-Joint.is (record {
-    gives = λ a e d p.
+  gives = λ a e d p.
       let g = c.in_ok-parts-in-Joint.ensures.gives in
       let y = is-chain (readers c.args.n).exp c.args.fix.now c.args.source.now c.args.n (left c.args.source.now c.args.tokens.now) a c.args.before e d p c.requires.fits c.in-Joint.joint g.got g.is g.same (rw c.joint_right.ensures at c.in_ok-it-in-Joint.ensures) in
-      record { got = y.got; is = y.is; same = rw c.max.ensures y.same }
-  })
+      record { got = y.got; is = y.is; same = rw c.max.ensures y.same };
+})
 
 pub expressions::go_on-returns-in_ok-handler-in-Handle : goal.expressions::go_on-returns-in_ok-handler-in-Handle
 expressions::go_on-returns-in_ok-handler-in-Handle t c = rw c.in-Handle.is (record {
-    gives = λ a e d p.
+  gives = λ a e d p.
       let g = c.in_ok-rules-in-Handle.ensures.gives in
       let y = is-handle (readers c.args.n).exp c.args.fix.now c.args.source.now c.args.n (left c.args.source.now c.args.tokens.now) a c.args.before e d p c.requires.fits g.got g.is g.same c.in_ok-handler-in-Handle.ensures in
-      record { got = y.got; is = y.is; same = rw c.max-in-Handle.ensures y.same }
-  })
+      record { got = y.got; is = y.is; same = rw c.max-in-Handle.ensures y.same };
+})
 
 pub expressions::in_braces-returns : goal.expressions::in_braces-returns
 expressions::in_braces-returns t c =
     let g = c.in_ok-fields.ensures.gives in
     let i = tail (left c.args.source.now c.args.tokens.now) in
-    record { gives = record {
-      got = record { tree = tree.record_exp (place_at (left c.args.source.now c.args.tokens.now)) g.got.tree; rest = g.got.rest };
-      is = brace-rows (readers c.args.n).exp c.args.fix.now (place_at (left c.args.source.now c.args.tokens.now)) i (rw c.tail-inner.ensures at c.in_default.ensures) ∙ after-ok (λ fs o. read (tree.record_exp (place_at (left c.args.source.now c.args.tokens.now)) fs) o) (rw c.tail-inner.ensures at g.is);
-      same = is-record c.args.fix.now c.args.source.now c.args.n (left c.args.source.now c.args.tokens.now) g.got (rw c.tail-inner.ensures at g.same) (rw c.place_at-place.ensures at c.record_of-2.ensures)
-    } }
+    record {
+      gives = record {
+        got = record { tree = tree.record_exp (place_at (left c.args.source.now c.args.tokens.now)) g.got.tree; rest = g.got.rest };
+        is = brace-rows (readers c.args.n).exp c.args.fix.now (place_at (left c.args.source.now c.args.tokens.now)) i (rw c.tail-inner.ensures at c.in_default.ensures) ∙ after-ok (λ fs o. read (tree.record_exp (place_at (left c.args.source.now c.args.tokens.now)) fs) o) (rw c.tail-inner.ensures at g.is);
+        same = is-record c.args.fix.now c.args.source.now c.args.n (left c.args.source.now c.args.tokens.now) g.got (rw c.tail-inner.ensures at g.same) (rw c.place_at-place.ensures at c.record_of-2.ensures);
+      };
+    }
 
 pub expressions::keyword_form-returns-in_ok-rules-in-Some-Fn : goal.expressions::keyword_form-returns-in_ok-rules-in-Some-Fn
 expressions::keyword_form-returns-in_ok-rules-in-Some-Fn t c =
     let i = left c.args.source.now c.args.tokens.now in
     let r = c.in_ok-rules-in-Some-Fn.ensures.gives in
-    record { gives = record {
-      got = record { tree = tree.fn (place_at i) r.got.tree; rest = r.got.rest };
-      is = ap (exps.keyword_form c.args.n (readers c.args.n).exp c.args.fix.now) (at-fn i (cc)) ∙ after-ok (λ rs o. read (tree.fn (place_at i) rs) o) (rw c.tail-inner.ensures at r.is);
-      same = is-fn c.args.fix.now c.args.source.now c.args.n i r.got (rw c.tail-inner.ensures at r.same) (rw c.place_at-place.ensures at c.lambda.ensures)
-    } }
+    record {
+      gives = record {
+        got = record { tree = tree.fn (place_at i) r.got.tree; rest = r.got.rest };
+        is = ap (exps.keyword_form c.args.n (readers c.args.n).exp c.args.fix.now) (at-fn i (cc)) ∙ after-ok (λ rs o. read (tree.fn (place_at i) rs) o) (rw c.tail-inner.ensures at r.is);
+        same = is-fn c.args.fix.now c.args.source.now c.args.n i r.got (rw c.tail-inner.ensures at r.same) (rw c.place_at-place.ensures at c.lambda.ensures);
+      };
+    }
 
 pub expressions::read_atom-returns-then-n-eq0 : goal.expressions::read_atom-returns-then-n-eq0
 expressions::read_atom-returns-then-n-eq0 t c = record { gives = fails-by c.no_atom_room.result _ _ (atom-zero c.args.n c.args.fix.now (left c.args.source.now c.args.tokens.now) c.if-n-eq0.true) c.no_atom_room.ensures }
@@ -431,11 +443,11 @@ expressions::read_atom-returns t c =
 
 pub expressions::read_atoms-atoms-init : goal.expressions::read_atoms-atoms-init
 expressions::read_atoms-atoms-init t c = record {
-    collects = collects-start (exp_list c.args.source.now.file) depth_exps (atoms_turn (readers c.args.n).atom c.args.fix.now) no_state (left c.args.source.now c.args.tokens.now) (ap (map exp_of) c.new-all.ensures.items);
-    begins = c.requires.begins;
-    short = omega arith;
-    fits = omega arith
-  }
+  collects = collects-start (exp_list c.args.source.now.file) depth_exps (atoms_turn (readers c.args.n).atom c.args.fix.now) no_state (left c.args.source.now c.args.tokens.now) (ap (map exp_of) c.new-all.ensures.items);
+  begins = c.requires.begins;
+  short = omega arith;
+  fits = omega arith;
+}
 
 pub expressions::read_atoms-returns-in_err-atom : goal.expressions::read_atoms-returns-in_err-atom
 expressions::read_atoms-returns-in_err-atom t c =
@@ -445,7 +457,7 @@ pub expressions::read_atoms-returns-then-not-begins_atom : goal.expressions::rea
 expressions::read_atoms-returns-then-not-begins_atom t c =
     let g = c.in_ok-atom.ensures.gives in
     let l = list-at (ap (map exp_of) c.in_ok-push.ensures.items ∙ map_push exp_of c.atoms.all.items c.in_ok-atom.atom.it) c.max-deepest.ensures
-      (atoms-last c.args.source.now c.args.n (readers c.args.n).atom c.args.fix.now g.got c.atoms.invariant.begins g.is g.same.is (cc) c.atoms.invariant.short c.atoms.invariant.fits c.atoms.invariant.collects) in
+    (atoms-last c.args.source.now c.args.n (readers c.args.n).atom c.args.fix.now g.got c.atoms.invariant.begins g.is g.same.is (cc) c.atoms.invariant.short c.atoms.invariant.fits c.atoms.invariant.collects) in
     record { gives = record { got = l.got; is = l.is; same = l.same } }
 
 pub expressions::read_atoms-atoms-preserved : goal.expressions::read_atoms-atoms-preserved
@@ -458,7 +470,7 @@ expressions::read_atoms-atoms-preserved t c =
       collects = collects-at (exp_list c.args.source.now.file) depth_exps (atoms_turn (readers c.args.n).atom c.args.fix.now) (ap (map exp_of) c.in_ok-push.ensures.items ∙ map_push exp_of c.atoms.all.items c.in_ok-atom.atom.it) c.max-deepest.ensures (atoms-more c.args.source.now c.args.n (readers c.args.n).atom c.args.fix.now g.got c.atoms.invariant.begins g.is g.same.is c.atoms.invariant.collects);
       begins = cc;
       short = omega (arith, q, sh, c.atoms.invariant.short);
-      fits = rw c.max-deepest.ensures (omega (arith, l, c.atoms.invariant.fits))
+      fits = rw c.max-deepest.ensures (omega (arith, l, c.atoms.invariant.fits));
     }
 
 pub expressions::read_exp-returns-then-n-eq0 : goal.expressions::read_exp-returns-then-n-eq0
@@ -475,15 +487,17 @@ expressions::read_exp-returns-then-is_keyword t c =
 
 pub expressions::read_exp-returns-in_err-first : goal.expressions::read_exp-returns-in_err-first
 expressions::read_exp-returns-in_err-first t c =
-    let p = err_from_is_err_and c.from_residual.result c.from_residual.ensures.1 in rw (p.1, p.2) (record { gives = fails-by c.in_err-first.field-0.0 _ _ (exp-one c.args.n c.args.fix.now c.args.level (left c.args.source.now c.args.tokens.now) (omega arith) ∙ exp-goes (readers (c.args.n - 1)) (c.args.n - 1) c.args.fix.now c.args.level (left c.args.source.now c.args.tokens.now) (cc))
-      (fails-then c.in_err-first.field-0.0 (application (readers (c.args.n - 1)) (c.args.n - 1) c.args.fix.now (left c.args.source.now c.args.tokens.now)) (λ a m. whole (suffix_turn (readers (c.args.n - 1)).exp (c.args.n - 1) c.args.fix.now c.args.level) a m) c.in_err-first.ensures.gives) })
+    let p = err_from_is_err_and c.from_residual.result c.from_residual.ensures.1 in rw (p.1, p.2) (record {
+      gives = fails-by c.in_err-first.field-0.0 _ _ (exp-one c.args.n c.args.fix.now c.args.level (left c.args.source.now c.args.tokens.now) (omega arith) ∙ exp-goes (readers (c.args.n - 1)) (c.args.n - 1) c.args.fix.now c.args.level (left c.args.source.now c.args.tokens.now) (cc))
+          (fails-then c.in_err-first.field-0.0 (application (readers (c.args.n - 1)) (c.args.n - 1) c.args.fix.now (left c.args.source.now c.args.tokens.now)) (λ a m. whole (suffix_turn (readers (c.args.n - 1)).exp (c.args.n - 1) c.args.fix.now c.args.level) a m) c.in_err-first.ensures.gives);
+    })
 
 pub expressions::read_exp-suffixes-init : goal.expressions::read_exp-suffixes-init
 expressions::read_exp-suffixes-init t c =
     let g = c.in_ok-first.ensures.gives in
     record {
       seeking = seek-start (readers (c.args.n - 1)).exp (c.args.n - 1) c.args.fix.now c.args.level c.args.source.now g.got g.same (exp-one c.args.n c.args.fix.now c.args.level (left c.args.source.now c.args.tokens.now) (omega arith) ∙ exp-goes (readers (c.args.n - 1)) (c.args.n - 1) c.args.fix.now c.args.level (left c.args.source.now c.args.tokens.now) (cc) ∙ after-ok (λ a m. whole (suffix_turn (readers (c.args.n - 1)).exp (c.args.n - 1) c.args.fix.now c.args.level) a m) g.is);
-      short = subst (λ z. length z < length (left c.args.source.now c.args.tokens.now)) (sym g.same.is.rest) g.same.is.shorter
+      short = subst (λ z. length z < length (left c.args.source.now c.args.tokens.now)) (sym g.same.is.rest) g.same.is.shorter;
     }
 
 pub expressions::read_exp-returns-then-level-next : goal.expressions::read_exp-returns-then-level-next
@@ -512,7 +526,7 @@ expressions::read_exp-suffixes-preserved t c =
     let sh = g.same.shorter in
     record {
       seeking = rw c.tie_level-next.ensures.level (seek-more (readers (c.args.n - 1)).exp (c.args.n - 1) c.args.fix.now c.args.level c.args.source.now (left c.args.source.now c.args.tokens.now) c.suffixes.rest.now c.in-Some.tie (left c.args.source.now c.in-Some.after.now) c.in-Some.ensures.next c.suffixes.invariant.seeking g.got (omega (arith, c.tie_level-next.ensures.level)) (omega (arith, c.tie_least.ensures)) (omega arith) c.in-Some.ensures.shorter g.is g.same);
-      short = omega (arith, q, sh, c.in-Some.ensures.shorter, c.suffixes.invariant.short)
+      short = omega (arith, q, sh, c.in-Some.ensures.shorter, c.suffixes.invariant.short);
     }
 
 pub expressions::read_exp-returns : goal.expressions::read_exp-returns
@@ -523,10 +537,10 @@ expressions::read_exp-returns t c =
 
 pub expressions::read_exps-exps-init : goal.expressions::read_exps-exps-init
 expressions::read_exps-exps-init t c = record {
-    collects = collects-start (exp_list c.args.source.now.file) depth_exps (exps_turn c.args.word (readers c.args.n).exp c.args.fix.now) no_state (left c.args.source.now c.args.tokens.now) (ap (map exp_of) c.new-all.ensures.items);
-    short = omega arith;
-    fits = omega arith
-  }
+  collects = collects-start (exp_list c.args.source.now.file) depth_exps (exps_turn c.args.word (readers c.args.n).exp c.args.fix.now) no_state (left c.args.source.now c.args.tokens.now) (ap (map exp_of) c.new-all.ensures.items);
+  short = omega arith;
+  fits = omega arith;
+}
 
 pub expressions::read_exps-returns-in_err-exp : goal.expressions::read_exps-returns-in_err-exp
 expressions::read_exps-returns-in_err-exp t c =
@@ -543,23 +557,25 @@ expressions::read_exps-exps-preserved t c =
     let l = exp-low g.same in
     record {
       collects = collects-at (exp_list c.args.source.now.file) depth_exps (exps_turn c.args.word (readers c.args.n).exp c.args.fix.now)
-        (ap (map exp_of) c.in_ok-push.ensures.items ∙ map_push exp_of c.exps.all.items c.in_ok-exp.exp.it) c.max-deepest.ensures
-        (exps-more c.args.source.now c.args.n c.args.word (readers c.args.n).exp c.args.fix.now g.got g.is g.same c.in-Some.ensures c.exps.invariant.collects);
+          (ap (map exp_of) c.in_ok-push.ensures.items ∙ map_push exp_of c.exps.all.items c.in_ok-exp.exp.it) c.max-deepest.ensures
+          (exps-more c.args.source.now c.args.n c.args.word (readers c.args.n).exp c.args.fix.now g.got g.is g.same c.in-Some.ensures c.exps.invariant.collects);
       short = omega (arith, s, c.exps.invariant.short);
-      fits = rw c.max-deepest.ensures (omega (arith, l, c.exps.invariant.fits))
+      fits = rw c.max-deepest.ensures (omega (arith, l, c.exps.invariant.fits));
     }
 
 pub expressions::read_exps-returns-in_default : goal.expressions::read_exps-returns-in_default
 expressions::read_exps-returns-in_default t c =
     let g = c.in_ok-exp.ensures.gives in
-    record { gives = closed-bad c.args.closing
-      (exps-last c.args.source.now c.args.n c.args.word (readers c.args.n).exp c.args.fix.now g.got g.is g.same c.in-None.ensures c.exps.invariant.short c.exps.invariant.fits c.exps.invariant.collects) c.in_default.ensures }
+    record {
+      gives = closed-bad c.args.closing
+          (exps-last c.args.source.now c.args.n c.args.word (readers c.args.n).exp c.args.fix.now g.got g.is g.same c.in-None.ensures c.exps.invariant.short c.exps.invariant.fits c.exps.invariant.collects) c.in_default.ensures;
+    }
 
 pub expressions::read_exps-returns-in-None : goal.expressions::read_exps-returns-in-None
 expressions::read_exps-returns-in-None t c =
     let g = c.in_ok-exp.ensures.gives in
     let l = list-at (ap (map exp_of) c.in_ok-push.ensures.items ∙ map_push exp_of c.exps.all.items c.in_ok-exp.exp.it) c.max-deepest.ensures
-      (exps-last c.args.source.now c.args.n c.args.word (readers c.args.n).exp c.args.fix.now g.got g.is g.same c.in-None.ensures c.exps.invariant.short c.exps.invariant.fits c.exps.invariant.collects) in
+    (exps-last c.args.source.now c.args.n c.args.word (readers c.args.n).exp c.args.fix.now g.got g.is g.same c.in-None.ensures c.exps.invariant.short c.exps.invariant.fits c.exps.invariant.collects) in
     let q = closed-list c.args.closing l c.in-Some-after_word.ensures in
     record { gives = record { got = q.got; is = q.is; same = q.same } }
 
@@ -580,18 +596,20 @@ expressions::read_let-returns t c =
     let ds = rw c.tail.ensures at g.same in
     let e = let-goes c.args.source.now c.args.n c.args.fix.now _ _ g.got c.in_ok-inner.ensures (place_at i) (tail i) m (rw c.tail.ensures at g.is) ds c.in-Some.ensures in
     let es = c.in_ok-body.ensures.gives in
-    record { gives = record {
-      got = record { tree = tree.let_in (place_at i) g.got.tree es.got.tree; rest = es.got.rest };
-      is = e ∙ after-ok (λ es o. read (tree.let_in (place_at i) g.got.tree es) o) es.is;
-      same = rw c.max.ensures (is-let c.args.source.now c.args.n c.args.fix.now _ _ g.got c.in_ok-inner.ensures _ i es.got ds c.in-Some.ensures es.same c.remove-first.ensures.value c.remove-first.ensures.items (exp_same (rw c.place_at.ensures at c.in_ok-it.ensures)))
-    } }
+    record {
+      gives = record {
+        got = record { tree = tree.let_in (place_at i) g.got.tree es.got.tree; rest = es.got.rest };
+        is = e ∙ after-ok (λ es o. read (tree.let_in (place_at i) g.got.tree es) o) es.is;
+        same = rw c.max.ensures (is-let c.args.source.now c.args.n c.args.fix.now _ _ g.got c.in_ok-inner.ensures _ i es.got ds c.in-Some.ensures es.same c.remove-first.ensures.value c.remove-first.ensures.items (exp_same (rw c.place_at.ensures at c.in_ok-it.ensures)));
+      };
+    }
 
 pub expressions::read_match-rules-init : goal.expressions::read_match-rules-init
 expressions::read_match-rules-init t c = record {
-    collects = collects-start (rule_list c.args.source.now.file) depth_rules (rule_turn c.args.n (readers c.args.n).exp c.args.fix.now) no_state (left c.args.source.now c.args.tokens.now) (ap (map rule_of) c.new-all.ensures.items);
-    short = omega arith;
-    fits = omega arith
-  }
+  collects = collects-start (rule_list c.args.source.now.file) depth_rules (rule_turn c.args.n (readers c.args.n).exp c.args.fix.now) no_state (left c.args.source.now c.args.tokens.now) (ap (map rule_of) c.new-all.ensures.items);
+  short = omega arith;
+  fits = omega arith;
+}
 
 pub expressions::read_match-returns-in_err-pat : goal.expressions::read_match-returns-in_err-pat
 expressions::read_match-returns-in_err-pat t c =
@@ -629,17 +647,17 @@ expressions::read_match-rules-preserved t c =
     record {
       collects = collects-at (rule_list c.args.source.now.file) depth_rules (rule_turn c.args.n (readers c.args.n).exp c.args.fix.now) (ap (map rule_of) c.in_ok-push.ensures.items ∙ map_push rule_of c.rules.all.items c.rule.result ∙ ap (λ z. map rule_of c.rules.all.items ++ z ∷ []) (c.rule.ensures ∙ ap (λ z. record { place = z; pat = pat_of c.in_ok-pat.pat.it; exp = exp_of c.in_ok-exp.exp.it }) c.place_at-place.ensures)) (c.max-deepest.ensures ∙ ap (λ z. max z c.rules.deepest) c.max.ensures) (rules-more c.args.source.now c.args.n (readers c.args.n).exp c.args.fix.now a.got g.got a.is a.same g.is g.same c.in-Some.ensures c.rules.invariant.collects);
       short = omega (arith, sh, c.rules.invariant.short);
-      fits = rw (c.max-deepest.ensures ∙ ap (λ z. max z c.rules.deepest) c.max.ensures) (omega (arith, l, lp, c.rules.invariant.fits))
+      fits = rw (c.max-deepest.ensures ∙ ap (λ z. max z c.rules.deepest) c.max.ensures) (omega (arith, l, lp, c.rules.invariant.fits));
     }
 
 pub expressions::read_parts-parts-init : goal.expressions::read_parts-parts-init
 expressions::read_parts-parts-init t c = record {
-    collects = rw (c.joint_level-level.ensures.level, c.joint_right-right.ensures)
+  collects = rw (c.joint_level-level.ensures.level, c.joint_right-right.ensures)
       (collects-start (operands c.args.source.now.file) depth_parts (part_turn (readers c.args.n).exp c.args.fix.now (joint_level c.args.fix.now (joint_from c.args.first.now)) (joint_right c.args.fix.now (joint_from c.args.first.now))) (joint_from c.args.first.now) (left c.args.source.now c.args.tokens.now) (ap (map part_of) c.new-all.ensures.items));
-    file = c.requires.place;
-    short = omega arith;
-    fits = omega arith
-  }
+  file = c.requires.place;
+  short = omega arith;
+  fits = omega arith;
+}
 
 pub expressions::read_parts-returns-in_err-exp : goal.expressions::read_parts-returns-in_err-exp
 expressions::read_parts-returns-in_err-exp t c =
@@ -655,7 +673,7 @@ expressions::read_parts-returns-in_default t c =
     let g = c.in_ok-exp.ensures.gives in
     let ends = rw c.in_default.is at c.in_ok-next.ensures.next in
     let l = list-at (ap (map part_of) c.in_ok-push.ensures.items ∙ map_push part_of c.parts.all.items c.part.result ∙ ap (λ z. map part_of c.parts.all.items ++ z ∷ []) (c.part.ensures ∙ ap (λ z. record { joint = c.parts.joint; place = z; operand = exp_of c.in_ok-exp.exp.it }) c.place_at-place.ensures)) c.max-deepest.ensures
-      (parts-last c.args.source.now c.args.n (readers c.args.n).exp c.args.fix.now c.joint_level-level.result c.joint_right-right.result g.got (exp-at (readers c.args.n).exp c.args.fix.now c.joint_level-level.result (left c.args.source.now c.parts.rest.now) ∙ g.is) g.same c.parts.invariant.file ends c.parts.invariant.short c.parts.invariant.fits c.parts.invariant.collects) in
+    (parts-last c.args.source.now c.args.n (readers c.args.n).exp c.args.fix.now c.joint_level-level.result c.joint_right-right.result g.got (exp-at (readers c.args.n).exp c.args.fix.now c.joint_level-level.result (left c.args.source.now c.parts.rest.now) ∙ g.is) g.same c.parts.invariant.file ends c.parts.invariant.short c.parts.invariant.fits c.parts.invariant.collects) in
     record { gives = record { got = l.got; is = l.is; same = l.same } }
 
 pub expressions::read_parts-parts-preserved : goal.expressions::read_parts-parts-preserved
@@ -670,18 +688,18 @@ expressions::read_parts-parts-preserved t c =
     let tl = ap length c.tail-rest.ensures in
     record {
       collects = rw c.tail-rest.ensures (collects-at (operands c.args.source.now.file) depth_parts (part_turn (readers c.args.n).exp c.args.fix.now c.joint_level-level.result c.joint_right-right.result) (ap (map part_of) c.in_ok-push.ensures.items ∙ map_push part_of c.parts.all.items c.part.result ∙ ap (λ z. map part_of c.parts.all.items ++ z ∷ []) (c.part.ensures ∙ ap (λ z. record { joint = c.parts.joint; place = z; operand = exp_of c.in_ok-exp.exp.it }) c.place_at-place.ensures)) c.max-deepest.ensures
-        (parts-more c.args.source.now c.args.n (readers c.args.n).exp c.args.fix.now c.joint_level-level.result c.joint_right-right.result g.got c.in-Some.next (exp-at (readers c.args.n).exp c.args.fix.now c.joint_level-level.result (left c.args.source.now c.parts.rest.now) ∙ g.is) g.same c.parts.invariant.file goes lt c.parts.invariant.collects));
+          (parts-more c.args.source.now c.args.n (readers c.args.n).exp c.args.fix.now c.joint_level-level.result c.joint_right-right.result g.got c.in-Some.next (exp-at (readers c.args.n).exp c.args.fix.now c.joint_level-level.result (left c.args.source.now c.parts.rest.now) ∙ g.is) g.same c.parts.invariant.file goes lt c.parts.invariant.collects));
       file = file;
       short = omega (arith, q, sh, lt, tl, c.parts.invariant.short);
-      fits = rw c.max-deepest.ensures (omega (arith, l, c.parts.invariant.fits))
+      fits = rw c.max-deepest.ensures (omega (arith, l, c.parts.invariant.fits));
     }
 
 pub expressions::read_rows-fields-init : goal.expressions::read_rows-fields-init
 expressions::read_rows-fields-init t c = record {
-    collects = collects-start (field_list c.args.source.now.file) depth_exp_fields (row_turn (readers c.args.n).exp c.args.fix.now) no_state (left c.args.source.now c.args.tokens.now) (ap (map exp_field_of) c.new-all.ensures.items);
-    short = omega arith;
-    fits = omega arith
-  }
+  collects = collects-start (field_list c.args.source.now.file) depth_exp_fields (row_turn (readers c.args.n).exp c.args.fix.now) no_state (left c.args.source.now c.args.tokens.now) (ap (map exp_field_of) c.new-all.ensures.items);
+  short = omega arith;
+  fits = omega arith;
+}
 
 pub expressions::read_rows-returns-in_default : goal.expressions::read_rows-returns-in_default
 expressions::read_rows-returns-in_default t c = record { gives = rows-none c.args.source.now (readers c.args.n).exp c.args.fix.now 0 (left c.args.source.now c.args.tokens.now) c.in_default.ensures c.fields.invariant.collects }
@@ -698,7 +716,7 @@ expressions::read_rows-fields-preserved t c =
     record {
       collects = collects-at (field_list c.args.source.now.file) depth_exp_fields (row_turn (readers c.args.n).exp c.args.fix.now) (ap (map exp_field_of) c.in_ok-push.ensures.items ∙ map_push exp_field_of c.fields.all.items c.field.result ∙ ap (λ z. map exp_field_of c.fields.all.items ++ z ∷ []) c.field.ensures) c.max-deepest.ensures (rows-more c.args.source.now c.args.n (readers c.args.n).exp c.args.fix.now g.got c.in-Some.ensures g.is g.same c.in-Some-after_word.ensures c.fields.invariant.collects);
       short = omega (arith, sh, c.fields.invariant.short);
-      fits = rw c.max-deepest.ensures (omega (arith, l, c.fields.invariant.fits))
+      fits = rw c.max-deepest.ensures (omega (arith, l, c.fields.invariant.fits));
     }
 
 pub expressions::read_rows-returns-in_default-after_word : goal.expressions::read_rows-returns-in_default-after_word

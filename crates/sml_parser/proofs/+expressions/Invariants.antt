@@ -123,7 +123,7 @@ decreases-expressions::go_on l = 32 * l.n + 30
 abbrev pub invariant-expressions::read_exp-suffixes : goal.invariant-expressions::read_exp-suffixes
 invariant-expressions::read_exp-suffixes l = record {
   seeking : Seeking (readers (l.n - 1)).exp (l.n - 1) l.fix l.level l.source (place_at (left l.source l.tokens)) (left l.source l.rest) l.exp l.depth l.high ((readers l.n).exp l.fix l.level (left l.source l.tokens));
-  short : length (left l.source l.rest) < length (left l.source l.tokens)
+  short : length (left l.source l.rest) < length (left l.source l.tokens);
 }
 
 abbrev pub decreases-expressions::read_exp-suffixes : goal.decreases-expressions::read_exp-suffixes
@@ -134,7 +134,7 @@ invariant-expressions::read_atoms-atoms l = record {
   collects : Collects (exp_list l.source.file) depth_exps (atoms_turn (readers l.n).atom l.fix) no_state (left l.source l.rest) (map exp_of l.all.items) l.deepest (whole (atoms_turn (readers l.n).atom l.fix) no_state (left l.source l.tokens));
   begins : begins_atom l.fix (left l.source l.rest) ≡ true;
   short : length (left l.source l.rest) ≤ length (left l.source l.tokens);
-  fits : l.deepest ≤ l.n
+  fits : l.deepest ≤ l.n;
 }
 
 abbrev pub decreases-expressions::read_atoms-atoms : goal.decreases-expressions::read_atoms-atoms
@@ -144,7 +144,7 @@ abbrev pub invariant-expressions::read_rows-fields : goal.invariant-expressions:
 invariant-expressions::read_rows-fields l = record {
   collects : Collects (field_list l.source.file) depth_exp_fields (row_turn (readers l.n).exp l.fix) no_state (left l.source l.rest) (map exp_field_of l.all.items) l.deepest (whole (row_turn (readers l.n).exp l.fix) no_state (left l.source l.tokens));
   short : length (left l.source l.rest) ≤ length (left l.source l.tokens);
-  fits : l.deepest ≤ l.n
+  fits : l.deepest ≤ l.n;
 }
 
 abbrev pub decreases-expressions::read_rows-fields : goal.decreases-expressions::read_rows-fields
@@ -154,7 +154,7 @@ abbrev pub invariant-expressions::read_exps-exps : goal.invariant-expressions::r
 invariant-expressions::read_exps-exps l = record {
   collects : Collects (exp_list l.source.file) depth_exps (exps_turn l.word (readers l.n).exp l.fix) no_state (left l.source l.rest) (map exp_of l.all.items) l.deepest (whole (exps_turn l.word (readers l.n).exp l.fix) no_state (left l.source l.tokens));
   short : length (left l.source l.rest) ≤ length (left l.source l.tokens);
-  fits : l.deepest ≤ l.n
+  fits : l.deepest ≤ l.n;
 }
 
 abbrev pub decreases-expressions::read_exps-exps : goal.decreases-expressions::read_exps-exps
@@ -164,7 +164,7 @@ abbrev pub invariant-expressions::read_match-rules : goal.invariant-expressions:
 invariant-expressions::read_match-rules l = record {
   collects : Collects (rule_list l.source.file) depth_rules (rule_turn l.n (readers l.n).exp l.fix) no_state (left l.source l.rest) (map rule_of l.all.items) l.deepest (read_match l.n (readers l.n).exp l.fix (left l.source l.tokens));
   short : length (left l.source l.rest) ≤ length (left l.source l.tokens);
-  fits : l.deepest ≤ l.n
+  fits : l.deepest ≤ l.n;
 }
 
 abbrev pub decreases-expressions::read_match-rules : goal.decreases-expressions::read_match-rules
@@ -175,7 +175,7 @@ invariant-expressions::read_parts-parts l = record {
   collects : Collects (operands l.source.file) depth_parts (part_turn (readers l.n).exp l.fix l.level l.right) (joint_from l.joint) (left l.source l.rest) (map part_of l.all.items) l.deepest (whole_parts (readers l.n).exp l.fix (joint_from l.first) (left l.source l.tokens));
   file : joint_of l.source.file (joint_from l.joint) ≡ l.joint;
   short : length (left l.source l.rest) ≤ length (left l.source l.tokens);
-  fits : l.deepest ≤ l.n
+  fits : l.deepest ≤ l.n;
 }
 
 abbrev pub decreases-expressions::read_parts-parts : goal.decreases-expressions::read_parts-parts

@@ -22,7 +22,7 @@ returns-in-Some-2 c =
         is = leaf-vid c.args.fix.now i x o none c.in_default-after_word.ensures found;
         same = record {
           is = record { rest = refl; bare = c.name.ensures ∙ ap (λ p. bare.vid_exp p (long_vid_of c.in-Some-2.long)) c.place_at-place.ensures; deep = refl; place = refl; fits = omega arith; shorter = vid-shorter c.args.fix.now i x o found };
-          high = refl
-        }
-      }
+          high = refl;
+        };
+      };
     }

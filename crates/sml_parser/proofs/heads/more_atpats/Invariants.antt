@@ -9,7 +9,7 @@ use Rattle.sml_parser.proofs.heads.more_atpats.Given as goal
 abbrev pub invariant-patterns : goal.invariant-patterns
 invariant-patterns l = record {
   going : AtPatsGoing l.source l.fix l.n (left l.source l.rest) l.fn.front.items l.fn.depth l.all.items l.deepest (whole (atpats_turn l.n l.fix) no_state (left l.source l.tokens));
-  short : length (left l.source l.rest) ≤ length (left l.source l.tokens)
+  short : length (left l.source l.rest) ≤ length (left l.source l.tokens);
 }
 
 abbrev pub decreases-patterns : goal.decreases-patterns

@@ -75,7 +75,7 @@ decreases-vid_form l = 10 * l.n + 8
 abbrev pub invariant-pat_row-fields : goal.invariant-pat_row-fields
 invariant-pat_row-fields l = record {
   going : RowGoing l.source l.fix l.n (left l.source l.rest) l.fields.items l.deepest (whole (pat_row_turn l.n (read_pats l.n).pat l.fix) no_state (left l.source l.tokens));
-  short : length (left l.source l.rest) ≤ length (left l.source l.tokens)
+  short : length (left l.source l.rest) ≤ length (left l.source l.tokens);
 }
 
 abbrev pub decreases-pat_row-fields : goal.decreases-pat_row-fields
@@ -84,7 +84,7 @@ decreases-pat_row-fields l = length (left l.source l.rest)
 abbrev pub invariant-more_pats-patterns : goal.invariant-more_pats-patterns
 invariant-more_pats-patterns l = record {
   going : PatsGoing l.source l.fix l.n (left l.source l.rest) l.fn.front.items l.fn.depth l.all.items l.deepest (whole (pat_commas_turn (read_pats l.n).pat l.fix) no_state (left l.source l.tokens));
-  short : length (left l.source l.rest) ≤ length (left l.source l.tokens)
+  short : length (left l.source l.rest) ≤ length (left l.source l.tokens);
 }
 
 abbrev pub decreases-more_pats-patterns : goal.decreases-more_pats-patterns
@@ -92,7 +92,7 @@ decreases-more_pats-patterns l = length (left l.source l.rest)
 
 abbrev pub invariant-suffixes-suffixes : goal.invariant-suffixes-suffixes
 invariant-suffixes-suffixes l =
-  (i : List Terminal) (a : Read read_tree.Pat) → l.place ≡ at l.source.file (place_at i) → IsPatAt l.source l.fix l.level (l.n + 1) i l.fn.first l.fn.depth l.tokens a →
+    (i : List Terminal) (a : Read read_tree.Pat) → l.place ≡ at l.source.file (place_at i) → IsPatAt l.source l.fix l.level (l.n + 1) i l.fn.first l.fn.depth l.tokens a →
     Seeking l.source l.fix (read_pats l.n).pat l.n l.least i l.pat l.deep l.high l.rest (pat_suffix (read_pats l.n).pat l.n l.fix l.least a.tree a.rest)
 
 abbrev pub decreases-suffixes-suffixes : goal.decreases-suffixes-suffixes
@@ -102,7 +102,7 @@ abbrev pub invariant-pat_parts-parts : goal.invariant-pat_parts-parts
 invariant-pat_parts-parts l = record {
   going : (p : ℕ) → l.fn.joint ≡ at l.source.file p → fix_of (Named l.fn.name) l.fix ≡ Some l.fn.how → (q : ℕ) × (l.vid_place ≡ at l.source.file q) × PatPartsGoing l.source l.fix l.n (infix_level (Some l.fn.how)) l.fn.how.right q l.vid (left l.source l.rest) l.all.items l.deepest (whole_pat_parts (read_pats l.n).pat l.fix (record { place = p; it = l.fn.name }) (left l.source l.tokens));
   short : length (left l.source l.rest) ≤ length (left l.source l.tokens);
-  fits : l.deepest ≤ l.n
+  fits : l.deepest ≤ l.n;
 }
 
 abbrev pub decreases-pat_parts-parts : goal.decreases-pat_parts-parts

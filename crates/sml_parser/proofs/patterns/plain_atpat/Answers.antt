@@ -12,14 +12,18 @@ use Rattle.sml_parser.proofs.Rolls.{pat_of-Wild, pat_of-Vid}
 use Rattle.sml_parser.proofs.patterns.plain_atpat.Goals as goal
 
 pub returns-in-Some : goal.returns-in-Some
-returns-in-Some c = record { gives = λ n self.
-  let i = left c.args.source.now c.args.tokens.now in
-  let x = wild-said c.args.source.now c.args.fix.now i c.in-Some.rest.now _ n self c.in-Some.ensures (pat_of-Wild c.place_at-place.result ∙ ap tree.wild_pat c.place_at-place.ensures) in
-  record { got = x.got; is = x.is; same = x.same } }
+returns-in-Some c = record {
+  gives = λ n self.
+      let i = left c.args.source.now c.args.tokens.now in
+      let x = wild-said c.args.source.now c.args.fix.now i c.in-Some.rest.now _ n self c.in-Some.ensures (pat_of-Wild c.place_at-place.result ∙ ap tree.wild_pat c.place_at-place.ensures) in
+      record { got = x.got; is = x.is; same = x.same };
+}
 
 pub returns-in-Some-3 : goal.returns-in-Some-3
-returns-in-Some-3 c = record { gives = λ n self.
-  let i = left c.args.source.now c.args.tokens.now in
-  let x = vid-said c.args.source.now c.args.fix.now i c.in-Some-3.rest.now _ _ n self c.in_default.ensures (rw c.in_default-2.is at c.in_ok-constant.ensures) (rw c.in-Some-3.is at c.in_ok-long.ensures)
-    (pat_of-Vid c.place_at-place.result c.in-Some-3.long ∙ ap (λ (z : Place). tree.vid_pat z (long_vid_of c.in-Some-3.long)) c.place_at-place.ensures) in
-  record { got = x.got; is = x.is; same = x.same } }
+returns-in-Some-3 c = record {
+  gives = λ n self.
+      let i = left c.args.source.now c.args.tokens.now in
+      let x = vid-said c.args.source.now c.args.fix.now i c.in-Some-3.rest.now _ _ n self c.in_default.ensures (rw c.in_default-2.is at c.in_ok-constant.ensures) (rw c.in-Some-3.is at c.in_ok-long.ensures)
+      (pat_of-Vid c.place_at-place.result c.in-Some-3.long ∙ ap (λ (z : Place). tree.vid_pat z (long_vid_of c.in-Some-3.long)) c.place_at-place.ensures) in
+      record { got = x.got; is = x.is; same = x.same };
+}
