@@ -1,5 +1,5 @@
 -- Declarations in which there are no expressions, and a `local`: what the parts' answers are for the whole.
-use Rattle.std.proofs.Common.{◌≡◌, ℕ, suc, ◌<◌, ◌≤◌, ◌+◌, ◌-◌, Bool, true, false, if◌then◌else◌, List, [], ◌∷◌, ◌++◌, length, map, max, take, Option, Some, None, Result, Ok, Err, refl, sym, ap, ◌∙◌, subst, arith}
+use Rattle.std.proofs.Common.{◌≡◌, ℕ, suc, ◌<◌, ◌≤◌, ◌+◌, ◌-◌, Bool, true, false, List, [], ◌∷◌, ◌++◌, length, map, max, take, Option, Some, None, Result, Ok, Err, refl, sym, ap, ◌∙◌, subst, arith}
 use Rattle.std.proofs.lemmas.List.{length-append}
 use Rattle.std.proofs.Math.Seq.{take-append_seam}
 use Rattle.mlc_base.specs.declared.token.Token.{Token}
@@ -7,7 +7,7 @@ use Rattle.mlc_base.specs.declared.token.Reserved.{Reserved}
 use Rattle.mlc_base.specs.declared.token.Reserved.TheVariants as res
 use Rattle.sml_tree.specs.Terminal.{Terminal, reserved, number, constant, alpha, symbol, star, long_alpha, long_symbol, long_star, type_var}
 use Rattle.sml_tree.specs.BareTree as bare
-use Rattle.sml_tree.specs.Bare.{at, is_directive, bare_pat, bare_exp, bare_dec, bare_decs, plain_binds, all_binds, recursive_binds}
+use Rattle.sml_tree.specs.Bare.{at, bare_pat, bare_exp, bare_decs, plain_binds, all_binds, recursive_binds}
 use Rattle.sml_tree.specs.Fixity.{Fixity}
 use Rattle.sml_tree.specs.Levels.{added}
 use Rattle.sml_tree.specs.ReadTree as read_tree
@@ -26,7 +26,7 @@ use Rattle.sml_parser.specs.declared.got.Got.{Got}
 use Rattle.sml_parser.specs.Gives.{Fails, Gave, Gives}
 use Rattle.sml_parser.specs.Left.{left}
 use Rattle.sml_parser.specs.BindingsRead.{IsTyvars}
-use Rattle.sml_parser.specs.ExpressionsRead.{IsDecs, dec_list}
+use Rattle.sml_parser.specs.ExpressionsRead.{IsDecs}
 use Rattle.sml_parser.specs.DeclarationsRead.{IsDec, IsBinds, simple_by, word_start, inner_decs, local_by, plain_list, bind_list, recursive_list}
 use Rattle.sml_parser.proofs.ExpLemmas.{decs_all}
 use Rattle.sml_parser.proofs.Loop.{fails-then}

@@ -1,6 +1,5 @@
 -- Atomic expressions: those that no bracket begins, and `let`.
-use Rattle.std.proofs.Common.{◌≡◌, ℕ, suc, max, ◌+◌, ◌-◌, ◌<◌, ◌≤◌, List, [], ◌∷◌, length, map, Option, Some, None, Result, Ok, Err, slice_index_or, refl, sym, ap, ◌∙◌, subst, arith}
-use Rattle.mlc_base.specs.declared.token.Reserved.{Reserved}
+use Rattle.std.proofs.Common.{◌≡◌, ℕ, max, ◌+◌, ◌-◌, ◌<◌, ◌≤◌, List, [], ◌∷◌, length, map, Option, Some, None, Result, Ok, Err, slice_index_or, refl, sym, ap, ◌∙◌, subst, arith}
 use Rattle.mlc_base.specs.declared.token.Reserved.TheVariants as res
 use Rattle.mlc_base.specs.declared.token.Token.{Token}
 use Rattle.sml_tree.specs.Terminal.{Terminal, LongVid, reserved, number, constant, alpha, symbol, star, long_alpha, long_symbol, long_star, type_var}
@@ -16,17 +15,16 @@ use Rattle.sml_tree.specs.declared.tree.Dec.{Dec}
 use Rattle.sml_tree.specs.ReadTree as read
 use Rattle.sml_tree.specs.ReadTree.{Placed, Exps, exp, no_exps, Decs, let_in}
 use Rattle.sml_tree.specs.Levels.{after}
-use Rattle.sml_tree.specs.Depth.{depth, depth_exps, depth_decs}
+use Rattle.sml_tree.specs.Depth.{depth_exps}
 use Rattle.sml_grammar.specs.Answer.{Read, ok, read, then_read}
 use Rattle.sml_grammar.specs.Terminals.{Taken, names_vid, after_word, place_at, tail}
 use Rattle.sml_grammar.specs.Expressions.{Readers, readers, vid_if, equals_unless, atom_start, atom_by, brace_start, paren_start, bracket_start, let_start, let_exp}
 use Rattle.sml_parser.specs.declared.source.Source.{Source}
 use Rattle.sml_parser.specs.declared.stop.Stop.{Stop}
-use Rattle.sml_parser.specs.declared.stop.Stop.TheVariants as stop
 use Rattle.sml_parser.specs.declared.got.Got.{Got}
-use Rattle.sml_parser.specs.Gives.{Gives, Gave}
+use Rattle.sml_parser.specs.Gives.{Gives}
 use Rattle.sml_parser.specs.Left.{left}
-use Rattle.sml_parser.specs.ExpressionsRead.{IsExp, IsAtom, IsList, IsDecs, leaf_by, closed_exps}
+use Rattle.sml_parser.specs.ExpressionsRead.{IsAtom, IsList, IsDecs, leaf_by, closed_exps}
 use Rattle.std.specs.List.{remove}
 use Rattle.std.proofs.lemmas.List.{length-map}
 use Rattle.sml_parser.proofs.ExpForms.{let-body}

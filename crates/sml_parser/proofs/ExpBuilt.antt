@@ -1,18 +1,16 @@
 -- What is made of expressions that were read.
-use Rattle.std.proofs.Common.{◌≡◌, ℕ, suc, max, ◌+◌, ◌<◌, ◌≤◌, List, [], ◌∷◌, length, map, refl, sym, ap, ◌∙◌, subst, arith}
+use Rattle.std.proofs.Common.{◌≡◌, ℕ, max, ◌+◌, ◌<◌, ◌≤◌, List, ◌∷◌, length, refl, sym, ap, ◌∙◌, subst, arith}
 use Rattle.mlc_base.specs.declared.token.Token.{Token}
-use Rattle.mlc_base.specs.declared.place.Place.{Place}
 use Rattle.sml_tree.specs.Terminal.{Terminal}
 use Rattle.sml_tree.specs.Fixity.{Fixity}
 use Rattle.sml_tree.specs.BareTree as bare
-use Rattle.sml_tree.specs.Bare.{bare_exp, bare_exp_fields, at, exp_list}
+use Rattle.sml_tree.specs.Bare.{bare_exp, at, exp_list}
 use Rattle.sml_tree.specs.Derived.{app_of, tuple, list_of, sequence_of, case_of, if_of, while_of}
 use Rattle.sml_tree.specs.TreeOf.{exp_of, exp_fields_of, rules_of, ExpFieldOf, RuleOf}
 use Rattle.sml_tree.specs.declared.tree.Exp.{Exp}
 use Rattle.sml_tree.specs.ReadTree as read
 use Rattle.sml_tree.specs.ReadTree.{Exps, exp, ExpFields, Rules, case, fn, record_exp, tuple_exp, list_exp, sequence, paren_exp, if_then, while, raise, exp_place}
-use Rattle.sml_tree.specs.Depth.{depth, depth_exps, depth_exp_fields, depth_rules}
-use Rattle.sml_tree.specs.Levels.{level}
+use Rattle.sml_tree.specs.Depth.{depth_exps, depth_exp_fields, depth_rules}
 use Rattle.sml_grammar.specs.Answer.{Read}
 use Rattle.sml_grammar.specs.Terminals.{place_at, tail}
 use Rattle.sml_grammar.specs.Expressions.{applied}

@@ -1,27 +1,20 @@
 -- What the forms of expressions are read as.
-use Rattle.std.proofs.Common.{◌≡◌, ℕ, zero, suc, max, ◌+◌, ◌<◌, ◌≤◌, List, [], ◌∷◌, ◌++◌, length, map, Bool, true, false, Option, Some, None, nat_le, refl, sym, ap, ◌∙◌, subst, arith}
+use Rattle.std.proofs.Common.{◌≡◌, ℕ, suc, max, ◌<◌, ◌≤◌, List, [], ◌∷◌, length, true, false, Option, Some, None, refl, sym, ap, arith}
 use Rattle.std.proofs.lemmas.Bool.{le-leb, lt-leb}
 use Rattle.mlc_base.specs.declared.token.Reserved.{Reserved}
 use Rattle.mlc_base.specs.declared.token.Reserved.TheVariants as res
-use Rattle.mlc_base.specs.declared.token.Token.{Token}
-use Rattle.mlc_base.specs.declared.place.Place.{Place}
 use Rattle.sml_tree.specs.Terminal.{Terminal, reserved, number, constant, alpha, symbol, star, long_alpha, long_symbol, long_star, type_var}
-use Rattle.sml_tree.specs.Fixity.{Fixity, fix_of}
-use Rattle.sml_tree.specs.declared.fixity.Infix.{Infix}
-use Rattle.sml_tree.specs.declared.ident.Vid.TheVariants.{Equals}
-use Rattle.sml_tree.specs.BareTree as bare
-use Rattle.sml_tree.specs.Bare.{bare_exp, at, exp_list, bare_decs}
-use Rattle.sml_tree.specs.Derived.{tuple, sequence_of, app_of}
-use Rattle.sml_tree.specs.TreeOf.{exp_of, decs_of}
-use Rattle.sml_tree.specs.declared.tree.Exp.{Exp}
+use Rattle.sml_tree.specs.Fixity.{Fixity}
+use Rattle.sml_tree.specs.Bare.{bare_exp, at, exp_list}
+use Rattle.sml_tree.specs.Derived.{app_of}
 use Rattle.sml_tree.specs.ReadTree as read
 use Rattle.sml_tree.specs.ReadTree.{Placed, Exps, exp, no_exps, ExpFields, no_exp_fields, Decs, record_exp, unit_exp, tuple_exp, list_exp, sequence, paren_exp, let_in, app, if_then, while, case, exp_place}
 use Rattle.sml_tree.specs.Depth.{depth, depth_exps}
 use Rattle.sml_tree.specs.Levels.{after, level}
 use Rattle.sml_grammar.specs.Answer.{Read, Answer, ok, bad, deep, read, then_read, whole}
-use Rattle.sml_grammar.specs.Terminals.{Taken, names_vid, after_word, on_some, word_then, no_state, place_at, tail, word_at}
+use Rattle.sml_grammar.specs.Terminals.{after_word, on_some, word_then, no_state, place_at, tail, word_at}
 use Rattle.sml_grammar.specs.Expressions.{Reader, Readers, AtomStart, vid_if, equals_unless, atom_start, atom_by, Start, start_of, raise_start, if_start, while_start, case_start, fn_start, other_start, brace_start, paren_start, bracket_start, let_start, brace_exp, bracket_exp, paren_in, let_exp, if_rest, while_rest, case_rest, apply_to, application, applied, begins_atom, atoms_turn, read_match, commas_turn, semicolons_turn, row_turn}
-use Rattle.sml_parser.specs.ExpressionsRead.{exps_turn, closed_exps, closed_rows, leaf_by}
+use Rattle.sml_parser.specs.ExpressionsRead.{closed_exps, closed_rows}
 use Rattle.sml_parser.proofs.ExpLemmas.{word-in, closed-in}
 
 -- brackets, after the first terminal

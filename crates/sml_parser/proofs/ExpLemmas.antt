@@ -1,6 +1,5 @@
 -- Lemmas about what is read of expressions.
-use Rattle.std.proofs.Common.{◌≡◌, ℕ, zero, suc, max, ◌<◌, ◌≤◌, List, [], ◌∷◌, ◌++◌, length, map, Bool, true, false, Option, Some, None, nat_le, nat_eq, refl, sym, ap, ◌∙◌, subst, arith, if◌then◌else◌}
-use Rattle.std.proofs.lemmas.Bool.{le-leb, lt-leb}
+use Rattle.std.proofs.Common.{◌≡◌, ℕ, ◌<◌, ◌≤◌, List, [], ◌∷◌, length, Bool, true, false, Option, Some, None, refl, sym, ap, subst, arith, if◌then◌else◌}
 use Rattle.mlc_base.specs.declared.token.Reserved.{Reserved}
 use Rattle.mlc_base.specs.declared.token.Reserved.TheVariants as res
 use Rattle.sml_tree.specs.Terminal.{Terminal, LongVid, reserved, number, constant, alpha, symbol, star, long_alpha, long_symbol, long_star, type_var}
@@ -12,16 +11,12 @@ use Rattle.sml_tree.specs.Bare.{bare_exp, bare_exp_fields, bare_rules, exp_list,
 use Rattle.sml_tree.specs.TreeOf.{exp_fields_of, rules_of, decs_of}
 use Rattle.sml_tree.specs.ReadTree as read
 use Rattle.sml_tree.specs.ReadTree.{Placed, Exps, no_exps, exp, ExpFields, no_exp_fields, exp_field, Rules, last_rule, rule, Decs, no_decs, dec, vid_exp, app, exp_place, Parts, part, last_part, Joint}
-use Rattle.sml_tree.specs.Depth.{depth, depth_exps}
-use Rattle.sml_tree.specs.Levels.{level, joint_level, joint_right, parts_level}
-use Rattle.sml_grammar.specs.Answer.{Read, Answer, ok, bad, deep, read, then_read, Turn, last, more, many, whole, after_turn}
+use Rattle.sml_grammar.specs.Answer.{Answer, ok, bad, deep, read, then_read}
 use Rattle.sml_grammar.specs.Terminals.{Taken, taken, first_as, as_constant, as_label, after_word, on_some, on_taken, then_taken, word_then, separated, NoState, no_state, names_vid, short, place_at, tail, word_at, is_word, word_of}
-use Rattle.sml_grammar.specs.Expressions
-use Rattle.sml_grammar.specs.Expressions.{Reader, AtomStart, atom_start, equals_unless, vid_if, row_turn, atoms_turn, begins_atom, paren_rest, tuple_rest, sequence_rest, let_body, part_turn, part_next, whole_parts, rule_turn, next_of, nothing, suffix_turn, suffix_next, applied}
-use Rattle.sml_grammar.specs.Patterns.{read_pat, label_equals}
+use Rattle.sml_grammar.specs.Expressions.{atom_start, equals_unless, vid_if}
 use Rattle.sml_grammar.proofs.Answers.{got_some, not_some, not_none}
 use Rattle.sml_grammar.proofs.Vids.{names-is, names-shorter}
-use Rattle.sml_parser.specs.ExpressionsRead.{leaf_by, equals_if, atom_vid, closed_exps, closed_rows, exps_turn, field_list, rule_list, dec_list}
+use Rattle.sml_parser.specs.ExpressionsRead.{leaf_by, equals_if, atom_vid, field_list, rule_list, dec_list}
 
 -- elements
 

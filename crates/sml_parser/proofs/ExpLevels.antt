@@ -5,7 +5,7 @@ use Rattle.sml_tree.specs.Fixity.{Fixity}
 use Rattle.sml_tree.specs.ReadTree as read
 use Rattle.sml_tree.specs.ReadTree.{Parts, part, last_part, Joint}
 use Rattle.sml_tree.specs.Levels.{joint_level, joint_right, parts_level}
-use Rattle.sml_grammar.specs.Answer.{Read, Answer, ok, bad, read, Turn, last, more}
+use Rattle.sml_grammar.specs.Answer.{Read, ok, read, Turn, last, more}
 use Rattle.sml_grammar.specs.Patterns.{same}
 use Rattle.sml_grammar.specs.Expressions.{Reader, Next, joint, mark, handler, nothing, next_of, part_next, part_turn, whole_parts}
 use Rattle.sml_grammar.proofs.Answers.{many-ok, GoodTurn, then_ok, got, chosen, bad_ok}

@@ -1,10 +1,9 @@
 -- What the loops that read expressions have read, turn by turn.
-use Rattle.std.proofs.Common.{◌≡◌, ℕ, zero, suc, max, ◌+◌, ◌<◌, ◌≤◌, List, [], ◌∷◌, ◌++◌, length, map, Bool, true, false, Option, Some, None, refl, sym, ap, ◌∙◌, subst, arith}
+use Rattle.std.proofs.Common.{◌≡◌, ℕ, suc, max, ◌+◌, ◌<◌, ◌≤◌, List, [], ◌∷◌, ◌++◌, length, Bool, true, false, Some, None, refl, sym, ap, ◌∙◌, subst, arith}
 use Rattle.mlc_base.specs.declared.token.Reserved.{Reserved}
 use Rattle.mlc_base.specs.declared.token.Reserved.TheVariants as res
 use Rattle.mlc_base.specs.declared.token.Token.{Token}
 use Rattle.mlc_base.specs.declared.label.Label.{Label}
-use Rattle.mlc_base.specs.declared.place.Place.{Place}
 use Rattle.sml_tree.specs.Terminal.{Terminal}
 use Rattle.sml_tree.specs.Fixity.{Fixity}
 use Rattle.sml_tree.specs.BareTree as bare
@@ -17,8 +16,8 @@ use Rattle.sml_tree.specs.declared.tree.Joint as tree
 use Rattle.sml_tree.specs.ReadTree as read
 use Rattle.sml_tree.specs.ReadTree.{Placed, Exps, exp, no_exps, ExpFields, exp_field, no_exp_fields, Rules, rule, last_rule, Parts, part, last_part, exp_place, pat_place}
 use Rattle.sml_tree.specs.Depth.{depth, depth_exps, depth_exp_fields, depth_rules, depth_parts, depth_pat}
-use Rattle.sml_grammar.specs.Answer.{Read, Answer, ok, read, then_read, Turn, last, more, whole, bad}
-use Rattle.sml_grammar.specs.Terminals.{taken, first_as, as_label, after_word, word_then, separated, NoState, no_state, place_at, tail}
+use Rattle.sml_grammar.specs.Answer.{Read, Answer, ok, read, then_read, more, whole, bad}
+use Rattle.sml_grammar.specs.Terminals.{taken, first_as, as_label, after_word, word_then, separated, no_state, place_at, tail}
 use Rattle.sml_grammar.specs.Expressions.{Reader, AtomReader, begins_atom, row_turn, atoms_turn, part_turn, part_next, next_of, rule_turn, read_match}
 use Rattle.sml_grammar.specs.Patterns.{read_pat}
 use Rattle.sml_parser.specs.declared.source.Source.{Source}
@@ -29,7 +28,7 @@ use Rattle.sml_parser.proofs.Loop.{fails-then, fails-by}
 use Rattle.sml_parser.specs.Left.{left}
 use Rattle.sml_parser.specs.Ties.{joint_from, PartGoes, PartEnds, PartFails}
 use Rattle.sml_parser.specs.PatternsRead.{IsPat}
-use Rattle.sml_parser.specs.ExpressionsRead.{IsExp, IsAtom, IsList, exps_turn, closed_exps, closed_rows, field_list, rule_list}
+use Rattle.sml_parser.specs.ExpressionsRead.{IsExp, IsList, exps_turn, closed_exps, closed_rows, field_list, rule_list}
 use Rattle.sml_parser.proofs.Collect.{Collects, collects-more, collects-last, collects-end, collects-fails}
 use Rattle.sml_parser.proofs.ExpLemmas.{after-shorter, tail-short, label-shorter}
 use Rattle.sml_parser.proofs.ExpSteps.{sep-more, sep-last, after-ok, row-as, row-none, rule-as, atoms-as, atoms-none}

@@ -1,5 +1,5 @@
 -- An expression that is read becomes larger, as long as something goes on with it.
-use Rattle.std.proofs.Common.{◌≡◌, ℕ, suc, ◌+◌, ◌<◌, ◌≤◌, List, length, refl, sym, ap, ◌∙◌, subst, arith}
+use Rattle.std.proofs.Common.{◌≡◌, ℕ, ◌+◌, ◌<◌, ◌≤◌, List, length, refl, sym, ◌∙◌, subst, arith}
 use Rattle.mlc_base.specs.declared.token.Token.{Token}
 use Rattle.sml_tree.specs.Terminal.{Terminal}
 use Rattle.sml_tree.specs.Fixity.{Fixity}

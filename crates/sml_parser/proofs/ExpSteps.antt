@@ -1,33 +1,26 @@
 -- Turns of the loops that read expressions.
-use Rattle.std.proofs.Common.{◌≡◌, ℕ, zero, suc, max, ◌+◌, ◌-◌, ◌<◌, ◌≤◌, List, [], ◌∷◌, length, Bool, true, false, Option, Some, None, nat_le, refl, sym, ap, ◌∙◌, subst, arith, if◌then◌else◌}
+use Rattle.std.proofs.Common.{◌≡◌, ℕ, zero, suc, ◌+◌, ◌-◌, ◌<◌, ◌≤◌, List, true, false, Option, Some, None, refl, ap, arith}
 use Rattle.std.proofs.lemmas.Bool.{le-leb, lt-leb}
-use Rattle.mlc_base.specs.declared.token.Reserved.{Reserved}
 use Rattle.mlc_base.specs.declared.token.Reserved.TheVariants as res
-use Rattle.mlc_base.specs.declared.token.Token.{Token}
 use Rattle.mlc_base.specs.declared.label.Label.{Label}
 use Rattle.sml_tree.specs.Terminal.{Terminal}
 use Rattle.sml_tree.specs.Fixity.{Fixity}
-use Rattle.sml_tree.specs.Bare.{bare_exp, at}
+use Rattle.sml_tree.specs.Bare.{bare_exp}
 use Rattle.sml_tree.specs.TreeOf.{exp_of}
 use Rattle.sml_tree.specs.declared.tree.Exp.{Exp}
 use Rattle.sml_tree.specs.ReadTree as read
 use Rattle.sml_tree.specs.ReadTree.{Placed, exp, no_exps, exp_field, no_exp_fields, rule, last_rule, Joint, exp_place}
 use Rattle.sml_tree.specs.Depth.{depth}
-use Rattle.sml_tree.specs.Levels.{level, joint_level, joint_right}
+use Rattle.sml_tree.specs.Levels.{level}
 use Rattle.sml_grammar.specs.Answer.{Read, Answer, ok, bad, deep, deep_if, read, then_read, Turn, last, more, whole}
 use Rattle.sml_grammar.specs.Terminals.{taken, first_as, as_label, after_word, on_some, word_then, separated, NoState, no_state, place_at}
-use Rattle.sml_grammar.specs.Expressions.{Reader, AtomReader, Readers, readers, exp_from, atom_by, atom_start, begins, begins_atom, row_turn, atoms_turn, part_turn, part_next, next_of, nothing, rule_turn, suffix_turn, is_keyword, start_of, keyword_form, application}
-use Rattle.sml_grammar.specs.Patterns.{read_pat, label_equals, label_if}
+use Rattle.sml_grammar.specs.Expressions.{Reader, AtomReader, Readers, readers, exp_from, atom_by, atom_start, begins, begins_atom, row_turn, atoms_turn, next_of, nothing, rule_turn, suffix_turn, is_keyword, start_of, keyword_form, application}
+use Rattle.sml_grammar.specs.Patterns.{read_pat, label_if}
 use Rattle.sml_parser.specs.declared.source.Source.{Source}
-use Rattle.sml_parser.specs.declared.stop.Stop.{Stop}
-use Rattle.sml_parser.specs.declared.stop.Stop.TheVariants as stop
 use Rattle.sml_parser.specs.declared.ties.Tie.{Tie}
 use Rattle.sml_parser.specs.declared.ties.Tie.TheVariants as tie
-use Rattle.sml_parser.specs.Gives.{Fails, Gave}
-use Rattle.sml_parser.specs.Left.{left}
 use Rattle.sml_parser.specs.Ties.{next_from, tie_level, tie_least, tie_rest}
-use Rattle.sml_parser.specs.ExpressionsRead.{IsExp, IsAtom, IsLarger, exps_turn}
-use Rattle.sml_parser.proofs.Loop.{Going, going-start, going-more, going-last, going-fails, fails-then, fails-by}
+use Rattle.sml_parser.proofs.Loop.{Going}
 use Rattle.sml_parser.proofs.ExpLemmas.{word-in}
 
 pub sep-more : {B S : Type 0} {x : Option (List Terminal)} {m : List Terminal} (put : B → B) (end : B) (s : S) (o : List Terminal) → x ≡ Some m → separated x put end s o ≡ read (more put s) m

@@ -1,14 +1,14 @@
 -- The bracket of a head, read again: it is read exactly where the pattern that it is has two atomic patterns and one infix identifier in it.
-use Rattle.std.proofs.Common.{◌≡◌, ℕ, zero, suc, ◌<◌, ◌≤◌, ◌+◌, ◌-◌, List, [], ◌∷◌, length, max, Some, None, Option, Bool, true, false, ◌&&◌, inl, inr, refl, sym, ap, ◌∙◌, subst, arith, if◌then◌else◌}
+use Rattle.std.proofs.Common.{◌≡◌, ℕ, suc, ◌<◌, ◌≤◌, ◌-◌, List, [], ◌∷◌, max, Some, None, Option, ◌&&◌, inl, inr, refl, sym, ap, ◌∙◌, subst, arith}
 use Rattle.mlc_base.specs.declared.token.Reserved.TheVariants as res
 use Rattle.sml_tree.specs.Terminal.{Terminal, reserved}
 use Rattle.sml_tree.specs.ReadTree.{Placed, Pat, paren_pat, chain_pat, last_pat_part}
 use Rattle.sml_tree.specs.Fixity.{Fixity}
 use Rattle.sml_tree.specs.Levels.{vid_right}
 use Rattle.sml_tree.specs.Depth.{depth_pat}
-use Rattle.sml_tree.specs.Grammar.{AtPat, IsInfixVid}
+use Rattle.sml_tree.specs.Grammar.{AtPat}
 use Rattle.sml_tree.specs.declared.ident.Vid.TheVariants.{Named}
-use Rattle.sml_grammar.specs.Answer.{Read, Answer, ok, read}
+use Rattle.sml_grammar.specs.Answer.{Read, ok, read}
 use Rattle.sml_grammar.specs.Terminals.{Taken, place_at, after_word, taken, infix_vid}
 use Rattle.sml_grammar.specs.Patterns.{read_atpat, Bracketed, bracketed, is_atpat}
 use Rattle.sml_grammar.proofs.Answers.{chosen, got, got_some, not_some}

@@ -1,9 +1,8 @@
 -- What was read of heads of clauses.
-use Rattle.std.proofs.Common.{◌≡◌, ℕ, zero, suc, ◌<◌, ◌≤◌, ◌+◌, Option, Result, List, [], ◌∷◌, ◌++◌, length, map, max, Some, None, Bool, true, false, refl, sym, ap, ◌∙◌, subst, arith}
+use Rattle.std.proofs.Common.{◌≡◌, ℕ, suc, ◌<◌, ◌≤◌, Option, Result, List, [], ◌∷◌, length, map, max, Some, None, true, false, refl, sym, ap, ◌∙◌, subst, arith}
 use Rattle.std.proofs.lemmas.List.{length-map}
 use Rattle.std.proofs.lemmas.Bool.{le-leb, lt-leb}
 use Rattle.std.specs.Prelude.{nat_le}
-use Rattle.mlc_base.specs.declared.place.Place.{Place}
 use Rattle.mlc_base.specs.declared.token.Token.{Token}
 use Rattle.sml_tree.specs.Terminal.{Terminal}
 use Rattle.sml_tree.specs.BareTree as tree
@@ -12,7 +11,7 @@ use Rattle.sml_tree.specs.ReadTree.{Placed, Pats, vid_pat, no_pats, pat, pat_pla
 use Rattle.sml_tree.specs.Fixity.{Fixity}
 use Rattle.sml_tree.specs.Bare.{at, bare_pat, pat_list, head_pats}
 use Rattle.sml_tree.specs.Derived.{tuple_pat}
-use Rattle.sml_tree.specs.Depth.{depth_pat, depth_pats}
+use Rattle.sml_tree.specs.Depth.{depth_pat}
 use Rattle.sml_tree.specs.TreeOf.{pat_of}
 use Rattle.sml_tree.specs.declared.ident.Vid.{Vid}
 use Rattle.sml_tree.specs.declared.ident.Vid.TheVariants.{Named}

@@ -1,5 +1,5 @@
 -- Headings of clauses: what the parts' answers are for the whole.
-use Rattle.std.proofs.Common.{◌≡◌, ℕ, suc, true, false, List, length, map, max, Option, refl, sym, ap, ◌∙◌, subst, arith}
+use Rattle.std.proofs.Common.{◌≡◌, ℕ, true, false, List, length, map, max, Option, refl, sym, ap, ◌∙◌, subst, arith}
 use Rattle.mlc_base.specs.declared.token.Token.{Token}
 use Rattle.mlc_base.specs.declared.token.Reserved.TheVariants as res
 use Rattle.sml_tree.specs.Terminal.{Terminal}

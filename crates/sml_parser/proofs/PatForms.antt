@@ -1,12 +1,12 @@
 -- How patterns are read, form by form.
-use Rattle.std.proofs.Common.{◌≡◌, ℕ, zero, suc, ◌<◌, ◌≤◌, ◌+◌, ◌-◌, List, [], ◌∷◌, length, max, Some, None, Option, Bool, true, false, nat_le, refl, sym, ap, ◌∙◌, subst, arith, Result, Ok, Err, if◌then◌else◌}
+use Rattle.std.proofs.Common.{◌≡◌, ℕ, zero, suc, ◌<◌, ◌≤◌, ◌+◌, ◌-◌, List, [], ◌∷◌, length, max, Some, None, Bool, true, nat_le, refl, ap, ◌∙◌, subst, arith, Result, Ok, Err}
 use Rattle.std.proofs.lemmas.Bool.{le-leb, lt-leb}
 use Rattle.mlc_base.specs.declared.token.Token.{Token}
 use Rattle.mlc_base.specs.declared.token.Reserved.TheVariants as res
 use Rattle.sml_tree.specs.Terminal.{Terminal, LongVid, reserved, number, constant}
 use Rattle.sml_tree.specs.ReadTree as read_tree
 use Rattle.sml_tree.specs.ReadTree.{Placed}
-use Rattle.sml_tree.specs.Fixity.{Fixity, fix_of}
+use Rattle.sml_tree.specs.Fixity.{Fixity}
 use Rattle.sml_tree.specs.Levels.{pat_level, vid_level, vid_right, infix_level}
 use Rattle.sml_tree.specs.BareTree as tree
 use Rattle.sml_tree.specs.Bare.{at}
@@ -16,19 +16,18 @@ use Rattle.sml_parser.specs.TypesRead.{IsTy}
 use Rattle.sml_tree.specs.Depth.{depth_pat}
 use Rattle.sml_tree.specs.declared.ident.Vid.{Vid}
 use Rattle.sml_tree.specs.declared.ident.Vid.TheVariants.{Named}
-use Rattle.sml_tree.specs.declared.fixity.Infix.{Infix}
 use Rattle.sml_tree.specs.declared.tree.Pat.{Pat}
-use Rattle.sml_grammar.specs.Answer.{Read, Answer, ok, bad, deep, deep_if, read, then_read, Turn, last, more, whole}
-use Rattle.sml_grammar.specs.Terminals.{NoState, no_state, short, word_then, place_at, first_as, as_constant, after_word, taken, names_vid, binds_vid, infix_vid}
+use Rattle.sml_grammar.specs.Answer.{Read, Answer, ok, bad, deep, deep_if, read, then_read, last, more, whole}
+use Rattle.sml_grammar.specs.Terminals.{no_state, short, word_then, place_at, first_as, as_constant, after_word, taken, names_vid, binds_vid, infix_vid}
 use Rattle.sml_grammar.specs.Types.{read_ty}
-use Rattle.sml_grammar.specs.Patterns.{pat_first, typed_form, paren_pat_in, pat_commas_turn, PatReader, PatReaders, read_pats, begins_pat, at_pat, pat_start, pat_form, plain_form, vid_form, vid_if, pat_suffix, pat_suffix_turn, pat_suffix_joint, pat_suffix_mark, whole_pat_parts}
+use Rattle.sml_grammar.specs.Patterns.{pat_first, typed_form, paren_pat_in, pat_commas_turn, PatReader, PatReaders, read_pats, begins_pat, at_pat, pat_start, pat_form, plain_form, vid_form, vid_if, pat_suffix, pat_suffix_turn, whole_pat_parts}
 use Rattle.sml_parser.specs.declared.got.Got.{Got}
 use Rattle.sml_parser.specs.declared.source.Source.{Source}
 use Rattle.sml_parser.specs.declared.stop.Stop.{Stop}
 use Rattle.sml_parser.specs.declared.stop.Stop.TheVariants as stop
 use Rattle.sml_parser.specs.declared.patterns.Suffix.{Suffix}
 use Rattle.sml_parser.specs.declared.patterns.Suffix.TheVariants.{Colon, Joint}
-use Rattle.sml_parser.specs.Gives.{Fails, Gives, Gave}
+use Rattle.sml_parser.specs.Gives.{Fails, Gives}
 use Rattle.sml_parser.specs.Left.{left}
 use Rattle.sml_parser.specs.PatternsRead.{IsPat, IsPatAt, plain_pat_start, Suffixed, suffix_level, suffix_least, suffix_read}
 use Rattle.sml_parser.proofs.Loop.{fails-then, fails-by, Going, going-start, going-more, going-last, going-fails}

@@ -1,34 +1,27 @@
 -- The loops that read patterns.
-use Rattle.std.proofs.Common.{◌≡◌, ℕ, zero, suc, ◌<◌, ◌≤◌, ◌+◌, List, [], ◌∷◌, ◌++◌, length, map, max, Bool, true, false, Some, None, Option, refl, sym, ap, ◌∙◌, subst, arith, append-nil}
+use Rattle.std.proofs.Common.{◌≡◌, ℕ, ◌<◌, ◌≤◌, List, [], ◌∷◌, ◌++◌, length, map, max, Bool, true, false, Some, None, refl, sym, ap, ◌∙◌, subst, arith, append-nil}
 use Rattle.std.proofs.lemmas.List.{map_push}
-use Rattle.std.proofs.lemmas.Bool.{eq-eqb, ne_eqb}
 use Rattle.mlc_base.specs.declared.token.Token.{Token}
 use Rattle.mlc_base.specs.declared.token.Reserved.TheVariants as res
 use Rattle.sml_tree.specs.Terminal.{Terminal}
 use Rattle.sml_tree.specs.BareTree as tree
 use Rattle.sml_tree.specs.ReadTree as read_tree
 use Rattle.sml_tree.specs.ReadTree.{Pats, no_pats, pat, PatFields, no_pat_fields, PatParts, last_pat_part, pat_part, Placed, pat_place}
-use Rattle.sml_tree.specs.Fixity.{Fixity, fix_of}
-use Rattle.sml_tree.specs.Levels.{infix_level, vid_level, vid_right, pat_parts_level}
-use Rattle.sml_tree.specs.Bare.{pat_list, bare_pat, bare_pat_fields, pat_operands, at, vid_at}
-use Rattle.sml_tree.specs.Depth.{depth_pat, depth_pats, depth_pat_field, depth_pat_fields, depth_pat_parts}
-use Rattle.sml_tree.specs.Derived.{Operand, VidAt}
-use Rattle.sml_tree.specs.TreeOf.{pat_of, pat_field_of, pat_part_of, PatFieldOf, pat_fields_of}
-use Rattle.sml_tree.specs.declared.ident.Vid.TheVariants.{Named}
-use Rattle.sml_tree.specs.declared.fixity.Infix.{Infix}
+use Rattle.sml_tree.specs.Fixity.{Fixity}
+use Rattle.sml_tree.specs.Bare.{pat_list, bare_pat, bare_pat_fields, at}
+use Rattle.sml_tree.specs.Depth.{depth_pat, depth_pats, depth_pat_field, depth_pat_fields}
+use Rattle.sml_tree.specs.TreeOf.{pat_of, pat_field_of, PatFieldOf, pat_fields_of}
 use Rattle.sml_tree.specs.declared.tree.Pat.{Pat}
-use Rattle.sml_tree.specs.declared.tree.PatPart.{PatPart}
 use Rattle.sml_tree.specs.declared.tree.PatField.{PatField}
-use Rattle.sml_grammar.specs.Answer.{Read, Answer, ok, bad, deep, read, then_read, Turn, last, more, many, after_turn, whole}
-use Rattle.sml_grammar.specs.Terminals.{NoState, no_state, place_at, after_word, Taken, taken, separated, infix_vid}
-use Rattle.sml_grammar.specs.Patterns.{PatReader, PatRowRead, read_pats, read_atpat, pat_commas_turn, atpats_turn, pat_row_turn, field, put_field, only_field, only_dots, begins_pat, pat_part_turn, pat_part_next, whole_pat_parts, same}
+use Rattle.sml_grammar.specs.Answer.{Read, Answer, ok, read, then_read, last, more, whole}
+use Rattle.sml_grammar.specs.Terminals.{no_state, after_word, separated}
+use Rattle.sml_grammar.specs.Patterns.{PatRowRead, read_pats, read_atpat, pat_commas_turn, atpats_turn, pat_row_turn, field, put_field, only_field, only_dots, begins_pat}
 use Rattle.sml_parser.specs.declared.source.Source.{Source}
 use Rattle.sml_parser.specs.declared.stop.Stop.{Stop}
-use Rattle.sml_parser.specs.declared.stop.Stop.TheVariants as stop
-use Rattle.sml_parser.specs.Gives.{Fails, Gave}
+use Rattle.sml_parser.specs.Gives.{Fails}
 use Rattle.sml_parser.specs.Left.{left}
-use Rattle.sml_parser.specs.PatternsRead.{IsPat, IsPatAt, IsPats, IsPatField, IsPatRow, IsPatParts, field_of}
-use Rattle.sml_parser.proofs.Loop.{fails-then, fails-by, going-fails}
+use Rattle.sml_parser.specs.PatternsRead.{IsPat, IsPatAt, IsPats, IsPatField, IsPatRow, field_of}
+use Rattle.sml_parser.proofs.Loop.{fails-then, fails-by}
 use Rattle.sml_parser.proofs.Listing.{Listing, Listed, listing-start, listing-more, listing-last, listing-fails, listing-at, Marking, Marked, marking-start, marking-more, marking-last, same-tree}
 use Rattle.sml_parser.proofs.TypeForms.{Said}
 

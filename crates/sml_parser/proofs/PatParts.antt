@@ -1,5 +1,5 @@
 -- The operands of chains.
-use Rattle.std.proofs.Common.{◌≡◌, ℕ, zero, suc, ◌<◌, ◌≤◌, ◌+◌, List, [], ◌∷◌, ◌++◌, length, map, max, Bool, true, false, nat_eq, Some, None, Option, refl, sym, ap, ◌∙◌, subst, arith, if◌then◌else◌}
+use Rattle.std.proofs.Common.{◌≡◌, ℕ, suc, ◌<◌, ◌≤◌, List, [], ◌∷◌, ◌++◌, length, map, max, Bool, true, false, nat_eq, Some, None, Option, refl, sym, ap, ◌∙◌, subst, arith, if◌then◌else◌}
 use Rattle.std.proofs.lemmas.List.{map_push}
 use Rattle.std.proofs.lemmas.Bool.{eq-eqb, ne_eqb}
 use mathlib.Core.Bool.{not, beq}
@@ -19,7 +19,7 @@ use Rattle.sml_tree.specs.declared.ident.Vid.TheVariants.{Named}
 use Rattle.sml_tree.specs.declared.fixity.Infix.{Infix}
 use Rattle.sml_tree.specs.declared.tree.Pat.{Pat}
 use Rattle.sml_tree.specs.declared.tree.PatPart.{PatPart}
-use Rattle.sml_grammar.specs.Answer.{Read, Answer, ok, bad, deep, read, then_read, Turn, last, more, many, after_turn, whole}
+use Rattle.sml_grammar.specs.Answer.{Read, Answer, ok, bad, deep, read, then_read, Turn, last, more, many, after_turn}
 use Rattle.sml_grammar.specs.Terminals.{place_at, Taken, taken, infix_vid}
 use Rattle.sml_grammar.specs.Patterns.{PatReader, read_pats, pat_part_turn, pat_part_next, whole_pat_parts, same}
 use Rattle.sml_parser.specs.declared.source.Source.{Source}
@@ -28,8 +28,8 @@ use Rattle.sml_parser.specs.declared.stop.Stop.TheVariants as stop
 use Rattle.sml_parser.specs.Gives.{Fails}
 use Rattle.sml_parser.specs.Left.{left}
 use Rattle.sml_parser.specs.PatternsRead.{IsPat, IsPatParts}
-use Rattle.sml_parser.proofs.Loop.{fails-then, fails-by}
-use Rattle.sml_parser.proofs.Listing.{Listing, Listed, listing-start, listing-more, listing-last, listing-fails, listing-at}
+use Rattle.sml_parser.proofs.Loop.{fails-then}
+use Rattle.sml_parser.proofs.Listing.{Listing, listing-start, listing-more, listing-last, listing-fails, listing-at}
 use Rattle.sml_parser.proofs.Rolls.{pat_part-of}
 use Rattle.sml_parser.proofs.TypeForms.{Said}
 

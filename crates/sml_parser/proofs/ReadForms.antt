@@ -1,24 +1,18 @@
 -- From what was read of declarations, where no tokens are left, to the tree of all the tokens.
-use Rattle.std.proofs.Common.{◌≡◌, ◌≤◌, ◌<◌, ℕ, List, [], ◌∷◌, length, map, refl, sym, ap, ◌∙◌, arith}
-use Rattle.mlc_base.specs.declared.code.Code.TheVariants as code
+use Rattle.std.proofs.Common.{◌≡◌, ◌<◌, ℕ, List, [], ◌∷◌, length, refl, sym, ap, ◌∙◌, arith}
 use Rattle.mlc_base.specs.declared.token.Token.{Token}
-use Rattle.sml_tree.specs.Terminal.{Terminal}
 use Rattle.sml_tree.specs.Fixity.{Fixity}
 use Rattle.sml_tree.specs.ReadTree.{Decs}
-use Rattle.sml_tree.specs.Grammar.{Declares}
-use Rattle.sml_tree.specs.Bare.{bare_decs}
 use Rattle.sml_tree.specs.Levels.{after}
-use Rattle.sml_tree.specs.TreeOf.{dec_of, decs_of}
+use Rattle.sml_tree.specs.TreeOf.{decs_of}
 use Rattle.sml_tree.specs.declared.tree.Dec.{Dec}
-use Rattle.sml_grammar.specs.Answer.{Read, Answer, ok, bad, deep, read, then_read}
+use Rattle.sml_grammar.specs.Answer.{Read, Answer, ok, read, then_read}
 use Rattle.sml_grammar.specs.Expressions.{readers, at_end, read_all}
-use Rattle.sml_grammar.specs.Laws.{IsTree, Sound, Complete, DeepSound, DeepComplete, BadSound}
-use Rattle.sml_grammar.specs.Partial.{OpensDecs}
+use Rattle.sml_grammar.specs.Laws.{Sound}
 use Rattle.sml_parser.specs.declared.source.Source.{Source}
-use Rattle.sml_parser.specs.declared.stop.Stop.{Stop}
-use Rattle.sml_parser.specs.Core.{Shallow, IsCore, Cause}
+use Rattle.sml_parser.specs.Core.{IsCore}
 use Rattle.sml_parser.specs.Left.{left}
-use Rattle.sml_parser.specs.ExpressionsRead.{IsDecs, dec_list}
+use Rattle.sml_parser.specs.ExpressionsRead.{IsDecs}
 use Rattle.sml_parser.proofs.ExpLemmas.{decs_all}
 
 no-terminals : (s : Source) (o : List Token) → length o < 1 → left s o ≡ []

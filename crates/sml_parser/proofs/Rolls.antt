@@ -15,8 +15,8 @@ use Rattle.sml_tree.specs.declared.ident.Vid as ident
 use Rattle.sml_tree.specs.declared.ident.LongVid.{LongVid}
 use Rattle.sml_tree.specs.declared.tree.Pat.{Pat, Pat-F, fold-roll-Pat}
 use Rattle.sml_tree.specs.declared.tree.Pat.TheVariants.{Wild, Vid, Con, Typed, rolls-Wild, rolls-Vid, rolls-Con, rolls-Typed}
-use Rattle.sml_tree.specs.declared.tree.PatField.{PatField-F, fold-roll-PatField}
-use Rattle.sml_tree.specs.declared.tree.PatPart.{PatPart-F, fold-roll-PatPart}
+use Rattle.sml_tree.specs.declared.tree.PatField.{fold-roll-PatField}
+use Rattle.sml_tree.specs.declared.tree.PatPart.{fold-roll-PatPart}
 
 pub ty_field-of : (l : Label) (t : Ty) → ty_field_of (record { label = l; ty = t }) ≡ record { label = l; ty = ty_of t }
 ty_field-of l t = fold-roll-TyField bare.Ty TyFieldOf TyAt node_ty node_ty_field node_ty_part (record { label = l; ty = t })

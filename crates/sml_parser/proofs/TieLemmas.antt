@@ -1,5 +1,5 @@
 -- Lemmas about ties.
-use Rattle.std.proofs.Common.{◌≡◌, ℕ, suc, ◌<◌, ◌≤◌, List, [], ◌∷◌, length, Bool, true, false, nat_eq, nat_le, refl, sym, ap, ◌∙◌, arith, if◌then◌else◌, Result, Option, Some, None}
+use Rattle.std.proofs.Common.{◌≡◌, ℕ, List, Bool, true, false, refl}
 use Rattle.std.proofs.lemmas.Bool.{eq-eqb, ne_eqb}
 use Rattle.sml_tree.specs.Terminal.{Terminal}
 use Rattle.sml_tree.specs.ReadTree as read
@@ -9,7 +9,7 @@ use Rattle.sml_tree.specs.declared.tree.Joint.{Joint}
 use Rattle.sml_grammar.specs.Answer.{bad}
 use Rattle.sml_grammar.specs.Expressions.{Next, joint, mark, handler, nothing, next_of}
 use Rattle.sml_grammar.specs.Patterns.{same}
-use Rattle.sml_parser.specs.Ties.{joint_from, next_from, PartEnds, PartGoes, PartFails}
+use Rattle.sml_parser.specs.Ties.{joint_from, next_from, PartEnds, PartGoes}
 use Rattle.sml_parser.specs.declared.ties.Tie.{Tie}
 use Rattle.sml_parser.specs.declared.ties.Tie.TheVariants as tie
 

@@ -1,12 +1,11 @@
 -- Identifiers of values, by what stands first.
-use Rattle.std.proofs.Common.{◌≡◌, ℕ, List, [], ◌∷◌, Option, Some, None, refl, sym, ap, ◌∙◌, nat_eq, Bool, true, false, if◌then◌else◌}
+use Rattle.std.proofs.Common.{◌≡◌, ℕ, List, [], ◌∷◌, Option, Some, None, refl, ap}
 use Rattle.mlc_base.specs.declared.token.Reserved.TheVariants as res
 use Rattle.sml_tree.specs.Terminal.{Terminal, LongVid, reserved}
 use Rattle.sml_tree.specs.Fixity.{Fixity}
 use Rattle.sml_tree.specs.ReadTree.{Placed}
 use Rattle.sml_tree.specs.declared.ident.Vid.{Vid}
-use Rattle.sml_tree.specs.declared.ident.Vid.TheVariants.{Named}
-use Rattle.sml_grammar.specs.Terminals.{Taken, taken, place_at, place_of, placed_if, first_as, after_op, as_any_vid, as_any_long, as_qualified, as_vid, long_if, long_named_if, named_if, short, after_word, binds_vid, names_vid, plain_vid}
+use Rattle.sml_grammar.specs.Terminals.{Taken, taken, place_at, place_of, placed_if, first_as, after_op, as_any_vid, as_any_long, as_qualified, long_if, long_named_if, named_if, short, after_word, binds_vid, names_vid, plain_vid}
 
 pub long-short : (p : ℕ) (i : List Terminal) (v : Vid) (o : List Terminal) → after_op as_any_vid p i ≡ taken (record { place = p; it = v }) o → after_op as_any_long p i ≡ taken (record { place = p; it = short v }) o
 long-short p [] v o h = absurd (cc)

@@ -1,5 +1,5 @@
 -- What the parser answers for the tokens of a file, and why it refuses them.
-use Rattle.std.specs.Prelude.{ℕ, ◌≡◌, ◌≤◌, ◌<◌, ◌⊎◌, List, [], length, map, slice_index_or, Option, None}
+use Rattle.std.specs.Prelude.{ℕ, ◌≡◌, ◌≤◌, ◌<◌, ◌⊎◌, List, [], length, map, slice_index_or}
 use Rattle.mlc_base.specs.declared.code.Code.{Code}
 use Rattle.mlc_base.specs.declared.code.Code.TheVariants as code
 use Rattle.mlc_base.specs.declared.place.Place.{Place}

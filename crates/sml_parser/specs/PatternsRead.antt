@@ -1,5 +1,5 @@
 -- What was read of patterns, against the reading function's answer.
-use Rattle.std.specs.Prelude.{ℕ, suc, ◌≡◌, ◌≤◌, ◌<◌, ◌+◌, List, [], ◌∷◌, ◌++◌, length, map, max, Bool, true, false, Option, Some, None}
+use Rattle.std.specs.Prelude.{ℕ, suc, ◌≡◌, ◌≤◌, ◌<◌, List, ◌∷◌, ◌++◌, length, map, max, Bool, true, false, Some, None}
 use Rattle.mlc_base.specs.declared.label.Label.TheVariants.{Word}
 use Rattle.mlc_base.specs.declared.token.Token.{Token}
 use Rattle.mlc_base.specs.declared.token.Reserved.{Reserved}
@@ -11,10 +11,9 @@ use Rattle.sml_tree.specs.ReadTree as read
 use Rattle.sml_tree.specs.ReadTree.{Placed, Pats, PatParts, pat_place, head_place, head_vid, head_count}
 use Rattle.sml_tree.specs.Fixity.{Fixity, fix_of}
 use Rattle.sml_tree.specs.Levels.{infix_level, pat_level, pat_parts_level, vid_level, vid_right}
-use Rattle.sml_tree.specs.Bare.{at, bare_pat, bare_some, pat_list, pat_operands, bare_pat_fields, head_pats}
-use Rattle.sml_tree.specs.Depth.{depth_pat, depth_pats, depth_pat_fields, depth_pat_field, depth_pat_parts, depth_head}
+use Rattle.sml_tree.specs.Bare.{at, bare_pat, bare_some, pat_list, pat_operands, bare_pat_fields}
+use Rattle.sml_tree.specs.Depth.{depth_pat, depth_pats, depth_pat_fields, depth_pat_field, depth_pat_parts}
 use Rattle.sml_tree.specs.TreeOf.{pat_of, pat_field_of, pat_part_of, PatFieldOf, pat_fields_of}
-use Rattle.sml_tree.specs.declared.ident.Vid.{Vid}
 use Rattle.sml_tree.specs.declared.ident.Vid.TheVariants.{Named}
 use Rattle.sml_tree.specs.declared.tree.Pat.{Pat}
 use Rattle.sml_tree.specs.declared.tree.PatField.{PatField}

@@ -1,5 +1,5 @@
 -- Ties of the code, against what may follow an expression in the grammar's function.
-use Rattle.std.specs.Prelude.{ℕ, suc, ◌≡◌, ◌≤◌, List, Bool}
+use Rattle.std.specs.Prelude.{ℕ, suc, ◌≡◌, List, Bool}
 use Rattle.sml_tree.specs.Terminal.{Terminal}
 use Rattle.sml_tree.specs.Bare.{joint_of}
 use Rattle.sml_tree.specs.ReadTree as read
@@ -10,7 +10,7 @@ use Rattle.sml_tree.specs.declared.tree.Joint.{Joint}
 use Rattle.sml_tree.specs.declared.tree.Joint.TheVariants.{AndAlso, OrElse, Infix}
 use Rattle.sml_grammar.specs.Answer.{Answer, read, then_read, last, more}
 use Rattle.sml_grammar.specs.Types.{read_ty}
-use Rattle.sml_grammar.specs.Expressions.{Reader, Next, joint, mark, handler, nothing, next_of, part_next, whole_parts, read_match}
+use Rattle.sml_grammar.specs.Expressions.{Reader, Next, joint, mark, handler, next_of, part_next, whole_parts, read_match}
 use Rattle.sml_parser.specs.Gives.{Fails}
 use Rattle.sml_parser.specs.declared.stop.Stop.{Stop}
 use Rattle.sml_parser.specs.declared.ties.Tie.{Tie}

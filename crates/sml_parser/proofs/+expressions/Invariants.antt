@@ -1,4 +1,4 @@
-use Rattle.std.proofs.Common.{◌≤◌, ◌+◌, ◌*◌, length, ◌≡◌, ◌<◌, ◌-◌, ℕ, map, true}
+use Rattle.std.proofs.Common.{◌≤◌, ◌+◌, ◌*◌, length, ◌≡◌, ◌<◌, ◌-◌, map, true}
 use Rattle.sml_grammar.specs.Expressions.{readers, read_binds, read_clauses, read_funs, atoms_turn, begins_atom, row_turn, rule_turn, part_turn, read_match, whole_parts}
 use Rattle.sml_parser.specs.Left.{left}
 use Rattle.sml_parser.proofs.DecLoops.{DecsGoing, FunsGoing}

@@ -1,4 +1,4 @@
-use Rattle.std.proofs.Common.{◌≡◌, ◌<◌, ◌≤◌, refl, sym, ap, subst, ◌∙◌, List, ℕ, length, arith, Some, None}
+use Rattle.std.proofs.Common.{◌≡◌, refl, subst, List, ℕ, arith, Some, None}
 use Rattle.sml_tree.specs.Terminal.{Terminal}
 use Rattle.mlc_base.specs.declared.token.Reserved.TheVariants.{RightParen}
 use Rattle.sml_tree.specs.ReadTree.{Placed}

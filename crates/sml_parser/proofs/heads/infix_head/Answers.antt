@@ -1,4 +1,4 @@
-use Rattle.std.proofs.Common.{◌≡◌, refl}
+use Rattle.std.proofs.Common.{refl}
 use Rattle.std.proofs.lemmas.Result.{err_from_is_err_and}
 use Rattle.sml_tree.specs.declared.ident.Vid.TheVariants.{Named}
 use Rattle.sml_grammar.specs.Patterns.{read_atpat}

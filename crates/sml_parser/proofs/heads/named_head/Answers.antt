@@ -1,9 +1,7 @@
-use Rattle.std.proofs.Common.{◌≡◌, ◌<◌, ◌≤◌, refl, sym, ap, ◌∙◌, List, ℕ, length, arith}
+use Rattle.std.proofs.Common.{refl, ap, ◌∙◌, List, ℕ, arith}
 use Rattle.mlc_base.specs.declared.place.Place.{Place}
-use Rattle.sml_tree.specs.Terminal.{Terminal}
 use Rattle.sml_tree.specs.BareTree as tree
 use Rattle.sml_tree.specs.ReadTree.{Placed, vid_pat}
-use Rattle.sml_tree.specs.TreeOf.{pat_of}
 use Rattle.sml_grammar.specs.Terminals.{place_at, short}
 use Rattle.sml_grammar.specs.Patterns.{vid_head, infix_rest, prefix_rest}
 use Rattle.sml_parser.specs.Left.{left}

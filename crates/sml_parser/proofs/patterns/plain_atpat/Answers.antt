@@ -1,13 +1,9 @@
-use Rattle.std.proofs.Common.{◌≡◌, ap, ◌∙◌, sym}
+use Rattle.std.proofs.Common.{ap, ◌∙◌}
 use Rattle.sml_tree.specs.BareTree as tree
-use Rattle.sml_tree.specs.Bare.{at}
 use Rattle.sml_tree.specs.TreeOf.{long_vid_of}
 use Rattle.mlc_base.specs.declared.place.Place.{Place}
-use Rattle.sml_grammar.specs.Terminals.{place_at}
 use Rattle.sml_parser.specs.Left.{left}
 use Rattle.sml_parser.proofs.PatForms.{wild-said, vid-said}
-use Rattle.sml_parser.proofs.PatLists.{pats-fails}
-use Rattle.sml_parser.proofs.PatParts.{parts-fail}
 use Rattle.sml_parser.proofs.Rolls.{pat_of-Wild, pat_of-Vid}
 use Rattle.sml_parser.proofs.patterns.plain_atpat.Goals as goal
 

@@ -1,4 +1,4 @@
-use Rattle.std.proofs.Common.{◌<◌, length, arith}
+use Rattle.std.proofs.Common.{arith}
 use Rattle.sml_parser.proofs.ReadForms.{core-is}
 use Rattle.sml_parser.proofs.read.read_core.Goals as goal
 

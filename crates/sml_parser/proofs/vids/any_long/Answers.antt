@@ -1,5 +1,3 @@
-use Rattle.std.proofs.Common.{◌≡◌, ap, ◌∙◌, ℕ, List}
-use Rattle.sml_tree.specs.Terminal.{LongVid}
 use Rattle.sml_parser.specs.Left.{left}
 use Rattle.sml_parser.proofs.VidForms.{long-short, long-qualified, long-none}
 use Rattle.sml_parser.proofs.vids.any_long.Goals as goal
