@@ -1,0 +1,681 @@
+// Expressions.
+
+ghost use Rattle.std.specs.Prelude.{◌≡◌, ◌<◌, ◌≤◌, ◌+◌, ℕ, true, length, map, Some, None, MatchOption, MatchResult};
+ghost use Rattle.sml_tree.specs.Terminal.{Terminal};
+ghost use Rattle.sml_tree.specs.ReadTree as read;
+ghost use Rattle.sml_tree.specs.ReadTree.{exp_place};
+ghost use Rattle.sml_tree.specs.Bare.{at, bare_exp, exp_list, operands, joint_of};
+ghost use Rattle.sml_tree.specs.Depth.{depth, depth_exps, depth_parts, depth_rules, depth_exp_fields};
+ghost use Rattle.sml_tree.specs.TreeOf.{exp_of, part_of, rule_of, exp_field_of};
+ghost use Rattle.sml_grammar.specs.Answer.{Answer, whole, then_read};
+ghost use Rattle.sml_grammar.specs.Terminals.{no_state, place_at, tail, word_then};
+ghost use Rattle.sml_grammar.specs.Expressions.{readers, start_of, keyword_form, if_rest, application, atoms_turn, begins_atom, brace_exp, paren_in, bracket_exp, let_exp, read_match, whole_parts, case_rest};
+ghost use Rattle.sml_parser.specs.Gives.{Gives};
+ghost use Rattle.sml_parser.specs.Left.{left};
+ghost use Rattle.sml_parser.specs.ExpressionsRead.{IsExp, IsAtom, IsLarger, IsList, closed_exps, closed_rows, field_list, rule_list};
+ghost use Rattle.sml_parser.specs.Ties.{joint_from, tie_level, tie_rest, FromFile};
+
+use crate::atoms::{begins_atom, is_keyword, leaf_atom, no_atom_room, no_room};
+use crate::declarations::read_decs;
+use crate::got::Got;
+use crate::nodes::{
+    applied, chain, derived_exp, field, handler, lambda, list, part, raised, record_of, rule,
+    tuple_of, typed,
+};
+use crate::patterns::read_pat;
+use crate::source::Source;
+use crate::stop::Stop;
+use crate::ties::{Tie, joint_level, joint_right, next_joint, tie_at, tie_least, tie_level};
+use crate::tokens::{after_word, label_at, place_at, tail, word_at};
+use crate::types::read_ty;
+use mlc_base::place::Place;
+use mlc_base::token::{Reserved, Token};
+use sml_tree::derive::Derived;
+use sml_tree::fixity::Fixities;
+use sml_tree::tree::{Exp, ExpField, Joint, Part, Rule};
+use std::alloc::Global;
+
+/// An expression of a level of at least `level`, at most `n` deep.
+#[cycle(expressions)]
+pub fn read_exp<'a>(
+    alloc: Global,
+    source: &Source,
+    fix: &Fixities,
+    n: u32,
+    level: u32,
+    tokens: &'a [Token],
+) -> Result<Got<'a, Exp>, Stop>
+    requires { n < 1000 }
+    ensures gives { Gives (λ x r. IsExp source.now n (left source.now tokens.now) x.it x.depth x.rest.now r) result ((readers n).exp fix.now level (left source.now tokens.now)) }
+{
+    if n == 0 {
+        return Err(no_room(source, fix, level, tokens));
+    }
+    if is_keyword(source, tokens) {
+        if level > 4 {
+            return Err(Stop::Bad(tokens.len()));
+        }
+        return keyword_form(alloc, source, fix, n - 1, tokens);
+    }
+    let place = place_at(source, tokens);
+    let first = application(alloc, source, fix, n - 1, tokens)?;
+    let mut exp = first.it;
+    let mut depth = first.depth;
+    let mut high = 1000;
+    let mut rest = first.rest;
+    'suffixes: while let Some((tie, after)) = tie_at(source, fix, rest) {
+        let next = tie_level(fix, &tie);
+        if level > next {
+            return Ok(Got {
+                it: exp,
+                depth,
+                rest,
+            });
+        }
+        if high < tie_least(fix, &tie) {
+            return Err(Stop::Bad(rest.len()));
+        }
+        if depth > n - 1 {
+            return Err(Stop::Deep(rest.len()));
+        }
+        let larger = go_on(alloc, source, fix, n - 1, &tie, place, exp, depth, after)?;
+        exp = larger.it;
+        depth = larger.depth;
+        high = next;
+        rest = larger.rest;
+    }
+    Ok(Got {
+        it: exp,
+        depth,
+        rest,
+    })
+}
+
+/// A form that begins with a keyword.
+#[cycle(expressions)]
+#[tactic(auto, using(crate::proofs::ExpLemmas::rules_all))]
+fn keyword_form<'a>(
+    alloc: Global,
+    source: &Source,
+    fix: &Fixities,
+    n: u32,
+    tokens: &'a [Token],
+) -> Result<Got<'a, Exp>, Stop>
+    requires { n < 999 }
+    ensures gives { Gives (λ x r. IsExp source.now (n + 1) (left source.now tokens.now) x.it x.depth x.rest.now r) result (keyword_form n (readers n).exp fix.now (start_of (left source.now tokens.now))) }
+{
+    let place = place_at(source, tokens);
+    let inner = tail(source, tokens);
+    match word_at(source, tokens) {
+        Some(Reserved::Raise) => {
+            let exp = read_exp(alloc, source, fix, n, 0, inner)?;
+            Ok(Got {
+                it: raised(alloc, place, exp.it)?,
+                depth: exp.depth + 1,
+                rest: exp.rest,
+            })
+        }
+        Some(Reserved::If) => conditional(alloc, source, fix, n, tokens),
+        Some(Reserved::While) => {
+            let test = read_exp(alloc, source, fix, n, 0, inner)?;
+            let body = read_after(alloc, source, fix, n, Reserved::Do, test.rest)?;
+            let depth = test.depth.max(body.depth) + 1;
+            Ok(Got {
+                it: derived_exp(alloc, Derived::While(place, test.it, body.it))?,
+                depth,
+                rest: body.rest,
+            })
+        }
+        Some(Reserved::Case) => case(alloc, source, fix, n, tokens),
+        Some(Reserved::Fn) => {
+            let rules = read_match(alloc, source, fix, n, inner)?;
+            Ok(Got {
+                it: lambda(place, rules.it),
+                depth: rules.depth + 1,
+                rest: rules.rest,
+            })
+        }
+        _ => Err(Stop::Bad(tokens.len())),
+    }
+}
+
+/// `if a then b else c`
+#[cycle(expressions)]
+fn conditional<'a>(
+    alloc: Global,
+    source: &Source,
+    fix: &Fixities,
+    n: u32,
+    tokens: &'a [Token],
+) -> Result<Got<'a, Exp>, Stop>
+    requires { n < 999 }
+    ensures gives { Gives (λ x r. IsExp source.now (n + 1) (left source.now tokens.now) x.it x.depth x.rest.now r) result
+        (then_read ((readers n).exp fix.now 0 (tail (left source.now tokens.now))) (if_rest (readers n).exp fix.now (place_at (left source.now tokens.now)))) }
+{
+    let test = read_exp(alloc, source, fix, n, 0, tail(source, tokens))?;
+    let yes = read_after(alloc, source, fix, n, Reserved::Then, test.rest)?;
+    let no = read_after(alloc, source, fix, n, Reserved::Else, yes.rest)?;
+    let depth = test.depth.max(yes.depth.max(no.depth)) + 1;
+    let it = derived_exp(
+        alloc,
+        Derived::If(place_at(source, tokens), test.it, yes.it, no.it),
+    )?;
+    Ok(Got {
+        it,
+        depth,
+        rest: no.rest,
+    })
+}
+
+/// `case e of m`
+#[cycle(expressions)]
+#[tactic(auto, using(crate::proofs::ExpLemmas::rules_all))]
+fn case<'a>(
+    alloc: Global,
+    source: &Source,
+    fix: &Fixities,
+    n: u32,
+    tokens: &'a [Token],
+) -> Result<Got<'a, Exp>, Stop>
+    requires { n < 999 }
+    ensures gives { Gives (λ x r. IsExp source.now (n + 1) (left source.now tokens.now) x.it x.depth x.rest.now r) result
+        (then_read ((readers n).exp fix.now 0 (tail (left source.now tokens.now))) (case_rest n (readers n).exp fix.now (place_at (left source.now tokens.now)))) }
+{
+    let exp = read_exp(alloc, source, fix, n, 0, tail(source, tokens))?;
+    let Some(after) = after_word(source, Reserved::Of, exp.rest) else {
+        return Err(Stop::Bad(exp.rest.len()))
+    };
+    let rules = read_match(alloc, source, fix, n, after)?;
+    let depth = exp.depth.max(rules.depth) + 1;
+    let it = derived_exp(
+        alloc,
+        Derived::Case(place_at(source, tokens), exp.it, rules.it),
+    )?;
+    Ok(Got {
+        it,
+        depth,
+        rest: rules.rest,
+    })
+}
+
+/// An expression after a word.
+#[cycle(expressions)]
+pub fn read_after<'a>(
+    alloc: Global,
+    source: &Source,
+    fix: &Fixities,
+    n: u32,
+    word: Reserved,
+    tokens: &'a [Token],
+) -> Result<Got<'a, Exp>, Stop>
+    requires { n < 1000 }
+    ensures gives { Gives (λ x r. IsExp source.now n (tail (left source.now tokens.now)) x.it x.depth x.rest.now r) result (word_then word ((readers n).exp fix.now 0) (left source.now tokens.now)) }
+{
+    match after_word(source, word, tokens) {
+        Some(after) => read_exp(alloc, source, fix, n, 0, after),
+        None => Err(Stop::Bad(tokens.len())),
+    }
+}
+
+/// An atomic expression, or an application of one.
+#[cycle(expressions)]
+fn application<'a>(
+    alloc: Global,
+    source: &Source,
+    fix: &Fixities,
+    n: u32,
+    tokens: &'a [Token],
+) -> Result<Got<'a, Exp>, Stop>
+    requires { n < 999 }
+    ensures gives { Gives (λ x r. IsAtom fix.now source.now (n + 1) (left source.now tokens.now) x.it x.depth x.rest.now r) result (application (readers n) n fix.now (left source.now tokens.now)) }
+{
+    let place = place_at(source, tokens);
+    let first = read_atom(alloc, source, fix, n + 1, tokens)?;
+    if !begins_atom(source, fix, first.rest) {
+        return Ok(first);
+    }
+    if first.depth > n {
+        return Err(Stop::Deep(first.rest.len()));
+    }
+    let arguments = read_atoms(alloc, source, fix, n, first.rest)?;
+    let depth = first.depth.max(arguments.depth) + 1;
+    Ok(Got {
+        it: applied(alloc, place, first.it, arguments.it)?,
+        depth,
+        rest: arguments.rest,
+    })
+}
+
+/// Atomic expressions, where one begins.
+#[cycle(expressions)]
+fn read_atoms<'a>(
+    alloc: Global,
+    source: &Source,
+    fix: &Fixities,
+    n: u32,
+    tokens: &'a [Token],
+) -> Result<Got<'a, Vec<Exp>>, Stop>
+    requires room { n < 999 }
+    requires begins { begins_atom fix.now (left source.now tokens.now) ≡ true }
+    ensures gives { Gives (λ x r. IsList (exp_list source.now.file) depth_exps source.now n (left source.now tokens.now) (map exp_of x.it.items) x.depth x.rest.now r)
+        result (whole (atoms_turn (readers n).atom fix.now) no_state (left source.now tokens.now)) }
+{
+    let mut all = Vec::new(alloc);
+    let mut deepest = 0;
+    let mut rest = tokens;
+    'atoms: loop {
+        let atom = read_atom(alloc, source, fix, n, rest)?;
+        all.push(atom.it)?;
+        deepest = atom.depth.max(deepest);
+        rest = atom.rest;
+        if !begins_atom(source, fix, rest) {
+            return Ok(Got {
+                it: all,
+                depth: deepest,
+                rest,
+            });
+        }
+    }
+}
+
+/// An atomic expression.
+#[cycle(expressions)]
+fn read_atom<'a>(
+    alloc: Global,
+    source: &Source,
+    fix: &Fixities,
+    n: u32,
+    tokens: &'a [Token],
+) -> Result<Got<'a, Exp>, Stop>
+    requires { n < 1000 }
+    ensures gives { Gives (λ x r. IsAtom fix.now source.now n (left source.now tokens.now) x.it x.depth x.rest.now r) result ((readers n).atom fix.now (left source.now tokens.now)) }
+{
+    if n == 0 {
+        return Err(no_atom_room(source, fix, tokens));
+    }
+    if let Some(_) = after_word(source, Reserved::LeftBrace, tokens) {
+        return in_braces(alloc, source, fix, n - 1, tokens);
+    }
+    if let Some(_) = after_word(source, Reserved::LeftParen, tokens) {
+        return in_parens(alloc, source, fix, n - 1, tokens);
+    }
+    if let Some(_) = after_word(source, Reserved::LeftBracket, tokens) {
+        return in_brackets(alloc, source, fix, n - 1, tokens);
+    }
+    if let Some(_) = after_word(source, Reserved::Let, tokens) {
+        return read_let(alloc, source, fix, n - 1, tokens);
+    }
+    leaf_atom(alloc, source, fix, tokens)
+}
+
+/// `{lab = e, ..}`
+#[cycle(expressions)]
+fn in_braces<'a>(
+    alloc: Global,
+    source: &Source,
+    fix: &Fixities,
+    n: u32,
+    tokens: &'a [Token],
+) -> Result<Got<'a, Exp>, Stop>
+    requires { n < 999 }
+    ensures gives { Gives (λ x r. IsAtom fix.now source.now (n + 1) (left source.now tokens.now) x.it x.depth x.rest.now r) result
+        (brace_exp (readers n).exp fix.now (place_at (left source.now tokens.now)) (tail (left source.now tokens.now))) }
+{
+    let place = place_at(source, tokens);
+    let inner = tail(source, tokens);
+    if let Some(rest) = after_word(source, Reserved::RightBrace, inner) {
+        return Ok(Got {
+            it: record_of(place, Vec::new(alloc)),
+            depth: 1,
+            rest,
+        });
+    }
+    let fields = read_rows(alloc, source, fix, n, inner)?;
+    Ok(Got {
+        it: record_of(place, fields.it),
+        depth: fields.depth + 1,
+        rest: fields.rest,
+    })
+}
+
+/// Fields, and the brace that closes them.
+#[cycle(expressions)]
+fn read_rows<'a>(
+    alloc: Global,
+    source: &Source,
+    fix: &Fixities,
+    n: u32,
+    tokens: &'a [Token],
+) -> Result<Got<'a, Vec<ExpField>>, Stop>
+    requires { n < 999 }
+    ensures gives { Gives (λ x r. IsList (field_list source.now.file) depth_exp_fields source.now n (left source.now tokens.now) (map exp_field_of x.it.items) x.depth x.rest.now r)
+        result (closed_rows (readers n).exp fix.now (left source.now tokens.now)) }
+{
+    let mut all = Vec::new(alloc);
+    let mut deepest = 0;
+    let mut rest = tokens;
+    'fields: loop {
+        let Some((label, after)) = label_at(source, rest) else {
+            return Err(Stop::Bad(rest.len()))
+        };
+        let exp = read_after(alloc, source, fix, n, Reserved::Equals, after)?;
+        all.push(field(label, exp.it))?;
+        deepest = exp.depth.max(deepest);
+        match after_word(source, Reserved::Comma, exp.rest) {
+            Some(next) => rest = next,
+            None => {
+                let Some(rest) = after_word(source, Reserved::RightBrace, exp.rest) else {
+                    return Err(Stop::Bad(exp.rest.len()))
+                };
+                return Ok(Got {
+                    it: all,
+                    depth: deepest,
+                    rest,
+                });
+            }
+        }
+    }
+}
+
+/// `()`, `(e)`, `(e1, .., en)` or `(e1; ..; en)`
+#[cycle(expressions)]
+fn in_parens<'a>(
+    alloc: Global,
+    source: &Source,
+    fix: &Fixities,
+    n: u32,
+    tokens: &'a [Token],
+) -> Result<Got<'a, Exp>, Stop>
+    requires { n < 999 }
+    ensures gives { Gives (λ x r. IsAtom fix.now source.now (n + 1) (left source.now tokens.now) x.it x.depth x.rest.now r) result
+        (paren_in (readers n).exp fix.now (place_at (left source.now tokens.now)) (tail (left source.now tokens.now))) }
+{
+    let place = place_at(source, tokens);
+    let inner = tail(source, tokens);
+    if let Some(rest) = after_word(source, Reserved::RightParen, inner) {
+        return Ok(Got {
+            it: tuple_of(place, Vec::new(alloc)),
+            depth: 1,
+            rest,
+        });
+    }
+    let first = read_exp(alloc, source, fix, n, 0, inner)?;
+    if let Some(after) = after_word(source, Reserved::Comma, first.rest) {
+        let mut exps = read_exps(
+            alloc,
+            source,
+            fix,
+            n,
+            Reserved::Comma,
+            Reserved::RightParen,
+            after,
+        )?;
+        exps.it.insert(0, first.it)?;
+        return Ok(Got {
+            it: tuple_of(place, exps.it),
+            depth: first.depth.max(exps.depth) + 1,
+            rest: exps.rest,
+        });
+    }
+    if let Some(after) = after_word(source, Reserved::Semicolon, first.rest) {
+        let exps = read_exps(
+            alloc,
+            source,
+            fix,
+            n,
+            Reserved::Semicolon,
+            Reserved::RightParen,
+            after,
+        )?;
+        let it = derived_exp(alloc, Derived::Sequence(place, first.it, exps.it))?;
+        return Ok(Got {
+            it,
+            depth: first.depth.max(exps.depth) + 1,
+            rest: exps.rest,
+        });
+    }
+    match after_word(source, Reserved::RightParen, first.rest) {
+        Some(rest) => Ok(Got {
+            it: first.it,
+            depth: first.depth + 1,
+            rest,
+        }),
+        None => Err(Stop::Bad(first.rest.len())),
+    }
+}
+
+/// `[e1, .., en]`
+#[cycle(expressions)]
+fn in_brackets<'a>(
+    alloc: Global,
+    source: &Source,
+    fix: &Fixities,
+    n: u32,
+    tokens: &'a [Token],
+) -> Result<Got<'a, Exp>, Stop>
+    requires { n < 999 }
+    ensures gives { Gives (λ x r. IsAtom fix.now source.now (n + 1) (left source.now tokens.now) x.it x.depth x.rest.now r) result
+        (bracket_exp (readers n).exp fix.now (place_at (left source.now tokens.now)) (tail (left source.now tokens.now))) }
+{
+    let place = place_at(source, tokens);
+    let inner = tail(source, tokens);
+    if let Some(rest) = after_word(source, Reserved::RightBracket, inner) {
+        return Ok(Got {
+            it: list(place, Vec::new(alloc)),
+            depth: 1,
+            rest,
+        });
+    }
+    let exps = read_exps(
+        alloc,
+        source,
+        fix,
+        n,
+        Reserved::Comma,
+        Reserved::RightBracket,
+        inner,
+    )?;
+    Ok(Got {
+        it: list(place, exps.it),
+        depth: exps.depth + 1,
+        rest: exps.rest,
+    })
+}
+
+/// `let d in e1; ..; en end`
+#[cycle(expressions)]
+#[tactic(auto, using(crate::proofs::ExpLemmas::decs_all))]
+fn read_let<'a>(
+    alloc: Global,
+    source: &Source,
+    fix: &Fixities,
+    n: u32,
+    tokens: &'a [Token],
+) -> Result<Got<'a, Exp>, Stop>
+    requires { n < 999 }
+    ensures gives { Gives (λ x r. IsAtom fix.now source.now (n + 1) (left source.now tokens.now) x.it x.depth x.rest.now r) result
+        (let_exp (readers n) fix.now (place_at (left source.now tokens.now)) (tail (left source.now tokens.now))) }
+{
+    let mut inner = fix.copy(alloc)?;
+    let decs = read_decs(alloc, source, &mut inner, n, tail(source, tokens))?;
+    let Some(after) = after_word(source, Reserved::In, decs.rest) else {
+        return Err(Stop::Bad(decs.rest.len()))
+    };
+    let mut body = read_exps(
+        alloc,
+        source,
+        &inner,
+        n,
+        Reserved::Semicolon,
+        Reserved::End,
+        after,
+    )?;
+    let first = body.it.remove(0);
+    let it = derived_exp(
+        alloc,
+        Derived::Let(place_at(source, tokens), decs.it, first, body.it),
+    )?;
+    Ok(Got {
+        it,
+        depth: decs.depth.max(body.depth) + 1,
+        rest: body.rest,
+    })
+}
+
+/// Expressions that a word parts, and the word that closes them.
+#[cycle(expressions)]
+fn read_exps<'a>(
+    alloc: Global,
+    source: &Source,
+    fix: &Fixities,
+    n: u32,
+    word: Reserved,
+    closing: Reserved,
+    tokens: &'a [Token],
+) -> Result<Got<'a, Vec<Exp>>, Stop>
+    requires { n < 999 }
+    ensures gives { Gives (λ x r. IsList (exp_list source.now.file) depth_exps source.now n (left source.now tokens.now) (map exp_of x.it.items) x.depth x.rest.now r)
+        result (closed_exps word closing (readers n).exp fix.now (left source.now tokens.now)) }
+{
+    let mut all = Vec::new(alloc);
+    let mut deepest = 0;
+    let mut rest = tokens;
+    'exps: loop {
+        let exp = read_exp(alloc, source, fix, n, 0, rest)?;
+        all.push(exp.it)?;
+        deepest = exp.depth.max(deepest);
+        match after_word(source, word, exp.rest) {
+            Some(next) => rest = next,
+            None => {
+                let Some(rest) = after_word(source, closing, exp.rest) else {
+                    return Err(Stop::Bad(exp.rest.len()))
+                };
+                return Ok(Got {
+                    it: all,
+                    depth: deepest,
+                    rest,
+                });
+            }
+        }
+    }
+}
+
+/// A match.
+#[cycle(expressions)]
+fn read_match<'a>(
+    alloc: Global,
+    source: &Source,
+    fix: &Fixities,
+    n: u32,
+    tokens: &'a [Token],
+) -> Result<Got<'a, Vec<Rule>>, Stop>
+    requires { n < 999 }
+    ensures gives { Gives (λ x r. IsList (rule_list source.now.file) depth_rules source.now n (left source.now tokens.now) (map rule_of x.it.items) x.depth x.rest.now r)
+        result (read_match n (readers n).exp fix.now (left source.now tokens.now)) }
+{
+    let mut all = Vec::new(alloc);
+    let mut deepest = 0;
+    let mut rest = tokens;
+    'rules: loop {
+        let place = place_at(source, rest);
+        let pat = read_pat(alloc, source, fix, n, 0, rest)?;
+        let exp = read_after(alloc, source, fix, n, Reserved::DoubleArrow, pat.rest)?;
+        all.push(rule(place, pat.it, exp.it))?;
+        deepest = pat.depth.max(exp.depth).max(deepest);
+        let Some(next) = after_word(source, Reserved::Bar, exp.rest) else {
+            return Ok(Got {
+                it: all,
+                depth: deepest,
+                rest: exp.rest,
+            })
+        };
+        rest = next;
+    }
+}
+
+/// The operands of a chain, after its first joint.
+#[cycle(expressions)]
+fn read_parts<'a>(
+    alloc: Global,
+    source: &Source,
+    fix: &Fixities,
+    n: u32,
+    first: &Joint,
+    tokens: &'a [Token],
+) -> Result<Got<'a, Vec<Part>>, Stop>
+    requires room { n < 999 }
+    requires place { joint_of source.now.file (joint_from first.now) ≡ first.now }
+    ensures gives { Gives (λ x r. IsList (operands source.now.file) depth_parts source.now n (left source.now tokens.now) (map part_of x.it.items) x.depth x.rest.now r)
+        result (whole_parts (readers n).exp fix.now (joint_from first.now) (left source.now tokens.now)) }
+{
+    let level = joint_level(fix, first);
+    let right = joint_right(fix, first);
+    let mut all = Vec::new(alloc);
+    let mut deepest = 0;
+    let mut joint = *first;
+    let mut rest = tokens;
+    'parts: loop {
+        let place = place_at(source, rest);
+        let exp = read_exp(alloc, source, fix, n, level + 1, rest)?;
+        all.push(part(joint, place, exp.it))?;
+        deepest = exp.depth.max(deepest);
+        let Some(next) = next_joint(source, fix, level, right, exp.rest)? else {
+            return Ok(Got {
+                it: all,
+                depth: deepest,
+                rest: exp.rest,
+            })
+        };
+        joint = next;
+        rest = tail(source, exp.rest);
+    }
+}
+
+/// An expression after a tie, and what it makes of the expression before.
+#[cycle(expressions)]
+fn go_on<'a>(
+    alloc: Global,
+    source: &Source,
+    fix: &Fixities,
+    n: u32,
+    tie: &Tie,
+    place: Place,
+    before: Exp,
+    below: u32,
+    tokens: &'a [Token],
+) -> Result<Got<'a, Exp>, Stop>
+    requires room { n < 999 }
+    requires fits { below ≤ n }
+    requires place { FromFile source.now.file tie.now }
+    ensures gives { (a : read.Exp) → exp_of before ≡ bare_exp source.now.file a → below ≡ depth a → place ≡ at source.now.file (exp_place a) →
+        Gives (λ x r. IsLarger fix.now source.now (n + 1) (left source.now tokens.now) (exp_place a) (tie_level fix.now tie.now) x.it x.depth x.rest.now r)
+        result (tie_rest (readers n).exp n fix.now a tie.now (left source.now tokens.now)) }
+{
+    match tie {
+        Tie::Joint(joint) => {
+            let parts = read_parts(alloc, source, fix, n, joint, tokens)?;
+            let it = chain(alloc, place, joint_right(fix, joint), before, parts.it)?;
+            Ok(Got {
+                it,
+                depth: below.max(parts.depth) + 1,
+                rest: parts.rest,
+            })
+        }
+        Tie::Mark => {
+            let ty = read_ty(alloc, source, n, 0, tokens)?;
+            Ok(Got {
+                it: typed(alloc, place, before, ty.it)?,
+                depth: below.max(ty.depth) + 1,
+                rest: ty.rest,
+            })
+        }
+        Tie::Handle => {
+            let rules = read_match(alloc, source, fix, n, tokens)?;
+            Ok(Got {
+                it: handler(alloc, place, before, rules.it)?,
+                depth: below.max(rules.depth) + 1,
+                rest: rules.rest,
+            })
+        }
+    }
+}

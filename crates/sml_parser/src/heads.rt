@@ -1,0 +1,324 @@
+// Heads of clauses.
+
+ghost use Rattle.std.specs.Prelude.{◌≡◌, ℕ, ◌<◌, ◌≤◌, ◌+◌, ◌∷◌, [], length, map, List, Option, Some, None, MatchOption, MatchResult};
+ghost use Rattle.sml_tree.specs.Terminal.{Terminal};
+ghost use Rattle.sml_tree.specs.ReadTree as read;
+ghost use Rattle.sml_tree.specs.Bare as bare;
+ghost use Rattle.sml_tree.specs.Derived.{tuple_pat};
+ghost use Rattle.sml_tree.specs.Depth.{depth_pat};
+ghost use Rattle.sml_tree.specs.Bare.{bare_pat};
+ghost use Rattle.sml_tree.specs.TreeOf.{pat_of};
+ghost use Rattle.sml_grammar.specs.Answer.{Read, ok};
+ghost use Rattle.sml_grammar.specs.Terminals.{no_state, place_at, infix_vid, taken};
+ghost use Rattle.sml_grammar.specs.Patterns.{read_atpat, read_atpats, read_head, infix_rest, prefix_rest, bracket_rest, vid_head, bracketed, Bracketed};
+ghost use Rattle.sml_parser.specs.Gives.{Gives, Gave};
+ghost use Rattle.sml_parser.specs.Left.{left};
+ghost use Rattle.sml_parser.specs.PatternsRead.{IsPatAt, IsPats};
+ghost use Rattle.sml_parser.specs.HeadsRead.{IsHead, IsPair, NoPattern};
+ghost use Rattle.sml_parser.specs.declared.stop.Stop.TheVariants.{Memory};
+
+use crate::got::Got;
+use crate::patterns::{begins_pat, read_atpat};
+use crate::source::Source;
+use crate::stop::Stop;
+use crate::tokens::{after_word, place_at};
+use crate::vids::{binds_vid, joint_at};
+use mlc_base::names::Name;
+use mlc_base::place::Place;
+use mlc_base::token::{Reserved, Token};
+use sml_tree::fixity::Fixities;
+use sml_tree::ident::{LongVid, Vid};
+use sml_tree::tree::Pat;
+use std::alloc::Global;
+
+/// The head of a clause of a function: its name and its patterns.
+#[derive(Drop)]
+pub struct Head {
+    pub place: Place,
+    pub vid: Vid,
+    pub pats: Vec<Pat>,
+}
+
+/// Two atomic patterns and the infix identifier between them.
+#[derive(Drop)]
+struct Pair {
+    left: Pat,
+    vid: Name,
+    right: Pat,
+}
+
+/// The head of a clause, whose patterns are at most `n` deep.
+pub fn read_head<'a>(
+    alloc: Global,
+    source: &Source,
+    fix: &Fixities,
+    n: u32,
+    tokens: &'a [Token],
+) -> Result<Got<'a, Head>, Stop>
+    requires { n < 1000 }
+    ensures gives { Gives (λ x r. IsHead source.now n (left source.now tokens.now) x.it x.depth x.rest.now r) result (read_head n fix.now (left source.now tokens.now)) }
+{
+    let place = place_at(source, tokens);
+    if let Some((vid, after)) = binds_vid(source, fix, tokens) {
+        return named_head(alloc, source, fix, n, place, vid, after);
+    }
+    let Got { it, depth, rest } = read_atpat(alloc, source, fix, n, tokens)?;
+    if let Some(found) = joint_at(source, fix, rest) {
+        return infix_head(alloc, source, fix, n, place, it, depth, found.0, found.1);
+    }
+    match bracketed(alloc, source, fix, n, tokens)? {
+        Some(pair) => bracket_head(alloc, source, fix, n, place, pair, depth, rest),
+        None => Err(Stop::Bad(rest.len())),
+    }
+}
+
+/// A head that begins with an identifier, after it.
+fn named_head<'a>(
+    alloc: Global,
+    source: &Source,
+    fix: &Fixities,
+    n: u32,
+    place: Place,
+    vid: Vid,
+    tokens: &'a [Token],
+) -> Result<Got<'a, Head>, Stop>
+    requires { n < 1000 }
+    ensures gives { (i : List Terminal) → place ≡ bare.at source.now.file (place_at i) → length (left source.now tokens.now) < length i →
+        Gives (λ x r. IsHead source.now n i x.it x.depth x.rest.now r) result (vid_head n fix.now (record { place = place_at i; it = vid }) (left source.now tokens.now)) }
+{
+    match joint_at(source, fix, tokens) {
+        Some(found) => {
+            if n < 1 {
+                return Err(Stop::Deep(tokens.len()));
+            }
+            let variable = Pat::Vid(
+                place,
+                LongVid {
+                    qualifiers: Vec::new(alloc),
+                    vid,
+                },
+            );
+            infix_head(alloc, source, fix, n, place, variable, 1, found.0, found.1)
+        }
+        None => prefix_head(alloc, source, fix, n, place, vid, tokens),
+    }
+}
+
+/// `vid atpat .. atpat`, after the identifier.
+fn prefix_head<'a>(
+    alloc: Global,
+    source: &Source,
+    fix: &Fixities,
+    n: u32,
+    place: Place,
+    vid: Vid,
+    tokens: &'a [Token],
+) -> Result<Got<'a, Head>, Stop>
+    requires { n < 1000 }
+    ensures gives { (i : List Terminal) → place ≡ bare.at source.now.file (place_at i) → length (left source.now tokens.now) < length i →
+        Gives (λ x r. IsHead source.now n i x.it x.depth x.rest.now r) result (prefix_rest n fix.now (record { place = place_at i; it = vid }) (left source.now tokens.now)) }
+{
+    let Got {
+        it: first,
+        depth,
+        rest: after,
+    } = read_atpat(alloc, source, fix, n, tokens)?;
+    let mut front = Vec::new(alloc);
+    front.push(first)?;
+    let Got {
+        it: pats,
+        depth: deepest,
+        rest,
+    } = more_atpats(alloc, source, fix, n, front, depth, after)?;
+    Ok(Got {
+        it: Head { place, vid, pats },
+        depth: deepest,
+        rest,
+    })
+}
+
+/// `atpat vid atpat`, after the identifier.
+fn infix_head<'a>(
+    alloc: Global,
+    source: &Source,
+    fix: &Fixities,
+    n: u32,
+    place: Place,
+    first: Pat,
+    depth: u32,
+    name: Name,
+    tokens: &'a [Token],
+) -> Result<Got<'a, Head>, Stop>
+    requires { n < 1000 }
+    ensures gives { (i : List Terminal) (a : read.Pat) (p : ℕ) → place ≡ bare.at source.now.file (place_at i) → pat_of first ≡ bare_pat source.now.file a → depth ≡ depth_pat a → read.pat_place a ≡ place_at i → depth ≤ n → length (left source.now tokens.now) < length i →
+        Gives (λ x r. IsHead source.now n i x.it x.depth x.rest.now r) result (infix_rest n fix.now a (record { place = p; it = name }) (left source.now tokens.now)) }
+{
+    let Got {
+        it: second,
+        depth: second_depth,
+        rest,
+    } = read_atpat(alloc, source, fix, n, tokens)?;
+    let pats = pair_only(alloc, place, first, second)?;
+    Ok(Got {
+        it: Head {
+            place,
+            vid: Vid::Named(name),
+            pats,
+        },
+        depth: depth.max(second_depth),
+        rest,
+    })
+}
+
+/// The pair of two patterns.
+fn pair_only(alloc: Global, place: Place, first: Pat, second: Pat) -> Result<Vec<Pat>, Stop>
+    ensures { MatchResult result (λ v. map pat_of v.items ≡ tuple_pat place (pat_of first ∷ pat_of second ∷ []) ∷ []) (λ e. e ≡ Memory) }
+{
+    let mut both = Vec::new(alloc);
+    both.push(first)?;
+    both.push(second)?;
+    let mut pats = Vec::new(alloc);
+    pats.push(Pat::Tuple(place, both))?;
+    Ok(pats)
+}
+
+/// `(atpat vid atpat) atpat .. atpat`, after the bracket that ends.
+fn bracket_head<'a>(
+    alloc: Global,
+    source: &Source,
+    fix: &Fixities,
+    n: u32,
+    place: Place,
+    pair: Pair,
+    depth: u32,
+    tokens: &'a [Token],
+) -> Result<Got<'a, Head>, Stop>
+    requires room { n < 1000 }
+    requires fits { depth ≤ n }
+    ensures gives { (i : List Terminal) (b : Bracketed) → place ≡ bare.at source.now.file (place_at i) → IsPair source.now pair i depth b → length (left source.now tokens.now) < length i →
+        Gives (λ x r. IsHead source.now n i x.it x.depth x.rest.now r) result (bracket_rest n fix.now (left source.now tokens.now) (Some b)) }
+{
+    let Pair {
+        left: first,
+        vid,
+        right: second,
+    } = pair;
+    let front = pair_only(alloc, place, first, second)?;
+    let Got {
+        it: pats,
+        depth: deepest,
+        rest,
+    } = more_atpats(alloc, source, fix, n, front, depth, tokens)?;
+    Ok(Got {
+        it: Head {
+            place,
+            vid: Vid::Named(vid),
+            pats,
+        },
+        depth: deepest,
+        rest,
+    })
+}
+
+/// Atomic patterns after each other, after those of `front`.
+pub fn more_atpats<'a>(
+    alloc: Global,
+    source: &Source,
+    fix: &Fixities,
+    n: u32,
+    front: Vec<Pat>,
+    depth: u32,
+    tokens: &'a [Token],
+) -> Result<Got<'a, Vec<Pat>>, Stop>
+    requires room { n < 1000 }
+    requires fits { depth ≤ n }
+    ensures gives { Gives (λ x r. IsPats source.now n (left source.now tokens.now) front.items depth x.it.items x.depth x.rest.now r) result (read_atpats n fix.now (left source.now tokens.now)) }
+{
+    let mut all = front;
+    let mut deepest = depth;
+    let mut rest = tokens;
+    'patterns: while begins_pat(source, fix, rest) {
+        let Got {
+            it,
+            depth,
+            rest: after,
+        } = read_atpat(alloc, source, fix, n, rest)?;
+        all.push(it)?;
+        deepest = depth.max(deepest);
+        rest = after;
+    }
+    Ok(Got {
+        it: all,
+        depth: deepest,
+        rest,
+    })
+}
+
+/// An atomic pattern, where one is there that isn't too deep.
+fn maybe_atpat<'a>(
+    alloc: Global,
+    source: &Source,
+    fix: &Fixities,
+    n: u32,
+    tokens: &'a [Token],
+) -> Result<Option<Got<'a, Pat>>, Stop>
+    requires { n < 1000 }
+    ensures { MatchResult result (λ found. MatchOption found (NoPattern (read_atpat n fix.now (left source.now tokens.now)))
+        (λ x. Gave (λ x r. IsPatAt source.now fix.now 1000 n (left source.now tokens.now) x.it x.depth x.rest.now r) x (read_atpat n fix.now (left source.now tokens.now)))) (λ e. e ≡ Memory) }
+{
+    match read_atpat(alloc, source, fix, n, tokens) {
+        Ok(got) => Ok(Some(got)),
+        Err(stop) => match stop {
+            Stop::Memory => Err(Stop::Memory),
+            Stop::Bad(_) => Ok(None),
+            Stop::Deep(_) => Ok(None),
+        },
+    }
+}
+
+/// What is in the brackets of `(atpat vid atpat)`, where such a pattern was read here.
+fn bracketed(
+    alloc: Global,
+    source: &Source,
+    fix: &Fixities,
+    n: u32,
+    tokens: &[Token],
+) -> Result<Option<Pair>, Stop>
+    requires { n < 1000 }
+    ensures { (y : Read read.Pat) → read_atpat n fix.now (left source.now tokens.now) ≡ ok y → MatchResult result (λ found. MatchOption found (bracketed y.tree ≡ None)
+        (λ pair. (b : Bracketed) × (bracketed y.tree ≡ Some b) × IsPair source.now pair (left source.now tokens.now) (depth_pat y.tree) b)) (λ e. e ≡ Memory) }
+{
+    if n < 2 {
+        return Ok(None);
+    }
+    let Some(inner) = after_word(source, Reserved::LeftParen, tokens) else {
+        return Ok(None)
+    };
+    let Some(first) = maybe_atpat(alloc, source, fix, n - 2, inner)? else {
+        return Ok(None)
+    };
+    let Got {
+        it: left,
+        depth: _,
+        rest: after_left,
+    } = first;
+    let Some(found) = joint_at(source, fix, after_left) else {
+        return Ok(None)
+    };
+    let Some(second) = maybe_atpat(alloc, source, fix, n - 2, found.1)? else {
+        return Ok(None)
+    };
+    let Got {
+        it: right,
+        depth: _,
+        rest: after_right,
+    } = second;
+    match after_word(source, Reserved::RightParen, after_right) {
+        Some(_) => Ok(Some(Pair {
+            left,
+            vid: found.0,
+            right,
+        })),
+        None => Ok(None),
+    }
+}
