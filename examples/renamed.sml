@@ -1,0 +1,3 @@
+val say = print
+val greeting = "hello, " ^ "again"
+val () = say (greeting ^ "\n")

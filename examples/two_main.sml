@@ -1,0 +1,1 @@
+val () = print (greeting ^ ", " ^ name ^ "\n")

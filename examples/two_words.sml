@@ -1,0 +1,2 @@
+val greeting = "hello"
+val name = "world"
