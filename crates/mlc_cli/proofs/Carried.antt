@@ -1,153 +1,197 @@
 -- The statuses of a command that was carried out.
-use Rattle.std.proofs.Common.{◌≡◌, ◌≢◌, ℕ, ◌⊎◌, inl, inr, List, [], ◌∷◌, Option, Some, None, refl, ap, subst, sym, ◌∙◌, arith, codes}
-use Rattle.std.specs.FinMap.{get}
-use Rattle.mlc_base.specs.File.{File}
+use Rattle.std.proofs.Common.{◌≡◌, ◌≢◌, ℕ, ◌⊎◌, inl, inr, List, Option, Some, refl, subst, sym, ◌∙◌, arith, codes, [], ◌∷◌}
+use Rattle.std.specs.String.{string_bytes}
 use Rattle.mlc_outside.specs.Faults.{Rose}
 use Rattle.mlc_outside.specs.Files.{Files}
-use Rattle.ir_code.specs.Run.{ended, going}
+use Rattle.ir_code.specs.Run.{ended, no_heap, no_stack, going}
+use Rattle.heap_vm.specs.Loaded.{told_name}
+use Rattle.mlb_reader.specs.Broken.{IsMissing}
+use Rattle.mlb_reader.specs.Refusals.{IfTold}
+use Rattle.mlc_driver.specs.Checked.{Breaks}
 use Rattle.mlc_cli.specs.Command.{Command, IsCommand}
-use Rattle.mlc_cli.specs.Project.{Project, IsProject, IsNeeded, the_mlb, the_source, IsRefused, no_mlb, no_source, IfTold}
-use Rattle.mlc_cli.specs.Exits.{Exited, Tells, file_of, tells_ended, tells_step_limit, tells_refused, tells_no_line, tells_missing, tells_read_failed, tells_store_failed, tells_out_failed, tells_no_memory}
-use Rattle.mlc_cli.specs.Statuses.{ByCommand, Built, RanTo, WriteFailed, Unwritten, IsMissing, Says, says_nothing, says_refused, says_step_limit, says_missing, says_read_failed, says_write_failed, says_no_memory, IsBeforeRun, IsBeforeWrite, IsReady, IsRunOrMemory}
+use Rattle.mlc_cli.specs.Exits.{Exited, status_of, line_of}
+use Rattle.mlc_cli.specs.Outside.{Disk, Stream}
+use Rattle.mlc_cli.specs.Statuses.{ByCommand, Built, RanTo, ToldUncaught, WriteFailed, Unwritten, Refuses, Misses, Told, Says, says_nothing, says_uncaught, says_refused, says_step_limit, says_out_of_heap, says_out_of_stack, says_missing, says_read_failed, says_write_failed, says_no_memory, IsBeforeRun, IsBeforeWrite, IsReady, IsRunOrMemory}
 use Rattle.mlc_cli.specs.declared.exit.Exit.{Exit}
-use Rattle.std.specs.String.{string_bytes}
-use Rattle.mlc_cli.specs.Mlb.{path_from}
-use Rattle.mlc_cli.proofs.MlbLemmas.{Names-unique}
+use Rattle.mlc_cli.specs.declared.exit.Exit.TheVariants.{Ended, Uncaught, StepLimit, OutOfHeap, OutOfStack, Refused, Missing, ReadFailed, StoreFailed as Store_failed, OutFailed as Out_failed, NoMemory}
 
-module _ (usage : List ℕ) (words : List (List ℕ)) (c : Command) (is : IsCommand words c) (old new : Option Files) (reads reads' writes writes' : ℕ) (out out' : Option (List ℕ)) (faults faults' : ℕ) where
-  pub says : {e : Exit} {status : ℕ} {line : List ℕ} → Tells e status line → Exited e old new reads reads' writes writes' out out' faults faults' c → Says usage words old reads reads' status line
-  says tells_ended x = says_nothing
-  says tells_step_limit x = says_step_limit
-  says (tells_refused bad) x = says_refused (file_of bad) (c, is, x.2)
-  says (tells_no_line bad) x = says_no_memory
-  says (tells_missing path) x = says_missing _ (c, is, x.2)
-  says (tells_read_failed path) x = says_read_failed _ (c, is, x.2) x.3
-  says tells_store_failed x = says_write_failed
-  says tells_out_failed x = says_write_failed
-  says tells_no_memory x = says_no_memory
+module _ (words : List (List ℕ)) (c : Command) (is : IsCommand words c) (old new : Disk) (out out' : Stream) where
+  pub says : (usage : List ℕ) (e : Exit) → Exited e old new out out' c → Says usage words old.files old.read_faults new.read_faults (status_of e) (line_of e)
+  says usage Ended x = says_nothing
+  says usage (Uncaught vm) x = says_uncaught (told_name vm.stop vm.state)
+  says usage StepLimit x = says_step_limit
+  says usage OutOfHeap x = says_out_of_heap
+  says usage OutOfStack x = says_out_of_stack
+  says usage (Refused line) x = says_refused (string_bytes line) (c, is, x.0.1)
+  says usage (Missing path) x = says_missing (string_bytes path) (c, is, x.0.1)
+  says usage (ReadFailed path) x = says_read_failed (string_bytes path) (c, is, x.0.1) x.0.2
+  says usage Store_failed x = says_write_failed
+  says usage Out_failed x = says_write_failed
+  says usage NoMemory x = says_no_memory
 
-  pub is_command : {e : Exit} {status : ℕ} {line : List ℕ} → Tells e status line → Exited e old new reads reads' writes writes' out out' faults faults' c → status ≢ 64
-  is_command tells_ended x = λ e. absurd (omega arith)
-  is_command tells_step_limit x = λ e. absurd (omega arith)
-  is_command (tells_refused bad) x = λ e. absurd (omega arith)
-  is_command (tells_no_line bad) x = λ e. absurd (omega arith)
-  is_command (tells_missing path) x = λ e. absurd (omega arith)
-  is_command (tells_read_failed path) x = λ e. absurd (omega arith)
-  is_command tells_store_failed x = λ e. absurd (omega arith)
-  is_command tells_out_failed x = λ e. absurd (omega arith)
-  is_command tells_no_memory x = λ e. absurd (omega arith)
+  pub is_command : (e : Exit) → Exited e old new out out' c → status_of e ≢ 64
+  is_command Ended x = λ s. absurd (omega arith)
+  is_command (Uncaught vm) x = λ s. absurd (omega arith)
+  is_command StepLimit x = λ s. absurd (omega arith)
+  is_command OutOfHeap x = λ s. absurd (omega arith)
+  is_command OutOfStack x = λ s. absurd (omega arith)
+  is_command (Refused line) x = λ s. absurd (omega arith)
+  is_command (Missing path) x = λ s. absurd (omega arith)
+  is_command (ReadFailed path) x = λ s. absurd (omega arith)
+  is_command Store_failed x = λ s. absurd (omega arith)
+  is_command Out_failed x = λ s. absurd (omega arith)
+  is_command NoMemory x = λ s. absurd (omega arith)
 
-  pub when_ended : {e : Exit} {status : ℕ} {line : List ℕ} → Tells e status line → Exited e old new reads reads' writes writes' out out' faults faults' c → status ≡ 0 → ByCommand words (RanTo ended old new out out')
-  when_ended tells_ended x = λ e. (c, is, x)
-  when_ended tells_step_limit x = λ e. absurd (omega arith)
-  when_ended (tells_refused bad) x = λ e. absurd (omega arith)
-  when_ended (tells_no_line bad) x = λ e. absurd (omega arith)
-  when_ended (tells_missing path) x = λ e. absurd (omega arith)
-  when_ended (tells_read_failed path) x = λ e. absurd (omega arith)
-  when_ended tells_store_failed x = λ e. absurd (omega arith)
-  when_ended tells_out_failed x = λ e. absurd (omega arith)
-  when_ended tells_no_memory x = λ e. absurd (omega arith)
+  pub when_ended : (e : Exit) → Exited e old new out out' c → status_of e ≡ 0 → ByCommand words (RanTo ended old.files new.files out.bytes out'.bytes)
+  when_ended Ended x s = (c, is, x)
+  when_ended (Uncaught vm) x s = absurd (omega arith)
+  when_ended StepLimit x s = absurd (omega arith)
+  when_ended OutOfHeap x s = absurd (omega arith)
+  when_ended OutOfStack x s = absurd (omega arith)
+  when_ended (Refused line) x s = absurd (omega arith)
+  when_ended (Missing path) x s = absurd (omega arith)
+  when_ended (ReadFailed path) x s = absurd (omega arith)
+  when_ended Store_failed x s = absurd (omega arith)
+  when_ended Out_failed x s = absurd (omega arith)
+  when_ended NoMemory x s = absurd (omega arith)
 
-  pub when_limited : {e : Exit} {status : ℕ} {line : List ℕ} → Tells e status line → Exited e old new reads reads' writes writes' out out' faults faults' c → status ≡ 3 → ByCommand words (RanTo going old new out out')
-  when_limited tells_ended x = λ e. absurd (omega arith)
-  when_limited tells_step_limit x = λ e. (c, is, x)
-  when_limited (tells_refused bad) x = λ e. absurd (omega arith)
-  when_limited (tells_no_line bad) x = λ e. absurd (omega arith)
-  when_limited (tells_missing path) x = λ e. absurd (omega arith)
-  when_limited (tells_read_failed path) x = λ e. absurd (omega arith)
-  when_limited tells_store_failed x = λ e. absurd (omega arith)
-  when_limited tells_out_failed x = λ e. absurd (omega arith)
-  when_limited tells_no_memory x = λ e. absurd (omega arith)
+  pub when_uncaught : (e : Exit) → Exited e old new out out' c → (err err' : Option (List ℕ)) (faults faults' : ℕ) → Told (line_of e) err err' faults faults' → status_of e ≡ 1 → ByCommand words (ToldUncaught old.files new.files out.bytes out'.bytes err err' faults faults')
+  when_uncaught Ended x err err' faults faults' t s = absurd (omega arith)
+  when_uncaught (Uncaught vm) x err err' faults faults' t s = (c, is, record { name = told_name vm.stop vm.state; ran = x; told = t })
+  when_uncaught StepLimit x err err' faults faults' t s = absurd (omega arith)
+  when_uncaught OutOfHeap x err err' faults faults' t s = absurd (omega arith)
+  when_uncaught OutOfStack x err err' faults faults' t s = absurd (omega arith)
+  when_uncaught (Refused line) x err err' faults faults' t s = absurd (omega arith)
+  when_uncaught (Missing path) x err err' faults faults' t s = absurd (omega arith)
+  when_uncaught (ReadFailed path) x err err' faults faults' t s = absurd (omega arith)
+  when_uncaught Store_failed x err err' faults faults' t s = absurd (omega arith)
+  when_uncaught Out_failed x err err' faults faults' t s = absurd (omega arith)
+  when_uncaught NoMemory x err err' faults faults' t s = absurd (omega arith)
 
-  pub when_failed : {e : Exit} {status : ℕ} {line : List ℕ} → Tells e status line → Exited e old new reads reads' writes writes' out out' faults faults' c → status ≡ 8 → ByCommand words (WriteFailed old new writes writes' out out' faults faults')
-  when_failed tells_ended x = λ e. absurd (omega arith)
-  when_failed tells_step_limit x = λ e. absurd (omega arith)
-  when_failed (tells_refused bad) x = λ e. absurd (omega arith)
-  when_failed (tells_no_line bad) x = λ e. absurd (omega arith)
-  when_failed (tells_missing path) x = λ e. absurd (omega arith)
-  when_failed (tells_read_failed path) x = λ e. absurd (omega arith)
-  when_failed tells_store_failed x = λ e. (c, is, inl x)
-  when_failed tells_out_failed x = λ e. (c, is, inr x)
-  when_failed tells_no_memory x = λ e. absurd (omega arith)
+  pub when_limited : (e : Exit) → Exited e old new out out' c → status_of e ≡ 3 → ByCommand words (RanTo going old.files new.files out.bytes out'.bytes)
+  when_limited Ended x s = absurd (omega arith)
+  when_limited (Uncaught vm) x s = absurd (omega arith)
+  when_limited StepLimit x s = (c, is, x)
+  when_limited OutOfHeap x s = absurd (omega arith)
+  when_limited OutOfStack x s = absurd (omega arith)
+  when_limited (Refused line) x s = absurd (omega arith)
+  when_limited (Missing path) x s = absurd (omega arith)
+  when_limited (ReadFailed path) x s = absurd (omega arith)
+  when_limited Store_failed x s = absurd (omega arith)
+  when_limited Out_failed x s = absurd (omega arith)
+  when_limited NoMemory x s = absurd (omega arith)
 
-  by_command : (new ≡ old) ⊎ Built old new c → (new ≡ old) ⊎ ByCommand words (Built old new)
+  pub when_out_of_heap : (e : Exit) → Exited e old new out out' c → status_of e ≡ 4 → ByCommand words (RanTo no_heap old.files new.files out.bytes out'.bytes)
+  when_out_of_heap Ended x s = absurd (omega arith)
+  when_out_of_heap (Uncaught vm) x s = absurd (omega arith)
+  when_out_of_heap StepLimit x s = absurd (omega arith)
+  when_out_of_heap OutOfHeap x s = (c, is, x)
+  when_out_of_heap OutOfStack x s = absurd (omega arith)
+  when_out_of_heap (Refused line) x s = absurd (omega arith)
+  when_out_of_heap (Missing path) x s = absurd (omega arith)
+  when_out_of_heap (ReadFailed path) x s = absurd (omega arith)
+  when_out_of_heap Store_failed x s = absurd (omega arith)
+  when_out_of_heap Out_failed x s = absurd (omega arith)
+  when_out_of_heap NoMemory x s = absurd (omega arith)
+
+  pub when_out_of_stack : (e : Exit) → Exited e old new out out' c → status_of e ≡ 5 → ByCommand words (RanTo no_stack old.files new.files out.bytes out'.bytes)
+  when_out_of_stack Ended x s = absurd (omega arith)
+  when_out_of_stack (Uncaught vm) x s = absurd (omega arith)
+  when_out_of_stack StepLimit x s = absurd (omega arith)
+  when_out_of_stack OutOfHeap x s = absurd (omega arith)
+  when_out_of_stack OutOfStack x s = (c, is, x)
+  when_out_of_stack (Refused line) x s = absurd (omega arith)
+  when_out_of_stack (Missing path) x s = absurd (omega arith)
+  when_out_of_stack (ReadFailed path) x s = absurd (omega arith)
+  when_out_of_stack Store_failed x s = absurd (omega arith)
+  when_out_of_stack Out_failed x s = absurd (omega arith)
+  when_out_of_stack NoMemory x s = absurd (omega arith)
+
+  pub when_failed : (e : Exit) → Exited e old new out out' c → status_of e ≡ 8 → ByCommand words (WriteFailed old.files new.files old.write_faults new.write_faults out.bytes out'.bytes out.faults out'.faults)
+  when_failed Ended x s = absurd (omega arith)
+  when_failed (Uncaught vm) x s = absurd (omega arith)
+  when_failed StepLimit x s = absurd (omega arith)
+  when_failed OutOfHeap x s = absurd (omega arith)
+  when_failed OutOfStack x s = absurd (omega arith)
+  when_failed (Refused line) x s = absurd (omega arith)
+  when_failed (Missing path) x s = absurd (omega arith)
+  when_failed (ReadFailed path) x s = absurd (omega arith)
+  when_failed Store_failed x s = (c, is, inl x)
+  when_failed Out_failed x s = (c, is, inr x)
+  when_failed NoMemory x s = absurd (omega arith)
+
+  by_command : (new.files ≡ old.files) ⊎ Built old.files new.files c → (new.files ≡ old.files) ⊎ ByCommand words (Built old.files new.files)
   by_command (inl e) = inl e
   by_command (inr b) = inr (c, is, b)
 
-  pub when_no_memory : {e : Exit} {status : ℕ} {line : List ℕ} → Tells e status line → Exited e old new reads reads' writes writes' out out' faults faults' c → status ≡ 11 → (new ≡ old) ⊎ ByCommand words (Built old new)
-  when_no_memory tells_ended x = λ e. absurd (omega arith)
-  when_no_memory tells_step_limit x = λ e. absurd (omega arith)
-  when_no_memory (tells_refused bad) x = λ e. absurd (omega arith)
-  when_no_memory (tells_no_line bad) x = λ e. inl x.0
-  when_no_memory (tells_missing path) x = λ e. absurd (omega arith)
-  when_no_memory (tells_read_failed path) x = λ e. absurd (omega arith)
-  when_no_memory tells_store_failed x = λ e. absurd (omega arith)
-  when_no_memory tells_out_failed x = λ e. absurd (omega arith)
-  when_no_memory tells_no_memory x = λ e. by_command x.0
+  pub when_no_memory : (e : Exit) → Exited e old new out out' c → status_of e ≡ 11 → (new.files ≡ old.files) ⊎ ByCommand words (Built old.files new.files)
+  when_no_memory Ended x s = absurd (omega arith)
+  when_no_memory (Uncaught vm) x s = absurd (omega arith)
+  when_no_memory StepLimit x s = absurd (omega arith)
+  when_no_memory OutOfHeap x s = absurd (omega arith)
+  when_no_memory OutOfStack x s = absurd (omega arith)
+  when_no_memory (Refused line) x s = absurd (omega arith)
+  when_no_memory (Missing path) x s = absurd (omega arith)
+  when_no_memory (ReadFailed path) x s = absurd (omega arith)
+  when_no_memory Store_failed x s = absurd (omega arith)
+  when_no_memory Out_failed x s = absurd (omega arith)
+  when_no_memory NoMemory x s = by_command x.0
 
-  pub when_before_write : {e : Exit} {status : ℕ} {line : List ℕ} → Tells e status line → Exited e old new reads reads' writes writes' out out' faults faults' c → IsBeforeWrite status → new ≡ old
-  when_before_write tells_ended x = λ e. absurd (omega arith)
-  when_before_write tells_step_limit x = λ e. absurd (omega arith)
-  when_before_write (tells_refused bad) x = λ e. x.0
-  when_before_write (tells_no_line bad) x = λ e. x.0
-  when_before_write (tells_missing path) x = λ e. x.0
-  when_before_write (tells_read_failed path) x = λ e. x.0
-  when_before_write tells_store_failed x = λ e. absurd (omega arith)
-  when_before_write tells_out_failed x = λ e. absurd (omega arith)
-  when_before_write tells_no_memory x = λ e. absurd (omega arith)
+  pub when_before_write : (e : Exit) → Exited e old new out out' c → IsBeforeWrite (status_of e) → new.files ≡ old.files
+  when_before_write Ended x s = absurd (omega arith)
+  when_before_write (Uncaught vm) x s = absurd (omega arith)
+  when_before_write StepLimit x s = absurd (omega arith)
+  when_before_write OutOfHeap x s = absurd (omega arith)
+  when_before_write OutOfStack x s = absurd (omega arith)
+  when_before_write (Refused line) x s = x.0.0
+  when_before_write (Missing path) x s = x.0.0
+  when_before_write (ReadFailed path) x s = x.0.0
+  when_before_write Store_failed x s = absurd (omega arith)
+  when_before_write Out_failed x s = absurd (omega arith)
+  when_before_write NoMemory x s = absurd (omega arith)
 
-  pub when_before_run : {e : Exit} {status : ℕ} {line : List ℕ} → Tells e status line → Exited e old new reads reads' writes writes' out out' faults faults' c → IsBeforeRun status → Unwritten out out' faults faults'
-  when_before_run tells_ended x = λ e. absurd (omega arith)
-  when_before_run tells_step_limit x = λ e. absurd (omega arith)
-  when_before_run (tells_refused bad) x = λ e. x.1
-  when_before_run (tells_no_line bad) x = λ e. x.1
-  when_before_run (tells_missing path) x = λ e. x.1
-  when_before_run (tells_read_failed path) x = λ e. x.1
-  when_before_run tells_store_failed x = λ e. absurd (omega arith)
-  when_before_run tells_out_failed x = λ e. absurd (omega arith)
-  when_before_run tells_no_memory x = λ e. x.1
+  pub when_before_run : (e : Exit) → Exited e old new out out' c → IsBeforeRun (status_of e) → Unwritten out.bytes out'.bytes out.faults out'.faults
+  when_before_run Ended x s = absurd (omega arith)
+  when_before_run (Uncaught vm) x s = absurd (omega arith)
+  when_before_run StepLimit x s = absurd (omega arith)
+  when_before_run OutOfHeap x s = absurd (omega arith)
+  when_before_run OutOfStack x s = absurd (omega arith)
+  when_before_run (Refused line) x s = x.1
+  when_before_run (Missing path) x s = x.1
+  when_before_run (ReadFailed path) x s = x.1
+  when_before_run Store_failed x s = absurd (omega arith)
+  when_before_run Out_failed x s = absurd (omega arith)
+  when_before_run NoMemory x s = x.1
 
-  -- where the project is there, nothing but a count can stand against it
-  told : (P : Files → Type 0) (f : Files) → old ≡ Some f → IfTold old P → P f
+  -- where nothing breaks the project, only a count can stand against it
+  told : (P : Files → Type 0) (f : Files) → old.files ≡ Some f → IfTold old.files P → P f
   told P f e h = let h2 : IfTold (Some f) P = subst (λ o. IfTold o P) e h in h2
 
-  same_input : (d : Command) → IsCommand words d → d.input ≡ c.input
+  same_input : (d : Command) → IsCommand words d → c.input ≡ d.input
   same_input d other =
       let both : codes "exec" ∷ is.input ∷ is.output ∷ is.heap_word ∷ is.stack_word ∷ is.steps_word ∷ [] ≡ codes "exec" ∷ other.input ∷ other.output ∷ other.heap_word ∷ other.stack_word ∷ other.steps_word ∷ [] = sym is.words_are ∙ other.words_are in
       let input : is.input ≡ other.input = cc in
-      other.numbers.input_is ∙ sym input ∙ sym is.numbers.input_is
+      is.numbers.input_is ∙ input ∙ sym other.numbers.input_is
 
-  not_refused : (f : Files) (input : List ℕ) (project : Project) (file : File) → IsProject f input project → IsRefused f input file → ⊥
-  not_refused f input project file p (no_mlb {mlb = mlb} has none) =
-      let same : Some mlb ≡ Some p.mlb = sym has ∙ p.has_mlb in
-      let is_mlb : mlb ≡ p.mlb = cc in
-      none p.word (rw is_mlb p.names)
-  not_refused f input project file p (no_source {mlb = mlb} {word = word} {source = source} has names has_source none) =
-      let same : Some mlb ≡ Some p.mlb = sym has ∙ p.has_mlb in
-      let is_mlb : mlb ≡ p.mlb = cc in
-      let word_is : word ≡ p.word = Names-unique p.mlb word p.word (rw (← is_mlb) names) p.names in
-      let there : Some source ≡ Some p.source = sym has_source ∙ ap (λ w. get f (path_from input w)) word_is ∙ p.has_source in
-      let is_source : source ≡ p.source = cc in
-      none project.prints (rw is_source p.reads)
+  not_refused : (line : List ℕ) → IsReady words old.files → Refuses old.files c line → ⊥
+  not_refused line ready r =
+      let breaks = told (λ f. Breaks r.texts f c.input r.fault r.reads) ready.told ready.are r.breaks in
+      ready.unbroken r.texts r.fault r.reads (subst (λ i. Breaks r.texts ready.told i r.fault r.reads) (same_input ready.command ready.is_command) breaks)
 
-  not_missing : (f : Files) (input path : List ℕ) (project : Project) → IsProject f input project → IsNeeded f input path → get f path ≡ None → ⊥
-  not_missing f input path project p the_mlb none = let there = p.has_mlb in cc
-  not_missing f input path project p (the_source {mlb = mlb} {word = word} has names) none =
-      let same : Some mlb ≡ Some p.mlb = sym has ∙ p.has_mlb in
-      let is_mlb : mlb ≡ p.mlb = cc in
-      let word_is : word ≡ p.word = Names-unique p.mlb word p.word (rw (← is_mlb) names) p.names in
-      let there : get f (path_from input word) ≡ Some p.source = ap (λ w. get f (path_from input w)) word_is ∙ p.has_source in cc
+  not_missing : (path : List ℕ) → IsReady words old.files → Misses old.files c path → ⊥
+  not_missing path ready m =
+      let missing = told (λ f. IsMissing m.0 f c.input path) ready.told ready.are m.1 in
+      ready.there m.0 path (subst (λ i. IsMissing m.0 ready.told i path) (same_input ready.command ready.is_command) missing)
 
-  project_at : (ready : IsReady words old) → IsProject ready.told c.input ready.project
-  project_at ready = subst (λ i. IsProject ready.told i ready.project) (same_input ready.command ready.is_command) ready.is_project
-
-  pub when_ready : {e : Exit} {status : ℕ} {line : List ℕ} → Tells e status line → Exited e old new reads reads' writes writes' out out' faults faults' c → IsReady words old → ¬ (Rose reads reads') → ¬ (Rose writes writes') → ¬ (Rose faults faults') → IsRunOrMemory status
-  when_ready tells_ended x ready r w o = inl refl
-  when_ready tells_step_limit x ready r w o = inr (inl refl)
-  when_ready (tells_refused bad) x ready r w o = absurd (not_refused ready.told c.input ready.project (file_of bad) (project_at ready) (told (λ f. IsRefused f c.input (file_of bad)) ready.told ready.are x.2))
-  when_ready (tells_no_line bad) x ready r w o = inr (inr refl)
-  when_ready (tells_missing path) x ready r w o = let missing = told (λ f. IsMissing f c.input (string_bytes path)) ready.told ready.are x.2 in absurd (not_missing ready.told c.input (string_bytes path) ready.project (project_at ready) missing.is_needed missing.has_no_file)
-  when_ready (tells_read_failed path) x ready r w o = absurd (r x.3)
-  when_ready tells_store_failed x ready r w o = absurd (w x.0.rose)
-  when_ready tells_out_failed x ready r w o = absurd (o x.rose)
-  when_ready tells_no_memory x ready r w o = inr (inr refl)
+  pub when_ready : (e : Exit) → Exited e old new out out' c → IsReady words old.files → ¬ (Rose old.read_faults new.read_faults) → ¬ (Rose old.write_faults new.write_faults) → ¬ (Rose out.faults out'.faults) → IsRunOrMemory (status_of e)
+  when_ready Ended x ready r w o = inl refl
+  when_ready (Uncaught vm) x ready r w o = inr (inl refl)
+  when_ready StepLimit x ready r w o = inr (inr (inl refl))
+  when_ready OutOfHeap x ready r w o = inr (inr (inr (inl refl)))
+  when_ready OutOfStack x ready r w o = inr (inr (inr (inr (inl refl))))
+  when_ready (Refused line) x ready r w o = absurd (not_refused (string_bytes line) ready x.0.1)
+  when_ready (Missing path) x ready r w o = absurd (not_missing (string_bytes path) ready x.0.1)
+  when_ready (ReadFailed path) x ready r w o = absurd (r x.0.2)
+  when_ready Store_failed x ready r w o = absurd (w x.0.rose)
+  when_ready Out_failed x ready r w o = absurd (o x.rose)
+  when_ready NoMemory x ready r w o = inr (inr (inr (inr (inr refl))))

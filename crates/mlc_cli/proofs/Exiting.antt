@@ -1,52 +1,44 @@
--- The exits of a project's image.
-use Rattle.std.proofs.Common.{◌≡◌, ℕ, ◌⊎◌, inl, inr, List, Option, refl}
-use Rattle.mlc_outside.specs.Files.{Files}
+-- The exits of a command.
+use Rattle.std.proofs.Common.{◌≡◌, inl, inr, refl}
+use Rattle.mlc_outside.specs.Store.{with_file}
+use Rattle.ir_code.specs.ImageBytes.{image_bytes}
 use Rattle.ir_code.specs.Program.{Program}
 use Rattle.mlc_cli.specs.Command.{Command}
-use Rattle.mlc_cli.specs.Exits.{LoadExit, Exited}
-use Rattle.mlc_cli.specs.Project.{Project, IsProject, IfTold}
-use Rattle.mlc_cli.specs.Running.{Holds, Runs, Builds}
-use Rattle.mlc_cli.specs.Same.{Same}
-use Rattle.mlc_cli.specs.Statuses.{Built}
+use Rattle.mlc_cli.specs.Exits.{Unbuilt, Exited}
+use Rattle.mlc_cli.specs.Outside.{Disk, Stream}
+use Rattle.mlc_cli.specs.Running.{Runs}
+use Rattle.mlc_cli.specs.Statuses.{Compiles, Built}
 use Rattle.mlc_cli.specs.declared.exit.Exit.{Exit}
-use Rattle.mlc_cli.specs.declared.exit.Exit.TheVariants.{Ended, StepLimit, Refused, Missing, ReadFailed, StoreFailed, OutFailed, NoMemory}
+use Rattle.mlc_cli.specs.declared.exit.Exit.TheVariants.{Ended, Uncaught, StepLimit, OutOfHeap, OutOfStack, Refused, Missing, ReadFailed, StoreFailed, OutFailed, NoMemory}
 
-module _ (old new : Option Files) (reads reads' writes writes' : ℕ) (out out' : Option (List ℕ)) (faults faults' : ℕ) (c : Command) (image : Program) (project : Project) (is_project : IfTold old (λ f. IsProject f c.input project)) (same : Same project image) where
-  abbrev built : Holds c image old new → Built old new c
-  built h = record { image = image; compiles = record { project = project; is_project = is_project; is_program = h.is_program; same = same }; holds = h.holds }
+-- of a run, once the image is in its file
+module _ (old new : Disk) (out out' : Stream) (c : Command) (image : Program) (compiles : Compiles old.files c image) (holds : new.files ≡ with_file old.files c.output (image_bytes image)) where
+  abbrev built : Built old.files new.files c
+  built = record { image = image; compiles = compiles; holds = holds }
 
-  pub built-exit : (e : Exit) → Builds e c image old new writes writes' out out' faults faults' → Exited e old new reads reads' writes writes' out out' faults faults' c
-  built-exit Ended h = record { built = built h.0; output = h.1.0; ends = h.1.1 }
-  built-exit StepLimit h = record { built = built h.0; output = h.1.0; ends = h.1.1 }
-  built-exit (Refused bad) h = absurd h
-  built-exit (Missing path) h = absurd h
-  built-exit (ReadFailed path) h = absurd h
-  built-exit StoreFailed h = (record { image = image; compiles = record { project = project; is_project = is_project; is_program = h.0; same = same }; rose = h.1; others = h.2 }, h.3)
-  built-exit OutFailed h = record { built = built h.0; rose = h.1.rose; sent = h.1.sent; part = h.1.part; output = h.1.output }
-  built-exit NoMemory h = (go h.0, h.1)
-    where
-      go : (new ≡ old) ⊎ Holds c image old new → (new ≡ old) ⊎ Built old new c
-      go (inl e) = inl e
-      go (inr b) = inr (built b)
+  pub run-exit : (e : Exit) → Runs e c image out out' → Exited e old new out out' c
+  run-exit Ended r = record { built = built; output = r.0; ends = r.1 }
+  run-exit (Uncaught vm) r = record { built = built; output = r.0; ends = r.1 }
+  run-exit StepLimit r = record { built = built; output = r.0; ends = r.1 }
+  run-exit OutOfHeap r = record { built = built; output = r.0; ends = r.1 }
+  run-exit OutOfStack r = record { built = built; output = r.0; ends = r.1 }
+  run-exit (Refused line) r = absurd r
+  run-exit (Missing path) r = absurd r
+  run-exit (ReadFailed path) r = absurd r
+  run-exit StoreFailed r = absurd r
+  run-exit OutFailed r = record { built = built; rose = r.rose; sent = r.sent; part = r.part; output = r.output }
+  run-exit NoMemory r = (inr built, r)
 
--- an exit while the project is read
-pub loaded-exit : (e : Exit) (old new : Option Files) (reads reads' writes writes' : ℕ) (out : Option (List ℕ)) (faults : ℕ) (c : Command) → new ≡ old → LoadExit e old reads reads' c.input → Exited e old new reads reads' writes writes' out out faults faults c
-loaded-exit Ended old new reads reads' writes writes' out faults c same h = absurd h
-loaded-exit StepLimit old new reads reads' writes writes' out faults c same h = absurd h
-loaded-exit (Refused bad) old new reads reads' writes writes' out faults c same h = (same, (refl, refl), h)
-loaded-exit (Missing path) old new reads reads' writes writes' out faults c same h = (same, (refl, refl), h)
-loaded-exit (ReadFailed path) old new reads reads' writes writes' out faults c same h = (same, (refl, refl), h.0, h.1)
-loaded-exit StoreFailed old new reads reads' writes writes' out faults c same h = absurd h
-loaded-exit OutFailed old new reads reads' writes writes' out faults c same h = absurd h
-loaded-exit NoMemory old new reads reads' writes writes' out faults c same h = (inl same, (refl, refl))
-
--- the exit of a run, once the image is in its file
-pub done-exit : (e : Exit) (c : Command) (image : Program) (old new : Option Files) (writes writes' : ℕ) (out out' : Option (List ℕ)) (faults faults' : ℕ) → Runs e c image out out' faults faults' → Holds c image old new → Builds e c image old new writes writes' out out' faults faults'
-done-exit Ended c image old new writes writes' out out' faults faults' r h = (h, r)
-done-exit StepLimit c image old new writes writes' out out' faults faults' r h = (h, r)
-done-exit (Refused bad) c image old new writes writes' out out' faults faults' r h = r
-done-exit (Missing path) c image old new writes writes' out out' faults faults' r h = r
-done-exit (ReadFailed path) c image old new writes writes' out out' faults faults' r h = r
-done-exit StoreFailed c image old new writes writes' out out' faults faults' r h = absurd r
-done-exit OutFailed c image old new writes writes' out out' faults faults' r h = (h, r)
-done-exit NoMemory c image old new writes writes' out out' faults faults' r h = (inr h, r)
+-- before that: nothing was sent to out
+pub unbuilt-exit : (old new : Disk) (out : Stream) (c : Command) (e : Exit) → Unbuilt e old new c → Exited e old new out out c
+unbuilt-exit old new out c Ended h = absurd h
+unbuilt-exit old new out c (Uncaught vm) h = absurd h
+unbuilt-exit old new out c StepLimit h = absurd h
+unbuilt-exit old new out c OutOfHeap h = absurd h
+unbuilt-exit old new out c OutOfStack h = absurd h
+unbuilt-exit old new out c (Refused line) h = (h, (refl, refl))
+unbuilt-exit old new out c (Missing path) h = (h, (refl, refl))
+unbuilt-exit old new out c (ReadFailed path) h = (h, (refl, refl))
+unbuilt-exit old new out c StoreFailed h = (h, (refl, refl))
+unbuilt-exit old new out c OutFailed h = absurd h
+unbuilt-exit old new out c NoMemory h = (inl h, (refl, refl))

@@ -1,14 +1,5 @@
 pub mod Carried
 pub mod CommandWords
+pub mod Compiling
 pub mod Exiting
-pub mod Folders
-pub mod Images
-pub mod Loading
-pub mod MlbLemmas
-pub mod SameLemmas
-pub mod Small
-pub mod Sources
-pub mod Strings
 pub mod Tellings
-pub mod Texts
-pub mod Whole

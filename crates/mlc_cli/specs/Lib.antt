@@ -1,15 +1,6 @@
 pub mod Command
 pub mod CommandOf
-pub mod Constant
 pub mod Exits
-pub mod ImageOf
-pub mod Meaning
-pub mod Mlb
-pub mod Project
-pub mod Reading
+pub mod Outside
 pub mod Running
-pub mod Same
-pub mod Source
 pub mod Statuses
-pub mod Text
-pub mod Texts

@@ -1,52 +1,38 @@
--- What the runner says of an image, before it is known to be a project's.
-use Rattle.std.specs.Prelude.{◌≡◌, ℕ, ◌⊎◌, List, Option}
+-- What the runner says of an image.
+use Rattle.std.specs.Prelude.{◌≡◌, List, ℕ}
 use Rattle.mlc_outside.specs.Faults.{Rose}
-use Rattle.mlc_outside.specs.Files.{Files}
 use Rattle.mlc_outside.specs.Sink.{adds}
-use Rattle.mlc_outside.specs.Store.{with_file, OthersStay}
 use Rattle.ir_code.specs.Program.{Program}
-use Rattle.ir_code.specs.ImageBytes.{image_bytes, IsProgram}
-use Rattle.ir_code.specs.Run.{ended, going}
+use Rattle.ir_code.specs.Run.{End, ended, uncaught, no_heap, no_stack, going}
+use Rattle.heap_vm.specs.Loaded.{told_name}
+use Rattle.sml_rules.specs.Laws.{IsPrefix}
 use Rattle.mlc_cli.specs.Command.{Command}
-use Rattle.mlc_cli.specs.Same.{IsPrefix}
+use Rattle.mlc_cli.specs.Outside.{Stream}
 use Rattle.mlc_cli.specs.Statuses.{run_by, Unwritten}
 use Rattle.mlc_cli.specs.declared.exit.Exit.{Exit}
-use Rattle.mlc_cli.specs.declared.exit.Exit.TheVariants.{Ended, StepLimit, Refused, Missing, ReadFailed, StoreFailed, OutFailed, NoMemory}
+use Rattle.mlc_cli.specs.declared.exit.Exit.TheVariants.{Ended, Uncaught, StepLimit, OutOfHeap, OutOfStack, Refused, Missing, ReadFailed, StoreFailed, OutFailed, NoMemory}
 
--- a run that goes on or ends by itself
-abbrev pub GoesOrEnds : Command → Program → Type 0
-GoesOrEnds command image = ((run_by command image).end ≡ going) ⊎ ((run_by command image).end ≡ ended)
+-- the whole output of the run was written, and the run ended so
+abbrev pub Ran : End → Command → Program → Stream → Stream → Type 0
+Ran end c image out out' = (out'.bytes ≡ adds out.bytes (run_by c image).output) × ((run_by c image).end ≡ end)
 
 -- out failed, and took a prefix of the run's output
-pub record OutCut (command : Command) (image : Program) (out out' : Option (List ℕ)) (faults faults' : ℕ) : Type 0 where
-  pub rose : Rose faults faults'
+pub record OutCut (c : Command) (image : Program) (out out' : Stream) : Type 0 where
+  pub rose : Rose out.faults out'.faults
   pub sent : List ℕ
-  pub part : IsPrefix sent (run_by command image).output
-  pub output : out' ≡ adds out sent
+  pub part : IsPrefix sent (run_by c image).output
+  pub output : out'.bytes ≡ adds out.bytes sent
 
 -- the exit of a run of an image
-abbrev pub Runs : Exit → Command → Program → Option (List ℕ) → Option (List ℕ) → ℕ → ℕ → Type 0
-Runs Ended c image out out' faults faults' = (out' ≡ adds out (run_by c image).output) × ((run_by c image).end ≡ ended)
-Runs StepLimit c image out out' faults faults' = (out' ≡ adds out (run_by c image).output) × ((run_by c image).end ≡ going)
-Runs (Refused bad) c image out out' faults faults' = ⊥
-Runs (Missing path) c image out out' faults faults' = ⊥
-Runs (ReadFailed path) c image out out' faults faults' = ⊥
-Runs StoreFailed c image out out' faults faults' = ⊥
-Runs OutFailed c image out out' faults faults' = OutCut c image out out' faults faults'
-Runs NoMemory c image out out' faults faults' = Unwritten out out' faults faults'
-
--- the image is in its file, and all other files are as they were
-pub record Holds (c : Command) (image : Program) (old new : Option Files) : Type 0 where
-  pub is_program : IsProgram image
-  pub holds : new ≡ with_file old c.output (image_bytes image)
-
--- the exit of the writing and running of an image
-abbrev pub Builds : Exit → Command → Program → Option Files → Option Files → ℕ → ℕ → Option (List ℕ) → Option (List ℕ) → ℕ → ℕ → Type 0
-Builds Ended c image old new writes writes' out out' faults faults' = Holds c image old new × Runs Ended c image out out' faults faults'
-Builds StepLimit c image old new writes writes' out out' faults faults' = Holds c image old new × Runs StepLimit c image out out' faults faults'
-Builds (Refused bad) c image old new writes writes' out out' faults faults' = ⊥
-Builds (Missing path) c image old new writes writes' out out' faults faults' = ⊥
-Builds (ReadFailed path) c image old new writes writes' out out' faults faults' = ⊥
-Builds StoreFailed c image old new writes writes' out out' faults faults' = IsProgram image × Rose writes writes' × OthersStay c.output old new × Unwritten out out' faults faults'
-Builds OutFailed c image old new writes writes' out out' faults faults' = Holds c image old new × OutCut c image out out' faults faults'
-Builds NoMemory c image old new writes writes' out out' faults faults' = ((new ≡ old) ⊎ Holds c image old new) × Unwritten out out' faults faults'
+abbrev pub Runs : Exit → Command → Program → Stream → Stream → Type 0
+Runs Ended c image out out' = Ran ended c image out out'
+Runs (Uncaught vm) c image out out' = Ran (uncaught (told_name vm.stop vm.state)) c image out out'
+Runs StepLimit c image out out' = Ran going c image out out'
+Runs OutOfHeap c image out out' = Ran no_heap c image out out'
+Runs OutOfStack c image out out' = Ran no_stack c image out out'
+Runs (Refused line) c image out out' = ⊥
+Runs (Missing path) c image out out' = ⊥
+Runs (ReadFailed path) c image out out' = ⊥
+Runs StoreFailed c image out out' = ⊥
+Runs OutFailed c image out out' = OutCut c image out out'
+Runs NoMemory c image out out' = Unwritten out.bytes out'.bytes out.faults out'.faults

@@ -27,6 +27,11 @@ and runs it.
   STACK  words of the stack, 256 to 16777216
   STEPS  instructions to run at most, 0 to 18446744073709551615
 
+It ends with status 0 where the program ends, 1 where an exception that nothing handles ends it,
+2 where the project is refused, 3 after STEPS instructions, 4 and 5 where the heap or the stack is
+not enough, 6 and 7 where a file is missing or can't be read, 8 where one can't be written, and 11
+where there is no memory.
+
 For example: mlc exec examples/hello.mlb hello.mlx 4194304 65536 1000000000
 ";
 

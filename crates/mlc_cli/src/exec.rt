@@ -1,33 +1,34 @@
 // Compiling a project, writing its image and running it.
 
-ghost use Rattle.std.specs.Prelude.{◌≡◌, ◌^◌, ◌≤◌};
+ghost use Rattle.std.specs.Prelude.{◌≡◌, ◌≢◌, ◌^◌, ◌≤◌, IfOk, IfErr};
+ghost use Rattle.mlc_outside.specs.Store.{with_file};
+ghost use Rattle.ir_code.specs.ImageBytes.{image_bytes};
+ghost use Rattle.ir_code.specs.Run.{stuck};
 ghost use Rattle.mlc_cli.specs.CommandOf.{command_of};
-ghost use Rattle.mlc_cli.specs.Exits.{Exited};
-ghost use Rattle.mlc_cli.specs.ImageOf.{image_of, size_of};
-ghost use Rattle.mlc_cli.specs.Running.{GoesOrEnds, Runs, Builds};
-ghost use Rattle.mlc_cli.specs.Texts.{texts_of};
+ghost use Rattle.mlc_cli.specs.Exits.{Exited, Unbuilt};
+ghost use Rattle.mlc_cli.specs.Outside.{disk, stream};
+ghost use Rattle.mlc_cli.specs.Running.{Runs};
+ghost use Rattle.mlc_cli.specs.Statuses.{Compiles, run_by};
 
 use crate::command::Command;
+use crate::compile::compile_project;
 use crate::exit::Exit;
-use crate::load::load;
-use crate::translate::translate;
 use heap_vm::stop::Stop;
 use heap_vm::vm::Vm;
 use ir_code::image::Image;
-use ir_code::law;
 use ir_code::write::write_image;
 use mlc_base::memory::NoMemory;
 use mlc_outside::sink::Sink;
 use mlc_outside::store::{Store, Wrote};
 use std::alloc::Global;
 
-/// Runs an image, which is known to go on or to end by itself.
+/// Runs an image, which is known not to get stuck.
 fn run<O: Sink>(alloc: Global, command: &Command, image: Image, out: &mut O) -> Exit
     requires heap { command.now.heap ≤ 2 ^ 28 }
     requires stack { command.now.stack ≤ 2 ^ 24 }
-    requires goes { GoesOrEnds (command_of command.now) image }
+    requires goes { (run_by (command_of command.now) image).end ≢ stuck }
     ensures { Runs result (command_of command.now) image
-        (O.written out.old) (O.written out.new) (O.faults out.old) (O.faults out.new) }
+        (stream (O.written out.old) (O.faults out.old)) (stream (O.written out.new) (O.faults out.new)) }
 {
     match Vm::new(alloc, image, command.heap, command.stack) {
         Err(NoMemory) => Exit::NoMemory,
@@ -35,41 +36,35 @@ fn run<O: Sink>(alloc: Global, command: &Command, image: Image, out: &mut O) -> 
             let mut vm = vm;
             match vm.run(command.steps, out) {
                 Stop::Ended => Exit::Ended,
+                Stop::Uncaught => Exit::Uncaught(vm),
                 Stop::Steps => Exit::StepLimit,
+                Stop::NoHeap => Exit::OutOfHeap,
+                Stop::NoStack => Exit::OutOfStack,
                 Stop::WriteFault => Exit::OutFailed,
-                Stop::Uncaught => unreachable!(),
-                Stop::NoHeap => unreachable!(),
-                Stop::NoStack => unreachable!(),
                 Stop::Stuck => unreachable!(),
             }
         }
     }
 }
 
-/// Writes the image that prints these strings, and runs it.
-fn build<S: Store, O: Sink>(
-    alloc: Global,
-    command: &Command,
-    texts: &[Vec<u8>],
-    store: &mut S,
-    out: &mut O,
-) -> Exit
-    requires heap { command.now.heap ≤ 2 ^ 28 }
-    requires stack { command.now.stack ≤ 2 ^ 24 }
-    requires size { size_of (texts_of texts.now) ≤ 2 ^ 27 }
-    requires goes { GoesOrEnds (command_of command.now) (image_of (texts_of texts.now)) }
-    ensures { Builds result (command_of command.now) (image_of (texts_of texts.now))
-        (S.files store.old) (S.files store.new) (S.write_faults store.old) (S.write_faults store.new)
-        (O.written out.old) (O.written out.new) (O.faults out.old) (O.faults out.new) }
+/// Compiles the project of a command, and writes its image.
+fn build<S: Store>(alloc: Global, command: &Command, store: &mut S) -> Result<Image, Exit>
+    ensures compiled { IfOk result (λ image. Compiles (S.files store.old) (command_of command.now) image) }
+    ensures written { IfOk result (λ image. S.files store.new
+        ≡ with_file (S.files store.old) command.now.output.now (image_bytes image)) }
+    ensures exit { IfErr result (λ exit. Unbuilt exit
+        (disk (S.files store.old) (S.read_faults store.old) (S.write_faults store.old))
+        (disk (S.files store.new) (S.read_faults store.new) (S.write_faults store.new))
+        (command_of command.now)) }
 {
-    match translate(alloc, texts) {
-        Err(NoMemory) => Exit::NoMemory,
+    match compile_project(alloc, command, store) {
+        Err(exit) => Err(exit),
         Ok(image) => match write_image(alloc, &image) {
-            Err(NoMemory) => Exit::NoMemory,
+            Err(NoMemory) => Err(Exit::NoMemory),
             Ok(bytes) => match store.write(alloc, command.output, &bytes) {
-                Wrote::Done => run(alloc, command, image, out),
-                Wrote::Failed => Exit::StoreFailed,
-                Wrote::Memory => Exit::NoMemory,
+                Wrote::Done => Ok(image),
+                Wrote::Failed => Err(Exit::StoreFailed),
+                Wrote::Memory => Err(Exit::NoMemory),
             },
         },
     }
@@ -77,18 +72,18 @@ fn build<S: Store, O: Sink>(
 
 /// Compiles the project of a command, writes its image and runs it.
 pub fn exec<S: Store, O: Sink>(alloc: Global, command: &Command, store: &mut S, out: &mut O) -> Exit
-    requires heap { command.now.heap ≤ 2 ^ 28 }
+    requires heap_least { 2 ^ 10 ≤ command.now.heap }
+    requires heap_most { command.now.heap ≤ 2 ^ 28 }
     requires stack_least { 2 ^ 8 ≤ command.now.stack }
     requires stack_most { command.now.stack ≤ 2 ^ 24 }
-    ensures { Exited result (S.files store.old) (S.files store.new)
-        (S.read_faults store.old) (S.read_faults store.new) (S.write_faults store.old) (S.write_faults store.new)
-        (O.written out.old) (O.written out.new) (O.faults out.old) (O.faults out.new) (command_of command.now) }
+    ensures { Exited result
+        (disk (S.files store.old) (S.read_faults store.old) (S.write_faults store.old))
+        (disk (S.files store.new) (S.read_faults store.new) (S.write_faults store.new))
+        (stream (O.written out.old) (O.faults out.old)) (stream (O.written out.new) (O.faults out.new))
+        (command_of command.now) }
 {
-    law::begins();
-    law::control();
-    law::memory();
-    match load(alloc, command.input, store) {
+    match build(alloc, command, store) {
         Err(exit) => exit,
-        Ok(texts) => build(alloc, command, &texts, store, out),
+        Ok(image) => run(alloc, command, image, out),
     }
 }

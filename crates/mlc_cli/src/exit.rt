@@ -1,21 +1,26 @@
 // How the program ends, before it is told.
 
-/// A file that isn't of its form.
-#[derive(Drop)]
-pub struct BadFile {
-    pub path: String,
-    pub bytes: Vec<u8>,
-}
+ghost use Rattle.std.specs.Prelude.{◌≡◌};
+ghost use Rattle.mlc_cli.specs.declared.exit.Exit.TheVariants.{NoMemory as no_memory};
+
+use heap_vm::vm::Vm;
+use mlc_base::memory::NoMemory;
 
 /// How the program ends.
 #[derive(Drop)]
 pub enum Exit {
     /// The run ended.
     Ended,
+    /// An exception that nothing handles ended the run of this machine.
+    Uncaught(Vm),
     /// The run goes on after the steps that were asked for.
     StepLimit,
-    /// A file isn't of its form.
-    Refused(BadFile),
+    /// The heap was not enough for the run.
+    OutOfHeap,
+    /// The stack was not enough for the run.
+    OutOfStack,
+    /// The project is refused, as this line tells.
+    Refused(String),
     /// A path that is needed has no file.
     Missing(String),
     /// A path that is needed could not be read.
@@ -26,4 +31,12 @@ pub enum Exit {
     OutFailed,
     /// There was no memory.
     NoMemory,
+}
+
+impl From<NoMemory> for Exit {
+    ghost from_gives = { λ _ exit. exit ≡ no_memory };
+
+    fn from(_error: NoMemory) -> Exit {
+        Exit::NoMemory
+    }
 }

@@ -1,6 +1,6 @@
 // The files of the system.
 
-ghost use Rattle.std.specs.Prelude.{None};
+ghost use Rattle.std.specs.Prelude.{◌≡◌, None};
 
 use mlc_outside::store::{Read, Store, Wrote};
 use std::alloc::Global;
@@ -24,7 +24,10 @@ pub struct FileStore<'a, R> {
 
 impl<'a, R: Files> FileStore<'a, R> {
     /// The files of this runtime, with no faults so far.
-    pub fn new(runtime: &'a R) -> FileStore<'a, R> {
+    pub fn new(runtime: &'a R) -> FileStore<'a, R>
+        ensures no_read_faults { ⟦<FileStore<'a, R> as Store>⟧.read_faults result ≡ 0 }
+        ensures no_write_faults { ⟦<FileStore<'a, R> as Store>⟧.write_faults result ≡ 0 }
+    {
         FileStore {
             runtime,
             read_faults: 0,

@@ -2,20 +2,15 @@
 #![tactic(auto)]
 
 mod command;
+mod compile;
 mod exec;
 mod exit;
 mod file_store;
-mod load;
-mod mlb;
-mod path;
 mod program;
 mod say;
-mod source;
 mod standard;
 #[cfg(test)]
 mod tests;
-mod text;
-mod translate;
 
 use crate::file_store::FileStore;
 use crate::program::mlc_main;

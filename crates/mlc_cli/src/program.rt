@@ -2,9 +2,9 @@
 
 ghost use Rattle.std.specs.Prelude.{◌≡◌, ◌⊎◌, ◌↔◌, ℕ, List};
 ghost use Rattle.mlc_outside.specs.Faults.{Rose};
-ghost use Rattle.ir_code.specs.Run.{ended, going};
+ghost use Rattle.ir_code.specs.Run.{ended, going, no_heap, no_stack};
 ghost use Rattle.mlc_cli.specs.CommandOf.{words_of};
-ghost use Rattle.mlc_cli.specs.Statuses.{NoCommand, ByCommand, Built, RanTo, WriteFailed, Unwritten, Says, Told, IsBeforeRun, IsBeforeWrite, IsReady, IsRunOrMemory};
+ghost use Rattle.mlc_cli.specs.Statuses.{NoCommand, ByCommand, Built, RanTo, ToldUncaught, WriteFailed, Unwritten, Says, Told, IsBeforeRun, IsBeforeWrite, IsReady, IsRunOrMemory};
 
 use crate::command::{USAGE, read_command};
 use crate::exec::exec;
@@ -30,8 +30,15 @@ pub fn mlc_main<S: Store, O: Sink, E: Sink>(
     // A run was reached.
     ensures ended { result ≡ 0 → ByCommand (words_of words.now)
         (RanTo ended (S.files store.old) (S.files store.new) (O.written out.old) (O.written out.new)) }
+    ensures uncaught { result ≡ 1 → ByCommand (words_of words.now)
+        (ToldUncaught (S.files store.old) (S.files store.new) (O.written out.old) (O.written out.new)
+        (E.written err.old) (E.written err.new) (E.faults err.old) (E.faults err.new)) }
     ensures step_limit { result ≡ 3 → ByCommand (words_of words.now)
         (RanTo going (S.files store.old) (S.files store.new) (O.written out.old) (O.written out.new)) }
+    ensures out_of_heap { result ≡ 4 → ByCommand (words_of words.now)
+        (RanTo no_heap (S.files store.old) (S.files store.new) (O.written out.old) (O.written out.new)) }
+    ensures out_of_stack { result ≡ 5 → ByCommand (words_of words.now)
+        (RanTo no_stack (S.files store.old) (S.files store.new) (O.written out.old) (O.written out.new)) }
     ensures write_failed { result ≡ 8 → ByCommand (words_of words.now)
         (WriteFailed (S.files store.old) (S.files store.new) (S.write_faults store.old) (S.write_faults store.new)
         (O.written out.old) (O.written out.new) (O.faults out.old) (O.faults out.new)) }
@@ -57,7 +64,7 @@ pub fn mlc_main<S: Store, O: Sink, E: Sink>(
         }
         Some(command) => {
             let exit = exec(alloc, &command, store, out);
-            tell(alloc, exit, err)
+            tell(exit, err)
         }
     }
 }

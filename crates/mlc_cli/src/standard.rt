@@ -1,6 +1,6 @@
 // The standard output and the standard error.
 
-ghost use Rattle.std.specs.Prelude.{None};
+ghost use Rattle.std.specs.Prelude.{◌≡◌, None};
 
 use mlc_outside::sink::{Put, Sink};
 use std::io::Print;
@@ -14,7 +14,9 @@ pub struct Stream<P> {
 
 impl<P: Print> Stream<P> {
     /// This stream, with no faults so far.
-    pub fn new(stream: P) -> Stream<P> {
+    pub fn new(stream: P) -> Stream<P>
+        ensures { ⟦<Stream<P> as Sink>⟧.faults result ≡ 0 }
+    {
         Stream { stream, faults: 0 }
     }
 }

@@ -1,0 +1,122 @@
+-- The answers of checking and of compiling a project.
+use Rattle.std.proofs.Common.{◌≡◌, ◌≢◌, ℕ, ◌+◌, ◌*◌, ◌^◌, ◌<◌, ◌≤◌, ◌⊎◌, max, List, Option, Some, None, Result, Ok, Err, refl, subst, sym, ap, ◌∙◌, arith, min}
+use Rattle.mlc_base.specs.File.{File}
+use Rattle.mlc_base.specs.Outcome.{Outcome}
+use Rattle.mlc_base.specs.Outcome as source
+use Rattle.mlc_base.specs.declared.code.Code.TheVariants.{NotCompiled, ExpansionTooLarge}
+use Rattle.mlc_base.specs.declared.fault.Fault as base
+use Rattle.mlc_base.specs.declared.place.Place.{Place}
+use Rattle.mlc_base.specs.declared.refused.Refused.{Refused}
+use Rattle.mlc_base.specs.declared.refused.Refused.TheVariants as refusal
+use Rattle.mlc_outside.specs.Files.{Files}
+use Rattle.ir_code.specs.Program.{Program}
+use Rattle.ir_code.specs.Run.{RunResult, run_of}
+use Rattle.ir_code.specs.Run as machine
+use Rattle.sml_rules.specs.Basis.{IsTable, text_in}
+use Rattle.sml_rules.specs.Broken as rules
+use Rattle.sml_rules.specs.Broken.{FirstBroken, Checks, IsRefused, max_nodes}
+use Rattle.sml_rules.specs.Laws.{IsPrefix, GrowsTo, NeverWrong, MeaningGrows, PhrasesAreTyped}
+use Rattle.sml_rules.specs.Meaning.{meaning}
+use Rattle.sml_rules.specs.Phrases.{Phrase, first_foreign, parts_phrases, nodes_in}
+use Rattle.sml_rules.specs.Project.{Part}
+use Rattle.mlb_reader.specs.Project.{ProjectOf}
+use Rattle.mlb_reader.specs.Broken.{IsBroken}
+use Rattle.mlb_reader.specs.Refusals.{IfTold, IfLoadFault}
+use Rattle.mlb_reader.specs.Within.{AllPlacedIn}
+use Rattle.mlb_reader.specs.declared.refused.LoadRefused.{LoadRefused}
+use Rattle.mlb_reader.specs.declared.refused.LoadRefused.TheVariants as load
+use Rattle.mlc_driver.specs.Checked.{Project, IsChecked, Passes, Stops, by_form, by_rule, Breaks, in_loading, in_project}
+use Rattle.mlc_driver.specs.Code.{AllFit, image_of, size_of}
+use Rattle.mlc_driver.specs.CodeLaws.{ImageIsRight, ImageIsSmall, IsRight}
+use Rattle.mlc_driver.specs.Fault.{IfFault}
+use Rattle.mlc_driver.specs.Same.{Same, SameRuns, SameResult, IsOver, IsExhausted}
+use Rattle.mlc_driver.specs.Statics.{Statics, Taped, nothing_known}
+use Rattle.mlc_driver.specs.Tape.{Op, tape_meaning}
+use Rattle.mlc_driver.proofs.Checks.{taped-types}
+use Rattle.mlc_driver.proofs.Means.{tape-means}
+use Rattle.mlc_driver.proofs.Places.{foreign-placed, broken-placed}
+
+pub stops-foreign : (texts : List (List ℕ)) (xs : List Phrase) (p : Place) → first_foreign xs ≡ Some p → Stops texts xs (record { code = NotCompiled; place = p; name = None })
+stops-foreign texts xs p e = by_form e
+
+pub stops-ruled : {T : Type 0} (texts : List (List ℕ)) (xs : List Phrase) (r : Result T Refused) → first_foreign xs ≡ None → IfFault r (λ f. FirstBroken texts xs f) → IfFault r (λ f. Stops texts xs f)
+stops-ruled texts xs (Ok x) e b = tt
+stops-ruled texts xs (Err (refusal.Fault f)) e b = by_rule e b
+stops-ruled texts xs (Err refusal.Memory) e b = tt
+
+-- a project whose phrases all pass is checked
+pub passes-checked : PhrasesAreTyped → (texts : List (List ℕ)) (parts : List Part) (xs : List Phrase) (ops : List Op) (nodes : ℕ) → xs ≡ parts_phrases parts → IsTable texts → Passes texts xs ops
+    → nodes ≡ min (nodes_in xs) (max_nodes + 1) → IsChecked texts (record { parts = parts; tape = ops; nodes = nodes })
+passes-checked typed texts parts xs ops nodes are table passes count =
+    let native : first_foreign (parts_phrases parts) ≡ None = subst (λ ys. first_foreign ys ≡ None) are passes.native in
+    let taped : Taped texts nothing_known (parts_phrases parts) ops passes.known = subst (λ ys. Taped texts nothing_known ys ops passes.known) are passes.taped in
+    record {
+      table = table;
+      checks = record { native = native; elaborates = (typed texts parts native).1 (taped-types texts (parts_phrases parts) ops passes.known taped) };
+      known = passes.known;
+      taped = taped;
+      nodes = subst (λ ys. nodes ≡ min (nodes_in ys) (max_nodes + 1)) are count;
+    }
+
+-- the fault of phrases refuses the project
+stops-refused : (texts : List (List ℕ)) (parts : List Part) (xs : List Phrase) (f : base.Fault) → xs ≡ parts_phrases parts → Stops texts xs f → IsRefused texts parts f
+stops-refused texts parts xs f are (by_form {p = p} e) = rules.by_form (subst (λ ys. first_foreign ys ≡ Some p) are e)
+stops-refused texts parts xs f are (by_rule e b) = rules.by_rule (subst (λ ys. first_foreign ys ≡ None) are e) (subst (λ ys. FirstBroken texts ys f) are b)
+
+pub stops-breaks : (texts : List (List ℕ)) (files : Files) (input : List ℕ) (parts : List Part) (reads : List File) (xs : List Phrase) (f : base.Fault) → xs ≡ parts_phrases parts → ProjectOf texts files input parts reads
+    → Stops texts xs f → Breaks texts files input f reads
+stops-breaks texts files input parts reads xs f are project stops = in_project parts project (stops-refused texts parts xs f are stops)
+
+over-limit : (n count : ℕ) → n ≡ min count (2 ^ 20 + 1) → 2 ^ 20 < n → 2 ^ 20 < count
+over-limit n count is lt = omega (arith, is, lt)
+
+pub size-refused : (texts : List (List ℕ)) (p : Project) → IsChecked texts p → max_nodes < p.nodes → IsRefused texts p.parts (record { code = ExpansionTooLarge; place = record { file = 0; byte = 0 }; name = None })
+size-refused texts p c lt = rules.by_size c.checks.native c.checks.elaborates (over-limit p.nodes (nodes_in (parts_phrases p.parts)) c.nodes lt)
+
+-- a machine's runs are those of one meaning as of an equal one
+same-means : (text_of : ℕ → List ℕ) (a b : ℕ → Outcome) (run : ℕ → RunResult) → ((m : ℕ) → a m ≡ b m) → SameRuns text_of a run → SameRuns text_of b run
+same-means text_of a b run e s = record {
+  meaning_ends = λ m over. subst (λ o. ((n : ℕ) × SameResult text_of o (run n)) ⊎ ((n : ℕ) × IsExhausted (run n).end × IsPrefix (run n).output o.output)) (e m) (s.meaning_ends m (subst (λ o. IsOver o.end) (sym (e m)) over));
+  run_ends = λ n over. let r = s.run_ends n over in (r.0, subst (λ o. SameResult text_of o (run n)) (e r.0) r.1);
+  run_goes_on = λ n going. let r = s.run_goes_on n going in (r.0, subst (λ o. IsPrefix (run n).output o.output) (e r.0) r.1);
+  meaning_goes_on = λ m going. subst (λ o. ((n : ℕ) × IsPrefix o.output (run n).output) ⊎ ((n : ℕ) × IsExhausted (run n).end)) (e m) (s.meaning_goes_on m (ap (λ o. o.end) (e m) ∙ going));
+  never_stuck = s.never_stuck;
+  never_wrong = λ m wrong. s.never_wrong m (ap (λ o. o.end) (e m) ∙ wrong);
+  exhausted_after_prefix = λ n x. let r = s.exhausted_after_prefix n x in (r.0, subst (λ o. IsPrefix (run n).output o.output) (e r.0) r.1);
+}
+
+-- the image of a checked project's tape ends as the project does
+pub checked-same : NeverWrong → MeaningGrows → ImageIsRight → (texts : List (List ℕ)) (p : Project) → IsChecked texts p → AllFit p.tape → size_of p.tape ≤ 2 ^ 27 → Same texts p.parts (image_of p.tape)
+checked-same wrong grows right texts p c fit small heap stack h1 h2 s1 s2 =
+    let e = tape-means texts p.parts p.tape c.known c.checks.native c.taped in
+    let is : IsRight texts p.tape = record {
+      never_wrong = λ m w. wrong texts p.parts m c.checks.native c.checks.elaborates (sym (ap (λ o. o.end) (e m)) ∙ w);
+      grows = λ m n le. subst (λ o. GrowsTo o (tape_meaning texts p.tape n)) (sym (e m)) (subst (λ o. GrowsTo (meaning texts p.parts m) o) (sym (e n)) (grows texts p.parts m n le));
+    } in
+    same-means (text_in texts) (tape_meaning texts p.tape) (meaning texts p.parts) (run_of (image_of p.tape) heap stack) e (right texts p.tape heap stack c.table fit small is h2)
+
+few-words : (n count size : ℕ) → n ≡ min count (2 ^ 20 + 1) → n ≤ 2 ^ 20 → size ≤ 128 * max 1 count → size ≤ 2 ^ 27
+few-words n count size is le small = omega (arith, is, le, small)
+
+-- a project within the limit has a small image
+pub small-tape : ImageIsSmall → (texts : List (List ℕ)) (p : Project) → IsChecked texts p → p.nodes ≤ max_nodes → size_of p.tape ≤ 2 ^ 27
+small-tape small texts p c le = few-words p.nodes (nodes_in (parts_phrases p.parts)) (size_of p.tape) c.nodes le (small texts nothing_known c.known (parts_phrases p.parts) p.tape c.taped)
+
+-- what loading answers
+pub loading-breaks : (T U : Type 0) (texts : List (List ℕ)) (told : Option Files) (input : List ℕ) (reads : List File) (e : LoadRefused) → IfLoadFault {T = T} (Err e) (λ f. IfTold told (λ fs. IsBroken texts fs input f reads))
+    → IfLoadFault {T = U} (Err e) (λ f. IfTold told (λ fs. Breaks texts fs input f reads))
+loading-breaks T U texts told input reads (load.NoFile path) h = tt
+loading-breaks T U texts told input reads (load.ReadFault path) h = tt
+loading-breaks T U texts None input reads (load.Fault f) h = tt
+loading-breaks T U texts (Some fs) input reads (load.Fault f) h = in_loading h
+loading-breaks T U texts told input reads load.Memory h = tt
+
+pub parts-break : (texts texts' : List (List ℕ)) → texts' ≡ texts → (told : Option Files) (input : List ℕ) (parts : List Part) (reads : List File) (f : base.Fault) → IfTold told (λ fs. ProjectOf texts fs input parts reads)
+    → Stops texts (parts_phrases parts) f → IfTold told (λ fs. Breaks texts' fs input f reads)
+parts-break texts texts' same None input parts reads f project stops = tt
+parts-break texts texts' same (Some fs) input parts reads f project stops =
+    subst (λ t. Breaks t fs input f reads) (sym same) (stops-breaks texts fs input parts reads (parts_phrases parts) f refl project stops)
+
+pub stops-placed : (P : Place → Type 0) → P (record { file = 0; byte = 0 }) → (texts : List (List ℕ)) (xs : List Phrase) (f : base.Fault) → AllPlacedIn P xs → Stops texts xs f → P f.place
+stops-placed P zero texts xs f h (by_form e) = foreign-placed P xs h e
+stops-placed P zero texts xs f h (by_rule e b) = broken-placed P zero texts xs f b h

@@ -1,0 +1,45 @@
+-- A checked project, and why a project is refused.
+use Rattle.std.specs.Prelude.{◌≡◌, ℕ, ◌+◌, min, List, Some, None}
+use Rattle.mlc_base.specs.File.{File}
+use Rattle.mlc_base.specs.declared.code.Code.TheVariants.{NotCompiled}
+use Rattle.mlc_base.specs.declared.fault.Fault.{Fault}
+use Rattle.mlc_base.specs.declared.place.Place.{Place}
+use Rattle.mlc_outside.specs.Files.{Files}
+use Rattle.mlb_reader.specs.Broken.{IsBroken}
+use Rattle.mlb_reader.specs.Project.{ProjectOf}
+use Rattle.sml_rules.specs.Basis.{IsTable}
+use Rattle.sml_rules.specs.Broken.{Checks, IsRefused, FirstBroken, max_nodes}
+use Rattle.sml_rules.specs.Phrases.{Phrase, parts_phrases, nodes_in, first_foreign}
+use Rattle.sml_rules.specs.Project.{Part}
+use Rattle.mlc_driver.specs.Statics.{Statics, Taped, nothing_known}
+use Rattle.mlc_driver.specs.Tape.{Op}
+
+-- what a checked project holds: its parts, its tape, and how many nodes it has, up to one more than the limit
+pub record Project : Type 0 where
+  pub parts : List Part
+  pub tape : List Op
+  pub nodes : ℕ
+
+-- the project is of the language that is compiled so far and elaborates; its phrases gave the tape
+pub record IsChecked (texts : List (List ℕ)) (p : Project) : Type 0 where
+  pub table : IsTable texts
+  pub checks : Checks texts p.parts
+  pub known : Statics
+  pub taped : Taped texts nothing_known (parts_phrases p.parts) p.tape known
+  pub nodes : p.nodes ≡ min (nodes_in (parts_phrases p.parts)) (max_nodes + 1)
+
+-- why the project of the files at a path is refused, with the files that were read: in loading, or by the static rules and limits
+pub data Breaks (texts : List (List ℕ)) (files : Files) (input : List ℕ) : Fault → List File → Type 0 where
+  in_loading : {f : Fault} {reads : List File} → IsBroken texts files input f reads → Breaks texts files input f reads
+  in_project : {f : Fault} {reads : List File} (parts : List Part) → ProjectOf texts files input parts reads → IsRefused texts parts f → Breaks texts files input f reads
+
+-- phrases of the language that is compiled so far all pass, and give this tape
+pub record Passes (texts : List (List ℕ)) (xs : List Phrase) (ops : List Op) : Type 0 where
+  pub native : first_foreign xs ≡ None
+  pub known : Statics
+  pub taped : Taped texts nothing_known xs ops known
+
+-- the first fault of phrases: that of a foreign one, or of the first that breaks a rule
+pub data Stops (texts : List (List ℕ)) (xs : List Phrase) : Fault → Type 0 where
+  by_form : {p : Place} → first_foreign xs ≡ Some p → Stops texts xs (record { code = NotCompiled; place = p; name = None })
+  by_rule : {f : Fault} → first_foreign xs ≡ None → FirstBroken texts xs f → Stops texts xs f

@@ -1,0 +1,12 @@
+pub mod Checked
+pub mod CheckedOf
+pub mod Checker
+pub mod Code
+pub mod CodeLaws
+pub mod CodeOf
+pub mod Fault
+pub mod PhraseOf
+pub mod Same
+pub mod Statics
+pub mod Tape
+pub mod TapeOf
