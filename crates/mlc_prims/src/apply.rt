@@ -5,7 +5,7 @@ ghost use Rattle.mlc_prims.specs.LitOf.{lits_of, ints_in, strings_in, as_ints, a
 ghost use Rattle.mlc_prims.specs.PrimOf.{exact, int_result, joined, prim_of, HasRow, AreShort, Meets, MeetsRow};
 
 use crate::lit::Lit;
-use crate::prim::{Primitive, PrimExn};
+use crate::prim::{PrimExn, Primitive};
 use mlc_base::memory::NoMemory;
 use std::alloc::Global;
 

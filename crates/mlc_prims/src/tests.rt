@@ -4,7 +4,7 @@ ghost use Rattle.std.specs.Prelude.{◌≤◌, length};
 
 use crate::apply::{Applied, apply_prim};
 use crate::lit::Lit;
-use crate::prim::{Primitive, PrimExn, numbers_are_one_to_one};
+use crate::prim::{PrimExn, Primitive, numbers_are_one_to_one};
 use mlc_base::memory::NoMemory;
 use std::alloc::Global;
 use std::test::Fail;
