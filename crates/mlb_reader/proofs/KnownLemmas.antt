@@ -1,0 +1,108 @@
+-- Names of phrases are held, and their places lie in files.
+use Rattle.std.proofs.Common.{◌≡◌, ℕ, zero, suc, ◌+◌, ◌<◌, ◌≤◌, List, [], ◌∷◌, ◌++◌, length, map, get_or, All, Option, Some, None, refl, ap, subst, sym, ◌∙◌, arith, append_assoc}
+use Rattle.std.specs.Option.{ForSome}
+use Rattle.std.proofs.lemmas.List.{get_or_default}
+use Rattle.std.proofs.lemmas.List.Elements.{All-append, All-cons, All-nil, All-same, All-weaker}
+use Rattle.mlc_base.specs.File.{File}
+use Rattle.mlc_base.specs.Files.{LiesIn}
+use Rattle.mlc_base.specs.declared.place.Place.{Place}
+use Rattle.mlc_base.specs.declared.token.Token.{Token}
+use Rattle.mlc_base.specs.declared.token.TokenKind.{TokenKind}
+use Rattle.mlc_base.specs.declared.token.TokenKind.TheVariants as kind
+use Rattle.sml_lexer.specs.Lexeme.{HoldsNames}
+use Rattle.sml_lexer.specs.Lexes.{HoldsAllNames, Rises}
+use Rattle.sml_lexer.specs.NameTable.{Keeps}
+use Rattle.sml_lexer.proofs.NameLemmas.{keeps_no_fewer}
+use Rattle.sml_tree.specs.BareTree.{Decs}
+use Rattle.sml_tree.specs.Fixity.{Fixity}
+use Rattle.sml_tree.specs.TreeOf.{dec_of, decs_of}
+use Rattle.sml_tree.specs.declared.tree.Dec.{Dec}
+use Rattle.sml_parser.specs.Core.{IsCore}
+use Rattle.sml_parser.specs.Left.{left}
+use Rattle.sml_parser.specs.declared.source.Source.{Source}
+use Rattle.sml_rules.specs.Phrases.{Phrase, brings_basis, decs_phrases, parts_phrases}
+use Rattle.sml_rules.specs.Project.{Part, source, standard_basis}
+use Rattle.mlb_reader.specs.Loading.{Grows, IsKnown, IsPlaceOf}
+use Rattle.mlb_reader.specs.Project.{Loaded, most_bytes}
+use Rattle.mlb_reader.specs.Within.{AllPlacedIn, HoldsAll, HoldsName, PlacedIn, phrase_name, phrase_place}
+use Rattle.mlb_reader.proofs.FileLemmas.{lies-grown, lies-last}
+use Rattle.mlb_reader.proofs.SourceLemmas.{token-within}
+use Rattle.mlb_reader.proofs.Within.{decs-hold, decs-placed}
+use Rattle.mlb_reader.proofs.WithinTokens.{kind_name, terminals-hold, terminals-placed}
+
+-- One source.
+
+none-held : (count : ℕ) → ForSome None (λ n. n < count)
+none-held count x e = absurd (let no : None ≡ Some x = e in cc)
+
+some-held : (count n : ℕ) → n < count → ForSome (Some n) (λ n. n < count)
+some-held count n h x e = let same : n ≡ x = cc in subst (λ m. m < count) same h
+
+kind-holds : (texts : List (List ℕ)) (k : TokenKind) → HoldsNames texts k → ForSome (kind_name k) (λ n. n < length texts)
+kind-holds texts (kind.Reserved r) h = none-held (length texts)
+kind-holds texts (kind.Int value plain) h = none-held (length texts)
+kind-holds texts (kind.Word w) h = none-held (length texts)
+kind-holds texts (kind.Char c) h = none-held (length texts)
+kind-holds texts (kind.Str s) h = none-held (length texts)
+kind-holds texts (kind.Ident x) h = some-held (length texts) x h
+kind-holds texts (kind.Symbol x) h = some-held (length texts) x h
+kind-holds texts (kind.LongIdent qs x) h = some-held (length texts) x h.1
+kind-holds texts (kind.LongSymbol qs x) h = some-held (length texts) x h.1
+kind-holds texts (kind.TypeVar x) h = none-held (length texts)
+kind-holds texts (kind.EqTypeVar x) h = none-held (length texts)
+
+module _ (s : Source) (f f' : Fixity) (tokens : List Token) (decs : List Dec) (h : IsCore f s tokens decs f') where
+  pub source-holds : (texts : List (List ℕ)) → HoldsAllNames texts tokens → HoldsAll (length texts) (decs_phrases (decs_of (map dec_of decs)))
+  source-holds texts held =
+      let kinds = All-weaker (λ (t : Token). HoldsNames texts t.kind) (λ t. ForSome (kind_name t.kind) (λ n. n < length texts)) (λ t k. kind-holds texts t.kind k) tokens held in
+      subst (λ ds. HoldsAll (length texts) (decs_phrases ds)) (sym h.bare) (decs-hold (length texts) s.file f (left s tokens) h.tree h.is.reads (terminals-hold (length texts) s.star tokens kinds))
+
+  pub source-placed : (size : ℕ) → Rises 0 tokens size → AllPlacedIn (IsPlaceOf s.file size) (decs_phrases (decs_of (map dec_of decs)))
+  source-placed size rises =
+      let within : All (λ (t : Token). IsPlaceOf s.file size (record { file = s.file; byte = t.span.first })) tokens = λ k d lt. (refl, token-within 0 size tokens k (get_or tokens k d) rises lt (get_or_default tokens k d _ lt)) in
+      subst (λ ds. AllPlacedIn (IsPlaceOf s.file size) (decs_phrases ds)) (sym h.bare)
+      (decs-placed (IsPlaceOf s.file size) s.file f (left s tokens) h.tree h.is.reads (terminals-placed (λ p. IsPlaceOf s.file size (record { file = s.file; byte = p })) s.star tokens within))
+
+-- What was loaded.
+
+phrases-append : (ps qs : List Part) → parts_phrases (ps ++ qs) ≡ parts_phrases ps ++ parts_phrases qs
+phrases-append [] qs = refl
+phrases-append (standard_basis ∷ ps) qs = ap (λ xs. brings_basis ∷ xs) (phrases-append ps qs)
+phrases-append (source ds ∷ ps) qs = ap (λ xs. decs_phrases ds ++ xs) (phrases-append ps qs) ∙ sym (append_assoc (decs_phrases ds) (parts_phrases ps) (parts_phrases qs))
+
+more-hold : (a b : ℕ) (xs : List Phrase) → a ≤ b → HoldsAll a xs → HoldsAll b xs
+more-hold a b xs le h = All-weaker (HoldsName a) (HoldsName b) (λ x k n e. omega (arith, k n e, le)) xs h
+
+more-placed : (P Q : Place → Type 0) (xs : List Phrase) → ((p : Place) → P p → Q p) → AllPlacedIn P xs → AllPlacedIn Q xs
+more-placed P Q xs w h = All-weaker (PlacedIn P) (PlacedIn Q) (λ x k p e. w p (k p e)) xs h
+
+module _ (a b : List (List ℕ)) (keeps : Keeps a b) (s : Loaded) (known : IsKnown a s) (reads : List File) (grows : Grows s.reads reads) where
+  more-known : (fixities : Fixity) (parts : List Part) → HoldsAll (length b) (parts_phrases parts) → AllPlacedIn (λ place. LiesIn place reads) (parts_phrases parts) → IsKnown b (record { fixities = fixities; parts = s.parts ++ parts; reads = reads })
+  more-known fixities parts held placed = record {
+    held = All-same (HoldsName (length b)) (parts_phrases (s.parts ++ parts)) (parts_phrases s.parts ++ parts_phrases parts) (phrases-append s.parts parts)
+      (All-append (HoldsName (length b)) (parts_phrases s.parts) (parts_phrases parts) (more-hold (length a) (length b) (parts_phrases s.parts) (keeps_no_fewer a b keeps) known.held) held);
+    placed = All-same (PlacedIn (λ place. LiesIn place reads)) (parts_phrases (s.parts ++ parts)) (parts_phrases s.parts ++ parts_phrases parts) (phrases-append s.parts parts)
+      (All-append (PlacedIn (λ place. LiesIn place reads)) (parts_phrases s.parts) (parts_phrases parts)
+      (more-placed (λ place. LiesIn place s.reads) (λ place. LiesIn place reads) (parts_phrases s.parts) (λ place lies. lies-grown place s.reads reads grows lies) known.placed) placed);
+  }
+
+  pub basis-known : (fixities : Fixity) (e : Loaded) → e ≡ record { fixities = fixities; parts = s.parts ++ standard_basis ∷ []; reads = reads } → IsKnown b e
+  basis-known fixities e same =
+      let held : HoldsAll (length b) (brings_basis ∷ []) = All-cons (HoldsName (length b)) brings_basis [] (none-held (length b)) (All-nil (HoldsName (length b))) in
+      let placed : AllPlacedIn (λ place. LiesIn place reads) (brings_basis ∷ []) = All-cons (PlacedIn (λ place. LiesIn place reads)) brings_basis [] (λ p k. absurd (let no : None ≡ Some p = k in cc)) (All-nil (PlacedIn (λ place. LiesIn place reads))) in
+      subst (IsKnown b) (sym same) (more-known fixities (standard_basis ∷ []) held placed)
+
+  pub source-known : (fixities : Fixity) (ds : Decs) (file : File) (number size : ℕ) (e : Loaded) → reads ≡ s.reads ++ file ∷ [] → number ≡ length s.reads → size ≡ length file.bytes → length file.bytes ≤ most_bytes →
+      HoldsAll (length b) (decs_phrases ds) → AllPlacedIn (IsPlaceOf number size) (decs_phrases ds) → e ≡ record { fixities = fixities; parts = s.parts ++ source ds ∷ []; reads = reads } → IsKnown b e
+  source-known fixities ds file number size e added at sized small held placed same =
+      let nothing : List Phrase = [] in
+      let all_held = All-append (HoldsName (length b)) (decs_phrases ds) nothing held (All-nil (HoldsName (length b))) in
+      let lies = more-placed (IsPlaceOf number size) (λ place. LiesIn place reads) (decs_phrases ds) (λ place h. lies-last place s.reads reads file added (h.0 ∙ at) (omega (arith, h.1, sized)) small) placed in
+      let all_placed = All-append (PlacedIn (λ place. LiesIn place reads)) (decs_phrases ds) nothing lies (All-nil (PlacedIn (λ place. LiesIn place reads))) in
+      subst (IsKnown b) (sym same) (more-known fixities (source ds ∷ []) all_held all_placed)
+
+pub nothing-known : (texts : List (List ℕ)) (s : Loaded) → s.parts ≡ [] → IsKnown texts s
+nothing-known texts s e = record {
+  held = subst (λ ps. HoldsAll (length texts) (parts_phrases ps)) (sym e) (All-nil (HoldsName (length texts)));
+  placed = subst (λ ps. AllPlacedIn (λ place. LiesIn place s.reads) (parts_phrases ps)) (sym e) (All-nil (PlacedIn (λ place. LiesIn place s.reads)));
+}

@@ -1,0 +1,13 @@
+pub mod BasisOf
+pub mod Broken
+pub mod Counting
+pub mod Loading
+pub mod Mlb
+pub mod MlbOf
+pub mod PartOf
+pub mod Path
+pub mod Project
+pub mod Reading
+pub mod Refusals
+pub mod Segments
+pub mod Within

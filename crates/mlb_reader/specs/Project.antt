@@ -1,0 +1,122 @@
+-- The project that files give at a path. [ML Basis, Semantics]
+use Rattle.std.specs.Prelude.{◌≡◌, ◌≢◌, ℕ, ◌+◌, ◌^◌, ◌<◌, ◌≤◌, Bool, true, false, List, [], ◌∷◌, ◌++◌, length, map, Option, Some, None, ⊤, codes, slice_get}
+use Rattle.std.specs.FinMap.{get}
+use Rattle.mlc_base.specs.File.{File}
+use Rattle.mlc_base.specs.declared.token.Token.{Token}
+use Rattle.mlc_outside.specs.Files.{Files}
+use Rattle.sml_lexer.specs.Lexes.{Lexes, lexed_of, HoldsAllNames}
+use Rattle.sml_tree.specs.Terminal.{terminals}
+use Rattle.sml_tree.specs.Fixity.{Fixity}
+use Rattle.sml_tree.specs.ReadTree as read
+use Rattle.sml_tree.specs.BareTree.{Decs}
+use Rattle.sml_tree.specs.Bare.{bare_decs}
+use Rattle.sml_tree.specs.Levels.{after}
+use Rattle.sml_parser.specs.Core.{Shallow}
+use Rattle.sml_rules.specs.Basis.{IsTable, identifier_of, standard_fixities}
+use Rattle.sml_rules.specs.Project.{Part, standard_basis, source}
+use Rattle.mlb_reader.specs.Mlb.{Item, IsMlb, basis_path, has_variable, is_source}
+use Rattle.mlb_reader.specs.Path.{clean, path_from}
+
+-- limits: reads of files, the ML Basis file's among them; bytes of one file; bytes of all files together
+abbrev pub most_reads : ℕ
+most_reads = 4096
+
+abbrev pub most_bytes : ℕ
+most_bytes = 2 ^ 24
+
+abbrev pub most_bytes_together : ℕ
+most_bytes_together = 2 ^ 28
+
+abbrev pub bytes_in : List File → ℕ
+bytes_in [] = 0
+bytes_in (file ∷ files) = length file.bytes + bytes_in files
+
+-- after the files read so far one of these bytes is within the limits
+pub record Fits (reads : List File) (bytes : List ℕ) : Type 0 where
+  pub small : length bytes ≤ most_bytes
+  pub together : bytes_in reads + length bytes ≤ most_bytes_together
+
+-- the terminals of a source, where `*` is the identifier that is written so
+pub record HasTokens (texts : List (List ℕ)) (bytes : List ℕ) (tokens : List Token) : Type 0 where
+  pub lexes : Lexes bytes (map (lexed_of texts) tokens)
+  pub held : HoldsAllNames texts tokens
+
+abbrev pub star_in : List (List ℕ) → ℕ
+star_in texts = identifier_of texts (codes "*")
+
+-- a source of these bytes, the file of this number, is these declarations under the fixities f, and f' are the fixities after it
+pub record IsSource (texts : List (List ℕ)) (file : ℕ) (f : Fixity) (bytes : List ℕ) (ds : Decs) (f' : Fixity) : Type 0 where
+  pub tokens : List Token
+  pub has_tokens : HasTokens texts bytes tokens
+  pub tree : read.Decs
+  pub is : Shallow f (terminals (star_in texts) tokens) tree
+  pub bare : ds ≡ bare_decs file tree
+  pub after : f' ≡ after f tree
+
+-- what was loaded: the fixities in force, the parts, and the files that were read, in order
+pub record Loaded : Type 0 where
+  pub fixities : Fixity
+  pub parts : List Part
+  pub reads : List File
+
+abbrev pub with_basis : List (List ℕ) → Loaded → Loaded
+with_basis texts s = record s { fixities = standard_fixities texts ++ s.fixities; parts = s.parts ++ standard_basis ∷ [] }
+
+abbrev pub with_source : File → Decs → Fixity → Loaded → Loaded
+with_source file ds f s = record { fixities = f; parts = s.parts ++ source ds ∷ []; reads = s.reads ++ file ∷ [] }
+
+-- the path is a source's, and one more file may be read
+pub record MayRead (s : Loaded) (item : Item) : Type 0 where
+  pub no_variable : has_variable item.word ≡ false
+  pub extension : is_source item.word ≡ true
+  pub room : length s.reads < most_reads
+
+-- the file at a source's path is read
+pub record IsRead (files : Files) (mlb : List ℕ) (s : Loaded) (item : Item) (file : File) : Type 0 where
+  pub may : MayRead s item
+  pub path : file.path ≡ path_from mlb item.word
+  pub has : get files file.path ≡ Some file.bytes
+  pub fits : Fits s.reads file.bytes
+
+-- paths of the ML Basis file at the path mlb, loaded one after the other
+pub data Loads (texts : List (List ℕ)) (files : Files) (mlb : List ℕ) : Loaded → List Item → Loaded → Type 0 where
+  no_item : (s : Loaded) → Loads texts files mlb s [] s
+  the_basis : {s s' : Loaded} {item : Item} {items : List Item} → item.word ≡ basis_path → Loads texts files mlb (with_basis texts s) items s' → Loads texts files mlb s (item ∷ items) s'
+  a_source : {s s' : Loaded} {item : Item} {items : List Item} (file : File) {ds : Decs} {f : Fixity} → IsRead files mlb s item file →
+      IsSource texts (length s.reads) s.fixities file.bytes ds f → Loads texts files mlb (with_source file ds f s) items s' → Loads texts files mlb s (item ∷ items) s'
+
+-- before the first path: the ML Basis file was read, and its basis is empty
+abbrev pub begun : File → Loaded
+begun file = record { fixities = []; parts = []; reads = file ∷ [] }
+
+-- the ML Basis file at a path
+pub record HasMlb (files : Files) (input : List ℕ) (file : File) (items : List Item) : Type 0 where
+  pub path : file.path ≡ clean input
+  pub has : get files file.path ≡ Some file.bytes
+  pub fits : Fits [] file.bytes
+  pub is : IsMlb file.bytes items
+
+-- loading comes to a path of the ML Basis file, with nothing broken before it
+pub record ComesTo (texts : List (List ℕ)) (files : Files) (input : List ℕ) (s : Loaded) (item : Item) : Type 0 where
+  pub table : IsTable texts
+  pub file : File
+  pub before : List Item
+  pub rest : List Item
+  pub has_mlb : HasMlb files input file (before ++ item ∷ rest)
+  pub loads : Loads texts files file.path (begun file) before s
+
+-- the files give this project at the path, and these are the reads of it
+pub record ProjectOf (texts : List (List ℕ)) (files : Files) (input : List ℕ) (parts : List Part) (reads : List File) : Type 0 where
+  pub table : IsTable texts
+  pub file : File
+  pub items : List Item
+  pub last : Loaded
+  pub has_mlb : HasMlb files input file items
+  pub loads : Loads texts files file.path (begun file) items last
+  pub parts_are : parts ≡ last.parts
+  pub reads_are : reads ≡ last.reads
+
+-- the paths that loading comes to read
+pub data IsNeeded (texts : List (List ℕ)) (files : Files) (input : List ℕ) : List ℕ → Type 0 where
+  the_mlb : IsNeeded texts files input (clean input)
+  of_source : {s : Loaded} {item : Item} (to : ComesTo texts files input s item) → MayRead s item → IsNeeded texts files input (path_from (clean input) item.word)
