@@ -1,8 +1,8 @@
 -- How much was read.
-use Rattle.std.proofs.Common.{◌≡◌, ℕ, ◌+◌, ◌<◌, ◌≤◌, List, [], ◌∷◌, ◌++◌, length, refl, ap, sym, ◌∙◌, arith, length-append}
+use Rattle.std.proofs.Common.{◌≡◌, ℕ, ◌+◌, ◌<◌, ◌≤◌, List, [], ◌∷◌, ◌++◌, length, ap, ◌∙◌, arith, length-append}
 use Rattle.mlc_base.specs.File.{File}
 use Rattle.mlb_reader.specs.Counting.{IsCount, KeepsFile}
-use Rattle.mlb_reader.specs.Project.{Fits, bytes_in, most_bytes, most_bytes_together, most_reads}
+use Rattle.mlb_reader.specs.Project.{bytes_in, most_bytes, most_bytes_together, most_reads}
 use Rattle.mlb_reader.specs.declared.counts.Counts.{Counts}
 
 bytes-in-more : (files : List File) (file : File) → bytes_in (files ++ file ∷ []) ≡ bytes_in files + length file.bytes

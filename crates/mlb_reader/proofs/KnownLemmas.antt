@@ -1,5 +1,5 @@
 -- Names of phrases are held, and their places lie in files.
-use Rattle.std.proofs.Common.{◌≡◌, ℕ, zero, suc, ◌+◌, ◌<◌, ◌≤◌, List, [], ◌∷◌, ◌++◌, length, map, get_or, All, Option, Some, None, refl, ap, subst, sym, ◌∙◌, arith, append_assoc}
+use Rattle.std.proofs.Common.{◌≡◌, ℕ, ◌<◌, ◌≤◌, List, [], ◌∷◌, ◌++◌, length, map, get_or, All, Some, None, refl, ap, subst, sym, ◌∙◌, arith, append_assoc}
 use Rattle.std.specs.Option.{ForSome}
 use Rattle.std.proofs.lemmas.List.{get_or_default}
 use Rattle.std.proofs.lemmas.List.Elements.{All-append, All-cons, All-nil, All-same, All-weaker}
@@ -24,7 +24,7 @@ use Rattle.sml_rules.specs.Phrases.{Phrase, brings_basis, decs_phrases, parts_ph
 use Rattle.sml_rules.specs.Project.{Part, source, standard_basis}
 use Rattle.mlb_reader.specs.Loading.{Grows, IsKnown, IsPlaceOf}
 use Rattle.mlb_reader.specs.Project.{Loaded, most_bytes}
-use Rattle.mlb_reader.specs.Within.{AllPlacedIn, HoldsAll, HoldsName, PlacedIn, phrase_name, phrase_place}
+use Rattle.mlb_reader.specs.Within.{AllPlacedIn, HoldsAll, HoldsName, PlacedIn}
 use Rattle.mlb_reader.proofs.FileLemmas.{lies-grown, lies-last}
 use Rattle.mlb_reader.proofs.SourceLemmas.{token-within}
 use Rattle.mlb_reader.proofs.Within.{decs-hold, decs-placed}
@@ -80,10 +80,10 @@ module _ (a b : List (List ℕ)) (keeps : Keeps a b) (s : Loaded) (known : IsKno
   more-known : (fixities : Fixity) (parts : List Part) → HoldsAll (length b) (parts_phrases parts) → AllPlacedIn (λ place. LiesIn place reads) (parts_phrases parts) → IsKnown b (record { fixities = fixities; parts = s.parts ++ parts; reads = reads })
   more-known fixities parts held placed = record {
     held = All-same (HoldsName (length b)) (parts_phrases (s.parts ++ parts)) (parts_phrases s.parts ++ parts_phrases parts) (phrases-append s.parts parts)
-      (All-append (HoldsName (length b)) (parts_phrases s.parts) (parts_phrases parts) (more-hold (length a) (length b) (parts_phrases s.parts) (keeps_no_fewer a b keeps) known.held) held);
+        (All-append (HoldsName (length b)) (parts_phrases s.parts) (parts_phrases parts) (more-hold (length a) (length b) (parts_phrases s.parts) (keeps_no_fewer a b keeps) known.held) held);
     placed = All-same (PlacedIn (λ place. LiesIn place reads)) (parts_phrases (s.parts ++ parts)) (parts_phrases s.parts ++ parts_phrases parts) (phrases-append s.parts parts)
-      (All-append (PlacedIn (λ place. LiesIn place reads)) (parts_phrases s.parts) (parts_phrases parts)
-      (more-placed (λ place. LiesIn place s.reads) (λ place. LiesIn place reads) (parts_phrases s.parts) (λ place lies. lies-grown place s.reads reads grows lies) known.placed) placed);
+        (All-append (PlacedIn (λ place. LiesIn place reads)) (parts_phrases s.parts) (parts_phrases parts)
+        (more-placed (λ place. LiesIn place s.reads) (λ place. LiesIn place reads) (parts_phrases s.parts) (λ place lies. lies-grown place s.reads reads grows lies) known.placed) placed);
   }
 
   pub basis-known : (fixities : Fixity) (e : Loaded) → e ≡ record { fixities = fixities; parts = s.parts ++ standard_basis ∷ []; reads = reads } → IsKnown b e

@@ -1,5 +1,5 @@
 -- Loading, path by path.
-use Rattle.std.proofs.Common.{◌≡◌, ◌≢◌, ℕ, ◌+◌, ◌<◌, ◌≤◌, Bool, true, false, List, [], ◌∷◌, ◌++◌, length, map, take, drop, get_or, All, Option, Some, None, nat_lt, if◌then◌else◌, refl, ap, subst, sym, ◌∙◌, arith, append_assoc}
+use Rattle.std.proofs.Common.{◌≡◌, ◌≢◌, ℕ, ◌+◌, ◌<◌, ◌≤◌, Bool, true, false, List, [], ◌∷◌, ◌++◌, length, map, take, drop, get_or, All, Option, Some, None, nat_lt, if◌then◌else◌, refl, ap, subst, sym, ◌∙◌, arith}
 use Rattle.std.specs.FinMap.{get}
 use Rattle.std.proofs.lemmas.Bool.{ltb-true, ltb-false}
 use Rattle.std.proofs.lemmas.List.{take_more, take_all, take-append-drop, drop_more, get_or-map}
@@ -12,11 +12,11 @@ use Rattle.mlc_outside.specs.Store.{HasFile}
 use Rattle.sml_lexer.specs.NameTable.{Keeps}
 use Rattle.sml_tree.specs.BareTree.{Decs}
 use Rattle.sml_tree.specs.Fixity.{Fixity}
-use Rattle.sml_rules.specs.Basis.{IsTable, standard_fixities}
+use Rattle.sml_rules.specs.Basis.{IsTable}
 use Rattle.sml_rules.specs.Project.{Part, source}
 use Rattle.mlb_reader.specs.Broken.{IsBad, IsBroken, IsMissing, fault_at, large_mlb, no_mlb, variable, extension, too_many, too_large, bad_source}
 use Rattle.mlb_reader.specs.Loading.{BreaksAt, BreaksFirst, IsBegun, IsFetched, IsTooLarge, MissesAt, NeedsAt, path_fault}
-use Rattle.mlb_reader.specs.Mlb.{Item, IsMlb, basis_path, has_variable, is_source}
+use Rattle.mlb_reader.specs.Mlb.{Item, basis_path, has_variable, is_source}
 use Rattle.mlb_reader.specs.MlbOf.{IsNoMlb, IsWord, item_of}
 use Rattle.mlb_reader.specs.Path.{clean, path_from}
 use Rattle.mlb_reader.specs.Project.{ComesTo, Fits, HasMlb, IsNeeded, IsRead, IsSource, Loaded, Loads, MayRead, ProjectOf, a_source, begun, most_reads, no_item, of_source, the_basis, the_mlb, with_basis, with_source}
@@ -168,16 +168,6 @@ module _ (mlb : List ℕ) (reads : List File) (none : reads ≡ []) where
         let no : IsNoMlb h.file.bytes = subst IsNoMlb are bad in
         let broken : IsBroken texts f input (fault_at MlbSyntax 0 0) (h.file ∷ []) = no_mlb h.file (h.path_is ∙ sym same) has fits no in
         subst (λ r. IsBroken texts f input fault r) (sym added) (subst (λ x. IsBroken texts f input x (h.file ∷ [])) (sym (is ∙ ap (λ n. fault_at MlbSyntax n 0) zero)) broken)
-
-    pub mlb-begun : (files : Option Files) (h : IsFetched files mlb number counts reads new) (bytes : List ℕ) (items : List Item) → bytes ≡ h.file.bytes → IsMlb bytes items → IsBegun files mlb items new
-    mlb-begun files h bytes items are is = record {
-      file = h.file;
-      path_is = h.path_is;
-      has = h.has;
-      reads_are = h.added ∙ ap (λ r. r ++ h.file ∷ []) none;
-      fits = subst (λ r. Fits r h.file.bytes) none h.fits;
-      is = subst (λ b. IsMlb b items) are is;
-    }
 
 -- The whole.
 

@@ -1,5 +1,5 @@
 -- Reading an ML Basis file word by word.
-use Rattle.std.proofs.Common.{◌≡◌, ◌≢◌, ℕ, suc, ◌+◌, ◌<◌, ◌≤◌, Bool, true, false, not, ◌&&◌, ◌==◌, List, [], ◌∷◌, ◌++◌, length, take, drop, get_or, refl, ap, subst, sym, ◌∙◌, arith, cond, add-one, append-nil, append_assoc, length-append}
+use Rattle.std.proofs.Common.{◌≡◌, ℕ, suc, ◌+◌, ◌<◌, ◌≤◌, Bool, true, false, not, ◌&&◌, List, [], ◌∷◌, ◌++◌, length, take, drop, get_or, refl, ap, subst, sym, ◌∙◌, arith, cond, append-nil, append_assoc, length-append}
 use Rattle.std.specs.List.{All, list_all, prefix_len}
 use Rattle.std.proofs.lemmas.Bool.Decides.{nat_tests}
 use Rattle.std.proofs.lemmas.List.Elements.{All-cons, All-nil}
@@ -88,9 +88,6 @@ from-path at b i text items (a_path n word {i = j} {items = js} p q r) e h = rec
 pub record ReadTo (bytes : List ℕ) (items : List Item) (at : ℕ) : Type 0 where
   pub on : (later : List Item) → Reads at (drop at bytes) later → Reads 0 bytes (items ++ later)
   pub only : (all : List Item) → Reads 0 bytes all → (later : List Item) × Reads at (drop at bytes) later
-
-pub read-nothing : (bytes : List ℕ) → ReadTo bytes [] 0
-read-nothing bytes = record { on = λ later r. r; only = λ all r. (all, r) }
 
 pub read-blank : (bytes : List ℕ) (items : List Item) (at : ℕ) → at < length bytes → is_blank (get_or bytes at 0) ≡ true → ReadTo bytes items at → ReadTo bytes items (at + 1)
 read-blank bytes items at h blank to =

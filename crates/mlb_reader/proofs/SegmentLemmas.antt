@@ -1,10 +1,10 @@
 -- Segments of paths.
-use Rattle.std.proofs.Common.{◌≡◌, ℕ, ◌+◌, ◌<◌, ◌≤◌, Bool, true, false, not, ◌||◌, ◌==◌, List, [], ◌∷◌, ◌++◌, map, reverse, length, take, drop, get_or, codes, refl, ap, sym, ◌∙◌, arith, cond, if◌then◌else◌}
+use Rattle.std.proofs.Common.{◌≡◌, ℕ, ◌+◌, ◌<◌, ◌≤◌, Bool, true, false, ◌==◌, List, [], ◌∷◌, ◌++◌, length, take, drop, get_or, refl, ap, sym, ◌∙◌, arith, cond, if◌then◌else◌}
 use Rattle.std.specs.List.{slice_split, onto_first}
 use Rattle.std.specs.Borrow.{Bor}
-use Rattle.std.proofs.lemmas.List.{map-append, reverse-append, append_assoc, drop_all, drop_more, length-map, length-take, map_more}
-use Rattle.mlb_reader.specs.Path.{put_front, segments, joined, is_here, is_up, is_name, next_up, next_segment, kept_segments}
-use Rattle.mlb_reader.specs.Segments.{texts_of, begins_in_name, ends_in_name}
+use Rattle.std.proofs.lemmas.List.{append_assoc, drop_all, drop_more, length-map, length-take, map_more}
+use Rattle.mlb_reader.specs.Path.{put_front, segments, joined, next_segment, kept_segments}
+use Rattle.mlb_reader.specs.Segments.{texts_of}
 
 -- a path cut at its slashes
 put-is-onto : (b : ℕ) (ss : List (List ℕ)) → put_front b ss ≡ onto_first b ss
@@ -18,41 +18,6 @@ segments-are (b ∷ path) = go (b == 47) (segments-are path)
     go : (t : Bool) → segments path ≡ slice_split (λ b. b == 47) path → (if t then [] ∷ segments path else put_front b (segments path)) ≡ cond t ([] ∷ slice_split (λ b. b == 47) path) (onto_first b (slice_split (λ b. b == 47) path))
     go true e = ap (λ ss. [] ∷ ss) e
     go false e = put-is-onto b (segments path) ∙ ap (onto_first b) e
-
--- one segment more
-pub keep-here : (done : List (List ℕ)) (s : List ℕ) → is_here s ≡ true → done ≡ next_segment done s
-keep-here done s h = sym (ap (λ t. if t then done else (if is_up s then next_up s done else s ∷ done)) h)
-
-next-up-name : (done : List (List ℕ)) (s t : List ℕ) → is_name t ≡ true → done ≡ next_up s (t ∷ done)
-next-up-name done s t h = sym (ap (λ b. if b then done else s ∷ t ∷ done) h)
-
-next-up-other : (done : List (List ℕ)) (s : List ℕ) → begins_in_name done ≡ false → next_up s done ≡ s ∷ done
-next-up-other [] s h = refl
-next-up-other (t ∷ ts) s h = ap (λ b. if b then ts else s ∷ t ∷ ts) h
-
-to-next-up : (done : List (List ℕ)) (s : List ℕ) → is_here s ≡ false → is_up s ≡ true → next_segment done s ≡ next_up s done
-to-next-up done s h u = ap (λ t. if t then done else (if is_up s then next_up s done else s ∷ done)) h ∙ ap (λ t. if t then next_up s done else s ∷ done) u
-
-reverse-push : (ts : List (List ℕ)) (t : List ℕ) → reverse (ts ++ t ∷ []) ≡ t ∷ reverse ts
-reverse-push ts t = reverse-append ts (t ∷ [])
-
-pub keep-other : (old new : List (Bor (List ℕ))) (s : Bor (List ℕ)) → is_here s.now ≡ false → is_up s.now ≡ false → new ≡ old ++ s ∷ [] → reverse (texts_of new) ≡ next_segment (reverse (texts_of old)) s.now
-keep-other old new s h u e =
-    let done = reverse (texts_of old) in
-    ap (λ v. reverse (texts_of v)) e ∙ ap reverse (map-append (λ x. x.now) old (s ∷ [])) ∙ reverse-push (texts_of old) s.now
-    ∙ sym (ap (λ t. if t then done else (if is_up s.now then next_up s.now done else s.now ∷ done)) h ∙ ap (λ t. if t then next_up s.now done else s.now ∷ done) u)
-
-pub keep-up : (old new : List (Bor (List ℕ))) (s : Bor (List ℕ)) → is_here s.now ≡ false → is_up s.now ≡ true → ends_in_name (texts_of old) ≡ false → new ≡ old ++ s ∷ [] → reverse (texts_of new) ≡ next_segment (reverse (texts_of old)) s.now
-keep-up old new s h u n e =
-    let done = reverse (texts_of old) in
-    ap (λ v. reverse (texts_of v)) e ∙ ap reverse (map-append (λ x. x.now) old (s ∷ [])) ∙ reverse-push (texts_of old) s.now
-    ∙ sym (to-next-up done s.now h u ∙ next-up-other done s.now n)
-
-pub keep-drops : (old new : List (Bor (List ℕ))) (last : Bor (List ℕ)) (s : List ℕ) → is_here s ≡ false → is_up s ≡ true → ends_in_name (texts_of old) ≡ true → old ≡ new ++ last ∷ [] → reverse (texts_of new) ≡ next_segment (reverse (texts_of old)) s
-keep-drops old new last s h u n e =
-    let was : reverse (texts_of old) ≡ last.now ∷ reverse (texts_of new) = ap (λ v. reverse (texts_of v)) e ∙ ap reverse (map-append (λ x. x.now) new (last ∷ [])) ∙ reverse-push (texts_of new) last.now in
-    let named : is_name last.now ≡ true = sym (ap begins_in_name was) ∙ n in
-    next-up-name (reverse (texts_of new)) s last.now named ∙ ap (next_up s) (sym was) ∙ sym (to-next-up (reverse (texts_of old)) s h u)
 
 -- segments put together
 pub joined-more : (ss : List (List ℕ)) (s : List ℕ) → 0 < length ss → joined (ss ++ s ∷ []) ≡ joined ss ++ 47 ∷ s

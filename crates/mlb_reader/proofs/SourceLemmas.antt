@@ -1,23 +1,20 @@
 -- Reading a source.
-use Rattle.std.proofs.Common.{◌≡◌, ℕ, zero, suc, ◌+◌, ◌<◌, ◌≤◌, ◌⊎◌, inl, inr, List, [], ◌∷◌, length, map, get_or, None, Err, refl, ap, subst, sym, ◌∙◌, arith}
+use Rattle.std.proofs.Common.{◌≡◌, ℕ, zero, suc, ◌<◌, ◌≤◌, inl, inr, List, [], ◌∷◌, length, map, get_or, None, Err, ap, subst, arith}
 use Rattle.mlc_base.specs.declared.fault.Fault.{Fault}
 use Rattle.mlc_base.specs.declared.refused.Refused.{Refused}
 use Rattle.mlc_base.specs.declared.refused.Refused.TheVariants as refusal
 use Rattle.mlc_base.specs.declared.place.Place.{Place}
 use Rattle.mlc_base.specs.declared.token.Token.{Token}
-use Rattle.sml_lexer.specs.Lexes.{HoldsAllNames, IfFault, IsRefused, Lexed, Lexes, Rises, lexed_of}
-use Rattle.sml_lexer.specs.NameTable.{Keeps}
+use Rattle.sml_lexer.specs.Lexes.{IfFault, IsRefused, Lexed, Lexes, Rises}
 use Rattle.sml_tree.specs.Fixity.{Fixity}
 use Rattle.sml_tree.specs.Terminal.{terminals}
 use Rattle.sml_tree.specs.TreeOf.{dec_of, decs_of}
 use Rattle.sml_tree.specs.declared.tree.Dec.{Dec}
-use Rattle.sml_parser.specs.Core.{BeginsToken, Cause, IsCore, IsStop, Shallow}
+use Rattle.sml_parser.specs.Core.{Cause, IsCore, IsStop, Shallow}
 use Rattle.sml_parser.specs.Left.{left}
 use Rattle.sml_parser.specs.declared.source.Source.{Source}
-use Rattle.sml_rules.specs.Basis.{IsTable}
 use Rattle.mlb_reader.specs.Broken.{IsBad, no_tokens, no_tree}
 use Rattle.mlb_reader.specs.Project.{HasTokens, IsSource, star_in}
-use Rattle.mlb_reader.proofs.TableLemmas.{star-stays}
 
 -- a fact of the fault, where there is one
 abbrev pub AtFault : Refused → (Fault → Type 0) → Type 0

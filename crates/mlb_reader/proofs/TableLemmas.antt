@@ -1,15 +1,14 @@
 -- What stays as a table of names grows.
-use Rattle.std.proofs.Common.{◌≡◌, ◌≢◌, ℕ, zero, suc, ◌+◌, ◌-◌, ◌<◌, ◌≤◌, Bool, true, false, if◌then◌else◌, List, [], ◌∷◌, ◌++◌, map, length, get_or, take, drop, Some, refl, ap, subst, sym, ◌∙◌, slice_get, arith, All, AllPairs, Contains, codes}
+use Rattle.std.proofs.Common.{◌≡◌, ℕ, zero, suc, ◌+◌, ◌-◌, ◌<◌, ◌≤◌, true, if◌then◌else◌, List, [], ◌∷◌, ◌++◌, map, length, get_or, take, drop, Some, refl, ap, subst, sym, ◌∙◌, slice_get, arith, All, Contains, codes}
 use Rattle.std.specs.Prelude.{slice_index_or}
 use Rattle.std.specs.Borrow.{Bor}
 use Rattle.std.specs.Str.{bytes_eq}
-use Rattle.std.proofs.lemmas.Bool.{false_from_ne_true}
 use Rattle.std.proofs.lemmas.List.{take-append-drop, get_or_append_left, get_or-map, drop_more, length-map, map_more}
 use Rattle.std.proofs.lemmas.List.Elements.{All-append, All-cons, All-head, All-map, All-nil, All-push, All-same, All-tail, All-weaker}
 use Rattle.std.proofs.lemmas.Option.{slice_get_within, slice_get-get_or, get_or_from_slice_get}
 use Rattle.std.proofs.lemmas.Slice.Eq.{bytes_eq-Decides}
 use Rattle.mlc_base.specs.declared.token.Token.{Token}
-use Rattle.sml_lexer.specs.Lexes.{Lexes, HoldsAllNames, lexed_of}
+use Rattle.sml_lexer.specs.Lexes.{Lexes}
 use Rattle.sml_lexer.specs.NameTable.{Keeps}
 use Rattle.sml_lexer.proofs.NameLemmas.{keeps_no_fewer, keeps_on}
 use Rattle.sml_lexer.proofs.TokenLemmas.{all_names_stay, lexed_stay}
@@ -79,9 +78,6 @@ pub puts-more : (before a b : List (List ℕ)) (status : Infix) (words later : L
 puts-more before a b status words later word name old mid new puts keeps apart get e is = λ rows h.
     let before_it = rows-stay a b keeps (rows_of status words ++ rows) mid (puts rows h) in
     subst (λ ws. AreRows b (rows_of status ws ++ rows) new) (sym e) (rows-put b (rows_of status words ++ rows) status word name mid new apart before_it get is)
-
-pub puts-nothing : (texts : List (List ℕ)) (status : Infix) (words : List (List ℕ)) (fixities : Fixity) → words ≡ [] → Puts texts texts status words fixities fixities
-puts-nothing texts status words fixities e = λ rows h. subst (λ ws. AreRows texts (rows_of status ws ++ rows) fixities) (sym e) h
 
 -- Tables.
 

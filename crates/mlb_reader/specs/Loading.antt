@@ -1,6 +1,5 @@
 -- Steps of loading.
-use Rattle.std.specs.Prelude.{◌≡◌, ◌≢◌, ℕ, ◌<◌, ◌≤◌, Bool, List, [], ◌∷◌, ◌++◌, length, map, All, Option, Some, None, nat_lt, if◌then◌else◌}
-use Rattle.std.specs.FinMap.{get}
+use Rattle.std.specs.Prelude.{◌≡◌, ℕ, ◌≤◌, List, [], ◌∷◌, ◌++◌, length, map, Option, Some, None, nat_lt, if◌then◌else◌}
 use Rattle.mlc_base.specs.File.{File}
 use Rattle.mlc_base.specs.Files.{LiesIn}
 use Rattle.mlc_base.specs.declared.code.Code.TheVariants.{FilesTooLarge, PathVariable, Extension, TooManyFiles}

@@ -1,5 +1,5 @@
 -- The project that files give at a path. [ML Basis, Semantics]
-use Rattle.std.specs.Prelude.{◌≡◌, ◌≢◌, ℕ, ◌+◌, ◌^◌, ◌<◌, ◌≤◌, Bool, true, false, List, [], ◌∷◌, ◌++◌, length, map, Option, Some, None, ⊤, codes, slice_get}
+use Rattle.std.specs.Prelude.{◌≡◌, ℕ, ◌+◌, ◌^◌, ◌<◌, ◌≤◌, true, false, List, [], ◌∷◌, ◌++◌, length, map, Some, codes}
 use Rattle.std.specs.FinMap.{get}
 use Rattle.mlc_base.specs.File.{File}
 use Rattle.mlc_base.specs.declared.token.Token.{Token}

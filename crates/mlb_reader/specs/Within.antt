@@ -1,5 +1,5 @@
 -- Names that phrases have, and their places.
-use Rattle.std.specs.Prelude.{ℕ, ◌<◌, List, Option, Some, None, ⊤}
+use Rattle.std.specs.Prelude.{ℕ, ◌<◌, List, Option, Some, None}
 use Rattle.std.specs.List.{All}
 use Rattle.std.specs.Option.{ForSome}
 use Rattle.mlc_base.specs.declared.place.Place.{Place}

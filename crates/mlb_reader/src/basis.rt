@@ -80,10 +80,22 @@ fn named_fixities(alloc: Global, names: &mut Names) -> Result<Fixities, NoMemory
     let mut fixities = Fixities::new(alloc);
     put_words(alloc, names, &mut fixities, left(0), &["before"])?;
     put_words(alloc, names, &mut fixities, left(3), &[":=", "o"])?;
-    put_words(alloc, names, &mut fixities, left(4), &["<>", ">", ">=", "<", "<="])?;
+    put_words(
+        alloc,
+        names,
+        &mut fixities,
+        left(4),
+        &["<>", ">", ">=", "<", "<="],
+    )?;
     put_words(alloc, names, &mut fixities, right(5), &["::", "@"])?;
     put_words(alloc, names, &mut fixities, left(6), &["+", "-", "^"])?;
-    put_words(alloc, names, &mut fixities, left(7), &["*", "/", "div", "mod"])?;
+    put_words(
+        alloc,
+        names,
+        &mut fixities,
+        left(7),
+        &["*", "/", "div", "mod"],
+    )?;
     Ok(fixities)
 }
 
@@ -95,7 +107,16 @@ fn keep_others(alloc: Global, names: &mut Names) -> Result<(), NoMemory>
     keep_words(
         alloc,
         names,
-        &["print", "Match", "Bind", "Overflow", "Div", "Subscript", "Size", "Chr"],
+        &[
+            "print",
+            "Match",
+            "Bind",
+            "Overflow",
+            "Div",
+            "Subscript",
+            "Size",
+            "Chr",
+        ],
     )
 }
 

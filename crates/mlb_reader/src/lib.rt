@@ -10,3 +10,5 @@ pub mod path;
 pub mod project;
 pub mod refused;
 mod source;
+#[cfg(test)]
+mod tests;

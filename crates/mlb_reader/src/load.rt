@@ -173,7 +173,10 @@ fn has_variable(word: &[u8]) -> bool
 fn is_source(word: &[u8]) -> bool
     ensures { result ≡ is_source word.now }
 {
-    word.ends_with(b".sml") || word.ends_with(b".sig") || word.ends_with(b".fun") || word.ends_with(b".ML")
+    word.ends_with(b".sml")
+        || word.ends_with(b".sig")
+        || word.ends_with(b".fun")
+        || word.ends_with(b".ML")
 }
 
 /// Why a path isn't read that isn't that of the standard basis, after so many reads.
@@ -223,7 +226,14 @@ fn load_source<S: Store>(
     ensures read_fault { IfReadFault result (λ _. Rose (S.read_faults store.old) (S.read_faults store.new)) }
 {
     let path = path_from(alloc, setting.path.as_str(), item.word.as_slice())?;
-    let number = fetch(alloc, path.as_str(), item.byte, files, store, &mut loading.counts)?;
+    let number = fetch(
+        alloc,
+        path.as_str(),
+        item.byte,
+        files,
+        store,
+        &mut loading.counts,
+    )?;
     let star = setting.basis.star;
     let bytes = files.bytes(number);
     let decs = read_source(alloc, names, star, number, bytes, &mut loading.fixities)?;
@@ -306,7 +316,13 @@ pub fn load<S: Store>(
         parts: Vec::new(alloc),
         counts: Counts { reads: 0, bytes: 0 },
     };
-    let mlb = load_mlb(alloc, setting.path.as_str(), files, store, &mut loading.counts)?;
+    let mlb = load_mlb(
+        alloc,
+        setting.path.as_str(),
+        files,
+        store,
+        &mut loading.counts,
+    )?;
     for item in &mlb.items {
         load_item(alloc, &setting, item, names, files, store, &mut loading)?;
     }

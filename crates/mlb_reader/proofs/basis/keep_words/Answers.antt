@@ -1,4 +1,4 @@
-use Rattle.std.proofs.Common.{All, Contains, ap, subst, sym, take, length}
+use Rattle.std.proofs.Common.{All, Contains, subst}
 use Rattle.std.proofs.lemmas.List.{take_all}
 use Rattle.sml_lexer.proofs.NameLemmas.{keeps_on}
 use Rattle.mlb_reader.specs.Segments.{texts_of}

@@ -1,9 +1,3 @@
-use Rattle.std.proofs.Common.{◌≡◌, ℕ, List, [], ◌∷◌, ◌++◌, ap, sym, ◌∙◌, subst, All, Contains}
-use Rattle.std.proofs.lemmas.List.Elements.{All-nil}
-use Rattle.sml_tree.specs.declared.fixity.Infix.{Infix}
-use Rattle.sml_lexer.proofs.NameLemmas.{keeps_on}
-use Rattle.sml_rules.specs.Basis.{fixity_rows}
-use Rattle.mlb_reader.specs.BasisOf.{AreRows}
 use Rattle.mlb_reader.proofs.TableLemmas.{keeps-3, keeps-4, keeps-5, keeps-6, no-rows, fixity-rows-are}
 use Rattle.mlb_reader.proofs.basis.named_fixities.Goals as goal
 

@@ -1,4 +1,4 @@
-use Rattle.std.proofs.Common.{◌-◌, ◌≤◌, drop, arith}
+use Rattle.std.proofs.Common.{◌-◌, drop, arith}
 use Rattle.sml_lexer.proofs.NameLemmas.{keeps_on}
 use Rattle.mlb_reader.specs.Segments.{texts_of}
 use Rattle.mlb_reader.proofs.TableLemmas.{drop-before, keeps-interned, puts-more}

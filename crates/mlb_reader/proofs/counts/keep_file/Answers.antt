@@ -1,4 +1,4 @@
-use Rattle.std.proofs.Common.{◌≡◌, length, ◌∙◌, sym}
+use Rattle.std.proofs.Common.{◌≡◌, length, ◌∙◌}
 use Rattle.mlb_reader.proofs.CountLemmas.{keeps-file}
 use Rattle.mlb_reader.proofs.counts.keep_file.Goals as goal
 

@@ -1,7 +1,6 @@
-use Rattle.std.proofs.Common.{◌≡◌, ◌<◌, ◌≤◌, ◌++◌, ◌∷◌, [], length, map, take, get_or, None, refl, sym, ap, ◌∙◌, subst, arith}
+use Rattle.std.proofs.Common.{◌≡◌, ◌<◌, ◌≤◌, ◌∷◌, [], length, map, get_or, None, sym, ap, ◌∙◌, subst, arith}
 use Rattle.std.specs.String.{string_bytes}
 use Rattle.std.proofs.lemmas.List.{length-map}
-use Rattle.mlc_base.specs.Files.{LiesIn}
 use Rattle.mlc_outside.specs.Store.{HasFile}
 use Rattle.sml_lexer.proofs.NameLemmas.{keeps_on}
 use Rattle.mlb_reader.specs.Broken.{IsBroken, IsMissing}

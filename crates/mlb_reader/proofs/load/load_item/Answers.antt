@@ -1,7 +1,7 @@
-use Rattle.std.proofs.Common.{◌≡◌, ◌≢◌, Some, true, sym, ap, ◌∙◌}
+use Rattle.std.proofs.Common.{◌≡◌, ◌≢◌, true, sym, ◌∙◌}
 use Rattle.std.specs.String.{string_bytes}
 use Rattle.sml_lexer.proofs.NameLemmas.{keeps_same}
-use Rattle.mlb_reader.specs.Loading.{loaded_of, path_fault}
+use Rattle.mlb_reader.specs.Loading.{loaded_of}
 use Rattle.mlb_reader.specs.Mlb.{basis_path}
 use Rattle.mlb_reader.specs.MlbOf.{item_of}
 use Rattle.mlb_reader.proofs.FileLemmas.{grows-same, lies-at}

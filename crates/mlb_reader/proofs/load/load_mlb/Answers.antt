@@ -1,4 +1,3 @@
-use Rattle.std.proofs.Common.{◌≡◌, sym, ap}
 use Rattle.mlb_reader.specs.Loading.{BreaksFirst}
 use Rattle.mlb_reader.proofs.FileLemmas.{last-bytes}
 use Rattle.mlb_reader.proofs.LoadLemmas.{mlb-bad, mlb-large}

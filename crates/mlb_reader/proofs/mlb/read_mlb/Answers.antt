@@ -1,5 +1,5 @@
-use Rattle.std.proofs.Common.{◌≡◌, ℕ, ◌≤◌, ◌+◌, List, ◌++◌, ◌∷◌, [], length, map, drop, get_or, true, false, ap, subst, sym, ◌∙◌, arith, length-drop, length-append}
-use Rattle.mlb_reader.specs.Mlb.{is_blank, Item}
+use Rattle.std.proofs.Common.{◌≡◌, ℕ, ◌+◌, List, ◌++◌, ◌∷◌, [], length, map, drop, get_or, true, false, ap, subst, sym, ◌∙◌, arith, length-drop, length-append}
+use Rattle.mlb_reader.specs.Mlb.{is_blank}
 use Rattle.mlb_reader.specs.MlbOf.{item_of, BeginsPath}
 use Rattle.std.proofs.lemmas.List.{map-append, take_rest}
 use Rattle.mlb_reader.proofs.MlbLemmas.{no-path, read-all, read-blank, read-path}
@@ -27,7 +27,7 @@ words-preserved c =
     let no_blank : is_blank (get_or bytes at 0) ≡ false = sym c.is_blank.ensures ∙ c.if-is_blank.false in
     let begins : BeginsPath (drop at bytes) word = subst (λ text. BeginsPath text word) (take_rest bytes at) c.in-Some.ensures.found in
     let pushed : map item_of c.push.new.self.items ≡ map item_of c.words.items.items ++ record { byte = at; word = word } ∷ [] =
-      ap (map item_of) c.in_ok-push.ensures.items ∙ map-append item_of c.words.items.items _ ∙ ap (λ w. map item_of c.words.items.items ++ record { byte = at; word = w } ∷ []) c.in_ok-from_slice.ensures.items in
+    ap (map item_of) c.in_ok-push.ensures.items ∙ map-append item_of c.words.items.items _ ∙ ap (λ w. map item_of c.words.items.items ++ record { byte = at; word = w } ∷ []) c.in_ok-from_slice.ensures.items in
     let stands : length (drop at bytes) ≡ length word + length begins.rest = ap length begins.stands ∙ length-append word begins.rest in
     record {
       read = read-path bytes (map item_of c.words.items.items) at (omega arith) no_blank c.words.invariant.read word begins (map item_of c.push.new.self.items) pushed;

@@ -1,4 +1,4 @@
-use Rattle.std.proofs.Common.{◌≡◌, ◌<◌, ◌+◌, List, ℕ, ◌∷◌, [], length, reverse, ap, sym, ◌∙◌, subst, IfOk, lit<}
+use Rattle.std.proofs.Common.{◌≡◌, length, reverse, ap, sym, ◌∙◌, subst, IfOk, lit<}
 use Rattle.std.specs.String.{string_bytes}
 use Rattle.std.proofs.lemmas.Iterator.Consumers.{YieldsList-turn, YieldsList-end}
 use Rattle.std.proofs.lemmas.Iterator.Splits.{YieldsList-from_str_split}

@@ -1,4 +1,4 @@
-use Rattle.std.proofs.Common.{ap, sym, ◌∙◌}
+use Rattle.std.proofs.Common.{ap, ◌∙◌}
 use Rattle.std.specs.String.{string_bytes}
 use Rattle.mlb_reader.proofs.SegmentLemmas.{join-first, join-next}
 use Rattle.mlb_reader.proofs.path.join.Goals as goal
