@@ -11,6 +11,7 @@ use Rattle.sml_tree.specs.Grammar.{NamesVid, plain_long, qualified, op_long, Ato
 use Rattle.sml_grammar.specs.Terminals.{first_as, as_vid, as_long_strid, after_word, names_vid}
 use Rattle.sml_grammar.specs.Types.{ty_could_go_on}
 use Rattle.sml_grammar.specs.Expressions.{vid_start, vid_if, atom_start, begins_atom, other_start, start_of, is_keyword, begins, dec_start, is_dec_start}
+use Rattle.sml_grammar.specs.Begins.{BeginsAtom, with_constant, with_vid, with_equals, with_brace, with_hash, with_paren, with_bracket, with_let, Begins, with_atom, with_raise, with_if, with_while, with_case, with_fn}
 use Rattle.sml_grammar.proofs.Words.{AfterWord, found, absent, after-is}
 use Rattle.sml_grammar.proofs.Answers.{not_true, not_false}
 use Rattle.sml_grammar.proofs.Terminals.{not-word, label-word}
@@ -135,6 +136,18 @@ names-start {f} {i} v = start v ∙ ap vid_if (names-found v)
     start (qualified (long_star_vid p qs x)) = refl
     start (op_long p v) = refl
 
+-- the function that looks, on what begins an atomic expression and an expression
+pub begins_atom-found : {f : Fixity} {i : List Terminal} → BeginsAtom f i → begins_atom f i ≡ true
+begins_atom-found (with_constant (is_number p n b)) = refl
+begins_atom-found (with_constant (is_constant p c)) = refl
+begins_atom-found (with_vid v) = let h = names-start v in rw h refl
+begins_atom-found (with_equals p e) = rw e refl
+begins_atom-found (with_brace p) = refl
+begins_atom-found (with_hash p) = refl
+begins_atom-found (with_paren p) = refl
+begins_atom-found (with_bracket p) = refl
+begins_atom-found (with_let p) = refl
+
 pub atom-begins : {f : Fixity} {i o : List Terminal} {e : Exp} → Atom f i e o → begins_atom f i ≡ true
 atom-begins (of_constant (is_number p n b)) = refl
 atom-begins (of_constant (is_constant p c)) = refl
@@ -165,6 +178,14 @@ atom-start {f} {i} a = begins-start f i (atom-begins a)
 
 pub true-or : (a b : Bool) → a ≡ true → (a || b) ≡ true
 true-or a b e = rw e refl
+
+pub begins-found : {f : Fixity} {l : ℕ} {i : List Terminal} → Begins f l i → begins f l i ≡ true
+begins-found {f} {l} {i} (with_atom b) = true-or (begins_atom f i) (nat_le l 4 && is_keyword (start_of i)) (begins_atom-found b)
+begins-found {l} (with_raise p h) = let c = le-leb l 4 h in rw c refl
+begins-found {l} (with_if p h) = let c = le-leb l 4 h in rw c refl
+begins-found {l} (with_while p h) = let c = le-leb l 4 h in rw c refl
+begins-found {l} (with_case p h) = let c = le-leb l 4 h in rw c refl
+begins-found {l} (with_fn p h) = let c = le-leb l 4 h in rw c refl
 
 pub reads-begins : {f : Fixity} {i o : List Terminal} {t : Exp} (l : ℕ) → Reads f i t o → l ≤ level f t → begins f l i ≡ true
 reads-begins {f} {i} l (of_atom d) h = true-or (begins_atom f i) (nat_le l 4 && is_keyword (start_of i)) (atom-begins d)

@@ -19,7 +19,7 @@ use Rattle.sml_grammar.proofs.Words.{AfterWord, found, absent, after-is}
 use Rattle.sml_grammar.proofs.Vids.{InfixAt, infix_at, infix-is, binds-is, names-is}
 use Rattle.sml_grammar.proofs.TypeSound.{ty-sound}
 use Rattle.sml_grammar.proofs.TypeFar.{ty-far}
-use Rattle.sml_grammar.proofs.PatStarts.{with-word, pat-start-is, level-low}
+use Rattle.sml_grammar.proofs.PatStarts.{with-word, pat-start-is, level-low, begins_pat-is}
 use Rattle.sml_grammar.proofs.PatAtSound.{GoodPat, SoundPat, SoundAtPat}
 use Rattle.sml_grammar.proofs.PatShapes.{binds-names}
 use Rattle.sml_grammar.specs.PartialPatterns.{OpensPat, begun_pat, in_atpat, in_con_pat, joined_pat, in_pat_chain, marked_pat, in_pat_ty, in_as, begun_atpat, OpensPatPart, in_pat_part, past_pat_part}
@@ -248,11 +248,11 @@ mutual
   unfolding read_pats
 
   pub pats-far : (n : ℕ) → FarPat n (read_pats n).pat
-  pats-far zero f l i low h = begun_pat (if-deep {A = Pat} (begins_pat f i) h)
+  pats-far zero f l i low h = begun_pat (begins_pat-is (if-deep {A = Pat} (begins_pat f i) h))
   pats-far (suc n) f l i low h = form-far n (read_pats n) (pat-sound n) (atpat-sound n) (pats-far n) (atpat-far n) f l i low h
 
   pub atpat-far : (n : ℕ) → FarAtPat n (read_pats n).atpat
-  atpat-far zero f i h = begun_atpat (if-deep {A = Pat} (begins_pat f i) h)
+  atpat-far zero f i h = begun_atpat (begins_pat-is (if-deep {A = Pat} (begins_pat f i) h))
   atpat-far (suc n) f i h = at-far n (read_pats n).pat (pat-sound n) (pats-far n) f (pat-start-is f i) h
 
 pub pat-far : (n : ℕ) (f : Fixity) (l : ℕ) (i : List Terminal) → (read_pats n).pat f l i ≡ deep → l ≤ 1000 → OpensPat f l i (suc n)

@@ -14,7 +14,7 @@ use Rattle.sml_grammar.specs.Answer.{Read, ok, deep, read, then_read, Turn, last
 use Rattle.sml_grammar.specs.Terminals.{Taken, NoState, no_state, short, infix_vid, binds_vid}
 use Rattle.sml_grammar.specs.Patterns.{begins_pat, read_atpat, atpats_turn, read_atpats, infix_rest, prefix_rest, vid_head, Bracketed, bracketed, bracket_rest, pat_head, read_head}
 use Rattle.sml_grammar.proofs.Answers.{chosen, got, then_ok, then_deep, not_deep, bad_deep, on_taken-split, many-deep, many-stop, FarTurn, many-reach, le_or, le_max}
-use Rattle.sml_grammar.proofs.Vids.{InfixAt, infix_at, infix-is, infix-found, binds-is, binds-found}
+use Rattle.sml_grammar.proofs.Vids.{InfixAt, infix_at, infix-is, infix-found, binds-is, binds-found, no-binds, binds-none}
 use Rattle.sml_grammar.proofs.PatStarts.{begins-no_infix}
 use Rattle.sml_grammar.proofs.PatShapes.{atpat-shorter, binds-names, atpat-begins}
 use Rattle.sml_grammar.specs.PartialPatterns.{OpensAtPats, in_one_atpat, past_atpat, OpensHead, in_first, first_is_vid, in_second, in_prefix, in_bracketed}
@@ -52,7 +52,7 @@ first-opens {f} {i} {m} {t} {x} {a} d v k pos le = go (binds_vid f i) refl
     one (suc (suc j)) e h w s b = absurd (omega arith)
 
     go : (w : Option (Taken (Placed Vid))) → binds_vid f i ≡ w → OpensHead f i k
-    go None e = in_first e (atpat-opens d k pos le)
+    go None e = in_first (binds-none e) (atpat-opens d k pos le)
     go (Some y) e =
         let b = binds-is f i y.it y.rest e in
         let s = bound-atom d b in
@@ -65,7 +65,7 @@ head-opens (of_infix_head {a} {b} d v e) k pos le = elim (le_max k (depth_pat a)
   | inr p ↦ in_second d v (atpat-opens e k pos p)
 ]
 head-opens (of_bracket_head {a} {b} {as_} p q d v e ds) k pos le = elim (le_max k (suc (suc (max (depth_pat a) (depth_pat b)))) (depth_pats as_) le) [
-  | inl h ↦ in_first refl (atpat-opens (bracket-pattern p q d v e) k pos h)
+  | inl h ↦ in_first (binds-none refl) (atpat-opens (bracket-pattern p q d v e) k pos h)
   | inr h ↦ in_bracketed p q d v e (atpats-opens ds k pos h)
 ]
 
@@ -131,7 +131,7 @@ module _ (n : ℕ) (f : Fixity) where
       go (Some y) w = let b = binds-is f i y.it y.rest w in vid-over b (sym (bound-atom d b).1) v (λ (p : 1 ≤ n). h)
 
   pub head-over : {i : List Terminal} {d : ℕ} → OpensHead f i d → n < d → read_head n f i ≡ deep
-  head-over {i} (in_first e o) lt = first-over i e (atpat-over n f o lt)
+  head-over {i} (in_first none o) lt = first-over i (no-binds none) (atpat-over n f o lt)
   head-over (first_is_vid b v) lt = vid-over b refl v (λ (p : 1 ≤ n). absurd (omega arith))
   head-over (in_second d v o) lt = second-over d v (atpat-over n f o lt)
   head-over (in_prefix {m} {p} {v} b o) lt =
@@ -220,7 +220,7 @@ module _ (n : ℕ) (f : Fixity) where
   head-far i h = elim (on_taken-split (binds_vid f i) (vid_head n f) (then_read (read_atpat n f i) (pat_head n f)) h) [
     | inl t ↦ vid-far t.0 t.1 (binds-is f i t.0 t.1 t.2) t.3
     | inr p ↦ elim (then_deep (read_atpat n f i) (pat_head n f) p.1) [
-      | inl e ↦ in_first p.0 (atpat-far n f i e)
+      | inl e ↦ in_first (binds-none p.0) (atpat-far n f i e)
       | inr u ↦
           let a = u.0.tree in let m = u.0.rest in
           let g = atpat-sound n f i u.0 u.1 in

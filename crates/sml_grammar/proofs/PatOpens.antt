@@ -15,7 +15,7 @@ use Rattle.sml_grammar.specs.Patterns.{begins_pat}
 use Rattle.sml_grammar.proofs.Answers.{le_max}
 use Rattle.sml_grammar.proofs.Terminals.{not-word, vid-word, label-word}
 use Rattle.sml_grammar.proofs.TypePaths.{ty-opens}
-use Rattle.sml_grammar.proofs.PatStarts.{names-begin}
+use Rattle.sml_grammar.proofs.PatStarts.{names-begin, begins_pat-found, begins_pat-is}
 use Rattle.sml_grammar.proofs.PatShapes.{binds-names, atpat-begins, pat-begins, field-no_word, follows-level}
 use Rattle.sml_grammar.specs.PartialPatterns.{OpensPat, begun_pat, in_atpat, in_con_pat, joined_pat, in_pat_chain, marked_pat, in_pat_ty, in_as, OpensAtPat, begun_atpat, in_paren_pat, in_tuple_pat, in_list_pat, in_record_pat, OpensPats, in_pat, past_pat, OpensPatRow, in_pat_field, past_pat_field, OpensField, in_labelled, in_punned_ty, in_punned_as, OpensPatPart, in_pat_part, past_pat_part}
 
@@ -34,7 +34,7 @@ as-opens l b (with_ty p d) k pos le low = in_pat_ty p low (omega arith) (of_atpa
 mutual
   pub atpat-opens : {f : Fixity} {i o : List Terminal} {a : Pat} → AtPat f i a o → (k : ℕ) → 0 < k → k ≤ depth_pat a → OpensAtPat f i k
   atpat-opens d zero pos le = absurd (omega arith)
-  atpat-opens d (suc zero) pos le = begun_atpat (atpat-begins d)
+  atpat-opens d (suc zero) pos le = begun_atpat (begins_pat-is (atpat-begins d))
   atpat-opens (of_wild p) (suc (suc k)) pos le = absurd (omega arith)
   atpat-opens (of_pat_constant c) (suc (suc k)) pos le = absurd (omega arith)
   atpat-opens (of_pat_vid x) (suc (suc k)) pos le = absurd (omega arith)
@@ -78,7 +78,7 @@ mutual
 
   pub pat-opens : {f : Fixity} {i o : List Terminal} {a : Pat} (l : ℕ) → Pattern f i a o → l ≤ pat_level f a → (k : ℕ) → 0 < k → k ≤ depth_pat a → OpensPat f l i k
   pat-opens l d high zero pos le = absurd (omega arith)
-  pat-opens l d high (suc zero) pos le = begun_pat (pat-begins d)
+  pat-opens l d high (suc zero) pos le = begun_pat (begins_pat-is (pat-begins d))
   pat-opens l (of_atpat d) high (suc (suc k)) pos le = in_atpat (atpat-opens d (suc (suc k)) pos le)
   pat-opens l (of_con_pat x d) high (suc (suc k)) pos le = in_con_pat x (atpat-opens d (suc k) (omega arith) (omega arith))
   pat-opens l (of_chain_pat {a} {ps} l' r lt d fs) high (suc (suc k)) pos le =
@@ -109,8 +109,8 @@ mutual
 -- what a partial pattern begins with
 
 pub opens_pat-begins : {f : Fixity} {l : ℕ} {i : List Terminal} {d : ℕ} → OpensPat f l i d → begins_pat f i ≡ true
-opens_pat-begins (begun_pat e) = e
-opens_pat-begins (in_atpat (begun_atpat e)) = e
+opens_pat-begins (begun_pat b) = begins_pat-found b
+opens_pat-begins (in_atpat (begun_atpat b)) = begins_pat-found b
 opens_pat-begins (in_atpat (in_paren_pat p o)) = refl
 opens_pat-begins (in_atpat (in_tuple_pat p q d o)) = refl
 opens_pat-begins (in_atpat (in_list_pat p o)) = refl
@@ -123,7 +123,7 @@ opens_pat-begins (in_pat_ty p low five d o) = pat-begins d
 opens_pat-begins (in_as q low b s o) = names-begin (binds-names b)
 
 pub opens_atpat-begins : {f : Fixity} {i : List Terminal} {d : ℕ} → OpensAtPat f i d → begins_pat f i ≡ true
-opens_atpat-begins (begun_atpat e) = e
+opens_atpat-begins (begun_atpat b) = begins_pat-found b
 opens_atpat-begins (in_paren_pat p o) = refl
 opens_atpat-begins (in_tuple_pat p q d o) = refl
 opens_atpat-begins (in_list_pat p o) = refl

@@ -14,6 +14,7 @@ use Rattle.sml_tree.specs.Grammar.{NamesVid, plain_long, qualified, op_long, IsI
 use Rattle.sml_grammar.specs.Terminals.{Taken, after_word, on_taken, infix_vid, names_vid}
 use Rattle.sml_grammar.specs.Types.{ty_could_go_on}
 use Rattle.sml_grammar.specs.Patterns.{PatStart, wild_start, constant_start, vid_start, brace_start, paren_start, bracket_start, no_start, vid_if, pat_start, is_pat_start, begins_pat}
+use Rattle.sml_grammar.specs.Begins.{BeginsPat, with_wild, with_pat_constant, with_pat_vid, with_pat_brace, with_pat_paren, with_pat_bracket}
 use Rattle.sml_grammar.proofs.Answers.{not_true}
 use Rattle.sml_grammar.proofs.Words.{WordAt, at_word, word-at, AfterWord, found, absent, after-is}
 use Rattle.sml_grammar.proofs.Terminals.{not-word, vid-word}
@@ -68,6 +69,28 @@ names-begin n = ap is_pat_start (names-start n)
 pub constant-start : (f : Fixity) {t : Terminal} {p : ℕ} {c : Constant} → IsConstant t p c → (o : List Terminal) → pat_start f (t ∷ o) ≡ constant_start p c o
 constant-start f (is_number p n plain) o = refl
 constant-start f (is_constant p c) o = refl
+
+-- what begins a pattern, and the function that looks
+
+pub begins_pat-found : {f : Fixity} {i : List Terminal} → BeginsPat f i → begins_pat f i ≡ true
+begins_pat-found (with_wild p) = refl
+begins_pat-found {f} (with_pat_constant {o} c) = ap is_pat_start (constant-start f c o)
+begins_pat-found (with_pat_vid n) = names-begin n
+begins_pat-found (with_pat_brace p) = refl
+begins_pat-found (with_pat_paren p) = refl
+begins_pat-found (with_pat_bracket p) = refl
+
+pub begins_pat-is : {f : Fixity} {i : List Terminal} → begins_pat f i ≡ true → BeginsPat f i
+begins_pat-is {f} {i} h = go (pat-start-is f i) h
+  where
+    go : {i : List Terminal} {s : PatStart} → PatStartIs f i s → is_pat_start s ≡ true → BeginsPat f i
+    go (is_wild p) h = with_wild p
+    go (is_brace p) h = with_pat_brace p
+    go (is_paren p) h = with_pat_paren p
+    go (is_bracket p) h = with_pat_bracket p
+    go (is_scon c) h = with_pat_constant c
+    go (is_name n) h = with_pat_vid n
+    go is_none h = not_true h
 
 -- an infix identifier begins no pattern
 pub infix-no_pat : {f : Fixity} {t : Terminal} {x : Placed ℕ} → IsInfixVid f t x → (o : List Terminal) → begins_pat f (t ∷ o) ≡ false

@@ -10,6 +10,7 @@ use Rattle.sml_tree.specs.Terminal.{Constant, LongVid, Terminal, reserved, IsCon
 use Rattle.sml_tree.specs.Grammar.{BindsVid, op_vid, NamesVid, plain_long, qualified, op_long, IsInfixVid}
 use Rattle.sml_tree.specs.Grammar as grammar
 use Rattle.sml_grammar.specs.Terminals.{Taken, taken, as_vid, as_qualified, as_any_vid, as_any_long, first_as, plain_if, infix_if, plain_from, plain_vid, infix_from, infix_vid, short, named_if, binds_vid, long_named_if, names_vid}
+use Rattle.sml_grammar.specs.PartialPatterns.{NoVid}
 use Rattle.sml_grammar.proofs.Answers.{got_some, not_some}
 use Rattle.sml_grammar.proofs.Terminals.{Front, front, AfterOp, after_it, after_op-is, any_vid-holds, any_long-holds, vid-is, qualified-is, vid-found, any_vid-found, any_long-found}
 
@@ -84,6 +85,18 @@ binds-found (op_vid p v) = let h = any_vid-found v in rw h refl
 pub binds-shorter : {f : Fixity} {i : List Terminal} {p : ℕ} {v : Vid} {o : List Terminal} → BindsVid f i p v o → length o < length i
 binds-shorter (grammar.plain_vid v e) = omega arith
 binds-shorter (op_vid p v) = omega arith
+
+-- no identifier is here, and the function that looks
+
+pub no-binds : {f : Fixity} {i : List Terminal} → NoVid f i → binds_vid f i ≡ None
+no-binds {f} {i} none = go (binds_vid f i) refl
+  where
+    go : (v : Option (Taken (Placed Vid))) → binds_vid f i ≡ v → v ≡ None
+    go None e = refl
+    go (Some x) e = absurd (none x.it.place x.it.it x.rest (binds-is f i x.it x.rest e))
+
+pub binds-none : {f : Fixity} {i : List Terminal} → binds_vid f i ≡ None → NoVid f i
+binds-none e p v m b = let h = binds-found b in absurd (cc)
 
 -- [op] longvid
 
