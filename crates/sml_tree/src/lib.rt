@@ -1,7 +1,6 @@
 // The grammar of the core language, its trees and its derived forms.
 #![tactic(auto)]
 
-mod abbreviations;
 pub mod derive;
 pub mod fixity;
 pub mod ident;
