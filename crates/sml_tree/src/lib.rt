@@ -5,3 +5,4 @@ pub mod derive;
 pub mod fixity;
 pub mod ident;
 pub mod tree;
+mod trie;
