@@ -22,7 +22,7 @@ record NoTyvars (i : List Terminal) : Type 0 where
   all : read_tyvars i ≡ read [] i
   first : first_as as_tyvar i ≡ None
 
-names-no_tyvars : {f : Fixity} {i o : List Terminal} {p : ℕ} {x : LongVid} → NamesVid f i p x o → NoTyvars i
+names-no_tyvars : {f : Fixity} {i o : List Terminal} {p : ℕ} {x : Placed LongVid} → NamesVid f i p x o → NoTyvars i
 names-no_tyvars (plain_long (alpha_vid p x) e) = record { all = refl; first = refl }
 names-no_tyvars (plain_long (symbol_vid p x) e) = record { all = refl; first = refl }
 names-no_tyvars (plain_long (star_vid p x) e) = record { all = refl; first = refl }
@@ -31,7 +31,7 @@ names-no_tyvars (qualified (long_symbol_vid p qs x)) = record { all = refl; firs
 names-no_tyvars (qualified (long_star_vid p qs x)) = record { all = refl; first = refl }
 names-no_tyvars (op_long p v) = record { all = refl; first = refl }
 
-binds-no_tyvars : {f : Fixity} {i o : List Terminal} {p : ℕ} {v : Vid} → BindsVid f i p v o → NoTyvars i
+binds-no_tyvars : {f : Fixity} {i o : List Terminal} {p : ℕ} {v : Placed Vid} → BindsVid f i p v o → NoTyvars i
 binds-no_tyvars (plain_vid (alpha_vid p x) e) = record { all = refl; first = refl }
 binds-no_tyvars (plain_vid (symbol_vid p x) e) = record { all = refl; first = refl }
 binds-no_tyvars (plain_vid (star_vid p x) e) = record { all = refl; first = refl }
@@ -89,7 +89,7 @@ funs-tyvars (of_fun_and v n p c d) = clauses-tyvars c
 
 -- A datatype that is bound isn't replicated.
 
-pub binds-no_datatype : {f : Fixity} {i o : List Terminal} {p : ℕ} {v : Vid} → BindsVid f i p v o → after_word res.Datatype i ≡ None
+pub binds-no_datatype : {f : Fixity} {i o : List Terminal} {p : ℕ} {v : Placed Vid} → BindsVid f i p v o → after_word res.Datatype i ≡ None
 binds-no_datatype (plain_vid (alpha_vid p x) e) = refl
 binds-no_datatype (plain_vid (symbol_vid p x) e) = refl
 binds-no_datatype (plain_vid (star_vid p x) e) = refl

@@ -27,7 +27,7 @@ maybe-field : {f : Fixity} {t : Terminal} {i o : List Terminal} {p x : ℕ} {s :
 maybe-field v e without_ty k pos le = absurd (omega arith)
 maybe-field v e (with_ty q d) k pos le = in_punned_ty q v e (ty-opens d (omega arith) k pos le)
 
-pub as-opens : {f : Fixity} {i m o : List Terminal} {p : ℕ} {v : Vid} {s : Option Ty} (l : ℕ) → BindsVid f i p v m → MaybeTy m s o → (k : ℕ) → 0 < k → k ≤ depth_some s → l ≤ 5 → OpensPat f l i (suc k)
+pub as-opens : {f : Fixity} {i m o : List Terminal} {p : ℕ} {v : Placed Vid} {s : Option Ty} (l : ℕ) → BindsVid f i p v m → MaybeTy m s o → (k : ℕ) → 0 < k → k ≤ depth_some s → l ≤ 5 → OpensPat f l i (suc k)
 as-opens l b without_ty k pos le low = absurd (omega arith)
 as-opens l b (with_ty p d) k pos le low = in_pat_ty p low (omega arith) (of_atpat (of_pat_vid (binds-names b))) (ty-opens d (omega arith) k pos le)
 

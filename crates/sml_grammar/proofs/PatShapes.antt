@@ -13,7 +13,7 @@ use Rattle.sml_tree.specs.Grammar.{ReadsTy, MaybeTy, without_ty, with_ty, BindsV
 use Rattle.sml_tree.specs.Grammar as grammar
 use Rattle.sml_grammar.specs.Terminals.{taken, after_word, tail, short, infix_vid}
 use Rattle.sml_grammar.specs.Types.{ty_could_go_on}
-use Rattle.sml_grammar.specs.Patterns.{is_pat_start, begins_pat}
+use Rattle.sml_grammar.specs.Patterns.{short_at, is_pat_start, begins_pat}
 use Rattle.sml_grammar.proofs.Terminals.{not-word, vid-word, label-word}
 use Rattle.sml_grammar.proofs.Vids.{infix-found, binds-shorter, names-shorter}
 use Rattle.sml_grammar.proofs.TypeShapes.{ty-shorter}
@@ -89,7 +89,7 @@ atpat-high (of_nil_pat p q) = refl
 atpat-high (of_list_pat p q ds) = refl
 atpat-high (of_paren_pat p q d) = refl
 
-pub binds-names : {f : Fixity} {i o : List Terminal} {p : ℕ} {v : Vid} → BindsVid f i p v o → NamesVid f i p (short v) o
+pub binds-names : {f : Fixity} {i o : List Terminal} {p : ℕ} {v : Placed Vid} → BindsVid f i p v o → NamesVid f i p (short_at v) o
 binds-names (grammar.plain_vid v e) = plain_long v e
 binds-names (op_vid p a) = op_long p (any_short a)
 
