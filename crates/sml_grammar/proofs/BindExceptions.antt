@@ -8,7 +8,7 @@ use Rattle.sml_tree.specs.ReadTree.{Placed, Ty, ExBind, new_exn, same_exn}
 use Rattle.sml_tree.specs.Depth.{depth_some, depth_ex_binds}
 use Rattle.sml_tree.specs.Grammar.{BindsVid, NamesVid, MaybeOf, without_of, with_of, OneExBind, new_exception, same_exception, ExBinds, last_exn, more_exns}
 use Rattle.sml_grammar.specs.Answer.{Read, Answer, ok, deep, read, then_read, Turn, last, more, many}
-use Rattle.sml_grammar.specs.Terminals.{after_word, on_some, then_taken, separated, NoState, no_state, binds_vid, names_vid}
+use Rattle.sml_grammar.specs.Terminals.{place_at, after_word, on_some, then_taken, separated, NoState, no_state, binds_vid, names_vid}
 use Rattle.sml_grammar.specs.Types.{ty_could_go_on}
 use Rattle.sml_grammar.specs.Bindings.{ex_bind_rest, ex_bind_turn, read_ex_binds}
 use Rattle.sml_grammar.specs.PartialBindings.{OpensExBinds, in_exn, past_exn}

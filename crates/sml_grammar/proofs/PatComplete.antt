@@ -13,7 +13,7 @@ use Rattle.sml_tree.specs.Levels.{vid_level, vid_right, pat_level}
 use Rattle.sml_tree.specs.Grammar.{ReadsTy, MaybeTy, without_ty, with_ty, BindsVid, op_vid, NamesVid, plain_long, qualified, op_long, IsInfixVid, PatFits, AtPat, of_wild, of_pat_constant, of_pat_vid, of_no_pat_row, of_pat_row, of_unit_pat, of_tuple_pat, of_nil_pat, of_list_pat, of_paren_pat, PatRow, row_dots, last_row, more_row, Field, of_labelled, of_punned, of_punned_as, PatCommas, last_pat, more_pats, Pattern, of_atpat, of_con_pat, of_chain_pat, of_typed_pat, of_as_pat, PatFollows, of_last_pat_part, of_pat_part, AtPats, no_atpats, more_atpats, ReadsHead, of_prefix_head, of_infix_head, of_bracket_head}
 use Rattle.sml_tree.specs.Grammar as grammar
 use Rattle.sml_grammar.specs.Answer.{read, last, more, many}
-use Rattle.sml_grammar.specs.Terminals.{Taken, after_word, tail, on_taken, short, infix_vid, binds_vid, names_vid}
+use Rattle.sml_grammar.specs.Terminals.{Taken, after_word, tail, on_taken, infix_vid, binds_vid, names_vid}
 use Rattle.sml_grammar.specs.Types.{read_ty, ty_could_go_on}
 use Rattle.sml_grammar.specs.Patterns.{short_at, pat_start, begins_pat, PatReader, PatReaders, at_pat, same, pat_part_next, pat_part_turn, whole_pat_parts, pat_suffix_mark, pat_suffix_joint, pat_suffix_turn, pat_first, plain_form, pat_form, read_pats, read_pat}
 use Rattle.sml_grammar.proofs.Answers.{not_none, many-last, many-more, many-pass, le_or}

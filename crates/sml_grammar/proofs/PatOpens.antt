@@ -6,7 +6,7 @@ use Rattle.sml_tree.specs.declared.ident.Vid.{Vid}
 use Rattle.sml_tree.specs.declared.ident.Vid.TheVariants.{Named}
 use Rattle.sml_tree.specs.Fixity.{Fixity, fix_of}
 use Rattle.sml_tree.specs.Terminal.{Terminal, reserved, IsVid}
-use Rattle.sml_tree.specs.ReadTree.{Ty, Pat, Pats, PatFields, PatField, PatParts}
+use Rattle.sml_tree.specs.ReadTree.{Placed, Ty, Pat, Pats, PatFields, PatField, PatParts}
 use Rattle.sml_tree.specs.Depth.{depth_ty, depth_some, depth_pat, depth_pats, depth_pat_fields, depth_pat_field, depth_pat_parts}
 use Rattle.sml_tree.specs.Levels.{pat_level}
 use Rattle.sml_tree.specs.Grammar.{MaybeTy, without_ty, with_ty, BindsVid, AtPat, of_wild, of_pat_constant, of_pat_vid, of_no_pat_row, of_pat_row, of_unit_pat, of_tuple_pat, of_nil_pat, of_list_pat, of_paren_pat, PatRow, row_dots, last_row, more_row, Field, of_labelled, of_punned, of_punned_as, PatCommas, last_pat, more_pats, Pattern, of_atpat, of_con_pat, of_chain_pat, of_typed_pat, of_as_pat, PatFollows, of_last_pat_part, of_pat_part}

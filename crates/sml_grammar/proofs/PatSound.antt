@@ -11,9 +11,9 @@ use Rattle.sml_tree.specs.Depth.{depth_some, depth_pat, depth_pat_parts}
 use Rattle.sml_tree.specs.Levels.{vid_level, vid_right, pat_level, pat_parts_level}
 use Rattle.sml_tree.specs.Grammar.{ReadsTy, MaybeTy, without_ty, with_ty, BindsVid, IsInfixVid, PatFits, of_pat_vid, Pattern, of_atpat, of_con_pat, of_chain_pat, of_typed_pat, of_as_pat, PatFollows, of_last_pat_part, of_pat_part}
 use Rattle.sml_grammar.specs.Answer.{Read, Answer, ok, bad, deep, read, then_read, Turn, last, more}
-use Rattle.sml_grammar.specs.Terminals.{Taken, place_at, after_word, on_some, short, infix_vid, binds_vid, names_vid}
+use Rattle.sml_grammar.specs.Terminals.{Taken, place_at, after_word, on_some, infix_vid, binds_vid, names_vid}
 use Rattle.sml_grammar.specs.Types.{read_ty}
-use Rattle.sml_grammar.specs.Patterns.{pat_start, begins_pat, PatReader, PatReaders, at_pat, same, pat_part_next, pat_part_turn, whole_pat_parts, pat_suffix_mark, pat_suffix_joint, pat_suffix_turn, pat_suffix, pat_first, plain_form, typed_or_as, typed_form, vid_form, pat_form, read_pats}
+use Rattle.sml_grammar.specs.Patterns.{short_at, pat_start, begins_pat, PatReader, PatReaders, at_pat, same, pat_part_next, pat_part_turn, whole_pat_parts, pat_suffix_mark, pat_suffix_joint, pat_suffix_turn, pat_suffix, pat_first, plain_form, typed_or_as, typed_form, vid_form, pat_form, read_pats}
 use Rattle.sml_grammar.proofs.Answers.{chosen, got, not_true, then_ok, bad_ok, deep_ok, deep_if-ok, on_some-split, on_taken-split, GoodTurn, many-ok}
 use Rattle.sml_grammar.proofs.Words.{AfterWord, found, absent, after-is}
 use Rattle.sml_grammar.proofs.Vids.{InfixAt, infix_at, infix-is, binds-is, names-is}

@@ -9,7 +9,7 @@ use Rattle.sml_tree.specs.ReadTree.{Placed}
 use Rattle.sml_tree.specs.Terminal.{Constant, LongVid, Terminal, reserved, IsConstant, is_number, is_constant, IsVid, alpha_vid, symbol_vid, star_vid, IsQualifiedVid, long_alpha_vid, long_symbol_vid, long_star_vid, IsAnyVid, IsAnyLongVid}
 use Rattle.sml_tree.specs.Grammar.{BindsVid, op_vid, NamesVid, plain_long, qualified, op_long, IsInfixVid}
 use Rattle.sml_tree.specs.Grammar as grammar
-use Rattle.sml_grammar.specs.Terminals.{Taken, taken, place_at, as_vid, as_qualified, as_any_vid, as_any_long, first_as, plain_if, infix_if, plain_from, plain_vid, infix_from, infix_vid, short, named_if, binds_vid, long_named_if, names_vid}
+use Rattle.sml_grammar.specs.Terminals.{Taken, taken, place_at, as_vid, as_qualified, first_as, plain_if, infix_if, plain_from, plain_vid, infix_from, infix_vid, short, named_if, binds_vid, long_named_if, names_vid}
 use Rattle.sml_grammar.specs.PartialPatterns.{NoVid}
 use Rattle.sml_grammar.proofs.Answers.{got_some, not_some}
 use Rattle.sml_grammar.proofs.Terminals.{Front, front, any_vid-is, any_long-is, vid-is, qualified-is, vid-found, any_vid-found, any_long-found}
