@@ -4,12 +4,12 @@ use Rattle.mlc_base.specs.declared.token.Reserved.TheVariants as res
 use Rattle.sml_tree.specs.Terminal.{Terminal, reserved, type_var, IsTycon, alpha_tycon, symbol_tycon}
 use Rattle.sml_tree.specs.declared.ident.Tyvar.{Tyvar}
 use Rattle.sml_tree.specs.ReadTree.{Placed}
-use Rattle.sml_tree.specs.Grammar.{TyvarCommas, last_tyvar, more_tyvars, Tyvars, no_tyvars, one_tyvar, tyvars_in_brackets, BeginsAt, at_tyvar, at_bracket, at_tycon}
+use Rattle.sml_tree.specs.Grammar.{TyvarCommas, last_tyvar, more_tyvars, Tyvars, no_tyvars, one_tyvar, tyvars_in_brackets, BeginsAt, at_tyvar, at_bracket, at_tycon, TyvarsPlace, at_declaration, at_sequence}
 use Rattle.sml_grammar.specs.Begins.{BeginTyvars, with_one_tyvar, with_tyvar_paren}
 use Rattle.sml_grammar.specs.Partial.{TyvarSeq, no_tyvar_here, some_tyvars}
 use Rattle.sml_grammar.specs.Answer.{Read, Answer, ok, deep, read, then_read, Turn, last, more, many, whole}
 use Rattle.sml_grammar.specs.Terminals.{place_at, first_as, as_tyvar, as_tycon, after_word, on_some, then_taken, word_then, NoState, no_state}
-use Rattle.sml_grammar.specs.Bindings.{tyvar_turn, bracketed_tyvars, read_tyvars, bound_tycon}
+use Rattle.sml_grammar.specs.Bindings.{tyvar_turn, bracketed_tyvars, read_tyvars, tyvars_place, bound_tycon}
 use Rattle.sml_grammar.proofs.Words.{WordAt, at_word, word-at}
 use Rattle.sml_grammar.proofs.Answers.{got, then_ok, then_deep, not_deep, on_some-split, on_taken-split, then_taken-ok, then_taken-deep, word_then-ok, word_then-deep, GoodTurn, many-ok, many-far, many-last, many-more}
 use Rattle.sml_grammar.proofs.Terminals.{Front, front, IsTyvar, is_tyvar, tyvar-is, tycon-is, tycon-found}
@@ -156,6 +156,18 @@ begins-place (at_tyvar p a) = refl
 begins-place (at_bracket p) = refl
 begins-place (at_tycon (alpha_tycon p x)) = refl
 begins-place (at_tycon (symbol_tycon p x)) = refl
+
+-- the place of a sequence
+
+pub place-is : (p : ℕ) {i m : List Terminal} {as_ : List Tyvar} → Tyvars i as_ m → TyvarsPlace p i as_ (tyvars_place p i as_)
+place-is p no_tyvars = at_declaration
+place-is p (one_tyvar q a) = at_sequence (at_tyvar q a)
+place-is p (tyvars_in_brackets q (last_tyvar r s a)) = at_sequence (at_bracket q)
+place-is p (tyvars_in_brackets q (more_tyvars r s a d)) = at_sequence (at_bracket q)
+
+pub place-found : {p : ℕ} {i : List Terminal} {as_ : List Tyvar} {q : ℕ} → TyvarsPlace p i as_ q → tyvars_place p i as_ ≡ q
+place-found at_declaration = refl
+place-found (at_sequence b) = begins-place b
 
 -- type variables, a type constructor and `=`, and the terminals after them
 pub data Bound : List Terminal → List Tyvar → ℕ → List Terminal → Type 0 where

@@ -175,8 +175,8 @@ mutual
       ]
 
   pub dec-opens : {f : Fixity} {i o : List Terminal} {d : Dec} → Declare f i d o → (k : ℕ) → 0 < k → k ≤ depth_dec d → OpensDec f i k
-  dec-opens (of_val p as_ d) k pos le = in_val p (facts.tyvars-here (facts.tyvars-complete as_ (binds-tyvars d))) (binds-opens d k pos le)
-  dec-opens (of_fun p as_ d) k pos le = in_fun p (facts.tyvars-here (facts.tyvars-complete as_ (funs-tyvars d))) (funs-opens d k pos le)
+  dec-opens (of_val p as_ s d) k pos le = in_val p (facts.tyvars-here (facts.tyvars-complete as_ (binds-tyvars d))) (binds-opens d k pos le)
+  dec-opens (of_fun p as_ s d) k pos le = in_fun p (facts.tyvars-here (facts.tyvars-complete as_ (funs-tyvars d))) (funs-opens d k pos le)
   dec-opens (of_type p d) k pos le = in_type p (facts.type_binds-opens d k pos le)
   dec-opens (of_datatype p d) k pos le = in_datatype p (facts.data_binds-opens d k pos le)
   dec-opens (of_withtype {bs} {cs} p q d e) k pos le =

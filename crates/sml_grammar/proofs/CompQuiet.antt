@@ -5,7 +5,7 @@ use Rattle.mlc_base.specs.declared.token.Reserved.{Reserved}
 use Rattle.mlc_base.specs.declared.token.Reserved.TheVariants as res
 use Rattle.sml_tree.specs.Terminal.{LongVid, Terminal, reserved, is_number, is_constant, alpha_vid, symbol_vid, star_vid, long_alpha_vid, long_symbol_vid, long_star_vid}
 use Rattle.sml_tree.specs.Fixity.{Fixity}
-use Rattle.sml_tree.specs.ReadTree.{Exp, ExpFields, Exps, Decs, Dec}
+use Rattle.sml_tree.specs.ReadTree.{Placed, Exp, ExpFields, Exps, Decs, Dec}
 use Rattle.sml_tree.specs.Levels.{level, could_go_on, begins_bar}
 use Rattle.sml_tree.specs.Grammar.{NamesVid, plain_long, qualified, op_long, Atom, of_constant, of_vid, of_equals, of_no_row, of_row, of_selector, of_unit, of_tuple, of_nil, of_list, of_sequence, of_paren, of_let, ExpRow, last_exp_row, more_exp_row, Commas, last_exp, more_exps, Reads, of_atom, of_app, of_chain, of_typed, of_handle, of_raise, of_if, of_while, of_case, of_fn, Declares, nothing_more, of_semicolon, of_dec, Declare, of_val, of_fun, of_type, of_datatype, of_withtype, of_replication, of_exception, of_local, of_open, of_infix, of_infixr, of_nonfix}
 use Rattle.sml_grammar.specs.Terminals.{first_as, as_vid, as_long_strid, after_word, names_vid}
@@ -82,8 +82,8 @@ quiet-is f (reserved p res.Nonfix ∷ r) h = record { plain = record { ties = re
 quiet-is f _ h = not_true h
 
 pub dec-quiet : {f : Fixity} {i o : List Terminal} {d : Dec} → Declare f i d o → quiet i ≡ true
-dec-quiet (of_val p a b) = refl
-dec-quiet (of_fun p a b) = refl
+dec-quiet (of_val p a s b) = refl
+dec-quiet (of_fun p a s b) = refl
 dec-quiet (of_type p b) = refl
 dec-quiet (of_datatype p b) = refl
 dec-quiet (of_withtype p q b c) = refl
@@ -124,10 +124,10 @@ no-bar i h = go (after-is res.Bar i) h
 
 -- What begins an atomic expression.
 
-pub names-start : {f : Fixity} {i o : List Terminal} {p : ℕ} {x : LongVid} → NamesVid f i p x o → atom_start f i ≡ vid_start (record { place = p; it = x }) o
-names-start {f} {i} v = start v ∙ ap vid_if (names-found v)
+pub names-start : {f : Fixity} {i o : List Terminal} {p : ℕ} {x : Placed LongVid} → NamesVid f i p x o → atom_start f i ≡ vid_start p x o
+names-start {f} {i} {p} v = start v ∙ ap (vid_if p) (names-found v)
   where
-    start : {f : Fixity} {i o : List Terminal} {p : ℕ} {x : LongVid} → NamesVid f i p x o → atom_start f i ≡ vid_if (names_vid f i)
+    start : {f : Fixity} {i o : List Terminal} {p : ℕ} {x : Placed LongVid} → NamesVid f i p x o → atom_start f i ≡ vid_if p (names_vid f i)
     start (plain_long (alpha_vid p x) e) = refl
     start (plain_long (symbol_vid p x) e) = refl
     start (plain_long (star_vid p x) e) = refl

@@ -9,7 +9,7 @@ use Rattle.sml_tree.specs.Fixity.{Fixity, fix_of}
 use Rattle.sml_tree.specs.ReadTree.{Placed, Joint, and_also, or_else, infixed, Parts, last_part, part, Rules, last_rule, rule}
 use Rattle.sml_tree.specs.Levels.{infix_level, joint_level, parts_level, tie, at_least, could_go_on, goes_on, rules_go_on}
 use Rattle.sml_tree.specs.Grammar.{IsJoint, is_andalso, is_orelse, is_infix, is_infix_equals, NamesVid}
-use Rattle.sml_grammar.specs.Terminals.{Taken, names_vid, infix_if, short}
+use Rattle.sml_grammar.specs.Terminals.{Taken, place_at, names_vid, infix_if, short}
 use Rattle.sml_grammar.specs.Expressions.{AtomStart, constant_start, vid_start, brace_start, hash_start, paren_start, bracket_start, let_start, no_atom, vid_if, equals_unless, atom_start, is_atom_start, begins_atom, begins, is_keyword, Start, raise_start, if_start, while_start, case_start, fn_start, other_start, start_of, Next, joint, mark, handler, nothing, infix_next, equals_next, next_of, DecStart, val_start, fun_start, type_start, datatype_start, exception_start, local_start, open_start, infix_start, infixr_start, nonfix_start, no_dec, dec_start}
 use Rattle.sml_grammar.specs.Begins.{BeginsAtom, with_constant, with_vid, with_equals, with_brace, with_hash, with_paren, with_bracket, with_let, Begins, with_atom, with_raise, with_if, with_while, with_case, with_fn}
 use Rattle.sml_grammar.proofs.Answers.{or_split, not_true}
@@ -149,8 +149,8 @@ start-is _ = is_other
 
 pub data AtomStartIs (f : Fixity) : List Terminal → AtomStart → Type 0 where
   is_constant_start : {t : Terminal} {p : ℕ} {c : Constant} {o : List Terminal} → IsConstant t p c → AtomStartIs f (t ∷ o) (constant_start p c o)
-  is_vid_start : {i o : List Terminal} {x : Placed LongVid} → NamesVid f i x.place x.it o → AtomStartIs f i (vid_start x o)
-  is_equals_start : {o : List Terminal} (p : ℕ) → fix_of Equals f ≡ None → AtomStartIs f (reserved p res.Equals ∷ o) (vid_start (record { place = p; it = short Equals }) o)
+  is_vid_start : {i o : List Terminal} {p : ℕ} {x : Placed LongVid} → NamesVid f i p x o → AtomStartIs f i (vid_start p x o)
+  is_equals_start : {o : List Terminal} (p : ℕ) → fix_of Equals f ≡ None → AtomStartIs f (reserved p res.Equals ∷ o) (vid_start p (record { place = p; it = short Equals }) o)
   is_brace_start : {o : List Terminal} (p : ℕ) → AtomStartIs f (reserved p res.LeftBrace ∷ o) (brace_start p o)
   is_hash_start : {o : List Terminal} (p : ℕ) → AtomStartIs f (reserved p res.Hash ∷ o) (hash_start p o)
   is_paren_start : {o : List Terminal} (p : ℕ) → AtomStartIs f (reserved p res.LeftParen ∷ o) (paren_start p o)
@@ -158,10 +158,10 @@ pub data AtomStartIs (f : Fixity) : List Terminal → AtomStart → Type 0 where
   is_let_start : {o : List Terminal} (p : ℕ) → AtomStartIs f (reserved p res.Let ∷ o) (let_start p o)
   is_no_atom : {i : List Terminal} → AtomStartIs f i no_atom
 
-names-start : (f : Fixity) (i : List Terminal) → AtomStartIs f i (vid_if (names_vid f i))
+names-start : (f : Fixity) (i : List Terminal) → AtomStartIs f i (vid_if (place_at i) (names_vid f i))
 names-start f i = go (names_vid f i) refl
   where
-    go : (v : Option (Taken (Placed LongVid))) → names_vid f i ≡ v → AtomStartIs f i (vid_if v)
+    go : (v : Option (Taken (Placed LongVid))) → names_vid f i ≡ v → AtomStartIs f i (vid_if (place_at i) v)
     go None e = is_no_atom
     go (Some x) e = is_vid_start (names-is f i x.it x.rest e)
 

@@ -6,7 +6,7 @@ use Rattle.sml_tree.specs.declared.ident.Vid.{Vid}
 use Rattle.sml_tree.specs.declared.ident.Vid.TheVariants.{Named}
 use Rattle.sml_tree.specs.Fixity.{Fixity, fix_of}
 use Rattle.sml_tree.specs.Terminal.{Terminal, reserved, IsVid}
-use Rattle.sml_tree.specs.ReadTree.{Ty, Pat, Pats, PatFields, PatField, PatParts}
+use Rattle.sml_tree.specs.ReadTree.{Placed, Ty, Pat, Pats, PatFields, PatField, PatParts}
 use Rattle.sml_tree.specs.Depth.{depth_ty, depth_some, depth_pat, depth_pats, depth_pat_fields, depth_pat_field, depth_pat_parts}
 use Rattle.sml_tree.specs.Levels.{pat_level}
 use Rattle.sml_tree.specs.Grammar.{MaybeTy, without_ty, with_ty, BindsVid, AtPat, of_wild, of_pat_constant, of_pat_vid, of_no_pat_row, of_pat_row, of_unit_pat, of_tuple_pat, of_nil_pat, of_list_pat, of_paren_pat, PatRow, row_dots, last_row, more_row, Field, of_labelled, of_punned, of_punned_as, PatCommas, last_pat, more_pats, Pattern, of_atpat, of_con_pat, of_chain_pat, of_typed_pat, of_as_pat, PatFollows, of_last_pat_part, of_pat_part}
@@ -27,7 +27,7 @@ maybe-field : {f : Fixity} {t : Terminal} {i o : List Terminal} {p x : ℕ} {s :
 maybe-field v e without_ty k pos le = absurd (omega arith)
 maybe-field v e (with_ty q d) k pos le = in_punned_ty q v e (ty-opens d (omega arith) k pos le)
 
-pub as-opens : {f : Fixity} {i m o : List Terminal} {p : ℕ} {v : Vid} {s : Option Ty} (l : ℕ) → BindsVid f i p v m → MaybeTy m s o → (k : ℕ) → 0 < k → k ≤ depth_some s → l ≤ 5 → OpensPat f l i (suc k)
+pub as-opens : {f : Fixity} {i m o : List Terminal} {p : ℕ} {v : Placed Vid} {s : Option Ty} (l : ℕ) → BindsVid f i p v m → MaybeTy m s o → (k : ℕ) → 0 < k → k ≤ depth_some s → l ≤ 5 → OpensPat f l i (suc k)
 as-opens l b without_ty k pos le low = absurd (omega arith)
 as-opens l b (with_ty p d) k pos le low = in_pat_ty p low (omega arith) (of_atpat (of_pat_vid (binds-names b))) (ty-opens d (omega arith) k pos le)
 

@@ -5,6 +5,7 @@ use Rattle.sml_tree.specs.Terminal.{Constant, LongVid, LongId, Terminal, reserve
 use Rattle.sml_tree.specs.declared.ident.Tyvar.{Tyvar}
 use Rattle.sml_tree.specs.declared.ident.Vid.TheVariants.{Equals}
 use Rattle.sml_tree.specs.Fixity.{Fixity, fix_of}
+use Rattle.sml_tree.specs.ReadTree.{Placed}
 use Rattle.sml_tree.specs.Grammar.{NamesVid}
 
 -- a type: a type variable, a type constructor, `{` or `(`
@@ -18,7 +19,7 @@ pub data BeginsTy : List Terminal → Type 0 where
 pub data BeginsPat (f : Fixity) : List Terminal → Type 0 where
   with_wild : {o : List Terminal} (p : ℕ) → BeginsPat f (reserved p res.Underscore ∷ o)
   with_pat_constant : {t : Terminal} {o : List Terminal} {p : ℕ} {c : Constant} → IsConstant t p c → BeginsPat f (t ∷ o)
-  with_pat_vid : {i o : List Terminal} {p : ℕ} {x : LongVid} → NamesVid f i p x o → BeginsPat f i
+  with_pat_vid : {i o : List Terminal} {p : ℕ} {x : Placed LongVid} → NamesVid f i p x o → BeginsPat f i
   with_pat_brace : {o : List Terminal} (p : ℕ) → BeginsPat f (reserved p res.LeftBrace ∷ o)
   with_pat_paren : {o : List Terminal} (p : ℕ) → BeginsPat f (reserved p res.LeftParen ∷ o)
   with_pat_bracket : {o : List Terminal} (p : ℕ) → BeginsPat f (reserved p res.LeftBracket ∷ o)
@@ -26,7 +27,7 @@ pub data BeginsPat (f : Fixity) : List Terminal → Type 0 where
 -- an atomic expression: a special constant, [op] longvid, `=` where it isn't infix, `{`, `#`, `(`, `[` or `let`
 pub data BeginsAtom (f : Fixity) : List Terminal → Type 0 where
   with_constant : {t : Terminal} {o : List Terminal} {p : ℕ} {c : Constant} → IsConstant t p c → BeginsAtom f (t ∷ o)
-  with_vid : {i o : List Terminal} {p : ℕ} {x : LongVid} → NamesVid f i p x o → BeginsAtom f i
+  with_vid : {i o : List Terminal} {p : ℕ} {x : Placed LongVid} → NamesVid f i p x o → BeginsAtom f i
   with_equals : {o : List Terminal} (p : ℕ) → fix_of Equals f ≡ None → BeginsAtom f (reserved p res.Equals ∷ o)
   with_brace : {o : List Terminal} (p : ℕ) → BeginsAtom f (reserved p res.LeftBrace ∷ o)
   with_hash : {o : List Terminal} (p : ℕ) → BeginsAtom f (reserved p res.Hash ∷ o)

@@ -5,7 +5,7 @@ use Rattle.sml_tree.specs.Terminal.{Terminal, reserved, IsTycon}
 use Rattle.sml_tree.specs.declared.ident.Tyvar.{Tyvar}
 use Rattle.sml_tree.specs.declared.ident.Vid.{Vid}
 use Rattle.sml_tree.specs.Fixity.{Fixity}
-use Rattle.sml_tree.specs.ReadTree.{Ty, TypeBind, DataBind, ExBind}
+use Rattle.sml_tree.specs.ReadTree.{Placed, Ty, TypeBind, DataBind, ExBind}
 use Rattle.sml_tree.specs.Grammar.{BindsVid, Tyvars, OneTypeBind, MaybeOf, OneDataBind, OneExBind}
 use Rattle.sml_grammar.specs.PartialTypes.{OpensTy}
 
@@ -17,8 +17,8 @@ pub data OpensTypeBinds : List Terminal → ℕ → Type 0 where
 
 -- conbind ::= [op] vid [of ty] [| conbind]
 pub data OpensCons : Fixity → List Terminal → ℕ → Type 0 where
-  in_con : {f : Fixity} {i m : List Terminal} {p : ℕ} {v : Vid} {d : ℕ} (q : ℕ) → BindsVid f i p v (reserved q res.Of ∷ m) → OpensTy 0 m d → OpensCons f i d
-  past_con : {f : Fixity} {i m n : List Terminal} {p : ℕ} {v : Vid} {s : Option Ty} {d : ℕ} (q : ℕ) → BindsVid f i p v m →
+  in_con : {f : Fixity} {i m : List Terminal} {p : ℕ} {v : Placed Vid} {d : ℕ} (q : ℕ) → BindsVid f i p v (reserved q res.Of ∷ m) → OpensTy 0 m d → OpensCons f i d
+  past_con : {f : Fixity} {i m n : List Terminal} {p : ℕ} {v : Placed Vid} {s : Option Ty} {d : ℕ} (q : ℕ) → BindsVid f i p v m →
       MaybeOf m s (reserved q res.Bar ∷ n) → OpensCons f n d → OpensCons f i d
 
 -- datbind ::= tyvarseq tycon = conbind [and datbind]
@@ -30,6 +30,6 @@ pub data OpensDataBinds : Fixity → List Terminal → ℕ → Type 0 where
 
 -- exbind ::= [op] vid [of ty] [and exbind]
 pub data OpensExBinds : Fixity → List Terminal → ℕ → Type 0 where
-  in_exn : {f : Fixity} {i m : List Terminal} {p : ℕ} {v : Vid} {d : ℕ} (q : ℕ) → BindsVid f i p v (reserved q res.Of ∷ m) → OpensTy 0 m d → OpensExBinds f i d
+  in_exn : {f : Fixity} {i m : List Terminal} {p : ℕ} {v : Placed Vid} {d : ℕ} (q : ℕ) → BindsVid f i p v (reserved q res.Of ∷ m) → OpensTy 0 m d → OpensExBinds f i d
   past_exn : {f : Fixity} {i m : List Terminal} {b : ExBind} {d : ℕ} (p : ℕ) → OneExBind f i b (reserved p res.And ∷ m) → OpensExBinds f m d →
       OpensExBinds f i d

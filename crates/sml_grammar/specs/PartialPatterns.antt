@@ -21,7 +21,7 @@ mutual
     -- an atomic pattern
     in_atpat : {f : Fixity} {l : ℕ} {i : List Terminal} {d : ℕ} → OpensAtPat f i d → OpensPat f l i d
     -- [op] longvid atpat
-    in_con_pat : {f : Fixity} {l : ℕ} {i m : List Terminal} {p : ℕ} {x : LongVid} {d : ℕ} → NamesVid f i p x m → OpensAtPat f m d → OpensPat f l i (suc d)
+    in_con_pat : {f : Fixity} {l : ℕ} {i m : List Terminal} {p : ℕ} {x : Placed LongVid} {d : ℕ} → NamesVid f i p x m → OpensAtPat f m d → OpensPat f l i (suc d)
     -- a chain, cut off after its first joint, or in an operand
     joined_pat : {f : Fixity} {l k : ℕ} {r : Bool} {i m : List Terminal} {t : Terminal} {x : Placed ℕ} {a : Pat} {d : ℕ} →
         l ≤ k → k < pat_level f a → Pattern f i a (t ∷ m) → PatFits f k r t x → d ≤ depth_pat a → OpensPat f l i (suc d)
@@ -33,7 +33,7 @@ mutual
     in_pat_ty : {f : Fixity} {l : ℕ} {i m : List Terminal} {a : Pat} {d : ℕ} (p : ℕ) → l ≤ 5 → 5 ≤ pat_level f a → Pattern f i a (reserved p res.Colon ∷ m) →
         OpensTy 0 m d → OpensPat f l i (suc d)
     -- [op] vid [: ty] as pat
-    in_as : {f : Fixity} {l : ℕ} {i m n : List Terminal} {p : ℕ} {v : Vid} {s : Option Ty} {d : ℕ} (q : ℕ) → l ≤ 0 → BindsVid f i p v m →
+    in_as : {f : Fixity} {l : ℕ} {i m n : List Terminal} {p : ℕ} {v : Placed Vid} {s : Option Ty} {d : ℕ} (q : ℕ) → l ≤ 0 → BindsVid f i p v m →
         MaybeTy m s (reserved q res.As ∷ n) → OpensPat f 0 n d → OpensPat f l i (suc d)
 
   pub data OpensAtPat : Fixity → List Terminal → ℕ → Type 0 where
@@ -84,18 +84,18 @@ pub data OpensAtPats : Fixity → List Terminal → ℕ → Type 0 where
 
 -- no [op] vid is here
 abbrev pub NoVid : Fixity → List Terminal → Type 0
-NoVid f i = (p : ℕ) (v : Vid) (m : List Terminal) → BindsVid f i p v m → ⊥
+NoVid f i = (p : ℕ) (v : Placed Vid) (m : List Terminal) → BindsVid f i p v m → ⊥
 
 -- An identifier at the head of a clause is a pattern only where an infix identifier follows it; else it is the function's name.
 pub data OpensHead : Fixity → List Terminal → ℕ → Type 0 where
   -- atpat vid atpat, cut off in the first pattern or in the second; so is the bracket of the third form
   in_first : {f : Fixity} {i : List Terminal} {d : ℕ} → NoVid f i → OpensAtPat f i d → OpensHead f i d
-  first_is_vid : {f : Fixity} {i m : List Terminal} {t : Terminal} {p : ℕ} {v : Vid} {x : Placed ℕ} → BindsVid f i p v (t ∷ m) → IsInfixVid f t x →
+  first_is_vid : {f : Fixity} {i m : List Terminal} {t : Terminal} {p : ℕ} {v : Placed Vid} {x : Placed ℕ} → BindsVid f i p v (t ∷ m) → IsInfixVid f t x →
       OpensHead f i 1
   in_second : {f : Fixity} {i m : List Terminal} {t : Terminal} {x : Placed ℕ} {a : Pat} {d : ℕ} → AtPat f i a (t ∷ m) → IsInfixVid f t x → OpensAtPat f m d →
       OpensHead f i d
   -- [op] vid atpat .. atpat
-  in_prefix : {f : Fixity} {i m : List Terminal} {p : ℕ} {v : Vid} {d : ℕ} → BindsVid f i p v m → OpensAtPats f m d → OpensHead f i d
+  in_prefix : {f : Fixity} {i m : List Terminal} {p : ℕ} {v : Placed Vid} {d : ℕ} → BindsVid f i p v m → OpensAtPats f m d → OpensHead f i d
   -- (atpat vid atpat) atpat .. atpat
   in_bracketed : {f : Fixity} {i m n : List Terminal} {t : Terminal} {x : Placed ℕ} {a b : Pat} {d : ℕ} (p q : ℕ) → AtPat f i a (t ∷ m) → IsInfixVid f t x →
       AtPat f m b (reserved q res.RightParen ∷ n) → OpensAtPats f n d → OpensHead f (reserved p res.LeftParen ∷ i) d
