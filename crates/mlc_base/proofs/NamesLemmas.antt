@@ -1,16 +1,20 @@
 -- Texts that are kept in a set, seen as a list.
-use Rattle.std.proofs.Common.{◌≡◌, ◌≢◌, ℕ, ◌<◌, inl, inr, Bool, true, false, ◌||◌, cond, nat_eq, nat_lt, if◌then◌else◌, List, [], ◌∷◌, ◌++◌, map, length, Some, None, Vec, Global, refl, ap, subst, sym, ◌∙◌, option_map, slice_get, get_or, arith, position, AllPairs}
+use Rattle.std.proofs.Common.{rules, ◌≡◌, ◌≢◌, ℕ, ◌<◌, inl, inr, Bool, true, false, ◌||◌, cond, nat_eq, nat_lt, if◌then◌else◌, List, [], ◌∷◌, ◌++◌, map, length, Some, None, Vec, Global, refl, ap, subst, sym, ◌∙◌, option_map, slice_get, get_or, take, ◌+◌, arith, position, AllPairs}
 use Rattle.std.specs.List.{AllByRecursion, IsDistinct, position_or_len, list_any}
+use Rattle.std.specs.Borrow.{Bor}
 use Rattle.std.specs.Cmp.Lexicographic.{pointwise}
 use Rattle.std.specs.Str.{bytes_eq}
 use Rattle.std.proofs.lemmas.Bool.{ltb-true}
-use Rattle.std.proofs.lemmas.List.{map-append}
+use Rattle.std.proofs.lemmas.List.{map-append, map_more}
+use Rattle.std.proofs.lemmas.List.Folds.{list_any_at}
+use Rattle.std.proofs.lemmas.List.Quantifiers.{all_pairs_push}
 use Rattle.std.proofs.lemmas.List.Sums.{passes_at_first}
 use Rattle.std.proofs.lemmas.Map.Made.{AllPairs-from_IsDistinct}
 use Rattle.std.proofs.lemmas.Option.{slice_get_cases, slice_get-map}
 use Rattle.std.proofs.lemmas.Slice.Eq.{bytes_eq-Decides}
 use Rattle.indexmap.specs.IndexSet.{insert_key}
-use Rattle.mlc_base.specs.Names.{with_text}
+use Rattle.mlc_base.specs.Names.{with_text, with_texts}
+use Rattle.mlc_base.specs.StandardWords.{standard_words}
 
 abbrev pub Kept : Type 0
 Kept = Vec ℕ Global
@@ -71,3 +75,42 @@ distinct-texts_of (k ∷ ks) h = (all-texts_of k ks h.0, distinct-texts_of ks h.
 
 pub one_to_one : (ks : List Kept) → IsDistinct same_text ks → AllPairs (λ text other. text ≢ other) (texts_of ks)
 one_to_one ks h = AllPairs-from_IsDistinct bytes_eq-Decides (texts_of ks) (distinct-texts_of ks h)
+
+-- Texts that are asked for one after the other.
+
+pub with_texts-append : (held texts more : List (List ℕ)) → with_texts held (texts ++ more) ≡ with_texts (with_texts held texts) more
+with_texts-append held [] more = refl
+with_texts-append held (text ∷ texts) more = with_texts-append (with_text held text) texts more
+
+pub with_texts-more : (words : List (Bor (List ℕ))) (d : Bor (List ℕ)) (i : ℕ) (held names names' : List (List ℕ)) (text : List ℕ) → i < length words → names ≡ with_texts held (map (λ w. w.now) (take i words)) → names' ≡ with_text names text → text ≡ (get_or words i d).now → names' ≡ with_texts held (map (λ w. w.now) (take (i + 1) words))
+with_texts-more words d i held names names' text h before is e =
+    is ∙ ap (λ t. with_text names t) e ∙ ap (λ n. with_text n (get_or words i d).now) before
+    ∙ sym (with_texts-append held (map (λ w. w.now) (take i words)) ((get_or words i d).now ∷ []))
+    ∙ sym (ap (with_texts held) (map_more (λ w. w.now) words i d h))
+
+-- No two texts become alike.
+
+abbrev pub AreApart : List (List ℕ) → Type 0
+AreApart texts = AllPairs (λ text other. text ≢ other) texts
+
+not-there : (texts : List (List ℕ)) (text : List ℕ) → list_any (bytes_eq text) texts ≡ false → (k : ℕ) (d : List ℕ) → k < length texts → get_or texts k d ≢ text
+not-there texts text h k d within e =
+    let there : list_any (bytes_eq text) texts ≡ true = list_any_at (bytes_eq text) texts k d within ((bytes_eq-Decides text (get_or texts k d)).1 (sym e)) in
+    absurd (cc)
+
+either-apart : (there : Bool) (texts : List (List ℕ)) (text : List ℕ) → list_any (bytes_eq text) texts ≡ there → AreApart texts → AreApart (if there then texts else texts ++ text ∷ [])
+either-apart true texts text h apart = apart
+either-apart false texts text h apart = all_pairs_push (λ t other. t ≢ other) texts text apart (not-there texts text h)
+
+pub with_text-apart : (texts : List (List ℕ)) (text : List ℕ) → AreApart texts → AreApart (with_text texts text)
+with_text-apart texts text apart = either-apart (list_any (bytes_eq text) texts) texts text refl apart
+
+pub with_texts-apart : (held texts : List (List ℕ)) → AreApart held → AreApart (with_texts held texts)
+with_texts-apart held [] apart = apart
+with_texts-apart held (text ∷ texts) apart = with_texts-apart (with_text held text) texts (with_text-apart held text apart)
+
+no-texts-apart : AreApart []
+no-texts-apart = search rules
+
+pub standard_words-apart : AreApart standard_words
+standard_words-apart = with_texts-apart [] standard_words no-texts-apart

@@ -7,3 +7,4 @@ pub mod Labels
 pub mod Names
 pub mod Outcome
 pub mod Run
+pub mod StandardWords

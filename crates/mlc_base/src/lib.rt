@@ -14,3 +14,4 @@ pub mod refused;
 #[cfg(test)]
 mod tests;
 pub mod token;
+pub mod words;

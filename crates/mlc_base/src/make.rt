@@ -43,7 +43,10 @@ pub fn with<A: Drop, B: Drop, E: Drop>(first: A, second: Result<B, E>) -> Result
 }
 
 /// Two parts, if both could be had.
-pub fn both<A: Drop, B: Drop, E: Drop>(first: Result<A, E>, second: Result<B, E>) -> Result<(A, B), E>
+pub fn both<A: Drop, B: Drop, E: Drop>(
+    first: Result<A, E>,
+    second: Result<B, E>,
+) -> Result<(A, B), E>
     ensures first { IfOk result (λ made. first ≡ Ok made.0) }
     ensures second { IfOk result (λ made. second ≡ Ok made.1) }
 {

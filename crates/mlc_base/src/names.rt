@@ -2,8 +2,10 @@
 
 ghost use Rattle.std.specs.Prelude.{◌≡◌, ◌≢◌, ◌<◌, [], length, slice_get, Some, take, IfOk, OnOk, OnErr, AllPairs};
 ghost use Rattle.mlc_base.specs.Names.{with_text};
+ghost use Rattle.mlc_base.specs.StandardWords.{standard_words};
 
 use crate::memory::NoMemory;
+use crate::words::STANDARD_WORDS;
 use indexmap::IndexSet;
 use std::alloc::Global;
 use std::marker::Model;
@@ -49,14 +51,28 @@ impl Model for Names {
     ghost invariant = { λ n. length n.texts.keys < 2 ^ 32 };
 }
 
-impl Names {
-    /// No names.
-    pub fn new(alloc: Global) -> Result<Names, NoMemory>
-        ensures { IfOk result (λ names. names ≡ []) }
+impl Name {
+    /// The standard word of this number.
+    pub fn standard(number: u32) -> Name
+        requires { number < length standard_words }
+        ensures { result ≡ number }
     {
-        Ok(Names {
+        Name { number }
+    }
+}
+
+impl Names {
+    /// The standard words.
+    pub fn new(alloc: Global) -> Result<Names, NoMemory>
+        ensures { IfOk result (λ names. names ≡ standard_words) }
+    {
+        let mut names = Names {
             texts: IndexSet::new(alloc),
-        })
+        };
+        for word in &STANDARD_WORDS {
+            let _ = names.intern(alloc, word.as_bytes())?;
+        }
+        Ok(names)
     }
 
     /// The name of these bytes, which are kept if they are new.
