@@ -145,6 +145,3 @@ pub fn read_image(alloc: Global, bytes: &[u8]) -> Result<Image, ImageRefused>
     let code = read_code(alloc, start, header.code, rest)?;
     Ok(Image::new(constants, code))
 }
-
-#[cfg(test)]
-mod tests;

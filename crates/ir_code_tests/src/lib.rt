@@ -1,0 +1,5 @@
+// Tests of the images' bytes.
+#![tactic(auto)]
+
+#[cfg(test)]
+mod tests;
