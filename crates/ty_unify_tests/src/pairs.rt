@@ -1,9 +1,5 @@
 // What unify answers.
 
-use crate::known::is_known;
-use crate::refused::UnifyRefused;
-use crate::solve::unify;
-use crate::subst::Subst;
 use mlc_base::label::Label;
 use mlc_base::memory::NoMemory;
 use std::alloc::Global;
@@ -11,6 +7,10 @@ use std::test::Fail;
 use ty_core::mark::{Class, Mark};
 use ty_core::name::{Equality, TyName};
 use ty_core::ty::{Head, Ty};
+use ty_unify::known::is_known;
+use ty_unify::refused::UnifyRefused;
+use ty_unify::solve::unify;
+use ty_unify::subst::Subst;
 
 const LIST: TyName = TyName {
     stamp: 20,
@@ -632,23 +632,24 @@ fn wide(alloc: Global, count: usize) -> Result<Ty, NoMemory> {
     Ok(Ty::Apply(Head::Function, fields))
 }
 
+/// What the variable 0 and a record of `count` fields answer, and whether the variable is free then.
+fn wide_answer(alloc: Global, count: usize) -> Result<(&'static str, bool), NoMemory> {
+    let mut s = variables(alloc, "..")?;
+    let answered = answer(alloc, &mut s, &Ty::Var(0), &wide(alloc, count)?);
+    Ok((answered, s.get(0).is_none()))
+}
+
+/// The same, with the record first.
+fn wide_first(alloc: Global, count: usize) -> Result<&'static str, NoMemory> {
+    let mut s = variables(alloc, "..")?;
+    Ok(answer(alloc, &mut s, &wide(alloc, count)?, &Ty::Var(0)))
+}
+
 #[test]
 fn a_type_has_at_most_65536_nodes(rt: HostRuntime) -> Result<(), Fail> {
-    let alloc = rt.alloc();
-    let mut s = variables(alloc, "..")?;
-    assert_eq!(rt;
-        answer(alloc, &mut s, &Ty::Var(0), &wide(alloc, 65_536)?),
-        "large"
-    );
-    assert_eq!(rt; s.get(0).is_none(), true);
-    assert_eq!(rt;
-        answer(alloc, &mut s, &Ty::Var(0), &wide(alloc, 65_535)?),
-        "ok"
-    );
-    assert_eq!(rt;
-        answer(alloc, &mut s, &wide(alloc, 65_535)?, &Ty::Var(0)),
-        "ok"
-    );
+    assert_eq!(rt; wide_answer(rt.alloc(), 65_536)?, ("large", true));
+    assert_eq!(rt; wide_answer(rt.alloc(), 65_535)?, ("ok", false));
+    assert_eq!(rt; wide_first(rt.alloc(), 65_535)?, "ok");
     Ok(())
 }
 
@@ -667,39 +668,54 @@ pub fn doubling(alloc: Global, count: usize) -> Result<(Ty, Ty), NoMemory> {
     ))
 }
 
+/// What variables and `count` doublings of them answer.
+fn doubled(alloc: Global, s: &mut Subst, count: usize) -> Result<&'static str, NoMemory> {
+    let (lefts, rights) = doubling(alloc, count)?;
+    Ok(answer(alloc, s, &lefts, &rights))
+}
+
 #[test]
 fn doubled_types_are_not_built(rt: HostRuntime) -> Result<(), Fail> {
-    let alloc = rt.alloc();
-    let mut s = variables(alloc, "..................................")?;
-    let (lefts, rights) = doubling(alloc, 33)?;
-    assert_eq!(rt; answer(alloc, &mut s, &lefts, &rights), "large");
+    let mut s = variables(rt.alloc(), "..................................")?;
+    assert_eq!(rt; doubled(rt.alloc(), &mut s, 33)?, "large");
     assert_eq!(rt; s.get(1).is_none(), true);
-    let (lefts, rights) = doubling(alloc, 15)?;
-    assert_eq!(rt; answer(alloc, &mut s, &lefts, &rights), "large");
-    let (lefts, rights) = doubling(alloc, 14)?;
-    assert_eq!(rt; answer(alloc, &mut s, &lefts, &rights), "ok");
+    assert_eq!(rt; doubled(rt.alloc(), &mut s, 15)?, "large");
+    Ok(())
+}
+
+#[test]
+fn a_doubled_type_may_be_large(rt: HostRuntime) -> Result<(), Fail> {
+    let mut s = variables(rt.alloc(), "..................................")?;
+    assert_eq!(rt; doubled(rt.alloc(), &mut s, 14)?, "ok");
     assert_eq!(rt;
-        answer(alloc, &mut s, &Ty::Var(0), &Ty::Var(14)),
+        answer(rt.alloc(), &mut s, &Ty::Var(0), &Ty::Var(14)),
         "circular"
     );
     Ok(())
 }
 
-#[test]
-fn a_chain_of_ten_thousand(rt: HostRuntime) -> Result<(), Fail> {
-    let alloc = rt.alloc();
+/// 10,001 variables, each but the last a list of the next.
+fn chain(alloc: Global) -> Result<(Subst, bool), NoMemory> {
     let mut s = Subst::new(alloc)?;
     for _variable in 0..10_001 {
         let _fresh = s.fresh(Mark::Any)?;
     }
+    let mut all = true;
     for i in 0..10_000usize {
         let list = one(alloc, Head::Named(LIST), Some(Ty::Var(i + 1)))?;
-        assert_eq!(rt; answer(alloc, &mut s, &Ty::Var(i), &list), "ok");
+        all = answer(alloc, &mut s, &Ty::Var(i), &list) == "ok" && all;
     }
+    Ok((s, all))
+}
+
+#[test]
+fn a_chain_of_ten_thousand(rt: HostRuntime) -> Result<(), Fail> {
+    let (mut s, all) = chain(rt.alloc())?;
+    assert_eq!(rt; all, true);
     assert_eq!(rt;
-        answer(alloc, &mut s, &Ty::Var(10_000), &Ty::Var(0)),
+        answer(rt.alloc(), &mut s, &Ty::Var(10_000), &Ty::Var(0)),
         "circular"
     );
-    assert_eq!(rt; answer(alloc, &mut s, &Ty::Var(0), &Ty::Var(0)), "ok");
+    assert_eq!(rt; answer(rt.alloc(), &mut s, &Ty::Var(0), &Ty::Var(0)), "ok");
     Ok(())
 }

@@ -1,14 +1,14 @@
 // What unify answers where variables stand for records with further fields, and that refusals change nothing.
 
-use crate::known::fits;
-use crate::row::Row;
-use crate::subst::{Slot, Subst};
-use crate::tests::{answer, doubling, read, variable};
+use crate::pairs::{answer, doubling, read, variable};
 use mlc_base::label::Label;
 use mlc_base::memory::NoMemory;
 use std::alloc::Global;
 use std::test::Fail;
-use ty_core::ty::{Head, Ty, same_head};
+use ty_core::ty::{Ty, same_head};
+use ty_unify::known::fits;
+use ty_unify::row::Row;
+use ty_unify::subst::{Slot, Subst};
 
 /// Puts a field to a row, its type in postfix.
 fn put(alloc: Global, row: &mut Row, label: u32, text: &str) -> Result<(), NoMemory> {
@@ -575,13 +575,20 @@ fn a_refusal_changes_nothing(rt: HostRuntime) -> Result<(), Fail> {
         );
         assert_eq!(rt; unchanged, true);
     }
-    let alloc = rt.alloc();
+    Ok(())
+}
+
+/// What 16 doublings answer beside two rows, and whether all slots are as they were.
+fn large_beside_rows(alloc: Global) -> Result<(&'static str, bool), NoMemory> {
     let mut s = variables(alloc, "..................xy")?;
     let (lefts, rights) = doubling(alloc, 16)?;
-    assert_eq!(rt; answer(alloc, &mut s, &lefts, &rights), "large");
-    assert_eq!(rt;
-        same_slots(&s, &variables(alloc, "..................xy")?),
-        true
-    );
+    let answered = answer(alloc, &mut s, &lefts, &rights);
+    let unchanged = same_slots(&s, &variables(alloc, "..................xy")?);
+    Ok((answered, unchanged))
+}
+
+#[test]
+fn a_large_type_changes_nothing(rt: HostRuntime) -> Result<(), Fail> {
+    assert_eq!(rt; large_beside_rows(rt.alloc())?, ("large", true));
     Ok(())
 }

@@ -1,0 +1,7 @@
+// Tests of making types equal.
+#![tactic(auto)]
+
+#[cfg(test)]
+mod pairs;
+#[cfg(test)]
+mod rows;
