@@ -167,8 +167,8 @@ long_id_at_of x = record { place = x.place; long = long_id_of x.long }
 -- Expressions and declarations.
 
 abbrev pub node_dec : Dec-F bare.Dec bare.Exp RuleOf derived.Clause ExpFieldOf derived.Function (Operand Joint bare.Exp) RuleOf → bare.Dec
-node_dec (Dec-F.Val p as_ bs cs) = bare.val_dec p p as_.items (binds_of bs.items) (binds_of cs.items)
-node_dec (Dec-F.Fun p as_ gs) = fun_dec_of p p as_.items gs.items
+node_dec (Dec-F.Val p as_ bs cs) = bare.val_dec p as_.place as_.tyvars.items (binds_of bs.items) (binds_of cs.items)
+node_dec (Dec-F.Fun p as_ gs) = fun_dec_of p as_.place as_.tyvars.items gs.items
 node_dec (Dec-F.Abbreviation p bs) = bare.type_dec p (map type_bind_of bs.items)
 node_dec (Dec-F.Datatype p bs) = bare.datatype_dec p (map data_bind_of bs.items)
 node_dec (Dec-F.Withtype p ds bs) = withtype_of p (map data_bind_of ds.items) (map type_bind_of bs.items)
@@ -204,7 +204,7 @@ abbrev pub node_exp_field : ExpField-F bare.Dec bare.Exp RuleOf derived.Clause E
 node_exp_field a = record { label = a.label; exp = a.exp }
 
 abbrev pub node_function : Function-F bare.Dec bare.Exp RuleOf derived.Clause ExpFieldOf derived.Function (Operand Joint bare.Exp) RuleOf → derived.Function
-node_function g = record { place = g.place; vid_place = g.place; vid = g.vid; clauses = g.clauses.items }
+node_function g = record { place = g.place; vid_place = g.vid_place; vid = g.vid; clauses = g.clauses.items }
 
 abbrev pub node_part : Part-F bare.Dec bare.Exp RuleOf derived.Clause ExpFieldOf derived.Function (Operand Joint bare.Exp) RuleOf → Operand Joint bare.Exp
 node_part a = record { joint = a.joint; place = a.place; operand = a.exp }
