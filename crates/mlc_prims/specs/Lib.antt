@@ -1,2 +1,5 @@
+pub mod Arithmetic
+pub mod Laws
 pub mod LitOf
 pub mod PrimOf
+pub mod Table

@@ -1,4 +1,4 @@
--- The table of primitives: the values that each takes, and what it gives.
+-- What a primitive gives, and the table of the primitives that compile today.
 use Rattle.std.specs.Prelude.{◌≡◌, ℕ, ◌+◌, ◌^◌, ◌≤◌, ℤ, pos, negsuc, ◌+ℤ◌, ◌-ℤ◌, ◌*ℤ◌, Bool, nat_lt, nat_le, if◌then◌else◌, List, ◌++◌, length, Option, Some, None, option_map, ⊤}
 use Rattle.std.specs.List.{AllByRecursion}
 use Rattle.mlc_prims.specs.LitOf.{Literal, int, string, word, char, truth, lit_of, ints_in, strings_in}
@@ -6,15 +6,8 @@ use Rattle.mlc_prims.specs.declared.prim.Primitive.{Primitive}
 use Rattle.mlc_prims.specs.declared.prim.Primitive.TheVariants.{Add, Sub, Mul, Cat, Print}
 use Rattle.mlc_prims.specs.declared.prim.PrimExn.{PrimExn}
 use Rattle.mlc_prims.specs.declared.prim.PrimExn.TheVariants.{Overflow, Size}
-use Rattle.mlc_prims.specs.declared.apply.Applied.{Applied}
-use Rattle.mlc_prims.specs.declared.apply.Applied.TheVariants.{Made, Raises, Memory}
-
-abbrev pub prim_number : Primitive → ℕ
-prim_number Add = 0
-prim_number Sub = 1
-prim_number Mul = 2
-prim_number Cat = 3
-prim_number Print = 4
+use Rattle.mlc_prims.specs.declared.applied.Applied.{Applied}
+use Rattle.mlc_prims.specs.declared.applied.Applied.TheVariants.{Made, Raises, Memory}
 
 -- what a primitive gives: a value, or an exception
 pub data Gives : Type 0 where
@@ -53,10 +46,6 @@ prim_of Mul args = option_map (λ p. int_result (p.0 *ℤ p.1)) (ints_in args)
 prim_of Cat args = option_map (λ p. joined p.0 p.1) (strings_in args)
 prim_of Print args = None
 
--- the table has a row for these values
-abbrev pub HasRow : Primitive → List Literal → Type 0
-HasRow p args = (g : Gives) × (prim_of p args ≡ Some g)
-
 abbrev pub IsShort : Literal → Type 0
 IsShort (int z) = ⊤
 IsShort (word n) = ⊤
@@ -68,12 +57,26 @@ IsShort (truth b) = ⊤
 abbrev pub AreShort : List Literal → Type 0
 AreShort = AllByRecursion IsShort
 
--- an answer is what the table gives, want of memory aside
+abbrev pub IsString : Literal → Type 0
+IsString (int z) = ⊥
+IsString (word n) = ⊥
+IsString (char n) = ⊥
+IsString (string s) = ⊤
+IsString (truth b) = ⊥
+
+abbrev pub GivesString : Gives → Type 0
+GivesString (made l) = IsString l
+GivesString (raised e) = ⊥
+
+-- an answer is what the table gives; or want of memory, where that is a string
 abbrev pub Meets : Applied → Gives → Type 0
 Meets (Made v) g = g ≡ made (lit_of v)
 Meets (Raises e) g = g ≡ raised e
-Meets Memory g = ⊤
+Meets Memory g = GivesString g
 
-abbrev pub MeetsRow : Applied → Option Gives → Type 0
-MeetsRow a None = ⊥
-MeetsRow a (Some g) = Meets a g
+-- the same of an answer that may be none, and a row that may not be there
+abbrev pub MeetsRow : Option Applied → Option Gives → Type 0
+MeetsRow None None = ⊤
+MeetsRow None (Some g) = ⊥
+MeetsRow (Some a) None = ⊥
+MeetsRow (Some a) (Some g) = Meets a g

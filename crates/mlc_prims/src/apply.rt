@@ -1,149 +1,66 @@
 // Applying a primitive.
 
-ghost use Rattle.std.specs.Prelude.{◌≡◌, ◌++◌, ◌≤◌, ◌+ℤ◌, ◌-ℤ◌, ◌*ℤ◌, length, IfOk};
-ghost use Rattle.mlc_prims.specs.LitOf.{lits_of, ints_in, strings_in, as_ints, as_strings};
-ghost use Rattle.mlc_prims.specs.PrimOf.{exact, int_result, joined, prim_of, HasRow, AreShort, Meets, MeetsRow};
+ghost use Rattle.mlc_prims.specs.LitOf.{lits_of};
+ghost use Rattle.mlc_prims.specs.PrimOf.{AreShort, MeetsRow};
+ghost use Rattle.mlc_prims.specs.Table.{row_of, HasBasisRow};
+ghost use Rattle.std.specs.Prelude.{Some};
 
+use crate::applied::Applied;
+use crate::basis::BasisPrimitive;
 use crate::lit::Lit;
-use crate::prim::{PrimExn, Primitive};
-use mlc_base::memory::NoMemory;
+use crate::{compare, numbers, strings, words};
 use std::alloc::Global;
 
-/// The most bytes of a string.
-pub const MAX_SIZE: usize = 268_435_455;
-
-/// What a primitive does.
-#[derive(Debug, Drop)]
-pub enum Applied {
-    Made(Lit),
-    Raises(PrimExn),
-    Memory,
-}
-
-/// Two integers.
-#[derive(Clone, Copy)]
-struct IntPair {
-    left: i32,
-    right: i32,
-}
-
-/// Two strings.
-#[derive(Clone, Copy)]
-struct StringPair<'a> {
-    left: &'a [u8],
-    right: &'a [u8],
-}
-
-fn ints(args: &[Lit]) -> Option<IntPair>
-    ensures { as_ints result ≡ ints_in (lits_of args.now) }
-{
-    if args.len() != 2 {
-        return None;
-    }
-    match &args[0] {
-        Lit::Int(left) => match &args[1] {
-            Lit::Int(right) => Some(IntPair {
-                left: *left,
-                right: *right,
-            }),
-            _ => None,
-        },
-        _ => None,
-    }
-}
-
-fn strings(args: &[Lit]) -> Option<StringPair>
-    ensures { as_strings result ≡ strings_in (lits_of args.now) }
-{
-    if args.len() != 2 {
-        return None;
-    }
-    match &args[0] {
-        Lit::Str(left) => match &args[1] {
-            Lit::Str(right) => Some(StringPair { left, right }),
-            _ => None,
-        },
-        _ => None,
-    }
-}
-
-/// The integer, or Overflow where there is none of 32 bits.
-fn exact_result(value: Option<i32>) -> Applied
-    ensures { Meets result (exact value) }
-{
-    match value {
-        None => Applied::Raises(PrimExn::Overflow),
-        Some(value) => Applied::Made(Lit::Int(value)),
-    }
-}
-
-/// Both strings one behind the other.
-fn concatenation(alloc: Global, left: &[u8], right: &[u8]) -> Result<Vec<u8>, NoMemory>
-    requires left { length left.now ≤ 268435455 }
-    requires right { length right.now ≤ 268435455 }
-    ensures { IfOk result (λ text. text.items ≡ left.now ++ right.now) }
-{
-    let mut text = Vec::from_slice(alloc, left)?;
-    text.extend_from_slice(right)?;
-    Ok(text)
-}
-
-/// Both strings one behind the other, or Size where these are too many bytes.
-fn cat(alloc: Global, left: &[u8], right: &[u8]) -> Applied
-    requires left { length left.now ≤ 268435455 }
-    requires right { length right.now ≤ 268435455 }
-    ensures { Meets result (joined left.now right.now) }
-{
-    if left.len() + right.len() > MAX_SIZE {
-        return Applied::Raises(PrimExn::Size);
-    }
-    match concatenation(alloc, left, right) {
-        Err(NoMemory) => Applied::Memory,
-        Ok(text) => Applied::Made(Lit::Str(text)),
-    }
-}
-
-fn add(args: IntPair) -> Applied
-    ensures { Meets result (int_result (args.left +ℤ args.right)) }
-{
-    exact_result(args.left.checked_add(args.right))
-}
-
-fn sub(args: IntPair) -> Applied
-    ensures { Meets result (int_result (args.left -ℤ args.right)) }
-{
-    exact_result(args.left.checked_sub(args.right))
-}
-
-fn mul(args: IntPair) -> Applied
-    ensures { Meets result (int_result (args.left *ℤ args.right)) }
-{
-    exact_result(args.left.checked_mul(args.right))
-}
-
-/// What the row of a primitive gives for these values.
-pub fn apply_prim(alloc: Global, prim: Primitive, args: &[Lit]) -> Applied
-    requires row { HasRow prim (lits_of args.now) }
-    requires short { AreShort (lits_of args.now) }
-    ensures { MeetsRow result (prim_of prim (lits_of args.now)) }
+/// What the row of a primitive gives for these values, where it has one.
+pub fn try_prim(alloc: Global, prim: BasisPrimitive, args: &[Lit]) -> Option<Applied>
+    requires { AreShort (lits_of args.now) }
+    ensures { MeetsRow result (row_of prim (lits_of args.now)) }
 {
     match prim {
-        Primitive::Add => match ints(args) {
-            Some(both) => add(both),
-            None => unreachable!(),
-        },
-        Primitive::Sub => match ints(args) {
-            Some(both) => sub(both),
-            None => unreachable!(),
-        },
-        Primitive::Mul => match ints(args) {
-            Some(both) => mul(both),
-            None => unreachable!(),
-        },
-        Primitive::Cat => match strings(args) {
-            Some(both) => cat(alloc, both.left, both.right),
-            None => unreachable!(),
-        },
-        Primitive::Print => unreachable!(),
+        BasisPrimitive::Add => numbers::add(args),
+        BasisPrimitive::Subtract => numbers::subtract(args),
+        BasisPrimitive::Multiply => numbers::multiply(args),
+        BasisPrimitive::Divide => numbers::divide(args),
+        BasisPrimitive::Modulo => numbers::modulo(args),
+        BasisPrimitive::Negate => numbers::negate(args),
+        BasisPrimitive::Absolute => numbers::absolute(args),
+        BasisPrimitive::Less => compare::less(args),
+        BasisPrimitive::LessEqual => compare::less_equal(args),
+        BasisPrimitive::Greater => compare::greater(args),
+        BasisPrimitive::GreaterEqual => compare::greater_equal(args),
+        BasisPrimitive::Equals => compare::equals(args),
+        BasisPrimitive::Quotient => numbers::quotient(args),
+        BasisPrimitive::Remainder => numbers::remainder(args),
+        BasisPrimitive::BitsAnd => words::bits_and(args),
+        BasisPrimitive::BitsOr => words::bits_or(args),
+        BasisPrimitive::BitsXor => words::bits_xor(args),
+        BasisPrimitive::BitsNot => words::bits_not(args),
+        BasisPrimitive::ShiftLeft => words::left(args),
+        BasisPrimitive::ShiftRight => words::right(args),
+        BasisPrimitive::ShiftSigned => words::right_with_sign(args),
+        BasisPrimitive::ToInt => words::to_int(args),
+        BasisPrimitive::ToIntSigned => words::to_int_signed(args),
+        BasisPrimitive::FromInt => words::from_int(args),
+        BasisPrimitive::CharCode => strings::char_code(args),
+        BasisPrimitive::CharOf => strings::char_of(args),
+        BasisPrimitive::TextOf => strings::text_of(alloc, args),
+        BasisPrimitive::SizeOf => strings::size_of(args),
+        BasisPrimitive::CharAt => strings::char_at(args),
+        BasisPrimitive::PartOf => strings::part_of(alloc, args),
+        BasisPrimitive::Concat => strings::concat(alloc, args),
+        BasisPrimitive::StringOf => strings::string_of(alloc, args),
+        BasisPrimitive::Assign | BasisPrimitive::Print => None,
+    }
+}
+
+/// What the row of a primitive gives for these values. Want of memory is answered only where that is a string.
+pub fn apply_prim(alloc: Global, prim: BasisPrimitive, args: &[Lit]) -> Applied
+    requires row { HasBasisRow prim (lits_of args.now) }
+    requires short { AreShort (lits_of args.now) }
+    ensures { MeetsRow (Some result) (row_of prim (lits_of args.now)) }
+{
+    match try_prim(alloc, prim, args) {
+        Some(applied) => applied,
+        None => unreachable!(),
     }
 }

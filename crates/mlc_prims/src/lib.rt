@@ -1,8 +1,14 @@
 // The primitives of the language: their numbers, and what each gives.
 #![tactic(auto)]
 
+pub mod applied;
 pub mod apply;
+pub mod args;
+pub mod basis;
+mod compare;
+pub mod law;
 pub mod lit;
+mod numbers;
 pub mod prim;
-#[cfg(test)]
-mod tests;
+mod strings;
+mod words;

@@ -1,10 +1,6 @@
-// Primitives, and the exceptions that they raise.
+// Primitives that compile today, and the exceptions that primitives raise.
 
-ghost use Rattle.std.specs.Prelude.{◌≡◌};
-ghost use Rattle.mlc_prims.specs.declared.prim.Primitive.{Primitive};
-ghost use Rattle.mlc_prims.specs.PrimOf.{prim_number};
-
-/// A primitive of the initial basis.
+/// A primitive of the small language that compiles today.
 #[derive(Clone, Copy, PartialEq, Eq, Debug)]
 pub enum Primitive {
     /// `+`
@@ -18,26 +14,6 @@ pub enum Primitive {
     /// `print`
     Print,
 }
-
-impl Primitive {
-    /// Its number, which no other primitive has.
-    pub fn number(self) -> u32
-        ensures { result ≡ prim_number self }
-    {
-        match self {
-            Primitive::Add => 0,
-            Primitive::Sub => 1,
-            Primitive::Mul => 2,
-            Primitive::Cat => 3,
-            Primitive::Print => 4,
-        }
-    }
-}
-
-/// No two primitives have one number.
-pub fn numbers_are_one_to_one()
-    ensures { (p q : Primitive) → prim_number p ≡ prim_number q → p ≡ q }
-{}
 
 /// An exception that a primitive raises.
 #[derive(Clone, Copy, PartialEq, Eq, Debug)]

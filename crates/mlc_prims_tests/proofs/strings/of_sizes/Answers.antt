@@ -1,5 +1,5 @@
 use Rattle.std.proofs.Common.{refl}
-use Rattle.mlc_prims.proofs.tests.sum.Goals as goal
+use Rattle.mlc_prims_tests.proofs.strings.of_sizes.Goals as goal
 
 pub apply_prim-requires-clause-row : goal.apply_prim-requires-clause-row
 apply_prim-requires-clause-row c = (_, refl)
