@@ -12,6 +12,7 @@ use Rattle.ir_code.specs.Machine.{State, run, start}
 use Rattle.ir_code.specs.Run.{RunResult, result_of, run_of}
 use Rattle.ir_code.specs.Run as machine
 use Rattle.mlc_prims.specs.declared.prim.Primitive.TheVariants.{Add, Sub, Mul, Cat, Print}
+use Rattle.mlc_base.specs.StandardWords.{word_Overflow, word_Size}
 use Rattle.sml_rules.specs.Basis.{text_in, identifier_of, basis_exceptions, IsTable}
 use Rattle.sml_rules.specs.Laws.{IsPrefix}
 use Rattle.sml_rules.specs.Values.{Value}
@@ -27,6 +28,7 @@ use Rattle.mlc_driver.proofs.MachineOps.{TextsAt, Names, names_overflow, names_s
 use Rattle.mlc_driver.proofs.MachinePrims.{print_follows, add_follows, sub_follows, mul_follows, cat_follows}
 use Rattle.mlc_driver.proofs.MachineSame.{Stopped, alike, exhausted, same_runs}
 use Rattle.mlc_driver.proofs.MachineSizes.{image_size, keeps_few}
+use Rattle.sml_rules.proofs.Tables.{has-word}
 
 -- all operations, one after the other
 all_follow : (laws : MachineLaws) (code : List Instr) (base total : ℕ) (exceptions : List ℕ) → HasAt code 0 raising_code → total < 2 ^ 32 → (ops : List Op) → Follows laws code base total exceptions ops
@@ -108,10 +110,10 @@ found_text (t ∷ texts) name h = go (λ c. found_text texts name c) (bytes_eq t
 
 packet_end : (texts : List (List ℕ)) (v : Value) (w : World Value) (name : List ℕ) → IsTable texts → Names v name → w.exceptions ≡ exceptions_of texts → SameEnd (text_in texts) (uncaught_end (packet_identifier v w)) (machine.uncaught name)
 packet_end texts v w name table names_overflow e =
-    let found : text_in texts (identifier_of texts (codes "Overflow")) ≡ codes "Overflow" = found_text texts (codes "Overflow") (table.with_basis 20 [] (omega arith)) in
+    let found : text_in texts (identifier_of texts (codes "Overflow")) ≡ codes "Overflow" = found_text texts (codes "Overflow") (has-word texts table word_Overflow (codes "Overflow") refl refl) in
     subst (λ l. SameEnd (text_in texts) (uncaught_end (slice_get l 2)) (machine.uncaught (codes "Overflow"))) (sym e) (both_uncaught (identifier_of texts (codes "Overflow")) found)
 packet_end texts v w name table names_size e =
-    let found : text_in texts (identifier_of texts (codes "Size")) ≡ codes "Size" = found_text texts (codes "Size") (table.with_basis 23 [] (omega arith)) in
+    let found : text_in texts (identifier_of texts (codes "Size")) ≡ codes "Size" = found_text texts (codes "Size") (has-word texts table word_Size (codes "Size") refl refl) in
     subst (λ l. SameEnd (text_in texts) (uncaught_end (slice_get l 5)) (machine.uncaught (codes "Size"))) (sym e) (both_uncaught (identifier_of texts (codes "Size")) found)
 
 record StopsAt (texts : List (List ℕ)) (o : Outcome) (runs : ℕ → RunResult) : Type 0 where

@@ -5,8 +5,10 @@ use Rattle.std.specs.Str.{bytes_eq}
 use Rattle.std.proofs.lemmas.Bool.{eq-eqb, eqb-true}
 use Rattle.std.proofs.lemmas.Slice.Eq.{bytes_eq-Decides}
 use Rattle.mlc_base.specs.Labels.{held_text}
+use Rattle.mlc_base.specs.StandardWords.{word_plus, word_minus, word_times, word_concatenate, word_print}
 use Rattle.sml_rules.specs.Basis.{IsTable, text_in}
 use Rattle.sml_rules.proofs.Names.{names-are-found}
+use Rattle.sml_rules.proofs.Tables.{has-word}
 
 pub same-tests : (a b : Bool) → (a ≡ true → b ≡ true) → (b ≡ true → a ≡ true) → a ≡ b
 same-tests true b f g = sym (f refl)
@@ -15,19 +17,19 @@ same-tests false false f g = refl
 
 module _ (texts : List (List ℕ)) (t : IsTable texts) where
   pub has-add : Contains texts (codes "+")
-  has-add = t.with_basis 4 [] (omega arith)
+  has-add = has-word texts t word_plus (codes "+") refl refl
 
   pub has-sub : Contains texts (codes "-")
-  has-sub = t.with_basis 5 [] (omega arith)
+  has-sub = has-word texts t word_minus (codes "-") refl refl
 
   pub has-mul : Contains texts (codes "*")
-  has-mul = t.with_basis 0 [] (omega arith)
+  has-mul = has-word texts t word_times (codes "*") refl refl
 
   pub has-cat : Contains texts (codes "^")
-  has-cat = t.with_basis 6 [] (omega arith)
+  has-cat = has-word texts t word_concatenate (codes "^") refl refl
 
   pub has-print : Contains texts (codes "print")
-  has-print = t.with_basis 17 [] (omega arith)
+  has-print = has-word texts t word_print (codes "print") refl refl
 
 abbrev is_empty : List ℕ → Bool
 is_empty [] = true

@@ -11,7 +11,8 @@ use Rattle.sml_tree.specs.BareTree.{Exp, constant_exp, vid_exp, app, Pat, vid_pa
 use Rattle.sml_rules.specs.Project.{Part, standard_basis, source}
 use Rattle.sml_rules.specs.Meaning.{meaning}
 use Rattle.sml_rules.specs.Phrases.{integer, text, identifier, applies, applies_pair, binds, binds_nothing, declares, brings_basis, dec_phrases, parts_phrases, first_foreign, nodes_in}
-use Rattle.sml_rules.specs.Basis.{identifier_of, infix_left, infix_right, standard_fixities, basis_words, IsTable}
+use Rattle.mlc_base.specs.StandardWords.{standard_words, word_cons, word_div, word_before, word_print}
+use Rattle.sml_rules.specs.Basis.{infix_left, infix_right, standard_fixities, IsTable}
 use Rattle.sml_rules.specs.Broken.{max_nodes, IsAccepted}
 use Rattle.sml_rules.specs.Typing.{Elaborates, constant_has, vid_has, app_has, variable_has, unit_has, val_has, no_dec_has, dec_has, no_part_has, basis_has, source_has}
 use Rattle.sml_rules.proofs.Names.{texts-apart, contains-own}
@@ -142,18 +143,21 @@ rebinds_phrases = refl
 
 -- Fixities and tables.
 
--- the words of the standard basis by themselves are a table
-words_are_table : IsTable basis_words
-words_are_table = record { apart = texts-apart basis_words refl; with_basis = contains-own basis_words }
+-- the standard words by themselves are a table
+words_are_table : IsTable standard_words
+words_are_table = record { apart = texts-apart standard_words refl; begins = refl }
 
-div_binds : fix_of (Named (identifier_of basis_words (codes "div"))) (standard_fixities basis_words) ≡ Some (infix_left 7)
+div_binds : fix_of (Named word_div) standard_fixities ≡ Some (infix_left 7)
 div_binds = refl
 
-cons_binds : fix_of (Named (identifier_of basis_words (codes "::"))) (standard_fixities basis_words) ≡ Some (infix_right 5)
+cons_binds : fix_of (Named word_cons) standard_fixities ≡ Some (infix_right 5)
 cons_binds = refl
 
-equals_binds : fix_of Equals (standard_fixities basis_words) ≡ Some (infix_left 4)
+before_binds : fix_of (Named word_before) standard_fixities ≡ Some (infix_left 0)
+before_binds = refl
+
+equals_binds : fix_of Equals standard_fixities ≡ Some (infix_left 4)
 equals_binds = refl
 
-print_is_nonfix : fix_of (Named (identifier_of basis_words (codes "print"))) (standard_fixities basis_words) ≡ None
+print_is_nonfix : fix_of (Named word_print) standard_fixities ≡ None
 print_is_nonfix = refl

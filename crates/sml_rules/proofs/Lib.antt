@@ -6,3 +6,4 @@ mod Examples
 mod Growing
 pub mod Names
 mod Refusals
+pub mod Tables

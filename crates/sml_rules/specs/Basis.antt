@@ -1,7 +1,8 @@
 -- What the path of the standard basis brings so far: `+`, `-` and `*` on int, `^`, `print`, and fixities. Identifiers are names, and texts tells what each is written as.
-use Rattle.std.specs.Prelude.{◌≢◌, ℕ, suc, Bool, true, false, ◌||◌, if◌then◌else◌, List, [], ◌∷◌, ◌++◌, map, All, AllPairs, Contains, Option, Some, None, codes, slice_get}
+use Rattle.std.specs.Prelude.{◌≡◌, ◌≢◌, ℕ, suc, Bool, true, false, ◌||◌, if◌then◌else◌, List, [], ◌∷◌, length, map, take, AllPairs, Option, Some, None, codes, slice_get}
 use Rattle.std.specs.Str.{bytes_eq}
 use Rattle.mlc_base.specs.Labels.{held_text}
+use Rattle.mlc_base.specs.StandardWords.{standard_words, word_cons, word_plus, word_minus, word_times, word_div, word_mod, word_less_than, word_at_most, word_greater_than, word_at_least, word_assign, word_divide, word_not_equal, word_append, word_concatenate, word_compose, word_before}
 use Rattle.mlc_prims.specs.declared.prim.Primitive.{Primitive}
 use Rattle.mlc_prims.specs.declared.prim.Primitive.TheVariants.{Add, Sub, Mul, Cat, Print}
 use Rattle.sml_tree.specs.declared.fixity.Infix.{Infix}
@@ -49,28 +50,22 @@ infix_left precedence = record { precedence = precedence; right = false }
 abbrev pub infix_right : ℕ → Infix
 infix_right precedence = record { precedence = precedence; right = true }
 
--- of all identifiers but `=`, which isn't written as a name
-abbrev pub fixity_rows : List (Infix × List ℕ)
+-- of all identifiers but `=`, which is no name
+abbrev pub fixity_rows : List (Infix × ℕ)
 fixity_rows =
-    (infix_left 7, codes "*") ∷ (infix_left 7, codes "/") ∷ (infix_left 7, codes "div") ∷ (infix_left 7, codes "mod")
-    ∷ (infix_left 6, codes "+") ∷ (infix_left 6, codes "-") ∷ (infix_left 6, codes "^")
-    ∷ (infix_right 5, codes "::") ∷ (infix_right 5, codes "@")
-    ∷ (infix_left 4, codes "<>") ∷ (infix_left 4, codes ">") ∷ (infix_left 4, codes ">=") ∷ (infix_left 4, codes "<") ∷ (infix_left 4, codes "<=")
-    ∷ (infix_left 3, codes ":=") ∷ (infix_left 3, codes "o")
-    ∷ (infix_left 0, codes "before") ∷ []
+    (infix_left 7, word_times) ∷ (infix_left 7, word_divide) ∷ (infix_left 7, word_div) ∷ (infix_left 7, word_mod)
+    ∷ (infix_left 6, word_plus) ∷ (infix_left 6, word_minus) ∷ (infix_left 6, word_concatenate)
+    ∷ (infix_right 5, word_cons) ∷ (infix_right 5, word_append)
+    ∷ (infix_left 4, word_not_equal) ∷ (infix_left 4, word_greater_than) ∷ (infix_left 4, word_at_least) ∷ (infix_left 4, word_less_than) ∷ (infix_left 4, word_at_most)
+    ∷ (infix_left 3, word_assign) ∷ (infix_left 3, word_compose)
+    ∷ (infix_left 0, word_before) ∷ []
 
-abbrev pub standard_fixities : List (List ℕ) → Fixity
-standard_fixities texts =
+abbrev pub standard_fixities : Fixity
+standard_fixities =
     record { vid = Equals; status = Some (infix_left 4) }
-    ∷ map (λ row. record { vid = Named (identifier_of texts row.1); status = Some row.0 }) fixity_rows
+    ∷ map (λ row. record { vid = Named row.1; status = Some row.0 }) fixity_rows
 
--- Tables of names.
-
--- each word that the standard basis names, so that the compiler needs its number: identifiers with a fixity (all of `+ - * ^` are), `print`, and exceptions
-abbrev pub basis_words : List (List ℕ)
-basis_words = map (λ row. row.1) fixity_rows ++ codes "print" ∷ basis_exceptions
-
--- a table of names: no two are written alike, and the words of the standard basis are among them
+-- a table of names: it begins with the standard words, and no two texts are the same
 pub record IsTable (texts : List (List ℕ)) : Type 0 where
   pub apart : AllPairs (λ text other. text ≢ other) texts
-  pub with_basis : All (Contains texts) basis_words
+  pub begins : take (length standard_words) texts ≡ standard_words
