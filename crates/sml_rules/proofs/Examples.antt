@@ -1,5 +1,5 @@
 -- Worked examples: phrases in order, typings, refusals and meanings of small projects.
-use Rattle.std.proofs.Common.{◌≡◌, ℕ, ◌≤◌, arith, List, [], ◌∷◌, Some, None, true, refl, codes}
+use Rattle.std.proofs.Common.{false, ◌≡◌, ℕ, ◌≤◌, arith, List, [], ◌∷◌, Some, None, true, refl, codes}
 use Rattle.std.specs.Prelude.{pos}
 use Rattle.mlc_base.specs.declared.place.Place.{Place}
 use Rattle.mlc_base.specs.Outcome.{ended, uncaught, going}
