@@ -28,7 +28,7 @@ num p n = constant_exp (at p) (int (pos n))
 
 -- val x = 2147483647 + 1
 abbrev sum_dec : ℕ → Dec
-sum_dec n = val_dec (at 0) [] (bind (at 4) (vid_pat (at 4) (short (Named 2))) (infix_app (at 8) (at 10) (Named 1) (num 8 n) (num 12 1)) no_binds) no_binds
+sum_dec n = val_dec (at 0) (at 0) [] (bind (at 4) (vid_pat (at 4) (short (Named 2))) (infix_app (at 8) (at 10) (Named 1) (num 8 n) (num 12 1)) no_binds) no_binds
 
 -- the operator of an infix application stands between its operands
 sum_phrases : dec_phrases (sum_dec 2) ≡ binds (at 4) (Named 2) ∷ integer (at 8) (pos 2) ∷ identifier (at 10) 1 ∷ integer (at 12) (pos 1) ∷ applies_pair (at 8) true ∷ declares (at 0) ∷ []
@@ -39,7 +39,7 @@ sum_nodes = refl
 
 -- val () = print "a", and then the sum
 abbrev print_dec : Dec
-print_dec = val_dec (at 0) [] (bind (at 4) (tuple_pat (at 4) []) (app (at 9) (vid_exp (at 9) (short (Named 0))) (constant_exp (at 15) (string (codes "a")))) no_binds) no_binds
+print_dec = val_dec (at 0) (at 0) [] (bind (at 4) (tuple_pat (at 4) []) (app (at 9) (vid_exp (at 9) (short (Named 0))) (constant_exp (at 15) (string (codes "a")))) no_binds) no_binds
 
 print_phrases : dec_phrases print_dec ≡ binds_nothing (at 4) ∷ identifier (at 9) 0 ∷ text (at 15) (codes "a") ∷ applies (at 9) ∷ declares (at 0) ∷ []
 print_phrases = refl
@@ -69,7 +69,7 @@ sum_ends : (meaning names (standard_basis ∷ source (dec (sum_dec 2) no_decs) �
 sum_ends = refl
 
 -- if x then 1 else 2 is foreign as a whole, at its first byte
-foreign_if : first_foreign (dec_phrases (val_dec (at 0) [] (bind (at 4) (vid_pat (at 4) (short (Named 2))) (if_of (at 8) (vid_exp (at 11) (short (Named 2))) (num 18 1) (num 25 2)) no_binds) no_binds)) ≡ Some (at 8)
+foreign_if : first_foreign (dec_phrases (val_dec (at 0) (at 0) [] (bind (at 4) (vid_pat (at 4) (short (Named 2))) (if_of (at 8) (vid_exp (at 11) (short (Named 2))) (num 18 1) (num 25 2)) no_binds) no_binds)) ≡ Some (at 8)
 foreign_if = refl
 
 -- Projects of several parts.
@@ -78,7 +78,7 @@ abbrev accepted : (parts : List Part) → first_foreign (parts_phrases parts) �
 accepted parts n e s = record { checks = record { native = n; elaborates = e }; small = s }
 
 abbrev val : Pat → Exp → Dec
-val a e = val_dec (at 0) [] (bind (at 4) a e no_binds) no_binds
+val a e = val_dec (at 0) (at 0) [] (bind (at 4) a e no_binds) no_binds
 
 abbrev variable : ℕ → Pat
 variable x = vid_pat (at 4) (short (Named x))
