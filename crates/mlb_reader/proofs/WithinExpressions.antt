@@ -123,10 +123,10 @@ module _ (file : ℕ) (P : Place → Type 0) (N : ℕ → Type 0) where
         record { phrases = decs-good file P N (is_directive d) (bare_dec file d) (bare_decs file ds) h.phrases k.phrases; rest = k.rest }
 
     dec-read : {f : Fixity} {i o : List Terminal} {d : Dec} → Declare f i d o → Good i → DecGood d o
-    dec-read (of_val {as_} {bs} p vs d) g =
+    dec-read (of_val {as_} {bs} p vs at_ d) g =
         let h = binds-read d (tyvars-rest _ vs g.1) in
         record { phrases = val-good file P N (at file p) as_ (plain_binds file bs) (recursive_binds file bs) g.0.0 (h.phrases (at file p) g.0.0); rest = h.rest }
-    dec-read (of_fun {as_} {fs} p vs d) g = record { phrases = val-good file P N (at file p) as_ no_binds (function_binds (functions file fs)) g.0.0 ((g.0.0, tt), tt); rest = funs-rest d (tyvars-rest _ vs g.1) }
+    dec-read (of_fun {as_} {fs} p vs at_ d) g = record { phrases = val-good file P N (at file p) as_ no_binds (function_binds (functions file fs)) g.0.0 ((g.0.0, tt), tt); rest = funs-rest d (tyvars-rest _ vs g.1) }
     dec-read (of_type p d) g = record { phrases = ((g.0.0, tt), tt); rest = type_binds-rest _ d g.1 }
     dec-read (of_datatype p d) g = record { phrases = ((g.0.0, tt), tt); rest = data_binds-rest _ d g.1 }
     dec-read (of_withtype p q d e) g = record { phrases = ((g.0.0, tt), tt); rest = type_binds-rest _ e (data_binds-rest _ d g.1).1 }

@@ -74,7 +74,7 @@ module _ (file : ℕ) (P : Place → Type 0) (N : ℕ → Type 0) where
         let k = pat_follows-good fs h.rest in
         record { place = h.place; phrase = chain-good P (λ v. ⊤) IsGoodPat join_pats (λ v p b c at_p is gb gc. (at_p, tt)) r (at file (pat_place a)) (bare_pat file a) (pat_operands file ps) h.place h.phrase k.0; rest = k.1 }
     pat-good (of_typed_pat p five d s) g = let h = pat-good d g in record { place = h.place; phrase = (h.place, tt); rest = ty-rest _ s h.rest.1 }
-    pat-good (of_as_pat q v s d) g = let h = binds-good file P N v g in record { place = h.place; phrase = (h.place, tt); rest = (pat-good d (maybe_ty-rest _ s h.rest).1).rest }
+    pat-good (of_as_pat q v s d) g = let h = binds-good file P N v g in record { place = h.place; phrase = (h.own, tt); rest = (pat-good d (maybe_ty-rest _ s h.rest).1).rest }
 
     pat_follows-good : {f : Fixity} {l : ℕ} {r : Bool} {i o : List Terminal} {ps : PatParts} → PatFollows f l r i ps o → Good i → AreGoodOperands ps × Good o
     pat_follows-good (of_last_pat_part fit lt d) g = let h = pat-good d g.1 in (((h.place, tt, h.phrase), tt), h.rest)

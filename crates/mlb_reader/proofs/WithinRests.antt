@@ -48,11 +48,11 @@ module _ (Q : Terminal → Type 0) where
   maybe_of-rest without_of g = g
   maybe_of-rest (with_of p d) g = ty-rest d g.1
 
-  pub binds_vid-rest : {f : Fixity} {i o : List Terminal} {p : ℕ} {v : Vid} → BindsVid f i p v o → Each i → Each o
+  pub binds_vid-rest : {f : Fixity} {i o : List Terminal} {p : ℕ} {v : Placed Vid} → BindsVid f i p v o → Each i → Each o
   binds_vid-rest (plain_vid v e) g = g.1
   binds_vid-rest (op_vid p v) g = g.1.1
 
-  names_vid-rest : {f : Fixity} {i o : List Terminal} {p : ℕ} {x : LongVid} → NamesVid f i p x o → Each i → Each o
+  names_vid-rest : {f : Fixity} {i o : List Terminal} {p : ℕ} {x : Placed LongVid} → NamesVid f i p x o → Each i → Each o
   names_vid-rest (plain_long v e) g = g.1
   names_vid-rest (qualified v) g = g.1
   names_vid-rest (op_long p v) g = g.1.1

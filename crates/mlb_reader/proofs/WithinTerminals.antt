@@ -9,6 +9,7 @@ use Rattle.sml_tree.specs.Terminal.{Constant, LongVid, Terminal, reserved, numbe
 use Rattle.sml_tree.specs.Terminal as term
 use Rattle.sml_tree.specs.Fixity.{Fixity}
 use Rattle.sml_tree.specs.Bare.{at}
+use Rattle.sml_tree.specs.ReadTree.{Placed}
 use Rattle.sml_tree.specs.Grammar.{BindsVid, plain_vid, op_vid, NamesVid, plain_long, qualified, op_long}
 use Rattle.sml_rules.specs.Phrases.{Phrase, constant_phrase, long_phrase, long_pat_phrase}
 use Rattle.mlb_reader.specs.Within.{phrase_name, phrase_place}
@@ -90,30 +91,35 @@ module _ (file : ℕ) (P : Place → Type 0) (N : ℕ → Type 0) where
   qualified-good p h (long_symbol_vid q qs x) g = named-good p qs x h g.1
   qualified-good p h (long_star_vid q qs x) g = named-good p qs x h g.1
 
-  any_vid-good : {t : Terminal} {v : Vid} (p : Place) → P p → IsAnyVid t v → IsGood t → AreGood p (record { qualifiers = []; vid = v })
-  any_vid-good p h (any_named {x} v) g = named-good p [] x h (vid-good v g).1
-  any_vid-good p h (any_equals q) g = record { as_exp = (h, tt); as_pat = (h, tt) }
+  any_place : {t : Terminal} {q : ℕ} {v : Vid} → IsAnyVid t q v → IsGood t → P (at file q)
+  any_place (any_named v) g = (vid-good v g).0
+  any_place (any_equals q) g = g.0
 
-  any_long-good : {t : Terminal} {x : LongVid} (p : Place) → P p → IsAnyLongVid t x → IsGood t → AreGood p x
-  any_long-good p h (any_short v) g = any_vid-good p h v g
-  any_long-good p h (any_long v) g = qualified-good p h v g
+  any_vid-good : {t : Terminal} {q : ℕ} {v : Vid} → IsAnyVid t q v → IsGood t → AreGood (at file q) (record { qualifiers = []; vid = v })
+  any_vid-good (any_named {p} {x} v) g = let h = vid-good v g in named-good (at file p) [] x h.0 h.1
+  any_vid-good (any_equals q) g = record { as_exp = (g.0, tt); as_pat = (g.0, tt) }
 
-  -- [op] longvid
-  pub record NamesGood (p : ℕ) (x : LongVid) (o : List Terminal) : Type 0 where
+  any_long-good : {t : Terminal} {q : ℕ} {x : LongVid} → IsAnyLongVid t q x → IsGood t → AreGood (at file q) x
+  any_long-good (any_short v) g = any_vid-good v g
+  any_long-good (any_long {p} v) g = qualified-good (at file p) (qualified-place v g) v g
+
+  -- [op] longvid, with the place where it begins and the identifier's own
+  pub record NamesGood (p : ℕ) (x : Placed LongVid) (o : List Terminal) : Type 0 where
     pub place : P (at file p)
-    pub are : AreGood (at file p) x
+    pub are : AreGood (at file x.place) x.it
     pub rest : AllGood o
 
-  pub names-good : {f : Fixity} {i o : List Terminal} {p : ℕ} {x : LongVid} → NamesVid f i p x o → AllGood i → NamesGood p x o
+  pub names-good : {f : Fixity} {i o : List Terminal} {p : ℕ} {x : Placed LongVid} → NamesVid f i p x o → AllGood i → NamesGood p x o
   names-good (plain_long {p} {x} v e) g = let h = vid-good v g.0 in record { place = h.0; are = named-good (at file p) [] x h.0 h.1; rest = g.1 }
   names-good (qualified {p} v) g = let h = qualified-place v g.0 in record { place = h; are = qualified-good (at file p) h v g.0; rest = g.1 }
-  names-good (op_long p v) g = record { place = g.0.0; are = any_long-good (at file p) g.0.0 v g.1.0; rest = g.1.1 }
+  names-good (op_long p v) g = record { place = g.0.0; are = any_long-good v g.1.0; rest = g.1.1 }
 
   -- [op] vid
-  pub record BindsGood (p : ℕ) (o : List Terminal) : Type 0 where
+  pub record BindsGood (p : ℕ) (v : Placed Vid) (o : List Terminal) : Type 0 where
     pub place : P (at file p)
+    pub own : P (at file v.place)
     pub rest : AllGood o
 
-  pub binds-good : {f : Fixity} {i o : List Terminal} {p : ℕ} {v : Vid} → BindsVid f i p v o → AllGood i → BindsGood p o
-  binds-good (plain_vid v e) g = record { place = (vid-good v g.0).0; rest = g.1 }
-  binds-good (op_vid p v) g = record { place = g.0.0; rest = g.1.1 }
+  pub binds-good : {f : Fixity} {i o : List Terminal} {p : ℕ} {v : Placed Vid} → BindsVid f i p v o → AllGood i → BindsGood p v o
+  binds-good (plain_vid v e) g = let h = vid-good v g.0 in record { place = h.0; own = h.0; rest = g.1 }
+  binds-good (op_vid p v) g = record { place = g.0.0; own = any_place v g.1.0; rest = g.1.1 }

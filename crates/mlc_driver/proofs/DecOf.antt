@@ -11,6 +11,7 @@ use Rattle.sml_tree.specs.TreeOf.{exp_of, dec_of, decs_of, pat_of, bind_of, bind
 use Rattle.sml_tree.specs.declared.tree.Joint.{Joint}
 use Rattle.sml_tree.specs.declared.tree.Bind.{Bind, fold_out-Bind}
 use Rattle.sml_tree.specs.declared.tree.Function.{Function}
+use Rattle.sml_tree.specs.declared.tree.TyvarSeq.{TyvarSeq}
 use Rattle.sml_tree.specs.declared.tree.Dec.{Dec, Dec-F, fold-roll-Dec}
 use Rattle.sml_tree.specs.declared.tree.Dec.TheVariants.{Val, Fun, rolls-Val, rolls-Fun}
 use Rattle.sml_rules.specs.Phrases.{exp_phrases, pat_phrase, bind_phrases, val_phrases, dec_phrases, decs_phrases, no_more_binds, foreign, declares}
@@ -21,11 +22,11 @@ use Rattle.mlc_driver.proofs.Views.{some-vec, IsMore}
 bind_of-parts : (d : Bind) → bind_of d ≡ record { place = d.place; pat = pat_of d.pat; exp = exp_of d.exp }
 bind_of-parts = fold_out-Bind bare.Dec bare.Exp RuleOf derived.Clause ExpFieldOf derived.Function (Operand Joint bare.Exp) RuleOf node_dec node_exp node_bind node_clause node_exp_field node_function node_part node_rule
 
-dec_of-Val : (p : Place) (as_ : Vec Tyvar Global) (bs cs : Vec Bind Global) → dec_of (Val p as_ bs cs) ≡ bare.val_dec p as_.items (binds_of (map bind_of bs.items)) (binds_of (map bind_of cs.items))
+dec_of-Val : (p : Place) (as_ : TyvarSeq) (bs cs : Vec Bind Global) → dec_of (Val p as_ bs cs) ≡ bare.val_dec p as_.place as_.tyvars.items (binds_of (map bind_of bs.items)) (binds_of (map bind_of cs.items))
 dec_of-Val p as_ bs cs =
     ap dec_of (sym (rolls-Val p as_ bs cs)) ∙ fold-roll-Dec bare.Dec bare.Exp RuleOf derived.Clause ExpFieldOf derived.Function (Operand Joint bare.Exp) RuleOf node_dec node_exp node_bind node_clause node_exp_field node_function node_part node_rule (Dec-F.Val p as_ bs cs)
 
-dec_of-Fun : (p : Place) (as_ : Vec Tyvar Global) (gs : Vec Function Global) → dec_of (Fun p as_ gs) ≡ fun_dec_of p as_.items (map function_of gs.items)
+dec_of-Fun : (p : Place) (as_ : TyvarSeq) (gs : Vec Function Global) → dec_of (Fun p as_ gs) ≡ fun_dec_of p as_.place as_.tyvars.items (map function_of gs.items)
 dec_of-Fun p as_ gs =
     ap dec_of (sym (rolls-Fun p as_ gs)) ∙ fold-roll-Dec bare.Dec bare.Exp RuleOf derived.Clause ExpFieldOf derived.Function (Operand Joint bare.Exp) RuleOf node_dec node_exp node_bind node_clause node_exp_field node_function node_part node_rule (Dec-F.Fun p as_ gs)
 
@@ -61,23 +62,23 @@ more-recursive p as_ bs [] h = elim h [ ]
 more-recursive p [] bs (c ∷ cs) h = refl
 more-recursive p (a ∷ as_) bs (c ∷ cs) h = refl
 
-module _ (x : Dec) (p : Place) (as_ : Vec Tyvar Global) (bs cs : Vec Bind Global) (is : x ≡ Val p as_ bs cs) where
-  val : dec_phrases (dec_of x) ≡ val_phrases p as_.items (binds_of (map bind_of bs.items)) (binds_of (map bind_of cs.items))
+module _ (x : Dec) (p : Place) (as_ : TyvarSeq) (bs cs : Vec Bind Global) (is : x ≡ Val p as_ bs cs) where
+  val : dec_phrases (dec_of x) ≡ val_phrases p as_.tyvars.items (binds_of (map bind_of bs.items)) (binds_of (map bind_of cs.items))
   val = ap dec_phrases (ap dec_of is ∙ dec_of-Val p as_ bs cs)
 
-  pub val-tyvars : (vec_len as_ == 0) ≡ false → dec_phrases (dec_of x) ≡ foreign p ∷ []
-  val-tyvars h = val ∙ more-tyvars p as_.items (binds_of (map bind_of bs.items)) (binds_of (map bind_of cs.items)) (some-vec as_ h)
+  pub val-tyvars : (vec_len as_.tyvars == 0) ≡ false → dec_phrases (dec_of x) ≡ foreign p ∷ []
+  val-tyvars h = val ∙ more-tyvars p as_.tyvars.items (binds_of (map bind_of bs.items)) (binds_of (map bind_of cs.items)) (some-vec as_.tyvars h)
 
   pub val-recursive : (vec_len cs == 0) ≡ false → dec_phrases (dec_of x) ≡ foreign p ∷ []
-  val-recursive h = val ∙ more-recursive p as_.items (binds_of (map bind_of bs.items)) cs.items (some-vec cs h)
+  val-recursive h = val ∙ more-recursive p as_.tyvars.items (binds_of (map bind_of bs.items)) cs.items (some-vec cs h)
 
-fun-foreign : (p : Place) (as_ : List Tyvar) (gs : List derived.Function) → dec_phrases (fun_dec_of p as_ gs) ≡ foreign p ∷ []
-fun-foreign p [] [] = refl
-fun-foreign p [] (g ∷ gs) = refl
-fun-foreign p (a ∷ as_) gs = refl
+fun-foreign : (p q : Place) (as_ : List Tyvar) (gs : List derived.Function) → dec_phrases (fun_dec_of p q as_ gs) ≡ foreign p ∷ []
+fun-foreign p q [] [] = refl
+fun-foreign p q [] (g ∷ gs) = refl
+fun-foreign p q (a ∷ as_) gs = refl
 
-pub fun-phrases : (x : Dec) (p : Place) (as_ : Vec Tyvar Global) (gs : Vec Function Global) → x ≡ Fun p as_ gs → dec_phrases (dec_of x) ≡ foreign p ∷ []
-fun-phrases x p as_ gs is = ap dec_phrases (ap dec_of is ∙ dec_of-Fun p as_ gs) ∙ fun-foreign p as_.items (map function_of gs.items)
+pub fun-phrases : (x : Dec) (p : Place) (as_ : TyvarSeq) (gs : Vec Function Global) → x ≡ Fun p as_ gs → dec_phrases (dec_of x) ≡ foreign p ∷ []
+fun-phrases x p as_ gs is = ap dec_phrases (ap dec_of is ∙ dec_of-Fun p as_ gs) ∙ fun-foreign p as_.place as_.tyvars.items (map function_of gs.items)
 
 -- one turn of the loop over declarations
 pub decs-step : (w x y : List rules.Phrase) (l : List Dec) (i : ℕ) (d : Dec) → i < length l → d ≡ slice_index_or l i d → y ≡ x ++ dec_phrases (dec_of d) → x ++ decs_phrases (decs_of (map dec_of (drop i l))) ≡ w →

@@ -647,7 +647,7 @@ fn declaration(alloc: Global, out: &mut Vec<Phrase>, dec: &Dec) -> Result<(), No
 {
     match dec {
         Dec::Val(place, tyvars, binds, recursive) => {
-            if tyvars.is_empty() && recursive.is_empty() {
+            if tyvars.tyvars.is_empty() && recursive.is_empty() {
                 bindings(alloc, out, *place, binds)
             } else {
                 put_foreign(out, *place)
@@ -656,6 +656,7 @@ fn declaration(alloc: Global, out: &mut Vec<Phrase>, dec: &Dec) -> Result<(), No
         Dec::Fun(place, _, _) => put_foreign(out, *place),
         Dec::Abbreviation(place, _) => put_foreign(out, *place),
         Dec::Datatype(place, _) => put_foreign(out, *place),
+        Dec::Withtype(place, _, _) => put_foreign(out, *place),
         Dec::Replicate(place, _, _) => put_foreign(out, *place),
         Dec::Exception(place, _) => put_foreign(out, *place),
         Dec::Local(place, _, _) => put_foreign(out, *place),

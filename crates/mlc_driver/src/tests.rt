@@ -5,7 +5,7 @@ use mlc_base::memory::NoMemory;
 use mlc_base::names::{Name, Names};
 use mlc_base::place::Place;
 use sml_tree::ident::{Constant, LongVid, Vid};
-use sml_tree::tree::{Bind, Dec, Exp, Joint, Part, Pat};
+use sml_tree::tree::{Bind, Dec, Exp, Joint, Part, Pat, TyvarSeq};
 use std::alloc::Global;
 use std::test::Fail;
 
@@ -50,7 +50,11 @@ fn val(alloc: Global, byte: u32, pat: Pat, exp: Exp) -> Result<Dec, NoMemory> {
         pat,
         exp,
     })?;
-    Ok(Dec::Val(place(byte), Vec::new(alloc), binds, Vec::new(alloc)))
+    let none = TyvarSeq {
+        place: place(byte),
+        tyvars: Vec::new(alloc),
+    };
+    Ok(Dec::Val(place(byte), none, binds, Vec::new(alloc)))
 }
 
 // `val _ = print "hi"`

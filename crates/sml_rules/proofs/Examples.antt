@@ -1,12 +1,12 @@
 -- Worked examples: phrases in order, typings, refusals and meanings of small projects.
-use Rattle.std.proofs.Common.{◌≡◌, ℕ, ◌≤◌, arith, List, [], ◌∷◌, Some, None, true, refl, codes}
+use Rattle.std.proofs.Common.{false, ◌≡◌, ℕ, ◌≤◌, arith, List, [], ◌∷◌, Some, None, true, refl, codes}
 use Rattle.std.specs.Prelude.{pos}
 use Rattle.mlc_base.specs.declared.place.Place.{Place}
 use Rattle.mlc_base.specs.Outcome.{ended, uncaught, going}
 use Rattle.sml_tree.specs.declared.ident.Vid.TheVariants.{Named, Equals}
 use Rattle.sml_tree.specs.Fixity.{fix_of}
 use Rattle.sml_tree.specs.Terminal.{int, string}
-use Rattle.sml_tree.specs.Derived.{short, infix_app, tuple_pat, if_of}
+use Rattle.sml_tree.specs.Derived.{short, infix_app, tuple, tuple_pat, if_of}
 use Rattle.sml_tree.specs.BareTree.{Exp, constant_exp, vid_exp, app, Pat, vid_pat, Dec, val_dec, bind, no_binds, no_decs, dec}
 use Rattle.sml_rules.specs.Project.{Part, standard_basis, source}
 use Rattle.sml_rules.specs.Meaning.{meaning}
@@ -29,18 +29,23 @@ num p n = constant_exp (at p) (int (pos n))
 
 -- val x = 2147483647 + 1
 abbrev sum_dec : ℕ → Dec
-sum_dec n = val_dec (at 0) [] (bind (at 4) (vid_pat (at 4) (short (Named 2))) (infix_app (at 8) (at 10) (Named 1) (num 8 n) (num 12 1)) no_binds) no_binds
+sum_dec n = val_dec (at 0) (at 0) [] (bind (at 4) (vid_pat (at 4) (short (Named 2))) (infix_app (at 8) (at 10) (Named 1) (num 8 n) (num 12 1)) no_binds) no_binds
 
 -- the operator of an infix application stands between its operands
 sum_phrases : dec_phrases (sum_dec 2) ≡ binds (at 4) (Named 2) ∷ integer (at 8) (pos 2) ∷ identifier (at 10) 1 ∷ integer (at 12) (pos 1) ∷ applies_pair (at 8) true ∷ declares (at 0) ∷ []
 sum_phrases = refl
+
+-- val x = op + (2, 1): the application begins at `op`, the pair at its bracket, so the operator stands first
+op_phrases : dec_phrases (val_dec (at 0) (at 0) [] (bind (at 4) (vid_pat (at 4) (short (Named 2))) (app (at 8) (vid_exp (at 11) (short (Named 1))) (tuple (at 13) (num 14 2 ∷ num 17 1 ∷ []))) no_binds) no_binds)
+    ≡ binds (at 4) (Named 2) ∷ identifier (at 11) 1 ∷ integer (at 14) (pos 2) ∷ integer (at 17) (pos 1) ∷ applies_pair (at 8) false ∷ declares (at 0) ∷ []
+op_phrases = refl
 
 sum_nodes : nodes_in (dec_phrases (sum_dec 2)) ≡ 7
 sum_nodes = refl
 
 -- val () = print "a", and then the sum
 abbrev print_dec : Dec
-print_dec = val_dec (at 0) [] (bind (at 4) (tuple_pat (at 4) []) (app (at 9) (vid_exp (at 9) (short (Named 0))) (constant_exp (at 15) (string (codes "a")))) no_binds) no_binds
+print_dec = val_dec (at 0) (at 0) [] (bind (at 4) (tuple_pat (at 4) []) (app (at 9) (vid_exp (at 9) (short (Named 0))) (constant_exp (at 15) (string (codes "a")))) no_binds) no_binds
 
 print_phrases : dec_phrases print_dec ≡ binds_nothing (at 4) ∷ identifier (at 9) 0 ∷ text (at 15) (codes "a") ∷ applies (at 9) ∷ declares (at 0) ∷ []
 print_phrases = refl
@@ -70,7 +75,7 @@ sum_ends : (meaning names (standard_basis ∷ source (dec (sum_dec 2) no_decs) �
 sum_ends = refl
 
 -- if x then 1 else 2 is foreign as a whole, at its first byte
-foreign_if : first_foreign (dec_phrases (val_dec (at 0) [] (bind (at 4) (vid_pat (at 4) (short (Named 2))) (if_of (at 8) (vid_exp (at 11) (short (Named 2))) (num 18 1) (num 25 2)) no_binds) no_binds)) ≡ Some (at 8)
+foreign_if : first_foreign (dec_phrases (val_dec (at 0) (at 0) [] (bind (at 4) (vid_pat (at 4) (short (Named 2))) (if_of (at 8) (vid_exp (at 11) (short (Named 2))) (num 18 1) (num 25 2)) no_binds) no_binds)) ≡ Some (at 8)
 foreign_if = refl
 
 -- Projects of several parts.
@@ -79,7 +84,7 @@ abbrev accepted : (parts : List Part) → first_foreign (parts_phrases parts) �
 accepted parts n e s = record { checks = record { native = n; elaborates = e }; small = s }
 
 abbrev val : Pat → Exp → Dec
-val a e = val_dec (at 0) [] (bind (at 4) a e no_binds) no_binds
+val a e = val_dec (at 0) (at 0) [] (bind (at 4) a e no_binds) no_binds
 
 abbrev variable : ℕ → Pat
 variable x = vid_pat (at 4) (short (Named x))

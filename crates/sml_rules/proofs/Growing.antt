@@ -195,7 +195,7 @@ module _ (texts : List (List ℕ)) where
   val-follows env bs (bind p a e cs) w w' x = both_wrong x
 
   dec-grows : (env : Env) (d : Dec) (w : World Value) → Grows w (eval_dec texts env d w)
-  dec-grows env (val_dec p as_ bs cs) w = val-grows env bs cs w
+  dec-grows env (val_dec p q as_ bs cs) w = val-grows env bs cs w
   dec-grows env (type_dec p bs) w = prefix-refl w.output
   dec-grows env (datatype_dec p bs) w = prefix-refl w.output
   dec-grows env (replicate_dec p x c) w = prefix-refl w.output
@@ -205,7 +205,7 @@ module _ (texts : List (List ℕ)) where
   dec-grows env (sequence_dec p ds) w = prefix-refl w.output
 
   dec-follows : (env : Env) (d : Dec) (w w' : World Value) → Wider w w' → Follows (eval_dec texts env d w) (eval_dec texts env d w')
-  dec-follows env (val_dec p as_ bs cs) w w' x = val-follows env bs cs w w' x
+  dec-follows env (val_dec p q as_ bs cs) w w' x = val-follows env bs cs w w' x
   dec-follows env (type_dec p bs) w w' x = both_wrong x
   dec-follows env (datatype_dec p bs) w w' x = both_wrong x
   dec-follows env (replicate_dec p y c) w w' x = both_wrong x

@@ -33,8 +33,8 @@ pub data NativePat : Pat → Phrase → Type 0 where
 
 pub data NativeDecs : Decs → List Phrase → Type 0 where
   native_none : NativeDecs no_decs []
-  native_val : (p q : Place) {a : Pat} {x : Phrase} {e : Exp} {es : List Phrase} {ds : Decs} {xs : List Phrase} → NativePat a x → NativeExp e es → NativeDecs ds xs →
-      NativeDecs (dec (val_dec p [] (bind q a e no_binds) no_binds) ds) ((x ∷ (es ++ declares p ∷ [])) ++ xs)
+  native_val : (p q : Place) {r : Place} {a : Pat} {x : Phrase} {e : Exp} {es : List Phrase} {ds : Decs} {xs : List Phrase} → NativePat a x → NativeExp e es → NativeDecs ds xs →
+      NativeDecs (dec (val_dec p r [] (bind q a e no_binds) no_binds) ds) ((x ∷ (es ++ declares p ∷ [])) ++ xs)
 
 pub data NativeParts : List Part → List Phrase → Type 0 where
   native_end : NativeParts [] []
@@ -214,14 +214,14 @@ native-pat (typed_pat p a t) n = absurd (no-foreign p [] n)
 native-pat (as_pat p x t a) n = absurd (no-foreign p [] n)
 
 dec-native : (d : Dec) (ds : Decs) (xs : List Phrase) → first_foreign (dec_phrases d) ≡ None → NativeDecs ds xs → NativeDecs (dec d ds) (dec_phrases d ++ xs)
-dec-native (val_dec p [] (bind q a e no_binds) no_binds) ds xs n rest =
+dec-native (val_dec p o [] (bind q a e no_binds) no_binds) ds xs n rest =
     let na = foreign-front (pat_phrase a ∷ []) (exp_phrases e ++ declares p ∷ []) n in
     let ne = foreign-front (exp_phrases e) (declares p ∷ []) (foreign-back (pat_phrase a ∷ []) (exp_phrases e ++ declares p ∷ []) n) in
     native_val p q (native-pat a na) (native-exp e ne) rest
-dec-native (val_dec p [] no_binds no_binds) ds xs n rest = absurd (no-foreign p [] n)
-dec-native (val_dec p [] (bind q a e (bind r b f bs)) no_binds) ds xs n rest = absurd (no-foreign p [] n)
-dec-native (val_dec p [] bs (bind r b f cs)) ds xs n rest = absurd (no-foreign p [] n)
-dec-native (val_dec p (t ∷ ts) bs cs) ds xs n rest = absurd (no-foreign p [] n)
+dec-native (val_dec p o [] no_binds no_binds) ds xs n rest = absurd (no-foreign p [] n)
+dec-native (val_dec p o [] (bind q a e (bind r b f bs)) no_binds) ds xs n rest = absurd (no-foreign p [] n)
+dec-native (val_dec p o [] bs (bind r b f cs)) ds xs n rest = absurd (no-foreign p [] n)
+dec-native (val_dec p o (t ∷ ts) bs cs) ds xs n rest = absurd (no-foreign p [] n)
 dec-native (type_dec p bs) ds xs n rest = absurd (no-foreign p [] n)
 dec-native (datatype_dec p bs) ds xs n rest = absurd (no-foreign p [] n)
 dec-native (replicate_dec p x c) ds xs n rest = absurd (no-foreign p [] n)

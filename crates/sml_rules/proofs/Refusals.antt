@@ -26,7 +26,7 @@ abbrev name : ℕ → ℕ → Exp
 name byte x = vid_exp (at byte) (short (Named x))
 
 abbrev val : ℕ → Pat → Exp → Dec
-val byte a e = val_dec (at byte) [] (bind (at byte) a e no_binds) no_binds
+val byte a e = val_dec (at byte) (at byte) [] (bind (at byte) a e no_binds) no_binds
 
 abbrev variable : ℕ → ℕ → Pat
 variable byte x = vid_pat (at byte) (short (Named x))

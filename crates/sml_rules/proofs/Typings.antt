@@ -177,20 +177,20 @@ module _ (texts : List (List ℕ)) where
   data IsDeclared (d : Dec) (s : Typed) : Typed → Type 0 where
     declared_as : (c' : Context) → DecHasType texts s.context d c' → IsDeclared d s (record { context = c'; pattern = any; types = s.types })
 
-  dec-last : {p q : Place} {a : Pat} {e : Exp} {s s' : Typed} {a' : Pattern} {t : Typ} → ((t : Typ) (c' : Context) → Binding s.context a' t c' → PatHasType texts s.context a t c') → HasType texts s.context e t →
-      Types texts (push t (record s { pattern = a' })) (declares p) s' → IsDeclared (val_dec p [] (bind q a e no_binds) no_binds) s s'
+  dec-last : {p q r : Place} {a : Pat} {e : Exp} {s s' : Typed} {a' : Pattern} {t : Typ} → ((t : Typ) (c' : Context) → Binding s.context a' t c' → PatHasType texts s.context a t c') → HasType texts s.context e t →
+      Types texts (push t (record s { pattern = a' })) (declares p) s' → IsDeclared (val_dec p r [] (bind q a e no_binds) no_binds) s s'
   dec-last {p = p} {q = q} pats he (declares_types p0 c c' a0 t0 ts b) = declared_as c' (val_has p q he (pats t0 c' b))
 
-  dec-exp : {p q : Place} {a : Pat} {e : Exp} {s s1 s' : Typed} {a' : Pattern} → ((t : Typ) (c' : Context) → Binding s.context a' t c' → PatHasType texts s.context a t c') →
-      IsTyped e (record s { pattern = a' }) s1 → AllTypes texts s1 (declares p ∷ []) s' → IsDeclared (val_dec p [] (bind q a e no_binds) no_binds) s s'
+  dec-exp : {p q r : Place} {a : Pat} {e : Exp} {s s1 s' : Typed} {a' : Pattern} → ((t : Typ) (c' : Context) → Binding s.context a' t c' → PatHasType texts s.context a t c') →
+      IsTyped e (record s { pattern = a' }) s1 → AllTypes texts s1 (declares p ∷ []) s' → IsDeclared (val_dec p r [] (bind q a e no_binds) no_binds) s s'
   dec-exp pats (typed_as t he) l = dec-last pats he (alone l)
 
-  dec-pat : {p q : Place} {a : Pat} {e : Exp} {es : List Phrase} {s s1 s' : Typed} → NativeExp e es → IsOpened a s s1 → AllTypes texts s1 (es ++ declares p ∷ []) s' →
-      IsDeclared (val_dec p [] (bind q a e no_binds) no_binds) s s'
+  dec-pat : {p q r : Place} {a : Pat} {e : Exp} {es : List Phrase} {s s1 s' : Typed} → NativeExp e es → IsOpened a s s1 → AllTypes texts s1 (es ++ declares p ∷ []) s' →
+      IsDeclared (val_dec p r [] (bind q a e no_binds) no_binds) s s'
   dec-pat {p = p} {es = es} {s = s} ne (opened_as a' pats) l = let y = all-split es (declares p ∷ []) l in dec-exp pats (exp-back ne (record s { pattern = a' }) y.0 y.1) y.2
 
-  dec-back : {p q : Place} {a : Pat} {x : Phrase} {e : Exp} {es : List Phrase} {s s' : Typed} → NativePat a x → NativeExp e es → AllTypes texts s (x ∷ (es ++ declares p ∷ [])) s' →
-      IsDeclared (val_dec p [] (bind q a e no_binds) no_binds) s s'
+  dec-back : {p q r : Place} {a : Pat} {x : Phrase} {e : Exp} {es : List Phrase} {s s' : Typed} → NativePat a x → NativeExp e es → AllTypes texts s (x ∷ (es ++ declares p ∷ [])) s' →
+      IsDeclared (val_dec p r [] (bind q a e no_binds) no_binds) s s'
   dec-back na ne (next_phrase t l) = dec-pat ne (pat-back na t) l
 
   decs-rest : {d : Dec} {ds : Decs} {xs : List Phrase} {s s1 s' : Typed} → ((s2 : Typed) → AllTypes texts s2 xs s' → DecsHaveType texts s2.context ds s'.context) → IsDeclared d s s1 → AllTypes texts s1 xs s' →

@@ -148,7 +148,7 @@ eval_val texts env bs no_binds w = eval_binds texts env env bs w
 eval_val texts env bs (bind p a e cs) w = fail w
 
 abbrev pub eval_dec : List (List ℕ) → Env → Dec → World Value → Answer Value Env
-eval_dec texts env (val_dec p as_ bs cs) w = eval_val texts env bs cs w
+eval_dec texts env (val_dec p q as_ bs cs) w = eval_val texts env bs cs w
 eval_dec texts env (type_dec p bs) w = fail w
 eval_dec texts env (datatype_dec p bs) w = fail w
 eval_dec texts env (replicate_dec p x c) w = fail w

@@ -169,7 +169,7 @@ val_phrases p [] bs cs = if no_more_binds cs then bind_phrases p bs else foreign
 val_phrases p (a ∷ as_) bs cs = foreign p ∷ []
 
 abbrev pub dec_phrases : Dec → List Phrase
-dec_phrases (val_dec p as_ bs cs) = val_phrases p as_ bs cs
+dec_phrases (val_dec p q as_ bs cs) = val_phrases p as_ bs cs
 dec_phrases (type_dec p bs) = foreign p ∷ []
 dec_phrases (datatype_dec p bs) = foreign p ∷ []
 dec_phrases (replicate_dec p x c) = foreign p ∷ []

@@ -89,8 +89,8 @@ pub data PatHasType (texts : List (List ℕ)) (c : Context) : Pat → Typ → Co
 
 -- a declaration, and the context after it. A binding without variables of types has nothing to generalise.
 pub data DecHasType (texts : List (List ℕ)) (c : Context) : Dec → Context → Type 0 where
-  val_has : (p q : Place) {a : Pat} {e : Exp} {t : Typ} {c' : Context} → HasType texts c e t → PatHasType texts c a t c' →
-      DecHasType texts c (val_dec p [] (bind q a e no_binds) no_binds) c'
+  val_has : (p q : Place) {r : Place} {a : Pat} {e : Exp} {t : Typ} {c' : Context} → HasType texts c e t → PatHasType texts c a t c' →
+      DecHasType texts c (val_dec p r [] (bind q a e no_binds) no_binds) c'
 
 pub data DecsHaveType (texts : List (List ℕ)) : Context → Decs → Context → Type 0 where
   no_dec_has : (c : Context) → DecsHaveType texts c no_decs c
