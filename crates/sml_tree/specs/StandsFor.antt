@@ -4,7 +4,8 @@ use Rattle.mlc_base.specs.declared.label.Label.{Label}
 use Rattle.mlc_base.specs.declared.label.Label.TheVariants.{Word}
 use Rattle.sml_tree.specs.declared.ident.Vid.TheVariants.{Named}
 use Rattle.sml_tree.specs.BareTree as bare
-use Rattle.sml_tree.specs.Derived.{tuple, tuple_pat, product, unit, select, case_of, if_of, and_of, or_of, sequence_of, let_of, while_of, list_of, list_pat_of, fun_dec_of, with_result, pun, withtype_of}
+use Rattle.sml_tree.specs.Derived.{tuple, tuple_pat, product, unit, select, case_of, if_of, and_of, or_of}
+use Rattle.sml_tree.specs.Derived.{sequence_of, let_of, while_of, list_of, list_pat_of, fun_dec_of, with_result, pun, withtype_of}
 use Rattle.sml_tree.specs.TreeOf.{ty_of, pat_of, exp_of, dec_of, rule_of, rules_of, decs_of, function_of, some_ty_of, data_bind_of, type_bind_of}
 use Rattle.sml_tree.specs.declared.derive.Derived.{Derived}
 use Rattle.sml_tree.specs.declared.derive.Derived.TheVariants as form

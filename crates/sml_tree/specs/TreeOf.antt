@@ -4,7 +4,8 @@ use Rattle.mlc_base.specs.declared.label.Label.{Label}
 use Rattle.mlc_base.specs.declared.place.Place.{Place}
 use Rattle.sml_tree.specs.Terminal as term
 use Rattle.sml_tree.specs.BareTree as bare
-use Rattle.sml_tree.specs.Derived.{tuple, tuple_pat, product, app_of, Operand, chain_of, VidAt, join, join_pats, TyAt, arrows, sequence_of, list_of, list_pat_of, fun_dec_of, tys_of, withtype_of}
+use Rattle.sml_tree.specs.Derived.{tuple, tuple_pat, product, app_of, Operand, chain_of, VidAt, join}
+use Rattle.sml_tree.specs.Derived.{join_pats, TyAt, arrows, sequence_of, list_of, list_pat_of, fun_dec_of, tys_of, withtype_of}
 use Rattle.sml_tree.specs.Derived as derived
 use Rattle.sml_tree.specs.declared.ident.LongVid.{LongVid}
 use Rattle.sml_tree.specs.declared.ident.LongId.{LongId}
@@ -213,25 +214,41 @@ abbrev pub node_rule : Rule-F bare.Dec bare.Exp RuleOf derived.Clause ExpFieldOf
 node_rule b = record { place = b.place; pat = pat_of b.pat; exp = b.exp }
 
 abbrev pub dec_of : Dec → bare.Dec
-dec_of = fold-Dec bare.Dec bare.Exp RuleOf derived.Clause ExpFieldOf derived.Function (Operand Joint bare.Exp) RuleOf node_dec node_exp node_bind node_clause node_exp_field node_function node_part node_rule
+dec_of =
+    fold-Dec bare.Dec bare.Exp RuleOf derived.Clause ExpFieldOf derived.Function (Operand Joint bare.Exp) RuleOf
+    node_dec node_exp node_bind node_clause node_exp_field node_function node_part node_rule
 
 abbrev pub exp_of : Exp → bare.Exp
-exp_of = fold-Exp bare.Dec bare.Exp RuleOf derived.Clause ExpFieldOf derived.Function (Operand Joint bare.Exp) RuleOf node_dec node_exp node_bind node_clause node_exp_field node_function node_part node_rule
+exp_of =
+    fold-Exp bare.Dec bare.Exp RuleOf derived.Clause ExpFieldOf derived.Function (Operand Joint bare.Exp) RuleOf
+    node_dec node_exp node_bind node_clause node_exp_field node_function node_part node_rule
 
 abbrev pub bind_of : Bind → RuleOf
-bind_of = fold-Bind bare.Dec bare.Exp RuleOf derived.Clause ExpFieldOf derived.Function (Operand Joint bare.Exp) RuleOf node_dec node_exp node_bind node_clause node_exp_field node_function node_part node_rule
+bind_of =
+    fold-Bind bare.Dec bare.Exp RuleOf derived.Clause ExpFieldOf derived.Function (Operand Joint bare.Exp) RuleOf
+    node_dec node_exp node_bind node_clause node_exp_field node_function node_part node_rule
 
 abbrev pub clause_of : Clause → derived.Clause
-clause_of = fold-Clause bare.Dec bare.Exp RuleOf derived.Clause ExpFieldOf derived.Function (Operand Joint bare.Exp) RuleOf node_dec node_exp node_bind node_clause node_exp_field node_function node_part node_rule
+clause_of =
+    fold-Clause bare.Dec bare.Exp RuleOf derived.Clause ExpFieldOf derived.Function (Operand Joint bare.Exp) RuleOf
+    node_dec node_exp node_bind node_clause node_exp_field node_function node_part node_rule
 
 abbrev pub exp_field_of : ExpField → ExpFieldOf
-exp_field_of = fold-ExpField bare.Dec bare.Exp RuleOf derived.Clause ExpFieldOf derived.Function (Operand Joint bare.Exp) RuleOf node_dec node_exp node_bind node_clause node_exp_field node_function node_part node_rule
+exp_field_of =
+    fold-ExpField bare.Dec bare.Exp RuleOf derived.Clause ExpFieldOf derived.Function (Operand Joint bare.Exp) RuleOf
+    node_dec node_exp node_bind node_clause node_exp_field node_function node_part node_rule
 
 abbrev pub function_of : Function → derived.Function
-function_of = fold-Function bare.Dec bare.Exp RuleOf derived.Clause ExpFieldOf derived.Function (Operand Joint bare.Exp) RuleOf node_dec node_exp node_bind node_clause node_exp_field node_function node_part node_rule
+function_of =
+    fold-Function bare.Dec bare.Exp RuleOf derived.Clause ExpFieldOf derived.Function (Operand Joint bare.Exp) RuleOf
+    node_dec node_exp node_bind node_clause node_exp_field node_function node_part node_rule
 
 abbrev pub part_of : Part → Operand Joint bare.Exp
-part_of = fold-Part bare.Dec bare.Exp RuleOf derived.Clause ExpFieldOf derived.Function (Operand Joint bare.Exp) RuleOf node_dec node_exp node_bind node_clause node_exp_field node_function node_part node_rule
+part_of =
+    fold-Part bare.Dec bare.Exp RuleOf derived.Clause ExpFieldOf derived.Function (Operand Joint bare.Exp) RuleOf
+    node_dec node_exp node_bind node_clause node_exp_field node_function node_part node_rule
 
 abbrev pub rule_of : Rule → RuleOf
-rule_of = fold-Rule bare.Dec bare.Exp RuleOf derived.Clause ExpFieldOf derived.Function (Operand Joint bare.Exp) RuleOf node_dec node_exp node_bind node_clause node_exp_field node_function node_part node_rule
+rule_of =
+    fold-Rule bare.Dec bare.Exp RuleOf derived.Clause ExpFieldOf derived.Function (Operand Joint bare.Exp) RuleOf
+    node_dec node_exp node_bind node_clause node_exp_field node_function node_part node_rule

@@ -1,7 +1,8 @@
 // The derived forms.
 
 ghost use Rattle.std.specs.Prelude.{◌≡◌, ◌∷◌, [], map, true, IfOk};
-ghost use Rattle.sml_tree.specs.Derived.{fresh_exp, fresh_pat, unit, tuple_pat, select, case_of, if_of, and_of, or_of, sequence_of, let_of, while_of, with_result, pun};
+ghost use Rattle.sml_tree.specs.Derived.{fresh_exp, fresh_pat, unit, tuple_pat, select, case_of, if_of};
+ghost use Rattle.sml_tree.specs.Derived.{and_of, or_of, sequence_of, let_of, while_of, with_result, pun};
 ghost use Rattle.sml_tree.specs.BareTree as bare;
 ghost use Rattle.sml_tree.specs.TreeOf.{exp_of, pat_of, ty_of, dec_of, rule_of, rules_of, decs_of, some_ty_of};
 ghost use Rattle.sml_tree.specs.StandsFor.{phrase_of, stands_for};
