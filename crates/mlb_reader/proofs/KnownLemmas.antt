@@ -1,7 +1,7 @@
 -- Names of phrases are held, and their places lie in files.
-use Rattle.std.proofs.Common.{◌≡◌, ℕ, ◌<◌, ◌≤◌, List, [], ◌∷◌, ◌++◌, length, map, get_or, All, Some, None, refl, ap, subst, sym, ◌∙◌, arith, append_assoc}
+use Rattle.std.proofs.Common.{◌≡◌, ℕ, ◌<◌, ◌≤◌, List, [], ◌∷◌, ◌++◌, length, map, take, drop, min, get_or, All, Some, None, refl, ap, subst, sym, ◌∙◌, arith, append_assoc}
 use Rattle.std.specs.Option.{ForSome}
-use Rattle.std.proofs.lemmas.List.{get_or_default}
+use Rattle.std.proofs.lemmas.List.{get_or_default, length-take, take-append-drop, take-append-le}
 use Rattle.std.proofs.lemmas.List.Elements.{All-append, All-cons, All-nil, All-same, All-weaker}
 use Rattle.mlc_base.specs.File.{File}
 use Rattle.mlc_base.specs.Files.{LiesIn}
@@ -9,6 +9,7 @@ use Rattle.mlc_base.specs.declared.place.Place.{Place}
 use Rattle.mlc_base.specs.declared.token.Token.{Token}
 use Rattle.mlc_base.specs.declared.token.TokenKind.{TokenKind}
 use Rattle.mlc_base.specs.declared.token.TokenKind.TheVariants as kind
+use Rattle.mlc_base.specs.StandardWords.{standard_words}
 use Rattle.sml_lexer.specs.Lexeme.{HoldsNames}
 use Rattle.sml_lexer.specs.Lexes.{HoldsAllNames, Rises}
 use Rattle.sml_lexer.specs.NameTable.{Keeps}
@@ -20,8 +21,10 @@ use Rattle.sml_tree.specs.declared.tree.Dec.{Dec}
 use Rattle.sml_parser.specs.Core.{IsCore}
 use Rattle.sml_parser.specs.Left.{left}
 use Rattle.sml_parser.specs.declared.source.Source.{Source}
+use Rattle.sml_rules.specs.Basis.{IsTable}
 use Rattle.sml_rules.specs.Phrases.{Phrase, brings_basis, decs_phrases, parts_phrases}
 use Rattle.sml_rules.specs.Project.{Part, source, standard_basis}
+use Rattle.sml_rules.proofs.Names.{texts-apart}
 use Rattle.mlb_reader.specs.Loading.{Grows, IsKnown, IsPlaceOf}
 use Rattle.mlb_reader.specs.Project.{Loaded, most_bytes}
 use Rattle.mlb_reader.specs.Within.{AllPlacedIn, HoldsAll, HoldsName, PlacedIn}
@@ -76,33 +79,51 @@ more-hold a b xs le h = All-weaker (HoldsName a) (HoldsName b) (λ x k n e. omeg
 more-placed : (P Q : Place → Type 0) (xs : List Phrase) → ((p : Place) → P p → Q p) → AllPlacedIn P xs → AllPlacedIn Q xs
 more-placed P Q xs w h = All-weaker (PlacedIn P) (PlacedIn Q) (λ x k p e. w p (k p e)) xs h
 
-module _ (a b : List (List ℕ)) (keeps : Keeps a b) (s : Loaded) (known : IsKnown a s) (reads : List File) (grows : Grows s.reads reads) where
-  more-known : (fixities : Fixity) (parts : List Part) → HoldsAll (length b) (parts_phrases parts) → AllPlacedIn (λ place. LiesIn place reads) (parts_phrases parts) → IsKnown b (record { fixities = fixities; parts = s.parts ++ parts; reads = reads })
+module _ (b : List (List ℕ)) (s : Loaded) (keeps : Keeps s.names b) (table : IsTable b) (known : IsKnown s) (reads : List File) (grows : Grows s.reads reads) where
+  more-known : (fixities : Fixity) (parts : List Part) → HoldsAll (length b) (parts_phrases parts) → AllPlacedIn (λ place. LiesIn place reads) (parts_phrases parts) → IsKnown (record { names = b; fixities = fixities; parts = s.parts ++ parts; reads = reads })
   more-known fixities parts held placed = record {
+    table = table;
     held = All-same (HoldsName (length b)) (parts_phrases (s.parts ++ parts)) (parts_phrases s.parts ++ parts_phrases parts) (phrases-append s.parts parts)
-        (All-append (HoldsName (length b)) (parts_phrases s.parts) (parts_phrases parts) (more-hold (length a) (length b) (parts_phrases s.parts) (keeps_no_fewer a b keeps) known.held) held);
+        (All-append (HoldsName (length b)) (parts_phrases s.parts) (parts_phrases parts) (more-hold (length s.names) (length b) (parts_phrases s.parts) (keeps_no_fewer s.names b keeps) known.held) held);
     placed = All-same (PlacedIn (λ place. LiesIn place reads)) (parts_phrases (s.parts ++ parts)) (parts_phrases s.parts ++ parts_phrases parts) (phrases-append s.parts parts)
         (All-append (PlacedIn (λ place. LiesIn place reads)) (parts_phrases s.parts) (parts_phrases parts)
         (more-placed (λ place. LiesIn place s.reads) (λ place. LiesIn place reads) (parts_phrases s.parts) (λ place lies. lies-grown place s.reads reads grows lies) known.placed) placed);
   }
 
-  pub basis-known : (fixities : Fixity) (e : Loaded) → e ≡ record { fixities = fixities; parts = s.parts ++ standard_basis ∷ []; reads = reads } → IsKnown b e
+  pub basis-known : (fixities : Fixity) (e : Loaded) → e ≡ record { names = b; fixities = fixities; parts = s.parts ++ standard_basis ∷ []; reads = reads } → IsKnown e
   basis-known fixities e same =
       let held : HoldsAll (length b) (brings_basis ∷ []) = All-cons (HoldsName (length b)) brings_basis [] (none-held (length b)) (All-nil (HoldsName (length b))) in
       let placed : AllPlacedIn (λ place. LiesIn place reads) (brings_basis ∷ []) = All-cons (PlacedIn (λ place. LiesIn place reads)) brings_basis [] (λ p k. absurd (let no : None ≡ Some p = k in cc)) (All-nil (PlacedIn (λ place. LiesIn place reads))) in
-      subst (IsKnown b) (sym same) (more-known fixities (standard_basis ∷ []) held placed)
+      subst IsKnown (sym same) (more-known fixities (standard_basis ∷ []) held placed)
 
   pub source-known : (fixities : Fixity) (ds : Decs) (file : File) (number size : ℕ) (e : Loaded) → reads ≡ s.reads ++ file ∷ [] → number ≡ length s.reads → size ≡ length file.bytes → length file.bytes ≤ most_bytes →
-      HoldsAll (length b) (decs_phrases ds) → AllPlacedIn (IsPlaceOf number size) (decs_phrases ds) → e ≡ record { fixities = fixities; parts = s.parts ++ source ds ∷ []; reads = reads } → IsKnown b e
+      HoldsAll (length b) (decs_phrases ds) → AllPlacedIn (IsPlaceOf number size) (decs_phrases ds) → e ≡ record { names = b; fixities = fixities; parts = s.parts ++ source ds ∷ []; reads = reads } → IsKnown e
   source-known fixities ds file number size e added at sized small held placed same =
       let nothing : List Phrase = [] in
       let all_held = All-append (HoldsName (length b)) (decs_phrases ds) nothing held (All-nil (HoldsName (length b))) in
       let lies = more-placed (IsPlaceOf number size) (λ place. LiesIn place reads) (decs_phrases ds) (λ place h. lies-last place s.reads reads file added (h.0 ∙ at) (omega (arith, h.1, sized)) small) placed in
       let all_placed = All-append (PlacedIn (λ place. LiesIn place reads)) (decs_phrases ds) nothing lies (All-nil (PlacedIn (λ place. LiesIn place reads))) in
-      subst (IsKnown b) (sym same) (more-known fixities (source ds ∷ []) all_held all_placed)
+      subst IsKnown (sym same) (more-known fixities (source ds ∷ []) all_held all_placed)
 
-pub nothing-known : (texts : List (List ℕ)) (s : Loaded) → s.parts ≡ [] → IsKnown texts s
-nothing-known texts s e = record {
-  held = subst (λ ps. HoldsAll (length texts) (parts_phrases ps)) (sym e) (All-nil (HoldsName (length texts)));
+pub nothing-known : (s : Loaded) → IsTable s.names → s.parts ≡ [] → IsKnown s
+nothing-known s table e = record {
+  table = table;
+  held = subst (λ ps. HoldsAll (length s.names) (parts_phrases ps)) (sym e) (All-nil (HoldsName (length s.names)));
   placed = subst (λ ps. AllPlacedIn (λ place. LiesIn place s.reads) (parts_phrases ps)) (sym e) (All-nil (PlacedIn (λ place. LiesIn place s.reads)));
 }
+
+-- Tables.
+
+-- the standard words by themselves are one
+pub standard-table : (names : List (List ℕ)) → names ≡ standard_words → IsTable names
+standard-table names is = subst IsTable (sym is) (record { apart = texts-apart standard_words refl; begins = refl })
+
+pub table-stays : (a b : List (List ℕ)) → Keeps a b → IsTable a → IsTable b
+table-stays a b keeps table = record { apart = keeps.apart table.apart; begins = front-stays standard_words a b table.begins keeps }
+  where
+    front-stays : (front a b : List (List ℕ)) → take (length front) a ≡ front → Keeps a b → take (length front) b ≡ front
+    front-stays front a b h keeps =
+        let more : b ≡ a ++ drop (length a) b = sym (take-append-drop (length a) b) ∙ ap (λ t. t ++ drop (length a) b) keeps.held in
+        let least : min (length front) (length a) ≡ length front = sym (length-take (length front) a) ∙ ap length h in
+        let enough : length front ≤ length a = omega (arith, least) in
+        ap (take (length front)) more ∙ take-append-le (length front) a (drop (length a) b) enough ∙ h

@@ -7,7 +7,6 @@ pub mod MlbLemmas
 pub mod RefusalLemmas
 pub mod SegmentLemmas
 pub mod SourceLemmas
-pub mod TableLemmas
 pub mod Within
 pub mod WithinChains
 pub mod WithinExpressions

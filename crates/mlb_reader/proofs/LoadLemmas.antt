@@ -9,10 +9,9 @@ use Rattle.mlc_base.specs.declared.code.Code.TheVariants.{FilesTooLarge, MlbSynt
 use Rattle.mlc_base.specs.declared.fault.Fault.{Fault}
 use Rattle.mlc_outside.specs.Files.{Files}
 use Rattle.mlc_outside.specs.Store.{HasFile}
-use Rattle.sml_lexer.specs.NameTable.{Keeps}
+use Rattle.mlc_base.specs.StandardWords.{standard_words}
 use Rattle.sml_tree.specs.BareTree.{Decs}
 use Rattle.sml_tree.specs.Fixity.{Fixity}
-use Rattle.sml_rules.specs.Basis.{IsTable}
 use Rattle.sml_rules.specs.Project.{Part, source}
 use Rattle.mlb_reader.specs.Broken.{IsBad, IsBroken, IsMissing, fault_at, large_mlb, no_mlb, variable, extension, too_many, too_large, bad_source}
 use Rattle.mlb_reader.specs.Loading.{BreaksAt, BreaksFirst, IsBegun, IsFetched, IsTooLarge, MissesAt, NeedsAt, path_fault}
@@ -25,50 +24,41 @@ use Rattle.mlb_reader.specs.declared.mlb.Item as code
 use Rattle.mlb_reader.specs.declared.counts.Counts.{Counts}
 use Rattle.mlb_reader.proofs.FileLemmas.{lies-last}
 use Rattle.mlb_reader.proofs.MlbLemmas.{reads-words}
-use Rattle.mlb_reader.proofs.TableLemmas.{source-stays, standard-stays, table-stays}
 
 -- The paths of the ML Basis file, one after the other.
 
-pub loads-append : (texts : List (List ℕ)) (files : Files) (mlb : List ℕ) (s m e : Loaded) (xs ys : List Item) → Loads texts files mlb s xs m → Loads texts files mlb m ys e → Loads texts files mlb s (xs ++ ys) e
-loads-append texts files mlb s m e xs ys (no_item t) k = k
-loads-append texts files mlb s m e xs ys (the_basis {item = item} {items = items} is h) k = the_basis is (loads-append texts files mlb (with_basis texts s) m e items ys h k)
-loads-append texts files mlb s m e xs ys (a_source {item = item} {items = items} file {ds = ds} {f = f} r is h) k = a_source file r is (loads-append texts files mlb (with_source file ds f s) m e items ys h k)
-
--- a table that grows changes nothing of them
-pub loads-stay : (a b : List (List ℕ)) (keeps : Keeps a b) (table : IsTable a) (files : Files) (mlb : List ℕ) (s e : Loaded) (items : List Item) → Loads a files mlb s items e → Loads b files mlb s items e
-loads-stay a b keeps table files mlb s e items (no_item t) = no_item s
-loads-stay a b keeps table files mlb s e items (the_basis {item = item} {items = rest} is h) =
-    let same : with_basis a s ≡ with_basis b s = ap (λ f. record s { fixities = f ++ s.fixities; parts = (with_basis a s).parts }) (sym (standard-stays a b keeps table)) in
-    the_basis is (subst (λ m. Loads b files mlb m rest e) same (loads-stay a b keeps table files mlb (with_basis a s) e rest h))
-loads-stay a b keeps table files mlb s e items (a_source {item = item} {items = rest} file {ds = ds} {f = f} r is h) =
-    a_source file r (source-stays a b keeps table (length s.reads) s.fixities file.bytes ds f is) (loads-stay a b keeps table files mlb (with_source file ds f s) e rest h)
+pub loads-append : (files : Files) (mlb : List ℕ) (s m e : Loaded) (xs ys : List Item) → Loads files mlb s xs m → Loads files mlb m ys e → Loads files mlb s (xs ++ ys) e
+loads-append files mlb s m e xs ys (no_item t) k = k
+loads-append files mlb s m e xs ys (the_basis {item = item} {items = items} is h) k = the_basis is (loads-append files mlb (with_basis s) m e items ys h k)
+loads-append files mlb s m e xs ys (a_source {item = item} {items = items} file {ds = ds} {names = names} {f = f} r is h) k =
+    a_source file r is (loads-append files mlb (with_source file ds names f s) m e items ys h k)
 
 -- One path.
 
-module _ (texts : List (List ℕ)) (mlb : List ℕ) (s : Loaded) (item : Item) where
-  pub basis-loaded : (files : Option Files) (e : Loaded) → item.word ≡ basis_path → e ≡ with_basis texts s → IfTold files (λ f. Loads texts f mlb s (item ∷ []) e)
+module _ (mlb : List ℕ) (s : Loaded) (item : Item) where
+  pub basis-loaded : (files : Option Files) (e : Loaded) → item.word ≡ basis_path → e ≡ with_basis s → IfTold files (λ f. Loads f mlb s (item ∷ []) e)
   basis-loaded None e is same = tt
-  basis-loaded (Some f) e is same = subst (λ m. Loads texts f mlb s (item ∷ []) m) (sym same) (the_basis is (no_item (with_basis texts s)))
+  basis-loaded (Some f) e is same = subst (λ m. Loads f mlb s (item ∷ []) m) (sym same) (the_basis is (no_item (with_basis s)))
 
   module _ (may : MayRead s item) where
-    pub missing-at : (files : Option Files) (missing : List ℕ) → missing ≡ path_from mlb item.word → HasFile files (path_from mlb item.word) None → MissesAt texts files mlb s item missing
+    pub missing-at : (files : Option Files) (missing : List ℕ) → missing ≡ path_from mlb item.word → HasFile files (path_from mlb item.word) None → MissesAt files mlb s item missing
     missing-at None missing e has = tt
     missing-at (Some f) missing e has = λ input same to.
         let is : path_from (clean input) item.word ≡ missing = ap (λ m. path_from m item.word) same ∙ sym e in
-        record { is_needed = subst (IsNeeded texts f input) is (of_source to may); has_no_file = ap (get f) e ∙ has }
+        record { is_needed = subst (IsNeeded f input) is (of_source to may); has_no_file = ap (get f) e ∙ has }
 
-    pub needed-at : (files : Option Files) (failed : List ℕ) → failed ≡ path_from mlb item.word → NeedsAt texts files mlb s item failed
+    pub needed-at : (files : Option Files) (failed : List ℕ) → failed ≡ path_from mlb item.word → NeedsAt files mlb s item failed
     needed-at None failed e = tt
     needed-at (Some f) failed e = λ input same to.
         let is : path_from (clean input) item.word ≡ failed = ap (λ m. path_from m item.word) same ∙ sym e in
-        subst (IsNeeded texts f input) is (of_source to may)
+        subst (IsNeeded f input) is (of_source to may)
 
-    pub too-large-at : (files : Option Files) (fault : Fault) (new : List File) → IsTooLarge files (path_from mlb item.word) item.byte fault s.reads new → BreaksAt texts files mlb s item fault new
+    pub too-large-at : (files : Option Files) (fault : Fault) (new : List File) → IsTooLarge files (path_from mlb item.word) item.byte fault s.reads new → BreaksAt files mlb s item fault new
     too-large-at None fault new h = tt
     too-large-at (Some f) fault new h = λ input same to.
         let path_is : h.file.path ≡ path_from (clean input) item.word = h.path_is ∙ ap (λ m. path_from m item.word) (sym same) in
         let has : get f h.file.path ≡ Some h.file.bytes = ap (get f) h.path_is ∙ h.has in
-        subst (λ r. IsBroken texts f input fault r) (sym h.added) (subst (λ x. IsBroken texts f input x (s.reads ++ h.file ∷ [])) (sym h.fault_is) (too_large h.file to may path_is has h.no_fit))
+        subst (λ r. IsBroken f input fault r) (sym h.added) (subst (λ x. IsBroken f input x (s.reads ++ h.file ∷ [])) (sym h.fault_is) (too_large h.file to may path_is has h.no_fit))
 
     module _ (number : ℕ) (counts : Counts) (new : List File) where
       is-read : (f : Files) (at : List ℕ) → at ≡ mlb → (h : IsFetched (Some f) (path_from mlb item.word) number counts s.reads new) → IsRead f at s item h.file
@@ -79,46 +69,46 @@ module _ (texts : List (List ℕ)) (mlb : List ℕ) (s : Loaded) (item : Item) w
         fits = h.fits;
       }
 
-      pub source-loaded : (files : Option Files) (h : IsFetched files (path_from mlb item.word) number counts s.reads new) (bytes : List ℕ) (ds : Decs) (f' : Fixity) (e : Loaded) → bytes ≡ h.file.bytes → IsSource texts number s.fixities bytes ds f' → e ≡ record { fixities = f'; parts = s.parts ++ source ds ∷ []; reads = new } → IfTold files (λ f. Loads texts f mlb s (item ∷ []) e)
-      source-loaded None h bytes ds f' e are is same = tt
-      source-loaded (Some f) h bytes ds f' e are is same =
-          let there : IsSource texts (length s.reads) s.fixities h.file.bytes ds f' = subst (λ b. IsSource texts (length s.reads) s.fixities b ds f') are (subst (λ n. IsSource texts n s.fixities bytes ds f') h.number_is is) in
-          let last : with_source h.file ds f' s ≡ e = ap (λ r. record { fixities = f'; parts = s.parts ++ source ds ∷ []; reads = r }) (sym h.added) ∙ sym same in
-          subst (λ m. Loads texts f mlb s (item ∷ []) m) last (a_source h.file (is-read f mlb refl h) there (no_item (with_source h.file ds f' s)))
+      pub source-loaded : (files : Option Files) (h : IsFetched files (path_from mlb item.word) number counts s.reads new) (bytes : List ℕ) (ds : Decs) (names : List (List ℕ)) (f' : Fixity) (e : Loaded) → bytes ≡ h.file.bytes → IsSource s.names number s.fixities bytes ds names f' → e ≡ record { names = names; fixities = f'; parts = s.parts ++ source ds ∷ []; reads = new } → IfTold files (λ f. Loads f mlb s (item ∷ []) e)
+      source-loaded None h bytes ds names f' e are is same = tt
+      source-loaded (Some f) h bytes ds names f' e are is same =
+          let there : IsSource s.names (length s.reads) s.fixities h.file.bytes ds names f' = subst (λ b. IsSource s.names (length s.reads) s.fixities b ds names f') are (subst (λ n. IsSource s.names n s.fixities bytes ds names f') h.number_is is) in
+          let last : with_source h.file ds names f' s ≡ e = ap (λ r. record { names = names; fixities = f'; parts = s.parts ++ source ds ∷ []; reads = r }) (sym h.added) ∙ sym same in
+          subst (λ m. Loads f mlb s (item ∷ []) m) last (a_source h.file (is-read f mlb refl h) there (no_item (with_source h.file ds names f' s)))
 
-      pub bad-at : (files : Option Files) (h : IsFetched files (path_from mlb item.word) number counts s.reads new) (bytes : List ℕ) (fault : Fault) → bytes ≡ h.file.bytes → IsBad texts number s.fixities bytes fault → BreaksAt texts files mlb s item fault new
+      pub bad-at : (files : Option Files) (h : IsFetched files (path_from mlb item.word) number counts s.reads new) (bytes : List ℕ) (fault : Fault) → bytes ≡ h.file.bytes → IsBad s.names number s.fixities bytes fault → BreaksAt files mlb s item fault new
       bad-at None h bytes fault are bad = tt
       bad-at (Some f) h bytes fault are bad = λ input same to.
-          let there : IsBad texts (length s.reads) s.fixities h.file.bytes fault = subst (λ b. IsBad texts (length s.reads) s.fixities b fault) are (subst (λ n. IsBad texts n s.fixities bytes fault) h.number_is bad) in
-          subst (λ r. IsBroken texts f input fault r) (sym h.added) (bad_source to h.file (is-read f (clean input) same h) there)
+          let there : IsBad s.names (length s.reads) s.fixities h.file.bytes fault = subst (λ b. IsBad s.names (length s.reads) s.fixities b fault) are (subst (λ n. IsBad s.names n s.fixities bytes fault) h.number_is bad) in
+          subst (λ r. IsBroken f input fault r) (sym h.added) (bad_source to h.file (is-read f (clean input) same h) there)
 
   -- Paths that aren't read.
 
-  pub variable-at : (files : Option Files) → item.word ≢ basis_path → has_variable item.word ≡ true → BreaksAt texts files mlb s item (fault_at PathVariable 0 item.byte) s.reads
+  pub variable-at : (files : Option Files) → item.word ≢ basis_path → has_variable item.word ≡ true → BreaksAt files mlb s item (fault_at PathVariable 0 item.byte) s.reads
   variable-at None other h = tt
   variable-at (Some f) other h = λ input same to. variable to other h
 
-  pub extension-at : (files : Option Files) → has_variable item.word ≡ false → is_source item.word ≡ false → BreaksAt texts files mlb s item (fault_at Extension 0 item.byte) s.reads
+  pub extension-at : (files : Option Files) → has_variable item.word ≡ false → is_source item.word ≡ false → BreaksAt files mlb s item (fault_at Extension 0 item.byte) s.reads
   extension-at None h k = tt
   extension-at (Some f) h k = λ input same to. extension to h k
 
-  pub too-many-at : (files : Option Files) → has_variable item.word ≡ false → is_source item.word ≡ true → most_reads ≤ length s.reads → BreaksAt texts files mlb s item (fault_at TooManyFiles 0 item.byte) s.reads
+  pub too-many-at : (files : Option Files) → has_variable item.word ≡ false → is_source item.word ≡ true → most_reads ≤ length s.reads → BreaksAt files mlb s item (fault_at TooManyFiles 0 item.byte) s.reads
   too-many-at None h k l = tt
   too-many-at (Some f) h k l = λ input same to. too_many to h k l
 
   path-breaks-at : (files : Option Files) (fault : Fault) (reads : ℕ) (p q r : Bool) → reads ≡ length s.reads → item.word ≢ basis_path → has_variable item.word ≡ p → is_source item.word ≡ q → nat_lt reads most_reads ≡ r →
-      (if p then Some (fault_at PathVariable 0 item.byte) else (if q then (if r then None else Some (fault_at TooManyFiles 0 item.byte)) else Some (fault_at Extension 0 item.byte))) ≡ Some fault → BreaksAt texts files mlb s item fault s.reads
+      (if p then Some (fault_at PathVariable 0 item.byte) else (if q then (if r then None else Some (fault_at TooManyFiles 0 item.byte)) else Some (fault_at Extension 0 item.byte))) ≡ Some fault → BreaksAt files mlb s item fault s.reads
   path-breaks-at files fault reads true q r n other h k l e =
-      let same : fault_at PathVariable 0 item.byte ≡ fault = cc in subst (λ x. BreaksAt texts files mlb s item x s.reads) same (variable-at files other h)
+      let same : fault_at PathVariable 0 item.byte ≡ fault = cc in subst (λ x. BreaksAt files mlb s item x s.reads) same (variable-at files other h)
   path-breaks-at files fault reads false false r n other h k l e =
-      let same : fault_at Extension 0 item.byte ≡ fault = cc in subst (λ x. BreaksAt texts files mlb s item x s.reads) same (extension-at files h k)
+      let same : fault_at Extension 0 item.byte ≡ fault = cc in subst (λ x. BreaksAt files mlb s item x s.reads) same (extension-at files h k)
   path-breaks-at files fault reads false true true n other h k l e = absurd (let no : None ≡ Some fault = e in cc)
   path-breaks-at files fault reads false true false n other h k l e =
       let same : fault_at TooManyFiles 0 item.byte ≡ fault = cc in
       let many : most_reads ≤ reads = ltb-false reads most_reads l in
-      subst (λ x. BreaksAt texts files mlb s item x s.reads) same (too-many-at files h k (omega (arith, many, n)))
+      subst (λ x. BreaksAt files mlb s item x s.reads) same (too-many-at files h k (omega (arith, many, n)))
 
-  pub path-breaks : (files : Option Files) (fault : Fault) (reads : ℕ) → reads ≡ length s.reads → item.word ≢ basis_path → path_fault item reads ≡ Some fault → BreaksAt texts files mlb s item fault s.reads
+  pub path-breaks : (files : Option Files) (fault : Fault) (reads : ℕ) → reads ≡ length s.reads → item.word ≢ basis_path → path_fault item reads ≡ Some fault → BreaksAt files mlb s item fault s.reads
   path-breaks files fault reads n other e = path-breaks-at files fault reads (has_variable item.word) (is_source item.word) (nat_lt reads most_reads) n other refl refl refl e
 
 may-read-at : (s : Loaded) (item : Item) (reads : ℕ) (p q r : Bool) → reads ≡ length s.reads → has_variable item.word ≡ p → is_source item.word ≡ q → nat_lt reads most_reads ≡ r →
@@ -151,105 +141,109 @@ path-place item fault reads e = path-place-at item fault (has_variable item.word
 module _ (mlb : List ℕ) (reads : List File) (none : reads ≡ []) where
   pub mlb-large : (files : Option Files) (fault : Fault) (new : List File) → IsTooLarge files mlb 0 fault reads new → BreaksFirst files mlb fault new
   mlb-large None fault new h = tt
-  mlb-large (Some f) fault new h = λ texts input same.
+  mlb-large (Some f) fault new h = λ input same.
       let added : new ≡ h.file ∷ [] = h.added ∙ ap (λ r. r ++ h.file ∷ []) none in
       let has : get f h.file.path ≡ Some h.file.bytes = ap (get f) h.path_is ∙ h.has in
-      let large : IsBroken texts f input (fault_at FilesTooLarge 0 0) (h.file ∷ []) = large_mlb h.file (h.path_is ∙ sym same) has (λ fits. h.no_fit (subst (λ r. Fits r h.file.bytes) (sym none) fits)) in
-      subst (λ r. IsBroken texts f input fault r) (sym added) (subst (λ x. IsBroken texts f input x (h.file ∷ [])) (sym h.fault_is) large)
+      let large : IsBroken f input (fault_at FilesTooLarge 0 0) (h.file ∷ []) = large_mlb h.file (h.path_is ∙ sym same) has (λ fits. h.no_fit (subst (λ r. Fits r h.file.bytes) (sym none) fits)) in
+      subst (λ r. IsBroken f input fault r) (sym added) (subst (λ x. IsBroken f input x (h.file ∷ [])) (sym h.fault_is) large)
 
   module _ (number : ℕ) (counts : Counts) (new : List File) where
     pub mlb-bad : (files : Option Files) (h : IsFetched files mlb number counts reads new) (bytes : List ℕ) (fault : Fault) → bytes ≡ h.file.bytes → IsNoMlb bytes → fault ≡ fault_at MlbSyntax number 0 → BreaksFirst files mlb fault new
     mlb-bad None h bytes fault are bad is = tt
-    mlb-bad (Some f) h bytes fault are bad is = λ texts input same.
+    mlb-bad (Some f) h bytes fault are bad is = λ input same.
         let added : new ≡ h.file ∷ [] = h.added ∙ ap (λ r. r ++ h.file ∷ []) none in
         let has : get f h.file.path ≡ Some h.file.bytes = ap (get f) h.path_is ∙ h.has in
         let zero : number ≡ 0 = h.number_is ∙ ap length none in
         let fits : Fits [] h.file.bytes = subst (λ r. Fits r h.file.bytes) none h.fits in
         let no : IsNoMlb h.file.bytes = subst IsNoMlb are bad in
-        let broken : IsBroken texts f input (fault_at MlbSyntax 0 0) (h.file ∷ []) = no_mlb h.file (h.path_is ∙ sym same) has fits no in
-        subst (λ r. IsBroken texts f input fault r) (sym added) (subst (λ x. IsBroken texts f input x (h.file ∷ [])) (sym (is ∙ ap (λ n. fault_at MlbSyntax n 0) zero)) broken)
+        let broken : IsBroken f input (fault_at MlbSyntax 0 0) (h.file ∷ []) = no_mlb h.file (h.path_is ∙ sym same) has fits no in
+        subst (λ r. IsBroken f input fault r) (sym added) (subst (λ x. IsBroken f input x (h.file ∷ [])) (sym (is ∙ ap (λ n. fault_at MlbSyntax n 0) zero)) broken)
 
 -- The whole.
 
 module _ (mlb : List ℕ) (items : List Item) (first : Loaded) where
   -- one path more
-  pub loads-more : (files : Option Files) (a b : List (List ℕ)) (keeps : Keeps a b) (table : IsTable a) (s e : Loaded) (item : Item) (i : ℕ) → i < length items → item ≡ get_or items i item → IfTold files (λ f. Loads a f mlb first (take i items) s) → IfTold files (λ f. Loads b f mlb s (item ∷ []) e) → IfTold files (λ f. Loads b f mlb first (take (i + 1) items) e)
-  loads-more None a b keeps table s e item i h is before one = tt
-  loads-more (Some f) a b keeps table s e item i h is before one =
+  pub loads-more : (files : Option Files) (s e : Loaded) (item : Item) (i : ℕ) → i < length items → item ≡ get_or items i item → IfTold files (λ f. Loads f mlb first (take i items) s) → IfTold files (λ f. Loads f mlb s (item ∷ []) e) → IfTold files (λ f. Loads f mlb first (take (i + 1) items) e)
+  loads-more None s e item i h is before one = tt
+  loads-more (Some f) s e item i h is before one =
       let taken : take i items ++ item ∷ [] ≡ take (i + 1) items = ap (λ x. take i items ++ x ∷ []) is ∙ sym (take_more items i item h) in
-      subst (λ x. Loads b f mlb first x e) taken (loads-append b f mlb first s e (take i items) (item ∷ []) (loads-stay a b keeps table f mlb first s (take i items) before) one)
+      subst (λ x. Loads f mlb first x e) taken (loads-append f mlb first s e (take i items) (item ∷ []) before one)
 
   module _ (reads : List File) (input : List ℕ) (same : clean input ≡ mlb) (f : Files) (h : IsBegun (Some f) mlb items reads) (start : first ≡ begun h.file) where
     has-mlb : HasMlb f input h.file items
     has-mlb = record { path = h.path_is ∙ sym same; has = ap (get f) h.path_is ∙ h.has; fits = h.fits; is = h.is }
 
-    loads-from : (texts : List (List ℕ)) (xs : List Item) (e : Loaded) → Loads texts f mlb first xs e → Loads texts f h.file.path (begun h.file) xs e
-    loads-from texts xs e l = subst (λ p. Loads texts f p (begun h.file) xs e) (sym h.path_is) (subst (λ s. Loads texts f mlb s xs e) start l)
+    loads-from : (xs : List Item) (e : Loaded) → Loads f mlb first xs e → Loads f h.file.path (begun h.file) xs e
+    loads-from xs e l = subst (λ p. Loads f p (begun h.file) xs e) (sym h.path_is) (subst (λ s. Loads f mlb s xs e) start l)
 
-    comes-to : (a b : List (List ℕ)) (keeps : Keeps a b) (table : IsTable a) (s : Loaded) (item : Item) (i : ℕ) → i < length items → item ≡ get_or items i item → Loads a f mlb first (take i items) s → ComesTo b f input s item
-    comes-to a b keeps table s item i l is before =
+    comes-to : (s : Loaded) (item : Item) (i : ℕ) → i < length items → item ≡ get_or items i item → Loads f mlb first (take i items) s → ComesTo f input s item
+    comes-to s item i l is before =
         let rest : items ≡ take i items ++ item ∷ drop (i + 1) items = sym (take-append-drop i items) ∙ ap (λ x. take i items ++ x) (drop_more items i item l ∙ ap (λ x. x ∷ drop (i + 1) items) (sym is)) in
         record {
-          table = table-stays a b keeps table;
           file = h.file;
           before = take i items;
           rest = drop (i + 1) items;
           has_mlb = subst (HasMlb f input h.file) rest has-mlb;
-          loads = loads-from b (take i items) s (loads-stay a b keeps table f mlb first s (take i items) before);
+          loads = loads-from (take i items) s before;
         }
 
-    pub project-of : (texts : List (List ℕ)) (e : Loaded) (i : ℕ) → IsTable texts → length items ≤ i → Loads texts f mlb first (take i items) e → ProjectOf texts f input e.parts e.reads
-    project-of texts e i table all l = record {
-      table = table;
+    pub project-of : (e : Loaded) (i : ℕ) → length items ≤ i → Loads f mlb first (take i items) e → ProjectOf f input e.names e.parts e.reads
+    project-of e i all l = record {
       file = h.file;
       items = items;
       last = e;
       has_mlb = has-mlb;
-      loads = loads-from texts items e (subst (λ x. Loads texts f mlb first x e) (take_all i items all) l);
+      loads = loads-from items e (subst (λ x. Loads f mlb first x e) (take_all i items all) l);
+      names_are = refl;
       parts_are = refl;
       reads_are = refl;
     }
 
   module _ (reads : List File) (input : List ℕ) (same : clean input ≡ mlb) where
-    module _ (a b : List (List ℕ)) (keeps : Keeps a b) (table : IsTable a) (s : Loaded) (item : Item) (i : ℕ) (l : i < length items) (is : item ≡ get_or items i item) where
-      pub breaks : (files : Option Files) (h : IsBegun files mlb items reads) → first ≡ begun h.file → IfTold files (λ f. Loads a f mlb first (take i items) s) → (fault : Fault) (new : List File) → BreaksAt b files mlb s item fault new → IfTold files (λ f. IsBroken b f input fault new)
+    module _ (s : Loaded) (item : Item) (i : ℕ) (l : i < length items) (is : item ≡ get_or items i item) where
+      pub breaks : (files : Option Files) (h : IsBegun files mlb items reads) → first ≡ begun h.file → IfTold files (λ f. Loads f mlb first (take i items) s) → (fault : Fault) (new : List File) → BreaksAt files mlb s item fault new → IfTold files (λ f. IsBroken f input fault new)
       breaks None h start before fault new at = tt
-      breaks (Some f) h start before fault new at = at input same (comes-to reads input same f h start a b keeps table s item i l is before)
+      breaks (Some f) h start before fault new at = at input same (comes-to reads input same f h start s item i l is before)
 
-      pub misses : (files : Option Files) (h : IsBegun files mlb items reads) → first ≡ begun h.file → IfTold files (λ f. Loads a f mlb first (take i items) s) → (missing : List ℕ) → MissesAt b files mlb s item missing → IfTold files (λ f. IsMissing b f input missing)
+      pub misses : (files : Option Files) (h : IsBegun files mlb items reads) → first ≡ begun h.file → IfTold files (λ f. Loads f mlb first (take i items) s) → (missing : List ℕ) → MissesAt files mlb s item missing → IfTold files (λ f. IsMissing f input missing)
       misses None h start before missing at = tt
-      misses (Some f) h start before missing at = at input same (comes-to reads input same f h start a b keeps table s item i l is before)
+      misses (Some f) h start before missing at = at input same (comes-to reads input same f h start s item i l is before)
 
-      pub needs : (files : Option Files) (h : IsBegun files mlb items reads) → first ≡ begun h.file → IfTold files (λ f. Loads a f mlb first (take i items) s) → (failed : List ℕ) → NeedsAt b files mlb s item failed → IfTold files (λ f. IsNeeded b f input failed)
+      pub needs : (files : Option Files) (h : IsBegun files mlb items reads) → first ≡ begun h.file → IfTold files (λ f. Loads f mlb first (take i items) s) → (failed : List ℕ) → NeedsAt files mlb s item failed → IfTold files (λ f. IsNeeded f input failed)
       needs None h start before failed at = tt
-      needs (Some f) h start before failed at = at input same (comes-to reads input same f h start a b keeps table s item i l is before)
+      needs (Some f) h start before failed at = at input same (comes-to reads input same f h start s item i l is before)
 
-    pub project : (files : Option Files) (h : IsBegun files mlb items reads) → first ≡ begun h.file → (texts : List (List ℕ)) (e : Loaded) (i : ℕ) → IsTable texts → length items ≤ i → IfTold files (λ f. Loads texts f mlb first (take i items) e) → IfTold files (λ f. ProjectOf texts f input e.parts e.reads)
-    project None h start texts e i table all l = tt
-    project (Some f) h start texts e i table all l = project-of reads input same f h start texts e i table all l
+    pub project : (files : Option Files) (h : IsBegun files mlb items reads) → first ≡ begun h.file → (e : Loaded) (i : ℕ) → length items ≤ i → IfTold files (λ f. Loads f mlb first (take i items) e) → IfTold files (λ f. ProjectOf f input e.names e.parts e.reads)
+    project None h start e i all l = tt
+    project (Some f) h start e i all l = project-of reads input same f h start e i all l
 
 -- The ML Basis file itself.
 
-pub breaks-first : (files : Option Files) (texts : List (List ℕ)) (mlb input : List ℕ) (fault : Fault) (reads : List File) → clean input ≡ mlb → BreaksFirst files mlb fault reads → IfTold files (λ f. IsBroken texts f input fault reads)
-breaks-first None texts mlb input fault reads same h = tt
-breaks-first (Some f) texts mlb input fault reads same h = h texts input same
+pub breaks-first : (files : Option Files) (mlb input : List ℕ) (fault : Fault) (reads : List File) → clean input ≡ mlb → BreaksFirst files mlb fault reads → IfTold files (λ f. IsBroken f input fault reads)
+breaks-first None mlb input fault reads same h = tt
+breaks-first (Some f) mlb input fault reads same h = h input same
 
-pub needs-first : (files : Option Files) (texts : List (List ℕ)) (mlb input failed : List ℕ) → clean input ≡ mlb → failed ≡ mlb → IfTold files (λ f. IsNeeded texts f input failed)
-needs-first None texts mlb input failed same e = tt
-needs-first (Some f) texts mlb input failed same e = subst (IsNeeded texts f input) (same ∙ sym e) the_mlb
+pub needs-first : (files : Option Files) (mlb input failed : List ℕ) → clean input ≡ mlb → failed ≡ mlb → IfTold files (λ f. IsNeeded f input failed)
+needs-first None mlb input failed same e = tt
+needs-first (Some f) mlb input failed same e = subst (IsNeeded f input) (same ∙ sym e) the_mlb
 
-pub misses-first : (files : Option Files) (texts : List (List ℕ)) (mlb input missing : List ℕ) → clean input ≡ mlb → missing ≡ mlb → HasFile files mlb None → IfTold files (λ f. IsMissing texts f input missing)
-misses-first None texts mlb input missing same e has = tt
-misses-first (Some f) texts mlb input missing same e has = record { is_needed = needs-first (Some f) texts mlb input missing same e; has_no_file = ap (get f) e ∙ has }
+pub misses-first : (files : Option Files) (mlb input missing : List ℕ) → clean input ≡ mlb → missing ≡ mlb → HasFile files mlb None → IfTold files (λ f. IsMissing f input missing)
+misses-first None mlb input missing same e has = tt
+misses-first (Some f) mlb input missing same e has = record { is_needed = needs-first (Some f) mlb input missing same e; has_no_file = ap (get f) e ∙ has }
 
 -- Before the first path.
 
-pub loads-nothing : (files : Option Files) (texts : List (List ℕ)) (mlb : List ℕ) (s : Loaded) → IfTold files (λ f. Loads texts f mlb s [] s)
-loads-nothing None texts mlb s = tt
-loads-nothing (Some f) texts mlb s = no_item s
+pub loads-nothing : (files : Option Files) (mlb : List ℕ) (s : Loaded) → IfTold files (λ f. Loads f mlb s [] s)
+loads-nothing None mlb s = tt
+loads-nothing (Some f) mlb s = no_item s
 
-pub start-is : (fixities : Fixity) (parts : List Part) (reads : List File) (file : File) → fixities ≡ [] → parts ≡ [] → reads ≡ file ∷ [] → record { fixities = fixities; parts = parts; reads = reads } ≡ begun file
-start-is fixities parts reads file e h k = ap (λ f. record { fixities = f; parts = parts; reads = reads }) e ∙ ap (λ p. record { fixities = []; parts = p; reads = reads }) h ∙ ap (λ r. record { fixities = []; parts = []; reads = r }) k
+pub start-is : (names : List (List ℕ)) (fixities : Fixity) (parts : List Part) (reads : List File) (file : File) → names ≡ standard_words → fixities ≡ [] → parts ≡ [] → reads ≡ file ∷ [] →
+    record { names = names; fixities = fixities; parts = parts; reads = reads } ≡ begun file
+start-is names fixities parts reads file n e h k =
+    ap (λ t. record { names = t; fixities = fixities; parts = parts; reads = reads }) n
+    ∙ ap (λ f. record { names = standard_words; fixities = f; parts = parts; reads = reads }) e
+    ∙ ap (λ p. record { names = standard_words; fixities = []; parts = p; reads = reads }) h
+    ∙ ap (λ r. record { names = standard_words; fixities = []; parts = []; reads = r }) k
 
 pub item-is : (xs : List code.Item) (k : ℕ) (x : code.Item) → k < length xs → x ≡ get_or xs k x → item_of x ≡ get_or (map item_of xs) k (item_of x)
 item-is xs k x h e = ap item_of e ∙ sym (get_or-map item_of xs k x (item_of x) h)

@@ -4,6 +4,7 @@ use Rattle.mlc_base.specs.declared.fault.Fault.{Fault}
 use Rattle.mlc_base.specs.declared.refused.Refused.{Refused}
 use Rattle.mlc_base.specs.declared.refused.Refused.TheVariants as refusal
 use Rattle.mlc_base.specs.declared.place.Place.{Place}
+use Rattle.mlc_base.specs.StandardWords.{word_times}
 use Rattle.mlc_base.specs.declared.token.Token.{Token}
 use Rattle.sml_lexer.specs.Lexes.{IfFault, IsRefused, Lexed, Lexes, Rises}
 use Rattle.sml_tree.specs.Fixity.{Fixity}
@@ -14,25 +15,25 @@ use Rattle.sml_parser.specs.Core.{Cause, IsCore, IsStop, Shallow}
 use Rattle.sml_parser.specs.Left.{left}
 use Rattle.sml_parser.specs.declared.source.Source.{Source}
 use Rattle.mlb_reader.specs.Broken.{IsBad, no_tokens, no_tree}
-use Rattle.mlb_reader.specs.Project.{HasTokens, IsSource, star_in}
+use Rattle.mlb_reader.specs.Project.{HasTokens, IsSource}
 
 -- a fact of the fault, where there is one
 abbrev pub AtFault : Refused → (Fault → Type 0) → Type 0
 AtFault e P = IfFault {T = Unit {0}} (Err e) P
 
-module _ (texts : List (List ℕ)) (file : ℕ) (bytes : List ℕ) (f : Fixity) where
-  pub bad-tokens : (e : Refused) → AtFault e (λ fault. IsRefused bytes file fault) → AtFault e (λ _. (tokens : List Lexed) → Lexes bytes tokens → ⊥) → AtFault e (λ fault. IsBad texts file f bytes fault)
+module _ (names : List (List ℕ)) (file : ℕ) (bytes : List ℕ) (f : Fixity) where
+  pub bad-tokens : (e : Refused) → AtFault e (λ fault. IsRefused bytes file fault) → AtFault e (λ _. (tokens : List Lexed) → Lexes bytes tokens → ⊥) → AtFault e (λ fault. IsBad names file f bytes fault)
   bad-tokens (refusal.Fault fault) h none = no_tokens h none
   bad-tokens refusal.Memory h none = tt
 
-  module _ (tokens : List Token) (has : HasTokens texts bytes tokens) (star : ℕ) (is : star ≡ star_in texts) where
-    pub bad-tree : (e : Refused) (end : ℕ) → end ≡ length bytes → AtFault e (λ fault. Cause f (left (record { file = file; star = star }) tokens) fault.code) → AtFault e (λ fault. IsStop (record { file = file; star = star }) end tokens fault.place) → AtFault e (λ fault. fault.name ≡ None) → AtFault e (λ fault. IsBad texts file f bytes fault)
+  module _ (tokens : List Token) (names' : List (List ℕ)) (has : HasTokens names bytes tokens names') (star : ℕ) (is : star ≡ word_times) where
+    pub bad-tree : (e : Refused) (end : ℕ) → end ≡ length bytes → AtFault e (λ fault. Cause f (left (record { file = file; star = star }) tokens) fault.code) → AtFault e (λ fault. IsStop (record { file = file; star = star }) end tokens fault.place) → AtFault e (λ fault. fault.name ≡ None) → AtFault e (λ fault. IsBad names file f bytes fault)
     bad-tree (refusal.Fault fault) end at cause stop unnamed =
-        no_tree tokens has (subst (λ s. Cause f (terminals s tokens) fault.code) is cause)
-        (subst (λ n. IsStop (record { file = file; star = star_in texts }) n tokens fault.place) at (subst (λ s. IsStop (record { file = file; star = s }) end tokens fault.place) is stop)) unnamed
+        no_tree tokens names' has (subst (λ s. Cause f (terminals s tokens) fault.code) is cause)
+        (subst (λ n. IsStop (record { file = file; star = word_times }) n tokens fault.place) at (subst (λ s. IsStop (record { file = file; star = s }) end tokens fault.place) is stop)) unnamed
     bad-tree refusal.Memory end at cause stop unnamed = tt
 
-    pub source-is : (decs : List Dec) (f' : Fixity) → IsCore f (record { file = file; star = star }) tokens decs f' → IsSource texts file f bytes (decs_of (map dec_of decs)) f'
+    pub source-is : (decs : List Dec) (f' : Fixity) → IsCore f (record { file = file; star = star }) tokens decs f' → IsSource names file f bytes (decs_of (map dec_of decs)) names' f'
     source-is decs f' h = record {
       tokens = tokens;
       has_tokens = has;

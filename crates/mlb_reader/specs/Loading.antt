@@ -7,6 +7,7 @@ use Rattle.mlc_base.specs.declared.fault.Fault.{Fault}
 use Rattle.mlc_base.specs.declared.place.Place.{Place}
 use Rattle.mlc_outside.specs.Files.{Files}
 use Rattle.mlc_outside.specs.Store.{HasFile}
+use Rattle.sml_rules.specs.Basis.{IsTable}
 use Rattle.sml_rules.specs.Phrases.{parts_phrases}
 use Rattle.mlb_reader.specs.Broken.{IsBroken, IsMissing, fault_at}
 use Rattle.mlb_reader.specs.Counting.{IsCount}
@@ -19,9 +20,9 @@ use Rattle.mlb_reader.specs.Within.{AllPlacedIn, HoldsAll}
 use Rattle.mlb_reader.specs.declared.counts.Counts.{Counts}
 use Rattle.mlb_reader.specs.declared.load.Loading.{Loading}
 
--- what was loaded, with the files that were read
-abbrev pub loaded_of : Loading → List File → Loaded
-loaded_of l reads = record { fixities = l.fixities; parts = map part_of l.parts.items; reads = reads }
+-- what was loaded, with the table of names and the files that were read
+abbrev pub loaded_of : List (List ℕ) → Loading → List File → Loaded
+loaded_of names l reads = record { names = names; fixities = l.fixities; parts = map part_of l.parts.items; reads = reads }
 
 -- files are only added
 pub record Grows (old new : List File) : Type 0 where
@@ -60,9 +61,10 @@ pub record IsBegun (files : Option Files) (path : List ℕ) (items : List Item) 
 abbrev pub IsPlaceOf : ℕ → ℕ → Place → Type 0
 IsPlaceOf file size place = (place.file ≡ file) × (place.byte ≤ size)
 
--- the names of all phrases are held, and their places lie in the files
-pub record IsKnown (texts : List (List ℕ)) (s : Loaded) : Type 0 where
-  pub held : HoldsAll (length texts) (parts_phrases s.parts)
+-- the table is one, the names of all phrases are held, and their places lie in the files
+pub record IsKnown (s : Loaded) : Type 0 where
+  pub table : IsTable s.names
+  pub held : HoldsAll (length s.names) (parts_phrases s.parts)
   pub placed : AllPlacedIn (λ place. LiesIn place s.reads) (parts_phrases s.parts)
 
 -- why a path other than that of the standard basis isn't read, after so many reads
@@ -72,17 +74,17 @@ path_fault item reads =
     else (if is_source item.word then (if nat_lt reads most_reads then None else Some (fault_at TooManyFiles 0 item.byte)) else Some (fault_at Extension 0 item.byte))
 
 -- loading that comes to this path, with these loaded, is refused
-abbrev pub BreaksAt : List (List ℕ) → Option Files → List ℕ → Loaded → Item → Fault → List File → Type 0
-BreaksAt texts files mlb s item fault reads = IfTold files (λ f. (input : List ℕ) → clean input ≡ mlb → ComesTo texts f input s item → IsBroken texts f input fault reads)
+abbrev pub BreaksAt : Option Files → List ℕ → Loaded → Item → Fault → List File → Type 0
+BreaksAt files mlb s item fault reads = IfTold files (λ f. (input : List ℕ) → clean input ≡ mlb → ComesTo f input s item → IsBroken f input fault reads)
 
 -- loading that comes to this path needs a file that isn't there
-abbrev pub MissesAt : List (List ℕ) → Option Files → List ℕ → Loaded → Item → List ℕ → Type 0
-MissesAt texts files mlb s item path = IfTold files (λ f. (input : List ℕ) → clean input ≡ mlb → ComesTo texts f input s item → IsMissing texts f input path)
+abbrev pub MissesAt : Option Files → List ℕ → Loaded → Item → List ℕ → Type 0
+MissesAt files mlb s item path = IfTold files (λ f. (input : List ℕ) → clean input ≡ mlb → ComesTo f input s item → IsMissing f input path)
 
 -- loading that comes to this path needs the file at a path
-abbrev pub NeedsAt : List (List ℕ) → Option Files → List ℕ → Loaded → Item → List ℕ → Type 0
-NeedsAt texts files mlb s item path = IfTold files (λ f. (input : List ℕ) → clean input ≡ mlb → ComesTo texts f input s item → IsNeeded texts f input path)
+abbrev pub NeedsAt : Option Files → List ℕ → Loaded → Item → List ℕ → Type 0
+NeedsAt files mlb s item path = IfTold files (λ f. (input : List ℕ) → clean input ≡ mlb → ComesTo f input s item → IsNeeded f input path)
 
 -- the ML Basis file at this path is refused
 abbrev pub BreaksFirst : Option Files → List ℕ → Fault → List File → Type 0
-BreaksFirst files mlb fault reads = IfTold files (λ f. (texts : List (List ℕ)) (input : List ℕ) → clean input ≡ mlb → IsBroken texts f input fault reads)
+BreaksFirst files mlb fault reads = IfTold files (λ f. (input : List ℕ) → clean input ≡ mlb → IsBroken f input fault reads)

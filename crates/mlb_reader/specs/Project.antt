@@ -1,10 +1,13 @@
 -- The project that files give at a path. [ML Basis, Semantics]
-use Rattle.std.specs.Prelude.{◌≡◌, ℕ, ◌+◌, ◌^◌, ◌<◌, ◌≤◌, true, false, List, [], ◌∷◌, ◌++◌, length, map, Some, codes}
+use Rattle.std.specs.Prelude.{◌≡◌, ℕ, ◌+◌, ◌^◌, ◌<◌, ◌≤◌, true, false, List, [], ◌∷◌, ◌++◌, length, map, Some}
 use Rattle.std.specs.FinMap.{get}
 use Rattle.mlc_base.specs.File.{File}
 use Rattle.mlc_base.specs.declared.token.Token.{Token}
 use Rattle.mlc_outside.specs.Files.{Files}
+use Rattle.mlc_base.specs.Names.{with_texts}
+use Rattle.mlc_base.specs.StandardWords.{standard_words, word_times}
 use Rattle.sml_lexer.specs.Lexes.{Lexes, lexed_of, HoldsAllNames}
+use Rattle.sml_lexer.specs.NameTable.{words_in}
 use Rattle.sml_tree.specs.Terminal.{terminals}
 use Rattle.sml_tree.specs.Fixity.{Fixity}
 use Rattle.sml_tree.specs.ReadTree as read
@@ -12,7 +15,7 @@ use Rattle.sml_tree.specs.BareTree.{Decs}
 use Rattle.sml_tree.specs.Bare.{bare_decs}
 use Rattle.sml_tree.specs.Levels.{after}
 use Rattle.sml_parser.specs.Core.{Shallow}
-use Rattle.sml_rules.specs.Basis.{IsTable, identifier_of, standard_fixities}
+use Rattle.sml_rules.specs.Basis.{standard_fixities}
 use Rattle.sml_rules.specs.Project.{Part, standard_basis, source}
 use Rattle.mlb_reader.specs.Mlb.{Item, IsMlb, basis_path, has_variable, is_source}
 use Rattle.mlb_reader.specs.Path.{clean, path_from}
@@ -36,34 +39,33 @@ pub record Fits (reads : List File) (bytes : List ℕ) : Type 0 where
   pub small : length bytes ≤ most_bytes
   pub together : bytes_in reads + length bytes ≤ most_bytes_together
 
--- the terminals of a source, where `*` is the identifier that is written so
-pub record HasTokens (texts : List (List ℕ)) (bytes : List ℕ) (tokens : List Token) : Type 0 where
-  pub lexes : Lexes bytes (map (lexed_of texts) tokens)
-  pub held : HoldsAllNames texts tokens
+-- the tokens of a source that is read with the table `names`, which has their words after it
+pub record HasTokens (names : List (List ℕ)) (bytes : List ℕ) (tokens : List Token) (names' : List (List ℕ)) : Type 0 where
+  pub lexes : Lexes bytes (map (lexed_of names') tokens)
+  pub held : HoldsAllNames names' tokens
+  pub table : names' ≡ with_texts names (words_in (map (lexed_of names') tokens))
 
-abbrev pub star_in : List (List ℕ) → ℕ
-star_in texts = identifier_of texts (codes "*")
-
--- a source of these bytes, the file of this number, is these declarations under the fixities f, and f' are the fixities after it
-pub record IsSource (texts : List (List ℕ)) (file : ℕ) (f : Fixity) (bytes : List ℕ) (ds : Decs) (f' : Fixity) : Type 0 where
+-- a source of these bytes, the file of this number, is these declarations where it is read with the table `names` under the fixities f; names' and f' hold after it
+pub record IsSource (names : List (List ℕ)) (file : ℕ) (f : Fixity) (bytes : List ℕ) (ds : Decs) (names' : List (List ℕ)) (f' : Fixity) : Type 0 where
   pub tokens : List Token
-  pub has_tokens : HasTokens texts bytes tokens
+  pub has_tokens : HasTokens names bytes tokens names'
   pub tree : read.Decs
-  pub is : Shallow f (terminals (star_in texts) tokens) tree
+  pub is : Shallow f (terminals word_times tokens) tree
   pub bare : ds ≡ bare_decs file tree
   pub after : f' ≡ after f tree
 
--- what was loaded: the fixities in force, the parts, and the files that were read, in order
+-- what was loaded: the table of names, the fixities in force, the parts, and the files that were read, in order
 pub record Loaded : Type 0 where
+  pub names : List (List ℕ)
   pub fixities : Fixity
   pub parts : List Part
   pub reads : List File
 
-abbrev pub with_basis : List (List ℕ) → Loaded → Loaded
-with_basis texts s = record s { fixities = standard_fixities texts ++ s.fixities; parts = s.parts ++ standard_basis ∷ [] }
+abbrev pub with_basis : Loaded → Loaded
+with_basis s = record s { fixities = standard_fixities ++ s.fixities; parts = s.parts ++ standard_basis ∷ [] }
 
-abbrev pub with_source : File → Decs → Fixity → Loaded → Loaded
-with_source file ds f s = record { fixities = f; parts = s.parts ++ source ds ∷ []; reads = s.reads ++ file ∷ [] }
+abbrev pub with_source : File → Decs → List (List ℕ) → Fixity → Loaded → Loaded
+with_source file ds names f s = record { names = names; fixities = f; parts = s.parts ++ source ds ∷ []; reads = s.reads ++ file ∷ [] }
 
 -- the path is a source's, and one more file may be read
 pub record MayRead (s : Loaded) (item : Item) : Type 0 where
@@ -79,15 +81,16 @@ pub record IsRead (files : Files) (mlb : List ℕ) (s : Loaded) (item : Item) (f
   pub fits : Fits s.reads file.bytes
 
 -- paths of the ML Basis file at the path mlb, loaded one after the other
-pub data Loads (texts : List (List ℕ)) (files : Files) (mlb : List ℕ) : Loaded → List Item → Loaded → Type 0 where
-  no_item : (s : Loaded) → Loads texts files mlb s [] s
-  the_basis : {s s' : Loaded} {item : Item} {items : List Item} → item.word ≡ basis_path → Loads texts files mlb (with_basis texts s) items s' → Loads texts files mlb s (item ∷ items) s'
-  a_source : {s s' : Loaded} {item : Item} {items : List Item} (file : File) {ds : Decs} {f : Fixity} → IsRead files mlb s item file →
-      IsSource texts (length s.reads) s.fixities file.bytes ds f → Loads texts files mlb (with_source file ds f s) items s' → Loads texts files mlb s (item ∷ items) s'
+pub data Loads (files : Files) (mlb : List ℕ) : Loaded → List Item → Loaded → Type 0 where
+  no_item : (s : Loaded) → Loads files mlb s [] s
+  the_basis : {s s' : Loaded} {item : Item} {items : List Item} → item.word ≡ basis_path → Loads files mlb (with_basis s) items s' → Loads files mlb s (item ∷ items) s'
+  a_source : {s s' : Loaded} {item : Item} {items : List Item} (file : File) {ds : Decs} {names : List (List ℕ)} {f : Fixity} → IsRead files mlb s item file →
+      IsSource s.names (length s.reads) s.fixities file.bytes ds names f → Loads files mlb (with_source file ds names f s) items s' →
+      Loads files mlb s (item ∷ items) s'
 
--- before the first path: the ML Basis file was read, and its basis is empty
+-- before the first path: the ML Basis file was read, its basis is empty, and the table has the standard words
 abbrev pub begun : File → Loaded
-begun file = record { fixities = []; parts = []; reads = file ∷ [] }
+begun file = record { names = standard_words; fixities = []; parts = []; reads = file ∷ [] }
 
 -- the ML Basis file at a path
 pub record HasMlb (files : Files) (input : List ℕ) (file : File) (items : List Item) : Type 0 where
@@ -97,26 +100,25 @@ pub record HasMlb (files : Files) (input : List ℕ) (file : File) (items : List
   pub is : IsMlb file.bytes items
 
 -- loading comes to a path of the ML Basis file, with nothing broken before it
-pub record ComesTo (texts : List (List ℕ)) (files : Files) (input : List ℕ) (s : Loaded) (item : Item) : Type 0 where
-  pub table : IsTable texts
+pub record ComesTo (files : Files) (input : List ℕ) (s : Loaded) (item : Item) : Type 0 where
   pub file : File
   pub before : List Item
   pub rest : List Item
   pub has_mlb : HasMlb files input file (before ++ item ∷ rest)
-  pub loads : Loads texts files file.path (begun file) before s
+  pub loads : Loads files file.path (begun file) before s
 
--- the files give this project at the path, and these are the reads of it
-pub record ProjectOf (texts : List (List ℕ)) (files : Files) (input : List ℕ) (parts : List Part) (reads : List File) : Type 0 where
-  pub table : IsTable texts
+-- the files give this project at the path: its parts, the reads of it, and its table of names
+pub record ProjectOf (files : Files) (input : List ℕ) (names : List (List ℕ)) (parts : List Part) (reads : List File) : Type 0 where
   pub file : File
   pub items : List Item
   pub last : Loaded
   pub has_mlb : HasMlb files input file items
-  pub loads : Loads texts files file.path (begun file) items last
+  pub loads : Loads files file.path (begun file) items last
+  pub names_are : names ≡ last.names
   pub parts_are : parts ≡ last.parts
   pub reads_are : reads ≡ last.reads
 
 -- the paths that loading comes to read
-pub data IsNeeded (texts : List (List ℕ)) (files : Files) (input : List ℕ) : List ℕ → Type 0 where
-  the_mlb : IsNeeded texts files input (clean input)
-  of_source : {s : Loaded} {item : Item} (to : ComesTo texts files input s item) → MayRead s item → IsNeeded texts files input (path_from (clean input) item.word)
+pub data IsNeeded (files : Files) (input : List ℕ) : List ℕ → Type 0 where
+  the_mlb : IsNeeded files input (clean input)
+  of_source : {s : Loaded} {item : Item} (to : ComesTo files input s item) → MayRead s item → IsNeeded files input (path_from (clean input) item.word)

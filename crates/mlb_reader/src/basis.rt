@@ -1,23 +1,16 @@
-// What the path of the standard basis brings to the reading of sources.
+// The fixities that the path of the standard basis puts in force.
 
-ghost use Rattle.std.specs.Prelude.{◌≡◌, ℕ, List, All, Contains, IfOk, OnOk, true, false};
-ghost use Rattle.sml_lexer.specs.NameTable.{Keeps};
-ghost use Rattle.sml_rules.specs.Basis.{fixity_rows};
-ghost use Rattle.mlb_reader.specs.Segments.{texts_of};
-ghost use Rattle.mlb_reader.specs.BasisOf.{AreRows, IsBasis, Puts, AreApart, other_words};
+ghost use Rattle.std.specs.Prelude.{◌≡◌, ◌++◌, ◌∷◌, [], IfOk, OnOk};
+ghost use Rattle.mlc_base.specs.StandardWords.{word_cons, word_plus, word_minus, word_times, word_div, word_mod, word_less_than, word_at_most, word_greater_than, word_at_least, word_assign, word_divide, word_not_equal, word_append, word_concatenate, word_compose};
+ghost use Rattle.sml_rules.specs.Basis.{standard_fixities};
+ghost use Rattle.mlb_reader.specs.BasisOf.{directives_of};
 
 use mlc_base::memory::NoMemory;
-use mlc_base::names::{Name, Names};
+use mlc_base::names::Name;
+use mlc_base::words;
 use sml_tree::fixity::{Fixities, Infix};
 use sml_tree::ident::Vid;
 use std::alloc::Global;
-
-/// The fixities of the standard basis and the identifier `*`, in a table that has all words of the standard basis.
-#[derive(Drop)]
-pub struct Basis {
-    pub fixities: Fixities,
-    pub star: Name,
-}
 
 /// An identifier of this precedence that associates to the left.
 fn left(precedence: u8) -> Infix
@@ -39,97 +32,77 @@ fn right(precedence: u8) -> Infix
     }
 }
 
-/// Keeps these words as names.
-fn keep_words(alloc: Global, names: &mut Names, words: &[&str]) -> Result<(), NoMemory>
-    ensures kept { Keeps names.old names.new }
-    ensures held { OnOk result (All (Contains names.new) (texts_of words.now)) }
+fn assignments() -> [Name; 2]
+    ensures { result.items ≡ word_assign ∷ word_compose ∷ [] }
 {
-    for word in words {
-        let _ = names.intern(alloc, word.as_bytes())?;
-    }
-    Ok(())
+    [
+        Name::standard(words::ASSIGN),
+        Name::standard(words::COMPOSE),
+    ]
 }
 
-/// Keeps these words as names and makes them infix, so that the first one is the newest.
-fn put_words(
-    alloc: Global,
-    names: &mut Names,
-    fixities: &mut Fixities,
-    status: Infix,
-    words: &[&str],
-) -> Result<(), NoMemory>
-    requires { AreApart names.old }
-    ensures kept { Keeps names.old names.new }
-    ensures put { OnOk result (Puts names.old names.new status (texts_of words.now) fixities.old fixities.new) }
+fn comparisons() -> [Name; 5]
+    ensures { result.items ≡ word_not_equal ∷ word_greater_than ∷ word_at_least ∷ word_less_than ∷ word_at_most ∷ [] }
+{
+    [
+        Name::standard(words::NOT_EQUAL),
+        Name::standard(words::GREATER_THAN),
+        Name::standard(words::AT_LEAST),
+        Name::standard(words::LESS_THAN),
+        Name::standard(words::AT_MOST),
+    ]
+}
+
+fn joins() -> [Name; 2]
+    ensures { result.items ≡ word_cons ∷ word_append ∷ [] }
+{
+    [Name::standard(words::CONS), Name::standard(words::APPEND)]
+}
+
+fn sums() -> [Name; 3]
+    ensures { result.items ≡ word_plus ∷ word_minus ∷ word_concatenate ∷ [] }
+{
+    [
+        Name::standard(words::PLUS),
+        Name::standard(words::MINUS),
+        Name::standard(words::CONCATENATE),
+    ]
+}
+
+fn products() -> [Name; 4]
+    ensures { result.items ≡ word_times ∷ word_divide ∷ word_div ∷ word_mod ∷ [] }
+{
+    [
+        Name::standard(words::TIMES),
+        Name::standard(words::DIVIDE),
+        Name::standard(words::DIV),
+        Name::standard(words::MOD),
+    ]
+}
+
+/// Makes these words infix, so that the first one is the newest.
+fn put_words(fixities: &mut Fixities, status: Infix, words: &[Name]) -> Result<(), NoMemory>
+    ensures { OnOk result (fixities.new ≡ directives_of status words.now ++ fixities.old) }
 {
     let mut left = words.len();
     'words: while left > 0 {
         left -= 1;
-        let name = names.intern(alloc, words[left].as_bytes())?;
-        fixities.put(Some(status), Vid::Named(name))?;
+        fixities.put(Some(status), Vid::Named(words[left]))?;
     }
     Ok(())
 }
 
-/// The fixities of the standard basis, but that of `=`.
-fn named_fixities(alloc: Global, names: &mut Names) -> Result<Fixities, NoMemory>
-    requires { AreApart names.old }
-    ensures kept { Keeps names.old names.new }
-    ensures all { IfOk result (λ fixities. AreRows names.new fixity_rows fixities) }
+/// The directives of the standard basis.
+pub fn standard_fixities(alloc: Global) -> Result<Fixities, NoMemory>
+    ensures { IfOk result (λ fixities. fixities ≡ standard_fixities) }
 {
     let mut fixities = Fixities::new(alloc);
-    put_words(alloc, names, &mut fixities, left(0), &["before"])?;
-    put_words(alloc, names, &mut fixities, left(3), &[":=", "o"])?;
-    put_words(
-        alloc,
-        names,
-        &mut fixities,
-        left(4),
-        &["<>", ">", ">=", "<", "<="],
-    )?;
-    put_words(alloc, names, &mut fixities, right(5), &["::", "@"])?;
-    put_words(alloc, names, &mut fixities, left(6), &["+", "-", "^"])?;
-    put_words(
-        alloc,
-        names,
-        &mut fixities,
-        left(7),
-        &["*", "/", "div", "mod"],
-    )?;
+    put_words(&mut fixities, left(0), &[Name::standard(words::BEFORE)])?;
+    put_words(&mut fixities, left(3), &assignments())?;
+    put_words(&mut fixities, left(4), &comparisons())?;
+    put_words(&mut fixities, right(5), &joins())?;
+    put_words(&mut fixities, left(6), &sums())?;
+    put_words(&mut fixities, left(7), &products())?;
+    fixities.put(Some(left(4)), Vid::Equals)?;
     Ok(fixities)
-}
-
-/// The words of the standard basis that have no fixity.
-fn keep_others(alloc: Global, names: &mut Names) -> Result<(), NoMemory>
-    ensures kept { Keeps names.old names.new }
-    ensures held { OnOk result (All (Contains names.new) other_words) }
-{
-    keep_words(
-        alloc,
-        names,
-        &[
-            "print",
-            "Match",
-            "Bind",
-            "Overflow",
-            "Div",
-            "Subscript",
-            "Size",
-            "Chr",
-        ],
-    )
-}
-
-impl Basis {
-    /// Puts the words of the standard basis into a table of names.
-    pub fn new(alloc: Global, names: &mut Names) -> Result<Basis, NoMemory>
-        ensures kept { Keeps names.old names.new }
-        ensures basis { IfOk result (λ basis. IsBasis names.new basis) }
-    {
-        let star = names.intern(alloc, b"*")?;
-        let mut fixities = named_fixities(alloc, names)?;
-        fixities.put(Some(left(4)), Vid::Equals)?;
-        keep_others(alloc, names)?;
-        Ok(Basis { fixities, star })
-    }
 }

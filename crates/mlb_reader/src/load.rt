@@ -7,9 +7,9 @@ ghost use Rattle.mlc_base.specs.Files.{LiesIn};
 ghost use Rattle.mlc_outside.specs.Faults.{Rose};
 ghost use Rattle.mlc_outside.specs.Store.{HasFile};
 ghost use Rattle.sml_lexer.specs.NameTable.{Keeps};
-ghost use Rattle.sml_rules.specs.Basis.{IsTable};
+ghost use Rattle.mlc_base.specs.StandardWords.{standard_words};
+ghost use Rattle.sml_rules.specs.Basis.{IsTable, standard_fixities};
 ghost use Rattle.sml_rules.specs.Phrases.{parts_phrases};
-ghost use Rattle.mlb_reader.specs.BasisOf.{IsBasis};
 ghost use Rattle.mlb_reader.specs.Broken.{IsBroken, IsMissing, fault_at};
 ghost use Rattle.mlb_reader.specs.Counting.{IsCount};
 ghost use Rattle.mlb_reader.specs.Loading.{BreaksAt, BreaksFirst, Grows, IsBegun, IsFetched, IsKnown, IsTooLarge, MissesAt, NeedsAt, loaded_of, path_fault};
@@ -21,7 +21,7 @@ ghost use Rattle.mlb_reader.specs.Project.{IsNeeded, Loads, MayRead, ProjectOf, 
 ghost use Rattle.mlb_reader.specs.Refusals.{IfLoadFault, IfNoFile, IfReadFault, IfTold};
 ghost use Rattle.mlb_reader.specs.Within.{AllPlacedIn, HoldsAll};
 
-use crate::basis::Basis;
+use crate::basis::standard_fixities;
 use crate::counts::{Counts, Kept, MOST_READS, keep_file};
 use crate::fault::fault_at;
 use crate::mlb::{Item, Mlb, read_mlb};
@@ -39,11 +39,11 @@ use mlc_outside::store::{Read, Store};
 use sml_tree::fixity::Fixities;
 use std::alloc::Global;
 
-/// What holds throughout: the path of the ML Basis file, cleaned, and the standard basis.
+/// What holds throughout: the path of the ML Basis file, cleaned, and the fixities of the standard basis.
 #[derive(Drop)]
 struct Setting {
     path: String,
-    basis: Basis,
+    fixities: Fixities,
 }
 
 /// What was loaded so far, besides the files.
@@ -146,11 +146,12 @@ fn load_mlb<S: Store>(
 }
 
 /// Puts the standard basis in force.
-fn load_basis(basis: &Basis, loading: &mut Loading) -> Result<(), NoMemory>
-    ensures loaded { OnOk result ((texts : List (List ℕ)) (reads : List File) → IsBasis texts basis.now → loaded_of loading.new reads ≡ with_basis texts (loaded_of loading.old reads)) }
+fn load_basis(fixities: &Fixities, loading: &mut Loading) -> Result<(), NoMemory>
+    requires { fixities.now ≡ standard_fixities }
+    ensures loaded { OnOk result ((names : List (List ℕ)) (reads : List File) → loaded_of names loading.new reads ≡ with_basis (loaded_of names loading.old reads)) }
     ensures counts { loading.new.counts ≡ loading.old.counts }
 {
-    loading.fixities.add_newest(&basis.fixities, 0)?;
+    loading.fixities.add_newest(fixities, 0)?;
     loading.parts.push(Part::StandardBasis)?;
     Ok(())
 }
@@ -204,25 +205,25 @@ fn load_source<S: Store>(
     store: &mut S,
     loading: &mut Loading,
 ) -> Result<(), LoadRefused>
-    requires basis { IsBasis names.old setting.now.basis }
+    requires basis { setting.now.fixities ≡ standard_fixities }
     requires count { IsCount loading.old.counts files.old }
     requires word { All (λ b. b < 128) item.now.word.items }
     requires place { LiesIn (record { file = 0; byte = item.now.byte }) files.old }
-    requires known { IsKnown names.old (loaded_of loading.old files.old) }
-    requires may { MayRead (loaded_of loading.old files.old) (item_of item.now) }
+    requires known { IsKnown (loaded_of names.old loading.old files.old) }
+    requires may { MayRead (loaded_of names.old loading.old files.old) (item_of item.now) }
     ensures kept { Keeps names.old names.new }
     ensures files_same { S.files store.new ≡ S.files store.old }
     ensures writes_same { S.write_faults store.new ≡ S.write_faults store.old }
     ensures reads_kept { S.read_faults store.old ≤ S.read_faults store.new }
     ensures count { IfOk result (λ _. IsCount loading.new.counts files.new) }
     ensures grown { OnOk result (Grows files.old files.new) }
-    ensures known { OnOk result (IsKnown names.new (loaded_of loading.new files.new)) }
-    ensures loaded { OnOk result (IfTold (S.files store.old) (λ f. Loads names.new f (string_bytes setting.now.path) (loaded_of loading.old files.old) (item_of item.now ∷ []) (loaded_of loading.new files.new))) }
-    ensures broken { IfLoadFault result (λ fault. BreaksAt names.new (S.files store.old) (string_bytes setting.now.path) (loaded_of loading.old files.old) (item_of item.now) fault files.new) }
+    ensures known { OnOk result (IsKnown (loaded_of names.new loading.new files.new)) }
+    ensures loaded { OnOk result (IfTold (S.files store.old) (λ f. Loads f (string_bytes setting.now.path) (loaded_of names.old loading.old files.old) (item_of item.now ∷ []) (loaded_of names.new loading.new files.new))) }
+    ensures broken { IfLoadFault result (λ fault. BreaksAt (S.files store.old) (string_bytes setting.now.path) (loaded_of names.old loading.old files.old) (item_of item.now) fault files.new) }
     ensures fault_lies { IfLoadFault result (λ fault. LiesIn fault.place files.new) }
     ensures fault_unnamed { IfLoadFault result (λ fault. fault.name ≡ None) }
-    ensures missing { IfNoFile result (λ missing. MissesAt names.new (S.files store.old) (string_bytes setting.now.path) (loaded_of loading.old files.old) (item_of item.now) (string_bytes missing)) }
-    ensures needed { IfReadFault result (λ failed. NeedsAt names.new (S.files store.old) (string_bytes setting.now.path) (loaded_of loading.old files.old) (item_of item.now) (string_bytes failed)) }
+    ensures missing { IfNoFile result (λ missing. MissesAt (S.files store.old) (string_bytes setting.now.path) (loaded_of names.old loading.old files.old) (item_of item.now) (string_bytes missing)) }
+    ensures needed { IfReadFault result (λ failed. NeedsAt (S.files store.old) (string_bytes setting.now.path) (loaded_of names.old loading.old files.old) (item_of item.now) (string_bytes failed)) }
     ensures read_fault { IfReadFault result (λ _. Rose (S.read_faults store.old) (S.read_faults store.new)) }
 {
     let path = path_from(alloc, setting.path.as_str(), item.word.as_slice())?;
@@ -234,9 +235,8 @@ fn load_source<S: Store>(
         store,
         &mut loading.counts,
     )?;
-    let star = setting.basis.star;
     let bytes = files.bytes(number);
-    let decs = read_source(alloc, names, star, number, bytes, &mut loading.fixities)?;
+    let decs = read_source(alloc, names, number, bytes, &mut loading.fixities)?;
     loading.parts.push(Part::Source(decs))?;
     Ok(())
 }
@@ -251,28 +251,28 @@ fn load_item<S: Store>(
     store: &mut S,
     loading: &mut Loading,
 ) -> Result<(), LoadRefused>
-    requires basis { IsBasis names.old setting.now.basis }
+    requires basis { setting.now.fixities ≡ standard_fixities }
     requires count { IsCount loading.old.counts files.old }
     requires word { All (λ b. b < 128) item.now.word.items }
     requires place { LiesIn (record { file = 0; byte = item.now.byte }) files.old }
-    requires known { IsKnown names.old (loaded_of loading.old files.old) }
+    requires known { IsKnown (loaded_of names.old loading.old files.old) }
     ensures kept { Keeps names.old names.new }
     ensures files_same { S.files store.new ≡ S.files store.old }
     ensures writes_same { S.write_faults store.new ≡ S.write_faults store.old }
     ensures reads_kept { S.read_faults store.old ≤ S.read_faults store.new }
     ensures count { IfOk result (λ _. IsCount loading.new.counts files.new) }
     ensures grown { OnOk result (Grows files.old files.new) }
-    ensures known { OnOk result (IsKnown names.new (loaded_of loading.new files.new)) }
-    ensures loaded { OnOk result (IfTold (S.files store.old) (λ f. Loads names.new f (string_bytes setting.now.path) (loaded_of loading.old files.old) (item_of item.now ∷ []) (loaded_of loading.new files.new))) }
-    ensures broken { IfLoadFault result (λ fault. BreaksAt names.new (S.files store.old) (string_bytes setting.now.path) (loaded_of loading.old files.old) (item_of item.now) fault files.new) }
+    ensures known { OnOk result (IsKnown (loaded_of names.new loading.new files.new)) }
+    ensures loaded { OnOk result (IfTold (S.files store.old) (λ f. Loads f (string_bytes setting.now.path) (loaded_of names.old loading.old files.old) (item_of item.now ∷ []) (loaded_of names.new loading.new files.new))) }
+    ensures broken { IfLoadFault result (λ fault. BreaksAt (S.files store.old) (string_bytes setting.now.path) (loaded_of names.old loading.old files.old) (item_of item.now) fault files.new) }
     ensures fault_lies { IfLoadFault result (λ fault. LiesIn fault.place files.new) }
     ensures fault_unnamed { IfLoadFault result (λ fault. fault.name ≡ None) }
-    ensures missing { IfNoFile result (λ missing. MissesAt names.new (S.files store.old) (string_bytes setting.now.path) (loaded_of loading.old files.old) (item_of item.now) (string_bytes missing)) }
-    ensures needed { IfReadFault result (λ failed. NeedsAt names.new (S.files store.old) (string_bytes setting.now.path) (loaded_of loading.old files.old) (item_of item.now) (string_bytes failed)) }
+    ensures missing { IfNoFile result (λ missing. MissesAt (S.files store.old) (string_bytes setting.now.path) (loaded_of names.old loading.old files.old) (item_of item.now) (string_bytes missing)) }
+    ensures needed { IfReadFault result (λ failed. NeedsAt (S.files store.old) (string_bytes setting.now.path) (loaded_of names.old loading.old files.old) (item_of item.now) (string_bytes failed)) }
     ensures read_fault { IfReadFault result (λ _. Rose (S.read_faults store.old) (S.read_faults store.new)) }
 {
     if is_basis(item.word.as_slice()) {
-        return match load_basis(&setting.basis, loading) {
+        return match load_basis(&setting.fixities, loading) {
             Ok(()) => Ok(()),
             Err(NoMemory) => Err(LoadRefused::Memory),
         };
@@ -283,7 +283,7 @@ fn load_item<S: Store>(
     }
 }
 
-/// Loads the project at a path: the table of names gets the words of the standard basis and those of the sources.
+/// Loads the project at a path: the table of names, which has the standard words, gets those of the sources in their order.
 pub fn load<S: Store>(
     alloc: Global,
     names: &mut Names,
@@ -291,26 +291,27 @@ pub fn load<S: Store>(
     store: &mut S,
     path: &str,
 ) -> Result<Project, LoadRefused>
-    requires { files.old ≡ [] }
+    requires files { files.old ≡ [] }
+    requires names { names.old ≡ standard_words }
     ensures store_same { S.files store.new ≡ S.files store.old }
     ensures writes_same { S.write_faults store.new ≡ S.write_faults store.old }
     ensures reads_kept { S.read_faults store.old ≤ S.read_faults store.new }
     ensures kept { Keeps names.old names.new }
-    ensures project { IfOk result (λ project. IfTold (S.files store.old) (λ f. ProjectOf names.new f path.now (parts_of project) files.new)) }
+    ensures project { IfOk result (λ project. IfTold (S.files store.old) (λ f. ProjectOf f path.now names.new (parts_of project) files.new)) }
     ensures table { OnOk result (IsTable names.new) }
     ensures held { IfOk result (λ project. HoldsAll (length names.new) (parts_phrases (parts_of project))) }
     ensures placed { IfOk result (λ project. AllPlacedIn (λ place. LiesIn place files.new) (parts_phrases (parts_of project))) }
     ensures some { OnOk result (LiesIn (record { file = 0; byte = 0 }) files.new) }
-    ensures broken { IfLoadFault result (λ fault. IfTold (S.files store.old) (λ f. IsBroken names.new f path.now fault files.new)) }
+    ensures broken { IfLoadFault result (λ fault. IfTold (S.files store.old) (λ f. IsBroken f path.now fault files.new)) }
     ensures fault_lies { IfLoadFault result (λ fault. LiesIn fault.place files.new) }
     ensures fault_unnamed { IfLoadFault result (λ fault. fault.name ≡ None) }
-    ensures missing { IfNoFile result (λ missing. IfTold (S.files store.old) (λ f. IsMissing names.new f path.now (string_bytes missing))) }
-    ensures needed { IfReadFault result (λ failed. IfTold (S.files store.old) (λ f. IsNeeded names.new f path.now (string_bytes failed))) }
+    ensures missing { IfNoFile result (λ missing. IfTold (S.files store.old) (λ f. IsMissing f path.now (string_bytes missing))) }
+    ensures needed { IfReadFault result (λ failed. IfTold (S.files store.old) (λ f. IsNeeded f path.now (string_bytes failed))) }
     ensures read_fault { IfReadFault result (λ _. Rose (S.read_faults store.old) (S.read_faults store.new)) }
 {
-    let basis = Basis::new(alloc, names)?;
+    let fixities = standard_fixities(alloc)?;
     let path = clean(alloc, path)?;
-    let setting = Setting { path, basis };
+    let setting = Setting { path, fixities };
     let mut loading = Loading {
         fixities: Fixities::new(alloc),
         parts: Vec::new(alloc),

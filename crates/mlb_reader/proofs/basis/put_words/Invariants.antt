@@ -1,14 +1,10 @@
-use Rattle.std.proofs.Common.{◌≤◌, drop, length}
-use Rattle.sml_lexer.specs.NameTable.{Keeps}
-use Rattle.mlb_reader.specs.BasisOf.{AreApart, Puts}
-use Rattle.mlb_reader.specs.Segments.{texts_of}
+use Rattle.std.proofs.Common.{◌≡◌, ◌≤◌, ◌++◌, drop, length}
+use Rattle.mlb_reader.specs.BasisOf.{directives_of}
 use Rattle.mlb_reader.proofs.basis.put_words.Given as goal
 
 abbrev pub invariant-words : goal.invariant-words
 invariant-words l = record {
-  kept : Keeps l.fn.names l.names;
-  apart : AreApart l.names;
-  put : Puts l.fn.names l.names l.status (drop l.left (texts_of l.words)) l.fn.fixities l.fixities;
+  put : l.fixities ≡ directives_of l.status (drop l.left l.words) ++ l.fn.fixities;
   within : l.left ≤ length l.words;
 }
 

@@ -10,7 +10,7 @@ use Rattle.mlb_reader.specs.MlbOf.{item_of}
 use Rattle.mlb_reader.specs.PartOf.{part_of}
 use Rattle.mlb_reader.specs.Path.{path_from}
 use Rattle.mlb_reader.proofs.FileLemmas.{grows-one, last-bytes, lies-fault, lies-last}
-use Rattle.mlb_reader.proofs.KnownLemmas.{source-known}
+use Rattle.mlb_reader.proofs.KnownLemmas.{source-known, table-stays}
 use Rattle.mlb_reader.proofs.LoadLemmas.{bad-at, missing-at, needed-at, source-loaded, too-large-at}
 use Rattle.mlb_reader.proofs.RefusalLemmas.{both-faults, fault-asked, no-file-asked, read-fault-asked, refused-asked}
 use Rattle.mlb_reader.proofs.load.load_source.Goals as goal
@@ -20,10 +20,10 @@ returns-in_err-number-clause-broken g c =
     let files = g.S.Store.files c.args.store.now in
     let mlb = string_bytes c.args.setting.now.path in
     let item = item_of c.args.item.now in
-    let s = loaded_of c.args.loading.now c.args.files.now in
+    let s = loaded_of c.args.names.now c.args.loading.now c.args.files.now in
     let path : c.as_str-2.result.now ≡ path_from mlb item.word = c.as_str-2.ensures.value ∙ c.in_ok-path.ensures ∙ ap (λ p. path_from p c.as_slice.result.now) c.as_str.ensures.value ∙ ap (path_from mlb) c.as_slice.ensures.value in
-    fault-asked c.from_residual-in_err-number.result c.in_err-number.field-0.0 c.from_residual-in_err-number.ensures.1 _ (λ fault. BreaksAt c.args.names.now files mlb s item fault c.fetch.new.files)
-    (λ fault h. too-large-at c.args.names.now mlb s item c.requires.may files fault c.fetch.new.files (subst (λ p. IsTooLarge files p item.byte fault s.reads c.fetch.new.files) path h)) c.in_err-number.ensures.too_large
+    fault-asked c.from_residual-in_err-number.result c.in_err-number.field-0.0 c.from_residual-in_err-number.ensures.1 _ (λ fault. BreaksAt files mlb s item fault c.fetch.new.files)
+    (λ fault h. too-large-at mlb s item c.requires.may files fault c.fetch.new.files (subst (λ p. IsTooLarge files p item.byte fault s.reads c.fetch.new.files) path h)) c.in_err-number.ensures.too_large
 
 pub returns-in_err-number-clause-fault_lies : goal.returns-in_err-number-clause-fault_lies
 returns-in_err-number-clause-fault_lies g c =
@@ -35,20 +35,20 @@ returns-in_err-number-clause-missing g c =
     let files = g.S.Store.files c.args.store.now in
     let mlb = string_bytes c.args.setting.now.path in
     let item = item_of c.args.item.now in
-    let s = loaded_of c.args.loading.now c.args.files.now in
+    let s = loaded_of c.args.names.now c.args.loading.now c.args.files.now in
     let path : c.as_str-2.result.now ≡ path_from mlb item.word = c.as_str-2.ensures.value ∙ c.in_ok-path.ensures ∙ ap (λ p. path_from p c.as_slice.result.now) c.as_str.ensures.value ∙ ap (path_from mlb) c.as_slice.ensures.value in
-    no-file-asked c.from_residual-in_err-number.result c.in_err-number.field-0.0 c.from_residual-in_err-number.ensures.1 _ (λ missing. MissesAt c.args.names.now files mlb s item (string_bytes missing))
-    (λ missing h. missing-at c.args.names.now mlb s item c.requires.may files (string_bytes missing) (h.0 ∙ path) (subst (λ p. HasFile files p None) path h.1)) c.in_err-number.ensures.missing
+    no-file-asked c.from_residual-in_err-number.result c.in_err-number.field-0.0 c.from_residual-in_err-number.ensures.1 _ (λ missing. MissesAt files mlb s item (string_bytes missing))
+    (λ missing h. missing-at mlb s item c.requires.may files (string_bytes missing) (h.0 ∙ path) (subst (λ p. HasFile files p None) path h.1)) c.in_err-number.ensures.missing
 
 pub returns-in_err-number-clause-needed : goal.returns-in_err-number-clause-needed
 returns-in_err-number-clause-needed g c =
     let files = g.S.Store.files c.args.store.now in
     let mlb = string_bytes c.args.setting.now.path in
     let item = item_of c.args.item.now in
-    let s = loaded_of c.args.loading.now c.args.files.now in
+    let s = loaded_of c.args.names.now c.args.loading.now c.args.files.now in
     let path : c.as_str-2.result.now ≡ path_from mlb item.word = c.as_str-2.ensures.value ∙ c.in_ok-path.ensures ∙ ap (λ p. path_from p c.as_slice.result.now) c.as_str.ensures.value ∙ ap (path_from mlb) c.as_slice.ensures.value in
-    read-fault-asked c.from_residual-in_err-number.result c.in_err-number.field-0.0 c.from_residual-in_err-number.ensures.1 _ (λ failed. NeedsAt c.args.names.now files mlb s item (string_bytes failed))
-    (λ failed h. needed-at c.args.names.now mlb s item c.requires.may files (string_bytes failed) (h.0 ∙ path)) c.in_err-number.ensures.read_fault
+    read-fault-asked c.from_residual-in_err-number.result c.in_err-number.field-0.0 c.from_residual-in_err-number.ensures.1 _ (λ failed. NeedsAt files mlb s item (string_bytes failed))
+    (λ failed h. needed-at mlb s item c.requires.may files (string_bytes failed) (h.0 ∙ path)) c.in_err-number.ensures.read_fault
 
 pub read_source-requires-clause-small : goal.read_source-requires-clause-small
 read_source-requires-clause-small g c =
@@ -61,14 +61,14 @@ returns-in_err-decs-clause-broken g c =
     let files = g.S.Store.files c.args.store.now in
     let mlb = string_bytes c.args.setting.now.path in
     let item = item_of c.args.item.now in
-    let s = loaded_of c.args.loading.now c.args.files.now in
+    let s = loaded_of c.args.names.now c.args.loading.now c.args.files.now in
     let number = c.in_ok-number.number in
     let new = c.fetch.new.files in
     let path : c.as_str-2.result.now ≡ path_from mlb item.word = c.as_str-2.ensures.value ∙ c.in_ok-path.ensures ∙ ap (λ p. path_from p c.as_slice.result.now) c.as_str.ensures.value ∙ ap (path_from mlb) c.as_slice.ensures.value in
     let fetched = subst (λ p. IsFetched files p number c.fetch.new.counts s.reads new) path c.in_ok-number.ensures.fetched in
     let bytes = last-bytes s.reads new fetched.file number c.bytes-bytes.result.now fetched.added fetched.number_is c.bytes-bytes.ensures in
-    refused-asked c.from_residual-in_err-decs.result c.in_err-decs.field-0.0 c.from_residual-in_err-decs.ensures.1 _ (λ fault. BreaksAt c.read_source.new.names files mlb s item fault new)
-    (λ fault h. bad-at c.read_source.new.names mlb s item c.requires.may number c.fetch.new.counts new files fetched c.bytes-bytes.result.now fault bytes h) c.in_err-decs.ensures.bad
+    refused-asked c.from_residual-in_err-decs.result c.in_err-decs.field-0.0 c.from_residual-in_err-decs.ensures.1 _ (λ fault. BreaksAt files mlb s item fault new)
+    (λ fault h. bad-at mlb s item c.requires.may number c.fetch.new.counts new files fetched c.bytes-bytes.result.now fault bytes h) c.in_err-decs.ensures.bad
 
 pub returns-in_err-decs-clause-fault_lies : goal.returns-in_err-decs-clause-fault_lies
 returns-in_err-decs-clause-fault_lies g c =
@@ -85,7 +85,7 @@ returns-clause-loaded g c =
     let files = g.S.Store.files c.args.store.now in
     let mlb = string_bytes c.args.setting.now.path in
     let item = item_of c.args.item.now in
-    let s = loaded_of c.args.loading.now c.args.files.now in
+    let s = loaded_of c.args.names.now c.args.loading.now c.args.files.now in
     let number = c.in_ok-number.number in
     let new = c.fetch.new.files in
     let ds = decs_of (map dec_of c.in_ok-decs.decs.items) in
@@ -93,17 +93,17 @@ returns-clause-loaded g c =
     let fetched = subst (λ p. IsFetched files p number c.fetch.new.counts s.reads new) path c.in_ok-number.ensures.fetched in
     let bytes = last-bytes s.reads new fetched.file number c.bytes-bytes.result.now fetched.added fetched.number_is c.bytes-bytes.ensures in
     let parts : map part_of c.push.new.self.items ≡ s.parts ++ source ds ∷ [] = ap (map part_of) c.in_ok-push.ensures.items ∙ map-append part_of c.args.loading.now.parts.items _ in
-    source-loaded c.read_source.new.names mlb s item c.requires.may number c.fetch.new.counts new files fetched c.bytes-bytes.result.now ds c.read_source.new.fixities _ bytes c.in_ok-decs.ensures.source
-    (ap (λ p. record { fixities = c.read_source.new.fixities; parts = p; reads = new }) parts)
+    source-loaded mlb s item c.requires.may number c.fetch.new.counts new files fetched c.bytes-bytes.result.now ds c.read_source.new.names c.read_source.new.fixities _ bytes c.in_ok-decs.ensures.source
+    (ap (λ p. record { names = c.read_source.new.names; fixities = c.read_source.new.fixities; parts = p; reads = new }) parts)
 
 pub returns-clause-known : goal.returns-clause-known
 returns-clause-known g c =
-    let s = loaded_of c.args.loading.now c.args.files.now in
+    let s = loaded_of c.args.names.now c.args.loading.now c.args.files.now in
     let number = c.in_ok-number.number in
     let new = c.fetch.new.files in
     let ds = decs_of (map dec_of c.in_ok-decs.decs.items) in
     let fetched = c.in_ok-number.ensures.fetched in
     let bytes = last-bytes s.reads new fetched.file number c.bytes-bytes.result.now fetched.added fetched.number_is c.bytes-bytes.ensures in
     let parts : map part_of c.push.new.self.items ≡ s.parts ++ source ds ∷ [] = ap (map part_of) c.in_ok-push.ensures.items ∙ map-append part_of c.args.loading.now.parts.items _ in
-    source-known c.args.names.now c.read_source.new.names c.read_source.ensures.kept s c.requires.known new (grows-one s.reads new fetched.file fetched.added) c.read_source.new.fixities ds fetched.file number (length c.bytes-bytes.result.now) _ fetched.added fetched.number_is (ap length bytes) fetched.fits.small c.in_ok-decs.ensures.held c.in_ok-decs.ensures.placed
-    (ap (λ p. record { fixities = c.read_source.new.fixities; parts = p; reads = new }) parts)
+    source-known c.read_source.new.names s c.read_source.ensures.kept (table-stays c.args.names.now c.read_source.new.names c.read_source.ensures.kept c.requires.known.table) c.requires.known new (grows-one s.reads new fetched.file fetched.added) c.read_source.new.fixities ds fetched.file number (length c.bytes-bytes.result.now) _ fetched.added fetched.number_is (ap length bytes) fetched.fits.small c.in_ok-decs.ensures.held c.in_ok-decs.ensures.placed
+    (ap (λ p. record { names = c.read_source.new.names; fixities = c.read_source.new.fixities; parts = p; reads = new }) parts)
