@@ -8,12 +8,13 @@ ghost use Rattle.sml_parser.specs.Gives.{Gives};
 ghost use Rattle.sml_parser.specs.Left.{left};
 ghost use Rattle.sml_parser.specs.BindingsRead.{IsTyvars, IsStrids, IsVids, IsTyconHead, read_tycon_head, IsTypeBind, read_type_bind, IsTypeBinds, IsCon, read_con, IsCons, IsDataBind, read_data_bind, IsDataBinds, IsExBind, read_ex_bind, IsExBinds};
 
-use crate::got::Got;
+use crate::got::{Got, pushed};
 use crate::source::Source;
 use crate::stop::Stop;
 use crate::tokens::{after_word, long_strid_at, place_at, tycon_at, tyvar_at, vid_at};
 use crate::types::{maybe_ty, read_ty};
 use crate::vids::{binds_vid, digit_at, names_vid};
+use mlc_base::make::with;
 use mlc_base::names::Name;
 use mlc_base::token::{Reserved, Token};
 use sml_tree::fixity::Fixities;
@@ -188,20 +189,16 @@ fn type_bind<'a>(
         depth: _,
         rest: after,
     } = tycon_head(alloc, source, tokens)?;
-    let Got {
-        it: ty,
-        depth,
-        rest,
-    } = read_ty(alloc, source, n, 0, after)?;
+    let (vars, ty) = with(tyvars, read_ty(alloc, source, n, 0, after))?;
     Ok(Got {
         it: TypeBind {
             place,
-            tyvars,
+            tyvars: vars,
             tycon,
-            ty,
+            ty: ty.it,
         },
-        depth,
-        rest,
+        depth: ty.depth,
+        rest: ty.rest,
     })
 }
 
@@ -219,13 +216,10 @@ pub fn read_type_binds<'a>(
     let mut deepest = 0;
     let mut rest = tokens;
     'binds: loop {
-        let Got {
-            it,
-            depth,
-            rest: after,
-        } = type_bind(alloc, source, n, rest)?;
-        binds.push(it)?;
-        deepest = depth.max(deepest);
+        let (front, got) = with(binds, type_bind(alloc, source, n, rest))?;
+        let after = got.rest;
+        deepest = got.depth.max(deepest);
+        binds = pushed(front, got.it)?;
         let Some(next) = after_word(source, Reserved::And, after) else {
             return Ok(Got {
                 it: binds,
@@ -282,13 +276,10 @@ fn read_cons<'a>(
     let mut deepest = 0;
     let mut rest = tokens;
     'cons: loop {
-        let Got {
-            it,
-            depth,
-            rest: after,
-        } = con_bind(alloc, source, fix, n, rest)?;
-        cons.push(it)?;
-        deepest = depth.max(deepest);
+        let (front, got) = with(cons, con_bind(alloc, source, fix, n, rest))?;
+        let after = got.rest;
+        deepest = got.depth.max(deepest);
+        cons = pushed(front, got.it)?;
         let Some(next) = after_word(source, Reserved::Bar, after) else {
             return Ok(Got {
                 it: cons,
@@ -317,20 +308,16 @@ fn data_bind<'a>(
         depth: _,
         rest: after,
     } = tycon_head(alloc, source, tokens)?;
-    let Got {
-        it: cons,
-        depth,
-        rest,
-    } = read_cons(alloc, source, fix, n, after)?;
+    let (vars, cons) = with(tyvars, read_cons(alloc, source, fix, n, after))?;
     Ok(Got {
         it: DataBind {
             place,
-            tyvars,
+            tyvars: vars,
             tycon,
-            cons,
+            cons: cons.it,
         },
-        depth,
-        rest,
+        depth: cons.depth,
+        rest: cons.rest,
     })
 }
 
@@ -349,13 +336,10 @@ pub fn read_data_binds<'a>(
     let mut deepest = 0;
     let mut rest = tokens;
     'binds: loop {
-        let Got {
-            it,
-            depth,
-            rest: after,
-        } = data_bind(alloc, source, fix, n, rest)?;
-        binds.push(it)?;
-        deepest = depth.max(deepest);
+        let (front, got) = with(binds, data_bind(alloc, source, fix, n, rest))?;
+        let after = got.rest;
+        deepest = got.depth.max(deepest);
+        binds = pushed(front, got.it)?;
         let Some(next) = after_word(source, Reserved::And, after) else {
             return Ok(Got {
                 it: binds,
@@ -419,13 +403,10 @@ pub fn read_ex_binds<'a>(
     let mut deepest = 0;
     let mut rest = tokens;
     'binds: loop {
-        let Got {
-            it,
-            depth,
-            rest: after,
-        } = ex_bind(alloc, source, fix, n, rest)?;
-        binds.push(it)?;
-        deepest = depth.max(deepest);
+        let (front, got) = with(binds, ex_bind(alloc, source, fix, n, rest))?;
+        let after = got.rest;
+        deepest = got.depth.max(deepest);
+        binds = pushed(front, got.it)?;
         let Some(next) = after_word(source, Reserved::And, after) else {
             return Ok(Got {
                 it: binds,

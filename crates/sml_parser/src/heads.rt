@@ -17,12 +17,13 @@ ghost use Rattle.sml_parser.specs.PatternsRead.{IsPatAt, IsPats};
 ghost use Rattle.sml_parser.specs.HeadsRead.{IsHead, IsPair, NoPattern};
 ghost use Rattle.sml_parser.specs.declared.stop.Stop.TheVariants.{Memory};
 
-use crate::got::Got;
+use crate::got::{Got, discard, pushed};
 use crate::patterns::{begins_pat, read_atpat};
 use crate::source::Source;
 use crate::stop::Stop;
 use crate::tokens::{after_word, place_at};
 use crate::vids::{binds_vid, joint_at};
+use mlc_base::make::{one, two, with};
 use mlc_base::names::Name;
 use mlc_base::place::Place;
 use mlc_base::token::{Reserved, Token};
@@ -66,6 +67,7 @@ pub fn read_head<'a>(
     if let Some(found) = joint_at(source, fix, rest) {
         return infix_head(alloc, source, fix, n, place, it, depth, found.0, found.1);
     }
+    discard(it);
     match bracketed(alloc, source, fix, n, tokens)? {
         Some(pair) => bracket_head(alloc, source, fix, n, place, pair, depth, rest),
         None => Err(Stop::Bad(rest.len())),
@@ -123,8 +125,7 @@ fn prefix_head<'a>(
         depth,
         rest: after,
     } = read_atpat(alloc, source, fix, n, tokens)?;
-    let mut front = Vec::new(alloc);
-    front.push(first)?;
+    let front = one(alloc, first)?;
     let Got {
         it: pats,
         depth: deepest,
@@ -153,12 +154,9 @@ fn infix_head<'a>(
     ensures gives { (i : List Terminal) (a : read.Pat) (p : ℕ) → place ≡ bare.at source.now.file (place_at i) → pat_of first ≡ bare_pat source.now.file a → depth ≡ depth_pat a → read.pat_place a ≡ place_at i → depth ≤ n → length (left source.now tokens.now) < length i →
         Gives (λ x r. IsHead source.now n i x.it x.depth x.rest.now r) result (infix_rest n fix.now a (record { place = p; it = name }) (left source.now tokens.now)) }
 {
-    let Got {
-        it: second,
-        depth: second_depth,
-        rest,
-    } = read_atpat(alloc, source, fix, n, tokens)?;
-    let pats = pair_only(alloc, place, first, second)?;
+    let (first, second) = with(first, read_atpat(alloc, source, fix, n, tokens))?;
+    let (second_depth, rest) = (second.depth, second.rest);
+    let pats = pair_only(alloc, place, first, second.it)?;
     Ok(Got {
         it: Head {
             place,
@@ -174,12 +172,8 @@ fn infix_head<'a>(
 fn pair_only(alloc: Global, place: Place, first: Pat, second: Pat) -> Result<Vec<Pat>, Stop>
     ensures { MatchResult result (λ v. map pat_of v.items ≡ tuple_pat place (pat_of first ∷ pat_of second ∷ []) ∷ []) (λ e. e ≡ Memory) }
 {
-    let mut both = Vec::new(alloc);
-    both.push(first)?;
-    both.push(second)?;
-    let mut pats = Vec::new(alloc);
-    pats.push(Pat::Tuple(place, both))?;
-    Ok(pats)
+    let pair = two(alloc, first, second)?;
+    Ok(one(alloc, Pat::Tuple(place, pair))?)
 }
 
 /// `(atpat vid atpat) atpat .. atpat`, after the bracket that ends.
@@ -238,14 +232,10 @@ pub fn more_atpats<'a>(
     let mut deepest = depth;
     let mut rest = tokens;
     'patterns: while begins_pat(source, fix, rest) {
-        let Got {
-            it,
-            depth,
-            rest: after,
-        } = read_atpat(alloc, source, fix, n, rest)?;
-        all.push(it)?;
-        deepest = depth.max(deepest);
-        rest = after;
+        let (others, pat) = with(all, read_atpat(alloc, source, fix, n, rest))?;
+        deepest = pat.depth.max(deepest);
+        rest = pat.rest;
+        all = pushed(others, pat.it)?;
     }
     Ok(Got {
         it: all,
@@ -305,9 +295,8 @@ fn bracketed(
     let Some(found) = joint_at(source, fix, after_left) else {
         return Ok(None)
     };
-    let Some(second) = maybe_atpat(alloc, source, fix, n - 2, found.1)? else {
-        return Ok(None)
-    };
+    let (left, maybe) = with(left, maybe_atpat(alloc, source, fix, n - 2, found.1))?;
+    let Some(second) = maybe else { return Ok(None) };
     let Got {
         it: right,
         depth: _,

@@ -1,6 +1,6 @@
 // Nodes of trees, by what they stand for.
 
-ghost use Rattle.std.specs.Prelude.{◌≡◌, true, map, IfOk};
+ghost use Rattle.std.specs.Prelude.{◌≡◌, ◌∷◌, true, map, IfOk};
 ghost use Rattle.sml_tree.specs.BareTree as bare;
 ghost use Rattle.sml_tree.specs.Derived.{tuple, list_of, app_of, chain_of, join, fun_dec_of};
 ghost use Rattle.sml_tree.specs.StandsFor.{stands_for};
@@ -8,7 +8,9 @@ ghost use Rattle.sml_tree.specs.StandsFor as phrase;
 ghost use Rattle.sml_tree.specs.TreeOf.{exp_of, pat_of, ty_of, rule_of, rules_of, part_of, exp_field_of, exp_fields_of, bind_of, binds_of, clause_of, function_of, dec_of, decs_of, long_vid_of, constant_of, type_bind_of, data_bind_of, ex_bind_of, long_id_at_of};
 ghost use Rattle.sml_parser.specs.Kinds.{is_exp, is_dec};
 
+use crate::got::prefixed;
 use mlc_base::label::Label;
+use mlc_base::make::{boxed, with};
 use mlc_base::memory::NoMemory;
 use mlc_base::names::Name;
 use mlc_base::place::Place;
@@ -72,6 +74,13 @@ pub fn tuple_of(place: Place, exps: Vec<Exp>) -> Exp
     Exp::Tuple(place, exps)
 }
 
+/// A tuple of a first expression and those after it.
+pub fn tuple_from(place: Place, first: Exp, others: Vec<Exp>) -> Result<Exp, NoMemory>
+    ensures { IfOk result (λ e. exp_of e ≡ tuple place (exp_of first ∷ map exp_of others.items)) }
+{
+    Ok(Exp::Tuple(place, prefixed(first, others)?))
+}
+
 pub fn list(place: Place, exps: Vec<Exp>) -> Exp
     ensures { exp_of result ≡ list_of place (map exp_of exps.items) }
 {
@@ -86,7 +95,8 @@ pub fn applied(
 ) -> Result<Exp, NoMemory>
     ensures { IfOk result (λ e. exp_of e ≡ app_of place (exp_of first) (map exp_of arguments.items)) }
 {
-    Ok(Exp::Apply(place, Box::new(alloc, first)?, arguments))
+    let (arguments, first) = with(arguments, boxed(alloc, first))?;
+    Ok(Exp::Apply(place, first, arguments))
 }
 
 pub fn chain(
@@ -98,19 +108,22 @@ pub fn chain(
 ) -> Result<Exp, NoMemory>
     ensures { IfOk result (λ e. exp_of e ≡ chain_of join right place (exp_of first) (map part_of parts.items)) }
 {
-    Ok(Exp::Chain(place, right, Box::new(alloc, first)?, parts))
+    let (parts, first) = with(parts, boxed(alloc, first))?;
+    Ok(Exp::Chain(place, right, first, parts))
 }
 
 pub fn typed(alloc: Global, place: Place, exp: Exp, ty: Ty) -> Result<Exp, NoMemory>
     ensures { IfOk result (λ e. exp_of e ≡ bare.typed place (exp_of exp) (ty_of ty)) }
 {
-    Ok(Exp::Typed(place, Box::new(alloc, exp)?, ty))
+    let (ty, exp) = with(ty, boxed(alloc, exp))?;
+    Ok(Exp::Typed(place, exp, ty))
 }
 
 pub fn handler(alloc: Global, place: Place, exp: Exp, rules: Vec<Rule>) -> Result<Exp, NoMemory>
     ensures { IfOk result (λ e. exp_of e ≡ bare.handle place (exp_of exp) (rules_of (map rule_of rules.items))) }
 {
-    Ok(Exp::Handle(place, Box::new(alloc, exp)?, rules))
+    let (rules, exp) = with(rules, boxed(alloc, exp))?;
+    Ok(Exp::Handle(place, exp, rules))
 }
 
 pub fn raised(alloc: Global, place: Place, exp: Exp) -> Result<Exp, NoMemory>

@@ -2,8 +2,8 @@
 
 ghost use Rattle.std.specs.Prelude.{◌<◌, ◌^◌, ◌+◌, length};
 
-use crate::read::{Core, read_core};
-use crate::source::Source;
+use sml_parser::read::{Core, read_core};
+use sml_parser::source::Source;
 use mlc_base::memory::NoMemory;
 use mlc_base::names::Names;
 use mlc_base::place::Place;

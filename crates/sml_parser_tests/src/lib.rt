@@ -1,0 +1,5 @@
+// Tests of the parser.
+#![tactic(auto)]
+
+#[cfg(test)]
+mod tests;
