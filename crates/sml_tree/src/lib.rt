@@ -5,6 +5,4 @@ mod abbreviations;
 pub mod derive;
 pub mod fixity;
 pub mod ident;
-#[cfg(test)]
-mod tests;
 pub mod tree;
