@@ -3,13 +3,6 @@ use Rattle.std.specs.Prelude.{Bool, true, false}
 use Rattle.sml_tree.specs.StandsFor as phrase
 use Rattle.sml_tree.specs.StandsFor.{Phrase}
 
-abbrev pub is_exp : Phrase → Bool
-is_exp (phrase.exp e) = true
-is_exp (phrase.pat a) = false
-is_exp (phrase.ty t) = false
-is_exp (phrase.dec d) = false
-is_exp (phrase.field l a) = false
-
 abbrev pub is_dec : Phrase → Bool
 is_dec (phrase.dec d) = true
 is_dec (phrase.exp e) = false

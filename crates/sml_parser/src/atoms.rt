@@ -12,14 +12,14 @@ ghost use Rattle.sml_parser.specs.ExpressionsRead.{IsAtom, leaf_by, atom_vid};
 ghost use Rattle.sml_parser.specs.declared.stop.Stop.TheVariants.{Memory};
 
 use crate::got::Got;
-use crate::nodes::{constant, derived_exp, name};
+use crate::nodes::{constant, name};
 use crate::source::Source;
 use crate::stop::Stop;
 use crate::ties::is_infix;
 use crate::tokens::{after_word, label_at, place_at};
 use crate::vids::{constant_at, names_vid};
 use mlc_base::token::{Reserved, Token, TokenKind};
-use sml_tree::derive::Derived;
+use sml_tree::derive::selector;
 use sml_tree::fixity::Fixities;
 use sml_tree::ident::{LongVid, Vid};
 use sml_tree::tree::Exp;
@@ -155,7 +155,7 @@ pub fn leaf_atom<'a>(
         let Some((label, rest)) = label_at(source, after) else {
             return Err(Stop::Bad(after.len()))
         };
-        let it = derived_exp(alloc, Derived::Selector(place, label))?;
+        let it = selector(alloc, place, label)?;
         return Ok(Got { it, depth: 1, rest });
     }
     match atom_vid(alloc, source, fix, tokens)? {

@@ -279,9 +279,13 @@ fn read_clauses<'a>(
     let mut deepest = 0;
     let mut rest = tokens;
     'clauses: loop {
-        let (front, heading) = with(clauses, read_heading(alloc, source, fix, n, shape, rest))?;
-        let after_heading = heading.rest;
-        let first = shape.unwrap_or(heading.it.shape);
+        let (front, got) = with(clauses, read_heading(alloc, source, fix, n, shape, rest))?;
+        let Got {
+            it: heading,
+            depth: heading_depth,
+            rest: after_heading,
+        } = got;
+        let first = shape.unwrap_or(heading.shape);
         let place = place_at(source, tail(source, after_heading));
         let (parts, exp) = with(
             (front, heading),
@@ -289,8 +293,8 @@ fn read_clauses<'a>(
         )?;
         let (front, heading) = parts;
         let after = exp.rest;
-        deepest = heading.depth.max(exp.depth).max(deepest);
-        let (others, clause) = with(front, clause_from(alloc, heading.it, place, exp.it))?;
+        deepest = heading_depth.max(exp.depth).max(deepest);
+        let (others, clause) = with(front, clause_from(alloc, heading, place, exp.it))?;
         clauses = pushed(others, clause)?;
         let Some(next) = after_word(source, Reserved::Bar, after) else {
             return Ok(Got {

@@ -19,8 +19,8 @@ use crate::atoms::{begins_atom, is_keyword, leaf_atom, no_atom_room, no_room};
 use crate::declarations::read_decs;
 use crate::got::{Got, pushed};
 use crate::nodes::{
-    applied, chain, derived_exp, field, handler, lambda, list, part, raised, record_of, rule,
-    tuple_from, tuple_of, typed,
+    applied, chain, field, handler, lambda, list, part, raised, record_of, rule, tuple_from,
+    tuple_of, typed,
 };
 use crate::patterns::read_pat;
 use crate::source::Source;
@@ -28,12 +28,12 @@ use crate::stop::Stop;
 use crate::ties::{
     Tie, high_enough, joint_level, joint_right, next_joint, tie_at, tie_least, tie_level,
 };
-use crate::tokens::{after_word, label_here, past, place_at, room, tail, word_at};
+use crate::tokens::{after_word, label_at, past, place_at, room, tail, word_at};
 use crate::types::read_ty;
 use mlc_base::make::with;
 use mlc_base::place::Place;
 use mlc_base::token::{Reserved, Token};
-use sml_tree::derive::Derived;
+use sml_tree::derive;
 use sml_tree::fixity::Fixities;
 use sml_tree::tree::{Exp, ExpField, Joint, Part, Rule};
 use std::alloc::Global;
@@ -124,7 +124,7 @@ fn keyword_form<'a>(
             )?;
             let depth = condition.depth.max(body.depth) + 1;
             Ok(Got {
-                it: derived_exp(alloc, Derived::While(place, condition.it, body.it))?,
+                it: derive::while_loop(alloc, place, condition.it, body.it)?,
                 depth,
                 rest: body.rest,
             })
@@ -169,10 +169,7 @@ fn conditional<'a>(
     let (condition, yes) = both;
     let depth = condition.depth.max(yes.depth.max(no.depth)) + 1;
     let rest = no.rest;
-    let it = derived_exp(
-        alloc,
-        Derived::If(place_at(source, tokens), condition.it, yes.it, no.it),
-    )?;
+    let it = derive::conditional(alloc, place_at(source, tokens), condition.it, yes.it, no.it)?;
     Ok(Got { it, depth, rest })
 }
 
@@ -196,10 +193,7 @@ fn case<'a>(
     let (matched, rules) = with(subject, read_match(alloc, source, fix, n, after))?;
     let depth = matched.depth.max(rules.depth) + 1;
     let rest = rules.rest;
-    let it = derived_exp(
-        alloc,
-        Derived::Case(place_at(source, tokens), matched.it, rules.it),
-    )?;
+    let it = derive::case(alloc, place_at(source, tokens), matched.it, rules.it)?;
     Ok(Got { it, depth, rest })
 }
 
@@ -358,15 +352,16 @@ fn read_rows<'a>(
     let mut deepest = 0;
     let mut rest = tokens;
     'fields: loop {
-        let (front, found) = with(all, label_here(source, rest))?;
-        let (label, value) = found;
-        let (others, exp) = with(
-            front,
+        let Some((label, value)) = label_at(source, rest) else {
+            return Err(Stop::Bad(rest.len()))
+        };
+        let (front, exp) = with(
+            all,
             read_after(alloc, source, fix, n, Reserved::Equals, value),
         )?;
         let after = exp.rest;
         deepest = exp.depth.max(deepest);
-        all = pushed(others, field(label, exp.it))?;
+        all = pushed(front, field(label, exp.it))?;
         match after_word(source, Reserved::Comma, after) {
             Some(next) => rest = next,
             None => {
@@ -438,7 +433,7 @@ fn in_parens<'a>(
             ),
         )?;
         return Ok(Got {
-            it: derived_exp(alloc, Derived::Sequence(place, start.it, exps.it))?,
+            it: derive::sequence(alloc, place, start.it, exps.it)?,
             depth: start.depth.max(exps.depth) + 1,
             rest: exps.rest,
         });
@@ -518,10 +513,7 @@ fn read_let<'a>(
         after,
     )?;
     let first = body.it.remove(0);
-    let it = derived_exp(
-        alloc,
-        Derived::Let(place_at(source, tokens), decs.it, first, body.it),
-    )?;
+    let it = derive::let_in(alloc, place_at(source, tokens), decs.it, first, body.it)?;
     Ok(Got {
         it,
         depth: decs.depth.max(body.depth) + 1,

@@ -13,7 +13,7 @@ ghost use Rattle.sml_parser.specs.DeclarationsRead.{IsHeading, read_heading, sha
 
 use crate::got::Got;
 use crate::heads::{Head, read_head};
-use crate::nodes::{clause, derived_exp};
+use crate::nodes::clause;
 use crate::source::Source;
 use crate::stop::Stop;
 use crate::types::maybe_ty;
@@ -21,7 +21,7 @@ use mlc_base::make::with;
 use mlc_base::memory::NoMemory;
 use mlc_base::place::Place;
 use mlc_base::token::{Reserved, Token};
-use sml_tree::derive::Derived;
+use sml_tree::derive::with_result;
 use sml_tree::fixity::{Fixities, same_vid};
 use sml_tree::ident::Vid;
 use sml_tree::tree::{Clause, Exp, Pat, Ty};
@@ -108,6 +108,6 @@ pub fn clause_from(
 ) -> Result<Clause, NoMemory>
     ensures { IfOk result (λ c. clause_of c ≡ record { place = heading.shape.place; pats = map pat_of heading.pats.items; body = with_result place (exp_of exp) (some_ty_of heading.ty) }) }
 {
-    let body = derived_exp(alloc, Derived::Result(place, exp, heading.ty))?;
-    Ok(clause(heading.shape.place, heading.pats, body))
+    let (pats, body) = with(heading.pats, with_result(alloc, place, exp, heading.ty))?;
+    Ok(clause(heading.shape.place, pats, body))
 }

@@ -6,7 +6,7 @@ ghost use Rattle.sml_tree.specs.Derived.{tuple, list_of, app_of, chain_of, join,
 ghost use Rattle.sml_tree.specs.StandsFor.{stands_for};
 ghost use Rattle.sml_tree.specs.StandsFor as phrase;
 ghost use Rattle.sml_tree.specs.TreeOf.{exp_of, pat_of, ty_of, rule_of, rules_of, part_of, exp_field_of, exp_fields_of, bind_of, binds_of, clause_of, function_of, dec_of, decs_of, long_vid_of, constant_of, type_bind_of, data_bind_of, ex_bind_of, long_id_at_of};
-ghost use Rattle.sml_parser.specs.Kinds.{is_exp, is_dec};
+ghost use Rattle.sml_parser.specs.Kinds.{is_dec};
 
 use crate::got::prefixed;
 use mlc_base::label::Label;
@@ -21,20 +21,6 @@ use sml_tree::tree::{
     Ty, TypeBind,
 };
 use std::alloc::Global;
-
-/// The expression that a derived form of an expression stands for.
-pub fn derived_exp(alloc: Global, form: Derived) -> Result<Exp, NoMemory>
-    requires { is_exp (stands_for form) ≡ true }
-    ensures { IfOk result (λ e. phrase.exp (exp_of e) ≡ stands_for form) }
-{
-    match derive(alloc, form)? {
-        Tree::Exp(e) => Ok(e),
-        Tree::Pat(_) => unreachable!(),
-        Tree::Ty(_) => unreachable!(),
-        Tree::Dec(_) => unreachable!(),
-        Tree::Field(_, _) => unreachable!(),
-    }
-}
 
 /// The declaration that a derived form of a declaration stands for.
 pub fn derived_dec(alloc: Global, form: Derived) -> Result<Dec, NoMemory>

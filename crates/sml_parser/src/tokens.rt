@@ -115,18 +115,6 @@ pub fn label_at<'a>(source: &Source, tokens: &'a [Token]) -> Option<(Label, &'a 
     }
 }
 
-/// The label that has to stand first.
-pub fn label_here<'a>(source: &Source, tokens: &'a [Token]) -> Result<(Label, &'a [Token]), Stop>
-    ensures label { MatchResult result (λ x. first_as as_label (left source.now tokens.now) ≡ taken (record { place = place_at (left source.now tokens.now); it = x.0 }) (left source.now x.1.now))
-        (λ e. first_as as_label (left source.now tokens.now) ≡ None) }
-    ensures stop { IfErr result (λ e. e ≡ Bad (length tokens.now)) }
-{
-    match label_at(source, tokens) {
-        Some(found) => Ok(found),
-        None => Err(Stop::Bad(tokens.len())),
-    }
-}
-
 /// The type variable that stands first.
 pub fn tyvar_at<'a>(source: &Source, tokens: &'a [Token]) -> Option<(Tyvar, &'a [Token])>
     ensures { MatchOption result (first_as as_tyvar (left source.now tokens.now) ≡ None)

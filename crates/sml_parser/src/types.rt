@@ -7,7 +7,8 @@ ghost use Rattle.sml_tree.specs.Bare as bare;
 ghost use Rattle.sml_tree.specs.BareTree as tree;
 ghost use Rattle.sml_tree.specs.Bare.{bare_ty};
 ghost use Rattle.sml_tree.specs.Depth.{depth_ty};
-ghost use Rattle.sml_tree.specs.TreeOf.{ty_of, tys_of, long_id_of};
+ghost use Rattle.sml_tree.specs.TreeOf.{ty_of, long_id_of};
+ghost use Rattle.sml_tree.specs.Derived.{tys_of};
 ghost use Rattle.sml_grammar.specs.Answer.{Read, then_read, whole};
 ghost use Rattle.sml_grammar.specs.Terminals.{NoState, no_state, place_at, after_word};
 ghost use Rattle.sml_grammar.specs.Types.{TyReader, read_ty, maybe_ty, begins_ty, ty_atom, ty_start, brace_ty, paren_rest, arguments, postfix_turn, product_rest, arrow_rest, ty_field_turn, arrow_turn};
@@ -19,7 +20,7 @@ use crate::got::{Got, pushed};
 use crate::source::Source;
 use crate::stop::Stop;
 use crate::tokens::{
-    after_star, after_word, label_here, long_tycon_at, past, place_at, room, tyvar_at,
+    after_star, after_word, label_at, long_tycon_at, past, place_at, room, tyvar_at,
 };
 use mlc_base::make::{boxed, one, with};
 use mlc_base::memory::NoMemory;
@@ -216,9 +217,10 @@ fn ty_fields<'a>(
     let mut deepest = 0;
     let mut rest = tokens;
     'fields: loop {
-        let (front, found) = with(all, label_here(source, rest))?;
-        let (label, after_label) = found;
-        let (others, after_colon) = with(front, past(source, Reserved::Colon, after_label))?;
+        let Some((label, after_label)) = label_at(source, rest) else {
+            return Err(Stop::Bad(rest.len()))
+        };
+        let (others, after_colon) = with(all, past(source, Reserved::Colon, after_label))?;
         let (start, ty) = with(others, read_ty(alloc, source, n, 0, after_colon))?;
         let after = ty.rest;
         deepest = ty.depth.max(deepest);

@@ -1,6 +1,5 @@
-use Rattle.std.proofs.Common.{refl, ◌∙◌, ap, ◌++◌, ◌∷◌, [], List}
+use Rattle.std.proofs.Common.{refl}
 use Rattle.std.proofs.lemmas.Result.{err_from_is_err_and}
-use Rattle.sml_tree.specs.declared.tree.Pat.{Pat}
 use Rattle.sml_grammar.specs.Patterns.{read_atpat}
 use Rattle.sml_grammar.specs.Terminals.{place_at}
 use Rattle.sml_parser.specs.Left.{left}
@@ -15,8 +14,8 @@ returns c =
     let k = c.in_ok-pats.ensures.gives in
     record {
       gives = λ i pl lt.
-          let g = prefix-said s c.args.fix.now c.args.n i (left s c.args.tokens.now) lt (record { place = c.args.place; vid = c.args.vid; pats = c.in_ok-pats.field-0.it }) pl c.args.vid c.in_ok-first.field-0.it c.push.new.self.items c.in_ok-first.field-0.depth c.in_ok-pats.field-0.depth
-          c.in_ok-first.field-0.rest.now c.in_ok-pats.field-0.rest.now h.got k.got refl (c.in_ok-push.ensures.items ∙ ap (λ (z : List Pat). z ++ c.in_ok-first.field-0.it ∷ []) c.new-front.ensures.items) h.is h.same k.is k.same in
+          let g = prefix-said s c.args.fix.now c.args.n i (left s c.args.tokens.now) lt (record { place = c.args.place; vid = c.args.vid; pats = c.in_ok-pats.field-0.it }) pl c.args.vid c.in_ok-first.field-0.it c.in_ok-front.front.items c.in_ok-first.field-0.depth c.in_ok-pats.field-0.depth
+          c.in_ok-first.field-0.rest.now c.in_ok-pats.field-0.rest.now h.got k.got refl c.in_ok-front.ensures h.is h.same k.is k.same in
           record { got = g.got; is = g.is; same = g.same };
     }
 
