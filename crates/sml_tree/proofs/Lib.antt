@@ -1,7 +1,5 @@
 pub mod Examples
 pub mod BareExamples
-pub mod TypeLemmas
 pub mod TyLemmas
-pub mod Arms
 pub mod NoTree
 pub mod FixityLemmas

@@ -1,5 +1,8 @@
 pub mod Terminal
 pub mod Fixity
+pub mod Trie
+pub mod VidNumber
+pub mod Kept
 pub mod ReadTree
 pub mod Depth
 pub mod Levels

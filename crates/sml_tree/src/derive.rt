@@ -1,12 +1,11 @@
 // The derived forms.
 
 ghost use Rattle.std.specs.Prelude.{◌≡◌, ◌∷◌, [], map, true, IfOk};
-ghost use Rattle.sml_tree.specs.Derived.{fresh_exp, fresh_pat, unit, tuple_pat, select, case_of, if_of, and_of, or_of, sequence_of, let_of, while_of, with_result, pun, withtype_of};
+ghost use Rattle.sml_tree.specs.Derived.{fresh_exp, fresh_pat, unit, tuple_pat, select, case_of, if_of, and_of, or_of, sequence_of, let_of, while_of, with_result, pun};
 ghost use Rattle.sml_tree.specs.BareTree as bare;
-ghost use Rattle.sml_tree.specs.TreeOf.{exp_of, pat_of, ty_of, dec_of, rule_of, rules_of, decs_of, some_ty_of, data_bind_of, type_bind_of};
+ghost use Rattle.sml_tree.specs.TreeOf.{exp_of, pat_of, ty_of, dec_of, rule_of, rules_of, decs_of, some_ty_of};
 ghost use Rattle.sml_tree.specs.StandsFor.{phrase_of, stands_for};
 
-use crate::abbreviations::expand_binds;
 use crate::ident::{BuiltIn, LongVid, Tyvar, Vid};
 use crate::tree::{Bind, DataBind, Dec, Exp, Function, Pat, PatField, Rule, Ty, TypeBind};
 use mlc_base::label::Label;
@@ -340,22 +339,6 @@ pub fn field_as(
     }
 }
 
-/// `datatype d withtype b`
-fn withtype(
-    alloc: Global,
-    place: Place,
-    datatypes: Vec<DataBind>,
-    binds: Vec<TypeBind>,
-) -> Result<Dec, NoMemory>
-    ensures { IfOk result (λ made. dec_of made ≡ withtype_of place (map data_bind_of datatypes.items) (map type_bind_of binds.items)) }
-{
-    let expanded = expand_binds(alloc, &binds, &datatypes)?;
-    let mut both = Vec::new(alloc);
-    both.push(Dec::Datatype(place, expanded))?;
-    both.push(Dec::Abbreviation(place, binds))?;
-    Ok(Dec::Declarations(place, both))
-}
-
 /// What a derived form stands for.
 pub fn derive(alloc: Global, form: Derived) -> Result<Tree, NoMemory>
     ensures { IfOk result (λ tree. phrase_of tree ≡ stands_for form) }
@@ -386,8 +369,8 @@ pub fn derive(alloc: Global, form: Derived) -> Result<Tree, NoMemory>
             Label::Word(name),
             field_as(alloc, place, name, ty, pat)?,
         )),
-        Derived::Withtype(place, datatypes, binds) => Ok(Tree::Dec(withtype(
-            alloc, place, datatypes, binds,
-        )?)),
+        Derived::Withtype(place, datatypes, binds) => {
+            Ok(Tree::Dec(Dec::Withtype(place, datatypes, binds)))
+        }
     }
 }

@@ -16,8 +16,6 @@ pub enum Ty {
     Product(Place, Vec<Ty>),
     /// `t1 -> .. -> tn`
     Arrow(Place, Box<Ty>, Vec<TyPart>),
-    /// What an abbreviation stands for where it has a wrong number of arguments: no type.
-    Ill(Place),
 }
 
 #[derive(Drop)]
@@ -199,6 +197,8 @@ pub enum Dec {
     Fun(Place, Vec<Tyvar>, Vec<Function>),
     Abbreviation(Place, Vec<TypeBind>),
     Datatype(Place, Vec<DataBind>),
+    /// `datatype d withtype b`, both as they are written.
+    Withtype(Place, Vec<DataBind>, Vec<TypeBind>),
     /// `datatype tycon = datatype longtycon`
     Replicate(Place, Name, LongIdAt),
     Exception(Place, Vec<ExBind>),
