@@ -13,7 +13,7 @@ use crate::source::Source;
 use crate::stop::Stop;
 use crate::tokens::{after_word, long_strid_at, place_at, tycon_at, tyvar_at, vid_at};
 use crate::types::{maybe_ty, read_ty};
-use crate::vids::{binds_vid, digit_at, names_vid};
+use crate::vids::{binds_vid, digit_at, names_vid, vid_place};
 use mlc_base::make::with;
 use mlc_base::names::Name;
 use mlc_base::token::{Reserved, Token};
@@ -252,7 +252,7 @@ fn con_bind<'a>(
     } = maybe_ty(alloc, source, n, Reserved::Of, after)?;
     Ok(Got {
         it: ConBind {
-            place: place_at(source, tokens),
+            place: vid_place(source, tokens),
             vid,
             of_ty,
         },
@@ -362,14 +362,14 @@ fn ex_bind<'a>(
     requires { n < 1000 }
     ensures gives { Gives (λ x r. IsExBind source.now n (left source.now tokens.now) x.it x.depth x.rest.now r) result (read_ex_bind n fix.now (left source.now tokens.now)) }
 {
-    let place = place_at(source, tokens);
+    let place = vid_place(source, tokens);
     let Some((vid, after)) = binds_vid(source, fix, tokens) else {
         return Err(Stop::Bad(tokens.len()))
     };
     if let Some(named) = after_word(source, Reserved::Equals, after) {
         return match names_vid(alloc, source, fix, named)? {
             Some((long, rest)) => Ok(Got {
-                it: ExBind::Same(place, vid, place_at(source, named), long),
+                it: ExBind::Same(place, vid, vid_place(source, named), long),
                 depth: 0,
                 rest,
             }),

@@ -298,7 +298,7 @@ fn read_clauses<'a>(
         clauses = pushed(others, clause)?;
         let Some(next) = after_word(source, Reserved::Bar, after) else {
             return Ok(Got {
-                it: function(first.place, first.vid, clauses),
+                it: function(first.place, first.vid_place, first.vid, clauses),
                 depth: deepest,
                 rest: after,
             });

@@ -31,6 +31,7 @@ use std::alloc::Global;
 #[derive(Clone, Copy, PartialEq, Eq, Debug)]
 pub struct Shape {
     pub place: Place,
+    pub vid_place: Place,
     pub vid: Vid,
     pub count: usize,
 }
@@ -78,7 +79,12 @@ pub fn read_heading<'a>(
     ensures gives { Gives (λ x r. IsHeading shape source.now n (left source.now tokens.now) x.it x.depth x.rest.now r) result (read_heading n fix.now (shape_from shape) (left source.now tokens.now)) }
 {
     let Got {
-        it: Head { place, vid, pats },
+        it: Head {
+            place,
+            vid_place,
+            vid,
+            pats,
+        },
         depth: head_depth,
         rest: after_head,
     } = read_head(alloc, source, fix, n, tokens)?;
@@ -90,7 +96,12 @@ pub fn read_heading<'a>(
     )?;
     Ok(Got {
         it: Heading {
-            shape: Shape { place, vid, count },
+            shape: Shape {
+                place,
+                vid_place,
+                vid,
+                count,
+            },
             pats,
             ty: ty.it,
         },

@@ -22,7 +22,7 @@ use crate::patterns::{begins_pat, read_atpat};
 use crate::source::Source;
 use crate::stop::Stop;
 use crate::tokens::{after_word, place_at};
-use crate::vids::{binds_vid, joint_at};
+use crate::vids::{binds_vid, joint_at, vid_place};
 use mlc_base::make::{one, two, with};
 use mlc_base::names::Name;
 use mlc_base::place::Place;
@@ -36,6 +36,7 @@ use std::alloc::Global;
 #[derive(Drop)]
 pub struct Head {
     pub place: Place,
+    pub vid_place: Place,
     pub vid: Vid,
     pub pats: Vec<Pat>,
 }
@@ -44,6 +45,7 @@ pub struct Head {
 #[derive(Drop)]
 struct Pair {
     left: Pat,
+    vid_place: Place,
     vid: Name,
     right: Pat,
 }
@@ -61,11 +63,15 @@ pub fn read_head<'a>(
 {
     let place = place_at(source, tokens);
     if let Some((vid, after)) = binds_vid(source, fix, tokens) {
-        return named_head(alloc, source, fix, n, place, vid, after);
+        let name_place = vid_place(source, tokens);
+        return named_head(alloc, source, fix, n, place, name_place, vid, after);
     }
     let Got { it, depth, rest } = read_atpat(alloc, source, fix, n, tokens)?;
     if let Some(found) = joint_at(source, fix, rest) {
-        return infix_head(alloc, source, fix, n, place, it, depth, found.0, found.1);
+        let name_place = place_at(source, rest);
+        return infix_head(
+            alloc, source, fix, n, place, it, depth, name_place, found.0, found.1,
+        );
     }
     discard(it);
     match bracketed(alloc, source, fix, n, tokens)? {
@@ -81,12 +87,13 @@ fn named_head<'a>(
     fix: &Fixities,
     n: u32,
     place: Place,
+    name_place: Place,
     vid: Vid,
     tokens: &'a [Token],
 ) -> Result<Got<'a, Head>, Stop>
     requires { n < 1000 }
-    ensures gives { (i : List Terminal) → place ≡ bare.at source.now.file (place_at i) → length (left source.now tokens.now) < length i →
-        Gives (λ x r. IsHead source.now n i x.it x.depth x.rest.now r) result (vid_head n fix.now (record { place = place_at i; it = vid }) (left source.now tokens.now)) }
+    ensures gives { (i : List Terminal) (q : ℕ) → place ≡ bare.at source.now.file (place_at i) → name_place ≡ bare.at source.now.file q → length (left source.now tokens.now) < length i →
+        Gives (λ x r. IsHead source.now n i x.it x.depth x.rest.now r) result (vid_head n fix.now (place_at i) (record { place = q; it = vid }) (left source.now tokens.now)) }
 {
     match joint_at(source, fix, tokens) {
         Some(found) => {
@@ -94,15 +101,26 @@ fn named_head<'a>(
                 return Err(Stop::Deep(tokens.len()));
             }
             let variable = Pat::Vid(
-                place,
+                name_place,
                 LongVid {
                     qualifiers: Vec::new(alloc),
                     vid,
                 },
             );
-            infix_head(alloc, source, fix, n, place, variable, 1, found.0, found.1)
+            infix_head(
+                alloc,
+                source,
+                fix,
+                n,
+                place,
+                variable,
+                1,
+                place_at(source, tokens),
+                found.0,
+                found.1,
+            )
         }
-        None => prefix_head(alloc, source, fix, n, place, vid, tokens),
+        None => prefix_head(alloc, source, fix, n, place, name_place, vid, tokens),
     }
 }
 
@@ -113,12 +131,13 @@ fn prefix_head<'a>(
     fix: &Fixities,
     n: u32,
     place: Place,
+    name_place: Place,
     vid: Vid,
     tokens: &'a [Token],
 ) -> Result<Got<'a, Head>, Stop>
     requires { n < 1000 }
-    ensures gives { (i : List Terminal) → place ≡ bare.at source.now.file (place_at i) → length (left source.now tokens.now) < length i →
-        Gives (λ x r. IsHead source.now n i x.it x.depth x.rest.now r) result (prefix_rest n fix.now (record { place = place_at i; it = vid }) (left source.now tokens.now)) }
+    ensures gives { (i : List Terminal) (q : ℕ) → place ≡ bare.at source.now.file (place_at i) → name_place ≡ bare.at source.now.file q → length (left source.now tokens.now) < length i →
+        Gives (λ x r. IsHead source.now n i x.it x.depth x.rest.now r) result (prefix_rest n fix.now (place_at i) (record { place = q; it = vid }) (left source.now tokens.now)) }
 {
     let Got {
         it: first,
@@ -132,7 +151,12 @@ fn prefix_head<'a>(
         rest,
     } = more_atpats(alloc, source, fix, n, front, depth, after)?;
     Ok(Got {
-        it: Head { place, vid, pats },
+        it: Head {
+            place,
+            vid_place: name_place,
+            vid,
+            pats,
+        },
         depth: deepest,
         rest,
     })
@@ -147,11 +171,12 @@ fn infix_head<'a>(
     place: Place,
     first: Pat,
     depth: u32,
+    name_place: Place,
     name: Name,
     tokens: &'a [Token],
 ) -> Result<Got<'a, Head>, Stop>
     requires { n < 1000 }
-    ensures gives { (i : List Terminal) (a : read.Pat) (p : ℕ) → place ≡ bare.at source.now.file (place_at i) → pat_of first ≡ bare_pat source.now.file a → depth ≡ depth_pat a → read.pat_place a ≡ place_at i → depth ≤ n → length (left source.now tokens.now) < length i →
+    ensures gives { (i : List Terminal) (a : read.Pat) (p : ℕ) → place ≡ bare.at source.now.file (place_at i) → name_place ≡ bare.at source.now.file p → pat_of first ≡ bare_pat source.now.file a → depth ≡ depth_pat a → read.pat_place a ≡ place_at i → depth ≤ n → length (left source.now tokens.now) < length i →
         Gives (λ x r. IsHead source.now n i x.it x.depth x.rest.now r) result (infix_rest n fix.now a (record { place = p; it = name }) (left source.now tokens.now)) }
 {
     let (first, second) = with(first, read_atpat(alloc, source, fix, n, tokens))?;
@@ -160,6 +185,7 @@ fn infix_head<'a>(
     Ok(Got {
         it: Head {
             place,
+            vid_place: name_place,
             vid: Vid::Named(name),
             pats,
         },
@@ -194,6 +220,7 @@ fn bracket_head<'a>(
 {
     let Pair {
         left: first,
+        vid_place: name_place,
         vid,
         right: second,
     } = pair;
@@ -206,6 +233,7 @@ fn bracket_head<'a>(
     Ok(Got {
         it: Head {
             place,
+            vid_place: name_place,
             vid: Vid::Named(vid),
             pats,
         },
@@ -305,6 +333,7 @@ fn bracketed(
     match after_word(source, Reserved::RightParen, after_right) {
         Some(_) => Ok(Some(Pair {
             left,
+            vid_place: place_at(source, after_left),
             vid: found.0,
             right,
         })),

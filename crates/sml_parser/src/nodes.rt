@@ -1,12 +1,9 @@
 // Nodes of trees, by what they stand for.
 
-ghost use Rattle.std.specs.Prelude.{◌≡◌, ◌∷◌, true, map, IfOk};
+ghost use Rattle.std.specs.Prelude.{◌≡◌, ◌∷◌, map, IfOk};
 ghost use Rattle.sml_tree.specs.BareTree as bare;
-ghost use Rattle.sml_tree.specs.Derived.{tuple, list_of, app_of, chain_of, join, fun_dec_of};
-ghost use Rattle.sml_tree.specs.StandsFor.{stands_for};
-ghost use Rattle.sml_tree.specs.StandsFor as phrase;
+ghost use Rattle.sml_tree.specs.Derived.{tuple, list_of, app_of, chain_of, join, fun_dec_of, withtype_of};
 ghost use Rattle.sml_tree.specs.TreeOf.{exp_of, pat_of, ty_of, rule_of, rules_of, part_of, exp_field_of, exp_fields_of, bind_of, binds_of, clause_of, function_of, dec_of, decs_of, long_vid_of, constant_of, type_bind_of, data_bind_of, ex_bind_of, long_id_at_of};
-ghost use Rattle.sml_parser.specs.Kinds.{is_dec};
 
 use crate::got::prefixed;
 use mlc_base::label::Label;
@@ -14,27 +11,12 @@ use mlc_base::make::{boxed, with};
 use mlc_base::memory::NoMemory;
 use mlc_base::names::Name;
 use mlc_base::place::Place;
-use sml_tree::derive::{Derived, Tree, derive};
 use sml_tree::ident::{Constant, LongVid, Tyvar, Vid};
 use sml_tree::tree::{
     Bind, Clause, DataBind, Dec, ExBind, Exp, ExpField, Function, Joint, LongIdAt, Part, Pat, Rule,
     Ty, TypeBind,
 };
 use std::alloc::Global;
-
-/// The declaration that a derived form of a declaration stands for.
-pub fn derived_dec(alloc: Global, form: Derived) -> Result<Dec, NoMemory>
-    requires { is_dec (stands_for form) ≡ true }
-    ensures { IfOk result (λ d. phrase.dec (dec_of d) ≡ stands_for form) }
-{
-    match derive(alloc, form)? {
-        Tree::Dec(d) => Ok(d),
-        Tree::Exp(_) => unreachable!(),
-        Tree::Pat(_) => unreachable!(),
-        Tree::Ty(_) => unreachable!(),
-        Tree::Field(_, _) => unreachable!(),
-    }
-}
 
 pub fn constant(place: Place, constant: Constant) -> Exp
     ensures { exp_of result ≡ bare.constant_exp place (constant_of constant) }
@@ -154,11 +136,12 @@ pub fn clause(place: Place, pats: Vec<Pat>, exp: Exp) -> Clause
     Clause { place, pats, exp }
 }
 
-pub fn function(place: Place, vid: Vid, clauses: Vec<Clause>) -> Function
-    ensures { function_of result ≡ record { place = place; vid = vid; clauses = map clause_of clauses.items } }
+pub fn function(place: Place, vid_place: Place, vid: Vid, clauses: Vec<Clause>) -> Function
+    ensures { function_of result ≡ record { place = place; vid_place = vid_place; vid = vid; clauses = map clause_of clauses.items } }
 {
     Function {
         place,
+        vid_place,
         vid,
         clauses,
     }
@@ -186,6 +169,13 @@ pub fn datatypes(place: Place, binds: Vec<DataBind>) -> Dec
     ensures { dec_of result ≡ bare.datatype_dec place (map data_bind_of binds.items) }
 {
     Dec::Datatype(place, binds)
+}
+
+/// `datatype d withtype b`
+pub fn withtype(place: Place, datatypes: Vec<DataBind>, binds: Vec<TypeBind>) -> Dec
+    ensures { dec_of result ≡ withtype_of place (map data_bind_of datatypes.items) (map type_bind_of binds.items) }
+{
+    Dec::Withtype(place, datatypes, binds)
 }
 
 pub fn replicated(place: Place, tycon: Name, of: LongIdAt) -> Dec

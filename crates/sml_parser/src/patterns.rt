@@ -20,6 +20,7 @@ ghost use Rattle.sml_grammar.specs.Answer as answer;
 ghost use Rattle.sml_grammar.specs.Patterns.{PatReader, read_pats, begins_pat, at_pat, pat_start, brace_pat, bracket_pat, paren_pat_rest, paren_pat_in, pat_commas_turn, pat_row_turn, field, punned_field, pun, label_equals, pat_first, plain_form, vid_form, typed_form, typed_or_as, pat_suffix, pat_form, whole_pat_parts, atpats_turn};
 ghost use Rattle.sml_parser.specs.Gives.{Gives};
 ghost use Rattle.sml_parser.specs.Left.{left};
+ghost use Rattle.sml_parser.specs.VidPlace.{vid_place};
 ghost use Rattle.sml_parser.specs.declared.stop.Stop.TheVariants.{Memory};
 ghost use Rattle.sml_parser.specs.PatternsRead.{IsPat, IsPatAt, IsPats, IsPatParts, IsPatField, IsPatRow, plain_pat_start, Suffixed, suffix_level, suffix_least, suffix_read, begins_other, begins_named};
 
@@ -31,7 +32,7 @@ use crate::tokens::{after_word, label_at, past, place_at, room};
 use crate::types::{maybe_ty, read_ty};
 use crate::vids::{
     binds_vid, constant_at, infix_level, infix_vid, joint_at, names_vid, plain_vid, vid_level,
-    vid_right,
+    vid_place, vid_right,
 };
 use mlc_base::label::Label;
 use mlc_base::make::{boxed, one, with};
@@ -203,14 +204,15 @@ fn vid_form<'a>(
 ) -> Result<Got<'a, Pat>, Stop>
     requires room { n < 1000 }
     requires shorter { length (left source.now after.now) < length (left source.now tokens.now) }
-    ensures gives { Gives (λ x r. IsPat source.now (n + 1) (left source.now tokens.now) x.it x.depth x.rest.now r) result (vid_form (read_pats n) n fix.now (left source.now tokens.now) (record { place = place_at (left source.now tokens.now); it = vid }) (left source.now after.now)) }
+    ensures gives { Gives (λ x r. IsPat source.now (n + 1) (left source.now tokens.now) x.it x.depth x.rest.now r) result (vid_form (read_pats n) n fix.now (left source.now tokens.now) (record { place = vid_place (left source.now tokens.now); it = vid }) (left source.now after.now)) }
 {
-    let place = place_at(source, tokens);
+    let name_place = vid_place(source, tokens);
     if let Some(rest) = after_word(source, Reserved::As, after) {
-        return as_form(alloc, source, fix, n, place, vid, None, 0, rest);
+        return as_form(alloc, source, fix, n, name_place, vid, None, 0, rest);
     }
     if let Some(rest) = after_word(source, Reserved::Colon, after) {
-        return typed_form(alloc, source, fix, n, place, vid, rest);
+        let place = place_at(source, tokens);
+        return typed_form(alloc, source, fix, n, place, name_place, vid, rest);
     }
     plain_form(alloc, source, fix, n, 0, tokens)
 }
@@ -223,7 +225,7 @@ fn layered(alloc: Global, place: Place, vid: Vid, ty: Option<Ty>, pat: Pat) -> R
     Ok(Pat::As(place, vid, ty, pat))
 }
 
-/// The pattern after `vid [: ty] as`.
+/// The pattern after `vid [: ty] as`, where the identifier stands at `place`.
 #[cycle(pats)]
 fn as_form<'a>(
     alloc: Global,
@@ -238,8 +240,8 @@ fn as_form<'a>(
 ) -> Result<Got<'a, Pat>, Stop>
     requires room { n < 1000 }
     requires fits { ty_depth ≤ n }
-    ensures gives { (i : List Terminal) (t : Option read.Ty) → place ≡ bare.at source.now.file (place_at i) → some_ty_of ty ≡ bare_some source.now.file t → ty_depth ≡ depth_some t → length (left source.now tokens.now) < length i →
-        Gives (λ x r. IsPat source.now (n + 1) i x.it x.depth x.rest.now r) result (then_read ((read_pats n).pat fix.now 0 (left source.now tokens.now)) (λ a o. answer.read (read.as_pat (place_at i) vid t a) o)) }
+    ensures gives { (i : List Terminal) (q : ℕ) (t : Option read.Ty) → place ≡ bare.at source.now.file q → some_ty_of ty ≡ bare_some source.now.file t → ty_depth ≡ depth_some t → length (left source.now tokens.now) < length i →
+        Gives (λ x r. IsPat source.now (n + 1) i x.it x.depth x.rest.now r) result (then_read ((read_pats n).pat fix.now 0 (left source.now tokens.now)) (λ a o. answer.read (read.as_pat (place_at i) (record { place = q; it = vid }) t a) o)) }
 {
     let (ty, pat) = with(ty, read_pat(alloc, source, fix, n, 0, tokens))?;
     Ok(Got {
@@ -265,12 +267,13 @@ fn typed_form<'a>(
     fix: &Fixities,
     n: u32,
     place: Place,
+    name_place: Place,
     vid: Vid,
     tokens: &'a [Token],
 ) -> Result<Got<'a, Pat>, Stop>
     requires { n < 1000 }
-    ensures gives { (i : List Terminal) → place ≡ bare.at source.now.file (place_at i) → length (left source.now tokens.now) < length i →
-        Gives (λ x r. IsPat source.now (n + 1) i x.it x.depth x.rest.now r) result (typed_form (read_pats n) n fix.now (record { place = place_at i; it = vid }) (left source.now tokens.now)) }
+    ensures gives { (i : List Terminal) (q : ℕ) → place ≡ bare.at source.now.file (place_at i) → name_place ≡ bare.at source.now.file q → length (left source.now tokens.now) < length i →
+        Gives (λ x r. IsPat source.now (n + 1) i x.it x.depth x.rest.now r) result (typed_form (read_pats n) n fix.now (place_at i) (record { place = q; it = vid }) (left source.now tokens.now)) }
 {
     if n == 0 {
         return Err(Stop::Deep(tokens.len()));
@@ -281,10 +284,20 @@ fn typed_form<'a>(
         rest: after,
     } = read_ty(alloc, source, n, 0, tokens)?;
     if let Some(more) = after_word(source, Reserved::As, after) {
-        return as_form(alloc, source, fix, n, place, vid, Some(ty), ty_depth, more);
+        return as_form(
+            alloc,
+            source,
+            fix,
+            n,
+            name_place,
+            vid,
+            Some(ty),
+            ty_depth,
+            more,
+        );
     }
     let variable = Pat::Vid(
-        place,
+        name_place,
         LongVid {
             qualifiers: Vec::new(alloc),
             vid,
@@ -324,11 +337,17 @@ fn plain_form<'a>(
 }
 
 /// A constructor and its argument.
-fn applied(alloc: Global, place: Place, long: LongVid, argument: Pat) -> Result<Pat, NoMemory>
-    ensures { IfOk result (λ made. pat_of made ≡ tree.con_pat place place (long_vid_of long) (pat_of argument)) }
+fn applied(
+    alloc: Global,
+    place: Place,
+    name_place: Place,
+    long: LongVid,
+    argument: Pat,
+) -> Result<Pat, NoMemory>
+    ensures { IfOk result (λ made. pat_of made ≡ tree.con_pat place name_place (long_vid_of long) (pat_of argument)) }
 {
     let (long, argument) = with(long, boxed(alloc, argument))?;
-    Ok(Pat::Con(place, place, long, argument))
+    Ok(Pat::Con(place, name_place, long, argument))
 }
 
 /// A constructor and its argument, or an atomic pattern.
@@ -343,19 +362,25 @@ fn first_pat<'a>(
     requires { n < 1000 }
     ensures gives { Gives (λ x r. IsPatAt source.now fix.now 1000 (n + 1) (left source.now tokens.now) x.it x.depth x.rest.now r) result (pat_first (read_pats n) n fix.now (left source.now tokens.now)) }
 {
-    let place = place_at(source, tokens);
+    let name_place = vid_place(source, tokens);
     match names_vid(alloc, source, fix, tokens)? {
         Some((long, after)) => {
             if begins_pat(source, fix, after) {
                 let (con, argument) = with(long, read_atpat(alloc, source, fix, n, after))?;
                 return Ok(Got {
-                    it: applied(alloc, place, con, argument.it)?,
+                    it: applied(
+                        alloc,
+                        place_at(source, tokens),
+                        name_place,
+                        con,
+                        argument.it,
+                    )?,
                     depth: argument.depth + 1,
                     rest: argument.rest,
                 });
             }
             Ok(Got {
-                it: Pat::Vid(place, long),
+                it: Pat::Vid(name_place, long),
                 depth: 1,
                 rest: after,
             })
@@ -435,7 +460,7 @@ fn plain_atpat<'a>(
     }
     match names_vid(alloc, source, fix, tokens)? {
         Some((long, rest)) => Ok(Got {
-            it: Pat::Vid(place, long),
+            it: Pat::Vid(vid_place(source, tokens), long),
             depth: 1,
             rest,
         }),

@@ -13,7 +13,7 @@ use crate::bindings::{
     read_data_binds, read_ex_binds, read_precedence, read_strids, read_type_binds, read_vids,
 };
 use crate::got::Got;
-use crate::nodes::{abbreviations, datatypes, derived_dec, exceptions, opened, replicated};
+use crate::nodes::{abbreviations, datatypes, exceptions, opened, replicated, withtype};
 use crate::source::Source;
 use crate::stop::Stop;
 use crate::tokens::{after_word, long_tycon_at, place_at, tail, tycon_at, word_at};
@@ -21,7 +21,6 @@ use mlc_base::make::with;
 use mlc_base::names::Name;
 use mlc_base::place::Place;
 use mlc_base::token::{Reserved, Token};
-use sml_tree::derive::Derived;
 use sml_tree::fixity::{Fixities, Infix};
 use sml_tree::tree::{Dec, LongIdAt};
 use std::alloc::Global;
@@ -150,9 +149,8 @@ fn datatype_dec<'a>(
     let (datas, types) = with(binds, read_type_binds(alloc, source, n, after))?;
     let depth = binds_depth.max(types.depth);
     let rest = types.rest;
-    let dec = derived_dec(alloc, Derived::Withtype(place, datas, types.it))?;
     Ok(Got {
-        it: Some(dec),
+        it: Some(withtype(place, datas, types.it)),
         depth,
         rest,
     })

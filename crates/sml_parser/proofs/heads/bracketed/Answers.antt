@@ -58,7 +58,7 @@ returns-in-Some-after_word c =
     let o = left s c.in-Some-after_word.field-0.now in
     λ y h.
     let w = again-some c.args.n f i m k o y one.got two.got x (omega (arith, c.if-n-lt2.false)) h c.in-Some.ensures one.is joint two.is (subst (λ (z : List Terminal). after_word RightParen z ≡ Some o) two.same.rest c.in-Some-after_word.ensures) in
-    (record { place = place_at i; left = one.got.tree; vid = x.it; right = two.got.tree }, w.is, record { left_is = rw c.in_ok-left.ensures.first one.same.bare; right_is = two.same.bare; vid = refl; place = refl; depth = w.depth })
+    (record { place = place_at i; left = one.got.tree; vid = x; right = two.got.tree }, w.is, record { left_is = rw c.in_ok-left.ensures.first one.same.bare; right_is = two.same.bare; vid_place = c.place_at.ensures; vid = refl; place = refl; depth = w.depth })
 
 pub returns-in-None : goal.returns-in-None
 returns-in-None c =

@@ -13,9 +13,13 @@ use Rattle.sml_tree.specs.declared.tree.Pat.{Pat}
 use Rattle.sml_tree.specs.declared.tree.Pat.TheVariants as Code
 use Rattle.sml_grammar.specs.Answer.{Read, ok, then_read, read, whole}
 use Rattle.sml_grammar.specs.Terminals.{place_at, no_state, short, word_then}
-use Rattle.sml_grammar.specs.Patterns.{read_pats, at_pat, pat_start, plain_form, vid_form, typed_form, pat_suffix, paren_pat_in, pat_commas_turn}
+use Rattle.sml_grammar.specs.Patterns.{read_pats, at_pat, pat_start, plain_form, vid_form, short_at, typed_form, pat_suffix, paren_pat_in, pat_commas_turn}
 use Rattle.sml_parser.specs.Gives.{Fails}
 use Rattle.sml_parser.specs.Left.{left}
+use Rattle.sml_parser.specs.VidPlace.{vid_place}
+use Rattle.sml_tree.specs.ReadTree.{Placed}
+use Rattle.sml_tree.specs.Terminal.{LongVid}
+use Rattle.sml_tree.specs.declared.ident.Vid.{Vid}
 use Rattle.sml_parser.specs.PatternsRead.{IsPatAt}
 use Rattle.sml_parser.proofs.Loop.{fails-bad, fails-deep}
 use Rattle.sml_parser.proofs.Listing.{listing-start}
@@ -46,8 +50,8 @@ read_pat-returns-in-Some t c =
     let i = left c.args.source.now c.args.tokens.now in
     let m = left c.args.source.now c.in-Some.after.now in
     record {
-      gives = pat-gives c.args.source.now c.args.n i c.vid_form.result ((read_pats c.args.n).pat c.args.fix.now c.args.level i) (vid_form (read_pats (c.args.n - 1)) (c.args.n - 1) c.args.fix.now i (record { place = place_at i; it = c.in-Some.vid }) m) (omega arith)
-          (vid-gives c.args.n c.args.level c.args.fix.now i (record { place = place_at i; it = c.in-Some.vid }) m (omega arith) (omega arith) c.in-Some.ensures) c.vid_form.ensures.gives;
+      gives = pat-gives c.args.source.now c.args.n i c.vid_form.result ((read_pats c.args.n).pat c.args.fix.now c.args.level i) (vid_form (read_pats (c.args.n - 1)) (c.args.n - 1) c.args.fix.now i (record { place = vid_place i; it = c.in-Some.vid }) m) (omega arith)
+          (vid-gives c.args.n c.args.level c.args.fix.now i (record { place = vid_place i; it = c.in-Some.vid }) m (omega arith) (omega arith) c.in-Some.ensures) c.vid_form.ensures.gives;
     }
 
 pub read_pat-returns-in-None : goal.read_pat-returns-in-None
@@ -82,8 +86,9 @@ first_pat-returns-then-begins_pat t c =
     let s = c.args.source.now in
     let i = left s c.args.tokens.now in
     let h = rw c.in_ok-con-in-Some.ensures.second at c.read_atpat.ensures.gives in
-    let e = rw (c.place_at-place.ensures, c.in_ok-con-in-Some.ensures.first) at c.in_ok-applied-in-Some.ensures in
-    let g = con-said s c.args.n c.args.fix.now i _ c.in_ok-con-in-Some.field-0.1.it (long_vid_of c.in-Some.long) c.in_ok-con-in-Some.field-0.1.depth c.in-Some.after.now c.in_ok-con-in-Some.field-0.1.rest.now h.got (rw c.in-Some.is at c.in_ok-long.ensures) (sym c.begins_pat.ensures ∙ c.if-begins_pat.true) h.is h.same e in
+    let e = rw (c.place_at.ensures, c.vid_place-name_place.ensures, c.in_ok-con-in-Some.ensures.first) at c.in_ok-applied-in-Some.ensures in
+    let x : Placed LongVid = record { place = vid_place i; it = long_vid_of c.in-Some.long } in
+    let g = con-said s c.args.n c.args.fix.now i _ c.in_ok-con-in-Some.field-0.1.it x c.in_ok-con-in-Some.field-0.1.depth c.in-Some.after.now c.in_ok-con-in-Some.field-0.1.rest.now h.got (rw c.in-Some.is at c.in_ok-long.ensures) (sym c.begins_pat.ensures ∙ c.if-begins_pat.true) h.is h.same e in
     record { gives = record { got = g.got; is = g.is; same = g.same } }
 
 pub typed_form-returns : goal.typed_form-returns
@@ -91,17 +96,18 @@ typed_form-returns t c =
     let s = c.args.source.now in
     let h = c.in_ok-ty.ensures.gives in
     record {
-      gives = λ i pl lt.
+      gives = λ i q pl nl lt.
+          let v : Placed Vid = record { place = q; it = c.args.vid } in
           let e = c.in_ok-first.ensures
-          ∙ ap (λ (z : tree.Pat). tree.typed_pat c.args.place z (ty_of c.in_ok-ty.field-0.it)) (pat_of-Vid c.args.place (record { qualifiers = c.new.result; vid = c.args.vid }) ∙ ap (λ (z : List ℕ). tree.vid_pat c.args.place (record { qualifiers = z; vid = c.args.vid })) c.new.ensures.items)
-          ∙ ap (λ (z : Place). tree.typed_pat z (tree.vid_pat z (short c.args.vid)) (ty_of c.in_ok-ty.field-0.it)) pl in
-          let a : Read read_tree.Pat = record { tree = read_tree.typed_pat (read_tree.vid_pat (place_at i) (short c.args.vid)) h.got.tree; rest = h.got.rest } in
-          let is0 = typed-is s c.args.fix.now c.args.n i (left s c.args.tokens.now) c.in_ok-first.first c.args.vid c.in_ok-ty.field-0.it c.in_ok-ty.field-0.depth c.in_ok-ty.field-0.rest.now h.got (omega arith) h.same lt e in
+          ∙ ap (λ (z : tree.Pat). tree.typed_pat c.args.place z (ty_of c.in_ok-ty.field-0.it)) (pat_of-Vid c.args.name_place (record { qualifiers = c.new.result; vid = c.args.vid }) ∙ ap (λ (z : List ℕ). tree.vid_pat c.args.name_place (record { qualifiers = z; vid = c.args.vid })) c.new.ensures.items)
+          ∙ rw (pl, nl) refl in
+          let a : Read read_tree.Pat = record { tree = read_tree.typed_pat (read_tree.vid_pat (place_at i) (short_at v)) h.got.tree; rest = h.got.rest } in
+          let is0 = typed-is s c.args.fix.now c.args.n i (left s c.args.tokens.now) c.in_ok-first.first v c.in_ok-ty.field-0.it c.in_ok-ty.field-0.depth c.in_ok-ty.field-0.rest.now h.got (omega arith) h.same lt e in
           let is : IsPatAt s c.args.fix.now 5 (c.args.n + 1) i c.in_ok-first.first (c.max.result + 1) c.in_ok-ty.field-0.rest.now a =
           subst (λ (k : ℕ). IsPatAt s c.args.fix.now 5 (c.args.n + 1) i c.in_ok-first.first (k + 1) c.in_ok-ty.field-0.rest.now a) (sym c.max.ensures) is0 in
-          pat-by s (c.args.n + 1) i c.suffixes.result (typed_form (read_pats c.args.n) c.args.n c.args.fix.now (record { place = place_at i; it = c.args.vid }) (left s c.args.tokens.now))
-          (pat_suffix (read_pats c.args.n).pat c.args.n c.args.fix.now 0 (read_tree.typed_pat (read_tree.vid_pat (place_at i) (short c.args.vid)) h.got.tree) h.got.rest)
-          (typed-else s (read_pats c.args.n) c.args.n c.args.fix.now (record { place = place_at i; it = c.args.vid }) (left s c.args.tokens.now) c.in_ok-ty.field-0.rest.now h.got (omega arith) h.is h.same.rest c.in_default.ensures)
+          pat-by s (c.args.n + 1) i c.suffixes.result (typed_form (read_pats c.args.n) c.args.n c.args.fix.now (place_at i) v (left s c.args.tokens.now))
+          (pat_suffix (read_pats c.args.n).pat c.args.n c.args.fix.now 0 (read_tree.typed_pat (read_tree.vid_pat (place_at i) (short_at v)) h.got.tree) h.got.rest)
+          (typed-else s (read_pats c.args.n) c.args.n c.args.fix.now (place_at i) v (left s c.args.tokens.now) c.in_ok-ty.field-0.rest.now h.got (omega arith) h.is h.same.rest c.in_default.ensures)
           (c.suffixes.ensures.gives i a pl is);
     }
 
@@ -112,23 +118,25 @@ typed_form-returns-in-Some t c =
     let sh = word-shorter res.As (left s c.in_ok-ty.field-0.rest.now) (left s c.in-Some.more.now) c.in-Some.ensures in
     let sh2 = h.same.shorter in let sh3 = ap (λ (z : List Terminal). length z) h.same.rest in
     record {
-      gives = λ i pl lt.
-          pat-by s (c.args.n + 1) i c.as_form.result (typed_form (read_pats c.args.n) c.args.n c.args.fix.now (record { place = place_at i; it = c.args.vid }) (left s c.args.tokens.now))
-          (then_read ((read_pats c.args.n).pat c.args.fix.now 0 (left s c.in-Some.more.now)) (λ a o. read (read_tree.as_pat (place_at i) c.args.vid (Some h.got.tree) a) o))
-          (typed-as s (read_pats c.args.n) c.args.n c.args.fix.now (record { place = place_at i; it = c.args.vid }) (left s c.args.tokens.now) (left s c.in-Some.more.now) c.in_ok-ty.field-0.rest.now h.got (omega arith) h.is h.same.rest c.in-Some.ensures)
-          (c.as_form.ensures.gives i (Some h.got.tree) pl (ap Some h.same.bare) h.same.depth (omega arith));
+      gives = λ i q pl nl lt.
+          let v : Placed Vid = record { place = q; it = c.args.vid } in
+          pat-by s (c.args.n + 1) i c.as_form.result (typed_form (read_pats c.args.n) c.args.n c.args.fix.now (place_at i) v (left s c.args.tokens.now))
+          (then_read ((read_pats c.args.n).pat c.args.fix.now 0 (left s c.in-Some.more.now)) (λ a o. read (read_tree.as_pat (place_at i) v (Some h.got.tree) a) o))
+          (typed-as s (read_pats c.args.n) c.args.n c.args.fix.now (place_at i) v (left s c.args.tokens.now) (left s c.in-Some.more.now) c.in_ok-ty.field-0.rest.now h.got (omega arith) h.is h.same.rest c.in-Some.ensures)
+          (c.as_form.ensures.gives i q (Some h.got.tree) nl (ap Some h.same.bare) h.same.depth (omega arith));
     }
 
 pub vid_form-returns-in-Some : goal.vid_form-returns-in-Some
 vid_form-returns-in-Some t c =
     let s = c.args.source.now in
     let i = left s c.args.tokens.now in
+    let v : Placed Vid = record { place = vid_place i; it = c.args.vid } in
     let sh = word-shorter res.As (left s c.args.after.now) (left s c.in-Some.rest.now) c.in-Some.ensures in
     record {
-      gives = pat-by s (c.args.n + 1) i c.as_form.result (vid_form (read_pats c.args.n) c.args.n c.args.fix.now i (record { place = place_at i; it = c.args.vid }) (left s c.args.after.now))
-          (then_read ((read_pats c.args.n).pat c.args.fix.now 0 (left s c.in-Some.rest.now)) (λ a o. read (read_tree.as_pat (place_at i) c.args.vid None a) o))
-          (vid-as (read_pats c.args.n) c.args.n c.args.fix.now i (record { place = place_at i; it = c.args.vid }) (left s c.args.after.now) (left s c.in-Some.rest.now) c.in-Some.ensures)
-          (c.as_form.ensures.gives i None c.place_at-place.ensures refl refl (omega (arith, c.requires.shorter)));
+      gives = pat-by s (c.args.n + 1) i c.as_form.result (vid_form (read_pats c.args.n) c.args.n c.args.fix.now i v (left s c.args.after.now))
+          (then_read ((read_pats c.args.n).pat c.args.fix.now 0 (left s c.in-Some.rest.now)) (λ a o. read (read_tree.as_pat (place_at i) v None a) o))
+          (vid-as (read_pats c.args.n) c.args.n c.args.fix.now i v (left s c.args.after.now) (left s c.in-Some.rest.now) c.in-Some.ensures)
+          (c.as_form.ensures.gives i (vid_place i) None c.vid_place-name_place.ensures refl refl (omega (arith, c.requires.shorter)));
     }
 
 pub plain_form-returns : goal.plain_form-returns
