@@ -1,9 +1,10 @@
 // Type variables, and bindings of types and exceptions.
 
-ghost use Rattle.std.specs.Prelude.{◌≡◌, ◌<◌, ◌≤◌, length};
+ghost use Rattle.std.specs.Prelude.{◌≡◌, ◌<◌, ◌≤◌, ℕ, length};
+ghost use Rattle.sml_tree.specs.Bare.{at};
 ghost use Rattle.sml_grammar.specs.Answer.{read, whole};
 ghost use Rattle.sml_grammar.specs.Terminals.{no_state};
-ghost use Rattle.sml_grammar.specs.Bindings.{read_tyvars, tyvar_turn, read_type_binds, read_cons, read_data_binds, read_ex_binds, read_strids, read_vids, precedence_then};
+ghost use Rattle.sml_grammar.specs.Bindings.{read_tyvars, tyvars_place, tyvar_turn, read_type_binds, read_cons, read_data_binds, read_ex_binds, read_strids, read_vids, precedence_then};
 ghost use Rattle.sml_parser.specs.Gives.{Gives};
 ghost use Rattle.sml_parser.specs.Left.{left};
 ghost use Rattle.sml_parser.specs.BindingsRead.{IsTyvars, IsStrids, IsVids, IsTyconHead, read_tycon_head, IsTypeBind, read_type_bind, IsTypeBinds, IsCon, read_con, IsCons, IsDataBind, read_data_bind, IsDataBinds, IsExBind, read_ex_bind, IsExBinds};
@@ -16,10 +17,11 @@ use crate::types::{maybe_ty, read_ty};
 use crate::vids::{binds_vid, digit_at, names_vid, vid_place};
 use mlc_base::make::with;
 use mlc_base::names::Name;
+use mlc_base::place::Place;
 use mlc_base::token::{Reserved, Token};
 use sml_tree::fixity::Fixities;
 use sml_tree::ident::Tyvar;
-use sml_tree::tree::{ConBind, DataBind, ExBind, LongIdAt, TypeBind};
+use sml_tree::tree::{ConBind, DataBind, ExBind, LongIdAt, TypeBind, TyvarSeq};
 use std::alloc::Global;
 
 /// Type variables: none, one, or some in brackets.
@@ -54,6 +56,27 @@ pub fn read_tyvars<'a>(
         });
     }
     bracketed_tyvars(alloc, source, inner)
+}
+
+/// Type variables that begin with these tokens, in the declaration at `place`, with their own place.
+pub fn tyvar_seq(
+    source: &Source,
+    place: Place,
+    tokens: &[Token],
+    tyvars: Vec<Tyvar>,
+) -> TyvarSeq
+    ensures tyvars { result.tyvars ≡ tyvars }
+    ensures place { (p : ℕ) → place ≡ at source.now.file p → result.place ≡ at source.now.file (tyvars_place p (left source.now tokens.now) tyvars.items) }
+{
+    let own_place = if tyvars.is_empty() {
+        place
+    } else {
+        place_at(source, tokens)
+    };
+    TyvarSeq {
+        place: own_place,
+        tyvars,
+    }
 }
 
 /// Type variables in brackets, after the bracket.

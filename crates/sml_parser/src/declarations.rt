@@ -14,7 +14,7 @@ ghost use Rattle.sml_parser.specs.Left.{left};
 ghost use Rattle.sml_parser.specs.ExpressionsRead.{IsDecs, IsList};
 ghost use Rattle.sml_parser.specs.DeclarationsRead.{IsBinds, IsFunction, IsDec, inner_decs, local_by, item_of};
 
-use crate::bindings::read_tyvars;
+use crate::bindings::{read_tyvars, tyvar_seq};
 use crate::expressions::read_after;
 use crate::got::{Got, pushed};
 use crate::headings::{Shape, clause_from, read_heading};
@@ -81,14 +81,16 @@ fn read_dec<'a>(
         (dec_by n (readers n).exp (inner_decs n) fix.old (dec_start (left source.now tokens.now))) }
 {
     let place = place_at(source, tokens);
+    let inner = tail(source, tokens);
     match word_at(source, tokens) {
         Some(Reserved::Val) => {
             let Got {
                 it: tyvars,
                 depth: _,
                 rest: after,
-            } = read_tyvars(alloc, source, tail(source, tokens))?;
-            let (vars, binds) = with(tyvars, read_binds(alloc, source, fix, n, after))?;
+            } = read_tyvars(alloc, source, inner)?;
+            let seq = tyvar_seq(source, place, inner, tyvars);
+            let (vars, binds) = with(seq, read_binds(alloc, source, fix, n, after))?;
             let (plain, recursive) = binds.it;
             Ok(Got {
                 it: Some(val(place, vars, plain, recursive)),
@@ -101,8 +103,9 @@ fn read_dec<'a>(
                 it: tyvars,
                 depth: _,
                 rest: after,
-            } = read_tyvars(alloc, source, tail(source, tokens))?;
-            let (vars, all) = with(tyvars, read_functions(alloc, source, fix, n, after))?;
+            } = read_tyvars(alloc, source, inner)?;
+            let seq = tyvar_seq(source, place, inner, tyvars);
+            let (vars, all) = with(seq, read_functions(alloc, source, fix, n, after))?;
             Ok(Got {
                 it: Some(functions(place, vars, all.it)),
                 depth: all.depth,
@@ -113,7 +116,7 @@ fn read_dec<'a>(
             if n == 0 {
                 return Err(Stop::Deep(tokens.len()));
             }
-            read_local(alloc, source, fix, n - 1, place, tail(source, tokens))
+            read_local(alloc, source, fix, n - 1, place, inner)
         }
         _ => simple_dec(alloc, source, fix, n, tokens),
     }

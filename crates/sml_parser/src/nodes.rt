@@ -11,10 +11,10 @@ use mlc_base::make::{boxed, with};
 use mlc_base::memory::NoMemory;
 use mlc_base::names::Name;
 use mlc_base::place::Place;
-use sml_tree::ident::{Constant, LongVid, Tyvar, Vid};
+use sml_tree::ident::{Constant, LongVid, Vid};
 use sml_tree::tree::{
     Bind, Clause, DataBind, Dec, ExBind, Exp, ExpField, Function, Joint, LongIdAt, Part, Pat, Rule,
-    Ty, TypeBind,
+    Ty, TypeBind, TyvarSeq,
 };
 use std::alloc::Global;
 
@@ -147,14 +147,14 @@ pub fn function(place: Place, vid_place: Place, vid: Vid, clauses: Vec<Clause>) 
     }
 }
 
-pub fn val(place: Place, tyvars: Vec<Tyvar>, plain: Vec<Bind>, recursive: Vec<Bind>) -> Dec
-    ensures { dec_of result ≡ bare.val_dec place tyvars.items (binds_of (map bind_of plain.items)) (binds_of (map bind_of recursive.items)) }
+pub fn val(place: Place, tyvars: TyvarSeq, plain: Vec<Bind>, recursive: Vec<Bind>) -> Dec
+    ensures { dec_of result ≡ bare.val_dec place tyvars.place tyvars.tyvars.items (binds_of (map bind_of plain.items)) (binds_of (map bind_of recursive.items)) }
 {
     Dec::Val(place, tyvars, plain, recursive)
 }
 
-pub fn functions(place: Place, tyvars: Vec<Tyvar>, functions: Vec<Function>) -> Dec
-    ensures { dec_of result ≡ fun_dec_of place tyvars.items (map function_of functions.items) }
+pub fn functions(place: Place, tyvars: TyvarSeq, functions: Vec<Function>) -> Dec
+    ensures { dec_of result ≡ fun_dec_of place tyvars.place tyvars.tyvars.items (map function_of functions.items) }
 {
     Dec::Fun(place, tyvars, functions)
 }

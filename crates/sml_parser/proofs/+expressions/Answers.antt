@@ -89,7 +89,7 @@ declarations::read_dec-returns-in_ok-vars-in-Some-Val t c =
     let b = (rw c.in_ok-vars-in-Some-Val.ensures.second at c.read_binds.ensures.gives) in
     let g = val-done s c.args.n (readers c.args.n).exp (inner_decs c.args.n) c.args.fix.now i c.in_ok-tyvars-in-Some-Val.field-0.it.items c.in_ok-tyvars-in-Some-Val.field-0.depth c.in_ok-tyvars-in-Some-Val.field-0.rest.now a.got
     c.in_ok-vars-in-Some-Val.field-0.1.it.0.items c.in_ok-vars-in-Some-Val.field-0.1.it.1.items c.in_ok-vars-in-Some-Val.field-0.1.depth c.in_ok-vars-in-Some-Val.field-0.1.rest.now b.got c.val.result w
-    (rw c.tail.ensures at a.is) (rw c.tail.ensures at a.same) b.is b.same (rw c.place_at-place.ensures at (rw c.in_ok-vars-in-Some-Val.ensures.first at c.val.ensures)) in
+    (rw c.tail-inner.ensures at a.is) (rw c.tail-inner.ensures at a.same) b.is b.same (rw (c.in_ok-vars-in-Some-Val.ensures.first, c.tyvar_seq-seq.ensures.tyvars, c.tyvar_seq-seq.ensures.place (place_at i) c.place_at-place.ensures, c.place_at-place.ensures, c.tail-inner.ensures) at c.val.ensures) in
     record { gives = record { got = g.got; is = g.is; same = record { rest = g.same.rest; same = g.same.same; deep = g.same.deep; fits = g.same.fits; shorter = g.same.shorter; force = g.same.force } } }
 
 pub declarations::read_dec-returns-else-n-eq0 : goal.declarations::read_dec-returns-else-n-eq0
@@ -100,11 +100,11 @@ declarations::read_dec-returns-else-n-eq0 t c =
     let n : c.args.n ≡ suc (c.args.n - 1) = omega arith in
     let m : c.args.n - 1 + 1 ≡ c.args.n = omega arith in
     let lt = tail-shorter i res.Local w in
-    let le = ap (λ (z : List Terminal). length z) c.tail-in-Some-Local.ensures in
-    let k = left s c.tail-in-Some-Local.result.now in
+    let le = ap (λ (z : List Terminal). length z) c.tail-inner.ensures in
+    let k = left s c.tail-inner.result.now in
     record {
       gives = dec-by c.args.fix.now c.read_local.new.fix s c.args.n i c.read_local.result (dec_by c.args.n (readers c.args.n).exp (inner_decs c.args.n) c.args.fix.now (dec_start i)) (local_by (c.args.n - 1) c.args.fix.now (place_at i) k)
-          (local-at c.args.n (c.args.n - 1) (readers c.args.n).exp c.args.fix.now i n w ∙ ap (local_by (c.args.n - 1) c.args.fix.now (place_at i)) (sym c.tail-in-Some-Local.ensures))
+          (local-at c.args.n (c.args.n - 1) (readers c.args.n).exp c.args.fix.now i n w ∙ ap (local_by (c.args.n - 1) c.args.fix.now (place_at i)) (sym c.tail-inner.ensures))
           (dec-wider c.args.fix.now c.read_local.new.fix s (c.args.n - 1 + 1) c.args.n k i c.read_local.result _ m (omega arith) (c.read_local.ensures.gives (place_at i) c.place_at-place.ensures));
     }
 
