@@ -8,6 +8,7 @@ pub mod Depth
 pub mod Levels
 pub mod Grammar
 pub mod BareTree
+pub mod Phrases
 pub mod Derived
 pub mod Bare
 pub mod TreeOf

@@ -1,13 +1,16 @@
 // The derived forms.
 
 ghost use Rattle.std.specs.Prelude.{◌≡◌, ◌∷◌, [], map, true, IfOk};
-ghost use Rattle.sml_tree.specs.Derived.{fresh_exp, fresh_pat, unit, tuple_pat, select, case_of, if_of, and_of, or_of, sequence_of, let_of, while_of, with_result, pun};
+ghost use Rattle.sml_tree.specs.Derived.{fresh_exp, fresh_pat, unit, tuple_pat, select, case_of, if_of};
+ghost use Rattle.sml_tree.specs.Derived.{and_of, or_of, sequence_of, let_of, while_of, with_result, pun};
 ghost use Rattle.sml_tree.specs.BareTree as bare;
 ghost use Rattle.sml_tree.specs.TreeOf.{exp_of, pat_of, ty_of, dec_of, rule_of, rules_of, decs_of, some_ty_of};
 ghost use Rattle.sml_tree.specs.StandsFor.{phrase_of, stands_for};
 
-use crate::ident::{BuiltIn, LongVid, Tyvar, Vid};
-use crate::tree::{Bind, DataBind, Dec, Exp, Function, Pat, PatField, Rule, Ty, TypeBind};
+use crate::ident::{BuiltIn, LongVid, Vid};
+use crate::tree::{
+    Bind, DataBind, Dec, Exp, Function, Pat, PatField, Rule, Ty, TypeBind, TyvarSeq,
+};
 use mlc_base::label::Label;
 use mlc_base::make::{both, boxed, one, two, with};
 use mlc_base::memory::NoMemory;
@@ -46,7 +49,7 @@ pub enum Derived {
     List(Place, Vec<Exp>),
     ListPat(Place, Vec<Pat>),
     /// `fun tyvarseq f p1 .. pn = e | .. and ..`
-    Fun(Place, Vec<Tyvar>, Vec<Function>),
+    Fun(Place, TyvarSeq, Vec<Function>),
     /// The right side of `[: t] = e`, with the place of `e`.
     Result(Place, Exp, Option<Ty>),
     /// The field `x [: t]`
@@ -258,12 +261,15 @@ fn round(alloc: Global, place: Place, a: Exp, b: Exp) -> Result<Exp, NoMemory>
 /// `val rec v = exp`
 fn recursive(alloc: Global, place: Place, exp: Exp) -> Result<Vec<Dec>, NoMemory>
     ensures { IfOk result (λ ds. decs_of (map dec_of ds.items)
-        ≡ bare.dec (bare.val_dec place [] bare.no_binds (bare.bind place (fresh_pat place 0) (exp_of exp) bare.no_binds)) bare.no_decs) }
+        ≡ bare.dec (bare.val_dec place place [] bare.no_binds (bare.bind place (fresh_pat place 0) (exp_of exp) bare.no_binds)) bare.no_decs) }
 {
     let pat = fresh_pattern(alloc, place, 0);
     let binds = one(alloc, Bind { place, pat, exp })?;
-    let dec = Dec::Val(place, Vec::new(alloc), Vec::new(alloc), binds);
-    one(alloc, dec)
+    let none = TyvarSeq {
+        place,
+        tyvars: Vec::new(alloc),
+    };
+    one(alloc, Dec::Val(place, none, Vec::new(alloc), binds))
 }
 
 /// `while a do b`

@@ -4,5 +4,6 @@
 pub mod derive;
 pub mod fixity;
 pub mod ident;
+pub mod law;
 pub mod tree;
 mod trie;

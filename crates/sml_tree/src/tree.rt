@@ -70,6 +70,13 @@ pub struct PatPart {
     pub pat: Pat,
 }
 
+/// A sequence of type variables, and its place: where it is empty, that of the declaration.
+#[derive(Drop)]
+pub struct TyvarSeq {
+    pub place: Place,
+    pub tyvars: Vec<Tyvar>,
+}
+
 /// A binding of an abbreviation.
 #[derive(Drop)]
 pub struct TypeBind {
@@ -185,6 +192,7 @@ pub struct Clause {
 #[cycle(exps)]
 pub struct Function {
     pub place: Place,
+    pub vid_place: Place,
     pub vid: Vid,
     pub clauses: Vec<Clause>,
 }
@@ -193,8 +201,8 @@ pub struct Function {
 #[cycle(exps)]
 pub enum Dec {
     /// Bindings before `rec`, and those after it.
-    Val(Place, Vec<Tyvar>, Vec<Bind>, Vec<Bind>),
-    Fun(Place, Vec<Tyvar>, Vec<Function>),
+    Val(Place, TyvarSeq, Vec<Bind>, Vec<Bind>),
+    Fun(Place, TyvarSeq, Vec<Function>),
     Abbreviation(Place, Vec<TypeBind>),
     Datatype(Place, Vec<DataBind>),
     /// `datatype d withtype b`, both as they are written.

@@ -123,7 +123,8 @@ pub fn insert(
     directive: Directive,
 ) -> Result<Rc<Node>, NoMemory>
     requires { 0 < number }
-    ensures { IfOk result (λ made. (n : ℕ) → 0 < n → kept (trie_of made.value) n ≡ (if nat_eq n number then Some directive else kept (some_trie_of trie.now) n)) }
+    ensures { IfOk result (λ made. (n : ℕ) → 0 < n →
+        kept (trie_of made.value) n ≡ (if nat_eq n number then Some directive else kept (some_trie_of trie.now) n)) }
 {
     if number == 1 {
         with_here(alloc, trie, directive)

@@ -7,17 +7,11 @@ use sml_tree::ident::Vid;
 use std::alloc::Global;
 use std::test::Fail;
 
-#[derive(Clone, Copy)]
-struct Operators {
-    plus: Name,
-    times: Name,
-}
-
-fn plus_and_times(alloc: Global) -> Result<Operators, NoMemory> {
+fn plus_and_times(alloc: Global) -> Result<(Name, Name), NoMemory> {
     let mut names = Names::new(alloc)?;
     let plus = names.intern(alloc, b"+")?;
     let times = names.intern(alloc, b"*")?;
-    Ok(Operators { plus, times })
+    Ok((plus, times))
 }
 
 fn left(precedence: u8) -> Infix {
@@ -28,22 +22,22 @@ fn left(precedence: u8) -> Infix {
 }
 
 // `infix 6 +`
-fn one_directive(alloc: Global, operators: Operators) -> Result<Fixities, NoMemory> {
+fn one_directive(alloc: Global, plus: Name) -> Result<Fixities, NoMemory> {
     let mut fixities = Fixities::new(alloc);
-    fixities.add(Some(left(6)), &[operators.plus])?;
+    fixities.add(Some(left(6)), &[plus])?;
     Ok(fixities)
 }
 
 // What is in force in the first part of `local nonfix + in infix 7 * end` after that.
-fn first_part(alloc: Global, operators: Operators) -> Result<Fixities, NoMemory> {
-    let mut inner = one_directive(alloc, operators)?.copy(alloc)?;
-    inner.add(None, &[operators.plus])?;
+fn first_part(alloc: Global, plus: Name) -> Result<Fixities, NoMemory> {
+    let mut inner = one_directive(alloc, plus)?.copy(alloc)?;
+    inner.add(None, &[plus])?;
     Ok(inner)
 }
 
-fn second_part(alloc: Global, operators: Operators) -> Result<Fixities, NoMemory> {
-    let mut inner = first_part(alloc, operators)?;
-    inner.add(Some(left(7)), &[operators.times])?;
+fn second_part(alloc: Global, plus: Name, times: Name) -> Result<Fixities, NoMemory> {
+    let mut inner = first_part(alloc, plus)?;
+    inner.add(Some(left(7)), &[times])?;
     Ok(inner)
 }
 
@@ -56,30 +50,30 @@ fn precedence(fixities: &Fixities, vid: Vid) -> Option<u8> {
 
 #[test]
 fn a_directive_is_in_force(rt: HostRuntime) -> Result<(), Fail> {
-    let operators = plus_and_times(rt.alloc())?;
-    let fixities = one_directive(rt.alloc(), operators)?;
-    assert!(rt; precedence(&fixities, Vid::Named(operators.plus)) == Some(6));
-    assert!(rt; precedence(&fixities, Vid::Named(operators.times)) == None);
+    let (plus, times) = plus_and_times(rt.alloc())?;
+    let fixities = one_directive(rt.alloc(), plus)?;
+    assert!(rt; precedence(&fixities, Vid::Named(plus)) == Some(6));
+    assert!(rt; precedence(&fixities, Vid::Named(times)) == None);
     Ok(())
 }
 
 #[test]
 fn the_newest_directive_counts(rt: HostRuntime) -> Result<(), Fail> {
-    let operators = plus_and_times(rt.alloc())?;
-    let fixities = first_part(rt.alloc(), operators)?;
-    assert!(rt; precedence(&fixities, Vid::Named(operators.plus)) == None);
+    let (plus, _) = plus_and_times(rt.alloc())?;
+    let fixities = first_part(rt.alloc(), plus)?;
+    assert!(rt; precedence(&fixities, Vid::Named(plus)) == None);
     Ok(())
 }
 
 #[test]
 fn a_second_part_is_added_alone(rt: HostRuntime) -> Result<(), Fail> {
-    let operators = plus_and_times(rt.alloc())?;
-    let inner = second_part(rt.alloc(), operators)?;
-    let mut fixities = one_directive(rt.alloc(), operators)?;
+    let (plus, times) = plus_and_times(rt.alloc())?;
+    let inner = second_part(rt.alloc(), plus, times)?;
+    let mut fixities = one_directive(rt.alloc(), plus)?;
     assert!(rt; inner.len() == 3);
     fixities.add_newest(&inner, 2)?;
-    assert!(rt; precedence(&fixities, Vid::Named(operators.plus)) == Some(6));
-    assert!(rt; precedence(&fixities, Vid::Named(operators.times)) == Some(7));
+    assert!(rt; precedence(&fixities, Vid::Named(plus)) == Some(6));
+    assert!(rt; precedence(&fixities, Vid::Named(times)) == Some(7));
     Ok(())
 }
 
