@@ -113,44 +113,71 @@ fn scopes(
     Ok(text)
 }
 
+// What a text is read as that has `inside` in this many scopes of `local`, and `after` after them.
+fn in_locals(
+    alloc: Global,
+    count: u32,
+    inside: &str,
+    after: &str,
+) -> Result<String, NoMemory> {
+    let text = scopes(
+        alloc,
+        b"",
+        b"local infix a",
+        inside.as_bytes(),
+        after.as_bytes(),
+        count,
+    )?;
+    answer(alloc, &text)
+}
+
 #[test]
 fn local_scopes_399_deep(rt: HostRuntime) -> Result<(), Fail> {
     let rows = [
-        ("val x = y a0 y a398 y val z = 1", " val w = a0", "2"),
-        ("val x = 1 infix b", " val x = y b y", "2"),
-        ("val x = 1", " val x = y a0 y", "2"),
-        ("val x = a398", "", "E11 at 6775"),
+        (398, "val x = y a0 y a397 y", " val w = a0", "2"),
+        (399, "val x = 1 infix b", " val x = y b y", "2"),
+        (399, "val x = 1", " val x = y a0 y", "2"),
+        (399, "val x = a398", "", "E11 at 7878"),
+        (399, "val x = y z", "", "E14 at 7880"),
     ];
     let mut read = 0;
-    for (inside, after, want) in rows {
-        let text = scopes(
-            rt.alloc(),
-            b"",
-            b"local infix a",
-            inside.as_bytes(),
-            after.as_bytes(),
-            399,
-        )?;
-        let got = answer(rt.alloc(), &text)?;
+    for (count, inside, after, want) in rows {
+        let got = in_locals(rt.alloc(), count, inside, after)?;
         assert!(rt; got.as_str() == want, "{inside}: {got}");
         assert!(rt; read < 1000);
         read += 1;
     }
-    assert_eq!(rt; read, 4);
+    assert_eq!(rt; read, 5);
     Ok(())
+}
+
+// The same in scopes of `let`.
+fn in_lets(alloc: Global, count: u32, inside: &str, after: &str) -> Result<String, NoMemory> {
+    let text = scopes(
+        alloc,
+        b"val x = ",
+        b"let infix a",
+        inside.as_bytes(),
+        after.as_bytes(),
+        count,
+    )?;
+    answer(alloc, &text)
 }
 
 #[test]
 fn let_scopes_399_deep(rt: HostRuntime) -> Result<(), Fail> {
-    let text = scopes(
-        rt.alloc(),
-        b"val x = ",
-        b"let infix a",
-        b"y a0 y a398 y",
-        b" a0",
-        398,
-    )?;
-    let got = answer(rt.alloc(), &text)?;
-    assert!(rt; got.as_str() == "1", "{got}");
+    let rows = [
+        (397, "y a0 y a396 y", " a0", "1"),
+        (399, "1", "", "1"),
+        (399, "a398", "", "E11 at 7080"),
+    ];
+    let mut read = 0;
+    for (count, inside, after, want) in rows {
+        let got = in_lets(rt.alloc(), count, inside, after)?;
+        assert!(rt; got.as_str() == want, "{inside}: {got}");
+        assert!(rt; read < 1000);
+        read += 1;
+    }
+    assert_eq!(rt; read, 3);
     Ok(())
 }
