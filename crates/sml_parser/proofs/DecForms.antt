@@ -18,7 +18,7 @@ use Rattle.sml_tree.specs.declared.tree.Bind.{Bind}
 use Rattle.sml_tree.specs.declared.ident.Tyvar.{Tyvar}
 use Rattle.sml_grammar.specs.Answer.{Read, Answer, ok, bad, deep, read, then_read}
 use Rattle.sml_grammar.specs.Terminals.{Taken, after_word, first_as, on_taken, place_at, tail, word_at, word_then}
-use Rattle.sml_grammar.specs.Bindings.{read_tyvars, precedence_then, as_digit}
+use Rattle.sml_grammar.specs.Bindings.{read_tyvars, tyvars_place, precedence_then, as_digit}
 use Rattle.sml_grammar.specs.Expressions.{Reader, DecsReader, readers, read_binds, DecStart, infix_start, infixr_start, dec_start, dec_by, directive, infix_directive, local_rest}
 use Rattle.sml_parser.specs.declared.source.Source.{Source}
 use Rattle.sml_parser.specs.declared.stop.Stop.{Stop}
@@ -275,7 +275,7 @@ binds-recursive file (rec_binds b) = binds-all file b
 
 pub val-done : (s : Source) (n : ℕ) (self : Reader) (inner : DecsReader) (f : Fixity) (i : List Terminal) (as_ : List Tyvar) (d : ℕ) (o : List Token) (a : Read (List Tyvar)) (ps rs : List Bind) (e : ℕ) (o2 : List Token) (b : Read Binds) (t : Dec) →
     word_at i ≡ Some res.Val → read_tyvars (tail i) ≡ ok a → IsTyvars s (tail i) as_ d o a → read_binds n self f (left s o) ≡ ok b → IsBinds s n (left s o) ps rs e o2 b →
-    dec_of t ≡ bare.val_dec (at s.file (place_at i)) as_ (binds_of (map bind_of ps)) (binds_of (map bind_of rs)) → Gave (λ (_ : Unit {0}) r. IsDec f f s n i (Some t) e o2 r) tt (dec_by n self inner f (dec_start i))
+    dec_of t ≡ bare.val_dec (at s.file (place_at i)) (at s.file (tyvars_place (place_at i) (tail i) as_)) as_ (binds_of (map bind_of ps)) (binds_of (map bind_of rs)) → Gave (λ (_ : Unit {0}) r. IsDec f f s n i (Some t) e o2 r) tt (dec_by n self inner f (dec_start i))
 val-done s n self inner f i as_ d o a ps rs e o2 b t w by1 is1 by2 is2 is_dec =
     let start = starts-with i (Some res.Val) w in
     let by3 : read_binds n self f a.rest ≡ ok b = subst (λ (z : List Terminal). read_binds n self f z ≡ ok b) is1.rest by2 in
@@ -284,7 +284,7 @@ val-done s n self inner f i as_ d o a ps rs e o2 b t w by1 is1 by2 is2 is_dec =
     let p3 = is1.same in
     let l1 = is1.shorter in let l2 = is2.shorter in let l3 = ap (λ (z : List Terminal). length z) is1.rest in let l4 = tail-shorter i res.Val w in
     record {
-      got = record { tree = val_dec (place_at i) a.tree b.tree; rest = b.rest };
+      got = record { tree = val_dec (place_at i) (tyvars_place (place_at i) (tail i) a.tree) a.tree b.tree; rest = b.rest };
       is = rw (start, by1, by3) refl;
       same = record { rest = is2.rest; same = ap (λ (z : bare.Dec). z ∷ []) (is_dec ∙ rw (p1, p2, p3) refl); deep = is2.deep; fits = is2.fits; shorter = omega arith; force = refl };
     }

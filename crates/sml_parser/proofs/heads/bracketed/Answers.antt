@@ -41,7 +41,7 @@ returns-in_default-3 c =
     let x : Placed ℕ = record { place = place_at at_joint; it = c.in-Some-joint_at.found.0 } in
     let k = left s c.in-Some-joint_at.found.1.now in
     let joint : infix_vid f one.got.rest ≡ taken x k = subst (λ (z : List Terminal). infix_vid f z ≡ taken x k) one.same.rest c.in-Some-joint_at.ensures in
-    λ y h. none-right c.args.n f i y h m c.in-Some.ensures one.got one.is x k joint (rw c.in_default-3.is at c.in_ok-second.ensures)
+    λ y h. none-right c.args.n f i y h m c.in-Some.ensures one.got one.is x k joint (rw c.in_default-3.is at (rw c.in_ok-left.ensures.second at c.maybe_atpat-2.ensures))
 
 pub returns-in-Some-after_word : goal.returns-in-Some-after_word
 returns-in-Some-after_word c =
@@ -54,11 +54,11 @@ returns-in-Some-after_word c =
     let x : Placed ℕ = record { place = place_at at_joint; it = c.in-Some-joint_at.found.0 } in
     let k = left s c.in-Some-joint_at.found.1.now in
     let joint : infix_vid f one.got.rest ≡ taken x k = subst (λ (z : List Terminal). infix_vid f z ≡ taken x k) one.same.rest c.in-Some-joint_at.ensures in
-    let two = rw c.in-Some-3.is at c.in_ok-second.ensures in
+    let two = rw c.in-Some-3.is at (rw c.in_ok-left.ensures.second at c.maybe_atpat-2.ensures) in
     let o = left s c.in-Some-after_word.field-0.now in
     λ y h.
     let w = again-some c.args.n f i m k o y one.got two.got x (omega (arith, c.if-n-lt2.false)) h c.in-Some.ensures one.is joint two.is (subst (λ (z : List Terminal). after_word RightParen z ≡ Some o) two.same.rest c.in-Some-after_word.ensures) in
-    (record { place = place_at i; left = one.got.tree; vid = x.it; right = two.got.tree }, w.is, record { left_is = one.same.bare; right_is = two.same.bare; vid = refl; place = refl; depth = w.depth })
+    (record { place = place_at i; left = one.got.tree; vid = x; right = two.got.tree }, w.is, record { left_is = rw c.in_ok-left.ensures.first one.same.bare; right_is = two.same.bare; vid_place = c.place_at.ensures; vid = refl; place = refl; depth = w.depth })
 
 pub returns-in-None : goal.returns-in-None
 returns-in-None c =
@@ -71,5 +71,5 @@ returns-in-None c =
     let x : Placed ℕ = record { place = place_at at_joint; it = c.in-Some-joint_at.found.0 } in
     let k = left s c.in-Some-joint_at.found.1.now in
     let joint : infix_vid f one.got.rest ≡ taken x k = subst (λ (z : List Terminal). infix_vid f z ≡ taken x k) one.same.rest c.in-Some-joint_at.ensures in
-    let two = rw c.in-Some-3.is at c.in_ok-second.ensures in
+    let two = rw c.in-Some-3.is at (rw c.in_ok-left.ensures.second at c.maybe_atpat-2.ensures) in
     λ y h. none-close c.args.n f i y h m c.in-Some.ensures one.got one.is x k joint two.got two.is (subst (λ (z : List Terminal). after_word RightParen z ≡ None) two.same.rest c.in-None.ensures)
