@@ -2,25 +2,39 @@
 
 ghost use Rattle.std.specs.Prelude.{◌≡◌};
 
-use crate::code::Code;
-use crate::fault::{Fault, fault_line};
-use crate::files::Files;
-use crate::law::{Relation, packets_are_handled, results_go_on, runs_agree};
-use crate::names::Names;
-use crate::place::Place;
+use mlc_base::code::Code;
+use mlc_base::fault::{Fault, fault_line};
+use mlc_base::files::Files;
+use mlc_base::law::{
+    Relation, more_turns_go_on, packets_are_handled, results_go_on, runs_agree, runs_refine,
+};
+use mlc_base::names::{Name, Names};
+use mlc_base::place::Place;
+use mlc_base::words;
 use std::test::Fail;
 
 #[test]
 fn names_are_numbered_as_first_seen(rt: HostRuntime) -> Result<(), Fail> {
     let mut names = Names::new(rt.alloc())?;
-    let map = names.intern(rt.alloc(), b"map")?;
+    let own = names.intern(rt.alloc(), b"own")?;
     let empty = names.intern(rt.alloc(), b"")?;
-    let again = names.intern(rt.alloc(), b"map")?;
-    assert!(rt; map == again);
-    assert!(rt; map != empty);
-    assert!(rt; map < empty);
-    assert_eq!(rt; names.text(map), b"map".as_slice());
+    let again = names.intern(rt.alloc(), b"own")?;
+    assert!(rt; own == again);
+    assert!(rt; own != empty);
+    assert!(rt; own < empty);
+    assert_eq!(rt; names.text(own), b"own".as_slice());
     assert_eq!(rt; names.text(empty), b"".as_slice());
+    Ok(())
+}
+
+#[test]
+fn standard_words_have_their_numbers(rt: HostRuntime) -> Result<(), Fail> {
+    let mut names = Names::new(rt.alloc())?;
+    let found = names.intern(rt.alloc(), b"false")?;
+    assert!(rt; found == Name::standard(words::FALSE));
+    let last = names.intern(rt.alloc(), b"isPrefix")?;
+    let own = names.intern(rt.alloc(), b"own")?;
+    assert!(rt; last < own);
     Ok(())
 }
 
@@ -97,4 +111,6 @@ fn the_laws_of_runs_have_instances() {
     results_go_on::<u32, u32, u32, u32>();
     packets_are_handled::<u32, u32>();
     runs_agree::<u32, u32, u32, u32, u32, u32, SameNumber, SameNumber, SameNumber>();
+    runs_refine::<u32, u32, u32, u32, u32, u32, SameNumber, SameNumber, SameNumber>();
+    more_turns_go_on::<u32, u32, u32>();
 }
