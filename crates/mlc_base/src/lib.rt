@@ -6,6 +6,7 @@ pub mod fault;
 pub mod files;
 pub mod label;
 pub mod law;
+pub mod make;
 pub mod memory;
 pub mod names;
 pub mod place;
