@@ -4,7 +4,8 @@ use Rattle.mlc_base.specs.declared.label.Label.{Label}
 use Rattle.mlc_base.specs.declared.label.Label.TheVariants.{Word}
 use Rattle.sml_tree.specs.declared.ident.Vid.TheVariants.{Named}
 use Rattle.sml_tree.specs.BareTree as bare
-use Rattle.sml_tree.specs.Derived.{tuple, tuple_pat, product, unit, select, case_of, if_of, and_of, or_of, sequence_of, let_of, while_of, list_of, list_pat_of, fun_dec_of, with_result, pun, withtype_of}
+use Rattle.sml_tree.specs.Derived.{tuple, tuple_pat, product, unit, select, case_of, if_of, and_of, or_of}
+use Rattle.sml_tree.specs.Derived.{sequence_of, let_of, while_of, list_of, list_pat_of, fun_dec_of, with_result, pun, withtype_of}
 use Rattle.sml_tree.specs.TreeOf.{ty_of, pat_of, exp_of, dec_of, rule_of, rules_of, decs_of, function_of, some_ty_of, data_bind_of, type_bind_of}
 use Rattle.sml_tree.specs.declared.derive.Derived.{Derived}
 use Rattle.sml_tree.specs.declared.derive.Derived.TheVariants as form
@@ -42,7 +43,7 @@ stands_for (form.Let p ds e es) = exp (let_of p (decs_of (map dec_of ds.items)) 
 stands_for (form.While p a b) = exp (while_of p (exp_of a) (exp_of b))
 stands_for (form.List p es) = exp (list_of p (map exp_of es.items))
 stands_for (form.ListPat p as_) = pat (list_pat_of p (map pat_of as_.items))
-stands_for (form.Fun p as_ gs) = dec (fun_dec_of p p as_.items (map function_of gs.items))
+stands_for (form.Fun p as_ gs) = dec (fun_dec_of p as_.place as_.tyvars.items (map function_of gs.items))
 stands_for (form.Result p e t) = exp (with_result p (exp_of e) (some_ty_of t))
 stands_for (form.Field p x t) = field (Word x) (pun p x (some_ty_of t))
 stands_for (form.FieldAs p x t a) = field (Word x) (bare.as_pat p (Named x) (some_ty_of t) (pat_of a))
