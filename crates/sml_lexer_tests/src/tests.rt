@@ -1,103 +1,13 @@
 // Texts and their tokens, by the Definition.
 
-ghost use Rattle.std.specs.Prelude.{◌<◌, ◌^◌, ◌+◌, length, All};
-ghost use Rattle.sml_lexer.specs.Lexeme.{HoldsNames};
-
-use crate::lex::lex;
+use crate::shown::shown;
 use mlc_base::memory::NoMemory;
-use mlc_base::names::{Name, Names};
+use mlc_base::names::Names;
 use mlc_base::refused::Refused;
-use mlc_base::token::{Token, TokenKind};
+use sml_lexer::lex::lex;
 use std::alloc::Global;
+use std::process::Abort;
 use std::test::Fail;
-
-fn push_bytes(text: &mut String, bytes: &[u8]) -> Result<(), NoMemory> {
-    for byte in bytes {
-        if *byte < 128 {
-            text.push(char::from(*byte))?;
-        }
-    }
-    Ok(())
-}
-
-fn push_named(text: &mut String, sort: &str, names: &Names, name: Name) -> Result<(), NoMemory>
-    requires { name < length names.now }
-{
-    text.push_str(sort)?;
-    push_bytes(text, names.text(name))
-}
-
-fn push_long(
-    text: &mut String,
-    names: &Names,
-    qualifiers: &[Name],
-    name: Name,
-) -> Result<(), NoMemory>
-    requires qualifiers { All (λ q. q < length names.now) qualifiers.now }
-    requires name { name < length names.now }
-{
-    text.push_str("long")?;
-    for qualifier in qualifiers {
-        push_named(text, " ", names, *qualifier)?;
-    }
-    push_named(text, " ", names, name)
-}
-
-fn push_kind(
-    alloc: Global,
-    text: &mut String,
-    names: &Names,
-    kind: &TokenKind,
-) -> Result<(), NoMemory>
-    requires { HoldsNames names.now kind.now }
-{
-    match kind {
-        TokenKind::Reserved(word) => text.push_str(format!(in alloc; "{word:?}")?.as_str())?,
-        TokenKind::Int { value, plain: true } => text.push_str(format!(in alloc;
-            "plain {value}"
-        )?.as_str())?,
-        TokenKind::Int {
-            value,
-            plain: false,
-        } => text.push_str(format!(in alloc; "int {value}")?.as_str())?,
-        TokenKind::Word(value) => text.push_str(format!(in alloc; "word {value}")?.as_str())?,
-        TokenKind::Char(value) => text.push_str(format!(in alloc; "char {value}")?.as_str())?,
-        TokenKind::Str(value) => text.push_str(format!(in alloc; "str {value:?}")?.as_str())?,
-        TokenKind::Ident(name) => push_named(text, "id ", names, *name)?,
-        TokenKind::Symbol(name) => push_named(text, "sym ", names, *name)?,
-        TokenKind::LongIdent(qualifiers, name) => push_long(text, names, qualifiers, *name)?,
-        TokenKind::LongSymbol(qualifiers, name) => {
-            push_long(text, names, qualifiers, *name)?;
-            text.push_str(" sym")?;
-        }
-        TokenKind::TypeVar(name) => push_named(text, "ty ", names, *name)?,
-        TokenKind::EqTypeVar(name) => push_named(text, "eqty ", names, *name)?,
-    }
-    Ok(())
-}
-
-// Each token with its span, or the refusal with its place.
-fn shown(alloc: Global, bytes: &[u8]) -> Result<String, NoMemory>
-    requires { length bytes.now + 1 < 2 ^ 32 }
-{
-    let mut names = Names::new(alloc)?;
-    let mut text = String::new(alloc);
-    match lex(alloc, &mut names, 7, bytes) {
-        Ok(tokens) => {
-            for token in tokens.as_slice() {
-                push_kind(alloc, &mut text, &names, &token.kind)?;
-                let (first, end) = (token.span.first, token.span.end);
-                text.push_str(format!(in alloc; " {first}-{end}; ")?.as_str())?;
-            }
-        }
-        Err(Refused::Fault(fault)) => {
-            let (code, file, byte) = (fault.code.number(), fault.place.file, fault.place.byte);
-            text.push_str(format!(in alloc; "E{code} in {file} at {byte}")?.as_str())?;
-        }
-        Err(Refused::Memory) => return Err(NoMemory),
-    }
-    Ok(text)
-}
 
 // Texts, each with its tokens and their spans, or with the refusal's code and place, after a byte 1; a byte 2 ends a row.
 static TABLE: &[u8] = b"\
@@ -207,15 +117,21 @@ static TABLE: &[u8] = b"\
     \x01\x02\
 ";
 
+/// The row's text has these tokens.
+fn assert_shown(rt: &impl Abort, alloc: Global, text: &[u8], want: &[u8]) -> Result<(), NoMemory> {
+    assert!(rt; text.len() < 1000);
+    let got = shown(alloc, text)?;
+    assert!(rt; got.as_bytes() == want, "{got}");
+    Ok(())
+}
+
 #[test]
 fn reads_what_the_definition_says(rt: HostRuntime) -> Result<(), Fail> {
     let mut rows = 0;
     for row in TABLE.split(|b| *b == 2) {
         let mut parts = row.split(|b| *b == 1);
         if let (Some(text), Some(want)) = (parts.next(), parts.next()) {
-            assert!(rt; text.len() < 1000);
-            let got = shown(rt.alloc(), text)?;
-            assert!(rt; got.as_bytes() == want, "{got}");
+            assert_shown(&rt, rt.alloc(), text, want)?;
             assert!(rt; rows < 1000);
             rows += 1;
         }
@@ -224,7 +140,7 @@ fn reads_what_the_definition_says(rt: HostRuntime) -> Result<(), Fail> {
     Ok(())
 }
 
-// A byte many times.
+/// Puts bytes at the end many times.
 fn push_many(text: &mut Vec<u8>, bytes: &[u8], times: u32) -> Result<(), NoMemory> {
     for _ in 0..times {
         text.extend_from_slice(bytes)?;
@@ -232,16 +148,30 @@ fn push_many(text: &mut Vec<u8>, bytes: &[u8], times: u32) -> Result<(), NoMemor
     Ok(())
 }
 
+/// Comments within comments, a million deep, and a million brackets.
+fn deep(alloc: Global) -> Result<Vec<u8>, NoMemory> {
+    let mut text = Vec::new(alloc);
+    for (bytes, times) in [("(*", 1_000_000), ("*)", 1_000_000), ("(", 1_000_000)] {
+        push_many(&mut text, bytes.as_bytes(), times)?;
+    }
+    Ok(text)
+}
+
+/// How many tokens a text has.
+fn count(rt: &impl Abort, alloc: Global, text: &[u8]) -> Result<usize, Refused> {
+    assert!(rt; text.len() == 5_000_000);
+    let mut names = Names::new(alloc)?;
+    match lex(alloc, &mut names, 0, text) {
+        Ok(tokens) => Ok(tokens.as_slice().len()),
+        Err(refused) => Err(refused),
+    }
+}
+
 #[test]
 fn reads_comments_a_million_deep_and_many_tokens(rt: HostRuntime) -> Result<(), Fail> {
-    let mut names = Names::new(rt.alloc())?;
-    let mut text = Vec::new(rt.alloc());
-    push_many(&mut text, b"(*", 1_000_000)?;
-    push_many(&mut text, b"*)", 1_000_000)?;
-    push_many(&mut text, b"(", 1_000_000)?;
-    assert!(rt; text.len() == 5_000_000);
-    match lex(rt.alloc(), &mut names, 0, &text) {
-        Ok(tokens) => assert_eq!(rt; tokens.into_vec().len(), 1_000_000),
+    let text = deep(rt.alloc())?;
+    match count(&rt, rt.alloc(), &text) {
+        Ok(count) => assert_eq!(rt; count, 1_000_000),
         Err(_) => assert!(rt; false),
     }
     Ok(())

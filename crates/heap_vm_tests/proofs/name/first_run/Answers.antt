@@ -1,5 +1,5 @@
 use Rattle.heap_vm.proofs.Tells.{tells_first}
-use Rattle.heap_vm.proofs.tests.first_run.Goals as goal
+use Rattle.heap_vm_tests.proofs.name.first_run.Goals as goal
 
 pub returns : goal.returns
 returns g c =
