@@ -1,0 +1,17 @@
+pub mod Words
+pub mod Objects
+pub mod Values
+pub mod Match
+pub mod Eval
+pub mod Initial
+pub mod Meaning
+pub mod Scoping
+pub mod Choices
+pub mod Elaborated
+pub mod Restrictions
+pub mod Typing
+pub mod Cuts
+pub mod Principal
+pub mod Closing
+pub mod Fits
+pub mod Laws
