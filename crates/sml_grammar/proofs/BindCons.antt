@@ -31,7 +31,7 @@ pub cons-shorter : {f : Fixity} {i o : List Terminal} {cs : List ConBind} → Co
 cons-shorter (last_con b d) = let s = binds-shorter b in let r = of-shorter d in omega arith
 cons-shorter (more_cons q b d e) = let s = binds-shorter b in let r = of-shorter d in let u = cons-shorter e in omega arith
 
-in-con : {f : Fixity} {i m : List Terminal} {p : ℕ} {v : Vid} {d : ℕ} → BindsVid f i p v m → OpensOf m d → OpensCons f i d
+in-con : {f : Fixity} {i m : List Terminal} {p : ℕ} {v : Placed Vid} {d : ℕ} → BindsVid f i p v m → OpensOf m d → OpensCons f i d
 in-con b (in_of q o) = in_con q b o
 
 pub cons-opens : {f : Fixity} {i o : List Terminal} {cs : List ConBind} → ConBinds f i cs o → (d : ℕ) → 1 ≤ d → d ≤ depth_cons cs → OpensCons f i d
@@ -47,8 +47,8 @@ module _ (n : ℕ) (f : Fixity) where
   abbrev Goes : NoState → List Terminal → List ConBind → List Terminal → Type 0
   Goes s i cs o = GoodCons n f i (record { tree = cs; rest = o })
 
-  more-good : {i m k j : List Terminal} {p : ℕ} {v : Vid} {t : Option Ty} → BindsVid f i p v m → MaybeOf m t k → depth_some t ≤ n → WordAt res.Bar k j → (cs : List ConBind) (o : List Terminal) →
-      GoodCons n f j (record { tree = cs; rest = o }) → GoodCons n f i (record { tree = record { place = p; vid = v; of_ty = t } ∷ cs; rest = o })
+  more-good : {i m k j : List Terminal} {p : ℕ} {v : Placed Vid} {t : Option Ty} → BindsVid f i p v m → MaybeOf m t k → depth_some t ≤ n → WordAt res.Bar k j → (cs : List ConBind) (o : List Terminal) →
+      GoodCons n f j (record { tree = cs; rest = o }) → GoodCons n f i (record { tree = record { place = v.place; vid = v.it; of_ty = t } ∷ cs; rest = o })
   more-good b d le (at_word q) cs o g = let e = g.fits in record { reads = more_cons q b d g.reads; fits = omega arith }
 
   turn-ok : (s : NoState) (i : List Terminal) (y : Read (Turn (List ConBind) NoState)) → con_turn n f s i ≡ ok y → GoodTurn Goes s i y.tree y.rest
@@ -68,17 +68,16 @@ module _ (n : ℕ) (f : Fixity) where
 
   -- one turn, before `|` and at the end
 
-  turn-goes : (q : ℕ) {i m k : List Terminal} {p : ℕ} {v : Vid} {t : Option Ty} → BindsVid f i p v m → MaybeOf m t (reserved q res.Bar ∷ k) → depth_some t ≤ n →
-      con_turn n f no_state i ≡ read (more (λ cs. record { place = p; vid = v; of_ty = t } ∷ cs) no_state) k
-  turn-goes q {p} {v} b d le = then_taken-step (after_vid n no_state) (binds-found b) (ap (λ z. then_read z (after_of no_state (record { place = p; it = v }))) (of-read n d le refl refl))
+  turn-goes : (q : ℕ) {i m k : List Terminal} {p : ℕ} {v : Placed Vid} {t : Option Ty} → BindsVid f i p v m → MaybeOf m t (reserved q res.Bar ∷ k) → depth_some t ≤ n →
+      con_turn n f no_state i ≡ read (more (λ cs. record { place = v.place; vid = v.it; of_ty = t } ∷ cs) no_state) k
+  turn-goes q {p} {v} b d le = then_taken-step (after_vid n no_state) (binds-found b) (ap (λ z. then_read z (after_of no_state v)) (of-read n d le refl refl))
 
-  turn-ends : {i m o : List Terminal} {p : ℕ} {v : Vid} {t : Option Ty} → BindsVid f i p v m → MaybeOf m t o → depth_some t ≤ n → ConsStop o →
-      con_turn n f no_state i ≡ read (last (record { place = p; vid = v; of_ty = t } ∷ [])) o
+  turn-ends : {i m o : List Terminal} {p : ℕ} {v : Placed Vid} {t : Option Ty} → BindsVid f i p v m → MaybeOf m t o → depth_some t ≤ n → ConsStop o →
+      con_turn n f no_state i ≡ read (last (record { place = v.place; vid = v.it; of_ty = t } ∷ [])) o
   turn-ends {o} {p} {v} {t} b d le stops =
       let e = cons-end o stops in
-      let x : Placed Vid = record { place = p; it = v } in
       then_taken-step (after_vid n no_state) (binds-found b)
-      (ap (λ z. then_read z (after_of no_state x)) (of-read n d le e.of_ e.ty) ∙ ap (λ z. separated z (λ cs. con_of x t ∷ cs) (con_of x t ∷ []) no_state o) e.bar)
+      (ap (λ z. then_read z (after_of no_state v)) (of-read n d le e.of_ e.ty) ∙ ap (λ z. separated z (λ cs. con_of v t ∷ cs) (con_of v t ∷ []) no_state o) e.bar)
 
   turns-complete : {i o : List Terminal} {cs : List ConBind} → ConBinds f i cs o → depth_cons cs ≤ n → ConsStop o → (k : ℕ) → length i < k → many (con_turn n f) k no_state i ≡ read cs o
   turns-complete d le stops zero lt = absurd (omega arith)
@@ -109,14 +108,14 @@ module _ (n : ℕ) (f : Fixity) where
       let w = separated-more (after_word res.Bar u.0.rest) (λ cs. con_of v.0 u.0.tree ∷ cs) (con_of v.0 u.0.tree ∷ []) s u.0.rest put t m u.2 in
       go (binds-is f i v.0 v.1 v.2) g.reads (word-at res.Bar u.0.rest m w.0)
     where
-      go : {j k : List Terminal} {p : ℕ} {v : Vid} {t : Option Ty} → BindsVid f i p v j → MaybeOf j t k → WordAt res.Bar k m → OpensCons f i (suc n)
+      go : {j k : List Terminal} {p : ℕ} {v : Placed Vid} {t : Option Ty} → BindsVid f i p v j → MaybeOf j t k → WordAt res.Bar k m → OpensCons f i (suc n)
       go b d (at_word q) = past_con q b d o
 
   pub cons-far : (i : List Terminal) → read_cons n f i ≡ deep → OpensCons f i (suc n)
   cons-far i h = many-far (con_turn n f) (λ s m. OpensCons f m (suc n)) turn-far turn-past (suc (length i)) no_state i h
 
-  con-over : {i m : List Terminal} {p : ℕ} {v : Vid} → BindsVid f i p v m → read_of n m ≡ deep → con_turn n f no_state i ≡ deep
-  con-over {p} {v} b e = then_taken-step (after_vid n no_state) (binds-found b) (ap (λ z. then_read z (after_of no_state (record { place = p; it = v }))) e)
+  con-over : {i m : List Terminal} {p : ℕ} {v : Placed Vid} → BindsVid f i p v m → read_of n m ≡ deep → con_turn n f no_state i ≡ deep
+  con-over {p} {v} b e = then_taken-step (after_vid n no_state) (binds-found b) (ap (λ z. then_read z (after_of no_state v)) e)
 
   turns-over : {i : List Terminal} {d : ℕ} → OpensCons f i d → n < d → (k : ℕ) → length i < k → many (con_turn n f) k no_state i ≡ deep
   turns-over o lt zero le = absurd (omega arith)

@@ -8,7 +8,7 @@ use Rattle.sml_tree.specs.ReadTree.{Placed, Ty, ExBind, new_exn, same_exn}
 use Rattle.sml_tree.specs.Depth.{depth_some, depth_ex_binds}
 use Rattle.sml_tree.specs.Grammar.{BindsVid, NamesVid, MaybeOf, without_of, with_of, OneExBind, new_exception, same_exception, ExBinds, last_exn, more_exns}
 use Rattle.sml_grammar.specs.Answer.{Read, Answer, ok, deep, read, then_read, Turn, last, more, many}
-use Rattle.sml_grammar.specs.Terminals.{after_word, on_some, then_taken, separated, NoState, no_state, binds_vid, names_vid}
+use Rattle.sml_grammar.specs.Terminals.{place_at, after_word, on_some, then_taken, separated, NoState, no_state, binds_vid, names_vid}
 use Rattle.sml_grammar.specs.Types.{ty_could_go_on}
 use Rattle.sml_grammar.specs.Bindings.{ex_bind_rest, ex_bind_turn, read_ex_binds}
 use Rattle.sml_grammar.specs.PartialBindings.{OpensExBinds, in_exn, past_exn}
@@ -47,7 +47,7 @@ pub ex_binds-shorter : {f : Fixity} {i o : List Terminal} {bs : List ExBind} →
 ex_binds-shorter (last_exn d) = one-shorter d
 ex_binds-shorter (more_exns p d e) = let s = one-shorter d in let r = ex_binds-shorter e in omega arith
 
-in-exn : {f : Fixity} {i m : List Terminal} {p : ℕ} {v : Vid} {d : ℕ} → BindsVid f i p v m → OpensOf m d → OpensExBinds f i d
+in-exn : {f : Fixity} {i m : List Terminal} {p : ℕ} {v : Placed Vid} {d : ℕ} → BindsVid f i p v m → OpensOf m d → OpensExBinds f i d
 in-exn b (in_of q o) = in_exn q b o
 
 one-opens : {f : Fixity} {i o : List Terminal} {b : ExBind} → OneExBind f i b o → (d : ℕ) → 1 ≤ d → d ≤ depth_ex b → OpensExBinds f i d
@@ -70,13 +70,13 @@ record GoodRest (n : ℕ) (f : Fixity) (i : List Terminal) (y : Read ExBind) : T
   fits : depth_ex y.tree ≤ n
 
 module _ (n : ℕ) (f : Fixity) where
-  same-sound : {i m k : List Terminal} {p : ℕ} {v : Vid} → BindsVid f i p v m → WordAt res.Equals m k → (y : Read ExBind) →
-      then_taken (names_vid f k) (as_same (record { place = p; it = v })) ≡ ok y → GoodRest n f i y
+  same-sound : {i m k : List Terminal} {p : ℕ} {v : Placed Vid} → BindsVid f i p v m → WordAt res.Equals m k → (y : Read ExBind) →
+      then_taken (names_vid f k) (as_same v) ≡ ok y → GoodRest n f i y
   same-sound {i} {k} {p} {v} b (at_word r) y h =
-      let x = then_taken-ok (names_vid f k) (as_same (record { place = p; it = v })) y h in
+      let x = then_taken-ok (names_vid f k) (as_same v) y h in
       subst (λ (z : Read ExBind). GoodRest n f i z) (got x.3) (record { reads = same_exception r b (names-is f k x.0 x.1 x.2); fits = omega arith })
 
-  rest-sound : {i m : List Terminal} {v : Placed Vid} → BindsVid f i v.place v.it m → (y : Read ExBind) → ex_bind_rest n f v m ≡ ok y → GoodRest n f i y
+  rest-sound : {i m : List Terminal} {v : Placed Vid} → BindsVid f i (place_at i) v m → (y : Read ExBind) → ex_bind_rest n f v m ≡ ok y → GoodRest n f i y
   rest-sound {i} {m} {v} b y h =
       elim (on_some-split (after_word res.Equals m) (λ k. then_taken (names_vid f k) (as_same v)) (then_read (read_of n m) (as_new v)) h) [
         | inl u ↦ same-sound b (word-at res.Equals m u.0 u.1) y u.2
@@ -120,16 +120,16 @@ module _ (n : ℕ) (f : Fixity) where
   rest-new v {m} d le e q c =
       ap (λ z. on_some z (λ k. then_taken (names_vid f k) (as_same v)) (then_read (read_of n m) (as_new v))) (of-no_equals d q) ∙ ap (λ z. then_read z (as_new v)) (of-read n d le e c)
 
-  rest-same : (v : Placed Vid) (r : ℕ) {m o : List Terminal} {q : ℕ} {x : LongVid} → NamesVid f m q x o → ex_bind_rest n f v (reserved r res.Equals ∷ m) ≡ read (same_exn v.place v.it (record { place = q; it = x })) o
+  rest-same : (v : Placed Vid) (r : ℕ) {m o : List Terminal} {q : ℕ} {x : Placed LongVid} → NamesVid f m q x o → ex_bind_rest n f v (reserved r res.Equals ∷ m) ≡ read (same_exn v.place v.it x) o
   rest-same v r d = then_taken-step (as_same v) (names-found d) refl
 
   -- the binding is read, and what comes of it
   one-complete : {i o : List Terminal} {b : ExBind} → OneExBind f i b o → depth_ex b ≤ n → after_word res.Of o ≡ None → after_word res.Equals o ≡ None → ty_could_go_on 0 o ≡ false →
       ex_bind_turn n f no_state i ≡ after_ex no_state b o
   one-complete (new_exception {m} {p} {v} b d) le e q c =
-      then_taken-step (after_vid n f no_state) (binds-found b) (ap (λ z. then_read z (after_ex no_state)) (rest-new (record { place = p; it = v }) d le e q c))
+      then_taken-step (after_vid n f no_state) (binds-found b) (ap (λ z. then_read z (after_ex no_state)) (rest-new v d le e q c))
   one-complete (same_exception {m} {p} {v} r b d) le e q c =
-      then_taken-step (after_vid n f no_state) (binds-found b) (ap (λ z. then_read z (after_ex no_state)) (rest-same (record { place = p; it = v }) r d))
+      then_taken-step (after_vid n f no_state) (binds-found b) (ap (λ z. then_read z (after_ex no_state)) (rest-same v r d))
 
   turn-goes : (p : ℕ) {i m : List Terminal} {b : ExBind} → OneExBind f i b (reserved p res.And ∷ m) → depth_ex b ≤ n → ex_bind_turn n f no_state i ≡ read (more (λ bs. b ∷ bs) no_state) m
   turn-goes p d le = one-complete d le refl refl refl
@@ -186,8 +186,8 @@ module _ (n : ℕ) (f : Fixity) where
   rest-over : (v : Placed Vid) {m : List Terminal} {d : ℕ} → OpensOf m d → n < d → ex_bind_rest n f v m ≡ deep
   rest-over v (in_of q o) lt = ap (λ z. then_read z (as_new v)) (of-over n (in_of q o) lt)
 
-  vid-over : {i m : List Terminal} {p : ℕ} {v : Vid} {d : ℕ} → BindsVid f i p v m → OpensOf m d → n < d → ex_bind_turn n f no_state i ≡ deep
-  vid-over {p} {v} b o lt = then_taken-step (after_vid n f no_state) (binds-found b) (ap (λ z. then_read z (after_ex no_state)) (rest-over (record { place = p; it = v }) o lt))
+  vid-over : {i m : List Terminal} {p : ℕ} {v : Placed Vid} {d : ℕ} → BindsVid f i p v m → OpensOf m d → n < d → ex_bind_turn n f no_state i ≡ deep
+  vid-over {p} {v} b o lt = then_taken-step (after_vid n f no_state) (binds-found b) (ap (λ z. then_read z (after_ex no_state)) (rest-over v o lt))
 
   one-over : {i o : List Terminal} {b : ExBind} → OneExBind f i b o → n < depth_ex b → ex_bind_turn n f no_state i ≡ deep
   one-over (new_exception {s = t} b d) lt = vid-over b (of-opens d (depth_some t) (omega arith) (omega arith)) lt

@@ -1,13 +1,15 @@
 -- Sequences of type variables, and what stands before the `=` of a binding of a type.
-use Rattle.std.proofs.Common.{◌≡◌, ℕ, zero, suc, ◌≤◌, ◌<◌, List, [], ◌∷◌, length, inl, inr, refl, ap, ◌∙◌, subst, arith}
+use Rattle.std.proofs.Common.{◌≡◌, ℕ, zero, suc, ◌≤◌, ◌<◌, List, [], ◌∷◌, length, inl, inr, refl, sym, ap, ◌∙◌, subst, arith}
 use Rattle.mlc_base.specs.declared.token.Reserved.TheVariants as res
 use Rattle.sml_tree.specs.Terminal.{Terminal, reserved, type_var, IsTycon, alpha_tycon, symbol_tycon}
 use Rattle.sml_tree.specs.declared.ident.Tyvar.{Tyvar}
 use Rattle.sml_tree.specs.ReadTree.{Placed}
-use Rattle.sml_tree.specs.Grammar.{TyvarCommas, last_tyvar, more_tyvars, Tyvars, no_tyvars, one_tyvar, tyvars_in_brackets, BeginsAt, at_tyvar, at_bracket, at_tycon}
+use Rattle.sml_tree.specs.Grammar.{TyvarCommas, last_tyvar, more_tyvars, Tyvars, no_tyvars, one_tyvar, tyvars_in_brackets, BeginsAt, at_tyvar, at_bracket, at_tycon, TyvarsPlace, at_declaration, at_sequence}
+use Rattle.sml_grammar.specs.Begins.{BeginTyvars, with_one_tyvar, with_tyvar_paren}
+use Rattle.sml_grammar.specs.Partial.{TyvarSeq, no_tyvar_here, some_tyvars}
 use Rattle.sml_grammar.specs.Answer.{Read, Answer, ok, deep, read, then_read, Turn, last, more, many, whole}
 use Rattle.sml_grammar.specs.Terminals.{place_at, first_as, as_tyvar, as_tycon, after_word, on_some, then_taken, word_then, NoState, no_state}
-use Rattle.sml_grammar.specs.Bindings.{tyvar_turn, bracketed_tyvars, read_tyvars, bound_tycon}
+use Rattle.sml_grammar.specs.Bindings.{tyvar_turn, bracketed_tyvars, read_tyvars, tyvars_place, bound_tycon}
 use Rattle.sml_grammar.proofs.Words.{WordAt, at_word, word-at}
 use Rattle.sml_grammar.proofs.Answers.{got, then_ok, then_deep, not_deep, on_some-split, on_taken-split, then_taken-ok, then_taken-deep, word_then-ok, word_then-deep, GoodTurn, many-ok, many-far, many-last, many-more}
 use Rattle.sml_grammar.proofs.Terminals.{Front, front, IsTyvar, is_tyvar, tyvar-is, tycon-is, tycon-found}
@@ -96,6 +98,48 @@ tyvars-complete no_tyvars e = e
 tyvars-complete (one_tyvar p a) e = refl
 tyvars-complete (tyvars_in_brackets p d) e = brackets-complete p d
 
+-- the sequence that is read where no bracket and no type variable are left over
+
+not-commas : {A : Type 0} {i o : List Terminal} → TyvarCommas i [] o → A
+not-commas {A} d = go d refl
+  where
+    go : {i o : List Terminal} {as_ : List Tyvar} → TyvarCommas i as_ o → as_ ≡ [] → A
+    go (last_tyvar p q a) e = absurd (cc)
+    go (more_tyvars p q a d) e = absurd (cc)
+
+empty-rest : {i m : List Terminal} {as_ : List Tyvar} → Tyvars i as_ m → as_ ≡ [] → m ≡ i
+empty-rest no_tyvars e = refl
+empty-rest (one_tyvar p a) e = absurd (cc)
+empty-rest (tyvars_in_brackets {i} {o} p d) e = not-commas (subst (λ (z : List Tyvar). TyvarCommas i z o) e d)
+
+begin-some : {i m : List Terminal} → BeginTyvars i → read_tyvars i ≡ read [] m → ⊥
+begin-some (with_one_tyvar p a) h = let e : (a ∷ []) ≡ [] = ap (λ z. z.tree) (got h) in absurd (cc)
+begin-some {m} (with_tyvar_paren {o} p q a) h =
+    not-commas (many-ok tyvar_turn Commas tyvar-turn-ok (suc (length (type_var q a ∷ o))) no_state (type_var q a ∷ o) (record { tree = []; rest = m }) h)
+
+pub tyvars-here : {i m : List Terminal} {as_ : List Tyvar} → read_tyvars i ≡ read as_ m → TyvarSeq i as_ m
+tyvars-here {i} {m} {as_} h = go as_ h
+  where
+    go : (xs : List Tyvar) → read_tyvars i ≡ read xs m → TyvarSeq i xs m
+    go [] e =
+        let s : m ≡ i = empty-rest (tyvars-sound i (record { tree = []; rest = m }) e) refl in
+        subst (λ (z : List Terminal). TyvarSeq z [] m) s (no_tyvar_here (subst (λ (z : List Terminal). BeginTyvars z → ⊥) (sym s) (λ b. begin-some b e)))
+    go (a ∷ xs) e = some_tyvars (tyvars-sound i (record { tree = a ∷ xs; rest = m }) e)
+
+none-begin : (i : List Terminal) → (BeginTyvars i → ⊥) → read_tyvars i ≡ read [] i
+none-begin (type_var p a ∷ o) none = absurd (none (with_one_tyvar p a))
+none-begin (reserved p res.LeftParen ∷ type_var q a ∷ o) none = absurd (none (with_tyvar_paren p q a))
+none-begin _ none = refl
+
+pub tyvars-found : {i m : List Terminal} {as_ : List Tyvar} → TyvarSeq i as_ m → read_tyvars i ≡ read as_ m
+tyvars-found (no_tyvar_here {o} none) = none-begin o none
+tyvars-found (some_tyvars {a} {as_} d) = go d refl
+  where
+    go : {i o : List Terminal} {xs : List Tyvar} → Tyvars i xs o → xs ≡ a ∷ as_ → read_tyvars i ≡ read xs o
+    go no_tyvars e = absurd (cc)
+    go (one_tyvar p b) e = refl
+    go (tyvars_in_brackets p d) e = brackets-complete p d
+
 commas-shorter : {i o : List Terminal} {as_ : List Tyvar} → TyvarCommas i as_ o → length o < length i
 commas-shorter (last_tyvar p q a) = omega arith
 commas-shorter (more_tyvars p q a d) = let s = commas-shorter d in omega arith
@@ -112,6 +156,18 @@ begins-place (at_tyvar p a) = refl
 begins-place (at_bracket p) = refl
 begins-place (at_tycon (alpha_tycon p x)) = refl
 begins-place (at_tycon (symbol_tycon p x)) = refl
+
+-- the place of a sequence
+
+pub place-is : (p : ℕ) {i m : List Terminal} {as_ : List Tyvar} → Tyvars i as_ m → TyvarsPlace p i as_ (tyvars_place p i as_)
+place-is p no_tyvars = at_declaration
+place-is p (one_tyvar q a) = at_sequence (at_tyvar q a)
+place-is p (tyvars_in_brackets q (last_tyvar r s a)) = at_sequence (at_bracket q)
+place-is p (tyvars_in_brackets q (more_tyvars r s a d)) = at_sequence (at_bracket q)
+
+pub place-found : {p : ℕ} {i : List Terminal} {as_ : List Tyvar} {q : ℕ} → TyvarsPlace p i as_ q → tyvars_place p i as_ ≡ q
+place-found at_declaration = refl
+place-found (at_sequence b) = begins-place b
 
 -- type variables, a type constructor and `=`, and the terminals after them
 pub data Bound : List Terminal → List Tyvar → ℕ → List Terminal → Type 0 where

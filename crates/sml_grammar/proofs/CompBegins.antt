@@ -13,11 +13,11 @@ use Rattle.sml_grammar.specs.Expressions.{begins_atom, begins, start_of, other_s
 use Rattle.sml_grammar.specs.Partial.{Opens, begun, in_atom, applied_to, in_argument, joined, in_chain, marked, in_typed, handled, in_handler, in_raise, in_condition, in_then, in_else, in_while, in_do, in_subject, in_case, in_fn, OpensAtom, begun_atom, in_row, in_paren, in_tuple, in_sequence, in_list, in_decs, in_body, OpensRow, in_field, past_field, OpensCommas, in_comma, past_comma, OpensDecs, past_empty, in_dec, past_dec, OpensDec, in_val, in_fun, in_type, in_datatype, in_withtype, in_exception, begun_local, in_local, in_local_body}
 use Rattle.sml_grammar.proofs.Terminals.{not-word, label-word}
 use Rattle.sml_grammar.proofs.CompFacts.{quiet}
-use Rattle.sml_grammar.proofs.CompQuiet.{dec-quiet, atom-begins, begins-start, true-or, reads-begins}
+use Rattle.sml_grammar.proofs.CompQuiet.{dec-quiet, begins_atom-found, begins-found, atom-begins, begins-start, true-or, reads-begins}
 use Rattle.sml_grammar.proofs.CompHeads.{binds-no_datatype, bind-not_replicated}
 
 pub opens_atom-begins : {f : Fixity} {i : List Terminal} {d : ℕ} → OpensAtom f i d → begins_atom f i ≡ true
-opens_atom-begins (begun_atom e) = e
+opens_atom-begins (begun_atom b) = begins_atom-found b
 opens_atom-begins (in_row p o) = refl
 opens_atom-begins (in_paren p o) = refl
 opens_atom-begins (in_tuple p q d o) = refl
@@ -30,7 +30,7 @@ pub opens_atom-start : {f : Fixity} {i : List Terminal} {d : ℕ} → OpensAtom 
 opens_atom-start {f} {i} o = begins-start f i (opens_atom-begins o)
 
 pub opens-begins : {f : Fixity} {l : ℕ} {i : List Terminal} {d : ℕ} → Opens f l i d → begins f l i ≡ true
-opens-begins (begun e) = e
+opens-begins (begun b) = begins-found b
 opens-begins {f} {l} {i} (in_atom o) = true-or (begins_atom f i) (nat_le l 4 && is_keyword (start_of i)) (opens_atom-begins o)
 opens-begins {f} {l} {i} (applied_to a b h) = true-or (begins_atom f i) (nat_le l 4 && is_keyword (start_of i)) (atom-begins a)
 opens-begins {f} {l} {i} (in_argument a bs o) = true-or (begins_atom f i) (nat_le l 4 && is_keyword (start_of i)) (atom-begins a)

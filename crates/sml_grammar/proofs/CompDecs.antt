@@ -28,8 +28,8 @@ quiet-ends (reserved p res.Withtype ∷ r) h = refl
 quiet-ends _ h = h
 
 dec-no_semicolon : {f : Fixity} {i o : List Terminal} {d : Dec} → Declare f i d o → (after_word res.Semicolon i ≡ None) × (is_dec_start (dec_start i) ≡ true)
-dec-no_semicolon (of_val p a b) = (refl, refl)
-dec-no_semicolon (of_fun p a b) = (refl, refl)
+dec-no_semicolon (of_val p a s b) = (refl, refl)
+dec-no_semicolon (of_fun p a s b) = (refl, refl)
 dec-no_semicolon (of_type p b) = (refl, refl)
 dec-no_semicolon (of_datatype p b) = (refl, refl)
 dec-no_semicolon (of_withtype p q b c) = (refl, refl)
@@ -114,16 +114,16 @@ module _ (n : ℕ) (self : Reader) (complete : CompleteExp n self) where
 
   module _ (inner : DecsReader) (complete_inner : CompleteInner n inner) where
     pub dec-complete : {f : Fixity} {i o : List Terminal} {d : Dec} → Declare f i d o → depth_dec d ≤ n → quiet o ≡ true → dec_by n self inner f (dec_start i) ≡ read d o
-    dec-complete {f} (of_val {i} {m} {o} {as_} {bs} p da d) le e =
+    dec-complete {f} (of_val {i} {m} {o} {as_} {bs} p da s d) le e =
         let q = quiet-is f o e in
-        let g : read_tyvars i ≡ read as_ m = facts.tyvars-complete da (binds-tyvars d) in
+        let g : read_tyvars i ≡ read as_ m = facts.tyvars-complete da (binds-tyvars d) in let at = facts.place-found s in
         let h : read_binds n self f m ≡ read bs o = binds-complete d le q.plain q.and_ (suc (length m)) (omega arith) in
-        rw (g, h) refl
-    dec-complete {f} (of_fun {i} {m} {o} {as_} {fs} p da d) le e =
+        rw (g, at, h) refl
+    dec-complete {f} (of_fun {i} {m} {o} {as_} {fs} p da s d) le e =
         let q = quiet-is f o e in
-        let g : read_tyvars i ≡ read as_ m = facts.tyvars-complete da (funs-tyvars d) in
+        let g : read_tyvars i ≡ read as_ m = facts.tyvars-complete da (funs-tyvars d) in let at = facts.place-found s in
         let h : read_funs n self f m ≡ read fs o = funs-complete d le q.plain q.and_ (suc (length m)) (omega arith) in
-        rw (g, h) refl
+        rw (g, at, h) refl
     dec-complete (of_type {i} {o} {bs} p d) le e = let h : read_type_binds n i ≡ read bs o = facts.type_binds-complete n d le e in rw h refl
     dec-complete {f} (of_datatype {i} {o} {bs} p d) le e =
         let q = quiet-is f o e in

@@ -30,7 +30,7 @@ pub use Rattle.sml_grammar.proofs.PatShapes.{pat-shorter}
 pub use Rattle.sml_grammar.proofs.PatOpens.{opens_pat-begins}
 pub use Rattle.sml_grammar.proofs.PatHeads.{head-complete, head-shorter}
 pub use Rattle.sml_grammar.proofs.PatHeadsDeep.{head-over, head-opens}
-pub use Rattle.sml_grammar.proofs.BindTyvars.{tyvars-complete, tyvars-shorter}
+pub use Rattle.sml_grammar.proofs.BindTyvars.{tyvars-complete, tyvars-shorter, tyvars-here, tyvars-found, place-found}
 pub use Rattle.sml_grammar.proofs.BindTypes.{type_binds-shorter, type_binds-over, type_binds-opens}
 pub use Rattle.sml_grammar.proofs.BindDatatypes.{data_binds-shorter, data_binds-over, data_binds-opens}
 pub use Rattle.sml_grammar.proofs.BindExceptions.{ex_binds-shorter, ex_binds-over, ex_binds-opens}

@@ -7,7 +7,7 @@ use Rattle.sml_tree.specs.declared.ident.Vid.{Vid}
 use Rattle.sml_tree.specs.declared.ident.Vid.TheVariants.{Named, Equals, Fresh}
 use Rattle.sml_tree.specs.Terminal.{LongVid, Terminal, reserved, is_number, is_constant, alpha_vid, symbol_vid, star_vid, long_alpha_vid, long_symbol_vid, long_star_vid, IsTycon, alpha_tycon, symbol_tycon}
 use Rattle.sml_tree.specs.Fixity.{Fixity, is_vid}
-use Rattle.sml_tree.specs.ReadTree.{Ty, Pat, Head, head_vid, head_count, ConBind, DataBind, Binds, Funs, Clauses}
+use Rattle.sml_tree.specs.ReadTree.{Placed, Ty, Pat, Head, head_vid, head_count, ConBind, DataBind, Binds, Funs, Clauses}
 use Rattle.sml_tree.specs.Grammar.{MaybeTy, without_ty, with_ty, BindsVid, plain_vid, op_vid, NamesVid, plain_long, qualified, op_long, AtPat, of_wild, of_pat_constant, of_pat_vid, of_no_pat_row, of_pat_row, of_unit_pat, of_tuple_pat, of_nil_pat, of_list_pat, of_paren_pat, Pattern, of_atpat, of_con_pat, of_chain_pat, of_typed_pat, of_as_pat, ReadsHead, of_prefix_head, of_infix_head, of_bracket_head, Tyvars, no_tyvars, one_tyvar, tyvars_in_brackets, ConBinds, last_con, more_cons, OneDataBind, data_bind, DataBinds, last_data_bind, more_data_binds, ReadsBinds, of_last_bind, of_bind, of_rec, ReadsFuns, of_last_fun, of_fun_and, ReadsClauses, of_last_clause, of_clause}
 use Rattle.sml_grammar.specs.Answer.{read}
 use Rattle.sml_grammar.specs.Terminals.{first_as, as_tyvar, after_word, infix_vid}
@@ -22,7 +22,7 @@ record NoTyvars (i : List Terminal) : Type 0 where
   all : read_tyvars i ≡ read [] i
   first : first_as as_tyvar i ≡ None
 
-names-no_tyvars : {f : Fixity} {i o : List Terminal} {p : ℕ} {x : LongVid} → NamesVid f i p x o → NoTyvars i
+names-no_tyvars : {f : Fixity} {i o : List Terminal} {p : ℕ} {x : Placed LongVid} → NamesVid f i p x o → NoTyvars i
 names-no_tyvars (plain_long (alpha_vid p x) e) = record { all = refl; first = refl }
 names-no_tyvars (plain_long (symbol_vid p x) e) = record { all = refl; first = refl }
 names-no_tyvars (plain_long (star_vid p x) e) = record { all = refl; first = refl }
@@ -31,7 +31,7 @@ names-no_tyvars (qualified (long_symbol_vid p qs x)) = record { all = refl; firs
 names-no_tyvars (qualified (long_star_vid p qs x)) = record { all = refl; first = refl }
 names-no_tyvars (op_long p v) = record { all = refl; first = refl }
 
-binds-no_tyvars : {f : Fixity} {i o : List Terminal} {p : ℕ} {v : Vid} → BindsVid f i p v o → NoTyvars i
+binds-no_tyvars : {f : Fixity} {i o : List Terminal} {p : ℕ} {v : Placed Vid} → BindsVid f i p v o → NoTyvars i
 binds-no_tyvars (plain_vid (alpha_vid p x) e) = record { all = refl; first = refl }
 binds-no_tyvars (plain_vid (symbol_vid p x) e) = record { all = refl; first = refl }
 binds-no_tyvars (plain_vid (star_vid p x) e) = record { all = refl; first = refl }
@@ -89,7 +89,7 @@ funs-tyvars (of_fun_and v n p c d) = clauses-tyvars c
 
 -- A datatype that is bound isn't replicated.
 
-pub binds-no_datatype : {f : Fixity} {i o : List Terminal} {p : ℕ} {v : Vid} → BindsVid f i p v o → after_word res.Datatype i ≡ None
+pub binds-no_datatype : {f : Fixity} {i o : List Terminal} {p : ℕ} {v : Placed Vid} → BindsVid f i p v o → after_word res.Datatype i ≡ None
 binds-no_datatype (plain_vid (alpha_vid p x) e) = refl
 binds-no_datatype (plain_vid (symbol_vid p x) e) = refl
 binds-no_datatype (plain_vid (star_vid p x) e) = refl

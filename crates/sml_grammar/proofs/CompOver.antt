@@ -16,7 +16,7 @@ use Rattle.sml_grammar.proofs.Answers.{le_or, many-stop}
 use Rattle.sml_grammar.proofs.ExpLevels.{joint-tie, joint-no_atom}
 use Rattle.sml_grammar.proofs.CompFacts as facts
 use Rattle.sml_grammar.proofs.CompShapes.{chain-head, chain-no_ty, joint-no_ty, chain_goes_on, chain-mark, chain-handler, chain-joint}
-use Rattle.sml_grammar.proofs.CompQuiet.{atom-start, atom-begins}
+use Rattle.sml_grammar.proofs.CompQuiet.{begins_atom-found, atom-start, atom-begins}
 use Rattle.sml_grammar.proofs.CompLists.{TyStops, CompleteExp, CompleteAtom, CompleteDecs, atom-complete}
 use Rattle.sml_grammar.proofs.CompReaches.{Reaches, reaches}
 use Rattle.sml_grammar.proofs.CompPaths.{atom-opens, atoms-opens, follows-opens, match-opens}
@@ -158,7 +158,7 @@ module _ (n : ℕ) (self : Readers) (complete : CompleteExp n self.exp) (complet
   pub from-over : {l : ℕ} {i : List Terminal} {d : ℕ} → Opens f l i d → suc n < d → exp_from self n f l i ≡ deep
   from-over (begun e) lt = absurd (omega arith)
   from-over {l} {i} (in_atom o) lt = app-far l i (opens_atom-start o) (only-atom i (atom-over n self complete complete_decs over over_decs o lt))
-  from-over {l} {i} (applied_to {e} a b h) lt = app-far l i (atom-start a) (app-over a b (λ (le : depth e ≤ n). absurd (omega arith)))
+  from-over {l} {i} (applied_to {e} a b h) lt = app-far l i (atom-start a) (app-over a (begins_atom-found b) (λ (le : depth e ≤ n). absurd (omega arith)))
   from-over {l} {i} (in_argument {m} {e} a bs o) lt =
       app-far l i (atom-start a) (app-over a (as-begins bs o) (λ (le : depth e ≤ n). atoms-over n self.atom complete_atom over_atom bs o (omega arith) (suc (length m)) (omega arith)))
   from-over {l} (joined {k = l'} {m} {t} {a} low high e d fit h) lt =

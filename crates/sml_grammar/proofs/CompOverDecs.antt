@@ -2,6 +2,7 @@
 use Rattle.std.proofs.Common.{◌≡◌, ℕ, zero, suc, ◌≤◌, ◌<◌, List, ◌∷◌, length, Option, Some, None, false, inl, inr, refl, ◌∙◌, arith}
 use Rattle.mlc_base.specs.declared.token.Reserved.TheVariants as res
 use Rattle.sml_tree.specs.Terminal.{Terminal, reserved}
+use Rattle.sml_tree.specs.declared.ident.Vid.{Vid}
 use Rattle.sml_tree.specs.Fixity.{Fixity}
 use Rattle.sml_tree.specs.ReadTree.{Ty, Pat, Head, Decs, dec, bind, rec_binds, clause, fun_and}
 use Rattle.sml_tree.specs.Depth.{depth_pat, depth_head, depth_some, depth_data_binds, depth_decs, depth_dec, depth_clauses}
@@ -12,14 +13,14 @@ use Rattle.sml_grammar.specs.Terminals.{no_state, after_word, infix_vid}
 use Rattle.sml_grammar.specs.Types.{read_ty, maybe_ty}
 use Rattle.sml_grammar.specs.Patterns.{begins_pat, read_pat, read_head}
 use Rattle.sml_grammar.specs.Bindings.{read_type_binds, read_data_binds, read_ex_binds}
-use Rattle.sml_grammar.specs.Expressions.{Reader, DecsReader, bind_turn, read_binds, Shape, clause_turn, read_clauses, fun_turn, read_funs, dec_start, dec_by, dec_turn, decs_from}
+use Rattle.sml_grammar.specs.Expressions.{Reader, DecsReader, bind_turn, read_binds, Shape, shape_of, clause_turn, read_clauses, fun_turn, read_funs, dec_start, dec_by, dec_turn, decs_from}
 use Rattle.sml_grammar.specs.Partial.{OpensDecs, past_empty, in_dec, past_dec, OpensDec, in_val, in_fun, in_type, in_datatype, in_withtype, in_exception, begun_local, in_local, in_local_body, OpensBinds, past_rec, in_bind_pat, in_bind, past_bind, OpensFuns, in_clauses, past_clauses, OpensClauses, in_head, in_result, in_clause, past_clause}
 use Rattle.sml_grammar.proofs.Answers.{many-pass, le_or, many-deep, many-stop}
 use Rattle.sml_grammar.proofs.CompFacts as facts
 use Rattle.sml_grammar.proofs.CompShapes.{shorter, dec-shorter, clauses-shorter}
 use Rattle.sml_grammar.proofs.CompQuiet.{plain-word, Ends, ends-in}
 use Rattle.sml_grammar.proofs.CompLists.{CompleteExp}
-use Rattle.sml_grammar.proofs.CompHeads.{begins_pat-no_rec, pat-no_rec, data-not_replicated, agree-none, maybe-head}
+use Rattle.sml_grammar.proofs.CompHeads.{begins_pat-no_rec, pat-no_rec, data-not_replicated, Agree, agree-none, agree-some, maybe-head}
 use Rattle.sml_grammar.proofs.CompDecs.{CompleteInner, maybe-complete, clauses-whole, dec-step}
 use Rattle.sml_grammar.proofs.CompPaths.{decs-opens, dec-opens, clauses-opens}
 use Rattle.sml_grammar.proofs.CompBegins.{opens_dec-word, opens_decs-quiet, opens_data-not_replicated}
@@ -71,43 +72,46 @@ module _ (n : ℕ) (self : Reader) (complete : CompleteExp n self) (over : OverE
         | inr g ↦ many-stop (bind_turn n self f) k (rw (r, g) refl)
       ]
 
-  clauses-over : {f : Fixity} {s : Option Shape} {i : List Terminal} {d : ℕ} → OpensClauses f s i d → n < d → (k : ℕ) → length i < k → many (clause_turn n self f) k s i ≡ deep
-  clauses-over o lt zero le = absurd (omega arith)
-  clauses-over {f} {s} (in_head {i} o) lt (suc k) le = let g : read_head n f i ≡ deep = facts.head-over n f o lt in many-stop (clause_turn n self f) k (rw g refl)
-  clauses-over {f} {s} (in_result {i} {m} {h} p dh ag o) lt (suc k) le =
+  clauses-over : {f : Fixity} (s : Option Shape) {v : Vid} {c : ℕ} {i : List Terminal} {d : ℕ} → OpensClauses f v c i d → Agree s v c → n < d → (k : ℕ) → length i < k → many (clause_turn n self f) k s i ≡ deep
+  clauses-over s o ag lt zero le = absurd (omega arith)
+  clauses-over {f} s (in_head {i} o) ag lt (suc k) le = let g : read_head n f i ≡ deep = facts.head-over n f o lt in many-stop (clause_turn n self f) k (rw g refl)
+  clauses-over {f} s (in_result {i} {m} {h} p dh a b o) ag lt (suc k) le =
+      let same = ag h a b in
       elim (head-or n dh refl refl) [
-        | inl g ↦ let t : read_ty n 0 m ≡ deep = facts.ty-over n o lt in many-stop (clause_turn n self f) k (rw (g, ag, t) refl)
+        | inl g ↦ let t : read_ty n 0 m ≡ deep = facts.ty-over n o lt in many-stop (clause_turn n self f) k (rw (g, same, t) refl)
         | inr g ↦ many-stop (clause_turn n self f) k (rw g refl)
       ]
-  clauses-over {f} {s} (in_clause {i} {m} {k = j} {h} {t} {d} p dh ag dt o) lt (suc k) le =
+  clauses-over {f} s (in_clause {i} {m} {k = j} {h} {t} {d} p dh a b dt o) ag lt (suc k) le =
+      let same = ag h a b in
       let w = maybe-head f dt refl refl in
       elim (head-or n dh w.0 w.1) [
         | inl g ↦ elim (maybe-or n dt) [
-          | inl x ↦ let y : self f 0 j ≡ deep = over f 0 j d o lt in many-stop (clause_turn n self f) k (rw (g, ag, x, y) refl)
-          | inr x ↦ many-stop (clause_turn n self f) k (rw (g, ag, x) refl)
+          | inl x ↦ let y : self f 0 j ≡ deep = over f 0 j d o lt in many-stop (clause_turn n self f) k (rw (g, same, x, y) refl)
+          | inr x ↦ many-stop (clause_turn n self f) k (rw (g, same, x) refl)
         ]
         | inr g ↦ many-stop (clause_turn n self f) k (rw g refl)
       ]
-  clauses-over {f} {s} (past_clause {i} {m} {k = j} {n = c} {h} {t} {e} p q dh ag dt ends de o) lt (suc k) le =
+  clauses-over {f} s {v} {c} (past_clause {i} {m} {k = j} {g = u} {h} {t} {e} p q dh a b dt ends de o) ag lt (suc k) le =
+      let same = ag h a b in
       let w = maybe-head f dt refl refl in
       let s1 = facts.head-shorter dh in let s2 = facts.maybe-shorter dt in let s3 = shorter de in
       elim (head-or n dh w.0 w.1) [
         | inl g ↦ elim (maybe-or n dt) [
-          | inl x ↦ elim (exp-or n self complete over f 0 j e (reserved q res.Bar ∷ c) de (omega arith) ends refl refl (λ z. refl)) [
-            | inl y ↦ many-deep (clause_turn n self f) k {put = clause h t e} (rw (g, ag, x, y) refl) (clauses-over o lt k (omega arith))
-            | inr y ↦ many-stop (clause_turn n self f) k (rw (g, ag, x, y) refl)
+          | inl x ↦ elim (exp-or n self complete over f 0 j e (reserved q res.Bar ∷ u) de (omega arith) ends refl refl (λ z. refl)) [
+            | inl y ↦ many-deep (clause_turn n self f) k {put = clause h t e} (rw (g, same, x, y) refl) (clauses-over (Some (shape_of h)) o (agree-some v c h a b) lt k (omega arith))
+            | inr y ↦ many-stop (clause_turn n self f) k (rw (g, same, x, y) refl)
           ]
-          | inr x ↦ many-stop (clause_turn n self f) k (rw (g, ag, x) refl)
+          | inr x ↦ many-stop (clause_turn n self f) k (rw (g, same, x) refl)
         ]
         | inr g ↦ many-stop (clause_turn n self f) k (rw g refl)
       ]
 
-  clauses-deep : {f : Fixity} {i : List Terminal} {d : ℕ} → OpensClauses f None i d → n < d → read_clauses n self f i ≡ deep
-  clauses-deep {i} o lt = clauses-over o lt (suc (length i)) (omega arith)
+  clauses-deep : {f : Fixity} {v : Vid} {c : ℕ} {i : List Terminal} {d : ℕ} → OpensClauses f v c i d → n < d → read_clauses n self f i ≡ deep
+  clauses-deep {v} {c} {i} o lt = clauses-over None o (agree-none v c) lt (suc (length i)) (omega arith)
 
   funs-over : {f : Fixity} {i : List Terminal} {d : ℕ} → OpensFuns f i d → n < d → (k : ℕ) → length i < k → many (fun_turn n self f) k no_state i ≡ deep
   funs-over o lt zero le = absurd (omega arith)
-  funs-over {f} (in_clauses {i} o) lt (suc k) le = let h : read_clauses n self f i ≡ deep = clauses-deep o lt in many-stop (fun_turn n self f) k (rw h refl)
+  funs-over {f} (in_clauses {i} v c o) lt (suc k) le = let h : read_clauses n self f i ≡ deep = clauses-deep o lt in many-stop (fun_turn n self f) k (rw h refl)
   funs-over {f} (past_clauses {i} {m} {cs} v c p dc o) lt (suc k) le =
       let s = clauses-shorter dc in
       elim (le_or (depth_clauses cs) n) [
@@ -115,7 +119,7 @@ module _ (n : ℕ) (self : Reader) (complete : CompleteExp n self) (over : OverE
             let h : read_clauses n self f i ≡ read cs (reserved p res.And ∷ m) = clauses-whole n self complete dc x (plain-word f p res.And m refl) in
             many-deep (fun_turn n self f) k {put = fun_and cs} (rw h refl) (funs-over o lt k (omega arith))
         | inr x ↦
-            let h : read_clauses n self f i ≡ deep = clauses-deep (clauses-opens None dc (agree-none v c) (depth_clauses cs) (omega arith) (omega arith)) x in
+            let h : read_clauses n self f i ≡ deep = clauses-deep (clauses-opens dc (depth_clauses cs) (omega arith) (omega arith)) x in
             many-stop (fun_turn n self f) k (rw h refl)
       ]
 
@@ -132,8 +136,8 @@ module _ (n : ℕ) (self : Reader) (complete : CompleteExp n self) (over : OverE
         ]
 
     dec-over : {f : Fixity} {i : List Terminal} {d : ℕ} → OpensDec f i d → n < d → dec_by n self inner f (dec_start i) ≡ deep
-    dec-over {f} (in_val {i} {m} p h o) lt = let g : read_binds n self f m ≡ deep = binds-over o lt (suc (length m)) (omega arith) in rw (h, g) refl
-    dec-over {f} (in_fun {i} {m} p h o) lt = let g : read_funs n self f m ≡ deep = funs-over o lt (suc (length m)) (omega arith) in rw (h, g) refl
+    dec-over {f} (in_val {i} {m} p s o) lt = let h = facts.tyvars-found s in let g : read_binds n self f m ≡ deep = binds-over o lt (suc (length m)) (omega arith) in rw (h, g) refl
+    dec-over {f} (in_fun {i} {m} p s o) lt = let h = facts.tyvars-found s in let g : read_funs n self f m ≡ deep = funs-over o lt (suc (length m)) (omega arith) in rw (h, g) refl
     dec-over (in_type {i} p o) lt = let g : read_type_binds n i ≡ deep = facts.type_binds-over n o lt in rw g refl
     dec-over {f} (in_datatype {i} p o) lt =
         let r = opens_data-not_replicated o in let g : read_data_binds n f i ≡ deep = facts.data_binds-over n f o lt in rw (r, g) refl

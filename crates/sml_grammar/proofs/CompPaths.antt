@@ -1,19 +1,19 @@
 -- A tree has a partial tree of each depth up to its own.
-use Rattle.std.proofs.Common.{◌≡◌, ℕ, zero, suc, ◌≤◌, ◌<◌, List, Option, Some, None, Bool, true, false, inl, inr, subst, arith, max}
+use Rattle.std.proofs.Common.{◌≡◌, ℕ, zero, suc, ◌≤◌, ◌<◌, List, Option, Bool, false, inl, inr, subst, arith, max}
 use Rattle.sml_tree.specs.Terminal.{Terminal}
 use Rattle.sml_tree.specs.declared.ident.Vid.{Vid}
 use Rattle.sml_tree.specs.Fixity.{Fixity}
-use Rattle.sml_tree.specs.ReadTree.{Ty, Head, Exp, Exps, no_exps, exp, ExpFields, Parts, Rules, Decs, Dec, Binds, Funs, Clauses}
+use Rattle.sml_tree.specs.ReadTree.{Ty, Head, head_vid, head_count, Exp, Exps, no_exps, exp, ExpFields, Parts, Rules, Decs, Dec, Binds, Funs, Clauses}
 use Rattle.sml_tree.specs.Depth.{depth_ty, depth_some, depth_pat, depth_head, depth_type_binds, depth_data_binds, depth, depth_exps, depth_exp_fields, depth_parts, depth_rules, depth_decs, depth_dec, depth_binds, depth_funs, depth_clauses}
 use Rattle.sml_tree.specs.Levels.{level, goes_on}
 use Rattle.sml_tree.specs.Grammar.{MaybeTy, without_ty, with_ty, ReadsHead, Atom, of_constant, of_vid, of_equals, of_no_row, of_row, of_selector, of_unit, of_tuple, of_nil, of_list, of_sequence, of_paren, of_let, ExpRow, last_exp_row, more_exp_row, Commas, last_exp, more_exps, Semicolons, last_of_sequence, more_of_sequence, Atoms, no_atoms, more_atoms, Reads, of_atom, of_app, of_chain, of_typed, of_handle, of_raise, of_if, of_while, of_case, of_fn, Follows, of_last_part, of_part, Match, of_last_rule, of_rule, Declares, nothing_more, of_semicolon, of_dec, Declare, of_val, of_fun, of_type, of_datatype, of_withtype, of_replication, of_exception, of_local, of_open, of_infix, of_infixr, of_nonfix, ReadsBinds, of_last_bind, of_bind, of_rec, ReadsFuns, of_last_fun, of_fun_and, ReadsClauses, of_last_clause, of_clause}
-use Rattle.sml_grammar.specs.Expressions.{Shape, shape_of, agrees}
 use Rattle.sml_grammar.specs.Partial.{Opens, begun, in_atom, applied_to, in_argument, joined, in_chain, marked, in_typed, handled, in_handler, in_raise, in_condition, in_then, in_else, in_while, in_do, in_subject, in_case, in_fn, OpensAtom, begun_atom, in_row, in_paren, in_tuple, in_sequence, in_list, in_decs, in_body, OpensRow, in_field, past_field, OpensCommas, in_comma, past_comma, OpensSemicolons, in_semicolon, past_semicolon, OpensPart, in_part, past_part, OpensMatch, in_rule_pat, in_rule, past_rule, OpensDecs, past_empty, in_dec, past_dec, OpensDec, in_val, in_fun, in_type, in_datatype, in_withtype, in_exception, begun_local, in_local, in_local_body, OpensBinds, past_rec, in_bind_pat, in_bind, past_bind, OpensFuns, in_clauses, past_clauses, OpensClauses, in_head, in_result, in_clause, past_clause}
 use Rattle.sml_grammar.proofs.Answers.{le_max}
 use Rattle.sml_grammar.proofs.CompFacts as facts
 use Rattle.sml_grammar.proofs.CompShapes.{chain-head}
+use Rattle.sml_grammar.proofs.ExpLevels.{begins_atom-is, begins-is}
 use Rattle.sml_grammar.proofs.CompQuiet.{atom-begins, reads-begins}
-use Rattle.sml_grammar.proofs.CompHeads.{binds-tyvars, funs-tyvars, Agree, agree-none, agree-some}
+use Rattle.sml_grammar.proofs.CompHeads.{binds-tyvars, funs-tyvars}
 
 -- arguments before the one that is cut off
 pub record FarArgs (f : Fixity) (i : List Terminal) (k : ℕ) : Type 0 where
@@ -23,14 +23,14 @@ pub record FarArgs (f : Fixity) (i : List Terminal) (k : ℕ) : Type 0 where
   pub opens : OpensAtom f rest k
 
 -- the type after a head
-result-opens : {f : Fixity} {s : Option Shape} {i m o : List Terminal} {h : Head} {t : Option Ty} → ReadsHead f i h m → agrees s h ≡ true → MaybeTy m t o → (k : ℕ) → 0 < k → k ≤ depth_some t → OpensClauses f s i k
-result-opens dh ag without_ty k pos le = absurd (omega arith)
-result-opens dh ag (with_ty p d) k pos le = in_result p dh ag (facts.ty-opens d k pos le)
+result-opens : {f : Fixity} {v : Vid} {c : ℕ} {i m o : List Terminal} {h : Head} {t : Option Ty} → ReadsHead f i h m → head_vid h ≡ v → head_count h ≡ c → MaybeTy m t o → (k : ℕ) → 0 < k → k ≤ depth_some t → OpensClauses f v c i k
+result-opens dh a b without_ty k pos le = absurd (omega arith)
+result-opens dh a b (with_ty p d) k pos le = in_result p dh a b (facts.ty-opens d k pos le)
 
 mutual
   pub atom-opens : {f : Fixity} {i o : List Terminal} {e : Exp} → Atom f i e o → (k : ℕ) → 0 < k → k ≤ depth e → OpensAtom f i k
   atom-opens a zero pos le = absurd (omega arith)
-  atom-opens a (suc zero) pos le = begun_atom (atom-begins a)
+  atom-opens a (suc zero) pos le = begun_atom (begins_atom-is (atom-begins a))
   atom-opens (of_constant c) (suc (suc k)) pos le = absurd (omega arith)
   atom-opens (of_vid v) (suc (suc k)) pos le = absurd (omega arith)
   atom-opens (of_equals p e) (suc (suc k)) pos le = absurd (omega arith)
@@ -91,11 +91,11 @@ mutual
 
   pub reads-opens : {f : Fixity} {i o : List Terminal} {t : Exp} (l : ℕ) → Reads f i t o → l ≤ level f t → (k : ℕ) → 0 < k → k ≤ depth t → Opens f l i k
   reads-opens l d high zero pos le = absurd (omega arith)
-  reads-opens l d high (suc zero) pos le = begun (reads-begins l d high)
+  reads-opens l d high (suc zero) pos le = begun (begins-is (reads-begins l d high))
   reads-opens l (of_atom d) high (suc (suc k)) pos le = in_atom (atom-opens d (suc (suc k)) pos le)
   reads-opens l (of_app {e} {a} {es} d da ds) high (suc (suc k)) pos le =
       elim (le_max (suc k) (depth e) (max (depth a) (depth_exps es)) (omega arith)) [
-        | inl p ↦ applied_to d (atom-begins da) p
+        | inl p ↦ applied_to d (begins_atom-is (atom-begins da)) p
         | inr p ↦ elim (le_max (suc k) (depth a) (depth_exps es) p) [
           | inl q ↦ in_argument d no_atoms (atom-opens da (suc k) (omega arith) q)
           | inr q ↦ let r = atoms-opens ds (suc k) (omega arith) q in in_argument d (more_atoms da r.reads) r.opens
@@ -175,8 +175,8 @@ mutual
       ]
 
   pub dec-opens : {f : Fixity} {i o : List Terminal} {d : Dec} → Declare f i d o → (k : ℕ) → 0 < k → k ≤ depth_dec d → OpensDec f i k
-  dec-opens (of_val p as_ d) k pos le = in_val p (facts.tyvars-complete as_ (binds-tyvars d)) (binds-opens d k pos le)
-  dec-opens (of_fun p as_ d) k pos le = in_fun p (facts.tyvars-complete as_ (funs-tyvars d)) (funs-opens d k pos le)
+  dec-opens (of_val p as_ s d) k pos le = in_val p (facts.tyvars-here (facts.tyvars-complete as_ (binds-tyvars d))) (binds-opens d k pos le)
+  dec-opens (of_fun p as_ s d) k pos le = in_fun p (facts.tyvars-here (facts.tyvars-complete as_ (funs-tyvars d))) (funs-opens d k pos le)
   dec-opens (of_type p d) k pos le = in_type p (facts.type_binds-opens d k pos le)
   dec-opens (of_datatype p d) k pos le = in_datatype p (facts.data_binds-opens d k pos le)
   dec-opens (of_withtype {bs} {cs} p q d e) k pos le =
@@ -215,30 +215,30 @@ mutual
   binds-opens (of_rec p db) k pos le = past_rec p (binds-opens db k pos le)
 
   funs-opens : {f : Fixity} {i o : List Terminal} {fs : Funs} → ReadsFuns f i fs o → (k : ℕ) → 0 < k → k ≤ depth_funs fs → OpensFuns f i k
-  funs-opens (of_last_fun v c d) k pos le = in_clauses (clauses-opens None d (agree-none v c) k pos le)
+  funs-opens (of_last_fun v c d) k pos le = in_clauses v c (clauses-opens d k pos le)
   funs-opens (of_fun_and {cs} {fs} v c p d ds) k pos le =
       elim (le_max k (depth_clauses cs) (depth_funs fs) le) [
-        | inl h ↦ in_clauses (clauses-opens None d (agree-none v c) k pos h)
+        | inl h ↦ in_clauses v c (clauses-opens d k pos h)
         | inr h ↦ past_clauses v c p d (funs-opens ds k pos h)
       ]
 
-  pub clauses-opens : {f : Fixity} (s : Option Shape) {v : Vid} {c : ℕ} {i o : List Terminal} {cs : Clauses} → ReadsClauses f v c i cs o → Agree s v c → (k : ℕ) → 0 < k → k ≤ depth_clauses cs → OpensClauses f s i k
-  clauses-opens s (of_last_clause {h} {s = t} {e} p dh a b dt d) ag k pos le =
+  pub clauses-opens : {f : Fixity} {v : Vid} {c : ℕ} {i o : List Terminal} {cs : Clauses} → ReadsClauses f v c i cs o → (k : ℕ) → 0 < k → k ≤ depth_clauses cs → OpensClauses f v c i k
+  clauses-opens (of_last_clause {h} {s = t} {e} p dh a b dt d) k pos le =
       elim (le_max k (max (depth_head h) (depth_some t)) (depth e) le) [
         | inl x ↦ elim (le_max k (depth_head h) (depth_some t) x) [
           | inl y ↦ in_head (facts.head-opens dh k pos y)
-          | inr y ↦ result-opens dh (ag h a b) dt k pos y
+          | inr y ↦ result-opens dh a b dt k pos y
         ]
-        | inr x ↦ in_clause p dh (ag h a b) dt (reads-opens 0 d (omega arith) k pos x)
+        | inr x ↦ in_clause p dh a b dt (reads-opens 0 d (omega arith) k pos x)
       ]
-  clauses-opens s {v} {c} (of_clause {h} {s = t} {e} {cs} p q dh a b dt en d dc) ag k pos le =
+  clauses-opens (of_clause {h} {s = t} {e} {cs} p q dh a b dt en d dc) k pos le =
       elim (le_max k (max (max (depth_head h) (depth_some t)) (depth e)) (depth_clauses cs) le) [
         | inl z ↦ elim (le_max k (max (depth_head h) (depth_some t)) (depth e) z) [
           | inl x ↦ elim (le_max k (depth_head h) (depth_some t) x) [
             | inl y ↦ in_head (facts.head-opens dh k pos y)
-            | inr y ↦ result-opens dh (ag h a b) dt k pos y
+            | inr y ↦ result-opens dh a b dt k pos y
           ]
-          | inr x ↦ in_clause p dh (ag h a b) dt (reads-opens 0 d (omega arith) k pos x)
+          | inr x ↦ in_clause p dh a b dt (reads-opens 0 d (omega arith) k pos x)
         ]
-        | inr z ↦ past_clause p q dh (ag h a b) dt en d (clauses-opens (Some (shape_of h)) dc (agree-some v c h a b) k pos z)
+        | inr z ↦ past_clause p q dh a b dt en d (clauses-opens dc k pos z)
       ]

@@ -5,12 +5,13 @@ use Rattle.mlc_base.specs.declared.token.Reserved.{Reserved}
 use Rattle.mlc_base.specs.declared.token.Reserved.TheVariants as res
 use Rattle.sml_tree.specs.Terminal.{LongVid, Terminal, reserved, is_number, is_constant, alpha_vid, symbol_vid, star_vid, long_alpha_vid, long_symbol_vid, long_star_vid}
 use Rattle.sml_tree.specs.Fixity.{Fixity}
-use Rattle.sml_tree.specs.ReadTree.{Exp, ExpFields, Exps, Decs, Dec}
+use Rattle.sml_tree.specs.ReadTree.{Placed, Exp, ExpFields, Exps, Decs, Dec}
 use Rattle.sml_tree.specs.Levels.{level, could_go_on, begins_bar}
 use Rattle.sml_tree.specs.Grammar.{NamesVid, plain_long, qualified, op_long, Atom, of_constant, of_vid, of_equals, of_no_row, of_row, of_selector, of_unit, of_tuple, of_nil, of_list, of_sequence, of_paren, of_let, ExpRow, last_exp_row, more_exp_row, Commas, last_exp, more_exps, Reads, of_atom, of_app, of_chain, of_typed, of_handle, of_raise, of_if, of_while, of_case, of_fn, Declares, nothing_more, of_semicolon, of_dec, Declare, of_val, of_fun, of_type, of_datatype, of_withtype, of_replication, of_exception, of_local, of_open, of_infix, of_infixr, of_nonfix}
 use Rattle.sml_grammar.specs.Terminals.{first_as, as_vid, as_long_strid, after_word, names_vid}
 use Rattle.sml_grammar.specs.Types.{ty_could_go_on}
 use Rattle.sml_grammar.specs.Expressions.{vid_start, vid_if, atom_start, begins_atom, other_start, start_of, is_keyword, begins, dec_start, is_dec_start}
+use Rattle.sml_grammar.specs.Begins.{BeginsAtom, with_constant, with_vid, with_equals, with_brace, with_hash, with_paren, with_bracket, with_let, Begins, with_atom, with_raise, with_if, with_while, with_case, with_fn}
 use Rattle.sml_grammar.proofs.Words.{AfterWord, found, absent, after-is}
 use Rattle.sml_grammar.proofs.Answers.{not_true, not_false}
 use Rattle.sml_grammar.proofs.Terminals.{not-word, label-word}
@@ -81,8 +82,8 @@ quiet-is f (reserved p res.Nonfix ∷ r) h = record { plain = record { ties = re
 quiet-is f _ h = not_true h
 
 pub dec-quiet : {f : Fixity} {i o : List Terminal} {d : Dec} → Declare f i d o → quiet i ≡ true
-dec-quiet (of_val p a b) = refl
-dec-quiet (of_fun p a b) = refl
+dec-quiet (of_val p a s b) = refl
+dec-quiet (of_fun p a s b) = refl
 dec-quiet (of_type p b) = refl
 dec-quiet (of_datatype p b) = refl
 dec-quiet (of_withtype p q b c) = refl
@@ -123,10 +124,10 @@ no-bar i h = go (after-is res.Bar i) h
 
 -- What begins an atomic expression.
 
-pub names-start : {f : Fixity} {i o : List Terminal} {p : ℕ} {x : LongVid} → NamesVid f i p x o → atom_start f i ≡ vid_start (record { place = p; it = x }) o
-names-start {f} {i} v = start v ∙ ap vid_if (names-found v)
+pub names-start : {f : Fixity} {i o : List Terminal} {p : ℕ} {x : Placed LongVid} → NamesVid f i p x o → atom_start f i ≡ vid_start p x o
+names-start {f} {i} {p} v = start v ∙ ap (vid_if p) (names-found v)
   where
-    start : {f : Fixity} {i o : List Terminal} {p : ℕ} {x : LongVid} → NamesVid f i p x o → atom_start f i ≡ vid_if (names_vid f i)
+    start : {f : Fixity} {i o : List Terminal} {p : ℕ} {x : Placed LongVid} → NamesVid f i p x o → atom_start f i ≡ vid_if p (names_vid f i)
     start (plain_long (alpha_vid p x) e) = refl
     start (plain_long (symbol_vid p x) e) = refl
     start (plain_long (star_vid p x) e) = refl
@@ -134,6 +135,18 @@ names-start {f} {i} v = start v ∙ ap vid_if (names-found v)
     start (qualified (long_symbol_vid p qs x)) = refl
     start (qualified (long_star_vid p qs x)) = refl
     start (op_long p v) = refl
+
+-- the function that looks, on what begins an atomic expression and an expression
+pub begins_atom-found : {f : Fixity} {i : List Terminal} → BeginsAtom f i → begins_atom f i ≡ true
+begins_atom-found (with_constant (is_number p n b)) = refl
+begins_atom-found (with_constant (is_constant p c)) = refl
+begins_atom-found (with_vid v) = let h = names-start v in rw h refl
+begins_atom-found (with_equals p e) = rw e refl
+begins_atom-found (with_brace p) = refl
+begins_atom-found (with_hash p) = refl
+begins_atom-found (with_paren p) = refl
+begins_atom-found (with_bracket p) = refl
+begins_atom-found (with_let p) = refl
 
 pub atom-begins : {f : Fixity} {i o : List Terminal} {e : Exp} → Atom f i e o → begins_atom f i ≡ true
 atom-begins (of_constant (is_number p n b)) = refl
@@ -165,6 +178,14 @@ atom-start {f} {i} a = begins-start f i (atom-begins a)
 
 pub true-or : (a b : Bool) → a ≡ true → (a || b) ≡ true
 true-or a b e = rw e refl
+
+pub begins-found : {f : Fixity} {l : ℕ} {i : List Terminal} → Begins f l i → begins f l i ≡ true
+begins-found {f} {l} {i} (with_atom b) = true-or (begins_atom f i) (nat_le l 4 && is_keyword (start_of i)) (begins_atom-found b)
+begins-found {l} (with_raise p h) = let c = le-leb l 4 h in rw c refl
+begins-found {l} (with_if p h) = let c = le-leb l 4 h in rw c refl
+begins-found {l} (with_while p h) = let c = le-leb l 4 h in rw c refl
+begins-found {l} (with_case p h) = let c = le-leb l 4 h in rw c refl
+begins-found {l} (with_fn p h) = let c = le-leb l 4 h in rw c refl
 
 pub reads-begins : {f : Fixity} {i o : List Terminal} {t : Exp} (l : ℕ) → Reads f i t o → l ≤ level f t → begins f l i ≡ true
 reads-begins {f} {i} l (of_atom d) h = true-or (begins_atom f i) (nat_le l 4 && is_keyword (start_of i)) (atom-begins d)

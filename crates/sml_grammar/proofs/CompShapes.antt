@@ -77,8 +77,8 @@ mutual
   decs-shorter (of_dec d ds) = let h = dec-shorter d in let k = decs-shorter ds in omega arith
 
   pub dec-shorter : {f : Fixity} {i o : List Terminal} {d : Dec} → Declare f i d o → length o < length i
-  dec-shorter (of_val p as_ d) = let g = facts.tyvars-shorter as_ in let h = binds-shorter d in omega arith
-  dec-shorter (of_fun p as_ d) = let g = facts.tyvars-shorter as_ in let h = funs-shorter d in omega arith
+  dec-shorter (of_val p as_ s d) = let g = facts.tyvars-shorter as_ in let h = binds-shorter d in omega arith
+  dec-shorter (of_fun p as_ s d) = let g = facts.tyvars-shorter as_ in let h = funs-shorter d in omega arith
   dec-shorter (of_type p d) = let h = facts.type_binds-shorter d in omega arith
   dec-shorter (of_datatype p d) = let h = facts.data_binds-shorter d in omega arith
   dec-shorter (of_withtype p q d e) = let h = facts.data_binds-shorter d in let k = facts.type_binds-shorter e in omega arith

@@ -6,7 +6,7 @@ use Rattle.sml_grammar.specs.Answer.{deep, deep_if}
 use Rattle.sml_grammar.specs.Expressions.{readers, begins, begins_atom, exp_from}
 use Rattle.sml_grammar.specs.Partial.{begun, begun_atom, begun_local, in_local, in_local_body}
 use Rattle.sml_grammar.proofs.Answers.{deep_if-ok, deep_ok, if-deep}
-use Rattle.sml_grammar.proofs.ExpLevels.{atom-start-is}
+use Rattle.sml_grammar.proofs.ExpLevels.{atom-start-is, begins_atom-is, begins-is}
 use Rattle.sml_grammar.proofs.ExpBelow.{Below, FarBelow}
 use Rattle.sml_grammar.proofs.ExpSoundForms.{exp_from-sound}
 use Rattle.sml_grammar.proofs.ExpSound.{readers-sound}
@@ -22,9 +22,9 @@ pub record FarReaders (n : ℕ) : Type 0 where
 pub readers-far : ((n : ℕ) → Below n) → ((n : ℕ) → FarBelow n) → (n : ℕ) → FarReaders n
 unfolding readers
 readers-far below far_below zero = record {
-  exp = λ f l i low h. begun (if-deep {A = Exp} (begins f l i) h);
-  atom = λ f i h. begun_atom (if-deep {A = Exp} (begins_atom f i) h);
-  decs = λ f i h. decs_from-far 0 (below 0) (far_below 0) (λ g l m. deep_if (begins g l m)) (λ g l m x low e. deep_if-ok (begins g l m) x e) (λ g l m low e. begun (if-deep {A = Exp} (begins g l m) e))
+  exp = λ f l i low h. begun (begins-is (if-deep {A = Exp} (begins f l i) h));
+  atom = λ f i h. begun_atom (begins_atom-is (if-deep {A = Exp} (begins_atom f i) h));
+  decs = λ f i h. decs_from-far 0 (below 0) (far_below 0) (λ g l m. deep_if (begins g l m)) (λ g l m x low e. deep_if-ok (begins g l m) x e) (λ g l m low e. begun (begins-is (if-deep {A = Exp} (begins g l m) e)))
       (λ g m. deep) (λ g m x e. deep_ok e) (record { first = λ g p m e. begun_local p; second = λ g p q m ds k d e. begun_local p }) f i h;
 }
 readers-far below far_below (suc n) =

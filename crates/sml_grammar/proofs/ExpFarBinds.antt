@@ -1,9 +1,11 @@
 -- Where bindings of values or functions are too deep, a partial one is there.
-use Rattle.std.proofs.Common.{◌≡◌, ℕ, suc, List, ◌∷◌, length, Option, Some, None, true, false, inl, inr, sym, subst, arith}
+use Rattle.std.proofs.Common.{◌≡◌, ℕ, suc, List, ◌∷◌, length, Option, Some, None, true, false, inl, inr, refl, sym, subst, arith}
 use Rattle.mlc_base.specs.declared.token.Reserved.TheVariants as res
 use Rattle.sml_tree.specs.Terminal.{Terminal, reserved}
+use Rattle.sml_tree.specs.declared.ident.Vid.{Vid}
+use Rattle.sml_tree.specs.declared.ident.Vid.TheVariants.{Equals}
 use Rattle.sml_tree.specs.Fixity.{Fixity}
-use Rattle.sml_tree.specs.ReadTree.{Ty, Head, Binds, last_bind, bind, Funs, last_fun, fun_and, Clauses, last_clause, clause}
+use Rattle.sml_tree.specs.ReadTree.{Ty, Head, head_vid, head_count, Binds, last_bind, bind, Funs, last_fun, fun_and, Clauses, last_clause, clause}
 use Rattle.sml_tree.specs.Levels.{goes_on}
 use Rattle.sml_tree.specs.Grammar.{MaybeTy, Pattern, ReadsHead, Reads, ReadsClauses}
 use Rattle.sml_grammar.specs.Answer.{Read, deep, read, Turn, more}
@@ -18,7 +20,7 @@ use Rattle.sml_grammar.proofs.Answers.{chosen, then_ok, then_deep, word_then-ok,
 use Rattle.sml_grammar.proofs.ExpBelow.{Below, FarBelow}
 use Rattle.sml_grammar.proofs.ExpTurns.{at-head, at-front, sep-more, went}
 use Rattle.sml_grammar.proofs.ExpSoundAtoms.{Sounds}
-use Rattle.sml_grammar.proofs.ExpSoundBinds.{clauses-sound}
+use Rattle.sml_grammar.proofs.ExpSoundBinds.{clauses-sound, Agreed, agrees-is}
 use Rattle.sml_grammar.proofs.ExpFarAtoms.{Fars}
 
 -- a type after `:` that is too deep
@@ -31,6 +33,17 @@ maybe-far n far_below i h = go (after-is res.Colon i) i h
     go : {i : List Terminal} {v : Option (List Terminal)} → AfterWord res.Colon i v → (z : List Terminal) → maybe_ty n v z ≡ deep → FarMaybe n i
     go (found {o} p) z h = elim (then_deep (read_ty n 0 o) _ h) [ inl x ↦ far_maybe p (far_below.tys o x) | inr t ↦ not_deep t.2 ]
     go (absent e) z h = not_deep h
+
+-- partial clauses after some of this shape
+pub record FarClauses (n : ℕ) (f : Fixity) (s : Option Shape) (i : List Terminal) : Type 0 where
+  pub vid : Vid
+  pub count : ℕ
+  pub agreed : Agreed s vid count
+  pub opens : OpensClauses f vid count i (suc n)
+
+any-shape : (s : Option Shape) → (v : Vid) × (c : ℕ) × Agreed s v c
+any-shape None = (Equals, 0, tt)
+any-shape (Some s) = (s.vid, s.count, (refl, refl))
 
 module _ (n : ℕ) (below : Below n) (far_below : FarBelow n) (self : Reader) (sound : Sounds n self) (far : Fars n self) (f : Fixity) where
   bind-ends : (s : NoState) (i : List Terminal) → bind_turn n self f s i ≡ deep → OpensBinds f i (suc n)
@@ -69,23 +82,23 @@ module _ (n : ℕ) (below : Below n) (far_below : FarBelow n) (self : Reader) (s
   pub binds-far : (i : List Terminal) → read_binds n self f i ≡ deep → OpensBinds f i (suc n)
   binds-far i h = many-far (bind_turn n self f) (λ s m. OpensBinds f m (suc n)) bind-ends bind-goes (suc (length i)) no_state i h
 
-  result-far : (s : Option Shape) {i m : List Terminal} {h : Head} → ReadsHead f i h m → agrees s h ≡ true → FarMaybe n m → OpensClauses f s i (suc n)
-  result-far s d ag (far_maybe p o) = in_result p d ag o
+  result-far : (s : Option Shape) {i m : List Terminal} {h : Head} → ReadsHead f i h m → agrees s h ≡ true → FarMaybe n m → FarClauses n f s i
+  result-far s {h} d ag (far_maybe p o) = record { vid = head_vid h; count = head_count h; agreed = agrees-is s h ag; opens = in_result p d refl refl o }
 
   body-ends : (s : Option Shape) (i : List Terminal) (h : Head) (m : List Terminal) (t : Option Ty) (k : List Terminal) → ReadsHead f i h m → agrees s h ≡ true → MaybeTy m t k →
-      clause_body self f h t k ≡ deep → OpensClauses f s i (suc n)
+      clause_body self f h t k ≡ deep → FarClauses n f s i
   body-ends s i h m t k d ag q e =
       let w = word_then-deep res.Equals _ k e in
       let a = at-head w.1 (λ z. MaybeTy m t z) q in
       elim (then_deep (self f 0 w.0) _ w.2) [
-        | inl x ↦ in_clause a.0 d ag a.1 (far f 0 w.0 (omega arith) x)
+        | inl x ↦ record { vid = head_vid h; count = head_count h; agreed = agrees-is s h ag; opens = in_clause a.0 d refl refl a.1 (far f 0 w.0 (omega arith) x) }
         | inr u ↦ separated-deep (after_word res.Bar u.0.rest) (clause h t u.0.tree) (last_clause h t u.0.tree) (Some (shape_of h)) u.0.rest u.2
       ]
 
-  clause-ends : (s : Option Shape) (i : List Terminal) → clause_turn n self f s i ≡ deep → OpensClauses f s i (suc n)
+  clause-ends : (s : Option Shape) (i : List Terminal) → clause_turn n self f s i ≡ deep → FarClauses n f s i
   clause-ends s i e =
       elim (then_deep (read_head n f i) (clause_rest n self f s) e) [
-        | inl x ↦ in_head (far_below.heads f i x)
+        | inl x ↦ let v = any-shape s in record { vid = v.0; count = v.1; agreed = v.2; opens = in_head (far_below.heads f i x) }
         | inr t ↦
             let d = (below.heads f i t.0 t.1).reads in
             elim (chosen (agrees s t.0.tree) _ _ t.2) [
@@ -98,7 +111,7 @@ module _ (n : ℕ) (below : Below n) (far_below : FarBelow n) (self : Reader) (s
       ]
 
   body-goes : (s : Option Shape) (i : List Terminal) (h : Head) (m : List Terminal) (t : Option Ty) (k : List Terminal) (put : Clauses → Clauses) (s' : Option Shape) (x : List Terminal) →
-      ReadsHead f i h m → agrees s h ≡ true → MaybeTy m t k → clause_body self f h t k ≡ read (more put s') x → OpensClauses f s' x (suc n) → OpensClauses f s i (suc n)
+      ReadsHead f i h m → agrees s h ≡ true → MaybeTy m t k → clause_body self f h t k ≡ read (more put s') x → FarClauses n f s' x → FarClauses n f s i
   body-goes s i h m t k put s' x d ag q e r =
       let y : Read (Turn Clauses (Option Shape)) = record { tree = more put s'; rest = x } in
       let w = word_then-ok res.Equals _ k y e in
@@ -107,10 +120,12 @@ module _ (n : ℕ) (below : Below n) (far_below : FarBelow n) (self : Reader) (s
       let g = sound f 0 w.0 u.0 (omega arith) u.1 in
       let v = sep-more u.0.rest res.Bar (clause h t u.0.tree) (last_clause h t u.0.tree) (Some (shape_of h)) put s' x u.2 in
       let c = at-head v.0 (λ z. Reads f w.0 u.0.tree z × (goes_on f u.0.tree z ≡ false)) (g.reads, g.ends) in
-      past_clause a.0 c.0 d ag a.1 c.1.1 c.1.0 (subst (λ (z : Option Shape). OpensClauses f z x (suc n)) (sym v.1) r)
+      let k : FarClauses n f (Some (shape_of h)) x = subst (λ (z : Option Shape). FarClauses n f z x) (sym v.1) r in
+      let o : OpensClauses f (head_vid h) (head_count h) x (suc n) =
+      subst (λ (z : Vid). OpensClauses f z (head_count h) x (suc n)) k.agreed.0 (subst (λ (z : ℕ). OpensClauses f k.vid z x (suc n)) k.agreed.1 k.opens) in
+      record { vid = head_vid h; count = head_count h; agreed = agrees-is s h ag; opens = past_clause a.0 c.0 d refl refl a.1 c.1.1 c.1.0 o }
 
-  clause-goes : (s : Option Shape) (i : List Terminal) (put : Clauses → Clauses) (s' : Option Shape) (x : List Terminal) → clause_turn n self f s i ≡ read (more put s') x → OpensClauses f s' x (suc n) →
-      OpensClauses f s i (suc n)
+  clause-goes : (s : Option Shape) (i : List Terminal) (put : Clauses → Clauses) (s' : Option Shape) (x : List Terminal) → clause_turn n self f s i ≡ read (more put s') x → FarClauses n f s' x → FarClauses n f s i
   clause-goes s i put s' x e r =
       let y : Read (Turn Clauses (Option Shape)) = record { tree = more put s'; rest = x } in
       let t = then_ok (read_head n f i) (clause_rest n self f s) y e in
@@ -121,13 +136,13 @@ module _ (n : ℕ) (below : Below n) (far_below : FarBelow n) (self : Reader) (s
         | inr p ↦ bad_ok p.1
       ]
 
-  clauses-far : (i : List Terminal) → read_clauses n self f i ≡ deep → OpensClauses f None i (suc n)
-  clauses-far i h = many-far (clause_turn n self f) (λ s m. OpensClauses f s m (suc n)) clause-ends clause-goes (suc (length i)) None i h
+  clauses-far : (i : List Terminal) → read_clauses n self f i ≡ deep → FarClauses n f None i
+  clauses-far i h = many-far (clause_turn n self f) (FarClauses n f) clause-ends clause-goes (suc (length i)) None i h
 
   fun-ends : (s : NoState) (i : List Terminal) → fun_turn n self f s i ≡ deep → OpensFuns f i (suc n)
   fun-ends s i h =
       elim (then_deep (read_clauses n self f i) _ h) [
-        | inl x ↦ in_clauses (clauses-far i x)
+        | inl x ↦ let c = clauses-far i x in in_clauses c.vid c.count c.opens
         | inr t ↦ separated-deep (after_word res.And t.0.rest) (fun_and t.0.tree) (last_fun t.0.tree) s t.0.rest t.2
       ]
 

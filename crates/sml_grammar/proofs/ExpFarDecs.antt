@@ -16,6 +16,7 @@ use Rattle.sml_grammar.proofs.Words.{word-at}
 use Rattle.sml_grammar.proofs.Answers.{chosen, then_ok, then_deep, then_taken-deep, word_then-deep, on_some-split, on_taken-split, bad_deep, not_deep, many-far}
 use Rattle.sml_grammar.proofs.BindNames.{precedence-sound}
 use Rattle.sml_grammar.proofs.ExpLevels.{DecStartIs, is_val, is_fun, is_type, is_datatype, is_exception, is_local, is_open, is_infix_dec, is_infixr_dec, is_nonfix_dec, is_no_dec, dec-start-is}
+use Rattle.sml_grammar.proofs.BindTyvars.{tyvars-here}
 use Rattle.sml_grammar.proofs.ExpBelow.{Within, Below, FarBelow}
 use Rattle.sml_grammar.proofs.ExpTurns.{at-head, at-front, went, last-more}
 use Rattle.sml_grammar.proofs.ExpSoundAtoms.{Sounds}
@@ -65,12 +66,12 @@ module _ (n : ℕ) (below : Below n) (far_below : FarBelow n) (self : Reader) (s
     dec-far (is_val {o} p) h =
         elim (then_deep (read_tyvars o) _ h) [
           | inl x ↦ absurd (far_below.tyvars o x)
-          | inr t ↦ elim (then_deep (read_binds n self f t.0.rest) _ t.2) [ inl x ↦ in_val p t.1 (binds-far n below far_below self sound far f t.0.rest x) | inr u ↦ not_deep u.2 ]
+          | inr t ↦ elim (then_deep (read_binds n self f t.0.rest) _ t.2) [ inl x ↦ in_val p (tyvars-here t.1) (binds-far n below far_below self sound far f t.0.rest x) | inr u ↦ not_deep u.2 ]
         ]
     dec-far (is_fun {o} p) h =
         elim (then_deep (read_tyvars o) _ h) [
           | inl x ↦ absurd (far_below.tyvars o x)
-          | inr t ↦ elim (then_deep (read_funs n self f t.0.rest) _ t.2) [ inl x ↦ in_fun p t.1 (funs-far n below far_below self sound far f t.0.rest x) | inr u ↦ not_deep u.2 ]
+          | inr t ↦ elim (then_deep (read_funs n self f t.0.rest) _ t.2) [ inl x ↦ in_fun p (tyvars-here t.1) (funs-far n below far_below self sound far f t.0.rest x) | inr u ↦ not_deep u.2 ]
         ]
     dec-far (is_type {o} p) h = elim (then_deep (read_type_binds n o) _ h) [ inl x ↦ in_type p (far_below.type_binds o x) | inr u ↦ not_deep u.2 ]
     dec-far (is_datatype {o} p) h = datatype-far p o h

@@ -12,7 +12,7 @@ use Rattle.sml_grammar.specs.Terminals.{NoState, no_state}
 use Rattle.sml_grammar.specs.Expressions.{Reader, Readers, atom_start, begins_atom, Start, start_of, is_keyword, atom_by, atoms_turn, apply_to, application, read_match, if_rest, while_rest, case_rest, keyword_form, exp_from}
 use Rattle.sml_grammar.specs.Partial.{Opens, in_atom, applied_to, in_argument, in_raise, in_condition, in_then, in_else, in_while, in_do, in_subject, in_case, in_fn, OpensAtom}
 use Rattle.sml_grammar.proofs.Answers.{chosen, then_ok, then_deep, word_then-deep, bad_deep, not_deep, many-far}
-use Rattle.sml_grammar.proofs.ExpLevels.{StartIs, is_raise, is_if, is_while, is_case, is_fn, is_other, start-is, atom-start-is}
+use Rattle.sml_grammar.proofs.ExpLevels.{StartIs, is_raise, is_if, is_while, is_case, is_fn, is_other, start-is, atom-start-is, begins_atom-is}
 use Rattle.sml_grammar.proofs.ExpBelow.{Below, FarBelow}
 use Rattle.sml_grammar.proofs.ExpTurns.{at-head, went, last-more}
 use Rattle.sml_grammar.proofs.ExpSoundAtoms.{Sounds, SoundsAtom, SoundsDecs, atom-sound}
@@ -61,7 +61,7 @@ module _ (n : ℕ) (self : Readers) (sound : Sounds n self.exp) (sound_atom : So
                   | inl x ↦ let r = atoms-far (suc (length t.0.rest)) t.0.rest x in in_argument a.reads r.reads r.opens
                   | inr u ↦ not_deep u.2
                 ]
-                | inr q ↦ applied_to a.reads p.0 (over n (depth t.0.tree) q.0)
+                | inr q ↦ applied_to a.reads (begins_atom-is p.0) (over n (depth t.0.tree) q.0)
               ]
               | inr p ↦ not_deep p.1
             ]

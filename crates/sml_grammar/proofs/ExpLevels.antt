@@ -1,6 +1,6 @@
 -- What may stand at the head of the terminals where an expression or a declaration is read: the functions that look, as views.
-use Rattle.std.proofs.Common.{◌≡◌, ℕ, suc, ◌≤◌, ◌<◌, List, ◌∷◌, Option, Some, None, false, refl, arith}
-use Rattle.std.proofs.lemmas.Bool.{leb-false, lt-leb}
+use Rattle.std.proofs.Common.{◌≡◌, ℕ, suc, ◌≤◌, ◌<◌, List, ◌∷◌, Option, Some, None, Bool, true, false, ◌||◌, ◌&&◌, refl, arith, nat_le}
+use Rattle.std.proofs.lemmas.Bool.{leb-true, leb-false, lt-leb}
 use Rattle.mlc_base.specs.declared.token.Reserved.TheVariants as res
 use Rattle.sml_tree.specs.Terminal.{Constant, LongVid, Terminal, reserved, number, constant, alpha, symbol, star, IsConstant, is_number, is_constant, alpha_vid, symbol_vid, star_vid}
 use Rattle.sml_tree.specs.declared.ident.Vid.TheVariants.{Named, Equals}
@@ -9,9 +9,10 @@ use Rattle.sml_tree.specs.Fixity.{Fixity, fix_of}
 use Rattle.sml_tree.specs.ReadTree.{Placed, Joint, and_also, or_else, infixed, Parts, last_part, part, Rules, last_rule, rule}
 use Rattle.sml_tree.specs.Levels.{infix_level, joint_level, parts_level, tie, at_least, could_go_on, goes_on, rules_go_on}
 use Rattle.sml_tree.specs.Grammar.{IsJoint, is_andalso, is_orelse, is_infix, is_infix_equals, NamesVid}
-use Rattle.sml_grammar.specs.Terminals.{Taken, names_vid, infix_if, short}
-use Rattle.sml_grammar.specs.Expressions.{AtomStart, constant_start, vid_start, brace_start, hash_start, paren_start, bracket_start, let_start, no_atom, vid_if, equals_unless, atom_start, begins_atom, Start, raise_start, if_start, while_start, case_start, fn_start, other_start, start_of, Next, joint, mark, handler, nothing, infix_next, equals_next, next_of, DecStart, val_start, fun_start, type_start, datatype_start, exception_start, local_start, open_start, infix_start, infixr_start, nonfix_start, no_dec, dec_start}
-use Rattle.sml_grammar.proofs.Answers.{or_split}
+use Rattle.sml_grammar.specs.Terminals.{Taken, place_at, names_vid, infix_if, short}
+use Rattle.sml_grammar.specs.Expressions.{AtomStart, constant_start, vid_start, brace_start, hash_start, paren_start, bracket_start, let_start, no_atom, vid_if, equals_unless, atom_start, is_atom_start, begins_atom, begins, is_keyword, Start, raise_start, if_start, while_start, case_start, fn_start, other_start, start_of, Next, joint, mark, handler, nothing, infix_next, equals_next, next_of, DecStart, val_start, fun_start, type_start, datatype_start, exception_start, local_start, open_start, infix_start, infixr_start, nonfix_start, no_dec, dec_start}
+use Rattle.sml_grammar.specs.Begins.{BeginsAtom, with_constant, with_vid, with_equals, with_brace, with_hash, with_paren, with_bracket, with_let, Begins, with_atom, with_raise, with_if, with_while, with_case, with_fn}
+use Rattle.sml_grammar.proofs.Answers.{or_split, not_true}
 use Rattle.sml_grammar.proofs.Vids.{names-is}
 
 -- what may follow an expression
@@ -148,8 +149,8 @@ start-is _ = is_other
 
 pub data AtomStartIs (f : Fixity) : List Terminal → AtomStart → Type 0 where
   is_constant_start : {t : Terminal} {p : ℕ} {c : Constant} {o : List Terminal} → IsConstant t p c → AtomStartIs f (t ∷ o) (constant_start p c o)
-  is_vid_start : {i o : List Terminal} {x : Placed LongVid} → NamesVid f i x.place x.it o → AtomStartIs f i (vid_start x o)
-  is_equals_start : {o : List Terminal} (p : ℕ) → fix_of Equals f ≡ None → AtomStartIs f (reserved p res.Equals ∷ o) (vid_start (record { place = p; it = short Equals }) o)
+  is_vid_start : {i o : List Terminal} {p : ℕ} {x : Placed LongVid} → NamesVid f i p x o → AtomStartIs f i (vid_start p x o)
+  is_equals_start : {o : List Terminal} (p : ℕ) → fix_of Equals f ≡ None → AtomStartIs f (reserved p res.Equals ∷ o) (vid_start p (record { place = p; it = short Equals }) o)
   is_brace_start : {o : List Terminal} (p : ℕ) → AtomStartIs f (reserved p res.LeftBrace ∷ o) (brace_start p o)
   is_hash_start : {o : List Terminal} (p : ℕ) → AtomStartIs f (reserved p res.Hash ∷ o) (hash_start p o)
   is_paren_start : {o : List Terminal} (p : ℕ) → AtomStartIs f (reserved p res.LeftParen ∷ o) (paren_start p o)
@@ -157,10 +158,10 @@ pub data AtomStartIs (f : Fixity) : List Terminal → AtomStart → Type 0 where
   is_let_start : {o : List Terminal} (p : ℕ) → AtomStartIs f (reserved p res.Let ∷ o) (let_start p o)
   is_no_atom : {i : List Terminal} → AtomStartIs f i no_atom
 
-names-start : (f : Fixity) (i : List Terminal) → AtomStartIs f i (vid_if (names_vid f i))
+names-start : (f : Fixity) (i : List Terminal) → AtomStartIs f i (vid_if (place_at i) (names_vid f i))
 names-start f i = go (names_vid f i) refl
   where
-    go : (v : Option (Taken (Placed LongVid))) → names_vid f i ≡ v → AtomStartIs f i (vid_if v)
+    go : (v : Option (Taken (Placed LongVid))) → names_vid f i ≡ v → AtomStartIs f i (vid_if (place_at i) v)
     go None e = is_no_atom
     go (Some x) e = is_vid_start (names-is f i x.it x.rest e)
 
@@ -178,6 +179,41 @@ atom-start-is f (reserved p res.Equals ∷ o) = equals-start f p o (fix_of Equal
 atom-start-is f (number p n plain ∷ o) = is_constant_start (is_number p n plain)
 atom-start-is f (constant p c ∷ o) = is_constant_start (is_constant p c)
 atom-start-is f i = names-start f i
+
+-- what is told to begin an expression does
+
+pub begins_atom-is : {f : Fixity} {i : List Terminal} → begins_atom f i ≡ true → BeginsAtom f i
+begins_atom-is {f} {i} h = go (atom-start-is f i) h
+  where
+    go : {i : List Terminal} {s : AtomStart} → AtomStartIs f i s → is_atom_start s ≡ true → BeginsAtom f i
+    go (is_constant_start c) h = with_constant c
+    go (is_vid_start v) h = with_vid v
+    go (is_equals_start p e) h = with_equals p e
+    go (is_brace_start p) h = with_brace p
+    go (is_hash_start p) h = with_hash p
+    go (is_paren_start p) h = with_paren p
+    go (is_bracket_start p) h = with_bracket p
+    go (is_let_start p) h = with_let p
+    go is_no_atom h = not_true h
+
+pub begins-is : {f : Fixity} {l : ℕ} {i : List Terminal} → begins f l i ≡ true → Begins f l i
+begins-is {f} {l} {i} h = atom (begins_atom f i) refl h
+  where
+    word : {i : List Terminal} {s : Start} → StartIs i s → l ≤ 4 → is_keyword s ≡ true → Begins f l i
+    word (is_raise p) le h = with_raise p le
+    word (is_if p) le h = with_if p le
+    word (is_while p) le h = with_while p le
+    word (is_case p) le h = with_case p le
+    word (is_fn p) le h = with_fn p le
+    word is_other le h = not_true h
+
+    low : (b : Bool) → nat_le l 4 ≡ b → (b && is_keyword (start_of i)) ≡ true → Begins f l i
+    low true e h = word (start-is i) (leb-true l 4 e) h
+    low false e h = not_true h
+
+    atom : (b : Bool) → begins_atom f i ≡ b → (b || (nat_le l 4 && is_keyword (start_of i))) ≡ true → Begins f l i
+    atom true e h = with_atom (begins_atom-is e)
+    atom false e h = low (nat_le l 4) refl h
 
 -- what a declaration begins with
 

@@ -14,6 +14,7 @@ use Rattle.sml_grammar.specs.Expressions.{Reader, DecsReader, read_binds, read_f
 use Rattle.sml_grammar.proofs.Words.{WordAt, at_word, word-at}
 use Rattle.sml_grammar.proofs.Answers.{chosen, got_some, not_some, then_ok, then_taken-ok, word_then-ok, on_some-split, on_taken-split, bad_ok, GoodTurn, many-ok}
 use Rattle.sml_grammar.proofs.Terminals.{Front, front, tycon-is, long_tycon-is}
+use Rattle.sml_grammar.proofs.BindTyvars.{place-is}
 use Rattle.sml_grammar.proofs.BindNames.{precedence-sound}
 use Rattle.sml_grammar.proofs.ExpLevels.{DecStartIs, is_val, is_fun, is_type, is_datatype, is_exception, is_local, is_open, is_infix_dec, is_infixr_dec, is_nonfix_dec, is_no_dec, dec-start-is}
 use Rattle.sml_grammar.proofs.ExpBelow.{Within, Below}
@@ -89,12 +90,12 @@ module _ (n : ℕ) (below : Below n) (self : Reader) (sound : Sounds n self)
         let t = then_ok (read_tyvars o) _ y h in
         let u = then_ok (read_binds n self f t.0.rest) _ y t.2 in
         let g = binds-sound n below self sound f t.0.rest u.0 u.1 in
-        given (GoodDec (reserved p res.Val ∷ o)) u.2 (record { reads = of_val p (below.tyvars o t.0 t.1) g.reads; fits = g.fits })
+        given (GoodDec (reserved p res.Val ∷ o)) u.2 (record { reads = of_val p (below.tyvars o t.0 t.1) (place-is p (below.tyvars o t.0 t.1)) g.reads; fits = g.fits })
     dec-sound y (is_fun {o} p) h =
         let t = then_ok (read_tyvars o) _ y h in
         let u = then_ok (read_funs n self f t.0.rest) _ y t.2 in
         let g = funs-sound n below self sound f t.0.rest u.0 u.1 in
-        given (GoodDec (reserved p res.Fun ∷ o)) u.2 (record { reads = of_fun p (below.tyvars o t.0 t.1) g.reads; fits = g.fits })
+        given (GoodDec (reserved p res.Fun ∷ o)) u.2 (record { reads = of_fun p (below.tyvars o t.0 t.1) (place-is p (below.tyvars o t.0 t.1)) g.reads; fits = g.fits })
     dec-sound y (is_type {o} p) h =
         let t = then_ok (read_type_binds n o) _ y h in
         let g = below.type_binds o t.0 t.1 in

@@ -67,3 +67,4 @@ pub mod PatFar
 pub mod PatHeadsDeep
 pub mod LawComplete
 pub mod NoTree
+pub mod PartialExamples

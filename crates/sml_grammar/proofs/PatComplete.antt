@@ -13,12 +13,12 @@ use Rattle.sml_tree.specs.Levels.{vid_level, vid_right, pat_level}
 use Rattle.sml_tree.specs.Grammar.{ReadsTy, MaybeTy, without_ty, with_ty, BindsVid, op_vid, NamesVid, plain_long, qualified, op_long, IsInfixVid, PatFits, AtPat, of_wild, of_pat_constant, of_pat_vid, of_no_pat_row, of_pat_row, of_unit_pat, of_tuple_pat, of_nil_pat, of_list_pat, of_paren_pat, PatRow, row_dots, last_row, more_row, Field, of_labelled, of_punned, of_punned_as, PatCommas, last_pat, more_pats, Pattern, of_atpat, of_con_pat, of_chain_pat, of_typed_pat, of_as_pat, PatFollows, of_last_pat_part, of_pat_part, AtPats, no_atpats, more_atpats, ReadsHead, of_prefix_head, of_infix_head, of_bracket_head}
 use Rattle.sml_tree.specs.Grammar as grammar
 use Rattle.sml_grammar.specs.Answer.{read, last, more, many}
-use Rattle.sml_grammar.specs.Terminals.{Taken, after_word, tail, on_taken, short, infix_vid, binds_vid, names_vid}
+use Rattle.sml_grammar.specs.Terminals.{Taken, after_word, tail, on_taken, infix_vid, binds_vid, names_vid}
 use Rattle.sml_grammar.specs.Types.{read_ty, ty_could_go_on}
-use Rattle.sml_grammar.specs.Patterns.{pat_start, begins_pat, PatReader, PatReaders, at_pat, same, pat_part_next, pat_part_turn, whole_pat_parts, pat_suffix_mark, pat_suffix_joint, pat_suffix_turn, pat_first, plain_form, pat_form, read_pats, read_pat}
+use Rattle.sml_grammar.specs.Patterns.{short_at, pat_start, begins_pat, PatReader, PatReaders, at_pat, same, pat_part_next, pat_part_turn, whole_pat_parts, pat_suffix_mark, pat_suffix_joint, pat_suffix_turn, pat_first, plain_form, pat_form, read_pats, read_pat}
 use Rattle.sml_grammar.proofs.Answers.{not_none, many-last, many-more, many-pass, le_or}
 use Rattle.sml_grammar.proofs.Words.{AfterWord, found, absent, after-is}
-use Rattle.sml_grammar.proofs.Vids.{binds-found, names-found, constant-no_names, constant-no_binds}
+use Rattle.sml_grammar.proofs.Vids.{binds-found, binds-place, names-found, names-place, constant-no_names, constant-no_binds}
 use Rattle.sml_grammar.proofs.TypeShapes.{ty-shorter, ty-pos}
 use Rattle.sml_grammar.proofs.TypeComplete.{ty-complete}
 use Rattle.sml_grammar.proofs.PatStarts.{begins-no_word, infix_ties, PatStops, ends_pat, pat-stops-word, stops-higher}
@@ -108,14 +108,14 @@ module _ (n : ℕ) (self : PatReaders) (complete : CompletePat n self.pat) (comp
 
   -- At level 0 an identifier alone waits for what follows it.
   pub data Reached : ℕ → List Terminal → Pat → List Terminal → Type 0 where
-    alone : {i m : List Terminal} {p : ℕ} {v : Vid} → BindsVid f i p v m → Reached 0 i (vid_pat p (short v)) m
+    alone : {i m : List Terminal} {p : ℕ} {v : Placed Vid} → BindsVid f i p v m → Reached 0 i (vid_pat p (short_at v)) m
     along : {l : ℕ} {i m : List Terminal} {a : Pat} → Reaches l i a m → Reached l i a m
 
   pub plain-unbound : (l : ℕ) (i : List Terminal) → binds_vid f i ≡ None → pat_form self n f l i ≡ plain_form self n f l i
   plain-unbound zero i e = rw e refl
   plain-unbound (suc l) i e = refl
 
-  pub plain-bound : (l : ℕ) {i m : List Terminal} {p : ℕ} {v : Vid} → BindsVid f i p v m → after_word res.As m ≡ None → after_word res.Colon m ≡ None → pat_form self n f l i ≡ plain_form self n f l i
+  pub plain-bound : (l : ℕ) {i m : List Terminal} {p : ℕ} {v : Placed Vid} → BindsVid f i p v m → after_word res.As m ≡ None → after_word res.Colon m ≡ None → pat_form self n f l i ≡ plain_form self n f l i
   plain-bound zero b ea ec = let h = binds-found b in rw (h, ea, ec) refl
   plain-bound (suc l) b ea ec = refl
 
@@ -129,7 +129,7 @@ module _ (n : ℕ) (self : PatReaders) (complete : CompletePat n self.pat) (comp
   op-unbound q o (long_symbol_vid p qs x) = refl
   op-unbound q o (long_star_vid p qs x) = refl
 
-  pub plain-named : (l : ℕ) {i m : List Terminal} {p : ℕ} {x : LongVid} → NamesVid f i p x m → after_word res.As m ≡ None → after_word res.Colon m ≡ None → pat_form self n f l i ≡ plain_form self n f l i
+  pub plain-named : (l : ℕ) {i m : List Terminal} {p : ℕ} {x : Placed LongVid} → NamesVid f i p x m → after_word res.As m ≡ None → after_word res.Colon m ≡ None → pat_form self n f l i ≡ plain_form self n f l i
   plain-named l (plain_long v e) ea ec = plain-bound l (grammar.plain_vid v e) ea ec
   plain-named l {i} (qualified {o} v) ea ec = plain-unbound l i (qualified-unbound o v)
   plain-named l (op_long p (any_short a)) ea ec = plain-bound l (op_vid p a) ea ec
@@ -139,18 +139,18 @@ module _ (n : ℕ) (self : PatReaders) (complete : CompletePat n self.pat) (comp
   plain-reaches l i a m e h = (suc (length m), omega arith, e ∙ rw h refl)
 
   -- an identifier, where no argument follows it
-  first-vid : {i m : List Terminal} {p : ℕ} {x : LongVid} → NamesVid f i p x m → begins_pat f m ≡ false → pat_first self n f i ≡ read (vid_pat p x) m
-  first-vid x b = let h = names-found x in rw (h, b) refl
+  first-vid : {i m : List Terminal} {p : ℕ} {x : Placed LongVid} → NamesVid f i p x m → begins_pat f m ≡ false → pat_first self n f i ≡ read (vid_pat p x) m
+  first-vid x b = let h = names-found x in let e = names-place x in rw (h, e, b) refl
 
   pub first-atom : (i : List Terminal) {m : List Terminal} {a : Pat} → names_vid f i ≡ None → at_pat n self.pat f (pat_start f i) ≡ read a m → pat_first self n f i ≡ read a m
   first-atom i e h = rw (e, h) refl
 
-  first-con : {i m o : List Terminal} {p : ℕ} {x : LongVid} {a : Pat} → NamesVid f i p x m → AtPat f m a o → depth_pat a ≤ n → pat_first self n f i ≡ read (con_pat p x a) o
+  first-con : {i m o : List Terminal} {p : ℕ} {x : Placed LongVid} {a : Pat} → NamesVid f i p x m → AtPat f m a o → depth_pat a ≤ n → pat_first self n f i ≡ read (con_pat p x a) o
   first-con {m} {o} {a} x d le =
-      let h = names-found x in
+      let h = names-found x in let e = names-place x in
       let b = atpat-begins d in
       let g : self.atpat f m ≡ read a o = complete_at f m o a d le in
-      rw (h, b, g) refl
+      rw (h, e, b, g) refl
 
   pub settle : {l : ℕ} {i m : List Terminal} {a : Pat} → Reached l i a m → begins_pat f m ≡ false → (l ≤ 0 → after_word res.As m ≡ None) → (l ≤ 0 → after_word res.Colon m ≡ None) → Reaches l i a m
   settle (along r) b ea ec = r
@@ -164,7 +164,7 @@ module _ (n : ℕ) (self : PatReaders) (complete : CompletePat n self.pat) (comp
   at-reached : (l : ℕ) {i o : List Terminal} {a : Pat} → binds_vid f i ≡ None → names_vid f i ≡ None → AtPat f i a o → depth_pat a ≤ suc n → Reached l i a o
   at-reached l {i} {o} {a} eb en d le = along (plain-reaches l i a o (plain-unbound l i eb) (first-atom i en (at-complete n self.pat complete f d le)))
 
-  vid-reached : (l : ℕ) {i o : List Terminal} {p : ℕ} {x : LongVid} → NamesVid f i p x o → begins_pat f o ≡ false → Reached l i (vid_pat p x) o
+  vid-reached : (l : ℕ) {i o : List Terminal} {p : ℕ} {x : Placed LongVid} → NamesVid f i p x o → begins_pat f o ≡ false → Reached l i (vid_pat p x) o
   vid-reached (suc l) {i} {o} {p} {x} d b = along (plain-reaches (suc l) i (vid_pat p x) o refl (first-vid d b))
   vid-reached zero (plain_long v e) b = alone (grammar.plain_vid v e)
   vid-reached zero {i} {o} {p} {x} (qualified v) b = along (plain-reaches 0 i (vid_pat p x) o (plain-unbound 0 i (qualified-unbound o v)) (first-vid (qualified v) b))
@@ -183,7 +183,7 @@ module _ (n : ℕ) (self : PatReaders) (complete : CompletePat n self.pat) (comp
   atpat-reached l (of_list_pat p q ds) le b = at-reached l refl refl (of_list_pat p q ds) le
   atpat-reached l (of_paren_pat p q d) le b = at-reached l refl refl (of_paren_pat p q d) le
 
-  con-reaches : (l : ℕ) {i m o : List Terminal} {p : ℕ} {x : LongVid} {a : Pat} → NamesVid f i p x m → AtPat f m a o → depth_pat a ≤ n → Reaches l i (con_pat p x a) o
+  con-reaches : (l : ℕ) {i m o : List Terminal} {p : ℕ} {x : Placed LongVid} {a : Pat} → NamesVid f i p x m → AtPat f m a o → depth_pat a ≤ n → Reaches l i (con_pat p x a) o
   con-reaches l {i} {m} {o} {p} {x} {a} d da le =
       let b = atpat-begins da in
       plain-reaches l i (con_pat p x a) o (plain-named l d (begins-no_word f res.As m (λ p o. refl) b) (begins-no_word f res.Colon m (λ p o. refl) b)) (first-con d da le)
@@ -195,11 +195,11 @@ module _ (n : ℕ) (self : PatReaders) (complete : CompletePat n self.pat) (comp
       let sh = ty-shorter d in
       reaches-more l i a (typed_pat a s) (reserved p res.Colon ∷ m) o (omega arith) (mark-step n self.pat complete f l a p low five la d ls g) r
   typed-reaches p {i} {m} {o} {a} {s} (alone {v} b) low five la d ls g ea =
-      let h = binds-found b in
+      let h = binds-found b in let e = binds-place b in
       let t : read_ty n 0 m ≡ read s o = ty-complete n 0 d ls (omega arith) g in
       let c : nat_le 1 n ≡ true = le-leb 1 n la in
       let na : after_word res.As o ≡ None = ea (omega arith) in
-      (suc (length o), omega arith, rw (h, c, t, na) refl)
+      (suc (length o), omega arith, rw (h, e, c, t, na) refl)
 
   pub reached : (l : ℕ) {i o : List Terminal} {a : Pat} → Pattern f i a o → depth_pat a ≤ suc n → l ≤ pat_level f a → 5 ≤ pat_level f a → begins_pat f o ≡ false → pat_goes_on f a o ≡ false → (l ≤ 0 → after_word res.As o ≡ None) → Reached l i a o
   reached l (of_atpat d) le high five b ends ea = atpat-reached l d le b
@@ -230,19 +230,19 @@ module _ (n : ℕ) (self : PatReaders) (complete : CompletePat n self.pat) (comp
       go (zero, le, e) = absurd (omega arith)
       go (suc k, le, e) = e ∙ many-last (pat_suffix_turn self.pat n f l) k (stop-step n self.pat complete f a s)
 
-  as-complete : {i m k o : List Terminal} {p : ℕ} {v : Vid} {s : Option Ty} {a : Pat} (q : ℕ) → BindsVid f i p v m → MaybeTy m s (reserved q res.As ∷ k) → Pattern f k a o → depth_some s ≤ n → depth_pat a ≤ n → PatStops f 0 o →
+  as-complete : {i m k o : List Terminal} {p : ℕ} {v : Placed Vid} {s : Option Ty} {a : Pat} (q : ℕ) → BindsVid f i p v m → MaybeTy m s (reserved q res.As ∷ k) → Pattern f k a o → depth_some s ≤ n → depth_pat a ≤ n → PatStops f 0 o →
       pat_form self n f 0 i ≡ read (as_pat p v s a) o
   as-complete {k} {o} {a} q b without_ty d ls le st =
-      let h = binds-found b in
+      let h = binds-found b in let e = binds-place b in
       let g : self.pat f 0 k ≡ read a o = complete f 0 k o a d le (omega arith) st in
-      rw (h, g) refl
+      rw (h, e, g) refl
   as-complete {k} {o} {a} q b (with_ty {i = m} {a = s} p t) d ls le st =
-      let h = binds-found b in
+      let h = binds-found b in let e = binds-place b in
       let pos = ty-pos s in
       let c : nat_le 1 n ≡ true = le-leb 1 n (omega arith) in
       let j : read_ty n 0 m ≡ read s (reserved q res.As ∷ k) = ty-complete n 0 t ls (omega arith) refl in
       let g : self.pat f 0 k ≡ read a o = complete f 0 k o a d le (omega arith) st in
-      rw (h, c, j, g) refl
+      rw (h, e, c, j, g) refl
 
   pub form-complete : (l : ℕ) {i o : List Terminal} {a : Pat} → Pattern f i a o → depth_pat a ≤ suc n → l ≤ pat_level f a → PatStops f l o → pat_form self n f l i ≡ read a o
   form-complete zero (of_as_pat q b s d) le high st = as-complete q b s d (omega arith) (omega arith) st

@@ -11,15 +11,15 @@ use Rattle.sml_tree.specs.Depth.{depth_pat}
 use Rattle.sml_tree.specs.Levels.{vid_level, vid_right, pat_level}
 use Rattle.sml_tree.specs.Grammar.{ReadsTy, MaybeTy, without_ty, with_ty, BindsVid, IsInfixVid, PatFits, of_pat_vid, Pattern, of_atpat, of_chain_pat, of_typed_pat}
 use Rattle.sml_grammar.specs.Answer.{Read, Answer, ok, bad, deep, read, then_read, Turn, last, more}
-use Rattle.sml_grammar.specs.Terminals.{Taken, after_word, on_some, short, infix_vid, binds_vid, names_vid}
+use Rattle.sml_grammar.specs.Terminals.{Taken, place_at, after_word, on_some, infix_vid, binds_vid, names_vid}
 use Rattle.sml_grammar.specs.Types.{read_ty}
-use Rattle.sml_grammar.specs.Patterns.{pat_start, begins_pat, PatReader, PatReaders, at_pat, same, pat_part_next, pat_part_turn, whole_pat_parts, pat_suffix_mark, pat_suffix_joint, pat_suffix_turn, pat_suffix, pat_first, plain_form, typed_or_as, typed_form, vid_form, pat_form, read_pats}
+use Rattle.sml_grammar.specs.Patterns.{short_at, pat_start, begins_pat, PatReader, PatReaders, at_pat, same, pat_part_next, pat_part_turn, whole_pat_parts, pat_suffix_mark, pat_suffix_joint, pat_suffix_turn, pat_suffix, pat_first, plain_form, typed_or_as, typed_form, vid_form, pat_form, read_pats}
 use Rattle.sml_grammar.proofs.Answers.{chosen, got, then_ok, then_deep, not_deep, bad_deep, bad_ok, deep_ok, if-deep, on_some-split, on_taken-split, FarTurn, many-reach}
 use Rattle.sml_grammar.proofs.Words.{AfterWord, found, absent, after-is}
 use Rattle.sml_grammar.proofs.Vids.{InfixAt, infix_at, infix-is, binds-is, names-is}
 use Rattle.sml_grammar.proofs.TypeSound.{ty-sound}
 use Rattle.sml_grammar.proofs.TypeFar.{ty-far}
-use Rattle.sml_grammar.proofs.PatStarts.{with-word, pat-start-is, level-low}
+use Rattle.sml_grammar.proofs.PatStarts.{with-word, pat-start-is, level-low, begins_pat-is}
 use Rattle.sml_grammar.proofs.PatAtSound.{GoodPat, SoundPat, SoundAtPat}
 use Rattle.sml_grammar.proofs.PatShapes.{binds-names}
 use Rattle.sml_grammar.specs.PartialPatterns.{OpensPat, begun_pat, in_atpat, in_con_pat, joined_pat, in_pat_chain, marked_pat, in_pat_ty, in_as, begun_atpat, OpensPatPart, in_pat_part, past_pat_part}
@@ -184,9 +184,9 @@ module _ (n : ℕ) (self : PatReader) (sound : SoundPat n self) (far : FarPat n 
 module _ (n : ℕ) (self : PatReaders) (sound : SoundPat n self.pat) (sound_at : SoundAtPat n self.atpat) (far : FarPat n self.pat) (far_at : FarAtPat n self.atpat) (f : Fixity) where
   first-far : (l : ℕ) (i : List Terminal) → pat_first self n f i ≡ deep → OpensPat f l i (suc (suc n))
   first-far l i h =
-      elim (on_taken-split (names_vid f i) (λ x m. if begins_pat f m then then_read (self.atpat f m) (λ a o. read (con_pat x.place x.it a) o) else read (vid_pat x.place x.it) m) (at_pat n self.pat f (pat_start f i)) h) [
-        | inl t ↦ elim (chosen (begins_pat f t.1) (then_read (self.atpat f t.1) (λ a o. read (con_pat t.0.place t.0.it a) o)) (read (vid_pat t.0.place t.0.it) t.1) t.3) [
-          | inl p ↦ elim (then_deep (self.atpat f t.1) (λ a o. read (con_pat t.0.place t.0.it a) o) p.1) [
+      elim (on_taken-split (names_vid f i) (λ x m. if begins_pat f m then then_read (self.atpat f m) (λ a o. read (con_pat (place_at i) x a) o) else read (vid_pat (place_at i) x) m) (at_pat n self.pat f (pat_start f i)) h) [
+        | inl t ↦ elim (chosen (begins_pat f t.1) (then_read (self.atpat f t.1) (λ a o. read (con_pat (place_at i) t.0 a) o)) (read (vid_pat (place_at i) t.0) t.1) t.3) [
+          | inl p ↦ elim (then_deep (self.atpat f t.1) (λ a o. read (con_pat (place_at i) t.0 a) o) p.1) [
             | inl e ↦ in_con_pat (names-is f i t.0 t.1 t.2) (far_at f t.1 e)
             | inr u ↦ not_deep u.2
           ]
@@ -203,36 +203,36 @@ module _ (n : ℕ) (self : PatReaders) (sound : SoundPat n self.pat) (sound_at :
         suffix-far n self.pat sound far f l i u.0.tree u.0.rest u.2 g.reads (subst (λ (w : ℕ). l ≤ w) (sym g.high) low)
   ]
 
-  as-far : (i : List Terminal) (v : Placed Vid) (s : Option Ty) {m k : List Terminal} (q : ℕ) → BindsVid f i v.place v.it m → MaybeTy m s (reserved q res.As ∷ k) →
-      then_read (self.pat f 0 k) (λ a o. read (as_pat v.place v.it s a) o) ≡ deep → OpensPat f 0 i (suc (suc n))
-  as-far i v s {k} q b d h = elim (then_deep (self.pat f 0 k) (λ a o. read (as_pat v.place v.it s a) o) h) [
+  as-far : (i : List Terminal) (v : Placed Vid) (s : Option Ty) {m k : List Terminal} (q : ℕ) → BindsVid f i (place_at i) v m → MaybeTy m s (reserved q res.As ∷ k) →
+      then_read (self.pat f 0 k) (λ a o. read (as_pat (place_at i) v s a) o) ≡ deep → OpensPat f 0 i (suc (suc n))
+  as-far i v s {k} q b d h = elim (then_deep (self.pat f 0 k) (λ a o. read (as_pat (place_at i) v s a) o) h) [
     | inl e ↦ in_as q (omega arith) b d (far f 0 k (omega arith) e)
     | inr u ↦ not_deep u.2
   ]
 
-  typed-far : (i : List Terminal) (v : Placed Vid) (p : ℕ) (m : List Terminal) → BindsVid f i v.place v.it (reserved p res.Colon ∷ m) → typed_form self n f v m ≡ deep → OpensPat f 0 i (suc (suc n))
+  typed-far : (i : List Terminal) (v : Placed Vid) (p : ℕ) (m : List Terminal) → BindsVid f i (place_at i) v (reserved p res.Colon ∷ m) → typed_form self n f (place_at i) v m ≡ deep → OpensPat f 0 i (suc (suc n))
   typed-far i v p m b h =
-      let left : Pattern f i (vid_pat v.place (short v.it)) (reserved p res.Colon ∷ m) = of_atpat (of_pat_vid (binds-names b)) in
-      elim (chosen (nat_le 1 n) (then_read (read_ty n 0 m) (typed_or_as self n f v)) deep h) [
-        | inl c ↦ elim (then_deep (read_ty n 0 m) (typed_or_as self n f v) c.1) [
+      let left : Pattern f i (vid_pat (place_at i) (short_at v)) (reserved p res.Colon ∷ m) = of_atpat (of_pat_vid (binds-names b)) in
+      elim (chosen (nat_le 1 n) (then_read (read_ty n 0 m) (typed_or_as self n f (place_at i) v)) deep h) [
+        | inl c ↦ elim (then_deep (read_ty n 0 m) (typed_or_as self n f (place_at i) v) c.1) [
           | inl e ↦ in_pat_ty p (omega arith) (omega arith) left (ty-far n 0 m (omega arith) e)
           | inr u ↦
               let t = u.0.tree in let o = u.0.rest in
               let g = ty-sound n 0 m u.0 (omega arith) u.1 in
-              elim (on_some-split (after_word res.As o) (λ k. then_read (self.pat f 0 k) (λ a o. read (as_pat v.place v.it (Some t) a) o)) (pat_suffix self.pat n f 0 (typed_pat (vid_pat v.place (short v.it)) t) o) u.2) [
+              elim (on_some-split (after_word res.As o) (λ k. then_read (self.pat f 0 k) (λ a o. read (as_pat (place_at i) v (Some t) a) o)) (pat_suffix self.pat n f 0 (typed_pat (vid_pat (place_at i) (short_at v)) t) o) u.2) [
                 | inl q ↦ let w = with-word (λ z. ReadsTy m t z) res.As o q.0 q.1 g.reads in as-far i v (Some t) w.0 b (with_ty p w.1) q.2
-                | inr q ↦ suffix-far n self.pat sound far f 0 i (typed_pat (vid_pat v.place (short v.it)) t) o q.1 (of_typed_pat p (omega arith) left g.reads) (omega arith)
+                | inr q ↦ suffix-far n self.pat sound far f 0 i (typed_pat (vid_pat (place_at i) (short_at v)) t) o q.1 (of_typed_pat p (omega arith) left g.reads) (omega arith)
               ]
         ]
         | inr c ↦ marked_pat p (omega arith) (omega arith) left (over-it n 1 c.0)
       ]
 
-  vid-far : (i : List Terminal) (v : Placed Vid) (m : List Terminal) → BindsVid f i v.place v.it m → vid_form self n f i v m ≡ deep → OpensPat f 0 i (suc (suc n))
+  vid-far : (i : List Terminal) (v : Placed Vid) (m : List Terminal) → BindsVid f i (place_at i) v m → vid_form self n f i v m ≡ deep → OpensPat f 0 i (suc (suc n))
   vid-far i v m b h =
-      elim (on_some-split (after_word res.As m) (λ k. then_read (self.pat f 0 k) (λ a o. read (as_pat v.place v.it None a) o)) (on_some (after_word res.Colon m) (typed_form self n f v) (plain_form self n f 0 i)) h) [
-        | inl q ↦ let w = with-word (λ z. BindsVid f i v.place v.it z) res.As m q.0 q.1 b in as-far i v None w.0 w.1 without_ty q.2
-        | inr q ↦ elim (on_some-split (after_word res.Colon m) (typed_form self n f v) (plain_form self n f 0 i) q.1) [
-          | inl c ↦ let w = with-word (λ z. BindsVid f i v.place v.it z) res.Colon m c.0 c.1 b in typed-far i v w.0 c.0 w.1 c.2
+      elim (on_some-split (after_word res.As m) (λ k. then_read (self.pat f 0 k) (λ a o. read (as_pat (place_at i) v None a) o)) (on_some (after_word res.Colon m) (typed_form self n f (place_at i) v) (plain_form self n f 0 i)) h) [
+        | inl q ↦ let w = with-word (λ z. BindsVid f i (place_at i) v z) res.As m q.0 q.1 b in as-far i v None w.0 w.1 without_ty q.2
+        | inr q ↦ elim (on_some-split (after_word res.Colon m) (typed_form self n f (place_at i) v) (plain_form self n f 0 i) q.1) [
+          | inl c ↦ let w = with-word (λ z. BindsVid f i (place_at i) v z) res.Colon m c.0 c.1 b in typed-far i v w.0 c.0 w.1 c.2
           | inr c ↦ plain-far 0 i (omega arith) c.1
         ]
       ]
@@ -248,11 +248,11 @@ mutual
   unfolding read_pats
 
   pub pats-far : (n : ℕ) → FarPat n (read_pats n).pat
-  pats-far zero f l i low h = begun_pat (if-deep {A = Pat} (begins_pat f i) h)
+  pats-far zero f l i low h = begun_pat (begins_pat-is (if-deep {A = Pat} (begins_pat f i) h))
   pats-far (suc n) f l i low h = form-far n (read_pats n) (pat-sound n) (atpat-sound n) (pats-far n) (atpat-far n) f l i low h
 
   pub atpat-far : (n : ℕ) → FarAtPat n (read_pats n).atpat
-  atpat-far zero f i h = begun_atpat (if-deep {A = Pat} (begins_pat f i) h)
+  atpat-far zero f i h = begun_atpat (begins_pat-is (if-deep {A = Pat} (begins_pat f i) h))
   atpat-far (suc n) f i h = at-far n (read_pats n).pat (pat-sound n) (pats-far n) f (pat-start-is f i) h
 
 pub pat-far : (n : ℕ) (f : Fixity) (l : ℕ) (i : List Terminal) → (read_pats n).pat f l i ≡ deep → l ≤ 1000 → OpensPat f l i (suc n)

@@ -11,10 +11,10 @@ use Rattle.sml_tree.specs.Depth.{depth_pat, depth_pats, depth_head}
 use Rattle.sml_tree.specs.Levels.{vid_right}
 use Rattle.sml_tree.specs.Grammar.{BindsVid, IsInfixVid, AtPat, of_pat_vid, AtPats, no_atpats, more_atpats, ReadsHead, of_prefix_head, of_infix_head, of_bracket_head}
 use Rattle.sml_grammar.specs.Answer.{Read, ok, deep, read, then_read, Turn, last, more, many}
-use Rattle.sml_grammar.specs.Terminals.{Taken, NoState, no_state, short, infix_vid, binds_vid}
-use Rattle.sml_grammar.specs.Patterns.{begins_pat, read_atpat, atpats_turn, read_atpats, infix_rest, prefix_rest, vid_head, Bracketed, bracketed, bracket_rest, pat_head, read_head}
+use Rattle.sml_grammar.specs.Terminals.{Taken, NoState, no_state, place_at, infix_vid, binds_vid}
+use Rattle.sml_grammar.specs.Patterns.{short_at, begins_pat, read_atpat, atpats_turn, read_atpats, infix_rest, prefix_rest, vid_head, Bracketed, bracketed, bracket_rest, pat_head, read_head}
 use Rattle.sml_grammar.proofs.Answers.{chosen, got, then_ok, then_deep, not_deep, bad_deep, on_taken-split, many-deep, many-stop, FarTurn, many-reach, le_or, le_max}
-use Rattle.sml_grammar.proofs.Vids.{InfixAt, infix_at, infix-is, infix-found, binds-is, binds-found}
+use Rattle.sml_grammar.proofs.Vids.{InfixAt, infix_at, infix-is, infix-found, binds-is, binds-found, binds-place, no-binds, binds-none}
 use Rattle.sml_grammar.proofs.PatStarts.{begins-no_infix}
 use Rattle.sml_grammar.proofs.PatShapes.{atpat-shorter, binds-names, atpat-begins}
 use Rattle.sml_grammar.specs.PartialPatterns.{OpensAtPats, in_one_atpat, past_atpat, OpensHead, in_first, first_is_vid, in_second, in_prefix, in_bracketed}
@@ -35,7 +35,7 @@ atpats-opens (more_atpats {a} {as_} d ds) k pos le =
       | inr p ↦ past_atpat d (atpats-opens ds k pos p)
     ]
 
-prefix-opens : {f : Fixity} {i m n o : List Terminal} {p : ℕ} {v : Vid} {a : Pat} {as_ : Pats} → BindsVid f i p v m → AtPat f m a n → AtPats f n as_ o → (k : ℕ) → 0 < k → k ≤ max (depth_pat a) (depth_pats as_) → OpensHead f i k
+prefix-opens : {f : Fixity} {i m n o : List Terminal} {p : ℕ} {v : Placed Vid} {a : Pat} {as_ : Pats} → BindsVid f i p v m → AtPat f m a n → AtPats f n as_ o → (k : ℕ) → 0 < k → k ≤ max (depth_pat a) (depth_pats as_) → OpensHead f i k
 prefix-opens {a} {as_} b d ds k pos le = elim (le_max k (depth_pat a) (depth_pats as_) le) [
   | inl p ↦ in_prefix b (in_one_atpat (atpat-opens d k pos p))
   | inr p ↦ in_prefix b (past_atpat d (atpats-opens ds k pos p))
@@ -46,13 +46,13 @@ first-opens : {f : Fixity} {i m : List Terminal} {t : Terminal} {x : Placed ℕ}
 first-opens {f} {i} {m} {t} {x} {a} d v k pos le = go (binds_vid f i) refl
   where
     -- an identifier is one deep
-    one : (j : ℕ) → j ≡ k → j ≤ 1 → (w : List Terminal) → w ≡ t ∷ m → {p : ℕ} {u : Vid} → BindsVid f i p u w → OpensHead f i k
+    one : (j : ℕ) → j ≡ k → j ≤ 1 → (w : List Terminal) → w ≡ t ∷ m → {p : ℕ} {u : Placed Vid} → BindsVid f i p u w → OpensHead f i k
     one zero e h w s b = absurd (omega arith)
     one (suc zero) e h w s {p} {u} b = subst (λ (z : ℕ). OpensHead f i z) e (first_is_vid (subst (λ (z : List Terminal). BindsVid f i p u z) s b) v)
     one (suc (suc j)) e h w s b = absurd (omega arith)
 
     go : (w : Option (Taken (Placed Vid))) → binds_vid f i ≡ w → OpensHead f i k
-    go None e = in_first e (atpat-opens d k pos le)
+    go None e = in_first (binds-none e) (atpat-opens d k pos le)
     go (Some y) e =
         let b = binds-is f i y.it y.rest e in
         let s = bound-atom d b in
@@ -65,7 +65,7 @@ head-opens (of_infix_head {a} {b} d v e) k pos le = elim (le_max k (depth_pat a)
   | inr p ↦ in_second d v (atpat-opens e k pos p)
 ]
 head-opens (of_bracket_head {a} {b} {as_} p q d v e ds) k pos le = elim (le_max k (suc (suc (max (depth_pat a) (depth_pat b)))) (depth_pats as_) le) [
-  | inl h ↦ in_first refl (atpat-opens (bracket-pattern p q d v e) k pos h)
+  | inl h ↦ in_first (binds-none refl) (atpat-opens (bracket-pattern p q d v e) k pos h)
   | inr h ↦ in_bracketed p q d v e (atpats-opens ds k pos h)
 ]
 
@@ -98,9 +98,9 @@ module _ (n : ℕ) (f : Fixity) where
   atpats-deep : {i : List Terminal} {d : ℕ} → OpensAtPats f i d → n < d → read_atpats n f i ≡ deep
   atpats-deep {i} o lt = atpats-over o lt (suc (length i)) (omega arith)
 
-  prefix-over : {m : List Terminal} {d : ℕ} (v : Placed Vid) → OpensAtPats f m d → n < d → prefix_rest n f v m ≡ deep
-  prefix-over v (in_one_atpat {i = m} o) lt = let h : read_atpat n f m ≡ deep = atpat-over n f o lt in rw h refl
-  prefix-over v (past_atpat {i = m} {m = k} {a} d o) lt =
+  prefix-over : {m : List Terminal} {d : ℕ} (p : ℕ) (v : Placed Vid) → OpensAtPats f m d → n < d → prefix_rest n f p v m ≡ deep
+  prefix-over p v (in_one_atpat {i = m} o) lt = let h : read_atpat n f m ≡ deep = atpat-over n f o lt in rw h refl
+  prefix-over p v (past_atpat {i = m} {m = k} {a} d o) lt =
       let j = atpats-deep o lt in
       elim (le_or (depth_pat a) n) [
         | inl p ↦ let h : read_atpat n f m ≡ read a k = atpat-complete n f d p in rw (h, j) refl
@@ -111,7 +111,7 @@ module _ (n : ℕ) (f : Fixity) where
   first-over i e h = rw (e, h) refl
 
   -- after an identifier
-  vid-over : {i m k : List Terminal} {t : Terminal} {x : Placed ℕ} {p : ℕ} {v : Vid} → BindsVid f i p v k → k ≡ t ∷ m → IsInfixVid f t x → (1 ≤ n → read_atpat n f m ≡ deep) → read_head n f i ≡ deep
+  vid-over : {i m k : List Terminal} {t : Terminal} {x : Placed ℕ} {p : ℕ} {v : Placed Vid} → BindsVid f i p v k → k ≡ t ∷ m → IsInfixVid f t x → (1 ≤ n → read_atpat n f m ≡ deep) → read_head n f i ≡ deep
   vid-over {m} w e v h =
       let g = binds-found w in
       let u = infix-found v m in
@@ -131,14 +131,15 @@ module _ (n : ℕ) (f : Fixity) where
       go (Some y) w = let b = binds-is f i y.it y.rest w in vid-over b (sym (bound-atom d b).1) v (λ (p : 1 ≤ n). h)
 
   pub head-over : {i : List Terminal} {d : ℕ} → OpensHead f i d → n < d → read_head n f i ≡ deep
-  head-over {i} (in_first e o) lt = first-over i e (atpat-over n f o lt)
+  head-over {i} (in_first none o) lt = first-over i (no-binds none) (atpat-over n f o lt)
   head-over (first_is_vid b v) lt = vid-over b refl v (λ (p : 1 ≤ n). absurd (omega arith))
   head-over (in_second d v o) lt = second-over d v (atpat-over n f o lt)
   head-over (in_prefix {m} {p} {v} b o) lt =
       let g = binds-found b in
       let u = begins-no_infix f m (opens_atpats-begin o) in
-      let h = prefix-over (record { place = p; it = v }) o lt in
-      rw (g, u, h) refl
+      let s = binds-place b in
+      let h = prefix-over p v o lt in
+      rw (g, s, u, h) refl
   head-over (in_bracketed {i} {n = k} {x} {a} {b} p q d v e o) lt =
       let w = bracket-pattern p q d v e in
       let r = vid_right f (Named x.it) in
@@ -178,15 +179,15 @@ module _ (n : ℕ) (f : Fixity) where
   atpats-far i h = many-reach (atpats_turn n f) FarAtPats atpats-stop atpats-turn (suc (length i)) no_state i h
 
   infix-far : {i m k : List Terminal} {a : Pat} {x : Placed ℕ} → AtPat f i a m → InfixAt f m x k → infix_rest n f a x k ≡ deep → OpensHead f i (suc n)
-  infix-far {k} {a} {x} d (infix_at v) h = elim (then_deep (read_atpat n f k) (λ b o. read (infix_head a x.it b) o) h) [
+  infix-far {k} {a} {x} d (infix_at v) h = elim (then_deep (read_atpat n f k) (λ b o. read (infix_head a x b) o) h) [
     | inl e ↦ in_second d v (atpat-far n f k e)
     | inr u ↦ not_deep u.2
   ]
 
-  prefix-far : {i : List Terminal} (v : Placed Vid) (m : List Terminal) → BindsVid f i v.place v.it m → prefix_rest n f v m ≡ deep → OpensHead f i (suc n)
-  prefix-far v m b h = elim (then_deep (read_atpat n f m) (λ a k. then_read (read_atpats n f k) (λ as_ o. read (prefix_head v.place v.it a as_) o)) h) [
+  prefix-far : (i : List Terminal) (v : Placed Vid) (m : List Terminal) → BindsVid f i (place_at i) v m → prefix_rest n f (place_at i) v m ≡ deep → OpensHead f i (suc n)
+  prefix-far i v m b h = elim (then_deep (read_atpat n f m) (λ a k. then_read (read_atpats n f k) (λ as_ o. read (prefix_head (place_at i) v a as_) o)) h) [
     | inl e ↦ in_prefix b (in_one_atpat (atpat-far n f m e))
-    | inr t ↦ elim (then_deep (read_atpats n f t.0.rest) (λ as_ o. read (prefix_head v.place v.it t.0.tree as_) o) t.2) [
+    | inr t ↦ elim (then_deep (read_atpats n f t.0.rest) (λ as_ o. read (prefix_head (place_at i) v t.0.tree as_) o) t.2) [
       | inl e ↦ in_prefix b (past_atpat (atpat-sound n f m t.0 t.1).reads (atpats-far t.0.rest e))
       | inr u ↦ not_deep u.2
     ]
@@ -203,24 +204,24 @@ module _ (n : ℕ) (f : Fixity) where
   ]
 
   -- an identifier before an infix one, where there is room for nothing
-  no-room : {i m k : List Terminal} {x : Placed ℕ} {p : ℕ} {v : Vid} → BindsVid f i p v m → InfixAt f m x k → n < 1 → OpensHead f i (suc n)
+  no-room : {i m k : List Terminal} {x : Placed ℕ} {p : ℕ} {v : Placed Vid} → BindsVid f i p v m → InfixAt f m x k → n < 1 → OpensHead f i (suc n)
   no-room {i} b (infix_at v) lt = let e : 1 ≡ suc n = omega arith in subst (λ (z : ℕ). OpensHead f i z) e (first_is_vid b v)
 
-  vid-far : {i : List Terminal} (v : Placed Vid) (m : List Terminal) → BindsVid f i v.place v.it m → vid_head n f v m ≡ deep → OpensHead f i (suc n)
-  vid-far v m b h =
-      elim (on_taken-split (infix_vid f m) (λ x k. if nat_le 1 n then infix_rest n f (vid_pat v.place (short v.it)) x k else deep) (prefix_rest n f v m) h) [
-        | inl t ↦ elim (chosen (nat_le 1 n) (infix_rest n f (vid_pat v.place (short v.it)) t.0 t.1) deep t.3) [
+  vid-far : (i : List Terminal) (v : Placed Vid) (m : List Terminal) → BindsVid f i (place_at i) v m → vid_head n f (place_at i) v m ≡ deep → OpensHead f i (suc n)
+  vid-far i v m b h =
+      elim (on_taken-split (infix_vid f m) (λ x k. if nat_le 1 n then infix_rest n f (vid_pat (place_at i) (short_at v)) x k else deep) (prefix_rest n f (place_at i) v m) h) [
+        | inl t ↦ elim (chosen (nat_le 1 n) (infix_rest n f (vid_pat (place_at i) (short_at v)) t.0 t.1) deep t.3) [
           | inl p ↦ infix-far (of_pat_vid (binds-names b)) (infix-is f m t.0 t.1 t.2) p.1
           | inr p ↦ no-room b (infix-is f m t.0 t.1 t.2) (leb-false 1 n p.0)
         ]
-        | inr p ↦ prefix-far v m b p.1
+        | inr p ↦ prefix-far i v m b p.1
       ]
 
   pub head-far : (i : List Terminal) → read_head n f i ≡ deep → OpensHead f i (suc n)
-  head-far i h = elim (on_taken-split (binds_vid f i) (vid_head n f) (then_read (read_atpat n f i) (pat_head n f)) h) [
-    | inl t ↦ vid-far t.0 t.1 (binds-is f i t.0 t.1 t.2) t.3
+  head-far i h = elim (on_taken-split (binds_vid f i) (vid_head n f (place_at i)) (then_read (read_atpat n f i) (pat_head n f)) h) [
+    | inl t ↦ vid-far i t.0 t.1 (binds-is f i t.0 t.1 t.2) t.3
     | inr p ↦ elim (then_deep (read_atpat n f i) (pat_head n f) p.1) [
-      | inl e ↦ in_first p.0 (atpat-far n f i e)
+      | inl e ↦ in_first (binds-none p.0) (atpat-far n f i e)
       | inr u ↦
           let a = u.0.tree in let m = u.0.rest in
           let g = atpat-sound n f i u.0 u.1 in

@@ -6,7 +6,7 @@ use Rattle.sml_tree.specs.declared.ident.Vid.{Vid}
 use Rattle.sml_tree.specs.declared.ident.Vid.TheVariants.{Named}
 use Rattle.sml_tree.specs.Fixity.{Fixity, fix_of}
 use Rattle.sml_tree.specs.Terminal.{Terminal, reserved, IsVid}
-use Rattle.sml_tree.specs.ReadTree.{Ty, Pat, Pats, PatFields, PatField, PatParts}
+use Rattle.sml_tree.specs.ReadTree.{Placed, Ty, Pat, Pats, PatFields, PatField, PatParts}
 use Rattle.sml_tree.specs.Depth.{depth_ty, depth_some, depth_pat, depth_pats, depth_pat_fields, depth_pat_field, depth_pat_parts}
 use Rattle.sml_tree.specs.Levels.{pat_level}
 use Rattle.sml_tree.specs.Grammar.{MaybeTy, without_ty, with_ty, BindsVid, AtPat, of_wild, of_pat_constant, of_pat_vid, of_no_pat_row, of_pat_row, of_unit_pat, of_tuple_pat, of_nil_pat, of_list_pat, of_paren_pat, PatRow, row_dots, last_row, more_row, Field, of_labelled, of_punned, of_punned_as, PatCommas, last_pat, more_pats, Pattern, of_atpat, of_con_pat, of_chain_pat, of_typed_pat, of_as_pat, PatFollows, of_last_pat_part, of_pat_part}
@@ -15,7 +15,7 @@ use Rattle.sml_grammar.specs.Patterns.{begins_pat}
 use Rattle.sml_grammar.proofs.Answers.{le_max}
 use Rattle.sml_grammar.proofs.Terminals.{not-word, vid-word, label-word}
 use Rattle.sml_grammar.proofs.TypePaths.{ty-opens}
-use Rattle.sml_grammar.proofs.PatStarts.{names-begin}
+use Rattle.sml_grammar.proofs.PatStarts.{names-begin, begins_pat-found, begins_pat-is}
 use Rattle.sml_grammar.proofs.PatShapes.{binds-names, atpat-begins, pat-begins, field-no_word, follows-level}
 use Rattle.sml_grammar.specs.PartialPatterns.{OpensPat, begun_pat, in_atpat, in_con_pat, joined_pat, in_pat_chain, marked_pat, in_pat_ty, in_as, OpensAtPat, begun_atpat, in_paren_pat, in_tuple_pat, in_list_pat, in_record_pat, OpensPats, in_pat, past_pat, OpensPatRow, in_pat_field, past_pat_field, OpensField, in_labelled, in_punned_ty, in_punned_as, OpensPatPart, in_pat_part, past_pat_part}
 
@@ -27,14 +27,14 @@ maybe-field : {f : Fixity} {t : Terminal} {i o : List Terminal} {p x : ℕ} {s :
 maybe-field v e without_ty k pos le = absurd (omega arith)
 maybe-field v e (with_ty q d) k pos le = in_punned_ty q v e (ty-opens d (omega arith) k pos le)
 
-pub as-opens : {f : Fixity} {i m o : List Terminal} {p : ℕ} {v : Vid} {s : Option Ty} (l : ℕ) → BindsVid f i p v m → MaybeTy m s o → (k : ℕ) → 0 < k → k ≤ depth_some s → l ≤ 5 → OpensPat f l i (suc k)
+pub as-opens : {f : Fixity} {i m o : List Terminal} {p : ℕ} {v : Placed Vid} {s : Option Ty} (l : ℕ) → BindsVid f i p v m → MaybeTy m s o → (k : ℕ) → 0 < k → k ≤ depth_some s → l ≤ 5 → OpensPat f l i (suc k)
 as-opens l b without_ty k pos le low = absurd (omega arith)
 as-opens l b (with_ty p d) k pos le low = in_pat_ty p low (omega arith) (of_atpat (of_pat_vid (binds-names b))) (ty-opens d (omega arith) k pos le)
 
 mutual
   pub atpat-opens : {f : Fixity} {i o : List Terminal} {a : Pat} → AtPat f i a o → (k : ℕ) → 0 < k → k ≤ depth_pat a → OpensAtPat f i k
   atpat-opens d zero pos le = absurd (omega arith)
-  atpat-opens d (suc zero) pos le = begun_atpat (atpat-begins d)
+  atpat-opens d (suc zero) pos le = begun_atpat (begins_pat-is (atpat-begins d))
   atpat-opens (of_wild p) (suc (suc k)) pos le = absurd (omega arith)
   atpat-opens (of_pat_constant c) (suc (suc k)) pos le = absurd (omega arith)
   atpat-opens (of_pat_vid x) (suc (suc k)) pos le = absurd (omega arith)
@@ -78,7 +78,7 @@ mutual
 
   pub pat-opens : {f : Fixity} {i o : List Terminal} {a : Pat} (l : ℕ) → Pattern f i a o → l ≤ pat_level f a → (k : ℕ) → 0 < k → k ≤ depth_pat a → OpensPat f l i k
   pat-opens l d high zero pos le = absurd (omega arith)
-  pat-opens l d high (suc zero) pos le = begun_pat (pat-begins d)
+  pat-opens l d high (suc zero) pos le = begun_pat (begins_pat-is (pat-begins d))
   pat-opens l (of_atpat d) high (suc (suc k)) pos le = in_atpat (atpat-opens d (suc (suc k)) pos le)
   pat-opens l (of_con_pat x d) high (suc (suc k)) pos le = in_con_pat x (atpat-opens d (suc k) (omega arith) (omega arith))
   pat-opens l (of_chain_pat {a} {ps} l' r lt d fs) high (suc (suc k)) pos le =
@@ -109,8 +109,8 @@ mutual
 -- what a partial pattern begins with
 
 pub opens_pat-begins : {f : Fixity} {l : ℕ} {i : List Terminal} {d : ℕ} → OpensPat f l i d → begins_pat f i ≡ true
-opens_pat-begins (begun_pat e) = e
-opens_pat-begins (in_atpat (begun_atpat e)) = e
+opens_pat-begins (begun_pat b) = begins_pat-found b
+opens_pat-begins (in_atpat (begun_atpat b)) = begins_pat-found b
 opens_pat-begins (in_atpat (in_paren_pat p o)) = refl
 opens_pat-begins (in_atpat (in_tuple_pat p q d o)) = refl
 opens_pat-begins (in_atpat (in_list_pat p o)) = refl
@@ -123,7 +123,7 @@ opens_pat-begins (in_pat_ty p low five d o) = pat-begins d
 opens_pat-begins (in_as q low b s o) = names-begin (binds-names b)
 
 pub opens_atpat-begins : {f : Fixity} {i : List Terminal} {d : ℕ} → OpensAtPat f i d → begins_pat f i ≡ true
-opens_atpat-begins (begun_atpat e) = e
+opens_atpat-begins (begun_atpat b) = begins_pat-found b
 opens_atpat-begins (in_paren_pat p o) = refl
 opens_atpat-begins (in_tuple_pat p q d o) = refl
 opens_atpat-begins (in_list_pat p o) = refl

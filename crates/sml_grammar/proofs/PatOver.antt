@@ -116,7 +116,7 @@ module _ (n : ℕ) (self : PatReaders) (complete : CompletePat n self.pat) (comp
   atpat-deep l (in_list_pat {i} p o) lt = atom-deep l (reserved p res.LeftBracket ∷ i) refl refl (at-over n self.pat complete over f (in_list_pat p o) lt)
   atpat-deep l (in_record_pat {i} p o) lt = atom-deep l (reserved p res.LeftBrace ∷ i) refl refl (at-over n self.pat complete over f (in_record_pat p o) lt)
 
-  con-deep : (l : ℕ) {i m : List Terminal} {p : ℕ} {x : LongVid} {d : ℕ} → NamesVid f i p x m → OpensAtPat f m d → n < d → IsDeep l i
+  con-deep : (l : ℕ) {i m : List Terminal} {p : ℕ} {x : Placed LongVid} {d : ℕ} → NamesVid f i p x m → OpensAtPat f m d → n < d → IsDeep l i
   con-deep l {i} {m} {d} x o lt =
       let h = names-found x in
       let b = opens_atpat-begins o in
@@ -134,10 +134,10 @@ module _ (n : ℕ) (self : PatReaders) (complete : CompletePat n self.pat) (comp
       after-left l i m a (settle n self complete complete_at f (reached n self complete complete_at f l d le (omega arith) (omega arith) w.no_pat (ends-joint f a k w high) (λ h. w.no_word res.As)) w.no_pat (λ h. w.no_word res.As) (λ h. w.no_word res.Colon)) step
 
   -- an identifier and `:`
-  alone-mark : {i m : List Terminal} (q : ℕ) {p : ℕ} {v : Vid} → BindsVid f i p v (reserved q res.Colon ∷ m) → n < 1 → IsDeep 0 i
+  alone-mark : {i m : List Terminal} (q : ℕ) {p : ℕ} {v : Placed Vid} → BindsVid f i p v (reserved q res.Colon ∷ m) → n < 1 → IsDeep 0 i
   alone-mark q b lt = let h = binds-found b in let c : nat_le 1 n ≡ false = lt-leb 1 n lt in rw (h, c) refl
 
-  alone-type : {i m : List Terminal} (q : ℕ) {p : ℕ} {v : Vid} {d : ℕ} → BindsVid f i p v (reserved q res.Colon ∷ m) → OpensTy 0 m d → n < d → IsDeep 0 i
+  alone-type : {i m : List Terminal} (q : ℕ) {p : ℕ} {v : Placed Vid} {d : ℕ} → BindsVid f i p v (reserved q res.Colon ∷ m) → OpensTy 0 m d → n < d → IsDeep 0 i
   alone-type {m} q b o lt = elim (le_or 1 n) [
     | inl p ↦ let h = binds-found b in let c = le-leb 1 n p in let t : read_ty n 0 m ≡ deep = ty-over n 0 o lt in rw (h, c, t) refl
     | inr p ↦ alone-mark q b p
@@ -155,7 +155,7 @@ module _ (n : ℕ) (self : PatReaders) (complete : CompletePat n self.pat) (comp
   before-mark l {m} {a} q d le low five = reached n self complete complete_at f l d le (omega arith) five refl (ends-mark f a q m) (λ h. refl)
 
   -- `as` and a pattern that is too deep, or a type before it that is
-  as-deep : {i m k : List Terminal} {p : ℕ} {v : Vid} {s : Option Ty} (q : ℕ) → BindsVid f i p v m → MaybeTy m s (reserved q res.As ∷ k) → depth_some s ≤ n → self.pat f 0 k ≡ deep → IsDeep 0 i
+  as-deep : {i m k : List Terminal} {p : ℕ} {v : Placed Vid} {s : Option Ty} (q : ℕ) → BindsVid f i p v m → MaybeTy m s (reserved q res.As ∷ k) → depth_some s ≤ n → self.pat f 0 k ≡ deep → IsDeep 0 i
   as-deep q b without_ty ls g = let h = binds-found b in rw (h, g) refl
   as-deep {k} q b (with_ty {i = m} {a = s} p t) ls g =
       let h = binds-found b in
@@ -164,11 +164,11 @@ module _ (n : ℕ) (self : PatReaders) (complete : CompletePat n self.pat) (comp
       let j : read_ty n 0 m ≡ read s (reserved q res.As ∷ k) = ty-complete n 0 t ls (omega arith) refl in
       rw (h, c, j, g) refl
 
-  as-type : {i m k : List Terminal} {p : ℕ} {v : Vid} {s : Option Ty} → BindsVid f i p v m → MaybeTy m s k → n < depth_some s → IsDeep 0 i
+  as-type : {i m k : List Terminal} {p : ℕ} {v : Placed Vid} {s : Option Ty} → BindsVid f i p v m → MaybeTy m s k → n < depth_some s → IsDeep 0 i
   as-type b without_ty lt = absurd (omega arith)
   as-type b (with_ty {a = s} q t) lt = alone-type q b (ty-opens t (omega arith) (depth_ty s) (omega arith) (omega arith)) lt
 
-  as-over : (l : ℕ) {i m k : List Terminal} {p : ℕ} {v : Vid} {s : Option Ty} (q : ℕ) → l ≤ 0 → BindsVid f i p v m → MaybeTy m s (reserved q res.As ∷ k) → self.pat f 0 k ≡ deep → IsDeep l i
+  as-over : (l : ℕ) {i m k : List Terminal} {p : ℕ} {v : Placed Vid} {s : Option Ty} (q : ℕ) → l ≤ 0 → BindsVid f i p v m → MaybeTy m s (reserved q res.As ∷ k) → self.pat f 0 k ≡ deep → IsDeep l i
   as-over (suc l) q low b t g = absurd (omega arith)
   as-over zero {s} q low b t g = elim (le_or (depth_some s) n) [ inl p ↦ as-deep q b t p g | inr p ↦ as-type b t p ]
 

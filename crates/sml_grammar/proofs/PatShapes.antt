@@ -11,9 +11,9 @@ use Rattle.sml_tree.specs.Depth.{depth_pat}
 use Rattle.sml_tree.specs.Levels.{vid_level, vid_right, pat_level, pat_parts_level}
 use Rattle.sml_tree.specs.Grammar.{ReadsTy, MaybeTy, without_ty, with_ty, BindsVid, op_vid, NamesVid, plain_long, qualified, op_long, IsInfixVid, PatFits, AtPat, of_wild, of_pat_constant, of_pat_vid, of_no_pat_row, of_pat_row, of_unit_pat, of_tuple_pat, of_nil_pat, of_list_pat, of_paren_pat, PatRow, row_dots, last_row, more_row, Field, of_labelled, of_punned, of_punned_as, PatCommas, last_pat, more_pats, Pattern, of_atpat, of_con_pat, of_chain_pat, of_typed_pat, of_as_pat, PatFollows, of_last_pat_part, of_pat_part, AtPats, no_atpats, more_atpats, ReadsHead, of_prefix_head, of_infix_head, of_bracket_head}
 use Rattle.sml_tree.specs.Grammar as grammar
-use Rattle.sml_grammar.specs.Terminals.{taken, after_word, tail, short, infix_vid}
+use Rattle.sml_grammar.specs.Terminals.{taken, after_word, tail, infix_vid}
 use Rattle.sml_grammar.specs.Types.{ty_could_go_on}
-use Rattle.sml_grammar.specs.Patterns.{is_pat_start, begins_pat}
+use Rattle.sml_grammar.specs.Patterns.{short_at, is_pat_start, begins_pat}
 use Rattle.sml_grammar.proofs.Terminals.{not-word, vid-word, label-word}
 use Rattle.sml_grammar.proofs.Vids.{infix-found, binds-shorter, names-shorter}
 use Rattle.sml_grammar.proofs.TypeShapes.{ty-shorter}
@@ -89,7 +89,7 @@ atpat-high (of_nil_pat p q) = refl
 atpat-high (of_list_pat p q ds) = refl
 atpat-high (of_paren_pat p q d) = refl
 
-pub binds-names : {f : Fixity} {i o : List Terminal} {p : ℕ} {v : Vid} → BindsVid f i p v o → NamesVid f i p (short v) o
+pub binds-names : {f : Fixity} {i o : List Terminal} {p : ℕ} {v : Placed Vid} → BindsVid f i p v o → NamesVid f i p (short_at v) o
 binds-names (grammar.plain_vid v e) = plain_long v e
 binds-names (op_vid p a) = op_long p (any_short a)
 

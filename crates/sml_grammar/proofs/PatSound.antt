@@ -11,9 +11,9 @@ use Rattle.sml_tree.specs.Depth.{depth_some, depth_pat, depth_pat_parts}
 use Rattle.sml_tree.specs.Levels.{vid_level, vid_right, pat_level, pat_parts_level}
 use Rattle.sml_tree.specs.Grammar.{ReadsTy, MaybeTy, without_ty, with_ty, BindsVid, IsInfixVid, PatFits, of_pat_vid, Pattern, of_atpat, of_con_pat, of_chain_pat, of_typed_pat, of_as_pat, PatFollows, of_last_pat_part, of_pat_part}
 use Rattle.sml_grammar.specs.Answer.{Read, Answer, ok, bad, deep, read, then_read, Turn, last, more}
-use Rattle.sml_grammar.specs.Terminals.{Taken, after_word, on_some, short, infix_vid, binds_vid, names_vid}
+use Rattle.sml_grammar.specs.Terminals.{Taken, place_at, after_word, on_some, infix_vid, binds_vid, names_vid}
 use Rattle.sml_grammar.specs.Types.{read_ty}
-use Rattle.sml_grammar.specs.Patterns.{pat_start, begins_pat, PatReader, PatReaders, at_pat, same, pat_part_next, pat_part_turn, whole_pat_parts, pat_suffix_mark, pat_suffix_joint, pat_suffix_turn, pat_suffix, pat_first, plain_form, typed_or_as, typed_form, vid_form, pat_form, read_pats}
+use Rattle.sml_grammar.specs.Patterns.{short_at, pat_start, begins_pat, PatReader, PatReaders, at_pat, same, pat_part_next, pat_part_turn, whole_pat_parts, pat_suffix_mark, pat_suffix_joint, pat_suffix_turn, pat_suffix, pat_first, plain_form, typed_or_as, typed_form, vid_form, pat_form, read_pats}
 use Rattle.sml_grammar.proofs.Answers.{chosen, got, not_true, then_ok, bad_ok, deep_ok, deep_if-ok, on_some-split, on_taken-split, GoodTurn, many-ok}
 use Rattle.sml_grammar.proofs.Words.{AfterWord, found, absent, after-is}
 use Rattle.sml_grammar.proofs.Vids.{InfixAt, infix_at, infix-is, binds-is, names-is}
@@ -143,10 +143,10 @@ module _ (n : ℕ) (self : PatReaders) (sound : SoundPat n self.pat) (sound_at :
 
   pub first-sound : (i : List Terminal) (y : Read Pat) → pat_first self n f i ≡ ok y → GoodFirst i y
   first-sound i y h =
-      elim (on_taken-split (names_vid f i) (λ x m. if begins_pat f m then then_read (self.atpat f m) (λ a o. read (con_pat x.place x.it a) o) else read (vid_pat x.place x.it) m) (at_pat n self.pat f (pat_start f i)) h) [
-        | inl t ↦ elim (chosen (begins_pat f t.1) (then_read (self.atpat f t.1) (λ a o. read (con_pat t.0.place t.0.it a) o)) (read (vid_pat t.0.place t.0.it) t.1) t.3) [
+      elim (on_taken-split (names_vid f i) (λ x m. if begins_pat f m then then_read (self.atpat f m) (λ a o. read (con_pat (place_at i) x a) o) else read (vid_pat (place_at i) x) m) (at_pat n self.pat f (pat_start f i)) h) [
+        | inl t ↦ elim (chosen (begins_pat f t.1) (then_read (self.atpat f t.1) (λ a o. read (con_pat (place_at i) t.0 a) o)) (read (vid_pat (place_at i) t.0) t.1) t.3) [
           | inl p ↦
-              let u = then_ok (self.atpat f t.1) (λ a o. read (con_pat t.0.place t.0.it a) o) y p.1 in
+              let u = then_ok (self.atpat f t.1) (λ a o. read (con_pat (place_at i) t.0 a) o) y p.1 in
               let g = sound_at f t.1 u.0 u.1 in
               subst (GoodFirst i) (got u.2) (record { reads = of_con_pat (names-is f i t.0 t.1 t.2) g.reads; high = refl; fits = omega (arith, g.fits) })
           | inr p ↦ subst (GoodFirst i) (got p.1) (record { reads = of_atpat (of_pat_vid (names-is f i t.0 t.1 t.2)); high = refl; fits = omega arith })
@@ -160,38 +160,38 @@ module _ (n : ℕ) (self : PatReaders) (sound : SoundPat n self.pat) (sound_at :
       let g = first-sound i u.0 u.1 in
       suffix-sound n self.pat sound f l i u.0.tree u.0.rest y u.2 g.reads (subst (λ (w : ℕ). l ≤ w) (sym g.high) low) g.fits
 
-  as-sound : (i : List Terminal) (v : Placed Vid) (s : Option Ty) {m k : List Terminal} (q : ℕ) (y : Read Pat) → BindsVid f i v.place v.it m → MaybeTy m s (reserved q res.As ∷ k) → depth_some s ≤ n →
-      then_read (self.pat f 0 k) (λ a o. read (as_pat v.place v.it s a) o) ≡ ok y → GoodPat (suc n) f 0 i y
+  as-sound : (i : List Terminal) (v : Placed Vid) (s : Option Ty) {m k : List Terminal} (q : ℕ) (y : Read Pat) → BindsVid f i (place_at i) v m → MaybeTy m s (reserved q res.As ∷ k) → depth_some s ≤ n →
+      then_read (self.pat f 0 k) (λ a o. read (as_pat (place_at i) v s a) o) ≡ ok y → GoodPat (suc n) f 0 i y
   as-sound i v s {k} q y b d le h =
-      let u = then_ok (self.pat f 0 k) (λ a o. read (as_pat v.place v.it s a) o) y h in
+      let u = then_ok (self.pat f 0 k) (λ a o. read (as_pat (place_at i) v s a) o) y h in
       let g = sound f 0 k u.0 (omega arith) u.1 in
       subst (GoodPat (suc n) f 0 i) (got u.2) (record { reads = of_as_pat q b d g.reads; high = omega arith; fits = omega (arith, g.fits) })
 
-  typed-sound : (i : List Terminal) (v : Placed Vid) (p : ℕ) (m : List Terminal) (y : Read Pat) → BindsVid f i v.place v.it (reserved p res.Colon ∷ m) → typed_form self n f v m ≡ ok y → GoodPat (suc n) f 0 i y
+  typed-sound : (i : List Terminal) (v : Placed Vid) (p : ℕ) (m : List Terminal) (y : Read Pat) → BindsVid f i (place_at i) v (reserved p res.Colon ∷ m) → typed_form self n f (place_at i) v m ≡ ok y → GoodPat (suc n) f 0 i y
   typed-sound i v p m y b h =
-      elim (chosen (nat_le 1 n) (then_read (read_ty n 0 m) (typed_or_as self n f v)) deep h) [
+      elim (chosen (nat_le 1 n) (then_read (read_ty n 0 m) (typed_or_as self n f (place_at i) v)) deep h) [
         | inl c ↦
-            let u = then_ok (read_ty n 0 m) (typed_or_as self n f v) y c.1 in
+            let u = then_ok (read_ty n 0 m) (typed_or_as self n f (place_at i) v) y c.1 in
             let t = u.0.tree in let o = u.0.rest in
             let g = ty-sound n 0 m u.0 (omega arith) u.1 in
-            elim (on_some-split (after_word res.As o) (λ k. then_read (self.pat f 0 k) (λ a o. read (as_pat v.place v.it (Some t) a) o)) (pat_suffix self.pat n f 0 (typed_pat (vid_pat v.place (short v.it)) t) o) u.2) [
+            elim (on_some-split (after_word res.As o) (λ k. then_read (self.pat f 0 k) (λ a o. read (as_pat (place_at i) v (Some t) a) o)) (pat_suffix self.pat n f 0 (typed_pat (vid_pat (place_at i) (short_at v)) t) o) u.2) [
               | inl q ↦
                   let w = with-word (λ z. ReadsTy m t z) res.As o q.0 q.1 g.reads in
                   as-sound i v (Some t) w.0 y b (with_ty p w.1) g.fits q.2
               | inr q ↦
                   let one = leb-true 1 n c.0 in
-                  suffix-sound n self.pat sound f 0 i (typed_pat (vid_pat v.place (short v.it)) t) o y q.1
+                  suffix-sound n self.pat sound f 0 i (typed_pat (vid_pat (place_at i) (short_at v)) t) o y q.1
                   (of_typed_pat p (omega arith) (of_atpat (of_pat_vid (binds-names b))) g.reads) (omega arith) (omega (arith, g.fits))
             ]
         | inr c ↦ deep_ok c.1
       ]
 
-  vid-sound : (i : List Terminal) (v : Placed Vid) (m : List Terminal) (y : Read Pat) → BindsVid f i v.place v.it m → vid_form self n f i v m ≡ ok y → GoodPat (suc n) f 0 i y
+  vid-sound : (i : List Terminal) (v : Placed Vid) (m : List Terminal) (y : Read Pat) → BindsVid f i (place_at i) v m → vid_form self n f i v m ≡ ok y → GoodPat (suc n) f 0 i y
   vid-sound i v m y b h =
-      elim (on_some-split (after_word res.As m) (λ k. then_read (self.pat f 0 k) (λ a o. read (as_pat v.place v.it None a) o)) (on_some (after_word res.Colon m) (typed_form self n f v) (plain_form self n f 0 i)) h) [
-        | inl q ↦ let w = with-word (λ z. BindsVid f i v.place v.it z) res.As m q.0 q.1 b in as-sound i v None w.0 y w.1 without_ty (omega arith) q.2
-        | inr q ↦ elim (on_some-split (after_word res.Colon m) (typed_form self n f v) (plain_form self n f 0 i) q.1) [
-          | inl c ↦ let w = with-word (λ z. BindsVid f i v.place v.it z) res.Colon m c.0 c.1 b in typed-sound i v w.0 c.0 y w.1 c.2
+      elim (on_some-split (after_word res.As m) (λ k. then_read (self.pat f 0 k) (λ a o. read (as_pat (place_at i) v None a) o)) (on_some (after_word res.Colon m) (typed_form self n f (place_at i) v) (plain_form self n f 0 i)) h) [
+        | inl q ↦ let w = with-word (λ z. BindsVid f i (place_at i) v z) res.As m q.0 q.1 b in as-sound i v None w.0 y w.1 without_ty (omega arith) q.2
+        | inr q ↦ elim (on_some-split (after_word res.Colon m) (typed_form self n f (place_at i) v) (plain_form self n f 0 i) q.1) [
+          | inl c ↦ let w = with-word (λ z. BindsVid f i (place_at i) v z) res.Colon m c.0 c.1 b in typed-sound i v w.0 c.0 y w.1 c.2
           | inr c ↦ plain-sound 0 i y (omega arith) c.1
         ]
       ]

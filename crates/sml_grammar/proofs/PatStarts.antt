@@ -11,9 +11,10 @@ use Rattle.sml_tree.specs.Terminal.{Constant, LongVid, Terminal, reserved, numbe
 use Rattle.sml_tree.specs.ReadTree.{Placed}
 use Rattle.sml_tree.specs.Levels.{infix_level, vid_level}
 use Rattle.sml_tree.specs.Grammar.{NamesVid, plain_long, qualified, op_long, IsInfixVid}
-use Rattle.sml_grammar.specs.Terminals.{Taken, after_word, on_taken, infix_vid, names_vid}
+use Rattle.sml_grammar.specs.Terminals.{Taken, place_at, after_word, on_taken, infix_vid, names_vid}
 use Rattle.sml_grammar.specs.Types.{ty_could_go_on}
 use Rattle.sml_grammar.specs.Patterns.{PatStart, wild_start, constant_start, vid_start, brace_start, paren_start, bracket_start, no_start, vid_if, pat_start, is_pat_start, begins_pat}
+use Rattle.sml_grammar.specs.Begins.{BeginsPat, with_wild, with_pat_constant, with_pat_vid, with_pat_brace, with_pat_paren, with_pat_bracket}
 use Rattle.sml_grammar.proofs.Answers.{not_true}
 use Rattle.sml_grammar.proofs.Words.{WordAt, at_word, word-at, AfterWord, found, absent, after-is}
 use Rattle.sml_grammar.proofs.Terminals.{not-word, vid-word}
@@ -33,13 +34,13 @@ pub data PatStartIs (f : Fixity) : List Terminal → PatStart → Type 0 where
   is_paren : {o : List Terminal} (p : ℕ) → PatStartIs f (reserved p res.LeftParen ∷ o) (paren_start p o)
   is_bracket : {o : List Terminal} (p : ℕ) → PatStartIs f (reserved p res.LeftBracket ∷ o) (bracket_start p o)
   is_scon : {t : Terminal} {o : List Terminal} {p : ℕ} {c : Constant} → IsConstant t p c → PatStartIs f (t ∷ o) (constant_start p c o)
-  is_name : {i o : List Terminal} {x : Placed LongVid} → NamesVid f i x.place x.it o → PatStartIs f i (vid_start x o)
+  is_name : {i o : List Terminal} {p : ℕ} {x : Placed LongVid} → NamesVid f i p x o → PatStartIs f i (vid_start p x o)
   is_none : {i : List Terminal} → PatStartIs f i no_start
 
-named-start : (f : Fixity) (i : List Terminal) → PatStartIs f i (vid_if (names_vid f i))
+named-start : (f : Fixity) (i : List Terminal) → PatStartIs f i (vid_if (place_at i) (names_vid f i))
 named-start f i = go (names_vid f i) refl
   where
-    go : (v : Option (Taken (Placed LongVid))) → names_vid f i ≡ v → PatStartIs f i (vid_if v)
+    go : (v : Option (Taken (Placed LongVid))) → names_vid f i ≡ v → PatStartIs f i (vid_if (place_at i) v)
     go None e = is_none
     go (Some x) e = is_name (names-is f i x.it x.rest e)
 
@@ -53,30 +54,52 @@ pat-start-is f (constant p c ∷ o) = is_scon (is_constant p c)
 pat-start-is f i = named-start f i
 
 -- a name starts a pattern
-pub names-start : {f : Fixity} {i : List Terminal} {p : ℕ} {x : LongVid} {o : List Terminal} → NamesVid f i p x o → pat_start f i ≡ vid_start (record { place = p; it = x }) o
-names-start {f} (plain_long (alpha_vid p x) e) = ap vid_if (names-found {f = f} (plain_long (alpha_vid p x) e))
-names-start {f} (plain_long (symbol_vid p x) e) = ap vid_if (names-found {f = f} (plain_long (symbol_vid p x) e))
-names-start {f} (plain_long (star_vid p x) e) = ap vid_if (names-found {f = f} (plain_long (star_vid p x) e))
+pub names-start : {f : Fixity} {i : List Terminal} {p : ℕ} {x : Placed LongVid} {o : List Terminal} → NamesVid f i p x o → pat_start f i ≡ vid_start p x o
+names-start {f} (plain_long (alpha_vid p x) e) = ap (vid_if p) (names-found {f = f} (plain_long (alpha_vid p x) e))
+names-start {f} (plain_long (symbol_vid p x) e) = ap (vid_if p) (names-found {f = f} (plain_long (symbol_vid p x) e))
+names-start {f} (plain_long (star_vid p x) e) = ap (vid_if p) (names-found {f = f} (plain_long (star_vid p x) e))
 names-start (qualified (long_alpha_vid p qs x)) = refl
 names-start (qualified (long_symbol_vid p qs x)) = refl
 names-start (qualified (long_star_vid p qs x)) = refl
-names-start {f} (op_long p v) = ap vid_if (names-found {f = f} (op_long p v))
+names-start {f} (op_long p v) = ap (vid_if p) (names-found {f = f} (op_long p v))
 
-pub names-begin : {f : Fixity} {i : List Terminal} {p : ℕ} {x : LongVid} {o : List Terminal} → NamesVid f i p x o → begins_pat f i ≡ true
+pub names-begin : {f : Fixity} {i : List Terminal} {p : ℕ} {x : Placed LongVid} {o : List Terminal} → NamesVid f i p x o → begins_pat f i ≡ true
 names-begin n = ap is_pat_start (names-start n)
 
 pub constant-start : (f : Fixity) {t : Terminal} {p : ℕ} {c : Constant} → IsConstant t p c → (o : List Terminal) → pat_start f (t ∷ o) ≡ constant_start p c o
 constant-start f (is_number p n plain) o = refl
 constant-start f (is_constant p c) o = refl
 
+-- what begins a pattern, and the function that looks
+
+pub begins_pat-found : {f : Fixity} {i : List Terminal} → BeginsPat f i → begins_pat f i ≡ true
+begins_pat-found (with_wild p) = refl
+begins_pat-found {f} (with_pat_constant {o} c) = ap is_pat_start (constant-start f c o)
+begins_pat-found (with_pat_vid n) = names-begin n
+begins_pat-found (with_pat_brace p) = refl
+begins_pat-found (with_pat_paren p) = refl
+begins_pat-found (with_pat_bracket p) = refl
+
+pub begins_pat-is : {f : Fixity} {i : List Terminal} → begins_pat f i ≡ true → BeginsPat f i
+begins_pat-is {f} {i} h = go (pat-start-is f i) h
+  where
+    go : {i : List Terminal} {s : PatStart} → PatStartIs f i s → is_pat_start s ≡ true → BeginsPat f i
+    go (is_wild p) h = with_wild p
+    go (is_brace p) h = with_pat_brace p
+    go (is_paren p) h = with_pat_paren p
+    go (is_bracket p) h = with_pat_bracket p
+    go (is_scon c) h = with_pat_constant c
+    go (is_name n) h = with_pat_vid n
+    go is_none h = not_true h
+
 -- an infix identifier begins no pattern
 pub infix-no_pat : {f : Fixity} {t : Terminal} {x : Placed ℕ} → IsInfixVid f t x → (o : List Terminal) → begins_pat f (t ∷ o) ≡ false
 infix-no_pat {f} {t} {x} v o = go v.is (infix-no_names v o)
   where
     go : {t : Terminal} {p y : ℕ} → IsVid t p y → names_vid f (t ∷ o) ≡ None → begins_pat f (t ∷ o) ≡ false
-    go (alpha_vid p x) e = ap (λ z. is_pat_start (vid_if z)) e
-    go (symbol_vid p x) e = ap (λ z. is_pat_start (vid_if z)) e
-    go (star_vid p x) e = ap (λ z. is_pat_start (vid_if z)) e
+    go (alpha_vid p x) e = ap (λ z. is_pat_start (vid_if p z)) e
+    go (symbol_vid p x) e = ap (λ z. is_pat_start (vid_if p z)) e
+    go (star_vid p x) e = ap (λ z. is_pat_start (vid_if p z)) e
 
 pub begins-no_infix : (f : Fixity) (i : List Terminal) → begins_pat f i ≡ true → infix_vid f i ≡ None
 begins-no_infix f i b = go (infix_vid f i) refl

@@ -8,7 +8,7 @@ use Rattle.sml_tree.specs.declared.ident.Vid.{Vid}
 use Rattle.sml_tree.specs.ReadTree.{Placed}
 use Rattle.sml_tree.specs.Terminal.{Constant, LongVid, LongId, Terminal, reserved, number, constant, alpha, symbol, star, long_alpha, long_symbol, long_star, type_var, IsConstant, is_number, is_constant, IsVid, alpha_vid, symbol_vid, star_vid, IsQualifiedVid, long_alpha_vid, long_symbol_vid, long_star_vid, IsAnyVid, any_named, any_equals, IsAnyLongVid, any_short, any_long, IsTycon, alpha_tycon, symbol_tycon, IsLongTycon, short_tycon, long_alpha_tycon, long_symbol_tycon, IsLongStrid, short_strid, long_strid, IsLabel, word_label}
 use Rattle.sml_tree.specs.Terminal as grammar
-use Rattle.sml_grammar.specs.Terminals.{Taken, taken, place_of, word_of, as_vid, as_qualified, as_any_vid, as_constant, as_tycon, as_long_tycon, as_long_strid, number_label, as_label, as_tyvar, as_any_long, placed_if, first_as, after_op, after_word, after_star}
+use Rattle.sml_grammar.specs.Terminals.{Taken, taken, place_of, word_of, as_vid, as_qualified, as_any_vid, as_constant, as_tycon, as_long_tycon, as_long_strid, number_label, as_label, as_tyvar, as_any_long, placed_if, first_as, after_word, after_star}
 use Rattle.sml_grammar.proofs.Answers.{got_some, not_some}
 
 -- what is there, if anything, is of P
@@ -33,19 +33,6 @@ front-is {B} g R is (t ∷ m) x o h = go (is t) h
     go (holds r) e = subst (λ (z : Taken (Placed B)). Front R (t ∷ m) z.it z.rest) (got_some e) (front r)
     go nothing e = not_some e
 
--- after `op`, at its place
-pub data AfterOp {B : Type 0} (R : Terminal → B → Type 0) (p : ℕ) : List Terminal → Placed B → List Terminal → Type 0 where
-  after_it : {t : Terminal} {b : B} {o : List Terminal} → R t b → AfterOp R p (t ∷ o) (record { place = p; it = b }) o
-
-pub after_op-is : {B : Type 0} (g : Terminal → Option B) (R : Terminal → B → Type 0) → ((t : Terminal) → Holds (R t) (g t)) →
-    (p : ℕ) (i : List Terminal) (x : Placed B) (o : List Terminal) → after_op g p i ≡ taken x o → AfterOp R p i x o
-after_op-is g R is p [] x o h = not_some h
-after_op-is {B} g R is p (t ∷ m) x o h = go (is t) h
-  where
-    go : {v : Option B} → Holds (R t) v → placed_if p v m ≡ taken x o → AfterOp R p (t ∷ m) x o
-    go (holds r) e = subst (λ (z : Taken (Placed B)). AfterOp R p (t ∷ m) z.it z.rest) (got_some e) (after_it r)
-    go nothing e = not_some e
-
 -- From the function to the relation.
 
 pub vid-holds : (t : Terminal) → Holds (IsVid t (place_of t)) (as_vid t)
@@ -60,14 +47,14 @@ qualified-holds (long_symbol p qs x) = holds (long_symbol_vid p qs x)
 qualified-holds (long_star p qs x) = holds (long_star_vid p qs x)
 qualified-holds _ = nothing
 
-pub any_vid-holds : (t : Terminal) → Holds (IsAnyVid t) (as_any_vid t)
+pub any_vid-holds : (t : Terminal) → Holds (IsAnyVid t (place_of t)) (as_any_vid t)
 any_vid-holds (alpha p x) = holds (any_named (alpha_vid p x))
 any_vid-holds (symbol p x) = holds (any_named (symbol_vid p x))
 any_vid-holds (star p x) = holds (any_named (star_vid p x))
 any_vid-holds (reserved p res.Equals) = holds (any_equals p)
 any_vid-holds _ = nothing
 
-pub any_long-holds : (t : Terminal) → Holds (IsAnyLongVid t) (as_any_long t)
+pub any_long-holds : (t : Terminal) → Holds (IsAnyLongVid t (place_of t)) (as_any_long t)
 any_long-holds (alpha p x) = holds (any_short (any_named (alpha_vid p x)))
 any_long-holds (symbol p x) = holds (any_short (any_named (symbol_vid p x)))
 any_long-holds (star p x) = holds (any_short (any_named (star_vid p x)))
@@ -124,6 +111,12 @@ vid-is = front-is as_vid IsVid vid-holds
 pub qualified-is : (i : List Terminal) (x : Placed LongVid) (o : List Terminal) → first_as as_qualified i ≡ taken x o → Front IsQualifiedVid i x o
 qualified-is = front-is as_qualified IsQualifiedVid qualified-holds
 
+pub any_vid-is : (i : List Terminal) (x : Placed Vid) (o : List Terminal) → first_as as_any_vid i ≡ taken x o → Front IsAnyVid i x o
+any_vid-is = front-is as_any_vid IsAnyVid any_vid-holds
+
+pub any_long-is : (i : List Terminal) (x : Placed LongVid) (o : List Terminal) → first_as as_any_long i ≡ taken x o → Front IsAnyLongVid i x o
+any_long-is = front-is as_any_long IsAnyLongVid any_long-holds
+
 pub constant-is : (i : List Terminal) (x : Placed Constant) (o : List Terminal) → first_as as_constant i ≡ taken x o → Front IsConstant i x o
 constant-is = front-is as_constant IsConstant constant-holds
 
@@ -154,20 +147,20 @@ qualified-found (long_alpha_vid p qs x) o = refl
 qualified-found (long_symbol_vid p qs x) o = refl
 qualified-found (long_star_vid p qs x) o = refl
 
-pub any_vid-found : {t : Terminal} {v : Vid} → IsAnyVid t v → as_any_vid t ≡ Some v
-any_vid-found (any_named (alpha_vid p x)) = refl
-any_vid-found (any_named (symbol_vid p x)) = refl
-any_vid-found (any_named (star_vid p x)) = refl
-any_vid-found (any_equals p) = refl
+pub any_vid-found : {t : Terminal} {p : ℕ} {v : Vid} → IsAnyVid t p v → (o : List Terminal) → first_as as_any_vid (t ∷ o) ≡ taken (record { place = p; it = v }) o
+any_vid-found (any_named (alpha_vid p x)) o = refl
+any_vid-found (any_named (symbol_vid p x)) o = refl
+any_vid-found (any_named (star_vid p x)) o = refl
+any_vid-found (any_equals p) o = refl
 
-pub any_long-found : {t : Terminal} {x : LongVid} → IsAnyLongVid t x → as_any_long t ≡ Some x
-any_long-found (any_short (any_named (alpha_vid p x))) = refl
-any_long-found (any_short (any_named (symbol_vid p x))) = refl
-any_long-found (any_short (any_named (star_vid p x))) = refl
-any_long-found (any_short (any_equals p)) = refl
-any_long-found (any_long (long_alpha_vid p qs x)) = refl
-any_long-found (any_long (long_symbol_vid p qs x)) = refl
-any_long-found (any_long (long_star_vid p qs x)) = refl
+pub any_long-found : {t : Terminal} {p : ℕ} {x : LongVid} → IsAnyLongVid t p x → (o : List Terminal) → first_as as_any_long (t ∷ o) ≡ taken (record { place = p; it = x }) o
+any_long-found (any_short (any_named (alpha_vid p x))) o = refl
+any_long-found (any_short (any_named (symbol_vid p x))) o = refl
+any_long-found (any_short (any_named (star_vid p x))) o = refl
+any_long-found (any_short (any_equals p)) o = refl
+any_long-found (any_long (long_alpha_vid p qs x)) o = refl
+any_long-found (any_long (long_symbol_vid p qs x)) o = refl
+any_long-found (any_long (long_star_vid p qs x)) o = refl
 
 pub constant-found : {t : Terminal} {p : ℕ} {c : Constant} → IsConstant t p c → (o : List Terminal) → first_as as_constant (t ∷ o) ≡ taken (record { place = p; it = c }) o
 constant-found (is_number p n plain) o = refl

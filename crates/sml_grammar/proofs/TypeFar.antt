@@ -15,7 +15,7 @@ use Rattle.sml_grammar.specs.PartialTypes.{OpensTy, begun_ty, in_paren_ty, in_ar
 use Rattle.sml_grammar.proofs.Answers.{chosen, got, then_ok, then_deep, not_deep, bad_deep, if-deep, deep_ok, on_some-split, on_taken-split, then_taken-ok, then_taken-deep, word_then-ok, word_then-deep, separated-ok, separated-deep, FarTurn, many-reach}
 use Rattle.sml_grammar.proofs.Words.{WordAt, at_word, word-at, StarAt, at_star, star-at}
 use Rattle.sml_grammar.proofs.Terminals.{Front, front, long_tycon-is, label-is}
-use Rattle.sml_grammar.proofs.TypeShapes.{StartIs, is_var, is_con, is_brace, is_paren, is_none, start-is}
+use Rattle.sml_grammar.proofs.TypeShapes.{StartIs, is_var, is_con, is_brace, is_paren, is_none, start-is, begins_ty-is}
 use Rattle.sml_grammar.proofs.TypeSound.{GoodTy, SoundTy, LabelAt, con-after, GoodSimple, atom-sound, simple-sound, GoodProduct, product-sound, ty-sound}
 
 abbrev pub FarTy : ℕ → TyReader → Type 0
@@ -269,5 +269,5 @@ module _ (n : ℕ) (self : TyReader) (sound : SoundTy n self) (far : FarTy n sel
 
 pub ty-far : (n l : ℕ) (i : List Terminal) → l ≤ 2 → read_ty n l i ≡ deep → OpensTy l i (suc n)
 unfolding read_ty
-ty-far zero l i low h = begun_ty (if-deep {A = Ty} (begins_ty i) h)
+ty-far zero l i low h = begun_ty (begins_ty-is (if-deep {A = Ty} (begins_ty i) h))
 ty-far (suc n) l i low h = from-far n (read_ty n) (ty-sound n) (ty-far n) l i low h

@@ -8,10 +8,10 @@ use Rattle.sml_tree.specs.Grammar.{ReadsTy, of_tyvar, of_no_ty_row, of_ty_row, o
 use Rattle.sml_grammar.specs.Types.{begins_ty}
 use Rattle.sml_grammar.specs.PartialTypes.{OpensTy, begun_ty, in_paren_ty, in_arguments, in_ty_row, applied_ty, starred, in_product, arrowed, in_function, OpensTys, in_ty, past_ty, OpensTyRow, in_ty_field, past_ty_field, OpensStars, in_star, past_star, OpensArrows, in_arrow, past_arrow}
 use Rattle.sml_grammar.proofs.Answers.{le_max}
-use Rattle.sml_grammar.proofs.TypeShapes.{ty-begins}
+use Rattle.sml_grammar.proofs.TypeShapes.{ty-begins, begins_ty-found, begins_ty-is}
 
 pub opens-begins : {l : ℕ} {i : List Terminal} {d : ℕ} → OpensTy l i d → begins_ty i ≡ true
-opens-begins (begun_ty e) = e
+opens-begins (begun_ty b) = begins_ty-found b
 opens-begins (in_paren_ty p o) = refl
 opens-begins (in_arguments p q d o) = refl
 opens-begins (in_ty_row p o) = refl
@@ -32,7 +32,7 @@ arrowed-opens low lv d (more_arrows p hi e es) le = arrowed p low lv d le
 mutual
   opens : {i o : List Terminal} {t : Ty} (l : ℕ) → ReadsTy i t o → l ≤ ty_level t → (k : ℕ) → 0 < k → k ≤ depth_ty t → OpensTy l i k
   opens l d high zero pos le = absurd (omega arith)
-  opens l d high (suc zero) pos le = begun_ty (ty-begins d)
+  opens l d high (suc zero) pos le = begun_ty (begins_ty-is (ty-begins d))
   opens l (of_tyvar p a) high (suc (suc k)) pos le = absurd (omega arith)
   opens l (of_no_ty_row p q) high (suc (suc k)) pos le = absurd (omega arith)
   opens l (of_ty_row p q d) high (suc (suc k)) pos le = in_ty_row p (row-opens d (suc k) (omega arith) (omega arith))

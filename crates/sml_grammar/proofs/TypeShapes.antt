@@ -11,7 +11,9 @@ use Rattle.sml_tree.specs.Grammar.{ReadsTy, of_tyvar, of_no_ty_row, of_ty_row, o
 use Rattle.sml_grammar.specs.Terminals.{Taken, first_as, as_long_tycon, after_word, after_star, on_some, on_taken, tail}
 use Rattle.sml_grammar.specs.Types.{TyStart, var_start, con_start, brace_start, paren_start, no_start, con_if, ty_start, is_ty_start, begins_ty, ty_could_go_on}
 use Rattle.sml_grammar.proofs.Words.{WordAt, at_word, StarAt, at_star}
-use Rattle.sml_grammar.proofs.Terminals.{Front, long_tycon-is, label-word, not-word}
+use Rattle.sml_grammar.specs.Begins.{BeginsTy, with_tyvar, with_tycon, with_ty_brace, with_ty_paren}
+use Rattle.sml_grammar.proofs.Answers.{not_true}
+use Rattle.sml_grammar.proofs.Terminals.{Front, front, long_tycon-is, label-word, not-word}
 
 -- a type has terminals
 mutual
@@ -84,6 +86,24 @@ start-is (type_var p a ∷ o) = is_var p a
 start-is (reserved p res.LeftBrace ∷ o) = is_brace p
 start-is (reserved p res.LeftParen ∷ o) = is_paren p
 start-is i = con-start i (first_as as_long_tycon i) refl
+
+-- what begins a type, and the function that looks
+
+pub begins_ty-found : {i : List Terminal} → BeginsTy i → begins_ty i ≡ true
+begins_ty-found (with_tyvar p a) = refl
+begins_ty-found (with_tycon {o} c) = ap is_ty_start (start-con c o)
+begins_ty-found (with_ty_brace p) = refl
+begins_ty-found (with_ty_paren p) = refl
+
+pub begins_ty-is : {i : List Terminal} → begins_ty i ≡ true → BeginsTy i
+begins_ty-is {i} h = go (start-is i) h
+  where
+    go : {i : List Terminal} {s : TyStart} → StartIs i s → is_ty_start s ≡ true → BeginsTy i
+    go (is_var p a) h = with_tyvar p a
+    go (is_con (front c)) h = with_tycon c
+    go (is_brace p) h = with_ty_brace p
+    go (is_paren p) h = with_ty_paren p
+    go is_none h = not_true h
 
 -- what doesn't go on with these terminals
 

@@ -22,6 +22,11 @@ bracketed_tyvars i m = on_taken (first_as as_tyvar m) (λ a o. whole tyvar_turn 
 abbrev pub read_tyvars : List Terminal → Answer (List Tyvar)
 read_tyvars i = on_taken (first_as as_tyvar i) (λ a o. read (a.it ∷ []) o) (on_some (after_word res.LeftParen i) (bracketed_tyvars i) (read [] i))
 
+-- the place of type variables that begin at i, in the declaration at p
+abbrev pub tyvars_place : ℕ → List Terminal → List Tyvar → ℕ
+tyvars_place p i [] = p
+tyvars_place p i (a ∷ as_) = place_at i
+
 -- type variables, a type constructor and `=`, and then what g reads
 abbrev pub bound_tycon : {A : Type 0} → (List Tyvar → ℕ → List Terminal → Answer A) → List Terminal → Answer A
 bound_tycon g i = then_read (read_tyvars i) (λ as_ m. then_taken (first_as as_tycon m) (λ t k. word_then res.Equals (g as_ t.it) k))

@@ -11,10 +11,10 @@ use Rattle.sml_tree.specs.ReadTree.{Placed, Ty, Joint, and_also, or_else, infixe
 use Rattle.sml_tree.specs.Depth.{depth}
 use Rattle.sml_tree.specs.Levels.{after, after_dec, joint_level, joint_right, level}
 use Rattle.sml_grammar.specs.Answer.{Answer, bad, deep, read, then_read, deep_if, Turn, last, more, whole}
-use Rattle.sml_grammar.specs.Terminals.{Taken, taken, first_as, as_label, as_tycon, as_long_tycon, after_word, on_some, on_taken, then_taken, word_then, separated, NoState, no_state, infix_vid, names_vid, short}
+use Rattle.sml_grammar.specs.Terminals.{Taken, taken, place_at, first_as, as_label, as_tycon, as_long_tycon, after_word, on_some, on_taken, then_taken, word_then, separated, NoState, no_state, infix_vid, names_vid, short}
 use Rattle.sml_grammar.specs.Types.{read_ty, maybe_ty}
 use Rattle.sml_grammar.specs.Patterns.{same, label_equals, read_pat, read_head}
-use Rattle.sml_grammar.specs.Bindings.{read_tyvars, read_type_binds, read_data_binds, read_ex_binds, read_strids, read_vids, precedence_then}
+use Rattle.sml_grammar.specs.Bindings.{read_tyvars, tyvars_place, read_type_binds, read_data_binds, read_ex_binds, read_strids, read_vids, precedence_then}
 
 abbrev pub Reader : Type 0
 Reader = Fixity → ℕ → List Terminal → Answer Exp
@@ -33,7 +33,7 @@ pub record Readers : Type 0 where
 -- what an atomic expression begins with
 pub data AtomStart : Type 0 where
   constant_start : ℕ → Constant → List Terminal → AtomStart
-  vid_start : Placed LongVid → List Terminal → AtomStart
+  vid_start : ℕ → Placed LongVid → List Terminal → AtomStart
   brace_start : ℕ → List Terminal → AtomStart
   hash_start : ℕ → List Terminal → AtomStart
   paren_start : ℕ → List Terminal → AtomStart
@@ -41,12 +41,12 @@ pub data AtomStart : Type 0 where
   let_start : ℕ → List Terminal → AtomStart
   no_atom : AtomStart
 
-abbrev pub vid_if : Option (Taken (Placed LongVid)) → AtomStart
-vid_if (Some x) = vid_start x.it x.rest
-vid_if None = no_atom
+abbrev pub vid_if : ℕ → Option (Taken (Placed LongVid)) → AtomStart
+vid_if p (Some x) = vid_start p x.it x.rest
+vid_if p None = no_atom
 
 abbrev pub equals_unless : Option Infix → ℕ → List Terminal → AtomStart
-equals_unless None p o = vid_start (record { place = p; it = short Equals }) o
+equals_unless None p o = vid_start p (record { place = p; it = short Equals }) o
 equals_unless (Some d) p o = no_atom
 
 abbrev pub atom_start : Fixity → List Terminal → AtomStart
@@ -58,11 +58,11 @@ atom_start f (reserved p res.Let ∷ o) = let_start p o
 atom_start f (reserved p res.Equals ∷ o) = equals_unless (fix_of Equals f) p o
 atom_start f (number p n plain ∷ o) = constant_start p (int n) o
 atom_start f (constant p c ∷ o) = constant_start p c o
-atom_start f i = vid_if (names_vid f i)
+atom_start f i = vid_if (place_at i) (names_vid f i)
 
 abbrev pub is_atom_start : AtomStart → Bool
 is_atom_start (constant_start p c o) = true
-is_atom_start (vid_start x o) = true
+is_atom_start (vid_start p x o) = true
 is_atom_start (brace_start p o) = true
 is_atom_start (hash_start p o) = true
 is_atom_start (paren_start p o) = true
@@ -153,7 +153,7 @@ let_exp self f p i = then_read (self.decs f i) (λ ds m. word_then res.In (let_b
 
 abbrev pub atom_by : Readers → Fixity → AtomStart → Answer Exp
 atom_by self f (constant_start p c o) = read (constant_exp p c) o
-atom_by self f (vid_start x o) = read (vid_exp x.place x.it) o
+atom_by self f (vid_start p x o) = read (vid_exp p x) o
 atom_by self f (brace_start p i) = brace_exp self.exp f p i
 atom_by self f (hash_start p i) = hash_exp p i
 atom_by self f (paren_start p i) = paren_in self.exp f p i
@@ -372,8 +372,8 @@ local_rest inner f p ds i =
     word_then res.In (λ k. then_read (inner (after f ds) k) (λ es m. word_then res.End (λ o. read (local_dec p ds es) o) m)) i
 
 abbrev pub dec_by : ℕ → Reader → DecsReader → Fixity → DecStart → Answer Dec
-dec_by n self inner f (val_start p i) = then_read (read_tyvars i) (λ as_ m. then_read (read_binds n self f m) (λ bs o. read (val_dec p as_ bs) o))
-dec_by n self inner f (fun_start p i) = then_read (read_tyvars i) (λ as_ m. then_read (read_funs n self f m) (λ fs o. read (fun_dec p as_ fs) o))
+dec_by n self inner f (val_start p i) = then_read (read_tyvars i) (λ as_ m. then_read (read_binds n self f m) (λ bs o. read (val_dec p (tyvars_place p i as_) as_ bs) o))
+dec_by n self inner f (fun_start p i) = then_read (read_tyvars i) (λ as_ m. then_read (read_funs n self f m) (λ fs o. read (fun_dec p (tyvars_place p i as_) as_ fs) o))
 dec_by n self inner f (type_start p i) = then_read (read_type_binds n i) (λ bs o. read (type_dec p bs) o)
 dec_by n self inner f (datatype_start p i) = datatype_form n f p i
 dec_by n self inner f (exception_start p i) = then_read (read_ex_binds n f i) (λ bs o. read (exception_dec p bs) o)

@@ -1,11 +1,12 @@
 pub mod Answer
 pub mod Terminals
 pub mod Types
-pub mod PartialTypes
 pub mod Patterns
-pub mod PartialPatterns
 pub mod Bindings
 pub mod Expressions
+pub mod Begins
+pub mod PartialTypes
+pub mod PartialPatterns
 pub mod PartialBindings
 pub mod Partial
 pub mod Laws

@@ -11,22 +11,22 @@ use Rattle.sml_tree.specs.ReadTree.{Placed, Ty, Pat, wild_pat, constant_pat, vid
 use Rattle.sml_tree.specs.Depth.{depth_pat}
 use Rattle.sml_tree.specs.Levels.{vid_level, vid_right, pat_level}
 use Rattle.sml_grammar.specs.Answer.{Answer, bad, deep, read, then_read, deep_if, Turn, last, more, whole}
-use Rattle.sml_grammar.specs.Terminals.{Taken, taken, first_as, as_label, after_word, on_some, on_taken, word_then, separated, NoState, no_state, short, plain_vid, infix_vid, binds_vid, names_vid}
+use Rattle.sml_grammar.specs.Terminals.{Taken, taken, place_at, first_as, as_label, after_word, on_some, on_taken, word_then, separated, NoState, no_state, short, plain_vid, infix_vid, binds_vid, names_vid}
 use Rattle.sml_grammar.specs.Types.{read_ty, maybe_ty}
 
 -- what an atomic pattern begins with
 pub data PatStart : Type 0 where
   wild_start : ℕ → List Terminal → PatStart
   constant_start : ℕ → Constant → List Terminal → PatStart
-  vid_start : Placed LongVid → List Terminal → PatStart
+  vid_start : ℕ → Placed LongVid → List Terminal → PatStart
   brace_start : ℕ → List Terminal → PatStart
   paren_start : ℕ → List Terminal → PatStart
   bracket_start : ℕ → List Terminal → PatStart
   no_start : PatStart
 
-abbrev pub vid_if : Option (Taken (Placed LongVid)) → PatStart
-vid_if (Some x) = vid_start x.it x.rest
-vid_if None = no_start
+abbrev pub vid_if : ℕ → Option (Taken (Placed LongVid)) → PatStart
+vid_if p (Some x) = vid_start p x.it x.rest
+vid_if p None = no_start
 
 abbrev pub pat_start : Fixity → List Terminal → PatStart
 pat_start f (reserved p res.Underscore ∷ o) = wild_start p o
@@ -35,12 +35,12 @@ pat_start f (reserved p res.LeftParen ∷ o) = paren_start p o
 pat_start f (reserved p res.LeftBracket ∷ o) = bracket_start p o
 pat_start f (number p n plain ∷ o) = constant_start p (int n) o
 pat_start f (constant p c ∷ o) = constant_start p c o
-pat_start f i = vid_if (names_vid f i)
+pat_start f i = vid_if (place_at i) (names_vid f i)
 
 abbrev pub is_pat_start : PatStart → Bool
 is_pat_start (wild_start p o) = true
 is_pat_start (constant_start p c o) = true
-is_pat_start (vid_start x o) = true
+is_pat_start (vid_start p x o) = true
 is_pat_start (brace_start p o) = true
 is_pat_start (paren_start p o) = true
 is_pat_start (bracket_start p o) = true
@@ -126,7 +126,7 @@ paren_pat_in self f p i = on_some (after_word res.RightParen i) (λ o. read (uni
 abbrev pub at_pat : ℕ → PatReader → Fixity → PatStart → Answer Pat
 at_pat n self f (wild_start p o) = read (wild_pat p) o
 at_pat n self f (constant_start p c o) = read (constant_pat p c) o
-at_pat n self f (vid_start x o) = read (vid_pat x.place x.it) o
+at_pat n self f (vid_start p x o) = read (vid_pat p x) o
 at_pat n self f (brace_start p i) = brace_pat n self f p i
 at_pat n self f (paren_start p i) = paren_pat_in self f p i
 at_pat n self f (bracket_start p i) = bracket_pat self f p i
@@ -176,26 +176,30 @@ pat_suffix self n f l a i = whole (pat_suffix_turn self n f l) a i
 -- a constructor and its argument, or an atomic pattern
 abbrev pub pat_first : PatReaders → ℕ → Fixity → List Terminal → Answer Pat
 pat_first self n f i =
-    on_taken (names_vid f i) (λ x m. if begins_pat f m then then_read (self.atpat f m) (λ a o. read (con_pat x.place x.it a) o) else read (vid_pat x.place x.it) m)
+    on_taken (names_vid f i) (λ x m. if begins_pat f m then then_read (self.atpat f m) (λ a o. read (con_pat (place_at i) x a) o) else read (vid_pat (place_at i) x) m)
     (at_pat n self.pat f (pat_start f i))
 
 abbrev pub plain_form : PatReaders → ℕ → Fixity → ℕ → List Terminal → Answer Pat
 plain_form self n f l i = then_read (pat_first self n f i) (pat_suffix self.pat n f l)
 
--- after `v :` and a type: `as` and a pattern, or the end of `v : t`
-abbrev pub typed_or_as : PatReaders → ℕ → Fixity → Placed Vid → Ty → List Terminal → Answer Pat
-typed_or_as self n f v t i =
-    on_some (after_word res.As i) (λ m. then_read (self.pat f 0 m) (λ a o. read (as_pat v.place v.it (Some t) a) o))
-    (pat_suffix self.pat n f 0 (typed_pat (vid_pat v.place (short v.it)) t) i)
+-- an identifier without qualifiers
+abbrev pub short_at : Placed Vid → Placed LongVid
+short_at v = record { place = v.place; it = short v.it }
 
-abbrev pub typed_form : PatReaders → ℕ → Fixity → Placed Vid → List Terminal → Answer Pat
-typed_form self n f v m = if nat_le 1 n then then_read (read_ty n 0 m) (typed_or_as self n f v) else deep
+-- after `v :` and a type: `as` and a pattern, or the end of `v : t`; p is the place of the whole
+abbrev pub typed_or_as : PatReaders → ℕ → Fixity → ℕ → Placed Vid → Ty → List Terminal → Answer Pat
+typed_or_as self n f p v t i =
+    on_some (after_word res.As i) (λ m. then_read (self.pat f 0 m) (λ a o. read (as_pat p v (Some t) a) o))
+    (pat_suffix self.pat n f 0 (typed_pat (vid_pat p (short_at v)) t) i)
+
+abbrev pub typed_form : PatReaders → ℕ → Fixity → ℕ → Placed Vid → List Terminal → Answer Pat
+typed_form self n f p v m = if nat_le 1 n then then_read (read_ty n 0 m) (typed_or_as self n f p v) else deep
 
 -- after a value identifier at the head of a whole pattern
 abbrev pub vid_form : PatReaders → ℕ → Fixity → List Terminal → Placed Vid → List Terminal → Answer Pat
 vid_form self n f i v m =
-    on_some (after_word res.As m) (λ k. then_read (self.pat f 0 k) (λ a o. read (as_pat v.place v.it None a) o))
-    (on_some (after_word res.Colon m) (typed_form self n f v) (plain_form self n f 0 i))
+    on_some (after_word res.As m) (λ k. then_read (self.pat f 0 k) (λ a o. read (as_pat (place_at i) v None a) o))
+    (on_some (after_word res.Colon m) (typed_form self n f (place_at i) v) (plain_form self n f 0 i))
 
 abbrev pub pat_form : PatReaders → ℕ → Fixity → ℕ → List Terminal → Answer Pat
 pat_form self n f zero i = on_taken (binds_vid f i) (vid_form self n f i) (plain_form self n f 0 i)
@@ -220,21 +224,22 @@ abbrev pub read_atpats : ℕ → Fixity → List Terminal → Answer Pats
 read_atpats n f i = whole (atpats_turn n f) no_state i
 
 abbrev pub infix_rest : ℕ → Fixity → Pat → Placed ℕ → List Terminal → Answer Head
-infix_rest n f a x m = then_read (read_atpat n f m) (λ b o. read (infix_head a x.it b) o)
+infix_rest n f a x m = then_read (read_atpat n f m) (λ b o. read (infix_head a x b) o)
 
-abbrev pub prefix_rest : ℕ → Fixity → Placed Vid → List Terminal → Answer Head
-prefix_rest n f v m = then_read (read_atpat n f m) (λ a k. then_read (read_atpats n f k) (λ as_ o. read (prefix_head v.place v.it a as_) o))
+-- p is the place of the head
+abbrev pub prefix_rest : ℕ → Fixity → ℕ → Placed Vid → List Terminal → Answer Head
+prefix_rest n f p v m = then_read (read_atpat n f m) (λ a k. then_read (read_atpats n f k) (λ as_ o. read (prefix_head p v a as_) o))
 
 -- after an identifier: it is the first operand where an infix identifier follows, and the function's name where none does
-abbrev pub vid_head : ℕ → Fixity → Placed Vid → List Terminal → Answer Head
-vid_head n f v m =
-    on_taken (infix_vid f m) (λ x k. if nat_le 1 n then infix_rest n f (vid_pat v.place (short v.it)) x k else deep) (prefix_rest n f v m)
+abbrev pub vid_head : ℕ → Fixity → ℕ → Placed Vid → List Terminal → Answer Head
+vid_head n f p v m =
+    on_taken (infix_vid f m) (λ x k. if nat_le 1 n then infix_rest n f (vid_pat p (short_at v)) x k else deep) (prefix_rest n f p v m)
 
 -- `(a x b)`, where a and b are atomic
 pub record Bracketed : Type 0 where
   pub place : ℕ
   pub left : Pat
-  pub vid : ℕ
+  pub vid : Placed ℕ
   pub right : Pat
 
 abbrev pub is_atpat : Pat → Bool
@@ -252,7 +257,7 @@ is_atpat (typed_pat a t) = false
 is_atpat (as_pat p v t a) = false
 
 abbrev pub bracketed_parts : ℕ → Pat → PatParts → Option Bracketed
-bracketed_parts p a (last_pat_part x b) = if is_atpat a && is_atpat b then Some (record { place = p; left = a; vid = x.it; right = b }) else None
+bracketed_parts p a (last_pat_part x b) = if is_atpat a && is_atpat b then Some (record { place = p; left = a; vid = x; right = b }) else None
 bracketed_parts p a (pat_part x b ps) = None
 
 abbrev pub bracketed_chain : ℕ → Pat → Option Bracketed
@@ -271,4 +276,4 @@ abbrev pub pat_head : ℕ → Fixity → Pat → List Terminal → Answer Head
 pat_head n f a m = on_taken (infix_vid f m) (infix_rest n f a) (bracket_rest n f m (bracketed a))
 
 abbrev pub read_head : ℕ → Fixity → List Terminal → Answer Head
-read_head n f i = on_taken (binds_vid f i) (vid_head n f) (then_read (read_atpat n f i) (pat_head n f))
+read_head n f i = on_taken (binds_vid f i) (vid_head n f (place_at i)) (then_read (read_atpat n f i) (pat_head n f))

@@ -256,25 +256,20 @@ long_if q None = q
 abbrev pub as_any_long : Terminal → Option LongVid
 as_any_long t = long_if (as_qualified t) (as_any_vid t)
 
--- what stands after `op`, at the place of `op`
-abbrev pub after_op : {B : Type 0} → (Terminal → Option B) → ℕ → List Terminal → Option (Taken (Placed B))
-after_op g p [] = None
-after_op g p (t ∷ o) = placed_if p (g t) o
-
 abbrev pub named_if : Option (Taken (Placed ℕ)) → Option (Taken (Placed Vid))
 named_if None = None
 named_if (Some x) = taken (record { place = x.it.place; it = Named x.it.it }) x.rest
 
--- [op] vid
+-- [op] vid, with the place of the identifier
 abbrev pub binds_vid : Fixity → List Terminal → Option (Taken (Placed Vid))
-binds_vid f (reserved p res.Op ∷ o) = after_op as_any_vid p o
+binds_vid f (reserved p res.Op ∷ o) = first_as as_any_vid o
 binds_vid f i = named_if (plain_vid f i)
 
 abbrev pub long_named_if : Option (Taken (Placed LongVid)) → Option (Taken (Placed ℕ)) → Option (Taken (Placed LongVid))
 long_named_if q None = q
 long_named_if q (Some x) = taken (record { place = x.it.place; it = short (Named x.it.it) }) x.rest
 
--- [op] longvid
+-- [op] longvid, with the place of the identifier
 abbrev pub names_vid : Fixity → List Terminal → Option (Taken (Placed LongVid))
-names_vid f (reserved p res.Op ∷ o) = after_op as_any_long p o
+names_vid f (reserved p res.Op ∷ o) = first_as as_any_long o
 names_vid f i = long_named_if (first_as as_qualified i) (plain_vid f i)

@@ -40,11 +40,11 @@ depth_applied = refl
 
 -- op + (1, 2) is what 1 + 2 is, but for places
 bare_op : bare_exp 0 Examples.tree_op_plus
-    ≡ BareTree.app (at 0 0) (variable 0 Examples.plus) (pair 5 (BareTree.constant_exp (at 0 6) (int (pos 1))) (BareTree.constant_exp (at 0 9) (int (pos 2))))
+    ≡ BareTree.app (at 0 0) (variable 3 Examples.plus) (pair 5 (BareTree.constant_exp (at 0 6) (int (pos 1))) (BareTree.constant_exp (at 0 9) (int (pos 2))))
 bare_op = refl
 
 -- brackets are gone
-bare_bracket : bare_exp 0 Examples.tree_op_plus_alone ≡ variable 1 Examples.plus
+bare_bracket : bare_exp 0 Examples.tree_op_plus_alone ≡ variable 4 Examples.plus
 bare_bracket = refl
 
 -- #1 x is (fn {1 = v, ...} => v) x
@@ -70,8 +70,8 @@ bare_if = refl
 
 -- fun (x ++ y) z = x is val rec ++ = fn v1 => fn v2 => case (v1, v2) of ((x, y), z) => x
 bare_bracket_clause : bare_decs 0 Examples.tree_bracket_clause
-    ≡ BareTree.dec (BareTree.val_dec (at 0 0) [] BareTree.no_binds
-    (BareTree.bind (at 0 4) (BareTree.vid_pat (at 0 4) (short (Named Examples.plusplus)))
+    ≡ BareTree.dec (BareTree.val_dec (at 0 0) (at 0 0) [] BareTree.no_binds
+    (BareTree.bind (at 0 4) (BareTree.vid_pat (at 0 7) (short (Named Examples.plusplus)))
     (BareTree.fn (at 0 4) (BareTree.rule (at 0 4) (BareTree.vid_pat (at 0 4) (short (Fresh 1)))
     (BareTree.fn (at 0 4) (BareTree.rule (at 0 4) (BareTree.vid_pat (at 0 4) (short (Fresh 2)))
     (BareTree.app (at 0 4)
@@ -89,9 +89,21 @@ bare_bracket_clause : bare_decs 0 Examples.tree_bracket_clause
     BareTree.no_binds)) BareTree.no_decs
 bare_bracket_clause = refl
 
+-- fun ('a) op ++ x = x is val ('a) rec ++ = fn v1 => case v1 of x => x
+bare_op_name : bare_decs 0 Examples.tree_op_name
+    ≡ BareTree.dec (BareTree.val_dec (at 0 0) (at 0 4) (record { name = Examples.name_a; equality = false } ∷ []) BareTree.no_binds
+    (BareTree.bind (at 0 9) (BareTree.vid_pat (at 0 12) (short (Named Examples.plusplus)))
+    (BareTree.fn (at 0 9) (BareTree.rule (at 0 9) (BareTree.vid_pat (at 0 9) (short (Fresh 1)))
+    (BareTree.app (at 0 9)
+    (BareTree.fn (at 0 9) (BareTree.rule (at 0 9) (BareTree.vid_pat (at 0 15) (short (Named Examples.name_x))) (variable 19 Examples.name_x) BareTree.no_rules))
+    (BareTree.vid_exp (at 0 9) (short (Fresh 1))))
+    BareTree.no_rules))
+    BareTree.no_binds)) BareTree.no_decs
+bare_op_name = refl
+
 -- {a, b : int as 3} is {a = a, b = b : int as 3}
 bare_puns : bare_decs 0 Examples.tree_puns
-    ≡ BareTree.dec (BareTree.val_dec (at 0 0) []
+    ≡ BareTree.dec (BareTree.val_dec (at 0 0) (at 0 0) []
     (BareTree.bind (at 0 4)
     (BareTree.fields_pat (at 0 4)
     (BareTree.pat_field (label.Word Examples.name_a) (BareTree.vid_pat (at 0 5) (short (Named Examples.name_a)))
@@ -104,7 +116,7 @@ bare_puns = refl
 
 -- val rec f = .. and g = ..: both are recursive
 bare_rec : bare_decs 0 Examples.tree_rec_and
-    ≡ BareTree.dec (BareTree.val_dec (at 0 0) [] BareTree.no_binds
+    ≡ BareTree.dec (BareTree.val_dec (at 0 0) (at 0 0) [] BareTree.no_binds
     (BareTree.bind (at 0 8) (BareTree.vid_pat (at 0 8) (short (Named Examples.name_f)))
     (BareTree.fn (at 0 12) (BareTree.rule (at 0 15) (BareTree.vid_pat (at 0 15) (short (Named Examples.name_x))) (variable 20 Examples.name_x) BareTree.no_rules))
     (BareTree.bind (at 0 26) (BareTree.vid_pat (at 0 26) (short (Named Examples.name_g)))

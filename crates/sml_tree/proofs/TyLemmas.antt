@@ -1,30 +1,12 @@
--- The bare type of each kind of type.
-use Rattle.std.proofs.Common.{◌≡◌, map, Vec, Box, Global, sym, ap, ◌∙◌}
+-- The bare type of a type constructor after its arguments.
+use Rattle.std.proofs.Common.{◌≡◌, map, Vec, Global, sym, ap, ◌∙◌}
 use Rattle.mlc_base.specs.declared.place.Place.{Place}
-use Rattle.sml_tree.specs.declared.ident.Tyvar.{Tyvar}
 use Rattle.sml_tree.specs.declared.ident.LongId.{LongId}
 use Rattle.sml_tree.specs.BareTree as bare
-use Rattle.sml_tree.specs.Derived.{product, arrows, tys_of, TyAt}
-use Rattle.sml_tree.specs.TreeOf.{ty_of, ty_field_of, ty_part_of, ty_fields_of, TyFieldOf, long_id_of, node_ty, node_ty_field, node_ty_part}
+use Rattle.sml_tree.specs.Derived.{tys_of, TyAt}
+use Rattle.sml_tree.specs.TreeOf.{ty_of, TyFieldOf, long_id_of, node_ty, node_ty_field, node_ty_part}
 use Rattle.sml_tree.specs.declared.tree.Ty.{Ty, Ty-F, fold-roll-Ty}
-use Rattle.sml_tree.specs.declared.tree.TyField.{TyField}
-use Rattle.sml_tree.specs.declared.tree.TyPart.{TyPart}
-use Rattle.sml_tree.specs.declared.tree.Ty.TheVariants.{Var, Record, Con, Product, Arrow, Ill, rolls-Var, rolls-Record, rolls-Con, rolls-Product, rolls-Arrow, rolls-Ill}
-
-pub ty_of-Var : (p : Place) (a : Tyvar) → ty_of (Var p a) ≡ bare.var p a
-ty_of-Var p a = ap ty_of (sym (rolls-Var p a)) ∙ fold-roll-Ty bare.Ty TyFieldOf TyAt node_ty node_ty_field node_ty_part (Ty-F.Var p a)
-
-pub ty_of-Record : (p : Place) (fs : Vec TyField Global) → ty_of (Record p fs) ≡ bare.fields p (ty_fields_of (map ty_field_of fs.items))
-ty_of-Record p fs = ap ty_of (sym (rolls-Record p fs)) ∙ fold-roll-Ty bare.Ty TyFieldOf TyAt node_ty node_ty_field node_ty_part (Ty-F.Record p fs)
+use Rattle.sml_tree.specs.declared.tree.Ty.TheVariants.{Con, rolls-Con}
 
 pub ty_of-Con : (p : Place) (ts : Vec Ty Global) (q : Place) (c : LongId) → ty_of (Con p ts q c) ≡ bare.con p (tys_of (map ty_of ts.items)) q (long_id_of c)
 ty_of-Con p ts q c = ap ty_of (sym (rolls-Con p ts q c)) ∙ fold-roll-Ty bare.Ty TyFieldOf TyAt node_ty node_ty_field node_ty_part (Ty-F.Con p ts q c)
-
-pub ty_of-Product : (p : Place) (ts : Vec Ty Global) → ty_of (Product p ts) ≡ product p (map ty_of ts.items)
-ty_of-Product p ts = ap ty_of (sym (rolls-Product p ts)) ∙ fold-roll-Ty bare.Ty TyFieldOf TyAt node_ty node_ty_field node_ty_part (Ty-F.Product p ts)
-
-pub ty_of-Arrow : (p : Place) (t : Box Ty Global) (ts : Vec TyPart Global) → ty_of (Arrow p t ts) ≡ arrows p (ty_of t.value) (map ty_part_of ts.items)
-ty_of-Arrow p t ts = ap ty_of (sym (rolls-Arrow p t ts)) ∙ fold-roll-Ty bare.Ty TyFieldOf TyAt node_ty node_ty_field node_ty_part (Ty-F.Arrow p t ts)
-
-pub ty_of-Ill : (p : Place) → ty_of (Ill p) ≡ bare.ill p
-ty_of-Ill p = ap ty_of (sym (rolls-Ill p)) ∙ fold-roll-Ty bare.Ty TyFieldOf TyAt node_ty node_ty_field node_ty_part (Ty-F.Ill p)

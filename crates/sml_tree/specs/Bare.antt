@@ -9,7 +9,7 @@ use Rattle.sml_tree.specs.BareTree as bare
 use Rattle.sml_tree.specs.declared.tree.Joint as tree
 use Rattle.sml_tree.specs.declared.tree.Joint.TheVariants.{AndAlso, OrElse, Infix}
 use Rattle.sml_tree.specs.Derived.{tuple, tuple_pat, product, unit, app_of, Operand, chain_of, VidAt, join, join_pats, TyAt, arrows, select, case_of, if_of, sequence_of, while_of, list_of, list_pat_of, Clause, Function, fun_dec_of, with_result, pun, withtype_of}
-use Rattle.sml_tree.specs.ReadTree.{Placed, Ty, var_ty, record_ty, con_ty, product_ty, arrow_ty, paren_ty, Tys, no_tys, ty, TyFields, no_ty_fields, ty_field, ty_place, Pat, wild_pat, constant_pat, vid_pat, record_pat, unit_pat, list_pat, paren_pat, con_pat, chain_pat, typed_pat, as_pat, Pats, no_pats, pat, PatFields, no_pat_fields, pat_field, PatField, labelled, punned, punned_as, PatParts, last_pat_part, pat_part, pat_place, Joint, and_also, or_else, infixed, Head, prefix_head, infix_head, bracket_head, head_vid, head_place, TypeBind, ConBind, DataBind, ExBind, new_exn, same_exn, Exp, constant_exp, vid_exp, record_exp, selector, unit_exp, tuple_exp, list_exp, sequence, paren_exp, let_in, app, chain, typed, handle, raise, if_then, while, case, fn, Exps, no_exps, exp, ExpFields, no_exp_fields, exp_field, Parts, last_part, part, Rules, last_rule, rule, Decs, no_decs, dec, Dec, val_dec, fun_dec, type_dec, datatype_dec, withtype_dec, replicate_dec, exception_dec, local_dec, open_dec, fixity_dec, Binds, last_bind, bind, rec_binds, Funs, last_fun, fun_and, Clauses, last_clause, clause, exp_place}
+use Rattle.sml_tree.specs.ReadTree.{Placed, Ty, var_ty, record_ty, con_ty, product_ty, arrow_ty, paren_ty, Tys, no_tys, ty, TyFields, no_ty_fields, ty_field, ty_place, Pat, wild_pat, constant_pat, vid_pat, record_pat, unit_pat, list_pat, paren_pat, con_pat, chain_pat, typed_pat, as_pat, Pats, no_pats, pat, PatFields, no_pat_fields, pat_field, PatField, labelled, punned, punned_as, PatParts, last_pat_part, pat_part, pat_place, Joint, and_also, or_else, infixed, Head, prefix_head, infix_head, bracket_head, head_vid, head_vid_place, head_place, TypeBind, ConBind, DataBind, ExBind, new_exn, same_exn, Exp, constant_exp, vid_exp, record_exp, selector, unit_exp, tuple_exp, list_exp, sequence, paren_exp, let_in, app, chain, typed, handle, raise, if_then, while, case, fn, Exps, no_exps, exp, ExpFields, no_exp_fields, exp_field, Parts, last_part, part, Rules, last_rule, rule, Decs, no_decs, dec, Dec, val_dec, fun_dec, type_dec, datatype_dec, withtype_dec, replicate_dec, exception_dec, local_dec, open_dec, fixity_dec, Binds, last_bind, bind, rec_binds, Funs, last_fun, fun_and, Clauses, last_clause, clause, exp_place}
 use Rattle.sml_tree.specs.ReadTree as read
 
 abbrev pub at : ℕ → ℕ → Place
@@ -55,16 +55,16 @@ abbrev mutual
   pub bare_pat : ℕ → Pat → bare.Pat
   bare_pat f (wild_pat p) = bare.wild_pat (at f p)
   bare_pat f (constant_pat p c) = bare.constant_pat (at f p) c
-  bare_pat f (vid_pat p x) = bare.vid_pat (at f p) x
+  bare_pat f (vid_pat p x) = bare.vid_pat (at f x.place) x.it
   bare_pat f (record_pat p fs b) = bare.fields_pat (at f p) (bare_pat_fields f fs) b
   bare_pat f (unit_pat p) = tuple_pat (at f p) []
   bare_pat f (read.tuple_pat p as_) = tuple_pat (at f p) (pat_list f as_)
   bare_pat f (list_pat p as_) = list_pat_of (at f p) (pat_list f as_)
   bare_pat f (paren_pat p a) = bare_pat f a
-  bare_pat f (con_pat p x a) = bare.con_pat (at f p) (at f p) x (bare_pat f a)
+  bare_pat f (con_pat p x a) = bare.con_pat (at f p) (at f x.place) x.it (bare_pat f a)
   bare_pat f (chain_pat r a ps) = chain_of join_pats r (at f (pat_place a)) (bare_pat f a) (pat_operands f ps)
   bare_pat f (typed_pat a t) = bare.typed_pat (at f (pat_place a)) (bare_pat f a) (bare_ty f t)
-  bare_pat f (as_pat p v t a) = bare.as_pat (at f p) v (bare_some f t) (bare_pat f a)
+  bare_pat f (as_pat p v t a) = bare.as_pat (at f v.place) v.it (bare_some f t) (bare_pat f a)
 
   pub pat_list : ℕ → Pats → List bare.Pat
   pat_list f no_pats = []
@@ -111,7 +111,7 @@ joint_of f and_also = AndAlso
 joint_of f or_else = OrElse
 joint_of f (infixed v) = Infix (at f v.place) v.it
 
--- the name and the place of a function are those of its first clause
+-- the place of a function, its name and the place of the name are those of its first clause
 abbrev pub clauses_place : Clauses → ℕ
 clauses_place (last_clause h t e) = head_place h
 clauses_place (clause h t e cs) = head_place h
@@ -120,6 +120,10 @@ abbrev pub clauses_vid : Clauses → Vid
 clauses_vid (last_clause h t e) = head_vid h
 clauses_vid (clause h t e cs) = head_vid h
 
+abbrev pub clauses_vid_place : Clauses → ℕ
+clauses_vid_place (last_clause h t e) = head_vid_place h
+clauses_vid_place (clause h t e cs) = head_vid_place h
+
 abbrev pub is_directive : Dec → Bool
 is_directive (fixity_dec p s xs) = true
 is_directive d = false
@@ -127,7 +131,7 @@ is_directive d = false
 abbrev mutual
   pub bare_exp : ℕ → Exp → bare.Exp
   bare_exp f (constant_exp p c) = bare.constant_exp (at f p) c
-  bare_exp f (vid_exp p x) = bare.vid_exp (at f p) x
+  bare_exp f (vid_exp p x) = bare.vid_exp (at f x.place) x.it
   bare_exp f (record_exp p fs) = bare.fields_exp (at f p) (bare_exp_fields f fs)
   bare_exp f (selector p l) = select (at f p) l
   bare_exp f (unit_exp p) = unit (at f p)
@@ -173,8 +177,8 @@ abbrev mutual
   bare_decs f (dec d ds) = if is_directive d then bare_decs f ds else bare.dec (bare_dec f d) (bare_decs f ds)
 
   pub bare_dec : ℕ → Dec → bare.Dec
-  bare_dec f (val_dec p as_ bs) = bare.val_dec (at f p) as_ (plain_binds f bs) (recursive_binds f bs)
-  bare_dec f (fun_dec p as_ fs) = fun_dec_of (at f p) as_ (functions f fs)
+  bare_dec f (val_dec p q as_ bs) = bare.val_dec (at f p) (at f q) as_ (plain_binds f bs) (recursive_binds f bs)
+  bare_dec f (fun_dec p q as_ fs) = fun_dec_of (at f p) (at f q) as_ (functions f fs)
   bare_dec f (type_dec p bs) = bare.type_dec (at f p) (map (bare_type_bind f) bs)
   bare_dec f (datatype_dec p bs) = bare.datatype_dec (at f p) (map (bare_data_bind f) bs)
   bare_dec f (withtype_dec p bs cs) = withtype_of (at f p) (map (bare_data_bind f) bs) (map (bare_type_bind f) cs)
@@ -201,8 +205,8 @@ abbrev mutual
   all_binds f (rec_binds bs) = all_binds f bs
 
   pub functions : ℕ → Funs → List Function
-  functions f (last_fun cs) = record { place = at f (clauses_place cs); vid = clauses_vid cs; clauses = clause_list f cs } ∷ []
-  functions f (fun_and cs fs) = record { place = at f (clauses_place cs); vid = clauses_vid cs; clauses = clause_list f cs } ∷ functions f fs
+  functions f (last_fun cs) = record { place = at f (clauses_place cs); vid_place = at f (clauses_vid_place cs); vid = clauses_vid cs; clauses = clause_list f cs } ∷ []
+  functions f (fun_and cs fs) = record { place = at f (clauses_place cs); vid_place = at f (clauses_vid_place cs); vid = clauses_vid cs; clauses = clause_list f cs } ∷ functions f fs
 
   pub clause_list : ℕ → Clauses → List Clause
   clause_list f (last_clause h t e) = record { place = at f (head_place h); pats = head_pats f h; body = with_result (at f (exp_place e)) (bare_exp f e) (bare_some f t) } ∷ []

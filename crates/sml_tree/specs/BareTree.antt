@@ -1,5 +1,5 @@
 -- The bare tree of the core (the Definition, sections 2.8 and 2.9, figures of the bare language): what every later definition speaks of.
--- Each phrase carries the place of its first byte. The constructors that derived forms name are apart from identifiers.
+-- Each phrase carries the place of its first byte; an identifier after `op` that of its own first byte. The constructors that derived forms name are apart from identifiers.
 use Rattle.std.specs.Prelude.{ℕ, Bool, List, Option}
 use Rattle.mlc_base.specs.declared.label.Label.{Label}
 use Rattle.mlc_base.specs.declared.place.Place.{Place}
@@ -38,18 +38,21 @@ mutual
     con_pat : Place → Place → LongVid → Pat → Pat
     built_con_pat : Place → BuiltIn → Pat → Pat
     typed_pat : Place → Pat → Ty → Pat
+    -- the place is the identifier's
     as_pat : Place → Vid → Option Ty → Pat → Pat
 
   pub data PatFields : Type 0 where
     no_pat_fields : PatFields
     pat_field : Label → Pat → PatFields → PatFields
 
+-- The place of a binding of a type is that of its sequence of type variables too, where this isn't empty.
 pub record TypeBind : Type 0 where
   pub place : Place
   pub tyvars : List Tyvar
   pub tycon : ℕ
   pub ty : Ty
 
+-- the place of a constructor, and of an exception, is that of its identifier
 pub record ConBind : Type 0 where
   pub place : Place
   pub vid : Vid
@@ -96,8 +99,8 @@ mutual
     dec : Dec → Decs → Decs
 
   pub data Dec : Type 0 where
-    -- bindings before `rec`, and those after it
-    val_dec : Place → List Tyvar → Binds → Binds → Dec
+    -- the place of the type variables, which is that of the declaration where there are none; bindings before `rec`, and those after it
+    val_dec : Place → Place → List Tyvar → Binds → Binds → Dec
     type_dec : Place → List TypeBind → Dec
     datatype_dec : Place → List DataBind → Dec
     -- datatype tycon = datatype longtycon

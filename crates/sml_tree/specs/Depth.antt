@@ -122,8 +122,8 @@ abbrev mutual
   depth_decs (dec d ds) = max (depth_dec d) (depth_decs ds)
 
   pub depth_dec : Dec → ℕ
-  depth_dec (val_dec p as_ bs) = depth_binds bs
-  depth_dec (fun_dec p as_ fs) = depth_funs fs
+  depth_dec (val_dec p q as_ bs) = depth_binds bs
+  depth_dec (fun_dec p q as_ fs) = depth_funs fs
   depth_dec (type_dec p bs) = depth_type_binds bs
   depth_dec (datatype_dec p bs) = depth_data_binds bs
   depth_dec (withtype_dec p bs cs) = max (depth_data_binds bs) (depth_type_binds cs)

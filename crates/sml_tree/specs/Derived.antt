@@ -136,7 +136,7 @@ let_of p ds e es = let_in p ds (sequence_of p e es)
 abbrev pub while_of : Place → Exp → Exp → Exp
 while_of p a b =
     let_in p
-    (dec (val_dec p [] no_binds (bind p (fresh_pat p 0)
+    (dec (val_dec p p [] no_binds (bind p (fresh_pat p 0)
     (fn p (rule p (tuple_pat p []) (if_of p a (sequence_of p b (app p (fresh_exp p 0) (unit p) ∷ [])) (unit p)) no_rules)) no_binds)) no_decs)
     (app p (fresh_exp p 0) (unit p))
 
@@ -187,19 +187,20 @@ first_pats (c ∷ cs) = c.pats
 abbrev pub fun_of : Place → List Clause → Exp
 fun_of p cs = fn_for p 1 (first_pats cs) (case_of p (one_or_tuple p (fresh_for p 1 (first_pats cs))) (clause_rules cs))
 
--- One function of `fun`: its place, its name and its clauses.
+-- One function of `fun`: its place, its name with the name's own place, and its clauses.
 pub record Function : Type 0 where
   pub place : Place
+  pub vid_place : Place
   pub vid : Vid
   pub clauses : List Clause
 
 abbrev pub function_binds : List Function → Binds
 function_binds [] = no_binds
-function_binds (g ∷ gs) = bind g.place (vid_pat g.place (short g.vid)) (fun_of g.place g.clauses) (function_binds gs)
+function_binds (g ∷ gs) = bind g.place (vid_pat g.vid_place (short g.vid)) (fun_of g.place g.clauses) (function_binds gs)
 
--- fun tyvarseq f .. and g ..: val tyvarseq rec f = .. and g = ..
-abbrev pub fun_dec_of : Place → List Tyvar → List Function → Dec
-fun_dec_of p as_ gs = val_dec p as_ no_binds (function_binds gs)
+-- fun tyvarseq f .. and g ..: val tyvarseq rec f = .. and g = ..; q is the place of the sequence
+abbrev pub fun_dec_of : Place → Place → List Tyvar → List Function → Dec
+fun_dec_of p q as_ gs = val_dec p q as_ no_binds (function_binds gs)
 
 -- [: t] = e: = [e : t], at the place of e
 abbrev pub with_result : Place → Exp → Option Ty → Exp

@@ -59,17 +59,17 @@ pub data MaybeTy : List Terminal → Option Ty → List Terminal → Type 0 wher
   without_ty : {o : List Terminal} → MaybeTy o None o
   with_ty : {i o : List Terminal} {a : Ty} (p : ℕ) → ReadsTy i a o → MaybeTy (reserved p res.Colon ∷ i) (Some a) o
 
--- [op] vid, where an infix identifier has `op` before it. The place is that of the first byte.
-pub data BindsVid : Fixity → List Terminal → ℕ → Vid → List Terminal → Type 0 where
-  plain_vid : {f : Fixity} {t : Terminal} {o : List Terminal} {p x : ℕ} → IsVid t p x → fix_of (Named x) f ≡ None → BindsVid f (t ∷ o) p (Named x) o
-  op_vid : {f : Fixity} {t : Terminal} {o : List Terminal} {v : Vid} (p : ℕ) → IsAnyVid t v → BindsVid f (reserved p res.Op ∷ t ∷ o) p v o
+-- [op] vid, where an infix identifier has `op` before it. The first place is that of `op`, where it is written; the other is the identifier's own.
+pub data BindsVid : Fixity → List Terminal → ℕ → Placed Vid → List Terminal → Type 0 where
+  plain_vid : {f : Fixity} {t : Terminal} {o : List Terminal} {p x : ℕ} → IsVid t p x → fix_of (Named x) f ≡ None → BindsVid f (t ∷ o) p (record { place = p; it = Named x }) o
+  op_vid : {f : Fixity} {t : Terminal} {o : List Terminal} {q : ℕ} {v : Vid} (p : ℕ) → IsAnyVid t q v → BindsVid f (reserved p res.Op ∷ t ∷ o) p (record { place = q; it = v }) o
 
 -- [op] longvid. `=` stands here only after `op`.
-pub data NamesVid : Fixity → List Terminal → ℕ → LongVid → List Terminal → Type 0 where
+pub data NamesVid : Fixity → List Terminal → ℕ → Placed LongVid → List Terminal → Type 0 where
   plain_long : {f : Fixity} {t : Terminal} {o : List Terminal} {p x : ℕ} → IsVid t p x → fix_of (Named x) f ≡ None →
-      NamesVid f (t ∷ o) p (record { qualifiers = []; vid = Named x }) o
-  qualified : {f : Fixity} {t : Terminal} {o : List Terminal} {p : ℕ} {x : LongVid} → IsQualifiedVid t p x → NamesVid f (t ∷ o) p x o
-  op_long : {f : Fixity} {t : Terminal} {o : List Terminal} {x : LongVid} (p : ℕ) → IsAnyLongVid t x → NamesVid f (reserved p res.Op ∷ t ∷ o) p x o
+      NamesVid f (t ∷ o) p (record { place = p; it = record { qualifiers = []; vid = Named x } }) o
+  qualified : {f : Fixity} {t : Terminal} {o : List Terminal} {p : ℕ} {x : LongVid} → IsQualifiedVid t p x → NamesVid f (t ∷ o) p (record { place = p; it = x }) o
+  op_long : {f : Fixity} {t : Terminal} {o : List Terminal} {q : ℕ} {x : LongVid} (p : ℕ) → IsAnyLongVid t q x → NamesVid f (reserved p res.Op ∷ t ∷ o) p (record { place = q; it = x }) o
 
 -- an infix identifier other than `=`
 pub record IsInfixVid (f : Fixity) (t : Terminal) (x : Placed ℕ) : Type 0 where
@@ -91,7 +91,7 @@ mutual
     -- atpat ::= scon
     of_pat_constant : {f : Fixity} {t : Terminal} {o : List Terminal} {p : ℕ} {c : Constant} → IsConstant t p c → AtPat f (t ∷ o) (constant_pat p c) o
     -- atpat ::= [op] longvid
-    of_pat_vid : {f : Fixity} {i o : List Terminal} {p : ℕ} {x : LongVid} → NamesVid f i p x o → AtPat f i (vid_pat p x) o
+    of_pat_vid : {f : Fixity} {i o : List Terminal} {p : ℕ} {x : Placed LongVid} → NamesVid f i p x o → AtPat f i (vid_pat p x) o
     -- atpat ::= { [patrow] }
     of_no_pat_row : {f : Fixity} {o : List Terminal} (p q : ℕ) → AtPat f (reserved p res.LeftBrace ∷ reserved q res.RightBrace ∷ o) (record_pat p no_pat_fields false) o
     of_pat_row : {f : Fixity} {i o : List Terminal} {fs : PatFields} {b : Bool} (p q : ℕ) → PatRow f i fs b (reserved q res.RightBrace ∷ o) →
@@ -129,13 +129,13 @@ mutual
     -- pat ::= atpat
     of_atpat : {f : Fixity} {i o : List Terminal} {a : Pat} → AtPat f i a o → Pattern f i a o
     -- pat ::= [op] longvid atpat
-    of_con_pat : {f : Fixity} {i m o : List Terminal} {p : ℕ} {x : LongVid} {a : Pat} → NamesVid f i p x m → AtPat f m a o → Pattern f i (con_pat p x a) o
+    of_con_pat : {f : Fixity} {i m o : List Terminal} {p : ℕ} {x : Placed LongVid} {a : Pat} → NamesVid f i p x m → AtPat f m a o → Pattern f i (con_pat p x a) o
     -- pat ::= pat vid pat
     of_chain_pat : {f : Fixity} {i m o : List Terminal} {a : Pat} {ps : PatParts} (l : ℕ) (r : Bool) → l < pat_level f a → Pattern f i a m → PatFollows f l r m ps o → Pattern f i (chain_pat r a ps) o
     -- pat ::= pat : ty
     of_typed_pat : {f : Fixity} {i m o : List Terminal} {a : Pat} {s : Ty} (p : ℕ) → 5 ≤ pat_level f a → Pattern f i a (reserved p res.Colon ∷ m) → ReadsTy m s o → Pattern f i (typed_pat a s) o
     -- pat ::= [op] vid [: ty] as pat
-    of_as_pat : {f : Fixity} {i m n o : List Terminal} {p : ℕ} {v : Vid} {s : Option Ty} {a : Pat} (q : ℕ) → BindsVid f i p v m → MaybeTy m s (reserved q res.As ∷ n) → Pattern f n a o →
+    of_as_pat : {f : Fixity} {i m n o : List Terminal} {p : ℕ} {v : Placed Vid} {s : Option Ty} {a : Pat} (q : ℕ) → BindsVid f i p v m → MaybeTy m s (reserved q res.As ∷ n) → Pattern f n a o →
         Pattern f i (as_pat p v s a) o
 
   -- the further operands of a chain
@@ -153,12 +153,12 @@ pub data AtPats : Fixity → List Terminal → Pats → List Terminal → Type 0
 -- The head of a clause of `fun` (Appendix A, and Appendix B's figure of function declarations). The identifier between two patterns is infix.
 pub data ReadsHead : Fixity → List Terminal → Head → List Terminal → Type 0 where
   -- [op] vid atpat .. atpat
-  of_prefix_head : {f : Fixity} {i m n o : List Terminal} {p : ℕ} {v : Vid} {a : Pat} {as_ : Pats} → BindsVid f i p v m → AtPat f m a n → AtPats f n as_ o → ReadsHead f i (prefix_head p v a as_) o
+  of_prefix_head : {f : Fixity} {i m n o : List Terminal} {p : ℕ} {v : Placed Vid} {a : Pat} {as_ : Pats} → BindsVid f i p v m → AtPat f m a n → AtPats f n as_ o → ReadsHead f i (prefix_head p v a as_) o
   -- atpat vid atpat
-  of_infix_head : {f : Fixity} {i m o : List Terminal} {t : Terminal} {x : Placed ℕ} {a b : Pat} → AtPat f i a (t ∷ m) → IsInfixVid f t x → AtPat f m b o → ReadsHead f i (infix_head a x.it b) o
+  of_infix_head : {f : Fixity} {i m o : List Terminal} {t : Terminal} {x : Placed ℕ} {a b : Pat} → AtPat f i a (t ∷ m) → IsInfixVid f t x → AtPat f m b o → ReadsHead f i (infix_head a x b) o
   -- (atpat vid atpat) atpat .. atpat
   of_bracket_head : {f : Fixity} {i m n o : List Terminal} {t : Terminal} {x : Placed ℕ} {a b : Pat} {as_ : Pats} (p q : ℕ) → AtPat f i a (t ∷ m) → IsInfixVid f t x →
-      AtPat f m b (reserved q res.RightParen ∷ n) → AtPats f n as_ o → ReadsHead f (reserved p res.LeftParen ∷ i) (bracket_head p a x.it b as_) o
+      AtPat f m b (reserved q res.RightParen ∷ n) → AtPats f n as_ o → ReadsHead f (reserved p res.LeftParen ∷ i) (bracket_head p a x b as_) o
 
 -- tyvarseq (section 2.8): none, one, or one or more in brackets
 pub data TyvarCommas : List Terminal → List Tyvar → List Terminal → Type 0 where
@@ -176,6 +176,11 @@ pub data BeginsAt : List Terminal → ℕ → Type 0 where
   at_bracket : {o : List Terminal} (p : ℕ) → BeginsAt (reserved p res.LeftParen ∷ o) p
   at_tycon : {t : Terminal} {o : List Terminal} {p x : ℕ} → IsTycon t p x → BeginsAt (t ∷ o) p
 
+-- the place of a sequence in the declaration at p: that of its first byte, and p where it is empty
+pub data TyvarsPlace (p : ℕ) : List Terminal → List Tyvar → ℕ → Type 0 where
+  at_declaration : {i : List Terminal} → TyvarsPlace p i [] p
+  at_sequence : {i : List Terminal} {q : ℕ} {a : Tyvar} {as_ : List Tyvar} → BeginsAt i q → TyvarsPlace p i (a ∷ as_) q
+
 -- typbind ::= tyvarseq tycon = ty [and typbind]
 pub data OneTypeBind : List Terminal → TypeBind → List Terminal → Type 0 where
   type_bind : {i m o : List Terminal} {t : Terminal} {as_ : List Tyvar} {p q x : ℕ} {a : Ty} (r : ℕ) → BeginsAt i p → Tyvars i as_ (t ∷ reserved r res.Equals ∷ m) → IsTycon t q x → ReadsTy m a o →
@@ -192,9 +197,9 @@ pub data MaybeOf : List Terminal → Option Ty → List Terminal → Type 0 wher
 
 -- conbind ::= [op] vid [of ty] [| conbind]
 pub data ConBinds : Fixity → List Terminal → List ConBind → List Terminal → Type 0 where
-  last_con : {f : Fixity} {i m o : List Terminal} {p : ℕ} {v : Vid} {s : Option Ty} → BindsVid f i p v m → MaybeOf m s o → ConBinds f i (record { place = p; vid = v; of_ty = s } ∷ []) o
-  more_cons : {f : Fixity} {i m n o : List Terminal} {p : ℕ} {v : Vid} {s : Option Ty} {cs : List ConBind} (q : ℕ) → BindsVid f i p v m → MaybeOf m s (reserved q res.Bar ∷ n) → ConBinds f n cs o →
-      ConBinds f i (record { place = p; vid = v; of_ty = s } ∷ cs) o
+  last_con : {f : Fixity} {i m o : List Terminal} {p : ℕ} {v : Placed Vid} {s : Option Ty} → BindsVid f i p v m → MaybeOf m s o → ConBinds f i (record { place = v.place; vid = v.it; of_ty = s } ∷ []) o
+  more_cons : {f : Fixity} {i m n o : List Terminal} {p : ℕ} {v : Placed Vid} {s : Option Ty} {cs : List ConBind} (q : ℕ) → BindsVid f i p v m → MaybeOf m s (reserved q res.Bar ∷ n) → ConBinds f n cs o →
+      ConBinds f i (record { place = v.place; vid = v.it; of_ty = s } ∷ cs) o
 
 -- datbind ::= tyvarseq tycon = conbind [and datbind]
 pub data OneDataBind : Fixity → List Terminal → DataBind → List Terminal → Type 0 where
@@ -207,9 +212,9 @@ pub data DataBinds : Fixity → List Terminal → List DataBind → List Termina
 
 -- exbind ::= [op] vid [of ty] [and exbind] | [op] vid = [op] longvid [and exbind]
 pub data OneExBind : Fixity → List Terminal → ExBind → List Terminal → Type 0 where
-  new_exception : {f : Fixity} {i m o : List Terminal} {p : ℕ} {v : Vid} {s : Option Ty} → BindsVid f i p v m → MaybeOf m s o → OneExBind f i (new_exn p v s) o
-  same_exception : {f : Fixity} {i m o : List Terminal} {p q : ℕ} {v : Vid} {x : LongVid} (r : ℕ) → BindsVid f i p v (reserved r res.Equals ∷ m) → NamesVid f m q x o →
-      OneExBind f i (same_exn p v (record { place = q; it = x })) o
+  new_exception : {f : Fixity} {i m o : List Terminal} {p : ℕ} {v : Placed Vid} {s : Option Ty} → BindsVid f i p v m → MaybeOf m s o → OneExBind f i (new_exn v.place v.it s) o
+  same_exception : {f : Fixity} {i m o : List Terminal} {p q : ℕ} {v : Placed Vid} {x : Placed LongVid} (r : ℕ) → BindsVid f i p v (reserved r res.Equals ∷ m) → NamesVid f m q x o →
+      OneExBind f i (same_exn v.place v.it x) o
 
 pub data ExBinds : Fixity → List Terminal → List ExBind → List Terminal → Type 0 where
   last_exn : {f : Fixity} {i o : List Terminal} {b : ExBind} → OneExBind f i b o → ExBinds f i (b ∷ []) o
@@ -252,8 +257,8 @@ mutual
     -- atexp ::= scon
     of_constant : {f : Fixity} {t : Terminal} {o : List Terminal} {p : ℕ} {c : Constant} → IsConstant t p c → Atom f (t ∷ o) (constant_exp p c) o
     -- atexp ::= [op] longvid; `=` that isn't infix stands alone too
-    of_vid : {f : Fixity} {i o : List Terminal} {p : ℕ} {x : LongVid} → NamesVid f i p x o → Atom f i (vid_exp p x) o
-    of_equals : {f : Fixity} {o : List Terminal} (p : ℕ) → fix_of Equals f ≡ None → Atom f (reserved p res.Equals ∷ o) (vid_exp p (record { qualifiers = []; vid = Equals })) o
+    of_vid : {f : Fixity} {i o : List Terminal} {p : ℕ} {x : Placed LongVid} → NamesVid f i p x o → Atom f i (vid_exp p x) o
+    of_equals : {f : Fixity} {o : List Terminal} (p : ℕ) → fix_of Equals f ≡ None → Atom f (reserved p res.Equals ∷ o) (vid_exp p (record { place = p; it = record { qualifiers = []; vid = Equals } })) o
     -- atexp ::= { [exprow] }
     of_no_row : {f : Fixity} {o : List Terminal} (p q : ℕ) → Atom f (reserved p res.LeftBrace ∷ reserved q res.RightBrace ∷ o) (record_exp p no_exp_fields) o
     of_row : {f : Fixity} {i o : List Terminal} {fs : ExpFields} (p q : ℕ) → ExpRow f i fs (reserved q res.RightBrace ∷ o) → Atom f (reserved p res.LeftBrace ∷ i) (record_exp p fs) o
@@ -342,9 +347,11 @@ mutual
 
   pub data Declare : Fixity → List Terminal → Dec → List Terminal → Type 0 where
     -- dec ::= val tyvarseq valbind
-    of_val : {f : Fixity} {i m o : List Terminal} {as_ : List Tyvar} {bs : Binds} (p : ℕ) → Tyvars i as_ m → ReadsBinds f m bs o → Declare f (reserved p res.Val ∷ i) (val_dec p as_ bs) o
+    of_val : {f : Fixity} {i m o : List Terminal} {q : ℕ} {as_ : List Tyvar} {bs : Binds} (p : ℕ) → Tyvars i as_ m → TyvarsPlace p i as_ q → ReadsBinds f m bs o →
+        Declare f (reserved p res.Val ∷ i) (val_dec p q as_ bs) o
     -- dec ::= fun tyvarseq fvalbind
-    of_fun : {f : Fixity} {i m o : List Terminal} {as_ : List Tyvar} {fs : Funs} (p : ℕ) → Tyvars i as_ m → ReadsFuns f m fs o → Declare f (reserved p res.Fun ∷ i) (fun_dec p as_ fs) o
+    of_fun : {f : Fixity} {i m o : List Terminal} {q : ℕ} {as_ : List Tyvar} {fs : Funs} (p : ℕ) → Tyvars i as_ m → TyvarsPlace p i as_ q → ReadsFuns f m fs o →
+        Declare f (reserved p res.Fun ∷ i) (fun_dec p q as_ fs) o
     -- dec ::= type typbind
     of_type : {f : Fixity} {i o : List Terminal} {bs : List TypeBind} (p : ℕ) → TypeBinds i bs o → Declare f (reserved p res.TypeWord ∷ i) (type_dec p bs) o
     -- dec ::= datatype datbind [withtype typbind]

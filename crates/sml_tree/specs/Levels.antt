@@ -19,8 +19,8 @@ abbrev mutual
   pub added_by : Dec → List Directive
   added_by (fixity_dec p status xs) = directives_for status xs
   added_by (local_dec p ds es) = added es
-  added_by (val_dec p as_ bs) = []
-  added_by (fun_dec p as_ fs) = []
+  added_by (val_dec p q as_ bs) = []
+  added_by (fun_dec p q as_ fs) = []
   added_by (type_dec p bs) = []
   added_by (datatype_dec p bs) = []
   added_by (withtype_dec p bs cs) = []

@@ -1,10 +1,14 @@
 pub mod Terminal
 pub mod Fixity
+pub mod Trie
+pub mod VidNumber
+pub mod Kept
 pub mod ReadTree
 pub mod Depth
 pub mod Levels
 pub mod Grammar
 pub mod BareTree
+pub mod Phrases
 pub mod Derived
 pub mod Bare
 pub mod TreeOf

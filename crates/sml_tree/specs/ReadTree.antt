@@ -1,5 +1,6 @@
 -- The tree that is read: one constructor per production of the core (the Definition, sections 2.8 and 2.9 and Appendix B), with brackets and
 -- derived forms (Appendix A) kept. A number that comes first is the place of the phrase's first byte; the others have it from their first part.
+-- An identifier that may stand after `op` has a place of its own, that of its own first byte.
 use Rattle.std.specs.Prelude.{ℕ, suc, Bool, List, Option}
 use Rattle.mlc_base.specs.declared.label.Label.{Label}
 use Rattle.sml_tree.specs.Terminal.{Constant, LongVid, LongId}
@@ -38,18 +39,18 @@ mutual
   pub data Pat : Type 0 where
     wild_pat : ℕ → Pat
     constant_pat : ℕ → Constant → Pat
-    vid_pat : ℕ → LongVid → Pat
+    vid_pat : ℕ → Placed LongVid → Pat
     -- whether `...` ends it
     record_pat : ℕ → PatFields → Bool → Pat
     unit_pat : ℕ → Pat
     tuple_pat : ℕ → Pats → Pat
     list_pat : ℕ → Pats → Pat
     paren_pat : ℕ → Pat → Pat
-    con_pat : ℕ → LongVid → Pat → Pat
+    con_pat : ℕ → Placed LongVid → Pat → Pat
     -- operands joined by infix identifiers of one precedence, and whether these associate to the right
     chain_pat : Bool → Pat → PatParts → Pat
     typed_pat : Pat → Ty → Pat
-    as_pat : ℕ → Vid → Option Ty → Pat → Pat
+    as_pat : ℕ → Placed Vid → Option Ty → Pat → Pat
 
   pub data Pats : Type 0 where
     no_pats : Pats
@@ -78,16 +79,18 @@ pub data Joint : Type 0 where
 
 -- The head of a clause: [op] vid atpat .. atpat, atpat vid atpat, or (atpat vid atpat) atpat .. atpat.
 pub data Head : Type 0 where
-  prefix_head : ℕ → Vid → Pat → Pats → Head
-  infix_head : Pat → ℕ → Pat → Head
-  bracket_head : ℕ → Pat → ℕ → Pat → Pats → Head
+  prefix_head : ℕ → Placed Vid → Pat → Pats → Head
+  infix_head : Pat → Placed ℕ → Pat → Head
+  bracket_head : ℕ → Pat → Placed ℕ → Pat → Pats → Head
 
+-- The place of a binding of a type is that of its sequence of type variables too, where this isn't empty.
 pub record TypeBind : Type 0 where
   pub place : ℕ
   pub tyvars : List Tyvar
   pub tycon : ℕ
   pub ty : Ty
 
+-- the place of a constructor, and of an exception, is that of its identifier
 pub record ConBind : Type 0 where
   pub place : ℕ
   pub vid : Vid
@@ -107,7 +110,7 @@ pub data ExBind : Type 0 where
 mutual
   pub data Exp : Type 0 where
     constant_exp : ℕ → Constant → Exp
-    vid_exp : ℕ → LongVid → Exp
+    vid_exp : ℕ → Placed LongVid → Exp
     record_exp : ℕ → ExpFields → Exp
     selector : ℕ → Label → Exp
     unit_exp : ℕ → Exp
@@ -149,8 +152,9 @@ mutual
     dec : Dec → Decs → Decs
 
   pub data Dec : Type 0 where
-    val_dec : ℕ → List Tyvar → Binds → Dec
-    fun_dec : ℕ → List Tyvar → Funs → Dec
+    -- a sequence of type variables has a place, that of its first byte; an empty one has that of the declaration
+    val_dec : ℕ → ℕ → List Tyvar → Binds → Dec
+    fun_dec : ℕ → ℕ → List Tyvar → Funs → Dec
     type_dec : ℕ → List TypeBind → Dec
     datatype_dec : ℕ → List DataBind → Dec
     withtype_dec : ℕ → List DataBind → List TypeBind → Dec
@@ -225,12 +229,17 @@ head_place (prefix_head p v a as_) = p
 head_place (infix_head a x b) = pat_place a
 head_place (bracket_head p a x b as_) = p
 
--- The name of a clause, and the number of its patterns.
+-- The name of a clause, its place, and the number of the clause's patterns.
 
 abbrev pub head_vid : Head → Vid
-head_vid (prefix_head p v a as_) = v
-head_vid (infix_head a x b) = Named x
-head_vid (bracket_head p a x b as_) = Named x
+head_vid (prefix_head p v a as_) = v.it
+head_vid (infix_head a x b) = Named x.it
+head_vid (bracket_head p a x b as_) = Named x.it
+
+abbrev pub head_vid_place : Head → ℕ
+head_vid_place (prefix_head p v a as_) = v.place
+head_vid_place (infix_head a x b) = x.place
+head_vid_place (bracket_head p a x b as_) = x.place
 
 abbrev pub count_pats : Pats → ℕ
 count_pats no_pats = 0

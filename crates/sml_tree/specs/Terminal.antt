@@ -80,13 +80,13 @@ pub data IsQualifiedVid : Terminal → ℕ → LongVid → Type 0 where
   long_star_vid : (p : ℕ) (qs : List ℕ) (x : ℕ) → IsQualifiedVid (long_star p qs x) p (record { qualifiers = qs; vid = Named x })
 
 -- what `op` may stand before: any vid, `=` too
-pub data IsAnyVid : Terminal → Vid → Type 0 where
-  any_named : {t : Terminal} {p x : ℕ} → IsVid t p x → IsAnyVid t (Named x)
-  any_equals : (p : ℕ) → IsAnyVid (reserved p res.Equals) Equals
+pub data IsAnyVid : Terminal → ℕ → Vid → Type 0 where
+  any_named : {t : Terminal} {p x : ℕ} → IsVid t p x → IsAnyVid t p (Named x)
+  any_equals : (p : ℕ) → IsAnyVid (reserved p res.Equals) p Equals
 
-pub data IsAnyLongVid : Terminal → LongVid → Type 0 where
-  any_short : {t : Terminal} {v : Vid} → IsAnyVid t v → IsAnyLongVid t (record { qualifiers = []; vid = v })
-  any_long : {t : Terminal} {p : ℕ} {x : LongVid} → IsQualifiedVid t p x → IsAnyLongVid t x
+pub data IsAnyLongVid : Terminal → ℕ → LongVid → Type 0 where
+  any_short : {t : Terminal} {p : ℕ} {v : Vid} → IsAnyVid t p v → IsAnyLongVid t p (record { qualifiers = []; vid = v })
+  any_long : {t : Terminal} {p : ℕ} {x : LongVid} → IsQualifiedVid t p x → IsAnyLongVid t p x
 
 -- tycon: any identifier but `*` (section 2.4)
 pub data IsTycon : Terminal → ℕ → ℕ → Type 0 where

@@ -4,9 +4,8 @@ use Rattle.mlc_base.specs.declared.label.Label.{Label}
 use Rattle.mlc_base.specs.declared.place.Place.{Place}
 use Rattle.sml_tree.specs.Terminal as term
 use Rattle.sml_tree.specs.BareTree as bare
-use Rattle.sml_tree.specs.Derived.{tuple, tuple_pat, product, app_of, Operand, chain_of, VidAt, join, join_pats, TyAt, arrows, sequence_of, list_of, list_pat_of, fun_dec_of, tys_of, put_ty, expand_ty}
+use Rattle.sml_tree.specs.Derived.{tuple, tuple_pat, product, app_of, Operand, chain_of, VidAt, join, join_pats, TyAt, arrows, sequence_of, list_of, list_pat_of, fun_dec_of, tys_of, withtype_of}
 use Rattle.sml_tree.specs.Derived as derived
-use Rattle.sml_tree.specs.declared.ident.Tyvar.{Tyvar}
 use Rattle.sml_tree.specs.declared.ident.LongVid.{LongVid}
 use Rattle.sml_tree.specs.declared.ident.LongId.{LongId}
 use Rattle.sml_tree.specs.declared.ident.Constant.{Constant}
@@ -97,7 +96,6 @@ node_ty (Ty-F.Record p fs) = bare.fields p (ty_fields_of fs.items)
 node_ty (Ty-F.Con p ts q c) = bare.con p (tys_of ts.items) q (long_id_of c)
 node_ty (Ty-F.Product p ts) = product p ts.items
 node_ty (Ty-F.Arrow p t ts) = arrows p t.value ts.items
-node_ty (Ty-F.Ill p) = bare.ill p
 
 abbrev pub node_ty_field : TyField-F bare.Ty TyFieldOf TyAt → TyFieldOf
 node_ty_field a = record { label = a.label; ty = a.ty }
@@ -116,20 +114,6 @@ ty_part_of = fold-TyPart bare.Ty TyFieldOf TyAt node_ty node_ty_field node_ty_pa
 
 abbrev pub some_ty_of : Option Ty → Option bare.Ty
 some_ty_of t = option_map ty_of t
-
--- Abbreviations, in elements of lists.
-
-abbrev pub put_field : List Tyvar → List bare.Ty → TyFieldOf → TyFieldOf
-put_field as_ ts a = record { label = a.label; ty = put_ty as_ ts a.ty }
-
-abbrev pub put_part : List Tyvar → List bare.Ty → TyAt → TyAt
-put_part as_ ts a = record { place = a.place; ty = put_ty as_ ts a.ty }
-
-abbrev pub expand_field : List bare.TypeBind → TyFieldOf → TyFieldOf
-expand_field bs a = record { label = a.label; ty = expand_ty bs a.ty }
-
-abbrev pub expand_part : List bare.TypeBind → TyAt → TyAt
-expand_part bs a = record { place = a.place; ty = expand_ty bs a.ty }
 
 -- Patterns.
 
@@ -183,10 +167,11 @@ long_id_at_of x = record { place = x.place; long = long_id_of x.long }
 -- Expressions and declarations.
 
 abbrev pub node_dec : Dec-F bare.Dec bare.Exp RuleOf derived.Clause ExpFieldOf derived.Function (Operand Joint bare.Exp) RuleOf → bare.Dec
-node_dec (Dec-F.Val p as_ bs cs) = bare.val_dec p as_.items (binds_of bs.items) (binds_of cs.items)
-node_dec (Dec-F.Fun p as_ gs) = fun_dec_of p as_.items gs.items
+node_dec (Dec-F.Val p as_ bs cs) = bare.val_dec p as_.place as_.tyvars.items (binds_of bs.items) (binds_of cs.items)
+node_dec (Dec-F.Fun p as_ gs) = fun_dec_of p as_.place as_.tyvars.items gs.items
 node_dec (Dec-F.Abbreviation p bs) = bare.type_dec p (map type_bind_of bs.items)
 node_dec (Dec-F.Datatype p bs) = bare.datatype_dec p (map data_bind_of bs.items)
+node_dec (Dec-F.Withtype p ds bs) = withtype_of p (map data_bind_of ds.items) (map type_bind_of bs.items)
 node_dec (Dec-F.Replicate p x c) = bare.replicate_dec p x (long_id_at_of c)
 node_dec (Dec-F.Exception p bs) = bare.exception_dec p (map ex_bind_of bs.items)
 node_dec (Dec-F.Local p ds es) = bare.local_dec p (decs_of ds.items) (decs_of es.items)
@@ -219,7 +204,7 @@ abbrev pub node_exp_field : ExpField-F bare.Dec bare.Exp RuleOf derived.Clause E
 node_exp_field a = record { label = a.label; exp = a.exp }
 
 abbrev pub node_function : Function-F bare.Dec bare.Exp RuleOf derived.Clause ExpFieldOf derived.Function (Operand Joint bare.Exp) RuleOf → derived.Function
-node_function g = record { place = g.place; vid = g.vid; clauses = g.clauses.items }
+node_function g = record { place = g.place; vid_place = g.vid_place; vid = g.vid; clauses = g.clauses.items }
 
 abbrev pub node_part : Part-F bare.Dec bare.Exp RuleOf derived.Clause ExpFieldOf derived.Function (Operand Joint bare.Exp) RuleOf → Operand Joint bare.Exp
 node_part a = record { joint = a.joint; place = a.place; operand = a.exp }

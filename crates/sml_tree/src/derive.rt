@@ -1,15 +1,17 @@
 // The derived forms.
 
-ghost use Rattle.std.specs.Prelude.{◌≡◌, ◌∷◌, [], map, IfOk};
-ghost use Rattle.sml_tree.specs.Derived.{fresh_exp, fresh_pat, unit, tuple_pat, select, case_of, if_of, sequence_of, let_of, while_of, with_result, pun, withtype_of};
+ghost use Rattle.std.specs.Prelude.{◌≡◌, ◌∷◌, [], map, true, IfOk};
+ghost use Rattle.sml_tree.specs.Derived.{fresh_exp, fresh_pat, unit, tuple_pat, select, case_of, if_of, and_of, or_of, sequence_of, let_of, while_of, with_result, pun};
 ghost use Rattle.sml_tree.specs.BareTree as bare;
-ghost use Rattle.sml_tree.specs.TreeOf.{exp_of, pat_of, ty_of, dec_of, rule_of, rules_of, decs_of, some_ty_of, data_bind_of, type_bind_of};
+ghost use Rattle.sml_tree.specs.TreeOf.{exp_of, pat_of, ty_of, dec_of, rule_of, rules_of, decs_of, some_ty_of};
 ghost use Rattle.sml_tree.specs.StandsFor.{phrase_of, stands_for};
 
-use crate::abbreviations::expand_binds;
-use crate::ident::{BuiltIn, LongVid, Tyvar, Vid};
-use crate::tree::{Bind, DataBind, Dec, Exp, Function, Pat, PatField, Rule, Ty, TypeBind};
+use crate::ident::{BuiltIn, LongVid, Vid};
+use crate::tree::{
+    Bind, DataBind, Dec, Exp, Function, Pat, PatField, Rule, Ty, TypeBind, TyvarSeq,
+};
 use mlc_base::label::Label;
+use mlc_base::make::{both, boxed, one, two, with};
 use mlc_base::memory::NoMemory;
 use mlc_base::names::Name;
 use mlc_base::place::Place;
@@ -46,7 +48,7 @@ pub enum Derived {
     List(Place, Vec<Exp>),
     ListPat(Place, Vec<Pat>),
     /// `fun tyvarseq f p1 .. pn = e | .. and ..`
-    Fun(Place, Vec<Tyvar>, Vec<Function>),
+    Fun(Place, TyvarSeq, Vec<Function>),
     /// The right side of `[: t] = e`, with the place of `e`.
     Result(Place, Exp, Option<Ty>),
     /// The field `x [: t]`
@@ -66,15 +68,6 @@ pub enum Tree {
     Dec(Dec),
     /// A field of a record pattern.
     Field(Label, Pat),
-}
-
-/// A vector of one element.
-fn only<T: Drop>(alloc: Global, element: T) -> Result<Vec<T>, NoMemory>
-    ensures { IfOk result (λ v. v.items ≡ element ∷ []) }
-{
-    let mut all = Vec::new(alloc);
-    all.push(element)?;
-    Ok(all)
 }
 
 /// The fresh variable of this number.
@@ -103,44 +96,47 @@ fn fresh_pattern(alloc: Global, place: Place, number: u32) -> Pat
 }
 
 /// `()`
-fn unit(alloc: Global, place: Place) -> Exp
+pub fn unit(alloc: Global, place: Place) -> Exp
     ensures { exp_of result ≡ unit place }
 {
     Exp::Tuple(place, Vec::new(alloc))
 }
 
-/// `f a`
-fn apply(alloc: Global, place: Place, f: Exp, a: Exp) -> Result<Exp, NoMemory>
-    ensures { IfOk result (λ e. exp_of e ≡ bare.app place (exp_of f) (exp_of a)) }
+/// `function argument`
+fn apply(alloc: Global, place: Place, function: Exp, argument: Exp) -> Result<Exp, NoMemory>
+    ensures { IfOk result (λ e. exp_of e ≡ bare.app place (exp_of function) (exp_of argument)) }
 {
-    let arguments = only(alloc, a)?;
-    Ok(Exp::Apply(place, Box::new(alloc, f)?, arguments))
+    match both(boxed(alloc, function), one(alloc, argument)) {
+        Ok((function, arguments)) => Ok(Exp::Apply(place, function, arguments)),
+        Err(e) => Err(e),
+    }
 }
 
 /// `fn pat => exp`
 fn lambda(alloc: Global, place: Place, pat: Pat, exp: Exp) -> Result<Exp, NoMemory>
     ensures { IfOk result (λ e. exp_of e ≡ bare.fn place (bare.rule place (pat_of pat) (exp_of exp) bare.no_rules)) }
 {
-    let rules = only(alloc, Rule { place, pat, exp })?;
-    Ok(Exp::Fn(place, rules))
+    Ok(Exp::Fn(place, one(alloc, Rule { place, pat, exp })?))
+}
+
+/// `{lab = v, ...}`, where `v` is the fresh variable of number 0.
+fn one_field(alloc: Global, place: Place, label: Label) -> Result<Pat, NoMemory>
+    ensures { IfOk result (λ a. pat_of a ≡ bare.fields_pat place (bare.pat_field label (fresh_pat place 0) bare.no_pat_fields) true) }
+{
+    let pat = fresh_pattern(alloc, place, 0);
+    Ok(Pat::Record(place, one(alloc, PatField { label, pat })?, true))
 }
 
 /// `#lab`
-fn selector(alloc: Global, place: Place, label: Label) -> Result<Exp, NoMemory>
+pub fn selector(alloc: Global, place: Place, label: Label) -> Result<Exp, NoMemory>
     ensures { IfOk result (λ e. exp_of e ≡ select place label) }
 {
-    let pat = fresh_pattern(alloc, place, 0);
-    let fields = only(alloc, PatField { label, pat })?;
-    lambda(
-        alloc,
-        place,
-        Pat::Record(place, fields, true),
-        fresh(alloc, place, 0),
-    )
+    let pat = one_field(alloc, place, label)?;
+    lambda(alloc, place, pat, fresh(alloc, place, 0))
 }
 
 /// `case e of rules`
-fn case(alloc: Global, place: Place, e: Exp, rules: Vec<Rule>) -> Result<Exp, NoMemory>
+pub fn case(alloc: Global, place: Place, e: Exp, rules: Vec<Rule>) -> Result<Exp, NoMemory>
     ensures { IfOk result (λ made. exp_of made ≡ case_of place (exp_of e) (rules_of (map rule_of rules.items))) }
 {
     apply(alloc, place, Exp::Fn(place, rules), e)
@@ -151,60 +147,65 @@ fn branches(alloc: Global, place: Place, b: Exp, c: Exp) -> Result<Vec<Rule>, No
     ensures { IfOk result (λ rs. rules_of (map rule_of rs.items)
         ≡ bare.rule place (bare.built_pat place BuiltIn.True) (exp_of b) (bare.rule place (bare.built_pat place BuiltIn.False) (exp_of c) bare.no_rules)) }
 {
-    let mut rules = Vec::new(alloc);
-    rules.push(Rule {
+    let yes = Rule {
         place,
         pat: Pat::BuiltIn(place, BuiltIn::True),
         exp: b,
-    })?;
-    rules.push(Rule {
+    };
+    let no = Rule {
         place,
         pat: Pat::BuiltIn(place, BuiltIn::False),
         exp: c,
-    })?;
-    Ok(rules)
+    };
+    two(alloc, yes, no)
 }
 
 /// `if a then b else c`
-fn conditional(alloc: Global, place: Place, a: Exp, b: Exp, c: Exp) -> Result<Exp, NoMemory>
+pub fn conditional(alloc: Global, place: Place, a: Exp, b: Exp, c: Exp) -> Result<Exp, NoMemory>
     ensures { IfOk result (λ e. exp_of e ≡ if_of place (exp_of a) (exp_of b) (exp_of c)) }
 {
-    let rules = branches(alloc, place, b, c)?;
-    case(alloc, place, a, rules)
+    match with(a, branches(alloc, place, b, c)) {
+        Ok((a, rules)) => case(alloc, place, a, rules),
+        Err(e) => Err(e),
+    }
 }
 
-/// `fn () => if a then (b; v ()) else ()`, where `v` is the fresh variable of number 0.
-fn round(alloc: Global, place: Place, a: Exp, b: Exp) -> Result<Exp, NoMemory>
-    ensures { IfOk result (λ e. exp_of e ≡ bare.fn place (bare.rule place (tuple_pat place [])
-        (if_of place (exp_of a) (sequence_of place (exp_of b) (bare.app place (fresh_exp place 0) (unit place) ∷ [])) (unit place)) bare.no_rules)) }
+/// `a andalso b`
+pub fn conjunction(alloc: Global, place: Place, a: Exp, b: Exp) -> Result<Exp, NoMemory>
+    ensures { IfOk result (λ e. exp_of e ≡ and_of place (exp_of a) (exp_of b)) }
 {
-    let again = apply(alloc, place, fresh(alloc, place, 0), unit(alloc, place))?;
-    let more = only(alloc, again)?;
-    let body = Exp::Sequence(place, Box::new(alloc, b)?, more);
-    let choice = conditional(alloc, place, a, body, unit(alloc, place))?;
-    lambda(alloc, place, Pat::Tuple(place, Vec::new(alloc)), choice)
+    conditional(alloc, place, a, b, Exp::BuiltIn(place, BuiltIn::False))
 }
 
-/// `while a do b`
-fn while_loop(alloc: Global, place: Place, a: Exp, b: Exp) -> Result<Exp, NoMemory>
-    ensures { IfOk result (λ e. exp_of e ≡ while_of place (exp_of a) (exp_of b)) }
+/// `a orelse b`
+pub fn disjunction(alloc: Global, place: Place, a: Exp, b: Exp) -> Result<Exp, NoMemory>
+    ensures { IfOk result (λ e. exp_of e ≡ or_of place (exp_of a) (exp_of b)) }
 {
-    let bind = Bind {
-        place,
-        pat: fresh_pattern(alloc, place, 0),
-        exp: round(alloc, place, a, b)?,
-    };
-    let binds = only(alloc, bind)?;
-    let declarations = only(
-        alloc,
-        Dec::Val(place, Vec::new(alloc), Vec::new(alloc), binds),
-    )?;
-    let call = apply(alloc, place, fresh(alloc, place, 0), unit(alloc, place))?;
-    Ok(Exp::Let(place, declarations, Box::new(alloc, call)?))
+    conditional(alloc, place, a, Exp::BuiltIn(place, BuiltIn::True), b)
+}
+
+/// `(first; ..)`
+pub fn sequence(alloc: Global, place: Place, first: Exp, more: Vec<Exp>) -> Result<Exp, NoMemory>
+    ensures { IfOk result (λ e. exp_of e ≡ sequence_of place (exp_of first) (map exp_of more.items)) }
+{
+    match with(more, boxed(alloc, first)) {
+        Ok((more, first)) => Ok(Exp::Sequence(place, first, more)),
+        Err(e) => Err(e),
+    }
+}
+
+/// `let d in e end`
+fn let_one(alloc: Global, place: Place, declarations: Vec<Dec>, body: Exp) -> Result<Exp, NoMemory>
+    ensures { IfOk result (λ e. exp_of e ≡ bare.let_in place (decs_of (map dec_of declarations.items)) (exp_of body)) }
+{
+    match with(declarations, boxed(alloc, body)) {
+        Ok((declarations, body)) => Ok(Exp::Let(place, declarations, body)),
+        Err(e) => Err(e),
+    }
 }
 
 /// `let d in e1; ..; en end`
-fn let_in(
+pub fn let_in(
     alloc: Global,
     place: Place,
     declarations: Vec<Dec>,
@@ -213,51 +214,134 @@ fn let_in(
 ) -> Result<Exp, NoMemory>
     ensures { IfOk result (λ e. exp_of e ≡ let_of place (decs_of (map dec_of declarations.items)) (exp_of first) (map exp_of more.items)) }
 {
-    let body = Exp::Sequence(place, Box::new(alloc, first)?, more);
-    Ok(Exp::Let(place, declarations, Box::new(alloc, body)?))
+    match with(declarations, sequence(alloc, place, first, more)) {
+        Ok((declarations, body)) => let_one(alloc, place, declarations, body),
+        Err(e) => Err(e),
+    }
+}
+
+/// `v ()`, where `v` is the fresh variable of number 0.
+fn call(alloc: Global, place: Place) -> Result<Exp, NoMemory>
+    ensures { IfOk result (λ e. exp_of e ≡ bare.app place (fresh_exp place 0) (unit place)) }
+{
+    apply(alloc, place, fresh(alloc, place, 0), unit(alloc, place))
+}
+
+fn only_call(alloc: Global, place: Place) -> Result<Vec<Exp>, NoMemory>
+    ensures { IfOk result (λ es. map exp_of es.items ≡ bare.app place (fresh_exp place 0) (unit place) ∷ []) }
+{
+    one(alloc, call(alloc, place)?)
+}
+
+/// `(b; v ())`
+fn again(alloc: Global, place: Place, b: Exp) -> Result<Exp, NoMemory>
+    ensures { IfOk result (λ e. exp_of e ≡ sequence_of place (exp_of b) (bare.app place (fresh_exp place 0) (unit place) ∷ [])) }
+{
+    match with(b, only_call(alloc, place)) {
+        Ok((b, more)) => sequence(alloc, place, b, more),
+        Err(e) => Err(e),
+    }
+}
+
+/// `fn () => if a then (b; v ()) else ()`
+fn round(alloc: Global, place: Place, a: Exp, b: Exp) -> Result<Exp, NoMemory>
+    ensures { IfOk result (λ e. exp_of e ≡ bare.fn place (bare.rule place (tuple_pat place [])
+        (if_of place (exp_of a) (sequence_of place (exp_of b) (bare.app place (fresh_exp place 0) (unit place) ∷ [])) (unit place)) bare.no_rules)) }
+{
+    match with(a, again(alloc, place, b)) {
+        Ok((a, body)) => {
+            let choice = conditional(alloc, place, a, body, unit(alloc, place))?;
+            lambda(alloc, place, Pat::Tuple(place, Vec::new(alloc)), choice)
+        }
+        Err(e) => Err(e),
+    }
+}
+
+/// `val rec v = exp`
+fn recursive(alloc: Global, place: Place, exp: Exp) -> Result<Vec<Dec>, NoMemory>
+    ensures { IfOk result (λ ds. decs_of (map dec_of ds.items)
+        ≡ bare.dec (bare.val_dec place place [] bare.no_binds (bare.bind place (fresh_pat place 0) (exp_of exp) bare.no_binds)) bare.no_decs) }
+{
+    let pat = fresh_pattern(alloc, place, 0);
+    let binds = one(alloc, Bind { place, pat, exp })?;
+    let none = TyvarSeq {
+        place,
+        tyvars: Vec::new(alloc),
+    };
+    one(alloc, Dec::Val(place, none, Vec::new(alloc), binds))
+}
+
+/// `while a do b`
+pub fn while_loop(alloc: Global, place: Place, a: Exp, b: Exp) -> Result<Exp, NoMemory>
+    ensures { IfOk result (λ e. exp_of e ≡ while_of place (exp_of a) (exp_of b)) }
+{
+    let round = round(alloc, place, a, b)?;
+    match both(recursive(alloc, place, round), call(alloc, place)) {
+        Ok((declarations, call)) => let_one(alloc, place, declarations, call),
+        Err(e) => Err(e),
+    }
 }
 
 /// The right side of `[: t] = e`.
-fn with_result(alloc: Global, place: Place, e: Exp, ty: Option<Ty>) -> Result<Exp, NoMemory>
+pub fn with_result(alloc: Global, place: Place, e: Exp, ty: Option<Ty>) -> Result<Exp, NoMemory>
     ensures { IfOk result (λ made. exp_of made ≡ with_result place (exp_of e) (some_ty_of ty)) }
 {
     match ty {
         None => Ok(e),
-        Some(ty) => Ok(Exp::Typed(place, Box::new(alloc, e)?, ty)),
+        Some(ty) => typed(alloc, place, e, ty),
     }
 }
 
-/// The pattern of a field `x [: t]`.
-fn field(alloc: Global, place: Place, name: Name, ty: Option<Ty>) -> Result<Pat, NoMemory>
-    ensures { IfOk result (λ made. pat_of made ≡ pun place name (some_ty_of ty)) }
+/// `e : t`
+fn typed(alloc: Global, place: Place, e: Exp, ty: Ty) -> Result<Exp, NoMemory>
+    ensures { IfOk result (λ made. exp_of made ≡ bare.typed place (exp_of e) (ty_of ty)) }
 {
-    let variable = Pat::Vid(
+    match with(ty, boxed(alloc, e)) {
+        Ok((ty, e)) => Ok(Exp::Typed(place, e, ty)),
+        Err(e) => Err(e),
+    }
+}
+
+/// `x`, as a pattern.
+fn variable(alloc: Global, place: Place, name: Name) -> Pat
+    ensures { pat_of result ≡ pun place name None }
+{
+    Pat::Vid(
         place,
         LongVid {
             qualifiers: Vec::new(alloc),
             vid: Vid::Named(name),
         },
-    );
+    )
+}
+
+/// The pattern of a field `x [: t]`.
+pub fn field(alloc: Global, place: Place, name: Name, ty: Option<Ty>) -> Result<Pat, NoMemory>
+    ensures { IfOk result (λ made. pat_of made ≡ pun place name (some_ty_of ty)) }
+{
     match ty {
-        None => Ok(variable),
-        Some(ty) => Ok(Pat::Typed(place, Box::new(alloc, variable)?, ty)),
+        None => Ok(variable(alloc, place, name)),
+        Some(ty) => match with(ty, boxed(alloc, variable(alloc, place, name))) {
+            Ok((ty, variable)) => Ok(Pat::Typed(place, variable, ty)),
+            Err(e) => Err(e),
+        },
     }
 }
 
-/// `datatype d withtype b`
-fn withtype(
+/// The pattern of a field `x [: t] as p`.
+pub fn field_as(
     alloc: Global,
     place: Place,
-    datatypes: Vec<DataBind>,
-    binds: Vec<TypeBind>,
-) -> Result<Dec, NoMemory>
-    ensures { IfOk result (λ made. dec_of made ≡ withtype_of place (map data_bind_of datatypes.items) (map type_bind_of binds.items)) }
+    name: Name,
+    ty: Option<Ty>,
+    pat: Pat,
+) -> Result<Pat, NoMemory>
+    ensures { IfOk result (λ made. pat_of made ≡ bare.as_pat place (Vid.Named name) (some_ty_of ty) (pat_of pat)) }
 {
-    let expanded = expand_binds(alloc, &binds, &datatypes)?;
-    let mut both = Vec::new(alloc);
-    both.push(Dec::Datatype(place, expanded))?;
-    both.push(Dec::Abbreviation(place, binds))?;
-    Ok(Dec::Declarations(place, both))
+    match with(ty, boxed(alloc, pat)) {
+        Ok((ty, pat)) => Ok(Pat::As(place, Vid::Named(name), ty, pat)),
+        Err(e) => Err(e),
+    }
 }
 
 /// What a derived form stands for.
@@ -273,19 +357,9 @@ pub fn derive(alloc: Global, form: Derived) -> Result<Tree, NoMemory>
         Derived::Selector(place, label) => Ok(Tree::Exp(selector(alloc, place, label)?)),
         Derived::Case(place, e, rules) => Ok(Tree::Exp(case(alloc, place, e, rules)?)),
         Derived::If(place, a, b, c) => Ok(Tree::Exp(conditional(alloc, place, a, b, c)?)),
-        Derived::AndAlso(place, a, b) => {
-            let otherwise = Exp::BuiltIn(place, BuiltIn::False);
-            Ok(Tree::Exp(conditional(alloc, place, a, b, otherwise)?))
-        }
-        Derived::OrElse(place, a, b) => {
-            let then = Exp::BuiltIn(place, BuiltIn::True);
-            Ok(Tree::Exp(conditional(alloc, place, a, then, b)?))
-        }
-        Derived::Sequence(place, e, es) => Ok(Tree::Exp(Exp::Sequence(
-            place,
-            Box::new(alloc, e)?,
-            es,
-        ))),
+        Derived::AndAlso(place, a, b) => Ok(Tree::Exp(conjunction(alloc, place, a, b)?)),
+        Derived::OrElse(place, a, b) => Ok(Tree::Exp(disjunction(alloc, place, a, b)?)),
+        Derived::Sequence(place, e, es) => Ok(Tree::Exp(sequence(alloc, place, e, es)?)),
         Derived::Let(place, ds, e, es) => Ok(Tree::Exp(let_in(alloc, place, ds, e, es)?)),
         Derived::While(place, a, b) => Ok(Tree::Exp(while_loop(alloc, place, a, b)?)),
         Derived::List(place, exps) => Ok(Tree::Exp(Exp::List(place, exps))),
@@ -296,12 +370,12 @@ pub fn derive(alloc: Global, form: Derived) -> Result<Tree, NoMemory>
             Label::Word(name),
             field(alloc, place, name, ty)?,
         )),
-        Derived::FieldAs(place, name, ty, pat) => {
-            let pat = Pat::As(place, Vid::Named(name), ty, Box::new(alloc, pat)?);
-            Ok(Tree::Field(Label::Word(name), pat))
+        Derived::FieldAs(place, name, ty, pat) => Ok(Tree::Field(
+            Label::Word(name),
+            field_as(alloc, place, name, ty, pat)?,
+        )),
+        Derived::Withtype(place, datatypes, binds) => {
+            Ok(Tree::Dec(Dec::Withtype(place, datatypes, binds)))
         }
-        Derived::Withtype(place, datatypes, binds) => Ok(Tree::Dec(withtype(
-            alloc, place, datatypes, binds,
-        )?)),
     }
 }

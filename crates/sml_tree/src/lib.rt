@@ -1,10 +1,9 @@
 // The grammar of the core language, its trees and its derived forms.
 #![tactic(auto)]
 
-mod abbreviations;
 pub mod derive;
 pub mod fixity;
 pub mod ident;
-#[cfg(test)]
-mod tests;
+pub mod law;
 pub mod tree;
+mod trie;

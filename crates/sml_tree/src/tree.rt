@@ -16,8 +16,6 @@ pub enum Ty {
     Product(Place, Vec<Ty>),
     /// `t1 -> .. -> tn`
     Arrow(Place, Box<Ty>, Vec<TyPart>),
-    /// What an abbreviation stands for where it has a wrong number of arguments: no type.
-    Ill(Place),
 }
 
 #[derive(Drop)]
@@ -70,6 +68,13 @@ pub struct PatPart {
     pub vid: Vid,
     pub place: Place,
     pub pat: Pat,
+}
+
+/// A sequence of type variables, and its place: where it is empty, that of the declaration.
+#[derive(Drop)]
+pub struct TyvarSeq {
+    pub place: Place,
+    pub tyvars: Vec<Tyvar>,
 }
 
 /// A binding of an abbreviation.
@@ -187,6 +192,7 @@ pub struct Clause {
 #[cycle(exps)]
 pub struct Function {
     pub place: Place,
+    pub vid_place: Place,
     pub vid: Vid,
     pub clauses: Vec<Clause>,
 }
@@ -195,10 +201,12 @@ pub struct Function {
 #[cycle(exps)]
 pub enum Dec {
     /// Bindings before `rec`, and those after it.
-    Val(Place, Vec<Tyvar>, Vec<Bind>, Vec<Bind>),
-    Fun(Place, Vec<Tyvar>, Vec<Function>),
+    Val(Place, TyvarSeq, Vec<Bind>, Vec<Bind>),
+    Fun(Place, TyvarSeq, Vec<Function>),
     Abbreviation(Place, Vec<TypeBind>),
     Datatype(Place, Vec<DataBind>),
+    /// `datatype d withtype b`, both as they are written.
+    Withtype(Place, Vec<DataBind>, Vec<TypeBind>),
     /// `datatype tycon = datatype longtycon`
     Replicate(Place, Name, LongIdAt),
     Exception(Place, Vec<ExBind>),

@@ -1,0 +1,101 @@
+// Each derived form with ample memory.
+
+use mlc_base::label::Label;
+use mlc_base::memory::NoMemory;
+use mlc_base::place::Place;
+use sml_tree::derive::{Derived, Tree, conditional, derive};
+use sml_tree::ident::Constant;
+use sml_tree::tree::{Exp, Rule};
+use std::alloc::Global;
+use std::test::Fail;
+
+fn place(byte: u32) -> Place {
+    Place { file: 0, byte }
+}
+
+fn number(byte: u32, value: i32) -> Exp {
+    Exp::Constant(place(byte), Constant::Int(value))
+}
+
+fn value_of(exp: &Exp) -> i32 {
+    match exp {
+        Exp::Constant(_, Constant::Int(value)) => *value,
+        _ => 0,
+    }
+}
+
+fn rule_value(rules: &[Rule], index: usize) -> i32 {
+    if index < rules.len() {
+        value_of(&rules[index].exp)
+    } else {
+        0
+    }
+}
+
+// The values of the two rules of a function.
+fn branches(exp: &Exp) -> (i32, i32) {
+    match exp {
+        Exp::Fn(_, rules) => (rule_value(rules, 0), rule_value(rules, 1)),
+        _ => (0, 0),
+    }
+}
+
+fn operator_branches(exp: &Exp) -> (i32, i32) {
+    match exp {
+        Exp::Apply(_, function, _) => branches(function),
+        _ => (0, 0),
+    }
+}
+
+// `if 0 then 1 else 2`
+fn one_or_two(alloc: Global) -> Result<Exp, NoMemory> {
+    conditional(alloc, place(7), number(10, 0), number(17, 1), number(24, 2))
+}
+
+#[test]
+fn a_conditional_is_derived(rt: HostRuntime) -> Result<(), Fail> {
+    let exp = one_or_two(rt.alloc())?;
+    assert_eq!(rt; operator_branches(&exp), (1, 2));
+    Ok(())
+}
+
+fn is_exp(tree: &Tree) -> bool {
+    match tree {
+        Tree::Exp(_) => true,
+        _ => false,
+    }
+}
+
+// Whether a form is derived, as an expression.
+fn gives_exp(alloc: Global, form: Derived) -> Result<bool, NoMemory> {
+    let tree = derive(alloc, form)?;
+    Ok(is_exp(&tree))
+}
+
+#[test]
+fn a_loop_is_derived(rt: HostRuntime) -> Result<(), Fail> {
+    let form = Derived::While(place(0), number(6, 0), number(11, 1));
+    assert!(rt; gives_exp(rt.alloc(), form)?);
+    Ok(())
+}
+
+#[test]
+fn a_selector_is_derived(rt: HostRuntime) -> Result<(), Fail> {
+    let form = Derived::Selector(place(0), Label::Number(1));
+    assert!(rt; gives_exp(rt.alloc(), form)?);
+    Ok(())
+}
+
+#[test]
+fn a_conjunction_is_derived(rt: HostRuntime) -> Result<(), Fail> {
+    let form = Derived::AndAlso(place(0), number(0, 1), number(10, 2));
+    assert!(rt; gives_exp(rt.alloc(), form)?);
+    Ok(())
+}
+
+#[test]
+fn a_disjunction_is_derived(rt: HostRuntime) -> Result<(), Fail> {
+    let form = Derived::OrElse(place(0), number(0, 1), number(9, 2));
+    assert!(rt; gives_exp(rt.alloc(), form)?);
+    Ok(())
+}
