@@ -88,12 +88,12 @@ Holds false = ⊥
 
 up_has : (others r : Row) → row_type r ≡ row_type (sorted names (a_row ++ others)) → Over start.names (row_type r) → distinct same_label (labels_in (a_row ++ others)) ≡ true →
     DecsHave names no_variable start up_to_f 0 (plus (values_env []) no_env) (up_choices (labels_in (sorted names others)))
-up_has others r e o d = dec_has (val_has _ [] {vs = [] ∷ []} {us = []} refl refl
+up_has others r e o d = dec_has (val_has _ _ [] {vs = [] ∷ []} {us = []} refl refl
     (λ q c. bind_has _ (wild_has _ {t = unit_type} (tt, tt)) refl
     (app_has _ {t = to_unit}
     (fn_has _ (rule_has _ (wild_has _ (tt, ((tt, tt), ((tt, tt), tt)))) refl
     (let_has _
-    (dec_has (val_has _ [] {vs = ((vid (codes "f"), from_row r) ∷ []) ∷ []} {us = []} refl refl
+    (dec_has (val_has _ _ [] {vs = ((vid (codes "f"), from_row r) ∷ []) ∷ []} {us = []} refl refl
     (λ f c. bind_has _ (variable_has _ refl refl (tt, (o, ((refl, tt), tt)))) (ap (λ t. (vid (codes "f"), t) ∷ []) (sym (put-none f (from_row r))))
     (fn_has _ (rule_has _ (variable_has _ refl refl o) refl
     (app_has _ (fn_has _ (rule_has _ (open_has _ others (field_has _ (variable_has _ refl refl (refl, tt)) no_field_has) d e o) refl (mono-has _ int_type refl (refl, tt)) no_rule_has))
@@ -102,7 +102,7 @@ up_has others r e o d = dec_has (val_has _ [] {vs = [] ∷ []} {us = []} refl re
     (λ x. absurd (subst Holds x tt)) no_bind_has)
     (λ f c. no_bind_has)) no_dec_has)
     (let_has _
-    (dec_has (val_has _ [] {vs = []} {us = ((Fresh 0, to_unit) ∷ []) ∷ []} refl refl
+    (dec_has (val_has _ _ [] {vs = []} {us = ((Fresh 0, to_unit) ∷ []) ∷ []} refl refl
     (λ f c. no_bind_has)
     (λ f c. bind_has _ (variable_has _ refl refl (tt, ((tt, tt), ((tt, tt), tt)))) refl
     (fn_has _ (rule_has _ (wild_has _ (tt, tt)) refl (app_has _ (mono-has _ to_unit refl (tt, ((tt, tt), ((tt, tt), tt)))) (record_has _ no_exp_field_has refl)) no_rule_has))

@@ -468,7 +468,7 @@ module _ (texts : List (List ℕ)) (m : ℕ → Bool) (call : Apply) where
         (λ d' w' g. then-giving _ _ (eval_decs call (plus d d') ds w') (λ d'' w. gives (plus d' d'') w) (decs-giving k (plus d d') (fits-plus f g) w') (λ d'' w'' g'. fits-plus g g'))
 
     dec-giving : {c : Context} {dc : Dec} {made : ℕ} {e : static.Env} {k : Choices} → DecHas texts m c dc made e k → (d : Env) → Fits c.env d → (w : World Value) → Giving (Fits e) (eval_dec call d dc w)
-    dec-giving {c} (Typing.val_has p {as_ = as_} {bs = bs} {rs = rs} extra {vs = vs} {us = us} g dist plain rec_) d f w =
+    dec-giving {c} (Typing.val_has p p' {as_ = as_} {bs = bs} {rs = rs} extra {vs = vs} {us = us} g dist plain rec_) d f w =
         let may = units-may-stand texts m c (marks_of c as_ bs rs extra) (general-marks (scoped_in c as_ bs rs) extra g) in
         then-giving (BindsThese (together vs)) _ (eval_binds call d bs w) (with_recursive d rs (all_fns rs)) (binds-giving texts m call d f (plain (λ v. unit_type) may) w)
         (λ d' w' h. recursive-giving texts m call d (marks_of c as_ bs rs extra) refl (rec_ (λ v. unit_type) may) d' w' h (all_fns rs) refl)

@@ -240,7 +240,7 @@ module _ (call : Apply) (calls : CallsGrow call) where
         (λ d u. then-grows u (eval_decs call (plus e d) ds u) (λ d' w. gives (plus d d') w) (decs-grow (plus e d) ds u) (λ d' s. prefix-refl s.output))
 
     dec-grows : (e : Env) (d : Dec) (w : World Value) → Grows w (eval_dec call e d w)
-    dec-grows e (val_dec p as_ bs rs) w = then-grows w (eval_binds call e bs w) (with_recursive e rs (all_fns rs)) (binds-grow e bs w) (recursive-grows e rs (all_fns rs))
+    dec-grows e (val_dec p q as_ bs rs) w = then-grows w (eval_binds call e bs w) (with_recursive e rs (all_fns rs)) (binds-grow e bs w) (recursive-grows e rs (all_fns rs))
     dec-grows e (type_dec p bs) w = prefix-refl w.output
     dec-grows e (datatype_dec p bs) w = prefix-refl w.output
     dec-grows e (replicate_dec p x y) w = or-grows (long_tycon_in e y) w (λ d. gives (tycon x d d) w) (λ d. prefix-refl w.output)
@@ -294,7 +294,7 @@ module _ (k : ℕ) (call call' : Apply) (grow : CallsGrow call') (calls : CallsF
         (λ d u n y. then-follows (λ d' w. gives (plus d d') w) (λ d' w. gives (plus d d') w) (decs-follow (plus e d) ds u n y) (λ d' s. prefix-refl s.output) (λ d' s n z. both_give _ s n z))
 
     dec-follows : (e : Env) (d : Dec) (w : World Value) (n : ℕ) → Near k w n → Follows k (eval_dec call e d w) (eval_dec call' e d (with_left w n))
-    dec-follows e (val_dec p as_ bs rs) w n x = then-follows (with_recursive e rs (all_fns rs)) (with_recursive e rs (all_fns rs)) (binds-follow e bs w n x) (recursive-grows e rs (all_fns rs)) (recursive-follows e rs (all_fns rs))
+    dec-follows e (val_dec p q as_ bs rs) w n x = then-follows (with_recursive e rs (all_fns rs)) (with_recursive e rs (all_fns rs)) (binds-follow e bs w n x) (recursive-grows e rs (all_fns rs)) (recursive-follows e rs (all_fns rs))
     dec-follows e (type_dec p bs) w n x = both_give _ w n x
     dec-follows e (datatype_dec p bs) w n x = both_give _ w n x
     dec-follows e (replicate_dec p y z) w n x = or-follows (long_tycon_in e z) w n (λ d. gives (tycon y d d) w) (λ d. gives (tycon y d d) (with_left w n)) x (λ d. both_give _ w n x)

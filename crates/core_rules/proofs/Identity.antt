@@ -185,7 +185,7 @@ of-body marks body {k = k} g rec_ =
     record { marks = marks; from = f.from; is = ap (λ t. plus (closed marks ((id, t) ∷ [])) no_env) (f.is ∙ ap (function_type f.from) (sym same)); choices = ap (λ k. both (both no_choice k) no_choice) units.choices }
 
 all-identities : {made : ℕ} {e : Env} {k : Choices} → DecsHave names no_variable start id_run made e k → IsIdentityEnv e k
-all-identities (dec_has (val_has p marks {vs} {us} {k = k} {j = j} g d plain rec_) no_dec_has) =
+all-identities (dec_has (val_has p p' marks {vs} {us} {k = k} {j = j} g d plain rec_) no_dec_has) =
     let x : BindsOne us = binds-one (rec_ (λ v. unit_type) (units-may-stand names no_variable start marks g)) in
     let y : (vs ≡ []) × (k ≡ no_choice) = no-binding (plain (λ v. unit_type) (units-may-stand names no_variable start marks g)) in
     subst (λ k. IsIdentityEnv (plus (closed marks (together vs ++ together us)) no_env) (both (both k j) no_choice)) (sym y.1)

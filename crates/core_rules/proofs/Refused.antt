@@ -69,7 +69,7 @@ abbrev no_base : Choices
 no_base = both (both (both (both no_choice (both no_choice no_choice)) no_choice) no_choice) no_choice
 
 abbrev fresh_refs : (t : Typ) → Over start.names t → has_none 0 t ≡ true → DecsHave names no_variable start refs 0 (refs_at t) no_base
-fresh_refs t o h = dec_has (val_has _ [] {vs = ((vid (codes "x"), ref_type (list_type t)) ∷ []) ∷ []} {us = []} refl refl
+fresh_refs t o h = dec_has (val_has _ _ [] {vs = ((vid (codes "x"), ref_type (list_type t)) ∷ []) ∷ []} {us = []} refl refl
     (λ r c. bind_has _ (variable_has _ refl refl (refl, ((refl, (o, tt)), tt))) (ap (λ u. (vid (codes "x"), ref_type (list_type u)) ∷ []) (sym (put-none r t)))
     (app_has _ (inst-has _ (for_all Any (function_type (var 0) (ref_type (var 0)))) (λ n. list_type t) refl (tt, tt) (tt, ((refl, (o, tt)), ((refl, ((refl, (o, tt)), tt)), tt))) refl)
     (built_exp_has _ (record { types = λ n. t; allowed = (tt, tt); over = (refl, (o, tt)); is = refl; chosen = refl })))
@@ -164,7 +164,7 @@ unit-choice : (marks : List Mark) → all_general marks ≡ true → IsChoiceOf 
 unit-choice marks e = units-may-stand names no_variable start marks e
 
 all-fixed : {made : ℕ} {e : Env} {k : Choices} → DecsHave names no_variable start refs made e k → IsFixed e
-all-fixed (dec_has (val_has p marks g d plain rec_) no_dec_has) = by-binds marks refl refl (plain (λ n. unit_type) (unit-choice marks g)) (rec_ (λ n. unit_type) (unit-choice marks g))
+all-fixed (dec_has (val_has p p' marks g d plain rec_) no_dec_has) = by-binds marks refl refl (plain (λ n. unit_type) (unit-choice marks g)) (rec_ (λ n. unit_type) (unit-choice marks g))
 
 -- the number of the type of elements
 abbrev number_of : Typ → ℕ
@@ -200,7 +200,7 @@ abbrev one_choices : Choices
 one_choices = both (both (both (settled (both no_choice no_choice)) no_choice) no_choice) no_choice
 
 one_has : DecsHave names no_variable start one 0 one_env one_choices
-one_has = dec_has (val_has _ [] {vs = ((vid (codes "x"), int_type) ∷ []) ∷ []} {us = []} refl refl
+one_has = dec_has (val_has _ _ [] {vs = ((vid (codes "x"), int_type) ∷ []) ∷ []} {us = []} refl refl
     (λ r c. bind_has _ (variable_has _ refl refl (refl, tt)) refl (constant_exp_has _ _) (λ e. absurd (subst Holds e tt)) no_bind_has)
     (λ r c. no_bind_has)) no_dec_has
 
@@ -267,13 +267,13 @@ record IsInt (e : Env) : Type 0 where
   int : (f : ℕ → Typ) → put (length marks) f body ≡ int_type
 
 all-int : {made : ℕ} {e : Env} {k : Choices} → DecsHave names no_variable start one made e k → IsInt e
-all-int (dec_has (val_has p marks {vs} {us} g d plain rec_) no_dec_has) =
+all-int (dec_has (val_has p p' marks {vs} {us} g d plain rec_) no_dec_has) =
     let x : IsBinding (length marks) (λ n. unit_type) vs = one-binding refl (plain (λ n. unit_type) (unit-choice marks g)) in
     let none_rec : us ≡ [] = no-binding (rec_ (λ n. unit_type) (unit-choice marks g)) in
     record { marks = marks; body = x.body; is = λ i. env_of marks (x.is i) (none_rec i); int = λ f. rigid (length marks) f x.body x.int }
 
 one-choice : {made : ℕ} {e : Env} {k : Choices} → DecsHave names no_variable start one made e k → k ≡ one_choices
-one-choice (dec_has (val_has p marks g d plain rec_) no_dec_has) = λ i. both (both (plain-choice (plain (λ n. unit_type) (unit-choice marks g)) i) (rec-choice (rec_ (λ n. unit_type) (unit-choice marks g)) i)) no_choice
+one-choice (dec_has (val_has p p' marks g d plain rec_) no_dec_has) = λ i. both (both (plain-choice (plain (λ n. unit_type) (unit-choice marks g)) i) (rec-choice (rec_ (λ n. unit_type) (unit-choice marks g)) i)) no_choice
   where
     plain-choice : {n : ℕ} {r : ℕ → Typ} {c : Context} {vs : List Bound} {k : Choices} → BindsHave names no_variable c n r (bind at (pv (codes "x")) (num 1) no_binds) vs k → k ≡ both (settled (both no_choice no_choice)) no_choice
     plain-choice (bind_has p (variable_has q m m' o) e (constant_exp_has q' k) h no_bind_has) = refl
@@ -316,7 +316,7 @@ abbrev pair_of : Typ → Typ
 pair_of t = pair_type t t
 
 doubles_has : (n : ℕ) (t : Typ) → Over start.names t → Allows numbers no_variable t → t ≡ con (symbol (overloaded n)) none → DecsHave names no_variable start doubles 0 (doubles_env t) (doubles_choices n)
-doubles_has n t o a e = dec_has (val_has _ [] {vs = ((vid (codes "x"), function_type t t) ∷ []) ∷ []} {us = []} refl refl
+doubles_has n t o a e = dec_has (val_has _ _ [] {vs = ((vid (codes "x"), function_type t t) ∷ []) ∷ []} {us = []} refl refl
     (λ r c. bind_has _ (variable_has _ refl refl (tt, (o, (o, tt)))) (ap (λ u. (vid (codes "x"), function_type u u) ∷ []) (sym (put-none r t)))
     (fn_has _ (rule_has _ (variable_has _ refl refl o) refl
     (app_has _ (inst-has _ (for_all numbers (function_type (pair_type (var 0) (var 0)) (var 0))) (λ i. t) refl (a, tt) (tt, ((tt, (o, (o, tt))), (o, tt))) (n, e, refl))
@@ -354,7 +354,7 @@ with_b = (Word (name (codes "a")), int_type) ∷ (Word (name (codes "b")), int_t
 
 selects_has : (others r : Row) → row_type r ≡ row_type (sorted names (alone ++ others)) → Over start.names (row_type r) → distinct same_label (labels_in (alone ++ others)) ≡ true → put 0 var (from_row r) ≡ from_row r →
     DecsHave names no_variable start selects 0 (plus (closed [] ((vid (codes "x"), from_row r) ∷ [])) no_env) (selects_choices (labels_in (sorted names others)))
-selects_has others r e o d p = dec_has (val_has _ [] {vs = ((vid (codes "x"), from_row r) ∷ []) ∷ []} {us = []} refl refl
+selects_has others r e o d p = dec_has (val_has _ _ [] {vs = ((vid (codes "x"), from_row r) ∷ []) ∷ []} {us = []} refl refl
     (λ f c. bind_has _ (variable_has _ refl refl (tt, (o, ((refl, tt), tt)))) (ap (λ t. (vid (codes "x"), t) ∷ []) (sym (put-none f (from_row r))))
     (fn_has _ (rule_has _ (variable_has _ refl refl o) refl
     (app_has _ (fn_has _ (rule_has _ (open_has _ others (field_has _ (variable_has _ refl refl (refl, tt)) no_field_has) d e o) refl (mono-has _ int_type refl (refl, tt)) no_rule_has))

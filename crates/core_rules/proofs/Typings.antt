@@ -44,7 +44,7 @@ abbrev pub one_match : Choices → Choices
 one_match k = both no_choice (both k no_choice)
 
 pub id_has : DecHas names no_variable start (fun (codes "id") (clause (pv (codes "x") ∷ []) (v (codes "x")) ∷ [])) 0 id_env (both no_choice (one_settled (one_match (both (one_match no_choice) no_choice))))
-id_has = val_has _ (Any ∷ []) {vs = []} {us = ((vid (codes "id"), function_type (var 0) (var 0)) ∷ []) ∷ []} refl refl
+id_has = val_has _ _ (Any ∷ []) {vs = []} {us = ((vid (codes "id"), function_type (var 0) (var 0)) ∷ []) ∷ []} refl refl
     (λ r h. no_bind_has)
     (λ r h. let o = h.over 0 (omega arith) in bind_has _ (variable_has _ refl refl (tt, (o, (o, tt)))) refl
     (fn_has _ (rule_has _ (variable_has _ refl refl o) refl
@@ -119,7 +119,7 @@ let_polymorphic : HasType names no_variable start
     (row_type ((Number 1, int_type) ∷ (Number 2, string_type) ∷ []))
     (both (both (both (one_settled (one_match no_choice)) no_choice) no_choice) (both use_at (both use_at no_choice)))
 let_polymorphic = let_has _
-    (dec_has (val_has _ (Any ∷ []) {vs = ((vid (codes "id"), function_type (var 0) (var 0)) ∷ []) ∷ []} {us = []} refl refl
+    (dec_has (val_has _ _ (Any ∷ []) {vs = ((vid (codes "id"), function_type (var 0) (var 0)) ∷ []) ∷ []} {us = []} refl refl
     (λ r h. let o = h.over 0 (omega arith) in bind_has _ (variable_has _ refl refl (tt, (o, (o, tt)))) refl
     (fn_has _ (rule_has _ (variable_has _ refl refl o) refl (mono-has _ (r 0) refl o) no_rule_has)) (λ e. not-so e) no_bind_has)
     (λ r h. no_bind_has)) no_dec_has)

@@ -196,7 +196,7 @@ abbrev mutual
   eval_decs call e (dec d ds) w = then_do (eval_dec call e d w) (λ d w. then_do (eval_decs call (plus e d) ds w) (λ d' w. gives (plus d d') w))
 
   pub eval_dec : Apply → Env → Dec → World Value → Answer Value Env
-  eval_dec call e (val_dec p as_ bs rs) w = then_do (eval_binds call e bs w) (with_recursive e rs (all_fns rs))
+  eval_dec call e (val_dec p q as_ bs rs) w = then_do (eval_binds call e bs w) (with_recursive e rs (all_fns rs))
   eval_dec call e (type_dec p bs) w = gives (types_env bs) w
   eval_dec call e (datatype_dec p bs) w = gives (datatypes_env bs) w
   eval_dec call e (replicate_dec p x y) w = or_fail (long_tycon_in e y) w (λ d. gives (tycon x d d) w)

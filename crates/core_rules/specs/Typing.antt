@@ -230,12 +230,12 @@ module _ (texts : List (List ℕ)) (m : ℕ → Bool) where
 
     -- C ⊢ dec ⇒ E, with the number of type names that it makes [rules 15 to 24]
     pub data DecHas : Context → Dec → ℕ → Env → Choices → Type 0 where
-      val_has : {c : Context} (p : Place) {as_ : List Tyvar} {bs rs : Binds} (extra : List Mark) {vs us : List Bound} {k j : Choices} →
+      val_has : {c : Context} (p q : Place) {as_ : List Tyvar} {bs rs : Binds} (extra : List Mark) {vs us : List Bound} {k j : Choices} →
           all_general extra ≡ true → AreDistinct (bound_in (together vs ++ together us)) →
           ((r : ℕ → Typ) → IsChoiceOf c (marks_of c as_ bs rs extra) r → BindsHave (scoping c as_ bs rs r) (length (marks_of c as_ bs rs extra)) r bs vs k) →
           ((r : ℕ → Typ) → IsChoiceOf c (marks_of c as_ bs rs extra) r →
           BindsHave (with_bound (scoping c as_ bs rs r) (put_bound (length (marks_of c as_ bs rs extra)) r (together us))) (length (marks_of c as_ bs rs extra)) r rs us j) →
-          DecHas c (val_dec p as_ bs rs) 0 (closed (marks_of c as_ bs rs extra) (together vs ++ together us)) (both k j)
+          DecHas c (val_dec p q as_ bs rs) 0 (closed (marks_of c as_ bs rs extra) (together vs ++ together us)) (both k j)
       type_has : {c : Context} (p : Place) {bs : List TypeBind} {ts : Map ℕ TypeStructure} → types_bound texts c bs ≡ Some ts → DecHas c (type_dec p bs) 0 (types_env ts) no_choice
       -- as many of the new names admit equality as can
       datatype_has : {c : Context} (p : Place) {bs : List DataBind} {ts : Map ℕ TypeStructure} (qs : List Bool) → length qs ≡ length bs → datatypes texts c qs bs ≡ Some ts → respects_equality qs ts ≡ true →
