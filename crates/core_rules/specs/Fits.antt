@@ -11,7 +11,7 @@ use Rattle.core_rules.specs.Values.{Value, Env, Found, value_in, tycon_in, struc
 use Rattle.core_rules.specs.Eval.{Apply, eval_decs}
 use Rattle.core_rules.specs.Elaborated.{type_in}
 use Rattle.core_rules.specs.Choices.{Choices}
-use Rattle.core_rules.specs.Initial.{initial_context, initial_env}
+use Rattle.core_rules.specs.Initial.{initial_context, initial_env, prelude_context, prelude_env}
 use Rattle.core_rules.specs.Typing.{DecsHave}
 
 abbrev pub static_status : Option static.Value → Option Status
@@ -53,6 +53,6 @@ abbrev pub DeclarationsFit : Type 0
 DeclarationsFit = (texts : List (List ℕ)) (m : ℕ → Bool) (c : Context) (ds : Decs) (made : ℕ) (e : static.Env) (k : Choices) (call : Apply) (d : Env) (w : World Value) →
     DecsHave texts m c ds made e k → Fits c.env d → Giving (Fits e) (eval_decs call d ds w)
 
--- both views of the initial basis fit
+-- the views of the initial basis fit, and those of the basis that the prelude sees
 abbrev pub InitialBasisFits : Type 0
-InitialBasisFits = (texts : List (List ℕ)) → Fits (initial_context texts).env (initial_env texts)
+InitialBasisFits = (texts : List (List ℕ)) → Fits (initial_context texts).env (initial_env texts) × Fits (prelude_context texts).env (prelude_env texts)

@@ -193,12 +193,21 @@ constructors (t ∷ ts) = t.constructors ++ constructors ts
 abbrev pub entries : List Entry
 entries = constructors type_rows ++ (exceptions ++ primitives)
 
--- Both views, under a table of names. `=` isn't written as a name.
+-- Until structures can be declared, three of the functions on integers are in a structure `Int`.
+abbrev pub integers : List Entry
+integers =
+    function_row (codes "toString") int_type string_type prim.TextOf ∷ function_row (codes "quot") (pair_type int_type int_type) int_type prim.Quotient
+    ∷ function_row (codes "rem") (pair_type int_type int_type) int_type prim.Remainder ∷ []
+
+-- The views of the table, under a table of names: whatever is read off each row, and of these the static and the dynamic one. `=` isn't written as a name.
 abbrev pub vid_in : List (List ℕ) → List ℕ → Vid
 vid_in texts text = if bytes_eq text (codes "=") then Equals else Named (name_in texts text)
 
+abbrev pub view : {D : Type 0} → (Entry → D) → List (List ℕ) → List Entry → static.Map Vid D
+view read texts rows = map (λ r. (vid_in texts r.word, read r)) rows
+
 abbrev pub static_values : List (List ℕ) → List Entry → static.Values
-static_values texts rows = map (λ r. (vid_in texts r.word, record { scheme = r.scheme; status = r.status })) rows
+static_values = view (λ r. record { scheme = r.scheme; status = r.status })
 
 abbrev pub static_types : List (List ℕ) → List TypeEntry → static.Map ℕ TypeStructure
 static_types texts rows = map (λ t. (name_in texts t.word, record { function = t.function; constructors = static_values texts t.constructors })) rows
@@ -211,25 +220,48 @@ abbrev pub dynamic_types : List (List ℕ) → List TypeEntry → dynamic.Env
 dynamic_types texts [] = dynamic.nothing
 dynamic_types texts (t ∷ ts) = dynamic.tycon (name_in texts t.word) (dynamic_values texts t.constructors) (dynamic_types texts ts)
 
-abbrev pub context_with : List (List ℕ) → static.Structures → Context
-context_with texts ss = record { names = initial_names; tyvars = []; env = static.env (static_values texts entries) (static_types texts type_rows) ss }
+-- structures of values, by their identifiers
+abbrev pub Members : Type 0
+Members = List (List ℕ × List Entry)
 
-abbrev pub env_with : List (List ℕ) → dynamic.Env → dynamic.Env
-env_with texts e = dynamic.plus e (dynamic.plus (dynamic_types texts type_rows) (dynamic_values texts entries))
+abbrev pub static_structures : List (List ℕ) → Members → static.Structures
+static_structures texts [] = static.no_structures
+static_structures texts (m ∷ ms) = static.structure (name_in texts m.0) (static.values_env (static_values texts m.1)) (static_structures texts ms)
+
+abbrev pub dynamic_structures : List (List ℕ) → Members → dynamic.Env
+dynamic_structures texts [] = dynamic.nothing
+dynamic_structures texts (m ∷ ms) = dynamic.structure (name_in texts m.0) (dynamic_values texts m.1) (dynamic_structures texts ms)
+
+-- the structures of the initial basis, and those that the prelude sees
+abbrev pub initial_members : Members
+initial_members = (codes "Int", integers) ∷ []
+
+abbrev pub prelude_members : Members
+prelude_members = (codes "Prim", hidden) ∷ initial_members
+
+abbrev pub static_env : List (List ℕ) → Members → static.Env
+static_env texts ms = static.env (static_values texts entries) (static_types texts type_rows) (static_structures texts ms)
+
+abbrev pub dynamic_env : List (List ℕ) → Members → dynamic.Env
+dynamic_env texts ms = dynamic.plus (dynamic_structures texts ms) (dynamic.plus (dynamic_types texts type_rows) (dynamic_values texts entries))
+
+-- an environment before any declaration, with so many type names in use
+abbrev pub context_of : ℕ → static.Env → Context
+context_of n e = record { names = n; tyvars = []; env = e }
 
 -- where nothing is in scope; constants and derived forms have their types all the same
 abbrev pub empty_context : Context
-empty_context = record { names = initial_names; tyvars = []; env = static.no_env }
+empty_context = context_of initial_names static.no_env
 
 -- the initial basis, and the one that the prelude sees
 abbrev pub initial_context : List (List ℕ) → Context
-initial_context texts = context_with texts static.no_structures
+initial_context texts = context_of initial_names (static_env texts initial_members)
 
 abbrev pub initial_env : List (List ℕ) → dynamic.Env
-initial_env texts = env_with texts dynamic.nothing
+initial_env texts = dynamic_env texts initial_members
 
 abbrev pub prelude_context : List (List ℕ) → Context
-prelude_context texts = context_with texts (static.structure (name_in texts (codes "Prim")) (static.values_env (static_values texts hidden)) static.no_structures)
+prelude_context texts = context_of initial_names (static_env texts prelude_members)
 
 abbrev pub prelude_env : List (List ℕ) → dynamic.Env
-prelude_env texts = env_with texts (dynamic.structure (name_in texts (codes "Prim")) (dynamic_values texts hidden) dynamic.nothing)
+prelude_env texts = dynamic_env texts prelude_members

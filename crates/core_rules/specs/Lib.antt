@@ -12,6 +12,7 @@ pub mod Restrictions
 pub mod Typing
 pub mod Cuts
 pub mod Principal
+pub mod Project
 pub mod Closing
 pub mod Fits
 pub mod Laws

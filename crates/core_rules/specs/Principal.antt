@@ -6,7 +6,6 @@ use Rattle.sml_tree.specs.declared.ident.Vid.{Vid}
 use Rattle.sml_tree.specs.BareTree.{Decs}
 use Rattle.core_rules.specs.Objects.{Scheme, put, AllAllowed, Value, Env, types, structures, value_in, Context, with_env}
 use Rattle.core_rules.specs.Choices.{Choices, IntsOf, SameRows, SameSettled}
-use Rattle.core_rules.specs.Restrictions.{broken_in}
 use Rattle.core_rules.specs.Typing.{DecsHave}
 use Rattle.core_rules.specs.Cuts.{decs_cuts}
 
@@ -51,9 +50,3 @@ module _ (texts : List (List ℕ)) (c : Context) (run : Decs) where
     pub settled : AllByRecursion RowsSettled (decs_cuts [] run)
     pub general : (made' : ℕ) (e' : Env) (k : Choices) → Types made' e' k → Counts k → IsInstanceOf e e'
     pub rows : (made' : ℕ) (e' : Env) (k : Choices) → Types made' e' k → Counts k → SameRows choices k
-
--- Sources one after the other, each of them one run: a list of core declarations. The context after them.
-pub data Elaborate (texts : List (List ℕ)) : Context → List Decs → Context → Type 0 where
-  no_source : {c : Context} → Elaborate texts c [] c
-  source : {c c' : Context} {run : Decs} {more : List Decs} {made : ℕ} {e : Env} → broken_in texts run ≡ [] → IsPrincipal texts c run made e →
-      Elaborate texts (with_env c made e) more c' → Elaborate texts c (run ∷ more) c'
