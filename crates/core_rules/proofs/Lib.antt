@@ -1,5 +1,7 @@
 mod Words
 mod Runs
+mod Broken
+mod Projects
 pub mod Growing
 mod Typings
 mod Refused
