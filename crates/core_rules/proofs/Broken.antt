@@ -1,12 +1,12 @@
 -- Restrictions, one tree or two for each: the places that break it, inner phrases before those round them.
-use Rattle.std.proofs.Common.{◌≡◌, ℕ, true, false, List, [], ◌∷◌, codes, refl, Some, None}
+use Rattle.std.proofs.Common.{◌≡◌, ℕ, false, List, [], ◌∷◌, codes, refl, Some, None}
 use Rattle.mlc_base.specs.declared.label.Label.{Label}
 use Rattle.mlc_base.specs.declared.label.Label.TheVariants.{Word}
 use Rattle.mlc_base.specs.declared.place.Place.{Place}
 use Rattle.sml_tree.specs.declared.ident.Tyvar.{Tyvar}
 use Rattle.sml_tree.specs.declared.ident.Vid.TheVariants.{Equals}
 use Rattle.sml_tree.specs.Derived.{withtype_of}
-use Rattle.sml_tree.specs.BareTree.{Ty, var, fields, ty_field, no_ty_fields, Pat, wild_pat, fields_pat, pat_field, no_pat_fields, typed_pat, Exp, fields_exp, exp_field, no_exp_fields, let_in, fn, no_rules, Dec, val_dec, type_dec, datatype_dec, exception_dec, new_exn, same_exn, bind, no_binds, TypeBind, ConBind, DataBind}
+use Rattle.sml_tree.specs.BareTree.{Ty, var, fields, ty_field, no_ty_fields, wild_pat, fields_pat, pat_field, no_pat_fields, typed_pat, Exp, fields_exp, exp_field, no_exp_fields, let_in, fn, no_rules, Dec, val_dec, type_dec, datatype_dec, exception_dec, new_exn, same_exn, bind, no_binds, TypeBind, ConBind, DataBind}
 use Rattle.sml_tree.specs.Derived.{short}
 use Rattle.core_rules.specs.Restrictions.{broken_in}
 use Rattle.core_rules.proofs.Words.{names, at, num, v, vid, name, pv, tycon, decs, val, fun, clause, one_rule}

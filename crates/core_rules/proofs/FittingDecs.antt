@@ -281,7 +281,7 @@ module _ (texts : List (List ℕ)) (m : ℕ → Bool) (c : Context) where
 
 -- Bindings
 
-general-marks : (as_ : List Tyvar) (extra : List Mark) → all_general extra ≡ true → all_general (map mark_of as_ ++ extra) ≡ true
+pub general-marks : (as_ : List Tyvar) (extra : List Mark) → all_general extra ≡ true → all_general (map mark_of as_ ++ extra) ≡ true
 general-marks [] extra h = h
 general-marks (a ∷ as_) extra h = by a.equality (general-marks as_ extra h)
   where

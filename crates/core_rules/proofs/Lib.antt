@@ -16,3 +16,4 @@ pub mod LookUps
 pub mod Fitting
 pub mod FittingDecs
 pub mod FittingInitial
+pub mod Expansive

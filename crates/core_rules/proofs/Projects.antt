@@ -1,11 +1,11 @@
 -- Projects over a small prelude.
-use Rattle.std.proofs.Common.{◌≡◌, ℕ, List, [], ◌∷◌, codes, refl, Some, None}
+use Rattle.std.proofs.Common.{◌≡◌, ℕ, List, [], ◌∷◌, codes, refl, None}
 use Rattle.mlc_base.specs.Outcome.{Outcome, ended, uncaught, going, wrong}
-use Rattle.sml_tree.specs.Derived.{tuple, tuple_pat}
-use Rattle.sml_tree.specs.BareTree.{Exp, vid_exp, handle, raise, Dec, Decs, exception_dec, new_exn, same_exn, no_rules}
+use Rattle.sml_tree.specs.Derived.{tuple}
+use Rattle.sml_tree.specs.BareTree.{Exp, vid_exp, handle, raise, Decs, exception_dec, new_exn, same_exn, no_rules}
 use Rattle.sml_tree.specs.Derived.{short}
 use Rattle.core_rules.specs.Project.{Part, source, standard_basis, project_meaning}
-use Rattle.core_rules.proofs.Words.{names, at, num, str, name, vid, v, prim, pv, ap as call, op, val, print, do_, clause, fun, decs, one_rule}
+use Rattle.core_rules.proofs.Words.{names, at, num, str, name, vid, v, prim, pv, ap as call, val, print, do_, clause, fun, decs, one_rule}
 
 -- exception E val f = Prim.print fun id x = x val () = Prim.print "p"
 abbrev prelude : Decs
