@@ -28,7 +28,8 @@ replicated e x = type_in e x.long.qualifiers x.long.id
 -- the environments of structures, later ones over earlier [rule 22]
 abbrev pub opened : Env → List LongIdAt → Option Env
 opened e [] = Some no_env
-opened e (x ∷ xs) = option_and_then (λ d. option_map (plus d) (opened e xs)) (option_and_then (λ d. at nat_eq (structures d) x.long.id) (along e x.long.qualifiers))
+opened e (x ∷ xs) = option_and_then (λ d. option_map (plus d) (opened e xs))
+    (option_and_then (λ d. at nat_eq (structures d) x.long.id) (along e x.long.qualifiers))
 
 module _ (texts : List (List ℕ)) where
   -- a type expression's type [rules 44 to 49]
@@ -118,7 +119,8 @@ module _ (texts : List (List ℕ)) where
   exceptions_of c [] = Some []
   exceptions_of c (new_exn p x t ∷ bs) =
       option_map (λ r. (x, record { scheme = monomorphic (exception_type r.0); status = Exception }) ∷ r.1) (option_zip (behind_of c t) (exceptions_of c bs))
-  exceptions_of c (same_exn p x q y ∷ bs) = option_map (λ r. (x, r.0) ∷ r.1) (option_zip (option_and_then if_exception (long_value_in c.env y)) (exceptions_of c bs))
+  exceptions_of c (same_exn p x q y ∷ bs) = option_map (λ r. (x, r.0) ∷ r.1)
+      (option_zip (option_and_then if_exception (long_value_in c.env y)) (exceptions_of c bs))
 
 -- Equality of datatypes [4.9]: names that admit it have only constructors whose arguments do, once the parameters do.
 

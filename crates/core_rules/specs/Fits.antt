@@ -39,7 +39,8 @@ BothFit s d = ⊥
 
 pub record Fits (e : static.Env) (d : Env) : Type 0 where
   pub paths : (qs : List ℕ) → is_some (static.along e qs) ≡ is_some (along d qs)
-  pub values : (qs : List ℕ) (x : Vid) → static_status (option_and_then (λ e. static.value_in e x) (static.along e qs)) ≡ dynamic_status (option_and_then (λ d. value_in d x) (along d qs))
+  pub values : (qs : List ℕ) (x : Vid) → static_status (option_and_then (λ e. static.value_in e x) (static.along e qs)) ≡ dynamic_status
+      (option_and_then (λ d. value_in d x) (along d qs))
   pub types : (qs : List ℕ) (x : ℕ) → BothFit (type_in e qs x) (option_and_then (λ d. tycon_in d x) (along d qs))
 
 -- what is given, if something is, has P
@@ -50,7 +51,8 @@ Giving P (stops c w) = ⊤
 
 -- declarations that have a typing give an environment that fits it, where the one that they are evaluated in fits
 abbrev pub DeclarationsFit : Type 0
-DeclarationsFit = (texts : List (List ℕ)) (m : ℕ → Bool) (c : Context) (ds : Decs) (made : ℕ) (e : static.Env) (k : Choices) (call : Apply) (d : Env) (w : World Value) →
+DeclarationsFit = (texts : List (List ℕ)) (m : ℕ → Bool) (c : Context) (ds : Decs) (made : ℕ) (e : static.Env) (k : Choices) (call : Apply) (d : Env)
+    (w : World Value) →
     DecsHave texts m c ds made e k → Fits c.env d → Giving (Fits e) (eval_decs call d ds w)
 
 -- the views of the initial basis fit, and those of the basis that the prelude sees

@@ -1,4 +1,5 @@
--- The static objects. [Definition 4.2 to 4.5] Types, type functions and their application are those of `ty_core`; schemes and environments are changed in two points:
+-- The static objects. [Definition 4.2 to 4.5] Types, type functions and their application are those of `ty_core`; schemes and environments are changed in
+-- two points:
 -- a scheme keeps its parameters apart from free variables, and values are kept by value identifiers, those of derived forms and `=` included.
 use Rattle.std.specs.Prelude.{◌≡◌, ℕ, suc, ◌-◌, Bool, not, nat_eq, nat_lt, if◌then◌else◌, List, [], ◌∷◌, ◌++◌, map, filter, Option, Some, unwrap_or, is_some, option_and_then, true, ◌+◌, ⊤}
 use Rattle.std.specs.Map.{lookup}

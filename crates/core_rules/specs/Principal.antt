@@ -39,7 +39,8 @@ module _ (texts : List (List ℕ)) (c : Context) (run : Decs) where
 
   -- all typings of declarations agree on the labels of each `...` in their non-expansive bindings
   abbrev pub RowsSettled : Decs → Type 0
-  RowsSettled ds = (made made' : ℕ) (e e' : Env) (k k' : Choices) → DecsHave texts no_variable c ds made e k → DecsHave texts no_variable c ds made' e' k' → SameSettled k k'
+  RowsSettled ds = (made made' : ℕ) (e e' : Env) (k k' : Choices) → DecsHave texts no_variable c ds made e k → DecsHave texts no_variable c ds made' e' k' →
+      SameSettled k k'
 
   -- e, with so many names made, is principal for the run
   pub record IsPrincipal (made : ℕ) (e : Env) : Type 0 where

@@ -1,5 +1,6 @@
 -- Projects: sources and the standard basis, in order. [in place of the Definition, section 8]
--- The standard basis is the initial basis and over it what the prelude declares, a source that alone sees the structure `Prim`. The prelude is a part of the project, where the standard basis stands first.
+-- The standard basis is the initial basis and over it what the prelude declares, a source that alone sees the structure `Prim`.
+-- The prelude is a part of the project, where the standard basis stands first.
 use Rattle.std.specs.Prelude.{◌≡◌, ℕ, List, [], ◌∷◌, Option, Some, None}
 use Rattle.mlc_base.specs.Outcome.{Outcome}
 use Rattle.mlc_base.specs.Run.{World, Answer, gives, then_do, outcome_of}
@@ -36,10 +37,12 @@ module _ (texts : List (List ℕ)) (prelude : Decs) where
   -- the context after the parts; the standard basis is known once it was there
   pub data ElaborateAll : Context → Option Env → List Part → Context → Type 0 where
     no_part : {c : Context} {s : Option Env} → ElaborateAll c s [] c
-    source_part : {c c' : Context} {s : Option Env} {run : Decs} {parts : List Part} {made : ℕ} {e : Env} → Elaborates c run made e → ElaborateAll (with_env c made e) s parts c' → ElaborateAll c s (source run ∷ parts) c'
+    source_part : {c c' : Context} {s : Option Env} {run : Decs} {parts : List Part} {made : ℕ} {e : Env} → Elaborates c run made e →
+        ElaborateAll (with_env c made e) s parts c' → ElaborateAll c s (source run ∷ parts) c'
     first_basis : {c c' : Context} {parts : List Part} {made : ℕ} {e : Env} → Elaborates (prelude_context_at c.names) prelude made e →
         ElaborateAll (with_env c made (static_standard e)) (Some (static_standard e)) parts c' → ElaborateAll c None (standard_basis ∷ parts) c'
-    later_basis : {c c' : Context} {e : Env} {parts : List Part} → ElaborateAll (with_env c 0 e) (Some e) parts c' → ElaborateAll c (Some e) (standard_basis ∷ parts) c'
+    later_basis : {c c' : Context} {e : Env} {parts : List Part} → ElaborateAll (with_env c 0 e) (Some e) parts c' →
+        ElaborateAll c (Some e) (standard_basis ∷ parts) c'
 
   abbrev pub ProjectElaborates : List Part → Context → Type 0
   ProjectElaborates parts c = ElaborateAll empty_context None parts c
@@ -49,7 +52,8 @@ module _ (texts : List (List ℕ)) (prelude : Decs) where
   eval_all call e s [] w = gives e w
   eval_all call e s (source run ∷ parts) w = then_do (eval_decs call e run w) (λ d w. eval_all call (dynamic.plus e d) s parts w)
   eval_all call e None (standard_basis ∷ parts) w =
-      then_do (eval_decs call (dynamic_env texts prelude_members) prelude w) (λ d w. eval_all call (dynamic.plus e (dynamic_standard d)) (Some (dynamic_standard d)) parts w)
+      then_do (eval_decs call (dynamic_env texts prelude_members) prelude w)
+          (λ d w. eval_all call (dynamic.plus e (dynamic_standard d)) (Some (dynamic_standard d)) parts w)
   eval_all call e (Some d) (standard_basis ∷ parts) w = eval_all call (dynamic.plus e d) (Some d) parts w
 
   -- what a project does at m turns

@@ -1,4 +1,5 @@
--- The syntactic restrictions: the places of the phrases that break one, whatever is in scope, in the order of the phrases' ends, inner ones first. [Definition 2.9, 4.11]
+-- The syntactic restrictions: the places of the phrases that break one, whatever is in scope, in the order of the phrases' ends, inner ones first.
+-- [Definition 2.9, 4.11]
 -- That no variable is bound twice, nor one of the kept identifiers, is asked by the rules of patterns: there an identifier's status is known.
 use Rattle.std.specs.Prelude.{ℕ, zero, suc, Bool, true, false, not, ◌&&◌, ◌||◌, nat_eq, List, [], ◌∷◌, ◌++◌, map, flat_map, length, codes}
 use Rattle.std.specs.List.{list_all}

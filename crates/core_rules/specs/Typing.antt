@@ -184,48 +184,67 @@ module _ (texts : List (List ℕ)) (m : ℕ → Bool) where
     pub data PatHas (c : Context) : Pat → Typ → Bound → Choices → Type 0 where
       wild_has : (p : Place) {t : Typ} → Over c.names t → PatHas c (wild_pat p) t [] no_choice
       constant_has : (p : Place) (k : term.Constant) → PatHas c (constant_pat p k) (constant_type k) [] no_choice
-      variable_has : (p : Place) {x : Vid} {t : Typ} → is_matched_in (value_in c.env x) ≡ false → is_kept texts x ≡ false → Over c.names t → PatHas c (vid_pat p (short x)) t ((x, t) ∷ []) no_choice
-      constructor_has : (p : Place) {x : LongVid} {v : Value} {n : TyName} {ts : Typs} → long_value_in c.env x ≡ Some v → is_matched v.status ≡ true → IsInstance c v.scheme (con (name n) ts) no_choice →
+      variable_has : (p : Place) {x : Vid} {t : Typ} → is_matched_in (value_in c.env x) ≡ false → is_kept texts x ≡ false → Over c.names t →
+          PatHas c (vid_pat p (short x)) t ((x, t) ∷ []) no_choice
+      constructor_has : (p : Place) {x : LongVid} {v : Value} {n : TyName} {ts : Typs} → long_value_in c.env x ≡ Some v → is_matched v.status ≡ true →
+          IsInstance c v.scheme (con (name n) ts) no_choice →
           PatHas c (vid_pat p x) (con (name n) ts) [] no_choice
-      built_has : (p : Place) {b : BuiltIn} {n : TyName} {ts : Typs} → IsInstance c (built_scheme b) (con (name n) ts) no_choice → PatHas c (built_pat p b) (con (name n) ts) [] no_choice
-      fields_has : (p : Place) {fs : PatFields} {r : Row} {t : Typ} {vs : Bound} {k : Choices} → PatsHave c fs r vs k → t ≡ row_type (sorted texts r) → PatHas c (fields_pat p fs false) t vs k
+      built_has : (p : Place) {b : BuiltIn} {n : TyName} {ts : Typs} → IsInstance c (built_scheme b) (con (name n) ts) no_choice →
+          PatHas c (built_pat p b) (con (name n) ts) [] no_choice
+      fields_has : (p : Place) {fs : PatFields} {r : Row} {t : Typ} {vs : Bound} {k : Choices} → PatsHave c fs r vs k → t ≡ row_type (sorted texts r) →
+          PatHas c (fields_pat p fs false) t vs k
       -- `...` stands for any further fields
-      open_has : (p : Place) {fs : PatFields} {r : Row} {t : Typ} {vs : Bound} {k : Choices} (others : Row) → PatsHave c fs r vs k → distinct same_label (labels_in (r ++ others)) ≡ true →
+      open_has : (p : Place) {fs : PatFields} {r : Row} {t : Typ} {vs : Bound} {k : Choices} (others : Row) → PatsHave c fs r vs k →
+          distinct same_label (labels_in (r ++ others)) ≡ true →
           t ≡ row_type (sorted texts (r ++ others)) → Over c.names t → PatHas c (fields_pat p fs true) t vs (both k (further (labels_in (sorted texts others))))
-      con_has : (p q : Place) {x : LongVid} {v : Value} {a : Pat} {u : Typ} {n : TyName} {ts : Typs} {vs : Bound} {k : Choices} → long_value_in c.env x ≡ Some v → is_matched v.status ≡ true → IsInstance c v.scheme (function_type u (con (name n) ts)) no_choice →
+      con_has : (p q : Place) {x : LongVid} {v : Value} {a : Pat} {u : Typ} {n : TyName} {ts : Typs} {vs : Bound} {k : Choices} →
+          long_value_in c.env x ≡ Some v → is_matched v.status ≡ true → IsInstance c v.scheme (function_type u (con (name n) ts)) no_choice →
           PatHas c a u vs k → PatHas c (con_pat p q x a) (con (name n) ts) vs k
-      built_con_has : (p : Place) {b : BuiltIn} {a : Pat} {u : Typ} {n : TyName} {ts : Typs} {vs : Bound} {k : Choices} → IsInstance c (built_scheme b) (function_type u (con (name n) ts)) no_choice → PatHas c a u vs k → PatHas c (built_con_pat p b a) (con (name n) ts) vs k
-      typed_has : (p : Place) {a : Pat} {ty : Ty} {t : Typ} {vs : Bound} {k : Choices} → PatHas c a t vs k → type_of texts c ty ≡ Some t → PatHas c (typed_pat p a ty) t vs k
-      as_has : (p : Place) {x : Vid} {ty : Option Ty} {a : Pat} {t : Typ} {vs : Bound} {k : Choices} → is_matched_in (value_in c.env x) ≡ false → is_kept texts x ≡ false → Annotated c ty t → PatHas c a t vs k →
+      built_con_has : (p : Place) {b : BuiltIn} {a : Pat} {u : Typ} {n : TyName} {ts : Typs} {vs : Bound} {k : Choices} →
+          IsInstance c (built_scheme b) (function_type u (con (name n) ts)) no_choice → PatHas c a u vs k →
+          PatHas c (built_con_pat p b a) (con (name n) ts) vs k
+      typed_has : (p : Place) {a : Pat} {ty : Ty} {t : Typ} {vs : Bound} {k : Choices} → PatHas c a t vs k → type_of texts c ty ≡ Some t →
+          PatHas c (typed_pat p a ty) t vs k
+      as_has : (p : Place) {x : Vid} {ty : Option Ty} {a : Pat} {t : Typ} {vs : Bound} {k : Choices} → is_matched_in (value_in c.env x) ≡ false →
+          is_kept texts x ≡ false → Annotated c ty t → PatHas c a t vs k →
           PatHas c (as_pat p x ty a) t ((x, t) ∷ vs) k
 
     pub data PatsHave (c : Context) : PatFields → Row → Bound → Choices → Type 0 where
       no_field_has : PatsHave c no_pat_fields [] [] no_choice
-      field_has : (l : Label) {a : Pat} {fs : PatFields} {t : Typ} {r : Row} {vs us : Bound} {k j : Choices} → PatHas c a t vs k → PatsHave c fs r us j → PatsHave c (pat_field l a fs) ((l, t) ∷ r) (vs ++ us) (both k j)
+      field_has : (l : Label) {a : Pat} {fs : PatFields} {t : Typ} {r : Row} {vs us : Bound} {k j : Choices} → PatHas c a t vs k → PatsHave c fs r us j →
+          PatsHave c (pat_field l a fs) ((l, t) ∷ r) (vs ++ us) (both k j)
 
   mutual
     -- C ⊢ exp ⇒ t [rules 1 to 12]
     pub data HasType : Context → Exp → Typ → Choices → Type 0 where
       constant_exp_has : {c : Context} (p : Place) (k : term.Constant) → HasType c (constant_exp p k) (constant_type k) no_choice
-      vid_has : {c : Context} (p : Place) {x : LongVid} {v : Value} {t : Typ} {k : Choices} → long_value_in c.env x ≡ Some v → IsInstance c v.scheme t k → HasType c (vid_exp p x) t k
+      vid_has : {c : Context} (p : Place) {x : LongVid} {v : Value} {t : Typ} {k : Choices} → long_value_in c.env x ≡ Some v → IsInstance c v.scheme t k →
+          HasType c (vid_exp p x) t k
       built_exp_has : {c : Context} (p : Place) {b : BuiltIn} {t : Typ} {k : Choices} → IsInstance c (built_scheme b) t k → HasType c (built_exp p b) t k
-      record_has : {c : Context} (p : Place) {fs : ExpFields} {r : Row} {t : Typ} {k : Choices} → HaveTypes c fs r k → t ≡ row_type (sorted texts r) → HasType c (fields_exp p fs) t k
+      record_has : {c : Context} (p : Place) {fs : ExpFields} {r : Row} {t : Typ} {k : Choices} → HaveTypes c fs r k → t ≡ row_type (sorted texts r) →
+          HasType c (fields_exp p fs) t k
       -- no type name of the declarations escapes
-      let_has : {c : Context} (p : Place) {ds : Decs} {e : Exp} {made : ℕ} {d : Env} {t : Typ} {k j : Choices} → DecsHave c ds made d k → HasType (with_env c made d) e t j → Over c.names t → HasType c (let_in p ds e) t (both k j)
-      app_has : {c : Context} (p : Place) {f a : Exp} {t u : Typ} {k j : Choices} → HasType c f (function_type t u) k → HasType c a t j → HasType c (app p f a) u (both k j)
-      typed_exp_has : {c : Context} (p : Place) {e : Exp} {ty : Ty} {t : Typ} {k : Choices} → HasType c e t k → type_of texts c ty ≡ Some t → HasType c (typed p e ty) t k
-      handle_has : {c : Context} (p : Place) {e : Exp} {rs : Rules} {t : Typ} {k j : Choices} → HasType c e t k → RulesHave c rs exn_type t j → HasType c (handle p e rs) t (both k j)
+      let_has : {c : Context} (p : Place) {ds : Decs} {e : Exp} {made : ℕ} {d : Env} {t : Typ} {k j : Choices} → DecsHave c ds made d k →
+          HasType (with_env c made d) e t j → Over c.names t → HasType c (let_in p ds e) t (both k j)
+      app_has : {c : Context} (p : Place) {f a : Exp} {t u : Typ} {k j : Choices} → HasType c f (function_type t u) k → HasType c a t j →
+          HasType c (app p f a) u (both k j)
+      typed_exp_has : {c : Context} (p : Place) {e : Exp} {ty : Ty} {t : Typ} {k : Choices} → HasType c e t k → type_of texts c ty ≡ Some t →
+          HasType c (typed p e ty) t k
+      handle_has : {c : Context} (p : Place) {e : Exp} {rs : Rules} {t : Typ} {k j : Choices} → HasType c e t k → RulesHave c rs exn_type t j →
+          HasType c (handle p e rs) t (both k j)
       raise_has : {c : Context} (p : Place) {e : Exp} {t : Typ} {k : Choices} → HasType c e exn_type k → Over c.names t → HasType c (raise p e) t k
       fn_has : {c : Context} (p : Place) {rs : Rules} {t u : Typ} {k : Choices} → RulesHave c rs t u k → HasType c (fn p rs) (function_type t u) k
 
     pub data HaveTypes : Context → ExpFields → Row → Choices → Type 0 where
       no_exp_field_has : {c : Context} → HaveTypes c no_exp_fields [] no_choice
-      exp_field_has : {c : Context} (l : Label) {e : Exp} {fs : ExpFields} {t : Typ} {r : Row} {k j : Choices} → HasType c e t k → HaveTypes c fs r j → HaveTypes c (exp_field l e fs) ((l, t) ∷ r) (both k j)
+      exp_field_has : {c : Context} (l : Label) {e : Exp} {fs : ExpFields} {t : Typ} {r : Row} {k j : Choices} → HasType c e t k → HaveTypes c fs r j →
+          HaveTypes c (exp_field l e fs) ((l, t) ∷ r) (both k j)
 
     -- C ⊢ match ⇒ t → u [rules 13, 14]
     pub data RulesHave : Context → Rules → Typ → Typ → Choices → Type 0 where
       no_rule_has : {c : Context} {t u : Typ} → RulesHave c no_rules t u no_choice
-      rule_has : {c : Context} (p : Place) {a : Pat} {e : Exp} {rs : Rules} {t u : Typ} {vs : Bound} {k j l : Choices} → PatHas c a t vs k → AreDistinct (bound_in vs) → HasType (with_bound c vs) e u j → RulesHave c rs t u l →
+      rule_has : {c : Context} (p : Place) {a : Pat} {e : Exp} {rs : Rules} {t u : Typ} {vs : Bound} {k j l : Choices} → PatHas c a t vs k →
+          AreDistinct (bound_in vs) → HasType (with_bound c vs) e u j → RulesHave c rs t u l →
           RulesHave c (rule p a e rs) t u (both k (both j l))
 
     -- C ⊢ dec ⇒ E, with the number of type names that it makes [rules 15 to 24]
@@ -234,26 +253,35 @@ module _ (texts : List (List ℕ)) (m : ℕ → Bool) where
           all_general extra ≡ true → AreDistinct (bound_in (together vs ++ together us)) →
           ((r : ℕ → Typ) → IsChoiceOf c (marks_of c as_ bs rs extra) r → BindsHave (scoping c as_ bs rs r) (length (marks_of c as_ bs rs extra)) r bs vs k) →
           ((r : ℕ → Typ) → IsChoiceOf c (marks_of c as_ bs rs extra) r →
-          BindsHave (with_bound (scoping c as_ bs rs r) (put_bound (length (marks_of c as_ bs rs extra)) r (together us))) (length (marks_of c as_ bs rs extra)) r rs us j) →
+          BindsHave (with_bound (scoping c as_ bs rs r) (put_bound (length (marks_of c as_ bs rs extra)) r (together us)))
+              (length (marks_of c as_ bs rs extra)) r rs us j) →
           DecHas c (val_dec p q as_ bs rs) 0 (closed (marks_of c as_ bs rs extra) (together vs ++ together us)) (both k j)
-      type_has : {c : Context} (p : Place) {bs : List TypeBind} {ts : Map ℕ TypeStructure} → types_bound texts c bs ≡ Some ts → DecHas c (type_dec p bs) 0 (types_env ts) no_choice
+      type_has : {c : Context} (p : Place) {bs : List TypeBind} {ts : Map ℕ TypeStructure} → types_bound texts c bs ≡ Some ts →
+          DecHas c (type_dec p bs) 0 (types_env ts) no_choice
       -- as many of the new names admit equality as can
-      datatype_has : {c : Context} (p : Place) {bs : List DataBind} {ts : Map ℕ TypeStructure} (qs : List Bool) → length qs ≡ length bs → datatypes texts c qs bs ≡ Some ts → respects_equality qs ts ≡ true →
-          ((qs' : List Bool) (ts' : Map ℕ TypeStructure) → length qs' ≡ length bs → datatypes texts c qs' bs ≡ Some ts' → respects_equality qs' ts' ≡ true → AllBelow qs' qs) →
+      datatype_has : {c : Context} (p : Place) {bs : List DataBind} {ts : Map ℕ TypeStructure} (qs : List Bool) → length qs ≡ length bs →
+          datatypes texts c qs bs ≡ Some ts → respects_equality qs ts ≡ true →
+          ((qs' : List Bool) (ts' : Map ℕ TypeStructure) → length qs' ≡ length bs → datatypes texts c qs' bs ≡ Some ts' → respects_equality qs' ts' ≡ true →
+              AllBelow qs' qs) →
           DecHas c (datatype_dec p bs) (length bs) (datatypes_env ts) no_choice
-      replicate_has : {c : Context} (p : Place) {x : ℕ} {y : LongIdAt} {s : TypeStructure} → replicated c.env y ≡ Some s → DecHas c (replicate_dec p x y) 0 (env s.constructors ((x, s) ∷ []) no_structures) no_choice
-      exception_has : {c : Context} (p : Place) {bs : List ExBind} {vs : Values} → exceptions_of texts c bs ≡ Some vs → DecHas c (exception_dec p bs) 0 (values_env vs) no_choice
-      local_has : {c : Context} (p : Place) {ds ds' : Decs} {n n' : ℕ} {d d' : Env} {k j : Choices} → DecsHave c ds n d k → DecsHave (with_env c n d) ds' n' d' j → DecHas c (local_dec p ds ds') (n + n') d' (both k j)
+      replicate_has : {c : Context} (p : Place) {x : ℕ} {y : LongIdAt} {s : TypeStructure} → replicated c.env y ≡ Some s →
+          DecHas c (replicate_dec p x y) 0 (env s.constructors ((x, s) ∷ []) no_structures) no_choice
+      exception_has : {c : Context} (p : Place) {bs : List ExBind} {vs : Values} → exceptions_of texts c bs ≡ Some vs →
+          DecHas c (exception_dec p bs) 0 (values_env vs) no_choice
+      local_has : {c : Context} (p : Place) {ds ds' : Decs} {n n' : ℕ} {d d' : Env} {k j : Choices} → DecsHave c ds n d k →
+          DecsHave (with_env c n d) ds' n' d' j → DecHas c (local_dec p ds ds') (n + n') d' (both k j)
       open_has : {c : Context} (p : Place) {xs : List LongIdAt} {d : Env} → opened c.env xs ≡ Some d → DecHas c (open_dec p xs) 0 d no_choice
       sequence_has : {c : Context} (p : Place) {ds : Decs} {n : ℕ} {d : Env} {k : Choices} → DecsHave c ds n d k → DecHas c (sequence_dec p ds) n d k
 
     pub data DecsHave : Context → Decs → ℕ → Env → Choices → Type 0 where
       no_dec_has : {c : Context} → DecsHave c no_decs 0 no_env no_choice
-      dec_has : {c : Context} {d : Dec} {ds : Decs} {n n' : ℕ} {e e' : Env} {k j : Choices} → DecHas c d n e k → DecsHave (with_env c n e) ds n' e' j → DecsHave c (dec d ds) (n + n') (plus e e') (both k j)
+      dec_has : {c : Context} {d : Dec} {ds : Decs} {n n' : ℕ} {e e' : Env} {k j : Choices} → DecHas c d n e k → DecsHave (with_env c n e) ds n' e' j →
+          DecsHave c (dec d ds) (n + n') (plus e e') (both k j)
 
     -- C ⊢ valbind ⇒ VE, with r for n parameters; an expansive binding has none of them [rules 25, 26]
     pub data BindsHave : Context → ℕ → (ℕ → Typ) → Binds → List Bound → Choices → Type 0 where
       no_bind_has : {c : Context} {n : ℕ} {r : ℕ → Typ} → BindsHave c n r no_binds [] no_choice
       bind_has : {c : Context} {n : ℕ} {r : ℕ → Typ} (p : Place) {a : Pat} {e : Exp} {bs : Binds} {t : Typ} {v vs : Bound} {us : List Bound} {k j l : Choices} →
-          PatHas c a t v k → v ≡ put_bound n r vs → HasType c e t j → (is_non_expansive c.env e ≡ false → bound_have_none n vs ≡ true) → BindsHave c n r bs us l →
+          PatHas c a t v k → v ≡ put_bound n r vs → HasType c e t j → (is_non_expansive c.env e ≡ false → bound_have_none n vs ≡ true) →
+              BindsHave c n r bs us l →
           BindsHave c n r (bind p a e bs) (vs ∷ us) (both (settles (is_non_expansive c.env e) (both k j)) l)
