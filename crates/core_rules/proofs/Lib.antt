@@ -1,6 +1,7 @@
 mod Words
 mod Runs
 mod Broken
+mod Readings
 mod Projects
 pub mod Growing
 mod Typings
