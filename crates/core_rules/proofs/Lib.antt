@@ -2,6 +2,7 @@ mod Words
 mod Runs
 mod Broken
 mod Readings
+mod Lost
 mod Projects
 pub mod Growing
 mod Typings

@@ -1,19 +1,19 @@
 -- Readings of the rules, one example each.
-use Rattle.std.proofs.Common.{◌≡◌, ℕ, Bool, true, false, List, [], ◌∷◌, codes, refl, Some, None}
+use Rattle.std.proofs.Common.{◌≡◌, ℕ, true, false, List, [], ◌∷◌, codes, refl, Some, None}
 use Rattle.mlc_base.specs.declared.label.Label.TheVariants as label
-use Rattle.mlc_base.specs.Outcome.{Outcome, ended, uncaught, going, wrong}
+use Rattle.mlc_base.specs.Outcome.{Outcome, wrong}
 use Rattle.ty_core.specs.Types.{no_variable}
 use Rattle.sml_tree.specs.declared.ident.Tyvar.{Tyvar}
 use Rattle.sml_tree.specs.declared.ident.BuiltIn.TheVariants.{True}
-use Rattle.sml_tree.specs.Derived.{tuple, list_of, if_of, case_of, sequence_of}
-use Rattle.sml_tree.specs.BareTree.{Exp, var, built_exp, fields_exp, exp_field, no_exp_fields, fn, no_rules, wild_pat, Dec, val_dec, new_exn, no_binds, bind}
+use Rattle.sml_tree.specs.Derived.{tuple, list_of, if_of, sequence_of}
+use Rattle.sml_tree.specs.BareTree.{Exp, var, built_exp, fields_exp, exp_field, no_exp_fields, fn, no_rules, Dec, val_dec, new_exn, no_binds, bind}
 use Rattle.core_rules.specs.Objects.{Context}
 use Rattle.core_rules.specs.Elaborated.{exceptions_of, types_bound}
 use Rattle.core_rules.specs.Initial.{empty_context, int_type, prelude_env}
 use Rattle.core_rules.specs.Choices.{no_choice}
 use Rattle.core_rules.specs.Typing.{HasType, constant_exp_has, is_non_expansive}
 use Rattle.core_rules.specs.Meaning.{meaning_in}
-use Rattle.core_rules.proofs.Words.{names, at, num, str, name, vid, v, pv, ap as call, op, eq, unit, val, print, do_, decs, one_rule}
+use Rattle.core_rules.proofs.Words.{names, at, num, str, name, vid, v, pv, ap as call, op, eq, print, do_, decs, one_rule}
 use Rattle.core_rules.proofs.Typings.{start}
 
 abbrev run : List Dec → ℕ → Outcome

@@ -209,7 +209,7 @@ abbrev mutual
   eval_binds call e no_binds w = gives nothing w
   eval_binds call e (bind p a b bs) w =
       then_do (eval call e b w) (λ v w. on_match (match e w.store a v) w (λ d w. then_do (eval_binds call e bs w) (λ d' w. gives (plus d d') w))
-          (λ w. raises bind_packet w))
+      (λ w. raises bind_packet w))
 
 -- Calls [rules 101 to 108]: a function entered with its argument by a turn. Bodies are evaluated by go.
 abbrev pub enter : (Env → Rules → Value → World Value → Answer Value Value) → Apply

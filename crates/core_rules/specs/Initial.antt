@@ -138,7 +138,7 @@ ref_row = record { word = codes "ref"; scheme = for_all Any (function_type (var 
 abbrev pub exceptions : List Entry
 exceptions =
     exception_row (codes "Match") match_packet ∷ exception_row (codes "Bind") bind_packet ∷ exception_row (codes "Overflow") (packet_of Overflow)
-        ∷ exception_row (codes "Div") (packet_of Div)
+    ∷ exception_row (codes "Div") (packet_of Div)
     ∷ exception_row (codes "Subscript") (packet_of Subscript) ∷ exception_row (codes "Size") (packet_of Size) ∷ exception_row (codes "Chr") (packet_of Chr) ∷ []
 
 abbrev pub primitives : List Entry
@@ -156,15 +156,15 @@ primitives =
 abbrev pub hidden : List Entry
 hidden =
     function_row (codes "quot") (pair_type int_type int_type) int_type prim.Quotient
-        ∷ function_row (codes "rem") (pair_type int_type int_type) int_type prim.Remainder
+    ∷ function_row (codes "rem") (pair_type int_type int_type) int_type prim.Remainder
     ∷ function_row (codes "andb") (pair_type word_type word_type) word_type prim.BitsAnd
-        ∷ function_row (codes "orb") (pair_type word_type word_type) word_type prim.BitsOr
+    ∷ function_row (codes "orb") (pair_type word_type word_type) word_type prim.BitsOr
     ∷ function_row (codes "xorb") (pair_type word_type word_type) word_type prim.BitsXor ∷ function_row (codes "notb") word_type word_type prim.BitsNot
     ∷ function_row (codes "shl") (pair_type word_type word_type) word_type prim.ShiftLeft
-        ∷ function_row (codes "shr") (pair_type word_type word_type) word_type prim.ShiftRight
+    ∷ function_row (codes "shr") (pair_type word_type word_type) word_type prim.ShiftRight
     ∷ function_row (codes "sar") (pair_type word_type word_type) word_type prim.ShiftSigned
     ∷ function_row (codes "toInt") word_type int_type prim.ToInt ∷ function_row (codes "toIntX") word_type int_type prim.ToIntSigned
-        ∷ function_row (codes "fromInt") int_type word_type prim.FromInt
+    ∷ function_row (codes "fromInt") int_type word_type prim.FromInt
     ∷ function_row (codes "ord") char_type int_type prim.CharCode ∷ function_row (codes "chr") int_type char_type prim.CharOf
     ∷ function_row (codes "text") int_type string_type prim.TextOf ∷ function_row (codes "size") string_type int_type prim.SizeOf
     ∷ function_row (codes "sub") (pair_type string_type int_type) char_type prim.CharAt
@@ -186,7 +186,7 @@ abbrev pub type_rows : List TypeEntry
 type_rows =
     record { word = codes "unit"; function = record { arity = 0; body = unit_type }; constructors = [] }
     ∷ type_row (codes "int") int_name [] ∷ type_row (codes "word") word_name [] ∷ type_row (codes "char") char_name []
-        ∷ type_row (codes "string") string_name []
+    ∷ type_row (codes "string") string_name []
     ∷ type_row (codes "exn") exn_name [] ∷ type_row (codes "ref") ref_name (ref_row ∷ [])
     ∷ type_row (codes "bool") bool_name (built_row (codes "true") True ∷ built_row (codes "false") False ∷ [])
     ∷ type_row (codes "list") list_name (built_row (codes "nil") Nil ∷ built_row (codes "::") Cons ∷ [])

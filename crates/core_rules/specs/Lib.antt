@@ -9,6 +9,7 @@ pub mod Scoping
 pub mod Choices
 pub mod Elaborated
 pub mod Restrictions
+pub mod Unbound
 pub mod Typing
 pub mod Cuts
 pub mod Principal

@@ -53,7 +53,7 @@ module _ (texts : List (List ℕ)) (prelude : Decs) where
   eval_all call e s (source run ∷ parts) w = then_do (eval_decs call e run w) (λ d w. eval_all call (dynamic.plus e d) s parts w)
   eval_all call e None (standard_basis ∷ parts) w =
       then_do (eval_decs call (dynamic_env texts prelude_members) prelude w)
-          (λ d w. eval_all call (dynamic.plus e (dynamic_standard d)) (Some (dynamic_standard d)) parts w)
+      (λ d w. eval_all call (dynamic.plus e (dynamic_standard d)) (Some (dynamic_standard d)) parts w)
   eval_all call e (Some d) (standard_basis ∷ parts) w = eval_all call (dynamic.plus e d) (Some d) parts w
 
   -- what a project does at m turns

@@ -254,7 +254,7 @@ module _ (texts : List (List ℕ)) (m : ℕ → Bool) where
           ((r : ℕ → Typ) → IsChoiceOf c (marks_of c as_ bs rs extra) r → BindsHave (scoping c as_ bs rs r) (length (marks_of c as_ bs rs extra)) r bs vs k) →
           ((r : ℕ → Typ) → IsChoiceOf c (marks_of c as_ bs rs extra) r →
           BindsHave (with_bound (scoping c as_ bs rs r) (put_bound (length (marks_of c as_ bs rs extra)) r (together us)))
-              (length (marks_of c as_ bs rs extra)) r rs us j) →
+          (length (marks_of c as_ bs rs extra)) r rs us j) →
           DecHas c (val_dec p q as_ bs rs) 0 (closed (marks_of c as_ bs rs extra) (together vs ++ together us)) (both k j)
       type_has : {c : Context} (p : Place) {bs : List TypeBind} {ts : Map ℕ TypeStructure} → types_bound texts c bs ≡ Some ts →
           DecHas c (type_dec p bs) 0 (types_env ts) no_choice
@@ -262,7 +262,7 @@ module _ (texts : List (List ℕ)) (m : ℕ → Bool) where
       datatype_has : {c : Context} (p : Place) {bs : List DataBind} {ts : Map ℕ TypeStructure} (qs : List Bool) → length qs ≡ length bs →
           datatypes texts c qs bs ≡ Some ts → respects_equality qs ts ≡ true →
           ((qs' : List Bool) (ts' : Map ℕ TypeStructure) → length qs' ≡ length bs → datatypes texts c qs' bs ≡ Some ts' → respects_equality qs' ts' ≡ true →
-              AllBelow qs' qs) →
+          AllBelow qs' qs) →
           DecHas c (datatype_dec p bs) (length bs) (datatypes_env ts) no_choice
       replicate_has : {c : Context} (p : Place) {x : ℕ} {y : LongIdAt} {s : TypeStructure} → replicated c.env y ≡ Some s →
           DecHas c (replicate_dec p x y) 0 (env s.constructors ((x, s) ∷ []) no_structures) no_choice
@@ -283,5 +283,5 @@ module _ (texts : List (List ℕ)) (m : ℕ → Bool) where
       no_bind_has : {c : Context} {n : ℕ} {r : ℕ → Typ} → BindsHave c n r no_binds [] no_choice
       bind_has : {c : Context} {n : ℕ} {r : ℕ → Typ} (p : Place) {a : Pat} {e : Exp} {bs : Binds} {t : Typ} {v vs : Bound} {us : List Bound} {k j l : Choices} →
           PatHas c a t v k → v ≡ put_bound n r vs → HasType c e t j → (is_non_expansive c.env e ≡ false → bound_have_none n vs ≡ true) →
-              BindsHave c n r bs us l →
+          BindsHave c n r bs us l →
           BindsHave c n r (bind p a e bs) (vs ∷ us) (both (settles (is_non_expansive c.env e) (both k j)) l)
