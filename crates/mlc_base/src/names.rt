@@ -24,6 +24,15 @@ impl Model for Name {
     ghost inverse = { λ n. record { number = n } };
 }
 
+impl Name {
+    /// The name's number.
+    pub fn number(self) -> u32
+        ensures { result ≡ self }
+    {
+        self.number
+    }
+}
+
 /// Byte strings, each once, in the order in which they were first seen.
 #[derive(Drop)]
 pub struct Names {
