@@ -10,8 +10,6 @@ mod registers;
 mod send;
 mod slots;
 pub mod stop;
-#[cfg(test)]
-mod tests;
 mod text;
 pub mod vm;
 mod words;

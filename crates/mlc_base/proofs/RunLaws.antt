@@ -27,7 +27,7 @@ or_handle-or_handle (raises p w) f g = refl
 or_handle-or_handle (stops cut w) f g = refl
 
 module _ {V W : Type 0} (R : V → W → Type 0) where
-  ends-same : (w : World V) (u : World W) (e : End) {e' : End} → SameWorlds R w u → e' ≡ e → ends u e' ≡ ends w e
+  pub ends-same : (w : World V) (u : World W) (e : End) {e' : End} → SameWorlds R w u → e' ≡ e → ends u e' ≡ ends w e
   ends-same w u e s same = λ i. record { output = s.output i; end = same i; turns = s.taken i }
 
   pub start-same : (turns : ℕ) → SameWorlds R (start turns) (start turns)

@@ -4,7 +4,10 @@ pub mod FaultLine
 pub mod File
 pub mod Files
 pub mod Labels
+pub mod MoreTurns
 pub mod Names
 pub mod Outcome
+pub mod Passes
+pub mod Refinement
 pub mod Run
 pub mod StandardWords

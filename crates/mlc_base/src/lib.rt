@@ -9,9 +9,8 @@ pub mod law;
 pub mod make;
 pub mod memory;
 pub mod names;
+pub mod pass;
 pub mod place;
 pub mod refused;
-#[cfg(test)]
-mod tests;
 pub mod token;
 pub mod words;

@@ -7,5 +7,3 @@ pub mod mem_store;
 pub mod never_store;
 pub mod sink;
 pub mod store;
-#[cfg(test)]
-mod tests;

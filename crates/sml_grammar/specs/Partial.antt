@@ -161,13 +161,10 @@ mutual
   -- fun1 ::= head [: ty] = exp [| fun1]: complete heads have the name v and n patterns
   pub data OpensClauses : Fixity → Vid → ℕ → List Terminal → ℕ → Type 0 where
     in_head : {f : Fixity} {v : Vid} {n : ℕ} {i : List Terminal} {d : ℕ} → OpensHead f i d → OpensClauses f v n i d
-    in_result : {f : Fixity} {v : Vid} {n : ℕ} {i m : List Terminal} {h : Head} {d : ℕ} (p : ℕ) → ReadsHead f i h (reserved p res.Colon ∷ m) → head_vid h ≡ v →
-        head_count h ≡ n → OpensTy 0 m d →
-        OpensClauses f v n i d
-    in_clause : {f : Fixity} {v : Vid} {n : ℕ} {i m k : List Terminal} {h : Head} {t : Option Ty} {d : ℕ} (p : ℕ) → ReadsHead f i h m → head_vid h ≡ v →
-        head_count h ≡ n →
-        MaybeTy m t (reserved p res.Equals ∷ k) → Opens f 0 k d → OpensClauses f v n i d
-    past_clause : {f : Fixity} {v : Vid} {n : ℕ} {i m k g : List Terminal} {h : Head} {t : Option Ty} {e : Exp} {d : ℕ} (p q : ℕ) → ReadsHead f i h m →
-        head_vid h ≡ v → head_count h ≡ n →
-        MaybeTy m t (reserved p res.Equals ∷ k) → goes_on f e (reserved q res.Bar ∷ g) ≡ false → Reads f k e (reserved q res.Bar ∷ g) → OpensClauses f v n g d →
-        OpensClauses f v n i d
+    in_result : {f : Fixity} {v : Vid} {n : ℕ} {i m : List Terminal} {h : Head} {d : ℕ} (p : ℕ) →
+        ReadsHead f i h (reserved p res.Colon ∷ m) → head_vid h ≡ v → head_count h ≡ n → OpensTy 0 m d → OpensClauses f v n i d
+    in_clause : {f : Fixity} {v : Vid} {n : ℕ} {i m k : List Terminal} {h : Head} {t : Option Ty} {d : ℕ} (p : ℕ) →
+        ReadsHead f i h m → head_vid h ≡ v → head_count h ≡ n → MaybeTy m t (reserved p res.Equals ∷ k) → Opens f 0 k d → OpensClauses f v n i d
+    past_clause : {f : Fixity} {v : Vid} {n : ℕ} {i m k g : List Terminal} {h : Head} {t : Option Ty} {e : Exp} {d : ℕ} (p q : ℕ) →
+        ReadsHead f i h m → head_vid h ≡ v → head_count h ≡ n → MaybeTy m t (reserved p res.Equals ∷ k) →
+        goes_on f e (reserved q res.Bar ∷ g) ≡ false → Reads f k e (reserved q res.Bar ∷ g) → OpensClauses f v n g d → OpensClauses f v n i d

@@ -10,5 +10,3 @@ pub mod lex;
 mod numbers;
 mod reserved;
 mod strings;
-#[cfg(test)]
-mod tests;

@@ -89,6 +89,18 @@ bare_bracket_clause : bare_decs 0 Examples.tree_bracket_clause
     BareTree.no_binds)) BareTree.no_decs
 bare_bracket_clause = refl
 
+-- the pattern op :: (x, y)
+bare_op_cons : bare_exp 0 Examples.tree_op_cons
+    ≡ BareTree.fn (at 0 0)
+    (BareTree.rule (at 0 3)
+    (BareTree.con_pat (at 0 3) (at 0 6) (short (Named Examples.cons_name))
+    (BareTree.fields_pat (at 0 9)
+    (BareTree.pat_field (label.Number 1) (BareTree.vid_pat (at 0 10) (short (Named Examples.name_x)))
+    (BareTree.pat_field (label.Number 2) (BareTree.vid_pat (at 0 13) (short (Named Examples.name_y))) BareTree.no_pat_fields)) false))
+    (variable 19 Examples.name_x)
+    BareTree.no_rules)
+bare_op_cons = refl
+
 -- fun ('a) op ++ x = x is val ('a) rec ++ = fn v1 => case v1 of x => x
 bare_op_name : bare_decs 0 Examples.tree_op_name
     ≡ BareTree.dec (BareTree.val_dec (at 0 0) (at 0 4) (record { name = Examples.name_a; equality = false } ∷ []) BareTree.no_binds

@@ -7,8 +7,8 @@ use Rattle.sml_tree.specs.declared.ident.Vid.TheVariants.{Named, Equals}
 use Rattle.sml_tree.specs.Fixity.{Fixity}
 use Rattle.sml_tree.specs.Derived.{short}
 use Rattle.sml_tree.specs.Terminal.{LongVid, int, Terminal, reserved, number, alpha, symbol, star, type_var, is_number, alpha_vid, symbol_vid, any_named, any_short, alpha_tycon, symbol_tycon, short_tycon, number_label, word_label}
-use Rattle.sml_tree.specs.ReadTree.{Placed, var_ty, con_ty, product_ty, arrow_ty, no_tys, ty, constant_pat, vid_pat, record_pat, list_pat, paren_pat, chain_pat, no_pats, pat, no_pat_fields, pat_field, labelled, punned, punned_as, last_pat_part, and_also, or_else, infixed, prefix_head, infix_head, bracket_head, Exp, constant_exp, vid_exp, selector, tuple_exp, sequence, paren_exp, let_in, app, chain, typed, handle, raise, if_then, while, case, fn, no_exps, exp, last_part, part, last_rule, rule, Decs, no_decs, dec, val_dec, fun_dec, type_dec, withtype_dec, local_dec, fixity_dec, last_bind, bind, rec_binds, last_fun, last_clause, clause}
-use Rattle.sml_tree.specs.Grammar.{of_tyvar, of_tycon, of_tycon_1, of_product, of_arrow, last_star, last_arrow, more_arrows, without_ty, with_ty, plain_vid, op_vid, plain_long, op_long, of_pat_constant, of_pat_vid, of_pat_row, of_nil_pat, of_paren_pat, row_dots, last_row, more_row, of_labelled, of_punned, of_punned_as, of_atpat, of_chain_pat, of_last_pat_part, no_atpats, more_atpats, of_prefix_head, of_infix_head, of_bracket_head, no_tyvars, one_tyvar, at_tyvar, at_bracket, at_declaration, at_sequence, last_tyvar, tyvars_in_brackets, type_bind, last_type_bind, without_of, with_of, last_con, more_cons, data_bind, last_data_bind, last_vid, no_precedence, a_precedence, is_andalso, is_orelse, is_infix, is_infix_equals, of_constant, of_vid, of_selector, of_tuple, of_sequence, of_paren, of_let, last_exp, last_of_sequence, no_atoms, more_atoms, Reads, of_atom, of_app, of_chain, of_typed, of_handle, of_raise, of_if, of_while, of_case, of_fn, of_last_part, of_part, of_last_rule, of_rule, Declares, nothing_more, of_semicolon, of_dec, of_val, of_fun, of_type, of_withtype, of_local, of_infix, of_last_bind, of_bind, of_rec, of_last_fun, of_last_clause, of_clause}
+use Rattle.sml_tree.specs.ReadTree.{Placed, var_ty, con_ty, product_ty, arrow_ty, no_tys, ty, constant_pat, vid_pat, record_pat, tuple_pat, con_pat, list_pat, paren_pat, chain_pat, no_pats, pat, no_pat_fields, pat_field, labelled, punned, punned_as, last_pat_part, and_also, or_else, infixed, prefix_head, infix_head, bracket_head, Exp, constant_exp, vid_exp, selector, tuple_exp, sequence, paren_exp, let_in, app, chain, typed, handle, raise, if_then, while, case, fn, no_exps, exp, last_part, part, last_rule, rule, Decs, no_decs, dec, val_dec, fun_dec, type_dec, withtype_dec, local_dec, fixity_dec, last_bind, bind, rec_binds, last_fun, last_clause, clause}
+use Rattle.sml_tree.specs.Grammar.{of_tyvar, of_tycon, of_tycon_1, of_product, of_arrow, last_star, last_arrow, more_arrows, without_ty, with_ty, plain_vid, op_vid, plain_long, op_long, of_pat_constant, of_pat_vid, of_pat_row, of_tuple_pat, last_pat, of_con_pat, of_nil_pat, of_paren_pat, row_dots, last_row, more_row, of_labelled, of_punned, of_punned_as, of_atpat, of_chain_pat, of_last_pat_part, no_atpats, more_atpats, of_prefix_head, of_infix_head, of_bracket_head, no_tyvars, one_tyvar, at_tyvar, at_bracket, at_declaration, at_sequence, last_tyvar, tyvars_in_brackets, type_bind, last_type_bind, without_of, with_of, last_con, more_cons, data_bind, last_data_bind, last_vid, no_precedence, a_precedence, is_andalso, is_orelse, is_infix, is_infix_equals, of_constant, of_vid, of_selector, of_tuple, of_sequence, of_paren, of_let, last_exp, last_of_sequence, no_atoms, more_atoms, Reads, of_atom, of_app, of_chain, of_typed, of_handle, of_raise, of_if, of_while, of_case, of_fn, of_last_part, of_part, of_last_rule, of_rule, Declares, nothing_more, of_semicolon, of_dec, of_val, of_fun, of_type, of_withtype, of_local, of_infix, of_last_bind, of_bind, of_rec, of_last_fun, of_last_clause, of_clause}
 
 -- an identifier and its place
 abbrev pub name_at : ℕ → ℕ → Placed LongVid
@@ -228,6 +228,16 @@ tree_op_name = dec (fun_dec 0 4 (record { name = name_a; equality = false } ∷ 
 
 pub op_name : Declares with_all text_op_name tree_op_name []
 op_name = of_dec (of_fun 0 (tyvars_in_brackets 4 (last_tyvar 5 7 (record { name = name_a; equality = false }))) (at_sequence (at_bracket 4)) (of_last_fun (Named plusplus) 1 (of_last_clause 17 (of_prefix_head (op_vid 9 (any_named (symbol_vid 12 plusplus))) (of_pat_vid (plain_long (alpha_vid 15 name_x) refl)) (no_atpats)) refl refl (without_ty) (of_atom (of_vid (plain_long (alpha_vid 19 name_x) refl)))))) (nothing_more)
+
+-- fn op :: (x, y) => x: the rule and its pattern begin at `op`, the constructor has its own place
+abbrev pub text_op_cons : List Terminal
+text_op_cons = reserved 0 res.Fn ∷ reserved 3 res.Op ∷ symbol 6 cons_name ∷ reserved 9 res.LeftParen ∷ alpha 10 name_x ∷ reserved 11 res.Comma ∷ alpha 13 name_y ∷ reserved 14 res.RightParen ∷ reserved 16 res.DoubleArrow ∷ alpha 19 name_x ∷ []
+
+abbrev pub tree_op_cons : Exp
+tree_op_cons = fn 0 (last_rule (con_pat 3 (name_at 6 cons_name) (tuple_pat 9 (pat (vid_pat 10 (name_at 10 name_x)) (pat (vid_pat 13 (name_at 13 name_y)) no_pats)))) (vid_exp 19 (name_at 19 name_x)))
+
+pub op_cons : Reads with_all text_op_cons tree_op_cons []
+op_cons = of_fn 0 (of_last_rule 16 (of_con_pat (op_long 3 (any_short (any_named (symbol_vid 6 cons_name)))) (of_tuple_pat 9 11 14 (of_atpat (of_pat_vid (plain_long (alpha_vid 10 name_x) refl))) (last_pat (of_atpat (of_pat_vid (plain_long (alpha_vid 13 name_y) refl)))))) (of_atom (of_vid (plain_long (alpha_vid 19 name_x) refl))))
 
 -- (op +)
 abbrev pub text_op_plus_alone : List Terminal

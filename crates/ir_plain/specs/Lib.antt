@@ -1,0 +1,9 @@
+pub mod Kind
+pub mod Tree
+pub mod Meaning
+pub mod Copies
+pub mod Once
+pub mod Unique
+pub mod Scoped
+pub mod Weight
+pub mod Laws

@@ -1,0 +1,4 @@
+// The tree in which evaluation order is plain, generic in names, types and what values keep of these. Definitions, and laws of them.
+#![tactic(auto)]
+
+pub mod law;

@@ -1,0 +1,4 @@
+pub mod EqualityLemmas
+pub mod PrimitiveLemmas
+pub mod MatchLemmas
+pub mod Examples

@@ -1,0 +1,7 @@
+// Tests of what every layer speaks of.
+#![tactic(auto)]
+
+#[cfg(test)]
+mod passes;
+#[cfg(test)]
+mod tests;

@@ -1,0 +1,35 @@
+-- One table of types for another that is the same.
+use Rattle.std.proofs.Common.{◌≡◌, ℕ, List, length, Option, Result, Ok, Err, IfOk, subst, sym}
+use Rattle.ty_core.specs.Types.{Typ}
+use Rattle.ty_solve.specs.Substitution.{Entry}
+use Rattle.ty_solve.specs.Weight.{AreBelow, IsAcyclic, AreInhabited}
+use Rattle.ty_solve.specs.Solve.{IsCause, IsEarlyCause}
+use Rattle.ty_solve.specs.declared.refused.UnifyRefused.{UnifyRefused}
+use Rattle.ty_solve.specs.declared.refused.UnifyRefused.TheVariants.{Clash, Circular, Large, Memory}
+use Rattle.std.specs.Option.{option_map}
+use Rattle.ty_solve.specs.SlotsOf.{seen, entries, tasks_of, write_of}
+use Rattle.ty_solve.specs.Tasks.{Comes}
+use Rattle.ty_solve.specs.declared.subst.Slot.{Slot}
+use Rattle.ty_solve.specs.declared.task.Todo.{Todo}
+use Rattle.ty_solve.specs.declared.task.Move.{Move}
+
+pub comes-in : (t u : List Typ) → t ≡ u → (os : List Slot) (old new : List Todo) (w : Option Move) → Comes (length (entries t os)) (seen t os) (tasks_of t old) (tasks_of t new) (option_map (write_of t) w) → Comes (length (entries u os)) (seen u os) (tasks_of u old) (tasks_of u new) (option_map (write_of u) w)
+comes-in t u e os old new w h = subst (λ (x : List Typ). Comes (length (entries x os)) (seen x os) (tasks_of x old) (tasks_of x new) (option_map (write_of x) w)) e h
+
+pub ok-at : {A X E : Type 0} (P : A → Type 0) (r : Result X E) (a : A) → IfOk r (λ _. (x : A) → P x) → IfOk r (λ _. P a)
+ok-at P (Ok x) a h = h a
+ok-at P (Err e) a h = h
+
+pub early : (s : ℕ → Entry) (a b : Typ) (e : UnifyRefused) → IsEarlyCause s a b e → IsCause s a b e
+early s a b Clash h = h
+early s a b Circular h = h
+early s a b Large h = absurd h
+early s a b Memory h = tt
+
+pub record IsKept (u : List Typ) (os : List Slot) : Type 0 where
+  pub below : AreBelow (length os) (seen u os)
+  pub acyclic : IsAcyclic (seen u os)
+  pub inhabited : AreInhabited (seen u os)
+
+pub put-back : (t u : List Typ) (os ps : List Slot) → u ≡ t → ps ≡ os → AreBelow (length os) (seen t os) → IsAcyclic (seen t os) → AreInhabited (seen t os) → IsKept u ps
+put-back t u os ps e q b a i = subst (λ (x : List Typ). IsKept x ps) (sym e) (subst (λ l. IsKept t l) (sym q) (record { below = b; acyclic = a; inhabited = i }))

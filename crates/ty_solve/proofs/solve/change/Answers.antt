@@ -1,0 +1,12 @@
+use Rattle.std.proofs.Common.{subst, sym, IfOk, IfErr}
+use Rattle.ty_solve.specs.SlotsOf.{seen, entries, tasks_of, write_of}
+use Rattle.ty_solve.specs.Task.{Remark}
+use Rattle.ty_solve.specs.Changes.{Changes, RefusesWrite}
+use Rattle.ty_solve.proofs.Turns.{ok-at}
+use Rattle.ty_solve.proofs.solve.change.Goals as goal
+
+pub returns-in-Bind-clause-cause : goal.returns-in-Bind-clause-cause
+returns-in-Bind-clause-cause c = subst (λ x. IfErr c.bind_variable.result (RefusesWrite (seen c.args.s.now.types c.args.s.now.slots.items) (write_of c.args.s.now.types x))) (sym c.in-Bind.is) c.bind_variable.ensures.cause
+
+pub returns-in-Remark-clause-changes : goal.returns-in-Remark-clause-changes
+returns-in-Remark-clause-changes c = subst (λ x. IfOk c.lower_mark.result (λ _. Changes (entries c.args.s.now.types c.args.s.now.slots.items) (entries c.args.s.now.types c.lower_mark.new.s.slots.items) (tasks_of c.args.s.now.types c.args.tasks.now.items) (tasks_of c.args.s.now.types c.args.tasks.now.items) (write_of c.args.s.now.types x))) (sym c.in-Remark.is) (ok-at (λ l. Changes (entries c.args.s.now.types c.args.s.now.slots.items) (entries c.args.s.now.types c.lower_mark.new.s.slots.items) l l (Remark c.in-Remark.v c.in-Remark.mark)) c.lower_mark.result _ c.lower_mark.ensures.changes)

@@ -1,0 +1,10 @@
+use Rattle.ty_solve.specs.SlotsOf.{entries, tasks_of}
+use Rattle.ty_solve.specs.Tasks.{burdens}
+use Rattle.ty_solve.proofs.Coming.{Going}
+use Rattle.ty_solve.proofs.step.next_write.Given as goal
+
+abbrev pub invariant-loop-task : goal.invariant-loop-task
+invariant-loop-task l = Going (entries l.s.types l.s.slots.items) (tasks_of l.s.types l.fn.tasks.items) (tasks_of l.s.types l.tasks.items)
+
+abbrev pub decreases-loop-task : goal.decreases-loop-task
+decreases-loop-task l = burdens l.s.acyclic.0 (tasks_of l.s.types l.tasks.items)

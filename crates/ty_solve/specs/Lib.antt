@@ -1,0 +1,13 @@
+pub mod Rows
+pub mod Substitution
+pub mod Weight
+pub mod Props
+pub mod SlotsOf
+pub mod Finding
+pub mod Forces
+pub mod Tasks
+pub mod Parts
+pub mod Solve
+pub mod Changes
+pub mod Task
+pub mod Walk

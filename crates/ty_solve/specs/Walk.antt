@@ -1,0 +1,23 @@
+-- What is looked at next in a type.
+use Rattle.std.specs.Prelude.{◌≡◌, ◌+◌, ◌<◌, ◌≤◌, ◌^◌, ◌-◌, ℕ, List, [], ◌∷◌, ◌++◌}
+use Rattle.ty_core.specs.Types.{Typ, var, con, Symbol, nodes, all_nodes}
+use Rattle.ty_table.specs.TypeAt.{type_at, types_at}
+use Rattle.ty_solve.specs.Substitution.{Entry, free, bound, mark, Resolves, sub, subs}
+use Rattle.ty_solve.specs.Weight.{weight, weights}
+
+-- the numbers ks are what the type of t stands for, or its arguments
+pub data Next (ts : List Typ) (s : ℕ → Entry) (t : ℕ) (ks : List ℕ) : Type 0 where
+  ends : (x : ℕ) → type_at ts t ≡ var x → s x ≡ free (mark (s x)) → ks ≡ [] → Next ts s t ks
+  stands : (x u : ℕ) → type_at ts t ≡ var x → s x ≡ bound (type_at ts u) → ks ≡ u ∷ [] → Next ts s t ks
+  applied : (h : Symbol) → type_at ts t ≡ con h (types_at ts ks) → Next ts s t ks
+
+pub record Looks (ts : List Typ) (s : ℕ → Entry) (t : ℕ) (old new : List ℕ) : Type 0 where
+  pub parts : List ℕ
+  pub is : new ≡ old ++ parts
+  pub next : Next ts s t parts
+
+-- n nodes of t are counted, and the others are those of what was put on
+pub record Counts (ts : List Typ) (s : ℕ → Entry) (w : ℕ → ℕ) (t : ℕ) (old new : List ℕ) (n : ℕ) : Type 0 where
+  pub exact : n < 2 ^ 64 - 1 → (f : ℕ → Typ) → Resolves f s → all_nodes (subs f (types_at ts new)) + n ≡ all_nodes (subs f (types_at ts old)) + nodes (sub f (type_at ts t))
+  pub large : n ≡ 2 ^ 64 - 1 → (f : ℕ → Typ) → Resolves f s → 2 ^ 64 - 1 ≤ nodes (sub f (type_at ts t))
+  pub lighter : weights w (types_at ts new) < weights w (types_at ts old) + weight w (type_at ts t)

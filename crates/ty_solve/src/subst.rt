@@ -1,0 +1,117 @@
+// What each type variable stands for.
+ghost use Rattle.std.specs.Prelude.{◌≡◌, ℕ, ◌+◌, ◌<◌, ◌≤◌, length, MatchOption, IfOk, OnErr, true, false, ◌++◌, ◌∷◌, [], slice_set, slice_index_or};
+ghost use Rattle.ty_core.specs.Types.{Typ};
+ghost use Rattle.ty_core.specs.Marks.{is_inhabited};
+ghost use Rattle.ty_table.specs.TypeAt.{type_at};
+ghost use Rattle.ty_solve.specs.Substitution.{mark, free, bound, is_open, Fits};
+ghost use Rattle.ty_solve.specs.SlotsOf.{seen, entry_of};
+ghost use Rattle.ty_solve.specs.Weight.{IsAcyclic, AreBelow, AreInhabited, weight};
+ghost use Rattle.ty_solve.specs.Props.{IsAcyclic-prop, AreBelow-prop, AreInhabited-prop};
+ghost use Rattle.ty_solve.specs.Tasks.{MayPut};
+ghost use Rattle.ty_solve.specs.Finding.{StandsFor, IsWalked, Reads};
+
+use mlc_base::memory::NoMemory;
+use std::alloc::Global;
+use std::mem;
+use ty_core::mark::Mark;
+use ty_table::types::{Types, View};
+
+/// What one variable stands for: any type that its mark allows, or one type.
+#[derive(Clone, Copy)]
+pub enum Slot {
+    Open(Mark),
+    Full(usize),
+}
+
+/// What each variable stands for, and the types that numbers stand for.
+#[derive(Drop)]
+pub struct Subst {
+    pub types: Types,
+    pub slots: Vec<Slot>,
+    pub ghost below: { AreBelow (length slots.items) (seen types slots.items) } by { AreBelow-prop (length slots.items) (seen types slots.items) },
+    pub ghost acyclic: { IsAcyclic (seen types slots.items) } by { IsAcyclic-prop (seen types slots.items) },
+    pub ghost inhabited: { AreInhabited (seen types slots.items) } by { AreInhabited-prop (seen types slots.items) },
+}
+
+impl Subst {
+    /// No variables.
+    pub fn new(alloc: Global) -> Result<Subst, NoMemory>
+        ensures { IfOk result (λ s. s.slots.items ≡ []) }
+    {
+        let types = Types::new(alloc)?;
+        let slots = Vec::new(alloc);
+        Ok(Subst { types, slots })
+    }
+
+    /// A new variable, with its mark.
+    pub fn fresh(&mut self, mark: Mark) -> Result<usize, NoMemory>
+        requires { is_inhabited mark ≡ true }
+        ensures next { IfOk result (λ v. v ≡ length self.old.slots.items) }
+        ensures marked { IfOk result (λ _. self.new.slots.items ≡ self.old.slots.items ++ Slot.Open mark ∷ []) }
+        ensures types { self.new.types ≡ self.old.types }
+        ensures err { OnErr result (self.new.slots.items ≡ self.old.slots.items) }
+    {
+        let v = self.slots.len();
+        self.slots.push(Slot::Open(mark))?;
+        Ok(v)
+    }
+
+    /// The type that a bound variable stands for.
+    pub fn get(&self, v: usize) -> Option<usize>
+        ensures { MatchOption result (is_open ((seen self.now.types self.now.slots.items) v) ≡ true) (λ t. (seen self.now.types self.now.slots.items) v ≡ bound (type_at self.now.types t)) }
+    {
+        if v < self.slots.len() {
+            match self.slots[v] {
+                Slot::Full(t) => Some(t),
+                Slot::Open(_) => None,
+            }
+        } else {
+            None
+        }
+    }
+
+    /// The mark of a free variable.
+    pub fn mark_of(&self, v: usize) -> Mark
+        ensures { result ≡ mark ((seen self.now.types self.now.slots.items) v) }
+    {
+        if v < self.slots.len() {
+            match self.slots[v] {
+                Slot::Full(_) => Mark::Any,
+                Slot::Open(k) => k,
+            }
+        } else {
+            Mark::Any
+        }
+    }
+
+    /// Lets a variable stand for something else. What it stood for before.
+    pub fn put(&mut self, v: usize, slot: Slot) -> Slot
+        requires { MayPut (length self.old.slots.items) (seen self.old.types self.old.slots.items) v (entry_of self.old.types slot) }
+        ensures before { result ≡ slice_index_or self.old.slots.items v result }
+        ensures after { self.new.slots.items ≡ slice_set self.old.slots.items v slot }
+        ensures types { self.new.types ≡ self.old.types }
+    {
+        mem::replace(&mut self.slots[v], slot)
+    }
+
+    /// What a type stands for, if it is a bound variable.
+    pub fn step(&self, t: usize) -> Option<usize>
+        ensures { MatchOption result (IsWalked (seen self.now.types self.now.slots.items) (type_at self.now.types t)) (λ u. StandsFor (seen self.now.types self.now.slots.items) (type_at self.now.types t) (type_at self.now.types u)) }
+    {
+        match self.types.view(t) {
+            View::Var(v) => self.get(v),
+            View::Apply(_, _) => None,
+        }
+    }
+
+    /// The type itself, or what it stands for in the end: a free variable, or a type that is no variable.
+    pub fn find(&self, t: usize) -> usize
+        ensures { Reads (length self.now.slots.items) (seen self.now.types self.now.slots.items) self.now.acyclic.0 (type_at self.now.types t) (type_at self.now.types result) }
+    {
+        let mut found = t;
+        while let Some(next) = self.step(found) {
+            found = next;
+        }
+        found
+    }
+}

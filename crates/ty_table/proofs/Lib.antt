@@ -1,0 +1,4 @@
+pub mod Building
+pub mod Coding
+pub mod Keeping
+pub mod Viewing

@@ -1,0 +1,86 @@
+-- Nodes as they are seen.
+use Rattle.std.proofs.Common.{◌≡◌, ◌≢◌, ℕ, zero, suc, ◌+◌, ◌-◌, ◌<◌, List, [], ◌∷◌, length, get_or, take, drop, max, Bool, true, false, ◌&&◌, refl, sym, ap, ap₂, subst, ◌∙◌, arith}
+use Rattle.ty_core.specs.Types.{Symbol, Typ, var, con, nodes, all_nodes, admits, all_admit, no_variable}
+use Rattle.ty_table.specs.TypeAt.{type_at, types_at, AllBelow, top, tops}
+use Rattle.ty_table.specs.Nodes.{symbol_at, type_in, IsNode}
+
+pub node-some : (m n : ℕ) (x : List ℕ) → IsNode m n x → 0 < length x
+node-some m n [] a = absurd a
+node-some m n (k ∷ l) a = omega arith
+
+pub variable-some : (m n : ℕ) (x : List ℕ) → IsNode m n x → get_or x 0 0 ≡ 0 → 1 < length x
+variable-some m n [] a e = absurd a
+variable-some m n (zero ∷ l) a e = omega (arith, a)
+variable-some m n (suc s ∷ l) a e = absurd (omega arith)
+
+pub variable-is : (m n : ℕ) (ss : List Symbol) (ts : List Typ) (x : List ℕ) → IsNode m n x → get_or x 0 0 ≡ 0 → type_in ss ts x ≡ var (get_or x 1 0)
+variable-is m n ss ts [] a e = absurd a
+variable-is m n ss ts (zero ∷ []) a e = absurd (omega (arith, a))
+variable-is m n ss ts (zero ∷ v ∷ l) a e = refl
+variable-is m n ss ts (suc s ∷ l) a e = absurd (omega arith)
+
+abbrev pub arguments : List ℕ → List ℕ
+arguments x = take (length x - 1) (drop 1 x)
+
+take-whole : (l : List ℕ) (n : ℕ) → n ≡ length l → take n l ≡ l
+take-whole [] zero e = refl
+take-whole [] (suc n) e = refl
+take-whole (k ∷ l) zero e = absurd (omega arith)
+take-whole (k ∷ l) (suc n) e = ap (λ m. k ∷ m) (take-whole l n (omega arith))
+
+pub record IsApplied (m n : ℕ) (ss : List Symbol) (ts : List Typ) (x : List ℕ) : Type 0 where
+  pub is : type_in ss ts x ≡ con (symbol_at ss (get_or x 0 0 - 1)) (types_at ts (arguments x))
+  pub symbol : get_or x 0 0 - 1 < m
+  pub below : AllBelow n (arguments x)
+
+pub applied : (m n : ℕ) (ss : List Symbol) (ts : List Typ) (x : List ℕ) → IsNode m n x → get_or x 0 0 ≢ 0 → IsApplied m n ss ts x
+applied m n ss ts [] a e = absurd a
+applied m n ss ts (zero ∷ l) a e = absurd (e refl)
+applied m n ss ts (suc s ∷ l) a e =
+    let p : suc s - 1 ≡ s = omega arith in
+    let q : arguments (suc s ∷ l) ≡ l = take-whole l (suc (length l) - 1) (omega arith) in
+    record {
+      is = ap₂ (λ k r. con (symbol_at ss k) (types_at ts r)) (sym p) (sym q);
+      symbol = let lt = a.0 in omega arith;
+      below = subst (AllBelow n) (sym q) a.1;
+    }
+
+pub below-at : (n : ℕ) (l : List ℕ) (i : ℕ) → AllBelow n l → i < length l → get_or l i 0 < n
+below-at n [] i a lt = absurd (omega arith)
+below-at n (k ∷ l) zero a lt = a.0
+below-at n (k ∷ l) (suc i) a lt = below-at n l i a.1 (omega arith)
+
+pub take-end : (l : List ℕ) → take (length l) l ≡ l
+take-end l = take-whole l (length l) refl
+
+-- one argument more
+pub next-nodes : (ts : List Typ) (l : List ℕ) (i : ℕ) → i < length l → all_nodes (types_at ts (take (suc i) l)) ≡ all_nodes (types_at ts (take i l)) + nodes (type_at ts (get_or l i 0))
+next-nodes ts [] i h = absurd (omega arith)
+next-nodes ts (k ∷ l) zero h = omega arith
+next-nodes ts (k ∷ l) (suc i) h = let e = next-nodes ts l i (omega arith) in omega arith
+
+pub next-tops : (ts : List Typ) (l : List ℕ) (i : ℕ) → i < length l → tops (types_at ts (take (suc i) l)) ≡ max (tops (types_at ts (take i l))) (top (type_at ts (get_or l i 0)))
+next-tops ts [] i h = absurd (omega arith)
+next-tops ts (k ∷ l) zero h = omega arith
+next-tops ts (k ∷ l) (suc i) h = let e = next-tops ts l i (omega arith) in omega arith
+
+and_assoc : (a b c : Bool) → (a && (b && c)) ≡ ((a && b) && c)
+and_assoc true b c = refl
+and_assoc false b c = refl
+
+and_true : (a : Bool) → (a && true) ≡ a
+and_true true = refl
+and_true false = refl
+
+pub next-admits : (ts : List Typ) (l : List ℕ) (i : ℕ) → i < length l → all_admit no_variable (types_at ts (take (suc i) l)) ≡ (all_admit no_variable (types_at ts (take i l)) && admits no_variable (type_at ts (get_or l i 0)))
+next-admits ts [] i h = absurd (omega arith)
+next-admits ts (k ∷ l) zero h = and_true (admits no_variable (type_at ts k))
+next-admits ts (k ∷ l) (suc i) h = ap (λ b. admits no_variable (type_at ts k) && b) (next-admits ts l i (omega arith)) ∙ and_assoc (admits no_variable (type_at ts k)) (all_admit no_variable (types_at ts (take i l))) (admits no_variable (type_at ts (get_or l i 0)))
+
+pub both-true : (a b r d : Bool) → a ≡ true → r ≡ b → (a && b) ≡ d → r ≡ d
+both-true true b r d e f g = f ∙ g
+both-true false b r d e f g = cc
+
+pub first-false : (a b r d : Bool) → a ≡ false → r ≡ false → (a && b) ≡ d → r ≡ d
+first-false true b r d e f g = cc
+first-false false b r d e f g = f ∙ g

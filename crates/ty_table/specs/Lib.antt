@@ -1,0 +1,3 @@
+pub mod TypeAt
+pub mod Codes
+pub mod Nodes
