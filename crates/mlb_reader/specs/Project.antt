@@ -4,10 +4,8 @@ use Rattle.std.specs.FinMap.{get}
 use Rattle.mlc_base.specs.File.{File}
 use Rattle.mlc_base.specs.declared.token.Token.{Token}
 use Rattle.mlc_outside.specs.Files.{Files}
-use Rattle.mlc_base.specs.Names.{with_texts}
 use Rattle.mlc_base.specs.StandardWords.{standard_words, word_times}
-use Rattle.sml_lexer.specs.Lexes.{Lexes, lexed_of, HoldsAllNames}
-use Rattle.sml_lexer.specs.NameTable.{words_in}
+use Rattle.sml_lexer.specs.Lexes.{Lexes, lexed_of, HoldsAllNames, names_after}
 use Rattle.sml_tree.specs.Terminal.{terminals}
 use Rattle.sml_tree.specs.Fixity.{Fixity}
 use Rattle.sml_tree.specs.ReadTree as read
@@ -43,7 +41,7 @@ pub record Fits (reads : List File) (bytes : List ℕ) : Type 0 where
 pub record HasTokens (names : List (List ℕ)) (bytes : List ℕ) (tokens : List Token) (names' : List (List ℕ)) : Type 0 where
   pub lexes : Lexes bytes (map (lexed_of names') tokens)
   pub held : HoldsAllNames names' tokens
-  pub table : names' ≡ with_texts names (words_in (map (lexed_of names') tokens))
+  pub table : names' ≡ names_after names (map (lexed_of names') tokens)
 
 -- a source of these bytes, the file of this number, is these declarations where it is read with the table `names` under the fixities f; names' and f' hold after it
 pub record IsSource (names : List (List ℕ)) (file : ℕ) (f : Fixity) (bytes : List ℕ) (ds : Decs) (names' : List (List ℕ)) (f' : Fixity) : Type 0 where

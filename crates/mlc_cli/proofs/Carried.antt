@@ -175,13 +175,13 @@ module _ (words : List (List ℕ)) (c : Command) (is : IsCommand words c) (old n
 
   not_refused : (line : List ℕ) → IsReady words old.files → Refuses old.files c line → ⊥
   not_refused line ready r =
-      let breaks = told (λ f. Breaks r.texts f c.input r.fault r.reads) ready.told ready.are r.breaks in
-      ready.unbroken r.texts r.fault r.reads (subst (λ i. Breaks r.texts ready.told i r.fault r.reads) (same_input ready.command ready.is_command) breaks)
+      let breaks = told (λ f. Breaks f c.input r.names r.fault r.reads) ready.told ready.are r.breaks in
+      ready.unbroken r.names r.fault r.reads (subst (λ i. Breaks ready.told i r.names r.fault r.reads) (same_input ready.command ready.is_command) breaks)
 
   not_missing : (path : List ℕ) → IsReady words old.files → Misses old.files c path → ⊥
   not_missing path ready m =
-      let missing = told (λ f. IsMissing m.0 f c.input path) ready.told ready.are m.1 in
-      ready.there m.0 path (subst (λ i. IsMissing m.0 ready.told i path) (same_input ready.command ready.is_command) missing)
+      let missing = told (λ f. IsMissing f c.input path) ready.told ready.are m in
+      ready.there path (subst (λ i. IsMissing ready.told i path) (same_input ready.command ready.is_command) missing)
 
   pub when_ready : (e : Exit) → Exited e old new out out' c → IsReady words old.files → ¬ (Rose old.read_faults new.read_faults) → ¬ (Rose old.write_faults new.write_faults) → ¬ (Rose out.faults out'.faults) → IsRunOrMemory (status_of e)
   when_ready Ended x ready r w o = inl refl

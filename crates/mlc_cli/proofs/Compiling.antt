@@ -17,13 +17,13 @@ pub first-byte : (files : List File) → 0 < length files → LiesIn (record { f
 first-byte [] some = absurd (omega (arith, some))
 first-byte (file ∷ files) some = (omega arith, omega arith)
 
-breaks-project : (files : Option Files) (c : Command) (texts : List (List ℕ)) (parts : List Part) (reads : List File) (fault : Fault) →
-    IfTold files (λ f. ProjectOf texts f c.input parts reads) → IsRefused texts parts fault → IfTold files (λ f. Breaks texts f c.input fault reads)
-breaks-project None c texts parts reads fault is refused = tt
-breaks-project (Some f) c texts parts reads fault is refused = in_project parts is refused
+breaks-project : (files : Option Files) (c : Command) (names : List (List ℕ)) (parts : List Part) (reads : List File) (fault : Fault) →
+    IfTold files (λ f. ProjectOf f c.input names parts reads) → IsRefused names parts fault → IfTold files (λ f. Breaks f c.input names fault reads)
+breaks-project None c names parts reads fault is refused = tt
+breaks-project (Some f) c names parts reads fault is refused = in_project parts is refused
 
 -- a project that was loaded is refused
-pub refused-project : (files : Option Files) (c : Command) (texts : List (List ℕ)) (parts : List Part) (reads : List File) (fault : Fault) (line : List ℕ) →
-    IfTold files (λ f. ProjectOf texts f c.input parts reads) → IsRefused texts parts fault → line ≡ refusal reads texts fault → Refuses files c line
-refused-project files c texts parts reads fault line is refused tells =
-    record { texts = texts; fault = fault; reads = reads; breaks = breaks-project files c texts parts reads fault is refused; tells = tells }
+pub refused-project : (files : Option Files) (c : Command) (names : List (List ℕ)) (parts : List Part) (reads : List File) (fault : Fault) (line : List ℕ) →
+    IfTold files (λ f. ProjectOf f c.input names parts reads) → IsRefused names parts fault → line ≡ refusal reads names fault → Refuses files c line
+refused-project files c names parts reads fault line is refused tells =
+    record { names = names; fault = fault; reads = reads; breaks = breaks-project files c names parts reads fault is refused; tells = tells }

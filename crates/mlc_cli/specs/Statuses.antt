@@ -34,15 +34,15 @@ ByCommand words P = (command : Command) × IsCommand words command × P command
 abbrev pub words_in : Program → ℕ
 words_in image = length image.constants + 4 * length image.code
 
--- the files at the command's path are an accepted project, and this image ends as it does; texts tells what identifiers are written as
+-- the files at the command's path are an accepted project, with this table of names, and this image ends as it does
 pub record Compiles (files : Option Files) (command : Command) (image : Program) : Type 0 where
-  pub texts : List (List ℕ)
+  pub names : List (List ℕ)
   pub parts : List Part
   pub reads : List File
-  pub is_project : IfTold files (λ f. ProjectOf texts f command.input parts reads)
-  pub accepted : IsAccepted texts parts
+  pub is_project : IfTold files (λ f. ProjectOf f command.input names parts reads)
+  pub accepted : IsAccepted names parts
   pub is_program : IsProgram image
-  pub same : Same texts parts image
+  pub same : Same names parts image
   pub small : words_in image ≤ 128 * max 1 (nodes_in (parts_phrases parts))
 
 -- the run of the image, as the command asks for it
@@ -102,23 +102,23 @@ pub record ToldUncaught (old new : Option Files) (before after : Option (List �
 
 -- the line that tells a fault of the files that were read
 abbrev pub refusal : List File → List (List ℕ) → Fault → List ℕ
-refusal reads texts fault = fault_text reads texts fault ++ codes "\n"
+refusal reads names fault = fault_text reads names fault ++ codes "\n"
 
 -- the files at the command's path are refused, and this line tells the fault
 pub record Refuses (files : Option Files) (command : Command) (line : List ℕ) : Type 0 where
-  pub texts : List (List ℕ)
+  pub names : List (List ℕ)
   pub fault : Fault
   pub reads : List File
-  pub breaks : IfTold files (λ f. Breaks texts f command.input fault reads)
-  pub tells : line ≡ refusal reads texts fault
+  pub breaks : IfTold files (λ f. Breaks f command.input names fault reads)
+  pub tells : line ≡ refusal reads names fault
 
 -- a path that is needed has no file
 abbrev pub Misses : Option Files → Command → List ℕ → Type 0
-Misses files command path = (texts : List (List ℕ)) × IfTold files (λ f. IsMissing texts f command.input path)
+Misses files command path = IfTold files (λ f. IsMissing f command.input path)
 
 -- a path is needed
 abbrev pub Needs : Option Files → Command → List ℕ → Type 0
-Needs files command path = (texts : List (List ℕ)) × IfTold files (λ f. IsNeeded texts f command.input path)
+Needs files command path = IfTold files (λ f. IsNeeded f command.input path)
 
 -- the line on err that goes with a status, with the causes of the refusals: usage is the usage text
 pub data Says (usage : List ℕ) (words : List (List ℕ)) (files : Option Files) (reads_before reads_after : ℕ) : ℕ → List ℕ → Type 0 where
@@ -142,14 +142,14 @@ IsBeforeRun status = (status ≡ 2) ⊎ ((status ≡ 6) ⊎ ((status ≡ 7) ⊎ 
 abbrev pub IsBeforeWrite : ℕ → Type 0
 IsBeforeWrite status = (status ≡ 2) ⊎ ((status ≡ 6) ⊎ ((status ≡ 7) ⊎ (status ≡ 64)))
 
--- the words are a command, the files are told, and under no table of names the project breaks anything or needs a path that has no file
+-- the words are a command, the files are told, nothing breaks the project, and no path that it needs has no file
 pub record IsReady (words : List (List ℕ)) (files : Option Files) : Type 0 where
   pub command : Command
   pub is_command : IsCommand words command
   pub told : Files
   pub are : files ≡ Some told
-  pub unbroken : (texts : List (List ℕ)) (fault : Fault) (reads : List File) → ¬ (Breaks texts told command.input fault reads)
-  pub there : (texts : List (List ℕ)) (path : List ℕ) → ¬ (IsMissing texts told command.input path)
+  pub unbroken : (names : List (List ℕ)) (fault : Fault) (reads : List File) → ¬ (Breaks told command.input names fault reads)
+  pub there : (path : List ℕ) → ¬ (IsMissing told command.input path)
 
 -- the program ran, or memory was wanting
 abbrev pub IsRunOrMemory : ℕ → Type 0

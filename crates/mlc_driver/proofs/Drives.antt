@@ -63,8 +63,8 @@ stops-refused : (texts : List (List ℕ)) (parts : List Part) (xs : List Phrase)
 stops-refused texts parts xs f are (by_form {p = p} e) = rules.by_form (subst (λ ys. first_foreign ys ≡ Some p) are e)
 stops-refused texts parts xs f are (by_rule e b) = rules.by_rule (subst (λ ys. first_foreign ys ≡ None) are e) (subst (λ ys. FirstBroken texts ys f) are b)
 
-pub stops-breaks : (texts : List (List ℕ)) (files : Files) (input : List ℕ) (parts : List Part) (reads : List File) (xs : List Phrase) (f : base.Fault) → xs ≡ parts_phrases parts → ProjectOf texts files input parts reads
-    → Stops texts xs f → Breaks texts files input f reads
+pub stops-breaks : (texts : List (List ℕ)) (files : Files) (input : List ℕ) (parts : List Part) (reads : List File) (xs : List Phrase) (f : base.Fault) → xs ≡ parts_phrases parts → ProjectOf files input texts parts reads
+    → Stops texts xs f → Breaks files input texts f reads
 stops-breaks texts files input parts reads xs f are project stops = in_project parts project (stops-refused texts parts xs f are stops)
 
 over-limit : (n count : ℕ) → n ≡ min count (2 ^ 20 + 1) → 2 ^ 20 < n → 2 ^ 20 < count
@@ -103,19 +103,20 @@ pub small-tape : ImageIsSmall → (texts : List (List ℕ)) (p : Project) → Is
 small-tape small texts p c le = few-words p.nodes (nodes_in (parts_phrases p.parts)) (size_of p.tape) c.nodes le (small texts nothing_known c.known (parts_phrases p.parts) p.tape c.taped)
 
 -- what loading answers
-pub loading-breaks : (T U : Type 0) (texts : List (List ℕ)) (told : Option Files) (input : List ℕ) (reads : List File) (e : LoadRefused) → IfLoadFault {T = T} (Err e) (λ f. IfTold told (λ fs. IsBroken texts fs input f reads))
-    → IfLoadFault {T = U} (Err e) (λ f. IfTold told (λ fs. Breaks texts fs input f reads))
-loading-breaks T U texts told input reads (load.NoFile path) h = tt
-loading-breaks T U texts told input reads (load.ReadFault path) h = tt
-loading-breaks T U texts None input reads (load.Fault f) h = tt
-loading-breaks T U texts (Some fs) input reads (load.Fault f) h = in_loading h
-loading-breaks T U texts told input reads load.Memory h = tt
+pub loading-breaks : (T U : Type 0) (names : List (List ℕ)) (told : Option Files) (input : List ℕ) (reads : List File) (e : LoadRefused) →
+    IfLoadFault {T = T} (Err e) (λ f. IfTold told (λ fs. IsBroken fs input f reads)) → IfLoadFault {T = T} (Err e) (λ f. f.name ≡ None) →
+    IfLoadFault {T = U} (Err e) (λ f. IfTold told (λ fs. Breaks fs input names f reads))
+loading-breaks T U names told input reads (load.NoFile path) h unnamed = tt
+loading-breaks T U names told input reads (load.ReadFault path) h unnamed = tt
+loading-breaks T U names None input reads (load.Fault f) h unnamed = tt
+loading-breaks T U names (Some fs) input reads (load.Fault f) h unnamed = in_loading h unnamed
+loading-breaks T U names told input reads load.Memory h unnamed = tt
 
-pub parts-break : (texts texts' : List (List ℕ)) → texts' ≡ texts → (told : Option Files) (input : List ℕ) (parts : List Part) (reads : List File) (f : base.Fault) → IfTold told (λ fs. ProjectOf texts fs input parts reads)
-    → Stops texts (parts_phrases parts) f → IfTold told (λ fs. Breaks texts' fs input f reads)
-parts-break texts texts' same None input parts reads f project stops = tt
-parts-break texts texts' same (Some fs) input parts reads f project stops =
-    subst (λ t. Breaks t fs input f reads) (sym same) (stops-breaks texts fs input parts reads (parts_phrases parts) f refl project stops)
+pub parts-break : (names names' : List (List ℕ)) → names' ≡ names → (told : Option Files) (input : List ℕ) (parts : List Part) (reads : List File) (f : base.Fault) →
+    IfTold told (λ fs. ProjectOf fs input names parts reads) → Stops names (parts_phrases parts) f → IfTold told (λ fs. Breaks fs input names' f reads)
+parts-break names names' same None input parts reads f project stops = tt
+parts-break names names' same (Some fs) input parts reads f project stops =
+    subst (λ t. Breaks fs input t f reads) (sym same) (stops-breaks names fs input parts reads (parts_phrases parts) f refl project stops)
 
 pub stops-placed : (P : Place → Type 0) → P (record { file = 0; byte = 0 }) → (texts : List (List ℕ)) (xs : List Phrase) (f : base.Fault) → AllPlacedIn P xs → Stops texts xs f → P f.place
 stops-placed P zero texts xs f h (by_form e) = foreign-placed P xs h e

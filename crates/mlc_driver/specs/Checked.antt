@@ -28,10 +28,12 @@ pub record IsChecked (texts : List (List ℕ)) (p : Project) : Type 0 where
   pub taped : Taped texts nothing_known (parts_phrases p.parts) p.tape known
   pub nodes : p.nodes ≡ min (nodes_in (parts_phrases p.parts)) (max_nodes + 1)
 
--- why the project of the files at a path is refused, with the files that were read: in loading, or by the static rules and limits
-pub data Breaks (texts : List (List ℕ)) (files : Files) (input : List ℕ) : Fault → List File → Type 0 where
-  in_loading : {f : Fault} {reads : List File} → IsBroken texts files input f reads → Breaks texts files input f reads
-  in_project : {f : Fault} {reads : List File} (parts : List Part) → ProjectOf texts files input parts reads → IsRefused texts parts f → Breaks texts files input f reads
+-- why the project of the files at a path is refused, with the table of names and the files that were read: in loading, by a fault that names no identifier; or by
+-- the static rules and limits, where the table is the project's
+pub data Breaks (files : Files) (input : List ℕ) : List (List ℕ) → Fault → List File → Type 0 where
+  in_loading : {names : List (List ℕ)} {f : Fault} {reads : List File} → IsBroken files input f reads → f.name ≡ None → Breaks files input names f reads
+  in_project : {names : List (List ℕ)} {f : Fault} {reads : List File} (parts : List Part) → ProjectOf files input names parts reads → IsRefused names parts f →
+      Breaks files input names f reads
 
 -- phrases of the language that is compiled so far all pass, and give this tape
 pub record Passes (texts : List (List ℕ)) (xs : List Phrase) (ops : List Op) : Type 0 where

@@ -4,6 +4,7 @@ ghost use Rattle.std.specs.Prelude.{◌≡◌, ◌≤◌, ◌<◌, ◌+◌, ◌*
 ghost use Rattle.std.specs.Option.{ForSome};
 ghost use Rattle.std.specs.String.{string_bytes};
 ghost use Rattle.mlc_base.specs.Files.{LiesIn};
+ghost use Rattle.mlc_base.specs.StandardWords.{standard_words};
 ghost use Rattle.mlc_base.specs.declared.code.Code.TheVariants.{ExpansionTooLarge};
 ghost use Rattle.mlc_outside.specs.Faults.{Rose};
 ghost use Rattle.ir_code.specs.ImageBytes.{IsProgram};
@@ -93,17 +94,18 @@ pub fn check_project<S: Store>(
     path: &str,
 ) -> Result<Checked, LoadRefused>
     requires empty { files.old ≡ [] }
+    requires names { names.old ≡ standard_words }
     ensures files_same { S.files store.new ≡ S.files store.old }
     ensures writes_same { S.write_faults store.new ≡ S.write_faults store.old }
     ensures reads_kept { S.read_faults store.old ≤ S.read_faults store.new }
-    ensures project { IfOk result (λ c. IfTold (S.files store.old) (λ f. ProjectOf names.new f path.now (checked_of c).parts files.new)) }
+    ensures project { IfOk result (λ c. IfTold (S.files store.old) (λ f. ProjectOf f path.now names.new (checked_of c).parts files.new)) }
     ensures checked { IfOk result (λ c. IsChecked names.new (checked_of c)) }
     ensures some { IfOk result (λ _. 0 < length files.new) }
-    ensures broken { IfLoadFault result (λ fault. IfTold (S.files store.old) (λ f. Breaks names.new f path.now fault files.new)) }
+    ensures broken { IfLoadFault result (λ fault. IfTold (S.files store.old) (λ f. Breaks f path.now names.new fault files.new)) }
     ensures fault_lies { IfLoadFault result (λ fault. LiesIn fault.place files.new) }
     ensures fault_name { IfLoadFault result (λ fault. ForSome fault.name (λ name. name < length names.new)) }
-    ensures missing { IfNoFile result (λ missing. IfTold (S.files store.old) (λ f. IsMissing names.new f path.now (string_bytes missing))) }
-    ensures read_failed { IfReadFault result (λ failed. IfTold (S.files store.old) (λ f. IsNeeded names.new f path.now (string_bytes failed))) }
+    ensures missing { IfNoFile result (λ missing. IfTold (S.files store.old) (λ f. IsMissing f path.now (string_bytes missing))) }
+    ensures read_failed { IfReadFault result (λ failed. IfTold (S.files store.old) (λ f. IsNeeded f path.now (string_bytes failed))) }
     ensures read_fault { IfReadFault result (λ _. Rose (S.read_faults store.old) (S.read_faults store.new)) }
 {
     match load(alloc, names, files, store, path) {

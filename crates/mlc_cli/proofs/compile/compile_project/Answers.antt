@@ -6,11 +6,11 @@ use Rattle.mlc_cli.proofs.Compiling.{first-byte, refused-project}
 use Rattle.mlc_cli.proofs.compile.compile_project.Goals as goal
 
 pub returns-in-NoFile-clause-exit : goal.returns-in-NoFile-clause-exit
-returns-in-NoFile-clause-exit g c = (c.in-Err.ensures.files_same, (c.check_project.new.names, rw c.in-NoFile.is at c.in-Err.ensures.missing))
+returns-in-NoFile-clause-exit g c = (c.in-Err.ensures.files_same, rw c.in-NoFile.is at c.in-Err.ensures.missing)
 
 pub returns-in-ReadFault-clause-exit : goal.returns-in-ReadFault-clause-exit
 returns-in-ReadFault-clause-exit g c =
-    (c.in-Err.ensures.files_same, (c.check_project.new.names, rw c.in-ReadFault.is at c.in-Err.ensures.read_failed), rw c.in-ReadFault.is at c.in-Err.ensures.read_fault)
+    (c.in-Err.ensures.files_same, rw c.in-ReadFault.is at c.in-Err.ensures.read_failed, rw c.in-ReadFault.is at c.in-Err.ensures.read_fault)
 
 pub refusal_line-requires-in-Fault-refused-clause-place : goal.refusal_line-requires-in-Fault-refused-clause-place
 refusal_line-requires-in-Fault-refused-clause-place g c =
@@ -26,7 +26,7 @@ pub returns-clause-compiled : goal.returns-clause-compiled
 returns-clause-compiled g c =
     let compiled = c.in-Ok-compile.ensures in
     record {
-      texts = c.check_project.new.names;
+      names = c.check_project.new.names;
       parts = (checked_of c.in-Ok.checked).parts;
       reads = c.check_project.new.files;
       is_project = c.in-Ok.ensures.project;

@@ -9,7 +9,7 @@ use Rattle.mlc_driver.proofs.Drives.{loading-breaks, parts-break, stops-placed}
 use Rattle.mlc_driver.proofs.driver.check_project.Goals as goal
 
 pub returns-in-Err-clause-broken : goal.returns-in-Err-clause-broken
-returns-in-Err-clause-broken g c = loading-breaks Project Checked _ _ _ _ c.in-Err.refused c.in-Err.ensures.broken
+returns-in-Err-clause-broken g c = loading-breaks Project Checked _ _ _ _ c.in-Err.refused c.in-Err.ensures.broken c.in-Err.ensures.fault_unnamed
 
 pub returns-in-Err-Fault-clause-broken : goal.returns-in-Err-Fault-clause-broken
 returns-in-Err-Fault-clause-broken g c =
