@@ -1,8 +1,8 @@
 // An image of each kind of operation that needs no text.
 
-use crate::emit::emit;
-use crate::tape::Op;
 use mlc_base::place::Place;
+use mlc_driver::emit::emit;
+use mlc_driver::tape::Op;
 use mlc_prims::prim::Primitive;
 use std::test::Fail;
 
