@@ -10,5 +10,3 @@ pub mod path;
 pub mod project;
 pub mod refused;
 mod source;
-#[cfg(test)]
-mod tests;

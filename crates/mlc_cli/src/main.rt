@@ -1,20 +1,9 @@
-// The program mlc: it compiles a project of Standard ML to an image of a word machine, and runs it.
+// The program mlc.
 #![tactic(auto)]
 
-mod command;
-mod compile;
-mod exec;
-mod exit;
-mod file_store;
-mod program;
-mod say;
-mod standard;
-#[cfg(test)]
-mod tests;
-
-use crate::file_store::FileStore;
-use crate::program::mlc_main;
-use crate::standard::Stream;
+use mlc_program::file_store::FileStore;
+use mlc_program::program::mlc_main;
+use mlc_program::standard::Stream;
 use std::env;
 use std::process::ExitCode;
 

@@ -4,15 +4,11 @@
 mod check;
 pub mod checked;
 pub mod driver;
-mod emit;
-#[cfg(test)]
-mod emit_tests;
+pub mod emit;
 mod image_law;
-mod order;
+pub mod order;
 mod parts;
-mod phrase;
+pub mod phrase;
 mod statics;
-mod survey;
+pub mod survey;
 pub mod tape;
-#[cfg(test)]
-mod tests;

@@ -1,6 +1,7 @@
 -- What holds of every project.
-use Rattle.std.specs.Prelude.{◌≡◌, ◌≢◌, ◌↔◌, ℕ, ◌≤◌, List, ◌++◌, AllPairs, Some, None, slice_get}
-use Rattle.mlc_base.specs.Outcome.{Outcome, wrong, going}
+use Rattle.std.specs.Prelude.{◌≡◌, ◌≢◌, ◌↔◌, ℕ, ◌≤◌, List, AllPairs, Some, None, slice_get}
+pub use Rattle.mlc_base.specs.MoreTurns.{IsPrefix, GrowsTo}
+use Rattle.mlc_base.specs.Outcome.{wrong}
 use Rattle.mlc_base.specs.declared.fault.Fault.{Fault}
 use Rattle.sml_rules.specs.Project.{Part}
 use Rattle.sml_rules.specs.Basis.{identifier_of}
@@ -24,15 +25,7 @@ abbrev pub NeverWrong : Type 0
 NeverWrong = (texts : List (List ℕ)) (parts : List Part) (m : ℕ) → first_foreign (parts_phrases parts) ≡ None →
     Elaborates texts parts → (meaning texts parts m).end ≢ wrong
 
--- a is a prefix of b
-abbrev pub IsPrefix : List ℕ → List ℕ → Type 0
-IsPrefix a b = (rest : List ℕ) × (b ≡ a ++ rest)
-
--- with more turns the output goes on from what it was, and an end other than going stays, with its output
-pub record GrowsTo (few many : Outcome) : Type 0 where
-  pub output : IsPrefix few.output many.output
-  pub end : few.end ≢ going → (many.end ≡ few.end) × (many.output ≡ few.output)
-
+-- with more turns the output goes on from what it was, and an end other than going stays
 abbrev pub MeaningGrows : Type 0
 MeaningGrows = (texts : List (List ℕ)) (parts : List Part) (m n : ℕ) → m ≤ n → GrowsTo (meaning texts parts m) (meaning texts parts n)
 

@@ -12,4 +12,3 @@ pub mod Phrases
 pub mod Derived
 pub mod Bare
 pub mod TreeOf
-pub mod StandsFor

@@ -1,75 +1,19 @@
-// The derived forms.
+// The derived forms: one function a row of the table that needs more than one node.
 
 ghost use Rattle.std.specs.Prelude.{◌≡◌, ◌∷◌, [], map, true, IfOk};
 ghost use Rattle.sml_tree.specs.Derived.{fresh_exp, fresh_pat, unit, tuple_pat, select, case_of, if_of};
 ghost use Rattle.sml_tree.specs.Derived.{and_of, or_of, sequence_of, let_of, while_of, with_result, pun};
 ghost use Rattle.sml_tree.specs.BareTree as bare;
 ghost use Rattle.sml_tree.specs.TreeOf.{exp_of, pat_of, ty_of, dec_of, rule_of, rules_of, decs_of, some_ty_of};
-ghost use Rattle.sml_tree.specs.StandsFor.{phrase_of, stands_for};
 
 use crate::ident::{BuiltIn, LongVid, Vid};
-use crate::tree::{
-    Bind, DataBind, Dec, Exp, Function, Pat, PatField, Rule, Ty, TypeBind, TyvarSeq,
-};
+use crate::tree::{Bind, Dec, Exp, Pat, PatField, Rule, Ty, TyvarSeq};
 use mlc_base::label::Label;
 use mlc_base::make::{both, boxed, one, two, with};
 use mlc_base::memory::NoMemory;
 use mlc_base::names::Name;
 use mlc_base::place::Place;
 use std::alloc::Global;
-
-/// A derived form of the core language, with the place of its first byte.
-#[derive(Drop)]
-pub enum Derived {
-    /// `()`
-    Unit(Place),
-    UnitPat(Place),
-    /// `(e1, .., en)`
-    Tuple(Place, Vec<Exp>),
-    TuplePat(Place, Vec<Pat>),
-    /// `t1 * .. * tn`
-    Product(Place, Vec<Ty>),
-    /// `#lab`
-    Selector(Place, Label),
-    /// `case e of m`
-    Case(Place, Exp, Vec<Rule>),
-    /// `if a then b else c`
-    If(Place, Exp, Exp, Exp),
-    /// `a andalso b`
-    AndAlso(Place, Exp, Exp),
-    /// `a orelse b`
-    OrElse(Place, Exp, Exp),
-    /// `(e1; ..; en)`, the first apart.
-    Sequence(Place, Exp, Vec<Exp>),
-    /// `let d in e1; ..; en end`, the first expression apart.
-    Let(Place, Vec<Dec>, Exp, Vec<Exp>),
-    /// `while a do b`
-    While(Place, Exp, Exp),
-    /// `[e1, .., en]`
-    List(Place, Vec<Exp>),
-    ListPat(Place, Vec<Pat>),
-    /// `fun tyvarseq f p1 .. pn = e | .. and ..`
-    Fun(Place, TyvarSeq, Vec<Function>),
-    /// The right side of `[: t] = e`, with the place of `e`.
-    Result(Place, Exp, Option<Ty>),
-    /// The field `x [: t]`
-    Field(Place, Name, Option<Ty>),
-    /// The field `x [: t] as p`
-    FieldAs(Place, Name, Option<Ty>, Pat),
-    /// `datatype d withtype b`
-    Withtype(Place, Vec<DataBind>, Vec<TypeBind>),
-}
-
-/// A phrase of a bare tree.
-#[derive(Drop)]
-pub enum Tree {
-    Exp(Exp),
-    Pat(Pat),
-    Ty(Ty),
-    Dec(Dec),
-    /// A field of a record pattern.
-    Field(Label, Pat),
-}
 
 /// The fresh variable of this number.
 fn fresh(alloc: Global, place: Place, number: u32) -> Exp
@@ -342,41 +286,5 @@ pub fn field_as(
     match with(ty, boxed(alloc, pat)) {
         Ok((ty, pat)) => Ok(Pat::As(place, Vid::Named(name), ty, pat)),
         Err(e) => Err(e),
-    }
-}
-
-/// What a derived form stands for.
-pub fn derive(alloc: Global, form: Derived) -> Result<Tree, NoMemory>
-    ensures { IfOk result (λ tree. phrase_of tree ≡ stands_for form) }
-{
-    match form {
-        Derived::Unit(place) => Ok(Tree::Exp(unit(alloc, place))),
-        Derived::UnitPat(place) => Ok(Tree::Pat(Pat::Tuple(place, Vec::new(alloc)))),
-        Derived::Tuple(place, exps) => Ok(Tree::Exp(Exp::Tuple(place, exps))),
-        Derived::TuplePat(place, pats) => Ok(Tree::Pat(Pat::Tuple(place, pats))),
-        Derived::Product(place, types) => Ok(Tree::Ty(Ty::Product(place, types))),
-        Derived::Selector(place, label) => Ok(Tree::Exp(selector(alloc, place, label)?)),
-        Derived::Case(place, e, rules) => Ok(Tree::Exp(case(alloc, place, e, rules)?)),
-        Derived::If(place, a, b, c) => Ok(Tree::Exp(conditional(alloc, place, a, b, c)?)),
-        Derived::AndAlso(place, a, b) => Ok(Tree::Exp(conjunction(alloc, place, a, b)?)),
-        Derived::OrElse(place, a, b) => Ok(Tree::Exp(disjunction(alloc, place, a, b)?)),
-        Derived::Sequence(place, e, es) => Ok(Tree::Exp(sequence(alloc, place, e, es)?)),
-        Derived::Let(place, ds, e, es) => Ok(Tree::Exp(let_in(alloc, place, ds, e, es)?)),
-        Derived::While(place, a, b) => Ok(Tree::Exp(while_loop(alloc, place, a, b)?)),
-        Derived::List(place, exps) => Ok(Tree::Exp(Exp::List(place, exps))),
-        Derived::ListPat(place, pats) => Ok(Tree::Pat(Pat::List(place, pats))),
-        Derived::Fun(place, tyvars, functions) => Ok(Tree::Dec(Dec::Fun(place, tyvars, functions))),
-        Derived::Result(place, e, ty) => Ok(Tree::Exp(with_result(alloc, place, e, ty)?)),
-        Derived::Field(place, name, ty) => Ok(Tree::Field(
-            Label::Word(name),
-            field(alloc, place, name, ty)?,
-        )),
-        Derived::FieldAs(place, name, ty, pat) => Ok(Tree::Field(
-            Label::Word(name),
-            field_as(alloc, place, name, ty, pat)?,
-        )),
-        Derived::Withtype(place, datatypes, binds) => {
-            Ok(Tree::Dec(Dec::Withtype(place, datatypes, binds)))
-        }
     }
 }

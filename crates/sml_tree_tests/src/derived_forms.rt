@@ -3,7 +3,7 @@
 use mlc_base::label::Label;
 use mlc_base::memory::NoMemory;
 use mlc_base::place::Place;
-use sml_tree::derive::{Derived, Tree, conditional, derive};
+use sml_tree::derive::{conditional, disjunction, selector, while_loop};
 use sml_tree::ident::Constant;
 use sml_tree::tree::{Exp, Rule};
 use std::alloc::Global;
@@ -59,43 +59,45 @@ fn a_conditional_is_derived(rt: HostRuntime) -> Result<(), Fail> {
     Ok(())
 }
 
-fn is_exp(tree: &Tree) -> bool {
-    match tree {
-        Tree::Exp(_) => true,
+// The number of operands of an application.
+fn operands(exp: &Exp) -> usize {
+    match exp {
+        Exp::Apply(_, _, arguments) => arguments.len(),
+        _ => 0,
+    }
+}
+
+fn is_let(exp: &Exp) -> bool {
+    match exp {
+        Exp::Let(_, _, _) => true,
         _ => false,
     }
 }
 
-// Whether a form is derived, as an expression.
-fn gives_exp(alloc: Global, form: Derived) -> Result<bool, NoMemory> {
-    let tree = derive(alloc, form)?;
-    Ok(is_exp(&tree))
+fn is_function(exp: &Exp) -> bool {
+    match exp {
+        Exp::Fn(_, _) => true,
+        _ => false,
+    }
 }
 
 #[test]
 fn a_loop_is_derived(rt: HostRuntime) -> Result<(), Fail> {
-    let form = Derived::While(place(0), number(6, 0), number(11, 1));
-    assert!(rt; gives_exp(rt.alloc(), form)?);
+    let exp = while_loop(rt.alloc(), place(0), number(6, 0), number(11, 1))?;
+    assert!(rt; is_let(&exp));
     Ok(())
 }
 
 #[test]
 fn a_selector_is_derived(rt: HostRuntime) -> Result<(), Fail> {
-    let form = Derived::Selector(place(0), Label::Number(1));
-    assert!(rt; gives_exp(rt.alloc(), form)?);
-    Ok(())
-}
-
-#[test]
-fn a_conjunction_is_derived(rt: HostRuntime) -> Result<(), Fail> {
-    let form = Derived::AndAlso(place(0), number(0, 1), number(10, 2));
-    assert!(rt; gives_exp(rt.alloc(), form)?);
+    let exp = selector(rt.alloc(), place(0), Label::Number(1))?;
+    assert!(rt; is_function(&exp));
     Ok(())
 }
 
 #[test]
 fn a_disjunction_is_derived(rt: HostRuntime) -> Result<(), Fail> {
-    let form = Derived::OrElse(place(0), number(0, 1), number(9, 2));
-    assert!(rt; gives_exp(rt.alloc(), form)?);
+    let exp = disjunction(rt.alloc(), place(0), number(0, 1), number(9, 2))?;
+    assert_eq!(rt; operands(&exp), 1);
     Ok(())
 }

@@ -1,0 +1,44 @@
+-- The exits of a command.
+use Rattle.std.proofs.Common.{◌≡◌, inl, inr, refl}
+use Rattle.mlc_outside.specs.Store.{with_file}
+use Rattle.ir_code.specs.ImageBytes.{image_bytes}
+use Rattle.ir_code.specs.Program.{Program}
+use Rattle.mlc_program.specs.Command.{Command}
+use Rattle.mlc_program.specs.Exits.{Unbuilt, Exited}
+use Rattle.mlc_program.specs.Outside.{Disk, Stream}
+use Rattle.mlc_program.specs.Running.{Runs}
+use Rattle.mlc_program.specs.Statuses.{Compiles, Built}
+use Rattle.mlc_program.specs.declared.exit.Exit.{Exit}
+use Rattle.mlc_program.specs.declared.exit.Exit.TheVariants.{Ended, Uncaught, StepLimit, OutOfHeap, OutOfStack, Refused, Missing, ReadFailed, StoreFailed, OutFailed, NoMemory}
+
+-- of a run, once the image is in its file
+module _ (old new : Disk) (out out' : Stream) (c : Command) (image : Program) (compiles : Compiles old.files c image) (holds : new.files ≡ with_file old.files c.output (image_bytes image)) where
+  abbrev built : Built old.files new.files c
+  built = record { image = image; compiles = compiles; holds = holds }
+
+  pub run-exit : (e : Exit) → Runs e c image out out' → Exited e old new out out' c
+  run-exit Ended r = record { built = built; output = r.0; ends = r.1 }
+  run-exit (Uncaught vm) r = record { built = built; output = r.0; ends = r.1 }
+  run-exit StepLimit r = record { built = built; output = r.0; ends = r.1 }
+  run-exit OutOfHeap r = record { built = built; output = r.0; ends = r.1 }
+  run-exit OutOfStack r = record { built = built; output = r.0; ends = r.1 }
+  run-exit (Refused line) r = absurd r
+  run-exit (Missing path) r = absurd r
+  run-exit (ReadFailed path) r = absurd r
+  run-exit StoreFailed r = absurd r
+  run-exit OutFailed r = record { built = built; rose = r.rose; sent = r.sent; part = r.part; output = r.output }
+  run-exit NoMemory r = (inr built, r)
+
+-- before that: nothing was sent to out
+pub unbuilt-exit : (old new : Disk) (out : Stream) (c : Command) (e : Exit) → Unbuilt e old new c → Exited e old new out out c
+unbuilt-exit old new out c Ended h = absurd h
+unbuilt-exit old new out c (Uncaught vm) h = absurd h
+unbuilt-exit old new out c StepLimit h = absurd h
+unbuilt-exit old new out c OutOfHeap h = absurd h
+unbuilt-exit old new out c OutOfStack h = absurd h
+unbuilt-exit old new out c (Refused line) h = (h, (refl, refl))
+unbuilt-exit old new out c (Missing path) h = (h, (refl, refl))
+unbuilt-exit old new out c (ReadFailed path) h = (h, (refl, refl))
+unbuilt-exit old new out c StoreFailed h = (h, (refl, refl))
+unbuilt-exit old new out c OutFailed h = absurd h
+unbuilt-exit old new out c NoMemory h = (inl h, (refl, refl))

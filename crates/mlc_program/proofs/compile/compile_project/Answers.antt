@@ -1,0 +1,37 @@
+use Rattle.std.proofs.Common.{ap, subst, sym}
+use Rattle.mlc_base.specs.Files.{LiesIn}
+use Rattle.mlc_driver.specs.CheckedOf.{checked_of}
+use Rattle.mlc_program.specs.CommandOf.{command_of}
+use Rattle.mlc_program.proofs.Compiling.{first-byte, refused-project}
+use Rattle.mlc_program.proofs.compile.compile_project.Goals as goal
+
+pub returns-in-NoFile-clause-exit : goal.returns-in-NoFile-clause-exit
+returns-in-NoFile-clause-exit g c = (c.in-Err.ensures.files_same, rw c.in-NoFile.is at c.in-Err.ensures.missing)
+
+pub returns-in-ReadFault-clause-exit : goal.returns-in-ReadFault-clause-exit
+returns-in-ReadFault-clause-exit g c =
+    (c.in-Err.ensures.files_same, rw c.in-ReadFault.is at c.in-Err.ensures.read_failed, rw c.in-ReadFault.is at c.in-Err.ensures.read_fault)
+
+pub refusal_line-requires-in-Fault-refused-clause-place : goal.refusal_line-requires-in-Fault-refused-clause-place
+refusal_line-requires-in-Fault-refused-clause-place g c =
+    let is = rw c.in-Fault-refused.is at c.in-Err-compile.ensures.fault_is in
+    subst (λ p. LiesIn p c.check_project.new.files) (sym (ap (λ f. f.place) is)) (first-byte c.check_project.new.files c.in-Ok.ensures.some)
+
+pub returns-in-Fault-refused-clause-exit : goal.returns-in-Fault-refused-clause-exit
+returns-in-Fault-refused-clause-exit g c =
+    let refused = rw c.in-Fault-refused.is at c.in-Err-compile.ensures.refused in
+    (c.in-Ok.ensures.files_same, refused-project _ (command_of c.args.command.now) _ _ _ _ _ c.in-Ok.ensures.project refused c.in_ok-line-in-Fault-refused.ensures)
+
+pub returns-clause-compiled : goal.returns-clause-compiled
+returns-clause-compiled g c =
+    let compiled = c.in-Ok-compile.ensures in
+    record {
+      names = c.check_project.new.names;
+      parts = (checked_of c.in-Ok.checked).parts;
+      reads = c.check_project.new.files;
+      is_project = c.in-Ok.ensures.project;
+      accepted = compiled.accepted;
+      is_program = compiled.program;
+      same = compiled.same;
+      small = compiled.size;
+    }

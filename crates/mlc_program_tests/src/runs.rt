@@ -1,0 +1,107 @@
+// Programs that run.
+
+use crate::calls::{NOTHING, Row, check, check_all, good};
+use std::test::Fail;
+
+// Sources, and what they print.
+const SOURCES: [(&str, &str); 13] = [
+    ("val () = print \"hello\\n\"", "hello\n"),
+    ("val () = print \"a\\n\\t\\\"\\\\z\"", "a\n\t\"\\z"),
+    ("val()=print\"a\"val () = print \"b\"\n", "ab"),
+    ("\r\n val\t( )\x0c= print \"\" ", ""),
+    ("val x = 1", ""),
+    ("val () = print \"a\\065\"", "aA"),
+    ("val () = print \"a\";", "a"),
+    ("val () = (* a *) print \"a\"", "a"),
+    ("val p = print val () = p (\"a\" ^ \"b\")", "ab"),
+    ("val () = print \"a\\065\\u0042\\ \\c\\^J\"", "aABc\n"),
+    ("val x = 2147483646 + 1 val y = ~2147483647 - 1", ""),
+    ("val _ = print \"a\" val x = print \"b\"", "ab"),
+    ("val print = \"a\" val x = (print) ^ print", ""),
+];
+
+#[test]
+fn sources_run(rt: HostRuntime) -> Result<(), Fail> {
+    for (sml, out) in SOURCES.iter() {
+        check(&rt, rt.alloc(), &good(sml, out))?;
+    }
+    Ok(())
+}
+
+const PROJECTS: [Row; 7] = [
+    Row {
+        words: "exec dir/q.mlb p.mlx 1024 256 +9",
+        out: "q",
+        ..NOTHING
+    },
+    Row {
+        words: "exec empty.mlb p.mlx 1024 256 18446744073709551615",
+        ..NOTHING
+    },
+    Row {
+        words: "exec two.mlb p.mlx 1024 256 1000",
+        out: "hello, world\n",
+        ..NOTHING
+    },
+    Row { mlb: "", ..NOTHING },
+    Row {
+        mlb: "$(SML_LIB)/basis/basis.mlb",
+        ..NOTHING
+    },
+    Row {
+        mlb: "$(SML_LIB)/basis/basis.mlb c.sml c.sml",
+        out: "cc",
+        ..NOTHING
+    },
+    Row {
+        mlb: "$(SML_LIB)/basis/basis.mlb x/../c.sml ./p.sml",
+        sml: "val () = print \"p\"",
+        out: "cp",
+        ..NOTHING
+    },
+];
+
+#[test]
+fn projects_run(rt: HostRuntime) -> Result<(), Fail> {
+    check_all(&rt, rt.alloc(), &PROJECTS)?;
+    Ok(())
+}
+
+const LARGEST: Row = Row {
+    words: "exec dir/r.mlb p.mlx 268435456 16777216 9",
+    out: "r",
+    ..NOTHING
+};
+
+#[test]
+fn the_largest_machine_runs(rt: HostRuntime) -> Result<(), Fail> {
+    check(&rt, rt.alloc(), &LARGEST)?;
+    Ok(())
+}
+
+// The programs of examples/ that are not in other rows.
+const EXAMPLES: [Row; 2] = [
+    Row {
+        sml: "val largest = 2147483647\n\
+            val () = print \"the largest int is 2147483647\\n\"\n\
+            val next = largest + 1\n\
+            val () = print \"this is not reached\\n\"\n",
+        status: 1,
+        out: "the largest int is 2147483647\n",
+        err: "unhandled exception: Overflow\n",
+        ..NOTHING
+    },
+    Row {
+        sml: "val say = print\n\
+            val greeting = \"hello, \" ^ \"again\"\n\
+            val () = say (greeting ^ \"\\n\")\n",
+        out: "hello, again\n",
+        ..NOTHING
+    },
+];
+
+#[test]
+fn examples_run(rt: HostRuntime) -> Result<(), Fail> {
+    check_all(&rt, rt.alloc(), &EXAMPLES)?;
+    Ok(())
+}
