@@ -1,12 +1,12 @@
 -- The directives that are kept, before and after one more.
-use Rattle.std.proofs.Common.{◌≡◌, ℕ, zero, suc, ◌+◌, ◌-◌, ◌*◌, ◌≤◌, ◌<◌, List, [], ◌∷◌, ◌++◌, length, take, drop, map, inl, inr, reverse, Bool, true, false, Option, Some, None, nat_eq, if◌then◌else◌, refl, sym, ap, ◌∙◌, arith}
+use Rattle.std.proofs.Common.{◌≡◌, ℕ, zero, suc, ◌+◌, ◌-◌, ◌≤◌, ◌<◌, List, [], ◌∷◌, ◌++◌, length, take, drop, map, inl, inr, Bool, true, false, Option, Some, None, nat_eq, if◌then◌else◌, refl, sym, ap, ◌∙◌, arith}
 use Rattle.std.proofs.Math.Seq.{take-suc}
 use Rattle.std.proofs.lemmas.List.{reverse-append, map-append, take_all}
 use Rattle.std.proofs.lemmas.Bool.Decides.{eqb_tells, nat_tests}
 use Rattle.std.specs.Prelude.{get_or}
 use Rattle.sml_tree.specs.Fixity.{Fixity, fix_of, is_vid, directives_for}
 use Rattle.sml_tree.specs.Trie.{Trie, kept, nothing}
-use Rattle.sml_tree.specs.Kept.{before, newest_first, status_of, Agrees}
+use Rattle.sml_tree.specs.Kept.{newest_first, status_of, Agrees}
 use Rattle.sml_tree.specs.VidNumber.{vid_number}
 use Rattle.sml_tree.specs.declared.fixity.Directive.{Directive}
 use Rattle.sml_tree.specs.declared.fixity.Infix.{Infix}

@@ -1,13 +1,9 @@
 -- Walks over small trees.
-use Rattle.std.proofs.Common.{◌≡◌, ℕ, List, [], ◌∷◌, Bool, true, false, Option, Some, None, refl}
+use Rattle.std.proofs.Common.{◌≡◌, ℕ, [], ◌∷◌, Bool, true, false, Some, refl}
 use Rattle.mlc_base.specs.declared.place.Place.{Place}
 use Rattle.sml_tree.specs.declared.ident.Tyvar.{Tyvar}
-use Rattle.sml_tree.specs.declared.ident.Vid.{Vid}
 use Rattle.sml_tree.specs.declared.ident.Vid.TheVariants.{Named}
-use Rattle.sml_tree.specs.Terminal.{int}
-use Rattle.std.specs.Prelude.{pos}
-use Rattle.sml_tree.specs.BareTree.{Ty, var, con, no_tys, ty, Pat, vid_pat, typed_pat, Exp, constant_exp, vid_exp, app, typed, let_in, Dec, val_dec, datatype_dec, exception_dec, new_exn, no_binds, bind, no_decs, dec}
-use Rattle.sml_tree.specs.BareTree as bare
+use Rattle.sml_tree.specs.BareTree.{var, Pat, vid_pat, typed_pat, Exp, vid_exp, app, typed, let_in, Dec, val_dec, datatype_dec, exception_dec, new_exn, no_binds, bind, no_decs, dec}
 use Rattle.sml_tree.specs.Phrases as phrases
 use Rattle.sml_tree.specs.Phrases.{Phrase, parts, never, has_scope, inside_until, unguarded, count, TyvarAt}
 

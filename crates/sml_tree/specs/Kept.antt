@@ -1,6 +1,6 @@
 -- The directives that two tries keep: by age, the oldest at 1, and by identifier.
 use Rattle.std.specs.Prelude.{◌≡◌, ◌<◌, ◌≤◌, ℕ, zero, suc, List, [], ◌∷◌, Option, Some, None}
-use Rattle.sml_tree.specs.Fixity.{Fixity, fix_of}
+use Rattle.sml_tree.specs.Fixity.{fix_of}
 use Rattle.sml_tree.specs.Trie.{Trie, kept}
 use Rattle.sml_tree.specs.VidNumber.{vid_number}
 use Rattle.sml_tree.specs.declared.fixity.Infix.{Infix}

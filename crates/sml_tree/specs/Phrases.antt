@@ -18,7 +18,8 @@ pub data Phrase : Type 0 where
   con_bind : ConBind → Phrase
   ex_bind : ExBind → Phrase
 
--- The immediate parts of a phrase, in the order of the text; an infix identifier comes before its operands, as the application has it.
+-- The immediate parts of a phrase, in the order of the bare tree. This is the order of the text, but where a derived form turns it round: an infix
+-- identifier comes before its operands, and the rules of a `case`, or the branches of an `if`, before the expression that they are tried on.
 
 abbrev pub some_ty : Option Ty → List Phrase
 some_ty None = []

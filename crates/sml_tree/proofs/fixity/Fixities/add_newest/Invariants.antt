@@ -1,4 +1,4 @@
-use Rattle.std.proofs.Common.{◌≡◌, ◌++◌, ◌-◌, ◌≤◌, length, take, drop}
+use Rattle.std.proofs.Common.{◌≡◌, ◌++◌, ◌-◌, length, take, drop}
 use Rattle.sml_tree.proofs.fixity.Fixities.add_newest.Given as goal
 
 abbrev pub invariant-ages : goal.invariant-ages
