@@ -31,11 +31,11 @@ module _ (s : Source) (n : ℕ) (f : Fixity) (i m k : List Terminal) (y one : Re
   pub pair-from : (second : Option (Got Pat)) (r : Option Pair) → 2 ≤ n → read_atpat n f i ≡ ok y → after_word LeftParen i ≡ Some m → read_atpat (n - 2) f m ≡ ok one → pat_of first ≡ bare_pat s.file one.tree → infix_vid f one.rest ≡ taken x k →
       MatchOption second (NoPattern (read_atpat (n - 2) f k)) (λ (g : Got Pat). Gave (λ (z : Got Pat) (w : Read read_tree.Pat). IsPatAt s f 1000 (n - 2) k z.it z.depth z.rest.now w) g (read_atpat (n - 2) f k)) →
       MatchOption second (r ≡ None) (λ (g : Got Pat). MatchOption (after_word RightParen (left s g.rest.now)) (r ≡ None) (λ (o : List Terminal). r ≡ Some (record { left = first; vid_place = vp; vid = x.it; right = g.it }))) → Found r
-  pair-from None r two h open is bare joint no e = subst Found (sym e) (none-right n f i y h m open one is x k joint no)
-  pair-from (Some g) r two h open is bare joint by e = go (after_word RightParen (left s g.rest.now)) refl e
+  pair-from None r two h opens is bare joint no e = subst Found (sym e) (none-right n f i y h m opens one is x k joint no)
+  pair-from (Some g) r two h opens is bare joint by e = go (after_word RightParen (left s g.rest.now)) refl e
     where
       go : (v : Option (List Terminal)) → after_word RightParen (left s g.rest.now) ≡ v → MatchOption v (r ≡ None) (λ (o : List Terminal). r ≡ Some (record { left = first; vid_place = vp; vid = x.it; right = g.it })) → Found r
-      go None q e = subst Found (sym e) (none-close n f i y h m open one is x k joint by.got by.is (subst (λ (z : List Terminal). after_word RightParen z ≡ None) by.same.rest q))
+      go None q e = subst Found (sym e) (none-close n f i y h m opens one is x k joint by.got by.is (subst (λ (z : List Terminal). after_word RightParen z ≡ None) by.same.rest q))
       go (Some o) q e =
-          let w = again-some n f i m k o y one by.got x two h open is joint by.is (subst (λ (z : List Terminal). after_word RightParen z ≡ Some o) by.same.rest q) in
+          let w = again-some n f i m k o y one by.got x two h opens is joint by.is (subst (λ (z : List Terminal). after_word RightParen z ≡ Some o) by.same.rest q) in
           subst Found (sym e) (record { place = place_at i; left = one.tree; vid = x; right = by.got.tree }, w.is, record { left_is = bare; right_is = by.same.bare; vid_place = placed; vid = refl; place = refl; depth = w.depth })

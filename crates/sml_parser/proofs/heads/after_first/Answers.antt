@@ -13,12 +13,12 @@ returns-in-Some c =
     let f = c.args.fix.now in
     let k = left s c.in-Some.found.1.now in
     let x : Placed ℕ = record { place = place_at (left s c.args.first.rest.now); it = c.in-Some.found.0 } in
-    λ i m y one h open is same.
+    λ i m y one h opens is same.
     let joint : infix_vid f one.rest ≡ taken x k = subst (λ (z : List Terminal). infix_vid f z ≡ taken x k) same.rest c.in-Some.ensures in
-    pair-from s c.args.n f i m k y one x c.args.first.it c.place_at.result c.place_at.ensures c.in_ok-pat.field-0.1 c.paired.result c.requires.two h open is same.bare joint (rw c.in_ok-pat.ensures.second at c.maybe_atpat.ensures) (rw c.in_ok-pat.ensures.first at c.paired.ensures)
+    pair-from s c.args.n f i m k y one x c.args.first.it c.place_at.result c.place_at.ensures c.in_ok-pat.field-0.1 c.paired.result c.requires.two h opens is same.bare joint (rw c.in_ok-pat.ensures.second at c.maybe_atpat.ensures) (rw c.in_ok-pat.ensures.first at c.paired.ensures)
 
 pub returns-in-None : goal.returns-in-None
 returns-in-None c =
     let s = c.args.source.now in
     let f = c.args.fix.now in
-    λ i m y one h open is same. none-infix c.args.n f i y h m open one is (subst (λ (z : List Terminal). infix_vid f z ≡ None) same.rest c.in-None.ensures)
+    λ i m y one h opens is same. none-infix c.args.n f i y h m opens one is (subst (λ (z : List Terminal). infix_vid f z ≡ None) same.rest c.in-None.ensures)
