@@ -314,65 +314,55 @@ fn bracketed(
         return Ok(None)
     };
     match maybe_atpat(alloc, source, fix, n - 2, inner)? {
-        Some(first) => after_first(alloc, source, fix, n, first),
+        Some(first) => after_first(alloc, source, fix, n, first.it, first.rest),
         None => Ok(None),
     }
 }
 
 /// What is in the brackets, after its first atomic pattern.
-fn after_first<'a>(
+fn after_first(
     alloc: Global,
     source: &Source,
     fix: &Fixities,
     n: u32,
-    first: Got<'a, Pat>,
+    pat: Pat,
+    tokens: &[Token],
 ) -> Result<Option<Pair>, Stop>
     requires room { n < 1000 }
     requires two { 2 ≤ n }
-    ensures { (i m : List Terminal) (y one : Read read.Pat) → read_atpat n fix.now i ≡ ok y → after_word LeftParen i ≡ Some m → read_atpat (n - 2) fix.now m ≡ ok one → IsPatAt source.now fix.now 1000 (n - 2) m first.it first.depth first.rest.now one →
+    ensures { (i m : List Terminal) (y one : Read read.Pat) → read_atpat n fix.now i ≡ ok y → after_word LeftParen i ≡ Some m → read_atpat (n - 2) fix.now m ≡ ok one → pat_of pat ≡ bare_pat source.now.file one.tree → left source.now tokens.now ≡ one.rest →
         MatchResult result (λ found. MatchOption found (bracketed y.tree ≡ None) (λ pair. (b : Bracketed) × (bracketed y.tree ≡ Some b) × IsPair source.now pair i (depth_pat y.tree) b)) (λ e. e ≡ Memory) }
 {
-    let Got {
-        it: pat,
-        depth: _,
-        rest,
-    } = first;
-    match joint_at(source, fix, rest) {
+    match joint_at(source, fix, tokens) {
         Some(found) => {
-            let (pat, second) = with(pat, maybe_atpat(alloc, source, fix, n - 2, found.1))?;
-            Ok(paired(source, pat, place_at(source, rest), found.0, second))
+            let (first, second) = with(pat, maybe_atpat(alloc, source, fix, n - 2, found.1))?;
+            match second {
+                Some(got) => Ok(paired(source, first, place_at(source, tokens), found.0, got.it, got.rest)),
+                None => Ok(None),
+            }
         }
         None => Ok(None),
     }
 }
 
-/// The pair of a pattern and a second one, where that is there and a bracket closes it.
-fn paired<'a>(
+/// The pair of two patterns, where a bracket closes it.
+fn paired(
     source: &Source,
     first: Pat,
     vid_place: Place,
     vid: Name,
-    second: Option<Got<'a, Pat>>,
+    second: Pat,
+    tokens: &[Token],
 ) -> Option<Pair>
-    ensures { MatchOption second (result ≡ None) (λ g. MatchOption (after_word RightParen (left source.now g.rest.now)) (result ≡ None) (λ o. result ≡ Some (record { left = first; vid_place = vid_place; vid = vid; right = g.it }))) }
+    ensures { MatchOption (after_word RightParen (left source.now tokens.now)) (result ≡ None) (λ o. result ≡ Some (record { left = first; vid_place = vid_place; vid = vid; right = second })) }
 {
-    match second {
-        Some(second) => {
-            let Got {
-                it: right,
-                depth: _,
-                rest,
-            } = second;
-            match after_word(source, Reserved::RightParen, rest) {
-                Some(_) => Some(Pair {
-                    left: first,
-                    vid_place,
-                    vid,
-                    right,
-                }),
-                None => None,
-            }
-        }
+    match after_word(source, Reserved::RightParen, tokens) {
+        Some(_) => Some(Pair {
+            left: first,
+            vid_place,
+            vid,
+            right: second,
+        }),
         None => None,
     }
 }

@@ -14,7 +14,7 @@ returns-in-Some-first c =
     let i = left c.args.source.now c.args.tokens.now in
     let m = left c.args.source.now c.in-Some.inner.now in
     let one = rw c.in-Some-first.is at c.in_ok-maybe_atpat.ensures in
-    λ y h. c.after_first.ensures i m y one.got h c.in-Some.ensures one.is one.same
+    λ y h. c.after_first.ensures i m y one.got h c.in-Some.ensures one.is one.same.bare one.same.rest
 
 pub returns-in-None : goal.returns-in-None
 returns-in-None c =
