@@ -337,7 +337,14 @@ fn after_first(
         Some(found) => {
             let (first, second) = with(pat, maybe_atpat(alloc, source, fix, n - 2, found.1))?;
             match second {
-                Some(got) => Ok(paired(source, first, place_at(source, tokens), found.0, got.it, got.rest)),
+                Some(got) => Ok(paired(
+                    source,
+                    first,
+                    place_at(source, tokens),
+                    found.0,
+                    got.it,
+                    got.rest,
+                )),
                 None => Ok(None),
             }
         }

@@ -9,14 +9,14 @@ use Rattle.sml_parser.specs.Gives.{Fails}
 use Rattle.sml_parser.specs.Left.{left}
 use Rattle.sml_parser.specs.DeclarationsRead.{inner_decs, local_by, simple_by}
 use Rattle.sml_parser.proofs.TypeForms.{word-shorter}
-use Rattle.sml_parser.proofs.DecForms.{dec-by, dec-wider, IsOther, simple-is, local-at, tail-less, tail-shorter, val-done, local-done}
+use Rattle.sml_parser.proofs.DecForms.{dec-by, dec-wider, IsOther, simple-is, local-at, tail-less, tail-shorter, val-done, fun-done, local-done}
 use Rattle.sml_parser.proofs.DecLoops.{decs-start, decs-pass, decs-fails, decs-more, decs-last, funs-start, funs-fails, funs-more, funs-last}
 use Rattle.sml_parser.proofs.BindLoops.{binds-start, binds-rec, binds-fails-pat, binds-fails-exp, binds-more, binds-last}
 use Rattle.sml_parser.proofs.ClauseLoops.{first-is, clauses-start, clauses-fail-heading, clauses-fail-exp, clauses-more, clauses-last}
 use Rattle.sml_parser.proofs.+expressions.Goals as goal
 use Rattle.sml_parser.proofs.+expressions.Goals.{declarations::read_dec-in_default-via-in-Some+in_default, declarations::read_dec-in_default-via-in_default}
 use Rattle.sml_tree.specs.Bare.{at, exp_list, operands}
-use Rattle.sml_tree.specs.TreeOf.{exp_of, exp_field_of, rule_of, part_of, pat_of}
+use Rattle.sml_tree.specs.TreeOf.{exp_of, exp_field_of, rule_of, part_of, pat_of, function_of}
 use Rattle.sml_parser.proofs.Loop.{fails-then, fails-by, fails-bad, fails-deep}
 use Rattle.sml_parser.proofs.ExpSteps.{after-ok, exp-one, exp-zero, atom-one, atom-next, atom-zero, keyword-low, keyword-goes, exp-goes}
 use Rattle.sml_parser.proofs.ExpSeeking.{seek-start, seek-none, seek-low, seek-bad, seek-deep, seek-fails, seek-more}
@@ -92,6 +92,18 @@ declarations::read_dec-returns-in_ok-vars-in-Some-Val t c =
     (rw c.tail-inner.ensures at a.is) (rw c.tail-inner.ensures at a.same) b.is b.same (rw (c.in_ok-vars-in-Some-Val.ensures.first, c.tyvar_seq-seq.ensures.tyvars, c.tyvar_seq-seq.ensures.place (place_at i) c.place_at-place.ensures, c.place_at-place.ensures, c.tail-inner.ensures) at c.val.ensures) in
     record { gives = record { got = g.got; is = g.is; same = record { rest = g.same.rest; same = g.same.same; deep = g.same.deep; fits = g.same.fits; shorter = g.same.shorter; force = g.same.force } } }
 
+pub declarations::read_dec-returns-in_ok-vars-in-Some-Fun : goal.declarations::read_dec-returns-in_ok-vars-in-Some-Fun
+declarations::read_dec-returns-in_ok-vars-in-Some-Fun t c =
+    let s = c.args.source.now in
+    let i = left s c.args.tokens.now in
+    let w : word_at i ≡ Some res.Fun = sym c.word_at.ensures ∙ c.in-Some-Fun.is ∙ ap Some c.in-Some-Fun.field-0-is in
+    let a = c.in_ok-tyvars-in-Some-Fun.ensures.gives in
+    let b = rw c.in_ok-vars-in-Some-Fun.ensures.second at c.read_functions.ensures.gives in
+    let g = fun-done s c.args.n (readers c.args.n).exp (inner_decs c.args.n) c.args.fix.now i c.in_ok-tyvars-in-Some-Fun.field-0.it.items c.in_ok-tyvars-in-Some-Fun.field-0.depth c.in_ok-tyvars-in-Some-Fun.field-0.rest.now a.got
+    (map function_of c.in_ok-vars-in-Some-Fun.all.it.items) c.in_ok-vars-in-Some-Fun.all.depth c.in_ok-vars-in-Some-Fun.all.rest.now b.got c.functions.result w (rw c.tail-inner.ensures at a.is) (rw c.tail-inner.ensures at a.same) b.is b.same
+    (rw (c.in_ok-vars-in-Some-Fun.ensures.first, c.tyvar_seq-seq-in-Some-Fun.ensures.tyvars, c.tyvar_seq-seq-in-Some-Fun.ensures.place (place_at i) c.place_at-place.ensures, c.place_at-place.ensures, c.tail-inner.ensures) at c.functions.ensures) in
+    record { gives = record { got = g.got; is = g.is; same = record { rest = g.same.rest; same = g.same.same; deep = g.same.deep; fits = g.same.fits; shorter = g.same.shorter; force = g.same.force } } }
+
 pub declarations::read_dec-returns-else-n-eq0 : goal.declarations::read_dec-returns-else-n-eq0
 declarations::read_dec-returns-else-n-eq0 t c =
     let s = c.args.source.now in
@@ -129,7 +141,7 @@ declarations::read_local-returns t c =
           let l5 = ap (λ (z : List Terminal). length z) a.same.rest in let l6 = ap (λ (z : List Terminal). length z) b.same.rest in
           let g = local-done s c.args.n c.args.fix.now c.read_decs.new.fix p i c.in_ok-first.field-0.it.items c.in_ok-first.field-0.depth c.in_ok-first.field-0.rest.now a.got (rw c.in_ok-inner.ensures at a.is) (rw c.in_ok-inner.ensures at a.same)
           (left s c.in_ok-outer.inside.now) (rw c.in_ok-outer.ensures.second at c.past.ensures.word) c.read_decs-2.new.fix c.in_ok-start.second.it.items c.in_ok-start.second.depth c.in_ok-start.second.rest.now b.got b.is b.same
-          c.in_ok-both.rest.now c.local.result (c.max.result + 1) _ (rw c.in_ok-both.ensures.second at c.past-2.ensures.word) (omega arith) (rw (e, c.in_ok-decs.ensures.first, c.in_ok-both.ensures.first, c.in_ok-start.ensures.first, c.in_ok-outer.ensures.first) at c.local.ensures) (omega (arith, c.max.ensures)) (rw c.len-hidden.ensures at (rw c.in_ok-decs.ensures.second at c.add_newest.ensures)) in
+          c.in_ok-both.rest.now c.local.result (c.max-depth.result + 1) _ (rw c.in_ok-both.ensures.second at c.past-2.ensures.word) (omega arith) (rw (e, c.in_ok-decs.ensures.first, c.in_ok-both.ensures.first, c.in_ok-start.ensures.first, c.in_ok-outer.ensures.first) at c.local.ensures) (omega (arith, c.max-depth.ensures)) (rw c.len-hidden.ensures at (rw c.in_ok-decs.ensures.second at c.add_newest.ensures)) in
           let fit = g.same.fits in
           record { got = g.got; is = g.is; same = record { rest = g.same.rest; same = g.same.same; deep = g.same.deep; fits = omega arith; shorter = g.same.shorter; force = g.same.force } };
     }

@@ -9,11 +9,11 @@ returns-then-n-lt2 c = λ y h. none-two c.args.n c.args.fix.now (left c.args.sou
 pub returns-in_default : goal.returns-in_default
 returns-in_default c = λ y h. none-paren c.args.n c.args.fix.now (left c.args.source.now c.args.tokens.now) y h c.in_default.ensures
 
-pub returns-in-Some-first : goal.returns-in-Some-first
-returns-in-Some-first c =
+pub returns-in-Some-2 : goal.returns-in-Some-2
+returns-in-Some-2 c =
     let i = left c.args.source.now c.args.tokens.now in
     let m = left c.args.source.now c.in-Some.inner.now in
-    let one = rw c.in-Some-first.is at c.in_ok-maybe_atpat.ensures in
+    let one = rw c.in-Some-2.is at c.in_ok-first.ensures in
     λ y h. c.after_first.ensures i m y one.got h c.in-Some.ensures one.is one.same.bare one.same.rest
 
 pub returns-in-None : goal.returns-in-None
@@ -21,4 +21,4 @@ returns-in-None c =
     let s = c.args.source.now in
     let i = left s c.args.tokens.now in
     let m = left s c.in-Some.inner.now in
-    λ y h. none-left c.args.n c.args.fix.now i y h m c.in-Some.ensures (rw c.in-None.is at c.in_ok-maybe_atpat.ensures)
+    λ y h. none-left c.args.n c.args.fix.now i y h m c.in-Some.ensures (rw c.in-None.is at c.in_ok-first.ensures)

@@ -9,7 +9,7 @@ use Rattle.sml_tree.specs.TreeOf.{ty_of, ty_part_of, ty_field_of}
 use Rattle.sml_tree.specs.declared.tree.Ty.{Ty}
 use Rattle.sml_tree.specs.declared.tree.TyPart.{TyPart}
 use Rattle.sml_tree.specs.declared.tree.TyField.{TyField}
-use Rattle.sml_grammar.specs.Answer.{Read}
+use Rattle.sml_grammar.specs.Answer.{Read, ok}
 use Rattle.sml_grammar.specs.Terminals.{as_label, no_state}
 use Rattle.sml_grammar.specs.Types.{read_ty, arrow_rest, arrow_turn, ty_field_turn}
 use Rattle.sml_parser.specs.declared.got.Got.{Got}
@@ -167,7 +167,7 @@ pub types_after-returns-in_default : goal.types_after-returns-in_default
 types_after-returns-in_default t c =
     let s = c.args.source.now in
     let h = (rw c.in_ok-front.ensures.second at c.read_ty.ensures.gives) in
-    let g = tys-last s c.args.n c.args.separator (c.args.first ∷ []) c.args.depth c.types.all.items c.types.deepest (left s c.types.rest.now) _ c.in_ok-front.ty.it c.in_ok-front.ty.depth c.in_ok-front.ty.rest.now h.got {j = left s c.args.tokens.now} (rw c.separator_level.ensures at h.is) h.same c.in_default.ensures c.types.invariant.short c.types.invariant.going in
+    let g = tys-last s c.args.n c.args.separator (c.args.first ∷ []) c.args.depth c.types.all.items c.types.deepest (left s c.types.rest.now) _ c.in_ok-front.ty.it c.in_ok-front.ty.depth c.in_ok-front.ty.rest.now h.got {j = left s c.args.tokens.now} (subst (λ (k : ℕ). read_ty c.args.n k (left s c.types.rest.now) ≡ ok h.got) c.separator_level.ensures h.is) h.same c.in_default.ensures c.types.invariant.short c.types.invariant.going in
     record { gives = record { got = g.got; is = g.is; same = is_tys-at s c.args.n (left s c.args.tokens.now) _ c.max-deepest.result c.in_ok-front.ty.rest.now (c.args.first ∷ []) _ c.in_ok-all-2.all.items c.args.depth g.got (rw c.in_ok-front.ensures.first at c.in_ok-all-2.ensures) c.max-deepest.ensures g.same } }
 
 pub types_after-types-preserved : goal.types_after-types-preserved
@@ -178,7 +178,7 @@ types_after-types-preserved t c =
     let s4 = h.same.shorter in
     let s5 = ap (λ (z : List Terminal). length z) h.same.rest in
     let lt : length (left s c.in-Some.next.now) < length (left s c.types.rest.now) = omega arith in
-    let g = tys-more s c.args.n c.args.separator (c.args.first ∷ []) c.args.depth c.types.all.items c.types.deepest (left s c.types.rest.now) _ c.in_ok-front.ty.it c.in_ok-front.ty.depth c.in_ok-front.ty.rest.now h.got (rw c.separator_level.ensures at h.is) h.same c.in-Some.ensures lt c.types.invariant.going in
+    let g = tys-more s c.args.n c.args.separator (c.args.first ∷ []) c.args.depth c.types.all.items c.types.deepest (left s c.types.rest.now) _ c.in_ok-front.ty.it c.in_ok-front.ty.depth c.in_ok-front.ty.rest.now h.got (subst (λ (k : ℕ). read_ty c.args.n k (left s c.types.rest.now) ≡ ok h.got) c.separator_level.ensures h.is) h.same c.in-Some.ensures lt c.types.invariant.going in
     record {
       going = listing-at (separator_turn c.args.separator (read_ty c.args.n)) (ty_list s.file) depth_tys c.args.n (ty_of c.args.first ∷ []) c.args.depth (ap (map ty_of) (rw c.in_ok-front.ensures.first at c.in_ok-all-2.ensures)) c.max-deepest.ensures g;
       short = omega (arith, c.types.invariant.short);
