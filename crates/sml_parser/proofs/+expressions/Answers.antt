@@ -141,7 +141,7 @@ declarations::read_local-returns t c =
           let l5 = ap (λ (z : List Terminal). length z) a.same.rest in let l6 = ap (λ (z : List Terminal). length z) b.same.rest in
           let g = local-done s c.args.n c.args.fix.now c.read_decs.new.fix p i c.in_ok-first.field-0.it.items c.in_ok-first.field-0.depth c.in_ok-first.field-0.rest.now a.got (rw c.in_ok-inner.ensures at a.is) (rw c.in_ok-inner.ensures at a.same)
           (left s c.in_ok-outer.inside.now) (rw c.in_ok-outer.ensures.second at c.past.ensures.word) c.read_decs-2.new.fix c.in_ok-start.second.it.items c.in_ok-start.second.depth c.in_ok-start.second.rest.now b.got b.is b.same
-          c.in_ok-both.rest.now c.local.result (c.max-depth.result + 1) _ (rw c.in_ok-both.ensures.second at c.past-2.ensures.word) (omega arith) (rw (e, c.in_ok-decs.ensures.first, c.in_ok-both.ensures.first, c.in_ok-start.ensures.first, c.in_ok-outer.ensures.first) at c.local.ensures) (omega (arith, c.max-depth.ensures)) (rw c.len-hidden.ensures at (rw c.in_ok-decs.ensures.second at c.add_newest.ensures)) in
+          c.in_ok-both.rest.now c.local.result (c.max-depth.result + 1) _ (rw c.in_ok-both.ensures.second at c.past-2.ensures.word) (omega arith) (rw (e, c.in_ok-decs.ensures.first, c.in_ok-both.ensures.first, c.in_ok-start.ensures.first, c.in_ok-outer.ensures.first) at c.local.ensures) (omega (arith, c.max-depth.ensures)) (rw c.len-hidden.ensures at (rw c.in_ok-decs.ensures.second at c.add_newest.ensures.ok)) in
           let fit = g.same.fits in
           record { got = g.got; is = g.is; same = record { rest = g.same.rest; same = g.same.same; deep = g.same.deep; fits = omega arith; shorter = g.same.shorter; force = g.same.force } };
     }
