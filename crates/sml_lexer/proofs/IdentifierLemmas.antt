@@ -57,7 +57,7 @@ dot_within text at e =
     ]
 
 -- one structure identifier more
-pushed : (a b : List (List ℕ)) (qs : List ℕ) (name : ℕ) → Keeps a b → All (λ q. q < length a) qs → name < length a → map (text_of b) (qs ++ name ∷ []) ≡ map (text_of a) qs ++ text_of a name ∷ []
+pub pushed : (a b : List (List ℕ)) (qs : List ℕ) (name : ℕ) → Keeps a b → All (λ q. q < length a) qs → name < length a → map (text_of b) (qs ++ name ∷ []) ≡ map (text_of a) qs ++ text_of a name ∷ []
 pushed a b qs name k held h =
     let last = text_stays a b name k h in
     let others = texts_stay a b qs k held in

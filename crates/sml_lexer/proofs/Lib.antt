@@ -17,4 +17,5 @@ pub mod ReservedLemmas
 pub mod StringCut
 pub mod StringLemmas
 pub mod StringLonger
+pub mod TableLemmas
 pub mod TokenLemmas

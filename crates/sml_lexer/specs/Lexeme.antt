@@ -1,5 +1,5 @@
 -- What a token is, with the texts of its identifiers.
-use Rattle.std.specs.Prelude.{ℕ, ℤ, ◌<◌, Bool, List, [], length, map, slice_index_or, All}
+use Rattle.std.specs.Prelude.{ℕ, ℤ, ◌<◌, Bool, List, [], ◌∷◌, ◌++◌, length, map, slice_index_or, All}
 use Rattle.mlc_base.specs.declared.token.Reserved.{Reserved}
 use Rattle.mlc_base.specs.declared.token.TokenKind.{TokenKind}
 use Rattle.mlc_base.specs.declared.token.TokenKind.TheVariants as kind
@@ -43,3 +43,17 @@ HoldsNames names (kind.LongSymbol qualifiers name) = All (λ q. q < length names
 HoldsNames names (kind.TypeVar name) = name < length names
 HoldsNames names (kind.EqTypeVar name) = name < length names
 HoldsNames names _ = Unit {0}
+
+-- the identifiers of a token, as they are written
+abbrev pub words_in : Lexeme → List (List ℕ)
+words_in (ident name) = name ∷ []
+words_in (symbol name) = name ∷ []
+words_in (long_ident qualifiers name) = qualifiers ++ name ∷ []
+words_in (long_symbol qualifiers name) = qualifiers ++ name ∷ []
+words_in (type_var name) = name ∷ []
+words_in (eq_type_var name) = name ∷ []
+words_in (reserved r) = []
+words_in (int value plain) = []
+words_in (word w) = []
+words_in (char c) = []
+words_in (string s) = []

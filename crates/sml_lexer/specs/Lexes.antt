@@ -1,5 +1,7 @@
 -- The tokens of a text: section 2.5.
 use Rattle.std.specs.Prelude.{◌≡◌, ℕ, ◌-◌, ◌<◌, ◌≤◌, List, [], ◌∷◌, length, drop, All, None, Result, Ok, Err, ⊤}
+use Rattle.std.specs.List.{flat_map}
+use Rattle.mlc_base.specs.Names.{with_texts}
 use Rattle.mlc_base.specs.declared.fault.Fault as base
 use Rattle.mlc_base.specs.declared.refused.Refused.{Refused}
 use Rattle.mlc_base.specs.declared.refused.Refused.TheVariants as refusal
@@ -7,7 +9,7 @@ use Rattle.mlc_base.specs.declared.token.Token.{Token}
 use Rattle.mlc_base.specs.declared.token.Span.{Span}
 use Rattle.sml_lexer.specs.Item.{blank, found, refused}
 use Rattle.sml_lexer.specs.Items.{item_at}
-use Rattle.sml_lexer.specs.Lexeme.{Lexeme, lexeme_of, HoldsNames}
+use Rattle.sml_lexer.specs.Lexeme.{Lexeme, lexeme_of, HoldsNames, words_in}
 
 -- a token: what it is, and its span
 pub record Lexed : Type 0 where
@@ -60,3 +62,7 @@ abbrev pub IfFault : {T : Type 0} → Result T Refused → (base.Fault → Type 
 IfFault (Ok x) P = ⊤
 IfFault (Err (refusal.Fault fault)) P = P fault
 IfFault (Err refusal.Memory) P = ⊤
+
+-- the table of names once these tokens were read: the identifiers that it doesn't hold yet go last, in the order of their first tokens
+abbrev pub names_after : List (List ℕ) → List Lexed → List (List ℕ)
+names_after names tokens = with_texts names (flat_map (λ token. words_in token.lexeme) tokens)

@@ -1,8 +1,10 @@
 // Identifiers.
 
-ghost use Rattle.std.specs.Prelude.{◌≡◌, ◌<◌, ◌≤◌, ◌^◌, ◌+◌, [], true, drop, take, length, IfOk, map, All, ℕ, List};
+ghost use Rattle.std.specs.Prelude.{◌≡◌, ◌<◌, ◌≤◌, ◌^◌, ◌+◌, [], true, drop, take, length, IfOk, OnOk, map, All, ℕ, List};
+ghost use Rattle.mlc_base.specs.Names.{with_text, with_texts};
 ghost use Rattle.sml_lexer.specs.Chars.{byte, is_letter, is_symbol_char};
 ghost use Rattle.sml_lexer.specs.Identifiers.{name_item, named, next_part, qualified, symbol_item, type_var_item};
+ghost use Rattle.sml_lexer.specs.Item.{words_of};
 ghost use Rattle.sml_lexer.specs.ItemOf.{IsItem, FitsPart};
 ghost use Rattle.sml_lexer.specs.Lexeme.{HoldsNames, lexeme_of, text_of};
 ghost use Rattle.sml_lexer.specs.NameTable.{Keeps};
@@ -48,6 +50,7 @@ fn name_of(alloc: Global, names: &mut Names, bytes: &[u8]) -> Result<Name, NoMem
     ensures kept { Keeps names.old names.new }
     ensures held { IfOk result (λ name. name < length names.new) }
     ensures text { IfOk result (λ name. text_of names.new name ≡ bytes.now) }
+    ensures table { OnOk result (names.new ≡ with_text names.old bytes.now) }
 {
     names.intern(alloc, bytes)
 }
@@ -64,24 +67,18 @@ fn named(qualifiers: Vec<Name>, name: Name) -> TokenKind
     }
 }
 
-/// The identifier that a name begins which was read up to here, with all that qualifies.
-fn qualified(
-    alloc: Global,
-    names: &mut Names,
-    text: &[u8],
-    from: usize,
-    name: Name,
-) -> Result<Item, NoMemory>
+/// The identifier that the name of so many bytes begins, with all that it qualifies.
+fn qualified(alloc: Global, names: &mut Names, text: &[u8], len: usize) -> Result<Item, NoMemory>
     requires small { length text.now < 2 ^ 32 }
-    requires some { 0 < from }
-    requires within { from ≤ length text.now }
-    requires held { name < length names.old }
+    requires some { 0 < len }
+    requires within { len ≤ length text.now }
     ensures kept { Keeps names.old names.new }
-    ensures item { IfOk result (λ item. IsItem names.new text.now item (qualified 0 [] (text_of names.old name) (drop from text.now))) }
+    ensures item { IfOk result (λ item. IsItem names.new text.now item (qualified 0 [] (take len text.now) (drop len text.now))) }
+    ensures table { OnOk result (names.new ≡ with_texts names.old (words_of (qualified 0 [] (take len text.now) (drop len text.now)))) }
 {
     let mut qualifiers = Vec::new(alloc);
-    let mut name = name;
-    let mut at = from;
+    let mut name = name_of(alloc, names, front(text, len))?;
+    let mut at = len;
     'parts: while byte_at(text, at) == b'.' {
         let part = rest(text, at + 1);
         match next_part(part) {
@@ -107,15 +104,13 @@ pub fn name_item(alloc: Global, names: &mut Names, text: &[u8]) -> Result<Item, 
     requires letter { is_letter (byte text.now 0) ≡ true }
     ensures kept { Keeps names.old names.new }
     ensures item { IfOk result (λ item. IsItem names.new text.now item (name_item text.now)) }
+    ensures table { OnOk result (names.new ≡ with_texts names.old (words_of (name_item text.now))) }
 {
     let len = run_len(Class::NameChar, text);
     let word = front(text, len);
     match word_of(word) {
         Some(reserved) => Ok(Item::Token(TokenKind::Reserved(reserved), len)),
-        None => {
-            let name = name_of(alloc, names, word)?;
-            qualified(alloc, names, text, len, name)
-        }
+        None => qualified(alloc, names, text, len),
     }
 }
 
@@ -124,6 +119,7 @@ pub fn symbol_item(alloc: Global, names: &mut Names, text: &[u8]) -> Result<Item
     requires { is_symbol_char (byte text.now 0) ≡ true }
     ensures kept { Keeps names.old names.new }
     ensures item { IfOk result (λ item. IsItem names.new text.now item (symbol_item text.now)) }
+    ensures table { OnOk result (names.new ≡ with_texts names.old (words_of (symbol_item text.now))) }
 {
     let len = run_len(Class::SymbolChar, text);
     let symbols = front(text, len);
@@ -141,6 +137,7 @@ pub fn type_var_item(alloc: Global, names: &mut Names, text: &[u8]) -> Result<It
     requires { byte text.now 0 ≡ 39 }
     ensures kept { Keeps names.old names.new }
     ensures item { IfOk result (λ item. IsItem names.new text.now item (type_var_item text.now)) }
+    ensures table { OnOk result (names.new ≡ with_texts names.old (words_of (type_var_item text.now))) }
 {
     let len = run_len(Class::NameChar, text);
     let variable = front(text, len);

@@ -1,7 +1,9 @@
 // The item that a text begins with.
 
-ghost use Rattle.std.specs.Prelude.{◌≡◌, ◌<◌, ◌^◌, true, length, IfOk};
+ghost use Rattle.std.specs.Prelude.{◌≡◌, ◌<◌, ◌^◌, true, length, IfOk, OnOk};
+ghost use Rattle.mlc_base.specs.Names.{with_texts};
 ghost use Rattle.sml_lexer.specs.Chars.{byte, is_space};
+ghost use Rattle.sml_lexer.specs.Item.{words_of};
 ghost use Rattle.sml_lexer.specs.ItemOf.{IsConstant, IsItem};
 ghost use Rattle.sml_lexer.specs.Items.{begins_char, begins_dots, item_at, mark_item};
 ghost use Rattle.sml_lexer.specs.NameTable.{Keeps};
@@ -52,6 +54,7 @@ pub fn next_item(alloc: Global, names: &mut Names, text: &[u8]) -> Result<Item, 
     requires small { length text.now < 2 ^ 32 }
     ensures kept { Keeps names.old names.new }
     ensures item { IfOk result (λ item. IsItem names.new text.now item (item_at text.now)) }
+    ensures table { OnOk result (names.new ≡ with_texts names.old (words_of (item_at text.now))) }
 {
     let first = byte_at(text, 0);
     if is_space(first) {

@@ -1,10 +1,9 @@
 // The tokens of a file.
 
 ghost use Rattle.std.specs.Prelude.{◌≡◌, ◌+◌, ◌^◌, ◌<◌, List, length, map, All, IfOk};
-ghost use Rattle.sml_lexer.specs.Lexes.{HoldsAllNames, IfFault, IsRefused, IsSlice, Lexed, Lexes, OneReading, Rises, lexed_of};
+ghost use Rattle.sml_lexer.specs.Lexes.{HoldsAllNames, IfFault, IsRefused, IsSlice, Lexed, Lexes, OneReading, Rises, lexed_of, names_after};
 ghost use Rattle.sml_lexer.specs.Longest.{ItemsAreLongest};
-ghost use Rattle.mlc_base.specs.Names.{with_texts};
-ghost use Rattle.sml_lexer.specs.NameTable.{Keeps, words_in};
+ghost use Rattle.sml_lexer.specs.NameTable.{Keeps};
 
 use crate::chars::rest;
 use crate::item::Item;
@@ -20,7 +19,7 @@ use std::alloc::Global;
 pub fn lex(alloc: Global, names: &mut Names, file: u32, bytes: &[u8]) -> Result<Tokens, Refused>
     requires { length bytes.now + 1 < 2 ^ 32 }
     ensures kept { Keeps names.old names.new }
-    ensures table { IfOk result (λ tokens. names.new ≡ with_texts names.old (words_in (map (lexed_of names.new) tokens))) }
+    ensures table { IfOk result (λ tokens. names.new ≡ names_after names.old (map (lexed_of names.new) tokens)) }
     ensures tokens { IfOk result (λ tokens. Lexes bytes.now (map (lexed_of names.new) tokens)) }
     ensures held { IfOk result (λ tokens. HoldsAllNames names.new tokens) }
     ensures slices { IfOk result (λ tokens. All (IsSlice bytes.now names.new) tokens) }

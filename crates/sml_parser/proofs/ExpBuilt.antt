@@ -163,6 +163,3 @@ module _ (f : Fixity) (s : Source) (n : ℕ) (i : List Terminal) where
   is-fn rs l h =
       let q = l.deep in
       record { rest = l.rest; bare = h ∙ ap (λ z. bare.fn (at s.file (place_at i)) (rules_of z)) l.same ∙ ap (bare.fn (at s.file (place_at i))) (rules_all s.file rs.tree); deep = omega (arith, q); place = refl; fits = omega (arith, l.fits); shorter = omega (arith, l.shorter, tail-short i) }
-
-pub exp_same : {a b : bare.Exp} → Rattle.sml_tree.specs.StandsFor.exp a ≡ Rattle.sml_tree.specs.StandsFor.exp b → a ≡ b
-exp_same e = cc

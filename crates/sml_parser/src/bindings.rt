@@ -59,12 +59,7 @@ pub fn read_tyvars<'a>(
 }
 
 /// Type variables that begin with these tokens, in the declaration at `place`, with their own place.
-pub fn tyvar_seq(
-    source: &Source,
-    place: Place,
-    tokens: &[Token],
-    tyvars: Vec<Tyvar>,
-) -> TyvarSeq
+pub fn tyvar_seq(source: &Source, place: Place, tokens: &[Token], tyvars: Vec<Tyvar>) -> TyvarSeq
     ensures tyvars { result.tyvars ≡ tyvars }
     ensures place { (p : ℕ) → place ≡ at source.now.file p → result.place ≡ at source.now.file (tyvars_place p (left source.now tokens.now) tyvars.items) }
 {

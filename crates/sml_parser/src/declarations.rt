@@ -282,23 +282,20 @@ fn read_clauses<'a>(
     let mut deepest = 0;
     let mut rest = tokens;
     'clauses: loop {
-        let (front, got) = with(clauses, read_heading(alloc, source, fix, n, shape, rest))?;
         let Got {
             it: heading,
             depth: heading_depth,
             rest: after_heading,
-        } = got;
+        } = read_heading(alloc, source, fix, n, shape, rest)?;
         let first = shape.unwrap_or(heading.shape);
         let place = place_at(source, tail(source, after_heading));
-        let (parts, exp) = with(
-            (front, heading),
-            read_after(alloc, source, fix, n, Reserved::Equals, after_heading),
-        )?;
-        let (front, heading) = parts;
-        let after = exp.rest;
-        deepest = heading_depth.max(exp.depth).max(deepest);
-        let (others, clause) = with(front, clause_from(alloc, heading, place, exp.it))?;
-        clauses = pushed(others, clause)?;
+        let Got {
+            it: exp,
+            depth,
+            rest: after,
+        } = read_after(alloc, source, fix, n, Reserved::Equals, after_heading)?;
+        clauses.push(clause_from(alloc, heading, place, exp)?)?;
+        deepest = heading_depth.max(depth).max(deepest);
         let Some(next) = after_word(source, Reserved::Bar, after) else {
             return Ok(Got {
                 it: function(first.place, first.vid_place, first.vid, clauses),

@@ -1,6 +1,7 @@
 // Heads of clauses.
 
-ghost use Rattle.std.specs.Prelude.{◌≡◌, ℕ, ◌<◌, ◌≤◌, ◌+◌, ◌∷◌, [], length, map, List, Option, Some, None, MatchOption, MatchResult};
+ghost use Rattle.std.specs.Prelude.{◌≡◌, ℕ, ◌<◌, ◌≤◌, ◌+◌, ◌-◌, ◌∷◌, [], length, map, List, Option, Some, None, MatchOption, MatchResult};
+ghost use Rattle.mlc_base.specs.declared.token.Reserved.TheVariants.{LeftParen, RightParen};
 ghost use Rattle.sml_tree.specs.Terminal.{Terminal};
 ghost use Rattle.sml_tree.specs.ReadTree as read;
 ghost use Rattle.sml_tree.specs.Bare as bare;
@@ -9,7 +10,7 @@ ghost use Rattle.sml_tree.specs.Depth.{depth_pat};
 ghost use Rattle.sml_tree.specs.Bare.{bare_pat};
 ghost use Rattle.sml_tree.specs.TreeOf.{pat_of};
 ghost use Rattle.sml_grammar.specs.Answer.{Read, ok};
-ghost use Rattle.sml_grammar.specs.Terminals.{no_state, place_at, infix_vid, taken};
+ghost use Rattle.sml_grammar.specs.Terminals.{no_state, place_at, after_word, infix_vid, taken};
 ghost use Rattle.sml_grammar.specs.Patterns.{read_atpat, read_atpats, read_head, infix_rest, prefix_rest, bracket_rest, vid_head, bracketed, Bracketed};
 ghost use Rattle.sml_parser.specs.Gives.{Gives, Gave};
 ghost use Rattle.sml_parser.specs.Left.{left};
@@ -312,31 +313,63 @@ fn bracketed(
     let Some(inner) = after_word(source, Reserved::LeftParen, tokens) else {
         return Ok(None)
     };
-    let Some(first) = maybe_atpat(alloc, source, fix, n - 2, inner)? else {
-        return Ok(None)
-    };
-    let Got {
-        it: left,
-        depth: _,
-        rest: after_left,
-    } = first;
-    let Some(found) = joint_at(source, fix, after_left) else {
-        return Ok(None)
-    };
-    let (left, maybe) = with(left, maybe_atpat(alloc, source, fix, n - 2, found.1))?;
-    let Some(second) = maybe else { return Ok(None) };
-    let Got {
-        it: right,
-        depth: _,
-        rest: after_right,
-    } = second;
-    match after_word(source, Reserved::RightParen, after_right) {
-        Some(_) => Ok(Some(Pair {
-            left,
-            vid_place: place_at(source, after_left),
-            vid: found.0,
-            right,
-        })),
+    match maybe_atpat(alloc, source, fix, n - 2, inner)? {
+        Some(first) => after_first(alloc, source, fix, n, first.it, first.rest),
         None => Ok(None),
+    }
+}
+
+/// What is in the brackets, after its first atomic pattern.
+fn after_first(
+    alloc: Global,
+    source: &Source,
+    fix: &Fixities,
+    n: u32,
+    pat: Pat,
+    tokens: &[Token],
+) -> Result<Option<Pair>, Stop>
+    requires room { n < 1000 }
+    requires two { 2 ≤ n }
+    ensures { (i m : List Terminal) (y one : Read read.Pat) → read_atpat n fix.now i ≡ ok y → after_word LeftParen i ≡ Some m → read_atpat (n - 2) fix.now m ≡ ok one → pat_of pat ≡ bare_pat source.now.file one.tree → left source.now tokens.now ≡ one.rest →
+        MatchResult result (λ found. MatchOption found (bracketed y.tree ≡ None) (λ pair. (b : Bracketed) × (bracketed y.tree ≡ Some b) × IsPair source.now pair i (depth_pat y.tree) b)) (λ e. e ≡ Memory) }
+{
+    match joint_at(source, fix, tokens) {
+        Some(found) => {
+            let (first, second) = with(pat, maybe_atpat(alloc, source, fix, n - 2, found.1))?;
+            match second {
+                Some(got) => Ok(paired(
+                    source,
+                    first,
+                    place_at(source, tokens),
+                    found.0,
+                    got.it,
+                    got.rest,
+                )),
+                None => Ok(None),
+            }
+        }
+        None => Ok(None),
+    }
+}
+
+/// The pair of two patterns, where a bracket closes it.
+fn paired(
+    source: &Source,
+    first: Pat,
+    vid_place: Place,
+    vid: Name,
+    second: Pat,
+    tokens: &[Token],
+) -> Option<Pair>
+    ensures { MatchOption (after_word RightParen (left source.now tokens.now)) (result ≡ None) (λ o. result ≡ Some (record { left = first; vid_place = vid_place; vid = vid; right = second })) }
+{
+    match after_word(source, Reserved::RightParen, tokens) {
+        Some(_) => Some(Pair {
+            left: first,
+            vid_place,
+            vid,
+            right: second,
+        }),
+        None => None,
     }
 }

@@ -114,12 +114,7 @@ fn scopes(
 }
 
 // What a text is read as that has `inside` in this many scopes of `local`, and `after` after them.
-fn in_locals(
-    alloc: Global,
-    count: u32,
-    inside: &str,
-    after: &str,
-) -> Result<String, NoMemory> {
+fn in_locals(alloc: Global, count: u32, inside: &str, after: &str) -> Result<String, NoMemory> {
     let text = scopes(
         alloc,
         b"",

@@ -7,6 +7,9 @@ use mathlib.Core.Logic.{◌⊎◌, inl, inr}
 use Rattle.ty_core.specs.Types.{Typ, var}
 use Rattle.ty_core.specs.Marks.{Allows, rank_of}
 use Rattle.ty_core.specs.declared.mark.Mark.{Mark}
+use Rattle.ty_solve.specs.Substitution.{FitsAt, Fits}
+use Rattle.ty_solve.proofs.Binding.{Puts}
+use Rattle.ty_solve.proofs.Comparing.{waits-front}
 use Rattle.ty_solve.specs.Substitution.{Entry, free, bound, row, mark, Meets, Resolves, aside, sub, is_in}
 use Rattle.ty_solve.specs.SlotsOf.{look}
 use Rattle.ty_solve.specs.Weight.{AreInhabited}
@@ -75,6 +78,14 @@ set-forced p l v o lt h k x = go (cases_eq x v)
     go (inl e) = subst (λ y. ForcedAt p y (look (set l v o) y)) (sym e) (subst (ForcedAt p v) (sym (look-set-same l v o lt)) k)
     go (inr ne) = subst (ForcedAt p x) (sym (look-set-other l v x o ne)) (h x)
 
+-- what fits the new fits the old
+fits-put : (f : ℕ → Typ) (s s' : ℕ → Entry) (v : ℕ) (e : Entry) → Puts s s' v e → FitsAt f (f v) (s v) → Fits f s' → Fits f s
+fits-put f s s' v e p k h x = go (cases_eq x v)
+  where
+    go : (x ≡ v) ⊎ (x ≡ v → ⊥) → FitsAt f (f x) (s x)
+    go (inl i) = subst (λ y. FitsAt f (f y) (s y)) (sym i) k
+    go (inr ne) = subst (FitsAt f (f x)) (p.other x ne) (h x)
+
 -- a type for a variable in which it doesn't lie
 pub may-bind : (l : List Entry) (v : ℕ) (t : Typ) → MayBind (length l) (look l) v t → ((f : ℕ → Typ) → Resolves f (aside v (look l)) → is_in v (sub f t) ≡ false) → MayPut (length l) (look l) v (bound t)
 may-bind l v t b h = record { in_range = b.in_range; below = b.in_bounds; inhabited = tt; avoids = h }
@@ -103,6 +114,8 @@ bind-changes l tasks v t ih fr b =
       );
       within = λ h. within-push (length l) tasks (Admit (mark (look l v)) t) h (at-inhabited (look l) ih v fr, b.in_bounds);
       lower = omega arith;
+      fits = λ f h. (fits-put f _ _ v (bound t) e (subst (FitsAt f (f v)) (sym fr) tt) h, subst (FitsAt f (f v)) e.here (h v));
+      stay = waits-front tasks (Admit (mark (look l v)) t ∷ []);
     }
 
 pub bind-changed : (l l' : List Entry) (tasks now : List Task) (v : ℕ) (t : Typ) (j : Mark) → AreInhabited (look l) → look l v ≡ free (mark (look l v)) → MayBind (length l) (look l) v t → j ≡ mark (look l v) → l' ≡ set l v (bound t) → now ≡ tasks ++ Admit j t ∷ [] → Changes l l' tasks now (Bind v t)
@@ -125,6 +138,8 @@ remark-changes l tasks v r b =
       forced = λ p i j g. (set-forced p l v (free r) b.in_range i g, j);
       within = λ h. h;
       lower = omega arith;
+      fits = λ f h. (fits-put f _ _ v (free r) e (subst (FitsAt f (f v)) (sym b.is_free) tt) h, tt);
+      stay = λ a c w. w;
     }
 
 pub may-lower : (l : List Entry) (v : ℕ) (r : Mark) → Lowers (length l) (look l) v r → MayPut (length l) (look l) v (free r)

@@ -3,6 +3,8 @@ use Rattle.std.proofs.Common.{◌≡◌, ◌↔◌, ℕ, ◌+◌, Bool, true, Li
 use Rattle.std.proofs.lemmas.Bool.{and_parts, and_from}
 use Rattle.ty_core.specs.Types.{Typ, var, con, Typs, none, more, Symbol, admits, all_admit}
 use Rattle.ty_core.specs.declared.mark.Mark.{Mark}
+use Rattle.ty_solve.specs.Compared.{Waits, Alike}
+use Rattle.ty_solve.proofs.Comparing.{waits-front, waits-last, alike-map}
 use Rattle.ty_solve.specs.Substitution.{sub, subs, is_below, are_below}
 use Rattle.ty_solve.specs.Weight.{weight, weights}
 use Rattle.ty_solve.specs.Forces.{Problem, Forces, Asks, Beside}
@@ -54,12 +56,20 @@ admit-last m f (x ∷ l) t = (
   λ h. let p = and_parts (admits m (sub f x)) (all_admit m (subs f (all l))) h.0 in and_from _ _ p.0 ((admit-last m f l t).1 (p.1, h.1)),
 )
 
+alike-last : (P : Typ → Typ → Type 0) (l r : List Typ) (t u : Typ) → Alike P (all l) (all r) → P t u → Alike P (all (l ++ t ∷ [])) (all (r ++ u ∷ []))
+alike-last P [] [] t u h p = Alike.part t u none none p Alike.nothing
+alike-last P [] (y ∷ r) t u h p = elim h [ ]
+alike-last P (x ∷ l) [] t u h p = elim h [ ]
+alike-last P (x ∷ l) (y ∷ r) t u (Alike.part _ _ _ _ q h) p = Alike.part x y (all (l ++ t ∷ [])) (all (r ++ u ∷ [])) q (alike-last P l r t u h p)
+
 -- the pairs of l and r have been put on, of those of ts and us
 pub record EqualSome (old now : List Task) (ts us : Typs) (l r : List Typ) : Type 0 where
   pub same : (m : ℕ → Bool) (f : ℕ → Typ) → AllHold m f now ↔ (AllHold m f old × (subs f (all l) ≡ subs f (all r)))
   pub forced : (p : Problem) (h : Symbol) → AreForced p old → Forces p (con h ts) (con h us) → AreForced p now
   pub within : (n : ℕ) → AreWithin n old → are_below n (all l) ≡ true → are_below n (all r) ≡ true → AreWithin n now
   pub burden_is : (w : ℕ → ℕ) → burdens w now ≡ burdens w old + (weights w (all l) + weights w (all r))
+  pub stay : (a b : Typ) → Waits old a b → Waits now a b
+  pub wait : Alike (Waits now) (all l) (all r)
 
 pub equal-none : (old : List Task) (ts us : Typs) → EqualSome old old ts us [] []
 equal-none old ts us = record {
@@ -67,6 +77,8 @@ equal-none old ts us = record {
   forced = λ p h i j. i;
   within = λ n i j k. i;
   burden_is = λ w. omega arith;
+  stay = λ a b w. w;
+  wait = Alike.nothing;
 }
 
 pub equal-next : (old now new : List Task) (ts us : Typs) (l r : List Typ) (t u : Typ) → length l ≡ length r → new ≡ now ++ Equal t u ∷ [] → Beside t u ts us → EqualSome old now ts us l r → EqualSome old new ts us (l ++ t ∷ []) (r ++ u ∷ [])
@@ -78,10 +90,12 @@ equal-next old now new ts us l r t u n e b g = subst (λ x. EqualSome old x ts u
   forced = λ p h i j. forced-push p now (Equal t u) (g.forced p h i j) (Forces.part h ts us t u j b);
   within = λ m i j k. let x = below-last m l t j in let y = below-last m r u k in within-push m now (Equal t u) (g.within m i x.0 y.0) (x.1, y.1);
   burden_is = λ w. let p = burdens-push w now (Equal t u) in let q = g.burden_is w in let x = weights-last w l t in let y = weights-last w r u in omega arith;
+  stay = λ a c w. waits-front now (Equal t u ∷ []) a c (g.stay a c w);
+  wait = alike-last (Waits (now ++ Equal t u ∷ [])) l r t u (alike-map (Waits now) (Waits (now ++ Equal t u ∷ [])) (λ a c w. waits-front now (Equal t u ∷ []) a c w) (all l) (all r) g.wait) (waits-last now t u);
 })
 
 pub equal-all : (old now : List Task) (l r : List Typ) → EqualSome old now (all l) (all r) l r → EqualParts old now (all l) (all r)
-equal-all old now l r g = record { same = g.same; forced = g.forced; within = g.within; burden_is = g.burden_is }
+equal-all old now l r g = record { same = g.same; forced = g.forced; within = g.within; burden_is = g.burden_is; stay = g.stay; wait = g.wait }
 
 -- the types of l have been put on, of those of ts
 pub record AdmitSome (old now : List Task) (ts : Typs) (l : List Typ) : Type 0 where
@@ -89,6 +103,7 @@ pub record AdmitSome (old now : List Task) (ts : Typs) (l : List Typ) : Type 0 w
   pub forced : (p : Problem) → AreForced p old → ((t : Typ) → Beside t t ts ts → Asks p Mark.Equality t) → AreForced p now
   pub within : (n : ℕ) → AreWithin n old → are_below n (all l) ≡ true → AreWithin n now
   pub burden_is : (w : ℕ → ℕ) → burdens w now ≡ burdens w old + weights w (all l)
+  pub stay : (a b : Typ) → Waits old a b → Waits now a b
 
 pub admit-none : (old : List Task) (ts : Typs) → AdmitSome old old ts []
 admit-none old ts = record {
@@ -96,6 +111,7 @@ admit-none old ts = record {
   forced = λ p i j. i;
   within = λ n i j. i;
   burden_is = λ w. omega arith;
+  stay = λ a b w. w;
 }
 
 pub admit-next : (old now new : List Task) (ts : Typs) (l : List Typ) (t : Typ) → new ≡ now ++ Admit Mark.Equality t ∷ [] → Beside t t ts ts → AdmitSome old now ts l → AdmitSome old new ts (l ++ t ∷ [])
@@ -107,7 +123,8 @@ admit-next old now new ts l t e b g = subst (λ x. AdmitSome old x ts (l ++ t �
   forced = λ p i j. forced-push p now (Admit Mark.Equality t) (g.forced p i j) (j t b);
   within = λ m i j. let x = below-last m l t j in within-push m now (Admit Mark.Equality t) (g.within m i x.0) (refl, x.1);
   burden_is = λ w. let p = burdens-push w now (Admit Mark.Equality t) in let q = g.burden_is w in let x = weights-last w l t in omega arith;
+  stay = λ a c w. waits-front now (Admit Mark.Equality t ∷ []) a c (g.stay a c w);
 })
 
 pub admit-all : (old now : List Task) (l : List Typ) → AdmitSome old now (all l) l → AdmitParts old now (all l)
-admit-all old now l g = record { same = g.same; forced = g.forced; within = g.within; burden_is = g.burden_is }
+admit-all old now l g = record { same = g.same; forced = g.forced; within = g.within; burden_is = g.burden_is; stay = g.stay }

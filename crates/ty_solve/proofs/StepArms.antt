@@ -65,6 +65,16 @@ steps-nothing n s w old task h = let p = burden-positive w task in record {
   fit = λ r. tt;
 }
 
+-- two types that are equal where the other tasks hold
+pub steps-compared : (n : ℕ) (s : ℕ → Entry) (w : ℕ → ℕ) (old : List Task) (a b : Typ) → ((m : ℕ → Bool) (f : ℕ → Typ) → Solves m f s → AllHold m f old → sub f a ≡ sub f b) → Steps n s w old (Equal a b) old None
+steps-compared n s w old a b h = let p = burden-positive w (Equal a b) in record {
+  same = λ m f k. (λ q. (q.0, tt), λ q. (q.0, h m f k q.0));
+  forced = λ p i q r. (q, tt);
+  within = λ q r. q;
+  lighter = omega arith;
+  fit = λ r. tt;
+}
+
 -- a task that is one change
 pub steps-write : (n : ℕ) (s : ℕ → Entry) (w : ℕ → ℕ) (old : List Task) (task : Task) (x : Write) → ((m : ℕ → Bool) (f : ℕ → Typ) → Solves m f s → Holds m f task ↔ Does m f (Some x)) → ((p : Problem) → IsForced p s → IsForcedTask p task → IsForcedWrite p (Some x)) → (IsWithin n task → Fit n s (Some x)) → Steps n s w old task old (Some x)
 steps-write n s w old task x h g fit = let p = burden-positive w task in record {

@@ -1,6 +1,7 @@
 -- One table of types for another that is the same.
 use Rattle.std.proofs.Common.{◌≡◌, ℕ, List, length, Option, Result, Ok, Err, IfOk, subst, sym}
 use Rattle.ty_core.specs.Types.{Typ}
+use Rattle.ty_solve.specs.Held.{AreHeld}
 use Rattle.ty_solve.specs.Substitution.{Entry}
 use Rattle.ty_solve.specs.Weight.{AreBelow, IsAcyclic, AreInhabited}
 use Rattle.ty_solve.specs.Solve.{IsCause, IsEarlyCause}
@@ -26,10 +27,15 @@ early s a b Circular h = h
 early s a b Large h = absurd h
 early s a b Memory h = tt
 
+pub ok-all : {X E : Type 0} (P : Type 0) (r : Result X E) → P → IfOk r (λ _. P)
+ok-all P (Ok x) h = h
+ok-all P (Err e) h = tt
+
 pub record IsKept (u : List Typ) (os : List Slot) : Type 0 where
+  pub held : AreHeld (length u) os
   pub below : AreBelow (length os) (seen u os)
   pub acyclic : IsAcyclic (seen u os)
   pub inhabited : AreInhabited (seen u os)
 
-pub put-back : (t u : List Typ) (os ps : List Slot) → u ≡ t → ps ≡ os → AreBelow (length os) (seen t os) → IsAcyclic (seen t os) → AreInhabited (seen t os) → IsKept u ps
-put-back t u os ps e q b a i = subst (λ (x : List Typ). IsKept x ps) (sym e) (subst (λ l. IsKept t l) (sym q) (record { below = b; acyclic = a; inhabited = i }))
+pub put-back : (t u : List Typ) (os ps : List Slot) → u ≡ t → ps ≡ os → AreHeld (length t) os → AreBelow (length os) (seen t os) → IsAcyclic (seen t os) → AreInhabited (seen t os) → IsKept u ps
+put-back t u os ps e q h b a i = subst (λ (x : List Typ). IsKept x ps) (sym e) (subst (λ l. IsKept t l) (sym q) (record { held = h; below = b; acyclic = a; inhabited = i }))

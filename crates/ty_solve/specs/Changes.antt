@@ -2,10 +2,11 @@
 use Rattle.std.specs.Prelude.{◌↔◌, ◌<◌, ℕ, ◌+◌, Bool, true, false, List, [], ◌∷◌, length, Some}
 use Rattle.ty_core.specs.Types.{Typ}
 use Rattle.ty_core.specs.Marks.{rank_of}
-use Rattle.ty_solve.specs.Substitution.{Entry, free, bound, row, Solves}
+use Rattle.ty_solve.specs.Substitution.{Entry, free, bound, row, Solves, Fits}
 use Rattle.ty_solve.specs.SlotsOf.{look}
 use Rattle.ty_solve.specs.Forces.{Problem, IsForced}
 use Rattle.ty_solve.specs.Tasks.{AllHold, AreForced, AreWithin, Does, IsForcedWrite, Refuses}
+use Rattle.ty_solve.specs.Compared.{Waits, Stands}
 use Rattle.ty_solve.specs.Task.{Task}
 use Rattle.ty_solve.specs.Task.{Write}
 use Rattle.ty_solve.specs.declared.refused.UnifyRefused.{UnifyRefused}
@@ -34,6 +35,8 @@ pub record Changes (old new : List Entry) (tasks now : List Task) (x : Write) : 
   pub forced : (p : Problem) → IsForced p (look old) → AreForced p tasks → IsForcedWrite p (Some x) → IsForced p (look new) × AreForced p now
   pub within : AreWithin (length old) tasks → AreWithin (length old) now
   pub lower : ranks new < ranks old
+  pub fits : (f : ℕ → Typ) → Fits f (look new) → Fits f (look old) × Stands f (Some x)
+  pub stay : (a b : Typ) → Waits tasks a b → Waits now a b
 
 abbrev pub RefusesWrite : (ℕ → Entry) → Write → UnifyRefused → Type 0
 RefusesWrite s x = Refuses s (λ m f. Does m f (Some x)) (λ p. IsForcedWrite p (Some x))

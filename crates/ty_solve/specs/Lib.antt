@@ -11,3 +11,6 @@ pub mod Solve
 pub mod Changes
 pub mod Task
 pub mod Walk
+pub mod Compared
+pub mod Held
+pub mod HeldProps

@@ -1,8 +1,9 @@
 // The most general substitution that makes two types equal.
-ghost use Rattle.std.specs.Prelude.{◌≡◌, length, IfOk, IfErr, OnErr, Some, true};
+ghost use Rattle.std.specs.Prelude.{◌≡◌, ◌<◌, length, IfOk, IfErr, OnErr, Some, true};
 ghost use Rattle.ty_table.specs.TypeAt.{type_at};
 ghost use Rattle.ty_solve.specs.Substitution.{is_below};
 ghost use Rattle.ty_solve.specs.SlotsOf.{seen, entries, tasks_of, write_of};
+ghost use Rattle.ty_solve.specs.Held.{AreHeldTasks, IsHeldMove};
 ghost use Rattle.ty_solve.specs.Tasks.{Fit};
 ghost use Rattle.ty_solve.specs.Changes.{Changes, RefusesWrite};
 ghost use Rattle.ty_solve.specs.Solve.{IsMostGeneral, IsSolvable, IsSmall, IsCause, IsEarlyCause, undo};
@@ -14,6 +15,7 @@ use crate::subst::Subst;
 use crate::task::{Move, Todo};
 use crate::trail::{Kept, put_back};
 use crate::walk::is_small;
+use indexmap::IndexSet;
 use std::alloc::Global;
 
 /// Makes a change.
@@ -24,11 +26,13 @@ fn change(
     tasks: &mut Vec<Todo>,
     trail: &mut Vec<Kept>,
 ) -> Result<(), UnifyRefused>
-    requires { Fit (length (entries s.old.types s.old.slots.items)) (seen s.old.types s.old.slots.items) (Some (write_of s.old.types write)) }
+    requires held { IsHeldMove (length s.old.types) (Some write) }
+    requires fit { Fit (length (entries s.old.types s.old.slots.items)) (seen s.old.types s.old.slots.items) (Some (write_of s.old.types write)) }
     ensures undone { undo trail.new.items s.new.slots.items ≡ undo trail.old.items s.old.slots.items }
     ensures same_length { length s.new.slots.items ≡ length s.old.slots.items }
     ensures types { s.new.types ≡ s.old.types }
     ensures changes { IfOk result (λ _. Changes (entries s.old.types s.old.slots.items) (entries s.old.types s.new.slots.items) (tasks_of s.old.types tasks.old.items) (tasks_of s.old.types tasks.new.items) (write_of s.old.types write)) }
+    ensures held { IfOk result (λ _. AreHeldTasks (length s.old.types) tasks.old.items → AreHeldTasks (length s.old.types) tasks.new.items) }
     ensures cause { IfErr result (RefusesWrite (seen s.old.types s.old.slots.items) (write_of s.old.types write)) }
 {
     match write {
@@ -45,6 +49,8 @@ fn solve(
     b: usize,
     trail: &mut Vec<Kept>,
 ) -> Result<(), UnifyRefused>
+    requires a_held { a < length s.old.types }
+    requires b_held { b < length s.old.types }
     requires a_below { is_below (length s.old.slots.items) (type_at s.old.types a) ≡ true }
     requires b_below { is_below (length s.old.slots.items) (type_at s.old.types b) ≡ true }
     ensures undone { undo trail.new.items s.new.slots.items ≡ undo trail.old.items s.old.slots.items }
@@ -53,10 +59,11 @@ fn solve(
     ensures general { IfOk result (λ _. IsMostGeneral (seen s.old.types s.old.slots.items) (seen s.old.types s.new.slots.items) (type_at s.old.types a) (type_at s.old.types b)) }
     ensures cause { IfErr result (IsEarlyCause (seen s.old.types s.old.slots.items) (type_at s.old.types a) (type_at s.old.types b)) }
 {
+    let mut compared: IndexSet<(usize, usize)> = IndexSet::new(alloc);
     let mut tasks = Vec::new(alloc);
     tasks.push(Todo::Equal(a, b))?;
     loop {
-        match next_write(s, &mut tasks) {
+        match next_write(s, &mut compared, &mut tasks) {
             Err(refused) => return Err(refused),
             Ok(next) => match next {
                 None => return Ok(()),
@@ -77,6 +84,8 @@ fn attempt(
     b: usize,
     trail: &mut Vec<Kept>,
 ) -> Result<(), UnifyRefused>
+    requires a_held { a < length s.old.types }
+    requires b_held { b < length s.old.types }
     requires a_below { is_below (length s.old.slots.items) (type_at s.old.types a) ≡ true }
     requires b_below { is_below (length s.old.slots.items) (type_at s.old.types b) ≡ true }
     ensures undone { undo trail.new.items s.new.slots.items ≡ undo trail.old.items s.old.slots.items }
@@ -100,6 +109,8 @@ fn attempt(
 
 /// Makes two types equal, by the least change to s. A refusal leaves s as it was.
 pub fn unify(alloc: Global, s: &mut Subst, a: usize, b: usize) -> Result<(), UnifyRefused>
+    requires a_held { a < length s.old.types }
+    requires b_held { b < length s.old.types }
     requires a_below { is_below (length s.old.slots.items) (type_at s.old.types a) ≡ true }
     requires b_below { is_below (length s.old.slots.items) (type_at s.old.types b) ≡ true }
 

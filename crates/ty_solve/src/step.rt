@@ -1,13 +1,15 @@
-// One task type_at a time: what it leaves to be done, or which change it asks for.
-ghost use Rattle.std.specs.Prelude.{◌≡◌, ◌↔◌, ◌<◌, ℕ, IsTrue, IfOk, IfErr, List, length, map, true, None};
+// One task at a time: what it leaves to be done, or which change it asks for.
+ghost use Rattle.std.specs.Prelude.{◌≡◌, ◌↔◌, ◌<◌, ◌++◌, ◌∷◌, [], false, ℕ, IsTrue, IfOk, IfErr, List, length, map, true, None};
 ghost use Rattle.std.specs.Option.{option_map};
-ghost use Rattle.ty_core.specs.Types.{Typ, var, con, none};
+ghost use Rattle.ty_core.specs.Types.{Typ, Symbol, var, con, none};
 ghost use Rattle.ty_core.specs.Marks.{IsOf, Allows, is_inhabited};
-ghost use Rattle.ty_table.specs.TypeAt.{type_at, types_at};
+ghost use Rattle.ty_table.specs.TypeAt.{type_at, types_at, AllBelow};
 ghost use Rattle.ty_solve.specs.Substitution.{is_below, are_below, is_open, free, mark as mark_of};
 ghost use Rattle.ty_solve.specs.SlotsOf.{seen, entries, task_of, tasks_of, write_of};
 ghost use Rattle.ty_core.specs.TypesOf.{head_of};
 ghost use Rattle.ty_solve.specs.Finding.{Reads, IsWalked};
+ghost use Rattle.ty_solve.specs.Compared.{Waits, WasThere, Remembers};
+ghost use Rattle.ty_solve.specs.Held.{AreHeldTasks, IsHeldMove, KeepsHeld};
 ghost use Rattle.ty_solve.specs.Parts.{EqualParts, AdmitParts};
 ghost use Rattle.ty_solve.specs.Task.{Task, Equal, Admit};
 ghost use Rattle.ty_solve.specs.Tasks.{Steps, RefusesTask, Comes, RefusesTasks, AreWithin};
@@ -15,6 +17,7 @@ ghost use Rattle.ty_solve.specs.Tasks.{Steps, RefusesTask, Comes, RefusesTasks, 
 use crate::refused::UnifyRefused;
 use crate::subst::Subst;
 use crate::task::{Move, Todo};
+use indexmap::IndexSet;
 use mlc_base::memory::NoMemory;
 use ty_core::mark::{Class, Mark, is_of, meet};
 use ty_core::name::Equality;
@@ -24,7 +27,8 @@ use ty_table::types::View;
 /// Asks that the types of two lists are equal, one by one.
 fn equal_parts(s: &Subst, ts: &[usize], us: &[usize], tasks: &mut Vec<Todo>) -> Result<(), NoMemory>
     requires { length ts.now ≡ length us.now }
-    ensures { IfOk result (λ _. EqualParts (tasks_of s.now.types tasks.old.items) (tasks_of s.now.types tasks.new.items) (types_at s.now.types ts.now) (types_at s.now.types us.now)) }
+    ensures parts { IfOk result (λ _. EqualParts (tasks_of s.now.types tasks.old.items) (tasks_of s.now.types tasks.new.items) (types_at s.now.types ts.now) (types_at s.now.types us.now)) }
+    ensures held { IfOk result (λ _. AllBelow (length s.now.types) ts.now → AllBelow (length s.now.types) us.now → AreHeldTasks (length s.now.types) tasks.old.items → AreHeldTasks (length s.now.types) tasks.new.items) }
 {
     let _types = &s.types;
     for i in 0..ts.len() {
@@ -35,7 +39,8 @@ fn equal_parts(s: &Subst, ts: &[usize], us: &[usize], tasks: &mut Vec<Todo>) -> 
 
 /// Asks that each type of a list admits equality.
 fn admit_parts(s: &Subst, ts: &[usize], tasks: &mut Vec<Todo>) -> Result<(), NoMemory>
-    ensures { IfOk result (λ _. AdmitParts (tasks_of s.now.types tasks.old.items) (tasks_of s.now.types tasks.new.items) (types_at s.now.types ts.now)) }
+    ensures parts { IfOk result (λ _. AdmitParts (tasks_of s.now.types tasks.old.items) (tasks_of s.now.types tasks.new.items) (types_at s.now.types ts.now)) }
+    ensures held { IfOk result (λ _. AllBelow (length s.now.types) ts.now → AreHeldTasks (length s.now.types) tasks.old.items → AreHeldTasks (length s.now.types) tasks.new.items) }
 {
     let _types = &s.types;
     for i in 0..ts.len() {
@@ -44,23 +49,35 @@ fn admit_parts(s: &Subst, ts: &[usize], tasks: &mut Vec<Todo>) -> Result<(), NoM
     Ok(())
 }
 
-/// Makes two types equal that are no variables.
-fn equal_applied(
-    s: &Subst,
-    h: &Head,
-    ts: &[usize],
-    g: &Head,
-    us: &[usize],
-    tasks: &mut Vec<Todo>,
-) -> Result<(), UnifyRefused>
-    ensures steps { IfOk result (λ _. Steps (length (entries s.now.types s.now.slots.items)) (seen s.now.types s.now.slots.items) s.now.acyclic.0 (tasks_of s.now.types tasks.old.items) (Equal (con (head_of h.now) (types_at s.now.types ts.now)) (con (head_of g.now) (types_at s.now.types us.now))) (tasks_of s.now.types tasks.new.items) None) }
-    ensures cause { IfErr result (RefusesTask (seen s.now.types s.now.slots.items) (Equal (con (head_of h.now) (types_at s.now.types ts.now)) (con (head_of g.now) (types_at s.now.types us.now)))) }
+/// Notes a pair that is compared. Whether it is new.
+fn note(compared: &mut IndexSet<(usize, usize)>, a: usize, b: usize) -> Result<bool, NoMemory>
+    ensures new { IfOk result (λ new. new ≡ true → compared.new.keys ≡ compared.old.keys ++ (a, b) ∷ []) }
+    ensures old { IfOk result (λ new. new ≡ false → WasThere compared.old.keys compared.new.keys a b) }
 {
-    if !same_head(h, g) {
-        return Err(UnifyRefused::Clash);
-    }
-    if ts.len() != us.len() {
-        return Err(UnifyRefused::Clash);
+    let new = compared.insert((a, b))?;
+    Ok(new)
+}
+
+/// Makes the parts of two types equal that have one symbol.
+fn compare(
+    s: &Subst,
+    a: usize,
+    ts: &[usize],
+    b: usize,
+    us: &[usize],
+    compared: &mut IndexSet<(usize, usize)>,
+    tasks: &mut Vec<Todo>,
+) -> Result<(), NoMemory>
+    requires same_length { length ts.now ≡ length us.now }
+    requires same_symbol { (h : Symbol) × (type_at s.now.types a ≡ con h (types_at s.now.types ts.now)) × (type_at s.now.types b ≡ con h (types_at s.now.types us.now)) }
+    requires remembered { Remembers s.now.types (seen s.now.types s.now.slots.items) None compared.old.keys (tasks_of s.now.types tasks.old.items ++ Equal (type_at s.now.types a) (type_at s.now.types b) ∷ []) }
+    ensures steps { IfOk result (λ _. Steps (length (entries s.now.types s.now.slots.items)) (seen s.now.types s.now.slots.items) s.now.acyclic.0 (tasks_of s.now.types tasks.old.items) (Equal (type_at s.now.types a) (type_at s.now.types b)) (tasks_of s.now.types tasks.new.items) None) }
+    ensures remembers { IfOk result (λ _. Remembers s.now.types (seen s.now.types s.now.slots.items) None compared.new.keys (tasks_of s.now.types tasks.new.items)) }
+    ensures held { IfOk result (λ _. AllBelow (length s.now.types) ts.now → AllBelow (length s.now.types) us.now → AreHeldTasks (length s.now.types) tasks.old.items → AreHeldTasks (length s.now.types) tasks.new.items) }
+{
+    let new = note(compared, a, b)?;
+    if !new {
+        return Ok(());
     }
     equal_parts(s, ts, us, tasks)?;
     Ok(())
@@ -71,11 +88,15 @@ fn equal_found(
     s: &Subst,
     a: usize,
     b: usize,
+    compared: &mut IndexSet<(usize, usize)>,
     tasks: &mut Vec<Todo>,
 ) -> Result<Option<Move>, UnifyRefused>
     requires left_walked { IsWalked (seen s.now.types s.now.slots.items) (type_at s.now.types a) }
     requires right_walked { IsWalked (seen s.now.types s.now.slots.items) (type_at s.now.types b) }
+    requires remembered { Remembers s.now.types (seen s.now.types s.now.slots.items) None compared.old.keys (tasks_of s.now.types tasks.old.items ++ Equal (type_at s.now.types a) (type_at s.now.types b) ∷ []) }
     ensures steps { IfOk result (λ write. Steps (length (entries s.now.types s.now.slots.items)) (seen s.now.types s.now.slots.items) s.now.acyclic.0 (tasks_of s.now.types tasks.old.items) (Equal (type_at s.now.types a) (type_at s.now.types b)) (tasks_of s.now.types tasks.new.items) (option_map (write_of s.now.types) write)) }
+    ensures remembers { IfOk result (λ write. Remembers s.now.types (seen s.now.types s.now.slots.items) (option_map (write_of s.now.types) write) compared.new.keys (tasks_of s.now.types tasks.new.items)) }
+    ensures held { IfOk result (λ write. KeepsHeld (length s.now.types) tasks.old.items (Todo.Equal a b) tasks.new.items write) }
     ensures cause { IfErr result (RefusesTask (seen s.now.types s.now.slots.items) (Equal (type_at s.now.types a) (type_at s.now.types b))) }
 {
     match s.types.view(a) {
@@ -91,17 +112,32 @@ fn equal_found(
         },
         View::Apply(h, ts) => match s.types.view(b) {
             View::Var(y) => Ok(Some(Move::Bind(y, a))),
-            View::Apply(g, us) => match equal_applied(s, h, ts, g, us, tasks) {
-                Ok(()) => Ok(None),
-                Err(refused) => Err(refused),
-            },
+            View::Apply(g, us) => {
+                if !same_head(h, g) {
+                    return Err(UnifyRefused::Clash);
+                }
+                if ts.len() != us.len() {
+                    return Err(UnifyRefused::Clash);
+                }
+                compare(s, a, ts, b, us, compared, tasks)?;
+                Ok(None)
+            }
         },
     }
 }
 
 /// Makes two types equal.
-fn equal(s: &Subst, a: usize, b: usize, tasks: &mut Vec<Todo>) -> Result<Option<Move>, UnifyRefused>
+fn equal(
+    s: &Subst,
+    a: usize,
+    b: usize,
+    compared: &mut IndexSet<(usize, usize)>,
+    tasks: &mut Vec<Todo>,
+) -> Result<Option<Move>, UnifyRefused>
+    requires remembered { Remembers s.now.types (seen s.now.types s.now.slots.items) None compared.old.keys (tasks_of s.now.types tasks.old.items ++ Equal (type_at s.now.types a) (type_at s.now.types b) ∷ []) }
     ensures steps { IfOk result (λ write. Steps (length (entries s.now.types s.now.slots.items)) (seen s.now.types s.now.slots.items) s.now.acyclic.0 (tasks_of s.now.types tasks.old.items) (Equal (type_at s.now.types a) (type_at s.now.types b)) (tasks_of s.now.types tasks.new.items) (option_map (write_of s.now.types) write)) }
+    ensures remembers { IfOk result (λ write. Remembers s.now.types (seen s.now.types s.now.slots.items) (option_map (write_of s.now.types) write) compared.new.keys (tasks_of s.now.types tasks.new.items)) }
+    ensures held { IfOk result (λ write. KeepsHeld (length s.now.types) tasks.old.items (Todo.Equal a b) tasks.new.items write) }
     ensures cause { IfErr result (RefusesTask (seen s.now.types s.now.slots.items) (Equal (type_at s.now.types a) (type_at s.now.types b))) }
 {
     if a == b {
@@ -109,13 +145,14 @@ fn equal(s: &Subst, a: usize, b: usize, tasks: &mut Vec<Todo>) -> Result<Option<
     }
     let left = s.find(a);
     let right = s.find(b);
-    equal_found(s, left, right, tasks)
+    equal_found(s, left, right, compared, tasks)
 }
 
-/// Lets a mark stand type_at a free variable.
+/// Lets a mark stand at a free variable.
 fn remark(s: &Subst, x: usize, mark: Mark) -> Result<Option<Move>, UnifyRefused>
     requires { (seen s.now.types s.now.slots.items) x ≡ free (mark_of ((seen s.now.types s.now.slots.items) x)) }
     ensures steps { IfOk result (λ write. (tasks : List Task) → Steps (length (entries s.now.types s.now.slots.items)) (seen s.now.types s.now.slots.items) s.now.acyclic.0 tasks (Admit mark (var x)) tasks (option_map (write_of s.now.types) write)) }
+    ensures held { IfOk result (λ write. IsHeldMove (length s.now.types) write) }
     ensures cause { IfErr result (RefusesTask (seen s.now.types s.now.slots.items) (Admit mark (var x))) }
 {
     let old = s.mark_of(x);
@@ -142,7 +179,7 @@ fn head_is_of(class: Class, head: &Head) -> bool
     }
 }
 
-/// Lets a mark stand type_at a type that is no variable.
+/// Lets a mark stand at a type that is no variable.
 fn admit_applied(
     s: &Subst,
     mark: Mark,
@@ -151,6 +188,8 @@ fn admit_applied(
     tasks: &mut Vec<Todo>,
 ) -> Result<(), UnifyRefused>
     ensures steps { IfOk result (λ _. Steps (length (entries s.now.types s.now.slots.items)) (seen s.now.types s.now.slots.items) s.now.acyclic.0 (tasks_of s.now.types tasks.old.items) (Admit mark (con (head_of h.now) (types_at s.now.types ts.now))) (tasks_of s.now.types tasks.new.items) None) }
+    ensures stay { IfOk result (λ _. (a b : Typ) → Waits (tasks_of s.now.types tasks.old.items) a b → Waits (tasks_of s.now.types tasks.new.items) a b) }
+    ensures held { IfOk result (λ _. AllBelow (length s.now.types) ts.now → AreHeldTasks (length s.now.types) tasks.old.items → AreHeldTasks (length s.now.types) tasks.new.items) }
     ensures cause { IfErr result (RefusesTask (seen s.now.types s.now.slots.items) (Admit mark (con (head_of h.now) (types_at s.now.types ts.now)))) }
 {
     match mark {
@@ -176,7 +215,7 @@ fn admit_applied(
     }
 }
 
-/// Lets a mark stand type_at a type.
+/// Lets a mark stand at a type.
 fn admit(
     s: &Subst,
     mark: Mark,
@@ -184,6 +223,8 @@ fn admit(
     tasks: &mut Vec<Todo>,
 ) -> Result<Option<Move>, UnifyRefused>
     ensures steps { IfOk result (λ write. Steps (length (entries s.now.types s.now.slots.items)) (seen s.now.types s.now.slots.items) s.now.acyclic.0 (tasks_of s.now.types tasks.old.items) (Admit mark (type_at s.now.types t)) (tasks_of s.now.types tasks.new.items) (option_map (write_of s.now.types) write)) }
+    ensures stay { IfOk result (λ _. (a b : Typ) → Waits (tasks_of s.now.types tasks.old.items) a b → Waits (tasks_of s.now.types tasks.new.items) a b) }
+    ensures held { IfOk result (λ write. KeepsHeld (length s.now.types) tasks.old.items (Todo.Admit mark t) tasks.new.items write) }
     ensures cause { IfErr result (RefusesTask (seen s.now.types s.now.slots.items) (Admit mark (type_at s.now.types t))) }
 {
     let found = s.find(t);
@@ -197,23 +238,40 @@ fn admit(
 }
 
 /// Takes one task.
-fn take(s: &Subst, task: Todo, tasks: &mut Vec<Todo>) -> Result<Option<Move>, UnifyRefused>
+fn take(
+    s: &Subst,
+    task: Todo,
+    compared: &mut IndexSet<(usize, usize)>,
+    tasks: &mut Vec<Todo>,
+) -> Result<Option<Move>, UnifyRefused>
+    requires remembered { Remembers s.now.types (seen s.now.types s.now.slots.items) None compared.old.keys (tasks_of s.now.types tasks.old.items ++ task_of s.now.types task ∷ []) }
     ensures steps { IfOk result (λ write. Steps (length (entries s.now.types s.now.slots.items)) (seen s.now.types s.now.slots.items) s.now.acyclic.0 (tasks_of s.now.types tasks.old.items) (task_of s.now.types task) (tasks_of s.now.types tasks.new.items) (option_map (write_of s.now.types) write)) }
+    ensures remembers { IfOk result (λ write. Remembers s.now.types (seen s.now.types s.now.slots.items) (option_map (write_of s.now.types) write) compared.new.keys (tasks_of s.now.types tasks.new.items)) }
+    ensures held { IfOk result (λ write. KeepsHeld (length s.now.types) tasks.old.items task tasks.new.items write) }
     ensures cause { IfErr result (RefusesTask (seen s.now.types s.now.slots.items) (task_of s.now.types task)) }
 {
     match task {
-        Todo::Equal(a, b) => equal(s, a, b, tasks),
+        Todo::Equal(a, b) => equal(s, a, b, compared, tasks),
         Todo::Admit(mark, t) => admit(s, mark, t, tasks),
     }
 }
 
 /// Takes tasks up to the first that asks for a change.
-pub fn next_write(s: &Subst, tasks: &mut Vec<Todo>) -> Result<Option<Move>, UnifyRefused>
+pub fn next_write(
+    s: &Subst,
+    compared: &mut IndexSet<(usize, usize)>,
+    tasks: &mut Vec<Todo>,
+) -> Result<Option<Move>, UnifyRefused>
+    requires remembered { Remembers s.now.types (seen s.now.types s.now.slots.items) None compared.old.keys (tasks_of s.now.types tasks.old.items) }
+    requires held { AreHeldTasks (length s.now.types) tasks.old.items }
     ensures comes { IfOk result (λ write. Comes (length (entries s.now.types s.now.slots.items)) (seen s.now.types s.now.slots.items) (tasks_of s.now.types tasks.old.items) (tasks_of s.now.types tasks.new.items) (option_map (write_of s.now.types) write)) }
+    ensures remembers { IfOk result (λ write. Remembers s.now.types (seen s.now.types s.now.slots.items) (option_map (write_of s.now.types) write) compared.new.keys (tasks_of s.now.types tasks.new.items)) }
+    ensures held_tasks { IfOk result (λ _. AreHeldTasks (length s.now.types) tasks.new.items) }
+    ensures held_write { IfOk result (IsHeldMove (length s.now.types)) }
     ensures cause { IfErr result (RefusesTasks (seen s.now.types s.now.slots.items) (tasks_of s.now.types tasks.old.items)) }
 {
     while let Some(task) = tasks.pop() {
-        match take(s, task, tasks) {
+        match take(s, task, compared, tasks) {
             Err(refused) => return Err(refused),
             Ok(found) => match found {
                 Some(write) => return Ok(Some(write)),

@@ -1,6 +1,7 @@
 // What variables stood for before changes.
 ghost use Rattle.std.specs.Prelude.{◌≡◌, length, slice_set, IfOk};
 ghost use Rattle.ty_solve.specs.SlotsOf.{seen, entry_of};
+ghost use Rattle.ty_solve.specs.Held.{IsHeld};
 ghost use Rattle.ty_solve.specs.Tasks.{MayPut};
 ghost use Rattle.ty_solve.specs.Solve.{undo};
 
@@ -36,7 +37,8 @@ pub fn put_back(slots: &mut Vec<Slot>, trail: &mut Vec<Kept>)
 
 /// Lets a variable stand for something else. What it stood for is kept.
 pub fn write(s: &mut Subst, v: usize, slot: Slot, trail: &mut Vec<Kept>) -> Result<(), NoMemory>
-    requires { MayPut (length s.old.slots.items) (seen s.old.types s.old.slots.items) v (entry_of s.old.types slot) }
+    requires held { IsHeld (length s.old.types) slot }
+    requires may { MayPut (length s.old.slots.items) (seen s.old.types s.old.slots.items) v (entry_of s.old.types slot) }
     ensures undone { undo trail.new.items s.new.slots.items ≡ undo trail.old.items s.old.slots.items }
     ensures same_length { length s.new.slots.items ≡ length s.old.slots.items }
     ensures types { s.new.types ≡ s.old.types }

@@ -76,7 +76,7 @@ pub fn occurs(alloc: Global, s: &Subst, v: usize, t: usize) -> Result<bool, NoMe
     Ok(false)
 }
 
-/// Counts those nodes of a type that can be counted type_at once, and puts the others on the types that are pending.
+/// Counts those nodes of a type that can be counted at once, and puts the others on the types that are pending.
 fn open(s: &Subst, t: usize, pending: &mut Vec<usize>) -> Result<u64, NoMemory>
     ensures { IfOk result (λ n. Counts s.now.types (seen_in s.now.types s.now.slots.items) s.now.acyclic.0 t pending.old.items pending.new.items n) }
 {
@@ -88,7 +88,7 @@ fn open(s: &Subst, t: usize, pending: &mut Vec<usize>) -> Result<u64, NoMemory>
     Ok(1)
 }
 
-/// Whether the type that t stands for has type_at most `NODE_LIMIT` nodes.
+/// Whether the type that t stands for has at most `NODE_LIMIT` nodes.
 pub fn is_small(alloc: Global, s: &Subst, t: usize) -> Result<bool, NoMemory>
     ensures { IfOk result (λ small. (f : ℕ → Typ) → Resolves f (seen_in s.now.types s.now.slots.items) → IsTrue small ↔ (nodes (sub f (type_at s.now.types t)) ≤ node_limit)) }
 {

@@ -2,13 +2,14 @@ use Rattle.std.proofs.Common.{◌≡◌, ◌+◌, ◌≤◌, [], ◌∷◌, ◌+
 use Rattle.std.proofs.lemmas.List.Elements.{All-nil, All-push, All-same}
 use Rattle.mlc_base.specs.declared.token.Token.{Token}
 use Rattle.sml_lexer.specs.declared.item.Item.TheVariants as code
-use Rattle.sml_lexer.specs.Item.{refused}
+use Rattle.sml_lexer.specs.Item.{refused, words_of}
 use Rattle.sml_lexer.specs.ItemOf.{IsItem, FitsItem}
 use Rattle.sml_lexer.specs.Items.{item_at}
 use Rattle.sml_lexer.specs.Lexeme.{HoldsNames}
 use Rattle.sml_lexer.specs.Lexes.{IsSlice, lexed_of, nothing}
 use Rattle.sml_lexer.proofs.LexLemmas.{no_reading}
 use Rattle.sml_lexer.proofs.NameLemmas.{keeps_on, keeps_same}
+use Rattle.sml_lexer.proofs.TableLemmas.{table-blank, table-token}
 use Rattle.sml_lexer.proofs.TokenLemmas.{all_names_stay, blank_reads, rises_on, rises_to, slices_stay, token_reads, token_slice}
 use Rattle.sml_lexer.proofs.lex.lex.Goals as goal
 
@@ -19,6 +20,7 @@ items-init c =
     let names = c.args.names.now in
     record {
       kept = keeps_same names;
+      table = rw none refl;
       reads = rw none (nothing bytes);
       held = rw none (All-nil (λ (t : Token). HoldsNames names t.kind));
       slices = rw none (All-nil (IsSlice bytes names));
@@ -42,6 +44,7 @@ items-preserved-in-Blank c =
     let left : length rest ≡ length (drop at bytes) = ap length c.rest.ensures in
     record {
       kept = keeps_on c.args.names.now a b i.kept k;
+      table = table-blank c.args.names.now a b tokens i.table (item_at rest) c.in_ok-len.ensures.table (drop len rest) is.same;
       reads = blank_reads a b bytes rest tokens at k i.held c.rest.ensures i.reads len is.same;
       held = all_names_stay a b tokens k i.held;
       slices = slices_stay bytes a b tokens k i.held i.slices;
@@ -71,6 +74,7 @@ items-preserved c =
     let slice = token_slice a b bytes rest tokens at k i.held c.rest.ensures i.reads t len refl refl is.same in
     record {
       kept = keeps_on c.args.names.now a b i.kept k;
+      table = table-token c.args.names.now a b tokens i.table (item_at rest) c.in_ok-len.ensures.table t more k i.held (ap words_of is.same) longer;
       reads = token_reads a b bytes rest tokens at k i.held c.rest.ensures i.reads t len refl refl is.same more longer within;
       held = All-same (λ (u : Token). HoldsNames b u.kind) more _ longer (All-push (λ (u : Token). HoldsNames b u.kind) tokens t (all_names_stay a b tokens k i.held) fits.2);
       slices = All-same (IsSlice bytes b) more _ longer (All-push (IsSlice bytes b) tokens t (slices_stay bytes a b tokens k i.held i.slices) slice);

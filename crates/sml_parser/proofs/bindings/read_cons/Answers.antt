@@ -17,14 +17,14 @@ returns-in_err-front c =
 pub returns-in_default : goal.returns-in_default
 returns-in_default c =
     let g = (rw c.in_ok-front.ensures.second at c.con_bind.ensures.gives) in
-    let h = cons-last c.args.source.now c.args.n c.args.fix.now (left c.args.source.now c.cons.rest.now) c.cons.cons.items c.cons.deepest (read_cons c.args.n c.args.fix.now (left c.args.source.now c.args.tokens.now)) c.in_ok-cons.cons.items c.max-deepest.result c.in_ok-front.field-0.1.it c.in_ok-front.field-0.1.depth c.in_ok-front.field-0.1.rest.now g.got
+    let h = cons-last c.args.source.now c.args.n c.args.fix.now (left c.args.source.now c.cons.rest.now) c.cons.cons.items c.cons.deepest (read_cons c.args.n c.args.fix.now (left c.args.source.now c.args.tokens.now)) c.in_ok-cons.cons.items c.max-deepest.result c.in_ok-front.got.it c.in_ok-front.got.depth c.in_ok-front.got.rest.now g.got
     (left c.args.source.now c.args.tokens.now) g.is g.same c.in_default.ensures (rw c.in_ok-front.ensures.first at c.in_ok-cons.ensures) c.max-deepest.ensures c.cons.invariant.short c.cons.invariant.going in
     record { gives = record { got = h.got; is = h.is; same = h.same } }
 
 pub cons-preserved : goal.cons-preserved
 cons-preserved c =
     let g = (rw c.in_ok-front.ensures.second at c.con_bind.ensures.gives) in
-    let h = cons-more c.args.source.now c.args.n c.args.fix.now (left c.args.source.now c.cons.rest.now) c.cons.cons.items c.cons.deepest (read_cons c.args.n c.args.fix.now (left c.args.source.now c.args.tokens.now)) c.in_ok-cons.cons.items c.max-deepest.result c.in_ok-front.field-0.1.it c.in_ok-front.field-0.1.depth c.in_ok-front.field-0.1.rest.now g.got
+    let h = cons-more c.args.source.now c.args.n c.args.fix.now (left c.args.source.now c.cons.rest.now) c.cons.cons.items c.cons.deepest (read_cons c.args.n c.args.fix.now (left c.args.source.now c.args.tokens.now)) c.in_ok-cons.cons.items c.max-deepest.result c.in_ok-front.got.it c.in_ok-front.got.depth c.in_ok-front.got.rest.now g.got
     g.is g.same c.in-Some.ensures (rw c.in_ok-front.ensures.first at c.in_ok-cons.ensures) c.max-deepest.ensures c.cons.invariant.going in
     let a = h.short in let b = c.cons.invariant.short in
     record { going = h.going; short = omega arith }

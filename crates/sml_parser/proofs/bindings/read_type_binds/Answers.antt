@@ -17,14 +17,14 @@ returns-in_err-front c =
 pub returns-in_default : goal.returns-in_default
 returns-in_default c =
     let g = (rw c.in_ok-front.ensures.second at c.type_bind.ensures.gives) in
-    let h = types-last c.args.source.now c.args.n (left c.args.source.now c.binds.rest.now) c.binds.binds.items c.binds.deepest (read_type_binds c.args.n (left c.args.source.now c.args.tokens.now)) c.in_ok-binds.binds.items c.max-deepest.result c.in_ok-front.field-0.1.it c.in_ok-front.field-0.1.depth c.in_ok-front.field-0.1.rest.now g.got
+    let h = types-last c.args.source.now c.args.n (left c.args.source.now c.binds.rest.now) c.binds.binds.items c.binds.deepest (read_type_binds c.args.n (left c.args.source.now c.args.tokens.now)) c.in_ok-binds.binds.items c.max-deepest.result c.in_ok-front.got.it c.in_ok-front.got.depth c.in_ok-front.got.rest.now g.got
     (left c.args.source.now c.args.tokens.now) g.is g.same c.in_default.ensures (rw c.in_ok-front.ensures.first at c.in_ok-binds.ensures) c.max-deepest.ensures c.binds.invariant.short c.binds.invariant.going in
     record { gives = record { got = h.got; is = h.is; same = h.same } }
 
 pub binds-preserved : goal.binds-preserved
 binds-preserved c =
     let g = (rw c.in_ok-front.ensures.second at c.type_bind.ensures.gives) in
-    let h = types-more c.args.source.now c.args.n (left c.args.source.now c.binds.rest.now) c.binds.binds.items c.binds.deepest (read_type_binds c.args.n (left c.args.source.now c.args.tokens.now)) c.in_ok-binds.binds.items c.max-deepest.result c.in_ok-front.field-0.1.it c.in_ok-front.field-0.1.depth c.in_ok-front.field-0.1.rest.now g.got
+    let h = types-more c.args.source.now c.args.n (left c.args.source.now c.binds.rest.now) c.binds.binds.items c.binds.deepest (read_type_binds c.args.n (left c.args.source.now c.args.tokens.now)) c.in_ok-binds.binds.items c.max-deepest.result c.in_ok-front.got.it c.in_ok-front.got.depth c.in_ok-front.got.rest.now g.got
     g.is g.same c.in-Some.ensures (rw c.in_ok-front.ensures.first at c.in_ok-binds.ensures) c.max-deepest.ensures c.binds.invariant.going in
     let a = h.short in let b = c.binds.invariant.short in
     record { going = h.going; short = omega arith }

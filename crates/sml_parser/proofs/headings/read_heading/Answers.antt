@@ -41,6 +41,6 @@ returns c =
     let yes = rw c.in_ok-agreed.ensures.second at (c.agreeing.ensures.agrees h.got.tree h.same.vid count) in
     let by = subst (λ (z : List Terminal). maybe_ty c.args.n (after_word res.Colon z) z ≡ ok t.got) h.same.rest t.is in
     let g = heading-done c.args.n c.args.fix.now (shape_from c.args.shape) (left s c.args.tokens.now) h.got h.is s c.args.shape
-    (record { shape = record { place = c.in_ok-place.field-0.it.place; vid_place = c.in_ok-place.field-0.it.vid_place; vid = c.in_ok-place.field-0.it.vid; count = length c.as_slice-count.result.now }; pats = c.in_ok-pats.field-0.0; ty = c.in_ok-pats.field-0.1.it })
-    c.in_ok-place.field-0.it c.in_ok-place.field-0.depth c.in_ok-place.field-0.rest.now c.in_ok-pats.field-0.1.depth c.max.result c.in_ok-pats.field-0.1.rest.now t.got refl yes h.same refl refl refl (ap (λ (z : Vec Pat Global). z.items) (c.in_ok-pats.ensures.first ∙ c.in_ok-agreed.ensures.first)) count by t.same c.max.ensures in
+    (record { shape = record { place = c.in_ok-place.field-0.it.place; vid_place = c.in_ok-place.field-0.it.vid_place; vid = c.in_ok-place.field-0.it.vid; count = length c.as_slice-count.result.now }; pats = c.in_ok-pats.pats; ty = c.in_ok-pats.ty.it })
+    c.in_ok-place.field-0.it c.in_ok-place.field-0.depth c.in_ok-place.field-0.rest.now c.in_ok-pats.ty.depth c.max.result c.in_ok-pats.ty.rest.now t.got refl yes h.same refl refl refl (ap (λ (z : Vec Pat Global). z.items) (c.in_ok-pats.ensures.first ∙ c.in_ok-agreed.ensures.first)) count by t.same c.max.ensures in
     record { gives = record { got = g.got; is = g.is; same = g.same } }

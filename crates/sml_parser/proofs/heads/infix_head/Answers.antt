@@ -13,8 +13,8 @@ returns c =
     let h = (rw c.in_ok-first.ensures.second at c.read_atpat.ensures.gives) in
     record {
       gives = λ i a p pl nl e k w le lt.
-          let g = infix-said s c.args.fix.now c.args.n i (left s c.args.tokens.now) lt (record { place = c.args.place; vid_place = c.args.name_place; vid = Named c.args.name; pats = c.in_ok-pats.pats }) pl a (record { place = p; it = c.args.name }) c.args.first c.in_ok-first.field-0.1.it c.args.depth c.in_ok-first.field-0.1.depth c.max.result
-          c.in_ok-first.field-0.1.rest.now h.got e k w le nl refl (rw c.in_ok-first.ensures.first at c.in_ok-pats.ensures) h.is h.same c.max.ensures in
+          let g = infix-said s c.args.fix.now c.args.n i (left s c.args.tokens.now) lt (record { place = c.args.place; vid_place = c.args.name_place; vid = Named c.args.name; pats = c.in_ok-pats.pats }) pl a (record { place = p; it = c.args.name }) c.args.first c.in_ok-first.second.it c.args.depth c.in_ok-first.second.depth c.max.result
+          c.in_ok-first.second.rest.now h.got e k w le nl refl (rw c.in_ok-first.ensures.first at c.in_ok-pats.ensures) h.is h.same c.max.ensures in
           record { got = g.got; is = g.is; same = g.same };
     }
 

@@ -28,7 +28,7 @@ patterns-preserved c =
     let h = (rw c.in_ok-others.ensures.second at c.read_atpat.ensures.gives) in
     let sh2 = h.same.shorter in let sh3 = ap (λ (z : List Terminal). length z) h.same.rest in
     record {
-      going = atpats-more s c.args.fix.now c.args.n c.args.front.items c.args.depth c.patterns.all.items c.patterns.deepest (left s c.patterns.rest.now) _ c.in_ok-all.all.items c.max-deepest.result c.in_ok-others.field-0.1.it c.in_ok-others.field-0.1.depth c.in_ok-others.field-0.1.rest.now h.got (rw c.in_ok-others.ensures.first at c.in_ok-all.ensures) c.max-deepest.ensures
+      going = atpats-more s c.args.fix.now c.args.n c.args.front.items c.args.depth c.patterns.all.items c.patterns.deepest (left s c.patterns.rest.now) _ c.in_ok-all.all.items c.max-deepest.result c.in_ok-others.pat.it c.in_ok-others.pat.depth c.in_ok-others.pat.rest.now h.got (rw c.in_ok-others.ensures.first at c.in_ok-all.ensures) c.max-deepest.ensures
           (sym c.begins_pat.ensures ∙ c.patterns-test.true) h.is h.same c.patterns.invariant.going;
       short = omega (arith, c.patterns.invariant.short);
     }

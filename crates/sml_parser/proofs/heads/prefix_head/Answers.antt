@@ -21,12 +21,12 @@ returns c =
 
 pub returns-in_err-first : goal.returns-in_err-first
 returns-in_err-first c =
-    let q = err_from_is_err_and c.from_residual.result c.from_residual.ensures.1 in
-    record { gives = λ i q pl nl lt. rw (q.1, q.2) (fails-then c.in_err-first.field-0.0 (read_atpat c.args.n c.args.fix.now (left c.args.source.now c.args.tokens.now)) _ c.in_err-first.ensures.gives) }
+    let r = err_from_is_err_and c.from_residual.result c.from_residual.ensures.1 in
+    record { gives = λ i q pl nl lt. rw (r.1, r.2) (fails-then c.in_err-first.field-0.0 (read_atpat c.args.n c.args.fix.now (left c.args.source.now c.args.tokens.now)) _ c.in_err-first.ensures.gives) }
 
 pub returns-in_err-pats : goal.returns-in_err-pats
 returns-in_err-pats c =
     let s = c.args.source.now in
     let h = c.in_ok-first.ensures.gives in
-    let q = err_from_is_err_and c.from_residual-in_err-pats.result c.from_residual-in_err-pats.ensures.1 in
-    record { gives = λ i q pl nl lt. rw (q.1, q.2) (prefix-fails s c.args.fix.now c.args.n (left s c.args.tokens.now) (place_at i) (record { place = q; it = c.args.vid }) c.in_ok-first.field-0.it c.in_ok-first.field-0.depth c.in_ok-first.field-0.rest.now c.in_err-pats.field-0.0 h.got h.is h.same c.in_err-pats.ensures.gives) }
+    let r = err_from_is_err_and c.from_residual-in_err-pats.result c.from_residual-in_err-pats.ensures.1 in
+    record { gives = λ i q pl nl lt. rw (r.1, r.2) (prefix-fails s c.args.fix.now c.args.n (left s c.args.tokens.now) (place_at i) (record { place = q; it = c.args.vid }) c.in_ok-first.field-0.it c.in_ok-first.field-0.depth c.in_ok-first.field-0.rest.now c.in_err-pats.field-0.0 h.got h.is h.same c.in_err-pats.ensures.gives) }

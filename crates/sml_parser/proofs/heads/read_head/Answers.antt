@@ -59,8 +59,8 @@ returns-in-Some-2 c =
           (c.bracket_head.ensures.gives i b.0 c.place_at-place.ensures (subst (λ (z : ℕ). IsPair s c.in-Some-2.pair i z b.0) (sym d) b.2) (omega arith));
     }
 
-pub returns : goal.returns
-returns c =
+pub returns-in-None : goal.returns-in-None
+returns-in-None c =
     let s = c.args.source.now in
     let i = left s c.args.tokens.now in
     let h = c.in_ok-it.ensures.gives in

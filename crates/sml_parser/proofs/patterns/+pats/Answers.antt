@@ -88,7 +88,7 @@ first_pat-returns-then-begins_pat t c =
     let h = rw c.in_ok-con-in-Some.ensures.second at c.read_atpat.ensures.gives in
     let e = rw (c.place_at.ensures, c.vid_place-name_place.ensures, c.in_ok-con-in-Some.ensures.first) at c.in_ok-applied-in-Some.ensures in
     let x : Placed LongVid = record { place = vid_place i; it = long_vid_of c.in-Some.long } in
-    let g = con-said s c.args.n c.args.fix.now i _ c.in_ok-con-in-Some.field-0.1.it x c.in_ok-con-in-Some.field-0.1.depth c.in-Some.after.now c.in_ok-con-in-Some.field-0.1.rest.now h.got (rw c.in-Some.is at c.in_ok-long.ensures) (sym c.begins_pat.ensures ∙ c.if-begins_pat.true) h.is h.same e in
+    let g = con-said s c.args.n c.args.fix.now i _ c.in_ok-con-in-Some.argument.it x c.in_ok-con-in-Some.argument.depth c.in-Some.after.now c.in_ok-con-in-Some.argument.rest.now h.got (rw c.in-Some.is at c.in_ok-long.ensures) (sym c.begins_pat.ensures ∙ c.if-begins_pat.true) h.is h.same e in
     record { gives = record { got = g.got; is = g.is; same = g.same } }
 
 pub typed_form-returns : goal.typed_form-returns
@@ -182,7 +182,7 @@ pub pat_row-returns-in_default-after_word : goal.pat_row-returns-in_default-afte
 pat_row-returns-in_default-after_word t c =
     let s = c.args.source.now in
     let h = (rw c.in_ok-front.ensures.second at c.pat_field.ensures.gives) in
-    let g = row-last s c.args.fix.now c.args.n c.fields.fields.items c.fields.deepest (left s c.fields.rest.now) _ c.in_ok-fields.fields.items c.max-deepest.result c.in_ok-front.field-0.1.it c.in_ok-front.field-0.1.depth c.in_ok-front.field-0.1.rest.now h.got (rw c.in_ok-front.ensures.first at c.in_ok-fields.ensures) c.max-deepest.ensures
+    let g = row-last s c.args.fix.now c.args.n c.fields.fields.items c.fields.deepest (left s c.fields.rest.now) _ c.in_ok-fields.fields.items c.max-deepest.result c.in_ok-front.field.it c.in_ok-front.field.depth c.in_ok-front.field.rest.now h.got (rw c.in_ok-front.ensures.first at c.in_ok-fields.ensures) c.max-deepest.ensures
     (left s c.args.tokens.now) c.in_default.ensures h.is h.same c.in_default-after_word.ensures c.fields.invariant.short c.fields.invariant.going in
     record { gives = record { got = g.got; is = g.is; same = g.same } }
 
@@ -190,11 +190,11 @@ pub pat_row-fields-preserved : goal.pat_row-fields-preserved
 pat_row-fields-preserved t c =
     let s = c.args.source.now in
     let h = (rw c.in_ok-front.ensures.second at c.pat_field.ensures.gives) in
-    let sh = word-shorter res.Comma (left s c.in_ok-front.field-0.1.rest.now) (left s c.in-Some-after_word.next.now) c.in-Some-after_word.ensures in
+    let sh = word-shorter res.Comma (left s c.in_ok-front.field.rest.now) (left s c.in-Some-after_word.next.now) c.in-Some-after_word.ensures in
     let sh2 = h.same.shorter in let sh3 = ap (λ (z : List Terminal). length z) h.same.rest in
     let lt : length (left s c.in-Some-after_word.next.now) < length (left s c.fields.rest.now) = omega arith in
     record {
-      going = row-more s c.args.fix.now c.args.n c.fields.fields.items c.fields.deepest (left s c.fields.rest.now) _ c.in_ok-fields.fields.items c.max-deepest.result c.in_ok-front.field-0.1.it c.in_ok-front.field-0.1.depth c.in_ok-front.field-0.1.rest.now h.got (rw c.in_ok-front.ensures.first at c.in_ok-fields.ensures) c.max-deepest.ensures
+      going = row-more s c.args.fix.now c.args.n c.fields.fields.items c.fields.deepest (left s c.fields.rest.now) _ c.in_ok-fields.fields.items c.max-deepest.result c.in_ok-front.field.it c.in_ok-front.field.depth c.in_ok-front.field.rest.now h.got (rw c.in_ok-front.ensures.first at c.in_ok-fields.ensures) c.max-deepest.ensures
           (left s c.in-Some-after_word.next.now) c.in_default.ensures h.is h.same c.in-Some-after_word.ensures lt c.fields.invariant.going;
       short = omega (arith, c.fields.invariant.short);
     }
@@ -214,7 +214,7 @@ pub more_pats-returns-in_default : goal.more_pats-returns-in_default
 more_pats-returns-in_default t c =
     let s = c.args.source.now in
     let h = (rw c.in_ok-others.ensures.second at c.read_pat.ensures.gives) in
-    let g = pats-last s c.args.fix.now c.args.n c.args.front.items c.args.depth c.patterns.all.items c.in_ok-all.all.items c.patterns.deepest c.max-deepest.result (left s c.patterns.rest.now) _ c.in_ok-others.field-0.1.it c.in_ok-others.field-0.1.depth c.in_ok-others.field-0.1.rest.now h.got (rw c.in_ok-others.ensures.first at c.in_ok-all.ensures) c.max-deepest.ensures
+    let g = pats-last s c.args.fix.now c.args.n c.args.front.items c.args.depth c.patterns.all.items c.in_ok-all.all.items c.patterns.deepest c.max-deepest.result (left s c.patterns.rest.now) _ c.in_ok-others.pat.it c.in_ok-others.pat.depth c.in_ok-others.pat.rest.now h.got (rw c.in_ok-others.ensures.first at c.in_ok-all.ensures) c.max-deepest.ensures
     (left s c.args.tokens.now) h.is h.same c.in_default.ensures c.patterns.invariant.short c.patterns.invariant.going in
     record { gives = record { got = g.got; is = g.is; same = g.same } }
 
@@ -222,11 +222,11 @@ pub more_pats-patterns-preserved : goal.more_pats-patterns-preserved
 more_pats-patterns-preserved t c =
     let s = c.args.source.now in
     let h = (rw c.in_ok-others.ensures.second at c.read_pat.ensures.gives) in
-    let sh = word-shorter res.Comma (left s c.in_ok-others.field-0.1.rest.now) (left s c.in-Some.next.now) c.in-Some.ensures in
+    let sh = word-shorter res.Comma (left s c.in_ok-others.pat.rest.now) (left s c.in-Some.next.now) c.in-Some.ensures in
     let sh2 = h.same.shorter in let sh3 = ap (λ (z : List Terminal). length z) h.same.rest in
     let lt : length (left s c.in-Some.next.now) < length (left s c.patterns.rest.now) = omega arith in
     record {
-      going = pats-more s c.args.fix.now c.args.n c.args.front.items c.args.depth c.patterns.all.items c.in_ok-all.all.items c.patterns.deepest c.max-deepest.result (left s c.patterns.rest.now) _ c.in_ok-others.field-0.1.it c.in_ok-others.field-0.1.depth c.in_ok-others.field-0.1.rest.now h.got (rw c.in_ok-others.ensures.first at c.in_ok-all.ensures) c.max-deepest.ensures
+      going = pats-more s c.args.fix.now c.args.n c.args.front.items c.args.depth c.patterns.all.items c.in_ok-all.all.items c.patterns.deepest c.max-deepest.result (left s c.patterns.rest.now) _ c.in_ok-others.pat.it c.in_ok-others.pat.depth c.in_ok-others.pat.rest.now h.got (rw c.in_ok-others.ensures.first at c.in_ok-all.ensures) c.max-deepest.ensures
           h.is h.same c.in-Some.ensures lt c.patterns.invariant.going;
       short = omega (arith, c.patterns.invariant.short);
     }
@@ -321,9 +321,9 @@ pat_parts-returns-in_default-clause-gives t c =
     let r : (read_pats c.args.n).pat c.args.fix.now (suc (infix_level (Some c.args.how))) (left s c.parts.rest.now) ≡ ok h.got = subst (λ (k : ℕ). (read_pats c.args.n).pat c.args.fix.now k (left s c.parts.rest.now) ≡ ok h.got) e h.is in
     λ p pl b.
     let g = c.parts.invariant.going p pl b in
-    let x = parts-whole s c.args.fix.now c.args.n p c.args.name (left s c.args.tokens.now) c.in_ok-all.all.items c.max-deepest.result c.in_ok-front.field-0.1.rest.now
-    (parts-none s c.args.fix.now c.args.n c.args.how g.0 c.parts.vid (left s c.parts.rest.now) c.parts.all.items c.parts.deepest _ g.2 c.in_ok-all.all.items c.max-deepest.result _ c.in_ok-front.field-0.1.it c.in_ok-front.field-0.1.depth c.in_ok-front.field-0.1.rest.now h.got (rw c.in_ok-front.ensures.first at c.in_ok-all.ensures) c.max-deepest.ensures
-    (part-of c.parts.vid_place c.place_at-place.result c.parts.vid c.in_ok-front.field-0.1.it _ _ g.1 c.place_at-place.ensures) r h.same (left s c.args.tokens.now) c.in_default.ensures c.parts.invariant.short) in
+    let x = parts-whole s c.args.fix.now c.args.n p c.args.name (left s c.args.tokens.now) c.in_ok-all.all.items c.max-deepest.result c.in_ok-front.pat.rest.now
+    (parts-none s c.args.fix.now c.args.n c.args.how g.0 c.parts.vid (left s c.parts.rest.now) c.parts.all.items c.parts.deepest _ g.2 c.in_ok-all.all.items c.max-deepest.result _ c.in_ok-front.pat.it c.in_ok-front.pat.depth c.in_ok-front.pat.rest.now h.got (rw c.in_ok-front.ensures.first at c.in_ok-all.ensures) c.max-deepest.ensures
+    (part-of c.parts.vid_place c.place_at-place.result c.parts.vid c.in_ok-front.pat.it _ _ g.1 c.place_at-place.ensures) r h.same (left s c.args.tokens.now) c.in_default.ensures c.parts.invariant.short) in
     record { got = x.got; is = x.is; same = x.same }
 
 pub pat_parts-returns-then-next_level-level-clause-gives : goal.pat_parts-returns-then-next_level-level-clause-gives
@@ -334,9 +334,9 @@ pat_parts-returns-then-next_level-level-clause-gives t c =
     let r : (read_pats c.args.n).pat c.args.fix.now (suc (infix_level (Some c.args.how))) (left s c.parts.rest.now) ≡ ok h.got = subst (λ (k : ℕ). (read_pats c.args.n).pat c.args.fix.now k (left s c.parts.rest.now) ≡ ok h.got) e h.is in
     λ p pl b.
     let g = c.parts.invariant.going p pl b in
-    let x = parts-whole s c.args.fix.now c.args.n p c.args.name (left s c.args.tokens.now) c.in_ok-all.all.items c.max-deepest.result c.in_ok-front.field-0.1.rest.now
-    (parts-other s c.args.fix.now c.args.n c.args.how g.0 c.parts.vid (left s c.parts.rest.now) c.parts.all.items c.parts.deepest _ g.2 c.in_ok-all.all.items c.max-deepest.result _ c.in_ok-front.field-0.1.it c.in_ok-front.field-0.1.depth c.in_ok-front.field-0.1.rest.now h.got (rw c.in_ok-front.ensures.first at c.in_ok-all.ensures) c.max-deepest.ensures
-    (part-of c.parts.vid_place c.place_at-place.result c.parts.vid c.in_ok-front.field-0.1.it _ _ g.1 c.place_at-place.ensures) r h.same _ _ c.vid_level-next_level.result c.vid_right-next_right.result c.in-Some.ensures (sym c.vid_level-next_level.ensures) (sym c.vid_right-next_right.ensures) (left s c.args.tokens.now)
+    let x = parts-whole s c.args.fix.now c.args.n p c.args.name (left s c.args.tokens.now) c.in_ok-all.all.items c.max-deepest.result c.in_ok-front.pat.rest.now
+    (parts-other s c.args.fix.now c.args.n c.args.how g.0 c.parts.vid (left s c.parts.rest.now) c.parts.all.items c.parts.deepest _ g.2 c.in_ok-all.all.items c.max-deepest.result _ c.in_ok-front.pat.it c.in_ok-front.pat.depth c.in_ok-front.pat.rest.now h.got (rw c.in_ok-front.ensures.first at c.in_ok-all.ensures) c.max-deepest.ensures
+    (part-of c.parts.vid_place c.place_at-place.result c.parts.vid c.in_ok-front.pat.it _ _ g.1 c.place_at-place.ensures) r h.same _ _ c.vid_level-next_level.result c.vid_right-next_right.result c.in-Some.ensures (sym c.vid_level-next_level.ensures) (sym c.vid_right-next_right.ensures) (left s c.args.tokens.now)
     (λ (z : c.vid_level-next_level.result ≡ infix_level (Some c.args.how)). c.if-next_level-level.true (z ∙ sym c.infix_level-level.ensures)) c.parts.invariant.short) in
     record { got = x.got; is = x.is; same = x.same }
 
@@ -348,8 +348,8 @@ pat_parts-returns-then-next_right-how-clause-gives t c =
     let r : (read_pats c.args.n).pat c.args.fix.now (suc (infix_level (Some c.args.how))) (left s c.parts.rest.now) ≡ ok h.got = subst (λ (k : ℕ). (read_pats c.args.n).pat c.args.fix.now k (left s c.parts.rest.now) ≡ ok h.got) e h.is in
     λ p pl b.
     let g = c.parts.invariant.going p pl b in
-    parts-bad s c.args.fix.now c.args.n c.args.how g.0 c.parts.vid (left s c.parts.rest.now) c.parts.all.items c.parts.deepest _ g.2 c.in_ok-all.all.items c.max-deepest.result _ c.in_ok-front.field-0.1.it c.in_ok-front.field-0.1.depth c.in_ok-front.field-0.1.rest.now h.got (rw c.in_ok-front.ensures.first at c.in_ok-all.ensures) c.max-deepest.ensures
-    (part-of c.parts.vid_place c.place_at-place.result c.parts.vid c.in_ok-front.field-0.1.it _ _ g.1 c.place_at-place.ensures) r h.same _ _ c.vid_level-next_level.result c.vid_right-next_right.result c.in-Some.ensures (sym c.vid_level-next_level.ensures) (sym c.vid_right-next_right.ensures)
+    parts-bad s c.args.fix.now c.args.n c.args.how g.0 c.parts.vid (left s c.parts.rest.now) c.parts.all.items c.parts.deepest _ g.2 c.in_ok-all.all.items c.max-deepest.result _ c.in_ok-front.pat.it c.in_ok-front.pat.depth c.in_ok-front.pat.rest.now h.got (rw c.in_ok-front.ensures.first at c.in_ok-all.ensures) c.max-deepest.ensures
+    (part-of c.parts.vid_place c.place_at-place.result c.parts.vid c.in_ok-front.pat.it _ _ g.1 c.place_at-place.ensures) r h.same _ _ c.vid_level-next_level.result c.vid_right-next_right.result c.in-Some.ensures (sym c.vid_level-next_level.ensures) (sym c.vid_right-next_right.ensures)
     (c.if-next_level-level.false ∙ c.infix_level-level.ensures) (differ c.vid_right-next_right.result c.args.how.right c.if-next_right-how.true)
 
 pub pat_parts-parts-preserved : goal.pat_parts-parts-preserved
@@ -358,17 +358,17 @@ pat_parts-parts-preserved t c =
     let h = (rw c.in_ok-front.ensures.second at c.read_pat.ensures.gives) in
     let e : c.infix_level-level.result + 1 ≡ suc (infix_level (Some c.args.how)) = (let k = c.infix_level-level.ensures in omega arith) in
     let r : (read_pats c.args.n).pat c.args.fix.now (suc (infix_level (Some c.args.how))) (left s c.parts.rest.now) ≡ ok h.got = subst (λ (k : ℕ). (read_pats c.args.n).pat c.args.fix.now k (left s c.parts.rest.now) ≡ ok h.got) e h.is in
-    let sh = infix-shorter c.args.fix.now (left s c.in_ok-front.field-0.1.rest.now) _ (left s c.in-Some.found.1.now) c.in-Some.ensures in
+    let sh = infix-shorter c.args.fix.now (left s c.in_ok-front.pat.rest.now) _ (left s c.in-Some.found.1.now) c.in-Some.ensures in
     let sh2 = h.same.shorter in let sh3 = ap (λ (z : List Terminal). length z) h.same.rest in
     let lt : length (left s c.in-Some.found.1.now) < length (left s c.parts.rest.now) = omega arith in
     let d = h.same.depth in let ff = h.same.fits in let m = c.max-deepest.ensures in
     record {
       going = λ p pl b.
           let g = c.parts.invariant.going p pl b in (
-            place_at (left s c.in_ok-front.field-0.1.rest.now),
+            place_at (left s c.in_ok-front.pat.rest.now),
             c.place_at-next_place.ensures,
-            parts-more s c.args.fix.now c.args.n c.args.how g.0 c.parts.vid (left s c.parts.rest.now) c.parts.all.items c.parts.deepest _ g.2 c.in_ok-all.all.items c.max-deepest.result _ c.in_ok-front.field-0.1.it c.in_ok-front.field-0.1.depth c.in_ok-front.field-0.1.rest.now h.got (rw c.in_ok-front.ensures.first at c.in_ok-all.ensures) c.max-deepest.ensures
-                (part-of c.parts.vid_place c.place_at-place.result c.parts.vid c.in_ok-front.field-0.1.it _ _ g.1 c.place_at-place.ensures) r h.same _ _ c.vid_level-next_level.result c.vid_right-next_right.result c.in-Some.ensures (sym c.vid_level-next_level.ensures) (sym c.vid_right-next_right.ensures)
+            parts-more s c.args.fix.now c.args.n c.args.how g.0 c.parts.vid (left s c.parts.rest.now) c.parts.all.items c.parts.deepest _ g.2 c.in_ok-all.all.items c.max-deepest.result _ c.in_ok-front.pat.it c.in_ok-front.pat.depth c.in_ok-front.pat.rest.now h.got (rw c.in_ok-front.ensures.first at c.in_ok-all.ensures) c.max-deepest.ensures
+                (part-of c.parts.vid_place c.place_at-place.result c.parts.vid c.in_ok-front.pat.it _ _ g.1 c.place_at-place.ensures) r h.same _ _ c.vid_level-next_level.result c.vid_right-next_right.result c.in-Some.ensures (sym c.vid_level-next_level.ensures) (sym c.vid_right-next_right.ensures)
                 (c.if-next_level-level.false ∙ c.infix_level-level.ensures) (agree c.vid_right-next_right.result c.args.how.right c.if-next_right-how.false) lt,
           );
       short = omega (arith, c.parts.invariant.short);

@@ -9,7 +9,7 @@ use Rattle.sml_tree.specs.TreeOf.{ty_of, ty_part_of, ty_field_of}
 use Rattle.sml_tree.specs.declared.tree.Ty.{Ty}
 use Rattle.sml_tree.specs.declared.tree.TyPart.{TyPart}
 use Rattle.sml_tree.specs.declared.tree.TyField.{TyField}
-use Rattle.sml_grammar.specs.Answer.{Read}
+use Rattle.sml_grammar.specs.Answer.{Read, ok}
 use Rattle.sml_grammar.specs.Terminals.{as_label, no_state}
 use Rattle.sml_grammar.specs.Types.{read_ty, arrow_rest, arrow_turn, ty_field_turn}
 use Rattle.sml_parser.specs.declared.got.Got.{Got}
@@ -90,25 +90,25 @@ pub ty_fields-returns-in_default-after_word : goal.ty_fields-returns-in_default-
 ty_fields-returns-in_default-after_word t c =
     let s = c.args.source.now in
     let i = left s c.args.tokens.now in
-    let p : TyField = record { label = c.in-Some.label; ty = c.in_ok-start.field-0.1.it } in
+    let p : TyField = record { label = c.in-Some.label; ty = c.in_ok-start.ty.it } in
     let h = (rw c.in_ok-start.ensures.second at c.read_ty.ensures.gives) in
     let s1 = first-shorter as_label (left s c.fields.rest.now) _ (left s c.in-Some.after_label.now) c.in-Some.ensures in
-    let s2 = word-shorter res.Colon (left s c.in-Some.after_label.now) (left s c.in_ok-others.field-0.1.now) (rw c.in_ok-others.ensures.second at c.past.ensures.word) in
-    let g = fields-last s c.args.n c.fields.all.items c.fields.deepest (left s c.fields.rest.now) _ p c.in_ok-start.field-0.1.depth (left s c.in-Some.after_label.now) (left s c.in_ok-others.field-0.1.now) c.in_ok-start.field-0.1.rest.now h.got {j = i} (ty_field-of c.in-Some.label c.in_ok-start.field-0.1.it) c.in-Some.ensures (rw c.in_ok-others.ensures.second at c.past.ensures.word) h.is h.same c.in_default-after_word.ensures (omega arith) c.fields.invariant.going in
-    record { gives = record { got = g.got; is = g.is; same = is_fields-at s c.args.n i _ c.max-deepest.result c.in_ok-start.field-0.1.rest.now _ c.in_ok-all.all.items g.got (rw (c.in_ok-start.ensures.first, c.in_ok-others.ensures.first) at c.in_ok-all.ensures) c.max-deepest.ensures g.same } }
+    let s2 = word-shorter res.Colon (left s c.in-Some.after_label.now) (left s c.in_ok-others.after_colon.now) (rw c.in_ok-others.ensures.second at c.past.ensures.word) in
+    let g = fields-last s c.args.n c.fields.all.items c.fields.deepest (left s c.fields.rest.now) _ p c.in_ok-start.ty.depth (left s c.in-Some.after_label.now) (left s c.in_ok-others.after_colon.now) c.in_ok-start.ty.rest.now h.got {j = i} (ty_field-of c.in-Some.label c.in_ok-start.ty.it) c.in-Some.ensures (rw c.in_ok-others.ensures.second at c.past.ensures.word) h.is h.same c.in_default-after_word.ensures (omega arith) c.fields.invariant.going in
+    record { gives = record { got = g.got; is = g.is; same = is_fields-at s c.args.n i _ c.max-deepest.result c.in_ok-start.ty.rest.now _ c.in_ok-all.all.items g.got (rw (c.in_ok-start.ensures.first, c.in_ok-others.ensures.first) at c.in_ok-all.ensures) c.max-deepest.ensures g.same } }
 
 pub ty_fields-fields-preserved : goal.ty_fields-fields-preserved
 ty_fields-fields-preserved t c =
     let s = c.args.source.now in
-    let p : TyField = record { label = c.in-Some.label; ty = c.in_ok-start.field-0.1.it } in
+    let p : TyField = record { label = c.in-Some.label; ty = c.in_ok-start.ty.it } in
     let h = (rw c.in_ok-start.ensures.second at c.read_ty.ensures.gives) in
     let s1 = first-shorter as_label (left s c.fields.rest.now) _ (left s c.in-Some.after_label.now) c.in-Some.ensures in
-    let s2 = word-shorter res.Colon (left s c.in-Some.after_label.now) (left s c.in_ok-others.field-0.1.now) (rw c.in_ok-others.ensures.second at c.past.ensures.word) in
-    let s3 = word-shorter res.Comma (left s c.in_ok-start.field-0.1.rest.now) (left s c.in-Some-after_word.next.now) c.in-Some-after_word.ensures in
+    let s2 = word-shorter res.Colon (left s c.in-Some.after_label.now) (left s c.in_ok-others.after_colon.now) (rw c.in_ok-others.ensures.second at c.past.ensures.word) in
+    let s3 = word-shorter res.Comma (left s c.in_ok-start.ty.rest.now) (left s c.in-Some-after_word.next.now) c.in-Some-after_word.ensures in
     let s4 = h.same.shorter in
     let s5 = ap (λ (z : List Terminal). length z) h.same.rest in
     let lt : length (left s c.in-Some-after_word.next.now) < length (left s c.fields.rest.now) = omega arith in
-    let g = fields-more s c.args.n c.fields.all.items c.fields.deepest (left s c.fields.rest.now) _ p c.in_ok-start.field-0.1.depth (left s c.in-Some.after_label.now) (left s c.in_ok-others.field-0.1.now) c.in_ok-start.field-0.1.rest.now h.got (ty_field-of c.in-Some.label c.in_ok-start.field-0.1.it) c.in-Some.ensures (rw c.in_ok-others.ensures.second at c.past.ensures.word) h.is h.same c.in-Some-after_word.ensures lt c.fields.invariant.going in
+    let g = fields-more s c.args.n c.fields.all.items c.fields.deepest (left s c.fields.rest.now) _ p c.in_ok-start.ty.depth (left s c.in-Some.after_label.now) (left s c.in_ok-others.after_colon.now) c.in_ok-start.ty.rest.now h.got (ty_field-of c.in-Some.label c.in_ok-start.ty.it) c.in-Some.ensures (rw c.in_ok-others.ensures.second at c.past.ensures.word) h.is h.same c.in-Some-after_word.ensures lt c.fields.invariant.going in
     record {
       going = listing-at (ty_field_turn (read_ty c.args.n)) (ty_field_list s.file) depth_ty_fields c.args.n [] 0 (ap (map ty_field_of) (rw (c.in_ok-start.ensures.first, c.in_ok-others.ensures.first) at c.in_ok-all.ensures)) c.max-deepest.ensures g;
       short = omega (arith, c.fields.invariant.short);
@@ -129,21 +129,21 @@ ty_parts-returns-in_err-front t c =
 pub ty_parts-returns-in_default : goal.ty_parts-returns-in_default
 ty_parts-returns-in_default t c =
     let s = c.args.source.now in
-    let p : TyPart = record { place = c.place_at-place.result; ty = c.in_ok-front.field-0.1.it } in
+    let p : TyPart = record { place = c.place_at-place.result; ty = c.in_ok-front.ty.it } in
     let h = (rw c.in_ok-front.ensures.second at c.read_ty.ensures.gives) in
-    let g = parts-last s c.args.n c.parts.all.items c.parts.deepest (left s c.parts.rest.now) _ p c.in_ok-front.field-0.1.depth c.in_ok-front.field-0.1.rest.now h.got {j = left s c.args.tokens.now} (ty_part-of c.place_at-place.result c.in_ok-front.field-0.1.it) c.place_at-place.ensures h.is h.same c.in_default.ensures c.parts.invariant.short c.parts.invariant.going in
-    record { gives = record { got = g.got; is = g.is; same = is_parts-at s c.args.n (left s c.args.tokens.now) _ c.max-deepest.result c.in_ok-front.field-0.1.rest.now _ c.in_ok-all.all.items g.got (rw c.in_ok-front.ensures.first at c.in_ok-all.ensures) c.max-deepest.ensures g.same } }
+    let g = parts-last s c.args.n c.parts.all.items c.parts.deepest (left s c.parts.rest.now) _ p c.in_ok-front.ty.depth c.in_ok-front.ty.rest.now h.got {j = left s c.args.tokens.now} (ty_part-of c.place_at-place.result c.in_ok-front.ty.it) c.place_at-place.ensures h.is h.same c.in_default.ensures c.parts.invariant.short c.parts.invariant.going in
+    record { gives = record { got = g.got; is = g.is; same = is_parts-at s c.args.n (left s c.args.tokens.now) _ c.max-deepest.result c.in_ok-front.ty.rest.now _ c.in_ok-all.all.items g.got (rw c.in_ok-front.ensures.first at c.in_ok-all.ensures) c.max-deepest.ensures g.same } }
 
 pub ty_parts-parts-preserved : goal.ty_parts-parts-preserved
 ty_parts-parts-preserved t c =
     let s = c.args.source.now in
-    let p : TyPart = record { place = c.place_at-place.result; ty = c.in_ok-front.field-0.1.it } in
+    let p : TyPart = record { place = c.place_at-place.result; ty = c.in_ok-front.ty.it } in
     let h = (rw c.in_ok-front.ensures.second at c.read_ty.ensures.gives) in
-    let s3 = word-shorter res.Arrow (left s c.in_ok-front.field-0.1.rest.now) (left s c.in-Some.next.now) c.in-Some.ensures in
+    let s3 = word-shorter res.Arrow (left s c.in_ok-front.ty.rest.now) (left s c.in-Some.next.now) c.in-Some.ensures in
     let s4 = h.same.shorter in
     let s5 = ap (λ (z : List Terminal). length z) h.same.rest in
     let lt : length (left s c.in-Some.next.now) < length (left s c.parts.rest.now) = omega arith in
-    let g = parts-more s c.args.n c.parts.all.items c.parts.deepest (left s c.parts.rest.now) _ p c.in_ok-front.field-0.1.depth c.in_ok-front.field-0.1.rest.now h.got (ty_part-of c.place_at-place.result c.in_ok-front.field-0.1.it) c.place_at-place.ensures h.is h.same c.in-Some.ensures lt c.parts.invariant.going in
+    let g = parts-more s c.args.n c.parts.all.items c.parts.deepest (left s c.parts.rest.now) _ p c.in_ok-front.ty.depth c.in_ok-front.ty.rest.now h.got (ty_part-of c.place_at-place.result c.in_ok-front.ty.it) c.place_at-place.ensures h.is h.same c.in-Some.ensures lt c.parts.invariant.going in
     record {
       going = listing-at (arrow_turn (read_ty c.args.n)) (ty_at_list s.file) depth_tys c.args.n [] 0 (ap (map ty_part_of) (rw c.in_ok-front.ensures.first at c.in_ok-all.ensures)) c.max-deepest.ensures g;
       short = omega (arith, c.parts.invariant.short);
@@ -167,18 +167,18 @@ pub types_after-returns-in_default : goal.types_after-returns-in_default
 types_after-returns-in_default t c =
     let s = c.args.source.now in
     let h = (rw c.in_ok-front.ensures.second at c.read_ty.ensures.gives) in
-    let g = tys-last s c.args.n c.args.separator (c.args.first ∷ []) c.args.depth c.types.all.items c.types.deepest (left s c.types.rest.now) _ c.in_ok-front.field-0.1.it c.in_ok-front.field-0.1.depth c.in_ok-front.field-0.1.rest.now h.got {j = left s c.args.tokens.now} (rw c.separator_level.ensures at h.is) h.same c.in_default.ensures c.types.invariant.short c.types.invariant.going in
-    record { gives = record { got = g.got; is = g.is; same = is_tys-at s c.args.n (left s c.args.tokens.now) _ c.max-deepest.result c.in_ok-front.field-0.1.rest.now (c.args.first ∷ []) _ c.in_ok-all-2.all.items c.args.depth g.got (rw c.in_ok-front.ensures.first at c.in_ok-all-2.ensures) c.max-deepest.ensures g.same } }
+    let g = tys-last s c.args.n c.args.separator (c.args.first ∷ []) c.args.depth c.types.all.items c.types.deepest (left s c.types.rest.now) _ c.in_ok-front.ty.it c.in_ok-front.ty.depth c.in_ok-front.ty.rest.now h.got {j = left s c.args.tokens.now} (subst (λ (k : ℕ). read_ty c.args.n k (left s c.types.rest.now) ≡ ok h.got) c.separator_level.ensures h.is) h.same c.in_default.ensures c.types.invariant.short c.types.invariant.going in
+    record { gives = record { got = g.got; is = g.is; same = is_tys-at s c.args.n (left s c.args.tokens.now) _ c.max-deepest.result c.in_ok-front.ty.rest.now (c.args.first ∷ []) _ c.in_ok-all-2.all.items c.args.depth g.got (rw c.in_ok-front.ensures.first at c.in_ok-all-2.ensures) c.max-deepest.ensures g.same } }
 
 pub types_after-types-preserved : goal.types_after-types-preserved
 types_after-types-preserved t c =
     let s = c.args.source.now in
     let h = (rw c.in_ok-front.ensures.second at c.read_ty.ensures.gives) in
-    let s3 = separator-shorter c.args.separator (left s c.in_ok-front.field-0.1.rest.now) (left s c.in-Some.next.now) c.in-Some.ensures in
+    let s3 = separator-shorter c.args.separator (left s c.in_ok-front.ty.rest.now) (left s c.in-Some.next.now) c.in-Some.ensures in
     let s4 = h.same.shorter in
     let s5 = ap (λ (z : List Terminal). length z) h.same.rest in
     let lt : length (left s c.in-Some.next.now) < length (left s c.types.rest.now) = omega arith in
-    let g = tys-more s c.args.n c.args.separator (c.args.first ∷ []) c.args.depth c.types.all.items c.types.deepest (left s c.types.rest.now) _ c.in_ok-front.field-0.1.it c.in_ok-front.field-0.1.depth c.in_ok-front.field-0.1.rest.now h.got (rw c.separator_level.ensures at h.is) h.same c.in-Some.ensures lt c.types.invariant.going in
+    let g = tys-more s c.args.n c.args.separator (c.args.first ∷ []) c.args.depth c.types.all.items c.types.deepest (left s c.types.rest.now) _ c.in_ok-front.ty.it c.in_ok-front.ty.depth c.in_ok-front.ty.rest.now h.got (subst (λ (k : ℕ). read_ty c.args.n k (left s c.types.rest.now) ≡ ok h.got) c.separator_level.ensures h.is) h.same c.in-Some.ensures lt c.types.invariant.going in
     record {
       going = listing-at (separator_turn c.args.separator (read_ty c.args.n)) (ty_list s.file) depth_tys c.args.n (ty_of c.args.first ∷ []) c.args.depth (ap (map ty_of) (rw c.in_ok-front.ensures.first at c.in_ok-all-2.ensures)) c.max-deepest.ensures g;
       short = omega (arith, c.types.invariant.short);
@@ -196,7 +196,7 @@ applied_to-returns-in-Some t c =
     let same = c.in_ok-all.ensures.first ∙ c.in_ok-arguments.ensures.first in
     record {
       gives = λ i a pl b d lt.
-          let x = arguments-done s c.args.n i (left s c.args.tokens.now) a (c.args.first ∷ []) c.in_ok-it.field-0.it.items c.args.depth c.in_ok-it.field-0.depth c.in_ok-it.field-0.rest.now h.got h.is h.same c.in_ok-arguments.field-0.1.now c.in-Some.rest.now _ _ (rw c.in_ok-arguments.ensures.second at c.past.ensures.word) (rw c.in-Some.is at (rw c.in_ok-all.ensures.second at c.long_tycon_at.ensures)) (ap (λ z. z ∷ []) b) d c.requires.fits lt
-          (con-of s i c.args.place c.place_at.result _ c.in_ok-all.field-0.0 c.in-Some.long c.in_ok-it.field-0.it.items pl c.place_at.ensures (rw same refl)) in
+          let x = arguments-done s c.args.n i (left s c.args.tokens.now) a (c.args.first ∷ []) c.in_ok-it.field-0.it.items c.args.depth c.in_ok-it.field-0.depth c.in_ok-it.field-0.rest.now h.got h.is h.same c.in_ok-arguments.closed.now c.in-Some.rest.now _ _ (rw c.in_ok-arguments.ensures.second at c.past.ensures.word) (rw c.in-Some.is at (rw c.in_ok-all.ensures.second at c.long_tycon_at.ensures)) (ap (λ z. z ∷ []) b) d c.requires.fits lt
+          (con-of s i c.args.place c.place_at.result _ c.in_ok-all.all c.in-Some.long c.in_ok-it.field-0.it.items pl c.place_at.ensures (rw same refl)) in
           record { got = x.got; is = x.is; same = x.same };
     }

@@ -1,3 +1,8 @@
+use Rattle.ty_solve.specs.SlotsOf.{seen, entries, tasks_of, write_of}
+use Rattle.ty_solve.specs.Task.{Remark}
+use Rattle.ty_solve.specs.Held.{AreHeldTasks, IsHeldMove}
+use Rattle.std.proofs.Common.{length, Some, IfOk, IfErr, sym, subst}
+use Rattle.ty_solve.proofs.Turns.{ok-all}
 use Rattle.std.proofs.Common.{subst, sym, IfOk, IfErr}
 use Rattle.ty_solve.specs.SlotsOf.{seen, entries, tasks_of, write_of}
 use Rattle.ty_solve.specs.Task.{Remark}
@@ -10,3 +15,9 @@ returns-in-Bind-clause-cause c = subst (λ x. IfErr c.bind_variable.result (Refu
 
 pub returns-in-Remark-clause-changes : goal.returns-in-Remark-clause-changes
 returns-in-Remark-clause-changes c = subst (λ x. IfOk c.lower_mark.result (λ _. Changes (entries c.args.s.now.types c.args.s.now.slots.items) (entries c.args.s.now.types c.lower_mark.new.s.slots.items) (tasks_of c.args.s.now.types c.args.tasks.now.items) (tasks_of c.args.s.now.types c.args.tasks.now.items) (write_of c.args.s.now.types x))) (sym c.in-Remark.is) (ok-at (λ l. Changes (entries c.args.s.now.types c.args.s.now.slots.items) (entries c.args.s.now.types c.lower_mark.new.s.slots.items) l l (Remark c.in-Remark.v c.in-Remark.mark)) c.lower_mark.result _ c.lower_mark.ensures.changes)
+
+pub bind_variable-requires-clause-held : goal.bind_variable-requires-clause-held
+bind_variable-requires-clause-held c = subst (λ x. IsHeldMove (length c.args.s.now.types) (Some x)) c.in-Bind.is c.requires.held
+
+pub returns-in-Remark-clause-held : goal.returns-in-Remark-clause-held
+returns-in-Remark-clause-held c = ok-all (AreHeldTasks (length c.args.s.now.types) c.args.tasks.now.items → AreHeldTasks (length c.args.s.now.types) c.args.tasks.now.items) c.lower_mark.result (λ h. h)

@@ -9,5 +9,5 @@ returns-in-Ok-clause-solvable c = solvable _ c.attempt.new.s.acyclic c.attempt.n
 
 pub invariant_of-s : goal.invariant_of-s
 invariant_of-s c =
-    let k = put-back c.args.s.now.types c.attempt.new.s.types c.args.s.now.slots.items c.put_back.new.slots.items c.attempt.ensures.types (c.put_back.ensures ∙ c.attempt.ensures.undone ∙ ap (λ d. undo d c.args.s.now.slots.items) c.new-trail.ensures.items) c.args.s.now.below c.args.s.now.acyclic c.args.s.now.inhabited in
-    record { below = k.below; acyclic = k.acyclic; inhabited = k.inhabited }
+    let k = put-back c.args.s.now.types c.attempt.new.s.types c.args.s.now.slots.items c.put_back.new.slots.items c.attempt.ensures.types (c.put_back.ensures ∙ c.attempt.ensures.undone ∙ ap (λ d. undo d c.args.s.now.slots.items) c.new-trail.ensures.items) c.args.s.now.held c.args.s.now.below c.args.s.now.acyclic c.args.s.now.inhabited in
+    record { held = k.held; below = k.below; acyclic = k.acyclic; inhabited = k.inhabited }

@@ -13,7 +13,7 @@ use Rattle.ty_solve.proofs.StepArms.{never-clash, arguments-steps, arguments-out
 use Rattle.ty_solve.proofs.step.admit_applied.Goals as goal
 
 pub returns-in_ok-admit_parts-in-ByArguments-clause-steps : goal.returns-in_ok-admit_parts-in-ByArguments-clause-steps
-returns-in_ok-admit_parts-in-ByArguments-clause-steps c = subst (λ (k : Mark). Steps (length (entries c.args.s.now.types c.args.s.now.slots.items)) (seen c.args.s.now.types c.args.s.now.slots.items) c.args.s.now.acyclic.0 (tasks_of c.args.s.now.types c.args.tasks.now.items) (Admit k (con (head_of c.args.h.now) (types_at c.args.s.now.types c.args.ts.now))) (tasks_of c.args.s.now.types c.admit_parts.new.tasks.items) None) (sym c.in-Equality.is) (arguments-steps _ _ _ _ _ (head_of c.args.h.now) _ _ refl (c.in-ByArguments.ensures) c.in_ok-admit_parts-in-ByArguments.ensures)
+returns-in_ok-admit_parts-in-ByArguments-clause-steps c = subst (λ (k : Mark). Steps (length (entries c.args.s.now.types c.args.s.now.slots.items)) (seen c.args.s.now.types c.args.s.now.slots.items) c.args.s.now.acyclic.0 (tasks_of c.args.s.now.types c.args.tasks.now.items) (Admit k (con (head_of c.args.h.now) (types_at c.args.s.now.types c.args.ts.now))) (tasks_of c.args.s.now.types c.admit_parts.new.tasks.items) None) (sym c.in-Equality.is) (arguments-steps _ _ _ _ _ (head_of c.args.h.now) _ _ refl (c.in-ByArguments.ensures) c.in_ok-admit_parts-in-ByArguments.ensures.parts)
 
 pub returns-in-Never-clause-cause : goal.returns-in-Never-clause-cause
 returns-in-Never-clause-cause c = subst (λ (k : Mark). RefusesTask (seen c.args.s.now.types c.args.s.now.slots.items) (Admit k (con (head_of c.args.h.now) (types_at c.args.s.now.types c.args.ts.now))) Clash) (sym c.in-Equality.is) (never-clash (seen c.args.s.now.types c.args.s.now.slots.items) (head_of c.args.h.now) _ _ refl (c.in-Never.ensures))

@@ -1,3 +1,4 @@
+use Rattle.std.proofs.Common.{◌≡◌, ◌<◌, ◌≤◌, ℕ, true, length}
 use Rattle.std.proofs.Common.{◌≡◌, ◌≤◌, ℕ, true, length}
 use Rattle.ty_core.specs.Types.{Typ}
 use Rattle.ty_table.specs.TypeAt.{type_at}
@@ -9,6 +10,7 @@ use Rattle.ty_solve.proofs.subst.Subst.find.Given as goal
 
 abbrev pub invariant-loop-next : goal.invariant-loop-next
 invariant-loop-next l = record {
+  held : l.t < length l.self.types → l.found < length l.self.types;
   same : (f : ℕ → Typ) → Fits f (seen l.self.types l.self.slots.items) → sub f (type_at l.self.types l.t) ≡ sub f (type_at l.self.types l.found);
   in_bounds : is_below (length l.self.slots.items) (type_at l.self.types l.t) ≡ true → is_below (length l.self.slots.items) (type_at l.self.types l.found) ≡ true;
   lighter : weight l.self.acyclic.0 (type_at l.self.types l.found) ≤ weight l.self.acyclic.0 (type_at l.self.types l.t);

@@ -1,0 +1,6 @@
+pub mod ProgExamples
+pub mod ReplaceLemmas
+pub mod TypedLemmas
+pub mod MissLemmas
+pub mod TypingExamples
+pub mod TestsExamples

@@ -1,0 +1,27 @@
+-- What is claimed of the two shapes.
+use Rattle.std.specs.Prelude.{◌≡◌, ℕ, Bool, true, false, List, []}
+use Rattle.mlc_base.specs.Run.{World}
+use Rattle.ty_core.specs.Types.{Typ, admits, no_variable}
+use Rattle.ty_core.specs.Statics.{replace}
+use Rattle.ty_core.specs.declared.scheme.Quantified.{Quantified}
+use Rattle.ir_plain.specs.Tree.{Exp, Op}
+use Rattle.ir_plain.specs.Meaning.{V, Scope, Apply, Go, eval}
+use Rattle.ir_poly.specs.Tests.{poly}
+use Rattle.ir_poly.specs.Types.{Constructor, admits_in}
+use Rattle.ir_poly.specs.TestsChecked.{Checked, OpChecked}
+use Rattle.ir_poly.specs.TestsTyped.{Typed, OpTyped}
+
+-- a program that is checked is typed, whatever types its variables stand for; a generalised binding in it at all types that its parameters may stand for
+abbrev pub CheckedIsTyped : Type 0
+CheckedIsTyped = (table : List Constructor) (m : Bool) (e : Exp poly) (t : Typ) → Checked table m [] [] e t → (s : ℕ → Typ) → Typed table m s [] e (replace s t)
+
+-- the same under parameters: they may stand for types, where they admit equality for such as do
+abbrev pub CheckedIsTypedUnder : Type 0
+CheckedIsTypedUnder = (table : List Constructor) (D : List Quantified) (o : Op poly) (t : Typ) → OpChecked table D [] o t
+    → (s : ℕ → Typ) → ((v : ℕ) → admits_in D v ≡ true → admits no_variable (s v) ≡ true) → OpTyped table s [] o (replace s t)
+
+-- what is checked where no miss goes on doesn't miss: it is all one what is done there
+abbrev pub NeverMisses : Type 0
+NeverMisses =
+    (table : List Constructor) (e : Exp poly) (t : Typ) → Checked table false [] [] e t
+    → (call : Apply poly) (env : Scope poly) (w : World (V poly)) (other other' : Go poly) → eval call e env w other ≡ eval call e env w other'

@@ -1,0 +1,11 @@
+pub mod Prog
+pub mod ProgMeaning
+pub mod ProgOnce
+pub mod ProgWeight
+pub mod Tests
+pub mod Types
+pub mod TestsChecked
+pub mod TestsTyped
+pub mod ProgChecked
+pub mod WellFormed
+pub mod Laws

@@ -1,0 +1,14 @@
+// Laws of the form with explicit instances, as contracts.
+
+ghost use Rattle.ir_poly.specs.Laws.{CheckedIsTyped, CheckedIsTypedUnder, NeverMisses};
+
+/// Tests that a checker accepts are typed at all types that parameters may stand for.
+pub fn checked_is_typed()
+    ensures whole { CheckedIsTyped }
+    ensures under { CheckedIsTypedUnder }
+{}
+
+/// Tests that a checker accepts where no miss goes on never miss.
+pub fn never_misses()
+    ensures { NeverMisses }
+{}

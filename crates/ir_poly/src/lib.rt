@@ -1,0 +1,4 @@
+// The first inner form, with explicit instances: with source matches, and in plain evaluation order. Definitions, and laws of them.
+#![tactic(auto)]
+
+pub mod law;

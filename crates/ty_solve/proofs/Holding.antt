@@ -1,0 +1,89 @@
+-- Numbers that the table has.
+use Rattle.std.proofs.Common.{◌≡◌, ◌<◌, ◌≤◌, ℕ, zero, suc, List, [], ◌∷◌, ◌++◌, length, get_or, set, take, Bool, true, false, if◌then◌else◌, refl, sym, ap, ap₂, subst, ◌∙◌, arith}
+use Rattle.ty_core.specs.Types.{Typ, var}
+use Rattle.ty_core.specs.declared.mark.Mark.{Mark}
+use Rattle.ty_table.specs.TypeAt.{type_at}
+use Rattle.ty_solve.specs.Substitution.{bound}
+use Rattle.ty_solve.specs.Held.{IsHeld, AreHeld, IsHeldTask, AreHeldTasks}
+use Rattle.ty_solve.specs.SlotsOf.{entry_of, entries, seen, look}
+use Rattle.ty_solve.specs.Weight.{AreBelow, IsAcyclic, AreInhabited}
+use Rattle.ty_solve.specs.declared.subst.Slot.{Slot}
+use Rattle.ty_solve.specs.declared.subst.Slot.TheVariants.{Open, Full}
+use Rattle.ty_solve.specs.declared.task.Todo.{Todo}
+
+pub held-push : (n : ℕ) (l new : List Todo) (x : Todo) → new ≡ l ++ x ∷ [] → AreHeldTasks n l → IsHeldTask n x → AreHeldTasks n new
+held-push n l new x e h k = subst (AreHeldTasks n) (sym e) (go l h)
+  where
+    go : (l : List Todo) → AreHeldTasks n l → AreHeldTasks n (l ++ x ∷ [])
+    go [] h = (k, tt)
+    go (y ∷ l) h = (h.0, go l h.1)
+
+pub held-pop : (n : ℕ) (l old : List Todo) (x : Todo) → old ≡ l ++ x ∷ [] → AreHeldTasks n old → AreHeldTasks n l × IsHeldTask n x
+held-pop n l old x e h = go l (subst (AreHeldTasks n) e h)
+  where
+    go : (l : List Todo) → AreHeldTasks n (l ++ x ∷ []) → AreHeldTasks n l × IsHeldTask n x
+    go [] h = (tt, h.0)
+    go (y ∷ l) h = let p = go l h.1 in ((h.0, p.0), p.1)
+
+held-snoc : (n : ℕ) (os : List Slot) (o : Slot) → AreHeld n os → IsHeld n o → AreHeld n (os ++ o ∷ [])
+held-snoc n [] o h k = (k, tt)
+held-snoc n (x ∷ os) o h k = (h.0, held-snoc n os o h.1 k)
+
+pub held-fresh : (n : ℕ) (b : Bool) (k : Mark) (old new : List Slot) → new ≡ (if b then old ++ Open k ∷ [] else old) → AreHeld n old → AreHeld n new
+held-fresh n true k old new e h = subst (AreHeld n) (sym e) (held-snoc n old (Open k) h tt)
+held-fresh n false k old new e h = subst (AreHeld n) (sym e) h
+
+pub held-set : (n : ℕ) (os : List Slot) (v : ℕ) (o : Slot) → AreHeld n os → IsHeld n o → AreHeld n (set os v o)
+held-set n [] v o h k = tt
+held-set n (x ∷ os) zero o h k = (k, h.1)
+held-set n (x ∷ os) (suc v) o h k = (h.0, held-set n os v o h.1 k)
+
+pub held-get : (n : ℕ) (os : List Slot) (v : ℕ) (o : Slot) → v < length os → o ≡ get_or os v o → AreHeld n os → IsHeld n o
+held-get n [] v o lt e h = absurd (omega arith)
+held-get n (x ∷ os) zero o lt e h = subst (IsHeld n) (sym e) h.0
+held-get n (x ∷ os) (suc v) o lt e h = held-get n os v o (omega arith) e h.1
+
+held-more : (m n : ℕ) (os : List Slot) → m ≤ n → AreHeld m os → AreHeld n os
+held-more m n [] le h = tt
+held-more m n (Open k ∷ os) le h = (tt, held-more m n os le h.1)
+held-more m n (Full t ∷ os) le h = (let lt = h.0 in omega arith, held-more m n os le h.1)
+
+-- a table that has grown
+
+taken-length : {A : Type 0} (n : ℕ) (l : List A) → length (take n l) ≤ length l
+taken-length zero [] = omega arith
+taken-length zero (x ∷ l) = omega arith
+taken-length (suc n) [] = omega arith
+taken-length (suc n) (x ∷ l) = let p = taken-length n l in omega arith
+
+taken-get : {A : Type 0} (d : A) (n k : ℕ) (l : List A) → k < n → get_or (take n l) k d ≡ get_or l k d
+taken-get d zero k l lt = absurd (omega arith)
+taken-get d (suc n) k [] lt = refl
+taken-get d (suc n) zero (x ∷ l) lt = refl
+taken-get d (suc n) (suc k) (x ∷ l) lt = taken-get d n k l (omega arith)
+
+pub type-stays : (ts us : List Typ) (k : ℕ) → take (length ts) us ≡ ts → k < length ts → type_at us k ≡ type_at ts k
+type-stays ts us k e lt = sym (taken-get (var 0) (length ts) k us lt) ∙ ap (λ l. get_or l k (var 0)) e
+
+entries-stay : (ts us : List Typ) (os : List Slot) → take (length ts) us ≡ ts → AreHeld (length ts) os → entries us os ≡ entries ts os
+entries-stay ts us [] e h = refl
+entries-stay ts us (Open k ∷ os) e h = ap (λ l. entry_of ts (Open k) ∷ l) (entries-stay ts us os e h.1)
+entries-stay ts us (Full t ∷ os) e h = ap₂ (λ x l. bound x ∷ l) (type-stays ts us t e h.0) (entries-stay ts us os e h.1)
+
+pub record IsWhole (ts us : List Typ) (os : List Slot) : Type 0 where
+  pub held : AreHeld (length us) os
+  pub below : AreBelow (length os) (seen us os)
+  pub acyclic : IsAcyclic (seen us os)
+  pub inhabited : AreInhabited (seen us os)
+  pub says : seen us os ≡ seen ts os
+
+pub table-grown : (ts us : List Typ) (os : List Slot) → take (length ts) us ≡ ts → AreHeld (length ts) os → AreBelow (length os) (seen ts os) → IsAcyclic (seen ts os) → AreInhabited (seen ts os) → IsWhole ts us os
+table-grown ts us os e h b a i =
+    let s = ap look (entries-stay ts us os e h) in
+    record {
+      held = held-more (length ts) (length us) os (let p = taken-length (length ts) us in let q = ap length e in omega arith) h;
+      below = subst (AreBelow (length os)) (sym s) b;
+      acyclic = subst IsAcyclic (sym s) a;
+      inhabited = subst AreInhabited (sym s) i;
+      says = s;
+    }

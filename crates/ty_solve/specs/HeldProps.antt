@@ -1,0 +1,15 @@
+-- That a table has the numbers of slots is one fact.
+use Rattle.std.specs.Prelude.{ℕ, List, [], ◌∷◌}
+use Rattle.std.proofs.Props.{props}
+use mathlib.Core.HLevel.{×_prop, Unit-prop}
+use Rattle.ty_solve.specs.declared.subst.Slot.{Slot}
+use Rattle.ty_solve.specs.declared.subst.Slot.TheVariants.{Open, Full}
+use Rattle.ty_solve.specs.Held.{IsHeld, AreHeld}
+
+IsHeld-prop : (n : ℕ) (o : Slot) → IsProp (IsHeld n o)
+IsHeld-prop n (Open k) = Unit-prop
+IsHeld-prop n (Full t) = hlevel props
+
+pub AreHeld-prop : (n : ℕ) (os : List Slot) → IsProp (AreHeld n os)
+AreHeld-prop n [] = Unit-prop
+AreHeld-prop n (o ∷ os) = ×_prop (IsHeld-prop n o) (AreHeld-prop n os)
