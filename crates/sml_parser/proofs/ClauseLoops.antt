@@ -7,13 +7,13 @@ use Rattle.mlc_base.specs.declared.place.Place.{Place}
 use Rattle.mlc_base.specs.declared.token.Token.{Token}
 use Rattle.mlc_base.specs.declared.token.Reserved.TheVariants as res
 use Rattle.sml_tree.specs.Terminal.{Terminal}
-use Rattle.sml_tree.specs.Bare.{at, bare_exp, bare_some, clause_list, clauses_place, clauses_vid, head_pats}
+use Rattle.sml_tree.specs.Bare.{at, bare_exp, bare_some, clause_list, clauses_place, clauses_vid, clauses_vid_place, head_pats}
 use Rattle.sml_tree.specs.Derived as derived
 use Rattle.sml_tree.specs.Derived.{with_result}
 use Rattle.sml_tree.specs.Depth.{depth, depth_head, depth_some, depth_clauses}
 use Rattle.sml_tree.specs.Fixity.{Fixity, is_vid}
 use Rattle.sml_tree.specs.ReadTree as read_tree
-use Rattle.sml_tree.specs.ReadTree.{Head, head_place, head_vid, head_count, exp_place, Clauses, last_clause, clause}
+use Rattle.sml_tree.specs.ReadTree.{Head, head_place, head_vid, head_vid_place, head_count, exp_place, Clauses, last_clause, clause}
 use Rattle.sml_tree.specs.TreeOf.{exp_of, pat_of, clause_of, function_of, some_ty_of}
 use Rattle.sml_tree.specs.declared.ident.Vid.{Vid}
 use Rattle.sml_tree.specs.declared.ident.Vid.TheVariants.{Named, Fresh, Equals}
@@ -65,6 +65,10 @@ abbrev pub PlaceIs : ℕ → Option headings.Shape → (Clauses → Clauses) →
 PlaceIs f None put = (b : Clauses) → clauses_place (put b) ≡ clauses_place b
 PlaceIs f (Some x) put = (b : Clauses) → at f (clauses_place (put b)) ≡ x.place
 
+abbrev pub VidPlaceIs : ℕ → Option headings.Shape → (Clauses → Clauses) → Type 0
+VidPlaceIs f None put = (b : Clauses) → clauses_vid_place (put b) ≡ clauses_vid_place b
+VidPlaceIs f (Some x) put = (b : Clauses) → at f (clauses_vid_place (put b)) ≡ x.vid_place
+
 vid-of : (shape : Option headings.Shape) (put : Clauses → Clauses) (b : Clauses) (h : Head) (x : headings.Shape) → clauses_vid b ≡ head_vid h → x.vid ≡ head_vid h → VidIs shape put → clauses_vid (put b) ≡ (first_of shape x).vid
 vid-of None put b h x p q g = g b ∙ p ∙ sym q
 vid-of (Some y) put b h x p q g = g b
@@ -72,6 +76,10 @@ vid-of (Some y) put b h x p q g = g b
 place-of : (f : ℕ) (shape : Option headings.Shape) (put : Clauses → Clauses) (b : Clauses) (h : Head) (x : headings.Shape) → clauses_place b ≡ head_place h → x.place ≡ at f (head_place h) → PlaceIs f shape put → at f (clauses_place (put b)) ≡ (first_of shape x).place
 place-of f None put b h x p q g = ap (at f) (g b ∙ p) ∙ sym q
 place-of f (Some y) put b h x p q g = g b
+
+vid_place-of : (f : ℕ) (shape : Option headings.Shape) (put : Clauses → Clauses) (b : Clauses) (h : Head) (x : headings.Shape) → clauses_vid_place b ≡ head_vid_place h → x.vid_place ≡ at f (head_vid_place h) → VidPlaceIs f shape put → at f (clauses_vid_place (put b)) ≡ (first_of shape x).vid_place
+vid_place-of f None put b h x p q g = ap (at f) (g b ∙ p) ∙ sym q
+vid_place-of f (Some y) put b h x p q g = g b
 
 shape-kept : (shape : Option headings.Shape) (h : Head) (x : headings.Shape) → agrees (shape_from shape) h ≡ true → x.vid ≡ head_vid h → x.count ≡ head_count h → Some (shape_of h) ≡ shape_from (Some (first_of shape x))
 shape-kept None h x a p q = rw (p, q) refl
@@ -121,11 +129,12 @@ pub record ClausesGoing (s : Source) (n : ℕ) (f : Fixity) (shape : Option head
   pub deep : (b : Clauses) → depth_clauses (put b) ≡ max d (depth_clauses b)
   pub vid : VidIs shape put
   pub place : PlaceIs s.file shape put
+  pub vid_place : VidPlaceIs s.file shape put
   pub fits : d ≤ n
 
 module _ (s : Source) (n : ℕ) (f : Fixity) where
   pub clauses-start : (i : List Terminal) (all : List Clause) → all ≡ [] → ClausesGoing s n f None i all 0 (read_clauses n (readers n).exp f i)
-  clauses-start i all e = record { put = λ b. b; going = going-start (clause_turn n (readers n).exp f) None i; shows = λ b. rw e refl; deep = λ b. omega arith; vid = λ b. refl; place = λ b. refl; fits = omega arith }
+  clauses-start i all e = record { put = λ b. b; going = going-start (clause_turn n (readers n).exp f) None i; shows = λ b. rw e refl; deep = λ b. omega arith; vid = λ b. refl; place = λ b. refl; vid_place = λ b. refl; fits = omega arith }
 
   module _ {shape : Option headings.Shape} {i : List Terminal} {all : List Clause} {d : ℕ} {total : Answer Clauses} (g : ClausesGoing s n f shape i all d total) where
     pub clauses-fail-heading : (e : Stop) → Fails e (read_heading n f (shape_from shape) i) → Fails e total
@@ -172,6 +181,7 @@ module _ (s : Source) (n : ℕ) (f : Fixity) where
               deep = λ b. deepest b (g.deep (clause h.tree.head h.tree.ty y.tree b)) same_heading.deep same_exp.deep;
               vid = λ b. vid-of shape g.put (clause h.tree.head h.tree.ty y.tree b) h.tree.head x.shape refl same_heading.vid g.vid;
               place = λ b. place-of s.file shape g.put (clause h.tree.head h.tree.ty y.tree b) h.tree.head x.shape refl same_heading.place g.place;
+              vid_place = λ b. vid_place-of s.file shape g.put (clause h.tree.head h.tree.ty y.tree b) h.tree.head x.shape refl same_heading.vid_place g.vid_place;
               fits = fit;
             }
           where
@@ -179,7 +189,7 @@ module _ (s : Source) (n : ℕ) (f : Fixity) where
                 hd ≡ max (depth_head h.tree.head) (depth_some h.tree.ty) → yd ≡ depth y.tree → depth_clauses (g.put (clause h.tree.head h.tree.ty y.tree b)) ≡ max d' (depth_clauses b)
             deepest b p q r = omega (arith, deeper)
 
-        pub clauses-last : (j : List Terminal) (function : Function) → function_of function ≡ record { place = (first_of shape x.shape).place; vid = (first_of shape x.shape).vid; clauses = map clause_of all' } →
+        pub clauses-last : (j : List Terminal) (function : Function) → function_of function ≡ record { place = (first_of shape x.shape).place; vid_place = (first_of shape x.shape).vid_place; vid = (first_of shape x.shape).vid; clauses = map clause_of all' } →
             after_word res.Bar (left s o) ≡ None → length i ≤ length j → length y.rest < length i → Gave (λ (z : Function) r. IsFunction s n j z d' o r) function total
         clauses-last j function is sep le lt =
             let sep' : after_word res.Bar y.rest ≡ None = subst (λ (z : List Terminal). after_word res.Bar z ≡ None) same_exp.rest sep in
@@ -189,13 +199,14 @@ module _ (s : Source) (n : ℕ) (f : Fixity) where
             let dd : d' ≡ depth_clauses (g.put (last_clause h.tree.head h.tree.ty y.tree)) = omega (arith, deeper) in
             let e1 = vid-of shape g.put (last_clause h.tree.head h.tree.ty y.tree) h.tree.head x.shape refl same_heading.vid g.vid in
             let e2 = place-of s.file shape g.put (last_clause h.tree.head h.tree.ty y.tree) h.tree.head x.shape refl same_heading.place g.place in
+            let e4 = vid_place-of s.file shape g.put (last_clause h.tree.head h.tree.ty y.tree) h.tree.head x.shape refl same_heading.vid_place g.vid_place in
             let e3 : map clause_of all' ≡ clause_list s.file (g.put (last_clause h.tree.head h.tree.ty y.tree)) = items ∙ sym (g.shows (last_clause h.tree.head h.tree.ty y.tree)) in
             record {
               got = record { tree = g.put (last_clause h.tree.head h.tree.ty y.tree); rest = y.rest };
               is = going-last (clause_turn n (readers n).exp f) one g.going;
               same = record {
                 rest = same_exp.rest;
-                same = is ∙ rw (e1, e2, e3) refl;
+                same = is ∙ rw (e1, e2, e3, e4) refl;
                 deep = dd;
                 fits = subst (λ (z : ℕ). z ≤ n) dd k6;
                 shorter = omega arith;

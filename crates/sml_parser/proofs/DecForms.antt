@@ -7,26 +7,29 @@ use Rattle.mlc_base.specs.declared.token.Reserved.{Reserved}
 use Rattle.mlc_base.specs.declared.token.Reserved.TheVariants as res
 use Rattle.sml_tree.specs.Terminal.{Terminal, reserved, number, constant, alpha, symbol, star, long_alpha, long_symbol, long_star, type_var}
 use Rattle.sml_tree.specs.BareTree as bare
-use Rattle.sml_tree.specs.Bare.{at, bare_pat, bare_exp, bare_decs, plain_binds, all_binds, recursive_binds}
+use Rattle.sml_tree.specs.Bare.{at, bare_pat, bare_exp, bare_decs, functions, plain_binds, all_binds, recursive_binds}
+use Rattle.sml_tree.specs.Depth.{depth_funs}
+use Rattle.sml_tree.specs.Derived as derived
+use Rattle.sml_tree.specs.Derived.{fun_dec_of}
 use Rattle.sml_tree.specs.Fixity.{Fixity}
 use Rattle.sml_tree.specs.Levels.{added}
 use Rattle.sml_tree.specs.ReadTree as read_tree
-use Rattle.sml_tree.specs.ReadTree.{pat_place, Binds, last_bind, bind, rec_binds, Decs, no_decs, dec, val_dec, local_dec}
+use Rattle.sml_tree.specs.ReadTree.{pat_place, Binds, last_bind, bind, rec_binds, Decs, no_decs, dec, val_dec, fun_dec, Funs, local_dec}
 use Rattle.sml_tree.specs.TreeOf.{dec_of, decs_of, bind_of, binds_of}
 use Rattle.sml_tree.specs.declared.tree.Dec.{Dec}
 use Rattle.sml_tree.specs.declared.tree.Bind.{Bind}
 use Rattle.sml_tree.specs.declared.ident.Tyvar.{Tyvar}
 use Rattle.sml_grammar.specs.Answer.{Read, Answer, ok, bad, deep, read, then_read}
 use Rattle.sml_grammar.specs.Terminals.{Taken, after_word, first_as, on_taken, place_at, tail, word_at, word_then}
-use Rattle.sml_grammar.specs.Bindings.{read_tyvars, precedence_then, as_digit}
-use Rattle.sml_grammar.specs.Expressions.{Reader, DecsReader, readers, read_binds, DecStart, infix_start, infixr_start, dec_start, dec_by, directive, infix_directive, local_rest}
+use Rattle.sml_grammar.specs.Bindings.{read_tyvars, tyvars_place, precedence_then, as_digit}
+use Rattle.sml_grammar.specs.Expressions.{Reader, DecsReader, readers, read_binds, read_funs, DecStart, infix_start, infixr_start, dec_start, dec_by, directive, infix_directive, local_rest}
 use Rattle.sml_parser.specs.declared.source.Source.{Source}
 use Rattle.sml_parser.specs.declared.stop.Stop.{Stop}
 use Rattle.sml_parser.specs.declared.got.Got.{Got}
 use Rattle.sml_parser.specs.Gives.{Fails, Gave, Gives}
 use Rattle.sml_parser.specs.Left.{left}
 use Rattle.sml_parser.specs.BindingsRead.{IsTyvars}
-use Rattle.sml_parser.specs.ExpressionsRead.{IsDecs}
+use Rattle.sml_parser.specs.ExpressionsRead.{IsDecs, IsList}
 use Rattle.sml_parser.specs.DeclarationsRead.{IsDec, IsBinds, simple_by, word_start, inner_decs, local_by, plain_list, bind_list, recursive_list}
 use Rattle.sml_parser.proofs.ExpLemmas.{decs_all}
 use Rattle.sml_parser.proofs.Loop.{fails-then}
@@ -275,7 +278,7 @@ binds-recursive file (rec_binds b) = binds-all file b
 
 pub val-done : (s : Source) (n : ℕ) (self : Reader) (inner : DecsReader) (f : Fixity) (i : List Terminal) (as_ : List Tyvar) (d : ℕ) (o : List Token) (a : Read (List Tyvar)) (ps rs : List Bind) (e : ℕ) (o2 : List Token) (b : Read Binds) (t : Dec) →
     word_at i ≡ Some res.Val → read_tyvars (tail i) ≡ ok a → IsTyvars s (tail i) as_ d o a → read_binds n self f (left s o) ≡ ok b → IsBinds s n (left s o) ps rs e o2 b →
-    dec_of t ≡ bare.val_dec (at s.file (place_at i)) as_ (binds_of (map bind_of ps)) (binds_of (map bind_of rs)) → Gave (λ (_ : Unit {0}) r. IsDec f f s n i (Some t) e o2 r) tt (dec_by n self inner f (dec_start i))
+    dec_of t ≡ bare.val_dec (at s.file (place_at i)) (at s.file (tyvars_place (place_at i) (tail i) as_)) as_ (binds_of (map bind_of ps)) (binds_of (map bind_of rs)) → Gave (λ (_ : Unit {0}) r. IsDec f f s n i (Some t) e o2 r) tt (dec_by n self inner f (dec_start i))
 val-done s n self inner f i as_ d o a ps rs e o2 b t w by1 is1 by2 is2 is_dec =
     let start = starts-with i (Some res.Val) w in
     let by3 : read_binds n self f a.rest ≡ ok b = subst (λ (z : List Terminal). read_binds n self f z ≡ ok b) is1.rest by2 in
@@ -284,9 +287,23 @@ val-done s n self inner f i as_ d o a ps rs e o2 b t w by1 is1 by2 is2 is_dec =
     let p3 = is1.same in
     let l1 = is1.shorter in let l2 = is2.shorter in let l3 = ap (λ (z : List Terminal). length z) is1.rest in let l4 = tail-shorter i res.Val w in
     record {
-      got = record { tree = val_dec (place_at i) a.tree b.tree; rest = b.rest };
+      got = record { tree = val_dec (place_at i) (tyvars_place (place_at i) (tail i) a.tree) a.tree b.tree; rest = b.rest };
       is = rw (start, by1, by3) refl;
       same = record { rest = is2.rest; same = ap (λ (z : bare.Dec). z ∷ []) (is_dec ∙ rw (p1, p2, p3) refl); deep = is2.deep; fits = is2.fits; shorter = omega arith; force = refl };
+    }
+
+pub fun-done : (s : Source) (n : ℕ) (self : Reader) (inner : DecsReader) (f : Fixity) (i : List Terminal) (as_ : List Tyvar) (d : ℕ) (o : List Token) (a : Read (List Tyvar)) (gs : List derived.Function) (e : ℕ) (o2 : List Token) (b : Read Funs) (t : Dec) →
+    word_at i ≡ Some res.Fun → read_tyvars (tail i) ≡ ok a → IsTyvars s (tail i) as_ d o a → read_funs n self f (left s o) ≡ ok b → IsList (functions s.file) depth_funs s n (left s o) gs e o2 b →
+    dec_of t ≡ fun_dec_of (at s.file (place_at i)) (at s.file (tyvars_place (place_at i) (tail i) as_)) as_ gs → Gave (λ (_ : Unit {0}) r. IsDec f f s n i (Some t) e o2 r) tt (dec_by n self inner f (dec_start i))
+fun-done s n self inner f i as_ d o a gs e o2 b t w by1 is1 by2 is2 is_dec =
+    let start = starts-with i (Some res.Fun) w in
+    let by3 : read_funs n self f a.rest ≡ ok b = subst (λ (z : List Terminal). read_funs n self f z ≡ ok b) is1.rest by2 in
+    let p3 = is1.same in let p4 = is2.same in
+    let l1 = is1.shorter in let l2 = is2.shorter in let l3 = ap (λ (z : List Terminal). length z) is1.rest in let l4 = tail-shorter i res.Fun w in
+    record {
+      got = record { tree = fun_dec (place_at i) (tyvars_place (place_at i) (tail i) a.tree) a.tree b.tree; rest = b.rest };
+      is = rw (start, by1, by3) refl;
+      same = record { rest = is2.rest; same = ap (λ (z : bare.Dec). z ∷ []) (is_dec ∙ rw (p3, p4) refl); deep = is2.deep; fits = is2.fits; shorter = omega arith; force = refl };
     }
 
 -- The parts of a `local`.

@@ -34,9 +34,9 @@ use Rattle.sml_parser.proofs.ExpSteps.{atom-one}
 use Rattle.sml_grammar.proofs.Answers.{at-path}
 use Rattle.sml_grammar.proofs.Words.{word-at}
 
-vid-leaf : (self : Readers) (f : Fixity) (v : Option (Taken (Placed LongVid))) → atom_by self f (vid_if v) ≡ leaf_by (vid_if v)
-vid-leaf self f None = refl
-vid-leaf self f (Some x) = refl
+vid-leaf : (self : Readers) (f : Fixity) (p : ℕ) (v : Option (Taken (Placed LongVid))) → atom_by self f (vid_if p v) ≡ leaf_by (vid_if p v)
+vid-leaf self f p None = refl
+vid-leaf self f p (Some x) = refl
 
 equals-leaf : (self : Readers) (f : Fixity) (d : Option Infix) (p : ℕ) (o : List Terminal) → atom_by self f (equals_unless d p o) ≡ leaf_by (equals_unless d p o)
 equals-leaf self f None p o = refl
@@ -52,13 +52,13 @@ leaf-start self f (reserved p res.LeftBracket ∷ o) a b c d = absurd (cc)
 leaf-start self f (reserved p res.Let ∷ o) a b c d = absurd (cc)
 leaf-start self f (reserved p res.Hash ∷ o) a b c d = refl
 leaf-start self f (reserved p res.Equals ∷ o) a b c d = equals-leaf self f (fix_of Equals f) p o
-leaf-start self f (reserved p res.Op ∷ o) a b c d = vid-leaf self f (names_vid f (reserved p res.Op ∷ o))
+leaf-start self f (reserved p res.Op ∷ o) a b c d = vid-leaf self f p (names_vid f (reserved p res.Op ∷ o))
 leaf-start self f (reserved p _ ∷ o) a b c d = refl
 leaf-start self f (number p n plain ∷ o) a b c d = refl
 leaf-start self f (constant p y ∷ o) a b c d = refl
-leaf-start self f (alpha p y ∷ o) a b c d = vid-leaf self f (names_vid f (alpha p y ∷ o))
-leaf-start self f (symbol p y ∷ o) a b c d = vid-leaf self f (names_vid f (symbol p y ∷ o))
-leaf-start self f (star p y ∷ o) a b c d = vid-leaf self f (names_vid f (star p y ∷ o))
+leaf-start self f (alpha p y ∷ o) a b c d = vid-leaf self f p (names_vid f (alpha p y ∷ o))
+leaf-start self f (symbol p y ∷ o) a b c d = vid-leaf self f p (names_vid f (symbol p y ∷ o))
+leaf-start self f (star p y ∷ o) a b c d = vid-leaf self f p (names_vid f (star p y ∷ o))
 leaf-start self f (long_alpha p qs y ∷ o) a b c d = refl
 leaf-start self f (long_symbol p qs y ∷ o) a b c d = refl
 leaf-start self f (long_star p qs y ∷ o) a b c d = refl

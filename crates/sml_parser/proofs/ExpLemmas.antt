@@ -38,26 +38,26 @@ decs_all f (dec d ds) = decs_if (is_directive d) (bare_dec f d) (dec_list f ds) 
 
 -- identifiers
 
-equals-there : (d : Option Infix) (p : ℕ) (o : List Terminal) (x : Placed LongVid) (m : List Terminal) → equals_if d p o ≡ taken x m → leaf_by (equals_unless d p o) ≡ read (vid_exp x.place x.it) m
-equals-there None p o x m e = ap (λ (z : Taken (Placed LongVid)). read (vid_exp z.it.place z.it.it) z.rest) (got_some e)
+equals-there : (d : Option Infix) (p : ℕ) (o : List Terminal) (x : Placed LongVid) (m : List Terminal) → equals_if d p o ≡ taken x m → leaf_by (equals_unless d p o) ≡ read (vid_exp p x) m
+equals-there None p o x m e = ap (λ (z : Taken (Placed LongVid)). read (vid_exp p z.it) z.rest) (got_some e)
 equals-there (Some d) p o x m e = absurd (cc)
 
 pub leaf-vid : (f : Fixity) (i : List Terminal) (x : Placed LongVid) (o : List Terminal) → first_as as_constant i ≡ None → after_word res.Hash i ≡ None → atom_vid f i ≡ taken x o →
-    leaf_by (atom_start f i) ≡ read (vid_exp x.place x.it) o
+    leaf_by (atom_start f i) ≡ read (vid_exp (place_at i) x) o
 leaf-vid f [] x o c h e = absurd (cc)
 leaf-vid f (reserved p res.Hash ∷ i) x o c h e = not_none h
 leaf-vid f (reserved p res.Equals ∷ i) x o c h e = equals-there (fix_of Equals f) p i x o e
-leaf-vid f (reserved p res.Op ∷ i) x o c h e = ap (λ v. leaf_by (vid_if v)) e
+leaf-vid f (reserved p res.Op ∷ i) x o c h e = ap (λ v. leaf_by (vid_if p v)) e
 leaf-vid f (reserved p _ ∷ i) x o c h e = not_some e
 leaf-vid f (number p n plain ∷ i) x o c h e = not_none c
 leaf-vid f (constant p y ∷ i) x o c h e = not_none c
-leaf-vid f (alpha p y ∷ i) x o c h e = ap (λ v. leaf_by (vid_if v)) e
-leaf-vid f (symbol p y ∷ i) x o c h e = ap (λ v. leaf_by (vid_if v)) e
-leaf-vid f (star p y ∷ i) x o c h e = ap (λ v. leaf_by (vid_if v)) e
-leaf-vid f (long_alpha p qs y ∷ i) x o c h e = ap (λ v. leaf_by (vid_if v)) e
-leaf-vid f (long_symbol p qs y ∷ i) x o c h e = ap (λ v. leaf_by (vid_if v)) e
-leaf-vid f (long_star p qs y ∷ i) x o c h e = ap (λ v. leaf_by (vid_if v)) e
-leaf-vid f (type_var p a ∷ i) x o c h e = ap (λ v. leaf_by (vid_if v)) e
+leaf-vid f (alpha p y ∷ i) x o c h e = ap (λ v. leaf_by (vid_if p v)) e
+leaf-vid f (symbol p y ∷ i) x o c h e = ap (λ v. leaf_by (vid_if p v)) e
+leaf-vid f (star p y ∷ i) x o c h e = ap (λ v. leaf_by (vid_if p v)) e
+leaf-vid f (long_alpha p qs y ∷ i) x o c h e = ap (λ v. leaf_by (vid_if p v)) e
+leaf-vid f (long_symbol p qs y ∷ i) x o c h e = ap (λ v. leaf_by (vid_if p v)) e
+leaf-vid f (long_star p qs y ∷ i) x o c h e = ap (λ v. leaf_by (vid_if p v)) e
+leaf-vid f (type_var p a ∷ i) x o c h e = ap (λ v. leaf_by (vid_if p v)) e
 
 -- what follows a word
 

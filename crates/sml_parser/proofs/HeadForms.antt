@@ -23,7 +23,7 @@ whole-bracket : {f : Fixity} {i m ar k br o : List Terminal} (a b : Pat) (x : Pl
     AtPat f i (paren_pat (place_at i) (chain_pat (vid_right f (Named x.it)) a (last_pat_part x b))) o
 whole-bracket a b x (at_word p) d (infix_at v) e (at_word q) = bracket-pattern p q d v e
 
-pub record Again (b : Bracketed) (i : List Terminal) (left right : Pat) (vid : ℕ) (y : Read Pat) : Type 0 where
+pub record Again (b : Bracketed) (i : List Terminal) (left right : Pat) (vid : Placed ℕ) (y : Read Pat) : Type 0 where
   pub is : bracketed y.tree ≡ Some b
   pub left_is : b.left ≡ left
   pub right_is : b.right ≡ right
@@ -32,7 +32,7 @@ pub record Again (b : Bracketed) (i : List Terminal) (left right : Pat) (vid : �
   pub depth : depth_pat y.tree ≡ suc (suc (max (depth_pat b.left) (depth_pat b.right)))
 
 pub again-some : (n : ℕ) (f : Fixity) (i m k o : List Terminal) (y a b : Read Pat) (x : Placed ℕ) → 2 ≤ n → read_atpat n f i ≡ ok y → after_word res.LeftParen i ≡ Some m → read_atpat (n - 2) f m ≡ ok a → infix_vid f a.rest ≡ taken x k → read_atpat (n - 2) f k ≡ ok b → after_word res.RightParen b.rest ≡ Some o →
-    Again (record { place = place_at i; left = a.tree; vid = x.it; right = b.tree }) i a.tree b.tree x.it y
+    Again (record { place = place_at i; left = a.tree; vid = x; right = b.tree }) i a.tree b.tree x y
 again-some n f i m k o y a b x two h p ha j hb q =
     let ga = atpat-sound (n - 2) f m a ha in
     let gb = atpat-sound (n - 2) f k b hb in
@@ -45,7 +45,7 @@ again-some n f i m k o y a b x two h p ha j hb q =
 
 bracket-depth : (a : Pat) (x : Bracketed) → bracketed a ≡ Some x → suc (suc (max (depth_pat x.left) (depth_pat x.right))) ≤ depth_pat a
 bracket-depth (paren_pat p (chain_pat r a (last_pat_part y b))) x h =
-    elim (chosen (is_atpat a && is_atpat b) (Some (record { place = p; left = a; vid = y.it; right = b })) None h) [
+    elim (chosen (is_atpat a && is_atpat b) (Some (record { place = p; left = a; vid = y; right = b })) None h) [
       | inl c ↦ subst (λ (z : Bracketed). suc (suc (max (depth_pat z.left) (depth_pat z.right))) ≤ suc (suc (max (depth_pat a) (depth_pat b)))) (got_some c.1) (omega arith)
       | inr c ↦ not_some c.1
     ]

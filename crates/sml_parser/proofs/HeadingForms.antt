@@ -35,9 +35,9 @@ module _ (n : ℕ) (f : Fixity) (s : Option Shape) (i : List Terminal) (h : Read
   heading-fails e a x = subst (λ (z : Answer HeadingRead). Fails e z) (sym (agreed a)) (fails-then e (maybe_ty n (after_word res.Colon h.rest) h.rest) (λ t o. read (record { head = h.tree; ty = t }) o) x)
 
   pub heading-done : (src : Source) (shape : Option headings.Shape) (x : code.Heading) (head : heads.Head) (hd : ℕ) (ho : List Token) (d d' : ℕ) (o : List Token) (t : Read (Option read_tree.Ty)) → s ≡ shape_from shape → agrees s h.tree ≡ true →
-      IsHead src n i head hd ho h → x.shape.place ≡ head.place → x.shape.vid ≡ head.vid → x.pats.items ≡ head.pats.items → x.shape.count ≡ head_count h.tree → maybe_ty n (after_word res.Colon h.rest) h.rest ≡ ok t → IsMaybeTy src n (left src ho) x.ty d o t → d' ≡ max hd d →
+      IsHead src n i head hd ho h → x.shape.place ≡ head.place → x.shape.vid_place ≡ head.vid_place → x.shape.vid ≡ head.vid → x.pats.items ≡ head.pats.items → x.shape.count ≡ head_count h.tree → maybe_ty n (after_word res.Colon h.rest) h.rest ≡ ok t → IsMaybeTy src n (left src ho) x.ty d o t → d' ≡ max hd d →
       Gave (λ (_ : Unit {0}) r. IsHeading shape src n i x d' o r) tt (read_heading n f s i)
-  heading-done src shape x head hd ho d d' o t e a is1 p1 p2 p3 count by2 is2 deeper =
+  heading-done src shape x head hd ho d d' o t e a is1 p1 p4 p2 p3 count by2 is2 deeper =
       let d1 = is1.depth in let d2 = is2.depth in let f1 = is1.fits in let f2 = is2.fits in
       let l1 = is1.shorter in let l2 = is2.shorter in let l3 = ap (λ (z : List Terminal). length z) is1.rest in
       record {
@@ -46,6 +46,7 @@ module _ (n : ℕ) (f : Fixity) (s : Option Shape) (i : List Terminal) (h : Read
         same = record {
           rest = is2.rest;
           place = p1 ∙ is1.place;
+          vid_place = p4 ∙ is1.vid_place;
           vid = p2 ∙ is1.vid;
           count = count;
           pats = ap (map pat_of) p3 ∙ is1.bare;

@@ -8,6 +8,7 @@ pub mod DecForms
 pub mod DecLoops
 pub mod HeadingForms
 pub mod HeadForms
+pub mod HeadPairs
 pub mod HeadReads
 pub mod Listing
 pub mod Loop

@@ -14,6 +14,12 @@ fails-then (stop.Deep n) a g h = ap (λ x. then_read x g) h
 pub fails-by : {A : Type 0} (e : Stop) (a b : Answer A) → a ≡ b → Fails e b → Fails e a
 fails-by e a b p h = subst (λ x. Fails e x) (sym p) h
 
+pub fails-bad : {A : Type 0} (e : Stop) (k : ℕ) (a : Answer A) → e ≡ stop.Bad k → a ≡ bad → Fails e a
+fails-bad e k a p h = subst (λ x. Fails x a) (sym p) h
+
+pub fails-deep : {A : Type 0} (e : Stop) (k : ℕ) (a : Answer A) → e ≡ stop.Deep k → a ≡ deep → Fails e a
+fails-deep e k a p h = subst (λ x. Fails x a) (sym p) h
+
 -- a loop that is under way: what was read so far is put before what `many` still reads
 pub record Going {B S : Type 0} (step : S → List Terminal → Answer (Turn B S)) (s : S) (i : List Terminal) (put : B → B) (total : Answer B) : Type 0 where
   pub fuel : ℕ

@@ -20,7 +20,7 @@ use Rattle.sml_tree.specs.declared.tree.Pat.{Pat}
 use Rattle.sml_grammar.specs.Answer.{Read, Answer, ok, bad, deep, deep_if, read, then_read, last, more, whole}
 use Rattle.sml_grammar.specs.Terminals.{no_state, short, word_then, place_at, first_as, as_constant, after_word, taken, names_vid, binds_vid, infix_vid}
 use Rattle.sml_grammar.specs.Types.{read_ty}
-use Rattle.sml_grammar.specs.Patterns.{pat_first, typed_form, paren_pat_in, pat_commas_turn, PatReader, PatReaders, read_pats, begins_pat, at_pat, pat_start, pat_form, plain_form, vid_form, vid_if, pat_suffix, pat_suffix_turn, whole_pat_parts}
+use Rattle.sml_grammar.specs.Patterns.{pat_first, typed_form, paren_pat_in, pat_commas_turn, PatReader, PatReaders, read_pats, begins_pat, at_pat, pat_start, pat_form, plain_form, short_at, vid_form, vid_if, pat_suffix, pat_suffix_turn, whole_pat_parts}
 use Rattle.sml_parser.specs.declared.got.Got.{Got}
 use Rattle.sml_parser.specs.declared.source.Source.{Source}
 use Rattle.sml_parser.specs.declared.stop.Stop.{Stop}
@@ -88,7 +88,7 @@ pat-plain-start f (reserved p res.LeftParen ∷ m) a b c = absurd (cc)
 pat-plain-start f (reserved p res.LeftBracket ∷ m) a b c = absurd (cc)
 pat-plain-start f _ a b c = refl
 
-pub plain-vid-start : (f : Fixity) (i : List Terminal) → after_word res.Underscore i ≡ None → first_as as_constant i ≡ None → plain_pat_start f i ≡ vid_if (names_vid f i)
+pub plain-vid-start : (f : Fixity) (i : List Terminal) → after_word res.Underscore i ≡ None → first_as as_constant i ≡ None → plain_pat_start f i ≡ vid_if (place_at i) (names_vid f i)
 plain-vid-start f (reserved p res.Underscore ∷ m) a b = absurd (cc)
 plain-vid-start f (number p n plain ∷ m) a b = absurd (cc)
 plain-vid-start f (constant p k ∷ m) a b = absurd (cc)
@@ -198,10 +198,10 @@ module _ (s : Source) (f : Fixity) (self : PatReader) (n least : ℕ) (i : List 
 pub wild-said : (s : Source) (f : Fixity) (i : List Terminal) (o : List Token) (p : Pat) (n : ℕ) (self : PatReader) → after_word res.Underscore i ≡ Some (left s o) → pat_of p ≡ tree.wild_pat (at s.file (place_at i)) → Said (IsPatAt s f 1000 1 i p 1 o) (at_pat n self f (plain_pat_start f i))
 wild-said s f i o p n self h b = record { got = record { tree = read_tree.wild_pat (place_at i); rest = left s o }; is = wild-gives f i (left s o) n self h; same = record { rest = refl; bare = b; depth = refl; place = refl; fits = omega arith; shorter = word-shorter res.Underscore i (left s o) h; level = refl } }
 
-pub vid-said : (s : Source) (f : Fixity) (i : List Terminal) (o : List Token) (p : Pat) (x : LongVid) (n : ℕ) (self : PatReader) → after_word res.Underscore i ≡ None → first_as as_constant i ≡ None → names_vid f i ≡ taken (record { place = place_at i; it = x }) (left s o) → pat_of p ≡ tree.vid_pat (at s.file (place_at i)) x → Said (IsPatAt s f 1000 1 i p 1 o) (at_pat n self f (plain_pat_start f i))
+pub vid-said : (s : Source) (f : Fixity) (i : List Terminal) (o : List Token) (p : Pat) (x : Placed LongVid) (n : ℕ) (self : PatReader) → after_word res.Underscore i ≡ None → first_as as_constant i ≡ None → names_vid f i ≡ taken x (left s o) → pat_of p ≡ tree.vid_pat (at s.file x.place) x.it → Said (IsPatAt s f 1000 1 i p 1 o) (at_pat n self f (plain_pat_start f i))
 vid-said s f i o p x n self u c h b =
-    let one : at_pat n self f (plain_pat_start f i) ≡ read (read_tree.vid_pat (place_at i) x) (left s o) = ap (at_pat n self f) (plain-vid-start f i u c ∙ ap vid_if h) in
-    record { got = record { tree = read_tree.vid_pat (place_at i) x; rest = left s o }; is = one; same = record { rest = refl; bare = b; depth = refl; place = refl; fits = omega arith; shorter = names-shorter f i (record { place = place_at i; it = x }) (left s o) h; level = refl } }
+    let one : at_pat n self f (plain_pat_start f i) ≡ read (read_tree.vid_pat (place_at i) x) (left s o) = ap (at_pat n self f) (plain-vid-start f i u c ∙ ap (vid_if (place_at i)) h) in
+    record { got = record { tree = read_tree.vid_pat (place_at i) x; rest = left s o }; is = one; same = record { rest = refl; bare = b; depth = refl; place = refl; fits = omega arith; shorter = names-shorter f i x (left s o) h; level = refl } }
 
 -- Forms that go on as another form.
 
@@ -211,15 +211,15 @@ pat-by s n i r a b e h = gives-by (λ (x : Got Pat) (y : Read read_tree.Pat). Is
 pub patat-by : (s : Source) (f : Fixity) (l n : ℕ) (i : List Terminal) (r : Result (Got Pat) Stop) (a b : Answer read_tree.Pat) → a ≡ b → Gives (λ (x : Got Pat) (y : Read read_tree.Pat). IsPatAt s f l n i x.it x.depth x.rest.now y) r b → Gives (λ (x : Got Pat) (y : Read read_tree.Pat). IsPatAt s f l n i x.it x.depth x.rest.now y) r a
 patat-by s f l n i r a b e h = gives-by (λ (x : Got Pat) (y : Read read_tree.Pat). IsPatAt s f l n i x.it x.depth x.rest.now y) r a b e h
 
-pub vid-as : (self : PatReaders) (n : ℕ) (f : Fixity) (i : List Terminal) (v : Placed Vid) (m k : List Terminal) → after_word res.As m ≡ Some k → vid_form self n f i v m ≡ then_read (self.pat f 0 k) (λ a o. read (read_tree.as_pat v.place v.it None a) o)
+pub vid-as : (self : PatReaders) (n : ℕ) (f : Fixity) (i : List Terminal) (v : Placed Vid) (m k : List Terminal) → after_word res.As m ≡ Some k → vid_form self n f i v m ≡ then_read (self.pat f 0 k) (λ a o. read (read_tree.as_pat (place_at i) v None a) o)
 vid-as self n f i v m k h = rw h refl
 
-pub typed-as : (s : Source) (self : PatReaders) (n : ℕ) (f : Fixity) (v : Placed Vid) (m k : List Terminal) (o : List Token) (t : Read read_tree.Ty) → 1 ≤ n → read_ty n 0 m ≡ ok t → left s o ≡ t.rest → after_word res.As (left s o) ≡ Some k → typed_form self n f v m ≡ then_read (self.pat f 0 k) (λ a o. read (read_tree.as_pat v.place v.it (Some t.tree) a) o)
-typed-as s self n f v m k o t le h r q =
+pub typed-as : (s : Source) (self : PatReaders) (n : ℕ) (f : Fixity) (p : ℕ) (v : Placed Vid) (m k : List Terminal) (o : List Token) (t : Read read_tree.Ty) → 1 ≤ n → read_ty n 0 m ≡ ok t → left s o ≡ t.rest → after_word res.As (left s o) ≡ Some k → typed_form self n f p v m ≡ then_read (self.pat f 0 k) (λ a o. read (read_tree.as_pat p v (Some t.tree) a) o)
+typed-as s self n f p v m k o t le h r q =
     let w = le-leb 1 n le in let q' : after_word res.As t.rest ≡ Some k = subst (λ (z : List Terminal). after_word res.As z ≡ Some k) r q in rw (w, h, q') refl
 
-pub typed-else : (s : Source) (self : PatReaders) (n : ℕ) (f : Fixity) (v : Placed Vid) (m : List Terminal) (o : List Token) (t : Read read_tree.Ty) → 1 ≤ n → read_ty n 0 m ≡ ok t → left s o ≡ t.rest → after_word res.As (left s o) ≡ None → typed_form self n f v m ≡ pat_suffix self.pat n f 0 (read_tree.typed_pat (read_tree.vid_pat v.place (short v.it)) t.tree) t.rest
-typed-else s self n f v m o t le h r q =
+pub typed-else : (s : Source) (self : PatReaders) (n : ℕ) (f : Fixity) (p : ℕ) (v : Placed Vid) (m : List Terminal) (o : List Token) (t : Read read_tree.Ty) → 1 ≤ n → read_ty n 0 m ≡ ok t → left s o ≡ t.rest → after_word res.As (left s o) ≡ None → typed_form self n f p v m ≡ pat_suffix self.pat n f 0 (read_tree.typed_pat (read_tree.vid_pat p (short_at v)) t.tree) t.rest
+typed-else s self n f p v m o t le h r q =
     let w = le-leb 1 n le in let q' : after_word res.As t.rest ≡ None = subst (λ (z : List Terminal). after_word res.As z ≡ None) r q in rw (w, h, q') refl
 
 pub plain-first : (self : PatReaders) (n : ℕ) (f : Fixity) (l : ℕ) (i : List Terminal) (a : Read read_tree.Pat) → pat_first self n f i ≡ ok a → plain_form self n f l i ≡ pat_suffix self.pat n f l a.tree a.rest
@@ -230,20 +230,20 @@ pub paren-comma-pat : (s : Source) (self : PatReader) (f : Fixity) (p : ℕ) (k 
 paren-comma-pat s self f p k m o a u h r q = let q' : after_word res.Comma a.rest ≡ Some m = subst (λ (z : List Terminal). after_word res.Comma z ≡ Some m) r q in rw (u, h, q') refl
 
 -- `v : t`, of level 5
-pub typed-is : (s : Source) (f : Fixity) (n : ℕ) (i m : List Terminal) (p : Pat) (v : Vid) (ty : Ty) (d : ℕ) (o : List Token) (t : Read read_tree.Ty) → 1 ≤ n → IsTy s n m ty d o t → length m < length i → pat_of p ≡ tree.typed_pat (at s.file (place_at i)) (tree.vid_pat (at s.file (place_at i)) (short v)) (ty_of ty) →
-    IsPatAt s f 5 (n + 1) i p (max d 1 + 1) o (record { tree = read_tree.typed_pat (read_tree.vid_pat (place_at i) (short v)) t.tree; rest = t.rest })
+pub typed-is : (s : Source) (f : Fixity) (n : ℕ) (i m : List Terminal) (p : Pat) (v : Placed Vid) (ty : Ty) (d : ℕ) (o : List Token) (t : Read read_tree.Ty) → 1 ≤ n → IsTy s n m ty d o t → length m < length i → pat_of p ≡ tree.typed_pat (at s.file (place_at i)) (tree.vid_pat (at s.file v.place) (short v.it)) (ty_of ty) →
+    IsPatAt s f 5 (n + 1) i p (max d 1 + 1) o (record { tree = read_tree.typed_pat (read_tree.vid_pat (place_at i) (short_at v)) t.tree; rest = t.rest })
 typed-is s f n i m p v ty d o t le is lt b =
     let e = is.depth in let ff = is.fits in let sh = is.shorter in
-    record { rest = is.rest; bare = b ∙ ap (tree.typed_pat (at s.file (place_at i)) (tree.vid_pat (at s.file (place_at i)) (short v))) is.bare; depth = omega arith; place = refl; fits = omega arith; shorter = omega arith; level = refl }
+    record { rest = is.rest; bare = b ∙ ap (tree.typed_pat (at s.file (place_at i)) (tree.vid_pat (at s.file v.place) (short v.it))) is.bare; depth = omega arith; place = refl; fits = omega arith; shorter = omega arith; level = refl }
 
 -- a constructor before its argument
-pub con-said : (s : Source) (n : ℕ) (f : Fixity) (i : List Terminal) (p a : Pat) (x : LongVid) (d : ℕ) (o o2 : List Token) (got : Read read_tree.Pat) → names_vid f i ≡ taken (record { place = place_at i; it = x }) (left s o) → begins_pat f (left s o) ≡ true → (read_pats n).atpat f (left s o) ≡ ok got → IsPatAt s f 1000 n (left s o) a d o2 got →
-    pat_of p ≡ tree.con_pat (at s.file (place_at i)) (at s.file (place_at i)) x (pat_of a) → Said (IsPatAt s f 1000 (n + 1) i p (d + 1) o2) (pat_first (read_pats n) n f i)
+pub con-said : (s : Source) (n : ℕ) (f : Fixity) (i : List Terminal) (p a : Pat) (x : Placed LongVid) (d : ℕ) (o o2 : List Token) (got : Read read_tree.Pat) → names_vid f i ≡ taken x (left s o) → begins_pat f (left s o) ≡ true → (read_pats n).atpat f (left s o) ≡ ok got → IsPatAt s f 1000 n (left s o) a d o2 got →
+    pat_of p ≡ tree.con_pat (at s.file (place_at i)) (at s.file x.place) x.it (pat_of a) → Said (IsPatAt s f 1000 (n + 1) i p (d + 1) o2) (pat_first (read_pats n) n f i)
 con-said s n f i p a x d o o2 got h b r is e =
     let one : pat_first (read_pats n) n f i ≡ read (read_tree.con_pat (place_at i) x got.tree) got.rest = rw (h, b, r) refl in
-    let k = is.depth in let ff = is.fits in let sh = is.shorter in let sh2 = names-shorter f i (record { place = place_at i; it = x }) (left s o) h in
+    let k = is.depth in let ff = is.fits in let sh = is.shorter in let sh2 = names-shorter f i x (left s o) h in
     record {
       got = record { tree = read_tree.con_pat (place_at i) x got.tree; rest = got.rest };
       is = one;
-      same = record { rest = is.rest; bare = e ∙ ap (tree.con_pat (at s.file (place_at i)) (at s.file (place_at i)) x) is.bare; depth = omega arith; place = refl; fits = omega arith; shorter = omega arith; level = refl };
+      same = record { rest = is.rest; bare = e ∙ ap (tree.con_pat (at s.file (place_at i)) (at s.file x.place) x.it) is.bare; depth = omega arith; place = refl; fits = omega arith; shorter = omega arith; level = refl };
     }

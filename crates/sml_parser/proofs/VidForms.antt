@@ -1,17 +1,18 @@
 -- Identifiers of values, by what stands first.
-use Rattle.std.proofs.Common.{◌≡◌, ℕ, List, [], ◌∷◌, Option, Some, None, refl, ap}
+use Rattle.std.proofs.Common.{◌≡◌, List, [], ◌∷◌, Option, Some, None, refl, ap}
 use Rattle.mlc_base.specs.declared.token.Reserved.TheVariants as res
 use Rattle.sml_tree.specs.Terminal.{Terminal, LongVid, reserved}
 use Rattle.sml_tree.specs.Fixity.{Fixity}
 use Rattle.sml_tree.specs.ReadTree.{Placed}
 use Rattle.sml_tree.specs.declared.ident.Vid.{Vid}
-use Rattle.sml_grammar.specs.Terminals.{Taken, taken, place_at, place_of, placed_if, first_as, after_op, as_any_vid, as_any_long, as_qualified, long_if, long_named_if, named_if, short, after_word, binds_vid, names_vid, plain_vid}
+use Rattle.sml_grammar.specs.Terminals.{Taken, taken, place_at, place_of, placed_if, first_as, as_any_vid, as_any_long, as_qualified, long_if, long_named_if, named_if, short, after_word, binds_vid, names_vid, plain_vid}
+use Rattle.sml_parser.specs.VidPlace.{vid_place}
 
-pub long-short : (p : ℕ) (i : List Terminal) (v : Vid) (o : List Terminal) → after_op as_any_vid p i ≡ taken (record { place = p; it = v }) o → after_op as_any_long p i ≡ taken (record { place = p; it = short v }) o
-long-short p [] v o h = absurd (cc)
-long-short p (t ∷ m) v o h = go (as_any_vid t) h
+pub long-short : (i : List Terminal) (v : Vid) (o : List Terminal) → first_as as_any_vid i ≡ taken (record { place = place_at i; it = v }) o → first_as as_any_long i ≡ taken (record { place = place_at i; it = short v }) o
+long-short [] v o h = absurd (cc)
+long-short (t ∷ m) v o h = go (as_any_vid t) h
   where
-    go : (w : Option Vid) → placed_if p w m ≡ taken (record { place = p; it = v }) o → placed_if p (long_if (as_qualified t) w) m ≡ taken (record { place = p; it = short v }) o
+    go : (w : Option Vid) → placed_if (place_of t) w m ≡ taken (record { place = place_of t; it = v }) o → placed_if (place_of t) (long_if (as_qualified t) w) m ≡ taken (record { place = place_of t; it = short v }) o
     go (Some w) e = ap (λ (x : Option (Taken (Placed Vid))). shorten x) e
       where
         shorten : Option (Taken (Placed Vid)) → Option (Taken (Placed LongVid))
@@ -19,33 +20,45 @@ long-short p (t ∷ m) v o h = go (as_any_vid t) h
         shorten None = None
     go None e = absurd (cc)
 
-pub long-qualified : (p : ℕ) (i : List Terminal) (x : LongVid) (o : List Terminal) → after_op as_any_vid p i ≡ None → first_as as_qualified i ≡ taken (record { place = place_at i; it = x }) o → after_op as_any_long p i ≡ taken (record { place = p; it = x }) o
-long-qualified p [] x o g h = absurd (cc)
-long-qualified p (t ∷ m) x o g h = go (as_any_vid t) (as_qualified t) g h
+pub long-qualified : (i : List Terminal) (x : LongVid) (o : List Terminal) → first_as as_any_vid i ≡ None → first_as as_qualified i ≡ taken (record { place = place_at i; it = x }) o → first_as as_any_long i ≡ taken (record { place = place_at i; it = x }) o
+long-qualified [] x o g h = absurd (cc)
+long-qualified (t ∷ m) x o g h = go (as_any_vid t) (as_qualified t) g h
   where
-    go : (w : Option Vid) (q : Option LongVid) → placed_if p w m ≡ None → placed_if (place_of t) q m ≡ taken (record { place = place_of t; it = x }) o → placed_if p (long_if q w) m ≡ taken (record { place = p; it = x }) o
+    go : (w : Option Vid) (q : Option LongVid) → placed_if (place_of t) w m ≡ None → placed_if (place_of t) q m ≡ taken (record { place = place_of t; it = x }) o → placed_if (place_of t) (long_if q w) m ≡ taken (record { place = place_of t; it = x }) o
     go (Some w) q e f = absurd (cc)
-    go None (Some q) e f = ap (λ (y : Option (Taken (Placed LongVid))). move y) f
-      where
-        move : Option (Taken (Placed LongVid)) → Option (Taken (Placed LongVid))
-        move (Some y) = taken (record { place = p; it = y.it.it }) y.rest
-        move None = None
+    go None (Some q) e f = f
     go None None e f = absurd (cc)
 
-pub long-none : (p : ℕ) (i : List Terminal) → after_op as_any_vid p i ≡ None → first_as as_qualified i ≡ None → after_op as_any_long p i ≡ None
-long-none p [] g h = refl
-long-none p (t ∷ m) g h = go (as_any_vid t) (as_qualified t) g h
+pub long-none : (i : List Terminal) → first_as as_any_vid i ≡ None → first_as as_qualified i ≡ None → first_as as_any_long i ≡ None
+long-none [] g h = refl
+long-none (t ∷ m) g h = go (as_any_vid t) (as_qualified t) g h
   where
-    go : (w : Option Vid) (q : Option LongVid) → placed_if p w m ≡ None → placed_if (place_of t) q m ≡ None → placed_if p (long_if q w) m ≡ None
+    go : (w : Option Vid) (q : Option LongVid) → placed_if (place_of t) w m ≡ None → placed_if (place_of t) q m ≡ None → placed_if (place_of t) (long_if q w) m ≡ None
     go (Some w) q e f = absurd (cc)
     go None (Some q) e f = absurd (cc)
     go None None e f = refl
 
+-- the place after `op`, and without it
+
+pub place-op : (i o : List Terminal) → after_word res.Op i ≡ Some o → vid_place i ≡ place_at o
+place-op [] o h = absurd (cc)
+place-op (reserved p res.Op ∷ m) o h = let q : m ≡ o = cc in ap place_at q
+place-op (reserved p w ∷ m) o h = absurd (cc)
+place-op (t ∷ m) o h = absurd (cc)
+
+pub place-plain : (i : List Terminal) → after_word res.Op i ≡ None → vid_place i ≡ place_at i
+place-plain (reserved p res.Op ∷ m) h = absurd (cc)
+place-plain _ h = refl
+
+pub place-equals : (i o : List Terminal) → after_word res.Equals i ≡ Some o → vid_place i ≡ place_at i
+place-equals (reserved p res.Op ∷ m) o h = absurd (cc)
+place-equals _ o h = refl
+
 -- without `op`
 
-pub binds-op : (f : Fixity) (i o : List Terminal) → after_word res.Op i ≡ Some o → binds_vid f i ≡ after_op as_any_vid (place_at i) o
+pub binds-op : (f : Fixity) (i o : List Terminal) → after_word res.Op i ≡ Some o → binds_vid f i ≡ first_as as_any_vid o
 binds-op f [] o h = absurd (cc)
-binds-op f (reserved p res.Op ∷ m) o h = let q : m ≡ o = cc in ap (after_op as_any_vid p) q
+binds-op f (reserved p res.Op ∷ m) o h = let q : m ≡ o = cc in ap (first_as as_any_vid) q
 binds-op f (reserved p w ∷ m) o h = absurd (cc)
 binds-op f (t ∷ m) o h = absurd (cc)
 
@@ -53,9 +66,9 @@ pub binds-plain : (f : Fixity) (i : List Terminal) → after_word res.Op i ≡ N
 binds-plain f (reserved p res.Op ∷ m) h = absurd (cc)
 binds-plain f _ h = refl
 
-pub names-op : (f : Fixity) (i o : List Terminal) → after_word res.Op i ≡ Some o → names_vid f i ≡ after_op as_any_long (place_at i) o
+pub names-op : (f : Fixity) (i o : List Terminal) → after_word res.Op i ≡ Some o → names_vid f i ≡ first_as as_any_long o
 names-op f [] o h = absurd (cc)
-names-op f (reserved p res.Op ∷ m) o h = let q : m ≡ o = cc in ap (after_op as_any_long p) q
+names-op f (reserved p res.Op ∷ m) o h = let q : m ≡ o = cc in ap (first_as as_any_long) q
 names-op f (reserved p w ∷ m) o h = absurd (cc)
 names-op f (t ∷ m) o h = absurd (cc)
 

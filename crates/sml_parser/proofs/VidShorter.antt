@@ -1,5 +1,5 @@
 -- An identifier takes a terminal or more.
-use Rattle.std.proofs.Common.{◌≡◌, ℕ, suc, ◌<◌, List, [], ◌∷◌, length, Option, Some, None, refl, sym, ap, ◌∙◌, arith}
+use Rattle.std.proofs.Common.{◌≡◌, ℕ, ◌<◌, List, [], length, Option, Some, None, refl, sym, ap, ◌∙◌, arith}
 use Rattle.mlc_base.specs.declared.token.Reserved.TheVariants as res
 use Rattle.sml_tree.specs.Terminal.{Terminal, LongVid}
 use Rattle.sml_tree.specs.Fixity.{Fixity, fix_of}
@@ -7,7 +7,7 @@ use Rattle.sml_tree.specs.ReadTree.{Placed}
 use Rattle.sml_tree.specs.declared.fixity.Infix.{Infix}
 use Rattle.sml_tree.specs.declared.ident.Vid.{Vid}
 use Rattle.sml_tree.specs.declared.ident.Vid.TheVariants.{Named}
-use Rattle.sml_grammar.specs.Terminals.{Taken, taken, place_at, placed_if, first_as, after_op, as_any_vid, as_any_long, as_qualified, as_vid, long_named_if, named_if, after_word, binds_vid, names_vid, plain_vid, plain_from, plain_if, infix_vid, infix_from, infix_if}
+use Rattle.sml_grammar.specs.Terminals.{Taken, taken, first_as, as_any_vid, as_any_long, as_qualified, as_vid, long_named_if, named_if, after_word, binds_vid, names_vid, plain_vid, plain_from, plain_if, infix_vid, infix_from, infix_if}
 use Rattle.sml_parser.proofs.TypeForms.{first-shorter, word-shorter}
 use Rattle.sml_parser.proofs.VidForms.{binds-op, binds-plain, names-op, names-plain}
 
@@ -19,14 +19,6 @@ module _ {B : Type 0} where
   pub same-rest : {x y : B} {m o : List Terminal} → taken x m ≡ taken y o → m ≡ o
   unfolding rest_of
   same-rest h = ap rest_of h
-
-pub op-shorter : {B : Type 0} (g : Terminal → Option B) (p : ℕ) (i : List Terminal) (x : Placed B) (o : List Terminal) → after_op g p i ≡ taken x o → length o < length i
-op-shorter g p [] x o h = absurd (cc)
-op-shorter {B} g p (t ∷ m) x o h = go (g t) h
-  where
-    go : (v : Option B) → placed_if p v m ≡ taken x o → length o < suc (length m)
-    go (Some b) e = let q : m ≡ o = same-rest e in let r = ap length q in omega arith
-    go None e = absurd (cc)
 
 pub plain-shorter : (f : Fixity) (i : List Terminal) (x : Placed ℕ) (o : List Terminal) → plain_vid f i ≡ taken x o → length o < length i
 plain-shorter f i x o h = go (first_as as_vid i) refl h
@@ -58,7 +50,7 @@ binds-shorter f i x o h = go (after_word res.Op i) refl
     plain None q e = absurd (cc)
 
     go : (y : Option (List Terminal)) → after_word res.Op i ≡ y → length o < length i
-    go (Some m) q = let a = word-shorter res.Op i m q in let b = op-shorter as_any_vid (place_at i) m x o (sym (binds-op f i m q) ∙ h) in omega arith
+    go (Some m) q = let a = word-shorter res.Op i m q in let b = first-shorter as_any_vid m x o (sym (binds-op f i m q) ∙ h) in omega arith
     go None q = plain (plain_vid f i) refl (sym (binds-plain f i q) ∙ h)
 
 pub names-shorter : (f : Fixity) (i : List Terminal) (x : Placed LongVid) (o : List Terminal) → names_vid f i ≡ taken x o → length o < length i
@@ -69,5 +61,5 @@ names-shorter f i x o h = go (after_word res.Op i) refl
     plain None q e = first-shorter as_qualified i x o e
 
     go : (y : Option (List Terminal)) → after_word res.Op i ≡ y → length o < length i
-    go (Some m) q = let a = word-shorter res.Op i m q in let b = op-shorter as_any_long (place_at i) m x o (sym (names-op f i m q) ∙ h) in omega arith
+    go (Some m) q = let a = word-shorter res.Op i m q in let b = first-shorter as_any_long m x o (sym (names-op f i m q) ∙ h) in omega arith
     go None q = plain (plain_vid f i) refl (sym (names-plain f i q) ∙ h)

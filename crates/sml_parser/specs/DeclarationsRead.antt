@@ -5,11 +5,11 @@ use Rattle.mlc_base.specs.declared.token.Reserved.TheVariants as res
 use Rattle.mlc_base.specs.declared.token.Token.{Token}
 use Rattle.sml_tree.specs.Terminal.{Terminal}
 use Rattle.sml_tree.specs.BareTree as bare
-use Rattle.sml_tree.specs.Bare.{at, bare_exp, bare_pat, bare_some, bare_dec, is_directive, clauses_place, clauses_vid, clause_list, head_pats}
+use Rattle.sml_tree.specs.Bare.{at, bare_exp, bare_pat, bare_some, bare_dec, is_directive, clauses_place, clauses_vid, clauses_vid_place, clause_list, head_pats}
 use Rattle.sml_tree.specs.Derived as derived
 use Rattle.sml_tree.specs.TreeOf.{RuleOf, pat_of, dec_of, bind_of, function_of, some_ty_of}
 use Rattle.sml_tree.specs.ReadTree as read
-use Rattle.sml_tree.specs.ReadTree.{Head, head_place, head_vid, head_count, pat_place, Binds, last_bind, bind, rec_binds, Clauses}
+use Rattle.sml_tree.specs.ReadTree.{Head, head_place, head_vid, head_vid_place, head_count, pat_place, Binds, last_bind, bind, rec_binds, Clauses}
 use Rattle.sml_tree.specs.Depth.{depth_some, depth_head, depth_dec, depth_binds, depth_clauses}
 use Rattle.sml_tree.specs.Levels.{after_dec}
 use Rattle.sml_tree.specs.Fixity.{Fixity}
@@ -122,6 +122,7 @@ shape_from (Some x) = Some (record { vid = x.vid; count = x.count })
 pub record IsHeading (shape : Option headings.Shape) (s : Source) (n : ℕ) (i : List Terminal) (h : Heading.Heading) (d : ℕ) (o : List Token) (got : Read HeadingRead) : Type 0 where
   pub rest : left s o ≡ got.rest
   pub place : h.shape.place ≡ at s.file (head_place got.tree.head)
+  pub vid_place : h.shape.vid_place ≡ at s.file (head_vid_place got.tree.head)
   pub vid : h.shape.vid ≡ head_vid got.tree.head
   pub count : h.shape.count ≡ head_count got.tree.head
   pub pats : map pat_of h.pats.items ≡ head_pats s.file got.tree.head
@@ -133,7 +134,7 @@ pub record IsHeading (shape : Option headings.Shape) (s : Source) (n : ℕ) (i :
 
 -- the function that clauses define
 abbrev pub function_from : ℕ → Clauses → derived.Function
-function_from f cs = record { place = at f (clauses_place cs); vid = clauses_vid cs; clauses = clause_list f cs }
+function_from f cs = record { place = at f (clauses_place cs); vid_place = at f (clauses_vid_place cs); vid = clauses_vid cs; clauses = clause_list f cs }
 
 pub record IsFunction (s : Source) (n : ℕ) (i : List Terminal) (g : Function) (d : ℕ) (o : List Token) (got : Read Clauses) : Type 0 where
   pub rest : left s o ≡ got.rest

@@ -59,7 +59,7 @@ closed_rows self f i = then_read (whole (row_turn self f) no_state i) (λ fs m. 
 -- an atomic expression that no bracket begins
 abbrev pub leaf_by : AtomStart → Answer read.Exp
 leaf_by (constant_start p c o) = read (constant_exp p c) o
-leaf_by (vid_start x o) = read (vid_exp x.place x.it) o
+leaf_by (vid_start p x o) = read (vid_exp p x) o
 leaf_by (hash_start p i) = hash_exp p i
 leaf_by (brace_start p i) = bad
 leaf_by (paren_start p i) = bad

@@ -4,8 +4,8 @@ pub mod DeclarationsRead
 pub mod ExpressionsRead
 pub mod Gives
 pub mod HeadsRead
-pub mod Kinds
 pub mod Left
 pub mod PatternsRead
 pub mod Ties
 pub mod TypesRead
+pub mod VidPlace

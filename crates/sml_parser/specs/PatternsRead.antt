@@ -91,7 +91,7 @@ abbrev pub plain_pat_start : Fixity → List Terminal → PatStart
 plain_pat_start f (reserved p res.Underscore ∷ o) = wild_start p o
 plain_pat_start f (number p n plain ∷ o) = constant_start p (int n) o
 plain_pat_start f (constant p c ∷ o) = constant_start p c o
-plain_pat_start f i = vid_if (names_vid f i)
+plain_pat_start f i = vid_if (place_at i) (names_vid f i)
 
 -- what goes on with a pattern
 abbrev pub Suffixed : Fixity → List Terminal → Suffix → List Terminal → Type 0

@@ -4,22 +4,23 @@ ghost use Rattle.std.specs.Prelude.{◌≡◌, ℕ, Some, None, MatchOption, Mat
 ghost use Rattle.sml_tree.specs.ReadTree as read;
 ghost use Rattle.sml_tree.specs.TreeOf.{long_vid_of};
 ghost use Rattle.sml_grammar.specs.Answer.{Answer, deep_if};
-ghost use Rattle.sml_grammar.specs.Terminals.{taken, place_at, after_op, as_any_long};
+ghost use Rattle.sml_grammar.specs.Terminals.{taken, place_at, first_as, as_any_long};
 ghost use Rattle.sml_grammar.specs.Expressions.{is_keyword, start_of, begins, begins_atom, atom_start, is_atom_start, vid_if};
 ghost use Rattle.sml_parser.specs.Gives.{Fails, Gives};
 ghost use Rattle.sml_parser.specs.Left.{left};
+ghost use Rattle.sml_parser.specs.VidPlace.{vid_place};
 ghost use Rattle.sml_parser.specs.ExpressionsRead.{IsAtom, leaf_by, atom_vid};
 ghost use Rattle.sml_parser.specs.declared.stop.Stop.TheVariants.{Memory};
 
 use crate::got::Got;
-use crate::nodes::{constant, derived_exp, name};
+use crate::nodes::{constant, name};
 use crate::source::Source;
 use crate::stop::Stop;
 use crate::ties::is_infix;
 use crate::tokens::{after_word, label_at, place_at};
-use crate::vids::{constant_at, names_vid};
+use crate::vids::{constant_at, names_vid, vid_place};
 use mlc_base::token::{Reserved, Token, TokenKind};
-use sml_tree::derive::Derived;
+use sml_tree::derive::selector;
 use sml_tree::fixity::Fixities;
 use sml_tree::ident::{LongVid, Vid};
 use sml_tree::tree::Exp;
@@ -42,7 +43,7 @@ pub fn is_keyword(source: &Source, tokens: &[Token]) -> bool
 
 /// Whether what `op` may stand before comes first.
 fn is_op_name(source: &Source, tokens: &[Token]) -> bool
-    ensures { (p : ℕ) → result ≡ is_atom_start (vid_if (after_op as_any_long p (left source.now tokens.now))) }
+    ensures { (p : ℕ) → result ≡ is_atom_start (vid_if p (first_as as_any_long (left source.now tokens.now))) }
 {
     let [first, ..] = tokens else { return false };
     match &first.kind {
@@ -114,7 +115,7 @@ fn atom_vid<'a>(
     tokens: &'a [Token],
 ) -> Result<Option<(LongVid, &'a [Token])>, Stop>
     ensures { MatchResult result (λ found. MatchOption found (atom_vid fix.now (left source.now tokens.now) ≡ None)
-        (λ x. atom_vid fix.now (left source.now tokens.now) ≡ taken (record { place = place_at (left source.now tokens.now); it = long_vid_of x.0 }) (left source.now x.1.now)))
+        (λ x. atom_vid fix.now (left source.now tokens.now) ≡ taken (record { place = vid_place (left source.now tokens.now); it = long_vid_of x.0 }) (left source.now x.1.now)))
         (λ e. e ≡ Memory) }
 {
     match after_word(source, Reserved::Equals, tokens) {
@@ -155,12 +156,12 @@ pub fn leaf_atom<'a>(
         let Some((label, rest)) = label_at(source, after) else {
             return Err(Stop::Bad(after.len()))
         };
-        let it = derived_exp(alloc, Derived::Selector(place, label))?;
+        let it = selector(alloc, place, label)?;
         return Ok(Got { it, depth: 1, rest });
     }
     match atom_vid(alloc, source, fix, tokens)? {
         Some((long, rest)) => Ok(Got {
-            it: name(place, long),
+            it: name(vid_place(source, tokens), long),
             depth: 1,
             rest,
         }),

@@ -1,24 +1,27 @@
 // Type variables, and bindings of types and exceptions.
 
-ghost use Rattle.std.specs.Prelude.{◌≡◌, ◌<◌, ◌≤◌, length};
+ghost use Rattle.std.specs.Prelude.{◌≡◌, ◌<◌, ◌≤◌, ℕ, length};
+ghost use Rattle.sml_tree.specs.Bare.{at};
 ghost use Rattle.sml_grammar.specs.Answer.{read, whole};
 ghost use Rattle.sml_grammar.specs.Terminals.{no_state};
-ghost use Rattle.sml_grammar.specs.Bindings.{read_tyvars, tyvar_turn, read_type_binds, read_cons, read_data_binds, read_ex_binds, read_strids, read_vids, precedence_then};
+ghost use Rattle.sml_grammar.specs.Bindings.{read_tyvars, tyvars_place, tyvar_turn, read_type_binds, read_cons, read_data_binds, read_ex_binds, read_strids, read_vids, precedence_then};
 ghost use Rattle.sml_parser.specs.Gives.{Gives};
 ghost use Rattle.sml_parser.specs.Left.{left};
 ghost use Rattle.sml_parser.specs.BindingsRead.{IsTyvars, IsStrids, IsVids, IsTyconHead, read_tycon_head, IsTypeBind, read_type_bind, IsTypeBinds, IsCon, read_con, IsCons, IsDataBind, read_data_bind, IsDataBinds, IsExBind, read_ex_bind, IsExBinds};
 
-use crate::got::Got;
+use crate::got::{Got, pushed};
 use crate::source::Source;
 use crate::stop::Stop;
 use crate::tokens::{after_word, long_strid_at, place_at, tycon_at, tyvar_at, vid_at};
 use crate::types::{maybe_ty, read_ty};
-use crate::vids::{binds_vid, digit_at, names_vid};
+use crate::vids::{binds_vid, digit_at, names_vid, vid_place};
+use mlc_base::make::with;
 use mlc_base::names::Name;
+use mlc_base::place::Place;
 use mlc_base::token::{Reserved, Token};
 use sml_tree::fixity::Fixities;
 use sml_tree::ident::Tyvar;
-use sml_tree::tree::{ConBind, DataBind, ExBind, LongIdAt, TypeBind};
+use sml_tree::tree::{ConBind, DataBind, ExBind, LongIdAt, TypeBind, TyvarSeq};
 use std::alloc::Global;
 
 /// Type variables: none, one, or some in brackets.
@@ -53,6 +56,22 @@ pub fn read_tyvars<'a>(
         });
     }
     bracketed_tyvars(alloc, source, inner)
+}
+
+/// Type variables that begin with these tokens, in the declaration at `place`, with their own place.
+pub fn tyvar_seq(source: &Source, place: Place, tokens: &[Token], tyvars: Vec<Tyvar>) -> TyvarSeq
+    ensures tyvars { result.tyvars ≡ tyvars }
+    ensures place { (p : ℕ) → place ≡ at source.now.file p → result.place ≡ at source.now.file (tyvars_place p (left source.now tokens.now) tyvars.items) }
+{
+    let own_place = if tyvars.is_empty() {
+        place
+    } else {
+        place_at(source, tokens)
+    };
+    TyvarSeq {
+        place: own_place,
+        tyvars,
+    }
 }
 
 /// Type variables in brackets, after the bracket.
@@ -188,20 +207,16 @@ fn type_bind<'a>(
         depth: _,
         rest: after,
     } = tycon_head(alloc, source, tokens)?;
-    let Got {
-        it: ty,
-        depth,
-        rest,
-    } = read_ty(alloc, source, n, 0, after)?;
+    let (vars, ty) = with(tyvars, read_ty(alloc, source, n, 0, after))?;
     Ok(Got {
         it: TypeBind {
             place,
-            tyvars,
+            tyvars: vars,
             tycon,
-            ty,
+            ty: ty.it,
         },
-        depth,
-        rest,
+        depth: ty.depth,
+        rest: ty.rest,
     })
 }
 
@@ -219,13 +234,10 @@ pub fn read_type_binds<'a>(
     let mut deepest = 0;
     let mut rest = tokens;
     'binds: loop {
-        let Got {
-            it,
-            depth,
-            rest: after,
-        } = type_bind(alloc, source, n, rest)?;
-        binds.push(it)?;
-        deepest = depth.max(deepest);
+        let (front, got) = with(binds, type_bind(alloc, source, n, rest))?;
+        let after = got.rest;
+        deepest = got.depth.max(deepest);
+        binds = pushed(front, got.it)?;
         let Some(next) = after_word(source, Reserved::And, after) else {
             return Ok(Got {
                 it: binds,
@@ -258,7 +270,7 @@ fn con_bind<'a>(
     } = maybe_ty(alloc, source, n, Reserved::Of, after)?;
     Ok(Got {
         it: ConBind {
-            place: place_at(source, tokens),
+            place: vid_place(source, tokens),
             vid,
             of_ty,
         },
@@ -282,13 +294,10 @@ fn read_cons<'a>(
     let mut deepest = 0;
     let mut rest = tokens;
     'cons: loop {
-        let Got {
-            it,
-            depth,
-            rest: after,
-        } = con_bind(alloc, source, fix, n, rest)?;
-        cons.push(it)?;
-        deepest = depth.max(deepest);
+        let (front, got) = with(cons, con_bind(alloc, source, fix, n, rest))?;
+        let after = got.rest;
+        deepest = got.depth.max(deepest);
+        cons = pushed(front, got.it)?;
         let Some(next) = after_word(source, Reserved::Bar, after) else {
             return Ok(Got {
                 it: cons,
@@ -317,20 +326,16 @@ fn data_bind<'a>(
         depth: _,
         rest: after,
     } = tycon_head(alloc, source, tokens)?;
-    let Got {
-        it: cons,
-        depth,
-        rest,
-    } = read_cons(alloc, source, fix, n, after)?;
+    let (vars, cons) = with(tyvars, read_cons(alloc, source, fix, n, after))?;
     Ok(Got {
         it: DataBind {
             place,
-            tyvars,
+            tyvars: vars,
             tycon,
-            cons,
+            cons: cons.it,
         },
-        depth,
-        rest,
+        depth: cons.depth,
+        rest: cons.rest,
     })
 }
 
@@ -349,13 +354,10 @@ pub fn read_data_binds<'a>(
     let mut deepest = 0;
     let mut rest = tokens;
     'binds: loop {
-        let Got {
-            it,
-            depth,
-            rest: after,
-        } = data_bind(alloc, source, fix, n, rest)?;
-        binds.push(it)?;
-        deepest = depth.max(deepest);
+        let (front, got) = with(binds, data_bind(alloc, source, fix, n, rest))?;
+        let after = got.rest;
+        deepest = got.depth.max(deepest);
+        binds = pushed(front, got.it)?;
         let Some(next) = after_word(source, Reserved::And, after) else {
             return Ok(Got {
                 it: binds,
@@ -378,14 +380,14 @@ fn ex_bind<'a>(
     requires { n < 1000 }
     ensures gives { Gives (λ x r. IsExBind source.now n (left source.now tokens.now) x.it x.depth x.rest.now r) result (read_ex_bind n fix.now (left source.now tokens.now)) }
 {
-    let place = place_at(source, tokens);
+    let place = vid_place(source, tokens);
     let Some((vid, after)) = binds_vid(source, fix, tokens) else {
         return Err(Stop::Bad(tokens.len()))
     };
     if let Some(named) = after_word(source, Reserved::Equals, after) {
         return match names_vid(alloc, source, fix, named)? {
             Some((long, rest)) => Ok(Got {
-                it: ExBind::Same(place, vid, place_at(source, named), long),
+                it: ExBind::Same(place, vid, vid_place(source, named), long),
                 depth: 0,
                 rest,
             }),
@@ -419,13 +421,10 @@ pub fn read_ex_binds<'a>(
     let mut deepest = 0;
     let mut rest = tokens;
     'binds: loop {
-        let Got {
-            it,
-            depth,
-            rest: after,
-        } = ex_bind(alloc, source, fix, n, rest)?;
-        binds.push(it)?;
-        deepest = depth.max(deepest);
+        let (front, got) = with(binds, ex_bind(alloc, source, fix, n, rest))?;
+        let after = got.rest;
+        deepest = got.depth.max(deepest);
+        binds = pushed(front, got.it)?;
         let Some(next) = after_word(source, Reserved::And, after) else {
             return Ok(Got {
                 it: binds,

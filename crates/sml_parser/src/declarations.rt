@@ -14,16 +14,17 @@ ghost use Rattle.sml_parser.specs.Left.{left};
 ghost use Rattle.sml_parser.specs.ExpressionsRead.{IsDecs, IsList};
 ghost use Rattle.sml_parser.specs.DeclarationsRead.{IsBinds, IsFunction, IsDec, inner_decs, local_by, item_of};
 
-use crate::bindings::read_tyvars;
+use crate::bindings::{read_tyvars, tyvar_seq};
 use crate::expressions::read_after;
-use crate::got::Got;
+use crate::got::{Got, pushed};
 use crate::headings::{Shape, clause_from, read_heading};
 use crate::nodes::{bind, function, functions, local, val};
 use crate::patterns::read_pat;
 use crate::simple_decs::{begins_dec, simple_dec};
 use crate::source::Source;
 use crate::stop::Stop;
-use crate::tokens::{after_word, place_at, tail, word_at};
+use crate::tokens::{after_word, past, place_at, tail, word_at};
+use mlc_base::make::with;
 use mlc_base::memory::NoMemory;
 use mlc_base::place::Place;
 use mlc_base::token::{Reserved, Token};
@@ -59,14 +60,10 @@ pub fn read_decs<'a>(
                 rest,
             });
         }
-        let Got {
-            it,
-            depth,
-            rest: after,
-        } = read_dec(alloc, source, fix, n, rest)?;
-        put_dec(&mut all, it)?;
-        deepest = depth.max(deepest);
-        rest = after;
+        let (front, dec) = with(all, read_dec(alloc, source, fix, n, rest))?;
+        deepest = dec.depth.max(deepest);
+        rest = dec.rest;
+        all = put_dec(front, dec.it)?;
     }
 }
 
@@ -84,22 +81,21 @@ fn read_dec<'a>(
         (dec_by n (readers n).exp (inner_decs n) fix.old (dec_start (left source.now tokens.now))) }
 {
     let place = place_at(source, tokens);
+    let inner = tail(source, tokens);
     match word_at(source, tokens) {
         Some(Reserved::Val) => {
             let Got {
                 it: tyvars,
                 depth: _,
                 rest: after,
-            } = read_tyvars(alloc, source, tail(source, tokens))?;
-            let Got {
-                it: (plain, recursive),
-                depth,
-                rest,
-            } = read_binds(alloc, source, fix, n, after)?;
+            } = read_tyvars(alloc, source, inner)?;
+            let seq = tyvar_seq(source, place, inner, tyvars);
+            let (vars, binds) = with(seq, read_binds(alloc, source, fix, n, after))?;
+            let (plain, recursive) = binds.it;
             Ok(Got {
-                it: Some(val(place, tyvars, plain, recursive)),
-                depth,
-                rest,
+                it: Some(val(place, vars, plain, recursive)),
+                depth: binds.depth,
+                rest: binds.rest,
             })
         }
         Some(Reserved::Fun) => {
@@ -107,19 +103,20 @@ fn read_dec<'a>(
                 it: tyvars,
                 depth: _,
                 rest: after,
-            } = read_tyvars(alloc, source, tail(source, tokens))?;
-            let Got { it, depth, rest } = read_functions(alloc, source, fix, n, after)?;
+            } = read_tyvars(alloc, source, inner)?;
+            let seq = tyvar_seq(source, place, inner, tyvars);
+            let (vars, all) = with(seq, read_functions(alloc, source, fix, n, after))?;
             Ok(Got {
-                it: Some(functions(place, tyvars, it)),
-                depth,
-                rest,
+                it: Some(functions(place, vars, all.it)),
+                depth: all.depth,
+                rest: all.rest,
             })
         }
         Some(Reserved::Local) => {
             if n == 0 {
                 return Err(Stop::Deep(tokens.len()));
             }
-            read_local(alloc, source, fix, n - 1, place, tail(source, tokens))
+            read_local(alloc, source, fix, n - 1, place, inner)
         }
         _ => simple_dec(alloc, source, fix, n, tokens),
     }
@@ -146,21 +143,18 @@ fn read_local<'a>(
         rest: after_first,
     } = read_decs(alloc, source, &mut inner, n, tokens)?;
     let hidden = inner.len();
-    let Some(inside) = after_word(source, Reserved::In, after_first) else {
-        return Err(Stop::Bad(after_first.len()))
-    };
-    let Got {
-        it: second,
-        depth,
-        rest: after_second,
-    } = read_decs(alloc, source, &mut inner, n, inside)?;
-    let Some(rest) = after_word(source, Reserved::End, after_second) else {
-        return Err(Stop::Bad(after_second.len()))
-    };
-    fix.add_newest(&inner, hidden)?;
+    let (outer, inside) = with(first, past(source, Reserved::In, after_first))?;
+    let (start, second) = with(outer, read_decs(alloc, source, &mut inner, n, inside))?;
+    let (depth, after_second) = (first_depth.max(second.depth), second.rest);
+    let (both, rest) = with(
+        (start, second.it),
+        past(source, Reserved::End, after_second),
+    )?;
+    let (decs, _added) = with(both, fix.add_newest(&inner, hidden))?;
+    let (first, second) = decs;
     Ok(Got {
         it: Some(local(place, first, second)),
-        depth: first_depth.max(depth) + 1,
+        depth: depth + 1,
         rest,
     })
 }
@@ -178,8 +172,7 @@ fn read_binds<'a>(
     ensures gives { Gives (λ x r. IsBinds source.now n (left source.now tokens.now) x.it.0.items x.it.1.items x.depth x.rest.now r) result
         (read_binds n (readers n).exp fix.now (left source.now tokens.now)) }
 {
-    let mut plain = Vec::new(alloc);
-    let mut recursive = Vec::new(alloc);
+    let mut lists = (Vec::new(alloc), Vec::new(alloc));
     let mut after_rec = false;
     let mut deepest = 0;
     let mut rest = tokens;
@@ -190,21 +183,19 @@ fn read_binds<'a>(
             continue 'binds;
         }
         let place = place_at(source, rest);
-        let Got {
-            it: pat,
-            depth: pat_depth,
-            rest: after_pat,
-        } = read_pat(alloc, source, fix, n, 0, rest)?;
-        let Got {
-            it: exp,
-            depth,
-            rest: after,
-        } = read_after(alloc, source, fix, n, Reserved::Equals, after_pat)?;
-        put_bind(&mut plain, &mut recursive, after_rec, bind(place, pat, exp))?;
-        deepest = pat_depth.max(depth).max(deepest);
+        let (front, pat) = with(lists, read_pat(alloc, source, fix, n, 0, rest))?;
+        let after_pat = pat.rest;
+        let (parts, exp) = with(
+            (front, pat),
+            read_after(alloc, source, fix, n, Reserved::Equals, after_pat),
+        )?;
+        let (front, pat) = parts;
+        let after = exp.rest;
+        deepest = pat.depth.max(exp.depth).max(deepest);
+        lists = put_bind(front, after_rec, bind(place, pat.it, exp.it))?;
         let Some(next) = after_word(source, Reserved::And, after) else {
             return Ok(Got {
-                it: (plain, recursive),
+                it: lists,
                 depth: deepest,
                 rest: after,
             })
@@ -213,32 +204,32 @@ fn read_binds<'a>(
     }
 }
 
-/// Puts a binding at the end of those before or after `rec`.
+/// The bindings before and after `rec`, with one more at the end of these or those.
 fn put_bind(
-    plain: &mut Vec<Bind>,
-    recursive: &mut Vec<Bind>,
+    lists: (Vec<Bind>, Vec<Bind>),
     after_rec: bool,
     bind: Bind,
-) -> Result<(), NoMemory>
-    ensures plain { IfOk result (λ _. plain.new.items ≡ (if after_rec then plain.old.items else (plain.old.items ++ bind ∷ []))) }
-    ensures rec { IfOk result (λ _. recursive.new.items ≡ (if after_rec then (recursive.old.items ++ bind ∷ []) else recursive.old.items)) }
+) -> Result<(Vec<Bind>, Vec<Bind>), NoMemory>
+    ensures plain { IfOk result (λ made. made.0.items ≡ (if after_rec then lists.0.items else (lists.0.items ++ bind ∷ []))) }
+    ensures rec { IfOk result (λ made. made.1.items ≡ (if after_rec then (lists.1.items ++ bind ∷ []) else lists.1.items)) }
 {
+    let (plain, recursive) = lists;
     if after_rec {
-        recursive.push(bind)?;
+        with(plain, pushed(recursive, bind))
     } else {
-        plain.push(bind)?;
+        let (recursive, plain) = with(recursive, pushed(plain, bind))?;
+        Ok((plain, recursive))
     }
-    Ok(())
 }
 
-/// Puts a declaration, if there is one, at the end of those before.
-fn put_dec(decs: &mut Vec<Dec>, item: Option<Dec>) -> Result<(), NoMemory>
-    ensures { IfOk result (λ _. map dec_of decs.new.items ≡ map dec_of decs.old.items ++ item_of item) }
+/// Declarations, with one more at their end, if there is one.
+fn put_dec(decs: Vec<Dec>, item: Option<Dec>) -> Result<Vec<Dec>, NoMemory>
+    ensures { IfOk result (λ made. map dec_of made.items ≡ map dec_of decs.items ++ item_of item) }
 {
-    if let Some(dec) = item {
-        decs.push(dec)?;
+    match item {
+        Some(dec) => pushed(decs, dec),
+        None => Ok(decs),
     }
-    Ok(())
 }
 
 /// Functions of `fun`.
@@ -258,13 +249,10 @@ fn read_functions<'a>(
     let mut deepest = 0;
     let mut rest = tokens;
     'functions: loop {
-        let Got {
-            it,
-            depth,
-            rest: after,
-        } = read_clauses(alloc, source, fix, n, rest)?;
-        all.push(it)?;
-        deepest = depth.max(deepest);
+        let (front, got) = with(all, read_clauses(alloc, source, fix, n, rest))?;
+        let after = got.rest;
+        deepest = got.depth.max(deepest);
+        all = pushed(front, got.it)?;
         let Some(next) = after_word(source, Reserved::And, after) else {
             return Ok(Got {
                 it: all,
@@ -310,7 +298,7 @@ fn read_clauses<'a>(
         deepest = heading_depth.max(depth).max(deepest);
         let Some(next) = after_word(source, Reserved::Bar, after) else {
             return Ok(Got {
-                it: function(first.place, first.vid, clauses),
+                it: function(first.place, first.vid_place, first.vid, clauses),
                 depth: deepest,
                 rest: after,
             });

@@ -17,20 +17,23 @@ ghost use Rattle.sml_parser.specs.Ties.{joint_from, tie_level, tie_rest, FromFil
 
 use crate::atoms::{begins_atom, is_keyword, leaf_atom, no_atom_room, no_room};
 use crate::declarations::read_decs;
-use crate::got::Got;
+use crate::got::{Got, pushed};
 use crate::nodes::{
-    applied, chain, derived_exp, field, handler, lambda, list, part, raised, record_of, rule,
+    applied, chain, field, handler, lambda, list, part, raised, record_of, rule, tuple_from,
     tuple_of, typed,
 };
 use crate::patterns::read_pat;
 use crate::source::Source;
 use crate::stop::Stop;
-use crate::ties::{Tie, joint_level, joint_right, next_joint, tie_at, tie_least, tie_level};
-use crate::tokens::{after_word, label_at, place_at, tail, word_at};
+use crate::ties::{
+    Tie, high_enough, joint_level, joint_right, next_joint, tie_at, tie_least, tie_level,
+};
+use crate::tokens::{after_word, label_at, past, place_at, room, tail, word_at};
 use crate::types::read_ty;
+use mlc_base::make::with;
 use mlc_base::place::Place;
 use mlc_base::token::{Reserved, Token};
-use sml_tree::derive::Derived;
+use sml_tree::derive;
 use sml_tree::fixity::Fixities;
 use sml_tree::tree::{Exp, ExpField, Joint, Part, Rule};
 use std::alloc::Global;
@@ -72,13 +75,9 @@ pub fn read_exp<'a>(
                 rest,
             });
         }
-        if high < tie_least(fix, &tie) {
-            return Err(Stop::Bad(rest.len()));
-        }
-        if depth > n - 1 {
-            return Err(Stop::Deep(rest.len()));
-        }
-        let larger = go_on(alloc, source, fix, n - 1, &tie, place, exp, depth, after)?;
+        let (tied, _high) = with(exp, high_enough(high, tie_least(fix, &tie), rest))?;
+        let (before, _room) = with(tied, room(depth, n - 1, rest))?;
+        let larger = go_on(alloc, source, fix, n - 1, &tie, place, before, depth, after)?;
         exp = larger.it;
         depth = larger.depth;
         high = next;
@@ -118,10 +117,14 @@ fn keyword_form<'a>(
         Some(Reserved::If) => conditional(alloc, source, fix, n, tokens),
         Some(Reserved::While) => {
             let test = read_exp(alloc, source, fix, n, 0, inner)?;
-            let body = read_after(alloc, source, fix, n, Reserved::Do, test.rest)?;
-            let depth = test.depth.max(body.depth) + 1;
+            let rest = test.rest;
+            let (condition, body) = with(
+                test,
+                read_after(alloc, source, fix, n, Reserved::Do, rest),
+            )?;
+            let depth = condition.depth.max(body.depth) + 1;
             Ok(Got {
-                it: derived_exp(alloc, Derived::While(place, test.it, body.it))?,
+                it: derive::while_loop(alloc, place, condition.it, body.it)?,
                 depth,
                 rest: body.rest,
             })
@@ -153,18 +156,21 @@ fn conditional<'a>(
         (then_read ((readers n).exp fix.now 0 (tail (left source.now tokens.now))) (if_rest (readers n).exp fix.now (place_at (left source.now tokens.now)))) }
 {
     let test = read_exp(alloc, source, fix, n, 0, tail(source, tokens))?;
-    let yes = read_after(alloc, source, fix, n, Reserved::Then, test.rest)?;
-    let no = read_after(alloc, source, fix, n, Reserved::Else, yes.rest)?;
-    let depth = test.depth.max(yes.depth.max(no.depth)) + 1;
-    let it = derived_exp(
-        alloc,
-        Derived::If(place_at(source, tokens), test.it, yes.it, no.it),
+    let rest = test.rest;
+    let (condition, yes) = with(
+        test,
+        read_after(alloc, source, fix, n, Reserved::Then, rest),
     )?;
-    Ok(Got {
-        it,
-        depth,
-        rest: no.rest,
-    })
+    let rest = yes.rest;
+    let (both, no) = with(
+        (condition, yes),
+        read_after(alloc, source, fix, n, Reserved::Else, rest),
+    )?;
+    let (condition, yes) = both;
+    let depth = condition.depth.max(yes.depth.max(no.depth)) + 1;
+    let rest = no.rest;
+    let it = derive::conditional(alloc, place_at(source, tokens), condition.it, yes.it, no.it)?;
+    Ok(Got { it, depth, rest })
 }
 
 /// `case e of m`
@@ -182,20 +188,13 @@ fn case<'a>(
         (then_read ((readers n).exp fix.now 0 (tail (left source.now tokens.now))) (case_rest n (readers n).exp fix.now (place_at (left source.now tokens.now)))) }
 {
     let exp = read_exp(alloc, source, fix, n, 0, tail(source, tokens))?;
-    let Some(after) = after_word(source, Reserved::Of, exp.rest) else {
-        return Err(Stop::Bad(exp.rest.len()))
-    };
-    let rules = read_match(alloc, source, fix, n, after)?;
-    let depth = exp.depth.max(rules.depth) + 1;
-    let it = derived_exp(
-        alloc,
-        Derived::Case(place_at(source, tokens), exp.it, rules.it),
-    )?;
-    Ok(Got {
-        it,
-        depth,
-        rest: rules.rest,
-    })
+    let rest = exp.rest;
+    let (subject, after) = with(exp, past(source, Reserved::Of, rest))?;
+    let (matched, rules) = with(subject, read_match(alloc, source, fix, n, after))?;
+    let depth = matched.depth.max(rules.depth) + 1;
+    let rest = rules.rest;
+    let it = derive::case(alloc, place_at(source, tokens), matched.it, rules.it)?;
+    Ok(Got { it, depth, rest })
 }
 
 /// An expression after a word.
@@ -231,17 +230,15 @@ fn application<'a>(
 {
     let place = place_at(source, tokens);
     let first = read_atom(alloc, source, fix, n + 1, tokens)?;
-    if !begins_atom(source, fix, first.rest) {
+    let (below, rest) = (first.depth, first.rest);
+    if !begins_atom(source, fix, rest) {
         return Ok(first);
     }
-    if first.depth > n {
-        return Err(Stop::Deep(first.rest.len()));
-    }
-    let arguments = read_atoms(alloc, source, fix, n, first.rest)?;
-    let depth = first.depth.max(arguments.depth) + 1;
+    let (operator, _room) = with(first, room(below, n, rest))?;
+    let (function, arguments) = with(operator, read_atoms(alloc, source, fix, n, rest))?;
     Ok(Got {
-        it: applied(alloc, place, first.it, arguments.it)?,
-        depth,
+        it: applied(alloc, place, function.it, arguments.it)?,
+        depth: below.max(arguments.depth) + 1,
         rest: arguments.rest,
     })
 }
@@ -264,10 +261,10 @@ fn read_atoms<'a>(
     let mut deepest = 0;
     let mut rest = tokens;
     'atoms: loop {
-        let atom = read_atom(alloc, source, fix, n, rest)?;
-        all.push(atom.it)?;
+        let (front, atom) = with(all, read_atom(alloc, source, fix, n, rest))?;
         deepest = atom.depth.max(deepest);
         rest = atom.rest;
+        all = pushed(front, atom.it)?;
         if !begins_atom(source, fix, rest) {
             return Ok(Got {
                 it: all,
@@ -355,20 +352,22 @@ fn read_rows<'a>(
     let mut deepest = 0;
     let mut rest = tokens;
     'fields: loop {
-        let Some((label, after)) = label_at(source, rest) else {
+        let Some((label, value)) = label_at(source, rest) else {
             return Err(Stop::Bad(rest.len()))
         };
-        let exp = read_after(alloc, source, fix, n, Reserved::Equals, after)?;
-        all.push(field(label, exp.it))?;
+        let (front, exp) = with(
+            all,
+            read_after(alloc, source, fix, n, Reserved::Equals, value),
+        )?;
+        let after = exp.rest;
         deepest = exp.depth.max(deepest);
-        match after_word(source, Reserved::Comma, exp.rest) {
+        all = pushed(front, field(label, exp.it))?;
+        match after_word(source, Reserved::Comma, after) {
             Some(next) => rest = next,
             None => {
-                let Some(rest) = after_word(source, Reserved::RightBrace, exp.rest) else {
-                    return Err(Stop::Bad(exp.rest.len()))
-                };
+                let (it, rest) = with(all, past(source, Reserved::RightBrace, after))?;
                 return Ok(Got {
-                    it: all,
+                    it,
                     depth: deepest,
                     rest,
                 });
@@ -400,48 +399,51 @@ fn in_parens<'a>(
         });
     }
     let first = read_exp(alloc, source, fix, n, 0, inner)?;
-    if let Some(after) = after_word(source, Reserved::Comma, first.rest) {
-        let mut exps = read_exps(
-            alloc,
-            source,
-            fix,
-            n,
-            Reserved::Comma,
-            Reserved::RightParen,
-            after,
+    let rest = first.rest;
+    if let Some(after) = after_word(source, Reserved::Comma, rest) {
+        let (front, exps) = with(
+            first,
+            read_exps(
+                alloc,
+                source,
+                fix,
+                n,
+                Reserved::Comma,
+                Reserved::RightParen,
+                after,
+            ),
         )?;
-        exps.it.insert(0, first.it)?;
         return Ok(Got {
-            it: tuple_of(place, exps.it),
-            depth: first.depth.max(exps.depth) + 1,
+            it: tuple_from(place, front.it, exps.it)?,
+            depth: front.depth.max(exps.depth) + 1,
             rest: exps.rest,
         });
     }
-    if let Some(after) = after_word(source, Reserved::Semicolon, first.rest) {
-        let exps = read_exps(
-            alloc,
-            source,
-            fix,
-            n,
-            Reserved::Semicolon,
-            Reserved::RightParen,
-            after,
+    if let Some(after) = after_word(source, Reserved::Semicolon, rest) {
+        let (start, exps) = with(
+            first,
+            read_exps(
+                alloc,
+                source,
+                fix,
+                n,
+                Reserved::Semicolon,
+                Reserved::RightParen,
+                after,
+            ),
         )?;
-        let it = derived_exp(alloc, Derived::Sequence(place, first.it, exps.it))?;
         return Ok(Got {
-            it,
-            depth: first.depth.max(exps.depth) + 1,
+            it: derive::sequence(alloc, place, start.it, exps.it)?,
+            depth: start.depth.max(exps.depth) + 1,
             rest: exps.rest,
         });
     }
-    match after_word(source, Reserved::RightParen, first.rest) {
-        Some(rest) => Ok(Got {
-            it: first.it,
-            depth: first.depth + 1,
-            rest,
-        }),
-        None => Err(Stop::Bad(first.rest.len())),
-    }
+    let (inside, after) = with(first, past(source, Reserved::RightParen, rest))?;
+    Ok(Got {
+        it: inside.it,
+        depth: inside.depth + 1,
+        rest: after,
+    })
 }
 
 /// `[e1, .., en]`
@@ -511,10 +513,7 @@ fn read_let<'a>(
         after,
     )?;
     let first = body.it.remove(0);
-    let it = derived_exp(
-        alloc,
-        Derived::Let(place_at(source, tokens), decs.it, first, body.it),
-    )?;
+    let it = derive::let_in(alloc, place_at(source, tokens), decs.it, first, body.it)?;
     Ok(Got {
         it,
         depth: decs.depth.max(body.depth) + 1,
@@ -541,17 +540,16 @@ fn read_exps<'a>(
     let mut deepest = 0;
     let mut rest = tokens;
     'exps: loop {
-        let exp = read_exp(alloc, source, fix, n, 0, rest)?;
-        all.push(exp.it)?;
+        let (front, exp) = with(all, read_exp(alloc, source, fix, n, 0, rest))?;
+        let after = exp.rest;
         deepest = exp.depth.max(deepest);
-        match after_word(source, word, exp.rest) {
+        all = pushed(front, exp.it)?;
+        match after_word(source, word, after) {
             Some(next) => rest = next,
             None => {
-                let Some(rest) = after_word(source, closing, exp.rest) else {
-                    return Err(Stop::Bad(exp.rest.len()))
-                };
+                let (it, rest) = with(all, past(source, closing, after))?;
                 return Ok(Got {
-                    it: all,
+                    it,
                     depth: deepest,
                     rest,
                 });
@@ -578,15 +576,21 @@ fn read_match<'a>(
     let mut rest = tokens;
     'rules: loop {
         let place = place_at(source, rest);
-        let pat = read_pat(alloc, source, fix, n, 0, rest)?;
-        let exp = read_after(alloc, source, fix, n, Reserved::DoubleArrow, pat.rest)?;
-        all.push(rule(place, pat.it, exp.it))?;
+        let (front, pat) = with(all, read_pat(alloc, source, fix, n, 0, rest))?;
+        let after_pat = pat.rest;
+        let (parts, exp) = with(
+            (front, pat),
+            read_after(alloc, source, fix, n, Reserved::DoubleArrow, after_pat),
+        )?;
+        let (front, pat) = parts;
+        let after = exp.rest;
         deepest = pat.depth.max(exp.depth).max(deepest);
-        let Some(next) = after_word(source, Reserved::Bar, exp.rest) else {
+        all = pushed(front, rule(place, pat.it, exp.it))?;
+        let Some(next) = after_word(source, Reserved::Bar, after) else {
             return Ok(Got {
                 it: all,
                 depth: deepest,
-                rest: exp.rest,
+                rest: after,
             })
         };
         rest = next;
@@ -616,18 +620,21 @@ fn read_parts<'a>(
     let mut rest = tokens;
     'parts: loop {
         let place = place_at(source, rest);
-        let exp = read_exp(alloc, source, fix, n, level + 1, rest)?;
-        all.push(part(joint, place, exp.it))?;
+        let (front, exp) = with(all, read_exp(alloc, source, fix, n, level + 1, rest))?;
+        let after = exp.rest;
         deepest = exp.depth.max(deepest);
-        let Some(next) = next_joint(source, fix, level, right, exp.rest)? else {
+        let longer = pushed(front, part(joint, place, exp.it))?;
+        let (grown, found) = with(longer, next_joint(source, fix, level, right, after))?;
+        all = grown;
+        let Some(next) = found else {
             return Ok(Got {
                 it: all,
                 depth: deepest,
-                rest: exp.rest,
+                rest: after,
             })
         };
         joint = next;
-        rest = tail(source, exp.rest);
+        rest = tail(source, after);
     }
 }
 
@@ -653,7 +660,7 @@ fn go_on<'a>(
 {
     match tie {
         Tie::Joint(joint) => {
-            let parts = read_parts(alloc, source, fix, n, joint, tokens)?;
+            let (before, parts) = with(before, read_parts(alloc, source, fix, n, joint, tokens))?;
             let it = chain(alloc, place, joint_right(fix, joint), before, parts.it)?;
             Ok(Got {
                 it,
@@ -662,7 +669,7 @@ fn go_on<'a>(
             })
         }
         Tie::Mark => {
-            let ty = read_ty(alloc, source, n, 0, tokens)?;
+            let (before, ty) = with(before, read_ty(alloc, source, n, 0, tokens))?;
             Ok(Got {
                 it: typed(alloc, place, before, ty.it)?,
                 depth: below.max(ty.depth) + 1,
@@ -670,7 +677,7 @@ fn go_on<'a>(
             })
         }
         Tie::Handle => {
-            let rules = read_match(alloc, source, fix, n, tokens)?;
+            let (before, rules) = with(before, read_match(alloc, source, fix, n, tokens))?;
             Ok(Got {
                 it: handler(alloc, place, before, rules.it)?,
                 depth: below.max(rules.depth) + 1,

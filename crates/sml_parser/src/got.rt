@@ -1,5 +1,8 @@
 // What was read.
 
+ghost use Rattle.std.specs.Prelude.{◌≡◌, ◌++◌, ◌∷◌, [], IfOk};
+
+use mlc_base::memory::NoMemory;
 use mlc_base::token::Token;
 
 /// A phrase, how deep it is, and the tokens after it.
@@ -9,3 +12,24 @@ pub struct Got<'a, T> {
     pub depth: u32,
     pub rest: &'a [Token],
 }
+
+/// A vector with one element more.
+pub fn pushed<T: Drop>(front: Vec<T>, element: T) -> Result<Vec<T>, NoMemory>
+    ensures { IfOk result (λ made. made.items ≡ front.items ++ element ∷ []) }
+{
+    let mut made = front;
+    made.push(element)?;
+    Ok(made)
+}
+
+/// A vector with one element more before the others.
+pub fn prefixed<T: Drop>(first: T, others: Vec<T>) -> Result<Vec<T>, NoMemory>
+    ensures { IfOk result (λ made. made.items ≡ first ∷ others.items) }
+{
+    let mut made = others;
+    made.insert(0, first)?;
+    Ok(made)
+}
+
+/// Lets a value go.
+pub fn discard<T: Drop>(_value: T) {}

@@ -1,6 +1,7 @@
 // Heads of clauses.
 
-ghost use Rattle.std.specs.Prelude.{◌≡◌, ℕ, ◌<◌, ◌≤◌, ◌+◌, ◌∷◌, [], length, map, List, Option, Some, None, MatchOption, MatchResult};
+ghost use Rattle.std.specs.Prelude.{◌≡◌, ℕ, ◌<◌, ◌≤◌, ◌+◌, ◌-◌, ◌∷◌, [], length, map, List, Option, Some, None, MatchOption, MatchResult};
+ghost use Rattle.mlc_base.specs.declared.token.Reserved.TheVariants.{LeftParen, RightParen};
 ghost use Rattle.sml_tree.specs.Terminal.{Terminal};
 ghost use Rattle.sml_tree.specs.ReadTree as read;
 ghost use Rattle.sml_tree.specs.Bare as bare;
@@ -9,7 +10,7 @@ ghost use Rattle.sml_tree.specs.Depth.{depth_pat};
 ghost use Rattle.sml_tree.specs.Bare.{bare_pat};
 ghost use Rattle.sml_tree.specs.TreeOf.{pat_of};
 ghost use Rattle.sml_grammar.specs.Answer.{Read, ok};
-ghost use Rattle.sml_grammar.specs.Terminals.{no_state, place_at, infix_vid, taken};
+ghost use Rattle.sml_grammar.specs.Terminals.{no_state, place_at, after_word, infix_vid, taken};
 ghost use Rattle.sml_grammar.specs.Patterns.{read_atpat, read_atpats, read_head, infix_rest, prefix_rest, bracket_rest, vid_head, bracketed, Bracketed};
 ghost use Rattle.sml_parser.specs.Gives.{Gives, Gave};
 ghost use Rattle.sml_parser.specs.Left.{left};
@@ -17,12 +18,13 @@ ghost use Rattle.sml_parser.specs.PatternsRead.{IsPatAt, IsPats};
 ghost use Rattle.sml_parser.specs.HeadsRead.{IsHead, IsPair, NoPattern};
 ghost use Rattle.sml_parser.specs.declared.stop.Stop.TheVariants.{Memory};
 
-use crate::got::Got;
+use crate::got::{Got, discard, pushed};
 use crate::patterns::{begins_pat, read_atpat};
 use crate::source::Source;
 use crate::stop::Stop;
 use crate::tokens::{after_word, place_at};
-use crate::vids::{binds_vid, joint_at};
+use crate::vids::{binds_vid, joint_at, vid_place};
+use mlc_base::make::{one, two, with};
 use mlc_base::names::Name;
 use mlc_base::place::Place;
 use mlc_base::token::{Reserved, Token};
@@ -35,6 +37,7 @@ use std::alloc::Global;
 #[derive(Drop)]
 pub struct Head {
     pub place: Place,
+    pub vid_place: Place,
     pub vid: Vid,
     pub pats: Vec<Pat>,
 }
@@ -43,6 +46,7 @@ pub struct Head {
 #[derive(Drop)]
 struct Pair {
     left: Pat,
+    vid_place: Place,
     vid: Name,
     right: Pat,
 }
@@ -60,12 +64,17 @@ pub fn read_head<'a>(
 {
     let place = place_at(source, tokens);
     if let Some((vid, after)) = binds_vid(source, fix, tokens) {
-        return named_head(alloc, source, fix, n, place, vid, after);
+        let name_place = vid_place(source, tokens);
+        return named_head(alloc, source, fix, n, place, name_place, vid, after);
     }
     let Got { it, depth, rest } = read_atpat(alloc, source, fix, n, tokens)?;
     if let Some(found) = joint_at(source, fix, rest) {
-        return infix_head(alloc, source, fix, n, place, it, depth, found.0, found.1);
+        let name_place = place_at(source, rest);
+        return infix_head(
+            alloc, source, fix, n, place, it, depth, name_place, found.0, found.1,
+        );
     }
+    discard(it);
     match bracketed(alloc, source, fix, n, tokens)? {
         Some(pair) => bracket_head(alloc, source, fix, n, place, pair, depth, rest),
         None => Err(Stop::Bad(rest.len())),
@@ -79,12 +88,13 @@ fn named_head<'a>(
     fix: &Fixities,
     n: u32,
     place: Place,
+    name_place: Place,
     vid: Vid,
     tokens: &'a [Token],
 ) -> Result<Got<'a, Head>, Stop>
     requires { n < 1000 }
-    ensures gives { (i : List Terminal) → place ≡ bare.at source.now.file (place_at i) → length (left source.now tokens.now) < length i →
-        Gives (λ x r. IsHead source.now n i x.it x.depth x.rest.now r) result (vid_head n fix.now (record { place = place_at i; it = vid }) (left source.now tokens.now)) }
+    ensures gives { (i : List Terminal) (q : ℕ) → place ≡ bare.at source.now.file (place_at i) → name_place ≡ bare.at source.now.file q → length (left source.now tokens.now) < length i →
+        Gives (λ x r. IsHead source.now n i x.it x.depth x.rest.now r) result (vid_head n fix.now (place_at i) (record { place = q; it = vid }) (left source.now tokens.now)) }
 {
     match joint_at(source, fix, tokens) {
         Some(found) => {
@@ -92,15 +102,26 @@ fn named_head<'a>(
                 return Err(Stop::Deep(tokens.len()));
             }
             let variable = Pat::Vid(
-                place,
+                name_place,
                 LongVid {
                     qualifiers: Vec::new(alloc),
                     vid,
                 },
             );
-            infix_head(alloc, source, fix, n, place, variable, 1, found.0, found.1)
+            infix_head(
+                alloc,
+                source,
+                fix,
+                n,
+                place,
+                variable,
+                1,
+                place_at(source, tokens),
+                found.0,
+                found.1,
+            )
         }
-        None => prefix_head(alloc, source, fix, n, place, vid, tokens),
+        None => prefix_head(alloc, source, fix, n, place, name_place, vid, tokens),
     }
 }
 
@@ -111,27 +132,32 @@ fn prefix_head<'a>(
     fix: &Fixities,
     n: u32,
     place: Place,
+    name_place: Place,
     vid: Vid,
     tokens: &'a [Token],
 ) -> Result<Got<'a, Head>, Stop>
     requires { n < 1000 }
-    ensures gives { (i : List Terminal) → place ≡ bare.at source.now.file (place_at i) → length (left source.now tokens.now) < length i →
-        Gives (λ x r. IsHead source.now n i x.it x.depth x.rest.now r) result (prefix_rest n fix.now (record { place = place_at i; it = vid }) (left source.now tokens.now)) }
+    ensures gives { (i : List Terminal) (q : ℕ) → place ≡ bare.at source.now.file (place_at i) → name_place ≡ bare.at source.now.file q → length (left source.now tokens.now) < length i →
+        Gives (λ x r. IsHead source.now n i x.it x.depth x.rest.now r) result (prefix_rest n fix.now (place_at i) (record { place = q; it = vid }) (left source.now tokens.now)) }
 {
     let Got {
         it: first,
         depth,
         rest: after,
     } = read_atpat(alloc, source, fix, n, tokens)?;
-    let mut front = Vec::new(alloc);
-    front.push(first)?;
+    let front = one(alloc, first)?;
     let Got {
         it: pats,
         depth: deepest,
         rest,
     } = more_atpats(alloc, source, fix, n, front, depth, after)?;
     Ok(Got {
-        it: Head { place, vid, pats },
+        it: Head {
+            place,
+            vid_place: name_place,
+            vid,
+            pats,
+        },
         depth: deepest,
         rest,
     })
@@ -146,22 +172,21 @@ fn infix_head<'a>(
     place: Place,
     first: Pat,
     depth: u32,
+    name_place: Place,
     name: Name,
     tokens: &'a [Token],
 ) -> Result<Got<'a, Head>, Stop>
     requires { n < 1000 }
-    ensures gives { (i : List Terminal) (a : read.Pat) (p : ℕ) → place ≡ bare.at source.now.file (place_at i) → pat_of first ≡ bare_pat source.now.file a → depth ≡ depth_pat a → read.pat_place a ≡ place_at i → depth ≤ n → length (left source.now tokens.now) < length i →
+    ensures gives { (i : List Terminal) (a : read.Pat) (p : ℕ) → place ≡ bare.at source.now.file (place_at i) → name_place ≡ bare.at source.now.file p → pat_of first ≡ bare_pat source.now.file a → depth ≡ depth_pat a → read.pat_place a ≡ place_at i → depth ≤ n → length (left source.now tokens.now) < length i →
         Gives (λ x r. IsHead source.now n i x.it x.depth x.rest.now r) result (infix_rest n fix.now a (record { place = p; it = name }) (left source.now tokens.now)) }
 {
-    let Got {
-        it: second,
-        depth: second_depth,
-        rest,
-    } = read_atpat(alloc, source, fix, n, tokens)?;
-    let pats = pair_only(alloc, place, first, second)?;
+    let (first, second) = with(first, read_atpat(alloc, source, fix, n, tokens))?;
+    let (second_depth, rest) = (second.depth, second.rest);
+    let pats = pair_only(alloc, place, first, second.it)?;
     Ok(Got {
         it: Head {
             place,
+            vid_place: name_place,
             vid: Vid::Named(name),
             pats,
         },
@@ -174,12 +199,8 @@ fn infix_head<'a>(
 fn pair_only(alloc: Global, place: Place, first: Pat, second: Pat) -> Result<Vec<Pat>, Stop>
     ensures { MatchResult result (λ v. map pat_of v.items ≡ tuple_pat place (pat_of first ∷ pat_of second ∷ []) ∷ []) (λ e. e ≡ Memory) }
 {
-    let mut both = Vec::new(alloc);
-    both.push(first)?;
-    both.push(second)?;
-    let mut pats = Vec::new(alloc);
-    pats.push(Pat::Tuple(place, both))?;
-    Ok(pats)
+    let pair = two(alloc, first, second)?;
+    Ok(one(alloc, Pat::Tuple(place, pair))?)
 }
 
 /// `(atpat vid atpat) atpat .. atpat`, after the bracket that ends.
@@ -200,6 +221,7 @@ fn bracket_head<'a>(
 {
     let Pair {
         left: first,
+        vid_place: name_place,
         vid,
         right: second,
     } = pair;
@@ -212,6 +234,7 @@ fn bracket_head<'a>(
     Ok(Got {
         it: Head {
             place,
+            vid_place: name_place,
             vid: Vid::Named(vid),
             pats,
         },
@@ -238,14 +261,10 @@ pub fn more_atpats<'a>(
     let mut deepest = depth;
     let mut rest = tokens;
     'patterns: while begins_pat(source, fix, rest) {
-        let Got {
-            it,
-            depth,
-            rest: after,
-        } = read_atpat(alloc, source, fix, n, rest)?;
-        all.push(it)?;
-        deepest = depth.max(deepest);
-        rest = after;
+        let (others, pat) = with(all, read_atpat(alloc, source, fix, n, rest))?;
+        deepest = pat.depth.max(deepest);
+        rest = pat.rest;
+        all = pushed(others, pat.it)?;
     }
     Ok(Got {
         it: all,
@@ -294,31 +313,63 @@ fn bracketed(
     let Some(inner) = after_word(source, Reserved::LeftParen, tokens) else {
         return Ok(None)
     };
-    let Some(first) = maybe_atpat(alloc, source, fix, n - 2, inner)? else {
-        return Ok(None)
-    };
-    let Got {
-        it: left,
-        depth: _,
-        rest: after_left,
-    } = first;
-    let Some(found) = joint_at(source, fix, after_left) else {
-        return Ok(None)
-    };
-    let Some(second) = maybe_atpat(alloc, source, fix, n - 2, found.1)? else {
-        return Ok(None)
-    };
-    let Got {
-        it: right,
-        depth: _,
-        rest: after_right,
-    } = second;
-    match after_word(source, Reserved::RightParen, after_right) {
-        Some(_) => Ok(Some(Pair {
-            left,
-            vid: found.0,
-            right,
-        })),
+    match maybe_atpat(alloc, source, fix, n - 2, inner)? {
+        Some(first) => after_first(alloc, source, fix, n, first.it, first.rest),
         None => Ok(None),
+    }
+}
+
+/// What is in the brackets, after its first atomic pattern.
+fn after_first(
+    alloc: Global,
+    source: &Source,
+    fix: &Fixities,
+    n: u32,
+    pat: Pat,
+    tokens: &[Token],
+) -> Result<Option<Pair>, Stop>
+    requires room { n < 1000 }
+    requires two { 2 ≤ n }
+    ensures { (i m : List Terminal) (y one : Read read.Pat) → read_atpat n fix.now i ≡ ok y → after_word LeftParen i ≡ Some m → read_atpat (n - 2) fix.now m ≡ ok one → pat_of pat ≡ bare_pat source.now.file one.tree → left source.now tokens.now ≡ one.rest →
+        MatchResult result (λ found. MatchOption found (bracketed y.tree ≡ None) (λ pair. (b : Bracketed) × (bracketed y.tree ≡ Some b) × IsPair source.now pair i (depth_pat y.tree) b)) (λ e. e ≡ Memory) }
+{
+    match joint_at(source, fix, tokens) {
+        Some(found) => {
+            let (first, second) = with(pat, maybe_atpat(alloc, source, fix, n - 2, found.1))?;
+            match second {
+                Some(got) => Ok(paired(
+                    source,
+                    first,
+                    place_at(source, tokens),
+                    found.0,
+                    got.it,
+                    got.rest,
+                )),
+                None => Ok(None),
+            }
+        }
+        None => Ok(None),
+    }
+}
+
+/// The pair of two patterns, where a bracket closes it.
+fn paired(
+    source: &Source,
+    first: Pat,
+    vid_place: Place,
+    vid: Name,
+    second: Pat,
+    tokens: &[Token],
+) -> Option<Pair>
+    ensures { MatchOption (after_word RightParen (left source.now tokens.now)) (result ≡ None) (λ o. result ≡ Some (record { left = first; vid_place = vid_place; vid = vid; right = second })) }
+{
+    match after_word(source, Reserved::RightParen, tokens) {
+        Some(_) => Some(Pair {
+            left: first,
+            vid_place,
+            vid,
+            right: second,
+        }),
+        None => None,
     }
 }

@@ -14,8 +14,6 @@ pub mod read;
 mod simple_decs;
 pub mod source;
 mod stop;
-#[cfg(test)]
-mod tests;
 mod ties;
 mod tokens;
 mod types;

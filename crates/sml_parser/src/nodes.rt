@@ -1,52 +1,22 @@
 // Nodes of trees, by what they stand for.
 
-ghost use Rattle.std.specs.Prelude.{◌≡◌, true, map, IfOk};
+ghost use Rattle.std.specs.Prelude.{◌≡◌, ◌∷◌, map, IfOk};
 ghost use Rattle.sml_tree.specs.BareTree as bare;
-ghost use Rattle.sml_tree.specs.Derived.{tuple, list_of, app_of, chain_of, join, fun_dec_of};
-ghost use Rattle.sml_tree.specs.StandsFor.{stands_for};
-ghost use Rattle.sml_tree.specs.StandsFor as phrase;
+ghost use Rattle.sml_tree.specs.Derived.{tuple, list_of, app_of, chain_of, join, fun_dec_of, withtype_of};
 ghost use Rattle.sml_tree.specs.TreeOf.{exp_of, pat_of, ty_of, rule_of, rules_of, part_of, exp_field_of, exp_fields_of, bind_of, binds_of, clause_of, function_of, dec_of, decs_of, long_vid_of, constant_of, type_bind_of, data_bind_of, ex_bind_of, long_id_at_of};
-ghost use Rattle.sml_parser.specs.Kinds.{is_exp, is_dec};
 
+use crate::got::prefixed;
 use mlc_base::label::Label;
+use mlc_base::make::{boxed, with};
 use mlc_base::memory::NoMemory;
 use mlc_base::names::Name;
 use mlc_base::place::Place;
-use sml_tree::derive::{Derived, Tree, derive};
-use sml_tree::ident::{Constant, LongVid, Tyvar, Vid};
+use sml_tree::ident::{Constant, LongVid, Vid};
 use sml_tree::tree::{
     Bind, Clause, DataBind, Dec, ExBind, Exp, ExpField, Function, Joint, LongIdAt, Part, Pat, Rule,
-    Ty, TypeBind,
+    Ty, TypeBind, TyvarSeq,
 };
 use std::alloc::Global;
-
-/// The expression that a derived form of an expression stands for.
-pub fn derived_exp(alloc: Global, form: Derived) -> Result<Exp, NoMemory>
-    requires { is_exp (stands_for form) ≡ true }
-    ensures { IfOk result (λ e. phrase.exp (exp_of e) ≡ stands_for form) }
-{
-    match derive(alloc, form)? {
-        Tree::Exp(e) => Ok(e),
-        Tree::Pat(_) => unreachable!(),
-        Tree::Ty(_) => unreachable!(),
-        Tree::Dec(_) => unreachable!(),
-        Tree::Field(_, _) => unreachable!(),
-    }
-}
-
-/// The declaration that a derived form of a declaration stands for.
-pub fn derived_dec(alloc: Global, form: Derived) -> Result<Dec, NoMemory>
-    requires { is_dec (stands_for form) ≡ true }
-    ensures { IfOk result (λ d. phrase.dec (dec_of d) ≡ stands_for form) }
-{
-    match derive(alloc, form)? {
-        Tree::Dec(d) => Ok(d),
-        Tree::Exp(_) => unreachable!(),
-        Tree::Pat(_) => unreachable!(),
-        Tree::Ty(_) => unreachable!(),
-        Tree::Field(_, _) => unreachable!(),
-    }
-}
 
 pub fn constant(place: Place, constant: Constant) -> Exp
     ensures { exp_of result ≡ bare.constant_exp place (constant_of constant) }
@@ -72,6 +42,13 @@ pub fn tuple_of(place: Place, exps: Vec<Exp>) -> Exp
     Exp::Tuple(place, exps)
 }
 
+/// A tuple of a first expression and those after it.
+pub fn tuple_from(place: Place, first: Exp, others: Vec<Exp>) -> Result<Exp, NoMemory>
+    ensures { IfOk result (λ e. exp_of e ≡ tuple place (exp_of first ∷ map exp_of others.items)) }
+{
+    Ok(Exp::Tuple(place, prefixed(first, others)?))
+}
+
 pub fn list(place: Place, exps: Vec<Exp>) -> Exp
     ensures { exp_of result ≡ list_of place (map exp_of exps.items) }
 {
@@ -86,7 +63,8 @@ pub fn applied(
 ) -> Result<Exp, NoMemory>
     ensures { IfOk result (λ e. exp_of e ≡ app_of place (exp_of first) (map exp_of arguments.items)) }
 {
-    Ok(Exp::Apply(place, Box::new(alloc, first)?, arguments))
+    let (arguments, first) = with(arguments, boxed(alloc, first))?;
+    Ok(Exp::Apply(place, first, arguments))
 }
 
 pub fn chain(
@@ -98,19 +76,22 @@ pub fn chain(
 ) -> Result<Exp, NoMemory>
     ensures { IfOk result (λ e. exp_of e ≡ chain_of join right place (exp_of first) (map part_of parts.items)) }
 {
-    Ok(Exp::Chain(place, right, Box::new(alloc, first)?, parts))
+    let (parts, first) = with(parts, boxed(alloc, first))?;
+    Ok(Exp::Chain(place, right, first, parts))
 }
 
 pub fn typed(alloc: Global, place: Place, exp: Exp, ty: Ty) -> Result<Exp, NoMemory>
     ensures { IfOk result (λ e. exp_of e ≡ bare.typed place (exp_of exp) (ty_of ty)) }
 {
-    Ok(Exp::Typed(place, Box::new(alloc, exp)?, ty))
+    let (ty, exp) = with(ty, boxed(alloc, exp))?;
+    Ok(Exp::Typed(place, exp, ty))
 }
 
 pub fn handler(alloc: Global, place: Place, exp: Exp, rules: Vec<Rule>) -> Result<Exp, NoMemory>
     ensures { IfOk result (λ e. exp_of e ≡ bare.handle place (exp_of exp) (rules_of (map rule_of rules.items))) }
 {
-    Ok(Exp::Handle(place, Box::new(alloc, exp)?, rules))
+    let (rules, exp) = with(rules, boxed(alloc, exp))?;
+    Ok(Exp::Handle(place, exp, rules))
 }
 
 pub fn raised(alloc: Global, place: Place, exp: Exp) -> Result<Exp, NoMemory>
@@ -155,24 +136,25 @@ pub fn clause(place: Place, pats: Vec<Pat>, exp: Exp) -> Clause
     Clause { place, pats, exp }
 }
 
-pub fn function(place: Place, vid: Vid, clauses: Vec<Clause>) -> Function
-    ensures { function_of result ≡ record { place = place; vid = vid; clauses = map clause_of clauses.items } }
+pub fn function(place: Place, vid_place: Place, vid: Vid, clauses: Vec<Clause>) -> Function
+    ensures { function_of result ≡ record { place = place; vid_place = vid_place; vid = vid; clauses = map clause_of clauses.items } }
 {
     Function {
         place,
+        vid_place,
         vid,
         clauses,
     }
 }
 
-pub fn val(place: Place, tyvars: Vec<Tyvar>, plain: Vec<Bind>, recursive: Vec<Bind>) -> Dec
-    ensures { dec_of result ≡ bare.val_dec place tyvars.items (binds_of (map bind_of plain.items)) (binds_of (map bind_of recursive.items)) }
+pub fn val(place: Place, tyvars: TyvarSeq, plain: Vec<Bind>, recursive: Vec<Bind>) -> Dec
+    ensures { dec_of result ≡ bare.val_dec place tyvars.place tyvars.tyvars.items (binds_of (map bind_of plain.items)) (binds_of (map bind_of recursive.items)) }
 {
     Dec::Val(place, tyvars, plain, recursive)
 }
 
-pub fn functions(place: Place, tyvars: Vec<Tyvar>, functions: Vec<Function>) -> Dec
-    ensures { dec_of result ≡ fun_dec_of place tyvars.items (map function_of functions.items) }
+pub fn functions(place: Place, tyvars: TyvarSeq, functions: Vec<Function>) -> Dec
+    ensures { dec_of result ≡ fun_dec_of place tyvars.place tyvars.tyvars.items (map function_of functions.items) }
 {
     Dec::Fun(place, tyvars, functions)
 }
@@ -187,6 +169,13 @@ pub fn datatypes(place: Place, binds: Vec<DataBind>) -> Dec
     ensures { dec_of result ≡ bare.datatype_dec place (map data_bind_of binds.items) }
 {
     Dec::Datatype(place, binds)
+}
+
+/// `datatype d withtype b`
+pub fn withtype(place: Place, datatypes: Vec<DataBind>, binds: Vec<TypeBind>) -> Dec
+    ensures { dec_of result ≡ withtype_of place (map data_bind_of datatypes.items) (map type_bind_of binds.items) }
+{
+    Dec::Withtype(place, datatypes, binds)
 }
 
 pub fn replicated(place: Place, tycon: Name, of: LongIdAt) -> Dec

@@ -6,11 +6,12 @@ ghost use Rattle.sml_tree.specs.Terminal.{Terminal};
 ghost use Rattle.sml_tree.specs.ReadTree as read;
 ghost use Rattle.sml_tree.specs.ReadTree.{pat_place};
 ghost use Rattle.sml_tree.specs.Bare as bare;
+ghost use Rattle.sml_tree.specs.BareTree as tree;
 ghost use Rattle.sml_tree.specs.Bare.{bare_pat, bare_some, bare_ty};
 ghost use Rattle.sml_tree.specs.Derived as derived;
 ghost use Rattle.sml_tree.specs.Depth.{depth_pat, depth_some, depth_ty};
 ghost use Rattle.sml_tree.specs.Levels.{pat_level, vid_level, vid_right};
-ghost use Rattle.sml_tree.specs.TreeOf.{pat_of, ty_of, some_ty_of};
+ghost use Rattle.sml_tree.specs.TreeOf.{pat_of, pat_part_of, ty_of, some_ty_of, long_vid_of};
 ghost use Rattle.sml_tree.specs.declared.ident.Vid.TheVariants.{Named};
 ghost use Rattle.sml_tree.specs.Fixity.{fix_of};
 ghost use Rattle.sml_grammar.specs.Answer.{Read, then_read, whole};
@@ -19,19 +20,23 @@ ghost use Rattle.sml_grammar.specs.Answer as answer;
 ghost use Rattle.sml_grammar.specs.Patterns.{PatReader, read_pats, begins_pat, at_pat, pat_start, brace_pat, bracket_pat, paren_pat_rest, paren_pat_in, pat_commas_turn, pat_row_turn, field, punned_field, pun, label_equals, pat_first, plain_form, vid_form, typed_form, typed_or_as, pat_suffix, pat_form, whole_pat_parts, atpats_turn};
 ghost use Rattle.sml_parser.specs.Gives.{Gives};
 ghost use Rattle.sml_parser.specs.Left.{left};
+ghost use Rattle.sml_parser.specs.VidPlace.{vid_place};
 ghost use Rattle.sml_parser.specs.declared.stop.Stop.TheVariants.{Memory};
 ghost use Rattle.sml_parser.specs.PatternsRead.{IsPat, IsPatAt, IsPats, IsPatParts, IsPatField, IsPatRow, plain_pat_start, Suffixed, suffix_level, suffix_least, suffix_read, begins_other, begins_named};
 
-use crate::got::Got;
+use crate::got::{Got, pushed};
 use crate::source::Source;
 use crate::stop::Stop;
-use crate::tokens::{after_word, label_at, place_at};
+use crate::ties::high_enough;
+use crate::tokens::{after_word, label_at, past, place_at, room};
 use crate::types::{maybe_ty, read_ty};
 use crate::vids::{
     binds_vid, constant_at, infix_level, infix_vid, joint_at, names_vid, plain_vid, vid_level,
-    vid_right,
+    vid_place, vid_right,
 };
 use mlc_base::label::Label;
+use mlc_base::make::{boxed, one, with};
+use mlc_base::memory::NoMemory;
 use mlc_base::names::Name;
 use mlc_base::place::Place;
 use mlc_base::token::{Reserved, Token, TokenKind};
@@ -199,19 +204,28 @@ fn vid_form<'a>(
 ) -> Result<Got<'a, Pat>, Stop>
     requires room { n < 1000 }
     requires shorter { length (left source.now after.now) < length (left source.now tokens.now) }
-    ensures gives { Gives (λ x r. IsPat source.now (n + 1) (left source.now tokens.now) x.it x.depth x.rest.now r) result (vid_form (read_pats n) n fix.now (left source.now tokens.now) (record { place = place_at (left source.now tokens.now); it = vid }) (left source.now after.now)) }
+    ensures gives { Gives (λ x r. IsPat source.now (n + 1) (left source.now tokens.now) x.it x.depth x.rest.now r) result (vid_form (read_pats n) n fix.now (left source.now tokens.now) (record { place = vid_place (left source.now tokens.now); it = vid }) (left source.now after.now)) }
 {
-    let place = place_at(source, tokens);
+    let name_place = vid_place(source, tokens);
     if let Some(rest) = after_word(source, Reserved::As, after) {
-        return as_form(alloc, source, fix, n, place, vid, None, 0, rest);
+        return as_form(alloc, source, fix, n, name_place, vid, None, 0, rest);
     }
     if let Some(rest) = after_word(source, Reserved::Colon, after) {
-        return typed_form(alloc, source, fix, n, place, vid, rest);
+        let place = place_at(source, tokens);
+        return typed_form(alloc, source, fix, n, place, name_place, vid, rest);
     }
     plain_form(alloc, source, fix, n, 0, tokens)
 }
 
-/// The pattern after `vid [: ty] as`.
+/// `vid [: ty] as pat`
+fn layered(alloc: Global, place: Place, vid: Vid, ty: Option<Ty>, pat: Pat) -> Result<Pat, NoMemory>
+    ensures { IfOk result (λ made. pat_of made ≡ tree.as_pat place vid (some_ty_of ty) (pat_of pat)) }
+{
+    let (ty, pat) = with(ty, boxed(alloc, pat))?;
+    Ok(Pat::As(place, vid, ty, pat))
+}
+
+/// The pattern after `vid [: ty] as`, where the identifier stands at `place`.
 #[cycle(pats)]
 fn as_form<'a>(
     alloc: Global,
@@ -226,16 +240,23 @@ fn as_form<'a>(
 ) -> Result<Got<'a, Pat>, Stop>
     requires room { n < 1000 }
     requires fits { ty_depth ≤ n }
-    ensures gives { (i : List Terminal) (t : Option read.Ty) → place ≡ bare.at source.now.file (place_at i) → some_ty_of ty ≡ bare_some source.now.file t → ty_depth ≡ depth_some t → length (left source.now tokens.now) < length i →
-        Gives (λ x r. IsPat source.now (n + 1) i x.it x.depth x.rest.now r) result (then_read ((read_pats n).pat fix.now 0 (left source.now tokens.now)) (λ a o. answer.read (read.as_pat (place_at i) vid t a) o)) }
+    ensures gives { (i : List Terminal) (q : ℕ) (t : Option read.Ty) → place ≡ bare.at source.now.file q → some_ty_of ty ≡ bare_some source.now.file t → ty_depth ≡ depth_some t → length (left source.now tokens.now) < length i →
+        Gives (λ x r. IsPat source.now (n + 1) i x.it x.depth x.rest.now r) result (then_read ((read_pats n).pat fix.now 0 (left source.now tokens.now)) (λ a o. answer.read (read.as_pat (place_at i) (record { place = q; it = vid }) t a) o)) }
 {
-    let Got { it, depth, rest } = read_pat(alloc, source, fix, n, 0, tokens)?;
-    let pat = Box::new(alloc, it)?;
+    let (ty, pat) = with(ty, read_pat(alloc, source, fix, n, 0, tokens))?;
     Ok(Got {
-        it: Pat::As(place, vid, ty, pat),
-        depth: ty_depth.max(depth) + 1,
-        rest,
+        it: layered(alloc, place, vid, ty, pat.it)?,
+        depth: ty_depth.max(pat.depth) + 1,
+        rest: pat.rest,
     })
+}
+
+/// `pat : ty`
+fn typed(alloc: Global, place: Place, pat: Pat, ty: Ty) -> Result<Pat, NoMemory>
+    ensures { IfOk result (λ made. pat_of made ≡ tree.typed_pat place (pat_of pat) (ty_of ty)) }
+{
+    let (ty, pat) = with(ty, boxed(alloc, pat))?;
+    Ok(Pat::Typed(place, pat, ty))
 }
 
 /// The pattern after `vid :`.
@@ -246,12 +267,13 @@ fn typed_form<'a>(
     fix: &Fixities,
     n: u32,
     place: Place,
+    name_place: Place,
     vid: Vid,
     tokens: &'a [Token],
 ) -> Result<Got<'a, Pat>, Stop>
     requires { n < 1000 }
-    ensures gives { (i : List Terminal) → place ≡ bare.at source.now.file (place_at i) → length (left source.now tokens.now) < length i →
-        Gives (λ x r. IsPat source.now (n + 1) i x.it x.depth x.rest.now r) result (typed_form (read_pats n) n fix.now (record { place = place_at i; it = vid }) (left source.now tokens.now)) }
+    ensures gives { (i : List Terminal) (q : ℕ) → place ≡ bare.at source.now.file (place_at i) → name_place ≡ bare.at source.now.file q → length (left source.now tokens.now) < length i →
+        Gives (λ x r. IsPat source.now (n + 1) i x.it x.depth x.rest.now r) result (typed_form (read_pats n) n fix.now (place_at i) (record { place = q; it = vid }) (left source.now tokens.now)) }
 {
     if n == 0 {
         return Err(Stop::Deep(tokens.len()));
@@ -262,18 +284,26 @@ fn typed_form<'a>(
         rest: after,
     } = read_ty(alloc, source, n, 0, tokens)?;
     if let Some(more) = after_word(source, Reserved::As, after) {
-        return as_form(alloc, source, fix, n, place, vid, Some(ty), ty_depth, more);
+        return as_form(
+            alloc,
+            source,
+            fix,
+            n,
+            name_place,
+            vid,
+            Some(ty),
+            ty_depth,
+            more,
+        );
     }
-    let variable = Box::new(
-        alloc,
-        Pat::Vid(
-            place,
-            LongVid {
-                qualifiers: Vec::new(alloc),
-                vid,
-            },
-        ),
-    )?;
+    let variable = Pat::Vid(
+        name_place,
+        LongVid {
+            qualifiers: Vec::new(alloc),
+            vid,
+        },
+    );
+    let first = typed(alloc, place, variable, ty)?;
     suffixes(
         alloc,
         source,
@@ -281,7 +311,7 @@ fn typed_form<'a>(
         n,
         0,
         place,
-        Pat::Typed(place, variable, ty),
+        first,
         ty_depth.max(1) + 1,
         5,
         after,
@@ -306,6 +336,20 @@ fn plain_form<'a>(
     suffixes(alloc, source, fix, n, level, place, it, depth, 1000, rest)
 }
 
+/// A constructor and its argument.
+fn applied(
+    alloc: Global,
+    place: Place,
+    name_place: Place,
+    long: LongVid,
+    argument: Pat,
+) -> Result<Pat, NoMemory>
+    ensures { IfOk result (λ made. pat_of made ≡ tree.con_pat place name_place (long_vid_of long) (pat_of argument)) }
+{
+    let (long, argument) = with(long, boxed(alloc, argument))?;
+    Ok(Pat::Con(place, name_place, long, argument))
+}
+
 /// A constructor and its argument, or an atomic pattern.
 #[cycle(pats)]
 fn first_pat<'a>(
@@ -318,20 +362,25 @@ fn first_pat<'a>(
     requires { n < 1000 }
     ensures gives { Gives (λ x r. IsPatAt source.now fix.now 1000 (n + 1) (left source.now tokens.now) x.it x.depth x.rest.now r) result (pat_first (read_pats n) n fix.now (left source.now tokens.now)) }
 {
-    let place = place_at(source, tokens);
+    let name_place = vid_place(source, tokens);
     match names_vid(alloc, source, fix, tokens)? {
         Some((long, after)) => {
             if begins_pat(source, fix, after) {
-                let Got { it, depth, rest } = read_atpat(alloc, source, fix, n, after)?;
-                let argument = Box::new(alloc, it)?;
+                let (con, argument) = with(long, read_atpat(alloc, source, fix, n, after))?;
                 return Ok(Got {
-                    it: Pat::Con(place, place, long, argument),
-                    depth: depth + 1,
-                    rest,
+                    it: applied(
+                        alloc,
+                        place_at(source, tokens),
+                        name_place,
+                        con,
+                        argument.it,
+                    )?,
+                    depth: argument.depth + 1,
+                    rest: argument.rest,
                 });
             }
             Ok(Got {
-                it: Pat::Vid(place, long),
+                it: Pat::Vid(name_place, long),
                 depth: 1,
                 rest: after,
             })
@@ -411,7 +460,7 @@ fn plain_atpat<'a>(
     }
     match names_vid(alloc, source, fix, tokens)? {
         Some((long, rest)) => Ok(Got {
-            it: Pat::Vid(place, long),
+            it: Pat::Vid(vid_place(source, tokens), long),
             depth: 1,
             rest,
         }),
@@ -445,15 +494,12 @@ fn brace_pat<'a>(
         depth,
         rest: after,
     } = pat_row(alloc, source, fix, n, tokens)?;
-    let PatRow { fields, dots } = row;
-    match after_word(source, Reserved::RightBrace, after) {
-        Some(rest) => Ok(Got {
-            it: Pat::Record(place, fields, dots),
-            depth: depth + 1,
-            rest,
-        }),
-        None => Err(Stop::Bad(after.len())),
-    }
+    let (whole, rest) = with(row, past(source, Reserved::RightBrace, after))?;
+    Ok(Got {
+        it: Pat::Record(place, whole.fields, whole.dots),
+        depth: depth + 1,
+        rest,
+    })
 }
 
 /// The fields of a record pattern.
@@ -479,13 +525,10 @@ fn pat_row<'a>(
                 rest: end,
             });
         }
-        let Got {
-            it,
-            depth,
-            rest: after,
-        } = pat_field(alloc, source, fix, n, rest)?;
-        fields.push(it)?;
-        deepest = depth.max(deepest);
+        let (front, field) = with(fields, pat_field(alloc, source, fix, n, rest))?;
+        let after = field.rest;
+        deepest = field.depth.max(deepest);
+        fields = pushed(front, field.it)?;
         let Some(next) = after_word(source, Reserved::Comma, after) else {
             return Ok(Got {
                 it: PatRow {
@@ -550,15 +593,15 @@ fn punned_field<'a>(
     } = maybe_ty(alloc, source, n, Reserved::Colon, after_name)?;
     match after_word(source, Reserved::As, after_ty) {
         Some(more) => {
-            let Got { it, depth, rest } = read_pat(alloc, source, fix, n, 0, more)?;
-            let pat = Pat::As(place, Vid::Named(name), ty, Box::new(alloc, it)?);
+            let (before, got) = with(ty, read_pat(alloc, source, fix, n, 0, more))?;
+            let pat = layered(alloc, place, Vid::Named(name), before, got.it)?;
             Ok(Got {
                 it: PatField {
                     label: Label::Word(name),
                     pat,
                 },
-                depth: ty_depth.max(depth),
-                rest,
+                depth: ty_depth.max(got.depth),
+                rest: got.rest,
             })
         }
         None => {
@@ -576,8 +619,8 @@ fn punned_field<'a>(
 }
 
 /// The pattern of a field `x [: t]`.
-fn punned(alloc: Global, place: Place, name: Name, ty: Option<Ty>) -> Result<Pat, Stop>
-    ensures { MatchResult result (λ made. pat_of made ≡ derived.pun place name (some_ty_of ty)) (λ e. e ≡ Memory) }
+fn punned(alloc: Global, place: Place, name: Name, ty: Option<Ty>) -> Result<Pat, NoMemory>
+    ensures { IfOk result (λ made. pat_of made ≡ derived.pun place name (some_ty_of ty)) }
 {
     let variable = Pat::Vid(
         place,
@@ -588,7 +631,7 @@ fn punned(alloc: Global, place: Place, name: Name, ty: Option<Ty>) -> Result<Pat
     );
     match ty {
         None => Ok(variable),
-        Some(ty) => Ok(Pat::Typed(place, Box::new(alloc, variable)?, ty)),
+        Some(ty) => typed(alloc, place, variable, ty),
     }
 }
 
@@ -621,14 +664,12 @@ fn paren_pat<'a>(
     if let Some(more) = after_word(source, Reserved::Comma, after) {
         return tuple_pat(alloc, source, fix, n, place, it, depth, more);
     }
-    match after_word(source, Reserved::RightParen, after) {
-        Some(rest) => Ok(Got {
-            it,
-            depth: depth + 1,
-            rest,
-        }),
-        None => Err(Stop::Bad(after.len())),
-    }
+    let (inside, rest) = with(it, past(source, Reserved::RightParen, after))?;
+    Ok(Got {
+        it: inside,
+        depth: depth + 1,
+        rest,
+    })
 }
 
 /// A tuple, after its first pattern and the comma.
@@ -648,21 +689,18 @@ fn tuple_pat<'a>(
     ensures gives { (i : List Terminal) (a : read.Pat) → place ≡ bare.at source.now.file (place_at i) → pat_of first ≡ bare_pat source.now.file a → depth ≡ depth_pat a → length (left source.now tokens.now) < length i →
         Gives (λ x r. IsPatAt source.now fix.now 1000 (n + 1) i x.it x.depth x.rest.now r) result (then_read (whole (pat_commas_turn (read_pats n).pat fix.now) no_state (left source.now tokens.now)) (λ as_ k. word_then RightParen (λ o. answer.read (read.tuple_pat (place_at i) (read.pat a as_)) o) k)) }
 {
-    let mut front = Vec::new(alloc);
-    front.push(first)?;
+    let front = one(alloc, first)?;
     let Got {
         it,
         depth: deepest,
         rest: after,
     } = more_pats(alloc, source, fix, n, front, depth, tokens)?;
-    match after_word(source, Reserved::RightParen, after) {
-        Some(rest) => Ok(Got {
-            it: Pat::Tuple(place, it),
-            depth: deepest + 1,
-            rest,
-        }),
-        None => Err(Stop::Bad(after.len())),
-    }
+    let (all, rest) = with(it, past(source, Reserved::RightParen, after))?;
+    Ok(Got {
+        it: Pat::Tuple(place, all),
+        depth: deepest + 1,
+        rest,
+    })
 }
 
 /// A list, after its `[`.
@@ -691,14 +729,12 @@ fn bracket_pat<'a>(
         depth,
         rest: after,
     } = more_pats(alloc, source, fix, n, Vec::new(alloc), 0, tokens)?;
-    match after_word(source, Reserved::RightBracket, after) {
-        Some(rest) => Ok(Got {
-            it: Pat::List(place, it),
-            depth: depth + 1,
-            rest,
-        }),
-        None => Err(Stop::Bad(after.len())),
-    }
+    let (all, rest) = with(it, past(source, Reserved::RightBracket, after))?;
+    Ok(Got {
+        it: Pat::List(place, all),
+        depth: depth + 1,
+        rest,
+    })
 }
 
 /// Patterns with commas between them, after those of `front`.
@@ -720,13 +756,10 @@ fn more_pats<'a>(
     let mut deepest = depth;
     let mut rest = tokens;
     'patterns: loop {
-        let Got {
-            it,
-            depth,
-            rest: after,
-        } = read_pat(alloc, source, fix, n, 0, rest)?;
-        all.push(it)?;
-        deepest = depth.max(deepest);
+        let (others, pat) = with(all, read_pat(alloc, source, fix, n, 0, rest))?;
+        let after = pat.rest;
+        deepest = pat.depth.max(deepest);
+        all = pushed(others, pat.it)?;
         let Some(next) = after_word(source, Reserved::Comma, after) else {
             return Ok(Got {
                 it: all,
@@ -776,25 +809,35 @@ fn suffixes<'a>(
                 rest,
             });
         }
-        if suffix_least(&suffix) > high {
-            return Err(Stop::Bad(rest.len()));
-        }
-        if deep > n {
-            return Err(Stop::Deep(rest.len()));
-        }
+        let (tied, _high) = with(pat, high_enough(high, suffix_least(&suffix), rest))?;
+        let (before, _room) = with(tied, room(deep, n, rest))?;
         let joint = place_at(source, rest);
         let Got {
             it,
             depth: next,
             rest: after,
         } = extended(
-            alloc, source, fix, n, place, pat, deep, joint, &suffix, more,
+            alloc, source, fix, n, place, before, deep, joint, &suffix, more,
         )?;
         pat = it;
         deep = next;
         high = tie;
         rest = after;
     }
+}
+
+/// A chain of a first operand and those after it.
+fn chain(
+    alloc: Global,
+    place: Place,
+    right: bool,
+    first: Pat,
+    parts: Vec<PatPart>,
+) -> Result<Pat, NoMemory>
+    ensures { IfOk result (λ made. pat_of made ≡ derived.chain_of derived.join_pats right place (pat_of first) (map pat_part_of parts.items)) }
+{
+    let (parts, first) = with(parts, boxed(alloc, first))?;
+    Ok(Pat::Chain(place, right, first, parts))
 }
 
 /// The pattern `first` with what a suffix makes of it, after the suffix.
@@ -819,29 +862,22 @@ fn extended<'a>(
 {
     match suffix {
         Suffix::Colon => {
-            let Got {
-                it,
-                depth: ty_depth,
-                rest,
-            } = read_ty(alloc, source, n, 0, tokens)?;
-            let pat = Box::new(alloc, first)?;
+            let (first, ty) = with(first, read_ty(alloc, source, n, 0, tokens))?;
             Ok(Got {
-                it: Pat::Typed(place, pat, it),
-                depth: depth.max(ty_depth) + 1,
-                rest,
+                it: typed(alloc, place, first, ty.it)?,
+                depth: depth.max(ty.depth) + 1,
+                rest: ty.rest,
             })
         }
         Suffix::Joint(name, how) => {
-            let Got {
-                it,
-                depth: deepest,
-                rest,
-            } = pat_parts(alloc, source, fix, n, joint, *name, *how, tokens)?;
-            let pat = Box::new(alloc, first)?;
+            let (first, parts) = with(
+                first,
+                pat_parts(alloc, source, fix, n, joint, *name, *how, tokens),
+            )?;
             Ok(Got {
-                it: Pat::Chain(place, how.right, pat, it),
-                depth: depth.max(deepest) + 1,
-                rest,
+                it: chain(alloc, place, how.right, first, parts.it)?,
+                depth: depth.max(parts.depth) + 1,
+                rest: parts.rest,
             })
         }
     }
@@ -873,18 +909,16 @@ fn pat_parts<'a>(
     let mut rest = tokens;
     'parts: loop {
         let place = place_at(source, rest);
-        let Got {
-            it,
-            depth,
-            rest: after,
-        } = read_pat(alloc, source, fix, n, level + 1, rest)?;
-        all.push(PatPart {
+        let (front, pat) = with(all, read_pat(alloc, source, fix, n, level + 1, rest))?;
+        let after = pat.rest;
+        deepest = pat.depth.max(deepest);
+        let part = PatPart {
             vid_place,
             vid: Vid::Named(vid),
             place,
-            pat: it,
-        })?;
-        deepest = depth.max(deepest);
+            pat: pat.it,
+        };
+        all = pushed(front, part)?;
         let Some(found) = joint_at(source, fix, after) else {
             return Ok(Got {
                 it: all,

@@ -13,14 +13,14 @@ use crate::bindings::{
     read_data_binds, read_ex_binds, read_precedence, read_strids, read_type_binds, read_vids,
 };
 use crate::got::Got;
-use crate::nodes::{abbreviations, datatypes, derived_dec, exceptions, opened, replicated};
+use crate::nodes::{abbreviations, datatypes, exceptions, opened, replicated, withtype};
 use crate::source::Source;
 use crate::stop::Stop;
 use crate::tokens::{after_word, long_tycon_at, place_at, tail, tycon_at, word_at};
+use mlc_base::make::with;
 use mlc_base::names::Name;
 use mlc_base::place::Place;
 use mlc_base::token::{Reserved, Token};
-use sml_tree::derive::Derived;
 use sml_tree::fixity::{Fixities, Infix};
 use sml_tree::tree::{Dec, LongIdAt};
 use std::alloc::Global;
@@ -139,22 +139,19 @@ fn datatype_dec<'a>(
         depth: binds_depth,
         rest: after_binds,
     } = read_data_binds(alloc, source, fix, n, tokens)?;
-    let Some(with) = after_word(source, Reserved::Withtype, after_binds) else {
+    let Some(after) = after_word(source, Reserved::Withtype, after_binds) else {
         return Ok(Got {
             it: Some(datatypes(place, binds)),
             depth: binds_depth,
             rest: after_binds,
         });
     };
-    let Got {
-        it: types,
-        depth,
-        rest,
-    } = read_type_binds(alloc, source, n, with)?;
-    let dec = derived_dec(alloc, Derived::Withtype(place, binds, types))?;
+    let (datas, types) = with(binds, read_type_binds(alloc, source, n, after))?;
+    let depth = binds_depth.max(types.depth);
+    let rest = types.rest;
     Ok(Got {
-        it: Some(dec),
-        depth: binds_depth.max(depth),
+        it: Some(withtype(place, datas, types.it)),
+        depth,
         rest,
     })
 }

@@ -1,12 +1,13 @@
 // What may follow an expression and make it part of a larger one.
 
-ghost use Rattle.std.specs.Prelude.{◌≡◌, ◌≤◌, ◌<◌, ⊤, length, false, true, Some, None, MatchOption, MatchResult};
+ghost use Rattle.std.specs.Prelude.{◌≡◌, ◌≤◌, ◌<◌, ⊤, length, false, true, Some, None, IfErr, MatchOption, MatchResult};
 ghost use Rattle.sml_tree.specs.Fixity.{fix_of};
 ghost use Rattle.sml_tree.specs.Levels.{joint_level, joint_right};
 ghost use Rattle.sml_tree.specs.Bare.{joint_of};
 ghost use Rattle.sml_grammar.specs.Expressions.{next_of, nothing};
 ghost use Rattle.sml_grammar.specs.Terminals.{tail};
 ghost use Rattle.sml_parser.specs.Left.{left};
+ghost use Rattle.sml_parser.specs.declared.stop.Stop.TheVariants.{Bad};
 ghost use Rattle.sml_parser.specs.Ties.{joint_from, next_from, FromFile, tie_level, tie_least, PartEnds, PartGoes, PartFails};
 
 use crate::source::Source;
@@ -118,6 +119,17 @@ pub fn tie_least(fix: &Fixities, tie: &Tie) -> u32
         Tie::Mark => 5,
         Tie::Handle => 0,
     }
+}
+
+/// Refuses an expression of level `high` before a tie that wants one of level `least`.
+pub fn high_enough(high: u32, least: u32, tokens: &[Token]) -> Result<(), Stop>
+    ensures high { MatchResult result (λ _. least ≤ high) (λ e. high < least) }
+    ensures stop { IfErr result (λ e. e ≡ Bad (length tokens.now)) }
+{
+    if high < least {
+        return Err(Stop::Bad(tokens.len()));
+    }
+    Ok(())
 }
 
 /// The joint after an operand of a chain, where the chain goes on.

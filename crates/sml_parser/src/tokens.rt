@@ -1,11 +1,11 @@
 // What the tokens that are left begin with.
 
-ghost use Rattle.std.specs.Prelude.{◌≡◌, ◌<◌, ◌≤◌, length, map, Some, None, MatchOption, MatchResult};
+ghost use Rattle.std.specs.Prelude.{◌≡◌, ◌<◌, ◌≤◌, length, map, Some, None, IfErr, MatchOption, MatchResult};
 ghost use Rattle.sml_tree.specs.Bare as bare;
 ghost use Rattle.sml_grammar.specs.Terminals.{after_word, after_star, place_at, word_at, tail, first_as, as_label, as_vid, as_tycon, as_tyvar, as_long_tycon, as_long_strid, taken};
 ghost use Rattle.sml_tree.specs.TreeOf.{long_id_of};
 ghost use Rattle.sml_parser.specs.Left.{left};
-ghost use Rattle.sml_parser.specs.declared.stop.Stop.TheVariants.{Memory};
+ghost use Rattle.sml_parser.specs.declared.stop.Stop.TheVariants.{Memory, Bad, Deep};
 
 use crate::source::Source;
 use crate::stop::Stop;
@@ -53,6 +53,28 @@ pub fn after_word<'a>(source: &Source, word: Reserved, tokens: &'a [Token]) -> O
         }
         None => None,
     }
+}
+
+/// What follows a reserved word, which has to stand first.
+pub fn past<'a>(source: &Source, word: Reserved, tokens: &'a [Token]) -> Result<&'a [Token], Stop>
+    ensures word { MatchResult result (λ rest. after_word word (left source.now tokens.now) ≡ Some (left source.now rest.now)) (λ e. after_word word (left source.now tokens.now) ≡ None) }
+    ensures stop { IfErr result (λ e. e ≡ Bad (length tokens.now)) }
+{
+    match after_word(source, word, tokens) {
+        Some(rest) => Ok(rest),
+        None => Err(Stop::Bad(tokens.len())),
+    }
+}
+
+/// Refuses a phrase that is `depth` deep as a part of one whose parts are at most `n` deep.
+pub fn room(depth: u32, n: u32, tokens: &[Token]) -> Result<(), Stop>
+    ensures fits { MatchResult result (λ _. depth ≤ n) (λ e. n < depth) }
+    ensures stop { IfErr result (λ e. e ≡ Deep (length tokens.now)) }
+{
+    if depth > n {
+        return Err(Stop::Deep(tokens.len()));
+    }
+    Ok(())
 }
 
 /// Where the first token begins; nobody asks where there is none.

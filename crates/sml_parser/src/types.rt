@@ -1,12 +1,14 @@
 // Types.
 
-ghost use Rattle.std.specs.Prelude.{◌≡◌, ◌<◌, ◌≤◌, ◌+◌, ◌∷◌, [], length, map, List, Option, Some, None, MatchOption, MatchResult, IfSome};
+ghost use Rattle.std.specs.Prelude.{◌≡◌, ◌<◌, ◌≤◌, ◌+◌, ◌∷◌, [], length, map, List, Option, Some, None, IfOk, MatchOption, MatchResult, IfSome};
 ghost use Rattle.sml_tree.specs.Terminal.{Terminal};
 ghost use Rattle.sml_tree.specs.ReadTree as read;
 ghost use Rattle.sml_tree.specs.Bare as bare;
+ghost use Rattle.sml_tree.specs.BareTree as tree;
 ghost use Rattle.sml_tree.specs.Bare.{bare_ty};
 ghost use Rattle.sml_tree.specs.Depth.{depth_ty};
-ghost use Rattle.sml_tree.specs.TreeOf.{ty_of};
+ghost use Rattle.sml_tree.specs.TreeOf.{ty_of, long_id_of};
+ghost use Rattle.sml_tree.specs.Derived.{tys_of};
 ghost use Rattle.sml_grammar.specs.Answer.{Read, then_read, whole};
 ghost use Rattle.sml_grammar.specs.Terminals.{NoState, no_state, place_at, after_word};
 ghost use Rattle.sml_grammar.specs.Types.{TyReader, read_ty, maybe_ty, begins_ty, ty_atom, ty_start, brace_ty, paren_rest, arguments, postfix_turn, product_rest, arrow_rest, ty_field_turn, arrow_turn};
@@ -14,12 +16,17 @@ ghost use Rattle.sml_parser.specs.Gives.{Gives};
 ghost use Rattle.sml_parser.specs.Left.{left};
 ghost use Rattle.sml_parser.specs.TypesRead.{IsTy, IsTys, IsTyParts, IsTyFields, IsMaybeTy, plain_start, separator_level, after_separator, separator_turn};
 
-use crate::got::Got;
+use crate::got::{Got, pushed};
 use crate::source::Source;
 use crate::stop::Stop;
-use crate::tokens::{after_star, after_word, label_at, long_tycon_at, place_at, tyvar_at};
+use crate::tokens::{
+    after_star, after_word, label_at, long_tycon_at, past, place_at, room, tyvar_at,
+};
+use mlc_base::make::{boxed, one, with};
+use mlc_base::memory::NoMemory;
 use mlc_base::place::Place;
 use mlc_base::token::{Reserved, Token, TokenKind};
+use sml_tree::ident::LongId;
 use sml_tree::tree::{Ty, TyField, TyPart};
 use std::alloc::Global;
 
@@ -187,14 +194,12 @@ fn record_ty<'a>(
         depth,
         rest: after,
     } = ty_fields(alloc, source, n, tokens)?;
-    match after_word(source, Reserved::RightBrace, after) {
-        Some(rest) => Ok(Got {
-            it: Ty::Record(place, it),
-            depth: depth + 1,
-            rest,
-        }),
-        None => Err(Stop::Bad(after.len())),
-    }
+    let (fields, rest) = with(it, past(source, Reserved::RightBrace, after))?;
+    Ok(Got {
+        it: Ty::Record(place, fields),
+        depth: depth + 1,
+        rest,
+    })
 }
 
 /// The fields of a record type.
@@ -215,16 +220,11 @@ fn ty_fields<'a>(
         let Some((label, after_label)) = label_at(source, rest) else {
             return Err(Stop::Bad(rest.len()))
         };
-        let Some(after_colon) = after_word(source, Reserved::Colon, after_label) else {
-            return Err(Stop::Bad(after_label.len()))
-        };
-        let Got {
-            it,
-            depth,
-            rest: after,
-        } = read_ty(alloc, source, n, 0, after_colon)?;
-        all.push(TyField { label, ty: it })?;
-        deepest = depth.max(deepest);
+        let (others, after_colon) = with(all, past(source, Reserved::Colon, after_label))?;
+        let (start, ty) = with(others, read_ty(alloc, source, n, 0, after_colon))?;
+        let after = ty.rest;
+        deepest = ty.depth.max(deepest);
+        all = pushed(start, TyField { label, ty: ty.it })?;
         let Some(next) = after_word(source, Reserved::Comma, after) else {
             return Ok(Got {
                 it: all,
@@ -257,14 +257,12 @@ fn bracketed_ty<'a>(
     if let Some(more) = after_word(source, Reserved::Comma, after) {
         return applied_to(alloc, source, n, place, it, depth, more);
     }
-    match after_word(source, Reserved::RightParen, after) {
-        Some(rest) => Ok(Got {
-            it,
-            depth: depth + 1,
-            rest,
-        }),
-        None => Err(Stop::Bad(after.len())),
-    }
+    let (inside, rest) = with(it, past(source, Reserved::RightParen, after))?;
+    Ok(Got {
+        it: inside,
+        depth: depth + 1,
+        rest,
+    })
 }
 
 /// A type constructor after its arguments, after the first of them and its comma.
@@ -288,12 +286,11 @@ fn applied_to<'a>(
         depth: deepest,
         rest: after,
     } = types_after(alloc, source, n, Separator::Comma, first, depth, tokens)?;
-    let Some(closed) = after_word(source, Reserved::RightParen, after) else {
-        return Err(Stop::Bad(after.len()))
-    };
-    match long_tycon_at(alloc, source, closed)? {
+    let (arguments, closed) = with(it, past(source, Reserved::RightParen, after))?;
+    let (all, found) = with(arguments, long_tycon_at(alloc, source, closed))?;
+    match found {
         Some((long, rest)) => Ok(Got {
-            it: Ty::Con(place, it, place_at(source, closed), long),
+            it: Ty::Con(place, all, place_at(source, closed), long),
             depth: deepest + 1,
             rest,
         }),
@@ -316,18 +313,17 @@ fn types_after<'a>(
     requires fits { depth ≤ n }
     ensures gives { Gives (λ x r. IsTys source.now n (left source.now tokens.now) (first ∷ []) depth x.it.items x.depth x.rest.now r) result (whole (separator_turn separator (read_ty n)) no_state (left source.now tokens.now)) }
 {
-    let mut all = Vec::new(alloc);
-    all.push(first)?;
+    let mut all = one(alloc, first)?;
     let mut deepest = depth;
     let mut rest = tokens;
     'types: loop {
-        let Got {
-            it,
-            depth,
-            rest: after,
-        } = read_ty(alloc, source, n, separator_level(separator), rest)?;
-        all.push(it)?;
-        deepest = depth.max(deepest);
+        let (front, ty) = with(
+            all,
+            read_ty(alloc, source, n, separator_level(separator), rest),
+        )?;
+        let after = ty.rest;
+        deepest = ty.depth.max(deepest);
+        all = pushed(front, ty.it)?;
         let Some(next) = after_separator(source, separator, after) else {
             return Ok(Got {
                 it: all,
@@ -337,6 +333,20 @@ fn types_after<'a>(
         };
         rest = next;
     }
+}
+
+/// A type constructor with one argument.
+fn applied_con(
+    alloc: Global,
+    place: Place,
+    argument: Ty,
+    con_place: Place,
+    long: LongId,
+) -> Result<Ty, NoMemory>
+    ensures { IfOk result (λ made. ty_of made ≡ tree.con place (tys_of (ty_of argument ∷ [])) con_place (long_id_of long)) }
+{
+    let (long, arguments) = with(long, one(alloc, argument))?;
+    Ok(Ty::Con(place, arguments, con_place, long))
 }
 
 /// Type constructors after their one argument.
@@ -357,19 +367,17 @@ fn applied_ty<'a>(
     let mut deep = depth;
     let mut rest = tokens;
     'constructors: loop {
-        let Some((long, next)) = long_tycon_at(alloc, source, rest)? else {
+        let (argument, found) = with(ty, long_tycon_at(alloc, source, rest))?;
+        let Some((long, next)) = found else {
             return Ok(Got {
-                it: ty,
+                it: argument,
                 depth: deep,
                 rest,
             })
         };
-        if deep > n {
-            return Err(Stop::Deep(rest.len()));
-        }
-        let mut argument = Vec::new(alloc);
-        argument.push(ty)?;
-        ty = Ty::Con(place, argument, place_at(source, rest), long);
+        let (parts, _room) = with((argument, long), room(deep, n, rest))?;
+        let (argument, long) = parts;
+        ty = applied_con(alloc, place, argument, place_at(source, rest), long)?;
         deep += 1;
         rest = next;
     }
@@ -405,9 +413,7 @@ fn product_ty<'a>(
             rest: tokens,
         })
     };
-    if depth > n {
-        return Err(Stop::Deep(tokens.len()));
-    }
+    let (first, _room) = with(first, room(depth, n, tokens))?;
     let Got {
         it,
         depth: deepest,
@@ -450,18 +456,14 @@ fn function_ty<'a>(
             rest: tokens,
         })
     };
-    if depth > n {
-        return Err(Stop::Deep(tokens.len()));
-    }
-    let Got {
-        it,
-        depth: deepest,
-        rest,
-    } = ty_parts(alloc, source, n, more)?;
-    let operand = Box::new(alloc, first)?;
+    let (first, _room) = with(first, room(depth, n, tokens))?;
+    let (left, others) = with(first, ty_parts(alloc, source, n, more))?;
+    let deepest = others.depth.max(depth);
+    let rest = others.rest;
+    let (right, operand) = with(others.it, boxed(alloc, left))?;
     Ok(Got {
-        it: Ty::Arrow(place, operand, it),
-        depth: deepest.max(depth) + 1,
+        it: Ty::Arrow(place, operand, right),
+        depth: deepest + 1,
         rest,
     })
 }
@@ -482,13 +484,10 @@ fn ty_parts<'a>(
     let mut rest = tokens;
     'parts: loop {
         let place = place_at(source, rest);
-        let Got {
-            it,
-            depth,
-            rest: after,
-        } = read_ty(alloc, source, n, 1, rest)?;
-        all.push(TyPart { place, ty: it })?;
-        deepest = depth.max(deepest);
+        let (front, ty) = with(all, read_ty(alloc, source, n, 1, rest))?;
+        let after = ty.rest;
+        deepest = ty.depth.max(deepest);
+        all = pushed(front, TyPart { place, ty: ty.it })?;
         let Some(next) = after_word(source, Reserved::Arrow, after) else {
             return Ok(Got {
                 it: all,

@@ -2,18 +2,21 @@
 
 ghost use Rattle.std.specs.Prelude.{◌≡◌, ◌≤◌, ℕ, Some, None, IfSome, MatchOption, MatchResult};
 ghost use Rattle.sml_tree.specs.declared.ident.Vid.TheVariants.{Named};
+ghost use Rattle.sml_tree.specs.Bare as bare;
 ghost use Rattle.sml_tree.specs.Fixity.{fix_of};
 ghost use Rattle.sml_tree.specs.Levels.{infix_level, vid_level, vid_right};
 ghost use Rattle.sml_tree.specs.TreeOf.{constant_of, long_vid_of};
-ghost use Rattle.sml_grammar.specs.Terminals.{place_at, first_as, as_constant, as_any_vid, as_any_long, as_qualified, after_op, plain_vid, infix_vid, binds_vid, names_vid, taken};
+ghost use Rattle.sml_grammar.specs.Terminals.{place_at, first_as, as_constant, as_any_vid, as_any_long, as_qualified, plain_vid, infix_vid, binds_vid, names_vid, taken};
 ghost use Rattle.sml_grammar.specs.Bindings.{as_digit};
 ghost use Rattle.sml_parser.specs.Left.{left};
+ghost use Rattle.sml_parser.specs.VidPlace.{vid_place};
 ghost use Rattle.sml_parser.specs.declared.stop.Stop.TheVariants.{Memory};
 
 use crate::source::Source;
 use crate::stop::Stop;
-use crate::tokens::{after_word, vid_at};
+use crate::tokens::{after_word, place_at, vid_at};
 use mlc_base::names::Name;
+use mlc_base::place::Place;
 use mlc_base::token::{Reserved, Token, TokenKind};
 use sml_tree::fixity::{Fixities, Infix};
 use sml_tree::ident::{Constant, LongVid, Vid};
@@ -145,8 +148,8 @@ pub fn vid_right(fix: &Fixities, name: Name) -> bool
 
 /// What `op` may stand before, without a qualifier.
 fn any_vid<'a>(source: &Source, tokens: &'a [Token]) -> Option<(Vid, &'a [Token])>
-    ensures { (p : ℕ) → MatchOption result (after_op as_any_vid p (left source.now tokens.now) ≡ None)
-        (λ x. after_op as_any_vid p (left source.now tokens.now) ≡ taken (record { place = p; it = x.0 }) (left source.now x.1.now)) }
+    ensures { MatchOption result (first_as as_any_vid (left source.now tokens.now) ≡ None)
+        (λ x. first_as as_any_vid (left source.now tokens.now) ≡ taken (record { place = place_at (left source.now tokens.now); it = x.0 }) (left source.now x.1.now)) }
 {
     match tokens {
         [first, rest @ ..] => match &first.kind {
@@ -159,6 +162,16 @@ fn any_vid<'a>(source: &Source, tokens: &'a [Token]) -> Option<(Vid, &'a [Token]
     }
 }
 
+/// The place of the identifier in `[op] vid` or `[op] longvid`.
+pub fn vid_place(source: &Source, tokens: &[Token]) -> Place
+    ensures { result ≡ bare.at source.now.file (vid_place (left source.now tokens.now)) }
+{
+    match after_word(source, Reserved::Op, tokens) {
+        Some(rest) => place_at(source, rest),
+        None => place_at(source, tokens),
+    }
+}
+
 /// `[op] vid`, where the identifier isn't infix or `op` stands before it.
 pub fn binds_vid<'a>(
     source: &Source,
@@ -166,7 +179,7 @@ pub fn binds_vid<'a>(
     tokens: &'a [Token],
 ) -> Option<(Vid, &'a [Token])>
     ensures { MatchOption result (binds_vid fix.now (left source.now tokens.now) ≡ None)
-        (λ x. binds_vid fix.now (left source.now tokens.now) ≡ taken (record { place = place_at (left source.now tokens.now); it = x.0 }) (left source.now x.1.now)) }
+        (λ x. binds_vid fix.now (left source.now tokens.now) ≡ taken (record { place = vid_place (left source.now tokens.now); it = x.0 }) (left source.now x.1.now)) }
 {
     if let Some(rest) = after_word(source, Reserved::Op, tokens) {
         return any_vid(source, rest);
@@ -221,8 +234,8 @@ fn any_long<'a>(
     source: &Source,
     tokens: &'a [Token],
 ) -> Result<Option<(LongVid, &'a [Token])>, Stop>
-    ensures { (p : ℕ) → MatchResult result (λ found. MatchOption found (after_op as_any_long p (left source.now tokens.now) ≡ None)
-        (λ x. after_op as_any_long p (left source.now tokens.now) ≡ taken (record { place = p; it = long_vid_of x.0 }) (left source.now x.1.now)))
+    ensures { MatchResult result (λ found. MatchOption found (first_as as_any_long (left source.now tokens.now) ≡ None)
+        (λ x. first_as as_any_long (left source.now tokens.now) ≡ taken (record { place = place_at (left source.now tokens.now); it = long_vid_of x.0 }) (left source.now x.1.now)))
         (λ e. e ≡ Memory) }
 {
     if let Some((vid, rest)) = any_vid(source, tokens) {
@@ -248,7 +261,7 @@ pub fn names_vid<'a>(
     tokens: &'a [Token],
 ) -> Result<Option<(LongVid, &'a [Token])>, Stop>
     ensures { MatchResult result (λ found. MatchOption found (names_vid fix.now (left source.now tokens.now) ≡ None)
-        (λ x. names_vid fix.now (left source.now tokens.now) ≡ taken (record { place = place_at (left source.now tokens.now); it = long_vid_of x.0 }) (left source.now x.1.now)))
+        (λ x. names_vid fix.now (left source.now tokens.now) ≡ taken (record { place = vid_place (left source.now tokens.now); it = long_vid_of x.0 }) (left source.now x.1.now)))
         (λ e. e ≡ Memory) }
 {
     if let Some(rest) = after_word(source, Reserved::Op, tokens) {

@@ -53,7 +53,7 @@ decreases-declarations::read_functions-functions l = length (left l.source l.res
 
 abbrev pub invariant-declarations::read_binds-binds : goal.invariant-declarations::read_binds-binds
 invariant-declarations::read_binds-binds l = record {
-  going : BindsGoing l.source l.n l.fix (left l.source l.rest) l.plain.items l.recursive.items l.after_rec l.deepest (read_binds l.n (readers l.n).exp l.fix (left l.source l.tokens));
+  going : BindsGoing l.source l.n l.fix (left l.source l.rest) l.lists.0.items l.lists.1.items l.after_rec l.deepest (read_binds l.n (readers l.n).exp l.fix (left l.source l.tokens));
   short : length (left l.source l.rest) ≤ length (left l.source l.tokens);
 }
 

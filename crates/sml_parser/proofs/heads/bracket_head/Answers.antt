@@ -13,8 +13,8 @@ returns c =
     let k = c.in_ok-pats.ensures.gives in
     record {
       gives = λ i b pl is lt.
-          let g = bracket-said s c.args.fix.now c.args.n i (left s c.args.tokens.now) lt (record { place = c.args.place; vid = Named c.args.pair.vid; pats = c.in_ok-pats.field-0.it }) pl c.args.pair b c.in_ok-front.front.items c.args.depth c.in_ok-pats.field-0.depth
-          c.in_ok-pats.field-0.rest.now k.got is c.requires.fits refl c.in_ok-front.ensures k.is k.same in
+          let g = bracket-said s c.args.fix.now c.args.n i (left s c.args.tokens.now) lt (record { place = c.args.place; vid_place = c.args.pair.vid_place; vid = Named c.args.pair.vid; pats = c.in_ok-pats.field-0.it }) pl c.args.pair b c.in_ok-front.front.items c.args.depth c.in_ok-pats.field-0.depth
+          c.in_ok-pats.field-0.rest.now k.got is c.requires.fits refl refl c.in_ok-front.ensures k.is k.same in
           record { got = g.got; is = g.is; same = g.same };
     }
 

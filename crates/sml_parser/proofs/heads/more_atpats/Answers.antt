@@ -17,18 +17,18 @@ patterns-init c = record {
   short = omega arith;
 }
 
-pub returns-in_err-it : goal.returns-in_err-it
-returns-in_err-it c =
+pub returns-in_err-others : goal.returns-in_err-others
+returns-in_err-others c =
     let p = err_from_is_err_and c.from_residual.result c.from_residual.ensures.1 in
-    record { gives = rw (p.1, p.2) (atpats-fails c.args.source.now c.args.fix.now c.args.n c.args.front.items c.args.depth c.patterns.all.items c.patterns.deepest (left c.args.source.now c.patterns.rest.now) _ c.in_err-it.field-0.0 (sym c.begins_pat.ensures ∙ c.patterns-test.true) c.in_err-it.ensures.gives c.patterns.invariant.going) }
+    record { gives = rw (p.1, p.2) (atpats-fails c.args.source.now c.args.fix.now c.args.n c.args.front.items c.args.depth c.patterns.all.items c.patterns.deepest (left c.args.source.now c.patterns.rest.now) _ c.in_err-others.field-0.0 (sym c.begins_pat.ensures ∙ c.patterns-test.true) (rw c.in_err-others.ensures.second at c.read_atpat.ensures.gives) c.patterns.invariant.going) }
 
 pub patterns-preserved : goal.patterns-preserved
 patterns-preserved c =
     let s = c.args.source.now in
-    let h = c.in_ok-it.ensures.gives in
+    let h = (rw c.in_ok-others.ensures.second at c.read_atpat.ensures.gives) in
     let sh2 = h.same.shorter in let sh3 = ap (λ (z : List Terminal). length z) h.same.rest in
     record {
-      going = atpats-more s c.args.fix.now c.args.n c.args.front.items c.args.depth c.patterns.all.items c.patterns.deepest (left s c.patterns.rest.now) _ c.push.new.self.items c.max-deepest.result c.in_ok-it.field-0.it c.in_ok-it.field-0.depth c.in_ok-it.field-0.rest.now h.got c.in_ok-push.ensures.items c.max-deepest.ensures
+      going = atpats-more s c.args.fix.now c.args.n c.args.front.items c.args.depth c.patterns.all.items c.patterns.deepest (left s c.patterns.rest.now) _ c.in_ok-all.all.items c.max-deepest.result c.in_ok-others.pat.it c.in_ok-others.pat.depth c.in_ok-others.pat.rest.now h.got (rw c.in_ok-others.ensures.first at c.in_ok-all.ensures) c.max-deepest.ensures
           (sym c.begins_pat.ensures ∙ c.patterns-test.true) h.is h.same c.patterns.invariant.going;
       short = omega (arith, c.patterns.invariant.short);
     }

@@ -5,6 +5,8 @@ use Rattle.sml_tree.specs.ReadTree.{Placed}
 use Rattle.sml_grammar.specs.Terminals.{place_at}
 use Rattle.sml_grammar.specs.Patterns.{read_head, vid_head, infix_rest, bracket_rest}
 use Rattle.sml_parser.specs.Left.{left}
+use Rattle.sml_parser.specs.VidPlace.{vid_place}
+use Rattle.sml_tree.specs.declared.ident.Vid.{Vid}
 use Rattle.sml_parser.specs.HeadsRead.{IsPair}
 use Rattle.sml_parser.proofs.VidShorter.{infix-shorter, binds-shorter}
 use Rattle.sml_parser.proofs.HeadReads.{head-by, head-named, head-fails, head-infix, head-bracket}
@@ -15,10 +17,11 @@ returns-in-Some c =
     let s = c.args.source.now in
     let i = left s c.args.tokens.now in
     let m = left s c.in-Some.after.now in
+    let v : Placed Vid = record { place = vid_place i; it = c.in-Some.vid } in
     record {
-      gives = head-by s c.args.n i c.named_head.result (read_head c.args.n c.args.fix.now i) (vid_head c.args.n c.args.fix.now (record { place = place_at i; it = c.in-Some.vid }) m)
-          (head-named c.args.n c.args.fix.now i m (record { place = place_at i; it = c.in-Some.vid }) c.in-Some.ensures)
-          (c.named_head.ensures.gives i c.place_at-place.ensures (binds-shorter c.args.fix.now i (record { place = place_at i; it = c.in-Some.vid }) m c.in-Some.ensures));
+      gives = head-by s c.args.n i c.named_head.result (read_head c.args.n c.args.fix.now i) (vid_head c.args.n c.args.fix.now (place_at i) v m)
+          (head-named c.args.n c.args.fix.now i m v c.in-Some.ensures)
+          (c.named_head.ensures.gives i (vid_place i) c.place_at-place.ensures c.vid_place-name_place.ensures (binds-shorter c.args.fix.now i v m c.in-Some.ensures));
     }
 
 pub returns-in_err-it : goal.returns-in_err-it
@@ -39,7 +42,7 @@ returns-in-Some-joint_at c =
     record {
       gives = head-by s c.args.n i c.infix_head.result (read_head c.args.n c.args.fix.now i) (infix_rest c.args.n c.args.fix.now h.got.tree x m)
           (head-infix c.args.n c.args.fix.now i k m h.got x c.in_default.ensures h.is h.same.rest c.in-Some-joint_at.ensures)
-          (c.infix_head.ensures.gives i h.got.tree (place_at k) c.place_at-place.ensures h.same.bare d h.same.place (omega arith) (omega arith));
+          (c.infix_head.ensures.gives i h.got.tree (place_at k) c.place_at-place.ensures c.place_at-name_place.ensures h.same.bare d h.same.place (omega arith) (omega arith));
     }
 
 pub returns-in-Some-2 : goal.returns-in-Some-2
@@ -56,8 +59,8 @@ returns-in-Some-2 c =
           (c.bracket_head.ensures.gives i b.0 c.place_at-place.ensures (subst (λ (z : ℕ). IsPair s c.in-Some-2.pair i z b.0) (sym d) b.2) (omega arith));
     }
 
-pub returns : goal.returns
-returns c =
+pub returns-in-None : goal.returns-in-None
+returns-in-None c =
     let s = c.args.source.now in
     let i = left s c.args.tokens.now in
     let h = c.in_ok-it.ensures.gives in

@@ -2,61 +2,15 @@
 
 ghost use Rattle.std.specs.Prelude.{◌<◌, ◌^◌, ◌+◌, length};
 
-use crate::read::{Core, read_core};
-use crate::source::Source;
+use crate::reading::{read, shown};
 use mlc_base::memory::NoMemory;
 use mlc_base::names::Names;
 use mlc_base::place::Place;
 use mlc_base::refused::Refused;
 use sml_lexer::lex::lex;
-use sml_tree::fixity::Fixities;
 use sml_tree::tree::{Bind, Dec, Exp, Joint, Part};
 use std::alloc::Global;
 use std::test::Fail;
-
-// The fixities of the standard basis but that of `=`, which no directive gives.
-static STANDARD: &[u8] =
-    b"infix 7 * / div mod infix 6 + - ^ infixr 5 :: @ infix 4 <> > >= < <= infix 3 := o infix 0 before";
-
-fn read_under(
-    alloc: Global,
-    names: &mut Names,
-    fix: &Fixities,
-    text: &[u8],
-) -> Result<Core, Refused>
-    requires { length text.now + 1 < 2 ^ 32 }
-{
-    let star = names.intern(alloc, b"*")?;
-    let tokens = lex(alloc, names, 7, text)?;
-    let source = Source { file: 7, star };
-    read_core(alloc, &source, text.len() as u32, &tokens, fix)
-}
-
-fn read(alloc: Global, text: &[u8]) -> Result<Core, Refused>
-    requires { length text.now + 1 < 2 ^ 32 }
-{
-    let mut names = Names::new(alloc)?;
-    let none = Fixities::new(alloc);
-    let standard = read_under(alloc, &mut names, &none, STANDARD)?;
-    read_under(alloc, &mut names, &standard.fix, text)
-}
-
-// How many declarations a text has, or its refusal.
-fn shown(alloc: Global, text: &[u8]) -> Result<String, NoMemory>
-    requires { length text.now + 1 < 2 ^ 32 }
-{
-    match read(alloc, text) {
-        Ok(core) => {
-            let count = core.decs.len();
-            Ok(format!(in alloc; "{count}")?)
-        }
-        Err(Refused::Fault(fault)) => {
-            let (code, byte) = (fault.code.number(), fault.place.byte);
-            Ok(format!(in alloc; "E{code} at {byte}")?)
-        }
-        Err(Refused::Memory) => Err(NoMemory),
-    }
-}
 
 // Texts, each with the number of its declarations or with the refusal's code and place after a byte 1; a byte 2 ends a row.
 static TABLE: &[u8] = b"\
