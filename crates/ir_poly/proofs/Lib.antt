@@ -4,3 +4,4 @@ pub mod TypedLemmas
 pub mod MissLemmas
 pub mod TypingExamples
 pub mod TestsExamples
+pub mod SaidLemmas

@@ -6,9 +6,12 @@ use Rattle.ty_core.specs.Statics.{replace}
 use Rattle.ty_core.specs.declared.scheme.Quantified.{Quantified}
 use Rattle.ir_plain.specs.Tree.{Exp, Op}
 use Rattle.ir_plain.specs.Meaning.{V, Scope, Apply, Go, eval}
+use Rattle.ir_poly.specs.Prog as tree
+use Rattle.ir_poly.specs.Prog.{type_of}
+use Rattle.ir_poly.specs.ProgChecked as prog
 use Rattle.ir_poly.specs.Tests.{poly}
 use Rattle.ir_poly.specs.Types.{Constructor, admits_in}
-use Rattle.ir_poly.specs.TestsChecked.{Checked, OpChecked}
+use Rattle.ir_poly.specs.TestsChecked.{Knowns, Checked, OpChecked}
 use Rattle.ir_poly.specs.TestsTyped.{Typed, OpTyped}
 
 -- a program that is checked is typed, whatever types its variables stand for; a generalised binding in it at all types that its parameters may stand for
@@ -25,3 +28,7 @@ abbrev pub NeverMisses : Type 0
 NeverMisses =
     (table : List Constructor) (e : Exp poly) (t : Typ) → Checked table false [] [] e t
     → (call : Apply poly) (env : Scope poly) (w : World (V poly)) (other other' : Go poly) → eval call e env w other ≡ eval call e env w other'
+
+-- an expression with source matches has one type, the one that it has written
+abbrev pub TypedAsWritten : Type 0
+TypedAsWritten = (table : List Constructor) (D : List Quantified) (G : Knowns) (e : tree.Exp) (t : Typ) → prog.Checked table D G e t → t ≡ type_of e

@@ -1,6 +1,6 @@
 // Laws of the form with explicit instances, as contracts.
 
-ghost use Rattle.ir_poly.specs.Laws.{CheckedIsTyped, CheckedIsTypedUnder, NeverMisses};
+ghost use Rattle.ir_poly.specs.Laws.{CheckedIsTyped, CheckedIsTypedUnder, NeverMisses, TypedAsWritten};
 
 /// Tests that a checker accepts are typed at all types that parameters may stand for.
 pub fn checked_is_typed()
@@ -11,4 +11,9 @@ pub fn checked_is_typed()
 /// Tests that a checker accepts where no miss goes on never miss.
 pub fn never_misses()
     ensures { NeverMisses }
+{}
+
+/// An expression with source matches that a checker accepts has one type: the one that it has written.
+pub fn typed_as_written()
+    ensures { TypedAsWritten }
 {}

@@ -15,7 +15,7 @@ use Rattle.sml_tree.specs.declared.ident.LongVid.{LongVid}
 use Rattle.sml_tree.specs.declared.tree.Ty.{Ty}
 use Rattle.sml_tree.specs.declared.tree.ExBind.{ExBind}
 use Rattle.sml_tree.specs.declared.tree.ExBind.TheVariants.{New, Same}
-use Rattle.sml_grammar.specs.Terminals.{taken, place_at, after_word, binds_vid, names_vid}
+use Rattle.sml_grammar.specs.Terminals.{taken, after_word, binds_vid, names_vid}
 use Rattle.sml_grammar.specs.Types.{maybe_ty}
 use Rattle.sml_grammar.proofs.Vids.{binds-is, binds-shorter, names-is, names-shorter}
 use Rattle.sml_parser.specs.declared.source.Source.{Source}

@@ -1,5 +1,5 @@
 -- The pair in the brackets of a head, once its patterns were read.
-use Rattle.std.proofs.Common.{◌≡◌, ℕ, ◌-◌, ◌≤◌, List, Option, Some, None, refl, sym, subst, arith}
+use Rattle.std.proofs.Common.{◌≡◌, ℕ, ◌-◌, ◌≤◌, List, Option, Some, None, refl, sym, subst}
 use Rattle.std.specs.Prelude.{MatchOption}
 use Rattle.mlc_base.specs.declared.token.Reserved.TheVariants.{LeftParen, RightParen}
 use Rattle.mlc_base.specs.declared.place.Place.{Place}

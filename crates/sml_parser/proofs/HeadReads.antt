@@ -17,7 +17,7 @@ use Rattle.sml_tree.specs.declared.ident.Vid.{Vid}
 use Rattle.sml_tree.specs.declared.ident.Vid.TheVariants.{Named}
 use Rattle.sml_tree.specs.declared.tree.Pat.{Pat}
 use Rattle.sml_grammar.specs.Answer.{Read, Answer, ok, deep, read, then_read}
-use Rattle.sml_grammar.specs.Terminals.{place_at, taken, short, infix_vid, binds_vid}
+use Rattle.sml_grammar.specs.Terminals.{place_at, taken, infix_vid, binds_vid}
 use Rattle.sml_grammar.specs.Patterns.{read_atpat, read_atpats, short_at, infix_rest, prefix_rest, bracket_rest, Bracketed, bracketed, pat_head, vid_head, read_head}
 use Rattle.sml_parser.specs.declared.source.Source.{Source}
 use Rattle.sml_parser.specs.declared.stop.Stop.{Stop}

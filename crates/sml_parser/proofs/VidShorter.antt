@@ -1,5 +1,5 @@
 -- An identifier takes a terminal or more.
-use Rattle.std.proofs.Common.{◌≡◌, ℕ, suc, ◌<◌, List, [], ◌∷◌, length, Option, Some, None, refl, sym, ap, ◌∙◌, arith}
+use Rattle.std.proofs.Common.{◌≡◌, ℕ, ◌<◌, List, [], length, Option, Some, None, refl, sym, ap, ◌∙◌, arith}
 use Rattle.mlc_base.specs.declared.token.Reserved.TheVariants as res
 use Rattle.sml_tree.specs.Terminal.{Terminal, LongVid}
 use Rattle.sml_tree.specs.Fixity.{Fixity, fix_of}
@@ -7,7 +7,7 @@ use Rattle.sml_tree.specs.ReadTree.{Placed}
 use Rattle.sml_tree.specs.declared.fixity.Infix.{Infix}
 use Rattle.sml_tree.specs.declared.ident.Vid.{Vid}
 use Rattle.sml_tree.specs.declared.ident.Vid.TheVariants.{Named}
-use Rattle.sml_grammar.specs.Terminals.{Taken, taken, place_at, placed_if, first_as, as_any_vid, as_any_long, as_qualified, as_vid, long_named_if, named_if, after_word, binds_vid, names_vid, plain_vid, plain_from, plain_if, infix_vid, infix_from, infix_if}
+use Rattle.sml_grammar.specs.Terminals.{Taken, taken, first_as, as_any_vid, as_any_long, as_qualified, as_vid, long_named_if, named_if, after_word, binds_vid, names_vid, plain_vid, plain_from, plain_if, infix_vid, infix_from, infix_if}
 use Rattle.sml_parser.proofs.TypeForms.{first-shorter, word-shorter}
 use Rattle.sml_parser.proofs.VidForms.{binds-op, binds-plain, names-op, names-plain}
 

@@ -1,4 +1,4 @@
-use Rattle.std.proofs.Common.{Vec, Global, ◌≡◌, ◌∙◌, refl, sym, subst, ap, true, false, List, length}
+use Rattle.std.proofs.Common.{Vec, Global, ◌≡◌, ◌∙◌, refl, subst, ap, List, length}
 use Rattle.std.proofs.lemmas.Result.{err_from_is_err_and}
 use Rattle.mlc_base.specs.declared.token.Reserved.TheVariants as res
 use Rattle.sml_tree.specs.Terminal.{Terminal}

@@ -1,4 +1,4 @@
-use Rattle.std.proofs.Common.{◌≡◌, ℕ, List, subst, None, ◌∙◌}
+use Rattle.std.proofs.Common.{◌≡◌, ℕ, List, subst, None}
 use Rattle.sml_tree.specs.Terminal.{Terminal}
 use Rattle.sml_tree.specs.ReadTree.{Placed}
 use Rattle.sml_grammar.specs.Terminals.{place_at, infix_vid, taken}

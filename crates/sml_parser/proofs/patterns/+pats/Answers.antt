@@ -1,18 +1,15 @@
 use Rattle.std.proofs.Common.{◌≡◌, ◌<◌, ◌+◌, ◌-◌, ℕ, suc, List, Some, None, length, map, true, false, refl, ap, ◌∙◌, sym, subst, arith}
 use Rattle.std.proofs.lemmas.Result.{err_from_is_err_and}
 use Rattle.mlc_base.specs.declared.token.Reserved.TheVariants as res
-use Rattle.mlc_base.specs.declared.place.Place.{Place}
 use Rattle.sml_tree.specs.Terminal.{Terminal}
 use Rattle.sml_tree.specs.BareTree as tree
 use Rattle.sml_tree.specs.ReadTree as read_tree
-use Rattle.sml_tree.specs.Bare.{pat_list, at}
+use Rattle.sml_tree.specs.Bare.{pat_list}
 use Rattle.sml_tree.specs.Depth.{depth_pats}
 use Rattle.sml_tree.specs.Levels.{infix_level}
 use Rattle.sml_tree.specs.TreeOf.{pat_of, ty_of, long_vid_of}
-use Rattle.sml_tree.specs.declared.tree.Pat.{Pat}
-use Rattle.sml_tree.specs.declared.tree.Pat.TheVariants as Code
 use Rattle.sml_grammar.specs.Answer.{Read, ok, then_read, read, whole}
-use Rattle.sml_grammar.specs.Terminals.{place_at, no_state, short, word_then}
+use Rattle.sml_grammar.specs.Terminals.{place_at, no_state, word_then}
 use Rattle.sml_grammar.specs.Patterns.{read_pats, at_pat, pat_start, plain_form, vid_form, short_at, typed_form, pat_suffix, paren_pat_in, pat_commas_turn}
 use Rattle.sml_parser.specs.Gives.{Fails}
 use Rattle.sml_parser.specs.Left.{left}
@@ -23,7 +20,7 @@ use Rattle.sml_tree.specs.declared.ident.Vid.{Vid}
 use Rattle.sml_parser.specs.PatternsRead.{IsPatAt}
 use Rattle.sml_parser.proofs.Loop.{fails-bad, fails-deep}
 use Rattle.sml_parser.proofs.Listing.{listing-start}
-use Rattle.sml_parser.proofs.Rolls.{pat_of-Vid, pat_of-Con, pat_of-Typed}
+use Rattle.sml_parser.proofs.Rolls.{pat_of-Vid}
 use Rattle.sml_parser.proofs.TypeForms.{word-shorter}
 use Rattle.sml_parser.proofs.VidShorter.{infix-shorter}
 use Rattle.sml_parser.proofs.PatForms.{pat-zero, atpat-zero, high-gives, vid-gives, none-gives, atpat-one, pat-gives, atpat-gives, pat-plain-start, plain-pat-gives, Seeking, seeking-none, seeking-low, seeking-bad, seeking-deep, seeking-fails, seeking-more, pat-by, patat-by, vid-as, typed-as, typed-else, typed-is, plain-first, paren-comma-pat, con-said}

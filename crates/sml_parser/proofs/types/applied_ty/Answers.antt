@@ -1,4 +1,4 @@
-use Rattle.std.proofs.Common.{◌≡◌, refl, ◌∙◌}
+use Rattle.std.proofs.Common.{refl, ◌∙◌}
 use Rattle.std.proofs.lemmas.Result.{err_from_is_err_and}
 use Rattle.sml_parser.proofs.Loop.{fails-deep}
 use Rattle.sml_parser.proofs.TypeForms.{applying-last, applying-deep, applying-more}

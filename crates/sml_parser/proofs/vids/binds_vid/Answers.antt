@@ -1,5 +1,5 @@
 use Rattle.sml_parser.specs.Left.{left}
-use Rattle.sml_parser.proofs.VidForms.{binds-op, place-op, place-plain}
+use Rattle.sml_parser.proofs.VidForms.{binds-op, place-op}
 use Rattle.sml_parser.proofs.vids.binds_vid.Goals as goal
 
 pub returns-in-Some : goal.returns-in-Some

@@ -1,5 +1,5 @@
 use Rattle.sml_parser.specs.Left.{left}
-use Rattle.sml_parser.proofs.VidForms.{names-op, place-op, place-plain}
+use Rattle.sml_parser.proofs.VidForms.{names-op, place-op}
 use Rattle.sml_parser.proofs.vids.names_vid.Goals as goal
 
 pub returns-in-Some : goal.returns-in-Some
