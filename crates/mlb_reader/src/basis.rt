@@ -1,6 +1,6 @@
 // The fixities that the path of the standard basis puts in force.
 
-ghost use Rattle.std.specs.Prelude.{◌≡◌, ◌++◌, ◌∷◌, [], IfOk, OnOk};
+ghost use Rattle.std.specs.Prelude.{◌≡◌, ◌++◌, ◌∷◌, [], true, false, IfOk, OnOk};
 ghost use Rattle.mlc_base.specs.StandardWords.{word_cons, word_plus, word_minus, word_times, word_div, word_mod, word_less_than, word_at_most, word_greater_than, word_at_least, word_assign, word_divide, word_not_equal, word_append, word_concatenate, word_compose};
 ghost use Rattle.sml_rules.specs.Basis.{standard_fixities};
 ghost use Rattle.mlb_reader.specs.BasisOf.{directives_of};
@@ -33,7 +33,7 @@ fn right(precedence: u8) -> Infix
 }
 
 fn assignments() -> [Name; 2]
-    ensures { result.items ≡ word_assign ∷ word_compose ∷ [] }
+    ensures { result ≡ word_assign ∷ word_compose ∷ [] }
 {
     [
         Name::standard(words::ASSIGN),
@@ -42,7 +42,7 @@ fn assignments() -> [Name; 2]
 }
 
 fn comparisons() -> [Name; 5]
-    ensures { result.items ≡ word_not_equal ∷ word_greater_than ∷ word_at_least ∷ word_less_than ∷ word_at_most ∷ [] }
+    ensures { result ≡ word_not_equal ∷ word_greater_than ∷ word_at_least ∷ word_less_than ∷ word_at_most ∷ [] }
 {
     [
         Name::standard(words::NOT_EQUAL),
@@ -54,13 +54,13 @@ fn comparisons() -> [Name; 5]
 }
 
 fn joins() -> [Name; 2]
-    ensures { result.items ≡ word_cons ∷ word_append ∷ [] }
+    ensures { result ≡ word_cons ∷ word_append ∷ [] }
 {
     [Name::standard(words::CONS), Name::standard(words::APPEND)]
 }
 
 fn sums() -> [Name; 3]
-    ensures { result.items ≡ word_plus ∷ word_minus ∷ word_concatenate ∷ [] }
+    ensures { result ≡ word_plus ∷ word_minus ∷ word_concatenate ∷ [] }
 {
     [
         Name::standard(words::PLUS),
@@ -70,7 +70,7 @@ fn sums() -> [Name; 3]
 }
 
 fn products() -> [Name; 4]
-    ensures { result.items ≡ word_times ∷ word_divide ∷ word_div ∷ word_mod ∷ [] }
+    ensures { result ≡ word_times ∷ word_divide ∷ word_div ∷ word_mod ∷ [] }
 {
     [
         Name::standard(words::TIMES),

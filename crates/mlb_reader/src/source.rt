@@ -11,8 +11,8 @@ ghost use Rattle.mlb_reader.specs.Project.{IsSource, most_bytes};
 ghost use Rattle.mlb_reader.specs.Within.{AllPlacedIn, HoldsAll};
 
 use mlc_base::names::{Name, Names};
-use mlc_base::words;
 use mlc_base::refused::Refused;
+use mlc_base::words;
 use sml_lexer::lex::lex;
 use sml_parser::read::read_core;
 use sml_parser::source::Source;

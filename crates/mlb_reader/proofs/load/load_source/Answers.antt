@@ -50,8 +50,8 @@ returns-in_err-number-clause-needed g c =
     read-fault-asked c.from_residual-in_err-number.result c.in_err-number.field-0.0 c.from_residual-in_err-number.ensures.1 _ (λ failed. NeedsAt files mlb s item (string_bytes failed))
     (λ failed h. needed-at mlb s item c.requires.may files (string_bytes failed) (h.0 ∙ path)) c.in_err-number.ensures.read_fault
 
-pub read_source-requires-clause-small : goal.read_source-requires-clause-small
-read_source-requires-clause-small g c =
+pub read_source-requires : goal.read_source-requires
+read_source-requires g c =
     let fetched = c.in_ok-number.ensures.fetched in
     let bytes = last-bytes c.args.files.now c.fetch.new.files fetched.file c.in_ok-number.number c.bytes-bytes.result.now fetched.added fetched.number_is c.bytes-bytes.ensures in
     omega (arith, ap length bytes, fetched.fits.small)
