@@ -1,17 +1,14 @@
 -- The answers of checking and of compiling a project.
-use Rattle.std.proofs.Common.{◌≡◌, ◌≢◌, ℕ, ◌+◌, ◌*◌, ◌^◌, ◌<◌, ◌≤◌, ◌⊎◌, max, List, Option, Some, None, Result, Ok, Err, refl, subst, sym, ap, ◌∙◌, arith, min}
+use Rattle.std.proofs.Common.{◌≡◌, ℕ, ◌+◌, ◌*◌, ◌^◌, ◌<◌, ◌≤◌, ◌⊎◌, max, List, Option, Some, None, Result, Ok, Err, refl, subst, sym, ap, ◌∙◌, arith, min}
 use Rattle.mlc_base.specs.File.{File}
 use Rattle.mlc_base.specs.Outcome.{Outcome}
-use Rattle.mlc_base.specs.Outcome as source
 use Rattle.mlc_base.specs.declared.code.Code.TheVariants.{NotCompiled, ExpansionTooLarge}
 use Rattle.mlc_base.specs.declared.fault.Fault as base
 use Rattle.mlc_base.specs.declared.place.Place.{Place}
 use Rattle.mlc_base.specs.declared.refused.Refused.{Refused}
 use Rattle.mlc_base.specs.declared.refused.Refused.TheVariants as refusal
 use Rattle.mlc_outside.specs.Files.{Files}
-use Rattle.ir_code.specs.Program.{Program}
 use Rattle.ir_code.specs.Run.{RunResult, run_of}
-use Rattle.ir_code.specs.Run as machine
 use Rattle.sml_rules.specs.Basis.{IsTable, text_in}
 use Rattle.sml_rules.specs.Broken as rules
 use Rattle.sml_rules.specs.Broken.{FirstBroken, Checks, IsRefused, max_nodes}
@@ -30,7 +27,7 @@ use Rattle.mlc_driver.specs.Code.{AllFit, image_of, size_of}
 use Rattle.mlc_driver.specs.CodeLaws.{ImageIsRight, ImageIsSmall, IsRight}
 use Rattle.mlc_driver.specs.Fault.{IfFault}
 use Rattle.mlc_driver.specs.Same.{Same, SameRuns, SameResult, IsOver, IsExhausted}
-use Rattle.mlc_driver.specs.Statics.{Statics, Taped, nothing_known}
+use Rattle.mlc_driver.specs.Statics.{Taped, nothing_known}
 use Rattle.mlc_driver.specs.Tape.{Op, tape_meaning}
 use Rattle.mlc_driver.proofs.Checks.{taped-types}
 use Rattle.mlc_driver.proofs.Means.{tape-means}

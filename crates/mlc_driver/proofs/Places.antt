@@ -1,6 +1,5 @@
 -- Where the faults of phrases lie.
-use Rattle.std.proofs.Common.{◌≡◌, ℕ, List, [], ◌∷◌, ◌++◌, Option, Some, None, refl, subst, sym}
-use Rattle.std.specs.List.{All}
+use Rattle.std.proofs.Common.{◌≡◌, ℕ, List, [], ◌∷◌, ◌++◌, Some, refl, subst}
 use Rattle.std.proofs.lemmas.List.Elements.{All-head, All-tail}
 use Rattle.mlc_base.specs.declared.fault.Fault.{Fault}
 use Rattle.mlc_base.specs.declared.place.Place.{Place}

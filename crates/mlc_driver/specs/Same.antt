@@ -1,5 +1,5 @@
 -- A project and an image end alike.
-use Rattle.std.specs.Prelude.{◌≡◌, ◌≢◌, ℕ, ◌^◌, ◌≤◌, ◌⊎◌, List, ◌++◌, []}
+use Rattle.std.specs.Prelude.{◌≡◌, ◌≢◌, ℕ, ◌^◌, ◌≤◌, ◌⊎◌, List}
 use Rattle.mlc_base.specs.Outcome.{Outcome}
 use Rattle.mlc_base.specs.Outcome as source
 use Rattle.ir_code.specs.Program.{Program}

@@ -1,4 +1,4 @@
-use Rattle.std.proofs.Common.{◌≡◌, map, subst}
+use Rattle.std.proofs.Common.{map, subst}
 use Rattle.sml_rules.specs.Phrases.{parts_phrases}
 use Rattle.mlb_reader.specs.PartOf.{part_of}
 use Rattle.mlb_reader.specs.declared.project.Project.{Project}

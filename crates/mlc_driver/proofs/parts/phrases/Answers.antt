@@ -1,6 +1,4 @@
-use Rattle.std.proofs.Common.{refl, map}
-use Rattle.mlb_reader.specs.PartOf.{part_of}
-use Rattle.sml_rules.specs.Phrases.{parts_phrases}
+use Rattle.std.proofs.Common.{refl}
 use Rattle.mlc_driver.specs.PhraseOf.{phrases_of}
 use Rattle.mlc_driver.proofs.PartsOf.{parts-step, parts-end}
 use Rattle.mlc_driver.proofs.parts.phrases.Goals as goal
