@@ -1,5 +1,6 @@
 pub mod Checks
 pub mod Cuts
+mod Examples
 pub mod Exact
 pub mod Images
 pub mod Keeps
