@@ -2,32 +2,15 @@
 
 use mlc_base::make::{both, boxed, one, two};
 use mlc_base::memory::NoMemory;
-use mlc_base::names::{Name, Names};
+use mlc_base::names::Name;
 use mlc_base::place::Place;
+use mlc_base::words;
 use sml_tree::ident::{Constant, LongVid, Vid};
 use sml_tree::tree::{Bind, Dec, Exp, Joint, Part, Pat, TyvarSeq};
 use std::alloc::Global;
 
 pub fn place(byte: u32) -> Place {
     Place { file: 0, byte }
-}
-
-/// The names of the declarations.
-#[derive(Clone, Copy)]
-struct Spelled {
-    print: Name,
-    plus: Name,
-    f: Name,
-    x: Name,
-}
-
-fn words(alloc: Global) -> Result<Spelled, NoMemory> {
-    let mut names = Names::new(alloc)?;
-    let print = names.intern(alloc, b"print")?;
-    let plus = names.intern(alloc, b"+")?;
-    let f = names.intern(alloc, b"f")?;
-    let x = names.intern(alloc, b"x")?;
-    Ok(Spelled { print, plus, f, x })
 }
 
 fn number(byte: u32, value: i32) -> Exp {
@@ -87,8 +70,8 @@ fn hi(alloc: Global, print: Name) -> Result<Exp, NoMemory> {
 }
 
 // `val _ = print "hi"`
-fn printing(alloc: Global, words: Spelled) -> Result<Dec, NoMemory> {
-    match hi(alloc, words.print) {
+fn printing(alloc: Global) -> Result<Dec, NoMemory> {
+    match hi(alloc, Name::standard(words::PRINT)) {
         Ok(hi) => val(alloc, 0, Pat::Wild(place(4)), hi),
         Err(e) => Err(e),
     }
@@ -113,19 +96,24 @@ fn plus(alloc: Global, plus: Name, exp: Exp) -> Result<Vec<Part>, NoMemory> {
 }
 
 // `+ f (2, 3)`
-fn plus_call(alloc: Global, words: Spelled) -> Result<Vec<Part>, NoMemory> {
-    match call(alloc, words.f) {
-        Ok(call) => plus(alloc, words.plus, call),
+fn plus_call(alloc: Global) -> Result<Vec<Part>, NoMemory> {
+    match call(alloc, Name::standard(words::ABS)) {
+        Ok(call) => plus(alloc, Name::standard(words::PLUS), call),
         Err(e) => Err(e),
     }
 }
 
 // `val x = 1 + f (2, 3)`
-fn adding(alloc: Global, words: Spelled) -> Result<Dec, NoMemory> {
-    match both(boxed(alloc, number(29, 1)), plus_call(alloc, words)) {
+fn adding(alloc: Global) -> Result<Dec, NoMemory> {
+    match both(boxed(alloc, number(29, 1)), plus_call(alloc)) {
         Ok((first, parts)) => {
             let sum = Exp::Chain(place(29), false, first, parts);
-            val(alloc, 21, Pat::Vid(place(25), long(alloc, words.x)), sum)
+            val(
+                alloc,
+                21,
+                Pat::Vid(place(25), long(alloc, Name::standard(words::NEGATE))),
+                sum,
+            )
         }
         Err(e) => Err(e),
     }
@@ -133,8 +121,7 @@ fn adding(alloc: Global, words: Spelled) -> Result<Dec, NoMemory> {
 
 // `val _ = print "hi" val x = 1 + f (2, 3)`
 pub fn small(alloc: Global) -> Result<Vec<Dec>, NoMemory> {
-    let words = words(alloc)?;
-    match both(printing(alloc, words), adding(alloc, words)) {
+    match both(printing(alloc), adding(alloc)) {
         Ok((printing, adding)) => two(alloc, printing, adding),
         Err(e) => Err(e),
     }
