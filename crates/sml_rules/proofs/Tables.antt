@@ -13,5 +13,5 @@ in-front front more k text within is = (k, omega (arith, within, length-append f
 pub has-word : (texts : List (List ℕ)) → IsTable texts → (k : ℕ) (text : List ℕ) → nat_lt k (length standard_words) ≡ true → slice_index_or standard_words k text ≡ text → Contains texts text
 has-word texts table k text within is =
     let front : texts ≡ standard_words ++ drop (length standard_words) texts =
-        sym (take-append-drop (length standard_words) texts) ∙ ap (λ t. t ++ drop (length standard_words) texts) table.begins in
+    sym (take-append-drop (length standard_words) texts) ∙ ap (λ t. t ++ drop (length standard_words) texts) table.begins in
     subst (λ t. Contains t text) (sym front) (in-front standard_words (drop (length standard_words) texts) k text (ltb-true k (length standard_words) within) is)
