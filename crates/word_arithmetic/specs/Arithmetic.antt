@@ -1,4 +1,4 @@
--- Arithmetic of integers and words of 32 bits.
+-- Arithmetic of integers and of words of 32 bits, for the primitives of the language and for the machine.
 use Rattle.std.specs.Prelude.{ℕ, suc, ◌*◌, ◌/◌, ◌%◌, ◌^◌, min, Bool, List, ◌∷◌, ℤ, pos, negsuc, ◌+ℤ◌, ◌-ℤ◌, int_lt, int_div, int_rem, nat_lt, if◌then◌else◌}
 use Rattle.std.specs.Int.{cast_signed, cast_unsigned, w32, int_shr}
 use Rattle.std.specs.Fmt.{decimal}
