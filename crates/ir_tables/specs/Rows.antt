@@ -17,7 +17,7 @@ constructors_at ts = map (constructor_at ts)
 -- the first row of a datatype's number and a constructor's
 abbrev pub find_row : List Constructor → ℕ → ℕ → Option Constructor
 find_row [] s n = None
-find_row (k ∷ ks) s n = if nat_eq s k.datatype.stamp && nat_eq n k.number then Some k else find_row ks s n
+find_row (k ∷ ks) s n = if nat_eq k.datatype.stamp s && nat_eq k.number n then Some k else find_row ks s n
 
 abbrev pub same_key : ℕ × ℕ → ℕ × ℕ → Bool
 same_key a b = nat_eq a.0 b.0 && nat_eq a.1 b.1

@@ -1,5 +1,5 @@
 -- What the tables of a program say.
-use Rattle.std.specs.Prelude.{ℕ, ℤ, List, [], map, slice_index_or}
+use Rattle.std.specs.Prelude.{ℕ, List, [], map, slice_index_or}
 use Rattle.mlc_prims.specs.LitOf.{Literal, int, word, char, string}
 use Rattle.ty_core.specs.declared.scheme.Quantified.{Quantified}
 use Rattle.ir_poly.specs.Types as clean

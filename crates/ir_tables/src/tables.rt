@@ -1,6 +1,6 @@
 // The tables of a program.
 ghost use Rattle.std.specs.Prelude.{◌≡◌, [], IfOk};
-ghost use Rattle.ir_tables.specs.Tables.{initial_of, constructors_of, parameters_of, strings_of};
+ghost use Rattle.ir_tables.specs.Tables.{initial_of, constructors_of, parameters_of, strings_of, parameters_at, string_at};
 
 use crate::constructors::Constructors;
 use mlc_base::memory::NoMemory;
@@ -45,5 +45,27 @@ impl Tables {
             parameters: Vec::new(alloc),
             strings: Vec::new(alloc),
         })
+    }
+
+    /// The parameters of this number, none where there are none of it.
+    pub fn parameters(&self, number: usize) -> &[Quantified]
+        ensures { result.now ≡ parameters_at (parameters_of self.now) number }
+    {
+        if number < self.parameters.len() {
+            self.parameters[number].as_slice()
+        } else {
+            &[]
+        }
+    }
+
+    /// The string of this number, empty where there is none of it.
+    pub fn string(&self, number: usize) -> &[u8]
+        ensures { result.now ≡ string_at (strings_of self.now) number }
+    {
+        if number < self.strings.len() {
+            self.strings[number].as_slice()
+        } else {
+            &[]
+        }
     }
 }
