@@ -1,0 +1,5 @@
+pub mod Types
+pub mod Mono
+pub mod Typing
+pub mod WellFormed
+pub mod Laws

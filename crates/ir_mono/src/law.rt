@@ -1,0 +1,9 @@
+// Laws of simple types, as contracts.
+
+ghost use Rattle.ir_mono.specs.Laws.{NeverWrong, AllBound};
+
+/// A well formed program goes wrong at no number of turns, misses included, and names no variable that isn't bound around.
+pub fn well_formed_programs_never_go_wrong()
+    ensures never_wrong { NeverWrong }
+    ensures bound { AllBound }
+{}
