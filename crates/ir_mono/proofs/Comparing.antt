@@ -13,7 +13,8 @@ use Rattle.ir_poly.specs.Types.{int_name, word_name, char_name, string_name, ref
 use Rattle.ir_mono.specs.Types.{Row, Node, node, node_at, constructor_at, admits, part, part_of, holds, has_literal, is_named, by_number, Is, IsRef, HasLiteral, has_int, has_word, has_char, has_string, IsOther, other_none, other_more, AreDistinct, distinct_none, distinct_more, AllAdmit, admit_none, admit_more, IsComparable, constants_are, references_are, records_are, constructions_are, IsTable}
 use Rattle.ir_mono.specs.Mono.{mono}
 use Rattle.ir_mono.proofs.Values as values
-use Rattle.ir_mono.proofs.Values.{other-name, literal-name, literal-few, Shape, ValueTyped, literal_is, record_is, con_is, con_function_is, con_of_is, exn_is, exn_function_is, exn_of_is, ref_is, address_is, primitive_is, closure_is, group_is, FieldsTyped, no_fields_are, a_field_is, FieldFound, field_found, field-typed, alone_made, argument_made, constructed, recorded, record-of, data-name}
+use Rattle.ir_mono.specs.Values.{Shape, ValueTyped, literal_is, record_is, con_is, con_function_is, con_of_is, exn_is, exn_function_is, exn_of_is, ref_is, address_is, primitive_is, closure_is, group_is, FieldsTyped, no_fields_are, a_field_is}
+use Rattle.ir_mono.proofs.Values.{other-name, literal-name, literal-few, FieldFound, field_found, field-typed, alone_made, argument_made, constructed, recorded, record-of, data-name}
 
 -- there is an answer
 pub data Answers : Option Bool → Type 0 where
@@ -211,3 +212,9 @@ module _ (types : List Row) where
       fields-answer n e no_fields_are k parts_none = answers true
       fields-answer n e (a_field_is {l = l} {v = v} {t = t} h hs) k (parts_more p a ps) =
           unless-answers (part-answers v (field-type n l e ∙ p) (field-typed types S l k p) (λ u j. same-answers h j (table.comparable t a))) (fields-answer n e hs k ps)
+
+pub equality-answers : (types : List Row) → IsTable types → (S : Shape) (n : ℕ) (v u : V (mono types)) → ValueTyped types S v n → ValueTyped types S u n → admits types n ≡ true → (b : Bool) × (same_at (by_number types) n v u ≡ Some b)
+equality-answers types table S n v u h k a = go (same-answers types table S h k (table.comparable n a))
+  where
+    go : {o : Option Bool} → Answers o → (b : Bool) × (o ≡ Some b)
+    go (answers b) = (b, refl)

@@ -24,7 +24,8 @@ use Rattle.ir_poly.specs.Types.{int_name, word_name, char_name, string_name, boo
 use Rattle.ir_mono.specs.Types.{Row, Is, IsRef, HasLiteral, has_int, has_word, has_char, has_string, Stands, stands_var, stands_con, AllStand, stand_none, stand_more, IsTable, IsTuple, alone, together, by_number, numbered, bool_number, unit_number}
 use Rattle.ir_mono.specs.Mono.{mono}
 use Rattle.ir_mono.specs.Typing.{PrimAt}
-use Rattle.ir_mono.proofs.Values.{Shape, Grows, stays, further, SameLength, ValueTyped, literal_is, record_is, con_is, exn_is, address_is, FieldsTyped, no_fields_are, a_field_is, ValuesTyped, no_values_are, a_value_is, IsPacket, alone_is, value-grows, StoreTyped, no_store, stored, WorldTyped, record-of, recorded, Recorded, FieldFound, field_found, count-typed, other-name, literal-name}
+use Rattle.ir_mono.specs.Values.{Shape, ValueTyped, literal_is, record_is, con_is, exn_is, address_is, FieldsTyped, no_fields_are, a_field_is}
+use Rattle.ir_mono.proofs.Values.{Grows, stays, further, SameLength, ValuesTyped, no_values_are, a_value_is, IsPacket, alone_is, value-grows, StoreTyped, no_store, stored, WorldTyped, record-of, recorded, Recorded, FieldFound, field_found, count-typed, other-name, literal-name}
 use Rattle.ir_mono.proofs.Comparing as comparing
 use Rattle.ir_mono.proofs.Comparing.{Answers, answers, same-answers, address-of, Addressed, addressed, constant-of, Constant, constant}
 use Rattle.ir_mono.proofs.Rows as rows

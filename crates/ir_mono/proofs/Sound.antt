@@ -17,7 +17,8 @@ use Rattle.ir_mono.specs.Mono.{mono, Program, meaning}
 use Rattle.ir_mono.specs.Typing as tt
 use Rattle.ir_mono.specs.Typing.{of_type, exception, Sorts, sort_of, AtomsTyped, no_atoms_typed, an_atom_typed, RowTyped, no_row_typed, a_row_typed, NameTyped, fixed_typed, held_typed, packet_at, to_packets_at, value_at, function_at, FunTyped, t_last, t_more}
 use Rattle.ir_mono.specs.WellFormed.{IsWellFormed}
-use Rattle.ir_mono.proofs.Values.{Shape, Grows, stays, further, SameLength, no_names, one_more, ValueTyped, literal_is, record_is, con_is, con_function_is, con_of_is, exn_is, exn_function_is, exn_of_is, ref_is, address_is, primitive_is, closure_is, group_is, FieldsTyped, no_fields_are, a_field_is, SortTyped, value_is, name_is, EnvTyped, empty_is, bind_is, ValuesTyped, no_values_are, a_value_is, IsPacket, alone_is, with_argument_is, as-value, value-grows, env-grows, Found, found, look_up-typed, members-typed, FieldFound, field_found, field-typed, MatchFine, matches_fine, no_match_fine, case-fine, packet-of, record-of, Recorded, recorded, literal-name, data-name, StoreTyped, no_store, WorldTyped}
+use Rattle.ir_mono.specs.Values.{Shape, ValueTyped, literal_is, record_is, con_is, con_function_is, con_of_is, exn_is, exn_function_is, exn_of_is, ref_is, address_is, primitive_is, closure_is, group_is, FieldsTyped, no_fields_are, a_field_is, SortTyped, value_is, name_is, EnvTyped, empty_is, bind_is}
+use Rattle.ir_mono.proofs.Values.{Grows, stays, further, SameLength, no_names, one_more, ValuesTyped, no_values_are, a_value_is, IsPacket, alone_is, with_argument_is, as-value, value-grows, env-grows, Found, found, look_up-typed, members-typed, FieldFound, field_found, field-typed, MatchFine, matches_fine, no_match_fine, case-fine, packet-of, record-of, Recorded, recorded, literal-name, data-name, StoreTyped, no_store, WorldTyped}
 use Rattle.ir_mono.proofs.Comparing.{address-of, Addressed, addressed}
 use Rattle.ir_mono.proofs.Performed.{OfType, Fine, fine_gives, fine_raises, fine_stops, widen, here, store-grows, CellFound, cell_found, get-stored, still, reference-fine, Begun, perform-fine, arguments-typed}
 

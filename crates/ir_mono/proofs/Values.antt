@@ -1,4 +1,4 @@
--- Types of values, under the types of what is stored and of the exceptions made, which only grow.
+-- What is stored and which exceptions are made only grows; what a typed value is, and what arms find of it.
 use Rattle.std.proofs.Common.{◌≡◌, ℕ, suc, List, [], ◌∷◌, length, Bool, true, false, Option, Some, None, slice_get, if◌then◌else◌, nat_eq, nat_lt, subst, sym, refl, ap, arith}
 use Rattle.std.proofs.lemmas.Bool.{eqb-true, eq-eqb, ltb-true}
 use Rattle.mlc_base.specs.Run.{World}
@@ -17,12 +17,8 @@ use Rattle.ir_poly.specs.Types.{int_name, word_name, char_name, string_name, ref
 use Rattle.ir_poly.specs.TestsChecked.{is_size}
 use Rattle.ir_mono.specs.Types.{Row, Node, node, node_at, constructor_at, part, by_number, Is, IsFunction, IsRef, IsExn, HasLiteral, has_int, has_word, has_char, has_string, IsTable, IsTuple}
 use Rattle.ir_mono.specs.Mono.{mono}
+use Rattle.ir_mono.specs.Values.{Shape, ValueTyped, literal_is, record_is, con_is, con_function_is, con_of_is, exn_is, exn_function_is, exn_of_is, ref_is, address_is, primitive_is, closure_is, group_is, FieldsTyped, no_fields_are, a_field_is, SortTyped, value_is, name_is, EnvTyped, empty_is, bind_is}
 use Rattle.ir_mono.specs.Typing.{Sort, of_type, exception, Sorts, sort_of, group_sorts, PrimAt, CaseTyped, literal_typed, con_typed, con_of_typed, exn_typed, exn_of_typed, record_typed, FunTyped, FunsTyped, t_last, t_more, t_no_funs, t_fun}
-
--- the types of what is stored, and of the arguments of the exceptions made
-pub record Shape : Type 0 where
-  pub store : List ℕ
-  pub exceptions : List (Option ℕ)
 
 pub record Grows (S S' : Shape) : Type 0 where
   pub store : (i t : ℕ) → slice_get S.store i ≡ Some t → slice_get S'.store i ≡ Some t
@@ -71,51 +67,22 @@ module _ (types : List Row) where
   literal-data y h e m = few-many y.stamp (literal-few y h e) m
 
   module _ (S : Shape) where
-    mutual
-      pub data ValueTyped : V (mono types) → ℕ → Type 0 where
-        literal_is : {l : Literal} {n : ℕ} → HasLiteral types l n → ValueTyped (literal l) n
-        record_is : {fs : Parts (mono types)} {ls : List Label} {ps : List ℕ} {n : ℕ} → Is types n (labels ls) ps → FieldsTyped fs ls ps → ValueTyped (record_of n fs) n
-        con_is : {c n : ℕ} → constructor_at types n c ≡ Some None → ValueTyped (con n c) n
-        con_function_is : {c g n a : ℕ} → constructor_at types g c ≡ Some (Some a) → IsFunction types n a g → ValueTyped (con g c) n
-        con_of_is : {c n a : ℕ} {v : V (mono types)} → constructor_at types n c ≡ Some (Some a) → ValueTyped v a → ValueTyped (con_of n c v) n
-        exn_is : {g i n : ℕ} → slice_get S.exceptions i ≡ Some None → IsExn types n → ValueTyped (exn g i) n
-        exn_function_is : {i a e n : ℕ} → slice_get S.exceptions i ≡ Some (Some a) → IsFunction types n a e → IsExn types e → ValueTyped (exn a i) n
-        exn_of_is : {i a n : ℕ} {v : V (mono types)} → slice_get S.exceptions i ≡ Some (Some a) → ValueTyped v a → IsExn types n → ValueTyped (exn_of a i v) n
-        ref_is : {a r n : ℕ} → IsFunction types n a r → IsRef types r a → ValueTyped (ref a) n
-        address_is : {i a n : ℕ} → slice_get S.store i ≡ Some a → IsRef types n a → ValueTyped (address i) n
-        primitive_is : {p : BasisPrimitive} {u a r n : ℕ} {ns : List ℕ} → PrimAt types p u ns r → IsTuple types ns a → IsFunction types n a r → ValueTyped (primitive u p) n
-        closure_is : {f : Fun (mono types)} {env : Scope (mono types)} {G : Sorts} {n a b : ℕ} → EnvTyped env G → IsFunction types n a b → FunTyped types G f n → ValueTyped (closure (alone f) env) n
-        group_is : {f : Fun (mono types)} {fs : Funs (mono types)} {env : Scope (mono types)} {G : Sorts} {n a b : ℕ} → EnvTyped env G → FunsTyped types (group_sorts types fs G) fs → IsFunction types n a b → FunTyped types (group_sorts types fs G) f n
-            → ValueTyped (closure (one_of f fs) env) n
-
-      pub data FieldsTyped : Parts (mono types) → List Label → List ℕ → Type 0 where
-        no_fields_are : FieldsTyped no_fields [] []
-        a_field_is : {l : Label} {v : V (mono types)} {t : ℕ} {fs : Parts (mono types)} {ls : List Label} {ts : List ℕ} → ValueTyped v t → FieldsTyped fs ls ts → FieldsTyped (field l v fs) (l ∷ ls) (t ∷ ts)
-
-      pub data SortTyped : V (mono types) → Sort → Type 0 where
-        value_is : {v : V (mono types)} {t : ℕ} → ValueTyped v t → SortTyped v (of_type t)
-        name_is : {i : ℕ} {a : Option ℕ} → slice_get S.exceptions i ≡ Some a → SortTyped (exn (argument_tag (mono types) a) i) (exception a)
-
-      pub data EnvTyped : Scope (mono types) → Sorts → Type 0 where
-        empty_is : EnvTyped empty []
-        bind_is : {x : ℕ} {v : V (mono types)} {s : Sort} {env : Scope (mono types)} {G : Sorts} → SortTyped v s → EnvTyped env G → EnvTyped (bind x v env) ((x, s) ∷ G)
-
     pub data ValuesTyped : List (V (mono types)) → List ℕ → Type 0 where
       no_values_are : ValuesTyped [] []
-      a_value_is : {v : V (mono types)} {t : ℕ} {vs : List (V (mono types))} {ts : List ℕ} → ValueTyped v t → ValuesTyped vs ts → ValuesTyped (v ∷ vs) (t ∷ ts)
+      a_value_is : {v : V (mono types)} {t : ℕ} {vs : List (V (mono types))} {ts : List ℕ} → ValueTyped types S v t → ValuesTyped vs ts → ValuesTyped (v ∷ vs) (t ∷ ts)
 
     -- what is raised
     pub data IsPacket : V (mono types) → Type 0 where
       alone_is : {g i : ℕ} → slice_get S.exceptions i ≡ Some None → IsPacket (exn g i)
-      with_argument_is : {i a : ℕ} {v : V (mono types)} → slice_get S.exceptions i ≡ Some (Some a) → ValueTyped v a → IsPacket (exn_of a i v)
+      with_argument_is : {i a : ℕ} {v : V (mono types)} → slice_get S.exceptions i ≡ Some (Some a) → ValueTyped types S v a → IsPacket (exn_of a i v)
 
-    pub as-value : {v : V (mono types)} {n : ℕ} → IsPacket v → IsExn types n → ValueTyped v n
+    pub as-value : {v : V (mono types)} {n : ℕ} → IsPacket v → IsExn types n → ValueTyped types S v n
     as-value (alone_is e) h = exn_is e h
     as-value (with_argument_is e k) h = exn_of_is e k h
 
   -- what is typed stays so
   mutual
-    pub value-grows : {S S' : Shape} {v : V (mono types)} {t : ℕ} → Grows S S' → ValueTyped S v t → ValueTyped S' v t
+    pub value-grows : {S S' : Shape} {v : V (mono types)} {t : ℕ} → Grows S S' → ValueTyped types S v t → ValueTyped types S' v t
     value-grows g (literal_is h) = literal_is h
     value-grows g (record_is e h) = record_is e (fields-grow g h)
     value-grows g (con_is e) = con_is e
@@ -130,57 +97,57 @@ module _ (types : List Row) where
     value-grows g (closure_is h e k) = closure_is (env-grows g h) e k
     value-grows g (group_is h fs e k) = group_is (env-grows g h) fs e k
 
-    pub fields-grow : {S S' : Shape} {fs : Parts (mono types)} {ls : List Label} {ts : List ℕ} → Grows S S' → FieldsTyped S fs ls ts → FieldsTyped S' fs ls ts
+    pub fields-grow : {S S' : Shape} {fs : Parts (mono types)} {ls : List Label} {ts : List ℕ} → Grows S S' → FieldsTyped types S fs ls ts → FieldsTyped types S' fs ls ts
     fields-grow g no_fields_are = no_fields_are
     fields-grow g (a_field_is h hs) = a_field_is (value-grows g h) (fields-grow g hs)
 
-    pub sort-grows : {S S' : Shape} {v : V (mono types)} {s : Sort} → Grows S S' → SortTyped S v s → SortTyped S' v s
+    pub sort-grows : {S S' : Shape} {v : V (mono types)} {s : Sort} → Grows S S' → SortTyped types S v s → SortTyped types S' v s
     sort-grows g (value_is h) = value_is (value-grows g h)
     sort-grows g (name_is {i = i} {a = a} e) = name_is (g.exceptions i a e)
 
-    pub env-grows : {S S' : Shape} {env : Scope (mono types)} {G : Sorts} → Grows S S' → EnvTyped S env G → EnvTyped S' env G
+    pub env-grows : {S S' : Shape} {env : Scope (mono types)} {G : Sorts} → Grows S S' → EnvTyped types S env G → EnvTyped types S' env G
     env-grows g empty_is = empty_is
     env-grows g (bind_is h hs) = bind_is (sort-grows g h) (env-grows g hs)
 
   module _ (S : Shape) where
     -- a variable's value
     pub data Found (s : Sort) : Option (V (mono types)) → Type 0 where
-      found : {v : V (mono types)} → SortTyped S v s → Found s (Some v)
+      found : {v : V (mono types)} → SortTyped types S v s → Found s (Some v)
 
-    pub look_up-typed : {env : Scope (mono types)} {G : Sorts} (x : ℕ) {s : Sort} → EnvTyped S env G → sort_of G x ≡ Some s → Found s (look_up x env)
+    pub look_up-typed : {env : Scope (mono types)} {G : Sorts} (x : ℕ) {s : Sort} → EnvTyped types S env G → sort_of G x ≡ Some s → Found s (look_up x env)
     look_up-typed x empty_is e = absurd (cc)
     look_up-typed x {s = s} (bind_is {x = y} {v = v} {s = s'} {env = env} {G = G} h hs) e = go (nat_eq x y) (look_up-typed x hs) e
       where
         go : (b : Bool) → (sort_of G x ≡ Some s → Found s (look_up x env)) → (if b then Some s' else sort_of G x) ≡ Some s → Found s (if b then Some v else look_up x env)
-        go true k e = let same : s' ≡ s = cc in found (subst (SortTyped S v) same h)
+        go true k e = let same : s' ≡ s = cc in found (subst (SortTyped types S v) same h)
         go false k e = k e
 
-    member-typed : {f : Fun (mono types)} {all : Funs (mono types)} {env : Scope (mono types)} {G : Sorts} {t : ℕ} → EnvTyped S env G → FunsTyped types (group_sorts types all G) all → FunTyped types (group_sorts types all G) f t → ValueTyped S (closure (one_of f all) env) t
+    member-typed : {f : Fun (mono types)} {all : Funs (mono types)} {env : Scope (mono types)} {G : Sorts} {t : ℕ} → EnvTyped types S env G → FunsTyped types (group_sorts types all G) all → FunTyped types (group_sorts types all G) f t → ValueTyped types S (closure (one_of f all) env) t
     member-typed h k (t_last e x) = group_is h k e (t_last e x)
     member-typed h k (t_more e x) = group_is h k e (t_more e x)
 
-    pub members-typed : {fs all : Funs (mono types)} {env : Scope (mono types)} {G H : Sorts} → EnvTyped S env G → FunsTyped types (group_sorts types all G) all → FunsTyped types H fs → H ≡ group_sorts types all G → EnvTyped S (members_from fs all env) (group_sorts types fs G)
+    pub members-typed : {fs all : Funs (mono types)} {env : Scope (mono types)} {G H : Sorts} → EnvTyped types S env G → FunsTyped types (group_sorts types all G) all → FunsTyped types H fs → H ≡ group_sorts types all G → EnvTyped types S (members_from fs all env) (group_sorts types fs G)
     members-typed h k t_no_funs e = h
     members-typed h k (t_fun {t = t} {f = f} x xs) e = bind_is (value_is (member-typed h k (subst (λ H. FunTyped types H f t) e x))) (members-typed h k xs e)
 
     pub data FieldFound (t : ℕ) : Option (V (mono types)) → Type 0 where
-      field_found : {v : V (mono types)} → ValueTyped S v t → FieldFound t (Some v)
+      field_found : {v : V (mono types)} → ValueTyped types S v t → FieldFound t (Some v)
 
-    pub field-typed : (l : Label) {t : ℕ} {fs : Parts (mono types)} {ls : List Label} {ts : List ℕ} → FieldsTyped S fs ls ts → part l ls ts ≡ Some t → FieldFound t (field_in l fs)
+    pub field-typed : (l : Label) {t : ℕ} {fs : Parts (mono types)} {ls : List Label} {ts : List ℕ} → FieldsTyped types S fs ls ts → part l ls ts ≡ Some t → FieldFound t (field_in l fs)
     field-typed l no_fields_are e = absurd (cc)
     field-typed l {t} (a_field_is {l = k} {v = v} {t = t'} {fs = fs} {ls = ls} {ts = ts} h hs) e = go (same_label l k) (field-typed l hs) e
       where
         go : (b : Bool) → (part l ls ts ≡ Some t → FieldFound t (field_in l fs)) → (if b then Some t' else part l ls ts) ≡ Some t → FieldFound t (if b then Some v else field_in l fs)
-        go true m e = let same : t' ≡ t = cc in field_found (subst (ValueTyped S v) same h)
+        go true m e = let same : t' ≡ t = cc in field_found (subst (ValueTyped types S v) same h)
         go false m e = m e
 
-    pub count-typed : {fs : Parts (mono types)} {ls : List Label} {ts : List ℕ} → FieldsTyped S fs ls ts → count fs ≡ length ls
+    pub count-typed : {fs : Parts (mono types)} {ls : List Label} {ts : List ℕ} → FieldsTyped types S fs ls ts → count fs ≡ length ls
     count-typed no_fields_are = refl
     count-typed (a_field_is h hs) = ap suc (count-typed hs)
 
     -- a value against an arm: it fits, or it doesn't
     pub data MatchFine (G : Sorts) : Fits (mono types) → Type 0 where
-      matches_fine : {env : Scope (mono types)} → EnvTyped S env G → MatchFine G (matches env)
+      matches_fine : {env : Scope (mono types)} → EnvTyped types S env G → MatchFine G (matches env)
       no_match_fine : MatchFine G no_match
 
     if-fine : (b : Bool) {G : Sorts} {r : Fits (mono types)} → (b ≡ true → MatchFine G r) → MatchFine G (if b then r else no_match)
@@ -222,7 +189,7 @@ module _ (types : List Row) where
       pub data-literal : {l : Literal} {n : ℕ} (c : ℕ) {a : Option ℕ} → constructor_at types n c ≡ Some a → HasLiteral types l n → ⊥
       data-literal {n = n} c e h = let d = data-name n c e in literal-data d.0 h d.2 d.3
 
-      literal-fine : {l : Literal} {n : ℕ} {v : V (mono types)} {G : Sorts} {r : Fits (mono types)} → HasLiteral types l n → ValueTyped S v n → MatchFine G r → MatchFine G (against_literal l v r)
+      literal-fine : {l : Literal} {n : ℕ} {v : V (mono types)} {G : Sorts} {r : Fits (mono types)} → HasLiteral types l n → ValueTyped types S v n → MatchFine G r → MatchFine G (against_literal l v r)
       literal-fine h (literal_is k) r = literals-fine h k r
       literal-fine h (con_is {c = c} e) r = absurd (data-literal c e h)
       literal-fine h (con_of_is {c = c} e k) r = absurd (data-literal c e h)
@@ -240,12 +207,12 @@ module _ (types : List Row) where
       -- what a datatype's values are
       pub data Constructed (n : ℕ) : V (mono types) → Type 0 where
         alone_made : {c : ℕ} → constructor_at types n c ≡ Some None → Constructed n (con n c)
-        argument_made : {c a : ℕ} {v : V (mono types)} → constructor_at types n c ≡ Some (Some a) → ValueTyped S v a → Constructed n (con_of n c v)
+        argument_made : {c a : ℕ} {v : V (mono types)} → constructor_at types n c ≡ Some (Some a) → ValueTyped types S v a → Constructed n (con_of n c v)
 
       pub few-data : (y z : TyName) (n : ℕ) {ps qs : List ℕ} → nat_lt 5 y.stamp ≡ true → nat_lt 5 z.stamp ≡ false → Is types n (name y) ps → Is types n (name z) qs → ⊥
       few-data y z n h f e k = let same : y ≡ z = cc in let one : nat_lt 5 z.stamp ≡ true = subst (λ x. nat_lt 5 x.stamp ≡ true) same h in cc
 
-      pub constructed : {n : ℕ} (c : ℕ) {a : Option ℕ} {v : V (mono types)} → constructor_at types n c ≡ Some a → ValueTyped S v n → Constructed n v
+      pub constructed : {n : ℕ} (c : ℕ) {a : Option ℕ} {v : V (mono types)} → constructor_at types n c ≡ Some a → ValueTyped types S v n → Constructed n v
       constructed c e (con_is k) = alone_made k
       constructed c e (con_of_is k h) = argument_made k h
       constructed c e (literal_is h) = absurd (data-literal c e h)
@@ -269,17 +236,17 @@ module _ (types : List Row) where
           go true q = let one : c ≡ d = eqb-true c d q in absurd (cc)
           go false q = no_match_fine
 
-      con_of-fine : (c : ℕ) {n a : ℕ} {v : V (mono types)} {G : Sorts} (go : V (mono types) → Fits (mono types)) → constructor_at types n c ≡ Some (Some a) → Constructed n v → ((u : V (mono types)) → ValueTyped S u a → MatchFine G (go u))
+      con_of-fine : (c : ℕ) {n a : ℕ} {v : V (mono types)} {G : Sorts} (go : V (mono types) → Fits (mono types)) → constructor_at types n c ≡ Some (Some a) → Constructed n v → ((u : V (mono types)) → ValueTyped types S u a → MatchFine G (go u))
           → MatchFine G (under_con (by_number types) n c v go)
       con_of-fine c {n} {G = G} go e (alone_made {c = d} k) h = at-fine n (choose (nat_eq c d) refl)
         where
           choose : (b : Bool) → nat_eq c d ≡ b → MatchFine G (if b then mismatch else no_match)
           choose true q = let one : c ≡ d = eqb-true c d q in absurd (cc)
           choose false q = no_match_fine
-      con_of-fine c {n} {a} go e (argument_made {c = d} {a = b} {v = v} k u) h = at-fine n (if-fine (nat_eq c d) (λ q. let one : c ≡ d = eqb-true c d q in let same : b ≡ a = cc in h v (subst (ValueTyped S v) same u)))
+      con_of-fine c {n} {a} go e (argument_made {c = d} {a = b} {v = v} k u) h = at-fine n (if-fine (nat_eq c d) (λ q. let one : c ≡ d = eqb-true c d q in let same : b ≡ a = cc in h v (subst (ValueTyped types S v) same u)))
 
       -- a packet
-      pub packet-of : {n : ℕ} {v : V (mono types)} → IsExn types n → ValueTyped S v n → IsPacket S v
+      pub packet-of : {n : ℕ} {v : V (mono types)} → IsExn types n → ValueTyped types S v n → IsPacket S v
       packet-of e (exn_is h k) = alone_is h
       packet-of e (exn_of_is h k j) = with_argument_is h k
       packet-of e (literal_is h) = let few = literal-few exn_name h e in absurd (cc)
@@ -302,7 +269,7 @@ module _ (types : List Row) where
           go true q = let one : i ≡ j = eqb-true i j q in absurd (cc)
           go false q = no_match_fine
 
-      exn_of-fine : {a : ℕ} {o : Option (V (mono types))} {v : V (mono types)} {G : Sorts} (go : V (mono types) → Fits (mono types)) → Found (exception (Some a)) o → IsPacket S v → ((u : V (mono types)) → ValueTyped S u a → MatchFine G (go u))
+      exn_of-fine : {a : ℕ} {o : Option (V (mono types))} {v : V (mono types)} {G : Sorts} (go : V (mono types) → Fits (mono types)) → Found (exception (Some a)) o → IsPacket S v → ((u : V (mono types)) → ValueTyped types S u a → MatchFine G (go u))
           → MatchFine G (under_exn (by_number types) a o v go)
       exn_of-fine {G = G} go (found (name_is {i = i} e)) (alone_is {i = j} k) h = choose (nat_eq i j) refl
         where
@@ -310,15 +277,15 @@ module _ (types : List Row) where
           choose true q = let one : i ≡ j = eqb-true i j q in absurd (cc)
           choose false q = no_match_fine
       exn_of-fine {a} {G = G} go (found (name_is {i = i} e)) (with_argument_is {i = j} {a = b} {v = v} k u) h =
-          if-fine (nat_eq i j) (λ q. let one : i ≡ j = eqb-true i j q in let same : b ≡ a = cc in subst (λ z. MatchFine G (match_at (by_number types) a z (go v))) (sym same) (at-fine a (h v (subst (ValueTyped S v) same u))))
+          if-fine (nat_eq i j) (λ q. let one : i ≡ j = eqb-true i j q in let same : b ≡ a = cc in subst (λ z. MatchFine G (match_at (by_number types) a z (go v))) (sym same) (at-fine a (h v (subst (ValueTyped types S v) same u))))
 
       -- a record
       pub data Recorded (n : ℕ) (ls : List Label) (ts : List ℕ) : V (mono types) → Type 0 where
-        recorded : {fs : Parts (mono types)} → FieldsTyped S fs ls ts → Recorded n ls ts (record_of n fs)
+        recorded : {fs : Parts (mono types)} → FieldsTyped types S fs ls ts → Recorded n ls ts (record_of n fs)
 
-      pub record-of : {n : ℕ} {ls : List Label} {ts : List ℕ} {v : V (mono types)} → Is types n (labels ls) ts → ValueTyped S v n → Recorded n ls ts v
+      pub record-of : {n : ℕ} {ls : List Label} {ts : List ℕ} {v : V (mono types)} → Is types n (labels ls) ts → ValueTyped types S v n → Recorded n ls ts v
       record-of {n} {ls} {ts} e (record_is {fs = fs} {ls = ks} {ps = ps} k h) =
-          let names : ks ≡ ls = cc in let parts : ps ≡ ts = cc in recorded (subst (λ z. FieldsTyped S fs z ts) names (subst (FieldsTyped S fs ks) parts h))
+          let names : ks ≡ ls = cc in let parts : ps ≡ ts = cc in recorded (subst (λ z. FieldsTyped types S fs z ts) names (subst (FieldsTyped types S fs ks) parts h))
       record-of e (literal_is h) = let d = (literal-name h).is in absurd (cc)
       record-of {n} e (con_is {c = c} h) = let d = data-name n c h in let i = d.2 in absurd (cc)
       record-of {n} e (con_of_is {c = c} h k) = let d = data-name n c h in let i = d.2 in absurd (cc)
@@ -340,7 +307,7 @@ module _ (types : List Row) where
           → MatchFine G (under_record (by_number types) n size v (λ fs. r))
       of-record-fine size {n} (recorded {fs = fs} k) e h = at-fine n (size-fine size (count fs) (subst (λ z. is_size size z ≡ true) (sym (count-typed k)) e) h)
 
-      pub case-fine : {c : Case (mono types)} {u : ℕ} {G G' : Sorts} {v : V (mono types)} {env : Scope (mono types)} → CaseTyped types G c u G' → ValueTyped S v u → EnvTyped S env G → MatchFine G' (check u c v env)
+      pub case-fine : {c : Case (mono types)} {u : ℕ} {G G' : Sorts} {v : V (mono types)} {env : Scope (mono types)} → CaseTyped types G c u G' → ValueTyped types S v u → EnvTyped types S env G → MatchFine G' (check u c v env)
       case-fine (literal_typed h) k g = literal-fine h k (matches_fine g)
       case-fine (con_typed {c = c} e) k g = con-fine c e (constructed c e k) (matches_fine g)
       case-fine (con_of_typed {c = c} e) k g = con_of-fine c _ e (constructed c e k) (λ u q. matches_fine (bind_is (value_is q) g))
@@ -351,7 +318,7 @@ module _ (types : List Row) where
   -- what is stored
   pub data StoreTyped (S : Shape) : List (V (mono types)) → List ℕ → Type 0 where
     no_store : StoreTyped S [] []
-    stored : {v : V (mono types)} {t : ℕ} {vs : List (V (mono types))} {ts : List ℕ} → ValueTyped S v t → StoreTyped S vs ts → StoreTyped S (cell t v ∷ vs) (t ∷ ts)
+    stored : {v : V (mono types)} {t : ℕ} {vs : List (V (mono types))} {ts : List ℕ} → ValueTyped types S v t → StoreTyped S vs ts → StoreTyped S (cell t v ∷ vs) (t ∷ ts)
 
   pub record WorldTyped (S : Shape) (w : World (V (mono types))) : Type 0 where
     pub store : StoreTyped S w.store S.store
