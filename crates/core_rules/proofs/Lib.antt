@@ -6,10 +6,13 @@ mod Lost
 mod Projects
 pub mod Growing
 mod Typings
-mod Refused
+pub mod Refused
 pub mod Basics
 mod Cutting
 mod MoreRuns
+mod MoreTypings
+mod Doubling
+mod BoundTwice
 pub mod Generic
 mod Identity
 pub mod Closing
@@ -19,3 +22,4 @@ pub mod Fitting
 pub mod FittingDecs
 pub mod FittingInitial
 pub mod Expansive
+pub mod Bound
