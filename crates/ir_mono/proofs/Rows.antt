@@ -1,7 +1,7 @@
 -- Each primitive of the table has a row for constants of its types, and gives one of its result's type or raises.
 use Rattle.std.proofs.Common.{◌≡◌, ℕ, zero, suc, ◌+◌, Bool, true, false, List, [], ◌∷◌, Option, Some, None, if◌then◌else◌, refl, ℤ, pos, negsuc}
 use Rattle.std.specs.Prelude.{◌==◌, ◌+ℤ◌, ◌-ℤ◌, ◌*ℤ◌, neg_ℤ, int_lt, int_div, nat_lt}
-use Rattle.mlc_prims.specs.Arithmetic.{floor_div}
+use Rattle.word_arithmetic.specs.Arithmetic.{floor_div}
 use Rattle.mlc_prims.specs.LitOf.{Literal, int, word, char, string, truth}
 use Rattle.mlc_prims.specs.PrimOf.{Gives, made, raised, exact, int_result, fits_int, joined}
 use Rattle.mlc_prims.specs.Table.{row_of, unless_zero, unless_none, or_subscript, character, byte_at, bytes_from}
