@@ -1,0 +1,5 @@
+pub mod Numbers
+pub mod Related
+pub mod Matched
+pub mod Packets
+pub mod Keeps
