@@ -3,3 +3,7 @@ pub mod Related
 pub mod Matched
 pub mod Packets
 pub mod Keeps
+pub mod Once
+pub mod Weights
+pub mod Made
+pub mod Local
