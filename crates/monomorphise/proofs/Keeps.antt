@@ -19,7 +19,7 @@ use Rattle.ir_plain.specs.Copies.{strip_op}
 use Rattle.ir_plain.specs.Meaning.{V, Scope, Fits, Parts, Apply, argument_tag, look_up, on_name, exception_of, pack_value, select_from, read_reference, members, eval, eval_arms, eval_op, run_fun, body, enter, apply, identifier_of, run}
 use Rattle.ir_plain.proofs.CopiesLemmas.{operations-again}
 use Rattle.ir_poly.specs.Tests.{inst, poly}
-use Rattle.monomorphise.specs.Copies.{Target, Copied, no_copies, entry, entries, IsNewCopy, newer_copy, CopyName, copy_fixed, copy_held, CopyArgument, copy_no_argument, copy_argument, CopyFun, copy_last, copy_more, Copy, copy_ret, copy_let, copy_exception, copy_name, copy_rec, copy_switch, copy_first, copy_miss, copy_counted, CopyArms, copy_no_arms, copy_arm, CopyOp, copy_use, copy_const, copy_con_alone, copy_construct, copy_ref_alone, copy_refer, copy_content, copy_pack, copy_make_record, copy_select, copy_prim_alone, copy_prim, copy_app, copy_fn, copy_block, copy_handle, copy_raise, copy_raise_initial, Rest, no_more_copies, one_more_copy, RestGroups, no_more_groups, one_more_group}
+use Rattle.monomorphise.specs.Copies.{Target, Copied, no_copies, entry, entries, IsNewCopy, newer_copy, CopyName, copy_fixed, copy_held, CopyArgument, copy_no_argument, copy_argument, CopyFun, copy_last, copy_more, Copy, copy_ret, copy_let, copy_exception, copy_name, copy_rec, copy_switch, copy_first, copy_miss, copy_counted, CopyArms, copy_no_arms, copy_arm, CopyOp, copy_use, copy_own, copy_const, copy_con_alone, copy_construct, copy_ref_alone, copy_refer, copy_content, copy_pack, copy_make_record, copy_select, copy_prim_alone, copy_prim, copy_app, copy_fn, copy_block, copy_handle, copy_raise, copy_raise_initial, Rest, no_more_copies, one_more_copy, RestGroups, no_more_groups, one_more_group}
 use Rattle.monomorphise.proofs.Related.{K, G, onto, binds_of, members-onto, Rel, rel_literal, rel_record, rel_con, rel_con_of, rel_exn, rel_exn_of, rel_ref, rel_address, rel_cell, rel_primitive, rel_closure, rel_group, RelFields, Covers, covers_none, covered, push-copy, found-first, Holds, holds-onto, new-copies, binds-cover, copy-cover, bind-cover, onto-copies, new-copy-base, member-binds, copies-reclosed, address-same, packet-name-same, field-same, SameMatched, both_match, both_fail, no_fit, atoms-same, row-same, case-same}
 use Rattle.monomorphise.proofs.Refined.{perform-refines, reference-refines, arguments-related}
 
@@ -158,6 +158,7 @@ module _ (T : Target) (reflexive : (k : T.Name) → T.same k k ≡ true) where
 
       op-refines : {r : Copied T.Name} {s : ℕ → Typ} {o : Op poly} {o' : Op (K T)} {env' : Scope (K T)} {env : Scope poly} (u : World V') (w : World (V poly)) → CopyOp T r s o o' → Co r env' env → Worlds u w → Ends (eval_op call' o' env' u) (eval_op call o env w)
       op-refines u w (copy_use {ts = ts} e x) c q = give-refines u w (covered T ts x c) q
+      op-refines u w (copy_own a x) c q = give-refines u w (covered T [] x c) q
       op-refines u w (copy_const d) c q = constant-refines d u w q
       op-refines u w (copy_con_alone d t n i h) c q = both_give (rel_con _ d) q
       op-refines u w (copy_construct m d t n i p x) c q = atom-refines R u w _ _ (covered T [] x c) q (λ v' v h. marked-refines m u w _ _ q (λ u' w' q'. both_give (rel_con_of _ d h) q'))

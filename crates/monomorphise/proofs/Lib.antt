@@ -1,3 +1,4 @@
 pub mod Related
 pub mod Refined
 pub mod Keeps
+pub mod Stripped

@@ -132,6 +132,8 @@ module _ (T : Target) where
 
     pub data CopyOp : Names → (ℕ → Typ) → Op poly → Op K → Type 0 where
       copy_use : {r : Names} {s : ℕ → Typ} {x : ℕ} {ts a : List Typ} {k : T.Name} → a ≡ map (replace s) ts → Has x a k r → CopyOp r s (use_of (inst x ts)) (use_of k)
+      -- used at no types: a function in its own group, whose copy is the one that the group is copied to
+      copy_own : {r : Names} {s : ℕ → Typ} {x : ℕ} (a : List Typ) {k : T.Name} → Has x a k r → CopyOp r s (use_of (inst x [])) (use_of k)
       copy_const : {r : Names} {s : ℕ → Typ} (l : Literal) → CopyOp r s (const l) (const l)
       copy_con_alone : {r : Names} {s : ℕ → Typ} (c : ℕ) (t : Typ) (n : T.Type_of) → T.Is n (replace s t) → T.Has n c → CopyOp r s (con_alone c t) (con_alone c n)
       copy_construct : {r : Names} {s : ℕ → Typ} (m : Option Place) (c : ℕ) (t : Typ) (n : T.Type_of) {x : ℕ} {k : T.Name} → T.Is n (replace s t) → T.Has n c → Has x [] k r
