@@ -21,7 +21,7 @@ use Rattle.ir_values.specs.Equality.{same_at}
 use Rattle.ir_values.specs.Primitives.{Sort, compares, assigns, prints, computes, sort_of, literals, parts, arguments, giving, raised_name, perform, perform_as}
 use Rattle.ir_plain.specs.Meaning.{V, Parts}
 use Rattle.ir_poly.specs.Types.{int_name, word_name, char_name, string_name, bool_name, prim_type}
-use Rattle.ir_mono.specs.Types.{Row, Is, IsRef, HasLiteral, has_int, has_word, has_char, has_string, Stands, stands_var, stands_con, AllStand, stand_none, stand_more, IsTable, IsTuple, alone, together, by_number, numbered, bool_number, unit_number}
+use Rattle.ir_mono.specs.Types.{Row, Is, IsRef, HasLiteral, has_int, has_word, has_char, has_string, Stands, stands_var, stands_con, AllStand, stand_none, stand_more, IsTable, IsTuple, nothing, alone, together, by_number, numbered, bool_number, unit_number}
 use Rattle.ir_mono.specs.Mono.{mono}
 use Rattle.ir_mono.specs.Typing.{PrimAt}
 use Rattle.ir_mono.specs.Values.{Shape, ValueTyped, literal_is, record_is, con_is, exn_is, address_is, FieldsTyped, no_fields_are, a_field_is}
@@ -330,4 +330,5 @@ module _ (types : List Row) where
 
     pub arguments-typed : (p : BasisPrimitive) {S : Shape} {u r a : ℕ} {ns : List ℕ} {v : W} → PrimAt types p u ns r → IsTuple types ns a → ValueTyped types S v a → ValuesTyped types S (arguments v) ns
     arguments-typed p q alone h = let b = sole-base p q in sole-typed b.0 b.1 h
+    arguments-typed p {S} q (nothing e) h = tuple-typed (record-of types S table e h)
     arguments-typed p {S} q (together e) h = tuple-typed (record-of types S table e h)

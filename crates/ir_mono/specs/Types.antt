@@ -151,5 +151,6 @@ numbered k (p ∷ ps) = Number k ∷ numbered (suc k) ps
 
 -- a primitive as a function takes its argument, or a tuple of them
 pub data IsTuple (types : List Row) : List ℕ → ℕ → Type 0 where
+  nothing : {n : ℕ} → Is types n (labels []) [] → IsTuple types [] n
   alone : {a : ℕ} → IsTuple types (a ∷ []) a
   together : {n a b : ℕ} {ps : List ℕ} → Is types n (labels (numbered 1 (a ∷ b ∷ ps))) (a ∷ b ∷ ps) → IsTuple types (a ∷ b ∷ ps) n
