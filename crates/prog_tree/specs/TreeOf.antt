@@ -14,7 +14,6 @@ use Rattle.prog_tree.specs.declared.tree.Exception.TheVariants as exception
 use Rattle.prog_tree.specs.declared.tree.Parameter.{Parameter}
 use Rattle.prog_tree.specs.declared.tree.Head.{Head}
 use Rattle.prog_tree.specs.declared.tree.Head.TheVariants as head
-use Rattle.prog_tree.specs.declared.tree.Pair.{Pair}
 use Rattle.prog_tree.specs.declared.tree.Side.{Side}
 use Rattle.prog_tree.specs.declared.tree.Side.TheVariants as side
 use Rattle.prog_tree.specs.declared.tree.Atom.{Atom}
@@ -22,13 +21,14 @@ use Rattle.prog_tree.specs.declared.tree.Atom.TheVariants as atom
 use Rattle.prog_tree.specs.declared.tree.Used.{Used}
 use Rattle.prog_tree.specs.declared.tree.Used.TheVariants as used
 use Rattle.prog_tree.specs.declared.tree.Join.{Join}
+use Rattle.prog_tree.specs.declared.tree.Binding.{Binding}
 use Rattle.prog_tree.specs.declared.tree.Pat.{Pat, Pat-F, fold-Pat}
 use Rattle.prog_tree.specs.declared.tree.PatField.{PatField, PatField-F, fold-PatField}
 use Rattle.prog_tree.specs.declared.tree.PatPart.{PatPart, PatPart-F, fold-PatPart}
 use Rattle.prog_tree.specs.declared.tree.Exp.{Exp, Exp-F, fold-Exp}
 use Rattle.prog_tree.specs.declared.tree.Function.{Function, Function-F, fold-Function}
 use Rattle.prog_tree.specs.declared.tree.Dec.{Dec, Dec-F, fold-Dec}
-use Rattle.prog_tree.specs.declared.tree.Bind.{Bind, Bind-F, fold-Bind}
+use Rattle.prog_tree.specs.declared.tree.Rule.{Rule, Rule-F, fold-Rule}
 
 -- what the numbers of a tree stand for
 pub record Reading : Type 0 where
@@ -82,16 +82,13 @@ chain_pats side.Right p js = right_pats p js
 
 -- Expressions
 
-pub record BindTree : Type 0 where
-  pub place : Place
-  pub general : Bool
+pub record RuleTree : Type 0 where
   pub pat : t.Pat
-  pub type : Typ
   pub exp : t.Exp
 
 -- one declaration
 pub data DecTree : Type 0 where
-  val_tree : List Quantified → List BindTree → t.Funs → DecTree
+  val_tree : List Quantified → t.Binds → t.Funs → DecTree
   exception_tree : ℕ → ℕ → Option Typ → DecTree
   counted_tree : ℕ → DecTree
 
@@ -99,9 +96,9 @@ abbrev pub record_of : List (Label × t.Exp) → t.Fields
 record_of [] = t.no_fields
 record_of (f ∷ fs) = t.a_field f.0 f.1 (record_of fs)
 
-abbrev pub rules_by : (Pat → t.Pat) → List (Pat × t.Exp) → t.Rules
-rules_by f [] = t.no_rules
-rules_by f (r ∷ rs) = t.a_rule (f r.0) r.1 (rules_by f rs)
+abbrev pub rules_of : List RuleTree → t.Rules
+rules_of [] = t.no_rules
+rules_of (r ∷ rs) = t.a_rule r.pat r.exp (rules_of rs)
 
 abbrev pub chain_of : List t.Exp → t.Exp → t.Chain
 chain_of [] e = t.only e
@@ -131,9 +128,9 @@ abbrev pub joins_by : (ℕ → Typ) → Side → t.Exp → List (Join × t.Exp �
 joins_by g side.Left e js = left_joins g e js
 joins_by g side.Right e js = right_joins g e js
 
-abbrev pub binds_of : List BindTree → t.Binds
-binds_of [] = t.no_binds
-binds_of (b ∷ bs) = t.a_bind b.place b.general b.pat b.type b.exp (binds_of bs)
+abbrev pub binds_by : (ℕ → Typ) → List (Binding × RuleTree) → t.Binds
+binds_by g [] = t.no_binds
+binds_by g (b ∷ bs) = t.a_bind b.0.place b.0.general b.1.pat (g b.0.ty) b.1.exp (binds_by g bs)
 
 -- functions that are declared together, each with its variables and its type
 abbrev pub funs_by : (ℕ → Typ) → List (Vec ℕ Global × ℕ × t.Fun) → t.Funs
@@ -141,7 +138,7 @@ funs_by g [] = t.no_funs
 funs_by g (f ∷ fs) = t.a_fun f.0.items (g f.1) f.2 (funs_by g fs)
 
 abbrev pub put : DecTree → t.Decs → t.Decs
-put (val_tree qs bs fs) ds = t.val_dec qs (binds_of bs) fs ds
+put (val_tree qs bs fs) ds = t.val_dec qs bs fs ds
 put (exception_tree x i a) ds = t.exception_dec x i a ds
 put (counted_tree n) ds = t.counted_dec n ds
 
@@ -194,44 +191,44 @@ module _ (R : Reading) where
   after_parameters [] f = f
   after_parameters (x ∷ xs) f = t.more x.variable (R.type x.ty) (after_parameters xs f)
 
-  abbrev pub node_dec : Dec-F DecTree t.Exp t.Fun BindTree → DecTree
-  node_dec (Dec-F.Val ps bs fs) = val_tree (R.parameters ps) bs.items (funs_by R.type fs.items)
+  abbrev pub node_dec : Dec-F DecTree t.Exp t.Fun RuleTree → DecTree
+  node_dec (Dec-F.Val ps bs fs) = val_tree (R.parameters ps) (binds_by R.type bs.items) (funs_by R.type fs.items)
   node_dec (Dec-F.Exception x i a) = exception_tree x i (option_map R.type a)
   node_dec (Dec-F.Weight n) = counted_tree n
 
-  abbrev pub node_exp : Exp-F DecTree t.Exp t.Fun BindTree → t.Exp
+  abbrev pub node_exp : Exp-F DecTree t.Exp t.Fun RuleTree → t.Exp
   node_exp (Exp-F.Atom c a) = atom_of c (R.type a)
   node_exp (Exp-F.Use u ts a) = use_of u ts.items (R.type a)
   node_exp (Exp-F.Record a fs) = t.fields_exp (R.type a) (record_of fs.items)
   node_exp (Exp-F.Let a ds e) = t.let_exp (R.type a) (decs_of ds.items) e.value
   node_exp (Exp-F.Apply place f as_) = apply_by R.type place f.value as_.items
   node_exp (Exp-F.Infix s e js) = joins_by R.type s e.value js.items
-  node_exp (Exp-F.Case place a e rs) = t.case_exp place (R.type a) e.value (rules_by pat_of rs.items)
+  node_exp (Exp-F.Case place a e rs) = t.case_exp place (R.type a) e.value (rules_of rs.items)
   node_exp (Exp-F.Sequence place a es e) = sequence_of place (R.type a) es.items e.value
   node_exp (Exp-F.Test b a es e) = t.chain_exp b (R.type a) (chain_of es.items e.value)
-  node_exp (Exp-F.Handle a e rs) = t.handle_exp (R.type a) e.value (rules_by pat_of rs.items)
+  node_exp (Exp-F.Handle a e rs) = t.handle_exp (R.type a) e.value (rules_of rs.items)
   node_exp (Exp-F.Raise a e) = t.raise_exp (R.type a) e.value
   node_exp (Exp-F.Fn a f) = t.fn_exp (R.type a) f
   node_exp (Exp-F.Counted n a e) = t.counted_exp n (R.type a) e.value
 
-  abbrev pub node_function : Function-F DecTree t.Exp t.Fun BindTree → t.Fun
+  abbrev pub node_function : Function-F DecTree t.Exp t.Fun RuleTree → t.Fun
   node_function (Function-F.Named xs x e) = after_parameters xs.items (t.last x.variable (R.type x.ty) e.value)
-  node_function (Function-F.ByRules xs place a u rs) = after_parameters xs.items (t.by_rules place (R.type a) (R.type u) (rules_by pat_of rs.items))
+  node_function (Function-F.ByRules xs place a u rs) = after_parameters xs.items (t.by_rules place (R.type a) (R.type u) (rules_of rs.items))
 
-  abbrev pub node_bind : Bind-F DecTree t.Exp t.Fun BindTree → BindTree
-  node_bind b = record { place = b.place; general = b.general; pat = pat_of b.pat; type = R.type b.ty; exp = b.exp }
+  abbrev pub node_rule : Rule-F DecTree t.Exp t.Fun RuleTree → RuleTree
+  node_rule r = record { pat = pat_of r.pat; exp = r.exp }
 
   abbrev pub tree_of : Exp → t.Exp
-  tree_of = fold-Exp DecTree t.Exp t.Fun BindTree node_dec node_exp node_function node_bind
+  tree_of = fold-Exp DecTree t.Exp t.Fun RuleTree node_dec node_exp node_function node_rule
 
   abbrev pub function_of : Function → t.Fun
-  function_of = fold-Function DecTree t.Exp t.Fun BindTree node_dec node_exp node_function node_bind
+  function_of = fold-Function DecTree t.Exp t.Fun RuleTree node_dec node_exp node_function node_rule
 
   abbrev pub dec_of : Dec → DecTree
-  dec_of = fold-Dec DecTree t.Exp t.Fun BindTree node_dec node_exp node_function node_bind
+  dec_of = fold-Dec DecTree t.Exp t.Fun RuleTree node_dec node_exp node_function node_rule
 
-  abbrev pub bind_of : Bind → BindTree
-  bind_of = fold-Bind DecTree t.Exp t.Fun BindTree node_dec node_exp node_function node_bind
+  abbrev pub rule_of : Rule → RuleTree
+  rule_of = fold-Rule DecTree t.Exp t.Fun RuleTree node_dec node_exp node_function node_rule
 
   -- a program's body
   abbrev pub body_of : List Dec → t.Decs
@@ -241,8 +238,8 @@ module _ (R : Reading) where
   abbrev pub field_of : Label × Exp → Label × t.Exp
   field_of f = (f.0, tree_of f.1)
 
-  abbrev pub rule_of : Pat × Exp → Pat × t.Exp
-  rule_of r = (r.0, tree_of r.1)
+  abbrev pub bind_of : Binding × Rule → Binding × RuleTree
+  bind_of b = (b.0, rule_of b.1)
 
   abbrev pub argument_of : ℕ × Exp → ℕ × t.Exp
   argument_of a = (a.0, tree_of a.1)

@@ -107,6 +107,14 @@ pub struct Join {
     pub pair: usize,
 }
 
+/// A binding: whether it is generalised, and the type of its pattern.
+#[derive(Clone, Copy)]
+pub struct Binding {
+    pub place: Place,
+    pub general: bool,
+    pub ty: usize,
+}
+
 /// An expression. A type that stands alone is its own.
 #[derive(Drop)]
 #[cycle(exps)]
@@ -119,12 +127,12 @@ pub enum Exp {
     Apply(Place, Box<Exp>, Vec<(usize, Exp)>),
     /// Operands, and operators before the further ones; also a list, which `nil` ends.
     Infix(Side, Box<Exp>, Vec<(Join, Exp, Exp)>),
-    Case(Place, usize, Box<Exp>, Vec<(Pat, Exp)>),
+    Case(Place, usize, Box<Exp>, Vec<Rule>),
     /// Expressions whose values are dropped, and the last.
     Sequence(Place, usize, Vec<Exp>, Box<Exp>),
     /// Operands of `andalso` (true) or `orelse` (false), and the last.
     Test(bool, usize, Vec<Exp>, Box<Exp>),
-    Handle(usize, Box<Exp>, Vec<(Pat, Exp)>),
+    Handle(usize, Box<Exp>, Vec<Rule>),
     Raise(usize, Box<Exp>),
     Fn(usize, Function),
     /// Stands for so many further nodes of the source.
@@ -137,27 +145,24 @@ pub enum Exp {
 pub enum Function {
     Named(Vec<Parameter>, Parameter, Box<Exp>),
     /// The types of the last argument and of the result, and rules for the argument.
-    ByRules(Vec<Parameter>, Place, usize, usize, Vec<(Pat, Exp)>),
+    ByRules(Vec<Parameter>, Place, usize, usize, Vec<Rule>),
 }
 
 #[derive(Drop)]
 #[cycle(exps)]
 pub enum Dec {
     /// Bindings and functions that are declared together, over a list of parameters. A function has variables and a type.
-    Val(usize, Vec<Bind>, Vec<(Vec<usize>, usize, Function)>),
+    Val(usize, Vec<(Binding, Rule)>, Vec<(Vec<usize>, usize, Function)>),
     /// A new exception, with its variable, its identifier and the type of its argument.
     Exception(usize, Name, Option<usize>),
     /// Stands for so many further nodes of the source.
     Weight(usize),
 }
 
-/// A binding: whether it is generalised, and the type of the pattern.
+/// A pattern, and the expression that stands behind it.
 #[derive(Drop)]
 #[cycle(exps)]
-pub struct Bind {
-    pub place: Place,
-    pub general: bool,
+pub struct Rule {
     pub pat: Pat,
-    pub ty: usize,
     pub exp: Exp,
 }
