@@ -1,0 +1,6 @@
+// What a checker knows: of the variables in scope, of parameters in scope, and of types.
+#![tactic(auto)]
+
+pub mod known;
+pub mod scope;
+pub mod stack;
