@@ -1,5 +1,5 @@
 mod Words
-mod Runs
+pub mod Runs
 mod Broken
 mod Readings
 mod Lost
@@ -10,6 +10,7 @@ pub mod Refused
 pub mod Basics
 mod Cutting
 mod MoreRuns
+mod Printed
 mod MoreTypings
 mod Doubling
 mod BoundTwice
