@@ -1,9 +1,14 @@
 -- What is looked at next in a type.
-use Rattle.std.specs.Prelude.{◌≡◌, ◌+◌, ◌<◌, ◌≤◌, ◌^◌, ◌-◌, ℕ, List, [], ◌∷◌, ◌++◌}
+use Rattle.std.specs.Prelude.{◌≡◌, ◌⊎◌, ◌+◌, ◌<◌, ◌≤◌, ◌^◌, ◌-◌, ℕ, List, [], ◌∷◌, ◌++◌}
 use Rattle.ty_core.specs.Types.{Typ, var, con, Symbol, nodes, all_nodes}
 use Rattle.ty_table.specs.TypeAt.{type_at, types_at}
 use Rattle.ty_solve.specs.Substitution.{Entry, free, bound, mark, Resolves, sub, subs}
 use Rattle.ty_solve.specs.Weight.{weight, weights}
+
+-- k stands in a list
+abbrev pub Has : List ℕ → ℕ → Type 0
+Has [] k = ⊥
+Has (x ∷ l) k = (k ≡ x) ⊎ Has l k
 
 -- the numbers ks are what the type of t stands for, or its arguments
 pub data Next (ts : List Typ) (s : ℕ → Entry) (t : ℕ) (ks : List ℕ) : Type 0 where

@@ -79,7 +79,7 @@ fn solve(
 }
 
 /// Makes two types equal, where their type is not too large. What is changed is kept.
-fn attempt(
+pub fn attempt(
     alloc: Global,
     s: &mut Subst,
     a: usize,

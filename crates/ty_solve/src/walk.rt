@@ -17,7 +17,7 @@ use ty_table::types::View;
 pub const NODE_LIMIT: u64 = 65_536;
 
 /// Puts the types of a list on those that are pending.
-fn add_all(pending: &mut Vec<usize>, types: &[usize]) -> Result<(), NoMemory>
+pub fn add_all(pending: &mut Vec<usize>, types: &[usize]) -> Result<(), NoMemory>
     ensures { IfOk result (λ _. pending.new.items ≡ pending.old.items ++ types.now) }
 {
     pending.extend_from_slice(types)?;
