@@ -73,12 +73,8 @@ abbrev mutual
   same_value (record_of fs) w = option_and_then (same_fields fs) (fields_in w)
   same_value (con c) w = option_map (λ d. same_con c d.tag) (con_in w)
   same_value (con_of c v) w = option_and_then (λ d. if same_con c d.tag then option_and_then (same_value v) d.argument else Some false) (con_in w)
-  same_value ref w = None
   same_value (address a) w = option_map (nat_eq a) (address_in w)
-  same_value (exn n) w = None
-  same_value (exn_of n v) w = None
-  same_value (primitive p) w = None
-  same_value (closure rs e bs) w = None
+  same_value v w = None
 
   pub same_fields : Fields → Fields → Option Bool
   same_fields no_fields gs = Some true
