@@ -11,7 +11,8 @@ pub mod Basics
 mod Cutting
 mod MoreRuns
 mod Printed
-mod MoreTypings
+pub mod MoreTypings
+mod Assigned
 mod Doubling
 mod BoundTwice
 pub mod Generic

@@ -18,7 +18,7 @@ use Rattle.core_rules.specs.Choices.{Choices, no_choice, both, base}
 use Rattle.core_rules.specs.Typing.{HasType, PatHas, DecHas, DecsHave, is_non_expansive, closed, app_has, fn_has, record_has, exp_field_has, no_exp_field_has, constant_exp_has, built_exp_has, rule_has, no_rule_has, variable_has, constructor_has, typed_has, fields_has, open_has, field_has, no_field_has, bind_has, no_bind_has, val_has, dec_has, no_dec_has}
 use Rattle.core_rules.proofs.Words.{at, num, v, vid, pv, ap as app, op, one_rule, val, do_, decs, tycon, word_A, word_E, word_a, word_b, word_f, word_r, word_t, word_x}
 use Rattle.core_rules.proofs.Typings.{start, inst-has, mono-has}
-use Rattle.core_rules.proofs.Refused.{fresh}
+use Rattle.core_rules.proofs.Refused.{fresh, fresh_choices}
 use Rattle.mlc_base.specs.StandardWords.{word_int}
 
 abbrev Holds : Bool → Type 0
@@ -26,42 +26,42 @@ Holds true = Unit {0}
 Holds false = ⊥
 
 -- val x = ref [] val () = x := [1]: x has the type int list ref
-abbrev assigns : Exp
+abbrev pub assigns : Exp
 assigns = op (v word_x) word_assign (list_of at (num 1 ∷ []))
 
-abbrev ints : Typ
+abbrev pub ints : Typ
 ints = list_type int_type
 
-abbrev x_env : Env
+abbrev pub x_env : Env
 x_env = closed [] ((vid word_x, ref_type ints) ∷ [])
 
 abbrev with_x : Context
 with_x = with_env start 0 x_env
 
-ints-over : Over start.names ints
+pub ints-over : Over start.names ints
 ints-over = (refl, ((refl, tt), tt))
 
-refs-over : Over start.names (ref_type ints)
+pub refs-over : Over start.names (ref_type ints)
 refs-over = (refl, (ints-over, tt))
 
-one-of-ints : (k : Choices) × HasType no_variable with_x (list_of at (num 1 ∷ [])) ints k
-one-of-ints = (
-  _,
-  app_has _ (built_exp_has _ (record { types = λ n. int_type; allowed = (tt, tt); over = (tt, ((tt, ((refl, tt), (ints-over, tt))), (ints-over, tt))); is = refl; chosen = refl }))
-      (record_has _ (exp_field_has _ (constant_exp_has _ _) (exp_field_has _ (built_exp_has _ (record { types = λ n. int_type; allowed = (tt, tt); over = ints-over; is = refl; chosen = refl })) no_exp_field_has)) refl),
-)
+abbrev list_choices : Choices
+list_choices = both no_choice (both no_choice (both no_choice no_choice))
 
-assigned_has : (k : Choices) × DecsHave no_variable start (decs (val (pv word_x) (app (v word_ref) (list_of at [])) ∷ do_ assigns ∷ [])) 0 (plus x_env (plus (closed [] []) no_env)) k
-assigned_has = (
-  _,
-  dec_has (fresh int_type (refl, tt) refl)
-      (dec_has (val_has _ _ [] {vs = [] ∷ []} {us = []} refl refl refl
-      (λ r c. bind_has _ (fields_has _ no_field_has refl) refl
-      (app_has _ (inst-has _ (for_all Any (function_type (pair_type (ref_type (var 0)) (var 0)) unit_type)) (λ n. ints) refl (tt, tt) (tt, ((tt, (refs-over, (ints-over, tt))), ((tt, tt), tt))) refl)
-      (record_has _ (exp_field_has _ (mono-has _ (ref_type ints) refl refs-over) (exp_field_has _ (one-of-ints).1 no_exp_field_has)) refl))
-      (λ e. refl) no_bind_has)
-      (λ r c. no_bind_has)) no_dec_has),
-)
+abbrev assigned_choices : Choices
+assigned_choices = both fresh_choices (both (both (both (both no_choice (both no_choice (both no_choice (both list_choices no_choice)))) no_choice) no_choice) no_choice)
+
+one-of-ints : HasType no_variable with_x (list_of at (num 1 ∷ [])) ints list_choices
+one-of-ints = app_has _ (built_exp_has _ (record { types = λ n. int_type; allowed = (tt, tt); over = (tt, ((tt, ((refl, tt), (ints-over, tt))), (ints-over, tt))); is = refl; chosen = refl }))
+    (record_has _ (exp_field_has _ (constant_exp_has _ _) (exp_field_has _ (built_exp_has _ (record { types = λ n. int_type; allowed = (tt, tt); over = ints-over; is = refl; chosen = refl })) no_exp_field_has)) refl)
+
+pub assigned_has : DecsHave no_variable start (decs (val (pv word_x) (app (v word_ref) (list_of at [])) ∷ do_ assigns ∷ [])) 0 (plus x_env (plus (closed [] []) no_env)) assigned_choices
+assigned_has = dec_has (fresh int_type (refl, tt) refl)
+    (dec_has (val_has _ _ [] {vs = [] ∷ []} {us = []} refl refl refl
+    (λ r c. bind_has _ (fields_has _ no_field_has refl) refl
+    (app_has _ (inst-has _ (for_all Any (function_type (pair_type (ref_type (var 0)) (var 0)) unit_type)) (λ n. ints) refl (tt, tt) (tt, ((tt, (refs-over, (ints-over, tt))), ((tt, tt), tt))) refl)
+    (record_has _ (exp_field_has _ (mono-has _ (ref_type ints) refl refs-over) (exp_field_has _ one-of-ints no_exp_field_has)) refl))
+    (λ e. refl) no_bind_has)
+    (λ r c. no_bind_has)) no_dec_has)
 
 -- val f = fn r : {a : int, b : int} => #a r: the type tells the labels
 abbrev two_ints : Ty
@@ -110,7 +110,7 @@ nil_twice = fields_has _ (field_has _ one (field_has _ one no_field_has)) refl
 free_variable : admits no_variable (var 0) ≡ false
 free_variable = refl
 
-free_elements : DecHas no_variable start (val (pv word_x) (app (v word_ref) (list_of at []))) 0 (closed [] ((vid word_x, ref_type (list_type (var 5))) ∷ [])) Rattle.core_rules.proofs.Refused.fresh_choices
+free_elements : DecHas no_variable start (val (pv word_x) (app (v word_ref) (list_of at []))) 0 (closed [] ((vid word_x, ref_type (list_type (var 5))) ∷ [])) fresh_choices
 free_elements = fresh (var 5) tt refl
 
 -- `ref` under another name makes references all the same: A [] with A for `ref`
