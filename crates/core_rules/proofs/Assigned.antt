@@ -221,14 +221,14 @@ refs-choices (dec_has (val_has p p' marks {vs} {us} {k = k} {j = j} g fns d plai
     λ i. both (both (b.choices i) (n.1 i)) no_choice
 
 -- any choices are settled as they are
-same-rows : (k : Choices) → SameRows k k
+pub same-rows : (k : Choices) → SameRows k k
 same-rows no_choice = tt
 same-rows (both j k) = (same-rows j, same-rows k)
 same-rows (base n) = tt
 same-rows (further ls) = refl
 same-rows (settled k) = same-rows k
 
-same-settled : (k : Choices) → SameSettled k k
+pub same-settled : (k : Choices) → SameSettled k k
 same-settled no_choice = tt
 same-settled (both j k) = (same-settled j, same-settled k)
 same-settled (base n) = tt

@@ -12,7 +12,8 @@ mod Cutting
 mod MoreRuns
 mod Printed
 pub mod MoreTypings
-mod Assigned
+pub mod Assigned
+mod Annotated
 mod Doubling
 mod BoundTwice
 pub mod Generic

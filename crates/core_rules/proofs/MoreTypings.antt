@@ -63,23 +63,15 @@ assigned_has = dec_has (fresh int_type (refl, tt) refl)
     (λ e. refl) no_bind_has)
     (λ r c. no_bind_has)) no_dec_has)
 
--- val f = fn r : {a : int, b : int} => #a r: the type tells the labels
-abbrev two_ints : Ty
+-- {a : int, b : int}
+abbrev pub two_ints : Ty
 two_ints = ty_fields at (ty_field (Word word_a) (tycon word_int) (ty_field (Word word_b) (tycon word_int) no_ty_fields))
 
-abbrev two_row : Row
+abbrev pub two_row : Row
 two_row = (Word word_a, int_type) ∷ (Word word_b, int_type) ∷ []
 
-two-over : Over start.names (row_type two_row)
+pub two-over : Over start.names (row_type two_row)
 two-over = (tt, ((refl, tt), ((refl, tt), tt)))
-
-annotated_has : (k : Choices) × HasType no_variable start (fn at (one_rule (typed_pat at (pv word_r) two_ints) (app (select at (Word word_a)) (v word_r)) no_rules)) (function_type (row_type two_row) int_type) k
-annotated_has = (
-  _,
-  fn_has _ (rule_has _ (typed_has _ (variable_has _ refl refl two-over) refl) refl
-      (app_has _ (fn_has _ (rule_has _ (open_has _ ((Word word_b, int_type) ∷ []) (field_has _ (variable_has _ refl refl (refl, tt)) no_field_has) refl refl two-over) refl (mono-has _ int_type refl (refl, tt)) no_rule_has))
-      (mono-has _ (row_type two_row) refl two-over)) no_rule_has),
-)
 
 -- the fields of a record type are in one order: numbers by value, then words by their numbers
 abbrev unordered : Row
