@@ -1,22 +1,20 @@
 -- val x = fn r : {a : int, b : int} => #a r is principal: its annotation settles the labels of `...`.
-use Rattle.std.proofs.Common.{◌≡◌, ℕ, zero, suc, Bool, true, false, not, List, [], ◌∷◌, ◌++◌, length, map, Option, Some, None, refl, sym, ap, ◌∙◌, subst}
+use Rattle.std.proofs.Common.{◌≡◌, ℕ, zero, suc, Bool, true, false, not, List, [], ◌∷◌, ◌++◌, length, Option, Some, None, refl, sym, ap, ◌∙◌, subst}
 use Rattle.std.specs.Prelude.{unwrap_or, ◌&&◌, ◌-◌, nat_lt, nat_eq, if◌then◌else◌}
 use Rattle.mlc_base.specs.declared.label.Label.{Label}
 use Rattle.mlc_base.specs.declared.label.Label.TheVariants.{Number, Word}
-use Rattle.ty_core.specs.Types.{Typ, Typs, Symbol, var, con, none, more, arrow, labels, name as symbol, typs_of, no_variable}
+use Rattle.ty_core.specs.Types.{Typ, Typs, Symbol, var, con, none, more, arrow, labels, name as symbol, no_variable}
 use Rattle.ty_core.specs.Statics.{replace_all}
 use Rattle.ty_core.specs.declared.mark.Mark.{Mark}
 use Rattle.ty_core.specs.declared.env.Status.TheVariants.{Variable}
 use Rattle.sml_tree.specs.declared.ident.Vid.{Vid}
-use Rattle.sml_tree.specs.declared.ident.Vid.TheVariants.{Fresh}
 use Rattle.sml_tree.specs.Derived.{select}
 use Rattle.sml_tree.specs.BareTree.{Exp, Decs, fn, no_rules, typed_pat, bind, no_binds}
 use Rattle.ty_basis.specs.Types.{Row, labels_in, row_type, function_type, unit_type, int_type}
 use Rattle.core_rules.specs.Words.{same_vid, label_before}
-use Rattle.core_rules.specs.Objects.{put_field, sorted, put, Context, Value, Env, monomorphic, plus, no_env, values_env}
+use Rattle.core_rules.specs.Objects.{put_field, sorted, put, Context, Value, Env, monomorphic, plus, no_env}
 use Rattle.core_rules.specs.Choices.{Choices, no_choice, both, base, further, settled, IntsOf, SameRows, SameSettled}
-use Rattle.core_rules.specs.Elaborated.{type_of}
-use Rattle.core_rules.specs.Typing.{HasType, IsInstance, BindsHave, DecsHave, Bound, put_bound, together, closed, with_bound, vid_has, app_has, fn_has, rule_has, no_rule_has, typed_has, open_has, field_has, no_field_has, variable_has, constructor_has, bind_has, no_bind_has, val_has, dec_has, no_dec_has}
+use Rattle.core_rules.specs.Typing.{HasType, IsInstance, BindsHave, DecsHave, Bound, put_bound, together, closed, vid_has, app_has, fn_has, rule_has, no_rule_has, typed_has, open_has, field_has, no_field_has, variable_has, constructor_has, bind_has, no_bind_has, val_has, dec_has, no_dec_has}
 use Rattle.core_rules.specs.Principal.{Generalises, HasInstance, IsInstanceOf, IsPrincipal}
 use Rattle.core_rules.proofs.Basics.{put-none, units-may-stand}
 use Rattle.core_rules.proofs.Words.{at, v, vid, pv, ap as app, one_rule, val, decs, word_a, word_b, word_r, word_x}

@@ -11,12 +11,12 @@ use Rattle.sml_tree.specs.BareTree.{Exp, Decs, bind, no_binds}
 use Rattle.mlc_base.specs.StandardWords.{word_ref}
 use Rattle.ty_basis.specs.Types.{function_type, pair_type, unit_type, int_type, list_type, ref_type}
 use Rattle.core_rules.specs.Words.{same_vid}
-use Rattle.core_rules.specs.Objects.{Context, Value, Scheme, Env, put, monomorphic, plus, no_env, values_env, with_env}
+use Rattle.core_rules.specs.Objects.{Context, Value, Env, put, monomorphic, plus, no_env, values_env, with_env}
 use Rattle.core_rules.specs.Initial.{for_all}
 use Rattle.core_rules.specs.Choices.{Choices, no_choice, both, base, further, settled, IntsOf, SameRows, SameSettled}
-use Rattle.core_rules.specs.Typing.{HasType, IsInstance, BindsHave, DecHas, DecsHave, Bound, Chosen, put_bound, together, closed, has_none, bound_have_none, all_general, vid_has, app_has, built_exp_has, constant_exp_has, record_has, exp_field_has, no_exp_field_has, variable_has, constructor_has, fields_has, no_field_has, bind_has, no_bind_has, val_has, dec_has, no_dec_has}
+use Rattle.core_rules.specs.Typing.{HasType, IsInstance, BindsHave, DecsHave, Bound, Chosen, put_bound, together, closed, has_none, bound_have_none, all_general, vid_has, app_has, built_exp_has, constant_exp_has, record_has, exp_field_has, no_exp_field_has, variable_has, constructor_has, fields_has, no_field_has, bind_has, no_bind_has, val_has, dec_has, no_dec_has}
 use Rattle.core_rules.specs.Principal.{Generalises, HasInstance, IsInstanceOf, IsPrincipal}
-use Rattle.core_rules.proofs.Basics.{put-none, units-may-stand}
+use Rattle.core_rules.proofs.Basics.{units-may-stand}
 use Rattle.core_rules.proofs.Words.{at, num, v, vid, pv, ap as app, val, do_, decs, word_x}
 use Rattle.core_rules.proofs.Typings.{start}
 use Rattle.core_rules.proofs.Refused.{fresh_choices, ints-none, ints-both, put-fixed}
@@ -258,9 +258,10 @@ assigned_principal = record {
   choices = run_choices;
   types = assigned_has;
   counts = λ made e j h. no-ints j;
-  settled =
-      ((λ made made' e e' k k' h h'. subst (λ k. SameSettled k k') (sym (refs-choices h)) (subst (SameSettled (both fresh_choices no_choice)) (sym (refs-choices h')) (same-settled (both fresh_choices no_choice)))),
-      ((λ made made' e e' k k' h h'. subst (λ k. SameSettled k k') (sym (all-runs h).choices) (subst (SameSettled run_choices) (sym (all-runs h').choices) (same-settled run_choices))), tt));
+  settled = (
+    (λ made made' e e' k k' h h'. subst (λ k. SameSettled k k') (sym (refs-choices h)) (subst (SameSettled (both fresh_choices no_choice)) (sym (refs-choices h')) (same-settled (both fresh_choices no_choice)))),
+    ((λ made made' e e' k k' h h'. subst (λ k. SameSettled k k') (sym (all-runs h).choices) (subst (SameSettled run_choices) (sym (all-runs h').choices) (same-settled run_choices))), tt),
+  );
   general = λ made' e' k h c. only-runs (all-runs h);
   rows = λ made' e' k h c. subst (SameRows run_choices) (sym (all-runs h).choices) (same-rows run_choices);
 }

@@ -4,14 +4,14 @@ use Rattle.std.specs.Prelude.{ℕ, zero, suc, Bool, true, false, List, [], ◌�
 use Rattle.mlc_base.specs.Run.{World, Answer, gives, raises, stops, out_of_turns, then_do, or_handle, or_fail, fail, take_turn, writes, new_reference, assign, new_exception}
 use Rattle.mlc_base.specs.declared.label.Label.TheVariants.{Number}
 use Rattle.mlc_base.specs.declared.place.Place.{Place}
-use Rattle.mlc_prims.specs.LitOf.{Literal, int, word, char, string, truth}
+use Rattle.mlc_prims.specs.LitOf.{Literal, string, truth}
 use Rattle.mlc_prims.specs.PrimOf.{Gives, made, raised}
 use Rattle.mlc_prims.specs.declared.prim.PrimExn.{PrimExn}
 use Rattle.mlc_prims.specs.declared.prim.PrimExn.TheVariants.{Overflow, Div, Subscript, Size, Chr}
 use Rattle.sml_tree.specs.declared.ident.Vid.{Vid}
 use Rattle.sml_tree.specs.declared.ident.Vid.TheVariants.{Named, Equals, Fresh}
 use Rattle.sml_tree.specs.declared.ident.BuiltIn.TheVariants.{True, False}
-use Rattle.sml_tree.specs.BareTree.{LongIdAt, ConBind, DataBind, TypeBind, ExBind, new_exn, same_exn, Pat, wild_pat, constant_pat, vid_pat, built_pat, fields_pat, con_pat, built_con_pat, typed_pat, as_pat, Exp, constant_exp, vid_exp, built_exp, fields_exp, let_in, app, typed, handle, raise, fn, ExpFields, no_exp_fields, exp_field, Rules, no_rules, rule, Decs, no_decs, dec, Dec, val_dec, type_dec, datatype_dec, replicate_dec, exception_dec, local_dec, open_dec, sequence_dec, Binds, no_binds, bind}
+use Rattle.sml_tree.specs.BareTree.{LongIdAt, ConBind, DataBind, TypeBind, ExBind, new_exn, same_exn, Pat, vid_pat, typed_pat, as_pat, Exp, constant_exp, vid_exp, built_exp, fields_exp, let_in, app, typed, handle, raise, fn, ExpFields, no_exp_fields, exp_field, Rules, no_rules, rule, Decs, no_decs, dec, Dec, val_dec, type_dec, datatype_dec, replicate_dec, exception_dec, local_dec, open_dec, sequence_dec, Binds, no_binds, bind}
 use Rattle.ty_core.specs.declared.env.Status.TheVariants.{Variable, Constructor, Exception}
 use Rattle.mlc_prims.specs.Table.{row_of}
 use Rattle.mlc_prims.specs.declared.basis.BasisPrimitive.{BasisPrimitive}

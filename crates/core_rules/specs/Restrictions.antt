@@ -11,7 +11,7 @@ use Rattle.sml_tree.specs.declared.ident.Vid.{Vid}
 use Rattle.sml_tree.specs.declared.ident.Vid.TheVariants.{Named, Equals, Fresh}
 use Rattle.sml_tree.specs.BareTree as bare
 use Rattle.sml_tree.specs.BareTree.{Ty, TyFields, ConBind, DataBind, ExBind, new_exn, same_exn, Pat, PatFields, Exp, ExpFields, Decs, Dec, val_dec, type_dec, datatype_dec, exception_dec, sequence_dec}
-use Rattle.sml_tree.specs.Phrases.{Phrase, exp, pat, ty, dec, rule, bind, type_bind, data_bind, con_bind, ex_bind, bind_list, dec_list, parts, phrases}
+use Rattle.sml_tree.specs.Phrases.{Phrase, exp, pat, ty, dec, bind, type_bind, data_bind, con_bind, ex_bind, bind_list, dec_list, parts, phrases}
 use Rattle.core_rules.specs.Words.{same_vid, same_label}
 use Rattle.core_rules.specs.Scoping.{is_one_of, tyvars_in, tyvar_names, scoped_at}
 

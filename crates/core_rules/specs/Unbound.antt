@@ -7,7 +7,7 @@ use Rattle.sml_tree.specs.declared.ident.Vid.{Vid}
 use Rattle.ty_core.specs.declared.env.Status.TheVariants.{Exception}
 use Rattle.sml_tree.specs.BareTree as bare
 use Rattle.sml_tree.specs.BareTree.{Ty, Pat, con_pat, vid_pat, PatFields, Exp, vid_exp, let_in, Binds, no_binds, Decs, no_decs, Dec, val_dec, type_dec, datatype_dec, replicate_dec, exception_dec, local_dec, open_dec, sequence_dec, DataBind, ExBind, new_exn, same_exn}
-use Rattle.sml_tree.specs.Phrases.{Phrase, exp, pat, ty, dec, rule, data_bind, ex_bind, bind_list, exp_parts, dec_parts, parts, phrases}
+use Rattle.sml_tree.specs.Phrases.{Phrase, exp, pat, ty, dec, rule, data_bind, ex_bind, bind_list, parts, phrases}
 use Rattle.core_rules.specs.Values.{Env, nothing, value, tycon, plus, Found, long_value_in, along, tycon_in, unit_value}
 use Rattle.core_rules.specs.Match.{is_variable, bound_to}
 use Rattle.core_rules.specs.Eval.{types_env, datatypes_env, long_tycon_in, long_structure_in, opened, each_bound}
