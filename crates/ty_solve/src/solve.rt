@@ -65,7 +65,7 @@ fn solve(
     let mut tasks = Vec::new(alloc);
     tasks.push(Todo::Equal(a, b))?;
     loop {
-        match next_write(s, &mut compared, &mut tasks) {
+        match next_write(alloc, s, &mut compared, &mut tasks) {
             Err(refused) => return Err(refused),
             Ok(next) => match next {
                 None => return Ok(()),

@@ -10,15 +10,17 @@ ghost use Rattle.ty_core.specs.TypesOf.{head_of};
 ghost use Rattle.ty_solve.specs.Finding.{Reads, IsWalked};
 ghost use Rattle.ty_solve.specs.Compared.{Waits, WasThere, Remembers};
 ghost use Rattle.ty_solve.specs.Held.{AreHeldTasks, IsHeldMove, KeepsHeld};
-ghost use Rattle.ty_solve.specs.Parts.{EqualParts, AdmitParts};
+ghost use Rattle.ty_solve.specs.Parts.{EqualParts};
 ghost use Rattle.ty_solve.specs.Task.{Task, Equal, Admit};
 ghost use Rattle.ty_solve.specs.Tasks.{Steps, RefusesTask, Comes, RefusesTasks, AreWithin};
 
+use crate::equality::admit_all;
 use crate::refused::UnifyRefused;
 use crate::subst::Subst;
 use crate::task::{Move, Todo};
 use indexmap::IndexSet;
 use mlc_base::memory::NoMemory;
+use std::alloc::Global;
 use ty_core::mark::{Class, Mark, is_of, meet};
 use ty_core::name::Equality;
 use ty_core::ty::{Head, equality_of, same_head};
@@ -33,18 +35,6 @@ fn equal_parts(s: &Subst, ts: &[usize], us: &[usize], tasks: &mut Vec<Todo>) -> 
     let _types = &s.types;
     for i in 0..ts.len() {
         tasks.push(Todo::Equal(ts[i], us[i]))?;
-    }
-    Ok(())
-}
-
-/// Asks that each type of a list admits equality.
-fn admit_parts(s: &Subst, ts: &[usize], tasks: &mut Vec<Todo>) -> Result<(), NoMemory>
-    ensures parts { IfOk result (λ _. AdmitParts (tasks_of s.now.types tasks.old.items) (tasks_of s.now.types tasks.new.items) (types_at s.now.types ts.now)) }
-    ensures held { IfOk result (λ _. AllBelow (length s.now.types) ts.now → AreHeldTasks (length s.now.types) tasks.old.items → AreHeldTasks (length s.now.types) tasks.new.items) }
-{
-    let _types = &s.types;
-    for i in 0..ts.len() {
-        tasks.push(Todo::Admit(Mark::Equality, ts[i]))?;
     }
     Ok(())
 }
@@ -181,6 +171,7 @@ fn head_is_of(class: Class, head: &Head) -> bool
 
 /// Lets a mark stand at a type that is no variable.
 fn admit_applied(
+    alloc: Global,
     s: &Subst,
     mark: Mark,
     h: &Head,
@@ -196,10 +187,7 @@ fn admit_applied(
         Mark::Any => Ok(()),
         Mark::Equality => match equality_of(h) {
             Equality::Always => Ok(()),
-            Equality::ByArguments => {
-                admit_parts(s, ts, tasks)?;
-                Ok(())
-            }
+            Equality::ByArguments => admit_all(alloc, s, ts, tasks),
             Equality::Never => Err(UnifyRefused::Clash),
         },
         Mark::Class(class) => {
@@ -217,6 +205,7 @@ fn admit_applied(
 
 /// Lets a mark stand at a type.
 fn admit(
+    alloc: Global,
     s: &Subst,
     mark: Mark,
     t: usize,
@@ -230,7 +219,7 @@ fn admit(
     let found = s.find(t);
     match s.types.view(found) {
         View::Var(x) => remark(s, x, mark),
-        View::Apply(h, ts) => match admit_applied(s, mark, h, ts, tasks) {
+        View::Apply(h, ts) => match admit_applied(alloc, s, mark, h, ts, tasks) {
             Ok(()) => Ok(None),
             Err(refused) => Err(refused),
         },
@@ -239,6 +228,7 @@ fn admit(
 
 /// Takes one task.
 fn take(
+    alloc: Global,
     s: &Subst,
     task: Todo,
     compared: &mut IndexSet<(usize, usize)>,
@@ -252,12 +242,13 @@ fn take(
 {
     match task {
         Todo::Equal(a, b) => equal(s, a, b, compared, tasks),
-        Todo::Admit(mark, t) => admit(s, mark, t, tasks),
+        Todo::Admit(mark, t) => admit(alloc, s, mark, t, tasks),
     }
 }
 
 /// Takes tasks up to the first that asks for a change.
 pub fn next_write(
+    alloc: Global,
     s: &Subst,
     compared: &mut IndexSet<(usize, usize)>,
     tasks: &mut Vec<Todo>,
@@ -271,7 +262,7 @@ pub fn next_write(
     ensures cause { IfErr result (RefusesTasks (seen s.now.types s.now.slots.items) (tasks_of s.now.types tasks.old.items)) }
 {
     while let Some(task) = tasks.pop() {
-        match take(s, task, compared, tasks) {
+        match take(alloc, s, task, compared, tasks) {
             Err(refused) => return Err(refused),
             Ok(found) => match found {
                 Some(write) => return Ok(Some(write)),
