@@ -36,17 +36,20 @@ pub record AdmitParts (n : ℕ) (s : ℕ → Entry) (w : ℕ → ℕ) (old new :
 
 -- why the types of a list don't all admit equality
 abbrev pub RefusesParts : (ℕ → Entry) → Typs → UnifyRefused → Type 0
-RefusesParts s ts Clash = ((m : ℕ → Bool) (f : ℕ → Typ) → Fits f s → all_admit m (subs f ts) ≡ true → ⊥) × ((p : Problem) → IsForced p s → AllAsked p ts → Clashes p)
+RefusesParts s ts Clash = ((m : ℕ → Bool) (f : ℕ → Typ) → Fits f s → all_admit m (subs f ts) ≡ true → ⊥)
+    × ((p : Problem) → IsForced p s → AllAsked p ts → Clashes p)
 RefusesParts s ts Circular = ⊥
 RefusesParts s ts Large = ⊥
 RefusesParts s ts Memory = ⊤
 
--- the first node of the type k is looked at: it admits equality anyhow, or is an open variable of which it is asked, or what it stands for or its parts are pending
+-- the first node of the type k is looked at: it admits equality anyhow, or is an open variable of which it is asked, or
+-- what it stands for or its parts are pending
 pub data Looked (ts : List Typ) (s : ℕ → Entry) (k : ℕ) (old now : List Task) (pending next : List ℕ) : Type 0 where
   holds : ((m : ℕ → Bool) (f : ℕ → Typ) → admits m (sub f (type_at ts k)) ≡ true) → next ≡ pending → now ≡ old → Looked ts s k old now pending next
   open_variable : (x : ℕ) → type_at ts k ≡ var x → next ≡ pending → now ≡ old ++ Admit Mark.Equality (type_at ts k) ∷ [] → Looked ts s k old now pending next
   stands : (x u : ℕ) → type_at ts k ≡ var x → s x ≡ bound (type_at ts u) → next ≡ pending ++ u ∷ [] → now ≡ old → Looked ts s k old now pending next
-  applied : (h : Symbol) (parts : List ℕ) → type_at ts k ≡ con h (types_at ts parts) → ByArguments ≡ attribute h → next ≡ pending ++ parts → now ≡ old → Looked ts s k old now pending next
+  applied : (h : Symbol) (parts : List ℕ) → type_at ts k ≡ con h (types_at ts parts) → ByArguments ≡ attribute h → next ≡ pending ++ parts → now ≡ old
+      → Looked ts s k old now pending next
 
 -- a type begins with a symbol whose types never admit equality
 abbrev pub RefusesLook : Typ → UnifyRefused → Type 0

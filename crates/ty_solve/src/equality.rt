@@ -24,8 +24,12 @@ fn look_at(
     pending: &mut Vec<usize>,
     tasks: &mut Vec<Todo>,
 ) -> Result<(), UnifyRefused>
-    ensures looked { IfOk result (λ _. Looked s.now.types (said s.now) k (tasks_of s.now.types tasks.old.items) (tasks_of s.now.types tasks.new.items) pending.old.items pending.new.items) }
-    ensures held { IfOk result (λ _. k < length s.now.types → AllBelow (length s.now.types) pending.old.items → AreHeldTasks (length s.now.types) tasks.old.items → AllBelow (length s.now.types) pending.new.items × AreHeldTasks (length s.now.types) tasks.new.items) }
+    ensures looked { IfOk result (λ _. Looked s.now.types (said s.now) k (tasks_of s.now.types tasks.old.items) (tasks_of s.now.types tasks.new.items)
+        pending.old.items
+        pending.new.items) }
+    ensures held { IfOk result (λ _. k < length s.now.types → AllBelow (length s.now.types) pending.old.items
+        → AreHeldTasks (length s.now.types) tasks.old.items
+        → AllBelow (length s.now.types) pending.new.items × AreHeldTasks (length s.now.types) tasks.new.items) }
     ensures cause { IfErr result (RefusesLook (type_at s.now.types k)) }
 {
     if s.types.admits_eq(k) {
@@ -52,8 +56,10 @@ pub fn admit_all(
     ts: &[usize],
     tasks: &mut Vec<Todo>,
 ) -> Result<(), UnifyRefused>
-    ensures parts { IfOk result (λ _. AdmitParts (length s.now.slots.items) (said s.now) s.now.acyclic.0 (tasks_of s.now.types tasks.old.items) (tasks_of s.now.types tasks.new.items) (types_at s.now.types ts.now)) }
-    ensures held { IfOk result (λ _. AllBelow (length s.now.types) ts.now → AreHeldTasks (length s.now.types) tasks.old.items → AreHeldTasks (length s.now.types) tasks.new.items) }
+    ensures parts { IfOk result (λ _. AdmitParts (length s.now.slots.items) (said s.now) s.now.acyclic.0 (tasks_of s.now.types tasks.old.items)
+        (tasks_of s.now.types tasks.new.items) (types_at s.now.types ts.now)) }
+    ensures held { IfOk result (λ _. AllBelow (length s.now.types) ts.now → AreHeldTasks (length s.now.types) tasks.old.items
+        → AreHeldTasks (length s.now.types) tasks.new.items) }
     ensures cause { IfErr result (RefusesParts (said s.now) (types_at s.now.types ts.now)) }
 {
     let mut seen: IndexSet<usize> = IndexSet::new(alloc);
