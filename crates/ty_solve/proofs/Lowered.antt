@@ -24,7 +24,7 @@ use Rattle.ty_solve.proofs.Falling.{further-same, further-along}
 use Rattle.ty_solve.proofs.Reaching.{has-either, only}
 
 -- what holds of a type holds of what stands in it
-all-beside : (P : Typ → Type 0) (Q : Typs → Type 0) → ((t : Typ) (ts : Typs) → Q (more t ts) → P t × Q ts) → (t u : Typ) (ts us : Typs) → Beside t u ts us → Q ts → P t
+pub all-beside : (P : Typ → Type 0) (Q : Typs → Type 0) → ((t : Typ) (ts : Typs) → Q (more t ts) → P t × Q ts) → (t u : Typ) (ts us : Typs) → Beside t u ts us → Q ts → P t
 all-beside P Q g t u (more x ts) (more y us) (Beside.here _ _ _ _) h = (g t ts h).0
 all-beside P Q g t u (more x ts) (more y us) (Beside.later _ _ _ _ _ _ b) h = all-beside P Q g t u ts us b (g x ts h).1
 all-beside P Q g t u none us b h = elim b [ ]

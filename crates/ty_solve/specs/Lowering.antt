@@ -49,12 +49,14 @@ pub record Lowering (p : Problem) (s : ℕ → Entry) (first now : ℕ → Limit
 -- the variable y gets a limit no wider than `to`, and is noted if that is a change
 pub data LowersOne (old new : List Limit) (y : ℕ) (to : Limit) (noted now : List ℕ) : Type 0 where
   stays : new ≡ old → now ≡ noted → NoFurther (limit_at old y) to → LowersOne old new y to noted now
-  falls : new ≡ slice_set old y (narrower (limit_at old y) to) → now ≡ noted ++ y ∷ [] → (narrower (limit_at old y) to ≡ limit_at old y → ⊥) → LowersOne old new y to noted now
+  falls : new ≡ slice_set old y (narrower (limit_at old y) to) → now ≡ noted ++ y ∷ [] → (narrower (limit_at old y) to ≡ limit_at old y → ⊥)
+      → LowersOne old new y to noted now
 
 -- the first node of a type is looked at
 pub data Visits (ts : List Typ) (k : ℕ) (to : Limit) (old new : List Limit) (pending next noted now : List ℕ) : Type 0 where
   variable : (y : ℕ) → type_at ts k ≡ var y → next ≡ pending → LowersOne old new y to noted now → Visits ts k to old new pending next noted now
-  applied : (h : Symbol) (parts : List ℕ) → type_at ts k ≡ con h (types_at ts parts) → SymbolOver to.names h → next ≡ pending ++ parts → new ≡ old → now ≡ noted → Visits ts k to old new pending next noted now
+  applied : (h : Symbol) (parts : List ℕ) → type_at ts k ≡ con h (types_at ts parts) → SymbolOver to.names h → next ≡ pending ++ parts → new ≡ old
+      → now ≡ noted → Visits ts k to old new pending next noted now
 
 -- a type begins with a name that is too late
 abbrev pub RefusesName : Typ → Limit → UnifyRefused → Type 0

@@ -23,6 +23,7 @@ pub record Looks (ts : List Typ) (s : ℕ → Entry) (t : ℕ) (old new : List �
 
 -- n nodes of t are counted, and the others are those of what was put on
 pub record Counts (ts : List Typ) (s : ℕ → Entry) (w : ℕ → ℕ) (t : ℕ) (old new : List ℕ) (n : ℕ) : Type 0 where
-  pub exact : n < 2 ^ 64 - 1 → (f : ℕ → Typ) → Resolves f s → all_nodes (subs f (types_at ts new)) + n ≡ all_nodes (subs f (types_at ts old)) + nodes (sub f (type_at ts t))
+  pub exact : n < 2 ^ 64 - 1 → (f : ℕ → Typ) → Resolves f s → all_nodes (subs f (types_at ts new)) + n ≡ all_nodes (subs f (types_at ts old)) + nodes
+      (sub f (type_at ts t))
   pub large : n ≡ 2 ^ 64 - 1 → (f : ℕ → Typ) → Resolves f s → 2 ^ 64 - 1 ≤ nodes (sub f (type_at ts t))
   pub lighter : weights w (types_at ts new) < weights w (types_at ts old) + weight w (type_at ts t)

@@ -93,7 +93,8 @@ fn visit(
     requires { (y : ℕ) → type_at types.now k ≡ var y → y < length limits.old.items }
     ensures undone { undo_limits kept.new.items limits.new.items ≡ undo_limits kept.old.items limits.old.items }
     ensures same_length { length limits.new.items ≡ length limits.old.items }
-    ensures visits { IfOk result (λ _. Visits types.now k to limits.old.items limits.new.items pending.old.items pending.new.items noted.old.items noted.new.items) }
+    ensures visits { IfOk result (λ _. Visits types.now k to limits.old.items limits.new.items pending.old.items pending.new.items noted.old.items
+        noted.new.items) }
     ensures cause { IfErr result (RefusesName (type_at types.now k) to) }
 {
     match types.view(k) {
@@ -154,9 +155,12 @@ fn lower_under(
     requires { length limits.old.items ≡ length s.now.slots.items }
     ensures undone { undo_limits kept.new.items limits.new.items ≡ undo_limits kept.old.items limits.old.items }
     ensures same_length { length limits.new.items ≡ length limits.old.items }
-    ensures lowers { IfOk result (λ _. (p : Problem) (b : ℕ → Limit) → IsForced p (said s.now) → Lowering p (said s.now) b (limit_at limits.old.items) (noted.old.items ++ v ∷ []) → Lowering p (said s.now) b (limit_at limits.new.items) noted.new.items) }
+    ensures lowers { IfOk result (λ _. (p : Problem) (b : ℕ → Limit) → IsForced p (said s.now)
+        → Lowering p (said s.now) b (limit_at limits.old.items) (noted.old.items ++ v ∷ [])
+        → Lowering p (said s.now) b (limit_at limits.new.items) noted.new.items) }
     ensures fewer { IfOk result (λ _. sum limits.new.items + length noted.new.items ≤ sum limits.old.items + length noted.old.items) }
-    ensures cause { IfErr result (λ e. (p : Problem) (b : ℕ → Limit) → IsForced p (said s.now) → Lowering p (said s.now) b (limit_at limits.old.items) (noted.old.items ++ v ∷ []) → RefusesLimits p (said s.now) b e) }
+    ensures cause { IfErr result (λ e. (p : Problem) (b : ℕ → Limit) → IsForced p (said s.now)
+        → Lowering p (said s.now) b (limit_at limits.old.items) (noted.old.items ++ v ∷ []) → RefusesLimits p (said s.now) b e) }
 {
     match s.get(v) {
         None => Ok(()),
@@ -189,8 +193,10 @@ pub fn lower(
     requires { length limits.old.items ≡ length s.now.slots.items }
     ensures undone { undo_limits kept.new.items limits.new.items ≡ undo_limits kept.old.items limits.old.items }
     ensures same_length { length limits.new.items ≡ length limits.old.items }
-    ensures lowers { IfOk result (λ _. (p : Problem) → IsForced p (said s.now) → Lowering p (said s.now) (limit_at limits.old.items) (limit_at limits.old.items) (variables trail.now) → Lowering p (said s.now) (limit_at limits.old.items) (limit_at limits.new.items) []) }
-    ensures cause { IfErr result (λ e. (p : Problem) → IsForced p (said s.now) → Lowering p (said s.now) (limit_at limits.old.items) (limit_at limits.old.items) (variables trail.now) → RefusesLimits p (said s.now) (limit_at limits.old.items) e) }
+    ensures lowers { IfOk result (λ _. (p : Problem) → IsForced p (said s.now) → Lowering p (said s.now) (limit_at limits.old.items) (limit_at limits.old.items)
+        (variables trail.now) → Lowering p (said s.now) (limit_at limits.old.items) (limit_at limits.new.items) []) }
+    ensures cause { IfErr result (λ e. (p : Problem) → IsForced p (said s.now) → Lowering p (said s.now) (limit_at limits.old.items) (limit_at limits.old.items)
+        (variables trail.now) → RefusesLimits p (said s.now) (limit_at limits.old.items) e) }
 {
     let mut noted = changed(alloc, trail)?;
     while let Some(v) = noted.pop() {

@@ -49,7 +49,8 @@ fn within(
     ensures general { IfOk result (λ _. IsMostGeneral (said s.old) (said s.new) (type_at s.old.types a) (type_at s.old.types b)) }
     ensures small { IfOk result (λ _. IsSmall (said s.new) (type_at s.old.types a)) }
     ensures rest { IfOk result (λ _. LeavesRest (said s.old) (said s.new) (type_at s.old.types a) (type_at s.old.types b)) }
-    ensures settled { IfOk result (λ _. IsSettled (said s.old) (said s.new) (limit_at limits.old.items) (limit_at limits.new.items) (type_at s.old.types a) (type_at s.old.types b)) }
+    ensures settled { IfOk result (λ _. IsSettled (said s.old) (said s.new) (limit_at limits.old.items) (limit_at limits.new.items) (type_at s.old.types a)
+        (type_at s.old.types b)) }
     ensures cause { IfErr result (IsCauseWithin (said s.old) (limit_at limits.old.items) (type_at s.old.types a) (type_at s.old.types b)) }
 {
     match attempt(alloc, s, a, b, trail) {
@@ -135,17 +136,21 @@ impl Solver {
         requires a_below { is_below (length self.old.subst.slots.items) (type_at self.old.subst.types a) ≡ true }
         requires b_below { is_below (length self.old.subst.slots.items) (type_at self.old.subst.types b) ≡ true }
 
-        ensures general { IfOk result (λ _. IsMostGeneral (said self.old.subst) (said self.new.subst) (type_at self.old.subst.types a) (type_at self.old.subst.types b)) }
+        ensures general { IfOk result (λ _. IsMostGeneral (said self.old.subst) (said self.new.subst) (type_at self.old.subst.types a)
+            (type_at self.old.subst.types b)) }
         ensures limits { IfOk result (λ _. AskTheSame (said self.new.subst) (limit_at self.old.limits.items) (limit_at self.new.limits.items)) }
         ensures solvable { IfOk result (λ _. IsSolvableOver (said self.new.subst) (limit_at self.new.limits.items)) }
         ensures small { IfOk result (λ _. IsSmall (said self.new.subst) (type_at self.old.subst.types a)) }
         ensures fall { IfOk result (λ _. Fall (limit_at self.old.limits.items) (limit_at self.new.limits.items)) }
-        ensures rest { IfOk result (λ _. LeavesRest (said self.old.subst) (said self.new.subst) (type_at self.old.subst.types a) (type_at self.old.subst.types b)) }
-        ensures rest_limits { IfOk result (λ _. LeavesLimits (said self.old.subst) (limit_at self.old.limits.items) (limit_at self.new.limits.items) (type_at self.old.subst.types a) (type_at self.old.subst.types b)) }
+        ensures rest { IfOk result (λ _. LeavesRest (said self.old.subst) (said self.new.subst) (type_at self.old.subst.types a)
+            (type_at self.old.subst.types b)) }
+        ensures rest_limits { IfOk result (λ _. LeavesLimits (said self.old.subst) (limit_at self.old.limits.items) (limit_at self.new.limits.items)
+            (type_at self.old.subst.types a) (type_at self.old.subst.types b)) }
         ensures same_length { IfOk result (λ _. length self.new.subst.slots.items ≡ length self.old.subst.slots.items) }
         ensures types { self.new.subst.types ≡ self.old.subst.types }
 
-        ensures cause { IfErr result (IsCauseWithin (said self.old.subst) (limit_at self.old.limits.items) (type_at self.old.subst.types a) (type_at self.old.subst.types b)) }
+        ensures cause { IfErr result (IsCauseWithin (said self.old.subst) (limit_at self.old.limits.items) (type_at self.old.subst.types a)
+            (type_at self.old.subst.types b)) }
         ensures unchanged { OnErr result (self.new.subst.slots.items ≡ self.old.subst.slots.items) }
         ensures unchanged_limits { OnErr result (self.new.limits.items ≡ self.old.limits.items) }
     {

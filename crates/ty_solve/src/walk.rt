@@ -57,7 +57,8 @@ fn is_variable(s: &Subst, t: usize, v: usize) -> bool
 
 /// Whether a variable lies in the type that t stands for. Each type is looked through once.
 pub fn occurs(alloc: Global, s: &Subst, v: usize, t: usize) -> Result<bool, NoMemory>
-    ensures { IfOk result (λ found. (f : ℕ → Typ) → Resolves f (aside v (seen_in s.now.types s.now.slots.items)) → found ≡ is_in v (sub f (type_at s.now.types t))) }
+    ensures { IfOk result (λ found. (f : ℕ → Typ) → Resolves f (aside v (seen_in s.now.types s.now.slots.items))
+        → found ≡ is_in v (sub f (type_at s.now.types t))) }
 {
     let mut seen: IndexSet<usize> = IndexSet::new(alloc);
     let mut pending = Vec::new(alloc);
@@ -90,7 +91,8 @@ fn open(s: &Subst, t: usize, pending: &mut Vec<usize>) -> Result<u64, NoMemory>
 
 /// Whether the type that t stands for has at most `NODE_LIMIT` nodes.
 pub fn is_small(alloc: Global, s: &Subst, t: usize) -> Result<bool, NoMemory>
-    ensures { IfOk result (λ small. (f : ℕ → Typ) → Resolves f (seen_in s.now.types s.now.slots.items) → IsTrue small ↔ (nodes (sub f (type_at s.now.types t)) ≤ node_limit)) }
+    ensures { IfOk result (λ small. (f : ℕ → Typ) → Resolves f (seen_in s.now.types s.now.slots.items) → IsTrue small
+        ↔ (nodes (sub f (type_at s.now.types t)) ≤ node_limit)) }
 {
     let mut pending = Vec::new(alloc);
     pending.push(t)?;
