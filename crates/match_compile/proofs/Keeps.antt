@@ -102,7 +102,7 @@ built_value (a_con c) env w = gives (con tt c) w
 built_value (a_ref u) env w = gives (ref tt) w
 built_value (an_exn x) env w = or_fail (src.exception_in x env) w (λ v. gives v w)
 
-performed-not-built : (x : Bool) (p : BasisPrimitive) (u : Typ) (b : Built) → performed x p u ≡ by_building b → ⊥
+pub performed-not-built : (x : Bool) (p : BasisPrimitive) (u : Typ) (b : Built) → performed x p u ≡ by_building b → ⊥
 performed-not-built true p u b e = cc
 performed-not-built false p u b e = cc
 

@@ -10,3 +10,4 @@ pub mod Local
 pub mod TypeLemmas
 pub mod TypedLemmas
 pub mod Values
+pub mod Typed
