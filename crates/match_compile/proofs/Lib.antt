@@ -11,3 +11,4 @@ pub mod TypeLemmas
 pub mod TypedLemmas
 pub mod Values
 pub mod Typed
+pub mod Programs

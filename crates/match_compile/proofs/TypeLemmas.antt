@@ -1,8 +1,7 @@
 -- Types over the parameters in scope.
-use Rattle.std.proofs.Common.{◌≡◌, ℕ, zero, suc, Bool, true, false, not, ◌&&◌, ◌||◌, List, [], ◌∷◌, ◌++◌, map, length, Option, Some, None, nat_eq, nat_lt, if◌then◌else◌, refl, sym, ap, subst, ◌∙◌}
+use Rattle.std.proofs.Common.{◌≡◌, ℕ, Bool, true, false, not, ◌||◌, List, [], ◌∷◌, ◌++◌, map, length, Option, Some, None, nat_eq, nat_lt, if◌then◌else◌, refl, sym, ap, subst, ◌∙◌}
 use Rattle.std.specs.Prelude.{⊤}
 use Rattle.std.proofs.lemmas.Bool.{eqb-true, eq-eqb}
-use Rattle.mlc_base.specs.declared.label.Label.{Label}
 use Rattle.mlc_prims.specs.LitOf.{Literal}
 use Rattle.ty_core.specs.Types.{Typ, name, var, con, Typs, none, more, typs_of, admits, all_admit, attribute, allowed}
 use Rattle.ty_core.specs.Marks.{Allows}
@@ -12,9 +11,8 @@ use Rattle.ty_core.specs.declared.mark.Mark.TheVariants.{Any, Equality, Class}
 use Rattle.ty_core.specs.declared.name.Equality as Eq
 use Rattle.ty_core.specs.declared.name.Equality.TheVariants.{Always, ByArguments, Never}
 use Rattle.ty_core.specs.declared.scheme.Quantified.{Quantified}
-use Rattle.ir_poly.specs.Types.{function_type, row_type, unit_type, in_scope, is_equality, admits_in, over, all_over, are_new, changed, AreAllowed, Constructor, numbered, tuple_type}
+use Rattle.ir_poly.specs.Types.{row_type, unit_type, in_scope, is_equality, admits_in, over, all_over, are_new, changed, AreAllowed, Constructor, numbered, tuple_type}
 use Rattle.ir_poly.specs.TestsChecked.{HasLiteral, has_int, has_word, has_char, has_string, value_type, alone_type, HasConstructor}
-use Rattle.ir_poly.specs.TestsTyped.{option_read}
 use Rattle.ir_poly.proofs.ReplaceLemmas.{left-true, right-true, both-true, replace-agree, replace-replace, typs_of-read, argument-read, more-scope}
 use Rattle.match_compile.specs.Compile.{standing, scoped, all_scoped, option_scoped, opened, unclassed, own_types}
 use Rattle.match_compile.proofs.Numbers.{different}

@@ -1,9 +1,9 @@
 -- The compiled program is well typed where the program is.
-use Rattle.std.proofs.Common.{◌≡◌, ℕ, zero, suc, ◌<◌, ◌≤◌, Bool, true, false, not, ◌&&◌, List, [], ◌∷◌, ◌++◌, map, length, Option, Some, None, nat_lt, refl, sym, ap, subst, ◌∙◌, arith}
+use Rattle.std.proofs.Common.{◌≡◌, ℕ, suc, ◌<◌, ◌≤◌, Bool, true, false, not, List, [], ◌∷◌, ◌++◌, map, Option, Some, None, nat_lt, refl, sym, ap, subst, ◌∙◌, arith}
 use Rattle.mlc_base.specs.declared.label.Label.{Label}
 use Rattle.mlc_base.specs.declared.place.Place.{Place}
 use Rattle.mlc_prims.specs.declared.basis.BasisPrimitive.{BasisPrimitive}
-use Rattle.ty_core.specs.Types.{Typ, Typs, var, con, name, more, typs_of}
+use Rattle.ty_core.specs.Types.{Typ, con, name, typs_of}
 use Rattle.ty_core.specs.Marks.{Allows}
 use Rattle.ty_core.specs.declared.scheme.Quantified.{Quantified}
 use Rattle.ir_values.specs.Values.{truth_number}
@@ -12,14 +12,14 @@ use Rattle.ir_plain.specs.Tree as te
 use Rattle.ir_poly.specs.Prog.{Exc, Pat, any_pat, variable_pat, constant_pat, con_pat, con_of_pat, ref_of_pat, exn_pat, exn_of_pat, fields_pat, as_pat, Exp, constant_exp, variable_exp, own_exp, con_exp, ref_exp, exn_exp, prim_exp, fields_exp, let_exp, app_exp, case_exp, chain_exp, handle_exp, raise_exp, fn_exp, counted_exp, Fields, Chain, Rules, Fun, Decs, Binds, Funs, type_of, is_value}
 use Rattle.ir_poly.specs.ProgChecked as pr
 use Rattle.ir_poly.specs.ProgChecked.{ExcChecked, pat_onto, funs_onto, binds_onto}
-use Rattle.ir_poly.specs.Tests.{poly, Tests}
-use Rattle.ir_poly.specs.Types.{of_name, bool_name, function_type, ref_type, row_type, unit_type, admits_in, over, are_new, Constructor, argument_at, prim_type, arguments_at, result_at, numbered, tuple_type, put}
-use Rattle.ir_poly.specs.TestsChecked.{Known, of_type, general, own, exception, Knowns, at, exn_type, HasConstructor, value_type, alone_type, declared, group_knowns, AtomChecked, AtomsChecked, no_atoms_checked, an_atom_checked, RowChecked, no_row_checked, a_row_checked, con_checked, Checked, c_ret, c_let, c_exception, c_exception_alone, c_name, c_switch, c_first, c_counted, c_no_arms, c_arm, OpChecked, c_use, c_use_one, c_use_own, c_use_exception, c_const, c_con_alone, c_construct, c_ref_alone, c_refer, c_pack, c_make_record, c_prim_alone, c_prim, c_app, c_fn, c_block, c_handle, c_raise, c_raise_initial, FunChecked, c_last, c_more, FunsChecked, c_no_funs, c_fun}
+use Rattle.ir_poly.specs.Tests.{Tests}
+use Rattle.ir_poly.specs.Types.{function_type, ref_type, row_type, unit_type, admits_in, over, are_new, Constructor, argument_at, prim_type, arguments_at, result_at, numbered, tuple_type, put}
+use Rattle.ir_poly.specs.TestsChecked.{of_type, own, exception, Knowns, exn_type, HasConstructor, value_type, alone_type, declared, AtomChecked, AtomsChecked, no_atoms_checked, an_atom_checked, RowChecked, no_row_checked, a_row_checked, con_checked, Checked, c_ret, c_let, c_exception, c_exception_alone, c_name, c_switch, c_first, c_counted, c_no_arms, c_arm, OpChecked, c_use, c_use_one, c_use_own, c_use_exception, c_const, c_con_alone, c_construct, c_ref_alone, c_refer, c_pack, c_make_record, c_prim_alone, c_prim, c_app, c_fn, c_block, c_handle, c_raise, c_raise_initial, FunChecked, c_last, c_more, FunsChecked, c_no_funs, c_fun}
 use Rattle.ir_poly.proofs.SaidLemmas.{said}
-use Rattle.ir_poly.proofs.ReplaceLemmas.{left-true, right-true, both-true, row_read, row_type-read, arguments-read, result-read, tuple-read}
+use Rattle.ir_poly.proofs.ReplaceLemmas.{left-true, both-true, row_read, row_type-read, arguments-read, result-read, tuple-read}
 use Rattle.match_compile.specs.Compile as pass
 use Rattle.match_compile.specs.Compile.{Names, no_names, named, funs_named, past_group, scoped, all_scoped, option_scoped, standing, unclassed, bool_type, exception_type, atom, excepted, Otherwise, again, initial, otherwise, otherwise_op, Spots, no_spots, spot, spots, spots_named, past_pat, tests, Shape, plain, alone, recorded, general_shape, shape, record_type, together, past_shape, shape_spots, shaped, grouped, Built, a_con, a_ref, an_exn, Way, by_call, by_building, by_performing, used_at, is_tuple, arity, performed, way, weighed, past_built, beginning, building, along, value_at, past_tuple, past_fields, past_chain, past_rules, past_fun, past_decs, past_binds, past_funs, binds_spots, val_named, decs_named, field_row, field_atoms, tuple_atoms, making, making_tuple, making_all, links, rules, function, functions, bindings, decs, compile}
-use Rattle.match_compile.proofs.Numbers.{le-trans, le-suc, le-refl, le-less, less-of, pat-up, shape-up, group-up, split-up, built-up, up, tuple-up, fields-up, chain-up, fun-up, rules-up, decs-up, binds-up, funs-up}
+use Rattle.match_compile.proofs.Numbers.{le-trans, le-suc, le-refl, le-less, less-of, pat-up, shape-up, group-up, up, tuple-up, fields-up, chain-up, fun-up, rules-up, binds-up, funs-up}
 use Rattle.match_compile.proofs.Keeps.{performed-not-built, performed-tuple, sole}
 use Rattle.match_compile.proofs.Values.{tests-value, value-made}
 use Rattle.match_compile.proofs.TypeLemmas.{scoped-over, scoped-all-over, Within, within-none, within-more, within-less, new-within, allows-scoped, are-allowed-scoped, instance-scoped, allowed-unclassed, literal-scoped, value-scoped, alone-scoped, constructor-scoped, tuple-many}

@@ -1,28 +1,27 @@
 -- What is known of variables in the two programs; patterns, bindings and groups.
-use Rattle.std.proofs.Common.{◌≡◌, ℕ, zero, suc, ◌<◌, ◌≤◌, Bool, true, false, ◌&&◌, ◌||◌, List, [], ◌∷◌, ◌++◌, length, Option, Some, None, nat_eq, nat_lt, if◌then◌else◌, refl, sym, ap, subst, ◌∙◌, arith}
+use Rattle.std.proofs.Common.{◌≡◌, ℕ, suc, ◌<◌, ◌≤◌, Bool, true, false, ◌||◌, List, [], ◌∷◌, ◌++◌, Option, Some, None, nat_eq, if◌then◌else◌, refl, sym, ap, subst, ◌∙◌, arith}
 use Rattle.std.specs.Prelude.{⊤}
 use Rattle.std.specs.Map.{lookup}
 use Rattle.std.proofs.lemmas.Bool.{eq-eqb}
 use Rattle.mlc_base.specs.declared.label.Label.{Label}
 use Rattle.mlc_base.specs.declared.label.Label.TheVariants.{Number}
-use Rattle.ty_core.specs.Types.{Typ, var, typs_of}
-use Rattle.ty_core.specs.Statics.{replace}
+use Rattle.ty_core.specs.Types.{Typ, var}
 use Rattle.ty_core.specs.declared.scheme.Quantified.{Quantified}
 use Rattle.ir_values.specs.Values.{same_label}
 use Rattle.ir_plain.specs.Tree as te
 use Rattle.ir_plain.specs.Tree.{is_value, is_value_op}
-use Rattle.ir_poly.specs.Prog.{Exc, fixed, held, Pat, any_pat, variable_pat, constant_pat, con_pat, con_of_pat, ref_of_pat, exn_pat, exn_of_pat, fields_pat, as_pat, PatFields, no_pats, a_pat, Fun, Funs, no_funs, a_fun}
+use Rattle.ir_poly.specs.Prog.{Exc, Pat, PatFields, Fun, Funs, no_funs, a_fun}
 use Rattle.ir_poly.specs.ProgMeaning.{size_of}
 use Rattle.ir_poly.specs.ProgChecked as pr
 use Rattle.ir_poly.specs.ProgChecked.{pat_onto, pats_onto, each_onto, funs_onto, ExcChecked}
-use Rattle.ir_poly.specs.Tests.{Use, inst, poly, Tests}
-use Rattle.ir_poly.specs.Types.{unit_type, row_type, ref_type, function_type, in_scope, admits_in, over, all_over, are_new, changed, AreAllowed, Constructor}
-use Rattle.ir_poly.specs.TestsChecked.{Known, of_type, general, own, exception, Knowns, at, exn_type, HasConstructor, declared, may_generalise, group_knowns, is_size, AtomChecked, atom_checked, RowChecked, no_row_checked, a_row_checked, NameChecked, fixed_checked, held_checked, literal_checked, con_checked, con_of_checked, exn_checked, exn_of_checked, record_checked, Checked, c_ret, c_let, c_name, c_rec, c_switch, c_first, ArmsChecked, c_no_arms, c_arm, OpChecked, c_use, c_use_one, c_use_own, c_content, c_make_record, c_select, c_block, c_raise_initial, FunsChecked}
+use Rattle.ir_poly.specs.Tests.{inst, poly, Tests}
+use Rattle.ir_poly.specs.Types.{row_type, in_scope, over, are_new, Constructor}
+use Rattle.ir_poly.specs.TestsChecked.{Known, of_type, general, own, exception, Knowns, at, exn_type, declared, may_generalise, group_knowns, is_size, AtomChecked, atom_checked, RowChecked, no_row_checked, a_row_checked, NameChecked, fixed_checked, held_checked, literal_checked, con_checked, con_of_checked, exn_checked, exn_of_checked, record_checked, Checked, c_ret, c_let, c_name, c_rec, c_switch, ArmsChecked, c_no_arms, c_arm, OpChecked, c_use, c_use_one, c_content, c_make_record, c_select, c_block, FunsChecked}
 use Rattle.ir_poly.proofs.ReplaceLemmas.{over-mono, more-scope, row_read, row_type-read, length-read, part-read}
 use Rattle.match_compile.specs.Compile as pass
 use Rattle.match_compile.specs.Compile.{Names, named, each_named, funs_named, past_group, scoped, option_scoped, standing, unclassed, own_types, atom, put, excepted, Otherwise, otherwise, otherwise_op, initial, Spots, no_spots, spot, spots, field_spots, spots_named, past_pat, past_pats, tests, field_tests, row_of, spots_row, record_type, together, part, split, past_split, split_spots, function, past_fun, grouped}
 use Rattle.match_compile.proofs.Numbers.{different, le-trans, le-suc, le-refl, le-less, less-of, pat-up, split-up, group-up}
-use Rattle.match_compile.proofs.TypeLemmas.{scoped-over, Within, within-more, new-within, scoped-more, own-instance, own-allowed, own-over, literal-scoped, constructor-scoped}
+use Rattle.match_compile.proofs.TypeLemmas.{scoped-over, scoped-more, own-instance, own-allowed, own-over, literal-scoped, constructor-scoped}
 
 -- an exception's argument is over the parameters in scope
 abbrev pub option_over : List Quantified → Option Typ → Bool

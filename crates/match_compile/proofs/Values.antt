@@ -1,5 +1,5 @@
 -- What is generalised becomes what can be generalised.
-use Rattle.std.proofs.Common.{◌≡◌, ℕ, suc, Bool, true, false, ◌&&◌, List, [], Some, refl, sym, subst}
+use Rattle.std.proofs.Common.{◌≡◌, ℕ, suc, Bool, true, false, ◌&&◌, List, [], refl}
 use Rattle.std.specs.Prelude.{⊤}
 use Rattle.mlc_base.specs.declared.place.Place.{Place}
 use Rattle.mlc_prims.specs.declared.basis.BasisPrimitive.{BasisPrimitive}
@@ -7,9 +7,9 @@ use Rattle.ty_core.specs.Types.{Typ}
 use Rattle.ty_core.specs.declared.scheme.Quantified.{Quantified}
 use Rattle.ir_plain.specs.Tree as te
 use Rattle.ir_poly.specs.Prog.{Pat, any_pat, variable_pat, constant_pat, con_pat, con_of_pat, ref_of_pat, exn_pat, exn_of_pat, fields_pat, as_pat, PatFields, no_pats, a_pat, Exp, constant_exp, variable_exp, own_exp, con_exp, ref_exp, exn_exp, prim_exp, fields_exp, let_exp, app_exp, case_exp, chain_exp, handle_exp, raise_exp, fn_exp, counted_exp, Fields, no_fields, a_field, type_of, is_construction, is_value, are_values}
-use Rattle.ir_poly.specs.Tests.{poly, Tests}
-use Rattle.ir_poly.proofs.ReplaceLemmas.{left-true, right-true, both-true}
-use Rattle.match_compile.specs.Compile.{Names, scoped, atom, put, past_pat, tests, field_tests, Built, a_con, a_ref, an_exn, Way, by_call, by_building, by_performing, way, weighed, past_built, beginning, building, along, value_at, past_tuple, tuple_atoms, making, making_tuple, making_all}
+use Rattle.ir_poly.specs.Tests.{Tests}
+use Rattle.ir_poly.proofs.ReplaceLemmas.{left-true, right-true}
+use Rattle.match_compile.specs.Compile.{Names, scoped, put, past_pat, tests, field_tests, Built, a_con, a_ref, an_exn, Way, by_call, by_building, by_performing, way, weighed, past_built, beginning, building, along, value_at, making, making_all}
 
 and-true : (b : Bool) → b ≡ true → (b && true) ≡ true
 and-true true e = refl
