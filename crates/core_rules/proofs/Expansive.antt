@@ -7,11 +7,11 @@ use Rattle.ty_core.specs.declared.mark.Mark.{Mark}
 use Rattle.ty_core.specs.declared.env.Status.TheVariants.{Variable}
 use Rattle.sml_tree.specs.declared.ident.Vid.{Vid}
 use Rattle.sml_tree.specs.BareTree.{Pat, Exp, no_binds, bind}
+use Rattle.ty_basis.specs.Types.{unit_type}
 use Rattle.core_rules.specs.Words.{same_vid}
 use Rattle.core_rules.specs.Objects as static
 use Rattle.core_rules.specs.Objects.{Context}
 use Rattle.core_rules.specs.Choices.{Choices}
-use Rattle.core_rules.specs.Initial.{unit_type}
 use Rattle.core_rules.specs.Typing.{Bound, BindsHave, bind_has, no_bind_has, val_has, is_non_expansive, has_none, bound_have_none, closed, together, marks_of, scoped_in}
 use Rattle.core_rules.specs.Laws.{ExpansiveBindsNoParameter}
 use Rattle.core_rules.proofs.Basics.{units-may-stand}
@@ -44,18 +44,18 @@ record IsOne (n : ℕ) (vs : List Bound) : Type 0 where
   is : vs ≡ bound ∷ []
   none : bound_have_none n bound ≡ true
 
-module _ {texts : List (List ℕ)} {m : ℕ → Bool} where
-  one-binding : {c : Context} {n : ℕ} {r : ℕ → Typ} {q : Place} {a : Pat} {e : Exp} {vs : List Bound} {k : Choices} → BindsHave texts m c n r (bind q a e no_binds) vs k → is_non_expansive c.env e ≡ false → IsOne n vs
+module _ {m : ℕ → Bool} where
+  one-binding : {c : Context} {n : ℕ} {r : ℕ → Typ} {q : Place} {a : Pat} {e : Exp} {vs : List Bound} {k : Choices} → BindsHave m c n r (bind q a e no_binds) vs k → is_non_expansive c.env e ≡ false → IsOne n vs
   one-binding (bind_has p {vs = w} a e h s no_bind_has) x = record { bound = w; is = refl; none = s x }
 
-  no-binding : {c : Context} {n : ℕ} {r : ℕ → Typ} {us : List Bound} {k : Choices} → BindsHave texts m c n r no_binds us k → us ≡ []
+  no-binding : {c : Context} {n : ℕ} {r : ℕ → Typ} {us : List Bound} {k : Choices} → BindsHave m c n r no_binds us k → us ≡ []
   no-binding no_bind_has = refl
 
 pub expansive-binds-no-parameter : ExpansiveBindsNoParameter
-expansive-binds-no-parameter texts m c p q r as_ a e made d k (val_has p' q' extra {vs = vs} {us = us} g dist plain rec_) x y v h =
+expansive-binds-no-parameter m c p q r as_ a e made d k (val_has p' q' extra {vs = vs} {us = us} g fns dist plain rec_) x y v h =
     let bs = bind r a e no_binds in
     let marks = marks_of c as_ bs no_binds extra in
-    let may = units-may-stand texts m c marks (general-marks (scoped_in c as_ bs no_binds) extra g) in
+    let may = units-may-stand m c marks (general-marks (scoped_in c as_ bs no_binds) extra g) in
     let one : IsOne (length marks) vs = one-binding (plain (λ n. unit_type) may) x in
     let none : us ≡ [] = no-binding (rec_ (λ n. unit_type) may) in
     let found : static.at same_vid (static.values (closed marks ((one.bound ++ []) ++ []))) y ≡ Some v =

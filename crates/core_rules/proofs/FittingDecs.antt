@@ -15,6 +15,7 @@ use Rattle.sml_tree.specs.declared.ident.Tyvar.{Tyvar}
 use Rattle.sml_tree.specs.declared.ident.Vid.{Vid}
 use Rattle.sml_tree.specs.BareTree.{Pat, PatFields, TypeBind, ConBind, DataBind, ExBind, new_exn, same_exn, fn, Decs, Dec, Binds, no_binds, bind}
 use Rattle.mlc_prims.specs.Table.{literal_eq}
+use Rattle.ty_basis.specs.Types.{Row, row_type, unit_type}
 use Rattle.core_rules.specs.Words.{same_vid}
 use Rattle.core_rules.specs.Objects as static
 use Rattle.core_rules.specs.Objects.{Context, TypeStructure, types, values, structures}
@@ -31,7 +32,6 @@ use Rattle.core_rules.specs.Fits.{static_status, dynamic_status, SameValues, IsO
 use Rattle.core_rules.proofs.LookUps.{at-append, value-plus, tycon-plus, structure-plus, vid-tells}
 use Rattle.core_rules.proofs.Fitting.{not-none, not-false, some-is, status-or, fits-plus, values-fit, nothing-fits, opened-fit}
 use Rattle.core_rules.proofs.Basics.{units-may-stand}
-use Rattle.core_rules.specs.Initial.{unit_type}
 use Rattle.ty_core.specs.Statics.{named}
 use Rattle.ty_core.specs.declared.name.Equality.TheVariants.{ByArguments, Never}
 
@@ -73,17 +73,17 @@ found-on P (Some v) go h = h v
 
 -- What patterns bind
 
-abbrev bound_status : Bound → Vid → Option Status
+abbrev pub bound_status : Bound → Vid → Option Status
 bound_status vs x = option_map (λ t. Variable) (static.at same_vid vs x)
 
-record BindsThese (vs : Bound) (d : Env) : Type 0 where
-  same : (x : Vid) → bound_status vs x ≡ dynamic_status (value_in d x)
-  only : IsOfValues d
+pub record BindsThese (vs : Bound) (d : Env) : Type 0 where
+  pub same : (x : Vid) → bound_status vs x ≡ dynamic_status (value_in d x)
+  pub only : IsOfValues d
 
-binds-nothing : BindsThese [] nothing
+pub binds-nothing : BindsThese [] nothing
 binds-nothing = record { same = λ x. refl; only = record { tycons = λ x. refl; structures = λ x. refl } }
 
-binds-one : (x : Vid) (t : Typ) (v : Value) → BindsThese ((x, t) ∷ []) (bound_to x v)
+pub binds-one : (x : Vid) (t : Typ) (v : Value) → BindsThese ((x, t) ∷ []) (bound_to x v)
 binds-one x t v = record { same = λ y. by (same_vid y x); only = record { tycons = λ x. refl; structures = λ x. refl } }
   where
     by : (b : Bool) → option_map (λ t. Variable) (cond b (Some t) None) ≡ dynamic_status (if b then Some (record { status = Variable; value = v }) else None)
@@ -96,7 +96,7 @@ variables-or None (Some t) = refl
 variables-or (Some t) None = refl
 variables-or (Some t) (Some u) = refl
 
-bound-append : (vs us : Bound) (x : Vid) → bound_status (vs ++ us) x ≡ option_or (bound_status us x) (bound_status vs x)
+pub bound-append : (vs us : Bound) (x : Vid) → bound_status (vs ++ us) x ≡ option_or (bound_status us x) (bound_status vs x)
 bound-append vs us x = ap (option_map (λ t. Variable)) (at-append same_vid vid-tells vs us x) ∙ variables-or (static.at same_vid vs x) (static.at same_vid us x)
 
 dynamic-or : (p' p : Option Found) → dynamic_status (option_or p' p) ≡ option_or (dynamic_status p') (dynamic_status p)
@@ -109,13 +109,13 @@ only-plus d d' o o' = record {
   structures = λ x. structure-plus d d' x ∙ ap (λ p. option_or p (structure_in d x)) (o'.structures x) ∙ o.structures x;
 }
 
-binds-both : {vs us : Bound} (d d' : Env) → BindsThese vs d → BindsThese us d' → BindsThese (vs ++ us) (plus d d')
+pub binds-both : {vs us : Bound} (d d' : Env) → BindsThese vs d → BindsThese us d' → BindsThese (vs ++ us) (plus d d')
 binds-both {vs} {us} d d' h k = record {
   same = λ x. bound-append vs us x ∙ ap (λ o. option_or o (bound_status vs x)) (k.same x) ∙ ap (option_or (dynamic_status (value_in d' x))) (h.same x) ∙ sym (dynamic-or (value_in d' x) (value_in d x)) ∙ ap dynamic_status (sym (value-plus d d' x));
   only = only-plus d d' h.only k.only;
 }
 
-put-status : (n : ℕ) (r : ℕ → Typ) (vs : Bound) (x : Vid) → bound_status (put_bound n r vs) x ≡ bound_status vs x
+pub put-status : (n : ℕ) (r : ℕ → Typ) (vs : Bound) (x : Vid) → bound_status (put_bound n r vs) x ≡ bound_status vs x
 put-status n r [] x = refl
 put-status n r (b ∷ vs) x = by (same_vid x b.0) (put-status n r vs x)
   where
@@ -195,9 +195,9 @@ fields-on P n b (Some gs) go h = by (Rattle.std.specs.Prelude.◌||◌ b (nat_eq
     by true = h gs
     by false = tt
 
-module _ (texts : List (List ℕ)) (m : ℕ → Bool) (c : Context) (d : Env) (f : Fits c.env d) (store : List Value) where
+module _ (m : ℕ → Bool) (c : Context) (d : Env) (f : Fits c.env d) (store : List Value) where
   mutual
-    pat-on : {a : Pat} {t : Typ} {vs : Bound} {k : Choices} → PatHas texts m c a t vs k → (v : Value) → OnBinds (BindsThese vs) (match d store a v)
+    pat-on : {a : Pat} {t : Typ} {vs : Bound} {k : Choices} → PatHas m c a t vs k → (v : Value) → OnBinds (BindsThese vs) (match d store a v)
     pat-on (Typing.wild_has p o) v = binds-nothing
     pat-on (Typing.constant_has p k) v = same-on (option_and_then (literal_eq (matching.constant_of k)) (matching.literal_in v))
     pat-on (Typing.variable_has p {x = x} {t = t} n kept o) v = variable-on (static.value_in c.env x) (value_in d x) x t v (f.values [] x) n
@@ -210,7 +210,7 @@ module _ (texts : List (List ℕ)) (m : ℕ → Bool) (c : Context) (d : Env) (f
     pat-on (Typing.typed_has p h e) v = pat-on h v
     pat-on (Typing.as_has p {x = x} {a = a} {t = t} n kept e h) v = then-on _ _ (match d store a v) (λ d'. binds (plus (bound_to x v) d')) (pat-on h v) (λ d' k. binds-both (bound_to x v) d' (binds-one x t v) k)
 
-    pats-on : {fs : PatFields} {r : static.Row} {vs : Bound} {k : Choices} → PatsHave texts m c fs r vs k → (gs : Fields) → OnBinds (BindsThese vs) (match_fields d store fs gs)
+    pats-on : {fs : PatFields} {r : Row} {vs : Bound} {k : Choices} → PatsHave m c fs r vs k → (gs : Fields) → OnBinds (BindsThese vs) (match_fields d store fs gs)
     pats-on Typing.no_field_has gs = binds-nothing
     pats-on (Typing.field_has l {a = a} {fs = fs} h k) gs =
         found-on _ (field_in l gs) (λ v. then_match (match d store a v) (λ d1. then_match (match_fields d store fs gs) (λ d2. binds (plus d1 d2))))
@@ -219,7 +219,7 @@ module _ (texts : List (List ℕ)) (m : ℕ → Bool) (c : Context) (d : Env) (f
 
 -- Recursive bindings
 
-abbrev IsArrow : Typ → Type 0
+abbrev pub IsArrow : Typ → Type 0
 IsArrow (Rattle.ty_core.specs.Types.var v) = ⊥
 IsArrow (con arrow ts) = Unit {0}
 IsArrow (con (labels ls) ts) = ⊥
@@ -232,10 +232,10 @@ constant-no-arrow (term.char n) h = h
 constant-no-arrow (term.string s) h = h
 
 -- the identifiers of vs as variables, and then those of e
-record Adds (vs : Bound) (e d : Env) : Type 0 where
-  same : (x : Vid) → dynamic_status (value_in d x) ≡ option_or (bound_status vs x) (dynamic_status (value_in e x))
-  tycons : (x : ℕ) → tycon_in d x ≡ tycon_in e x
-  structures : (x : ℕ) → structure_in d x ≡ structure_in e x
+pub record Adds (vs : Bound) (e d : Env) : Type 0 where
+  pub same : (x : Vid) → dynamic_status (value_in d x) ≡ option_or (bound_status vs x) (dynamic_status (value_in e x))
+  pub tycons : (x : ℕ) → tycon_in d x ≡ tycon_in e x
+  pub structures : (x : ℕ) → structure_in d x ≡ structure_in e x
 
 adds-one : (x : Vid) (t : Typ) (v : Value) (vs : Bound) (e d : Env) → Adds vs e d → Adds ((x, t) ∷ vs) e (value x Variable v d)
 adds-one x t v vs e d h = record { same = λ y. by y (same_vid y x); tycons = h.tycons; structures = h.structures }
@@ -244,24 +244,24 @@ adds-one x t v vs e d h = record { same = λ y. by y (same_vid y x); tycons = h.
     by y true = refl
     by y false = h.same y
 
-adds-none : (e : Env) → Adds [] e e
+pub adds-none : (e : Env) → Adds [] e e
 adds-none e = record { same = λ x. refl; tycons = λ x. refl; structures = λ x. refl }
 
-module _ (texts : List (List ℕ)) (m : ℕ → Bool) (c : Context) where
-  each-adds : {a : Pat} {t : Typ} {vs : Bound} {k : Choices} → PatHas texts m c a t vs k → IsArrow t → (v : Value) (e : Env) → Adds vs e (each_bound a v e)
+module _ (m : ℕ → Bool) (c : Context) where
+  pub each-adds : {a : Pat} {t : Typ} {vs : Bound} {k : Choices} → PatHas m c a t vs k → IsArrow t → (v : Value) (e : Env) → Adds vs e (each_bound a v e)
   each-adds (Typing.wild_has p o) r v e = adds-none e
   each-adds (Typing.constant_has p k) r v e = absurd (constant-no-arrow k r)
   each-adds (Typing.variable_has p {x = x} {t = t} n kept o) r v e = adds-one x t v [] e e (adds-none e)
   each-adds (Typing.constructor_has p e' n i) r v e = absurd r
   each-adds (Typing.built_has p i) r v e = absurd r
-  each-adds (Typing.fields_has p {r = row} h e') r v e = let bad : IsArrow (static.row_type (static.sorted texts row)) = subst IsArrow e' r in absurd bad
-  each-adds (Typing.open_has p {r = row} others h d e' o) r v e = let bad : IsArrow (static.row_type (static.sorted texts (row ++ others))) = subst IsArrow e' r in absurd bad
+  each-adds (Typing.fields_has p {r = row} h e') r v e = let bad : IsArrow (row_type (static.sorted row)) = subst IsArrow e' r in absurd bad
+  each-adds (Typing.open_has p {r = row} others h d e' o) r v e = let bad : IsArrow (row_type (static.sorted (row ++ others))) = subst IsArrow e' r in absurd bad
   each-adds (Typing.con_has p q e' n i h) r v e = absurd r
   each-adds (Typing.built_con_has p i h) r v e = absurd r
   each-adds (Typing.typed_has p h e') r v e = each-adds h r v e
   each-adds (Typing.as_has p {x = x} {a = a} {t = t} {vs = vs} n kept e' h) r v e = adds-one x t v vs e (each_bound a v e) (each-adds h r v e)
 
-  unrolled-binds : {n : ℕ} {r : ℕ → Typ} (e : Env) (all rs : Binds) {us : List Bound} {k : Choices} → all_fns rs ≡ true → BindsHave texts m c n r rs us k → BindsThese (together us) (unrolled e all rs)
+  unrolled-binds : {n : ℕ} {r : ℕ → Typ} (e : Env) (all rs : Binds) {us : List Bound} {k : Choices} → all_fns rs ≡ true → BindsHave m c n r rs us k → BindsThese (together us) (unrolled e all rs)
   unrolled-binds e all no_binds h Typing.no_bind_has = binds-nothing
   unrolled-binds {n} {r} e all (bind p a (fn q rl) bs) h (Typing.bind_has p' {v = v} {vs = vs} {us = us} ph e' (Typing.fn_has q' rh) x bh) =
       let rest : BindsThese (together us) (unrolled e all bs) = unrolled-binds e all bs h bh in
@@ -289,7 +289,7 @@ general-marks (a ∷ as_) extra h = by a.equality (general-marks as_ extra h)
     by true h = h
     by false h = h
 
-closed-same : (marks : List Mark) (vs : Bound) (d : Env) → BindsThese vs d → SameValues (values (closed marks vs)) d
+pub closed-same : (marks : List Mark) (vs : Bound) (d : Env) → BindsThese vs d → SameValues (values (closed marks vs)) d
 closed-same marks vs d h x = go vs ∙ h.same x
   where
     go : (vs : Bound) → static_status (static.at same_vid (values (closed marks vs)) x) ≡ bound_status vs x
@@ -300,19 +300,19 @@ closed-same marks vs d h x = go vs ∙ h.same x
         by true h = refl
         by false h = h
 
-module _ (texts : List (List ℕ)) (m : ℕ → Bool) (call : Apply) where
-  binds-giving : {c : Context} (d : Env) {n : ℕ} {r : ℕ → Typ} {bs : Binds} {vs : List Bound} {k : Choices} → Fits c.env d → BindsHave texts m c n r bs vs k → (w : World Value) → Giving (BindsThese (together vs)) (eval_binds call d bs w)
+module _ (m : ℕ → Bool) (call : Apply) where
+  binds-giving : {c : Context} (d : Env) {n : ℕ} {r : ℕ → Typ} {bs : Binds} {vs : List Bound} {k : Choices} → Fits c.env d → BindsHave m c n r bs vs k → (w : World Value) → Giving (BindsThese (together vs)) (eval_binds call d bs w)
   binds-giving d f Typing.no_bind_has w = binds-nothing
   binds-giving {c} d {n} {r} f (Typing.bind_has p {a = a} {e = b} {bs = bs} {v = v} {vs = vs} {us = us} ph e hh x bh) w =
       then-giving (λ v. Unit {0}) _ (eval call d b w) (λ v w. on_match (match d w.store a v) w (λ d' w. then_do (eval_binds call d bs w) (λ d'' w. gives (plus d' d'') w)) (λ w. raises bind_packet w)) (any-giving (eval call d b w))
-      (λ u w t. match-giving (BindsThese v) _ (match d w.store a u) w (λ d' w. then_do (eval_binds call d bs w) (λ d'' w. gives (plus d' d'') w)) (λ w. raises bind_packet w) (pat-on texts m c d f w.store ph u)
+      (λ u w t. match-giving (BindsThese v) _ (match d w.store a u) w (λ d' w. then_do (eval_binds call d bs w) (λ d'' w. gives (plus d' d'') w)) (λ w. raises bind_packet w) (pat-on m c d f w.store ph u)
       (λ d' h. then-giving (BindsThese (together us)) _ (eval_binds call d bs w) (λ d'' w. gives (plus d' d'') w) (binds-giving d f bh w)
       (λ d'' w' g. binds-both d' d'' (record { same = λ x. sym (put-status n r vs x) ∙ ap (λ b. bound_status b x) (sym e) ∙ h.same x; only = h.only }) g)) tt)
 
-  recursive-giving : {c : Context} (d : Env) {n : ℕ} {r : ℕ → Typ} {rs : Binds} {vs us : Bound} {gs : List Bound} {k : Choices} (marks : List Mark) → us ≡ together gs → BindsHave texts m c n r rs gs k → (d' : Env) (w : World Value) → BindsThese vs d' →
+  recursive-giving : {c : Context} (d : Env) {n : ℕ} {r : ℕ → Typ} {rs : Binds} {vs us : Bound} {gs : List Bound} {k : Choices} (marks : List Mark) → us ≡ together gs → BindsHave m c n r rs gs k → (d' : Env) (w : World Value) → BindsThese vs d' →
       (b : Bool) → all_fns rs ≡ b → Giving (Fits (closed marks (vs ++ us))) (with_recursive d rs b d' w)
   recursive-giving {c} d {rs = rs} {vs} {us} {gs} marks e h d' w g true t =
-      let all : BindsThese (vs ++ us) (plus d' (recursive d rs)) = binds-both d' (recursive d rs) g (subst (λ u. BindsThese u (recursive d rs)) (sym e) (unrolled-binds texts m c d rs rs t h)) in
+      let all : BindsThese (vs ++ us) (plus d' (recursive d rs)) = binds-both d' (recursive d rs) g (subst (λ u. BindsThese u (recursive d rs)) (sym e) (unrolled-binds m c d rs rs t h)) in
       values-fit (values (closed marks (vs ++ us))) (plus d' (recursive d rs)) (closed-same marks (vs ++ us) (plus d' (recursive d rs)) all) all.only
   recursive-giving d marks e h d' w g false t = tt
 
@@ -334,14 +334,14 @@ flat-fits vs ts d h k o = record { paths = paths; values = vals; types = tys }
     tys (q ∷ qs) x = subst (λ p. BothFit None (option_and_then (λ d. tycon_in d x) (option_and_then (λ d. along d qs) p))) (sym (o q)) tt
 
 -- what two options that are joined give
-record Zipped {A B C : Type 0} (o : Option A) (p : Option B) (go : A × B → C) (c : C) : Type 0 where
-  one : A
-  other : B
-  left : o ≡ Some one
-  right : p ≡ Some other
-  is : go (one, other) ≡ c
+pub record Zipped {A B C : Type 0} (o : Option A) (p : Option B) (go : A × B → C) (c : C) : Type 0 where
+  pub one : A
+  pub other : B
+  pub left : o ≡ Some one
+  pub right : p ≡ Some other
+  pub is : go (one, other) ≡ c
 
-zipped : {A B C : Type 0} (o : Option A) (p : Option B) (go : A × B → C) (c : C) → option_map go (option_zip o p) ≡ Some c → Zipped o p go c
+pub zipped : {A B C : Type 0} (o : Option A) (p : Option B) (go : A × B → C) (c : C) → option_map go (option_zip o p) ≡ Some c → Zipped o p go c
 zipped (Some a) (Some b) go c e = record { one = a; other = b; left = refl; right = refl; is = some-is e }
 zipped None p go c e = not-none e
 zipped (Some a) None go c e = not-none e
@@ -354,133 +354,132 @@ entry-fits x s ts t d y h k = by (nat_eq y x)
     by true = h
     by false = k
 
-no-constructors : (f : Rattle.ty_core.specs.Statics.TypeFunction) → ConstructorsFit (record { function = f; constructors = [] }) nothing
+pub no-constructors : (f : Rattle.ty_core.specs.Statics.TypeFunction) → ConstructorsFit (record { function = f; constructors = [] }) nothing
 no-constructors f = record { values = λ x. refl; only = record { tycons = λ x. refl; structures = λ x. refl } }
 
 -- exceptions as they are bound
-record ExnsAre (vs : static.Values) (d : Env) : Type 0 where
-  same : SameValues vs d
-  only : IsOfValues d
+pub record ExnsAre (vs : static.Values) (d : Env) : Type 0 where
+  pub same : SameValues vs d
+  pub only : IsOfValues d
 
 abbrev IsZero : ℕ → Type 0
 IsZero zero = Unit {0}
 IsZero (suc n) = ⊥
 
-module _ (texts : List (List ℕ)) where
-  types-same : (c : Context) (bs : List TypeBind) (ts : static.Map ℕ TypeStructure) → types_bound texts c bs ≡ Some ts → (y : ℕ) → BothFit (static.at nat_eq ts y) (tycon_in (types_env bs) y)
-  types-same c [] ts e y = subst (λ ts. BothFit (static.at nat_eq ts y) None) (some-is e) tt
-  types-same c (b ∷ bs) ts e y =
-      let z : Zipped (elaborated.type_of texts (elaborated.with_parameters texts c b.tyvars) b.ty) (types_bound texts c bs) (λ r. (b.tycon, record { function = record { arity = length b.tyvars; body = r.0 }; constructors = [] }) ∷ r.1) ts =
-      zipped (elaborated.type_of texts (elaborated.with_parameters texts c b.tyvars) b.ty) (types_bound texts c bs) (λ r. (b.tycon, record { function = record { arity = length b.tyvars; body = r.0 }; constructors = [] }) ∷ r.1) ts e in
-      subst (λ ts. BothFit (static.at nat_eq ts y) (tycon_in (types_env (b ∷ bs)) y)) z.is
-      (entry-fits b.tycon (record { function = record { arity = length b.tyvars; body = z.one }; constructors = [] }) z.other nothing (types_env bs) y (no-constructors _) (types-same c bs z.other z.right y))
+types-same : (c : Context) (bs : List TypeBind) (ts : static.Map ℕ TypeStructure) → types_bound c bs ≡ Some ts → (y : ℕ) → BothFit (static.at nat_eq ts y) (tycon_in (types_env bs) y)
+types-same c [] ts e y = subst (λ ts. BothFit (static.at nat_eq ts y) None) (some-is e) tt
+types-same c (b ∷ bs) ts e y =
+    let z : Zipped (elaborated.type_of (elaborated.with_parameters c b.tyvars) b.ty) (types_bound c bs) (λ r. (b.tycon, record { function = record { arity = length b.tyvars; body = r.0 }; constructors = [] }) ∷ r.1) ts =
+    zipped (elaborated.type_of (elaborated.with_parameters c b.tyvars) b.ty) (types_bound c bs) (λ r. (b.tycon, record { function = record { arity = length b.tyvars; body = r.0 }; constructors = [] }) ∷ r.1) ts e in
+    subst (λ ts. BothFit (static.at nat_eq ts y) (tycon_in (types_env (b ∷ bs)) y)) z.is
+    (entry-fits b.tycon (record { function = record { arity = length b.tyvars; body = z.one }; constructors = [] }) z.other nothing (types_env bs) y (no-constructors _) (types-same c bs z.other z.right y))
 
-  types-plain : (bs : List TypeBind) → ((x : Vid) → value_in (types_env bs) x ≡ None) × ((x : ℕ) → structure_in (types_env bs) x ≡ None)
-  types-plain [] = (λ x. refl, λ x. refl)
-  types-plain (b ∷ bs) = ((types-plain bs).0, (types-plain bs).1)
+types-plain : (bs : List TypeBind) → ((x : Vid) → value_in (types_env bs) x ≡ None) × ((x : ℕ) → structure_in (types_env bs) x ≡ None)
+types-plain [] = (λ x. refl, λ x. refl)
+types-plain (b ∷ bs) = ((types-plain bs).0, (types-plain bs).1)
 
-  cons-same : (c : Context) (as_ : List Tyvar) (n : TyName) (cs : List ConBind) (vs : static.Values) → constructors_of texts c as_ n cs ≡ Some vs → SameValues vs (cons_env cs)
-  cons-same c as_ n [] vs e x = subst (λ vs. static_status (static.at same_vid vs x) ≡ None) (some-is e) refl
-  cons-same c as_ n (b ∷ cs) vs e x =
-      let z : Zipped (elaborated.behind_of texts (elaborated.with_parameters texts c as_) b.of_ty) (constructors_of texts c as_ n cs) (λ r. (b.vid, record { scheme = record { marks = elaborated.any_marks texts as_; body = elaborated.constructed texts n r.0 }; status = Constructor }) ∷ r.1) vs =
-      zipped (elaborated.behind_of texts (elaborated.with_parameters texts c as_) b.of_ty) (constructors_of texts c as_ n cs) (λ r. (b.vid, record { scheme = record { marks = elaborated.any_marks texts as_; body = elaborated.constructed texts n r.0 }; status = Constructor }) ∷ r.1) vs e in
-      subst (λ vs. static_status (static.at same_vid vs x) ≡ dynamic_status (value_in (cons_env (b ∷ cs)) x)) z.is (by z.one z.other (same_vid x b.vid) (cons-same c as_ n cs z.other z.right x))
-    where
-      by : (t : Option Typ) (vs : static.Values) (k : Bool) → static_status (static.at same_vid vs x) ≡ dynamic_status (value_in (cons_env cs) x) →
-          static_status (cond k (Some (record { scheme = record { marks = elaborated.any_marks texts as_; body = elaborated.constructed texts n t }; status = Constructor })) (static.at same_vid vs x)) ≡ dynamic_status (if k then Some (record { status = Constructor; value = con_value (Rattle.core_rules.specs.Values.declared b.vid) }) else value_in (cons_env cs) x)
-      by t vs true h = refl
-      by t vs false h = h
+cons-same : (c : Context) (as_ : List Tyvar) (n : TyName) (cs : List ConBind) (vs : static.Values) → constructors_of c as_ n cs ≡ Some vs → SameValues vs (cons_env cs)
+cons-same c as_ n [] vs e x = subst (λ vs. static_status (static.at same_vid vs x) ≡ None) (some-is e) refl
+cons-same c as_ n (b ∷ cs) vs e x =
+    let z : Zipped (elaborated.behind_of (elaborated.with_parameters c as_) b.of_ty) (constructors_of c as_ n cs) (λ r. (b.vid, record { scheme = record { marks = elaborated.any_marks as_; body = elaborated.constructed n r.0 }; status = Constructor }) ∷ r.1) vs =
+    zipped (elaborated.behind_of (elaborated.with_parameters c as_) b.of_ty) (constructors_of c as_ n cs) (λ r. (b.vid, record { scheme = record { marks = elaborated.any_marks as_; body = elaborated.constructed n r.0 }; status = Constructor }) ∷ r.1) vs e in
+    subst (λ vs. static_status (static.at same_vid vs x) ≡ dynamic_status (value_in (cons_env (b ∷ cs)) x)) z.is (by z.one z.other (same_vid x b.vid) (cons-same c as_ n cs z.other z.right x))
+  where
+    by : (t : Option Typ) (vs : static.Values) (k : Bool) → static_status (static.at same_vid vs x) ≡ dynamic_status (value_in (cons_env cs) x) →
+        static_status (cond k (Some (record { scheme = record { marks = elaborated.any_marks as_; body = elaborated.constructed n t }; status = Constructor })) (static.at same_vid vs x)) ≡ dynamic_status (if k then Some (record { status = Constructor; value = con_value (Rattle.core_rules.specs.Values.declared b.vid) }) else value_in (cons_env cs) x)
+    by t vs true h = refl
+    by t vs false h = h
 
-  cons-only : (cs : List ConBind) → IsOfValues (cons_env cs)
-  cons-only [] = record { tycons = λ x. refl; structures = λ x. refl }
-  cons-only (b ∷ cs) = record { tycons = (cons-only cs).tycons; structures = (cons-only cs).structures }
+cons-only : (cs : List ConBind) → IsOfValues (cons_env cs)
+cons-only [] = record { tycons = λ x. refl; structures = λ x. refl }
+cons-only (b ∷ cs) = record { tycons = (cons-only cs).tycons; structures = (cons-only cs).structures }
 
-  record DatatypesFit (ts : static.Map ℕ TypeStructure) (d : Env) : Type 0 where
-    vals : SameValues (all_constructors ts) d
-    tys : (y : ℕ) → BothFit (static.at nat_eq ts y) (tycon_in d y)
-    structs : (y : ℕ) → structure_in d y ≡ None
+record DatatypesFit (ts : static.Map ℕ TypeStructure) (d : Env) : Type 0 where
+  vals : SameValues (all_constructors ts) d
+  tys : (y : ℕ) → BothFit (static.at nat_eq ts y) (tycon_in d y)
+  structs : (y : ℕ) → structure_in d y ≡ None
 
-  one-more : (c : Context) (b : DataBind) (bs : List DataBind) (n : TyName) (vs : static.Values) (ts : static.Map ℕ TypeStructure) → constructors_of texts c b.tyvars n b.cons ≡ Some vs → DatatypesFit ts (datatypes_env bs) →
-      DatatypesFit ((b.tycon, record { function = named n; constructors = vs }) ∷ ts) (datatypes_env (b ∷ bs))
-  one-more c b bs n vs ts e rest =
-      let same : SameValues vs (cons_env b.cons) = cons-same c b.tyvars n b.cons vs e in
-      let only : IsOfValues (cons_env b.cons) = cons-only b.cons in
-      let passed : (y : ℕ) → tycon_in (plus (datatypes_env bs) (cons_env b.cons)) y ≡ tycon_in (datatypes_env bs) y = λ y. tycon-plus (datatypes_env bs) (cons_env b.cons) y ∙ ap (λ p. option_or p (tycon_in (datatypes_env bs) y)) (only.tycons y) in
-      record {
-        vals = λ x. ap static_status (at-append same_vid vid-tells vs (all_constructors ts) x)
-            ∙ status-or (static.at same_vid vs x) (static.at same_vid (all_constructors ts) x) (value_in (cons_env b.cons) x) (value_in (datatypes_env bs) x) (same x) (rest.vals x)
-            ∙ ap dynamic_status (sym (value-plus (datatypes_env bs) (cons_env b.cons) x));
-        tys = λ y. entry-fits b.tycon (record { function = named n; constructors = vs }) ts (cons_env b.cons) (plus (datatypes_env bs) (cons_env b.cons)) y (record { values = same; only = only })
-            (subst (BothFit (static.at nat_eq ts y)) (sym (passed y)) (rest.tys y));
-        structs = λ y. structure-plus (datatypes_env bs) (cons_env b.cons) y ∙ ap (λ p. option_or p (structure_in (datatypes_env bs) y)) (only.structures y) ∙ rest.structs y;
-      }
+one-more : (c : Context) (b : DataBind) (bs : List DataBind) (n : TyName) (vs : static.Values) (ts : static.Map ℕ TypeStructure) → constructors_of c b.tyvars n b.cons ≡ Some vs → DatatypesFit ts (datatypes_env bs) →
+    DatatypesFit ((b.tycon, record { function = named n; constructors = vs }) ∷ ts) (datatypes_env (b ∷ bs))
+one-more c b bs n vs ts e rest =
+    let same : SameValues vs (cons_env b.cons) = cons-same c b.tyvars n b.cons vs e in
+    let only : IsOfValues (cons_env b.cons) = cons-only b.cons in
+    let passed : (y : ℕ) → tycon_in (plus (datatypes_env bs) (cons_env b.cons)) y ≡ tycon_in (datatypes_env bs) y = λ y. tycon-plus (datatypes_env bs) (cons_env b.cons) y ∙ ap (λ p. option_or p (tycon_in (datatypes_env bs) y)) (only.tycons y) in
+    record {
+      vals = λ x. ap static_status (at-append same_vid vid-tells vs (all_constructors ts) x)
+          ∙ status-or (static.at same_vid vs x) (static.at same_vid (all_constructors ts) x) (value_in (cons_env b.cons) x) (value_in (datatypes_env bs) x) (same x) (rest.vals x)
+          ∙ ap dynamic_status (sym (value-plus (datatypes_env bs) (cons_env b.cons) x));
+      tys = λ y. entry-fits b.tycon (record { function = named n; constructors = vs }) ts (cons_env b.cons) (plus (datatypes_env bs) (cons_env b.cons)) y (record { values = same; only = only })
+          (subst (BothFit (static.at nat_eq ts y)) (sym (passed y)) (rest.tys y));
+      structs = λ y. structure-plus (datatypes_env bs) (cons_env b.cons) y ∙ ap (λ p. option_or p (structure_in (datatypes_env bs) y)) (only.structures y) ∙ rest.structs y;
+    }
 
-  datatypes-fit : (c : Context) (k : ℕ) (qs : List Bool) (bs : List DataBind) (ts : static.Map ℕ TypeStructure) → length qs ≡ length bs → structures_of texts c (names_of texts k qs bs) bs ≡ Some ts → DatatypesFit ts (datatypes_env bs)
-  datatypes-fit c k [] [] ts l e = subst (λ ts. DatatypesFit ts nothing) (some-is e) (record { vals = λ x. refl; tys = λ y. tt; structs = λ y. refl })
-  datatypes-fit c k (q ∷ qs) [] ts l e = subst (λ ts. DatatypesFit ts nothing) (some-is e) (record { vals = λ x. refl; tys = λ y. tt; structs = λ y. refl })
-  datatypes-fit c k [] (b ∷ bs) ts l e = let bad : IsZero (suc (length bs)) = subst IsZero l tt in absurd bad
-  datatypes-fit c k (q ∷ qs) (b ∷ bs) ts l e =
-      let n : TyName = record { stamp = k; arity = length b.tyvars; equality = if q then ByArguments else Never } in
-      let z : Zipped (constructors_of texts c b.tyvars n b.cons) (structures_of texts c (names_of texts (suc k) qs bs) bs) (λ r. (b.tycon, record { function = named n; constructors = r.0 }) ∷ r.1) ts =
-      zipped (constructors_of texts c b.tyvars n b.cons) (structures_of texts c (names_of texts (suc k) qs bs) bs) (λ r. (b.tycon, record { function = named n; constructors = r.0 }) ∷ r.1) ts e in
-      let l' : length qs ≡ length bs = omega (arith, l) in
-      subst (λ ts. DatatypesFit ts (datatypes_env (b ∷ bs))) z.is (one-more c b bs n z.one z.other z.left (datatypes-fit c (suc k) qs bs z.other l' z.right))
+datatypes-fit : (c : Context) (k : ℕ) (qs : List Bool) (bs : List DataBind) (ts : static.Map ℕ TypeStructure) → length qs ≡ length bs → structures_of c (names_of k qs bs) bs ≡ Some ts → DatatypesFit ts (datatypes_env bs)
+datatypes-fit c k [] [] ts l e = subst (λ ts. DatatypesFit ts nothing) (some-is e) (record { vals = λ x. refl; tys = λ y. tt; structs = λ y. refl })
+datatypes-fit c k (q ∷ qs) [] ts l e = subst (λ ts. DatatypesFit ts nothing) (some-is e) (record { vals = λ x. refl; tys = λ y. tt; structs = λ y. refl })
+datatypes-fit c k [] (b ∷ bs) ts l e = let bad : IsZero (suc (length bs)) = subst IsZero l tt in absurd bad
+datatypes-fit c k (q ∷ qs) (b ∷ bs) ts l e =
+    let n : TyName = record { stamp = k; arity = length b.tyvars; equality = if q then ByArguments else Never } in
+    let z : Zipped (constructors_of c b.tyvars n b.cons) (structures_of c (names_of (suc k) qs bs) bs) (λ r. (b.tycon, record { function = named n; constructors = r.0 }) ∷ r.1) ts =
+    zipped (constructors_of c b.tyvars n b.cons) (structures_of c (names_of (suc k) qs bs) bs) (λ r. (b.tycon, record { function = named n; constructors = r.0 }) ∷ r.1) ts e in
+    let l' : length qs ≡ length bs = omega (arith, l) in
+    subst (λ ts. DatatypesFit ts (datatypes_env (b ∷ bs))) z.is (one-more c b bs n z.one z.other z.left (datatypes-fit c (suc k) qs bs z.other l' z.right))
 
-  exns-add : (x : Vid) (v : static.Value) (vs : static.Values) (s : Status) (u : Value) (d : Env) → v.status ≡ s → ExnsAre vs d → ExnsAre ((x, v) ∷ vs) (value x s u d)
-  exns-add x v vs s u d e h = record { same = λ y. by y (same_vid y x); only = record { tycons = h.only.tycons; structures = h.only.structures } }
-    where
-      by : (y : Vid) (b : Bool) → static_status (cond b (Some v) (static.at same_vid vs y)) ≡ dynamic_status (if b then Some (record { status = s; value = u }) else value_in d y)
-      by y true = ap Some e
-      by y false = h.same y
+pub exns-add : (x : Vid) (v : static.Value) (vs : static.Values) (s : Status) (u : Value) (d : Env) → v.status ≡ s → ExnsAre vs d → ExnsAre ((x, v) ∷ vs) (value x s u d)
+exns-add x v vs s u d e h = record { same = λ y. by y (same_vid y x); only = record { tycons = h.only.tycons; structures = h.only.structures } }
+  where
+    by : (y : Vid) (b : Bool) → static_status (cond b (Some v) (static.at same_vid vs y)) ≡ dynamic_status (if b then Some (record { status = s; value = u }) else value_in d y)
+    by y true = ap Some e
+    by y false = h.same y
 
-  exception-is : (o : Option static.Value) (v : static.Value) → option_and_then (if_exception texts) o ≡ Some v → static_status o ≡ Some v.status
-  exception-is None v e = not-none e
-  exception-is (Some w) v e = by (is_exception w.status) e
-    where
-      by : (b : Bool) → (if b then Some w else None) ≡ Some v → Some w.status ≡ Some v.status
-      by true e = ap (λ w. Some w.status) (some-is e)
-      by false e = not-none e
+exception-is : (o : Option static.Value) (v : static.Value) → option_and_then (if_exception) o ≡ Some v → static_status o ≡ Some v.status
+exception-is None v e = not-none e
+exception-is (Some w) v e = by (is_exception w.status) e
+  where
+    by : (b : Bool) → (if b then Some w else None) ≡ Some v → Some w.status ≡ Some v.status
+    by true e = ap (λ w. Some w.status) (some-is e)
+    by false e = not-none e
 
-  exns-giving : (c : Context) (d : Env) → Fits c.env d → (bs : List ExBind) (vs : static.Values) → exceptions_of texts c bs ≡ Some vs → (w : World Value) → Giving (ExnsAre vs) (eval_exns d bs w)
-  exns-giving c d f [] vs e w = subst (λ vs. ExnsAre vs nothing) (some-is e) (record { same = λ x. refl; only = record { tycons = λ x. refl; structures = λ x. refl } })
-  exns-giving c d f (new_exn p x t ∷ bs) vs e w =
-      let z : Zipped (elaborated.behind_of texts c t) (exceptions_of texts c bs) (λ r. (x, record { scheme = static.monomorphic (elaborated.exception_type texts r.0); status = Exception }) ∷ r.1) vs =
-      zipped (elaborated.behind_of texts c t) (exceptions_of texts c bs) (λ r. (x, record { scheme = static.monomorphic (elaborated.exception_type texts r.0); status = Exception }) ∷ r.1) vs e in
-      let w' : World Value = record w { exceptions = w.exceptions ++ identifier x ∷ [] } in
-      subst (λ vs. Giving (ExnsAre vs) (eval_exns d (new_exn p x t ∷ bs) w)) z.is
-      (then-giving (ExnsAre z.other) _ (eval_exns d bs w') (λ d' w''. gives (value x Exception (exn (length w.exceptions)) d') w'') (exns-giving c d f bs z.other z.right w')
-      (λ d' w'' h. exns-add x _ z.other Exception (exn (length w.exceptions)) d' refl h))
-  exns-giving c d f (same_exn p x q y ∷ bs) vs e w =
-      let z : Zipped (option_and_then (if_exception texts) (static.long_value_in c.env y)) (exceptions_of texts c bs) (λ r. (x, r.0) ∷ r.1) vs = zipped (option_and_then (if_exception texts) (static.long_value_in c.env y)) (exceptions_of texts c bs) (λ r. (x, r.0) ∷ r.1) vs e in
-      subst (λ vs. Giving (ExnsAre vs) (eval_exns d (same_exn p x q y ∷ bs) w)) z.is
-      (or-giving (ExnsAre ((x, z.one) ∷ z.other)) (long_value_in d y) w (λ g. then_do (eval_exns d bs w) (λ d' w. gives (value x g.status g.value d') w))
-      (λ g h. then-giving (ExnsAre z.other) _ (eval_exns d bs w) (λ d' w. gives (value x g.status g.value d') w) (exns-giving c d f bs z.other z.right w)
-      (λ d' w' k. exns-add x z.one z.other g.status g.value d' (some-is (sym (exception-is (static.long_value_in c.env y) z.one z.left) ∙ f.values y.qualifiers y.vid ∙ ap dynamic_status h)) k)))
+exns-giving : (c : Context) (d : Env) → Fits c.env d → (bs : List ExBind) (vs : static.Values) → exceptions_of c bs ≡ Some vs → (w : World Value) → Giving (ExnsAre vs) (eval_exns d bs w)
+exns-giving c d f [] vs e w = subst (λ vs. ExnsAre vs nothing) (some-is e) (record { same = λ x. refl; only = record { tycons = λ x. refl; structures = λ x. refl } })
+exns-giving c d f (new_exn p x t ∷ bs) vs e w =
+    let z : Zipped (elaborated.behind_of c t) (exceptions_of c bs) (λ r. (x, record { scheme = static.monomorphic (elaborated.exception_type r.0); status = Exception }) ∷ r.1) vs =
+    zipped (elaborated.behind_of c t) (exceptions_of c bs) (λ r. (x, record { scheme = static.monomorphic (elaborated.exception_type r.0); status = Exception }) ∷ r.1) vs e in
+    let w' : World Value = record w { exceptions = w.exceptions ++ identifier x ∷ [] } in
+    subst (λ vs. Giving (ExnsAre vs) (eval_exns d (new_exn p x t ∷ bs) w)) z.is
+    (then-giving (ExnsAre z.other) _ (eval_exns d bs w') (λ d' w''. gives (value x Exception (exn (length w.exceptions)) d') w'') (exns-giving c d f bs z.other z.right w')
+    (λ d' w'' h. exns-add x _ z.other Exception (exn (length w.exceptions)) d' refl h))
+exns-giving c d f (same_exn p x q y ∷ bs) vs e w =
+    let z : Zipped (option_and_then (if_exception) (static.long_value_in c.env y)) (exceptions_of c bs) (λ r. (x, r.0) ∷ r.1) vs = zipped (option_and_then (if_exception) (static.long_value_in c.env y)) (exceptions_of c bs) (λ r. (x, r.0) ∷ r.1) vs e in
+    subst (λ vs. Giving (ExnsAre vs) (eval_exns d (same_exn p x q y ∷ bs) w)) z.is
+    (or-giving (ExnsAre ((x, z.one) ∷ z.other)) (long_value_in d y) w (λ g. then_do (eval_exns d bs w) (λ d' w. gives (value x g.status g.value d') w))
+    (λ g h. then-giving (ExnsAre z.other) _ (eval_exns d bs w) (λ d' w. gives (value x g.status g.value d') w) (exns-giving c d f bs z.other z.right w)
+    (λ d' w' k. exns-add x z.one z.other g.status g.value d' (some-is (sym (exception-is (static.long_value_in c.env y) z.one z.left) ∙ f.values y.qualifiers y.vid ∙ ap dynamic_status h)) k)))
 
 -- Declarations
 
-module _ (texts : List (List ℕ)) (m : ℕ → Bool) (call : Apply) where
+module _ (m : ℕ → Bool) (call : Apply) where
   mutual
-    decs-giving : {c : Context} {ds : Decs} {made : ℕ} {e : static.Env} {k : Choices} → DecsHave texts m c ds made e k → (d : Env) → Fits c.env d → (w : World Value) → Giving (Fits e) (eval_decs call d ds w)
+    decs-giving : {c : Context} {ds : Decs} {made : ℕ} {e : static.Env} {k : Choices} → DecsHave m c ds made e k → (d : Env) → Fits c.env d → (w : World Value) → Giving (Fits e) (eval_decs call d ds w)
     decs-giving Typing.no_dec_has d f w = nothing-fits
     decs-giving (Typing.dec_has {d = dc} {ds = ds} h k) d f w =
         then-giving _ _ (eval_dec call d dc w) (λ d' w. then_do (eval_decs call (plus d d') ds w) (λ d'' w. gives (plus d' d'') w)) (dec-giving h d f w)
         (λ d' w' g. then-giving _ _ (eval_decs call (plus d d') ds w') (λ d'' w. gives (plus d' d'') w) (decs-giving k (plus d d') (fits-plus f g) w') (λ d'' w'' g'. fits-plus g g'))
 
-    dec-giving : {c : Context} {dc : Dec} {made : ℕ} {e : static.Env} {k : Choices} → DecHas texts m c dc made e k → (d : Env) → Fits c.env d → (w : World Value) → Giving (Fits e) (eval_dec call d dc w)
-    dec-giving {c} (Typing.val_has p p' {as_ = as_} {bs = bs} {rs = rs} extra {vs = vs} {us = us} g dist plain rec_) d f w =
-        let may = units-may-stand texts m c (marks_of c as_ bs rs extra) (general-marks (scoped_in c as_ bs rs) extra g) in
-        then-giving (BindsThese (together vs)) _ (eval_binds call d bs w) (with_recursive d rs (all_fns rs)) (binds-giving texts m call d f (plain (λ v. unit_type) may) w)
-        (λ d' w' h. recursive-giving texts m call d (marks_of c as_ bs rs extra) refl (rec_ (λ v. unit_type) may) d' w' h (all_fns rs) refl)
-    dec-giving {c} (Typing.type_has p {bs = bs} {ts = ts} e) d f w = flat-fits [] ts (types_env bs) (λ x. ap dynamic_status (sym ((types-plain texts bs).0 x))) (types-same texts c bs ts e) (types-plain texts bs).1
+    pub dec-giving : {c : Context} {dc : Dec} {made : ℕ} {e : static.Env} {k : Choices} → DecHas m c dc made e k → (d : Env) → Fits c.env d → (w : World Value) → Giving (Fits e) (eval_dec call d dc w)
+    dec-giving {c} (Typing.val_has p p' {as_ = as_} {bs = bs} {rs = rs} extra {vs = vs} {us = us} g fns dist plain rec_) d f w =
+        let may = units-may-stand m c (marks_of c as_ bs rs extra) (general-marks (scoped_in c as_ bs rs) extra g) in
+        then-giving (BindsThese (together vs)) _ (eval_binds call d bs w) (with_recursive d rs (all_fns rs)) (binds-giving m call d f (plain (λ v. unit_type) may) w)
+        (λ d' w' h. recursive-giving m call d (marks_of c as_ bs rs extra) refl (rec_ (λ v. unit_type) may) d' w' h (all_fns rs) refl)
+    dec-giving {c} (Typing.type_has p {bs = bs} {ts = ts} e) d f w = flat-fits [] ts (types_env bs) (λ x. ap dynamic_status (sym ((types-plain bs).0 x))) (types-same c bs ts e) (types-plain bs).1
     dec-giving {c} (Typing.datatype_has p {bs = bs} {ts = ts} qs l e r x) d f w =
-        let h : DatatypesFit texts ts (datatypes_env bs) = datatypes-fit texts (static.with_env c (length bs) (static.types_env (bare_structures texts (new_names texts c qs bs) bs))) c.names qs bs ts l e in
+        let h : DatatypesFit ts (datatypes_env bs) = datatypes-fit (static.with_env c (length bs) (static.types_env (bare_structures (new_names c qs bs) bs))) c.names qs bs ts l e in
         flat-fits (all_constructors ts) ts (datatypes_env bs) h.vals h.tys h.structs
     dec-giving {c} (Typing.replicate_has p {x = x} {y = y} {s = s} e) d f w =
         or-giving _ (long_tycon_in d y) w (λ t. gives (Rattle.core_rules.specs.Values.tycon x t t) w)
         (λ t h. let k : ConstructorsFit s t = subst (BothFit (Some s)) h (subst (λ o. BothFit o (long_tycon_in d y)) e (f.types y.long.qualifiers y.long.id)) in
         flat-fits s.constructors ((x, s) ∷ []) (Rattle.core_rules.specs.Values.tycon x t t) k.values (λ z. entry-fits x s [] t t z k (subst (BothFit None) (sym (k.only.tycons z)) tt)) k.only.structures)
-    dec-giving {c} (Typing.exception_has p {bs = bs} {vs = vs} e) d f w = as-values (eval_exns d bs w) (exns-giving texts c d f bs vs e w)
+    dec-giving {c} (Typing.exception_has p {bs = bs} {vs = vs} e) d f w = as-values (eval_exns d bs w) (exns-giving c d f bs vs e w)
       where
         as-values : (r : Answer Value Env) → Giving (ExnsAre vs) r → Giving (Fits (static.values_env vs)) r
         as-values (gives d w) h = values-fit vs d h.same h.only
@@ -492,4 +491,4 @@ module _ (texts : List (List ℕ)) (m : ℕ → Bool) (call : Apply) where
     dec-giving (Typing.sequence_has p h) d f w = decs-giving h d f w
 
 pub declarations-fit : DeclarationsFit
-declarations-fit texts m c ds made e k call d w h f = decs-giving texts m call h d f w
+declarations-fit m c ds made e k call d w h f = decs-giving m call h d f w

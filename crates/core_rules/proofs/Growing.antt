@@ -411,36 +411,36 @@ grown (both_raise p w n x) = record { output = prefix-refl w.output; end = λ h.
 grown (both_wrong w n x) = record { output = prefix-refl w.output; end = λ h. (refl, refl) }
 grown (cut_short w r h) = record { output = subst (IsPrefix w.output) (sym (out-output r)) h; end = λ h. absurd (h refl) }
 
-near-start : (texts : List (List ℕ)) (m n : ℕ) → m ≤ n → Near m (begin texts m) n
-near-start texts m n le = record { more = le; within = omega arith }
+near-start : (m n : ℕ) → m ≤ n → Near m (begin m) n
+near-start m n le = record { more = le; within = omega arith }
 
 pub declarations-grow : DeclarationsGrow
-declarations-grow texts e ds m n le = grown (decs-follow m (apply m) (apply n) (apply-grows n) (apply-follows m n le) e ds (begin texts m) n (near-start texts m n le))
+declarations-grow e ds m n le = grown (decs-follow m (apply m) (apply n) (apply-grows n) (apply-follows m n le) e ds (begin m) n (near-start m n le))
 
 -- Projects
 
-module _ (texts : List (List ℕ)) (prelude : Decs) where
-  all-grow : (call : Apply) → CallsGrow call → (parts : List Part) (e : Env) (s : Option Env) (w : World Value) → Grows w (eval_all texts prelude call e s parts w)
+module _ (prelude : Decs) where
+  all-grow : (call : Apply) → CallsGrow call → (parts : List Part) (e : Env) (s : Option Env) (w : World Value) → Grows w (eval_all prelude call e s parts w)
   all-grow call g [] e s w = prefix-refl w.output
-  all-grow call g (source run ∷ parts) e s w = then-grows w (eval_decs call e run w) (λ d w. eval_all texts prelude call (plus e d) s parts w) (decs-grow call g e run w) (λ d u. all-grow call g parts (plus e d) s u)
+  all-grow call g (source run ∷ parts) e s w = then-grows w (eval_decs call e run w) (λ d w. eval_all prelude call (plus e d) s parts w) (decs-grow call g e run w) (λ d u. all-grow call g parts (plus e d) s u)
   all-grow call g (standard_basis ∷ parts) e None w =
-      then-grows w (eval_decs call (dynamic_env texts prelude_members) prelude w) (λ d w. eval_all texts prelude call (plus e (dynamic_standard texts prelude d)) (Some (dynamic_standard texts prelude d)) parts w)
-      (decs-grow call g (dynamic_env texts prelude_members) prelude w) (λ d u. all-grow call g parts (plus e (dynamic_standard texts prelude d)) (Some (dynamic_standard texts prelude d)) u)
+      then-grows w (eval_decs call (dynamic_env prelude_members) prelude w) (λ d w. eval_all prelude call (plus e (dynamic_standard prelude d)) (Some (dynamic_standard prelude d)) parts w)
+      (decs-grow call g (dynamic_env prelude_members) prelude w) (λ d u. all-grow call g parts (plus e (dynamic_standard prelude d)) (Some (dynamic_standard prelude d)) u)
   all-grow call g (standard_basis ∷ parts) e (Some d) w = all-grow call g parts (plus e d) (Some d) w
 
   all-follow : (k : ℕ) (call call' : Apply) → CallsGrow call' → CallsFollow k call call' → (parts : List Part) (e : Env) (s : Option Env) (w : World Value) (n : ℕ) → Near k w n →
-      Follows k (eval_all texts prelude call e s parts w) (eval_all texts prelude call' e s parts (with_left w n))
+      Follows k (eval_all prelude call e s parts w) (eval_all prelude call' e s parts (with_left w n))
   all-follow k call call' g f [] e s w n x = both_give e w n x
   all-follow k call call' g f (source run ∷ parts) e s w n x =
-      then-follows (λ d w. eval_all texts prelude call (plus e d) s parts w) (λ d w. eval_all texts prelude call' (plus e d) s parts w) (decs-follow k call call' g f e run w n x)
+      then-follows (λ d w. eval_all prelude call (plus e d) s parts w) (λ d w. eval_all prelude call' (plus e d) s parts w) (decs-follow k call call' g f e run w n x)
       (λ d u. all-grow call' g parts (plus e d) s u) (λ d u n' y. all-follow k call call' g f parts (plus e d) s u n' y)
   all-follow k call call' g f (standard_basis ∷ parts) e None w n x =
-      then-follows (λ d w. eval_all texts prelude call (plus e (dynamic_standard texts prelude d)) (Some (dynamic_standard texts prelude d)) parts w)
-      (λ d w. eval_all texts prelude call' (plus e (dynamic_standard texts prelude d)) (Some (dynamic_standard texts prelude d)) parts w)
-      (decs-follow k call call' g f (dynamic_env texts prelude_members) prelude w n x)
-      (λ d u. all-grow call' g parts (plus e (dynamic_standard texts prelude d)) (Some (dynamic_standard texts prelude d)) u)
-      (λ d u n' y. all-follow k call call' g f parts (plus e (dynamic_standard texts prelude d)) (Some (dynamic_standard texts prelude d)) u n' y)
+      then-follows (λ d w. eval_all prelude call (plus e (dynamic_standard prelude d)) (Some (dynamic_standard prelude d)) parts w)
+      (λ d w. eval_all prelude call' (plus e (dynamic_standard prelude d)) (Some (dynamic_standard prelude d)) parts w)
+      (decs-follow k call call' g f (dynamic_env prelude_members) prelude w n x)
+      (λ d u. all-grow call' g parts (plus e (dynamic_standard prelude d)) (Some (dynamic_standard prelude d)) u)
+      (λ d u n' y. all-follow k call call' g f parts (plus e (dynamic_standard prelude d)) (Some (dynamic_standard prelude d)) u n' y)
   all-follow k call call' g f (standard_basis ∷ parts) e (Some d) w n x = all-follow k call call' g f parts (plus e d) (Some d) w n x
 
 pub meaning-grows : MeaningGrows
-meaning-grows texts prelude parts m n le = grown (all-follow texts prelude m (apply m) (apply n) (apply-grows n) (apply-follows m n le) parts nothing None (begin texts m) n (near-start texts m n le))
+meaning-grows prelude parts m n le = grown (all-follow prelude m (apply m) (apply n) (apply-grows n) (apply-follows m n le) parts nothing None (begin m) n (near-start m n le))

@@ -1,15 +1,19 @@
 mod Words
-mod Runs
+pub mod Runs
 mod Broken
 mod Readings
 mod Lost
 mod Projects
 pub mod Growing
 mod Typings
-mod Refused
+pub mod Refused
 pub mod Basics
 mod Cutting
 mod MoreRuns
+mod Printed
+mod MoreTypings
+mod Doubling
+mod BoundTwice
 pub mod Generic
 mod Identity
 pub mod Closing
@@ -19,3 +23,4 @@ pub mod Fitting
 pub mod FittingDecs
 pub mod FittingInitial
 pub mod Expansive
+pub mod Bound

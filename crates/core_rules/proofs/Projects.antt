@@ -5,17 +5,19 @@ use Rattle.sml_tree.specs.Derived.{tuple}
 use Rattle.sml_tree.specs.BareTree.{Exp, vid_exp, handle, raise, Decs, exception_dec, new_exn, same_exn, no_rules}
 use Rattle.sml_tree.specs.Derived.{short}
 use Rattle.core_rules.specs.Project.{Part, source, standard_basis, project_meaning}
-use Rattle.core_rules.proofs.Words.{names, at, num, str, name, vid, v, prim, pv, ap as call, val, print, do_, clause, fun, decs, one_rule}
+use Rattle.mlc_base.specs.StandardWords.{word_Div, word_print, word_quot}
+use Rattle.core_rules.specs.Initial.{word_Int}
+use Rattle.core_rules.proofs.Words.{at, num, str, vid, v, prim, pv, ap as call, val, print, do_, clause, fun, decs, one_rule, word_A, word_E, word_f, word_id, word_x}
 
 -- exception E val f = Prim.print fun id x = x val () = Prim.print "p"
 abbrev prelude : Decs
-prelude = decs (exception_dec at (new_exn at (vid (codes "E")) None ∷ []) ∷ val (pv (codes "f")) (prim (codes "print")) ∷ fun (codes "id") (clause (pv (codes "x") ∷ []) (v (codes "x")) ∷ []) ∷ do_ (print (str (codes "p"))) ∷ [])
+prelude = decs (exception_dec at (new_exn at (vid word_E) None ∷ []) ∷ val (pv word_f) (prim word_print) ∷ fun word_id (clause (pv word_x ∷ []) (v word_x) ∷ []) ∷ do_ (print (str (codes "p"))) ∷ [])
 
 abbrev runs : List Part → ℕ → Outcome
-runs parts m = project_meaning names prelude parts m
+runs parts m = project_meaning prelude parts m
 
 abbrev writes : List ℕ → Part
-writes s = source (decs (do_ (call (v (codes "f")) (str s)) ∷ []))
+writes s = source (decs (do_ (call (v word_f) (str s)) ∷ []))
 
 -- nothing at all
 empty_ends : (runs [] 0).end ≡ ended
@@ -39,13 +41,13 @@ hidden_prim : (runs (standard_basis ∷ source (decs (do_ (print (str (codes "a"
 hidden_prim = refl
 
 -- the standard basis is one, however often it stands there: exception A = E, the standard basis, raise E handle A => f "h"
-one_basis : (runs (standard_basis ∷ source (decs (exception_dec at (same_exn at (vid (codes "A")) at (short (vid (codes "E"))) ∷ []) ∷ []))
-    ∷ standard_basis ∷ source (decs (do_ (handle at (raise at (v (codes "E"))) (one_rule (pv (codes "A")) (call (v (codes "f")) (str (codes "h"))) no_rules)) ∷ [])) ∷ []) 2).output ≡ codes "ph"
+one_basis : (runs (standard_basis ∷ source (decs (exception_dec at (same_exn at (vid word_A) at (short (vid word_E)) ∷ []) ∷ []))
+    ∷ standard_basis ∷ source (decs (do_ (handle at (raise at (v word_E)) (one_rule (pv word_A) (call (v word_f) (str (codes "h"))) no_rules)) ∷ [])) ∷ []) 2).output ≡ codes "ph"
 one_basis = refl
 
 -- Int.quot (~7, 2) = ~3 by the structure `Int`
-abbrev of_int : List ℕ → Exp
-of_int s = vid_exp at (record { qualifiers = name (codes "Int") ∷ []; vid = vid s })
+abbrev of_int : ℕ → Exp
+of_int s = vid_exp at (record { qualifiers = word_Int ∷ []; vid = vid s })
 
-quotients : (runs (standard_basis ∷ source (decs (val (pv (codes "x")) (call (of_int (codes "quot")) (tuple at (num 7 ∷ num 0 ∷ []))) ∷ [])) ∷ []) 2).end ≡ uncaught (name (codes "Div"))
+quotients : (runs (standard_basis ∷ source (decs (val (pv word_x) (call (of_int word_quot) (tuple at (num 7 ∷ num 0 ∷ []))) ∷ [])) ∷ []) 2).end ≡ uncaught word_Div
 quotients = refl

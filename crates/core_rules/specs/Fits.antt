@@ -51,10 +51,10 @@ Giving P (stops c w) = ⊤
 
 -- declarations that have a typing give an environment that fits it, where the one that they are evaluated in fits
 abbrev pub DeclarationsFit : Type 0
-DeclarationsFit = (texts : List (List ℕ)) (m : ℕ → Bool) (c : Context) (ds : Decs) (made : ℕ) (e : static.Env) (k : Choices) (call : Apply) (d : Env)
+DeclarationsFit = (m : ℕ → Bool) (c : Context) (ds : Decs) (made : ℕ) (e : static.Env) (k : Choices) (call : Apply) (d : Env)
     (w : World Value) →
-    DecsHave texts m c ds made e k → Fits c.env d → Giving (Fits e) (eval_decs call d ds w)
+    DecsHave m c ds made e k → Fits c.env d → Giving (Fits e) (eval_decs call d ds w)
 
 -- the views of the initial basis fit, and those of the basis that the prelude sees
 abbrev pub InitialBasisFits : Type 0
-InitialBasisFits = (texts : List (List ℕ)) → Fits (initial_context texts).env (initial_env texts) × Fits (prelude_context texts).env (prelude_env texts)
+InitialBasisFits = Fits initial_context.env initial_env × Fits prelude_context.env prelude_env

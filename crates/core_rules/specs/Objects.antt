@@ -6,33 +6,22 @@ use Rattle.std.specs.Map.{lookup}
 use Rattle.mlc_base.specs.declared.label.Label.{Label}
 use Rattle.sml_tree.specs.Terminal.{LongVid}
 use Rattle.sml_tree.specs.declared.ident.Vid.{Vid}
-use Rattle.ty_core.specs.Types.{Symbol, arrow, labels, name, Typ, var, con, Typs, none, more, typs_of}
+use Rattle.ty_core.specs.Types.{Symbol, arrow, labels, name, Typ, var, con, Typs, none, more}
 use Rattle.ty_core.specs.Marks.{Allows}
 use Rattle.ty_core.specs.Statics.{TypeFunction, replace}
 use Rattle.ty_core.specs.declared.mark.Mark.{Mark}
 use Rattle.ty_core.specs.declared.env.Status.{Status}
+use Rattle.ty_basis.specs.Types.{Row}
 use Rattle.core_rules.specs.Words.{same_vid, label_before}
 
-abbrev pub function_type : Typ → Typ → Typ
-function_type t u = con arrow (more t (more u none))
-
-abbrev pub Row : Type 0
-Row = List (Label × Typ)
-
-abbrev pub labels_in : Row → List Label
-labels_in = map (λ f. f.0)
-
 -- the fields in the order of their labels, which is the same however they were written
-abbrev pub put_field : List (List ℕ) → Label × Typ → Row → Row
-put_field texts f [] = f ∷ []
-put_field texts f (g ∷ gs) = if label_before texts f.0 g.0 then f ∷ g ∷ gs else g ∷ put_field texts f gs
+abbrev pub put_field : Label × Typ → Row → Row
+put_field f [] = f ∷ []
+put_field f (g ∷ gs) = if label_before f.0 g.0 then f ∷ g ∷ gs else g ∷ put_field f gs
 
-abbrev pub sorted : List (List ℕ) → Row → Row
-sorted texts [] = []
-sorted texts (f ∷ fs) = put_field texts f (sorted texts fs)
-
-abbrev pub row_type : Row → Typ
-row_type fs = con (labels (labels_in fs)) (typs_of (map (λ f. f.1) fs))
+abbrev pub sorted : Row → Row
+sorted [] = []
+sorted (f ∷ fs) = put_field f (sorted fs)
 
 -- Schemes [4.5]: in the body the variables below the number of marks are the parameters, and the free variable v is written as v and that number.
 pub record Scheme : Type 0 where

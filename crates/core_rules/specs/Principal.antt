@@ -1,5 +1,5 @@
 -- Runs of declarations, and when an environment is principal for one. [in place of the Definition 4.11 and 4.12]
-use Rattle.std.specs.Prelude.{◌≡◌, ℕ, List, [], Option, Some, None, length, ⊤}
+use Rattle.std.specs.Prelude.{◌≡◌, ℕ, [], Option, Some, None, length, ⊤}
 use Rattle.std.specs.List.{AllByRecursion}
 use Rattle.ty_core.specs.Types.{Typ, no_variable}
 use Rattle.sml_tree.specs.declared.ident.Vid.{Vid}
@@ -29,9 +29,9 @@ pub record IsInstanceOf (e e' : Env) : Type 0 where
   pub types : types e ≡ types e'
   pub structures : structures e ≡ structures e'
 
-module _ (texts : List (List ℕ)) (c : Context) (run : Decs) where
+module _ (c : Context) (run : Decs) where
   abbrev pub Types : ℕ → Env → Choices → Type 0
-  Types made e k = DecsHave texts no_variable c run made e k
+  Types made e k = DecsHave no_variable c run made e k
 
   -- a typing counts where it gives int to each overloaded occurrence that some typing gives int
   abbrev pub Counts : Choices → Type 0
@@ -39,7 +39,7 @@ module _ (texts : List (List ℕ)) (c : Context) (run : Decs) where
 
   -- all typings of declarations agree on the labels of each `...` in their non-expansive bindings
   abbrev pub RowsSettled : Decs → Type 0
-  RowsSettled ds = (made made' : ℕ) (e e' : Env) (k k' : Choices) → DecsHave texts no_variable c ds made e k → DecsHave texts no_variable c ds made' e' k' →
+  RowsSettled ds = (made made' : ℕ) (e e' : Env) (k k' : Choices) → DecsHave no_variable c ds made e k → DecsHave no_variable c ds made' e' k' →
       SameSettled k k'
 
   -- e, with so many names made, is principal for the run

@@ -17,22 +17,22 @@ pub data Part : Type 0 where
   standard_basis : Part
   source : Decs → Part
 
-module _ (texts : List (List ℕ)) (prelude : Decs) where
+module _ (prelude : Decs) where
   -- declarations that break no restriction, with a principal environment, and as many new type names
   pub record Elaborates (c : Context) (run : Decs) (made : ℕ) (e : Env) : Type 0 where
-    pub keeps : broken_in texts run ≡ []
-    pub principal : IsPrincipal texts c run made e
+    pub keeps : broken_in run ≡ []
+    pub principal : IsPrincipal c run made e
 
   -- the standard basis, where this is the prelude's environment
   abbrev pub static_standard : Env → Env
-  static_standard e = plus (static_env texts initial_members) e
+  static_standard e = plus (static_env initial_members) e
 
   abbrev pub dynamic_standard : dynamic.Env → dynamic.Env
-  dynamic_standard e = dynamic.plus (dynamic_env texts initial_members) e
+  dynamic_standard e = dynamic.plus (dynamic_env initial_members) e
 
   -- what the prelude sees, with so many type names in use
   abbrev pub prelude_context_at : ℕ → Context
-  prelude_context_at n = context_of n (static_env texts prelude_members)
+  prelude_context_at n = context_of n (static_env prelude_members)
 
   -- the context after the parts; the standard basis is known once it was there
   pub data ElaborateAll : Context → Option Env → List Part → Context → Type 0 where
@@ -52,10 +52,10 @@ module _ (texts : List (List ℕ)) (prelude : Decs) where
   eval_all call e s [] w = gives e w
   eval_all call e s (source run ∷ parts) w = then_do (eval_decs call e run w) (λ d w. eval_all call (dynamic.plus e d) s parts w)
   eval_all call e None (standard_basis ∷ parts) w =
-      then_do (eval_decs call (dynamic_env texts prelude_members) prelude w)
+      then_do (eval_decs call (dynamic_env prelude_members) prelude w)
       (λ d w. eval_all call (dynamic.plus e (dynamic_standard d)) (Some (dynamic_standard d)) parts w)
   eval_all call e (Some d) (standard_basis ∷ parts) w = eval_all call (dynamic.plus e d) (Some d) parts w
 
   -- what a project does at m turns
   abbrev pub project_meaning : List Part → ℕ → Outcome
-  project_meaning parts m = outcome_of packet_identifier (eval_all (apply m) dynamic.nothing None parts (begin texts m))
+  project_meaning parts m = outcome_of packet_identifier (eval_all (apply m) dynamic.nothing None parts (begin m))

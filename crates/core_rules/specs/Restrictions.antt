@@ -1,9 +1,9 @@
 -- The syntactic restrictions: the places of the phrases that break one, whatever is in scope, in the order of the phrases' ends, inner ones first.
 -- [Definition 2.9, 4.11]
 -- That no variable is bound twice, nor one of the kept identifiers, is asked by the rules of patterns: there an identifier's status is known.
-use Rattle.std.specs.Prelude.{ℕ, zero, suc, Bool, true, false, not, ◌&&◌, ◌||◌, nat_eq, List, [], ◌∷◌, ◌++◌, map, flat_map, length, codes}
+use Rattle.std.specs.Prelude.{ℕ, zero, suc, Bool, true, false, not, ◌&&◌, ◌||◌, nat_eq, List, [], ◌∷◌, ◌++◌, map, flat_map, length}
 use Rattle.std.specs.List.{list_all}
-use Rattle.std.specs.Str.{bytes_eq}
+use Rattle.mlc_base.specs.StandardWords.{word_true, word_false, word_nil, word_cons, word_ref, word_it}
 use Rattle.mlc_base.specs.declared.label.Label.{Label}
 use Rattle.mlc_base.specs.declared.place.Place.{Place}
 use Rattle.sml_tree.specs.declared.ident.Tyvar.{Tyvar}
@@ -12,7 +12,7 @@ use Rattle.sml_tree.specs.declared.ident.Vid.TheVariants.{Named, Equals, Fresh}
 use Rattle.sml_tree.specs.BareTree as bare
 use Rattle.sml_tree.specs.BareTree.{Ty, TyFields, ConBind, DataBind, ExBind, new_exn, same_exn, Pat, PatFields, Exp, ExpFields, Decs, Dec, val_dec, type_dec, datatype_dec, exception_dec, sequence_dec}
 use Rattle.sml_tree.specs.Phrases.{Phrase, exp, pat, ty, dec, rule, bind, type_bind, data_bind, con_bind, ex_bind, bind_list, dec_list, parts, phrases}
-use Rattle.core_rules.specs.Words.{text_in, same_vid, same_label}
+use Rattle.core_rules.specs.Words.{same_vid, same_label}
 use Rattle.core_rules.specs.Scoping.{is_one_of, tyvars_in, tyvar_names, scoped_at}
 
 abbrev pub is_in : {A : Type 0} → (A → A → Bool) → A → List A → Bool
@@ -24,18 +24,15 @@ distinct same [] = true
 distinct same (x ∷ xs) = not (is_in same x xs) && distinct same xs
 
 -- identifiers that are never bound, and one that no constructor or exception has
-abbrev pub is_kept_text : List ℕ → Bool
-is_kept_text t = is_in bytes_eq t (codes "true" ∷ codes "false" ∷ codes "nil" ∷ codes "::" ∷ codes "ref" ∷ [])
+abbrev pub is_kept : Vid → Bool
+is_kept (Named x) = is_one_of x (word_true ∷ word_false ∷ word_nil ∷ word_cons ∷ word_ref ∷ [])
+is_kept Equals = true
+is_kept (Fresh k) = false
 
-abbrev pub is_kept : List (List ℕ) → Vid → Bool
-is_kept texts (Named x) = is_kept_text (text_in texts x)
-is_kept texts Equals = true
-is_kept texts (Fresh k) = false
-
-abbrev pub is_it : List (List ℕ) → Vid → Bool
-is_it texts (Named x) = bytes_eq (text_in texts x) (codes "it")
-is_it texts Equals = false
-is_it texts (Fresh k) = false
+abbrev pub is_it : Vid → Bool
+is_it (Named x) = nat_eq x word_it
+is_it Equals = false
+is_it (Fresh k) = false
 
 -- where a phrase begins
 abbrev pub ty_place : Ty → Place
@@ -148,32 +145,31 @@ abbrev pub inside : (Phrase → List Place) → Phrase → List Place
 inside go (dec (val_dec p q as_ bs rs)) = flat_map go (bind_list bs) ++ flat_map (λ x. go x ++ unless_fn x) (bind_list rs)
 inside go x = flat_map go (parts x)
 
-module _ (texts : List (List ℕ)) where
-  abbrev pub may_construct : Vid → Bool
-  may_construct x = not (is_kept texts x || is_it texts x)
+abbrev pub may_construct : Vid → Bool
+may_construct x = not (is_kept x || is_it x)
 
-  abbrev pub broken_by_ex_bind : ExBind → List Place
-  broken_by_ex_bind (new_exn p x t) = unless (may_construct x) p
-  broken_by_ex_bind (same_exn p x q y) = unless (may_construct x) p
+abbrev pub broken_by_ex_bind : ExBind → List Place
+broken_by_ex_bind (new_exn p x t) = unless (may_construct x) p
+broken_by_ex_bind (same_exn p x q y) = unless (may_construct x) p
 
-  -- what a phrase breaks itself
-  abbrev pub broken_by : List ℕ → Phrase → List Place
-  broken_by scoped (exp e) = broken_by_exp e
-  broken_by scoped (pat a) = broken_by_pat a
-  broken_by scoped (ty t) = broken_by_ty t
-  broken_by scoped (dec d) = broken_by_dec scoped d
-  broken_by scoped (rule p a e) = []
-  broken_by scoped (bind p a e) = []
-  broken_by scoped (type_bind b) = unless (no_repetition b.tyvars) b.place ++ unless (are_among b.tyvars (tyvars_in (phrases (ty b.ty)))) (ty_place b.ty)
-  broken_by scoped (data_bind b) = unless (no_repetition b.tyvars) b.place ++ right_side b.tyvars b.cons
-  broken_by scoped (con_bind c) = unless (may_construct c.vid) c.place
-  broken_by scoped (ex_bind b) = broken_by_ex_bind b
+-- what a phrase breaks itself
+abbrev pub broken_by : List ℕ → Phrase → List Place
+broken_by scoped (exp e) = broken_by_exp e
+broken_by scoped (pat a) = broken_by_pat a
+broken_by scoped (ty t) = broken_by_ty t
+broken_by scoped (dec d) = broken_by_dec scoped d
+broken_by scoped (rule p a e) = []
+broken_by scoped (bind p a e) = []
+broken_by scoped (type_bind b) = unless (no_repetition b.tyvars) b.place ++ unless (are_among b.tyvars (tyvars_in (phrases (ty b.ty)))) (ty_place b.ty)
+broken_by scoped (data_bind b) = unless (no_repetition b.tyvars) b.place ++ right_side b.tyvars b.cons
+broken_by scoped (con_bind c) = unless (may_construct c.vid) c.place
+broken_by scoped (ex_bind b) = broken_by_ex_bind b
 
-  -- and what is in it, so many levels deep
-  abbrev pub broken_to : ℕ → List ℕ → Phrase → List Place
-  broken_to zero scoped x = []
-  broken_to (suc k) scoped x = inside (broken_to k (scoped_inside scoped x)) x ++ broken_by scoped x
+-- and what is in it, so many levels deep
+abbrev pub broken_to : ℕ → List ℕ → Phrase → List Place
+broken_to zero scoped x = []
+broken_to (suc k) scoped x = inside (broken_to k (scoped_inside scoped x)) x ++ broken_by scoped x
 
-  -- no phrase is deeper than it has phrases
-  abbrev pub broken_in : Decs → List Place
-  broken_in ds = flat_map (λ x. broken_to (length (phrases x)) [] x) (dec_list ds)
+-- no phrase is deeper than it has phrases
+abbrev pub broken_in : Decs → List Place
+broken_in ds = flat_map (λ x. broken_to (length (phrases x)) [] x) (dec_list ds)

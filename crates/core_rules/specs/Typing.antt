@@ -17,8 +17,10 @@ use Rattle.sml_tree.specs.declared.ident.Tyvar.{Tyvar}
 use Rattle.sml_tree.specs.declared.ident.Vid.{Vid}
 use Rattle.sml_tree.specs.declared.ident.BuiltIn.{BuiltIn}
 use Rattle.sml_tree.specs.BareTree.{Ty, LongIdAt, TypeBind, DataBind, ExBind, Pat, wild_pat, constant_pat, vid_pat, built_pat, fields_pat, con_pat, built_con_pat, typed_pat, as_pat, PatFields, no_pat_fields, pat_field, Exp, constant_exp, vid_exp, built_exp, fields_exp, let_in, app, typed, handle, raise, fn, ExpFields, no_exp_fields, exp_field, Rules, no_rules, rule, Decs, no_decs, dec, Dec, val_dec, type_dec, datatype_dec, replicate_dec, exception_dec, local_dec, open_dec, sequence_dec, Binds, no_binds, bind}
-use Rattle.core_rules.specs.Objects.{Row, labels_in, sorted, row_type, function_type, Scheme, monomorphic, put, AllAllowed, Map, Value, Values, TypeStructure, Env, env, no_structures, no_env, values_env, types_env, plus, value_in, long_value_in, Context, with_env, Over}
-use Rattle.core_rules.specs.Initial.{int_type, word_type, char_type, string_type, exn_type, ref_name, built_scheme}
+use Rattle.ty_basis.specs.Types.{Row, char_type, exn_type, function_type, int_type, labels_in, ref_name, row_type, string_type, word_type}
+use Rattle.core_rules.specs.Objects.{sorted, Scheme, monomorphic, put, AllAllowed, Map, Value, Values, TypeStructure, Env, env, no_structures, no_env, values_env, types_env, plus, value_in, long_value_in, Context, with_env, Over}
+use Rattle.core_rules.specs.Initial.{built_scheme}
+use Rattle.core_rules.specs.Eval.{all_fns}
 use Rattle.core_rules.specs.Scoping.{scoped_at}
 use Rattle.core_rules.specs.Choices.{Choices, no_choice, both, base, further, settled}
 use Rattle.core_rules.specs.Elaborated.{type_of, types_bound, datatypes, datatypes_env, respects_equality, AllBelow, exceptions_of, replicated, opened}
@@ -159,8 +161,8 @@ Chosen (Any ∷ as_) f k = k ≡ no_choice
 Chosen (Equality ∷ as_) f k = k ≡ no_choice
 Chosen (Class c ∷ as_) f k = (n : ℕ) × (f 0 ≡ con (name (overloaded n)) none) × (k ≡ base n)
 
--- texts are the names' texts, and m says which type variables admit equality
-module _ (texts : List (List ℕ)) (m : ℕ → Bool) where
+-- m says which type variables admit equality
+module _ (m : ℕ → Bool) where
   -- t is an instance of s [4.5]
   pub record IsInstance (c : Context) (s : Scheme) (t : Typ) (k : Choices) : Type 0 where
     pub types : ℕ → Typ
@@ -177,36 +179,36 @@ module _ (texts : List (List ℕ)) (m : ℕ → Bool) where
   -- the type of an optional annotation
   abbrev pub Annotated : Context → Option Ty → Typ → Type 0
   Annotated c None t = ⊤
-  Annotated c (Some a) t = type_of texts c a ≡ Some t
+  Annotated c (Some a) t = type_of c a ≡ Some t
 
   mutual
     -- C ⊢ pat ⇒ (VE, t) [rules 32 to 43]
     pub data PatHas (c : Context) : Pat → Typ → Bound → Choices → Type 0 where
       wild_has : (p : Place) {t : Typ} → Over c.names t → PatHas c (wild_pat p) t [] no_choice
       constant_has : (p : Place) (k : term.Constant) → PatHas c (constant_pat p k) (constant_type k) [] no_choice
-      variable_has : (p : Place) {x : Vid} {t : Typ} → is_matched_in (value_in c.env x) ≡ false → is_kept texts x ≡ false → Over c.names t →
+      variable_has : (p : Place) {x : Vid} {t : Typ} → is_matched_in (value_in c.env x) ≡ false → is_kept x ≡ false → Over c.names t →
           PatHas c (vid_pat p (short x)) t ((x, t) ∷ []) no_choice
       constructor_has : (p : Place) {x : LongVid} {v : Value} {n : TyName} {ts : Typs} → long_value_in c.env x ≡ Some v → is_matched v.status ≡ true →
           IsInstance c v.scheme (con (name n) ts) no_choice →
           PatHas c (vid_pat p x) (con (name n) ts) [] no_choice
       built_has : (p : Place) {b : BuiltIn} {n : TyName} {ts : Typs} → IsInstance c (built_scheme b) (con (name n) ts) no_choice →
           PatHas c (built_pat p b) (con (name n) ts) [] no_choice
-      fields_has : (p : Place) {fs : PatFields} {r : Row} {t : Typ} {vs : Bound} {k : Choices} → PatsHave c fs r vs k → t ≡ row_type (sorted texts r) →
+      fields_has : (p : Place) {fs : PatFields} {r : Row} {t : Typ} {vs : Bound} {k : Choices} → PatsHave c fs r vs k → t ≡ row_type (sorted r) →
           PatHas c (fields_pat p fs false) t vs k
       -- `...` stands for any further fields
       open_has : (p : Place) {fs : PatFields} {r : Row} {t : Typ} {vs : Bound} {k : Choices} (others : Row) → PatsHave c fs r vs k →
           distinct same_label (labels_in (r ++ others)) ≡ true →
-          t ≡ row_type (sorted texts (r ++ others)) → Over c.names t → PatHas c (fields_pat p fs true) t vs (both k (further (labels_in (sorted texts others))))
+          t ≡ row_type (sorted (r ++ others)) → Over c.names t → PatHas c (fields_pat p fs true) t vs (both k (further (labels_in (sorted others))))
       con_has : (p q : Place) {x : LongVid} {v : Value} {a : Pat} {u : Typ} {n : TyName} {ts : Typs} {vs : Bound} {k : Choices} →
           long_value_in c.env x ≡ Some v → is_matched v.status ≡ true → IsInstance c v.scheme (function_type u (con (name n) ts)) no_choice →
           PatHas c a u vs k → PatHas c (con_pat p q x a) (con (name n) ts) vs k
       built_con_has : (p : Place) {b : BuiltIn} {a : Pat} {u : Typ} {n : TyName} {ts : Typs} {vs : Bound} {k : Choices} →
           IsInstance c (built_scheme b) (function_type u (con (name n) ts)) no_choice → PatHas c a u vs k →
           PatHas c (built_con_pat p b a) (con (name n) ts) vs k
-      typed_has : (p : Place) {a : Pat} {ty : Ty} {t : Typ} {vs : Bound} {k : Choices} → PatHas c a t vs k → type_of texts c ty ≡ Some t →
+      typed_has : (p : Place) {a : Pat} {ty : Ty} {t : Typ} {vs : Bound} {k : Choices} → PatHas c a t vs k → type_of c ty ≡ Some t →
           PatHas c (typed_pat p a ty) t vs k
       as_has : (p : Place) {x : Vid} {ty : Option Ty} {a : Pat} {t : Typ} {vs : Bound} {k : Choices} → is_matched_in (value_in c.env x) ≡ false →
-          is_kept texts x ≡ false → Annotated c ty t → PatHas c a t vs k →
+          is_kept x ≡ false → Annotated c ty t → PatHas c a t vs k →
           PatHas c (as_pat p x ty a) t ((x, t) ∷ vs) k
 
     pub data PatsHave (c : Context) : PatFields → Row → Bound → Choices → Type 0 where
@@ -221,14 +223,14 @@ module _ (texts : List (List ℕ)) (m : ℕ → Bool) where
       vid_has : {c : Context} (p : Place) {x : LongVid} {v : Value} {t : Typ} {k : Choices} → long_value_in c.env x ≡ Some v → IsInstance c v.scheme t k →
           HasType c (vid_exp p x) t k
       built_exp_has : {c : Context} (p : Place) {b : BuiltIn} {t : Typ} {k : Choices} → IsInstance c (built_scheme b) t k → HasType c (built_exp p b) t k
-      record_has : {c : Context} (p : Place) {fs : ExpFields} {r : Row} {t : Typ} {k : Choices} → HaveTypes c fs r k → t ≡ row_type (sorted texts r) →
+      record_has : {c : Context} (p : Place) {fs : ExpFields} {r : Row} {t : Typ} {k : Choices} → HaveTypes c fs r k → t ≡ row_type (sorted r) →
           HasType c (fields_exp p fs) t k
       -- no type name of the declarations escapes
       let_has : {c : Context} (p : Place) {ds : Decs} {e : Exp} {made : ℕ} {d : Env} {t : Typ} {k j : Choices} → DecsHave c ds made d k →
           HasType (with_env c made d) e t j → Over c.names t → HasType c (let_in p ds e) t (both k j)
       app_has : {c : Context} (p : Place) {f a : Exp} {t u : Typ} {k j : Choices} → HasType c f (function_type t u) k → HasType c a t j →
           HasType c (app p f a) u (both k j)
-      typed_exp_has : {c : Context} (p : Place) {e : Exp} {ty : Ty} {t : Typ} {k : Choices} → HasType c e t k → type_of texts c ty ≡ Some t →
+      typed_exp_has : {c : Context} (p : Place) {e : Exp} {ty : Ty} {t : Typ} {k : Choices} → HasType c e t k → type_of c ty ≡ Some t →
           HasType c (typed p e ty) t k
       handle_has : {c : Context} (p : Place) {e : Exp} {rs : Rules} {t : Typ} {k j : Choices} → HasType c e t k → RulesHave c rs exn_type t j →
           HasType c (handle p e rs) t (both k j)
@@ -250,23 +252,23 @@ module _ (texts : List (List ℕ)) (m : ℕ → Bool) where
     -- C ⊢ dec ⇒ E, with the number of type names that it makes [rules 15 to 24]
     pub data DecHas : Context → Dec → ℕ → Env → Choices → Type 0 where
       val_has : {c : Context} (p q : Place) {as_ : List Tyvar} {bs rs : Binds} (extra : List Mark) {vs us : List Bound} {k j : Choices} →
-          all_general extra ≡ true → AreDistinct (bound_in (together vs ++ together us)) →
+          all_general extra ≡ true → all_fns rs ≡ true → AreDistinct (bound_in (together vs ++ together us)) →
           ((r : ℕ → Typ) → IsChoiceOf c (marks_of c as_ bs rs extra) r → BindsHave (scoping c as_ bs rs r) (length (marks_of c as_ bs rs extra)) r bs vs k) →
           ((r : ℕ → Typ) → IsChoiceOf c (marks_of c as_ bs rs extra) r →
           BindsHave (with_bound (scoping c as_ bs rs r) (put_bound (length (marks_of c as_ bs rs extra)) r (together us)))
           (length (marks_of c as_ bs rs extra)) r rs us j) →
           DecHas c (val_dec p q as_ bs rs) 0 (closed (marks_of c as_ bs rs extra) (together vs ++ together us)) (both k j)
-      type_has : {c : Context} (p : Place) {bs : List TypeBind} {ts : Map ℕ TypeStructure} → types_bound texts c bs ≡ Some ts →
+      type_has : {c : Context} (p : Place) {bs : List TypeBind} {ts : Map ℕ TypeStructure} → types_bound c bs ≡ Some ts →
           DecHas c (type_dec p bs) 0 (types_env ts) no_choice
       -- as many of the new names admit equality as can
       datatype_has : {c : Context} (p : Place) {bs : List DataBind} {ts : Map ℕ TypeStructure} (qs : List Bool) → length qs ≡ length bs →
-          datatypes texts c qs bs ≡ Some ts → respects_equality qs ts ≡ true →
-          ((qs' : List Bool) (ts' : Map ℕ TypeStructure) → length qs' ≡ length bs → datatypes texts c qs' bs ≡ Some ts' → respects_equality qs' ts' ≡ true →
+          datatypes c qs bs ≡ Some ts → respects_equality qs ts ≡ true →
+          ((qs' : List Bool) (ts' : Map ℕ TypeStructure) → length qs' ≡ length bs → datatypes c qs' bs ≡ Some ts' → respects_equality qs' ts' ≡ true →
           AllBelow qs' qs) →
           DecHas c (datatype_dec p bs) (length bs) (datatypes_env ts) no_choice
       replicate_has : {c : Context} (p : Place) {x : ℕ} {y : LongIdAt} {s : TypeStructure} → replicated c.env y ≡ Some s →
           DecHas c (replicate_dec p x y) 0 (env s.constructors ((x, s) ∷ []) no_structures) no_choice
-      exception_has : {c : Context} (p : Place) {bs : List ExBind} {vs : Values} → exceptions_of texts c bs ≡ Some vs →
+      exception_has : {c : Context} (p : Place) {bs : List ExBind} {vs : Values} → exceptions_of c bs ≡ Some vs →
           DecHas c (exception_dec p bs) 0 (values_env vs) no_choice
       local_has : {c : Context} (p : Place) {ds ds' : Decs} {n n' : ℕ} {d d' : Env} {k j : Choices} → DecsHave c ds n d k →
           DecsHave (with_env c n d) ds' n' d' j → DecHas c (local_dec p ds ds') (n + n') d' (both k j)

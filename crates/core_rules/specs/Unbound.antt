@@ -113,13 +113,14 @@ parts_in e x = all_in e (parts x)
 
 -- The identifiers of a phrase itself: a constructor stands before its argument in a pattern, and after it in a type.
 
+-- an identifier without qualifiers is bound by the pattern, if it isn't matched
+abbrev pub unless_alone : List ℕ → List Unbound → List Unbound
+unless_alone [] us = []
+unless_alone (q ∷ qs) us = us
+
 abbrev pub pat_unbound : Env → Pat → List Unbound
 pat_unbound e (con_pat p q x a) = unless_bound (long_value_in e x) (value_at q x)
-pat_unbound e (vid_pat p x) = long_unbound x.qualifiers
-  where
-    long_unbound : List ℕ → List Unbound
-    long_unbound [] = []
-    long_unbound (y ∷ ys) = unless_bound (long_value_in e x) (value_at p x)
+pat_unbound e (vid_pat p x) = unless_alone x.qualifiers (unless_bound (long_value_in e x) (value_at p x))
 pat_unbound e a = []
 
 abbrev pub exp_unbound : Env → Exp → List Unbound

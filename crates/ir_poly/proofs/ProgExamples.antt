@@ -8,6 +8,7 @@ use Rattle.mlc_prims.specs.declared.basis.BasisPrimitive.TheVariants.{Divide, Eq
 use Rattle.ty_core.specs.Types.{Typ, con, none, labels}
 use Rattle.ty_core.specs.declared.name.TyName.{TyName}
 use Rattle.ty_core.specs.declared.name.Equality.TheVariants.{Always}
+use Rattle.ir_values.specs.Values.{true_number, false_number}
 use Rattle.ir_poly.specs.Prog.{fixed, held, Pat, any_pat, variable_pat, constant_pat, con_pat, con_of_pat, ref_of_pat, exn_pat, exn_of_pat, fields_pat, as_pat, no_pats, a_pat, Exp, constant_exp, variable_exp, own_exp, con_exp, ref_exp, exn_exp, prim_exp, fields_exp, let_exp, app_exp, case_exp, chain_exp, handle_exp, raise_exp, fn_exp, counted_exp, no_fields, a_field, only, link, Rules, no_rules, a_rule, last, by_rules, more, Decs, no_decs, val_dec, exception_dec, counted_dec, no_binds, a_bind, no_funs, a_fun}
 use Rattle.ir_poly.specs.ProgMeaning.{run}
 use Rattle.ir_poly.specs.ProgWeight.{decs_weight}
@@ -164,13 +165,13 @@ no-exception = refl
 
 -- andalso and orelse stop early
 abbrev yes : Exp
-yes = con_exp 1 y [] t
+yes = con_exp true_number y [] t
 
 abbrev no : Exp
-no = con_exp 0 y [] t
+no = con_exp false_number y [] t
 
 abbrev if-so : Exp → Exp
-if-so e = case_exp (at 0) t e (a_rule (con_pat 1) (say 8 121) (a_rule (con_pat 0) (say 9 110) no_rules))
+if-so e = case_exp (at 0) t e (a_rule (con_pat true_number) (say 8 121) (a_rule (con_pat false_number) (say 9 110) no_rules))
 
 and-stops : does (just (if-so (chain_exp true t (link (saying 1 97 no) (link (saying 2 98 yes) (only (saying 3 99 yes))))))) 3 ≡ outcome (97 ∷ 110 ∷ []) ended (at 1 ∷ at 9 ∷ [])
 and-stops = refl

@@ -13,6 +13,7 @@ use Rattle.ir_poly.specs.Prog.{fixed, held, any_pat, variable_pat, con_pat, con_
 use Rattle.ir_poly.specs.ProgOnce.{IsOnce}
 use Rattle.ir_poly.specs.ProgChecked.{fixed_checked, held_checked, PatChecked, any_checked, variable_checked, con_checked, con_of_checked, exn_checked, exn_of_checked, fields_checked, no_pats_checked, a_pat_checked, Checked, c_constant, c_variable, c_variable_one, c_own, c_con, c_exn, c_prim, c_fields, c_let, c_app, c_case, c_chain, c_handle, c_raise, c_fn, c_no_fields, c_field, c_only, c_link, c_no_rules, c_rule, c_last, DecsChecked, c_no_decs, c_val, c_exception, c_no_binds, c_general, c_plain, c_no_funs, c_fun}
 use Rattle.ir_poly.specs.TestsChecked.{of_type, general, exception, Knowns, exn_type, HasLiteral, has_int, has_string, is_size}
+use Rattle.ir_values.specs.Values.{true_number, nil_number, cons_number}
 use Rattle.ir_poly.specs.Types.{int_name, string_name, exn_name, bool_name, list_name, of_name, function_type, ref_type, row_type, pair_type, Constructor, constructor_of, initial_constructors}
 
 abbrev table : List Constructor
@@ -79,18 +80,18 @@ abbrev cell : Typ
 cell = pair_type integer integers
 
 abbrev heads : Exp
-heads = case_exp (at 1) integer (app_exp (at 0) integers (con_exp 3 list_name (integer ∷ []) (to cell integers)) (fields_exp cell (a_field (Number 1) three (a_field (Number 2) (con_exp 2 list_name (integer ∷ []) integers) no_fields))))
-    (a_rule (con_of_pat 3 cell (fields_pat false (a_pat (Number 1) integer (variable_pat 1) (a_pat (Number 2) integers any_pat no_pats)))) (variable_exp 1 [] integer) (a_rule (con_pat 2) three no_rules))
+heads = case_exp (at 1) integer (app_exp (at 0) integers (con_exp cons_number list_name (integer ∷ []) (to cell integers)) (fields_exp cell (a_field (Number 1) three (a_field (Number 2) (con_exp nil_number list_name (integer ∷ []) integers) no_fields))))
+    (a_rule (con_of_pat cons_number cell (fields_pat false (a_pat (Number 1) integer (variable_pat 1) (a_pat (Number 2) integers any_pat no_pats)))) (variable_exp 1 [] integer) (a_rule (con_pat nil_number) three no_rules))
 
 heads-are-typed : Checked table [] [] heads integer
 heads-are-typed =
-    c_case (c_app (c_con {c = 3} {ts = integer ∷ []} (constructor_of list_name 3 (Some (pair_type (var 0) (con (name list_name) (more (var 0) none))))) refl refl refl refl)
-    (c_fields (c_field (c_constant (has_int (pos 3))) (c_field (c_con {c = 2} {ts = integer ∷ []} (constructor_of list_name 2 None) refl refl refl refl) c_no_fields)) refl) refl) refl
-    (c_rule (con_of_checked {c = 3} (record { datatype = list_name; arguments = integer ∷ []; row = constructor_of list_name 3 (Some (pair_type (var 0) (con (name list_name) (more (var 0) none)))); found = refl; same = refl; type = refl; argument = refl }) refl
+    c_case (c_app (c_con {c = cons_number} {ts = integer ∷ []} (constructor_of list_name cons_number (Some (pair_type (var 0) (con (name list_name) (more (var 0) none))))) refl refl refl refl)
+    (c_fields (c_field (c_constant (has_int (pos 3))) (c_field (c_con {c = nil_number} {ts = integer ∷ []} (constructor_of list_name nil_number None) refl refl refl refl) c_no_fields)) refl) refl) refl
+    (c_rule (con_of_checked {c = cons_number} (record { datatype = list_name; arguments = integer ∷ []; row = constructor_of list_name cons_number (Some (pair_type (var 0) (con (name list_name) (more (var 0) none)))); found = refl; same = refl; type = refl; argument = refl }) refl
     (fields_checked {further = false} ((Number 1, integer) ∷ (Number 2, integers) ∷ []) refl
     (a_pat_checked {l = Number 1} {a = integer} refl refl (variable_checked {x = 1}) (a_pat_checked {l = Number 2} {a = integers} refl refl any_checked no_pats_checked)) refl))
     (c_variable_one {x = 1} refl)
-    (c_rule (con_checked {c = 2} (record { datatype = list_name; arguments = integer ∷ []; row = constructor_of list_name 2 None; found = refl; same = refl; type = refl; argument = refl })) (c_constant (has_int (pos 3))) c_no_rules))
+    (c_rule (con_checked {c = nil_number} (record { datatype = list_name; arguments = integer ∷ []; row = constructor_of list_name nil_number None; found = refl; same = refl; type = refl; argument = refl })) (c_constant (has_int (pos 3))) c_no_rules))
 
 -- exception E of int; (raise E 3) handle E x => x | Div => 3
 abbrev handles : Decs
@@ -106,14 +107,14 @@ handles-are-typed = c_exception refl (c_val refl (c_plain refl variable_checked
 -- 3 + 3 = 3 andalso true, in a let
 abbrev compares : Exp
 compares = let_exp truth (val [] false 1 integer (app_exp (at 0) integer (prim_exp Add (integer ∷ []) (to (pair_type integer integer) integer)) (fields_exp (pair_type integer integer) (a_field (Number 1) three (a_field (Number 2) three no_fields)))) no_decs)
-    (chain_exp true truth (link (app_exp (at 1) truth (prim_exp Equals (integer ∷ []) (to (pair_type integer integer) truth)) (fields_exp (pair_type integer integer) (a_field (Number 1) (variable_exp 1 [] integer) (a_field (Number 2) three no_fields)))) (only (con_exp 1 bool_name [] truth))))
+    (chain_exp true truth (link (app_exp (at 1) truth (prim_exp Equals (integer ∷ []) (to (pair_type integer integer) truth)) (fields_exp (pair_type integer integer) (a_field (Number 1) (variable_exp 1 [] integer) (a_field (Number 2) three no_fields)))) (only (con_exp true_number bool_name [] truth))))
 
 compares-is-typed : Checked table [] [] compares truth
 compares-is-typed =
     c_let ((1, of_type integer) ∷ []) (c_val refl (c_plain refl variable_checked (c_app (c_prim refl (record { number = 0; is = refl; held = refl }) refl)
     (c_fields (c_field (c_constant (has_int (pos 3))) (c_field (c_constant (has_int (pos 3))) c_no_fields)) refl) refl) c_no_binds) c_no_funs c_no_decs)
     (c_chain (c_link (c_app (c_prim refl refl refl) (c_fields (c_field (c_variable_one refl) (c_field (c_constant (has_int (pos 3))) c_no_fields)) refl) refl) refl
-    (c_only (c_con (constructor_of bool_name 1 None) refl refl refl refl) refl)) refl)
+    (c_only (c_con (constructor_of bool_name true_number None) refl refl refl refl) refl)) refl)
 
 -- Refused, at any type
 

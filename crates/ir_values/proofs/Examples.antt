@@ -7,7 +7,7 @@ use Rattle.mlc_base.specs.declared.place.Place.{Place}
 use Rattle.mlc_prims.specs.LitOf.{int, word, string}
 use Rattle.mlc_prims.specs.declared.basis.BasisPrimitive.TheVariants.{Add, Divide, Less, Equals, Assign, SizeOf, Print}
 use Rattle.ir_values.specs.Tags.{Tagging, untagged}
-use Rattle.ir_values.specs.Values.{Value, literal, record_of, con, con_of, exn, exn_of, ref, address, cell, primitive, closure, no_fields, field, Env, empty, bind}
+use Rattle.ir_values.specs.Values.{Value, literal, record_of, con, con_of, exn, exn_of, ref, address, cell, primitive, closure, no_fields, field, Env, empty, bind, true_number, false_number}
 use Rattle.ir_values.specs.Match.{Matched, matches, no_match, mismatch, against_literal, under_exn, under_con, under_record, under_ref}
 use Rattle.ir_values.specs.Equality.{same_at}
 use Rattle.ir_values.specs.Primitives.{perform, enter, raise_value}
@@ -65,10 +65,10 @@ no-sum = refl
 no-quotient : perform untagged {B = ℕ} {C = ℕ} tt Divide (five ∷ literal (int (pos 0)) ∷ []) world ≡ raises (exn tt 3) world
 no-quotient = refl
 
-less : perform untagged {B = ℕ} {C = ℕ} tt Less (five ∷ six ∷ []) world ≡ gives (con tt 1) world
+less : perform untagged {B = ℕ} {C = ℕ} tt Less (five ∷ six ∷ []) world ≡ gives (con tt true_number) world
 less = refl
 
-equal : perform untagged {B = ℕ} {C = ℕ} tt Equals (con tt 4 ∷ con tt 5 ∷ []) world ≡ gives (con tt 0) world
+equal : perform untagged {B = ℕ} {C = ℕ} tt Equals (con tt 4 ∷ con tt 5 ∷ []) world ≡ gives (con tt false_number) world
 equal = refl
 
 assigned : perform untagged {B = ℕ} {C = ℕ} tt Assign (address 0 ∷ six ∷ []) world ≡ gives (record_of tt no_fields) (record world { store = cell tt six ∷ [] })
@@ -167,5 +167,5 @@ at-another-type = refl
 taken-apart-elsewhere : under_record numbered 11 None one (λ fs. matches empty) ≡ mismatch
 taken-apart-elsewhere = refl
 
-truth-is-tagged : perform numbered {B = ℕ} {C = ℕ} 1 Equals (literal (int (pos 5)) ∷ literal (int (pos 5)) ∷ []) (start 0) ≡ gives (con 6 1) (start 0)
+truth-is-tagged : perform numbered {B = ℕ} {C = ℕ} 1 Equals (literal (int (pos 5)) ∷ literal (int (pos 5)) ∷ []) (start 0) ≡ gives (con 6 true_number) (start 0)
 truth-is-tagged = refl

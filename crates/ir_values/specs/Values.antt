@@ -3,6 +3,7 @@
 use Rattle.std.specs.Prelude.{ℕ, suc, Bool, true, false, Option, Some, None, nat_eq, if◌then◌else◌}
 use Rattle.mlc_base.specs.declared.label.Label.{Label}
 use Rattle.mlc_base.specs.declared.label.Label.TheVariants.{Number, Word}
+use Rattle.mlc_base.specs.StandardWords.{word_true, word_false, word_nil, word_cons}
 use Rattle.mlc_prims.specs.LitOf.{Literal, int, word, char, string, truth}
 use Rattle.mlc_prims.specs.declared.basis.BasisPrimitive.{BasisPrimitive}
 use Rattle.ir_values.specs.Tags.{Tagging}
@@ -37,19 +38,19 @@ module _ (B C T : Type 0) where
       empty : Env
       bind : B → Value → Env → Env
 
--- A constructor is the number of its identifier; those that derived forms and primitives name have the first ones.
+-- A constructor is the number of its identifier: those that derived forms and primitives name are standard words.
 
 abbrev pub false_number : ℕ
-false_number = 0
+false_number = word_false
 
 abbrev pub true_number : ℕ
-true_number = 1
+true_number = word_true
 
 abbrev pub nil_number : ℕ
-nil_number = 2
+nil_number = word_nil
 
 abbrev pub cons_number : ℕ
-cons_number = 3
+cons_number = word_cons
 
 abbrev pub truth_number : Bool → ℕ
 truth_number false = false_number

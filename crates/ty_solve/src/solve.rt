@@ -6,7 +6,8 @@ ghost use Rattle.ty_solve.specs.SlotsOf.{seen, entries, tasks_of, write_of};
 ghost use Rattle.ty_solve.specs.Held.{AreHeldTasks, IsHeldMove};
 ghost use Rattle.ty_solve.specs.Tasks.{Fit};
 ghost use Rattle.ty_solve.specs.Changes.{Changes, RefusesWrite};
-ghost use Rattle.ty_solve.specs.Solve.{IsMostGeneral, IsSolvable, IsSmall, IsCause, IsEarlyCause, undo};
+ghost use Rattle.ty_solve.specs.Forces.{IsForced};
+ghost use Rattle.ty_solve.specs.Solve.{problem, IsMostGeneral, IsSolvable, IsSmall, IsCause, IsEarlyCause, LeavesRest, undo};
 
 use crate::bind::{bind_variable, lower_mark};
 use crate::refused::UnifyRefused;
@@ -57,6 +58,7 @@ fn solve(
     ensures same_length { length s.new.slots.items ≡ length s.old.slots.items }
     ensures types { s.new.types ≡ s.old.types }
     ensures general { IfOk result (λ _. IsMostGeneral (seen s.old.types s.old.slots.items) (seen s.old.types s.new.slots.items) (type_at s.old.types a) (type_at s.old.types b)) }
+    ensures forced { IfOk result (λ _. IsForced (problem (seen s.old.types s.old.slots.items) (type_at s.old.types a) (type_at s.old.types b)) (seen s.old.types s.new.slots.items)) }
     ensures cause { IfErr result (IsEarlyCause (seen s.old.types s.old.slots.items) (type_at s.old.types a) (type_at s.old.types b)) }
 {
     let mut compared: IndexSet<(usize, usize)> = IndexSet::new(alloc);
@@ -92,6 +94,7 @@ fn attempt(
     ensures same_length { length s.new.slots.items ≡ length s.old.slots.items }
     ensures types { s.new.types ≡ s.old.types }
     ensures general { IfOk result (λ _. IsMostGeneral (seen s.old.types s.old.slots.items) (seen s.old.types s.new.slots.items) (type_at s.old.types a) (type_at s.old.types b)) }
+    ensures forced { IfOk result (λ _. IsForced (problem (seen s.old.types s.old.slots.items) (type_at s.old.types a) (type_at s.old.types b)) (seen s.old.types s.new.slots.items)) }
     ensures small { IfOk result (λ _. IsSmall (seen s.old.types s.new.slots.items) (type_at s.old.types a)) }
     ensures cause { IfErr result (IsCause (seen s.old.types s.old.slots.items) (type_at s.old.types a) (type_at s.old.types b)) }
 {
@@ -118,6 +121,7 @@ pub fn unify(alloc: Global, s: &mut Subst, a: usize, b: usize) -> Result<(), Uni
     ensures solvable { IfOk result (λ _. IsSolvable (seen s.new.types s.new.slots.items)) }
     ensures small { IfOk result (λ _. IsSmall (seen s.old.types s.new.slots.items) (type_at s.old.types a)) }
     ensures same_length { IfOk result (λ _. length s.new.slots.items ≡ length s.old.slots.items) }
+    ensures rest { IfOk result (λ _. LeavesRest (seen s.old.types s.old.slots.items) (seen s.old.types s.new.slots.items) (type_at s.old.types a) (type_at s.old.types b)) }
     ensures types { s.new.types ≡ s.old.types }
 
     ensures cause { IfErr result (IsCause (seen s.old.types s.old.slots.items) (type_at s.old.types a) (type_at s.old.types b)) }

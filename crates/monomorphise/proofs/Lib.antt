@@ -1,0 +1,4 @@
+pub mod Related
+pub mod Refined
+pub mod Keeps
+pub mod Stripped

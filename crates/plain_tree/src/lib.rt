@@ -1,0 +1,4 @@
+// The plain-order tree of the code.
+#![tactic(auto)]
+
+pub mod tree;
