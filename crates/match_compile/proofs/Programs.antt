@@ -17,8 +17,8 @@ use Rattle.match_compile.proofs.Made.{run-made}
 
 -- the table has true and false
 truths : (constructors : List Constructor) (b : Bool) → HasConstructor (initial_constructors ++ constructors) (truth_number b) bool_type None
-truths cs false = record { datatype = bool_name; arguments = []; row = constructor_of bool_name 0 None; found = refl; same = refl; type = refl; argument = refl }
-truths cs true = record { datatype = bool_name; arguments = []; row = constructor_of bool_name 1 None; found = refl; same = refl; type = refl; argument = refl }
+truths cs false = record { datatype = bool_name; arguments = []; row = constructor_of bool_name (truth_number false) None; found = refl; same = refl; type = refl; argument = refl }
+truths cs true = record { datatype = bool_name; arguments = []; row = constructor_of bool_name (truth_number true) None; found = refl; same = refl; type = refl; argument = refl }
 
 pub typing-kept : (ds : Decs) → KeepsTyping ds
 typing-kept ds cs G h = run-typed (initial_constructors ++ cs) (truths cs) ds G h
