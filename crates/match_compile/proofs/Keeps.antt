@@ -29,7 +29,7 @@ use Rattle.ir_poly.specs.ProgChecked.{parameters_if}
 use Rattle.ir_poly.specs.Tests.{Use, inst, poly, Tests}
 use Rattle.ir_poly.specs.Types.{unit_type}
 use Rattle.match_compile.specs.Compile as pass
-use Rattle.match_compile.specs.Compile.{Names, no_names, named, each_named, funs_named, past_group, scoped, all_scoped, bool_type, exception_type, atom, put, excepted, Otherwise, again, initial, otherwise, Spots, no_spots, spots, spots_named, past_pat, tests, Shape, plain, alone, recorded, general_shape, shape_over, shape, record_type, together, split, past_shape, shape_spots, shaped, grouped, Built, a_con, a_ref, an_exn, Way, by_call, by_building, by_performing, used_at, are_numbered, is_tuple, arity, performed, way, weighed, past_built, beginning, building, along, value_at, past_tuple, past_fields, past_chain, past_rules, past_fun, past_decs, past_binds, past_funs, binds_spots, val_named, decs_named, field_row, field_atoms, tuple_atoms, making, making_tuple, making_all, links, rules, function, bindings, decs, compile}
+use Rattle.match_compile.specs.Compile.{Names, no_names, named, each_named, funs_named, past_group, scoped, all_scoped, bool_type, exception_type, atom, put, excepted, Otherwise, again, initial, otherwise, Spots, no_spots, spots, spots_named, past_pat, tests, Shape, plain, alone, recorded, general_shape, shape_over, shape, record_type, together, split, past_shape, shape_spots, shaped, grouped, Built, a_con, a_ref, an_exn, Way, by_call, by_building, by_performing, used_at, are_numbered, is_tuple, arity, performed, way, weighed, past_built, beginning, building, along, value_at, past_tuple, past_fields, past_chain, past_rules, past_fun, past_decs, past_binds, past_funs, unclassed, binds_spots, val_named, decs_named, field_row, field_atoms, tuple_atoms, making, making_tuple, making_all, links, rules, function, bindings, decs, compile}
 use Rattle.match_compile.proofs.Numbers.{le-trans, le-suc, le-refl, le-less, less-of, different, pat-up, group-up, shape-up, up, tuple-up, fields-up, rules-up, fun-up, binds-up, funs-up}
 use Rattle.match_compile.proofs.Related.{same_alone, same_one_of, Same, same_literal, same_record, same_con, same_con_of, same_exn, same_exn_of, same_ref, same_primitive, same_closure, SameParts, no_same, a_same, SameEnv, same_empty, same_bind, kind-of, by-kind, look_up-same, here, Holds, holds-refl, holds-trans, holds-bind, same-up, Bound, bound_none, bound_one, bound-more, bound-onto, members-same, members-held, Worlds, Ends}
 use Rattle.match_compile.proofs.Matched.{BothNames, both_named, not_named, exception-same, Recorded, recorded_as, found, con-tested, tests-same, split-same, together-same}
@@ -102,7 +102,7 @@ built_value (a_con c) env w = gives (con tt c) w
 built_value (a_ref u) env w = gives (ref tt) w
 built_value (an_exn x) env w = or_fail (src.exception_in x env) w (λ v. gives v w)
 
-performed-not-built : (x : Bool) (p : BasisPrimitive) (u : Typ) (b : Built) → performed x p u ≡ by_building b → ⊥
+pub performed-not-built : (x : Bool) (p : BasisPrimitive) (u : Typ) (b : Built) → performed x p u ≡ by_building b → ⊥
 performed-not-built true p u b e = cc
 performed-not-built false p u b e = cc
 
@@ -613,13 +613,14 @@ module _ (call : src.Apply) (call' : tgt.Apply poly) (calls : (place : Place) (g
         → ((env' : src.Scope) (ρ' : tgt.Scope poly) (w' : World src.V) (u' : World W) → SameEnv (past_decs ds n) (decs_named ds n N) env' ρ' → Worlds w' u' → Ends (go env' w') (ev rest ρ' u' other)) → Ends (then_do (src.eval_decs call ds env w) go) (ev (decs D N ds n rest) ρ u other)
     decs-same no_decs D N n env ρ w u go rest other h s l f = f env ρ w u h s
     decs-same (val_dec qs bs fs ds) D N n env ρ w u go rest other h s l f =
-        let b = past_binds qs bs n in let m = past_group fs b in let j = past_funs fs m in let E = qs ++ D in let N1 = funs_named fs b N in let vs = binds_spots qs bs n no_spots in
-        let group = pass.functions E N1 fs b m in let later = decs D (val_named qs bs fs n N) ds j rest in
-        subst (λ y. Ends y (ev (bindings D N qs bs n (grouped qs group later)) ρ u other)) (sym (then_do-then_do (src.eval_binds call bs env (src.members fs env) w) (λ env' w'. src.eval_decs call ds env' w') go))
-        (binds-same qs bs D N n env (src.members fs env) (src.members fs env) no_spots ρ w u (λ env' w'. then_do (src.eval_decs call ds env' w') go) (grouped qs group later) other h s bound_none l (λ env1 ρ1 w1 u1 k1 b1 s1.
-        subst (λ y. Ends (then_do (src.eval_decs call ds env1 w1) go) y) (sym (grouped-ev qs group later ρ1 u1 other))
-        (decs-same ds D (val_named qs bs fs n N) j env1 (tgt.members group ρ1) w1 u1 go rest other
-        (same-up m j (funs-up fs m) (holds-refl m _) (bound-onto (members-same E fs b b m (le-refl b) (le-refl m) (same-up n b (binds-up qs bs n) k1 h)) (bound-more b m (group-up fs b) (members-held E fs b b m N1 ρ1 (le-refl b)) b1)))
+        let rs = unclassed qs in
+        let b = past_binds rs bs n in let m = past_group fs b in let j = past_funs fs m in let E = rs ++ D in let N1 = funs_named fs b N in let vs = binds_spots rs bs n no_spots in
+        let group = pass.functions E N1 fs b m in let later = decs D (val_named rs bs fs n N) ds j rest in
+        subst (λ y. Ends y (ev (bindings D N rs bs n (grouped rs group later)) ρ u other)) (sym (then_do-then_do (src.eval_binds call bs env (src.members fs env) w) (λ env' w'. src.eval_decs call ds env' w') go))
+        (binds-same rs bs D N n env (src.members fs env) (src.members fs env) no_spots ρ w u (λ env' w'. then_do (src.eval_decs call ds env' w') go) (grouped rs group later) other h s bound_none l (λ env1 ρ1 w1 u1 k1 b1 s1.
+        subst (λ y. Ends (then_do (src.eval_decs call ds env1 w1) go) y) (sym (grouped-ev rs group later ρ1 u1 other))
+        (decs-same ds D (val_named rs bs fs n N) j env1 (tgt.members group ρ1) w1 u1 go rest other
+        (same-up m j (funs-up fs m) (holds-refl m _) (bound-onto (members-same E fs b b m (le-refl b) (le-refl m) (same-up n b (binds-up rs bs n) k1 h)) (bound-more b m (group-up fs b) (members-held E fs b b m N1 ρ1 (le-refl b)) b1)))
         s1 l f)))
     decs-same (exception_dec x identifier t ds) D N n env ρ w u go rest other h s l f =
         new_exception-agree Same Same identifier w u (λ i w'. then_do (src.eval_decs call ds (bind x (exn tt i) env) w') go) (λ i u'. ev (decs D (named x n N) ds (suc n) rest) (bind n (exn tt i) ρ) u' other) s

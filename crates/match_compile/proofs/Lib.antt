@@ -7,3 +7,8 @@ pub mod Once
 pub mod Weights
 pub mod Made
 pub mod Local
+pub mod TypeLemmas
+pub mod TypedLemmas
+pub mod Values
+pub mod Typed
+pub mod Programs

@@ -12,7 +12,7 @@ use Rattle.ir_plain.specs.Scoped.{IsAmong, among_here, among_there, group_onto, 
 use Rattle.ir_poly.specs.Prog.{Exc, fixed, held, Pat, any_pat, variable_pat, constant_pat, con_pat, con_of_pat, ref_of_pat, exn_pat, exn_of_pat, fields_pat, as_pat, PatFields, no_pats, a_pat, Exp, constant_exp, variable_exp, own_exp, con_exp, ref_exp, exn_exp, prim_exp, fields_exp, let_exp, app_exp, case_exp, chain_exp, handle_exp, raise_exp, fn_exp, counted_exp, Fields, no_fields, a_field, Chain, only, link, Rules, no_rules, a_rule, Fun, last, by_rules, more, Decs, no_decs, val_dec, exception_dec, counted_dec, Binds, no_binds, a_bind, Funs, no_funs, a_fun, type_of}
 use Rattle.ir_poly.specs.Tests.{Use, poly, Tests}
 use Rattle.ir_poly.specs.Types.{unit_type}
-use Rattle.match_compile.specs.Compile.{Names, no_names, named, funs_named, past_group, bool_type, exception_type, atom, put, excepted, Otherwise, again, initial, otherwise, Spots, no_spots, spot, spots, field_spots, spots_named, past_pat, tests, field_tests, Shape, plain, alone, recorded, shape, record_type, spots_row, together, split, past_shape, shaped, grouped, Built, a_con, a_ref, an_exn, Way, by_call, by_building, by_performing, way, weighed, past_built, beginning, building, along, value_at, past_tuple, past_fields, past_chain, past_rules, past_fun, past_decs, past_binds, past_funs, val_named, decs_named, field_row, field_atoms, tuple_atoms, making, making_tuple, making_all, links, rules, function, functions, bindings, decs, compile}
+use Rattle.match_compile.specs.Compile.{unclassed, Names, no_names, named, funs_named, past_group, bool_type, exception_type, atom, put, excepted, Otherwise, again, initial, otherwise, Spots, no_spots, spot, spots, field_spots, spots_named, past_pat, tests, field_tests, Shape, plain, alone, recorded, shape, record_type, spots_row, together, split, past_shape, shaped, grouped, Built, a_con, a_ref, an_exn, Way, by_call, by_building, by_performing, way, weighed, past_built, beginning, building, along, value_at, past_tuple, past_fields, past_chain, past_rules, past_fun, past_decs, past_binds, past_funs, val_named, decs_named, field_row, field_atoms, tuple_atoms, making, making_tuple, making_all, links, rules, function, functions, bindings, decs, compile}
 
 abbrev Among : Use → List ℕ → Type 0
 Among = IsAmong poly
@@ -251,8 +251,9 @@ mutual
   decs-local : (D : List Quantified) (N : Names) (ds : Decs) (n : ℕ) {ls : List ℕ} {rest : Tests} → ((ls' : List ℕ) → Grows ls ls' → Local ls' rest) → Local ls (decs D N ds n rest)
   decs-local D N no_decs n {ls = ls} f = f ls (stays ls)
   decs-local D N (val_dec qs bs fs ds) n f =
-      let b = past_binds qs bs n in let m = past_group fs b in let group = functions (qs ++ D) (funs_named fs b N) fs b m in
-      bindings-local D N qs bs n (λ ls1 g1. grouped-local qs group (functions-local (qs ++ D) (funs_named fs b N) fs b m) (decs-local D (val_named qs bs fs n N) ds (past_funs fs m) (λ ls2 g2. f ls2 (further g1 (further (groups-grow group ls1) g2)))))
+      let rs = unclassed qs in
+      let b = past_binds rs bs n in let m = past_group fs b in let group = functions (rs ++ D) (funs_named fs b N) fs b m in
+      bindings-local D N rs bs n (λ ls1 g1. grouped-local rs group (functions-local (rs ++ D) (funs_named fs b N) fs b m) (decs-local D (val_named rs bs fs n N) ds (past_funs fs m) (λ ls2 g2. f ls2 (further g1 (further (groups-grow group ls1) g2)))))
   decs-local D N (exception_dec x identifier t ds) n {ls = ls} f = exception_scoped (decs-local D (named x n N) ds (suc n) (λ ls2 g2. f ls2 (further (one n ls) g2)))
   decs-local D N (counted_dec k ds) n f = counted_scoped (decs-local D N ds n f)
 

@@ -11,7 +11,7 @@ use Rattle.ir_poly.specs.Prog.{Pat, any_pat, variable_pat, constant_pat, con_pat
 use Rattle.ir_poly.specs.Tests.{poly, Tests}
 use Rattle.ir_poly.specs.Types.{unit_type}
 use Rattle.match_compile.specs.Exceptions.{made, fields_made, chain_made, rules_made, fun_made, decs_made, binds_made, funs_made, tests_made, op_made, te_fun_made, te_funs_made}
-use Rattle.match_compile.specs.Compile.{Names, no_names, named, funs_named, past_group, scoped, bool_type, exception_type, atom, put, Otherwise, again, initial, otherwise, Spots, no_spots, spot, spots, spots_named, past_pat, tests, field_tests, Shape, plain, alone, recorded, shape, record_type, together, split, past_shape, shaped, grouped, Built, a_con, a_ref, an_exn, Way, by_call, by_building, by_performing, way, weighed, past_built, beginning, building, along, value_at, past_tuple, past_fields, past_chain, past_rules, past_decs, past_binds, past_fun, past_funs, val_named, decs_named, field_row, tuple_atoms, is_tuple, arity, making, making_tuple, making_all, links, rules, function, functions, bindings, decs, compile}
+use Rattle.match_compile.specs.Compile.{unclassed, Names, no_names, named, funs_named, past_group, scoped, bool_type, exception_type, atom, put, Otherwise, again, initial, otherwise, Spots, no_spots, spot, spots, spots_named, past_pat, tests, field_tests, Shape, plain, alone, recorded, shape, record_type, together, split, past_shape, shaped, grouped, Built, a_con, a_ref, an_exn, Way, by_call, by_building, by_performing, way, weighed, past_built, beginning, building, along, value_at, past_tuple, past_fields, past_chain, past_rules, past_decs, past_binds, past_fun, past_funs, val_named, decs_named, field_row, tuple_atoms, is_tuple, arity, making, making_tuple, making_all, links, rules, function, functions, bindings, decs, compile}
 use Rattle.match_compile.proofs.Keeps.{performed-tuple}
 use Rattle.match_compile.proofs.Weights.{NotCalled, not-called}
 
@@ -178,9 +178,10 @@ mutual
   decs-made : (D : List Quantified) (N : Names) (ds : Decs) (n : ℕ) (rest : Tests) (us : List ℕ) → X (decs D N ds n rest) us ≡ decs_made ds (X rest us)
   decs-made D N no_decs n rest us = refl
   decs-made D N (val_dec qs bs fs ds) n rest us =
-      let b = past_binds qs bs n in let m = past_group fs b in let j = past_funs fs m in
-      let group = functions (qs ++ D) (funs_named fs b N) fs b m in let later = decs D (val_named qs bs fs n N) ds j rest in
-      bindings-made D N qs bs n (grouped qs group later) us ∙ ap (binds_made bs) (grouped-made qs group later us ∙ (functions-made (qs ++ D) (funs_named fs b N) fs b m (X later us) ∙ ap (funs_made fs) (decs-made D (val_named qs bs fs n N) ds j rest us)))
+      let rs = unclassed qs in
+      let b = past_binds rs bs n in let m = past_group fs b in let j = past_funs fs m in
+      let group = functions (rs ++ D) (funs_named fs b N) fs b m in let later = decs D (val_named rs bs fs n N) ds j rest in
+      bindings-made D N rs bs n (grouped rs group later) us ∙ ap (binds_made bs) (grouped-made rs group later us ∙ (functions-made (rs ++ D) (funs_named fs b N) fs b m (X later us) ∙ ap (funs_made fs) (decs-made D (val_named rs bs fs n N) ds j rest us)))
   decs-made D N (exception_dec x identifier t ds) n rest us = ap (λ vs. identifier ∷ vs) (decs-made D (named x n N) ds (suc n) rest us)
   decs-made D N (counted_dec j ds) n rest us = decs-made D N ds n rest us
 

@@ -5,7 +5,7 @@ use Rattle.mlc_prims.specs.declared.basis.BasisPrimitive.{BasisPrimitive}
 use Rattle.ty_core.specs.Types.{Typ}
 use Rattle.ty_core.specs.declared.scheme.Quantified.{Quantified}
 use Rattle.ir_poly.specs.Prog.{Pat, any_pat, variable_pat, constant_pat, con_pat, con_of_pat, ref_of_pat, exn_pat, exn_of_pat, fields_pat, as_pat, PatFields, no_pats, a_pat, Exp, constant_exp, variable_exp, own_exp, con_exp, ref_exp, exn_exp, prim_exp, fields_exp, let_exp, app_exp, case_exp, chain_exp, handle_exp, raise_exp, fn_exp, counted_exp, Fields, no_fields, a_field, Chain, only, link, Rules, no_rules, a_rule, Fun, last, by_rules, more, Decs, no_decs, val_dec, exception_dec, counted_dec, Binds, no_binds, a_bind, Funs, no_funs, a_fun}
-use Rattle.match_compile.specs.Compile.{past_group, Spots, no_spots, spot, spots, past_pat, past_pats, past_split, Shape, plain, alone, recorded, shape, past_shape, Built, a_con, a_ref, an_exn, Way, by_call, by_building, by_performing, way, past_built, along, value_at, past_tuple, past_fields, past_chain, past_rules, past_fun, past_decs, past_binds, past_funs}
+use Rattle.match_compile.specs.Compile.{unclassed, past_group, Spots, no_spots, spot, spots, past_pat, past_pats, past_split, Shape, plain, alone, recorded, shape, past_shape, Built, a_con, a_ref, an_exn, Way, by_call, by_building, by_performing, way, past_built, along, value_at, past_tuple, past_fields, past_chain, past_rules, past_fun, past_decs, past_binds, past_funs}
 
 pub different : (x y : ℕ) → (x ≡ y → ⊥) → nat_eq x y ≡ false
 different x y h = go (nat_eq x y) refl
@@ -131,8 +131,9 @@ mutual
   pub decs-up : (ds : Decs) (n : ℕ) → n ≤ past_decs ds n
   decs-up no_decs n = le-refl n
   decs-up (val_dec qs bs fs ds) n =
-      let b = past_binds qs bs n in let m = past_group fs b in
-      le-trans _ _ _ (binds-up qs bs n) (le-trans _ _ _ (group-up fs b) (le-trans _ _ _ (funs-up fs m) (decs-up ds (past_funs fs m))))
+      let rs = unclassed qs in
+      let b = past_binds rs bs n in let m = past_group fs b in
+      le-trans _ _ _ (binds-up rs bs n) (le-trans _ _ _ (group-up fs b) (le-trans _ _ _ (funs-up fs m) (decs-up ds (past_funs fs m))))
   decs-up (exception_dec x identifier t ds) n = le-less _ _ (decs-up ds (suc n))
   decs-up (counted_dec k ds) n = decs-up ds n
 

@@ -12,7 +12,7 @@ use Rattle.ir_plain.specs.Tree as te
 use Rattle.ir_poly.specs.Prog.{Pat, any_pat, variable_pat, constant_pat, con_pat, con_of_pat, ref_of_pat, exn_pat, exn_of_pat, fields_pat, as_pat, PatFields, no_pats, a_pat, Exp, constant_exp, variable_exp, own_exp, con_exp, ref_exp, exn_exp, prim_exp, fields_exp, let_exp, app_exp, case_exp, chain_exp, handle_exp, raise_exp, fn_exp, counted_exp, Fields, no_fields, a_field, Chain, only, link, Rules, no_rules, a_rule, Fun, last, by_rules, more, Decs, no_decs, val_dec, exception_dec, counted_dec, Binds, no_binds, a_bind, Funs, no_funs, a_fun, type_of}
 use Rattle.ir_poly.specs.Tests.{poly, Tests}
 use Rattle.ir_poly.specs.Types.{unit_type}
-use Rattle.match_compile.specs.Compile.{Names, no_names, named, funs_named, past_group, scoped, bool_type, exception_type, atom, put, Otherwise, again, initial, otherwise, Spots, no_spots, spot, spots, spots_named, past_pat, past_pats, tests, field_tests, Shape, plain, alone, recorded, shape, record_type, together, split, past_split, past_shape, shaped, grouped, Built, a_con, a_ref, an_exn, Way, by_call, by_building, by_performing, way, weighed, past_built, beginning, building, along, value_at, past_tuple, past_fields, past_chain, past_rules, past_fun, past_decs, past_binds, past_funs, val_named, decs_named, field_row, tuple_atoms, making, making_tuple, making_all, links, rules, function, functions, bindings, decs, compile}
+use Rattle.match_compile.specs.Compile.{Names, no_names, named, funs_named, past_group, scoped, bool_type, exception_type, atom, put, Otherwise, again, initial, otherwise, Spots, no_spots, spot, spots, spots_named, past_pat, past_pats, tests, field_tests, Shape, plain, alone, recorded, shape, record_type, together, split, past_split, past_shape, shaped, grouped, Built, a_con, a_ref, an_exn, Way, by_call, by_building, by_performing, way, weighed, past_built, beginning, building, along, value_at, past_tuple, past_fields, past_chain, past_rules, past_fun, past_decs, past_binds, past_funs, unclassed, val_named, decs_named, field_row, tuple_atoms, making, making_tuple, making_all, links, rules, function, functions, bindings, decs, compile}
 use Rattle.match_compile.proofs.Numbers.{different}
 
 -- how many of the numbers below n are k
@@ -209,12 +209,13 @@ module _ (k : ℕ) where
     decs-once : (D : List Quantified) (N : Names) (ds : Decs) (n : ℕ) (rest : Tests) → T (decs D N ds n rest) + new k n ≡ new k (past_decs ds n) + T rest
     decs-once D N no_decs n rest = omega arith
     decs-once D N (val_dec qs bs fs ds) n rest =
-        let b = past_binds qs bs n in let m = past_group fs b in let j = past_funs fs m in
-        let group = functions (qs ++ D) (funs_named fs b N) fs b m in let later = decs D (val_named qs bs fs n N) ds j rest in
-        let h = bindings-once D N qs bs n (grouped qs group later) in
-        let g = grouped-once qs group later in
-        let d = functions-once (qs ++ D) (funs_named fs b N) fs b m in
-        let l = decs-once D (val_named qs bs fs n N) ds j rest in
+        let rs = unclassed qs in
+        let b = past_binds rs bs n in let m = past_group fs b in let j = past_funs fs m in
+        let group = functions (rs ++ D) (funs_named fs b N) fs b m in let later = decs D (val_named rs bs fs n N) ds j rest in
+        let h = bindings-once D N rs bs n (grouped rs group later) in
+        let g = grouped-once rs group later in
+        let d = functions-once (rs ++ D) (funs_named fs b N) fs b m in
+        let l = decs-once D (val_named rs bs fs n N) ds j rest in
         omega (arith, h, g, d, l)
     decs-once D N (exception_dec x identifier t ds) n rest = let h = decs-once D (named x n N) ds (suc n) rest in omega (arith, h)
     decs-once D N (counted_dec j ds) n rest = decs-once D N ds n rest

@@ -13,7 +13,7 @@ use Rattle.ir_poly.specs.Prog.{Pat, any_pat, variable_pat, constant_pat, con_pat
 use Rattle.ir_poly.specs.ProgWeight.{weight, fields_weight, chain_weight, rules_weight, fun_weight, decs_weight, binds_weight, funs_weight}
 use Rattle.ir_poly.specs.Tests.{poly, Tests}
 use Rattle.ir_poly.specs.Types.{unit_type}
-use Rattle.match_compile.specs.Compile.{Names, no_names, named, funs_named, past_group, scoped, bool_type, exception_type, atom, put, Otherwise, again, initial, otherwise, Spots, no_spots, spot, spots, spots_named, past_pat, tests, field_tests, Shape, plain, alone, recorded, shape, record_type, together, split, past_shape, shaped, grouped, Built, a_con, a_ref, an_exn, Way, by_call, by_building, by_performing, way, weighed, past_built, beginning, building, along, value_at, past_tuple, past_fields, past_chain, past_rules, past_fun, past_decs, past_binds, past_funs, val_named, decs_named, field_row, tuple_atoms, is_tuple, arity, making, making_tuple, making_all, links, rules, function, functions, bindings, decs, compile}
+use Rattle.match_compile.specs.Compile.{Names, no_names, named, funs_named, past_group, scoped, bool_type, exception_type, atom, put, Otherwise, again, initial, otherwise, Spots, no_spots, spot, spots, spots_named, past_pat, tests, field_tests, Shape, plain, alone, recorded, shape, record_type, together, split, past_shape, shaped, grouped, Built, a_con, a_ref, an_exn, Way, by_call, by_building, by_performing, way, weighed, past_built, beginning, building, along, value_at, past_tuple, past_fields, past_chain, past_rules, past_fun, past_decs, past_binds, past_funs, unclassed, val_named, decs_named, field_row, tuple_atoms, is_tuple, arity, making, making_tuple, making_all, links, rules, function, functions, bindings, decs, compile}
 use Rattle.match_compile.proofs.Keeps.{performed-tuple}
 
 abbrev W : Tests → ℕ
@@ -212,12 +212,13 @@ mutual
   decs-weight : (D : List Quantified) (N : Names) (ds : Decs) (n : ℕ) (rest : Tests) → W (decs D N ds n rest) ≡ decs_weight ds + W rest
   decs-weight D N no_decs n rest = omega arith
   decs-weight D N (val_dec qs bs fs ds) n rest =
-      let b = past_binds qs bs n in let m = past_group fs b in let j = past_funs fs m in
-      let group = functions (qs ++ D) (funs_named fs b N) fs b m in let later = decs D (val_named qs bs fs n N) ds j rest in
-      let h = bindings-weight D N qs bs n (grouped qs group later) in
-      let g = grouped-weight qs group later in
-      let d = functions-weight (qs ++ D) (funs_named fs b N) fs b m in
-      let l = decs-weight D (val_named qs bs fs n N) ds j rest in
+      let rs = unclassed qs in
+      let b = past_binds rs bs n in let m = past_group fs b in let j = past_funs fs m in
+      let group = functions (rs ++ D) (funs_named fs b N) fs b m in let later = decs D (val_named rs bs fs n N) ds j rest in
+      let h = bindings-weight D N rs bs n (grouped rs group later) in
+      let g = grouped-weight rs group later in
+      let d = functions-weight (rs ++ D) (funs_named fs b N) fs b m in
+      let l = decs-weight D (val_named rs bs fs n N) ds j rest in
       omega (arith, h, g, d, l)
   decs-weight D N (exception_dec x identifier t ds) n rest = decs-weight D (named x n N) ds (suc n) rest
   decs-weight D N (counted_dec j ds) n rest = let h = decs-weight D N ds n rest in omega (arith, h)

@@ -1,12 +1,14 @@
 -- Rule by rule, each rule tested from its first pattern node to its last; every value in the order in which it is made. Each variable of the source gets
 -- the number of a new one. New ones are numbered from 1 on, in the order of the text.
-use Rattle.std.specs.Prelude.{ℕ, zero, suc, Bool, true, false, not, ◌&&◌, List, [], ◌∷◌, ◌++◌, length, Option, Some, None, nat_eq, nat_lt, if◌then◌else◌}
+use Rattle.std.specs.Prelude.{ℕ, zero, suc, Bool, true, false, not, ◌&&◌, List, [], ◌∷◌, ◌++◌, length, map, Option, Some, nat_eq, nat_lt, if◌then◌else◌}
 use Rattle.mlc_base.specs.declared.label.Label.TheVariants.{Number}
 use Rattle.mlc_base.specs.declared.place.Place.{Place}
 use Rattle.mlc_base.specs.declared.label.Label.{Label}
 use Rattle.mlc_prims.specs.declared.basis.BasisPrimitive.{BasisPrimitive}
 use Rattle.ty_core.specs.Types.{Typ, name, var, con, typs_of}
 use Rattle.ty_core.specs.Statics.{replace}
+use Rattle.ty_core.specs.declared.mark.Mark.{Mark}
+use Rattle.ty_core.specs.declared.mark.Mark.TheVariants.{Any, Equality, Class}
 use Rattle.ty_core.specs.declared.scheme.Quantified.{Quantified}
 use Rattle.ir_values.specs.Values.{same_label, truth_number}
 use Rattle.ir_values.specs.Primitives.{match_name, bind_name}
@@ -17,6 +19,7 @@ use Rattle.ir_poly.specs.ProgMeaning.{size_of}
 use Rattle.ir_poly.specs.ProgChecked.{parameters_if}
 use Rattle.ir_poly.specs.Tests.{Use, inst, poly, Tests}
 use Rattle.ir_poly.specs.Types.{of_name, bool_name, exn_name, unit_type, row_type, in_scope, prim_type}
+use Rattle.ir_poly.specs.TestsTyped.{option_read}
 use Rattle.ir_poly.specs.WellFormed.{Program}
 
 -- The numbers that the source's variables have got. No variable has the number 0: it stands for one that isn't bound.
@@ -52,12 +55,20 @@ abbrev pub scoped : List Quantified → Typ → Typ
 scoped D t = replace (standing D) t
 
 abbrev pub all_scoped : List Quantified → List Typ → List Typ
-all_scoped D [] = []
-all_scoped D (t ∷ ts) = scoped D t ∷ all_scoped D ts
+all_scoped D ts = map (replace (standing D)) ts
 
 abbrev pub option_scoped : List Quantified → Option Typ → Option Typ
-option_scoped D None = None
-option_scoped D (Some t) = Some (scoped D t)
+option_scoped D t = option_read (standing D) t
+
+-- A parameter stands for itself where it is in scope, so of what is put for it nothing is asked but equality.
+abbrev pub opened : Mark → Mark
+opened Any = Any
+opened Equality = Equality
+opened (Class c) = Any
+
+abbrev pub unclassed : List Quantified → List Quantified
+unclassed [] = []
+unclassed (q ∷ qs) = record { variable = q.variable; mark = opened q.mark } ∷ unclassed qs
 
 -- the parameters as types
 abbrev pub own_types : List Quantified → List Typ
@@ -369,7 +380,7 @@ abbrev mutual
 
   pub past_decs : Decs → (n : ℕ) → ℕ
   past_decs no_decs n = n
-  past_decs (val_dec qs bs fs ds) n = past_decs ds (past_funs fs (past_group fs (past_binds qs bs n)))
+  past_decs (val_dec qs bs fs ds) n = past_decs ds (past_funs fs (past_group fs (past_binds (unclassed qs) bs n)))
   past_decs (exception_dec x identifier t ds) n = past_decs ds (suc n)
   past_decs (counted_dec k ds) n = past_decs ds n
 
@@ -394,7 +405,8 @@ val_named qs bs fs n N = spots_named (binds_spots qs bs n no_spots) (funs_named 
 
 abbrev pub decs_named : Decs → (n : ℕ) → Names → Names
 decs_named no_decs n N = N
-decs_named (val_dec qs bs fs ds) n N = decs_named ds (past_funs fs (past_group fs (past_binds qs bs n))) (val_named qs bs fs n N)
+decs_named (val_dec qs bs fs ds) n N =
+    decs_named ds (past_funs fs (past_group fs (past_binds (unclassed qs) bs n))) (val_named (unclassed qs) bs fs n N)
 decs_named (exception_dec x identifier t ds) n N = decs_named ds (suc n) (named x n N)
 decs_named (counted_dec k ds) n N = decs_named ds n N
 
@@ -491,9 +503,9 @@ abbrev mutual
   pub decs : List Quantified → Names → Decs → (n : ℕ) → Tests → Tests
   decs D N no_decs n rest = rest
   decs D N (val_dec qs bs fs ds) n rest =
-      let b = past_binds qs bs n in let m = past_group fs b in
-      bindings D N qs bs n
-      (grouped qs (functions (qs ++ D) (funs_named fs b N) fs b m) (decs D (val_named qs bs fs n N) ds (past_funs fs m) rest))
+      let rs = unclassed qs in let b = past_binds rs bs n in let m = past_group fs b in
+      bindings D N rs bs n
+      (grouped rs (functions (rs ++ D) (funs_named fs b N) fs b m) (decs D (val_named rs bs fs n N) ds (past_funs fs m) rest))
   decs D N (exception_dec x identifier t ds) n rest = exception_in n identifier (option_scoped D t) (decs D (named x n N) ds (suc n) rest)
   decs D N (counted_dec k ds) n rest = counted k (decs D N ds n rest)
 
