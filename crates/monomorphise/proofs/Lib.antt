@@ -6,3 +6,5 @@ pub mod Numbers
 pub mod Typing
 pub mod Locals
 pub mod Kept
+pub mod Names
+pub mod Fits
