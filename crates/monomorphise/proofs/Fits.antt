@@ -57,7 +57,7 @@ pub data OwnedAs : Known → Option (List Typ) → Type 0 where
 pub general-not-own : {qs : List Quantified} {s : ℕ → Typ} {b : Typ} {o : Option (List Typ)} → OwnedAs (general qs s b) o → o ≡ None
 general-not-own owned_general = refl
 
-bound-owned : (qs : List Quantified) (s : ℕ → Typ) (b : Typ) → OwnedAs (bound qs s b) None
+pub bound-owned : (qs : List Quantified) (s : ℕ → Typ) (b : Typ) → OwnedAs (bound qs s b) None
 bound-owned [] s b = owned_one
 bound-owned (q ∷ qs) s b = owned_general
 
@@ -286,7 +286,7 @@ module _ (table : List Constructor) where
   case-fit {s = s} (tt.exn_of_typed {x = x} {a = a} e) h = all_one (at-exception e) (behind x (of_type (replace s a)) h)
   case-fit (tt.record_typed r e n) h = none-without h
 
-  case-owned : {s : ℕ → Typ} {g : Groups} {G G' : Knowns} {c : Case poly} {u : Typ} {bs bs' : List ℕ} → tt.CaseTyped table s G c u G' → un.CaseUnique (λ x. x) bs c bs' → KeysIn g bs → Owned g G → KeysIn g bs' × Owned g G'
+  pub case-owned : {s : ℕ → Typ} {g : Groups} {G G' : Knowns} {c : Case poly} {u : Typ} {bs bs' : List ℕ} → tt.CaseTyped table s G c u G' → un.CaseUnique (λ x. x) bs c bs' → KeysIn g bs → Owned g G → KeysIn g bs' × Owned g G'
   case-owned (tt.literal_typed k) un.literal_unique d q = (d, q)
   case-owned (tt.con_typed k) un.con_unique d q = (d, q)
   case-owned {s = s} (tt.con_of_typed {x = x} {a = a} k) (un.con_of_unique o) d q = (keys-more x d, owned-more x (of_type (replace s a)) o d owned_one q)

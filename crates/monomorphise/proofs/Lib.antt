@@ -8,3 +8,4 @@ pub mod Locals
 pub mod Kept
 pub mod Names
 pub mod Fits
+pub mod Made
