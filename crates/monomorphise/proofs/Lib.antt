@@ -9,3 +9,4 @@ pub mod Kept
 pub mod Names
 pub mod Fits
 pub mod Made
+pub mod Numbered
