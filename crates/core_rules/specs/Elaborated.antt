@@ -14,10 +14,8 @@ use Rattle.ty_basis.specs.Types.{Row, exn_type, function_type, row_type}
 use Rattle.core_rules.specs.Objects.{sorted, monomorphic, Map, at, Value, Values, TypeStructure, Env, env, no_structures, no_env, types_env, types, structures, plus, along, long_value_in, Context, with_env}
 
 abbrev pub is_exception : Status → Bool
-is_exception Variable = false
-is_exception Constructor = false
 is_exception Exception = true
-is_exception (Primitive n) = false
+is_exception s = false
 
 abbrev pub type_in : Env → List ℕ → ℕ → Option TypeStructure
 type_in e qs x = option_and_then (λ d. at nat_eq (types d) x) (along e qs)

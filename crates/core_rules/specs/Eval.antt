@@ -149,8 +149,7 @@ opened e (x ∷ xs) = option_and_then (λ d. option_map (plus d) (opened e xs)) 
 -- the identifier that a binding of an exception tells
 abbrev pub identifier : Vid → ℕ
 identifier (Named x) = x
-identifier Equals = 0
-identifier (Fresh k) = 0
+identifier v = 0
 
 abbrev pub eval_exns : Env → List ExBind → World Value → Answer Value Env
 eval_exns e [] w = gives nothing w

@@ -131,10 +131,9 @@ alone (exn n) v = tagged nat_eq n (exn_in v)
 alone f v = misfits
 
 abbrev pub is_variable : Status → Bool
-is_variable Variable = true
 is_variable Constructor = false
 is_variable Exception = false
-is_variable (Primitive n) = true
+is_variable s = true
 
 abbrev pub bound_to : Vid → Value → Env
 bound_to x v = value x Variable v nothing
