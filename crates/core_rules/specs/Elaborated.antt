@@ -7,7 +7,7 @@ use Rattle.ty_core.specs.declared.name.TyName.{TyName}
 use Rattle.ty_core.specs.declared.name.Equality.TheVariants.{ByArguments, Never}
 use Rattle.ty_core.specs.declared.mark.Mark.TheVariants.{Any}
 use Rattle.ty_core.specs.declared.env.Status.{Status}
-use Rattle.ty_core.specs.declared.env.Status.TheVariants.{Variable, Constructor, Exception, Primitive}
+use Rattle.ty_core.specs.declared.env.Status.TheVariants.{Constructor, Exception}
 use Rattle.sml_tree.specs.declared.ident.Tyvar.{Tyvar}
 use Rattle.sml_tree.specs.BareTree.{Ty, var, fields, con, arrow, ill, Tys, no_tys, ty, TyFields, no_ty_fields, ty_field, LongIdAt, TypeBind, ConBind, DataBind, ExBind, new_exn, same_exn}
 use Rattle.ty_basis.specs.Types.{Row, exn_type, function_type, row_type}

@@ -9,7 +9,7 @@ use Rattle.sml_tree.specs.declared.ident.Vid.{Vid}
 use Rattle.sml_tree.specs.declared.ident.BuiltIn.{BuiltIn}
 use Rattle.sml_tree.specs.declared.ident.BuiltIn.TheVariants.{True, False, Nil, Cons}
 use Rattle.ty_core.specs.declared.env.Status.{Status}
-use Rattle.ty_core.specs.declared.env.Status.TheVariants.{Variable, Constructor, Exception, Primitive}
+use Rattle.ty_core.specs.declared.env.Status.TheVariants.{Variable, Constructor, Exception}
 use Rattle.core_rules.specs.Words.{same_vid}
 use Rattle.core_rules.specs.Values.{Con, built, declared, Value, literal, record_of, con, con_of, ref, address, exn, exn_of, Fields, no_fields, field, Env, nothing, value, plus, Found, long_value_in, field_in, count}
 
