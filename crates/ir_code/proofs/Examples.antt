@@ -6,7 +6,7 @@ use Rattle.std.specs.Ordering.{nat_cmp}
 use Rattle.ir_code.specs.Machine.{State, Goes, Prints, Halts, no_handler, act, step}
 use Rattle.ir_code.specs.Run.{end_of, uncaught, no_heap, no_stack, stuck, going}
 use Rattle.ir_code.specs.Run as run
-use Rattle.ir_code.specs.Words.{int_sum, int_difference, int_product, int_quotient, int_remainder, int_floor_quotient, int_floor_remainder, word_sum, word_difference, word_quotient, word_remainder, shift_left, shift_right, shift_signed, int_less, word_less, int_text, order_code}
+use Rattle.ir_code.specs.Words.{int_sum, int_difference, int_product, int_quotient, int_remainder, int_floor_quotient, int_floor_remainder, word_sum, word_difference, word_quotient, word_remainder, int_less, word_less, int_text, order_code}
 use Rattle.ir_code.specs.declared.instr.Instr.TheVariants.{Li, Mov, Switch, Brz, Raise, End, Alloc, Ld, St, Copy, SCmp, IText, Print}
 use Rattle.ir_code.specs.declared.halt.Halt.TheVariants.{Ended, Uncaught, NoHeap, NoStack, Stuck}
 
@@ -47,9 +47,6 @@ products = (refl, refl)
 
 word_bounds : (word_sum (2 ^ 32 - 1) 1 ≡ 0) × (word_difference 0 1 ≡ 2 ^ 32 - 1) × (word_difference 5 5 ≡ 0)
 word_bounds = (refl, refl, refl)
-
-shifts : (shift_left 1 31 ≡ 2 ^ 31) × (shift_left 1 32 ≡ 0) × (shift_right (2 ^ 31) 31 ≡ 1) × (shift_right (2 ^ 31) 32 ≡ 0) × (shift_signed (2 ^ 31) 32 ≡ minus 1) × (shift_signed 1 32 ≡ 0)
-shifts = (refl, refl, refl, refl, refl, refl)
 
 orders : (int_less (minus 1) 0 ≡ 1) × (int_less 0 0 ≡ 0) × (word_less (minus 1) 0 ≡ 0) × (word_less 0 (minus 1) ≡ 1)
 orders = (refl, refl, refl, refl)

@@ -1,6 +1,7 @@
 pub mod ProgExamples
 pub mod ReplaceLemmas
 pub mod TypedLemmas
+pub mod ProgTypedLemmas
 pub mod MissLemmas
 pub mod TypingExamples
 pub mod TestsExamples

@@ -179,6 +179,10 @@ and-stops = refl
 or-goes-on : does (just (if-so (chain_exp false t (link (saying 1 97 no) (link (saying 2 98 yes) (only (saying 3 99 yes))))))) 3 ≡ outcome (97 ∷ 98 ∷ 121 ∷ []) ended (at 1 ∷ at 2 ∷ at 8 ∷ [])
 or-goes-on = refl
 
+-- an operand that is another constructor raises Match
+and-other : does (just (chain_exp true t (link (con_exp 9 y [] t) (only yes)))) 0 ≡ outcome [] (uncaught 90) []
+and-other = refl
+
 -- `let` gives its body's value; `as` binds what is matched
 let-in : does (just (let_exp t (val (as_pat 1 (con_of_pat 9 t (variable_pat 2))) made (val any_pat (print 2 (name 2)) no_decs)) (case_exp (at 0) t (name 1) (a_rule (con_of_pat 9 t (variable_pat 3)) (print 3 (name 3)) no_rules)))) 3 ≡ outcome (97 ∷ 97 ∷ []) ended (at 1 ∷ at 2 ∷ at 3 ∷ [])
 let-in = refl

@@ -30,12 +30,12 @@ pub data Reads (D : List Quantified) (s : ℕ → Typ) : Knowns → Knowns → T
   reads_none : Reads D s [] []
   reads_more : (x : ℕ) {k k' : Known} {G H : Knowns} → KnownRead D s k k' → Reads D s G H → Reads D s ((x, k) ∷ G) ((x, k') ∷ H)
 
-data BothRead (D : List Quantified) (s : ℕ → Typ) : Option Known → Option Known → Type 0 where
+pub data BothRead (D : List Quantified) (s : ℕ → Typ) : Option Known → Option Known → Type 0 where
   none_read : BothRead D s None None
   some_read : {k k' : Known} → KnownRead D s k k' → BothRead D s (Some k) (Some k')
 
 module _ (D : List Quantified) (s : ℕ → Typ) where
-  read-at : {G H : Knowns} (x : ℕ) → Reads D s G H → BothRead D s (at G x) (at H x)
+  pub read-at : {G H : Knowns} (x : ℕ) → Reads D s G H → BothRead D s (at G x) (at H x)
   read-at x reads_none = none_read
   read-at x (reads_more y {k = k} {k' = k'} {G = G} {H = H} r rs) = choose (nat_eq x y) (read-at x rs)
     where
@@ -43,21 +43,21 @@ module _ (D : List Quantified) (s : ℕ → Typ) where
       choose true h = some_read r
       choose false h = h
 
-  type-found : {o o' : Option Known} {t : Typ} → BothRead D s o o' → o ≡ Some (of_type t) → o' ≡ Some (of_type (replace s t))
+  pub type-found : {o o' : Option Known} {t : Typ} → BothRead D s o o' → o ≡ Some (of_type t) → o' ≡ Some (of_type (replace s t))
   type-found none_read e = absurd (cc)
   type-found {t = t} (some_read (read_type {t = t'} h u)) e = let same : t' ≡ t = cc in ap (λ x. Some (of_type x)) (u ∙ ap (replace s) same)
   type-found (some_read (read_general qs D0 s0 b i h k)) e = absurd (cc)
   type-found (some_read (read_own h u)) e = absurd (cc)
   type-found (some_read (read_exception h u)) e = absurd (cc)
 
-  own-found : {o o' : Option Known} {t : Typ} → BothRead D s o o' → o ≡ Some (own t) → o' ≡ Some (own (replace s t))
+  pub own-found : {o o' : Option Known} {t : Typ} → BothRead D s o o' → o ≡ Some (own t) → o' ≡ Some (own (replace s t))
   own-found none_read e = absurd (cc)
   own-found {t = t} (some_read (read_own {t = t'} h u)) e = let same : t' ≡ t = cc in ap (λ x. Some (own x)) (u ∙ ap (replace s) same)
   own-found (some_read (read_general qs D0 s0 b i h k)) e = absurd (cc)
   own-found (some_read (read_type h u)) e = absurd (cc)
   own-found (some_read (read_exception h u)) e = absurd (cc)
 
-  exception-found : {o o' : Option Known} {a : Option Typ} → BothRead D s o o' → o ≡ Some (exception a) → (o' ≡ Some (exception (option_read s a))) × (option_over D a ≡ true)
+  pub exception-found : {o o' : Option Known} {a : Option Typ} → BothRead D s o o' → o ≡ Some (exception a) → (o' ≡ Some (exception (option_read s a))) × (option_over D a ≡ true)
   exception-found none_read e = absurd (cc)
   exception-found {a = a} (some_read (read_exception {a = a'} h u)) e = let same : a' ≡ a = cc in (ap (λ x. Some (exception x)) (u ∙ ap (option_read s) same), subst (λ x. option_over D x ≡ true) same h)
   exception-found (some_read (read_general qs D0 s0 b i h k)) e = absurd (cc)
@@ -65,10 +65,10 @@ module _ (D : List Quantified) (s : ℕ → Typ) where
   exception-found (some_read (read_own h u)) e = absurd (cc)
 
   -- a generalised variable's instance
-  abbrev Instance : Option Known → List Typ → (ℕ → Bool) → List Quantified → Typ → Type 0
+  abbrev pub Instance : Option Known → List Typ → (ℕ → Bool) → List Quantified → Typ → Type 0
   Instance o' ts m qs b = AreAllowed m qs ts → (s0 : ℕ → Typ) × (o' ≡ Some (general qs s0 b)) × (replace s (replace (changed qs ts var) b) ≡ replace (changed qs (map (replace s) ts) s0) b)
 
-  general-found : {o o' : Option Known} {qs : List Quantified} {b : Typ} (ts : List Typ) (m : ℕ → Bool) → BothRead D s o o' → o ≡ Some (general qs var b) → Instance o' ts m qs b
+  pub general-found : {o o' : Option Known} {qs : List Quantified} {b : Typ} (ts : List Typ) (m : ℕ → Bool) → BothRead D s o o' → o ≡ Some (general qs var b) → Instance o' ts m qs b
   general-found ts m none_read e a = absurd (cc)
   general-found {o' = o'} {qs = ps} {b = c} ts m (some_read (read_general qs D0 s0 b i h k)) e a =
       let same : qs ≡ ps = cc in let one : b ≡ c = cc in subst (λ x. Instance o' ts m x c) same (subst (λ y. Instance o' ts m qs y) one (λ al. (s0, refl, instance-read D0 s s0 k qs ts m al b h))) a
@@ -77,10 +77,10 @@ module _ (D : List Quantified) (s : ℕ → Typ) where
   general-found ts m (some_read (read_exception h u)) e a = absurd (cc)
 
   module _ {G H : Knowns} (rs : Reads D s G H) where
-    type-at : (x : ℕ) {t : Typ} → at G x ≡ Some (of_type t) → at H x ≡ Some (of_type (replace s t))
+    pub type-at : (x : ℕ) {t : Typ} → at G x ≡ Some (of_type t) → at H x ≡ Some (of_type (replace s t))
     type-at x e = type-found (read-at x rs) e
 
-    exception-at : (x : ℕ) {a : Option Typ} → at G x ≡ Some (exception a) → at H x ≡ Some (exception (option_read s a))
+    pub exception-at : (x : ℕ) {a : Option Typ} → at G x ≡ Some (exception a) → at H x ≡ Some (exception (option_read s a))
     exception-at x e = (exception-found (read-at x rs) e).0
 
     atom-read : {a : Use} {t : Typ} → AtomChecked G a t → AtomChecked H a (replace s t)
@@ -102,21 +102,21 @@ module _ (D : List Quantified) (s : ℕ → Typ) where
     name-over (fixed_checked e) = refl
     name-over (held_checked {x = x} e) = (exception-found (read-at x rs) e).1
 
-literal-read : (s : ℕ → Typ) {l : Literal} {t : Typ} → HasLiteral l t → HasLiteral l (replace s t)
+pub literal-read : (s : ℕ → Typ) {l : Literal} {t : Typ} → HasLiteral l t → HasLiteral l (replace s t)
 literal-read s (has_int z) = has_int z
 literal-read s (has_word n) = has_word n
 literal-read s (has_char n) = has_char n
 literal-read s (has_string t) = has_string t
 
-value-read : (s : ℕ → Typ) (a : Option Typ) → replace s (value_type a) ≡ value_type (option_read s a)
+pub value-read : (s : ℕ → Typ) (a : Option Typ) → replace s (value_type a) ≡ value_type (option_read s a)
 value-read s None = refl
 value-read s (Some a) = refl
 
-alone-read : (s : ℕ → Typ) (a : Option Typ) (t : Typ) → replace s (alone_type a t) ≡ alone_type (option_read s a) (replace s t)
+pub alone-read : (s : ℕ → Typ) (a : Option Typ) (t : Typ) → replace s (alone_type a t) ≡ alone_type (option_read s a) (replace s t)
 alone-read s None t = refl
 alone-read s (Some a) t = refl
 
-constructor-read : (s : ℕ → Typ) {table : List Constructor} {c : ℕ} {t : Typ} {a : Option Typ} → HasConstructor table c t a → HasConstructor table c (replace s t) (option_read s a)
+pub constructor-read : (s : ℕ → Typ) {table : List Constructor} {c : ℕ} {t : Typ} {a : Option Typ} → HasConstructor table c t a → HasConstructor table c (replace s t) (option_read s a)
 constructor-read s h = record {
   datatype = h.datatype;
   arguments = map (replace s) h.arguments;
@@ -144,11 +144,11 @@ reads-changed D D' s s' i k (reads_more x (read_own {t = t} h u) rs) = reads_mor
 reads-changed D D' s s' i k (reads_more x (read_exception {a = a} h u) rs) = reads_more x (read_exception (option-over-more D D' i a h) (u ∙ option-agree D s s' k a h)) (reads-changed D D' s s' i k rs)
 
 -- under the parameters of a declaration
-under : (D : List Quantified) (s : ℕ → Typ) (qs : List Quantified) (ts : List Typ) → are_new qs D ≡ true → {G H : Knowns} → Reads D s G H → Reads (qs ++ D) (changed qs ts s) G H
+pub under : (D : List Quantified) (s : ℕ → Typ) (qs : List Quantified) (ts : List Typ) → are_new qs D ≡ true → {G H : Knowns} → Reads D s G H → Reads (qs ++ D) (changed qs ts s) G H
 under D s qs ts n rs = reads-changed D (qs ++ D) s (changed qs ts s) (more-scope qs D) (changed-outside D s qs ts n) rs
 
 -- and after it
-declared-read : (D : List Quantified) (s : ℕ → Typ) (qs : List Quantified) (a : Typ) → over (qs ++ D) a ≡ true → KnownRead D s (declared qs a) (bound qs s a)
+pub declared-read : (D : List Quantified) (s : ℕ → Typ) (qs : List Quantified) (a : Typ) → over (qs ++ D) a ≡ true → KnownRead D s (declared qs a) (bound qs s a)
 declared-read D s [] a h = read_type h refl
 declared-read D s (q ∷ qs) a h = read_general (q ∷ qs) D s a (λ v e. e) h (λ v e. refl)
 

@@ -7,5 +7,6 @@ pub mod Types
 pub mod TestsChecked
 pub mod TestsTyped
 pub mod ProgChecked
+pub mod ProgTyped
 pub mod WellFormed
 pub mod Laws

@@ -1,11 +1,11 @@
 -- What a program with source matches does. [Definition 6.7] Types and weights are ignored. A phrase is evaluated left to right in an environment; calls go
 -- through `apply`, which takes the turns. Where no case applies the run goes wrong.
-use Rattle.std.specs.Prelude.{ℕ, zero, suc, Bool, true, false, List, [], ◌∷◌, Option, Some, None, nat_eq, option_and_then, slice_get, if◌then◌else◌, ⊤}
+use Rattle.std.specs.Prelude.{ℕ, zero, suc, Bool, true, false, not, List, [], ◌∷◌, Option, Some, None, nat_eq, option_and_then, slice_get, ⊤}
 use Rattle.mlc_base.specs.Outcome.{Outcome}
-use Rattle.mlc_base.specs.Run.{World, Answer, gives, raises, stops, out_of_turns, start, then_do, or_handle, or_fail, fail, new_exception, outcome_of}
+use Rattle.mlc_base.specs.Run.{World, Answer, gives, raises, stops, out_of_turns, start, then_do, or_handle, or_fail, new_exception, outcome_of}
 use Rattle.mlc_base.specs.declared.place.Place.{Place}
 use Rattle.ir_values.specs.Tags.{untagged}
-use Rattle.ir_values.specs.Values.{Value, record_of, con, exn, ref, primitive, closure, no_fields, field, Env, empty, bind, look_by, field_in, packet_name, value_of, truth_value, truth_number}
+use Rattle.ir_values.specs.Values.{Value, record_of, con, exn, ref, primitive, closure, no_fields, field, Env, empty, bind, look_by, field_in, packet_name, value_of, truth_number}
 use Rattle.ir_values.specs.Values as values
 use Rattle.ir_values.specs.Match.{Matched, matches, then_match, after_match, on_found, against_literal, against_con, under_con, against_exn, under_exn, under_record, under_ref}
 use Rattle.ir_values.specs.Primitives.{packet, match_name, bind_name, raise_value}
@@ -79,13 +79,11 @@ members_from (a_fun xs t f fs) all env = bind_all xs (closure (one_of f all) env
 abbrev pub members : Funs → Scope → Scope
 members fs env = members_from fs fs env
 
-abbrev pub on_truth : {A : Type 0} → V → World V → (Bool → Answer V A) → Answer V A
-on_truth (con g c) w go = if nat_eq c values.true_number then go true else if nat_eq c values.false_number then go false else fail w
-on_truth v w go = fail w
-
-abbrev pub goes_on : Bool → Bool → Answer V V → Answer V V → Answer V V
-goes_on true b go stop = if b then go else stop
-goes_on false b go stop = if b then stop else go
+-- An operand is matched as `if` does: with the truth value b, then with the other one, which stops. None of the two raises Match.
+abbrev pub on_operand : Bool → V → World V → Answer V V → Answer V V
+on_operand b v w go =
+    after_match (against_con untagged tt (truth_number b) v (matches empty)) w (λ e w. go)
+    (λ w. after_match (against_con untagged tt (truth_number (not b)) v (matches empty)) w (λ e w. gives v w) (λ w. raises (packet untagged match_name) w))
 
 abbrev mutual
   pub eval : Apply → Exp → Scope → World V → Answer V V
@@ -114,7 +112,7 @@ abbrev mutual
   pub eval_chain : Apply → Bool → Chain → Scope → World V → Answer V V
   eval_chain call b (only e) env w = eval call e env w
   eval_chain call b (link e c) env w =
-      then_do (eval call e env w) (λ v w. on_truth v w (λ t. goes_on b t (eval_chain call b c env w) (gives (truth_value untagged t) w)))
+      then_do (eval call e env w) (λ v w. on_operand b v w (eval_chain call b c env w))
 
   -- the first rule that matches v; where none does, k is raised
   pub eval_rules : Apply → Rules → V → Scope → World V → V → Answer V V

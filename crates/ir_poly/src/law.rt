@@ -1,6 +1,6 @@
 // Laws of the form with explicit instances, as contracts.
 
-ghost use Rattle.ir_poly.specs.Laws.{CheckedIsTyped, CheckedIsTypedUnder, NeverMisses, TypedAsWritten};
+ghost use Rattle.ir_poly.specs.Laws.{CheckedIsTyped, CheckedIsTypedUnder, CheckedProgIsTyped, CheckedProgIsTypedUnder, NeverMisses, TypedAsRead, TypedAsWritten};
 
 /// Tests that a checker accepts are typed at all types that parameters may stand for.
 pub fn checked_is_typed()
@@ -15,5 +15,12 @@ pub fn never_misses()
 
 /// An expression with source matches that a checker accepts has one type: the one that it has written.
 pub fn typed_as_written()
-    ensures { TypedAsWritten }
+    ensures checked { TypedAsWritten }
+    ensures read { TypedAsRead }
+{}
+
+/// A program with source matches that a checker accepts is typed at all types that parameters may stand for.
+pub fn checked_prog_is_typed()
+    ensures whole { CheckedProgIsTyped }
+    ensures under { CheckedProgIsTypedUnder }
 {}

@@ -1,4 +1,3 @@
-pub mod Arithmetic
 pub mod Laws
 pub mod LitOf
 pub mod PrimOf

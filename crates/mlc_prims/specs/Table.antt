@@ -7,7 +7,7 @@ use Rattle.std.specs.Cmp.Lexicographic.{slice_cmp}
 use Rattle.std.specs.Ordering.{nat_cmp, int_cmp, int_eq, is_lt, is_le, is_gt, is_ge}
 use Rattle.std.specs.Option.{option_or}
 use Rattle.std.specs.declared.cmp.Ordering.{Ordering}
-use Rattle.mlc_prims.specs.Arithmetic.{floor_div, floor_mod, word_for, shift_left, shift_right, shift_signed, signed_text}
+use Rattle.word_arithmetic.specs.Arithmetic.{floor_div, floor_mod, word_for, shift_left, shift_right, shift_signed, signed_text}
 use Rattle.mlc_prims.specs.LitOf.{Literal, int, word, char, string, truth, int_in, word_in, char_in, string_in, truth_in, one_in, two_in}
 use Rattle.mlc_prims.specs.PrimOf.{Gives, made, raised, int_result, joined}
 use Rattle.mlc_prims.specs.declared.basis.BasisPrimitive.{BasisPrimitive}

@@ -1,7 +1,7 @@
 // Rows of integers, and of integers or words.
 
 ghost use Rattle.std.specs.Prelude.{◌≡◌, ◌<◌, ◌/◌, ◌%◌, pos, int_div, int_rem};
-ghost use Rattle.mlc_prims.specs.Arithmetic.{floor_div, floor_mod, is_opposed};
+ghost use Rattle.word_arithmetic.specs.Arithmetic.{floor_div, floor_mod, is_opposed};
 ghost use Rattle.mlc_prims.specs.LitOf.{int, word, lits_of};
 ghost use Rattle.mlc_prims.specs.PrimOf.{made, int_result, fitting, Meets, MeetsRow};
 ghost use Rattle.mlc_prims.specs.Table.{row_of, unless_zero, unless_none};

@@ -1,7 +1,7 @@
 // Rows of characters and strings.
 
 ghost use Rattle.std.specs.Prelude.{◌≡◌, ◌∷◌, [], ◌++◌, ◌≤◌, length, IfOk, List, ℕ, ◌+◌};
-ghost use Rattle.mlc_prims.specs.Arithmetic.{signed_text};
+ghost use Rattle.word_arithmetic.specs.Arithmetic.{signed_text};
 ghost use Rattle.mlc_prims.specs.LitOf.{char, string, lits_of};
 ghost use Rattle.mlc_prims.specs.PrimOf.{made, joined, Meets, MeetsRow, AreShort};
 ghost use Rattle.mlc_prims.specs.Table.{row_of, bytes_from, byte_at, or_subscript, character as character_for};

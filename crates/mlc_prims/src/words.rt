@@ -1,7 +1,7 @@
 // Rows of words, and of words and integers.
 
 ghost use Rattle.std.specs.Prelude.{◌≡◌, pos};
-ghost use Rattle.mlc_prims.specs.Arithmetic.{shift_left, shift_right, shift_signed};
+ghost use Rattle.word_arithmetic.specs.Arithmetic.{shift_left, shift_right, shift_signed};
 ghost use Rattle.mlc_prims.specs.LitOf.{lits_of, one_in, word_in};
 ghost use Rattle.mlc_prims.specs.PrimOf.{fitting, MeetsRow};
 ghost use Rattle.mlc_prims.specs.Table.{row_of};

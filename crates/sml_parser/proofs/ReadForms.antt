@@ -9,11 +9,11 @@ use Rattle.sml_tree.specs.declared.tree.Dec.{Dec}
 use Rattle.sml_grammar.specs.Answer.{Read, Answer, ok, read, then_read}
 use Rattle.sml_grammar.specs.Expressions.{readers, at_end, read_all}
 use Rattle.sml_grammar.specs.Laws.{Sound}
-use Rattle.sml_parser.specs.declared.source.Source.{Source}
+use Rattle.sml_phrases.specs.declared.source.Source.{Source}
 use Rattle.sml_parser.specs.Core.{IsCore}
-use Rattle.sml_parser.specs.Left.{left}
-use Rattle.sml_parser.specs.ExpressionsRead.{IsDecs}
-use Rattle.sml_parser.proofs.ExpLemmas.{decs_all}
+use Rattle.sml_phrases.specs.Left.{left}
+use Rattle.sml_phrases.specs.ExpressionsRead.{IsDecs}
+use Rattle.sml_phrases.proofs.ExpLemmas.{decs_all}
 
 no-terminals : (s : Source) (o : List Token) → length o < 1 → left s o ≡ []
 no-terminals s [] none = refl

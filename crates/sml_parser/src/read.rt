@@ -3,11 +3,11 @@
 ghost use Rattle.std.specs.Prelude.{◌≡◌, None, IfOk};
 ghost use Rattle.sml_lexer.specs.Lexes.{IfFault};
 ghost use Rattle.sml_parser.specs.Core.{IsCore, Cause, IsStop};
-ghost use Rattle.sml_parser.specs.Left.{left};
+ghost use Rattle.sml_phrases.specs.Left.{left};
 
-use crate::declarations::read_decs;
-use crate::source::Source;
-use crate::stop::Stop;
+use sml_phrases::declarations::read_decs;
+use sml_phrases::source::Source;
+use sml_phrases::stop::Stop;
 use mlc_base::code::Code;
 use mlc_base::fault::Fault;
 use mlc_base::place::Place;

@@ -1,5 +1,5 @@
 -- One change to a substitution.
-use Rattle.std.proofs.Common.{◌≡◌, ◌<◌, ◌≤◌, ◌+◌, ◌-◌, ℕ, zero, suc, false, List, [], ◌∷◌, ◌++◌, length, set, get_or, ap, sym, ◌∙◌, subst, refl, arith}
+use Rattle.std.proofs.Common.{◌≡◌, ◌<◌, ◌≤◌, ◌+◌, ◌-◌, ℕ, zero, suc, true, false, List, [], ◌∷◌, ◌++◌, length, set, get_or, ap, sym, ◌∙◌, subst, refl, arith}
 use Rattle.std.proofs.lemmas.Bool.{cases_eq}
 use Rattle.std.proofs.lemmas.List.{length-append}
 use Rattle.std.proofs.Math.Seq.{set-append_seam}
@@ -10,10 +10,10 @@ use Rattle.ty_core.specs.declared.mark.Mark.{Mark}
 use Rattle.ty_solve.specs.Substitution.{FitsAt, Fits}
 use Rattle.ty_solve.proofs.Binding.{Puts}
 use Rattle.ty_solve.proofs.Comparing.{waits-front}
-use Rattle.ty_solve.specs.Substitution.{Entry, free, bound, row, mark, Meets, Resolves, aside, sub, is_in}
+use Rattle.ty_solve.specs.Substitution.{Entry, free, bound, row, mark, is_open, Meets, Resolves, aside, sub, is_in}
 use Rattle.ty_solve.specs.SlotsOf.{look}
 use Rattle.ty_solve.specs.Weight.{AreInhabited}
-use Rattle.ty_solve.specs.Forces.{Problem, Asks, ForcedAt, IsForced}
+use Rattle.ty_solve.specs.Forces.{Problem, Asks, ForcedAt, LeftAt, IsForced}
 use Rattle.ty_solve.specs.Tasks.{Lowers, MayPut, Binds as MayBind}
 use Rattle.ty_solve.specs.Solve.{undo}
 use Rattle.ty_solve.specs.Changes.{Changes, ranks, entry_rank}
@@ -71,12 +71,17 @@ ranks-set (x ∷ l) zero o lt = let p = ranks-one x l in let q = ranks-one o l i
 ranks-set (x ∷ l) (suc v) o lt = let p = ranks-one x l in let q = ranks-one x (set l v o) in let r = ranks-set l v o (omega arith) in omega arith
 
 -- what holds of each entry still does
-pub set-forced : (p : Problem) (l : List Entry) (v : ℕ) (o : Entry) → v < length l → IsForced p (look l) → ForcedAt p v o → IsForced p (look (set l v o))
+pub set-forced : (p : Problem) (l : List Entry) (v : ℕ) (o : Entry) → v < length l → IsForced p (look l) → ForcedAt p v o × LeftAt p v o → IsForced p (look (set l v o))
 set-forced p l v o lt h k x = go (cases_eq x v)
   where
-    go : (x ≡ v) ⊎ (x ≡ v → ⊥) → ForcedAt p x (look (set l v o) x)
-    go (inl e) = subst (λ y. ForcedAt p y (look (set l v o) y)) (sym e) (subst (ForcedAt p v) (sym (look-set-same l v o lt)) k)
-    go (inr ne) = subst (ForcedAt p x) (sym (look-set-other l v x o ne)) (h x)
+    go : (x ≡ v) ⊎ (x ≡ v → ⊥) → ForcedAt p x (look (set l v o) x) × LeftAt p x (look (set l v o) x)
+    go (inl e) = subst (λ y. ForcedAt p y (look (set l v o) y) × LeftAt p y (look (set l v o) y)) (sym e) (subst (λ z. ForcedAt p v z × LeftAt p v z) (sym (look-set-same l v o lt)) k)
+    go (inr ne) = subst (λ z. ForcedAt p x z × LeftAt p x z) (sym (look-set-other l v x o ne)) (h x)
+
+-- what is open now was open before
+pub open-before : (p : Problem) (v : ℕ) (e : Entry) → LeftAt p v e → is_open e ≡ true → is_open (p.before v) ≡ true
+open-before p v e (inl q) h = ap is_open (sym q) ∙ h
+open-before p v e (inr q) h = q.0
 
 -- what fits the new fits the old
 fits-put : (f : ℕ → Typ) (s s' : ℕ → Entry) (v : ℕ) (e : Entry) → Puts s s' v e → FitsAt f (f v) (s v) → Fits f s' → Fits f s
@@ -109,8 +114,8 @@ bind-changes l tasks v t ih fr b =
         ),
       );
       forced = λ p i j g. (
-        set-forced p l v (bound t) b.in_range i g,
-        forced-push p tasks (Admit (mark (look l v)) t) j (Asks.along (mark (look l v)) (var v) t (subst (ForcedAt p v) fr (i v)) g),
+        set-forced p l v (bound t) b.in_range i (g.0, inr (open-before p v (look l v) (i v).1 b.is_open, g.1, g.2)),
+        forced-push p tasks (Admit (mark (look l v)) t) j (Asks.along (mark (look l v)) (var v) t (subst (ForcedAt p v) fr (i v).0) g.0, g.2),
       );
       within = λ h. within-push (length l) tasks (Admit (mark (look l v)) t) h (at-inhabited (look l) ih v fr, b.in_bounds);
       lower = omega arith;
@@ -135,7 +140,7 @@ remark-changes l tasks v r b =
         λ h. let a = put-meets m f _ _ v (free r) e h.0 in (put-solves m f _ _ v (free r) e h.0 (subst (Meets m f (f v)) (sym b.is_free) (b.less m (f v) a)), h.1, a),
         λ h. (solves-put m f _ _ v (free r) e h.0 h.2, h.1),
       );
-      forced = λ p i j g. (set-forced p l v (free r) b.in_range i g, j);
+      forced = λ p i j g. (set-forced p l v (free r) b.in_range i (g.0, inr (open-before p v (look l v) (i v).1 (ap is_open b.is_free), g.1, tt)), j);
       within = λ h. h;
       lower = omega arith;
       fits = λ f h. (fits-put f _ _ v (free r) e (subst (FitsAt f (f v)) (sym b.is_free) tt) h, tt);

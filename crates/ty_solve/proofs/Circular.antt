@@ -9,13 +9,13 @@ use Rattle.ty_solve.specs.Rows.{IsProper, Extends}
 use Rattle.ty_solve.specs.Substitution.{Entry, free, bound, row, is_open, aside, Meets, Solves, Resolves, resolved, sub, subs, is_in, are_in}
 use Rattle.ty_solve.specs.Weight.{IsAcyclic, InhabitedAt, AreInhabited}
 use Rattle.ty_solve.specs.Finding.{IsWalked}
-use Rattle.ty_solve.specs.Forces.{Problem, Forces, Has, Lies, Loops, Beside, ForcedAt, IsForced, IsForcedRow}
+use Rattle.ty_solve.specs.Forces.{Problem, Forces, Has, Lies, Loops, Met, Beside, ForcedAt, IsForced, IsForcedRow}
 use Rattle.ty_solve.proofs.Sigma.{deep, sigma_of, sigma-resolves}
 use Rattle.ty_solve.proofs.Subs.{size, sizes}
 use Rattle.ty_solve.proofs.Freeing.{aside-other, aside-acyclic}
 use Rattle.ty_solve.proofs.Labels.{field-in, at-subs, at-size}
 
-lies-right : (p : Problem) (t u x : Typ) → Lies p t u → Forces p u x → Lies p t x
+pub lies-right : (p : Problem) (t u x : Typ) → Lies p t u → Forces p u x → Lies p t x
 lies-right p t u x (Lies.part h ts _ _ e b) g = Lies.part h ts t x (Forces.along _ _ _ (Forces.back _ _ g) e) b
 lies-right p t u x (Lies.deeper _ y _ a b) g = Lies.deeper t y x a (lies-right p y u x b g)
 lies-right p t u x (Lies.along _ y _ e b) g = Lies.along t y x e (lies-right p y u x b g)
@@ -71,7 +71,7 @@ module _ (p : Problem) (s : ℕ → Entry) (i : IsForced p s) (inh : AreInhabite
 
   in-deep : (k x : ℕ) → is_in v (deep (aside v s) k x) ≡ true → Forces p (var v) (var x) ⊎ Lies p (var v) (var x)
   in-deep zero x h = inl (is-itself x h)
-  in-deep (suc k) x h = aside-cases s v x (λ e. is_in v (resolved (deep (aside v s) k) x e) ≡ true → Forces p (var v) (var x) ⊎ Lies p (var v) (var x)) (λ h. inl (is-itself x h)) (go (s x) (i x) (inh x) (in-type (deep (aside v s) k) (in-deep k))) h
+  in-deep (suc k) x h = aside-cases s v x (λ e. is_in v (resolved (deep (aside v s) k) x e) ≡ true → Forces p (var v) (var x) ⊎ Lies p (var v) (var x)) (λ h. inl (is-itself x h)) (go (s x) (i x).0 (inh x) (in-type (deep (aside v s) k) (in-deep k))) h
     where
       go : (e : Entry) → ForcedAt p x e → InhabitedAt e → ((t : Typ) → is_in v (sub (deep (aside v s) k) t) ≡ true → Forces p (var v) t ⊎ Lies p (var v) t) → is_in v (resolved (deep (aside v s) k) x e) ≡ true → Forces p (var v) (var x) ⊎ Lies p (var v) (var x)
       go (free j) q n r h = inl (is-itself x h)
@@ -137,7 +137,7 @@ module _ (m : ℕ → Bool) (f : ℕ → Typ) (s : ℕ → Entry) (i : Solves m 
   sizes-value a ts h = size-types (sigma_of (aside v s) a) (λ x. size-deep (a.0 x) x) ts h
 
 abbrev pub Refuted : (ℕ → Entry) → ℕ → Typ → Type 0
-Refuted s v t = ((m : ℕ → Bool) (f : ℕ → Typ) → Solves m f s → f v ≡ sub f t → ⊥) × ((p : Problem) → IsForced p s → Forces p (var v) t → Loops p)
+Refuted s v t = ((m : ℕ → Bool) (f : ℕ → Typ) → Solves m f s → f v ≡ sub f t → ⊥) × ((p : Problem) → IsForced p s → Forces p (var v) t × Met p (var v) × Met p t → Loops p)
 
 in-variable : (s : ℕ → Entry) (v x : ℕ) (a : IsAcyclic (aside v s)) → AreInhabited s → x ≢ v → (e : Entry) → s x ≡ e → InhabitedAt e → is_open e ≡ true → is_in v (sigma_of (aside v s) a x) ≡ true → Refuted s v (var x)
 in-variable s v x a inh ne (free k) q n o h = absurd (ne (eqb-true x v (ap (is_in v) (sym (sigma-resolves (aside v s) a x ∙ ap (resolved (sigma_of (aside v s) a) x) (aside-other s v x ne ∙ q))) ∙ h)))
@@ -149,7 +149,7 @@ in-variable s v x a inh ne (row e ks us) q n o h =
           let b = size-row m f s i inh v g (f x) e ks us (size-value m f s i inh v a) (subst (Meets m f (f x)) q (i x)) n j in
           let c = ap size z in
           absurd (omega arith),
-      λ p i z. loops-of p s i inh v x (in-row p s i inh v g x e ks us (in-value p s i inh v a) (subst (ForcedAt p x) q (i x)) n j) z,
+      λ p i z. loops-of p s i inh v x (in-row p s i inh v g x e ks us (in-value p s i inh v a) (subst (ForcedAt p x) q (i x).0) n j) z.0,
     )
 
 pub circular : (s : ℕ → Entry) → IsAcyclic s → AreInhabited s → (v : ℕ) (t : Typ) → IsWalked s t → t ≢ var v → ((f : ℕ → Typ) → Resolves f (aside v s) → true ≡ is_in v (sub f t)) → Refuted s v t
@@ -158,7 +158,7 @@ circular s b inh v (con c ts) w ne h =
     let a = aside-acyclic s v b in
     let j = sym (h (sigma_of (aside v s) a) (sigma-resolves (aside v s) a)) in (
       λ m f i z. let p = sizes-value m f s i inh v a ts j in let q = ap size z in absurd (omega arith),
-      λ p i z. loops p s i inh v a c ts z j,
+      λ p i z. loops p s i inh v a c ts z.0 j,
     )
 
 -- a variable within its own fields

@@ -3,19 +3,16 @@ use Rattle.std.proofs.Common.{◌≡◌, ◌↔◌, ℕ, Bool, true, List, [], �
 use Rattle.ty_core.specs.Types.{Typ}
 use Rattle.ty_solve.specs.Substitution.{Entry, Solves, sub, is_below}
 use Rattle.ty_solve.specs.SlotsOf.{look}
-use Rattle.ty_solve.specs.Forces.{Problem, Forces, IsForced}
+use Rattle.ty_solve.specs.Forces.{Forces, Met, IsForced}
 use Rattle.ty_solve.specs.Tasks.{AllHold, AreForced, AreWithin, Comes, RefusesTasks}
 use Rattle.ty_solve.specs.Changes.{Changes, RefusesWrite}
-use Rattle.ty_solve.specs.Solve.{IsMostGeneral, IsEarlyCause}
+use Rattle.ty_solve.specs.Solve.{problem, IsMostGeneral, IsEarlyCause}
 use Rattle.ty_solve.specs.Task.{Task}
 use Rattle.ty_solve.specs.Task.{Equal}
 use Rattle.ty_solve.specs.Task.{Write}
 use Rattle.ty_solve.specs.declared.refused.UnifyRefused.{UnifyRefused}
 use Rattle.ty_solve.specs.declared.refused.UnifyRefused.TheVariants.{Clash, Circular, Large, Memory}
 use Rattle.ty_solve.proofs.Starts.{starts-forced}
-
-abbrev pub problem : (ℕ → Entry) → Typ → Typ → Problem
-problem s a b = record { before = s; left = a; right = b }
 
 -- the equation of a and b under `first` has come to the tasks under `now`
 pub record Solving (first now : List Entry) (a b : Typ) (tasks : List Task) : Type 0 where
@@ -30,7 +27,7 @@ solving-begins l a b t u tasks p q e x y = subst (Solving l l a b) (sym e) (reco
   same = λ m f.
       (λ h. (h.0, ap (sub f) (sym p) ∙ h.1.0 ∙ ap (sub f) q), λ h. (h.0, (ap (sub f) p ∙ h.1 ∙ sym (ap (sub f) q), tt)));
   now_forced = starts-forced (problem (look l) a b);
-  tasks_forced = (subst (λ z. Forces (problem (look l) a b) z u) (sym p) (subst (λ z. Forces (problem (look l) a b) a z) (sym q) Forces.given), tt);
+  tasks_forced = ((subst (λ z. Forces (problem (look l) a b) z u) (sym p) (subst (λ z. Forces (problem (look l) a b) a z) (sym q) Forces.given), subst (Met (problem (look l) a b)) (sym p) Met.left, subst (Met (problem (look l) a b)) (sym q) Met.right), tt);
   within = ((subst (λ z. is_below (length l) z ≡ true) (sym p) x, subst (λ z. is_below (length l) z ≡ true) (sym q) y), tt);
   same_length = refl;
 })

@@ -1,10 +1,11 @@
 -- A substitution says no more than it says.
 use Rattle.std.proofs.Common.{◌≡◌, refl, ap, ◌∙◌}
+use mathlib.Core.Logic.{inl}
 use Rattle.ty_solve.specs.Substitution.{Entry, free, bound, row}
 use Rattle.ty_solve.specs.Forces.{Problem, Forces, Has, Records, Asks, Strict, ForcedAt, IsForced}
 
 pub starts-forced : (p : Problem) → IsForced p p.before
-starts-forced p v = go (p.before v) refl
+starts-forced p v = (go (p.before v) refl, inl refl)
   where
     go : (e : Entry) → p.before v ≡ e → ForcedAt p v e
     go (free k) h = Asks.marked v k h

@@ -8,7 +8,7 @@ use Rattle.ty_core.specs.declared.mark.Mark.{Mark}
 use Rattle.ty_solve.specs.Substitution.{Entry, free, Meets, mark, Solves, sub, subs, is_below}
 use Rattle.ty_solve.specs.Weight.{weight}
 use Rattle.ty_solve.specs.Finding.{Reads, IsWalked}
-use Rattle.ty_solve.specs.Forces.{Problem, Forces, Asks, Clashes, ForcedAt, IsForced, count}
+use Rattle.ty_solve.specs.Forces.{Problem, Forces, Asks, Met, Clashes, ForcedAt, IsForced, count}
 use Rattle.ty_solve.specs.Tasks.{Holds, AllHold, Does, IsForcedTask, AreForced, IsForcedWrite, IsWithin, AreWithin, burden, burdens, Fit, Steps, RefusesTask}
 use Rattle.ty_solve.specs.Task.{Task}
 use Rattle.ty_solve.specs.Task.{Equal, Admit}
@@ -17,7 +17,7 @@ use Rattle.ty_solve.specs.Task.{Bind, Remark}
 use Rattle.std.proofs.lemmas.Bool.{ltb-true}
 use Rattle.ty_solve.specs.declared.refused.UnifyRefused.{UnifyRefused}
 use Rattle.ty_solve.specs.declared.refused.UnifyRefused.TheVariants.{Clash, Circular, Large, Memory}
-use Rattle.ty_solve.specs.Parts.{EqualParts, AdmitParts}
+use Rattle.ty_solve.specs.Parts.{EqualParts, AdmitParts, RefusesParts}
 use Rattle.ty_solve.proofs.Sigma.{solves-fits}
 use Rattle.ty_solve.proofs.Subs.{parts_of}
 use Rattle.ty_solve.proofs.Lists.{all}
@@ -85,6 +85,9 @@ steps-write n s w old task x h g fit = let p = burden-positive w task in record 
   fit = fit;
 }
 
+forced-along : (n : ℕ) (s : ℕ → Entry) (w : ℕ → ℕ) (a b c d : Typ) → Reads n s w a c → Reads n s w b d → (o : Problem) → IsForced o s → IsForcedTask o (Equal a b) → IsForcedTask o (Equal c d)
+forced-along n s w a b c d p q o i r = (Forces.along _ _ _ (Forces.back _ _ (p.forced o i)) (Forces.along _ _ _ r.0 (q.forced o i)), p.met o i r.1, q.met o i r.2)
+
 -- the same of two types that read as these
 pub steps-along : (n : ℕ) (s : ℕ → Entry) (w : ℕ → ℕ) (old new : List Task) (x : Option Write) (a b c d : Typ) → Reads n s w a c → Reads n s w b d → Steps n s w old (Equal c d) new x → Steps n s w old (Equal a b) new x
 steps-along n s w old new x a b c d p q h =
@@ -94,15 +97,15 @@ steps-along n s w old new x a b c d p q h =
         λ e. (h.same m f k).0 (e.0, sym (p.same f (solves-fits m s f k)) ∙ e.1 ∙ q.same f (solves-fits m s f k)),
         λ e. let r = (h.same m f k).1 e in (r.0, p.same f (solves-fits m s f k) ∙ r.1 ∙ sym (q.same f (solves-fits m s f k))),
       );
-      forced = λ o i j r. h.forced o i j (Forces.along _ _ _ (Forces.back _ _ (p.forced o i)) (Forces.along _ _ _ r (q.forced o i)));
+      forced = λ o i j r. h.forced o i j (forced-along n s w a b c d p q o i r);
       within = λ i j. h.within i (p.in_bounds j.0, q.in_bounds j.1);
       lighter = omega arith;
       fit = λ j. h.fit (p.in_bounds j.0, q.in_bounds j.1);
     }
 
 pub refuses-along : (n : ℕ) (s : ℕ → Entry) (w : ℕ → ℕ) (a b c d : Typ) → Reads n s w a c → Reads n s w b d → (e : UnifyRefused) → RefusesTask s (Equal c d) e → RefusesTask s (Equal a b) e
-refuses-along n s w a b c d p q Clash h = (λ m f k e. h.0 m f k (sym (p.same f (solves-fits m s f k)) ∙ e ∙ q.same f (solves-fits m s f k)), λ o i r. h.1 o i (Forces.along _ _ _ (Forces.back _ _ (p.forced o i)) (Forces.along _ _ _ r (q.forced o i))))
-refuses-along n s w a b c d p q Circular h = (λ m f k e. h.0 m f k (sym (p.same f (solves-fits m s f k)) ∙ e ∙ q.same f (solves-fits m s f k)), λ o i r. h.1 o i (Forces.along _ _ _ (Forces.back _ _ (p.forced o i)) (Forces.along _ _ _ r (q.forced o i))))
+refuses-along n s w a b c d p q Clash h = (λ m f k e. h.0 m f k (sym (p.same f (solves-fits m s f k)) ∙ e ∙ q.same f (solves-fits m s f k)), λ o i r. h.1 o i (forced-along n s w a b c d p q o i r))
+refuses-along n s w a b c d p q Circular h = (λ m f k e. h.0 m f k (sym (p.same f (solves-fits m s f k)) ∙ e ∙ q.same f (solves-fits m s f k)), λ o i r. h.1 o i (forced-along n s w a b c d p q o i r))
 refuses-along n s w a b c d p q Large h = h
 refuses-along n s w a b c d p q Memory h = tt
 
@@ -115,15 +118,15 @@ steps-admit-along n s w old new x k a c p h =
         λ e. (h.same m f i).0 (e.0, subst (Allows k m) (p.same f (solves-fits m s f i)) e.1),
         λ e. let r = (h.same m f i).1 e in (r.0, subst (Allows k m) (sym (p.same f (solves-fits m s f i))) r.1),
       );
-      forced = λ o i j r. h.forced o i j (Asks.along _ _ _ r (p.forced o i));
+      forced = λ o i j r. h.forced o i j (Asks.along _ _ _ r.0 (p.forced o i), p.met o i r.1);
       within = λ i j. h.within i (j.0, p.in_bounds j.1);
       lighter = omega arith;
       fit = λ j. h.fit (j.0, p.in_bounds j.1);
     }
 
 pub refuses-admit-along : (n : ℕ) (s : ℕ → Entry) (w : ℕ → ℕ) (k : Mark) (a c : Typ) → Reads n s w a c → (e : UnifyRefused) → RefusesTask s (Admit k c) e → RefusesTask s (Admit k a) e
-refuses-admit-along n s w k a c p Clash h = (λ m f i e. h.0 m f i (subst (Allows k m) (p.same f (solves-fits m s f i)) e), λ o i r. h.1 o i (Asks.along _ _ _ r (p.forced o i)))
-refuses-admit-along n s w k a c p Circular h = (λ m f i e. h.0 m f i (subst (Allows k m) (p.same f (solves-fits m s f i)) e), λ o i r. h.1 o i (Asks.along _ _ _ r (p.forced o i)))
+refuses-admit-along n s w k a c p Clash h = (λ m f i e. h.0 m f i (subst (Allows k m) (p.same f (solves-fits m s f i)) e), λ o i r. h.1 o i (Asks.along _ _ _ r.0 (p.forced o i), p.met o i r.1))
+refuses-admit-along n s w k a c p Circular h = (λ m f i e. h.0 m f i (subst (Allows k m) (p.same f (solves-fits m s f i)) e), λ o i r. h.1 o i (Asks.along _ _ _ r.0 (p.forced o i), p.met o i r.1))
 refuses-admit-along n s w k a c p Large h = h
 refuses-admit-along n s w k a c p Memory h = tt
 
@@ -137,12 +140,12 @@ count-subs f (more t ts) = ap suc (count-subs f ts)
 
 -- two types that are no variables
 pub heads-clash : (s : ℕ → Entry) (h g : Symbol) (ts us : Typs) (a b : Typ) → a ≡ con h ts → b ≡ con g us → (h ≡ g → ⊥) → RefusesTask s (Equal a b) Clash
-heads-clash s h g ts us a b p q ne = (λ m f k e. let r = sym (ap (sub f) p) ∙ e ∙ ap (sub f) q in ne (cc), λ o i r. Clashes.heads h g ts us (subst (λ x. Forces o (con h ts) x) q (subst (λ x. Forces o x b) p r)) ne)
+heads-clash s h g ts us a b p q ne = (λ m f k e. let r = sym (ap (sub f) p) ∙ e ∙ ap (sub f) q in ne (cc), λ o i r. Clashes.heads h g ts us (subst (λ x. Forces o (con h ts) x) q (subst (λ x. Forces o x b) p r.0)) ne)
 
 pub counts-clash : (s : ℕ → Entry) (h g : Symbol) (l r : List Typ) (a b : Typ) → a ≡ con h (all l) → b ≡ con g (all r) → (length l ≡ length r → ⊥) → RefusesTask s (Equal a b) Clash
 counts-clash s h g l r a b p q ne = (
   λ m f k e. let x = ap parts_of (sym (ap (sub f) p) ∙ e ∙ ap (sub f) q) in ne (sym (count-subs f (all l) ∙ count-all l) ∙ ap count x ∙ count-subs f (all r) ∙ count-all r),
-  λ o i x. Clashes.counts h g (all l) (all r) (subst (λ y. Forces o (con h (all l)) y) q (subst (λ y. Forces o y b) p x)) (λ e. ne (sym (count-all l) ∙ e ∙ count-all r)),
+  λ o i x. Clashes.counts h g (all l) (all r) (subst (λ y. Forces o (con h (all l)) y) q (subst (λ y. Forces o y b) p x.0)) (λ e. ne (sym (count-all l) ∙ e ∙ count-all r)),
 )
 
 pub parts-steps : (n : ℕ) (s : ℕ → Entry) (w : ℕ → ℕ) (old new : List Task) (h g : Symbol) (ts us : Typs) (a b : Typ) → a ≡ con h ts → b ≡ con g us → h ≡ g → EqualParts old new ts us → Steps n s w old (Equal a b) new None
@@ -155,7 +158,7 @@ parts-steps n s w old new h g ts us a b p q e x =
         λ y. ((x.same m f).1 (y.0, ap parts_of (sym (ap (sub f) p) ∙ y.1 ∙ ap (sub f) q)), tt),
         λ y. let z = (x.same m f).0 y.0 in (z.0, ap (sub f) p ∙ ap₂ con e z.1 ∙ sym (ap (sub f) q)),
       );
-      forced = λ o i j r. (x.forced o h j (subst (λ y. Forces o (con h ts) (con y us)) (sym e) (subst (λ y. Forces o (con h ts) y) q (subst (λ y. Forces o y b) p r))), tt);
+      forced = λ o i j r. (x.forced o h j (subst (λ y. Forces o (con h ts) (con y us)) (sym e) (subst (λ y. Forces o (con h ts) y) q (subst (λ y. Forces o y b) p r.0))) (subst (Met o) p r.1) (subst (λ y. Met o (con y us)) (sym e) (subst (Met o) q r.2)), tt);
       within = λ j y. x.within n j (subst (λ z. is_below n z ≡ true) p y.0) (subst (λ z. is_below n z ≡ true) q y.1);
       lighter = omega arith;
       fit = λ r. tt;
@@ -165,26 +168,36 @@ parts-steps n s w old new h g ts us a b p q e x =
 pub never-clash : (s : ℕ → Entry) (h : Symbol) (ts : Typs) (t : Typ) → t ≡ con h ts → Never ≡ attribute h → RefusesTask s (Admit Mark.Equality t) Clash
 never-clash s h ts t p e = (
   λ m f k x. let y = subst (λ z. admits m (sub f z) ≡ true) p x in let z = subst (λ q. allowed q (all_admit m (subs f ts)) ≡ true) (sym e) y in cc,
-  λ o i x. Clashes.never h ts (subst (Asks o Mark.Equality) p x) (sym e),
+  λ o i x. Clashes.never h ts (subst (Asks o Mark.Equality) p x.0) (sym e),
 )
 
 pub always-steps : (n : ℕ) (s : ℕ → Entry) (w : ℕ → ℕ) (old : List Task) (h : Symbol) (ts : Typs) (t : Typ) → t ≡ con h ts → Always ≡ attribute h → Steps n s w old (Admit Mark.Equality t) old None
 always-steps n s w old h ts t p e = steps-nothing n s w old (Admit Mark.Equality t) (λ m f k. subst (λ z. admits m (sub f z) ≡ true) (sym p) (subst (λ q. allowed q (all_admit m (subs f ts)) ≡ true) e refl))
 
-pub arguments-steps : (n : ℕ) (s : ℕ → Entry) (w : ℕ → ℕ) (old new : List Task) (h : Symbol) (ts : Typs) (t : Typ) → t ≡ con h ts → ByArguments ≡ attribute h → AdmitParts old new ts → Steps n s w old (Admit Mark.Equality t) new None
+pub arguments-steps : (n : ℕ) (s : ℕ → Entry) (w : ℕ → ℕ) (old new : List Task) (h : Symbol) (ts : Typs) (t : Typ) → t ≡ con h ts → ByArguments ≡ attribute h → AdmitParts n s w old new ts → Steps n s w old (Admit Mark.Equality t) new None
 arguments-steps n s w old new h ts t p e x =
-    let x1 = x.burden_is w in
+    let x1 = x.lighter in
     let p1 = ap (weight w) p in
     record {
       same = λ m f k. (
-        λ y. ((x.same m f).1 (y.0, subst (λ q. allowed q (all_admit m (subs f ts)) ≡ true) (sym e) (subst (λ z. admits m (sub f z) ≡ true) p y.1)), tt),
-        λ y. let z = (x.same m f).0 y.0 in (z.0, subst (λ z. admits m (sub f z) ≡ true) (sym p) (subst (λ q. allowed q (all_admit m (subs f ts)) ≡ true) e z.1)),
+        λ y. ((x.same m f (solves-fits m s f k)).1 (y.0, subst (λ q. allowed q (all_admit m (subs f ts)) ≡ true) (sym e) (subst (λ z. admits m (sub f z) ≡ true) p y.1)), tt),
+        λ y. let z = (x.same m f (solves-fits m s f k)).0 y.0 in (z.0, subst (λ z. admits m (sub f z) ≡ true) (sym p) (subst (λ q. allowed q (all_admit m (subs f ts)) ≡ true) e z.1)),
       );
-      forced = λ o i j r. (x.forced o j (λ y b. Asks.part h ts y (subst (Asks o Mark.Equality) p r) (sym e) b), tt);
-      within = λ j y. x.within n j (subst (λ z. is_below n z ≡ true) p y.1);
+      forced = λ o i j r. (x.forced o i j (λ y b. (Asks.part h ts y (subst (Asks o Mark.Equality) p r.0) (sym e) b, Met.part h ts y (subst (Met o) p r.1) b)), tt);
+      within = λ j y. x.within j (subst (λ z. is_below n z ≡ true) p y.1);
       lighter = omega arith;
       fit = λ r. tt;
     }
+
+-- a part that never admits equality
+pub arguments-clash : (s : ℕ → Entry) (h : Symbol) (ts : Typs) (t : Typ) → t ≡ con h ts → ByArguments ≡ attribute h → (e : UnifyRefused) → RefusesParts s ts e → RefusesTask s (Admit Mark.Equality t) e
+arguments-clash s h ts t p e Clash x = (
+  λ m f k y. x.0 m f (solves-fits m s f k) (subst (λ q. allowed q (all_admit m (subs f ts)) ≡ true) (sym e) (subst (λ z. admits m (sub f z) ≡ true) p y)),
+  λ o i r. x.1 o i (λ y b. (Asks.part h ts y (subst (Asks o Mark.Equality) p r.0) (sym e) b, Met.part h ts y (subst (Met o) p r.1) b)),
+)
+arguments-clash s h ts t p e Circular x = absurd x
+arguments-clash s h ts t p e Large x = absurd x
+arguments-clash s h ts t p e Memory x = tt
 
 pub class-steps : (n : ℕ) (s : ℕ → Entry) (w : ℕ → ℕ) (old : List Task) (c : Class) (h : Symbol) (l : List Typ) (t : Typ) → t ≡ con h (all l) → length l ≡ 0 → IsOf c (con h none) → Steps n s w old (Admit (Mark.Class c) t) old None
 class-steps n s w old c h [] t p e x = steps-nothing n s w old (Admit (Mark.Class c) t) (λ m f k. subst (λ z. IsOf c (sub f z)) (sym p) x)
@@ -194,18 +207,18 @@ pub arguments-outside : (s : ℕ → Entry) (c : Class) (h : Symbol) (l : List T
 arguments-outside s c h [] t p ne = absurd (ne refl)
 arguments-outside s c h (y ∷ l) t p ne = (
   λ m f k x. let y = subst (λ z. IsOf c (sub f z)) p x in let e = y.is in cc,
-  λ o i x. Clashes.crowded c h (more y (all l)) (subst (Asks o (Mark.Class c)) p x) (λ e. cc),
+  λ o i x. Clashes.crowded c h (more y (all l)) (subst (Asks o (Mark.Class c)) p x.0) (λ e. cc),
 )
 
 pub class-outside : (s : ℕ → Entry) (c : Class) (h : Symbol) (l : List Typ) (t : Typ) → t ≡ con h (all l) → length l ≡ 0 → (IsOf c (con h none) → ⊥) → RefusesTask s (Admit (Mark.Class c) t) Clash
-class-outside s c h [] t p e ne = (λ m f k x. ne (subst (λ z. IsOf c (sub f z)) p x), λ o i x. Clashes.outside c h (subst (Asks o (Mark.Class c)) p x) ne)
+class-outside s c h [] t p e ne = (λ m f k x. ne (subst (λ z. IsOf c (sub f z)) p x), λ o i x. Clashes.outside c h (subst (Asks o (Mark.Class c)) p x.0) ne)
 class-outside s c h (y ∷ l) t p e ne = absurd (omega arith)
 
 -- a free variable and another type
 pub bind-steps : (n : ℕ) (s : ℕ → Entry) (w : ℕ → ℕ) (old : List Task) (a b t : Typ) (y : ℕ) → b ≡ var y → t ≡ a → IsWalked s (var y) → IsWalked s a → (a ≡ var y → ⊥) → Steps n s w old (Equal a b) old (Some (Bind y t))
 bind-steps n s w old a b t y p q u v ne = steps-write n s w old (Equal a b) (Bind y t)
     (λ m f k. (λ e. sym (ap (sub f) p) ∙ sym e ∙ sym (ap (sub f) q), λ e. sym (ap (sub f) q) ∙ sym e ∙ sym (ap (sub f) p)))
-    (λ o i r. subst (λ x. Forces o (var y) x) (sym q) (Forces.back _ _ (subst (λ x. Forces o a x) p r)))
+    (λ o i r. (subst (λ x. Forces o (var y) x) (sym q) (Forces.back _ _ (subst (λ x. Forces o a x) p r.0)), subst (Met o) p r.2, subst (Met o) (sym q) r.1))
     (λ r. record {
       in_range = ltb-true y n (subst (λ x. is_below n x ≡ true) p r.1);
       is_open = u;
@@ -218,7 +231,7 @@ bind-steps n s w old a b t y p q u v ne = steps-write n s w old (Equal a b) (Bin
 pub remark-clash : (s : ℕ → Entry) (x : ℕ) (k : Mark) (t : Typ) → t ≡ var x → s x ≡ free (mark (s x)) → ((m : ℕ → Bool) (t : Typ) → Allows (mark (s x)) m t → Allows k m t → ⊥) → RefusesTask s (Admit k t) Clash
 remark-clash s x k t p u ne = (
   λ m f h e. ne m (f x) (subst (Meets m f (f x)) u (h x)) (subst (λ z. Allows k m (sub f z)) p e),
-  λ o i r. Clashes.apart (mark (s x)) k (var x) (subst (ForcedAt o x) u (i x)) (subst (Asks o k) p r) ne,
+  λ o i r. Clashes.apart (mark (s x)) k (var x) (subst (ForcedAt o x) u (i x).0) (subst (Asks o k) p r.0) ne,
 )
 
 pub remark-nothing : (n : ℕ) (s : ℕ → Entry) (w : ℕ → ℕ) (old : List Task) (x : ℕ) (k r : Mark) (t : Typ) → t ≡ var x → s x ≡ free (mark (s x)) → IsMeet (mark (s x)) k r → r ≡ mark (s x) → Steps n s w old (Admit k t) old None
@@ -227,7 +240,7 @@ remark-nothing n s w old x k r t p u e q = steps-nothing n s w old (Admit k t) (
 pub remark-steps : (n : ℕ) (s : ℕ → Entry) (w : ℕ → ℕ) (old : List Task) (x : ℕ) (k r : Mark) (t : Typ) → t ≡ var x → s x ≡ free (mark (s x)) → IsMeet (mark (s x)) k r → (r ≡ mark (s x) → ⊥) → (r ≢ mark (s x) → rank_of r < rank_of (mark (s x))) → is_inhabited (mark (s x)) ≡ true → (is_inhabited (mark (s x)) ≡ true → is_inhabited k ≡ true → is_inhabited r ≡ true) → Steps n s w old (Admit k t) old (Some (Remark x r))
 remark-steps n s w old x k r t p u e ne lower i j = steps-write n s w old (Admit k t) (Remark x r)
     (λ m f h. (λ a. e.both m (f x) (subst (Meets m f (f x)) u (h x)) (subst (λ z. Allows k m (sub f z)) p a), λ a. subst (λ z. Allows k m (sub f z)) (sym p) (e.right m (f x) a)))
-    (λ o g a. Asks.both (mark (s x)) k r (var x) (subst (ForcedAt o x) u (g x)) (subst (Asks o k) p a) (λ m z b d. e.both m z b d))
+    (λ o g a. (Asks.both (mark (s x)) k r (var x) (subst (ForcedAt o x) u (g x).0) (subst (Asks o k) p a.0) (λ m z b d. e.both m z b d), subst (Met o) p a.1))
     (λ a. record {
       in_range = ltb-true x n (subst (λ z. is_below n z ≡ true) p a.1);
       is_free = u;

@@ -1,12 +1,12 @@
 -- What an equation of two types forces under a substitution, read off part by part.
-use Rattle.std.specs.Prelude.{◌≡◌, ◌≢◌, ℕ, suc, Bool, true, List}
+use Rattle.std.specs.Prelude.{◌≡◌, ◌≢◌, ◌⊎◌, ℕ, suc, Bool, true, List, ⊤}
 use Rattle.mlc_base.specs.declared.label.Label.{Label}
 use Rattle.ty_core.specs.Types.{Typ, var, con, Typs, none, more, Symbol, labels, attribute}
 use Rattle.ty_core.specs.Marks.{Allows, IsOf}
 use Rattle.ty_core.specs.declared.mark.Class.{Class}
 use Rattle.ty_core.specs.declared.mark.Mark.{Mark}
 use Rattle.ty_core.specs.declared.name.Equality.TheVariants.{ByArguments, Never}
-use Rattle.ty_solve.specs.Substitution.{Entry, free, bound, row}
+use Rattle.ty_solve.specs.Substitution.{Entry, free, bound, row, is_open}
 use Rattle.ty_solve.specs.Rows.{Among, At, IsProper}
 
 -- t and u stand at the same place of two lists
@@ -53,7 +53,8 @@ mutual
     along : (k : Mark) (t u : Typ) → Asks p k t → Forces p t u → Asks p k u
     part : (h : Symbol) (ts : Typs) (t : Typ) → Asks p Mark.Equality (con h ts) → attribute h ≡ ByArguments → Beside t t ts ts → Asks p Mark.Equality t
     both : (j k r : Mark) (t : Typ) → Asks p j t → Asks p k t → ((m : ℕ → Bool) (u : Typ) → Allows j m u → Allows k m u → Allows r m u) → Asks p r t
-    further : (ks ls : List Label) (ts : Typs) (l : Label) (x : Typ) → Strict p (con (labels ls) ts) ks → At l x ls ts → (Among l ks → ⊥) → Asks p Mark.Equality x
+    further : (ks ls : List Label) (ts : Typs) (l : Label) (x : Typ) → Strict p (con (labels ls) ts) ks → At l x ls ts → (Among l ks → ⊥)
+        → Asks p Mark.Equality x
     rest : (ks : List Label) (t : Typ) (l : Label) (u : Typ) → Strict p t ks → Has p t l u → (Among l ks → ⊥) → Asks p Mark.Equality u
 
   -- the fields of a type with labels other than ks are forced to admit equality
@@ -100,5 +101,24 @@ ForcedAt p v (free k) = Asks p k (var v)
 ForcedAt p v (bound t) = Forces p (var v) t
 ForcedAt p v (row e ks us) = IsForcedRow p (var v) e ks us
 
+-- t is met while the two types are made equal: it is one of them, or a part of a type that is met, or what a variable that is met stands for
+pub data Met (p : Problem) : Typ → Type 0 where
+  left : Met p p.left
+  right : Met p p.right
+  part : (h : Symbol) (ts : Typs) (t : Typ) → Met p (con h ts) → Beside t t ts ts → Met p t
+  stands : (v : ℕ) (t : Typ) → Met p (var v) → p.before v ≡ bound t → Met p t
+  field : (v : ℕ) (e : Bool) (ks : List Label) (us : Typs) (l : Label) (t : Typ) → Met p (var v) → p.before v ≡ row e ks us → At l t ks us → Met p t
+
+-- all types that an entry tells are met
+abbrev pub EntryMet : Problem → Entry → Type 0
+EntryMet p (free k) = ⊤
+EntryMet p (bound t) = Met p t
+EntryMet p (row e ks us) = (l : Label) (t : Typ) → At l t ks us → Met p t
+
+-- a variable is as it was, or it was open and is met, and so is what it stands for now
+abbrev pub LeftAt : Problem → ℕ → Entry → Type 0
+LeftAt p v e = (e ≡ p.before v) ⊎ ((is_open (p.before v) ≡ true) × Met p (var v) × EntryMet p e)
+
+-- what a substitution says of a variable is forced, and said of no other than those that are met
 abbrev pub IsForced : Problem → (ℕ → Entry) → Type 0
-IsForced p s = (v : ℕ) → ForcedAt p v (s v)
+IsForced p s = (v : ℕ) → ForcedAt p v (s v) × LeftAt p v (s v)

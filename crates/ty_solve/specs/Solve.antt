@@ -2,7 +2,7 @@
 use Rattle.std.specs.Prelude.{◌≡◌, ◌↔◌, ◌<◌, ◌≤◌, ℕ, Bool, List, [], ◌∷◌, slice_set}
 use Rattle.ty_core.specs.Types.{Typ, nodes}
 use Rattle.ty_solve.specs.Substitution.{Entry, sub, Solves, Resolves}
-use Rattle.ty_solve.specs.Forces.{Clashes, Loops}
+use Rattle.ty_solve.specs.Forces.{Problem, Clashes, Loops, LeftAt}
 use Rattle.ty_solve.specs.declared.refused.UnifyRefused.{UnifyRefused}
 use Rattle.ty_solve.specs.declared.refused.UnifyRefused.TheVariants.{Clash, Circular, Large, Memory}
 use Rattle.ty_solve.specs.declared.trail.Kept.{Kept}
@@ -14,6 +14,13 @@ IsMostGeneral old new a b = (m : ℕ → Bool) (f : ℕ → Typ) → Solves m f 
 
 abbrev pub IsSolvable : (ℕ → Entry) → Type 0
 IsSolvable s = (m : ℕ → Bool) × (f : ℕ → Typ) × Solves m f s
+
+abbrev pub problem : (ℕ → Entry) → Typ → Typ → Problem
+problem s a b = record { before = s; left = a; right = b }
+
+-- only open variables that are met in a or b change, and they come to stand only for what is met there
+abbrev pub LeavesRest : (ℕ → Entry) → (ℕ → Entry) → Typ → Typ → Type 0
+LeavesRest old new a b = (v : ℕ) → LeftAt (problem old a b) v (new v)
 
 -- nothing that solves the substitution makes a and b equal
 abbrev pub NoneMakesEqual : (ℕ → Entry) → Typ → Typ → Type 0
@@ -36,15 +43,15 @@ pub record IsLarge (s : ℕ → Entry) (a b : Typ) : Type 0 where
 
 -- when each refusal comes
 abbrev pub IsCause : (ℕ → Entry) → Typ → Typ → UnifyRefused → Type 0
-IsCause s a b Clash = NoneMakesEqual s a b × Clashes (record { before = s; left = a; right = b })
-IsCause s a b Circular = NoneMakesEqual s a b × Loops (record { before = s; left = a; right = b })
+IsCause s a b Clash = NoneMakesEqual s a b × Clashes (problem s a b)
+IsCause s a b Circular = NoneMakesEqual s a b × Loops (problem s a b)
 IsCause s a b Large = IsLarge s a b
 IsCause s a b Memory = Unit {0}
 
 -- the same before sizes are looked at
 abbrev pub IsEarlyCause : (ℕ → Entry) → Typ → Typ → UnifyRefused → Type 0
-IsEarlyCause s a b Clash = NoneMakesEqual s a b × Clashes (record { before = s; left = a; right = b })
-IsEarlyCause s a b Circular = NoneMakesEqual s a b × Loops (record { before = s; left = a; right = b })
+IsEarlyCause s a b Clash = NoneMakesEqual s a b × Clashes (problem s a b)
+IsEarlyCause s a b Circular = NoneMakesEqual s a b × Loops (problem s a b)
 IsEarlyCause s a b Large = ⊥
 IsEarlyCause s a b Memory = Unit {0}
 

@@ -6,11 +6,8 @@ use Rattle.ty_core.specs.declared.mark.Mark.{Mark}
 use Rattle.ty_solve.specs.Substitution.{Entry, free, bound, row, mark, is_open, sub, subs, is_below, is_in, are_in, Resolves, aside, Solves}
 use Rattle.ty_solve.specs.Finding.{IsWalked}
 use Rattle.ty_solve.specs.Weight.{weight, BelowAt, InhabitedAt}
-use Rattle.ty_solve.specs.Forces.{Problem, Forces, Asks, Clashes, Loops, IsForced}
-use Rattle.ty_solve.specs.Task.{Task}
-use Rattle.ty_solve.specs.Task.{Equal, Admit}
-use Rattle.ty_solve.specs.Task.{Write}
-use Rattle.ty_solve.specs.Task.{Bind, Remark, Further}
+use Rattle.ty_solve.specs.Forces.{Problem, Forces, Asks, Clashes, Loops, Met, IsForced}
+use Rattle.ty_solve.specs.Task.{Task, Equal, Admit, Write, Bind, Remark, Further}
 use Rattle.ty_solve.specs.declared.refused.UnifyRefused.{UnifyRefused}
 use Rattle.ty_solve.specs.declared.refused.UnifyRefused.TheVariants.{Clash, Circular, Large, Memory}
 
@@ -28,9 +25,10 @@ Does m f (Some (Bind v t)) = f v ≡ sub f t
 Does m f (Some (Remark v k)) = Allows k m (f v)
 Does m f (Some (Further v)) = admits m (f v) ≡ true
 
+-- a task is forced, and its types are met
 abbrev pub IsForcedTask : Problem → Task → Type 0
-IsForcedTask p (Equal a b) = Forces p a b
-IsForcedTask p (Admit k t) = Asks p k t
+IsForcedTask p (Equal a b) = Forces p a b × Met p a × Met p b
+IsForcedTask p (Admit k t) = Asks p k t × Met p t
 
 abbrev pub AreForced : Problem → List Task → Type 0
 AreForced p [] = ⊤
@@ -38,9 +36,9 @@ AreForced p (x ∷ l) = IsForcedTask p x × AreForced p l
 
 abbrev pub IsForcedWrite : Problem → Option Write → Type 0
 IsForcedWrite p None = ⊤
-IsForcedWrite p (Some (Bind v t)) = Forces p (var v) t
-IsForcedWrite p (Some (Remark v k)) = Asks p k (var v)
-IsForcedWrite p (Some (Further v)) = Asks p Mark.Equality (var v)
+IsForcedWrite p (Some (Bind v t)) = Forces p (var v) t × Met p (var v) × Met p t
+IsForcedWrite p (Some (Remark v k)) = Asks p k (var v) × Met p (var v)
+IsForcedWrite p (Some (Further v)) = Asks p Mark.Equality (var v) × Met p (var v)
 
 abbrev pub IsWithin : ℕ → Task → Type 0
 IsWithin n (Equal a b) = (is_below n a ≡ true) × (is_below n b ≡ true)

@@ -38,6 +38,9 @@ returns-in-Err-clause-cause c = solving-refused _ _ _ _ _ c.in-Err.refused c.loo
 pub returns-in-None-clause-general : goal.returns-in-None-clause-general
 returns-in-None-clause-general c = solving-ends _ _ _ _ _ _ c.loop-refused.invariant.solving (comes-in c.loop-refused.s.types c.args.s.now.types c.loop-refused.invariant.types c.loop-refused.s.slots.items c.loop-refused.tasks.items c.next_write.new.tasks.items None (subst (λ w. Comes (length (entries c.loop-refused.s.types c.loop-refused.s.slots.items)) (seen c.loop-refused.s.types c.loop-refused.s.slots.items) (tasks_of c.loop-refused.s.types c.loop-refused.tasks.items) (tasks_of c.loop-refused.s.types c.next_write.new.tasks.items) (option_map (write_of c.loop-refused.s.types) w)) c.in-None.is c.in-Ok.ensures.comes))
 
+pub returns-in-None-clause-forced : goal.returns-in-None-clause-forced
+returns-in-None-clause-forced c = c.loop-refused.invariant.solving.now_forced
+
 pub returns-in-Err-change-clause-cause : goal.returns-in-Err-change-clause-cause
 returns-in-Err-change-clause-cause c = change-refused _ _ _ _ _ _ (write_of c.args.s.now.types c.in-Some.write) c.in-Err-change.refused c.loop-refused.invariant.solving (comes-in c.loop-refused.s.types c.args.s.now.types c.loop-refused.invariant.types c.loop-refused.s.slots.items c.loop-refused.tasks.items c.next_write.new.tasks.items (Some c.in-Some.write) (subst (λ w. Comes (length (entries c.loop-refused.s.types c.loop-refused.s.slots.items)) (seen c.loop-refused.s.types c.loop-refused.s.slots.items) (tasks_of c.loop-refused.s.types c.loop-refused.tasks.items) (tasks_of c.loop-refused.s.types c.next_write.new.tasks.items) (option_map (write_of c.loop-refused.s.types) w)) c.in-Some.is c.in-Ok.ensures.comes)) (subst (λ (t : List Typ). RefusesWrite (seen t c.loop-refused.s.slots.items) (write_of t c.in-Some.write) c.in-Err-change.refused) c.loop-refused.invariant.types c.in-Err-change.ensures.cause)
 

@@ -2,7 +2,7 @@ use Rattle.std.proofs.Common.{refl, ◌∙◌, arith}
 use Rattle.std.proofs.Common.{◌∙◌, refl, arith}
 use Rattle.ty_table.specs.TypeAt.{type_at}
 use Rattle.ty_solve.specs.Forces.{Forces}
-use Rattle.ty_solve.proofs.Finds.{step-fits, step-below, step-lighter, step-forced}
+use Rattle.ty_solve.proofs.Finds.{step-fits, step-below, step-lighter, step-forced, step-met}
 use Rattle.ty_solve.proofs.subst.Subst.find.Goals as goal
 
 pub loop-next-init : goal.loop-next-init
@@ -12,6 +12,7 @@ loop-next-init c = record {
   in_bounds = λ h. h;
   lighter = omega arith;
   forced = λ p h. Forces.same _;
+  met = λ p h m. m;
 }
 
 pub loop-next-preserved : goal.loop-next-preserved
@@ -24,6 +25,7 @@ loop-next-preserved c =
       in_bounds = λ h. step-below _ _ _ _ c.in-Some.ensures.is c.args.self.now.below;
       lighter = omega arith;
       forced = λ p h. Forces.along _ _ _ (c.loop-next.invariant.forced p h) (step-forced p _ _ _ c.in-Some.ensures.is h);
+      met = λ p h m. step-met p _ _ _ c.in-Some.ensures.is h (c.loop-next.invariant.met p h m);
     }
 
 pub loop-next-smaller : goal.loop-next-smaller

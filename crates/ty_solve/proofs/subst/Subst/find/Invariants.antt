@@ -5,7 +5,7 @@ use Rattle.ty_table.specs.TypeAt.{type_at}
 use Rattle.ty_solve.specs.Substitution.{Fits, sub, is_below}
 use Rattle.ty_solve.specs.SlotsOf.{seen}
 use Rattle.ty_solve.specs.Weight.{weight}
-use Rattle.ty_solve.specs.Forces.{Problem, Forces, IsForced}
+use Rattle.ty_solve.specs.Forces.{Problem, Forces, Met, IsForced}
 use Rattle.ty_solve.proofs.subst.Subst.find.Given as goal
 
 abbrev pub invariant-loop-next : goal.invariant-loop-next
@@ -15,6 +15,7 @@ invariant-loop-next l = record {
   in_bounds : is_below (length l.self.slots.items) (type_at l.self.types l.t) ≡ true → is_below (length l.self.slots.items) (type_at l.self.types l.found) ≡ true;
   lighter : weight l.self.acyclic.0 (type_at l.self.types l.found) ≤ weight l.self.acyclic.0 (type_at l.self.types l.t);
   forced : (p : Problem) → IsForced p (seen l.self.types l.self.slots.items) → Forces p (type_at l.self.types l.t) (type_at l.self.types l.found);
+  met : (p : Problem) → IsForced p (seen l.self.types l.self.slots.items) → Met p (type_at l.self.types l.t) → Met p (type_at l.self.types l.found);
 }
 
 abbrev pub decreases-loop-next : goal.decreases-loop-next

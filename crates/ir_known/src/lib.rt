@@ -1,0 +1,8 @@
+// What a checker knows: of the variables in scope, of parameters in scope, and of types.
+#![tactic(auto)]
+
+pub mod ask;
+pub mod known;
+pub mod params;
+pub mod scope;
+pub mod stack;

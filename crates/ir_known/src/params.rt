@@ -1,0 +1,29 @@
+// Parameters in scope.
+ghost use Rattle.std.specs.Prelude.{◌≡◌, ◌↔◌, ◌++◌, true, IsTrue, IfOk};
+ghost use Rattle.ir_poly.specs.Types.{are_new};
+ghost use Rattle.ir_known.specs.Knows.{marks_of};
+
+use crate::stack::Stack;
+use mlc_base::memory::NoMemory;
+use ty_core::mark::Mark;
+use ty_core::scheme::Quantified;
+
+/// Declares parameters, where none is in scope and each is once.
+pub fn declare_all(
+    scope: &mut Stack<Mark>,
+    parameters: &[Quantified],
+) -> Result<bool, NoMemory>
+    ensures new { IfOk result (λ new. IsTrue new ↔ (are_new parameters.now (marks_of scope.old) ≡ true)) }
+    ensures declared { IfOk result (λ new. new ≡ true → marks_of scope.new ≡ parameters.now ++ marks_of scope.old) }
+{
+    let mut left = parameters.len();
+    while left > 0 {
+        left -= 1;
+        let parameter = parameters[left];
+        let new = scope.push(parameter.variable, parameter.mark)?;
+        if !new {
+            return Ok(false);
+        }
+    }
+    Ok(true)
+}

@@ -1,0 +1,6 @@
+pub mod Types
+pub mod Mono
+pub mod Typing
+pub mod Values
+pub mod WellFormed
+pub mod Laws

@@ -1,0 +1,4 @@
+// The plain-order tree with simple types, and that a well formed program never goes wrong. Definitions, and laws of them.
+#![tactic(auto)]
+
+pub mod law;

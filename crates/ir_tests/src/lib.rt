@@ -1,0 +1,4 @@
+// Programs of tests with explicit instances, and the checker of them.
+#![tactic(auto)]
+
+pub mod law;

@@ -1,0 +1,14 @@
+pub mod Numbers
+pub mod Related
+pub mod Matched
+pub mod Packets
+pub mod Keeps
+pub mod Once
+pub mod Weights
+pub mod Made
+pub mod Local
+pub mod TypeLemmas
+pub mod TypedLemmas
+pub mod Values
+pub mod Typed
+pub mod Programs

@@ -1,0 +1,3 @@
+pub mod ExpOf
+pub mod Sums
+pub mod Weighing

@@ -1,0 +1,3 @@
+pub mod TreeOf
+pub mod Programs
+pub mod Weights

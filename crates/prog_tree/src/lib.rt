@@ -1,0 +1,6 @@
+// The code's tree of a program with source matches.
+#![tactic(auto)]
+
+pub mod nodes;
+pub mod prog;
+pub mod tree;

@@ -1,8 +1,0 @@
--- The terminals that are left.
-use Rattle.std.specs.Prelude.{List}
-use Rattle.mlc_base.specs.declared.token.Token.{Token}
-use Rattle.sml_tree.specs.Terminal.{Terminal, terminals}
-use Rattle.sml_parser.specs.declared.source.Source.{Source}
-
-abbrev pub left : Source → List Token → List Terminal
-left s tokens = terminals s.star tokens

@@ -1,0 +1,14 @@
+use Rattle.std.proofs.Common.{◌≤◌, length}
+use Rattle.sml_grammar.specs.Bindings.{read_ex_binds}
+use Rattle.sml_phrases.specs.Left.{left}
+use Rattle.sml_phrases.proofs.BindLists.{ExnsGoing}
+use Rattle.sml_phrases.proofs.bindings.read_ex_binds.Given as goal
+
+abbrev pub invariant-binds : goal.invariant-binds
+invariant-binds l = record {
+  going : ExnsGoing l.source l.n l.fix (left l.source l.rest) l.binds.items l.deepest (read_ex_binds l.n l.fix (left l.source l.tokens));
+  short : length (left l.source l.rest) ≤ length (left l.source l.tokens);
+}
+
+abbrev pub decreases-binds : goal.decreases-binds
+decreases-binds l = length (left l.source l.rest)

@@ -1,0 +1,14 @@
+use Rattle.std.proofs.Common.{◌≤◌, length}
+use Rattle.sml_grammar.specs.Bindings.{read_type_binds}
+use Rattle.sml_phrases.specs.Left.{left}
+use Rattle.sml_phrases.proofs.BindLists.{TypesGoing}
+use Rattle.sml_phrases.proofs.bindings.read_type_binds.Given as goal
+
+abbrev pub invariant-binds : goal.invariant-binds
+invariant-binds l = record {
+  going : TypesGoing l.source l.n (left l.source l.rest) l.binds.items l.deepest (read_type_binds l.n (left l.source l.tokens));
+  short : length (left l.source l.rest) ≤ length (left l.source l.tokens);
+}
+
+abbrev pub decreases-binds : goal.decreases-binds
+decreases-binds l = length (left l.source l.rest)

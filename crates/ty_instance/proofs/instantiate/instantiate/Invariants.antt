@@ -1,0 +1,14 @@
+use Rattle.std.proofs.Common.{◌≡◌, length, nat_eq, take}
+use Rattle.indexmap.specs.IndexMap.{get}
+use Rattle.ty_instance.specs.Images.{image_at, nothing}
+use Rattle.ty_instance.specs.Steps.{Going, burden}
+use Rattle.ty_instance.proofs.instantiate.instantiate.Given as goal
+
+abbrev pub invariant-loop-step : goal.invariant-loop-step
+invariant-loop-step l = record {
+  stays : take (length l.fn.types) l.types ≡ l.fn.types;
+  going : Going l.types nothing (image_at l.fn.types l.images) (get nat_eq l.made) l.steps.items l.body;
+}
+
+abbrev pub decreases-loop-step : goal.decreases-loop-step
+decreases-loop-step l = burden (λ v. 0) l.types l.steps.items

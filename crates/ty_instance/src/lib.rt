@@ -1,0 +1,8 @@
+// Types with other types put for their variables: instances of schemes, and types under a substitution.
+#![tactic(auto)]
+
+pub mod instantiate;
+mod made;
+pub mod resolve;
+pub mod step;
+pub mod within;
