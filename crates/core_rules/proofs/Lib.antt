@@ -27,3 +27,4 @@ pub mod FittingDecs
 pub mod FittingInitial
 pub mod Expansive
 pub mod Bound
+pub mod BoundProperly

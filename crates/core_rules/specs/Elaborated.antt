@@ -7,17 +7,15 @@ use Rattle.ty_core.specs.declared.name.TyName.{TyName}
 use Rattle.ty_core.specs.declared.name.Equality.TheVariants.{ByArguments, Never}
 use Rattle.ty_core.specs.declared.mark.Mark.TheVariants.{Any}
 use Rattle.ty_core.specs.declared.env.Status.{Status}
-use Rattle.ty_core.specs.declared.env.Status.TheVariants.{Variable, Constructor, Exception, Primitive}
+use Rattle.ty_core.specs.declared.env.Status.TheVariants.{Constructor, Exception}
 use Rattle.sml_tree.specs.declared.ident.Tyvar.{Tyvar}
 use Rattle.sml_tree.specs.BareTree.{Ty, var, fields, con, arrow, ill, Tys, no_tys, ty, TyFields, no_ty_fields, ty_field, LongIdAt, TypeBind, ConBind, DataBind, ExBind, new_exn, same_exn}
 use Rattle.ty_basis.specs.Types.{Row, exn_type, function_type, row_type}
 use Rattle.core_rules.specs.Objects.{sorted, monomorphic, Map, at, Value, Values, TypeStructure, Env, env, no_structures, no_env, types_env, types, structures, plus, along, long_value_in, Context, with_env}
 
 abbrev pub is_exception : Status → Bool
-is_exception Variable = false
-is_exception Constructor = false
 is_exception Exception = true
-is_exception (Primitive n) = false
+is_exception s = false
 
 abbrev pub type_in : Env → List ℕ → ℕ → Option TypeStructure
 type_in e qs x = option_and_then (λ d. at nat_eq (types d) x) (along e qs)

@@ -9,7 +9,7 @@ use Rattle.mlc_prims.specs.PrimOf.{Gives, made, raised}
 use Rattle.mlc_prims.specs.declared.prim.PrimExn.{PrimExn}
 use Rattle.mlc_prims.specs.declared.prim.PrimExn.TheVariants.{Overflow, Div, Subscript, Size, Chr}
 use Rattle.sml_tree.specs.declared.ident.Vid.{Vid}
-use Rattle.sml_tree.specs.declared.ident.Vid.TheVariants.{Named, Equals, Fresh}
+use Rattle.sml_tree.specs.declared.ident.Vid.TheVariants.{Named}
 use Rattle.sml_tree.specs.declared.ident.BuiltIn.TheVariants.{True, False}
 use Rattle.sml_tree.specs.BareTree.{LongIdAt, ConBind, DataBind, TypeBind, ExBind, new_exn, same_exn, Pat, vid_pat, typed_pat, as_pat, Exp, constant_exp, vid_exp, built_exp, fields_exp, let_in, app, typed, handle, raise, fn, ExpFields, no_exp_fields, exp_field, Rules, no_rules, rule, Decs, no_decs, dec, Dec, val_dec, type_dec, datatype_dec, replicate_dec, exception_dec, local_dec, open_dec, sequence_dec, Binds, no_binds, bind}
 use Rattle.ty_core.specs.declared.env.Status.TheVariants.{Variable, Constructor, Exception}
@@ -149,8 +149,7 @@ opened e (x ∷ xs) = option_and_then (λ d. option_map (plus d) (opened e xs)) 
 -- the identifier that a binding of an exception tells
 abbrev pub identifier : Vid → ℕ
 identifier (Named x) = x
-identifier Equals = 0
-identifier (Fresh k) = 0
+identifier v = 0
 
 abbrev pub eval_exns : Env → List ExBind → World Value → Answer Value Env
 eval_exns e [] w = gives nothing w

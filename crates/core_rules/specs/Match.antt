@@ -9,7 +9,7 @@ use Rattle.sml_tree.specs.declared.ident.Vid.{Vid}
 use Rattle.sml_tree.specs.declared.ident.BuiltIn.{BuiltIn}
 use Rattle.sml_tree.specs.declared.ident.BuiltIn.TheVariants.{True, False, Nil, Cons}
 use Rattle.ty_core.specs.declared.env.Status.{Status}
-use Rattle.ty_core.specs.declared.env.Status.TheVariants.{Variable, Constructor, Exception, Primitive}
+use Rattle.ty_core.specs.declared.env.Status.TheVariants.{Variable, Constructor, Exception}
 use Rattle.core_rules.specs.Words.{same_vid}
 use Rattle.core_rules.specs.Values.{Con, built, declared, Value, literal, record_of, con, con_of, ref, address, exn, exn_of, Fields, no_fields, field, Env, nothing, value, plus, Found, long_value_in, field_in, count}
 
@@ -131,10 +131,9 @@ alone (exn n) v = tagged nat_eq n (exn_in v)
 alone f v = misfits
 
 abbrev pub is_variable : Status → Bool
-is_variable Variable = true
 is_variable Constructor = false
 is_variable Exception = false
-is_variable (Primitive n) = true
+is_variable s = true
 
 abbrev pub bound_to : Vid → Value → Env
 bound_to x v = value x Variable v nothing

@@ -12,12 +12,8 @@ use Rattle.sml_tree.specs.declared.ident.Vid.TheVariants.{Named, Equals, Fresh}
 use Rattle.sml_tree.specs.BareTree as bare
 use Rattle.sml_tree.specs.BareTree.{Ty, TyFields, ConBind, DataBind, ExBind, new_exn, same_exn, Pat, PatFields, Exp, ExpFields, Decs, Dec, val_dec, type_dec, datatype_dec, exception_dec, sequence_dec}
 use Rattle.sml_tree.specs.Phrases.{Phrase, exp, pat, ty, dec, bind, type_bind, data_bind, con_bind, ex_bind, bind_list, dec_list, parts, phrases}
-use Rattle.core_rules.specs.Words.{same_vid, same_label}
-use Rattle.core_rules.specs.Scoping.{is_one_of, tyvars_in, tyvar_names, scoped_at}
-
-abbrev pub is_in : {A : Type 0} → (A → A → Bool) → A → List A → Bool
-is_in same x [] = false
-is_in same x (y ∷ ys) = same x y || is_in same x ys
+use Rattle.core_rules.specs.Words.{same_vid, same_label, is_in}
+use Rattle.core_rules.specs.Scoping.{tyvars_in, tyvar_names, scoped_at}
 
 abbrev pub distinct : {A : Type 0} → (A → A → Bool) → List A → Bool
 distinct same [] = true
@@ -25,7 +21,7 @@ distinct same (x ∷ xs) = not (is_in same x xs) && distinct same xs
 
 -- identifiers that are never bound
 abbrev pub is_kept : Vid → Bool
-is_kept (Named x) = is_one_of x (word_true ∷ word_false ∷ word_nil ∷ word_cons ∷ word_ref ∷ [])
+is_kept (Named x) = is_in nat_eq x (word_true ∷ word_false ∷ word_nil ∷ word_cons ∷ word_ref ∷ [])
 is_kept Equals = true
 is_kept (Fresh k) = false
 
@@ -71,7 +67,7 @@ exp_labels (bare.exp_field l e fs) = l ∷ exp_labels fs
 -- no type variable twice in a sequence; the right side of a binding of a type has no other variables
 
 abbrev pub are_among : List Tyvar → List Tyvar → Bool
-are_among as_ bs = list_all (λ b. is_one_of b.name (tyvar_names as_)) bs
+are_among as_ bs = list_all (λ b. is_in nat_eq b.name (tyvar_names as_)) bs
 
 abbrev pub no_repetition : List Tyvar → Bool
 no_repetition as_ = distinct nat_eq (tyvar_names as_)
@@ -102,7 +98,7 @@ tycons_in (bare.dec d ds) = tycons_of d ++ tycons_in ds
 
 -- with the type variables that are scoped round it: none of these is in a sequence
 abbrev pub broken_by_dec : List ℕ → Dec → List Place
-broken_by_dec scoped (val_dec p q as_ bs rs) = unless (no_repetition as_ && list_all (λ a. not (is_one_of a.name scoped)) as_) q
+broken_by_dec scoped (val_dec p q as_ bs rs) = unless (no_repetition as_ && list_all (λ a. not (is_in nat_eq a.name scoped)) as_) q
 broken_by_dec scoped (type_dec p bs) = unless (distinct nat_eq (map (λ b. b.tycon) bs)) p
 broken_by_dec scoped (datatype_dec p bs) = unless (distinct nat_eq (map (λ b. b.tycon) bs) && distinct same_vid (con_vids bs)) p
 broken_by_dec scoped (exception_dec p bs) = unless (distinct same_vid (exn_vids bs)) p

@@ -93,9 +93,8 @@ with_bound c vs = record c { env = plus c.env (values_env (map (λ b. (b.0, reco
 -- Parameters of a declaration: no class is among them, since overloaded types are never generalised.
 
 abbrev pub is_general : Mark → Bool
-is_general Any = true
-is_general Equality = true
 is_general (Class c) = false
+is_general a = true
 
 abbrev pub all_general : List Mark → Bool
 all_general [] = true
