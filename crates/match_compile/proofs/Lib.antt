@@ -12,3 +12,4 @@ pub mod TypedLemmas
 pub mod Values
 pub mod Typed
 pub mod Programs
+pub mod Examples
