@@ -10,3 +10,5 @@ pub mod Names
 pub mod Fits
 pub mod Made
 pub mod Numbered
+pub mod NumberedOnce
+pub mod Weights
