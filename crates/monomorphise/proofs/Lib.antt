@@ -12,3 +12,4 @@ pub mod Made
 pub mod Numbered
 pub mod NumberedOnce
 pub mod Weights
+pub mod Whole
