@@ -13,3 +13,4 @@ pub mod Numbered
 pub mod NumberedOnce
 pub mod Weights
 pub mod Whole
+pub mod Examples
