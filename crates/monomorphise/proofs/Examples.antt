@@ -1,19 +1,19 @@
 -- Small programs and their copies, by computation: how many variables the copies bind, and that both do the same, also with numbers for names.
-use Rattle.std.proofs.Common.{◌≡◌, ℕ, List, [], ◌∷◌, Option, Some, None, pos, refl}
-use Rattle.mlc_base.specs.Outcome.{End, ended, uncaught, going, wrong, Outcome}
+use Rattle.std.proofs.Common.{◌≡◌, ℕ, List, [], ◌∷◌, Some, None, pos, refl}
+use Rattle.mlc_base.specs.Outcome.{End, ended, uncaught, going, Outcome}
 use Rattle.mlc_base.specs.declared.place.Place.{Place}
 use Rattle.mlc_prims.specs.LitOf.{int, string}
-use Rattle.mlc_prims.specs.declared.basis.BasisPrimitive.TheVariants.{Equals, Print}
+use Rattle.mlc_prims.specs.declared.basis.BasisPrimitive.TheVariants.{Print}
 use Rattle.ty_core.specs.Types.{Typ, var, con, name, none, more}
 use Rattle.ty_core.specs.declared.mark.Mark.TheVariants.{Any}
 use Rattle.ty_core.specs.declared.name.TyName.{TyName}
 use Rattle.ty_core.specs.declared.name.Equality.TheVariants.{ByArguments}
 use Rattle.ty_core.specs.declared.scheme.Quantified.{Quantified}
-use Rattle.ir_plain.specs.Tree.{is_literal, is_con_of, is_exn_of, fixed, Exp, held, no_atoms, an_atom, ret, let_in, exception_in, name_in, rec_in, switch, first, miss, no_arms, arm, Op, use_of, const, con_alone, construct, pack, prim, app, fn, block, handle, raise, raise_initial, last, more as more_of, no_funs, fun}
+use Rattle.ir_plain.specs.Tree.{is_con_of, is_exn_of, no_atoms, an_atom, ret, let_in, exception_in, rec_in, switch, first, no_arms, arm, Op, use_of, const, con_alone, pack, prim, app, fn, block, handle, raise, raise_initial, last, no_funs, fun}
 use Rattle.ir_plain.specs.Meaning.{run}
 use Rattle.ir_poly.specs.Tests.{Use, inst, poly, Tests}
-use Rattle.ir_poly.specs.Types.{int_name, string_name, bool_name, exn_name, of_name, function_type, unit_type, pair_type}
-use Rattle.monomorphise.specs.Monomorphise.{Name, copy_of, Named, copies, needs, others, units, nowhere}
+use Rattle.ir_poly.specs.Types.{int_name, string_name, exn_name, of_name, function_type, unit_type, pair_type}
+use Rattle.monomorphise.specs.Monomorphise.{copies, needs, others, units, nowhere}
 use Rattle.monomorphise.specs.Number.{none_given, number, binders}
 
 abbrev at : ℕ → Place

@@ -5,7 +5,7 @@ use Rattle.ir_plain.specs.Tree.{Exp, ret, let_in, exception_in, name_in, rec_in,
 use Rattle.ir_plain.specs.Weight.{weight, arms_weight, op_weight, fun_weight, funs_weight}
 use Rattle.ir_mono.specs.Types as table
 use Rattle.monomorphise.specs.Monomorphise.{Named}
-use Rattle.monomorphise.specs.Number.{Given, given, binders, op_binders, fun_binders, heads, bodies, group_given, case_given, case_next, number, number_arms, number_op, number_fun, number_funs}
+use Rattle.monomorphise.specs.Number.{Given, number, number_arms, number_op, number_fun, number_funs}
 
 sums : {a b c d : ℕ} → a ≡ b → c ≡ d → a + c ≡ b + d
 sums e h = rw (e, h) refl

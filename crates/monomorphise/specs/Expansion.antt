@@ -1,14 +1,14 @@
 -- How large a program is, written out: the nodes of its copies, and the types that equality needs, each once. It may have at most greatest_expansion of them.
-use Rattle.std.specs.Prelude.{◌≡◌, ℕ, ◌+◌, false, List, [], ◌∷◌, ◌++◌, length, Some, ⊤}
+use Rattle.std.specs.Prelude.{◌≡◌, ℕ, ◌+◌, List, [], ◌∷◌, ◌++◌, length, Some}
 use Rattle.mlc_prims.specs.declared.basis.BasisPrimitive.{BasisPrimitive}
 use Rattle.mlc_prims.specs.declared.basis.BasisPrimitive.TheVariants.{Equals}
 use Rattle.mlc_base.specs.declared.label.Label.{Label}
-use Rattle.ty_core.specs.Types.{Typ, Typs, none, more, con, labels}
+use Rattle.ty_core.specs.Types.{Typ, Typs, more, con, labels}
 use Rattle.ir_plain.specs.Tree.{Exp, ret, let_in, exception_in, name_in, rec_in, switch, first, miss, counted, Arms, no_arms, arm, Op, prim_alone, prim, fn, block, handle, Fun, last, more as more_of, Funs, no_funs, fun}
 use Rattle.ir_plain.specs.Weight.{weight}
 use Rattle.ir_poly.specs.Types.{Constructor}
 use Rattle.ir_poly.specs.TestsChecked.{HasConstructor}
-use Rattle.monomorphise.specs.Monomorphise.{Named, same_type}
+use Rattle.monomorphise.specs.Monomorphise.{Named}
 
 abbrev pub if_equals : BasisPrimitive → Typ → List Typ
 if_equals Equals t = t ∷ []

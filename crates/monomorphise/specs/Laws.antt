@@ -1,5 +1,5 @@
 -- What the pass keeps.
-use Rattle.std.specs.Prelude.{◌≡◌, ℕ, Bool, true, false, List, [], length}
+use Rattle.std.specs.Prelude.{◌≡◌, ℕ, true, List, length}
 use Rattle.mlc_base.specs.Outcome.{wrong}
 use Rattle.ty_core.specs.Types.{Typ}
 use Rattle.ir_plain.specs.Meaning.{run}
