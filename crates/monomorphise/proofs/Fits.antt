@@ -17,7 +17,7 @@ use Rattle.ir_poly.specs.Types.{Constructor, of_name, changed, AreAllowed}
 use Rattle.ir_poly.specs.TestsChecked.{Known, of_type, general, own, exception, Knowns, at, exn_type, group_knowns, may_generalise, bound, AtomChecked, atom_checked, AtomsChecked, no_atoms_checked, an_atom_checked, RowChecked, no_row_checked, a_row_checked, NameChecked, fixed_checked, held_checked}
 use Rattle.ir_poly.specs.TestsTyped as tt
 use Rattle.ir_poly.specs.TestsTyped.{own_at}
-use Rattle.monomorphise.specs.Monomorphise.{Name, copy_of, of_class, unit_for, units, same_types, is_among, others, without, Groups, fun_vars, group_at, own_or, used, atom, all_needs, atoms_needs, row_needs, name_needs, case_vars, case_needs, needs, arms_needs, op_needs, fun_needs, funs_needs, AllInhabited, Inhabited, ArmsInhabited, OpInhabited, FunInhabited, FunsInhabited}
+use Rattle.monomorphise.specs.Monomorphise.{Name, copy_of, of_class, unit_for, units, same_types, is_among, others, without, Groups, fun_vars, group_at, own_or, atom, all_needs, atoms_needs, row_needs, name_needs, case_vars, case_needs, needs, arms_needs, op_needs, fun_needs, funs_needs, AllInhabited, Inhabited, ArmsInhabited, OpInhabited, FunInhabited, FunsInhabited}
 use Rattle.monomorphise.proofs.Names.{AllNames, all_none, all_one, EachOf, each_none, each_one, each-map, join, join-all, others-each}
 
 -- the first copy's types are allowed

@@ -1,26 +1,25 @@
 -- The program does what its copies do, unless they go wrong.
-use Rattle.std.proofs.Common.{◌≡◌, ℕ, zero, suc, List, [], ◌∷◌, Bool, true, false, if◌then◌else◌, Option, Some, None, slice_get, option_and_then, refl, sym, ap, subst, ◌∙◌}
+use Rattle.std.proofs.Common.{◌≡◌, ℕ, zero, suc, List, [], Bool, true, false, if◌then◌else◌, Option, Some, None, slice_get, option_and_then, refl, sym, ap, subst, ◌∙◌}
 use Rattle.mlc_base.specs.declared.label.Label.{Label}
 use Rattle.mlc_base.specs.declared.place.Place.{Place}
 use Rattle.mlc_base.specs.Outcome.{wrong}
-use Rattle.mlc_base.specs.Run.{World, Answer, gives, stops, out_of_turns, start, then_do, or_fail, fail}
-use Rattle.mlc_base.specs.Agreement.{AllRelated, none, more, BothOrNeither, neither, both, SameWorlds}
+use Rattle.mlc_base.specs.Run.{World, Answer, gives, out_of_turns, start, then_do, or_fail, fail}
+use Rattle.mlc_base.specs.Agreement.{AllRelated, none, BothOrNeither, neither, both, SameWorlds}
 use Rattle.mlc_base.specs.Refinement.{Refines, both_give, both_raise, both_stop, first_wrong}
 use Rattle.mlc_base.proofs.RefineLaws.{or_handle-refines, take_turn-refines, dereference-refines, new_exception-refines, outcome_of-refines}
 use Rattle.ty_core.specs.Types.{Typ}
 use Rattle.ty_core.specs.declared.scheme.Quantified.{Quantified}
 use Rattle.ir_values.specs.Tags.{untagged}
-use Rattle.ir_values.specs.Values.{exn, address, address_in, packet_name, value_of}
+use Rattle.ir_values.specs.Values.{exn, packet_name, value_of}
 use Rattle.ir_values.specs.Match.{after_match}
-use Rattle.ir_values.specs.Primitives.{marked, packet, content_of, raise_value}
+use Rattle.ir_values.specs.Primitives.{marked, content_of, raise_value}
 use Rattle.mlc_prims.specs.LitOf.{Literal, int, word, char, string, truth}
 use Rattle.ir_plain.specs.Tree.{Exp, Arms, Op, Fun, Funs, Exception}
-use Rattle.ir_plain.specs.Copies.{strip_op}
-use Rattle.ir_plain.specs.Meaning.{V, Scope, Fits, Parts, Apply, argument_tag, look_up, on_name, exception_of, pack_value, select_from, read_reference, members, eval, eval_arms, eval_op, run_fun, body, enter, apply, identifier_of, run}
+use Rattle.ir_plain.specs.Meaning.{V, Scope, Fits, Apply, argument_tag, look_up, on_name, exception_of, pack_value, select_from, read_reference, members, eval, eval_arms, eval_op, run_fun, enter, apply, identifier_of, run}
 use Rattle.ir_plain.proofs.CopiesLemmas.{operations-again}
 use Rattle.ir_poly.specs.Tests.{inst, poly}
 use Rattle.monomorphise.specs.Copies.{Target, Copied, no_copies, entry, entries, IsNewCopy, newer_copy, CopyName, copy_fixed, copy_held, CopyArgument, copy_no_argument, copy_argument, CopyFun, copy_last, copy_more, Copy, copy_ret, copy_let, copy_exception, copy_name, copy_rec, copy_switch, copy_first, copy_miss, copy_counted, CopyArms, copy_no_arms, copy_arm, CopyOp, copy_use, copy_own, copy_const, copy_con_alone, copy_construct, copy_ref_alone, copy_refer, copy_content, copy_pack, copy_make_record, copy_select, copy_prim_alone, copy_prim, copy_app, copy_fn, copy_block, copy_handle, copy_raise, copy_raise_initial, Rest, no_more_copies, one_more_copy, RestGroups, no_more_groups, one_more_group}
-use Rattle.monomorphise.proofs.Related.{K, G, onto, binds_of, members-onto, Rel, rel_literal, rel_record, rel_con, rel_con_of, rel_exn, rel_exn_of, rel_ref, rel_address, rel_cell, rel_primitive, rel_closure, rel_group, RelFields, Covers, covers_none, covered, push-copy, found-first, Holds, holds-onto, new-copies, binds-cover, copy-cover, bind-cover, onto-copies, new-copy-base, member-binds, copies-reclosed, address-same, packet-name-same, field-same, SameMatched, both_match, both_fail, no_fit, atoms-same, row-same, case-same}
+use Rattle.monomorphise.proofs.Related.{K, G, onto, binds_of, members-onto, Rel, rel_literal, rel_record, rel_con, rel_con_of, rel_exn, rel_exn_of, rel_ref, rel_address, rel_cell, rel_primitive, rel_closure, rel_group, RelFields, Covers, covers_none, covered, push-copy, found-first, Holds, holds-onto, new-copies, binds-cover, copy-cover, bind-cover, onto-copies, new-copy-base, member-binds, copies-reclosed, packet-name-same, field-same, SameMatched, both_match, both_fail, no_fit, atoms-same, row-same, case-same}
 use Rattle.monomorphise.proofs.Refined.{perform-refines, reference-refines, arguments-related}
 
 module _ (T : Target) (reflexive : (k : T.Name) → T.same k k ≡ true) where

@@ -10,3 +10,7 @@ pub mod Names
 pub mod Fits
 pub mod Made
 pub mod Numbered
+pub mod NumberedOnce
+pub mod Weights
+pub mod Whole
+pub mod Examples

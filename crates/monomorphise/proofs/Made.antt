@@ -1,6 +1,6 @@
 -- The function makes copies: of a well typed program with unique variables.
-use Rattle.std.proofs.Common.{◌≡◌, ℕ, List, [], ◌∷◌, ◌++◌, map, Bool, true, false, ◌||◌, Option, Some, None, nat_eq, if◌then◌else◌, refl, sym, ap, subst, ◌∙◌}
-use Rattle.std.proofs.lemmas.Bool.{eqb-true, eq-eqb}
+use Rattle.std.proofs.Common.{◌≡◌, ℕ, List, [], ◌∷◌, ◌++◌, map, Bool, true, false, ◌||◌, Option, Some, None, nat_eq, if◌then◌else◌, refl, sym, subst}
+use Rattle.std.proofs.lemmas.Bool.{eqb-true}
 use Rattle.std.specs.Map.{lookup}
 use Rattle.ty_core.specs.Types.{Typ, no_variable}
 use Rattle.ty_core.specs.Statics.{replace}
@@ -10,7 +10,7 @@ use Rattle.ir_plain.specs.Unique as un
 use Rattle.ir_plain.specs.Unique.{IsOutside, outside_none, outside_more}
 use Rattle.ir_poly.specs.Tests.{inst, poly}
 use Rattle.ir_poly.specs.Types.{Constructor, changed, AreAllowed}
-use Rattle.ir_poly.specs.TestsChecked.{Known, of_type, general, own, exception, Knowns, at, exn_type, group_knowns, may_generalise, bound, AtomChecked, atom_checked, AtomsChecked, no_atoms_checked, an_atom_checked, RowChecked, no_row_checked, a_row_checked, NameChecked, fixed_checked, held_checked}
+use Rattle.ir_poly.specs.TestsChecked.{of_type, exception, Knowns, exn_type, group_knowns, may_generalise, bound, atom_checked, AtomsChecked, no_atoms_checked, an_atom_checked, RowChecked, no_row_checked, a_row_checked, NameChecked, fixed_checked, held_checked}
 use Rattle.ir_poly.specs.TestsTyped as tt
 use Rattle.ir_poly.specs.TestsTyped.{own_at}
 use Rattle.monomorphise.specs.Copies.{Pairs, no_pairs, pair, Copied, no_copies, entry, entries, Has, at_head, deeper, IsNewName, new_name, newer_name, IsNewCopy, new_copy, newer_copy, IsNotAmong, among_none, not_this, AreNewNames, no_names, a_new_name, AreNewCopies, none_copied, a_new_copy, CopyAtoms, copy_no_atoms, copy_an_atom, CopyRow, copy_no_row, copy_a_row, CopyName, copy_fixed, copy_held, CopyArgument, copy_no_argument, CopyCase, copy_is_literal, copy_is_con, copy_is_con_of, copy_is_exn, copy_is_exn_of, copy_is_record, Copy, copy_ret, copy_let, copy_exception, copy_name, copy_rec, copy_switch, copy_first, copy_miss, copy_counted, CopyArms, copy_no_arms, copy_arm, CopyOp, copy_use, copy_own, copy_const, copy_con_alone, copy_construct, copy_ref_alone, copy_refer, copy_content, copy_pack, copy_make_record, copy_select, copy_prim_alone, copy_prim, copy_app, copy_fn, copy_block, copy_handle, copy_raise, copy_raise_initial, CopyFun, copy_last, copy_more, CopyFuns, copy_no_funs, copy_fun, Rest, no_more_copies, one_more_copy, RestGroups, no_more_groups, one_more_group}
@@ -18,7 +18,7 @@ use Rattle.monomorphise.specs.Copies as rel
 use Rattle.monomorphise.specs.Monomorphise as pass
 use Rattle.monomorphise.specs.Monomorphise.{Name, copy_of, named, Named, same_types, units, nowhere, is_among, is_in, others, without, Groups, fun_vars, group_at, own_or, atom, alone, all_needs, atoms_needs, row_needs, name_needs, case_vars, case_needs, needs, arms_needs, op_needs, fun_needs, funs_needs, copy_atoms, more_lets, more_groups, copy, arms_copy, op_copy, fun_copy, funs_copy, copies, Inhabited, ArmsInhabited, OpInhabited, FunInhabited, FunsInhabited}
 use Rattle.monomorphise.proofs.Names.{AllNames, all_none, all_one, EachOf, each_none, each_one, each-map, each-two, front, back, split-all, AreDistinct, distinct_none, distinct_one, others-distinct, others-new, others-made, types-is}
-use Rattle.monomorphise.proofs.Fits.{FitsAt, Owned, KeysIn, units-fit, must-be-value, general-not-own, single-among, group-among, group-key, bound-allowed, others-fit, group-others-fit, without-join, vars_onto, outside-base, funs-vars, keys-more, keys-funs, keys-inside, owned-more, owned-after, owned-inside, OwnedAs, owned_one, owned_exception, needs-fit, arms-fit, op-fit, fun-fit, funs-fit, bound-owned, case-owned}
+use Rattle.monomorphise.proofs.Fits.{FitsAt, Owned, KeysIn, units-fit, must-be-value, general-not-own, single-among, group-among, group-key, others-fit, group-others-fit, without-join, vars_onto, outside-base, funs-vars, keys-more, keys-funs, keys-inside, owned-more, owned-after, owned-inside, owned_one, owned_exception, needs-fit, fun-fit, funs-fit, bound-owned, case-owned}
 use Rattle.monomorphise.proofs.Stripped.{strip-copy-op}
 
 data AreNewVars (bs : List ℕ) : List ℕ → Type 0 where

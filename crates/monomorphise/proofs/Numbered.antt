@@ -1,8 +1,7 @@
 -- A program of copies with numbers for names and for types is one of the same program.
-use Rattle.std.proofs.Common.{◌≡◌, ℕ, suc, ◌+◌, ◌<◌, ◌≤◌, List, [], ◌∷◌, Bool, true, false, Option, Some, None, if◌then◌else◌, nat_eq, refl, sym, subst, ◌∙◌, arith}
+use Rattle.std.proofs.Common.{◌≡◌, ℕ, suc, ◌+◌, ◌<◌, ◌≤◌, List, [], Bool, true, false, Option, if◌then◌else◌, nat_eq, refl, sym, subst, ◌∙◌, arith}
 use Rattle.std.proofs.lemmas.Bool.{eqb-true}
 use Rattle.ty_core.specs.Types.{Typ}
-use Rattle.ty_core.specs.Statics.{replace}
 use Rattle.ty_core.specs.declared.scheme.Quantified.{Quantified}
 use Rattle.ir_plain.specs.Tree.{Case, Exception, Atoms, Row, Exp, Arms, Op, Fun, Funs, no_funs, fun}
 use Rattle.ir_poly.specs.Tests.{poly}

@@ -1,11 +1,10 @@
 -- What is done with values of the copies is done with those of the program, unless it goes wrong with the copies.
-use Rattle.std.proofs.Common.{◌≡◌, ℕ, List, [], ◌∷◌, Bool, true, false, Option, Some, None, option_map, option_and_then, if◌then◌else◌, nat_eq, subst, refl, sym, ap, ◌∙◌}
-use Rattle.std.specs.Prelude.{⊤, zero, suc}
+use Rattle.std.proofs.Common.{◌≡◌, ℕ, List, [], ◌∷◌, Bool, true, false, Option, Some, None, option_map, option_and_then, nat_eq, subst, refl, sym}
+use Rattle.std.specs.Prelude.{zero, suc}
 use Rattle.mlc_base.specs.declared.label.Label.TheVariants.{Number}
 use Rattle.mlc_base.specs.Agreement.{AllRelated, none, more, BothOrNeither, neither, both, SameWorlds}
 use Rattle.mlc_base.specs.Refinement.{Refines, both_give, both_raise, both_stop, first_wrong}
-use Rattle.mlc_base.specs.Run.{World, Answer, gives, or_fail, fail}
-use Rattle.mlc_base.specs.declared.label.Label.{Label}
+use Rattle.mlc_base.specs.Run.{World, Answer, gives, or_fail}
 use Rattle.mlc_base.proofs.RunLaws.{writes-same}
 use Rattle.mlc_base.proofs.RefineLaws.{new_reference-refines, assign-refines}
 use Rattle.mlc_prims.specs.LitOf.{Literal, int, word, char, string, truth}
@@ -13,9 +12,9 @@ use Rattle.mlc_prims.specs.PrimOf.{Gives, made, raised}
 use Rattle.mlc_prims.specs.Table.{literal_eq, row_of}
 use Rattle.mlc_prims.specs.declared.basis.BasisPrimitive.{BasisPrimitive}
 use Rattle.ir_values.specs.Tags.{untagged}
-use Rattle.ir_values.specs.Values.{literal, record_of, con, con_of, exn, exn_of, ref, address, cell, primitive, closure, no_fields, field, field_in, count, literal_in, address_in, unit_value, truth_value, truth_number}
+use Rattle.ir_values.specs.Values.{count, address_in, unit_value, truth_value}
 use Rattle.ir_values.specs.Equality.{unless_different, where_holds, if_equal, Constructed, fields_at, con_at, same_part, same_at, same_fields}
-use Rattle.ir_values.specs.Primitives.{Sort, compares, assigns, prints, computes, sort_of, literals, parts, tuple, arguments, giving, compare_values, assign_value, print_literals, perform_as, perform, make_reference, raised_name}
+use Rattle.ir_values.specs.Primitives.{Sort, compares, assigns, prints, computes, sort_of, literals, parts, tuple, arguments, giving, compare_values, assign_value, print_literals, perform_as, perform, make_reference}
 use Rattle.ir_plain.specs.Meaning.{V, Parts}
 use Rattle.ir_poly.specs.Tests.{poly}
 use Rattle.monomorphise.specs.Copies.{Target}

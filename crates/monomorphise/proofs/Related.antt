@@ -1,5 +1,5 @@
 -- Values of the two programs, the copies' first: equal but for what they keep of types, and for functions, whose bodies are copies.
-use Rattle.std.proofs.Common.{◌≡◌, ℕ, List, [], ◌∷◌, Bool, true, false, Option, Some, None, slice_get, if◌then◌else◌, nat_eq, suc, subst, refl, sym, ap, ◌∙◌}
+use Rattle.std.proofs.Common.{◌≡◌, ℕ, List, [], Bool, true, false, Option, Some, None, if◌then◌else◌, nat_eq, suc, subst, refl, sym, ap, ◌∙◌}
 use Rattle.std.proofs.lemmas.Bool.{eq-eqb}
 use Rattle.mlc_base.specs.Agreement.{AllRelated, none, more, BothOrNeither, neither, both}
 use Rattle.mlc_base.specs.declared.label.Label.{Label}

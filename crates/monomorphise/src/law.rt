@@ -2,6 +2,7 @@
 
 ghost use Rattle.monomorphise.specs.Copies.{Target};
 ghost use Rattle.monomorphise.specs.Laws.{CopiesDoTheSame, CopiesAreWellFormed, CopiesKeepTheMeaning, NeitherGoesWrong};
+ghost use Rattle.monomorphise.specs.Laws.{MakesCopies, MakesWellFormed, KeepsTheMeaning, IsNeverWrong, NumbersRise, NumbersWeigh};
 
 /// What copies are written in.
 pub trait Copies {
@@ -18,4 +19,14 @@ pub fn copies_keep()
     ensures well_formed { CopiesAreWellFormed }
     ensures same { CopiesKeepTheMeaning }
     ensures never_wrong { NeitherGoesWrong }
+{}
+
+/// The function makes copies of a well formed program, in simple types: a well formed program, which does the same at every number of turns.
+pub fn monomorphise_keeps()
+    ensures copies { MakesCopies }
+    ensures well_formed { MakesWellFormed }
+    ensures same { KeepsTheMeaning }
+    ensures never_wrong { IsNeverWrong }
+    ensures rising { NumbersRise }
+    ensures weight { NumbersWeigh }
 {}
