@@ -5,15 +5,15 @@ ghost use Rattle.sml_lexer.specs.Lexes.{IfFault};
 ghost use Rattle.sml_parser.specs.Core.{IsCore, Cause, IsStop};
 ghost use Rattle.sml_phrases.specs.Left.{left};
 
-use sml_phrases::declarations::read_decs;
-use sml_phrases::source::Source;
-use sml_phrases::stop::Stop;
 use mlc_base::code::Code;
 use mlc_base::fault::Fault;
 use mlc_base::place::Place;
 use mlc_base::refused::Refused;
 use mlc_base::token::{Token, Tokens};
 use sml_grammar::law;
+use sml_phrases::declarations::read_decs;
+use sml_phrases::source::Source;
+use sml_phrases::stop::Stop;
 use sml_tree::fixity::Fixities;
 use sml_tree::tree::Dec;
 use std::alloc::Global;
