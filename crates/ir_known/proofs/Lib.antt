@@ -1,3 +1,5 @@
 pub mod Reversed
 pub mod Asking
 pub mod Declaring
+pub mod Walks
+pub mod Opening

@@ -6,3 +6,4 @@ pub mod known;
 pub mod params;
 pub mod scope;
 pub mod stack;
+pub mod walk;
