@@ -3,3 +3,4 @@ pub mod Asking
 pub mod Declaring
 pub mod Walks
 pub mod Opening
+pub mod Pairs

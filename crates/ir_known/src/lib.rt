@@ -2,6 +2,7 @@
 #![tactic(auto)]
 
 pub mod ask;
+pub mod image;
 pub mod known;
 pub mod params;
 pub mod scope;
