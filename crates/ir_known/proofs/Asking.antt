@@ -44,7 +44,8 @@ reference ts t [] found p held b e i l q w = absurd (cc)
 reference ts t (k ∷ j ∷ ks) found p held b e i l q w = absurd (cc)
 reference ts t (k ∷ []) found p held b e i l q w = (
   (λ y. e ∙ ap (λ f. con (name f) (types_at ts (k ∷ []))) i ∙ ap ref_type (ap (type_at ts) (sym q) ∙ w.0 y)),
-  (λ y. w.1 (ap (type_at ts) q ∙ first-is (parts-are (sym e ∙ y)))))
+  (λ y. w.1 (ap (type_at ts) q ∙ first-is (parts-are (sym e ∙ y)))),
+)
 
 pub no-function : (ts : List Typ) (t : Typ) (ks : List ℕ) (h : Symbol) (a : Typ) → t ≡ con h (types_at ts ks) → length ks ≢ 2 → (u : Typ) → t ≡ function_type a u → ⊥
 no-function ts t ks h a e n u y = n (two-parts ts ks a u (parts-are (sym e ∙ y)))

@@ -8,7 +8,7 @@ use Rattle.ty_core.specs.declared.scheme.Quantified.{Quantified}
 use Rattle.ir_poly.specs.Types.{in_scope, are_new}
 use Rattle.ir_known.specs.Knows.{marks_of}
 
-nat_eq-turned : (x y : ℕ) → nat_eq x y ≡ nat_eq y x
+pub nat_eq-turned : (x y : ℕ) → nat_eq x y ≡ nat_eq y x
 nat_eq-turned x y = by (nat_eq x y) (nat_eq y x) refl refl
   where
     by : (a b : Bool) → nat_eq x y ≡ a → nat_eq y x ≡ b → a ≡ b
@@ -102,6 +102,7 @@ one-declared rows all qs n d lt f none new is = record {
   where
     q : Quantified
     q = slice_index_or qs n d
+
     there : drop n qs ≡ q ∷ drop (suc n) qs
     there = drop-there n qs q d lt refl
 

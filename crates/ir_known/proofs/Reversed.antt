@@ -39,9 +39,11 @@ module _ {V : Type 0} where
       rest : (b : Bool) → cond b (Some e.1) (lookup (nat_eq x) es) ≡ None → lookup (nat_eq x) es ≡ None
       rest true k = absurd (cc)
       rest false k = k
+
       differ : (b : Bool) → cond b (Some e.1) (lookup (nat_eq x) es) ≡ None → b ≡ false
       differ true k = absurd (cc)
       differ false k = refl
+
       apart : (b : Bool) → nat_eq e.0 x ≡ b → cond b (Some v) None ≡ None
       apart false k = refl
       apart true k = absurd (let same : nat_eq x e.0 ≡ true = subst (λ z. nat_eq z e.0 ≡ true) (eqb-true e.0 x k) (eq-eqb e.0 e.0 refl) in let d : nat_eq x e.0 ≡ false = differ (nat_eq x e.0) n in cc)

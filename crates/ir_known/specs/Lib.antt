@@ -1,2 +1,4 @@
 pub mod Once
 pub mod Knows
+pub mod Asked
+pub mod Images

@@ -2,7 +2,9 @@
 #![tactic(auto)]
 
 pub mod ask;
+pub mod image;
 pub mod known;
 pub mod params;
 pub mod scope;
 pub mod stack;
+pub mod walk;

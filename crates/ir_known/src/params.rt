@@ -9,10 +9,7 @@ use ty_core::mark::Mark;
 use ty_core::scheme::Quantified;
 
 /// Declares parameters, where none is in scope and each is once.
-pub fn declare_all(
-    scope: &mut Stack<Mark>,
-    parameters: &[Quantified],
-) -> Result<bool, NoMemory>
+pub fn declare_all(scope: &mut Stack<Mark>, parameters: &[Quantified]) -> Result<bool, NoMemory>
     ensures new { IfOk result (λ new. IsTrue new ↔ (are_new parameters.now (marks_of scope.old) ≡ true)) }
     ensures declared { IfOk result (λ new. new ≡ true → marks_of scope.new ≡ parameters.now ++ marks_of scope.old) }
 {

@@ -69,13 +69,7 @@ impl<V: Copy> Stack<V> {
         ensures { result ≡ lookup (nat_eq number) (take (length self.now - first) self.now) }
     {
         match self.entries.get_full(&number) {
-            Some((place, _, value)) => {
-                if place < first {
-                    None
-                } else {
-                    Some(*value)
-                }
-            }
+            Some((place, _, value)) => { if place < first { None } else { Some(*value) } }
             None => None,
         }
     }
