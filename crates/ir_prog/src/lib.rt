@@ -1,6 +1,0 @@
-// Programs with source matches.
-#![tactic(auto)]
-
-pub mod binders;
-pub mod distinct;
-pub mod prog;
