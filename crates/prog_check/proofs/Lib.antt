@@ -4,3 +4,4 @@ pub mod Sound
 pub mod Complete
 pub mod BindersLemmas
 pub mod ProgramLemmas
+pub mod Refused

@@ -1,5 +1,5 @@
 -- The whole answer is yes exactly where a program is well formed.
-use Rattle.std.proofs.Common.{◌≡◌, ℕ, Bool, true, false, ◌&&◌, List, [], ◌∷◌, Option, Some, None, nat_lt, if◌then◌else◌, refl, sym, ap, subst, ◌∙◌}
+use Rattle.std.proofs.Common.{◌≡◌, ℕ, Bool, true, false, ◌&&◌, List, [], ◌∷◌, Option, Some, None, nat_lt, if◌then◌else◌, refl, ap, subst}
 use Rattle.std.proofs.lemmas.Bool.{and_parts, and_from}
 use Rattle.std.specs.List.{AllByRecursion}
 use Rattle.ty_core.specs.Types.{Typ, var, con, arrow, Typs, none, more, admits}
@@ -9,7 +9,6 @@ use Rattle.ty_core.specs.declared.name.Equality.TheVariants.{Always, ByArguments
 use Rattle.ir_poly.specs.Prog.{Decs}
 use Rattle.ir_poly.specs.Types.{Constructor, IsConstructor}
 use Rattle.ir_poly.specs.WellFormed.{Program, table_of, IsProg}
-use Rattle.prog_check.specs.Binders.{decs_binders, are_distinct}
 use Rattle.prog_check.specs.Checking.{decs_onto, check_decs}
 use Rattle.prog_check.specs.Program.{below, all_below, every, respects, check_argument, check_table, check}
 use Rattle.prog_check.proofs.BindersLemmas.{once-sound, once-complete}

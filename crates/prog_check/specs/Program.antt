@@ -1,5 +1,5 @@
 -- Whether a program with source matches is well formed, as a function: its table, its typing, and each variable bound once.
-use Rattle.std.specs.Prelude.{ℕ, Bool, true, false, ◌&&◌, List, [], ◌∷◌, Option, Some, None, nat_lt}
+use Rattle.std.specs.Prelude.{ℕ, Bool, true, ◌&&◌, List, [], ◌∷◌, Option, Some, None, nat_lt}
 use Rattle.ty_core.specs.Types.{Typ, var, con, Typs, none, more, admits}
 use Rattle.ty_core.specs.declared.name.Equality.{Equality}
 use Rattle.ty_core.specs.declared.name.Equality.TheVariants.{Always, ByArguments, Never}

@@ -1,3 +1,3 @@
 pub mod TreeOf
-pub mod Programs
+pub mod Readings
 pub mod Weights

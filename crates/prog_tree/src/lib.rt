@@ -2,5 +2,4 @@
 #![tactic(auto)]
 
 pub mod nodes;
-pub mod prog;
 pub mod tree;

@@ -1,10 +1,10 @@
 // How many nodes of the source a tree stands for, or 2^64 - 1 where they are more.
 ghost use Rattle.std.specs.Prelude.{◌≡◌, ◌^◌, ◌-◌, min, sum_by};
 ghost use Rattle.ir_poly.specs.ProgWeight.{decs_weight};
-ghost use Rattle.prog_tree.specs.Programs.{reading, clean};
+ghost use Rattle.prog_tree.specs.Readings.{reading};
+ghost use Rattle.prog_tree.specs.TreeOf.{body_of};
 ghost use Rattle.prog_tree.specs.Weights.{exp_weight, field_weight, argument_weight, join_weight, rule_weight, bind_weight, function_weight, member_weight, dec_weight};
 
-use crate::prog::Prog;
 use crate::tree::{Binding, Dec, Exp, Function, Join, Rule};
 use ir_tables::tables::Tables;
 use mlc_base::label::Label;
@@ -157,9 +157,9 @@ fn member_nodes(tables: &Tables, functions: &[(Vec<usize>, usize, Function)]) ->
     total
 }
 
-/// Of a program.
-pub fn nodes(prog: &Prog) -> u64
-    ensures { result ≡ min (decs_weight (clean prog.now).body) (2 ^ 64 - 1) }
+/// Of declarations.
+pub fn nodes(tables: &Tables, declarations: &[Dec]) -> u64
+    ensures { result ≡ min (decs_weight (body_of (reading tables.now) declarations.now)) (2 ^ 64 - 1) }
 {
-    decs_nodes(&prog.tables, &prog.body)
+    decs_nodes(tables, declarations)
 }

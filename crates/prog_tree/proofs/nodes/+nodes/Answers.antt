@@ -1,5 +1,5 @@
 use Rattle.std.proofs.Common.{add-one, arith, get_or, ap}
-use Rattle.prog_tree.specs.Programs.{reading}
+use Rattle.prog_tree.specs.Readings.{reading}
 use Rattle.prog_tree.specs.Weights.{exp_weight, field_weight, argument_weight, join_weight, rule_weight, bind_weight, member_weight, dec_weight}
 use Rattle.prog_tree.proofs.Sums.{next-sum, next-sum-is, same-read, added}
 use Rattle.prog_tree.proofs.Weighing.{record-weighs, let-weighs, apply-weighs, infix-weighs, case-weighs, sequences-weigh, test-weighs, handle-weighs, named-weighs, rules-function-weighs, val-weighs, rule-weight}

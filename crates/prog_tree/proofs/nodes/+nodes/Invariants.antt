@@ -1,5 +1,5 @@
 use Rattle.std.proofs.Common.{◌≡◌, ◌^◌, ◌-◌, min, sum_by, take}
-use Rattle.prog_tree.specs.Programs.{reading}
+use Rattle.prog_tree.specs.Readings.{reading}
 use Rattle.prog_tree.specs.Weights.{exp_weight, field_weight, argument_weight, join_weight, rule_weight, bind_weight, member_weight, dec_weight}
 use Rattle.prog_tree.proofs.nodes.+nodes.Given as goal
 
