@@ -45,12 +45,17 @@ pub fn variable(alloc: Global, s: &mut Subst, v: usize) -> Result<usize, NoMemor
     }
 }
 
-/// So many variables.
-pub fn variables(alloc: Global, count: usize) -> Result<Subst, NoMemory> {
-    let mut s = Subst::new(alloc)?;
+fn add_variables(s: &mut Subst, count: usize) -> Result<(), NoMemory> {
     for _variable in 0..count {
         let _fresh = s.fresh(Mark::Any)?;
     }
+    Ok(())
+}
+
+/// So many variables.
+pub fn variables(alloc: Global, count: usize) -> Result<Subst, NoMemory> {
+    let mut s = Subst::new(alloc)?;
+    add_variables(&mut s, count)?;
     Ok(s)
 }
 

@@ -37,14 +37,18 @@ fn instance(
     }
 }
 
-fn instance_is_right(alloc: Global, row: &str) -> Result<bool, NoMemory> {
-    let mut s = variables(alloc, 4)?;
-    let mut read = read_all(alloc, &mut s, row)?;
+fn instance_is(alloc: Global, s: &mut Subst, row: &str) -> Result<bool, NoMemory> {
+    let mut read = read_all(alloc, s, row)?;
     let expected = last(&mut read);
     let second = last(&mut read);
     let first = last(&mut read);
     let body = last(&mut read);
-    Ok(instance(alloc, &mut s, body, first, second)? == expected)
+    Ok(instance(alloc, s, body, first, second)? == expected)
+}
+
+fn instance_is_right(alloc: Global, row: &str) -> Result<bool, NoMemory> {
+    let mut s = variables(alloc, 4)?;
+    instance_is(alloc, &mut s, row)
 }
 
 #[test]
@@ -75,19 +79,28 @@ fn under(alloc: Global, s: &mut Subst, t: usize) -> Result<usize, NoMemory> {
     }
 }
 
-/// Whether a type under the substitution is the expected one under it, and stays itself when it is looked at again.
-fn resolved_is_right(alloc: Global, row: &str) -> Result<bool, NoMemory> {
-    let mut s = variables(alloc, 4)?;
-    let mut read = read_all(alloc, &mut s, row)?;
+/// Makes the two pairs equal that were read before.
+fn bind_both(alloc: Global, s: &mut Subst, read: &mut Vec<usize>) {
+    for _pair in 0..2 {
+        let right = last(read);
+        let left = last(read);
+        let _bound = bind(alloc, s, left, right);
+    }
+}
+
+/// Whether a type and the expected one are one under the substitution, also where that is looked at again.
+fn resolved_is(alloc: Global, s: &mut Subst, row: &str) -> Result<bool, NoMemory> {
+    let mut read = read_all(alloc, s, row)?;
     let expected = last(&mut read);
     let t = last(&mut read);
-    for _pair in 0..2 {
-        let right = last(&mut read);
-        let left = last(&mut read);
-        let _bound = bind(alloc, &mut s, left, right);
-    }
-    let found = under(alloc, &mut s, t)?;
-    Ok(found == under(alloc, &mut s, expected)? && found == under(alloc, &mut s, found)?)
+    bind_both(alloc, s, &mut read);
+    let found = under(alloc, s, t)?;
+    Ok(found == under(alloc, s, expected)? && found == under(alloc, s, found)?)
+}
+
+fn resolved_is_right(alloc: Global, row: &str) -> Result<bool, NoMemory> {
+    let mut s = variables(alloc, 4)?;
+    resolved_is(alloc, &mut s, row)
 }
 
 #[test]
@@ -98,27 +111,34 @@ fn bound_variables_stand_for_their_types(rt: HostRuntime) -> Result<(), Fail> {
     Ok(())
 }
 
+/// Whether a variable with no image is itself.
+fn is_itself(alloc: Global, types: &mut Types) -> Result<bool, NoMemory> {
+    let body = types.variable(alloc, 7)?;
+    Ok(instantiate(alloc, types, body, &[])? == body)
+}
+
 #[test]
 fn a_scheme_with_no_parameters_is_its_body(rt: HostRuntime) -> Result<(), Fail> {
     let mut types = Types::new(rt.alloc())?;
-    let body = types.variable(rt.alloc(), 7)?;
-    assert_eq!(rt; instantiate(rt.alloc(), &mut types, body, &[])?, body);
-    assert_eq!(rt; types.len(), 1);
+    assert_eq!(rt; is_itself(rt.alloc(), &mut types)?, true);
     Ok(())
 }
 
 /// How many types an instance of a body of 2^40 written nodes adds to the table.
-fn added(alloc: Global) -> Result<usize, NoMemory> {
-    let mut s = variables(alloc, 2)?;
-    let parameter = variable(alloc, &mut s, 0)?;
-    let image = variable(alloc, &mut s, 1)?;
-    let mut body = parameter;
+fn added_to(alloc: Global, s: &mut Subst) -> Result<usize, NoMemory> {
+    let mut body = variable(alloc, s, 0)?;
+    let image = variable(alloc, s, 1)?;
     for _ in 0..40 {
-        body = arrow(alloc, &mut s, body, body)?;
+        body = arrow(alloc, s, body, body)?;
     }
     let before = s.types.len();
-    let _instance = instance(alloc, &mut s, body, image, image)?;
+    let _instance = instance(alloc, s, body, image, image)?;
     Ok(s.types.len().saturating_sub(before))
+}
+
+fn added(alloc: Global) -> Result<usize, NoMemory> {
+    let mut s = variables(alloc, 2)?;
+    added_to(alloc, &mut s)
 }
 
 #[test]
@@ -127,22 +147,31 @@ fn shared_parts_are_put_once(rt: HostRuntime) -> Result<(), Fail> {
     Ok(())
 }
 
+/// Makes a variable stand for a list of another one.
+fn link(alloc: Global, s: &mut Subst, v: usize, next: usize) -> Result<bool, NoMemory> {
+    let this = variable(alloc, s, v)?;
+    let next = variable(alloc, s, next)?;
+    let next_list = list(alloc, s, next)?;
+    Ok(bind(alloc, s, this, next_list))
+}
+
 /// How many nodes the first of `count` variables has, each but the last of which is a list of the next.
-fn chain_size(alloc: Global, count: usize) -> Result<u64, NoMemory> {
-    let mut s = variables(alloc, count)?;
+fn chain_size(alloc: Global, s: &mut Subst, count: usize) -> Result<u64, NoMemory> {
     for i in 1..count {
-        let this = variable(alloc, &mut s, i - 1)?;
-        let next = variable(alloc, &mut s, i)?;
-        let next_list = list(alloc, &mut s, next)?;
-        let _bound = bind(alloc, &mut s, this, next_list);
+        let _bound = link(alloc, s, i - 1, i)?;
     }
-    let first = variable(alloc, &mut s, 0)?;
-    let found = under(alloc, &mut s, first)?;
+    let first = variable(alloc, s, 0)?;
+    let found = under(alloc, s, first)?;
     Ok(s.types.size(found))
+}
+
+fn ten_thousand(alloc: Global) -> Result<u64, NoMemory> {
+    let mut s = variables(alloc, 10_000)?;
+    chain_size(alloc, &mut s, 10_000)
 }
 
 #[test]
 fn a_chain_of_ten_thousand_is_resolved(rt: HostRuntime) -> Result<(), Fail> {
-    assert_eq!(rt; chain_size(rt.alloc(), 10_000)?, 10_000);
+    assert_eq!(rt; ten_thousand(rt.alloc())?, 10_000);
     Ok(())
 }
