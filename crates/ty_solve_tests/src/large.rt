@@ -1,6 +1,6 @@
 // Large types, and those that share their parts.
 
-use crate::read::{LIST, NONE, answer, one, pair, variable, variables};
+use crate::read::{LIST, NONE, answer, bare_answer, one, pair, variable, variables};
 use mlc_base::memory::NoMemory;
 use std::alloc::Global;
 use std::test::Fail;
@@ -9,45 +9,41 @@ use ty_core::name::TyName;
 use ty_core::ty::Head;
 use ty_solve::subst::Subst;
 
-/// A type under `depth` pairs of itself.
-fn doubled(alloc: Global, s: &mut Subst, part: usize, depth: u32) -> Result<usize, NoMemory> {
-    let mut last = part;
+/// The variable v under `depth` pairs of a type with itself.
+fn doubled(alloc: Global, s: &mut Subst, v: usize, depth: u32) -> Result<usize, NoMemory> {
+    let mut last = variable(alloc, s, v)?;
     for _ in 0..depth {
         last = pair(alloc, s, last, last)?;
     }
     Ok(last)
 }
 
-/// What two types answer that are equal once the variables 0 and 1 are, and whether both are free then.
-fn doubled_answer(alloc: Global, depth: u32) -> Result<(&'static str, bool), NoMemory> {
+/// What two types answer that are equal once the variables 0 and 1 are.
+fn doubled_told(alloc: Global, s: &mut Subst, depth: u32) -> Result<&'static str, NoMemory> {
+    let left = doubled(alloc, s, 0, depth)?;
+    let right = doubled(alloc, s, 1, depth)?;
+    answer(alloc, s, left, right)
+}
+
+fn doubled_answer(alloc: Global, depth: u32) -> Result<&'static str, NoMemory> {
     let mut s = variables(alloc, "..")?;
-    let first = variable(alloc, &mut s, 0)?;
-    let second = variable(alloc, &mut s, 1)?;
-    let left = doubled(alloc, &mut s, first, depth)?;
-    let right = doubled(alloc, &mut s, second, depth)?;
-    let told = answer(alloc, &mut s, left, right);
-    Ok((told, s.get(0).is_none() && s.get(1).is_none()))
+    doubled_told(alloc, &mut s, depth)
 }
 
 #[test]
 fn shared_parts_are_compared_once(rt: HostRuntime) -> Result<(), Fail> {
-    assert_eq!(rt; doubled_answer(rt.alloc(), 15)?, ("ok", false));
-    assert_eq!(rt; doubled_answer(rt.alloc(), 16)?, ("large", true));
-    assert_eq!(rt; doubled_answer(rt.alloc(), 40)?, ("large", true));
+    for (depth, expected) in [(15, "ok"), (16, "large"), (40, "large")] {
+        assert_eq!(rt; doubled_answer(rt.alloc(), depth)?, expected);
+    }
     Ok(())
 }
 
-/// What the variable 0 and an arrow of `count` equal parts answer.
-fn wide_answer(alloc: Global, count: usize) -> Result<&'static str, NoMemory> {
-    let mut s = variables(alloc, "..")?;
-    let first = variable(alloc, &mut s, 0)?;
-    let int = one(alloc, &mut s, TyName::INT, NONE)?;
-    let wide = wide(alloc, &mut s, int, count)?;
-    Ok(answer(alloc, &mut s, first, wide))
-}
-
+/// A function type with `count` equal parts.
 fn wide(alloc: Global, s: &mut Subst, part: usize, count: usize) -> Result<usize, NoMemory> {
-    let parts = vec![in alloc; part; count]?;
+    let mut parts = Vec::new(alloc);
+    for _part in 0..count {
+        parts.push(part)?;
+    }
     if part < s.types.len() {
         s.apply(alloc, Head::Function, &parts)
     } else {
@@ -55,56 +51,90 @@ fn wide(alloc: Global, s: &mut Subst, part: usize, count: usize) -> Result<usize
     }
 }
 
+/// What the variable 0 and a type of so many nodes answer.
+fn wide_told(alloc: Global, s: &mut Subst, nodes: usize) -> Result<&'static str, NoMemory> {
+    let first = variable(alloc, s, 0)?;
+    let int = one(alloc, s, TyName::INT, NONE)?;
+    let wide = wide(alloc, s, int, nodes.saturating_sub(1))?;
+    answer(alloc, s, first, wide)
+}
+
+fn wide_answer(alloc: Global, nodes: usize) -> Result<&'static str, NoMemory> {
+    let mut s = variables(alloc, "..")?;
+    wide_told(alloc, &mut s, nodes)
+}
+
 #[test]
 fn a_type_has_at_most_65536_nodes(rt: HostRuntime) -> Result<(), Fail> {
-    assert_eq!(rt; wide_answer(rt.alloc(), 65_535)?, "ok");
-    assert_eq!(rt; wide_answer(rt.alloc(), 65_536)?, "large");
+    for (nodes, expected) in [(65_536, "ok"), (65_537, "large")] {
+        assert_eq!(rt; wide_answer(rt.alloc(), nodes)?, expected);
+    }
     Ok(())
 }
 
-/// A type under `depth` lists.
-fn lists(alloc: Global, s: &mut Subst, part: usize, depth: u32) -> Result<usize, NoMemory> {
-    let mut last = part;
+/// The variable v under `depth` lists.
+fn lists(alloc: Global, s: &mut Subst, v: usize, depth: u32) -> Result<usize, NoMemory> {
+    let mut last = variable(alloc, s, v)?;
     for _ in 0..depth {
         last = one(alloc, s, LIST, last)?;
     }
     Ok(last)
 }
 
+/// Whether two deep types are made equal, and one is refused with its own variable.
+fn deep_told(alloc: Global, s: &mut Subst) -> Result<bool, NoMemory> {
+    let left = lists(alloc, s, 0, 65_535)?;
+    let right = lists(alloc, s, 1, 65_535)?;
+    let variable = variable(alloc, s, 1)?;
+    Ok(
+        bare_answer(alloc, s, left, right) == "ok"
+            && bare_answer(alloc, s, variable, left) == "circular",
+    )
+}
+
+fn deep_is_right(alloc: Global) -> Result<bool, NoMemory> {
+    let mut s = variables(alloc, "..")?;
+    deep_told(alloc, &mut s)
+}
+
 #[test]
 fn types_65535_deep_are_made_equal(rt: HostRuntime) -> Result<(), Fail> {
-    let mut s = variables(rt.alloc(), "..")?;
-    let first = variable(rt.alloc(), &mut s, 0)?;
-    let second = variable(rt.alloc(), &mut s, 1)?;
-    let left = lists(rt.alloc(), &mut s, first, 65_535)?;
-    let right = lists(rt.alloc(), &mut s, second, 65_535)?;
-    assert_eq!(rt; answer(rt.alloc(), &mut s, left, right), "ok");
-    assert_eq!(rt; answer(rt.alloc(), &mut s, second, left), "circular");
+    assert_eq!(rt; deep_is_right(rt.alloc())?, true);
     Ok(())
 }
 
-/// Variables, each but the last a list of the next.
-fn chain(alloc: Global, count: usize) -> Result<(Subst, bool), NoMemory> {
-    let mut s = Subst::new(alloc)?;
-    let mut all = true;
-    let mut last = NONE;
-    for i in 0..count {
-        let _fresh = s.fresh(Mark::Any)?;
-        let next = variable(alloc, &mut s, i)?;
-        let list = one(alloc, &mut s, LIST, next)?;
-        all = all && (i == 0 || answer(alloc, &mut s, last, list) == "ok");
-        last = next;
+/// A new variable as a type, once the last one is bound to a list of it.
+fn link(alloc: Global, s: &mut Subst, last: usize) -> Result<usize, NoMemory> {
+    let v = s.fresh(Mark::Any)?;
+    let next = variable(alloc, s, v)?;
+    let list = one(alloc, s, LIST, next)?;
+    if bare_answer(alloc, s, last, list) == "ok" {
+        Ok(next)
+    } else {
+        Ok(NONE)
     }
-    Ok((s, all))
+}
+
+/// Whether variables are bound, each to a list of the next, and the last is refused with the first.
+fn chain_told(alloc: Global, s: &mut Subst, count: usize) -> Result<bool, NoMemory> {
+    let first = variable(alloc, s, 0)?;
+    let mut last = first;
+    for _ in 0..count {
+        last = link(alloc, s, last)?;
+    }
+    Ok(
+        bare_answer(alloc, s, last, first) == "circular"
+            && bare_answer(alloc, s, first, first) == "ok",
+    )
+}
+
+fn chain_is_right(alloc: Global) -> Result<bool, NoMemory> {
+    let mut s = variables(alloc, ".")?;
+    chain_told(alloc, &mut s, 10_000)
 }
 
 #[test]
 fn a_chain_of_ten_thousand(rt: HostRuntime) -> Result<(), Fail> {
-    let (mut s, all) = chain(rt.alloc(), 10_001)?;
-    assert_eq!(rt; all, true);
-    let first = variable(rt.alloc(), &mut s, 0)?;
-    let end = variable(rt.alloc(), &mut s, 10_000)?;
-    assert_eq!(rt; answer(rt.alloc(), &mut s, end, first), "circular");
-    assert_eq!(rt; answer(rt.alloc(), &mut s, first, first), "ok");
+    assert_eq!(rt; chain_is_right(rt.alloc())?, true);
     Ok(())
 }

@@ -4,17 +4,12 @@ use crate::read::{told, variables};
 use mlc_base::memory::NoMemory;
 use std::alloc::Global;
 use std::test::Fail;
+use ty_solve::subst::Subst;
 
 /// The marks of the variables, a pair that is made equal first, a pair, and the answer.
 type Row = (&'static str, &'static str, &'static str, &'static str);
 
-fn row_told(alloc: Global, row: &Row) -> Result<&'static str, NoMemory> {
-    let mut s = variables(alloc, row.0)?;
-    let _before = told(alloc, &mut s, row.1)?;
-    told(alloc, &mut s, row.2)
-}
-
-static PLAIN_PAIRS: [Row; 26] = [
+static PAIRS: [Row; 64] = [
     ("", "", "i i", "ok"),
     ("", "", "i w", "clash"),
     ("", "", "w i", "clash"),
@@ -41,9 +36,6 @@ static PLAIN_PAIRS: [Row; 26] = [
     ("...", "", "12p0p 01p2p", "ok"),
     ("...", "", "00p 12p", "ok"),
     ("...", "", "12p 00p", "ok"),
-];
-
-static EQUALITY_FLOWS: [Row; 19] = [
     ("=", "", "0 i", "ok"),
     ("=", "", "i 0", "ok"),
     ("=", "", "0 iif", "clash"),
@@ -63,9 +55,6 @@ static EQUALITY_FLOWS: [Row; 19] = [
     ("=.", "1 0", "1 iif", "clash"),
     (".=", "1 0", "0 iif", "clash"),
     ("..", "1 0", "0 iif", "ok"),
-];
-
-static CLASSES_MEET: [Row; 19] = [
     ("n", "", "0 i", "ok"),
     ("n", "", "i 0", "ok"),
     ("n", "", "0 c", "clash"),
@@ -87,9 +76,19 @@ static CLASSES_MEET: [Row; 19] = [
     ("to", "0 1", "1 i", "clash"),
 ];
 
-/// The first row with another answer, if there is one.
-fn first_wrong(alloc: Global, rows: &'static [Row]) -> Result<&'static str, NoMemory> {
-    for row in rows {
+fn pair_told(alloc: Global, s: &mut Subst, row: &Row) -> Result<&'static str, NoMemory> {
+    let _before = told(alloc, s, row.1)?;
+    told(alloc, s, row.2)
+}
+
+fn row_told(alloc: Global, row: &Row) -> Result<&'static str, NoMemory> {
+    let mut s = variables(alloc, row.0)?;
+    pair_told(alloc, &mut s, row)
+}
+
+/// The first pair with another answer, if there is one.
+fn first_wrong(alloc: Global) -> Result<&'static str, NoMemory> {
+    for row in &PAIRS {
         if row_told(alloc, row)? != row.3 {
             return Ok(row.2);
         }
@@ -98,19 +97,7 @@ fn first_wrong(alloc: Global, rows: &'static [Row]) -> Result<&'static str, NoMe
 }
 
 #[test]
-fn plain_pairs(rt: HostRuntime) -> Result<(), Fail> {
-    assert_eq!(rt; first_wrong(rt.alloc(), &PLAIN_PAIRS)?, "none");
-    Ok(())
-}
-
-#[test]
-fn equality_flows(rt: HostRuntime) -> Result<(), Fail> {
-    assert_eq!(rt; first_wrong(rt.alloc(), &EQUALITY_FLOWS)?, "none");
-    Ok(())
-}
-
-#[test]
-fn classes_meet(rt: HostRuntime) -> Result<(), Fail> {
-    assert_eq!(rt; first_wrong(rt.alloc(), &CLASSES_MEET)?, "none");
+fn pairs_have_their_answers(rt: HostRuntime) -> Result<(), Fail> {
+    assert_eq!(rt; first_wrong(rt.alloc())?, "none");
     Ok(())
 }

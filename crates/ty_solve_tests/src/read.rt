@@ -121,17 +121,26 @@ fn leaf(alloc: Global, s: &mut Subst, letter: u8) -> Result<usize, NoMemory> {
     }
 }
 
+fn next(
+    alloc: Global,
+    s: &mut Subst,
+    letter: u8,
+    done: &mut Vec<usize>,
+) -> Result<usize, NoMemory> {
+    match letter {
+        b'r' | b'l' | b'a' => unary(alloc, s, letter, done),
+        b'f' | b'p' | b'q' => binary(alloc, s, letter, done),
+        _ => leaf(alloc, s, letter),
+    }
+}
+
 /// Two types in postfix, the second after a space: digits are variables, `f` is an arrow, `p` and `q` records of two fields.
 fn read_pair(alloc: Global, s: &mut Subst, text: &str) -> Result<(usize, usize), NoMemory> {
     let mut done: Vec<usize> = Vec::new(alloc);
-    for byte in text.as_bytes() {
-        if *byte != b' ' {
-            let next = match *byte {
-                b'r' | b'l' | b'a' => unary(alloc, s, *byte, &mut done)?,
-                b'f' | b'p' | b'q' => binary(alloc, s, *byte, &mut done)?,
-                letter => leaf(alloc, s, letter)?,
-            };
-            done.push(next)?;
+    for letter in text.as_bytes() {
+        if *letter != b' ' {
+            let t = next(alloc, s, *letter, &mut done)?;
+            done.push(t)?;
         }
     }
     let right = last(&mut done);
@@ -164,12 +173,17 @@ fn fresh(s: &mut Subst, mark: u8) -> Result<usize, NoMemory> {
     }
 }
 
+fn fresh_all(s: &mut Subst, marks: &str) -> Result<(), NoMemory> {
+    for mark in marks.as_bytes() {
+        let _variable = fresh(s, *mark)?;
+    }
+    Ok(())
+}
+
 /// A variable for each letter.
 pub fn variables(alloc: Global, marks: &str) -> Result<Subst, NoMemory> {
     let mut s = Subst::new(alloc)?;
-    for mark in marks.as_bytes() {
-        let _variable = fresh(&mut s, *mark)?;
-    }
+    fresh_all(&mut s, marks)?;
     Ok(s)
 }
 
@@ -186,7 +200,7 @@ fn word(answer: &Result<(), UnifyRefused>) -> &'static str {
 }
 
 /// What unify answers.
-pub fn answer(alloc: Global, s: &mut Subst, a: usize, b: usize) -> &'static str {
+pub fn bare_answer(alloc: Global, s: &mut Subst, a: usize, b: usize) -> &'static str {
     if is_known(s, a) && is_known(s, b) {
         word(&unify(alloc, s, a, b))
     } else {
@@ -203,14 +217,28 @@ fn state(alloc: Global, s: &Subst) -> Result<Vec<(usize, Mark)>, NoMemory> {
     Ok(all)
 }
 
-/// What unify answers on two types of a text, or that it refused them and left a change.
-pub fn told(alloc: Global, s: &mut Subst, pair: &str) -> Result<&'static str, NoMemory> {
-    let (a, b) = read_pair(alloc, s, pair)?;
+fn has_state(s: &Subst, state: &[(usize, Mark)]) -> bool {
+    for (v, (t, mark)) in state.iter().enumerate() {
+        if s.get(v).unwrap_or(NONE) != *t || s.mark_of(v) != *mark {
+            return false;
+        }
+    }
+    true
+}
+
+/// What unify answers, or that it refused and left a change.
+pub fn answer(alloc: Global, s: &mut Subst, a: usize, b: usize) -> Result<&'static str, NoMemory> {
     let before = state(alloc, s)?;
-    let told = answer(alloc, s, a, b);
-    if told == "ok" || state(alloc, s)? == before {
-        Ok(told)
+    let answer = bare_answer(alloc, s, a, b);
+    if answer == "ok" || has_state(s, &before) {
+        Ok(answer)
     } else {
         Ok("changed")
     }
+}
+
+/// What unify answers on two types of a text.
+pub fn told(alloc: Global, s: &mut Subst, pair: &str) -> Result<&'static str, NoMemory> {
+    let (a, b) = read_pair(alloc, s, pair)?;
+    answer(alloc, s, a, b)
 }
