@@ -1,7 +1,7 @@
 -- What the first node of a type and its parts say of the type.
-use Rattle.std.proofs.Common.{◌≡◌, ◌≢◌, ◌↔◌, ℕ, suc, Bool, true, false, List, [], ◌∷◌, IsTrue, length, slice_index_or, refl, sym, ap, ◌∙◌, subst}
+use Rattle.std.proofs.Common.{◌≡◌, ◌≢◌, ◌↔◌, ℕ, suc, Bool, false, List, [], ◌∷◌, IsTrue, length, slice_index_or, refl, sym, ap, ◌∙◌}
 use Rattle.mlc_base.specs.declared.label.Label.{Label}
-use Rattle.ty_core.specs.Types.{Typ, var, con, Typs, none, more, name, labels, arrow, Symbol, typs_of}
+use Rattle.ty_core.specs.Types.{Typ, con, Typs, none, more, name, labels, arrow, Symbol}
 use Rattle.ty_core.specs.declared.name.TyName.{TyName}
 use Rattle.ty_table.specs.TypeAt.{type_at, types_at}
 use Rattle.ir_poly.specs.Types.{of_name, ref_type, ref_name, unit_type, function_type}

@@ -1,12 +1,12 @@
 -- What is asked of a type by its first node.
-use Rattle.std.proofs.Common.{◌≡◌, ◌↔◌, ℕ, suc, ◌+◌, ◌<◌, Bool, true, false, not, ◌&&◌, ◌||◌, List, [], ◌∷◌, ◌++◌, length, Option, Some, None, IsTrue, nat_eq, cond, refl, sym, ap, ◌∙◌, subst, arith}
+use Rattle.std.proofs.Common.{◌≡◌, ◌↔◌, ℕ, ◌+◌, ◌<◌, Bool, true, false, not, ◌&&◌, ◌||◌, List, [], ◌∷◌, ◌++◌, length, Some, None, IsTrue, nat_eq, cond, refl, sym, ap, ◌∙◌, subst, arith}
 use Rattle.std.proofs.lemmas.Bool.{false≢true}
 use Rattle.std.proofs.lemmas.List.{append-nil}
 use Rattle.std.specs.List.{list_any}
 use Rattle.std.proofs.lemmas.Bool.{eqb-true}
 use Rattle.indexmap.specs.IndexSet.{insert_key}
 use Rattle.std.proofs.Common.{if◌then◌else◌}
-use mathlib.Core.Logic.{◌⊎◌, inl, inr}
+use mathlib.Core.Logic.{inl, inr}
 use Rattle.ty_core.specs.Types.{Symbol, Typ, var, con, Typs, none, more, nodes, all_nodes, admits, all_admit, allowed, attribute, no_variable}
 use Rattle.ty_core.specs.declared.name.Equality.{Equality}
 use Rattle.ty_core.specs.declared.name.Equality.TheVariants.{Always, ByArguments, Never}
@@ -15,7 +15,7 @@ use Rattle.ty_table.specs.TypeAt.{type_at, types_at, top, tops}
 use Rattle.ir_poly.specs.Types.{over, all_over, admits_in, in_scope, is_equality}
 use Rattle.ir_known.specs.declared.walk.Question.{Question}
 use Rattle.ir_known.specs.declared.walk.Question.TheVariants.{Over, Admits}
-use Rattle.ir_known.specs.Asked.{Asked, rule_of, All, total, OpensBy, Opens}
+use Rattle.ir_known.specs.Asked.{Asked, rule_of, All, total, Opens}
 use Rattle.std.specs.Map.{lookup}
 use Rattle.ty_core.specs.declared.mark.Mark.{Mark}
 use Rattle.ir_known.specs.Knows.{marks_of}

@@ -1,14 +1,14 @@
 -- Types side by side.
-use Rattle.std.proofs.Common.{◌≡◌, ◌≢◌, ◌↔◌, ℕ, zero, suc, ◌+◌, ◌<◌, Bool, true, false, not, ◌&&◌, ◌||◌, List, [], ◌∷◌, ◌++◌, take, zip, length, slice_index_or, Option, Some, None, IsTrue, nat_eq, cond, if◌then◌else◌, refl, sym, ap, ◌∙◌, subst, arith}
+use Rattle.std.proofs.Common.{◌≡◌, ◌≢◌, ◌↔◌, ℕ, zero, suc, ◌+◌, ◌<◌, Bool, true, false, not, ◌&&◌, ◌||◌, List, [], ◌∷◌, ◌++◌, take, zip, length, slice_index_or, IsTrue, nat_eq, if◌then◌else◌, refl, sym, ap, ◌∙◌, subst, arith}
 use Rattle.std.proofs.lemmas.Bool.{false≢true, eqb-true}
 use Rattle.std.proofs.lemmas.List.{append-nil}
 use Rattle.std.specs.List.{list_any}
 use Rattle.indexmap.specs.IndexSet.{insert_key}
-use mathlib.Core.Logic.{◌⊎◌, inl, inr}
-use Rattle.ty_core.specs.Types.{Symbol, Typ, var, con, Typs, none, more, nodes, all_nodes}
+use mathlib.Core.Logic.{inl, inr}
+use Rattle.ty_core.specs.Types.{Symbol, Typ, var, con, Typs, more, nodes, all_nodes}
 use Rattle.ty_core.specs.Statics.{replace, replace_all}
 use Rattle.ty_table.specs.TypeAt.{type_at, types_at}
-use Rattle.ir_known.specs.Asked.{All, total, OpensBy}
+use Rattle.ir_known.specs.Asked.{All, total}
 use Rattle.ir_known.specs.Images.{Pair, IsImage, OpensImage}
 use Rattle.ir_known.proofs.Walks.{Has, Walked, walk-passes, walk-fails, walk-ends}
 use Rattle.ir_known.proofs.Opening.{nodes-positive}

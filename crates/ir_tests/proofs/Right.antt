@@ -293,10 +293,13 @@ module _ (table : List Constructor) where
         (tt, outside-unknown G x n, exp-fits m D ((x, exception None) ∷ G) ((x, exception None) ∷ L) e t (within-more L G x (exception None) w) q s u)
     exp-fits m D G L (name_in x y e) t w (c_name {a = a} p q) (name_scoped s s') (name_unique n u) =
         (outside-unknown G x n, (a, p, exp-fits m D ((x, exception a) ∷ G) ((x, exception a) ∷ L) e t (within-more L G x (exception a) w) q s' u))
-    exp-fits m D G L (rec_in qs fs e) t w (c_rec n p q) (rec_scoped s s') (rec_unique ns u u') =
-        (n, new-funs G fs ns, funs-fit (qs ++ D) (group_knowns own fs G) fs p s (subst (λ xs. FunsUnique {F = poly} (λ x. x) xs fs) (sym (group-unique own fs G)) u),
-        exp-fits m D (group_knowns (declared qs) fs G) (group_knowns (declared qs) fs L) e t (within-group (declared qs) fs L G w) q
-            (subst (λ xs. IsScoped poly false xs e) (sym (group-scoped (declared qs) fs L)) s') (subst (λ xs. IsUnique {F = poly} (λ x. x) xs e) (sym (group-unique (declared qs) fs G)) u'))
+    exp-fits m D G L (rec_in qs fs e) t w (c_rec n p q) (rec_scoped s s') (rec_unique ns u u') = (
+      n,
+      new-funs G fs ns,
+      funs-fit (qs ++ D) (group_knowns own fs G) fs p s (subst (λ xs. FunsUnique {F = poly} (λ x. x) xs fs) (sym (group-unique own fs G)) u),
+      exp-fits m D (group_knowns (declared qs) fs G) (group_knowns (declared qs) fs L) e t (within-group (declared qs) fs L G w) q
+          (subst (λ xs. IsScoped poly false xs e) (sym (group-scoped (declared qs) fs L)) s') (subst (λ xs. IsUnique {F = poly} (λ x. x) xs e) (sym (group-unique (declared qs) fs G)) u'),
+    )
     exp-fits m D G L (switch a u arms) t w (c_switch p q) (switch_scoped s s') (switch_unique us) = (refl, atom-fits L G a u w p s, arms-fit D G L arms u t w q s' us)
     exp-fits m D G L (first e d) t w (c_first p q) (first_scoped s s') (first_unique u u') = (exp-fits true D G L e t w p s u, exp-fits m D G L d t w q s' u')
     exp-fits m D G L miss t w c_miss miss_scoped miss_unique = refl
@@ -306,11 +309,12 @@ module _ (table : List Constructor) where
         → ArmsFit table D G L arms u t
     arms-fit D G L no_arms u t w c_no_arms no_arms_scoped no_arms_unique = tt
     arms-fit D G L (arm c e arms) u t w (c_arm {G' = G'} p q r) (arm_scoped {xs' = xs'} s s' ss) (arm_unique {bs' = bs'} n n' ns) =
-        let same = case-onto D G G' L xs' bs' c u p s n in
-        (case-fits D G G' L xs' bs' c u w p s n,
-        exp-fits true D (case_onto c G) (case_onto c L) e t (within-case L G c w) (subst (λ G. Checked table true D G e t) same.0 q) (subst (λ xs. IsScoped poly false xs e) same.1 s')
-            (subst (λ bs. IsUnique {F = poly} (λ x. x) bs e) same.2 n'),
-        arms-fit D G L arms u t w r ss ns)
+        let same = case-onto D G G' L xs' bs' c u p s n in (
+          case-fits D G G' L xs' bs' c u w p s n,
+          exp-fits true D (case_onto c G) (case_onto c L) e t (within-case L G c w) (subst (λ G. Checked table true D G e t) same.0 q) (subst (λ xs. IsScoped poly false xs e) same.1 s')
+              (subst (λ bs. IsUnique {F = poly} (λ x. x) bs e) same.2 n'),
+          arms-fit D G L arms u t w r ss ns,
+        )
 
     op-fits : (D : List Quantified) (G L : Knowns) (o : Op poly) (t : Typ) → Within L G → OpChecked table D G o t → OpScoped poly false (keys L) o → OpUnique {F = poly} (λ x. x) (keys G) o → OpFits table D G L o t
     op-fits D G L (use_of (inst x ts)) t w p s u = use-fits D G x ts t p
@@ -345,4 +349,5 @@ module _ (table : List Constructor) where
 pub fits-is-right : FitsIsRight
 fits-is-right table m e t = (
   (λ p. let r = exp-right table m [] [] [] e t (within-none []) p in record { typed = r.typed; local = r.scoped; unique = r.unique }),
-  (λ r. exp-fits table m [] [] [] e t (within-none []) r.typed r.local r.unique))
+  (λ r. exp-fits table m [] [] [] e t (within-none []) r.typed r.local r.unique),
+)

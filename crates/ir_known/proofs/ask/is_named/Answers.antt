@@ -1,4 +1,4 @@
-use Rattle.std.proofs.Common.{◌≡◌, ap, sym, ◌∙◌}
+use Rattle.std.proofs.Common.{ap, ◌∙◌}
 use Rattle.ty_core.specs.Types.{con}
 use Rattle.ty_core.specs.TypesOf.{head_of}
 use Rattle.ty_table.specs.TypeAt.{types_at}

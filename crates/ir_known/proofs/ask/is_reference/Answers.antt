@@ -1,8 +1,4 @@
-use Rattle.std.proofs.Common.{◌≡◌, ap, sym, ◌∙◌}
-use Rattle.ty_core.specs.Types.{con}
-use Rattle.ty_core.specs.TypesOf.{head_of}
-use Rattle.ty_table.specs.TypeAt.{types_at}
-use Rattle.ir_known.proofs.Asking.{not-reference, reference}
+use Rattle.ir_known.proofs.Asking.{not-reference}
 use Rattle.ir_known.proofs.ask.is_reference.Goals as goal
 
 pub returns-then-parts-ne1 : goal.returns-then-parts-ne1

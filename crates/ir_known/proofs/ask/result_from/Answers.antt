@@ -1,8 +1,4 @@
-use Rattle.std.proofs.Common.{◌≡◌, ap, sym, ◌∙◌}
-use Rattle.ty_core.specs.Types.{con}
-use Rattle.ty_core.specs.TypesOf.{head_of}
-use Rattle.ty_table.specs.TypeAt.{types_at}
-use Rattle.ir_known.proofs.Asking.{no-function, other-function, function}
+use Rattle.ir_known.proofs.Asking.{no-function}
 use Rattle.ir_known.proofs.ask.result_from.Goals as goal
 
 pub returns-then-parts-ne2 : goal.returns-then-parts-ne2

@@ -1,4 +1,4 @@
-use Rattle.std.proofs.Common.{◌≡◌, length, arith}
+use Rattle.std.proofs.Common.{arith}
 use Rattle.ty_core.specs.Types.{nodes}
 use Rattle.ty_table.specs.TypeAt.{type_at}
 use Rattle.ir_known.specs.Images.{IsImage, image_of}

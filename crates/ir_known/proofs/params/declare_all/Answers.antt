@@ -1,4 +1,4 @@
-use Rattle.std.proofs.Common.{◌≡◌, ◌-◌, ◌+◌, ◌<◌, length, subst, refl, arith}
+use Rattle.std.proofs.Common.{◌-◌, subst, arith}
 use Rattle.ir_known.proofs.Declaring.{Declared, one-declared, not-declared, the-next, not-yes}
 use Rattle.ir_known.proofs.params.declare_all.Goals as goal
 

@@ -1,4 +1,4 @@
-use Rattle.std.proofs.Common.{◌≡◌, sym, ◌∙◌, subst}
+use Rattle.std.proofs.Common.{sym, ◌∙◌, subst}
 use Rattle.ty_core.specs.TypesOf.{head_of}
 use Rattle.ty_table.specs.TypeAt.{types_at}
 use Rattle.ir_known.specs.Knows.{marks_of}

@@ -1,4 +1,4 @@
-use Rattle.std.proofs.Common.{◌≡◌, ◌-◌, Some, None, nat_eq, length, take, ap, sym, ◌∙◌, subst, arith}
+use Rattle.std.proofs.Common.{◌≡◌, ◌-◌, Some, None, nat_eq, length, take, sym, subst}
 use Rattle.std.specs.Map.{lookup}
 use Rattle.ir_known.proofs.Reversed.{found-after, found-before, found-nowhere}
 use Rattle.ir_known.proofs.stack.Stack.get_after.Goals as goal

@@ -1,5 +1,4 @@
-use Rattle.std.proofs.Common.{◌≡◌, Some, None, nat_eq, ap, sym, ◌∙◌, subst}
-use Rattle.std.specs.Map.{lookup}
+use Rattle.std.proofs.Common.{sym, ◌∙◌}
 use Rattle.ir_known.proofs.Reversed.{known-already, new-there, once-pushed, front, inserted}
 use Rattle.ir_known.proofs.stack.Stack.push.Goals as goal
 

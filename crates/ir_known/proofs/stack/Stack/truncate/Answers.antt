@@ -1,4 +1,4 @@
-use Rattle.std.proofs.Common.{◌≡◌, ◌-◌, length, drop, reverse, ap, sym, ◌∙◌, subst}
+use Rattle.std.proofs.Common.{◌-◌, length, drop, reverse, ap, sym, ◌∙◌, subst}
 use Rattle.ir_known.specs.Once.{IsOnce}
 use Rattle.ir_known.proofs.Reversed.{once-taken, reversed-taken}
 use Rattle.ir_known.proofs.stack.Stack.truncate.Goals as goal
