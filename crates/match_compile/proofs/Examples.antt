@@ -84,6 +84,11 @@ one-sum : compile (just (app 3 (prim_exp Add (t ∷ []) t) (pair (number 1) (num
     ≡ te.first (put [] 1 t (te.const (int (pos 1))) (put [] 2 t (te.const (int (pos 2))) (put [] 3 t (te.prim (Some (at 3)) Add t (te.an_atom (atom 1) (te.an_atom (atom 2) te.no_atoms))) (put [] 4 t (te.make_record t te.no_row) (te.ret (atom 4)))))) (otherwise [] 5 t 0 (initial 1))
 one-sum = refl
 
+-- a rule that any value fits comes at once: its variable is the value, and nothing is tested
+one-direct : compile (just (case (number 1) (a_rule (variable_pat 5) (name 5) no_rules)))
+    ≡ te.first (put [] 1 t (te.const (int (pos 1))) (put [] 2 t (te.use_of (atom 1)) (put [] 3 t (te.make_record t te.no_row) (te.ret (atom 3))))) (otherwise [] 4 t 0 (initial 1))
+one-direct = refl
+
 -- Order of evaluation
 
 -- operator, operand, and then the call

@@ -1,5 +1,5 @@
 -- The compiled program does what the program does.
-use Rattle.std.proofs.Common.{◌≡◌, ℕ, zero, suc, ◌<◌, ◌≤◌, Bool, true, false, not, ◌&&◌, List, [], ◌∷◌, ◌++◌, Option, Some, None, slice_get, option_and_then, refl, sym, ap, subst, ◌∙◌, arith}
+use Rattle.std.proofs.Common.{◌≡◌, ℕ, zero, suc, ◌<◌, ◌≤◌, Bool, true, false, not, ◌&&◌, List, [], ◌∷◌, ◌++◌, Option, Some, None, slice_get, option_and_then, refl, sym, ap, subst, ◌∙◌, arith, if◌then◌else◌}
 use Rattle.std.specs.Prelude.{⊤}
 use Rattle.std.proofs.lemmas.Bool.{eqb-true, eq-eqb}
 use Rattle.mlc_base.specs.declared.label.Label.{Label}
@@ -29,7 +29,7 @@ use Rattle.ir_poly.specs.ProgChecked.{parameters_if}
 use Rattle.ir_poly.specs.Tests.{Use, inst, poly, Tests}
 use Rattle.ir_poly.specs.Types.{unit_type}
 use Rattle.match_compile.specs.Compile as pass
-use Rattle.match_compile.specs.Compile.{Names, no_names, named, each_named, funs_named, past_group, scoped, all_scoped, bool_type, exception_type, atom, put, excepted, Otherwise, again, initial, otherwise, Spots, no_spots, spots, spots_named, past_pat, tests, Shape, plain, alone, recorded, general_shape, shape_over, shape, record_type, together, split, past_shape, shape_spots, shaped, grouped, Built, a_con, a_ref, an_exn, Way, by_call, by_building, by_performing, used_at, are_numbered, is_tuple, arity, performed, way, weighed, past_built, beginning, building, along, value_at, past_tuple, past_fields, past_chain, past_rules, past_fun, past_decs, past_binds, past_funs, unclassed, binds_spots, val_named, decs_named, field_row, field_atoms, tuple_atoms, making, making_tuple, making_all, links, rules, function, bindings, decs, compile}
+use Rattle.match_compile.specs.Compile.{Names, no_names, named, each_named, funs_named, past_group, scoped, all_scoped, bool_type, exception_type, atom, put, excepted, Otherwise, again, initial, otherwise, Spots, no_spots, spot, spots, spots_named, past_pat, tests, Shape, plain, alone, recorded, general_shape, shape_over, shape, record_type, together, split, past_shape, shape_spots, shaped, grouped, Built, a_con, a_ref, an_exn, Way, by_call, by_building, by_performing, used_at, are_numbered, is_tuple, arity, performed, way, weighed, past_built, beginning, building, along, fits_all, is_direct, value_at, value_of_rule, past_tuple, past_fields, past_chain, past_rules, past_fun, past_decs, past_binds, past_funs, unclassed, binds_spots, val_named, decs_named, field_row, field_atoms, tuple_atoms, making, making_rule, making_tuple, making_all, links, rules, function, bindings, decs, compile}
 use Rattle.match_compile.proofs.Numbers.{le-trans, le-suc, le-refl, le-less, less-of, different, pat-up, group-up, shape-up, up, tuple-up, fields-up, rules-up, fun-up, binds-up, funs-up}
 use Rattle.match_compile.proofs.Related.{same_alone, same_one_of, Same, same_literal, same_record, same_con, same_con_of, same_exn, same_exn_of, same_ref, same_primitive, same_closure, SameParts, no_same, a_same, SameEnv, same_empty, same_bind, kind-of, by-kind, look_up-same, here, Holds, holds-refl, holds-trans, holds-bind, same-up, Bound, bound_none, bound_one, bound-more, bound-onto, members-same, members-held, Worlds, Ends}
 use Rattle.match_compile.proofs.Matched.{BothNames, both_named, not_named, exception-same, Recorded, recorded_as, found, con-tested, tests-same, split-same, together-same}
@@ -277,6 +277,25 @@ module _ (call : src.Apply) (call' : tgt.Apply poly) (calls : (place : Place) (g
     does : (D : List Quantified) (n k : ℕ) (t : Typ) (o : te.Op poly) (ρ : tgt.Scope poly) (u : World W) (r : Answer src.V src.V) (r' : Answer W W) (go : src.V → World src.V → Answer src.V A) (rest : Tests) (other : World W → Answer W W) → n ≤ k → tgt.eval_op call' o ρ u ≡ r' → Agree Same Same r r' → Follows go rest n k ρ other
         → Agrees (then_do r go) (ev (put D k t o rest) ρ u other)
     does D n k t o ρ u r r' go rest other le e h g = subst (λ y. Agrees (then_do r go) (then_do y (λ v z. ev rest (bind k v ρ) z other))) (sym e) (stands n k ρ go rest other le h g)
+
+  -- a pattern that any value fits
+  all-fit : {A B : Type 0} (S : A → W → Type 0) (p : Pat) → fits_all p ≡ true → (n a : ℕ) (t : Typ) (store : List src.V) (at env base : src.Scope) (vs : Spots) (ρ : tgt.Scope poly) (w : World src.V) (v : src.V) (v' : W) (f : src.Scope → World src.V → Answer src.V B) (other : World src.V → Answer src.V B) (go : B → World src.V → Answer src.V A) (y : Answer W W)
+      → Same v v' → tgt.look_up (atom a) ρ ≡ Some v' → a < n → Bound n ρ base vs env → ((env' : src.Scope) → Bound n ρ base (spots p t n a vs) env' → Agree Same S (then_do (f env' w) go) y) → Agree Same S (then_do (after_match (src.match_pat store at p v env) w f other) go) y
+  all-fit S any_pat d n a t store at env base vs ρ w v v' f other go y r e lt b k = k env b
+  all-fit S (variable_pat x) d n a t store at env base vs ρ w v v' f other go y r e lt b k = k (bind x v env) (bound_one x a lt e r b)
+  all-fit S (as_pat x p) d n a t store at env base vs ρ w v v' f other go y r e lt b k = all-fit S p d n a t store at (bind x v env) base (spot x a t vs) ρ w v v' f other go y r e lt (bound_one x a lt e r b) k
+  all-fit S (constant_pat l) d n a t store at env base vs ρ w v v' f other go y r e lt b k = absurd (cc)
+  all-fit S (con_pat c) d n a t store at env base vs ρ w v v' f other go y r e lt b k = absurd (cc)
+  all-fit S (con_of_pat c q p) d n a t store at env base vs ρ w v v' f other go y r e lt b k = absurd (cc)
+  all-fit S (ref_of_pat q p) d n a t store at env base vs ρ w v v' f other go y r e lt b k = absurd (cc)
+  all-fit S (exn_pat x) d n a t store at env base vs ρ w v v' f other go y r e lt b k = absurd (cc)
+  all-fit S (exn_of_pat x q p) d n a t store at env base vs ρ w v v' f other go y r e lt b k = absurd (cc)
+  all-fit S (fields_pat further ps) d n a t store at env base vs ρ w v v' f other go y r e lt b k = absurd (cc)
+
+  direct-or : {A : Type 0} (S : A → W → Type 0) (b : Bool) (n j k : ℕ) (ρ : tgt.Scope poly) (u : World W) (y : Answer src.V A) (go : src.V → World src.V → Answer src.V A) (rest x z : Tests) (other : World W → Answer W W) → (b ≡ true → Follows S go rest n j ρ other → Agree Same S y (ev x ρ u other)) → (Follows S go rest n k ρ other → Agree Same S y (ev z ρ u other))
+      → Follows S go rest n (if b then j else k) ρ other → Agree Same S y (ev (if b then x else z) ρ u other)
+  direct-or S true n j k ρ u y go rest x z other h l f = h refl f
+  direct-or S false n j k ρ u y go rest x z other h l f = l f
 
   var-same : {o : Option src.V} {o' : Option W} (w : World src.V) (u : World W) → BothOrNeither Same o o' → Worlds w u → Ends (or_fail o w (λ v. gives v w)) (or_fail o' u (λ v. gives v u))
   var-same w u neither s = both_stop _ s
@@ -538,10 +557,12 @@ module _ (call : src.Apply) (call' : tgt.Apply poly) (calls : (place : Place) (g
     making-same (app_exp place t f a) K D N n env ρ w u go rest other h s k = ways-same (way f a) f a refl (making-same f) (making-same a) (tuple-same a) place K D N t n env ρ w u go rest other h s k
     making-same (case_exp place t e rs) K D N n env ρ w u go rest other h s f =
         let i = value_at e n in let k = past_rules rs (suc i) in let o = te.block (rules D N rs (type_of e) t (suc i) i (initial match_name)) in let le = le-suc _ _ (up e n) in
-        part e (making-same e) K D N n env ρ w u (λ v w'. src.eval_rules call rs v env w' (packet untagged match_name)) go (put D k t o rest) other h s (λ v v' w1 u1 ρ1 r s1 k1 e1.
-        does (Rel K) D (suc i) k t o ρ1 u1 (src.eval_rules call rs v env w1 (packet untagged match_name)) (ev (rules D N rs (type_of e) t (suc i) i (initial match_name)) ρ1 u1 fail) go rest other (rules-up rs (suc i)) refl
-        (rules-same rs D N (type_of e) t (suc i) i (initial match_name) env ρ1 w1 u1 v v' fail tt (same-up n (suc i) le k1 h) s1 r e1 (omega arith))
-        (more (Rel K) n (suc i) ρ go rest other le ρ1 k1 k f))
+        part e (making-same e) K D N n env ρ w u (λ v w'. src.eval_rules call rs v env w' (packet untagged match_name)) go (if is_direct rs then making_rule D N rs (type_of e) (suc i) i rest else put D k t o rest) other h s (λ v v' w1 u1 ρ1 r s1 k1 e1.
+        direct-or (Rel K) (is_direct rs) (suc i) (value_of_rule rs (suc i)) k ρ1 u1 (then_do (src.eval_rules call rs v env w1 (packet untagged match_name)) go) go rest (making_rule D N rs (type_of e) (suc i) i rest) (put D k t o rest) other
+        (λ d f1. rule-same rs d K D N (type_of e) (suc i) i env ρ1 w1 u1 v v' go rest other (same-up n (suc i) le k1 h) s1 r e1 (omega arith) f1)
+        (λ f1. does (Rel K) D (suc i) k t o ρ1 u1 (src.eval_rules call rs v env w1 (packet untagged match_name)) (ev (rules D N rs (type_of e) t (suc i) i (initial match_name)) ρ1 u1 fail) go rest other (rules-up rs (suc i)) refl
+        (rules-same rs D N (type_of e) t (suc i) i (initial match_name) env ρ1 w1 u1 v v' fail tt (same-up n (suc i) le k1 h) s1 r e1 (omega arith)) f1)
+        (more (Rel K) n (suc i) ρ go rest other le ρ1 k1 (if is_direct rs then value_of_rule rs (suc i) else k) f))
     making-same (chain_exp b t c) K D N n env ρ w u go rest other h s f =
         let k = past_chain c n in
         stands (Rel K) n (suc k) ρ go rest other (up (chain_exp b t c) n) (chain-same c b D N n env ρ w u (λ u'. ev (otherwise D k bool_type n (initial match_name)) ρ u' fail) h s (λ w1 u1 s1. both_raise (same_exn tt match_name) s1)) f
@@ -556,6 +577,16 @@ module _ (call : src.Apply) (call' : tgt.Apply poly) (calls : (place : Place) (g
         does (Rel K) D (suc i) (suc i) t o ρ1 u1 (raise_value v w1) (raise_value v' u1) go rest other (le-refl _) (op-raise i ρ1 u1 v' e1) (raise-same untagged Same by-kind w1 u1 r s1) (more (Rel K) n (suc i) ρ go rest other (le-suc _ _ (up e n)) ρ1 k1 (suc i) f))
     making-same (fn_exp t g) K D N n env ρ w u go rest other h s f = stands (Rel K) n (past_fun g n) ρ go rest other (le-less _ _ (fun-up g n)) (both_give (same_closure n N (same_alone D g n (le-refl n) refl) h) s) f
     making-same (counted_exp k t e) K D N n env ρ w u go rest other h s f = making-same e K D N n env ρ w u go rest other h s f
+
+    -- a rule that any value fits
+    rule-same : (rs : Rules) → is_direct rs ≡ true → (K : Kept) (D : List Quantified) (N : Names) (u0 : Typ) (n a : ℕ) (env : src.Scope) (ρ : tgt.Scope poly) (w : World src.V) (u : World W) (v : src.V) (v' : W) (go : src.V → World src.V → Answer src.V (Result K)) (rest : Tests) (other : World W → Answer W W) → SameEnv n N env ρ → Worlds w u → Same v v' → tgt.look_up (atom a) ρ ≡ Some v' → a < n
+        → Follows (Rel K) go rest n (value_of_rule rs n) ρ other → Agree Same (Rel K) (then_do (src.eval_rules call rs v env w (packet untagged match_name)) go) (ev (making_rule D N rs u0 n a rest) ρ u other)
+    rule-same no_rules d K D N u0 n a env ρ w u v v' go rest other h s r e lt f = absurd (cc)
+    rule-same (a_rule p x no_rules) d K D N u0 n a env ρ w u v v' go rest other h s r e lt f =
+        let M = spots_named (spots p u0 n a no_spots) N in
+        all-fit (Rel K) p d n a u0 w.store env env env no_spots ρ w v v' (λ env' w'. src.eval call x env' w') (λ w'. raises (packet untagged match_name) w') go (ev (making D M x n rest) ρ u other) r e lt bound_none
+        (λ env1 b1. making-same x K D M n env1 ρ w u go rest other (bound-onto h b1) s f)
+    rule-same (a_rule p x (a_rule q y rs)) d K D N u0 n a env ρ w u v v' go rest other h s r e lt f = absurd (cc)
 
     tuple-same : (a : Exp) → TupleSame a
     tuple-same (fields_exp t fs) k e = tuple-of fs (all-same fs) t k e

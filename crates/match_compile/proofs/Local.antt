@@ -1,5 +1,5 @@
 -- Each atom of the compiled program is bound in its own function.
-use Rattle.std.proofs.Common.{ℕ, suc, Bool, false, List, [], ◌∷◌, ◌++◌, refl}
+use Rattle.std.proofs.Common.{◌≡◌, if◌then◌else◌, ℕ, suc, Bool, false, List, [], ◌∷◌, ◌++◌, refl, true}
 use Rattle.std.specs.Prelude.{⊤}
 use Rattle.std.proofs.lemmas.Bool.{eq-eqb}
 use Rattle.mlc_base.specs.declared.place.Place.{Place}
@@ -12,7 +12,7 @@ use Rattle.ir_plain.specs.Scoped.{IsAmong, among_here, among_there, group_onto, 
 use Rattle.ir_poly.specs.Prog.{Exc, fixed, held, Pat, any_pat, variable_pat, constant_pat, con_pat, con_of_pat, ref_of_pat, exn_pat, exn_of_pat, fields_pat, as_pat, PatFields, no_pats, a_pat, Exp, constant_exp, variable_exp, own_exp, con_exp, ref_exp, exn_exp, prim_exp, fields_exp, let_exp, app_exp, case_exp, chain_exp, handle_exp, raise_exp, fn_exp, counted_exp, Fields, no_fields, a_field, Chain, only, link, Rules, no_rules, a_rule, Fun, last, by_rules, more, Decs, no_decs, val_dec, exception_dec, counted_dec, Binds, no_binds, a_bind, Funs, no_funs, a_fun, type_of}
 use Rattle.ir_poly.specs.Tests.{Use, poly, Tests}
 use Rattle.ir_poly.specs.Types.{unit_type}
-use Rattle.match_compile.specs.Compile.{unclassed, Names, no_names, named, funs_named, past_group, bool_type, exception_type, atom, put, excepted, Otherwise, again, initial, otherwise, Spots, no_spots, spot, spots, field_spots, spots_named, past_pat, tests, field_tests, Shape, plain, alone, recorded, shape, record_type, spots_row, together, split, past_shape, shaped, grouped, Built, a_con, a_ref, an_exn, Way, by_call, by_building, by_performing, way, weighed, past_built, beginning, building, along, value_at, past_tuple, past_fields, past_chain, past_rules, past_fun, past_decs, past_binds, past_funs, val_named, decs_named, field_row, field_atoms, tuple_atoms, making, making_tuple, making_all, links, rules, function, functions, bindings, decs, compile}
+use Rattle.match_compile.specs.Compile.{unclassed, Names, no_names, named, funs_named, past_group, bool_type, exception_type, atom, put, excepted, Otherwise, again, initial, otherwise, Spots, no_spots, spot, spots, field_spots, spots_named, past_pat, tests, field_tests, Shape, plain, alone, recorded, shape, record_type, spots_row, together, split, past_shape, shaped, grouped, Built, a_con, a_ref, an_exn, Way, by_call, by_building, by_performing, way, weighed, past_built, beginning, building, along, is_direct, value_at, value_of_rule, past_tuple, past_fields, past_chain, past_rules, past_fun, past_decs, past_binds, past_funs, val_named, decs_named, field_row, field_atoms, tuple_atoms, making, making_rule, making_tuple, making_all, links, rules, function, functions, bindings, decs, compile}
 
 abbrev Among : Use → List ℕ → Type 0
 Among = IsAmong poly
@@ -163,6 +163,10 @@ building-local D (a_con c) place t u n i h k = construct_scoped k
 building-local D (a_ref v) place t u n i h k = refer_scoped k
 building-local D (an_exn x) place t u n i h k = pack_scoped h k
 
+direct-local : (b : Bool) (i j : ℕ) {ls : List ℕ} {x y rest : Tests} → (b ≡ true → Follows ls i rest → Local ls x) → (Follows ls j rest → Local ls y) → Follows ls (if b then i else j) rest → Local ls (if b then x else y)
+direct-local true i j h g f = h refl f
+direct-local false i j h g f = g f
+
 along-local : (y : Way) (i : ℕ) (j : Built → ℕ) (l : BasisPrimitive → Typ → ℕ) {ls : List ℕ} {called : Tests} {built : Built → Tests} {done : BasisPrimitive → Typ → Tests} {rest : Tests} → (Follows ls i rest → Local ls called) → ((b : Built) → Follows ls (j b) rest → Local ls (built b)) → ((p : BasisPrimitive) (u : Typ) → Follows ls (l p u) rest → Local ls (done p u))
     → Follows ls (along y i j l) rest → Local ls (along y called built done)
 along-local by_call i j l h g d f = h f
@@ -191,7 +195,8 @@ mutual
       f
   making-local D N (case_exp place t e rs) n f =
       let i = value_at e n in
-      making-local D N e n (λ ls1 g1 h1. put-local D (past_rules rs (suc i)) t (block_scoped (rules-local D N rs (type_of e) t (suc i) i (initial match_name) h1)) (λ lz gz az. f lz (further g1 gz) az))
+      making-local D N e n (λ ls1 g1 h1. direct-local (is_direct rs) (value_of_rule rs (suc i)) (past_rules rs (suc i)) (λ d k. rule-local D N rs d (type_of e) (suc i) i k)
+      (λ k. put-local D (past_rules rs (suc i)) t (block_scoped (rules-local D N rs (type_of e) t (suc i) i (initial match_name) h1)) k) (λ lz gz az. f lz (further g1 gz) az))
   making-local D N (chain_exp b t c) n f = put-local D (suc (past_chain c n)) t (block_scoped (first_scoped (links-local D N c b n) (initial-local D (past_chain c n) bool_type n match_name))) f
   making-local D N (handle_exp t e rs) n {ls = ls} f =
       let i = value_at e n in
@@ -199,6 +204,10 @@ mutual
   making-local D N (raise_exp t e) n f = making-local D N e n (λ ls1 g1 h1. put-local D (suc (value_at e n)) t (raise_scoped h1) (λ lz gz az. f lz (further g1 gz) az))
   making-local D N (fn_exp t g) n f = put-local D (past_fun g n) t (fn_scoped (function-local D N g n)) f
   making-local D N (counted_exp k t e) n f = counted_scoped (making-local D N e n f)
+
+  rule-local : (D : List Quantified) (N : Names) (rs : Rules) → is_direct rs ≡ true → (u : Typ) (n a : ℕ) {ls : List ℕ} {rest : Tests} → Follows ls (value_of_rule rs n) rest → Local ls (making_rule D N rs u n a rest)
+  rule-local D N no_rules d u n a f = absurd (cc)
+  rule-local D N (a_rule p e rs) d u n a f = making-local D (spots_named (spots p u n a no_spots) N) e n f
 
   tuple-local : (D : List Quantified) (N : Names) (e : Exp) (n : ℕ) {ls : List ℕ} {rest : Tests} → ((ls' : List ℕ) → Grows ls ls' → AtomsScoped poly ls' (tuple_atoms e n) → Local ls' rest) → Local ls (making_tuple D N e n rest)
   tuple-local D N (fields_exp t fs) n f = all-local D N fs n (λ ls1 g1 r1 a1. f ls1 g1 a1)

@@ -1,5 +1,5 @@
 -- The compiled program makes the exceptions of the program, in their order.
-use Rattle.std.proofs.Common.{◌≡◌, ℕ, suc, Bool, true, not, List, [], ◌∷◌, ◌++◌, Some, refl, ap, ◌∙◌}
+use Rattle.std.proofs.Common.{if◌then◌else◌, ◌≡◌, ℕ, suc, Bool, true, not, List, [], ◌∷◌, ◌++◌, Some, refl, ap, ◌∙◌, false}
 use Rattle.mlc_base.specs.declared.place.Place.{Place}
 use Rattle.mlc_prims.specs.declared.basis.BasisPrimitive.{BasisPrimitive}
 use Rattle.ty_core.specs.Types.{Typ}
@@ -11,7 +11,7 @@ use Rattle.ir_poly.specs.Prog.{Pat, any_pat, variable_pat, constant_pat, con_pat
 use Rattle.ir_poly.specs.Tests.{poly, Tests}
 use Rattle.ir_poly.specs.Types.{unit_type}
 use Rattle.match_compile.specs.Exceptions.{made, fields_made, chain_made, rules_made, fun_made, decs_made, binds_made, funs_made, tests_made, op_made, te_fun_made, te_funs_made}
-use Rattle.match_compile.specs.Compile.{unclassed, Names, no_names, named, funs_named, past_group, scoped, bool_type, exception_type, atom, put, Otherwise, again, initial, otherwise, Spots, no_spots, spot, spots, spots_named, past_pat, tests, field_tests, Shape, plain, alone, recorded, shape, record_type, together, split, past_shape, shaped, grouped, Built, a_con, a_ref, an_exn, Way, by_call, by_building, by_performing, way, weighed, past_built, beginning, building, along, value_at, past_tuple, past_fields, past_chain, past_rules, past_decs, past_binds, past_fun, past_funs, val_named, decs_named, field_row, tuple_atoms, is_tuple, arity, making, making_tuple, making_all, links, rules, function, functions, bindings, decs, compile}
+use Rattle.match_compile.specs.Compile.{unclassed, Names, no_names, named, funs_named, past_group, scoped, bool_type, exception_type, atom, put, Otherwise, again, initial, otherwise, Spots, no_spots, spot, spots, spots_named, past_pat, tests, field_tests, Shape, plain, alone, recorded, shape, record_type, together, split, past_shape, shaped, grouped, Built, a_con, a_ref, an_exn, Way, by_call, by_building, by_performing, way, weighed, past_built, beginning, building, along, is_direct, value_at, past_tuple, past_fields, past_chain, past_rules, past_decs, past_binds, past_fun, past_funs, val_named, decs_named, field_row, tuple_atoms, is_tuple, arity, making, making_rule, making_tuple, making_all, links, rules, function, functions, bindings, decs, compile}
 use Rattle.match_compile.proofs.Keeps.{performed-tuple}
 use Rattle.match_compile.proofs.Weights.{NotCalled, not-called}
 
@@ -85,6 +85,10 @@ along-made by_call called built done us vs h g d = h
 along-made (by_building b) called built done us vs h g d = g b refl
 along-made (by_performing p u) called built done us vs h g d = d p u refl
 
+direct-made : (b : Bool) (x y : Tests) (us vs : List ℕ) → (b ≡ true → X x us ≡ vs) → X y us ≡ vs → X (if b then x else y) us ≡ vs
+direct-made true x y us vs h g = h refl
+direct-made false x y us vs h g = g
+
 grouped-made : (qs : List Quantified) (fs : te.Funs poly) (rest : Tests) (us : List ℕ) → X (grouped qs fs rest) us ≡ te_funs_made fs (X rest us)
 grouped-made qs te.no_funs rest us = refl
 grouped-made qs (te.fun x t f fs) rest us = refl
@@ -110,8 +114,9 @@ mutual
       (λ p u e. let m = past_tuple a n in let end = put D m t (te.prim (Some place) p (scoped D u) (tuple_atoms a n)) rest in
       weighed-made f a (making_tuple D N a n end) us (not-called f a (by_performing p u) e tt) ∙ ap (made f) (tuple-made D N a n end us (arity p) (performed-tuple f a p u e)))
   making-made D N (case_exp place t e rs) n rest us =
-      let i = value_at e n in let j = past_rules rs (suc i) in
-      making-made D N e n (put D j t (te.block (rules D N rs (type_of e) t (suc i) i (initial match_name))) rest) us ∙ ap (made e) (rules-made D N rs (type_of e) t (suc i) i (initial match_name) (X rest us))
+      let i = value_at e n in let j = past_rules rs (suc i) in let x = making_rule D N rs (type_of e) (suc i) i rest in let y = put D j t (te.block (rules D N rs (type_of e) t (suc i) i (initial match_name))) rest in
+      making-made D N e n (if is_direct rs then x else y) us
+      ∙ ap (made e) (direct-made (is_direct rs) x y us (rules_made rs (X rest us)) (λ d. rule-made D N rs d (type_of e) (suc i) i rest us) (rules-made D N rs (type_of e) t (suc i) i (initial match_name) (X rest us)))
   making-made D N (chain_exp b t c) n rest us =
       links-made D N c b n (X (otherwise D (past_chain c n) bool_type n (initial match_name)) (X rest us)) ∙ ap (chain_made c) (otherwise-made D (past_chain c n) bool_type n (initial match_name) (X rest us))
   making-made D N (handle_exp t e rs) n rest us =
@@ -120,6 +125,11 @@ mutual
   making-made D N (raise_exp t e) n rest us = making-made D N e n (put D (suc (value_at e n)) t (te.raise (atom (value_at e n))) rest) us
   making-made D N (fn_exp t f) n rest us = fun-made D N f n (X rest us)
   making-made D N (counted_exp j t e) n rest us = making-made D N e n rest us
+
+  rule-made : (D : List Quantified) (N : Names) (rs : Rules) → is_direct rs ≡ true → (u : Typ) (n a : ℕ) (rest : Tests) (us : List ℕ) → X (making_rule D N rs u n a rest) us ≡ rules_made rs (X rest us)
+  rule-made D N no_rules d u n a rest us = absurd (cc)
+  rule-made D N (a_rule p e no_rules) d u n a rest us = making-made D (spots_named (spots p u n a no_spots) N) e n rest us
+  rule-made D N (a_rule p e (a_rule q f rs)) d u n a rest us = absurd (cc)
 
   tuple-made : (D : List Quantified) (N : Names) (e : Exp) (n : ℕ) (rest : Tests) (us : List ℕ) (k : ℕ) → is_tuple k e ≡ true → X (making_tuple D N e n rest) us ≡ made e (X rest us)
   tuple-made D N (fields_exp t fs) n rest us k h = fields-made D N fs n rest us

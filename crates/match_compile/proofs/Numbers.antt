@@ -1,11 +1,11 @@
 -- New variables are numbered upwards.
-use Rattle.std.proofs.Common.{◌≡◌, ℕ, suc, ◌<◌, ◌≤◌, Bool, true, false, List, nat_eq, refl, arith}
+use Rattle.std.proofs.Common.{◌≡◌, ℕ, suc, ◌<◌, ◌≤◌, Bool, true, false, List, if◌then◌else◌, nat_eq, refl, arith}
 use Rattle.std.proofs.lemmas.Bool.{eqb-true}
 use Rattle.mlc_prims.specs.declared.basis.BasisPrimitive.{BasisPrimitive}
 use Rattle.ty_core.specs.Types.{Typ}
 use Rattle.ty_core.specs.declared.scheme.Quantified.{Quantified}
 use Rattle.ir_poly.specs.Prog.{Pat, any_pat, variable_pat, constant_pat, con_pat, con_of_pat, ref_of_pat, exn_pat, exn_of_pat, fields_pat, as_pat, PatFields, no_pats, a_pat, Exp, constant_exp, variable_exp, own_exp, con_exp, ref_exp, exn_exp, prim_exp, fields_exp, let_exp, app_exp, case_exp, chain_exp, handle_exp, raise_exp, fn_exp, counted_exp, Fields, no_fields, a_field, Chain, only, link, Rules, no_rules, a_rule, Fun, last, by_rules, more, Decs, no_decs, val_dec, exception_dec, counted_dec, Binds, no_binds, a_bind, Funs, no_funs, a_fun}
-use Rattle.match_compile.specs.Compile.{unclassed, past_group, Spots, no_spots, spot, spots, past_pat, past_pats, past_split, Shape, plain, alone, recorded, shape, past_shape, Built, a_con, a_ref, an_exn, Way, by_call, by_building, by_performing, way, past_built, along, value_at, past_tuple, past_fields, past_chain, past_rules, past_fun, past_decs, past_binds, past_funs}
+use Rattle.match_compile.specs.Compile.{unclassed, past_group, Spots, no_spots, spot, spots, past_pat, past_pats, past_split, Shape, plain, alone, recorded, shape, past_shape, Built, a_con, a_ref, an_exn, Way, by_call, by_building, by_performing, way, past_built, along, is_direct, value_at, value_of_rule, past_tuple, past_fields, past_chain, past_rules, past_fun, past_decs, past_binds, past_funs}
 
 pub different : (x y : ℕ) → (x ≡ y → ⊥) → nat_eq x y ≡ false
 different x y h = go (nat_eq x y) refl
@@ -72,6 +72,10 @@ along-up n by_call called built done h k l = h
 along-up n (by_building b) called built done h k l = k b
 along-up n (by_performing p u) called built done h k l = l p u
 
+if-up : (n : ℕ) (b : Bool) (x y : ℕ) → n ≤ x → n ≤ y → n ≤ (if b then x else y)
+if-up n true x y h k = h
+if-up n false x y h k = k
+
 mutual
   pub up : (e : Exp) (n : ℕ) → n ≤ value_at e n
   up (constant_exp l t) n = le-refl n
@@ -85,12 +89,16 @@ mutual
   up (let_exp t ds e) n = le-suc _ _ (le-suc _ _ (le-trans _ _ _ (decs-up ds n) (up e (past_decs ds n))))
   up (app_exp place t f a) n =
       along-up n (way f a) _ _ _ (le-suc _ _ (le-trans _ _ _ (up f n) (le-less _ _ (up a (suc (value_at f n)))))) (λ b. le-suc _ _ (le-trans _ _ _ (built-up b n) (up a (past_built b n)))) (λ p u. tuple-up a n)
-  up (case_exp place t e rs) n = le-trans _ _ _ (up e n) (le-less _ _ (rules-up rs (suc (value_at e n))))
+  up (case_exp place t e rs) n = if-up n (is_direct rs) _ _ (le-trans _ _ _ (up e n) (le-less _ _ (rule-up rs (suc (value_at e n))))) (le-trans _ _ _ (up e n) (le-less _ _ (rules-up rs (suc (value_at e n)))))
   up (chain_exp b t c) n = le-suc _ _ (chain-up c n)
   up (handle_exp t e rs) n = le-trans _ _ _ (up e n) (le-less _ _ (le-less _ _ (rules-up rs (suc (suc (value_at e n))))))
   up (raise_exp t e) n = le-suc _ _ (up e n)
   up (fn_exp t f) n = le-less _ _ (fun-up f n)
   up (counted_exp k t e) n = up e n
+
+  pub rule-up : (rs : Rules) (n : ℕ) → n ≤ value_of_rule rs n
+  rule-up no_rules n = le-refl n
+  rule-up (a_rule p e rs) n = up e n
 
   pub tuple-up : (e : Exp) (n : ℕ) → n ≤ past_tuple e n
   tuple-up (constant_exp l t) n = le-refl n

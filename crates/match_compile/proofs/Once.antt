@@ -12,7 +12,7 @@ use Rattle.ir_plain.specs.Tree as te
 use Rattle.ir_poly.specs.Prog.{Pat, any_pat, variable_pat, constant_pat, con_pat, con_of_pat, ref_of_pat, exn_pat, exn_of_pat, fields_pat, as_pat, PatFields, no_pats, a_pat, Exp, constant_exp, variable_exp, own_exp, con_exp, ref_exp, exn_exp, prim_exp, fields_exp, let_exp, app_exp, case_exp, chain_exp, handle_exp, raise_exp, fn_exp, counted_exp, Fields, no_fields, a_field, Chain, only, link, Rules, no_rules, a_rule, Fun, last, by_rules, more, Decs, no_decs, val_dec, exception_dec, counted_dec, Binds, no_binds, a_bind, Funs, no_funs, a_fun, type_of}
 use Rattle.ir_poly.specs.Tests.{poly, Tests}
 use Rattle.ir_poly.specs.Types.{unit_type}
-use Rattle.match_compile.specs.Compile.{Names, no_names, named, funs_named, past_group, scoped, bool_type, exception_type, atom, put, Otherwise, again, initial, otherwise, Spots, no_spots, spot, spots, spots_named, past_pat, past_pats, tests, field_tests, Shape, plain, alone, recorded, shape, record_type, together, split, past_split, past_shape, shaped, grouped, Built, a_con, a_ref, an_exn, Way, by_call, by_building, by_performing, way, weighed, past_built, beginning, building, along, value_at, past_tuple, past_fields, past_chain, past_rules, past_fun, past_decs, past_binds, past_funs, unclassed, val_named, decs_named, field_row, tuple_atoms, making, making_tuple, making_all, links, rules, function, functions, bindings, decs, compile}
+use Rattle.match_compile.specs.Compile.{Names, no_names, named, funs_named, past_group, scoped, bool_type, exception_type, atom, put, Otherwise, again, initial, otherwise, Spots, no_spots, spot, spots, spots_named, past_pat, past_pats, tests, field_tests, Shape, plain, alone, recorded, shape, record_type, together, split, past_split, past_shape, shaped, grouped, Built, a_con, a_ref, an_exn, Way, by_call, by_building, by_performing, way, weighed, past_built, beginning, building, along, is_direct, value_at, value_of_rule, past_tuple, past_fields, past_chain, past_rules, past_fun, past_decs, past_binds, past_funs, unclassed, val_named, decs_named, field_row, tuple_atoms, making, making_rule, making_tuple, making_all, links, rules, function, functions, bindings, decs, compile}
 use Rattle.match_compile.proofs.Numbers.{different}
 
 -- how many of the numbers below n are k
@@ -97,6 +97,10 @@ module _ (k : ℕ) where
   along-once (by_building b) n m i j l called built done h g d = g b
   along-once (by_performing p u) n m i j l called built done h g d = d p u
 
+  direct-once : (b : Bool) (n m i j : ℕ) (x y : Tests) → (b ≡ true → T x + n ≡ new k (suc i) + m) → T y + n ≡ new k (suc j) + m → T (if b then x else y) + n ≡ new k (suc (if b then i else j)) + m
+  direct-once true n m i j x y h g = h refl
+  direct-once false n m i j x y h g = g
+
   grouped-once : (qs : List Quantified) (fs : te.Funs poly) (rest : Tests) → T (grouped qs fs rest) ≡ funs_times (hit k) fs + T rest
   grouped-once qs te.no_funs rest = omega arith
   grouped-once qs (te.fun x t f fs) rest = refl
@@ -124,9 +128,9 @@ module _ (k : ℕ) where
         let s = beginning-once N b n (weighed f (making D N a m end)) in let w = weighed-once f (making D N a m end) in let h = making-once D N a m end in let g = building-once D b place t (type_of a) n i in omega (arith, s, w, h, g))
         (λ p u. let m = past_tuple a n in let end = put D m t (te.prim (Some place) p (scoped D u) (tuple_atoms a n)) rest in let w = weighed-once f (making_tuple D N a n end) in let h = tuple-once D N a n end in omega (arith, w, h))
     making-once D N (case_exp place t e rs) n rest =
-        let i = value_at e n in let j = past_rules rs (suc i) in
-        let h = making-once D N e n (put D j t (te.block (rules D N rs (type_of e) t (suc i) i (initial match_name))) rest) in
-        let g = rules-once D N rs (type_of e) t (suc i) i (initial match_name) in
+        let i = value_at e n in let j = past_rules rs (suc i) in let x = making_rule D N rs (type_of e) (suc i) i rest in let y = put D j t (te.block (rules D N rs (type_of e) t (suc i) i (initial match_name))) rest in
+        let h = making-once D N e n (if is_direct rs then x else y) in
+        let g = direct-once (is_direct rs) (new k (suc i)) (T rest) (value_of_rule rs (suc i)) j x y (λ d. rule-once D N rs d (type_of e) (suc i) i rest) (let l = rules-once D N rs (type_of e) t (suc i) i (initial match_name) in omega (arith, l)) in
         omega (arith, h, g)
     making-once D N (chain_exp b t c) n rest =
         let h = links-once D N c b n in let d = otherwise-once D (past_chain c n) bool_type n (initial match_name) in omega (arith, h, d)
@@ -138,6 +142,10 @@ module _ (k : ℕ) where
     making-once D N (raise_exp t e) n rest = let h = making-once D N e n (put D (suc (value_at e n)) t (te.raise (atom (value_at e n))) rest) in omega (arith, h)
     making-once D N (fn_exp t f) n rest = let h = fun-once D N f n in omega (arith, h)
     making-once D N (counted_exp j t e) n rest = making-once D N e n rest
+
+    rule-once : (D : List Quantified) (N : Names) (rs : Rules) → is_direct rs ≡ true → (u : Typ) (n a : ℕ) (rest : Tests) → T (making_rule D N rs u n a rest) + new k n ≡ new k (suc (value_of_rule rs n)) + T rest
+    rule-once D N no_rules d u n a rest = absurd (cc)
+    rule-once D N (a_rule p e rs) d u n a rest = making-once D (spots_named (spots p u n a no_spots) N) e n rest
 
     tuple-once : (D : List Quantified) (N : Names) (e : Exp) (n : ℕ) (rest : Tests) → T (making_tuple D N e n rest) + new k n ≡ new k (past_tuple e n) + T rest
     tuple-once D N (fields_exp t fs) n rest = fields-once D N fs n rest

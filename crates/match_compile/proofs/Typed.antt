@@ -1,5 +1,5 @@
 -- The compiled program is well typed where the program is.
-use Rattle.std.proofs.Common.{◌≡◌, ℕ, suc, ◌<◌, ◌≤◌, Bool, true, false, not, List, [], ◌∷◌, ◌++◌, map, Option, Some, None, nat_lt, refl, sym, ap, subst, ◌∙◌, arith}
+use Rattle.std.proofs.Common.{if◌then◌else◌, ◌≡◌, ℕ, suc, ◌<◌, ◌≤◌, Bool, true, false, not, List, [], ◌∷◌, ◌++◌, map, Option, Some, None, nat_lt, refl, sym, ap, subst, ◌∙◌, arith}
 use Rattle.mlc_base.specs.declared.label.Label.{Label}
 use Rattle.mlc_base.specs.declared.place.Place.{Place}
 use Rattle.mlc_prims.specs.declared.basis.BasisPrimitive.{BasisPrimitive}
@@ -14,16 +14,16 @@ use Rattle.ir_poly.specs.ProgChecked as pr
 use Rattle.ir_poly.specs.ProgChecked.{ExcChecked, pat_onto, funs_onto, binds_onto}
 use Rattle.ir_poly.specs.Tests.{Tests}
 use Rattle.ir_poly.specs.Types.{function_type, ref_type, row_type, unit_type, admits_in, over, are_new, Constructor, argument_at, prim_type, arguments_at, result_at, numbered, tuple_type, put}
-use Rattle.ir_poly.specs.TestsChecked.{of_type, own, exception, Knowns, exn_type, HasConstructor, value_type, alone_type, declared, AtomChecked, AtomsChecked, no_atoms_checked, an_atom_checked, RowChecked, no_row_checked, a_row_checked, con_checked, Checked, c_ret, c_let, c_exception, c_exception_alone, c_name, c_switch, c_first, c_counted, c_no_arms, c_arm, OpChecked, c_use, c_use_one, c_use_own, c_use_exception, c_const, c_con_alone, c_construct, c_ref_alone, c_refer, c_pack, c_make_record, c_prim_alone, c_prim, c_app, c_fn, c_block, c_handle, c_raise, c_raise_initial, FunChecked, c_last, c_more, FunsChecked, c_no_funs, c_fun}
+use Rattle.ir_poly.specs.TestsChecked.{Known, of_type, own, exception, Knowns, exn_type, HasConstructor, value_type, alone_type, declared, AtomChecked, AtomsChecked, no_atoms_checked, an_atom_checked, RowChecked, no_row_checked, a_row_checked, con_checked, Checked, c_ret, c_let, c_exception, c_exception_alone, c_name, c_switch, c_first, c_counted, c_no_arms, c_arm, OpChecked, c_use, c_use_one, c_use_own, c_use_exception, c_const, c_con_alone, c_construct, c_ref_alone, c_refer, c_pack, c_make_record, c_prim_alone, c_prim, c_app, c_fn, c_block, c_handle, c_raise, c_raise_initial, FunChecked, c_last, c_more, FunsChecked, c_no_funs, c_fun}
 use Rattle.ir_poly.proofs.SaidLemmas.{said}
 use Rattle.ir_poly.proofs.ReplaceLemmas.{left-true, both-true, row_read, row_type-read, arguments-read, result-read, tuple-read}
 use Rattle.match_compile.specs.Compile as pass
-use Rattle.match_compile.specs.Compile.{Names, no_names, named, funs_named, past_group, scoped, all_scoped, option_scoped, standing, unclassed, bool_type, exception_type, atom, excepted, Otherwise, again, initial, otherwise, otherwise_op, Spots, no_spots, spot, spots, spots_named, past_pat, tests, Shape, plain, alone, recorded, general_shape, shape, record_type, together, past_shape, shape_spots, shaped, grouped, Built, a_con, a_ref, an_exn, Way, by_call, by_building, by_performing, used_at, is_tuple, arity, performed, way, weighed, past_built, beginning, building, along, value_at, past_tuple, past_fields, past_chain, past_rules, past_fun, past_decs, past_binds, past_funs, binds_spots, val_named, decs_named, field_row, field_atoms, tuple_atoms, making, making_tuple, making_all, links, rules, function, functions, bindings, decs, compile}
+use Rattle.match_compile.specs.Compile.{Names, no_names, named, funs_named, past_group, scoped, all_scoped, option_scoped, standing, unclassed, bool_type, exception_type, atom, excepted, Otherwise, again, initial, otherwise, otherwise_op, Spots, no_spots, spot, spots, spots_named, past_pat, tests, Shape, plain, alone, recorded, general_shape, shape, record_type, together, past_shape, shape_spots, shaped, grouped, Built, a_con, a_ref, an_exn, Way, by_call, by_building, by_performing, used_at, is_tuple, arity, performed, way, weighed, past_built, beginning, building, along, fits_all, is_direct, value_at, value_of_rule, past_tuple, past_fields, past_chain, past_rules, past_fun, past_decs, past_binds, past_funs, binds_spots, val_named, decs_named, field_row, field_atoms, tuple_atoms, making, making_rule, making_tuple, making_all, links, rules, function, functions, bindings, decs, compile}
 use Rattle.match_compile.proofs.Numbers.{le-trans, le-suc, le-refl, le-less, less-of, pat-up, shape-up, group-up, up, tuple-up, fields-up, chain-up, fun-up, rules-up, binds-up, funs-up}
 use Rattle.match_compile.proofs.Keeps.{performed-not-built, performed-tuple, sole}
 use Rattle.match_compile.proofs.Values.{tests-value, value-made}
 use Rattle.match_compile.proofs.TypeLemmas.{scoped-over, scoped-all-over, Within, within-none, within-more, within-less, new-within, allows-scoped, are-allowed-scoped, instance-scoped, allowed-unclassed, literal-scoped, value-scoped, alone-scoped, constructor-scoped, tuple-many}
-use Rattle.match_compile.proofs.TypedLemmas.{SameKnowns, Holds, holds-refl, holds-trans, holds-bind, here, knowns-up, knowns-bind, knowns-one, knowns-more, knowns-less, KnownAs, as_own, as_exception, declared-known, type-found, own-found, exception-found, general-found, atom-holds, atom-here, may-general, name-typed, put-typed, otherwise-typed, Places, places_none, tests-typed, Bound, bound_none, bound_one, bound-more, bound-onto, bound-places, Along, along_none, together-typed, record-split, AllOver, none_over, one_over, group-holds, group-known, grouped-typed}
+use Rattle.match_compile.proofs.TypedLemmas.{SameKnowns, Holds, holds-refl, holds-trans, holds-bind, here, knowns-up, knowns-bind, knowns-one, knowns-more, knowns-less, KnownAs, as_own, as_exception, declared-known, type-found, own-found, exception-found, general-found, atom-holds, atom-here, may-general, name-typed, put-typed, otherwise-typed, Places, places_none, places_one, tests-typed, Bound, bound_none, bound_one, bound-more, bound-onto, bound-places, Along, along_none, together-typed, record-split, AllOver, none_over, one_over, group-holds, group-known, grouped-typed}
 use Rattle.match_compile.proofs.TypedLemmas as lemmas
 
 performed-all : (x : Bool) (p q : BasisPrimitive) (u v : Typ) → performed x p u ≡ by_performing q v → (x ≡ true) × (p ≡ q) × (u ≡ v)
@@ -228,6 +228,25 @@ module _ (table : List Constructor) (truths : (b : Bool) → HasConstructor tabl
       (record-split table qs S D (new-within qs D S w new) r (lemmas.along table cp o (suc i) i along_none) (suc r) (here r k0 H) (omega arith) (bound-more table n (suc r) (le-suc _ _ lr) h1 b)
       (λ H2 h2 b2. k H2 (holds-trans n (suc r) H H1 H2 (le-suc _ _ lr) h1 h2) b2))
 
+  -- the variables of a pattern that any value fits
+  fit-places : {S : List Quantified} (p : Pat) → fits_all p ≡ true → (f : Typ → Known) (D : List Quantified) (H : Knowns) (us : Spots) (G0 : Knowns) (n k : ℕ) (t : Typ) {vs : Spots} {G : Knowns} → k < n → over S t ≡ true → AtomChecked H (atom k) (scoped D t) → Places table f n S D H us G0 vs G
+      → Places table f n S D H us G0 (spots p t n k vs) (pat_onto f p t G)
+  fit-places any_pat d f D H us G0 n k t lt o a h = h
+  fit-places (variable_pat x) d f D H us G0 n k t lt o a h = places_one lt o a h
+  fit-places (as_pat x p) d f D H us G0 n k t lt o a h = fit-places p d f D H us G0 n k t lt o a (places_one lt o a h)
+  fit-places (constant_pat l) d f D H us G0 n k t lt o a h = absurd (cc)
+  fit-places (con_pat c) d f D H us G0 n k t lt o a h = absurd (cc)
+  fit-places (con_of_pat c u p) d f D H us G0 n k t lt o a h = absurd (cc)
+  fit-places (ref_of_pat u p) d f D H us G0 n k t lt o a h = absurd (cc)
+  fit-places (exn_pat x) d f D H us G0 n k t lt o a h = absurd (cc)
+  fit-places (exn_of_pat x u p) d f D H us G0 n k t lt o a h = absurd (cc)
+  fit-places (fields_pat further ps) d f D H us G0 n k t lt o a h = absurd (cc)
+
+  direct-typed : {m : Bool} (b : Bool) (D : List Quantified) (n i j : ℕ) (H : Knowns) (a : Typ) (x y : Tests) {rest : Tests} (z : Typ) → (b ≡ true → Follows m D n i H a rest z → Checked table m D H x z) → (Follows m D n j H a rest z → Checked table m D H y z) → Follows m D n (if b then i else j) H a rest z
+      → Checked table m D H (if b then x else y) z
+  direct-typed true D n i j H a x y z h g f = h refl f
+  direct-typed false D n i j H a x y z h g f = g f
+
   funs-over : {S : List Quantified} {G : Knowns} {fs : Funs} → pr.FunsChecked table S G fs → AllOver table S fs
   funs-over pr.c_no_funs = none_over
   funs-over (pr.c_fun o f fs) = one_over o (funs-over fs)
@@ -259,9 +278,12 @@ module _ (table : List Constructor) (truths : (b : Bool) → HasConstructor tabl
     making-typed (pr.c_app {place = place} {f = g} {a = a} h k e) w N m n H rest z s f = ways-typed (way g a) g a place refl w h e (said k) (making-typed h w N) (making-typed k w N) (λ j d. tuple-typed j k d w N) m n H rest z s f
     making-typed {S} {D} (pr.c_case {e = e} {rs = rs} {u = u} {t = t} h o k) w N m n H rest z s f =
         let i = value_at e n in let j = past_rules rs (suc i) in let le = le-suc _ _ (up e n) in
-        making-typed h w N m n H _ z s (λ H1 h1 w1. put-typed table D (suc i) j t (rules-up rs (suc i))
-        (c_block (subst (λ y. Checked table false D H1 (rules D N rs y t (suc i) i (initial match_name)) (scoped D t)) (said h) (rules-typed k w o N (suc i) i (initial match_name) (knowns-up n (suc i) le h1 s) w1 (omega arith) (c_raise_initial refl))))
-        (more-follows D n (suc i) j H H1 t le h1 f))
+        making-typed h w N m n H _ z s (λ H1 h1 w1. let s1 = knowns-up n (suc i) le h1 s in
+        direct-typed (is_direct rs) D (suc i) (value_of_rule rs (suc i)) j H1 t (making_rule D N rs (type_of e) (suc i) i rest) _ z
+        (λ d f1. subst (λ y. Checked table m D H1 (making_rule D N rs y (suc i) i rest) z) (said h) (rule-typed k d w o N m (suc i) i H1 rest z s1 w1 (omega arith) f1))
+        (λ f1. put-typed table D (suc i) j t (rules-up rs (suc i))
+        (c_block (subst (λ y. Checked table false D H1 (rules D N rs y t (suc i) i (initial match_name)) (scoped D t)) (said h) (rules-typed k w o N (suc i) i (initial match_name) s1 w1 (omega arith) (c_raise_initial refl)))) f1)
+        (more-follows D n (suc i) (if is_direct rs then value_of_rule rs (suc i) else j) H H1 t le h1 f))
     making-typed {D = D} (pr.c_chain {b = b} {c = c} {t = t} h d) w N m n H rest z s f =
         let i = past_chain c n in
         put-typed table D n (suc i) t (le-suc _ _ (chain-up c n)) (c_block (subst (λ y. Checked table false D H (te.first (links D N c b n) (otherwise D i bool_type n (initial match_name))) (scoped D y)) (sym d) (c_first (links-typed h w N b n s) (otherwise-typed table D i n (initial match_name) bool_type (c_raise_initial refl))))) f
@@ -274,6 +296,14 @@ module _ (table : List Constructor) (truths : (b : Bool) → HasConstructor tabl
         making-typed h w N m n H _ z s (λ H1 h1 w1. put-typed table D (suc i) (suc i) t (le-refl (suc i)) (c_raise w1 (ap (scoped D) d)) (more-follows D n (suc i) (suc i) H H1 t le h1 f))
     making-typed {D = D} (pr.c_fn {f = g} {t = t} h) w N m n H rest z s f = put-typed table D n (past_fun g n) t (le-less _ _ (fun-up g n)) (c_fn (fun-typed h w N n s)) f
     making-typed (pr.c_counted h) w N m n H rest z s f = c_counted (making-typed h w N m n H rest z s f)
+
+    -- a rule that any value fits
+    rule-typed : {S D : List Quantified} {G : Knowns} {rs : Rules} {u t : Typ} → pr.RulesChecked table S G rs u t → is_direct rs ≡ true → Within D S → over S u ≡ true → (N : Names) (m : Bool) (n k : ℕ) (H : Knowns) (rest : Tests) (z : Typ) → SameKnowns n S D N G H → AtomChecked H (atom k) (scoped D u) → k < n
+        → Follows m D n (value_of_rule rs n) H t rest z → Checked table m D H (making_rule D N rs u n k rest) z
+    rule-typed pr.c_no_rules d w o N m n k H rest z s a lt f = absurd (cc)
+    rule-typed {S} {D} {G} (pr.c_rule {p = p} {u = u} c l pr.c_no_rules) d w o N m n k H rest z s a lt f =
+        making-typed l w (spots_named (spots p u n k no_spots) N) m n H rest z (bound-onto table s (bound-places table (λ t. refl) bound_none (fit-places p d of_type D H no_spots G n k u lt o a places_none))) f
+    rule-typed (pr.c_rule c l (pr.c_rule b k ks)) d w o N m n j H rest z s a lt f = absurd (cc)
 
     tuple-typed : {S D : List Quantified} {G : Knowns} {e : Exp} {a : Typ} (k : ℕ) → pr.Checked table S G e a → is_tuple k e ≡ true → Within D S → (N : Names) → TupleTyped S D N G e a
     tuple-typed k (pr.c_fields {r = r} h d) e w N m n H rest z s f = fields-typed h w N m n H rest z s (λ H1 h1 w1 a1. f H1 h1 r d a1)

@@ -1,5 +1,5 @@
 -- The weights of a program are in the compiled one, none lost and none twice.
-use Rattle.std.proofs.Common.{◌≡◌, ℕ, suc, ◌+◌, Bool, true, not, List, [], ◌++◌, Some, refl, sym, subst, arith}
+use Rattle.std.proofs.Common.{◌≡◌, ℕ, suc, ◌+◌, Bool, true, not, List, [], ◌++◌, Some, if◌then◌else◌, refl, sym, subst, arith, false}
 use Rattle.std.specs.Prelude.{⊤}
 use Rattle.mlc_base.specs.declared.place.Place.{Place}
 use Rattle.mlc_prims.specs.declared.basis.BasisPrimitive.{BasisPrimitive}
@@ -13,7 +13,7 @@ use Rattle.ir_poly.specs.Prog.{Pat, any_pat, variable_pat, constant_pat, con_pat
 use Rattle.ir_poly.specs.ProgWeight.{weight, fields_weight, chain_weight, rules_weight, fun_weight, decs_weight, binds_weight, funs_weight}
 use Rattle.ir_poly.specs.Tests.{poly, Tests}
 use Rattle.ir_poly.specs.Types.{unit_type}
-use Rattle.match_compile.specs.Compile.{Names, no_names, named, funs_named, past_group, scoped, bool_type, exception_type, atom, put, Otherwise, again, initial, otherwise, Spots, no_spots, spot, spots, spots_named, past_pat, tests, field_tests, Shape, plain, alone, recorded, shape, record_type, together, split, past_shape, shaped, grouped, Built, a_con, a_ref, an_exn, Way, by_call, by_building, by_performing, way, weighed, past_built, beginning, building, along, value_at, past_tuple, past_fields, past_chain, past_rules, past_fun, past_decs, past_binds, past_funs, unclassed, val_named, decs_named, field_row, tuple_atoms, is_tuple, arity, making, making_tuple, making_all, links, rules, function, functions, bindings, decs, compile}
+use Rattle.match_compile.specs.Compile.{Names, no_names, named, funs_named, past_group, scoped, bool_type, exception_type, atom, put, Otherwise, again, initial, otherwise, Spots, no_spots, spot, spots, spots_named, past_pat, tests, field_tests, Shape, plain, alone, recorded, shape, record_type, together, split, past_shape, shaped, grouped, Built, a_con, a_ref, an_exn, Way, by_call, by_building, by_performing, way, weighed, past_built, beginning, building, along, is_direct, value_at, past_tuple, past_fields, past_chain, past_rules, past_fun, past_decs, past_binds, past_funs, unclassed, val_named, decs_named, field_row, tuple_atoms, is_tuple, arity, making, making_rule, making_tuple, making_all, links, rules, function, functions, bindings, decs, compile}
 use Rattle.match_compile.proofs.Keeps.{performed-tuple}
 
 abbrev W : Tests → ℕ
@@ -99,6 +99,10 @@ along-weight by_call m called built done h g d = h
 along-weight (by_building b) m called built done h g d = g b refl
 along-weight (by_performing p u) m called built done h g d = d p u refl
 
+direct-weight : (b : Bool) (m : ℕ) (x y : Tests) → (b ≡ true → W x ≡ m) → W y ≡ m → W (if b then x else y) ≡ m
+direct-weight true m x y h g = h refl
+direct-weight false m x y h g = g
+
 grouped-weight : (qs : List Quantified) (fs : te.Funs poly) (rest : Tests) → W (grouped qs fs rest) ≡ plain_weight.funs_weight fs + W rest
 grouped-weight qs te.no_funs rest = omega arith
 grouped-weight qs (te.fun x t f fs) rest = refl
@@ -127,9 +131,9 @@ mutual
       (λ p u e. let m = past_tuple a n in let end = put D m t (te.prim (Some place) p (scoped D u) (tuple_atoms a n)) rest in
       let w = weighed-weight f a (making_tuple D N a n end) (not-called f a (by_performing p u) e tt) in let h = tuple-weight D N a n end (arity p) (performed-tuple f a p u e) in omega (arith, w, h))
   making-weight D N (case_exp place t e rs) n rest =
-      let i = value_at e n in let j = past_rules rs (suc i) in
-      let h = making-weight D N e n (put D j t (te.block (rules D N rs (type_of e) t (suc i) i (initial match_name))) rest) in
-      let g = rules-weight D N rs (type_of e) t (suc i) i (initial match_name) in
+      let i = value_at e n in let j = past_rules rs (suc i) in let x = making_rule D N rs (type_of e) (suc i) i rest in let y = put D j t (te.block (rules D N rs (type_of e) t (suc i) i (initial match_name))) rest in
+      let h = making-weight D N e n (if is_direct rs then x else y) in
+      let g = direct-weight (is_direct rs) (rules_weight rs + W rest) x y (λ d. rule-weight D N rs d (type_of e) (suc i) i rest) (let l = rules-weight D N rs (type_of e) t (suc i) i (initial match_name) in omega (arith, l)) in
       omega (arith, h, g)
   making-weight D N (chain_exp b t c) n rest =
       let h = links-weight D N c b n in let d = otherwise-weight D (past_chain c n) bool_type n (initial match_name) in omega (arith, h, d)
@@ -141,6 +145,11 @@ mutual
   making-weight D N (raise_exp t e) n rest = let h = making-weight D N e n (put D (suc (value_at e n)) t (te.raise (atom (value_at e n))) rest) in omega (arith, h)
   making-weight D N (fn_exp t f) n rest = let h = fun-weight D N f n in omega (arith, h)
   making-weight D N (counted_exp j t e) n rest = let h = making-weight D N e n rest in omega (arith, h)
+
+  rule-weight : (D : List Quantified) (N : Names) (rs : Rules) → is_direct rs ≡ true → (u : Typ) (n a : ℕ) (rest : Tests) → W (making_rule D N rs u n a rest) ≡ rules_weight rs + W rest
+  rule-weight D N no_rules d u n a rest = absurd (cc)
+  rule-weight D N (a_rule p e no_rules) d u n a rest = let h = making-weight D (spots_named (spots p u n a no_spots) N) e n rest in omega (arith, h)
+  rule-weight D N (a_rule p e (a_rule q f rs)) d u n a rest = absurd (cc)
 
   tuple-weight : (D : List Quantified) (N : Names) (e : Exp) (n : ℕ) (rest : Tests) (k : ℕ) → is_tuple k e ≡ true → W (making_tuple D N e n rest) ≡ weight e + W rest
   tuple-weight D N (fields_exp t fs) n rest k h = fields-weight D N fs n rest

@@ -329,6 +329,19 @@ building D (a_con c) place t u n a = construct (Some place) c (scoped D t) (atom
 building D (a_ref w) place t u n a = refer (Some place) (scoped D w) (atom a)
 building D (an_exn x) place t u n a = pack (Some place) (scoped D u) (atom n) (atom a)
 
+-- A match of one rule whose pattern any value fits needs no tests: the variables are the value, and the rule's expression comes at once. So are sequences.
+
+abbrev pub fits_all : Pat → Bool
+fits_all any_pat = true
+fits_all (variable_pat x) = true
+fits_all (as_pat x p) = fits_all p
+fits_all p = false
+
+abbrev pub is_direct : Rules → Bool
+is_direct no_rules = false
+is_direct (a_rule p e no_rules) = fits_all p
+is_direct (a_rule p e (a_rule q d rs)) = false
+
 -- one of three ways
 abbrev pub along : {A : Type 0} → Way → (called : A) → (built : Built → A) → (done : BasisPrimitive → Typ → A) → A
 along by_call called built done = called
@@ -349,12 +362,16 @@ abbrev mutual
   value_at (fields_exp t fs) n = past_fields fs n
   value_at (let_exp t ds e) n = suc (suc (value_at e (past_decs ds n)))
   value_at (app_exp place t f a) n = along (way f a) (suc (value_at a (suc (value_at f n)))) (λ b. suc (value_at a (past_built b n))) (λ p u. past_tuple a n)
-  value_at (case_exp place t e rs) n = past_rules rs (suc (value_at e n))
+  value_at (case_exp place t e rs) n = if is_direct rs then value_of_rule rs (suc (value_at e n)) else past_rules rs (suc (value_at e n))
   value_at (chain_exp b t c) n = suc (past_chain c n)
   value_at (handle_exp t e rs) n = past_rules rs (suc (suc (value_at e n)))
   value_at (raise_exp t e) n = suc (value_at e n)
   value_at (fn_exp t f) n = past_fun f n
   value_at (counted_exp k t e) n = value_at e n
+
+  pub value_of_rule : Rules → (n : ℕ) → ℕ
+  value_of_rule no_rules n = n
+  value_of_rule (a_rule p e rs) n = value_at e n
 
   pub past_tuple : Exp → (n : ℕ) → ℕ
   past_tuple (fields_exp t fs) n = past_fields fs n
@@ -446,7 +463,10 @@ abbrev mutual
       beginning N b n (weighed f (making D N a (past_built b n) (put D (suc i) t (building D b place t (type_of a) n i) rest))))
       (λ p u. weighed f (making_tuple D N a n (put D (past_tuple a n) t (prim (Some place) p (scoped D u) (tuple_atoms a n)) rest)))
   making D N (case_exp place t e rs) n rest =
-      let i = value_at e n in making D N e n (put D (past_rules rs (suc i)) t (block (rules D N rs (type_of e) t (suc i) i (initial match_name))) rest)
+      let i = value_at e n in
+      making D N e n
+      (if is_direct rs then making_rule D N rs (type_of e) (suc i) i rest
+      else put D (past_rules rs (suc i)) t (block (rules D N rs (type_of e) t (suc i) i (initial match_name))) rest)
   making D N (chain_exp b t c) n rest =
       put D (suc (past_chain c n)) t (block (first (links D N c b n) (otherwise D (past_chain c n) bool_type n (initial match_name)))) rest
   making D N (handle_exp t e rs) n rest =
@@ -456,6 +476,11 @@ abbrev mutual
   making D N (raise_exp t e) n rest = making D N e n (put D (suc (value_at e n)) t (raise (atom (value_at e n))) rest)
   making D N (fn_exp t f) n rest = put D (past_fun f n) t (fn (function D N f n)) rest
   making D N (counted_exp k t e) n rest = counted k (making D N e n rest)
+
+  -- the expression of a rule that any value fits, where the value of type u is in the variable a
+  pub making_rule : List Quantified → Names → Rules → (u : Typ) → (n a : ℕ) → Tests → Tests
+  making_rule D N no_rules u n a rest = rest
+  making_rule D N (a_rule p e rs) u n a rest = making D (spots_named (spots p u n a no_spots) N) e n rest
 
   -- the fields of a tuple that is written
   pub making_tuple : List Quantified → Names → Exp → (n : ℕ) → Tests → Tests
