@@ -1,5 +1,5 @@
 -- Numbers of types.
-use Rattle.std.proofs.Common.{◌≡◌, ℕ, suc, List, [], ◌∷◌, map, length, Bool, true, false, Option, Some, None, if◌then◌else◌, refl, sym, ap, subst, zero, ◌&&◌}
+use Rattle.std.proofs.Common.{◌≡◌, ℕ, suc, List, [], ◌∷◌, map, length, Bool, true, false, Option, Some, if◌then◌else◌, refl, sym, ap, subst, zero, ◌&&◌}
 use Rattle.std.specs.Map.{lookup}
 use Rattle.mlc_base.specs.declared.label.Label.{Label}
 use Rattle.mlc_base.specs.declared.label.Label.TheVariants.{Number}

@@ -4,10 +4,10 @@ use Rattle.std.specs.Prelude.{slice_set}
 use Rattle.ty_core.specs.Types.{Symbol, name, Typ, Typs, attribute, allowed}
 use Rattle.ty_core.specs.declared.name.TyName.{TyName}
 use Rattle.ir_poly.specs.Types.{Constructor, find}
-use Rattle.ir_mono.specs.Types.{Row, Node, node, node_at, constructor_at, admits, Is, IsExn, Stands, stands_var, stands_con, AllStand, stand_none, stand_more, IsTable}
-use Rattle.ir_mono.specs.Growing.{IsNewRow, IsNewConstructor, with_constructor}
-use Rattle.ir_mono.proofs.Growing.{OldOrNew, is_old, is_new, node-where, constructor-where, node-still, admits-still, Admitted, admitted_old, admitted_new, admits-where, Entered, entered_old, entered_new, constructor-set, admits-set, type-there, pushed, past-end, nodes-added, added-table}
-use Rattle.monomorphise.specs.Simple.{all_flagged, AllThere, none_there, one_there, nth_part, ArgumentIs, argument_is_none, argument_is, IsTableOf, IsNewTypeOf, IsNewConstructorOf}
+use Rattle.ir_mono.specs.Types.{Row, Node, node, node_at, constructor_at, admits, Is, Stands, stands_var, stands_con, AllStand, stand_none, stand_more}
+use Rattle.ir_mono.specs.Growing.{with_constructor}
+use Rattle.ir_mono.proofs.Growing.{OldOrNew, is_old, is_new, node-where, constructor-where, node-still, admits-still, Entered, entered_old, entered_new, constructor-set, admits-set, type-there, pushed, nodes-added, added-table}
+use Rattle.monomorphise.specs.Simple.{all_flagged, AllThere, none_there, one_there, ArgumentIs, argument_is_none, argument_is, IsTableOf, IsNewTypeOf, IsNewConstructorOf}
 
 module _ (types types' : List Row) (still : (n : ℕ) (k : Node) → node_at types n ≡ Some k → node_at types' n ≡ Some k) where
   all-there-still : {ps : List ℕ} → AllThere types ps → AllThere types' ps

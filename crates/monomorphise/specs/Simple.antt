@@ -72,7 +72,7 @@ pub record IsNewConstructorOf (constructors : List Constructor) (types : List Ro
 abbrev pub TypesArePushed : Type 0
 TypesArePushed =
     (constructors : List Constructor) (types : List Row) (r : Row) → IsTableOf constructors types → IsNewTypeOf types r
-        → IsTableOf constructors (types ++ r ∷ [])
+    → IsTableOf constructors (types ++ r ∷ [])
 
 abbrev pub ConstructorsAreAdded : Type 0
 ConstructorsAreAdded =
