@@ -4,7 +4,7 @@ use Rattle.std.specs.Prelude.{slice_set}
 use Rattle.std.proofs.lemmas.Bool.{eqb-true, eq-eqb}
 use Rattle.std.specs.Map.{lookup}
 use Rattle.mlc_base.specs.declared.label.Label.{Label}
-use Rattle.mlc_prims.specs.LitOf.{Literal, int, word, char, string}
+use Rattle.mlc_prims.specs.LitOf.{Literal}
 use Rattle.ty_core.specs.Types.{labels, name, Typ, Typs}
 use Rattle.ty_core.specs.declared.name.TyName.{TyName}
 use Rattle.ir_values.specs.Values.{truth_number}
@@ -13,7 +13,7 @@ use Rattle.ir_mono.specs.Growing.{MayCompare, integers_may, words_may, character
 
 -- What is there stays.
 
-node-still : (types more : List Row) (n : ℕ) {k : Node} → node_at types n ≡ Some k → node_at (types ++ more) n ≡ Some k
+pub node-still : (types more : List Row) (n : ℕ) {k : Node} → node_at types n ≡ Some k → node_at (types ++ more) n ≡ Some k
 node-still [] more n e = absurd (cc)
 node-still (r ∷ types) more zero e = e
 node-still (r ∷ types) more (suc n) e = node-still types more n e
@@ -23,7 +23,7 @@ constructor-still [] more n c e = absurd (cc)
 constructor-still (r ∷ types) more zero c e = e
 constructor-still (r ∷ types) more (suc n) c e = constructor-still types more n c e
 
-admits-still : (types more : List Row) (n : ℕ) → admits types n ≡ true → admits (types ++ more) n ≡ true
+pub admits-still : (types more : List Row) (n : ℕ) → admits types n ≡ true → admits (types ++ more) n ≡ true
 admits-still [] more n e = absurd (cc)
 admits-still (r ∷ types) more zero e = e
 admits-still (r ∷ types) more (suc n) e = admits-still types more n e
@@ -49,11 +49,11 @@ all-admit-still types types' h (admit_more {n = n} a as_) = admit_more (h n a) (
 
 -- a new type
 
-data OldOrNew (types : List Row) (r : Row) (n : ℕ) (k : Node) : Type 0 where
+pub data OldOrNew (types : List Row) (r : Row) (n : ℕ) (k : Node) : Type 0 where
   is_old : node_at types n ≡ Some k → OldOrNew types r n k
   is_new : n ≡ length types → r.type ≡ k → OldOrNew types r n k
 
-node-where : (types : List Row) (r : Row) (n : ℕ) {k : Node} → node_at (types ++ r ∷ []) n ≡ Some k → OldOrNew types r n k
+pub node-where : (types : List Row) (r : Row) (n : ℕ) {k : Node} → node_at (types ++ r ∷ []) n ≡ Some k → OldOrNew types r n k
 node-where [] r zero e = is_new refl (let same : r.type ≡ _ = cc in same)
 node-where [] r (suc n) e = absurd (cc)
 node-where (p ∷ types) r zero e = is_old e
@@ -67,17 +67,17 @@ no-entry : (cs : List (ℕ × Option ℕ)) (c : ℕ) {a : Option ℕ} → cs ≡
 no-entry [] c e d = cc
 no-entry (x ∷ cs) c e d = cc
 
-constructor-where : (types : List Row) (r : Row) (n c : ℕ) {a : Option ℕ} → r.constructors ≡ [] → constructor_at (types ++ r ∷ []) n c ≡ Some a → constructor_at types n c ≡ Some a
+pub constructor-where : (types : List Row) (r : Row) (n c : ℕ) {a : Option ℕ} → r.constructors ≡ [] → constructor_at (types ++ r ∷ []) n c ≡ Some a → constructor_at types n c ≡ Some a
 constructor-where [] r zero c q e = absurd (no-entry r.constructors c q e)
 constructor-where [] r (suc n) c q e = absurd (cc)
 constructor-where (p ∷ types) r zero c q e = e
 constructor-where (p ∷ types) r (suc n) c q e = constructor-where types r n c q e
 
-data Admitted (types : List Row) (r : Row) (n : ℕ) : Type 0 where
+pub data Admitted (types : List Row) (r : Row) (n : ℕ) : Type 0 where
   admitted_old : admits types n ≡ true → Admitted types r n
   admitted_new : n ≡ length types → r.equality ≡ true → Admitted types r n
 
-admits-where : (types : List Row) (r : Row) (n : ℕ) → admits (types ++ r ∷ []) n ≡ true → Admitted types r n
+pub admits-where : (types : List Row) (r : Row) (n : ℕ) → admits (types ++ r ∷ []) n ≡ true → Admitted types r n
 admits-where [] r zero e = admitted_new refl e
 admits-where [] r (suc n) e = absurd (cc)
 admits-where (p ∷ types) r zero e = admitted_old e
@@ -113,7 +113,7 @@ module _ (types : List Row) (r : Row) (table : IsTable types) (row : IsNewRow ty
   old-comparable n (records_are h as_) = records_are (node-grown n _ h) (all-admit-still types grown (admits-still types (r ∷ [])) as_)
   old-comparable n (constructions_are h m f) = constructions_are (node-grown n _ h) m (λ c a e. admits-still types (r ∷ []) a (f c a (constructor-where types r n c row.none e)))
 
-  past-end : (ts : List Row) (c : ℕ) {a : Option ℕ} → constructor_at ts (length ts) c ≡ Some a → ⊥
+  pub past-end : (ts : List Row) (c : ℕ) {a : Option ℕ} → constructor_at ts (length ts) c ≡ Some a → ⊥
   past-end [] c e = cc
   past-end (p ∷ ts) c e = past-end ts c e
 
@@ -166,34 +166,34 @@ node-set (p ∷ types) zero r c a e (suc i) = refl
 node-set (p ∷ types) (suc n) r c a e zero = refl
 node-set (p ∷ types) (suc n) r c a e (suc i) = node-set types n r c a e i
 
-admits-set : (types : List Row) (n : ℕ) (r : Row) (c : ℕ) (a : Option ℕ) → slice_get types n ≡ Some r → (i : ℕ) → admits (slice_set types n (with_constructor r c a)) i ≡ admits types i
+pub admits-set : (types : List Row) (n : ℕ) (r : Row) (c : ℕ) (a : Option ℕ) → slice_get types n ≡ Some r → (i : ℕ) → admits (slice_set types n (with_constructor r c a)) i ≡ admits types i
 admits-set [] n r c a e i = refl
 admits-set (p ∷ types) zero r c a e zero = let same : r ≡ p = cc in ap (λ z. z.equality) same
 admits-set (p ∷ types) zero r c a e (suc i) = refl
 admits-set (p ∷ types) (suc n) r c a e zero = refl
 admits-set (p ∷ types) (suc n) r c a e (suc i) = admits-set types n r c a e i
 
-data Entered (types : List Row) (n c : ℕ) (a : Option ℕ) (i d : ℕ) (b : Option ℕ) : Type 0 where
+pub data Entered (types : List Row) (n c : ℕ) (a : Option ℕ) (i d : ℕ) (b : Option ℕ) : Type 0 where
   entered_old : constructor_at types i d ≡ Some b → Entered types n c a i d b
-  entered_new : i ≡ n → a ≡ b → Entered types n c a i d b
+  entered_new : i ≡ n → d ≡ c → a ≡ b → Entered types n c a i d b
 
-constructor-set : (types : List Row) (n : ℕ) (r : Row) (c : ℕ) (a : Option ℕ) → slice_get types n ≡ Some r → (i d : ℕ) {b : Option ℕ} → constructor_at (slice_set types n (with_constructor r c a)) i d ≡ Some b → Entered types n c a i d b
+pub constructor-set : (types : List Row) (n : ℕ) (r : Row) (c : ℕ) (a : Option ℕ) → slice_get types n ≡ Some r → (i d : ℕ) {b : Option ℕ} → constructor_at (slice_set types n (with_constructor r c a)) i d ≡ Some b → Entered types n c a i d b
 constructor-set [] n r c a e i d q = absurd (cc)
-constructor-set (p ∷ types) zero r c a e zero d {b} q = go (nat_eq d c) q
+constructor-set (p ∷ types) zero r c a e zero d {b} q = go (nat_eq d c) refl q
   where
     same : r ≡ p
     same = cc
 
-    go : (t : Bool) → (if t then Some a else lookup (nat_eq d) r.constructors) ≡ Some b → Entered (p ∷ types) zero c a zero d b
-    go true q = entered_new refl (let one : a ≡ b = cc in one)
-    go false q = entered_old (subst (λ z. lookup (nat_eq d) z.constructors ≡ Some b) same q)
+    go : (t : Bool) → nat_eq d c ≡ t → (if t then Some a else lookup (nat_eq d) r.constructors) ≡ Some b → Entered (p ∷ types) zero c a zero d b
+    go true k q = entered_new refl (eqb-true d c k) (let one : a ≡ b = cc in one)
+    go false k q = entered_old (subst (λ z. lookup (nat_eq d) z.constructors ≡ Some b) same q)
 constructor-set (p ∷ types) zero r c a e (suc i) d q = entered_old q
 constructor-set (p ∷ types) (suc n) r c a e zero d q = entered_old q
 constructor-set (p ∷ types) (suc n) r c a e (suc i) d {b} q = step (constructor-set types n r c a e i d q)
   where
     step : Entered types n c a i d b → Entered (p ∷ types) (suc n) c a (suc i) d b
     step (entered_old h) = entered_old h
-    step (entered_new h k) = entered_new (ap suc h) k
+    step (entered_new h j k) = entered_new (ap suc h) j k
 
 constructor-kept : (types : List Row) (n : ℕ) (r : Row) (c : ℕ) (a : Option ℕ) → slice_get types n ≡ Some r → lookup (nat_eq c) r.constructors ≡ None → (i d : ℕ) {b : Option ℕ} → constructor_at types i d ≡ Some b → constructor_at (slice_set types n (with_constructor r c a)) i d ≡ Some b
 constructor-kept [] n r c a e new i d q = q
@@ -218,7 +218,7 @@ entered-there (p ∷ types) zero r c a e = first (nat_eq c c) (eq-eqb c c refl)
     first false k = absurd (cc)
 entered-there (p ∷ types) (suc n) r c a e = entered-there types n r c a e
 
-type-there : (types : List Row) (n : ℕ) {r : Row} → slice_get types n ≡ Some r → node_at types n ≡ Some r.type
+pub type-there : (types : List Row) (n : ℕ) {r : Row} → slice_get types n ≡ Some r → node_at types n ≡ Some r.type
 type-there types n e = ap (option_map (λ r. r.type)) e
 
 module _ (types : List Row) (n : ℕ) (r : Row) (c : ℕ) (a : Option ℕ) (table : IsTable types) (entry : IsNewConstructor types n r c a) where
@@ -242,7 +242,7 @@ module _ (types : List Row) (n : ℕ) (r : Row) (c : ℕ) (a : Option ℕ) (tabl
     where
       go : Entered types n c a i d (Some b) → admits types b ≡ true
       go (entered_old k) = h d b k
-      go (entered_new k q) = entry.argument b q (subst (λ z. admits types z ≡ true) k f)
+      go (entered_new k j q) = entry.argument b q (subst (λ z. admits types z ≡ true) k f)
 
   still-comparable : (i : ℕ) → admits types i ≡ true → IsComparable types i → IsComparable added i
   still-comparable i f (constants_are h) = constants_are (literal-still types added node-added h)
@@ -255,7 +255,7 @@ module _ (types : List Row) (n : ℕ) (r : Row) (c : ℕ) (a : Option ℕ) (tabl
     where
       go : Entered types n c a i d b → (y : TyName) × (ps : List ℕ) × (node_at added i ≡ Some (node (name y) ps)) × (nat_lt 5 y.stamp ≡ true)
       go (entered_old k) = let t = table.datatypes i d b k in (t.0, t.1, node-added i _ t.2, t.3)
-      go (entered_new k q) = let t = entry.datatype in (t.0, t.1, node-added i _ (subst (λ z. node_at types z ≡ Some (node (name t.0) t.1)) (sym k) (type-there types n entry.there ∙ ap Some t.2)), t.3)
+      go (entered_new k j q) = let t = entry.datatype in (t.0, t.1, node-added i _ (subst (λ z. node_at types z ≡ Some (node (name t.0) t.1)) (sym k) (type-there types n entry.there ∙ ap Some t.2)), t.3)
 
   pub added-table : IsTable added
   added-table = record {

@@ -1,5 +1,5 @@
 -- What a table may be given, and stays a table: a type that isn't there yet, and a constructor of a datatype that is there.
-use Rattle.std.specs.Prelude.{◌≡◌, ℕ, Bool, true, List, [], ◌∷◌, ◌++◌, length, Option, Some, None, nat_eq, nat_lt, slice_get, slice_set}
+use Rattle.std.specs.Prelude.{◌≡◌, ℕ, true, List, [], ◌∷◌, ◌++◌, length, Option, Some, None, nat_eq, nat_lt, slice_get, slice_set}
 use Rattle.std.specs.Map.{lookup}
 use Rattle.mlc_base.specs.declared.label.Label.{Label}
 use Rattle.ty_core.specs.Types.{labels, name, Typ}

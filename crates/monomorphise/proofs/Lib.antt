@@ -14,3 +14,4 @@ pub mod NumberedOnce
 pub mod Weights
 pub mod Whole
 pub mod Examples
+pub mod Tables

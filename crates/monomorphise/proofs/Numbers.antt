@@ -1,23 +1,27 @@
 -- Numbers of types.
-use Rattle.std.proofs.Common.{◌≡◌, ℕ, suc, List, [], ◌∷◌, map, length, Bool, true, false, Some, if◌then◌else◌, refl, sym, ap, subst}
+use Rattle.std.proofs.Common.{◌≡◌, ℕ, suc, List, [], ◌∷◌, map, length, Bool, true, false, Option, Some, if◌then◌else◌, refl, sym, ap, subst, zero, ◌&&◌}
 use Rattle.std.specs.Map.{lookup}
 use Rattle.mlc_base.specs.declared.label.Label.{Label}
 use Rattle.mlc_base.specs.declared.label.Label.TheVariants.{Number}
 use Rattle.mlc_prims.specs.LitOf.{Literal}
 use Rattle.mlc_prims.specs.declared.basis.BasisPrimitive.{BasisPrimitive}
 use Rattle.ty_core.specs.Types.{labels, name, Typ, var, con, Typs, none, more, typs_of, no_variable}
-use Rattle.ty_core.specs.Statics.{replace_all}
+use Rattle.ty_core.specs.Statics.{replace, replace_all}
+use Rattle.ty_core.specs.Types as typ
+use Rattle.ty_core.specs.Types.{allowed}
+use Rattle.ty_core.specs.declared.name.Equality as Eq
+use Rattle.ty_core.specs.declared.name.Equality.TheVariants.{Always, ByArguments, Never}
 use Rattle.ty_core.specs.Marks as marks
 use Rattle.ty_core.specs.declared.mark.Mark.{Mark}
 use Rattle.ty_core.specs.declared.mark.Mark.TheVariants.{Any, Equality, Class}
 use Rattle.ir_values.specs.Values.{same_label}
 use Rattle.ir_poly.specs.Types as poly
-use Rattle.ir_poly.specs.Types.{Constructor, of_name, function_type, ref_type, row_type, tuple_type, put, prim_type, arguments_at, result_at}
+use Rattle.ir_poly.specs.Types.{Constructor, of_name, function_type, ref_type, row_type, tuple_type, put, prim_type, arguments_at, result_at, nth_type, argument_at}
 use Rattle.ir_poly.specs.TestsChecked as checked
-use Rattle.ir_mono.specs.Types.{Row, Node, node, node_at, part, unit_number, Is, IsFunction, IsRef, IsExn, HasLiteral, has_int, has_word, has_char, has_string, Stands, stands_var, stands_con, AllStand, stand_none, stand_more, numbered, IsTuple, nothing, alone, together}
+use Rattle.ir_mono.specs.Types.{constructor_at, admits, Row, Node, node, node_at, part, unit_number, Is, IsFunction, IsRef, IsExn, HasLiteral, has_int, has_word, has_char, has_string, Stands, stands_var, stands_con, AllStand, stand_none, stand_more, numbered, IsTuple, nothing, alone, together}
 use Rattle.ir_mono.specs.Typing as mt
 use Rattle.ir_mono.specs.Typing.{PrimAt}
-use Rattle.monomorphise.specs.Simple.{IsType, IsTableOf}
+use Rattle.monomorphise.specs.Simple.{IsType, SameArgument, no_argument, an_argument, all_flagged, nth_part, ArgumentIs, argument_is_none, argument_is, IsTableOf}
 
 module _ (types : List Row) (once : (n m : ℕ) (k : Node) → node_at types n ≡ Some k → node_at types m ≡ Some k → n ≡ m) where
   abbrev pub AllTypes : List ℕ → Typs → Type 0
@@ -125,11 +129,64 @@ module _ (types : List Row) (once : (n m : ℕ) (k : Node) → node_at types n �
           from i (stand_more {n = a} j (stand_more {n = b} {ns = ns} k js)) =
               record { parts = a ∷ b ∷ ns; is = together (subst (λ z. Is types n (labels z) (a ∷ b ∷ ns)) (numbered-labels 1 (t ∷ u ∷ ts) (stand_more j (stand_more k js))) i); parts_are = stand_more j (stand_more k js) }
 
+allowed-still : (e : Eq.Equality) (b d : Bool) → (b ≡ true → d ≡ true) → allowed e b ≡ true → allowed e d ≡ true
+allowed-still Always b d f h = refl
+allowed-still ByArguments b d f h = f h
+allowed-still Never b d f h = absurd (cc)
+
+both-true : {a b : Bool} → a ≡ true → b ≡ true → (a && b) ≡ true
+both-true e h = rw (e, h) refl
+
+left-true : (a b : Bool) → (a && b) ≡ true → a ≡ true
+left-true true b e = refl
+left-true false b e = absurd (cc)
+
+right-true : (a b : Bool) → (a && b) ≡ true → b ≡ true
+right-true true b e = e
+right-true false b e = absurd (cc)
+
 module _ (constructors : List Constructor) (types : List Row) (tab : IsTableOf constructors types) where
+  mutual
+    -- what admits equality is said to
+    pub equality-at : (t : Typ) {n : ℕ} → IsType types n t → typ.admits no_variable t ≡ true → admits types n ≡ true
+    equality-at (var v) i h = absurd (cc)
+    equality-at (con h ts) {n} (stands_con {ns = ns} i is) e =
+        tab.equality n h ns i (allowed-still (typ.attribute h) (typ.all_admit no_variable ts) (all_flagged types ns) (all-equality ts is) e)
+
+    all-equality : (ts : Typs) {ns : List ℕ} → AllStand types (λ v. unit_number) ns ts → typ.all_admit no_variable ts ≡ true → all_flagged types ns ≡ true
+    all-equality none stand_none e = refl
+    all-equality (more t ts) (stand_more {n = n} {ns = ns} i is) e =
+        both-true (equality-at t i (left-true (typ.admits no_variable t) (typ.all_admit no_variable ts) e)) (all-equality ts is (right-true (typ.admits no_variable t) (typ.all_admit no_variable ts) e))
+
+  nth-type : (ts : List Typ) {ps : List ℕ} (v : ℕ) → AllStand types (λ v. unit_number) ps (typs_of ts) → IsType types (nth_part ps v) (nth_type ts v)
+  nth-type [] v stand_none = stands_con tab.sound.unit stand_none
+  nth-type (t ∷ ts) zero (stand_more i is) = i
+  nth-type (t ∷ ts) (suc v) (stand_more i is) = nth-type ts v is
+
+  mutual
+    put-parts : (ts : List Typ) {ps : List ℕ} (t : Typ) {n : ℕ} → AllStand types (λ v. unit_number) ps (typs_of ts) → Stands types (nth_part ps) n t → IsType types n (replace (nth_type ts) t)
+    put-parts ts (var v) h stands_var = nth-type ts v h
+    put-parts ts (con k us) h (stands_con i is) = stands_con i (put-all-parts ts us h is)
+
+    put-all-parts : (ts : List Typ) {ps : List ℕ} (us : Typs) {ns : List ℕ} → AllStand types (λ v. unit_number) ps (typs_of ts) → AllStand types (nth_part ps) ns us → AllStand types (λ v. unit_number) ns (replace_all (nth_type ts) us)
+    put-all-parts ts none h stand_none = stand_none
+    put-all-parts ts (more u us) h (stand_more i is) = stand_more (put-parts ts u h i) (put-all-parts ts us h is)
+
+  argument-of : (ts : List Typ) {ps : List ℕ} {o : Option Typ} {a : Option ℕ} → AllStand types (λ v. unit_number) ps (typs_of ts) → ArgumentIs types ps o a → SameArgument types (argument_at ts o) a
+  argument-of ts h argument_is_none = no_argument
+  argument-of ts h (argument_is {t = t} i) = an_argument (put-parts ts t h i)
+
+  -- constructors have the arguments that they have in the program
+  pub arguments-at : (n c : ℕ) (t : Typ) (o : Option Typ) (a : Option ℕ) → IsType types n t → checked.HasConstructor constructors c t o → constructor_at types n c ≡ Some a → SameArgument types o a
+  arguments-at n c t o a i h e = go e (subst (IsType types n) h.type i)
+    where
+      go : {m : ℕ} → constructor_at types m c ≡ Some a → IsType types m (con (name h.datatype) (typs_of h.arguments)) → SameArgument types o a
+      go {m} e (stands_con {ns = ps} j js) = subst (λ z. SameArgument types z a) h.argument (argument-of h.arguments js (tab.arguments m c h.datatype ps h.row a j h.found h.same e))
+
   -- what a primitive's mark allows
   pub mark-at : (a : Mark) {b : Typ} {u : ℕ} → IsType types u b → marks.Allows a no_variable b → mt.Allows types a u
   mark-at Any i h = tt
-  mark-at Equality {b} {u} i h = tab.equality u b i h
+  mark-at Equality {b} {u} i h = equality-at b i h
   mark-at (Class c) {b} {u} i h = record { number = h.number; is = class-node (subst (IsType types u) h.is i); held = h.held }
     where
       class-node : {k v : ℕ} → IsType types v (con (name (marks.overloaded k)) none) → Is types v (name (marks.overloaded k)) []

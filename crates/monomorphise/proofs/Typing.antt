@@ -19,7 +19,7 @@ use Rattle.ir_mono.specs.Typing as mt
 use Rattle.ir_mono.specs.Typing.{Sort, of_type, exception, Sorts, sort_of, group_sorts}
 use Rattle.monomorphise.specs.Copies.{Pairs, Copied, no_copies, entry, entries, Has, at_head, deeper, IsNewName, newer_name, IsNewCopy, newer_copy, IsNotAmong, not_this, AreNewNames, no_names, a_new_name, AreNewCopies, none_copied, a_new_copy, CopyAtoms, copy_no_atoms, copy_an_atom, CopyRow, copy_no_row, copy_a_row, CopyName, copy_fixed, copy_held, CopyArgument, copy_no_argument, copy_argument, CopyCase, copy_is_literal, copy_is_con, copy_is_con_of, copy_is_exn, copy_is_exn_of, copy_is_record, Copy, copy_ret, copy_let, copy_exception, copy_name, copy_rec, copy_switch, copy_first, copy_miss, copy_counted, CopyArms, copy_no_arms, copy_arm, CopyOp, copy_use, copy_own, copy_const, copy_con_alone, copy_construct, copy_ref_alone, copy_refer, copy_content, copy_pack, copy_make_record, copy_select, copy_prim_alone, copy_prim, copy_app, copy_fn, copy_block, copy_handle, copy_raise, copy_raise_initial, CopyFun, copy_last, copy_more, CopyFuns, copy_no_funs, copy_fun, Rest, no_more_copies, one_more_copy, RestGroups, no_more_groups, one_more_group}
 use Rattle.monomorphise.specs.Simple.{IsType, simple, SameArgument, no_argument, an_argument, IsTableOf}
-use Rattle.monomorphise.proofs.Numbers.{unique, function-of, ref-of, exn-of, literal-of, labels_of, types_of, record-of, length-labels, part-of, tuple-of, prim-at}
+use Rattle.monomorphise.proofs.Numbers.{arguments-at, unique, function-of, ref-of, exn-of, literal-of, labels_of, types_of, record-of, length-labels, part-of, tuple-of, prim-at}
 use Rattle.monomorphise.proofs.Related.{skip, hit, new-copy-base, copies-reclosed}
 use Rattle.monomorphise.proofs.Stripped.{strip-op-typed}
 
@@ -210,9 +210,9 @@ module _ (constructors : List Constructor) (types : List table.Row) (tab : IsTab
   case-copied : {r r' : Copied ℕ} {s : ℕ → Typ} {u : ℕ} {c : Case poly} {c' : Case (mono types)} {b : Typ} {G G' : Knowns} {H : Sorts} → CopyCase (simple types) r s u c c' r' → tt.CaseTyped constructors s G c b G' → IsType types u b → Ties r G H → (goal : Type 0)
       → ((H' : Sorts) → mt.CaseTyped types H c' u H' → Ties r' G' H' → goal) → goal
   case-copied {H = H} (copy_is_literal l) (tt.literal_typed h) i t goal go = go H (mt.literal_typed (literal-of types tab.sound.once h i)) t
-  case-copied {u = u} {b = b} {H = H} (copy_is_con c k) (tt.con_typed h) i t goal go = go H (mt.con_typed (none-is u c k.1 (tab.arguments u c b None k.0 i h k.1))) t
+  case-copied {u = u} {b = b} {H = H} (copy_is_con c k) (tt.con_typed h) i t goal go = go H (mt.con_typed (none-is u c k.1 (arguments-at constructors types tab u c b None k.0 i h k.1))) t
   case-copied {s = s} {u = u} {b = b} {H = H} (copy_is_con_of c x a k n p j m o) (tt.con_of_typed h) i t goal go =
-      go ((k, of_type n) ∷ H) (mt.con_of_typed (argument-is u c p.1 (tab.arguments u c b (Some (replace s a)) p.0 i h p.1) j)) (joined x (one_is j) m o t)
+      go ((k, of_type n) ∷ H) (mt.con_of_typed (argument-is u c p.1 (arguments-at constructors types tab u c b (Some (replace s a)) p.0 i h p.1) j)) (joined x (one_is j) m o t)
   case-copied {H = H} (copy_is_exn y) (tt.exn_typed e) i t goal go = go H (mt.exn_typed (without-argument (exception-of y t e)) (exn-of types tab.sound.once i)) t
   case-copied {H = H} (copy_is_exn_of x a k n y j m o) (tt.exn_of_typed e) i t goal go =
       go ((k, of_type n) ∷ H) (mt.exn_of_typed (with-argument (exception-of y t e) j) (exn-of types tab.sound.once i)) (joined x (one_is j) m o t)
@@ -270,11 +270,11 @@ module _ (constructors : List Constructor) (types : List table.Row) (tab : IsTab
     op-copied (copy_own a y) (tt.t_use_own d) h i = let z = tied y h d in mt.t_use (z.there ∙ ap Some (sort-own z.instance i))
     op-copied {n = n} (copy_own a y) (tt.t_use_exception {a = o} d q) h i = let z = exception-of y h d in mt.t_use_exception z.there (value-at o z.same (subst (IsType types n) q i))
     op-copied (copy_const l) (tt.t_const k) h i = mt.t_const (literal-of types tab.sound.once k i)
-    op-copied {s = s} {n = n} (copy_con_alone c b k j p) (tt.t_con_alone {a = o} g q) h i = mt.t_con_alone p.1 (alone-at o (tab.arguments k c (replace s b) o p.0 j g p.1) j (subst (IsType types n) q i))
+    op-copied {s = s} {n = n} (copy_con_alone c b k j p) (tt.t_con_alone {a = o} g q) h i = mt.t_con_alone p.1 (alone-at o (arguments-at constructors types tab k c (replace s b) o p.0 j g p.1) j (subst (IsType types n) q i))
     op-copied {H = H} (copy_construct m c b k {k = y'} j p y) (tt.t_construct {t = t} {a = a} g w q) h i =
         let same = the (subst (IsType types k) q j) i in
         let z = atom-of y h w in
-        subst (λ v. mt.OpTyped types H (Rattle.ir_plain.specs.Tree.construct m c k y') v) same (mt.t_construct (argument-is k c p.1 (tab.arguments k c t (Some a) p.0 (subst (IsType types k) q j) g p.1) z.is) z.there)
+        subst (λ v. mt.OpTyped types H (Rattle.ir_plain.specs.Tree.construct m c k y') v) same (mt.t_construct (argument-is k c p.1 (arguments-at constructors types tab k c t (Some a) p.0 (subst (IsType types k) q j) g p.1) z.is) z.there)
     op-copied {n = n} (copy_ref_alone b k j) (tt.t_ref_alone q) h i =
         let f = function-of types tab.sound.once (subst (IsType types n) q i) in
         mt.t_ref_alone (subst (λ z. table.IsFunction types n z f.result) (the f.argument_is j) f.is) (ref-of types tab.sound.once f.result_is j)

@@ -2,6 +2,7 @@
 
 ghost use Rattle.monomorphise.specs.Copies.{Target};
 ghost use Rattle.monomorphise.specs.Laws.{CopiesDoTheSame, CopiesAreWellFormed, CopiesKeepTheMeaning, NeitherGoesWrong};
+ghost use Rattle.monomorphise.specs.Simple.{TypesArePushed, ConstructorsAreAdded};
 ghost use Rattle.monomorphise.specs.Laws.{MakesCopies, MakesWellFormed, KeepsTheMeaning, IsNeverWrong, NumbersRise, NumbersWeigh};
 
 /// What copies are written in.
@@ -29,4 +30,10 @@ pub fn monomorphise_keeps()
     ensures never_wrong { IsNeverWrong }
     ensures rising { NumbersRise }
     ensures weight { NumbersWeigh }
+{}
+
+/// A table of a program stays one where it is given a type with its parts there, or a constructor with the argument that it has in the program.
+pub fn tables_grow()
+    ensures pushed { TypesArePushed }
+    ensures constructors { ConstructorsAreAdded }
 {}
