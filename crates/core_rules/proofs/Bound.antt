@@ -1,6 +1,6 @@
 -- What has a typing has every identifier bound.
 use Rattle.std.proofs.Common.{◌≡◌, ℕ, zero, suc, Bool, true, false, List, [], ◌∷◌, ◌++◌, map, flat_map, length, Option, Some, None, nat_eq, refl, sym, ap, ◌∙◌, subst, arith}
-use Rattle.std.specs.Prelude.{is_some, if◌then◌else◌, option_map, option_and_then}
+use Rattle.std.specs.Prelude.{is_some, if◌then◌else◌, option_map, option_and_then, unwrap_or}
 use Rattle.std.specs.Option.{option_or}
 use Rattle.mlc_base.specs.Run.{World, gives, or_fail}
 use Rattle.ty_core.specs.Types.{Typ, Typs}
@@ -29,7 +29,7 @@ use Rattle.core_rules.specs.Elaborated.{type_of, types_of, row_of, types_bound, 
 use Rattle.core_rules.specs.Typing
 use Rattle.core_rules.specs.Typing.{Bound, PatHas, PatsHave, HasType, HaveTypes, RulesHave, BindsHave, DecHas, DecsHave, put_bound, together, closed, marks_of, scoped_in, is_matched, is_matched_in, Annotated}
 use Rattle.core_rules.specs.Fits.{static_status, dynamic_status, BothFit, Fits, Giving}
-use Rattle.core_rules.specs.Unbound.{Unbound, value_at, tycon_at, structure_at, unless_bound, unless_alone, or_nothing, alone_names, pat_names, fields_names, binds_names, rec_names, exns_names, tycons_names, decs_names, dec_names, Scoped, all_in, decs_in, parts_in, with_parts, unbound_to}
+use Rattle.core_rules.specs.Unbound.{Unbound, value_at, tycon_at, structure_at, unless_bound, unless_alone, alone_names, pat_names, fields_names, binds_names, rec_names, exns_names, tycons_names, decs_names, dec_names, Scoped, all_in, decs_in, parts_in, with_parts, unbound_to}
 use Rattle.core_rules.specs.Laws.{UnboundHaveNoTyping}
 use Rattle.core_rules.proofs.Basics.{units-may-stand}
 use Rattle.core_rules.proofs.Fitting.{not-none, not-false, some-is, fits-plus, values-fit, nothing-fits, nested}
@@ -241,13 +241,13 @@ type-binds-bound : (c : Context) (d : Env) (bs : List TypeBind) (ts : static.Map
 type-binds-bound c d [] ts f e = tt
 type-binds-bound c d (b ∷ bs) ts f e =
     let z : Zipped (type_of (elaborated.with_parameters c b.tyvars) b.ty) (types_bound c bs) _ ts = zipped (type_of (elaborated.with_parameters c b.tyvars) b.ty) (types_bound c bs) _ ts e in
-    (by-parts d (type_bind b) (ty-bound (elaborated.with_parameters c b.tyvars) d b.ty z.one f z.left, tt) (λ i h. h), type-binds-bound c d bs z.other f z.right)
+    (by-parts d (type_bind b) (ty-bound (elaborated.with_parameters c b.tyvars) d b.ty z.one f z.left, tt) (λ i h. behind-none [] i refl h), type-binds-bound c d bs z.other f z.right)
 
 cons-bound : (c : Context) (d : Env) (as_ : List Tyvar) (n : TyName) (cs : List ConBind) (vs : static.Values) → Fits c.env d → constructors_of c as_ n cs ≡ Some vs → Each (all_in d (map con_bind cs))
 cons-bound c d as_ n [] vs f e = tt
 cons-bound c d as_ n (b ∷ cs) vs f e =
     let z : Zipped (behind_of (elaborated.with_parameters c as_) b.of_ty) (constructors_of c as_ n cs) _ vs = zipped (behind_of (elaborated.with_parameters c as_) b.of_ty) (constructors_of c as_ n cs) _ vs e in
-    (by-parts d (con_bind b) (behind-bound (elaborated.with_parameters c as_) d b.of_ty z.one f z.left) (λ i h. h), cons-bound c d as_ n cs z.other f z.right)
+    (by-parts d (con_bind b) (behind-bound (elaborated.with_parameters c as_) d b.of_ty z.one f z.left) (λ i h. behind-none [] i refl h), cons-bound c d as_ n cs z.other f z.right)
 
 abbrev IsZero : ℕ → Type 0
 IsZero zero = Unit {0}
@@ -259,7 +259,7 @@ data-binds-bound c d k [] (b ∷ bs) ts f l e = let bad : IsZero (suc (length bs
 data-binds-bound c d k (q ∷ qs) (b ∷ bs) ts f l e =
     let z : Zipped (constructors_of c b.tyvars _ b.cons) (structures_of c (names_of (suc k) qs bs) bs) _ ts = zipped (constructors_of c b.tyvars _ b.cons) (structures_of c (names_of (suc k) qs bs) bs) _ ts e in
     let l' : length qs ≡ length bs = omega (arith, l) in
-    (by-parts d (data_bind b) (cons-bound c d b.tyvars _ b.cons z.one f z.left) (λ i h. h), data-binds-bound c d (suc k) qs bs z.other f l' z.right)
+    (by-parts d (data_bind b) (cons-bound c d b.tyvars _ b.cons z.one f z.left) (λ i h. behind-none [] i refl h), data-binds-bound c d (suc k) qs bs z.other f l' z.right)
 
 -- the type names of a datatype declaration, in its own scope
 names-fit : (k : ℕ) (qs : List Bool) (bs : List DataBind) → length qs ≡ length bs → (y : ℕ) → BothFit (static.at nat_eq (bare_structures (names_of k qs bs) bs) y) (tycon_in (tycons_names bs) y)
@@ -345,11 +345,11 @@ opened-there {e} {d} f (x ∷ xs) s h =
     both-some plus (long_structure_in d x) (opened d xs) (structure-there f x.long.qualifiers x.long.id g.first g.is) (opened-there f xs r.first r.is)
 
 -- what is evaluated from an environment that is there
-found-or : (P : Env → Type 0) (o : Option Env) (go : Env → Env) (w : World Value) → Giving P (or_fail o w (λ t. gives (go t) w)) → is_some o ≡ true → P (or_nothing (option_map go o))
+found-or : (P : Env → Type 0) (o : Option Env) (go : Env → Env) (w : World Value) → Giving P (or_fail o w (λ t. gives (go t) w)) → is_some o ≡ true → P (unwrap_or (option_map go o) nothing)
 found-or P (Some t) go w h k = h
 found-or P None go w h k = not-false (sym k)
 
-just-or : (P : Env → Type 0) (o : Option Env) (w : World Value) → Giving P (or_fail o w (λ t. gives t w)) → is_some o ≡ true → P (or_nothing o)
+just-or : (P : Env → Type 0) (o : Option Env) (w : World Value) → Giving P (or_fail o w (λ t. gives t w)) → is_some o ≡ true → P (unwrap_or o nothing)
 just-or P (Some t) w h k = h
 just-or P None w h k = not-false (sym k)
 
@@ -377,11 +377,11 @@ module _ (m : ℕ → Bool) where
     rules-bound : {c : Context} (d : Env) {rs : Rules} {t u : Typ} {k : Choices} → Fits c.env d → RulesHave m c rs t u k → Each (all_in d (rule_list rs))
     rules-bound d f Typing.no_rule_has = tt
     rules-bound {c} d f (Typing.rule_has p {a = a} {e = b} {vs = vs} h dist k l) =
-        (by-parts d (rule p a b) (pat-bound m c d f h, (exp-bound (plus d (pat_names d a)) (fits-plus f (bound-fits vs (pat_names d a) (pat-names m c d f h))) k, tt)) (λ i h. h), rules-bound d f l)
+        (by-parts d (rule p a b) (pat-bound m c d f h, (exp-bound (plus d (pat_names d a)) (fits-plus f (bound-fits vs (pat_names d a) (pat-names m c d f h))) k, tt)) (λ i h. behind-none [] i refl h), rules-bound d f l)
 
     binds-bound : {c : Context} (d : Env) {n : ℕ} {r : ℕ → Typ} {bs : Binds} {vs : List Bound} {k : Choices} → Fits c.env d → BindsHave m c n r bs vs k → Each (all_in d (bind_list bs))
     binds-bound d f Typing.no_bind_has = tt
-    binds-bound {c} d f (Typing.bind_has p {a = a} {e = b} ph e hh x bh) = (by-parts d (phrase.bind p a b) (pat-bound m c d f ph, (exp-bound d f hh, tt)) (λ i h. h), binds-bound d f bh)
+    binds-bound {c} d f (Typing.bind_has p {a = a} {e = b} ph e hh x bh) = (by-parts d (phrase.bind p a b) (pat-bound m c d f ph, (exp-bound d f hh, tt)) (λ i h. behind-none [] i refl h), binds-bound d f bh)
 
     decs-names : {c : Context} (d : Env) {ds : Decs} {made : ℕ} {e : static.Env} {k : Choices} → Fits c.env d → DecsHave m c ds made e k → Fits e (decs_names d ds)
     decs-names d f Typing.no_dec_has = nothing-fits

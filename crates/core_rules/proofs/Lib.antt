@@ -11,7 +11,9 @@ pub mod Basics
 mod Cutting
 mod MoreRuns
 mod Printed
-mod MoreTypings
+pub mod MoreTypings
+pub mod Assigned
+mod Annotated
 mod Doubling
 mod BoundTwice
 pub mod Generic

@@ -1,24 +1,24 @@
 -- Further worked typings, and readings of the static rules.
-use Rattle.std.proofs.Common.{◌≡◌, Bool, true, false, [], ◌∷◌, refl, Some}
+use Rattle.std.proofs.Common.{◌≡◌, Bool, true, false, [], ◌∷◌, refl, Some, subst}
 use Rattle.mlc_base.specs.StandardWords.{word_assign, word_nil, word_plus, word_ref}
 use Rattle.mlc_base.specs.declared.label.Label.TheVariants.{Number, Word}
 use Rattle.ty_core.specs.Types.{Typ, var, no_variable, admits}
 use Rattle.ty_core.specs.declared.mark.Mark.TheVariants.{Any}
-use Rattle.ty_core.specs.declared.env.Status.TheVariants.{Constructor}
+use Rattle.ty_core.specs.declared.env.Status.TheVariants.{Constructor, Variable}
 use Rattle.sml_tree.specs.declared.ident.Tyvar.{Tyvar}
-use Rattle.sml_tree.specs.Derived.{list_of, select, tuple_pat}
-use Rattle.sml_tree.specs.BareTree.{Exp, Pat, Ty, var as ty_var, fields as ty_fields, ty_field, no_ty_fields, fn, fields_exp, exp_field, no_exp_fields, let_in, no_rules, Binds, bind, no_binds, typed_pat, Dec, datatype_dec, exception_dec, new_exn}
+use Rattle.sml_tree.specs.Derived.{list_of, tuple_pat}
+use Rattle.sml_tree.specs.BareTree.{Exp, Pat, Ty, var as ty_var, fields as ty_fields, ty_field, no_ty_fields, fn, fields_exp, exp_field, no_exp_fields, let_in, no_rules, Binds, bind, no_binds, Dec, datatype_dec, exception_dec, new_exn, val_dec}
 use Rattle.ty_basis.specs.Types.{Row, function_type, row_type, pair_type, unit_type, int_type, list_type, ref_type}
 use Rattle.ty_basis.specs.Primitives.{numbers}
-use Rattle.core_rules.specs.Objects.{sorted, plus, no_env, values_env, Context, Env, Over, with_env}
+use Rattle.core_rules.specs.Objects.{sorted, plus, no_env, values_env, Context, Env, Over, with_env, monomorphic}
 use Rattle.core_rules.specs.Scoping.{scoped_at}
 use Rattle.core_rules.specs.Elaborated.{type_of}
 use Rattle.core_rules.specs.Initial.{for_all}
-use Rattle.core_rules.specs.Choices.{Choices, no_choice, both, base}
-use Rattle.core_rules.specs.Typing.{HasType, PatHas, DecHas, DecsHave, is_non_expansive, closed, app_has, fn_has, record_has, exp_field_has, no_exp_field_has, constant_exp_has, built_exp_has, rule_has, no_rule_has, variable_has, constructor_has, typed_has, fields_has, open_has, field_has, no_field_has, bind_has, no_bind_has, val_has, dec_has, no_dec_has}
-use Rattle.core_rules.proofs.Words.{at, num, v, vid, pv, ap as app, op, one_rule, val, do_, decs, tycon, word_A, word_E, word_a, word_b, word_f, word_r, word_t, word_x}
+use Rattle.core_rules.specs.Choices.{Choices, no_choice, both, base, settled}
+use Rattle.core_rules.specs.Typing.{HasType, PatHas, DecHas, DecsHave, is_non_expansive, closed, app_has, fn_has, record_has, exp_field_has, no_exp_field_has, constant_exp_has, built_exp_has, rule_has, no_rule_has, variable_has, constructor_has, fields_has, field_has, no_field_has, bind_has, no_bind_has, val_has, dec_has, no_dec_has, con_has, vid_has}
+use Rattle.core_rules.proofs.Words.{at, num, v, vid, pv, ap as app, op, one_rule, val, do_, decs, tycon, word_A, word_E, word_a, word_b, word_f, word_t, word_x, pc}
 use Rattle.core_rules.proofs.Typings.{start, inst-has, mono-has}
-use Rattle.core_rules.proofs.Refused.{fresh}
+use Rattle.core_rules.proofs.Refused.{fresh, fresh_choices}
 use Rattle.mlc_base.specs.StandardWords.{word_int}
 
 abbrev Holds : Bool → Type 0
@@ -26,60 +26,52 @@ Holds true = Unit {0}
 Holds false = ⊥
 
 -- val x = ref [] val () = x := [1]: x has the type int list ref
-abbrev assigns : Exp
+abbrev pub assigns : Exp
 assigns = op (v word_x) word_assign (list_of at (num 1 ∷ []))
 
-abbrev ints : Typ
+abbrev pub ints : Typ
 ints = list_type int_type
 
-abbrev x_env : Env
+abbrev pub x_env : Env
 x_env = closed [] ((vid word_x, ref_type ints) ∷ [])
 
 abbrev with_x : Context
 with_x = with_env start 0 x_env
 
-ints-over : Over start.names ints
+pub ints-over : Over start.names ints
 ints-over = (refl, ((refl, tt), tt))
 
-refs-over : Over start.names (ref_type ints)
+pub refs-over : Over start.names (ref_type ints)
 refs-over = (refl, (ints-over, tt))
 
-one-of-ints : (k : Choices) × HasType no_variable with_x (list_of at (num 1 ∷ [])) ints k
-one-of-ints = (
-  _,
-  app_has _ (built_exp_has _ (record { types = λ n. int_type; allowed = (tt, tt); over = (tt, ((tt, ((refl, tt), (ints-over, tt))), (ints-over, tt))); is = refl; chosen = refl }))
-      (record_has _ (exp_field_has _ (constant_exp_has _ _) (exp_field_has _ (built_exp_has _ (record { types = λ n. int_type; allowed = (tt, tt); over = ints-over; is = refl; chosen = refl })) no_exp_field_has)) refl),
-)
+abbrev list_choices : Choices
+list_choices = both no_choice (both no_choice (both no_choice no_choice))
 
-assigned_has : (k : Choices) × DecsHave no_variable start (decs (val (pv word_x) (app (v word_ref) (list_of at [])) ∷ do_ assigns ∷ [])) 0 (plus x_env (plus (closed [] []) no_env)) k
-assigned_has = (
-  _,
-  dec_has (fresh int_type (refl, tt) refl)
-      (dec_has (val_has _ _ [] {vs = [] ∷ []} {us = []} refl refl refl
-      (λ r c. bind_has _ (fields_has _ no_field_has refl) refl
-      (app_has _ (inst-has _ (for_all Any (function_type (pair_type (ref_type (var 0)) (var 0)) unit_type)) (λ n. ints) refl (tt, tt) (tt, ((tt, (refs-over, (ints-over, tt))), ((tt, tt), tt))) refl)
-      (record_has _ (exp_field_has _ (mono-has _ (ref_type ints) refl refs-over) (exp_field_has _ (one-of-ints).1 no_exp_field_has)) refl))
-      (λ e. refl) no_bind_has)
-      (λ r c. no_bind_has)) no_dec_has),
-)
+abbrev assigned_choices : Choices
+assigned_choices = both fresh_choices (both (both (both (both no_choice (both no_choice (both no_choice (both list_choices no_choice)))) no_choice) no_choice) no_choice)
 
--- val f = fn r : {a : int, b : int} => #a r: the type tells the labels
-abbrev two_ints : Ty
+one-of-ints : HasType no_variable with_x (list_of at (num 1 ∷ [])) ints list_choices
+one-of-ints = app_has _ (built_exp_has _ (record { types = λ n. int_type; allowed = (tt, tt); over = (tt, ((tt, ((refl, tt), (ints-over, tt))), (ints-over, tt))); is = refl; chosen = refl }))
+    (record_has _ (exp_field_has _ (constant_exp_has _ _) (exp_field_has _ (built_exp_has _ (record { types = λ n. int_type; allowed = (tt, tt); over = ints-over; is = refl; chosen = refl })) no_exp_field_has)) refl)
+
+pub assigned_has : DecsHave no_variable start (decs (val (pv word_x) (app (v word_ref) (list_of at [])) ∷ do_ assigns ∷ [])) 0 (plus x_env (plus (closed [] []) no_env)) assigned_choices
+assigned_has = dec_has (fresh int_type (refl, tt) refl)
+    (dec_has (val_has _ _ [] {vs = [] ∷ []} {us = []} refl refl refl
+    (λ r c. bind_has _ (fields_has _ no_field_has refl) refl
+    (app_has _ (inst-has _ (for_all Any (function_type (pair_type (ref_type (var 0)) (var 0)) unit_type)) (λ n. ints) refl (tt, tt) (tt, ((tt, (refs-over, (ints-over, tt))), ((tt, tt), tt))) refl)
+    (record_has _ (exp_field_has _ (mono-has _ (ref_type ints) refl refs-over) (exp_field_has _ one-of-ints no_exp_field_has)) refl))
+    (λ e. refl) no_bind_has)
+    (λ r c. no_bind_has)) no_dec_has)
+
+-- {a : int, b : int}
+abbrev pub two_ints : Ty
 two_ints = ty_fields at (ty_field (Word word_a) (tycon word_int) (ty_field (Word word_b) (tycon word_int) no_ty_fields))
 
-abbrev two_row : Row
+abbrev pub two_row : Row
 two_row = (Word word_a, int_type) ∷ (Word word_b, int_type) ∷ []
 
-two-over : Over start.names (row_type two_row)
+pub two-over : Over start.names (row_type two_row)
 two-over = (tt, ((refl, tt), ((refl, tt), tt)))
-
-annotated_has : (k : Choices) × HasType no_variable start (fn at (one_rule (typed_pat at (pv word_r) two_ints) (app (select at (Word word_a)) (v word_r)) no_rules)) (function_type (row_type two_row) int_type) k
-annotated_has = (
-  _,
-  fn_has _ (rule_has _ (typed_has _ (variable_has _ refl refl two-over) refl) refl
-      (app_has _ (fn_has _ (rule_has _ (open_has _ ((Word word_b, int_type) ∷ []) (field_has _ (variable_has _ refl refl (refl, tt)) no_field_has) refl refl two-over) refl (mono-has _ int_type refl (refl, tt)) no_rule_has))
-      (mono-has _ (row_type two_row) refl two-over)) no_rule_has),
-)
 
 -- the fields of a record type are in one order: numbers by value, then words by their numbers
 abbrev unordered : Row
@@ -110,7 +102,7 @@ nil_twice = fields_has _ (field_has _ one (field_has _ one no_field_has)) refl
 free_variable : admits no_variable (var 0) ≡ false
 free_variable = refl
 
-free_elements : DecHas no_variable start (val (pv word_x) (app (v word_ref) (list_of at []))) 0 (closed [] ((vid word_x, ref_type (list_type (var 5))) ∷ [])) Rattle.core_rules.proofs.Refused.fresh_choices
+free_elements : DecHas no_variable start (val (pv word_x) (app (v word_ref) (list_of at []))) 0 (closed [] ((vid word_x, ref_type (list_type (var 5))) ∷ [])) fresh_choices
 free_elements = fresh (var 5) tt refl
 
 -- `ref` under another name makes references all the same: A [] with A for `ref`
@@ -139,3 +131,19 @@ label_twice = fields_exp at (exp_field (Word word_a) (num 1) (exp_field (Word wo
 
 label_twice_has : HasType no_variable start label_twice (row_type ((Word word_a, int_type) ∷ (Word word_a, int_type) ∷ [])) (both no_choice (both no_choice no_choice))
 label_twice_has = record_has _ (exp_field_has _ (constant_exp_has _ _) (exp_field_has _ (constant_exp_has _ _) no_exp_field_has)) refl
+
+-- a constructor before its argument gives a type with a name: fn ref x => x matches references to integers
+under_ref : PatHas no_variable start (pc word_ref (pv word_x)) (ref_type int_type) ((vid word_x, int_type) ∷ []) no_choice
+under_ref = con_has _ _ refl refl (record { types = λ n. int_type; allowed = (tt, tt); over = (tt, ((refl, tt), ((refl, ((refl, tt), tt)), tt))); is = refl; chosen = refl }) (variable_has _ refl refl (refl, tt))
+
+-- val rec A = fn x => x where A is a constructor: in a recursive binding it is a variable
+abbrev with_constructor : Context
+with_constructor = record { names = start.names; tyvars = []; env = renamed_ref }
+
+rebound_has : DecHas no_variable with_constructor (val_dec at at [] no_binds (bind at (pv word_A) (fn at (one_rule (pv word_x) (v word_x) no_rules)) no_binds)) 0
+    (closed [] ((vid word_A, function_type int_type int_type) ∷ [])) (both no_choice (both (settled (both no_choice (both no_choice (both no_choice no_choice)))) no_choice))
+rebound_has = val_has _ _ [] {vs = []} {us = ((vid word_A, function_type int_type int_type) ∷ []) ∷ []} refl refl refl
+    (λ r c. no_bind_has)
+    (λ r c. bind_has _ (variable_has _ refl refl (tt, ((refl, tt), ((refl, tt), tt)))) refl
+    (fn_has _ (rule_has _ (variable_has _ refl refl (refl, tt)) refl (vid_has _ {v = record { scheme = monomorphic int_type; status = Variable }} refl (record { types = var; allowed = tt; over = (refl, tt); is = refl; chosen = refl })) no_rule_has))
+    (λ e. absurd (subst Holds e tt)) no_bind_has)

@@ -13,8 +13,8 @@ use Rattle.core_rules.specs.Elaborated.{exceptions_of, types_bound}
 use Rattle.core_rules.specs.Initial.{empty_context, prelude_env}
 use Rattle.core_rules.specs.Choices.{no_choice}
 use Rattle.core_rules.specs.Typing.{HasType, constant_exp_has, is_non_expansive}
-use Rattle.core_rules.specs.Meaning.{meaning_in}
-use Rattle.mlc_base.specs.StandardWords.{word_less_than, word_ref}
+use Rattle.core_rules.specs.Meaning.{meaning_in, begin}
+use Rattle.mlc_base.specs.StandardWords.{word_less_than, word_ref, word_Match, word_Bind, word_Overflow, word_Div, word_Subscript, word_Size, word_Chr}
 use Rattle.core_rules.proofs.Words.{at, num, str, vid, v, pv, ap as call, op, eq, print, do_, decs, one_rule, word_E, word_a, word_b, word_f, word_t, word_x, word_y}
 use Rattle.core_rules.proofs.Typings.{start}
 
@@ -83,3 +83,7 @@ makes_a_pair = refl
 
 makes_a_call : is_non_expansive start.env (call (v word_x) (v word_y)) ≡ false
 makes_a_call = refl
+
+-- before the first turn the exceptions of the initial basis are made, with the first names
+first_exceptions : (begin 0).exceptions ≡ word_Match ∷ word_Bind ∷ word_Overflow ∷ word_Div ∷ word_Subscript ∷ word_Size ∷ word_Chr ∷ []
+first_exceptions = refl

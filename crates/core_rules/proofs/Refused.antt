@@ -85,14 +85,14 @@ fresh t o h = val_has _ _ [] {vs = ((vid word_x, ref_type (list_type t)) ∷ [])
 abbrev fresh_refs : (t : Typ) → Over start.names t → has_none 0 t ≡ true → DecsHave no_variable start refs 0 (refs_at t) no_base
 fresh_refs t o h = dec_has (fresh t o h) no_dec_has
 
-ints-none : (j : Choices) → IntsOf j no_choice
+pub ints-none : (j : Choices) → IntsOf j no_choice
 ints-none no_choice = tt
 ints-none (both j j') = tt
 ints-none (base n) = tt
 ints-none (further ls) = tt
 ints-none (settled j) = tt
 
-ints-both : {a b : Choices} → ((j : Choices) → IntsOf j a) → ((j : Choices) → IntsOf j b) → (j : Choices) → IntsOf j (both a b)
+pub ints-both : {a b : Choices} → ((j : Choices) → IntsOf j a) → ((j : Choices) → IntsOf j b) → (j : Choices) → IntsOf j (both a b)
 ints-both h g no_choice = tt
 ints-both h g (both j j') = (h j, g j')
 ints-both h g (base n) = tt
@@ -107,7 +107,7 @@ refs-count made e j h = no-ints j
 
 -- a type without parameters stays itself
 mutual
-  put-fixed : (n : ℕ) (f g : ℕ → Typ) (t : Typ) → has_none n t ≡ true → put n f t ≡ put n g t
+  pub put-fixed : (n : ℕ) (f g : ℕ → Typ) (t : Typ) → has_none n t ≡ true → put n f t ≡ put n g t
   put-fixed n f g (var u) e = by (nat_lt u n) e
     where
       by : (b : Bool) → not b ≡ true → (if b then f u else var (u - n)) ≡ (if b then g u else var (u - n))

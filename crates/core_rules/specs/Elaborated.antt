@@ -48,13 +48,14 @@ abbrev mutual
   row_of c no_ty_fields = Some []
   row_of c (ty_field l t fs) = option_map (λ r. (l, r.0) ∷ r.1) (option_zip (type_of c t) (row_of c fs))
 
--- parameters stand for the variables from k on
-abbrev pub parameters : ℕ → List Tyvar → Map ℕ Typ
-parameters k [] = []
-parameters k (a ∷ as_) = (a.name, variable k) ∷ parameters (suc k) as_
+-- type variables stand for r's types from the k-th on
+abbrev pub scope : ℕ → (ℕ → Typ) → List Tyvar → Map ℕ Typ
+scope k r [] = []
+scope k r (a ∷ as_) = (a.name, r k) ∷ scope (suc k) r as_
 
+-- parameters stand for the first variables
 abbrev pub with_parameters : Context → List Tyvar → Context
-with_parameters c as_ = record c { tyvars = parameters 0 as_ }
+with_parameters c as_ = record c { tyvars = scope 0 variable as_ }
 
 -- type bindings [rule 27]
 abbrev pub types_bound : Context → List TypeBind → Option (Map ℕ TypeStructure)
@@ -65,9 +66,13 @@ types_bound c (b ∷ bs) =
 
 -- Datatype bindings [rules 28, 29]: constructors of the type name n
 
+-- t, or a function to it from what stands behind `of`
+abbrev pub from_argument : Option Typ → Typ → Typ
+from_argument None t = t
+from_argument (Some u) t = function_type u t
+
 abbrev pub constructed : TyName → Option Typ → Typ
-constructed n None = built_of (name n) (variables 0 n.arity)
-constructed n (Some t) = function_type t (built_of (name n) (variables 0 n.arity))
+constructed n u = from_argument u (built_of (name n) (variables 0 n.arity))
 
 -- so many parameters of any types
 abbrev pub any_marks : List Tyvar → List Rattle.ty_core.specs.declared.mark.Mark.Mark
@@ -108,8 +113,7 @@ datatypes c qs bs = structures_of (with_env c (length bs) (types_env (bare_struc
 
 -- the exceptions of a declaration [rules 30, 31]
 abbrev pub exception_type : Option Typ → Typ
-exception_type None = exn_type
-exception_type (Some t) = function_type t exn_type
+exception_type u = from_argument u exn_type
 
 abbrev pub if_exception : Value → Option Value
 if_exception v = if is_exception v.status then Some v else None

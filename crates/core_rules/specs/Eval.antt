@@ -4,14 +4,14 @@ use Rattle.std.specs.Prelude.{ℕ, zero, suc, Bool, true, false, List, [], ◌�
 use Rattle.mlc_base.specs.Run.{World, Answer, gives, raises, stops, out_of_turns, then_do, or_handle, or_fail, fail, take_turn, writes, new_reference, assign, new_exception}
 use Rattle.mlc_base.specs.declared.label.Label.TheVariants.{Number}
 use Rattle.mlc_base.specs.declared.place.Place.{Place}
-use Rattle.mlc_prims.specs.LitOf.{Literal, int, word, char, string, truth}
+use Rattle.mlc_prims.specs.LitOf.{Literal, string, truth}
 use Rattle.mlc_prims.specs.PrimOf.{Gives, made, raised}
 use Rattle.mlc_prims.specs.declared.prim.PrimExn.{PrimExn}
 use Rattle.mlc_prims.specs.declared.prim.PrimExn.TheVariants.{Overflow, Div, Subscript, Size, Chr}
 use Rattle.sml_tree.specs.declared.ident.Vid.{Vid}
 use Rattle.sml_tree.specs.declared.ident.Vid.TheVariants.{Named, Equals, Fresh}
 use Rattle.sml_tree.specs.declared.ident.BuiltIn.TheVariants.{True, False}
-use Rattle.sml_tree.specs.BareTree.{LongIdAt, ConBind, DataBind, TypeBind, ExBind, new_exn, same_exn, Pat, wild_pat, constant_pat, vid_pat, built_pat, fields_pat, con_pat, built_con_pat, typed_pat, as_pat, Exp, constant_exp, vid_exp, built_exp, fields_exp, let_in, app, typed, handle, raise, fn, ExpFields, no_exp_fields, exp_field, Rules, no_rules, rule, Decs, no_decs, dec, Dec, val_dec, type_dec, datatype_dec, replicate_dec, exception_dec, local_dec, open_dec, sequence_dec, Binds, no_binds, bind}
+use Rattle.sml_tree.specs.BareTree.{LongIdAt, ConBind, DataBind, TypeBind, ExBind, new_exn, same_exn, Pat, vid_pat, typed_pat, as_pat, Exp, constant_exp, vid_exp, built_exp, fields_exp, let_in, app, typed, handle, raise, fn, ExpFields, no_exp_fields, exp_field, Rules, no_rules, rule, Decs, no_decs, dec, Dec, val_dec, type_dec, datatype_dec, replicate_dec, exception_dec, local_dec, open_dec, sequence_dec, Binds, no_binds, bind}
 use Rattle.ty_core.specs.declared.env.Status.TheVariants.{Variable, Constructor, Exception}
 use Rattle.mlc_prims.specs.Table.{row_of}
 use Rattle.mlc_prims.specs.declared.basis.BasisPrimitive.{BasisPrimitive}
@@ -44,11 +44,8 @@ truth_value true = con (built True)
 truth_value false = con (built False)
 
 abbrev pub value_of : Literal → Value
-value_of (int z) = literal (int z)
-value_of (word n) = literal (word n)
-value_of (char n) = literal (char n)
-value_of (string s) = literal (string s)
 value_of (truth b) = truth_value b
+value_of l = literal l
 
 abbrev pub giving : Gives → World Value → Answer Value Value
 giving (made l) w = gives (value_of l) w
@@ -92,15 +89,10 @@ perform q vs w = or_fail (literals vs) w (λ ls. perform_literals q ls w)
 
 -- these identifiers, bound to v
 abbrev pub each_bound : Pat → Value → Env → Env
-each_bound (wild_pat p) v e = e
-each_bound (constant_pat p c) v e = e
 each_bound (vid_pat p x) v e = value x.vid Variable v e
-each_bound (built_pat p b) v e = e
-each_bound (fields_pat p fs further) v e = e
-each_bound (con_pat p q x a) v e = e
-each_bound (built_con_pat p b a) v e = e
 each_bound (typed_pat p a t) v e = each_bound a v e
 each_bound (as_pat p x t a) v e = value x Variable v (each_bound a v e)
+each_bound a v e = e
 
 -- each function of the bindings all, as a closure that has them all
 abbrev pub unrolled : Env → Binds → Binds → Env
@@ -213,16 +205,12 @@ abbrev mutual
 
 -- Calls [rules 101 to 108]: a function entered with its argument by a turn. Bodies are evaluated by go.
 abbrev pub enter : (Env → Rules → Value → World Value → Answer Value Value) → Apply
-enter go p (literal l) v w = fail w
-enter go p (record_of fs) v w = fail w
 enter go p (con c) v w = take_turn p w (λ w. gives (con_of c v) w)
-enter go p (con_of c u) v w = fail w
 enter go p ref v w = take_turn p w (λ w. new_reference v w (λ a w. gives (address a) w))
-enter go p (address a) v w = fail w
 enter go p (exn n) v w = take_turn p w (λ w. gives (exn_of n v) w)
-enter go p (exn_of n u) v w = fail w
 enter go p (primitive q) v w = take_turn p w (λ w. perform q (arguments v) w)
 enter go p (closure rs e bs) v w = take_turn p w (λ w. go (plus e (recursive e bs)) rs v w)
+enter go p f v w = fail w
 
 -- calls nested k deep, which is no limit where k is at least the turns
 abbrev pub apply : ℕ → Apply

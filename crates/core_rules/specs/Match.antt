@@ -11,7 +11,7 @@ use Rattle.sml_tree.specs.declared.ident.BuiltIn.TheVariants.{True, False, Nil, 
 use Rattle.ty_core.specs.declared.env.Status.{Status}
 use Rattle.ty_core.specs.declared.env.Status.TheVariants.{Variable, Constructor, Exception, Primitive}
 use Rattle.core_rules.specs.Words.{same_vid}
-use Rattle.core_rules.specs.Values.{Con, built, declared, Value, literal, record_of, con, con_of, ref, address, exn, exn_of, primitive, closure, Fields, no_fields, field, Env, nothing, value, plus, Found, long_value_in, field_in, count}
+use Rattle.core_rules.specs.Values.{Con, built, declared, Value, literal, record_of, con, con_of, ref, address, exn, exn_of, Fields, no_fields, field, Env, nothing, value, plus, Found, long_value_in, field_in, count}
 
 abbrev pub constant_of : term.Constant → Literal
 constant_of (term.int z) = int z
@@ -73,12 +73,8 @@ abbrev mutual
   same_value (record_of fs) w = option_and_then (same_fields fs) (fields_in w)
   same_value (con c) w = option_map (λ d. same_con c d.tag) (con_in w)
   same_value (con_of c v) w = option_and_then (λ d. if same_con c d.tag then option_and_then (same_value v) d.argument else Some false) (con_in w)
-  same_value ref w = None
   same_value (address a) w = option_map (nat_eq a) (address_in w)
-  same_value (exn n) w = None
-  same_value (exn_of n v) w = None
-  same_value (primitive p) w = None
-  same_value (closure rs e bs) w = None
+  same_value v w = None
 
   pub same_fields : Fields → Fields → Option Bool
   same_fields no_fields gs = Some true

@@ -11,7 +11,7 @@ use Rattle.sml_tree.specs.declared.ident.Vid.{Vid}
 use Rattle.sml_tree.specs.declared.ident.Vid.TheVariants.{Named, Equals, Fresh}
 use Rattle.sml_tree.specs.BareTree as bare
 use Rattle.sml_tree.specs.BareTree.{Ty, TyFields, ConBind, DataBind, ExBind, new_exn, same_exn, Pat, PatFields, Exp, ExpFields, Decs, Dec, val_dec, type_dec, datatype_dec, exception_dec, sequence_dec}
-use Rattle.sml_tree.specs.Phrases.{Phrase, exp, pat, ty, dec, rule, bind, type_bind, data_bind, con_bind, ex_bind, bind_list, dec_list, parts, phrases}
+use Rattle.sml_tree.specs.Phrases.{Phrase, exp, pat, ty, dec, bind, type_bind, data_bind, con_bind, ex_bind, bind_list, dec_list, parts, phrases}
 use Rattle.core_rules.specs.Words.{same_vid, same_label}
 use Rattle.core_rules.specs.Scoping.{is_one_of, tyvars_in, tyvar_names, scoped_at}
 
@@ -23,16 +23,11 @@ abbrev pub distinct : {A : Type 0} → (A → A → Bool) → List A → Bool
 distinct same [] = true
 distinct same (x ∷ xs) = not (is_in same x xs) && distinct same xs
 
--- identifiers that are never bound, and one that no constructor or exception has
+-- identifiers that are never bound
 abbrev pub is_kept : Vid → Bool
 is_kept (Named x) = is_one_of x (word_true ∷ word_false ∷ word_nil ∷ word_cons ∷ word_ref ∷ [])
 is_kept Equals = true
 is_kept (Fresh k) = false
-
-abbrev pub is_it : Vid → Bool
-is_it (Named x) = nat_eq x word_it
-is_it Equals = false
-is_it (Fresh k) = false
 
 -- where a phrase begins
 abbrev pub ty_place : Ty → Place
@@ -72,18 +67,6 @@ pat_labels (bare.pat_field l a fs) = l ∷ pat_labels fs
 abbrev pub exp_labels : ExpFields → List Label
 exp_labels bare.no_exp_fields = []
 exp_labels (bare.exp_field l e fs) = l ∷ exp_labels fs
-
-abbrev pub broken_by_exp : Exp → List Place
-broken_by_exp (bare.fields_exp p fs) = unless (distinct same_label (exp_labels fs)) p
-broken_by_exp e = []
-
-abbrev pub broken_by_pat : Pat → List Place
-broken_by_pat (bare.fields_pat p fs further) = unless (distinct same_label (pat_labels fs)) p
-broken_by_pat a = []
-
-abbrev pub broken_by_ty : Ty → List Place
-broken_by_ty (bare.fields p fs) = unless (distinct same_label (ty_labels fs)) p
-broken_by_ty t = []
 
 -- no type variable twice in a sequence; the right side of a binding of a type has no other variables
 
@@ -132,12 +115,8 @@ unless_fn (bind p a (bare.fn q rs)) = []
 unless_fn (bind p a e) = exp_place e ∷ []
 unless_fn x = []
 
-abbrev pub scoped_in_dec : List ℕ → Dec → List ℕ
-scoped_in_dec scoped (val_dec p q as_ bs rs) = tyvar_names (scoped_at scoped as_ bs rs) ++ scoped
-scoped_in_dec scoped d = scoped
-
 abbrev pub scoped_inside : List ℕ → Phrase → List ℕ
-scoped_inside scoped (dec d) = scoped_in_dec scoped d
+scoped_inside scoped (dec (val_dec p q as_ bs rs)) = tyvar_names (scoped_at scoped as_ bs rs) ++ scoped
 scoped_inside scoped x = scoped
 
 -- what the parts of a phrase give
@@ -145,25 +124,22 @@ abbrev pub inside : (Phrase → List Place) → Phrase → List Place
 inside go (dec (val_dec p q as_ bs rs)) = flat_map go (bind_list bs) ++ flat_map (λ x. go x ++ unless_fn x) (bind_list rs)
 inside go x = flat_map go (parts x)
 
+-- `it` is no constructor or exception besides
 abbrev pub may_construct : Vid → Bool
-may_construct x = not (is_kept x || is_it x)
-
-abbrev pub broken_by_ex_bind : ExBind → List Place
-broken_by_ex_bind (new_exn p x t) = unless (may_construct x) p
-broken_by_ex_bind (same_exn p x q y) = unless (may_construct x) p
+may_construct x = not (is_kept x || same_vid x (Named word_it))
 
 -- what a phrase breaks itself
 abbrev pub broken_by : List ℕ → Phrase → List Place
-broken_by scoped (exp e) = broken_by_exp e
-broken_by scoped (pat a) = broken_by_pat a
-broken_by scoped (ty t) = broken_by_ty t
+broken_by scoped (exp (bare.fields_exp p fs)) = unless (distinct same_label (exp_labels fs)) p
+broken_by scoped (pat (bare.fields_pat p fs further)) = unless (distinct same_label (pat_labels fs)) p
+broken_by scoped (ty (bare.fields p fs)) = unless (distinct same_label (ty_labels fs)) p
 broken_by scoped (dec d) = broken_by_dec scoped d
-broken_by scoped (rule p a e) = []
-broken_by scoped (bind p a e) = []
 broken_by scoped (type_bind b) = unless (no_repetition b.tyvars) b.place ++ unless (are_among b.tyvars (tyvars_in (phrases (ty b.ty)))) (ty_place b.ty)
 broken_by scoped (data_bind b) = unless (no_repetition b.tyvars) b.place ++ right_side b.tyvars b.cons
 broken_by scoped (con_bind c) = unless (may_construct c.vid) c.place
-broken_by scoped (ex_bind b) = broken_by_ex_bind b
+broken_by scoped (ex_bind (new_exn p x t)) = unless (may_construct x) p
+broken_by scoped (ex_bind (same_exn p x q y)) = unless (may_construct x) p
+broken_by scoped x = []
 
 -- and what is in it, so many levels deep
 abbrev pub broken_to : ℕ → List ℕ → Phrase → List Place

@@ -1,6 +1,6 @@
 -- Core typing: relations that guess types, over type names of the context alone. [Definition 4.10] Each typing tells its choices.
 -- A `val` declaration is typed at once for all types of its parameters: this is the closure of its types [4.7, 4.8], with no type variables to keep apart.
-use Rattle.std.specs.Prelude.{◌≡◌, ℕ, suc, ◌+◌, ◌<◌, Bool, true, false, not, ◌&&◌, nat_eq, nat_lt, if◌then◌else◌, List, [], ◌∷◌, ◌++◌, map, length, Option, Some, None, ⊤}
+use Rattle.std.specs.Prelude.{◌≡◌, ℕ, ◌+◌, ◌<◌, Bool, true, false, not, ◌&&◌, nat_eq, nat_lt, if◌then◌else◌, List, [], ◌∷◌, ◌++◌, map, length, Option, Some, None, ⊤}
 use Rattle.mlc_base.specs.declared.label.Label.{Label}
 use Rattle.mlc_base.specs.declared.place.Place.{Place}
 use Rattle.ty_core.specs.Types.{Typ, var, con, Typs, none, more, arrow, name}
@@ -9,7 +9,7 @@ use Rattle.ty_core.specs.declared.name.TyName.{TyName}
 use Rattle.ty_core.specs.declared.mark.Mark.{Mark}
 use Rattle.ty_core.specs.declared.mark.Mark.TheVariants.{Any, Equality, Class}
 use Rattle.ty_core.specs.declared.env.Status.{Status}
-use Rattle.ty_core.specs.declared.env.Status.TheVariants.{Variable, Constructor, Exception, Primitive}
+use Rattle.ty_core.specs.declared.env.Status.TheVariants.{Variable}
 use Rattle.sml_tree.specs.Terminal as term
 use Rattle.sml_tree.specs.Terminal.{LongVid}
 use Rattle.sml_tree.specs.Derived.{short}
@@ -20,10 +20,11 @@ use Rattle.sml_tree.specs.BareTree.{Ty, LongIdAt, TypeBind, DataBind, ExBind, Pa
 use Rattle.ty_basis.specs.Types.{Row, char_type, exn_type, function_type, int_type, labels_in, ref_name, row_type, string_type, word_type}
 use Rattle.core_rules.specs.Objects.{sorted, Scheme, monomorphic, put, AllAllowed, Map, Value, Values, TypeStructure, Env, env, no_structures, no_env, values_env, types_env, plus, value_in, long_value_in, Context, with_env, Over}
 use Rattle.core_rules.specs.Initial.{built_scheme}
+use Rattle.core_rules.specs.Match.{is_variable}
 use Rattle.core_rules.specs.Eval.{all_fns}
 use Rattle.core_rules.specs.Scoping.{scoped_at}
 use Rattle.core_rules.specs.Choices.{Choices, no_choice, both, base, further, settled}
-use Rattle.core_rules.specs.Elaborated.{type_of, types_bound, datatypes, datatypes_env, respects_equality, AllBelow, exceptions_of, replicated, opened}
+use Rattle.core_rules.specs.Elaborated.{scope, type_of, types_bound, datatypes, datatypes_env, respects_equality, AllBelow, exceptions_of, replicated, opened}
 use Rattle.core_rules.specs.Words.{same_vid, same_label}
 use Rattle.core_rules.specs.Restrictions.{distinct, is_kept}
 
@@ -36,10 +37,7 @@ constant_type (term.string s) = string_type
 -- Statuses [4.1]
 
 abbrev pub is_matched : Status → Bool
-is_matched Variable = false
-is_matched Constructor = true
-is_matched Exception = true
-is_matched (Primitive n) = false
+is_matched s = not (is_variable s)
 
 -- an identifier that a pattern matches, as a constructor or exception
 abbrev pub is_matched_in : Option Value → Bool
@@ -68,12 +66,10 @@ abbrev mutual
   is_non_expansive e (vid_exp p x) = true
   is_non_expansive e (built_exp p b) = true
   is_non_expansive e (fields_exp p fs) = all_non_expansive e fs
-  is_non_expansive e (let_in p ds b) = false
   is_non_expansive e (app p f a) = is_conexp e f && is_non_expansive e a
   is_non_expansive e (typed p b t) = is_non_expansive e b
-  is_non_expansive e (handle p b rs) = false
-  is_non_expansive e (raise p b) = false
   is_non_expansive e (fn p rs) = true
+  is_non_expansive e b = false
 
   pub all_non_expansive : Env → ExpFields → Bool
   all_non_expansive e no_exp_fields = true
@@ -108,14 +104,10 @@ all_general (a ∷ as_) = is_general a && all_general as_
 abbrev pub mark_of : Tyvar → Mark
 mark_of a = if a.equality then Equality else Any
 
--- the scoped variables stand for r's first types
-abbrev pub scope : ℕ → (ℕ → Typ) → List Tyvar → Map ℕ Typ
-scope k r [] = []
-scope k r (a ∷ as_) = (a.name, r k) ∷ scope (suc k) r as_
-
 abbrev pub scoped_in : Context → List Tyvar → Binds → Binds → List Tyvar
 scoped_in c as_ bs rs = scoped_at (map (λ a. a.0) c.tyvars) as_ bs rs
 
+-- the variables that are scoped there stand for r's first types
 abbrev pub scoping : Context → List Tyvar → Binds → Binds → (ℕ → Typ) → Context
 scoping c as_ bs rs r = record c { tyvars = scope 0 r (scoped_in c as_ bs rs) ++ c.tyvars }
 

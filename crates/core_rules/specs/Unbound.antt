@@ -1,13 +1,13 @@
 -- Identifiers that aren't bound where they stand, in the order of the phrases' ends.
 -- What is in scope is told by an environment of the dynamic semantics, whose values don't matter.
-use Rattle.std.specs.Prelude.{ℕ, zero, suc, if◌then◌else◌, List, [], ◌∷◌, ◌++◌, map, flat_map, length, Option, Some, None, option_map, option_and_then}
+use Rattle.std.specs.Prelude.{ℕ, zero, suc, if◌then◌else◌, List, [], ◌∷◌, ◌++◌, map, flat_map, length, Option, Some, None, option_map, option_and_then, unwrap_or}
 use Rattle.mlc_base.specs.declared.place.Place.{Place}
 use Rattle.sml_tree.specs.Terminal.{LongVid, LongId}
 use Rattle.sml_tree.specs.declared.ident.Vid.{Vid}
 use Rattle.ty_core.specs.declared.env.Status.TheVariants.{Exception}
 use Rattle.sml_tree.specs.BareTree as bare
 use Rattle.sml_tree.specs.BareTree.{Ty, Pat, con_pat, vid_pat, PatFields, Exp, vid_exp, let_in, Binds, no_binds, Decs, no_decs, Dec, val_dec, type_dec, datatype_dec, replicate_dec, exception_dec, local_dec, open_dec, sequence_dec, DataBind, ExBind, new_exn, same_exn}
-use Rattle.sml_tree.specs.Phrases.{Phrase, exp, pat, ty, dec, rule, data_bind, ex_bind, bind_list, exp_parts, dec_parts, parts, phrases}
+use Rattle.sml_tree.specs.Phrases.{Phrase, exp, pat, ty, dec, rule, data_bind, ex_bind, bind_list, parts, phrases}
 use Rattle.core_rules.specs.Values.{Env, nothing, value, tycon, plus, Found, long_value_in, along, tycon_in, unit_value}
 use Rattle.core_rules.specs.Match.{is_variable, bound_to}
 use Rattle.core_rules.specs.Eval.{types_env, datatypes_env, long_tycon_in, long_structure_in, opened, each_bound}
@@ -24,10 +24,6 @@ unless_bound (Some a) u = []
 
 -- What declarations and patterns bind.
 
-abbrev pub or_nothing : Option Env → Env
-or_nothing None = nothing
-or_nothing (Some e) = e
-
 -- an identifier that stands alone in a pattern is bound by it unless it is a constructor or an exception
 abbrev pub alone_names : Option Found → Vid → Env
 alone_names None x = bound_to x unit_value
@@ -35,15 +31,13 @@ alone_names (Some f) x = if is_variable f.status then bound_to x unit_value else
 
 abbrev mutual
   pub pat_names : Env → Pat → Env
-  pat_names e (bare.wild_pat p) = nothing
-  pat_names e (bare.constant_pat p c) = nothing
   pat_names e (vid_pat p x) = alone_names (long_value_in e x) x.vid
-  pat_names e (bare.built_pat p b) = nothing
   pat_names e (bare.fields_pat p fs further) = fields_names e fs
   pat_names e (con_pat p q x a) = pat_names e a
   pat_names e (bare.built_con_pat p b a) = pat_names e a
   pat_names e (bare.typed_pat p a t) = pat_names e a
   pat_names e (bare.as_pat p x t a) = plus (bound_to x unit_value) (pat_names e a)
+  pat_names e a = nothing
 
   pub fields_names : Env → PatFields → Env
   fields_names e bare.no_pat_fields = nothing
@@ -75,10 +69,10 @@ abbrev mutual
   dec_names e (val_dec p q as_ bs rs) = plus (binds_names e bs) (rec_names rs)
   dec_names e (type_dec p bs) = types_env bs
   dec_names e (datatype_dec p bs) = datatypes_env bs
-  dec_names e (replicate_dec p x y) = or_nothing (option_map (λ d. tycon x d d) (long_tycon_in e y))
+  dec_names e (replicate_dec p x y) = unwrap_or (option_map (λ d. tycon x d d) (long_tycon_in e y)) nothing
   dec_names e (exception_dec p bs) = exns_names bs
   dec_names e (local_dec p ds ds') = decs_names (plus e (decs_names e ds)) ds'
-  dec_names e (open_dec p xs) = or_nothing (opened e xs)
+  dec_names e (open_dec p xs) = unwrap_or (opened e xs) nothing
   dec_names e (sequence_dec p ds) = decs_names e ds
 
 -- The parts of a phrase, each with what is in scope there.
@@ -94,20 +88,12 @@ abbrev pub decs_in : Env → Decs → List Scoped
 decs_in e no_decs = []
 decs_in e (bare.dec d ds) = record { scope = e; phrase = dec d } ∷ decs_in (plus e (dec_names e d)) ds
 
-abbrev pub exp_in : Env → Exp → List Scoped
-exp_in e (let_in p ds b) = decs_in e ds ++ all_in (plus e (decs_names e ds)) (exp b ∷ [])
-exp_in e b = all_in e (exp_parts b)
-
-abbrev pub dec_in : Env → Dec → List Scoped
-dec_in e (val_dec p q as_ bs rs) = all_in e (bind_list bs) ++ all_in (plus e (rec_names rs)) (bind_list rs)
-dec_in e (datatype_dec p bs) = all_in (plus e (tycons_names bs)) (map data_bind bs)
-dec_in e (local_dec p ds ds') = decs_in e ds ++ decs_in (plus e (decs_names e ds)) ds'
-dec_in e (sequence_dec p ds) = decs_in e ds
-dec_in e d = all_in e (dec_parts d)
-
 abbrev pub parts_in : Env → Phrase → List Scoped
-parts_in e (exp b) = exp_in e b
-parts_in e (dec d) = dec_in e d
+parts_in e (exp (let_in p ds b)) = decs_in e ds ++ all_in (plus e (decs_names e ds)) (exp b ∷ [])
+parts_in e (dec (val_dec p q as_ bs rs)) = all_in e (bind_list bs) ++ all_in (plus e (rec_names rs)) (bind_list rs)
+parts_in e (dec (datatype_dec p bs)) = all_in (plus e (tycons_names bs)) (map data_bind bs)
+parts_in e (dec (local_dec p ds ds')) = decs_in e ds ++ decs_in (plus e (decs_names e ds)) ds'
+parts_in e (dec (sequence_dec p ds)) = decs_in e ds
 parts_in e (rule p a b) = all_in e (pat a ∷ []) ++ all_in (plus e (pat_names e a)) (exp b ∷ [])
 parts_in e x = all_in e (parts x)
 
@@ -118,35 +104,19 @@ abbrev pub unless_alone : List ℕ → List Unbound → List Unbound
 unless_alone [] us = []
 unless_alone (q ∷ qs) us = us
 
-abbrev pub pat_unbound : Env → Pat → List Unbound
-pat_unbound e (con_pat p q x a) = unless_bound (long_value_in e x) (value_at q x)
-pat_unbound e (vid_pat p x) = unless_alone x.qualifiers (unless_bound (long_value_in e x) (value_at p x))
-pat_unbound e a = []
-
-abbrev pub exp_unbound : Env → Exp → List Unbound
-exp_unbound e (vid_exp p x) = unless_bound (long_value_in e x) (value_at p x)
-exp_unbound e b = []
-
-abbrev pub ty_unbound : Env → Ty → List Unbound
-ty_unbound e (bare.con p ts q x) = unless_bound (option_and_then (λ d. tycon_in d x.id) (along e x.qualifiers)) (tycon_at q x)
-ty_unbound e t = []
-
-abbrev pub dec_unbound : Env → Dec → List Unbound
-dec_unbound e (replicate_dec p x y) = unless_bound (long_tycon_in e y) (tycon_at y.place y.long)
-dec_unbound e (open_dec p xs) = flat_map (λ y. unless_bound (long_structure_in e y) (structure_at y.place y.long)) xs
-dec_unbound e d = []
-
-abbrev pub ex_bind_unbound : Env → ExBind → List Unbound
-ex_bind_unbound e (new_exn p x t) = []
-ex_bind_unbound e (same_exn p x q y) = unless_bound (long_value_in e y) (value_at q y)
+abbrev pub own_unbound : Env → Phrase → List Unbound
+own_unbound e (exp (vid_exp p x)) = unless_bound (long_value_in e x) (value_at p x)
+own_unbound e (pat (con_pat p q x a)) = unless_bound (long_value_in e x) (value_at q x)
+own_unbound e (pat (vid_pat p x)) = unless_alone x.qualifiers (unless_bound (long_value_in e x) (value_at p x))
+own_unbound e (ty (bare.con p ts q x)) = unless_bound (option_and_then (λ d. tycon_in d x.id) (along e x.qualifiers)) (tycon_at q x)
+own_unbound e (dec (replicate_dec p x y)) = unless_bound (long_tycon_in e y) (tycon_at y.place y.long)
+own_unbound e (dec (open_dec p xs)) = flat_map (λ y. unless_bound (long_structure_in e y) (structure_at y.place y.long)) xs
+own_unbound e (ex_bind (same_exn p x q y)) = unless_bound (long_value_in e y) (value_at q y)
+own_unbound e x = []
 
 abbrev pub with_parts : Env → Phrase → List Unbound → List Unbound
-with_parts e (exp b) inner = inner ++ exp_unbound e b
-with_parts e (pat a) inner = pat_unbound e a ++ inner
-with_parts e (ty t) inner = inner ++ ty_unbound e t
-with_parts e (dec d) inner = inner ++ dec_unbound e d
-with_parts e (ex_bind b) inner = inner ++ ex_bind_unbound e b
-with_parts e x inner = inner
+with_parts e (pat a) inner = own_unbound e (pat a) ++ inner
+with_parts e x inner = inner ++ own_unbound e x
 
 -- so many levels deep
 abbrev pub unbound_to : ℕ → Env → Phrase → List Unbound

@@ -6,8 +6,8 @@ use Rattle.mlc_prims.specs.LitOf.{Literal}
 use Rattle.mlc_prims.specs.Table.{literal_eq}
 use Rattle.ty_core.specs.Types.{labels, name}
 use Rattle.ty_core.specs.declared.name.TyName.{TyName}
-use Rattle.ir_values.specs.Values.{literal, record_of, con, con_of, address, no_fields, field, same_label, field_in, literal_in, address_in}
-use Rattle.ir_values.specs.Equality.{unless_different, where_holds, if_equal, Constructed, fields_at, con_at, same_part, same_at, same_fields}
+use Rattle.ir_values.specs.Values.{literal, record_of, con, con_of, address, same_label}
+use Rattle.ir_values.specs.Equality.{unless_different, where_holds, if_equal, Constructed, same_part, same_at, same_fields}
 use Rattle.ir_plain.specs.Meaning.{V, Parts}
 use Rattle.ir_poly.specs.Types.{int_name, word_name, char_name, string_name, ref_name, exn_name}
 use Rattle.ir_mono.specs.Types.{Row, Node, node, node_at, constructor_at, admits, part, part_of, holds, has_literal, is_named, by_number, Is, IsRef, HasLiteral, has_int, has_word, has_char, has_string, IsOther, other_none, other_more, AreDistinct, distinct_none, distinct_more, AllAdmit, admit_none, admit_more, IsComparable, constants_are, references_are, records_are, constructions_are, IsTable}

@@ -4,3 +4,4 @@ pub mod Rows
 pub mod Performed
 pub mod Sound
 pub mod Bound
+pub mod Examples

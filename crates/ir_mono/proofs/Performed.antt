@@ -5,28 +5,23 @@ use Rattle.std.proofs.lemmas.Bool.{lt-ltb, eq-eqb, eqb-true}
 use Rattle.mlc_base.specs.Run.{World, Answer, gives, raises, stops, out_of_turns, then_do, or_handle, or_fail, fail, turn_from}
 use Rattle.mlc_base.specs.declared.label.Label.{Label}
 use Rattle.mlc_base.specs.declared.label.Label.TheVariants.{Number}
-use Rattle.mlc_base.specs.declared.place.Place.{Place}
-use Rattle.mlc_prims.specs.LitOf.{Literal, int, word, char, string, truth}
-use Rattle.mlc_prims.specs.PrimOf.{Gives, made, raised}
-use Rattle.mlc_prims.specs.Table.{row_of}
+use Rattle.mlc_prims.specs.LitOf.{Literal, int, word, char, string}
+use Rattle.mlc_prims.specs.PrimOf.{Gives, made}
 use Rattle.mlc_prims.specs.declared.prim.PrimExn.{PrimExn}
 use Rattle.mlc_prims.specs.declared.prim.PrimExn.TheVariants.{Overflow, Div, Subscript, Size, Chr}
 use Rattle.mlc_prims.specs.declared.basis.BasisPrimitive.{BasisPrimitive}
 use Rattle.mlc_prims.specs.declared.basis.BasisPrimitive.TheVariants.{Equals, Assign, Print}
-use Rattle.ty_core.specs.Types.{Typ, labels, name, typs_of}
+use Rattle.ty_core.specs.Types.{Typ, name, typs_of}
 use Rattle.ty_core.specs.Marks.{overloaded}
-use Rattle.ty_core.specs.declared.name.TyName.{TyName}
 use Rattle.ir_values.specs.Values.{literal, record_of, cell, address, exn, con, no_fields, field, Fields, field_in, truth_number}
-use Rattle.ir_values.specs.Equality.{same_at}
 use Rattle.ir_values.specs.Primitives.{Sort, compares, assigns, prints, computes, sort_of, literals, parts, arguments, giving, raised_name, perform, perform_as}
 use Rattle.ir_plain.specs.Meaning.{V, Parts}
 use Rattle.ir_poly.specs.Types.{int_name, word_name, char_name, string_name, bool_name, prim_type}
 use Rattle.ir_mono.specs.Types.{Row, Is, IsRef, HasLiteral, has_int, has_word, has_char, has_string, Stands, stands_var, stands_con, AllStand, stand_none, stand_more, IsTable, IsTuple, nothing, alone, together, by_number, numbered, bool_number, unit_number}
 use Rattle.ir_mono.specs.Mono.{mono}
 use Rattle.ir_mono.specs.Typing.{PrimAt}
-use Rattle.ir_mono.specs.Values.{Shape, ValueTyped, literal_is, record_is, con_is, exn_is, address_is, FieldsTyped, no_fields_are, a_field_is}
-use Rattle.ir_mono.proofs.Values.{Grows, stays, further, SameLength, ValuesTyped, no_values_are, a_value_is, IsPacket, alone_is, value-grows, StoreTyped, no_store, stored, WorldTyped, record-of, recorded, Recorded, FieldFound, field_found, count-typed, other-name, literal-name}
-use Rattle.ir_mono.proofs.Comparing as comparing
+use Rattle.ir_mono.specs.Values.{Shape, ValueTyped, literal_is, record_is, con_is, address_is, FieldsTyped, no_fields_are, a_field_is}
+use Rattle.ir_mono.proofs.Values.{Grows, stays, further, ValuesTyped, no_values_are, a_value_is, IsPacket, alone_is, value-grows, StoreTyped, no_store, stored, WorldTyped, record-of, recorded, Recorded, FieldFound, field_found, count-typed, other-name}
 use Rattle.ir_mono.proofs.Comparing.{Answers, answers, same-answers, address-of, Addressed, addressed, constant-of, Constant, constant}
 use Rattle.ir_mono.proofs.Rows as rows
 use Rattle.ir_mono.proofs.Rows.{Base, integers, words, characters, strings, number_of, IsBase, is_int, is_word, is_char, is_string, AllBase, all_none, all_more, the_parameter, the_base, Shapes, shapes_none, shapes_more, Result, a_constant, a_truth, GivesTyped, made_constant, made_truth, was_raised, RowGives, row_gives, ParameterIs, any_type, a_base, performs}

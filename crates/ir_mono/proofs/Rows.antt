@@ -1,5 +1,5 @@
 -- Each primitive of the table has a row for constants of its types, and gives one of its result's type or raises.
-use Rattle.std.proofs.Common.{◌≡◌, ℕ, zero, suc, ◌+◌, Bool, true, false, List, [], ◌∷◌, Option, Some, None, if◌then◌else◌, refl, ℤ, pos, negsuc}
+use Rattle.std.proofs.Common.{◌≡◌, ℕ, zero, suc, Bool, true, false, List, [], ◌∷◌, Option, Some, None, if◌then◌else◌, refl, ℤ, pos, negsuc}
 use Rattle.std.specs.Prelude.{◌==◌, ◌+ℤ◌, ◌-ℤ◌, ◌*ℤ◌, neg_ℤ, int_lt, int_div, nat_lt}
 use Rattle.word_arithmetic.specs.Arithmetic.{floor_div}
 use Rattle.mlc_prims.specs.LitOf.{Literal, int, word, char, string, truth}
@@ -249,11 +249,11 @@ module _ (types : List Row) where
       plain (record { bases = strings ∷ integers ∷ []; arguments = two (the_base strings) (the_base integers); kind = Some characters; result = a_constant (the_base characters); row = string-int (row_of CharAt) (λ s i. row_gives (char-at-typed (byte_at s i))) })
   performs PartOf e h =
       plain (record {
-      bases = strings ∷ integers ∷ integers ∷ [];
-      arguments = shapes_more (the_base strings) (two (the_base integers) (the_base integers));
-      kind = Some strings;
-      result = a_constant (the_base strings);
-      row = string-ints (row_of PartOf) (λ s i n. row_gives (part-typed (bytes_from s i n)));
+        bases = strings ∷ integers ∷ integers ∷ [];
+        arguments = shapes_more (the_base strings) (two (the_base integers) (the_base integers));
+        kind = Some strings;
+        result = a_constant (the_base strings);
+        row = string-ints (row_of PartOf) (λ s i n. row_gives (part-typed (bytes_from s i n)));
       })
   performs Concat e h =
       plain (record { bases = strings ∷ strings ∷ []; arguments = two (the_base strings) (the_base strings); kind = Some strings; result = a_constant (the_base strings); row = two-strings (row_of Concat) (λ s t. row_gives (joined-typed s t)) })

@@ -1,16 +1,15 @@
 -- A well formed program goes wrong at no number of turns.
-use Rattle.std.proofs.Common.{◌≡◌, ℕ, zero, suc, List, [], ◌∷◌, ◌++◌, length, Bool, true, false, Option, Some, None, slice_get, if◌then◌else◌, nat_eq, nat_lt, option_and_then, subst, refl, sym, ap, arith}
+use Rattle.std.proofs.Common.{◌≡◌, ℕ, zero, suc, List, [], ◌∷◌, ◌++◌, length, Bool, true, false, Option, Some, None, slice_get, if◌then◌else◌, nat_eq, subst, refl, sym, arith}
 use Rattle.std.proofs.lemmas.Bool.{eq-eqb, ltb-true}
 use Rattle.mlc_base.specs.Outcome.{wrong}
-use Rattle.mlc_base.specs.Run.{World, Answer, gives, raises, stops, out_of_turns, start, then_do, or_handle, or_fail, fail, turn_from, outcome_of}
+use Rattle.mlc_base.specs.Run.{World, Answer, gives, start, then_do, or_handle, or_fail, fail, turn_from, outcome_of}
 use Rattle.mlc_base.specs.declared.label.Label.{Label}
 use Rattle.mlc_base.specs.declared.place.Place.{Place}
-use Rattle.ty_core.specs.Types.{labels}
 use Rattle.ir_values.specs.Values.{Value, cell, exn, closure, empty, record_of, packet_name}
 use Rattle.ir_values.specs.Match.{after_match}
 use Rattle.ir_values.specs.Primitives.{marked, content_of, raise_value}
 use Rattle.ir_plain.specs.Tree.{Exp, Arms, Op, Fun, Row, Atoms, Exception}
-use Rattle.ir_plain.specs.Meaning.{Code, alone, one_of, V, Scope, Fits, Parts, Apply, look_up, look_all, look_row, in_front, field_in_front, on_name, exception_of, pack_value, select_from, read_reference, eval, eval_arms, eval_op, run_fun, body, enter, apply, identifier_of, run}
+use Rattle.ir_plain.specs.Meaning.{alone, V, Scope, Fits, Parts, Apply, look_all, look_row, in_front, field_in_front, on_name, exception_of, pack_value, select_from, read_reference, eval, eval_arms, eval_op, run_fun, enter, apply, identifier_of, run}
 use Rattle.ir_mono.specs.Types as table
 use Rattle.ir_mono.specs.Types.{part, by_number, Is, IsFunction, IsRef, IsExn, IsTable}
 use Rattle.ir_mono.specs.Mono.{mono, Program, meaning}
@@ -18,7 +17,7 @@ use Rattle.ir_mono.specs.Typing as tt
 use Rattle.ir_mono.specs.Typing.{of_type, exception, Sorts, sort_of, AtomsTyped, no_atoms_typed, an_atom_typed, RowTyped, no_row_typed, a_row_typed, NameTyped, fixed_typed, held_typed, packet_at, to_packets_at, value_at, function_at, FunTyped, t_last, t_more}
 use Rattle.ir_mono.specs.WellFormed.{IsWellFormed}
 use Rattle.ir_mono.specs.Values.{Shape, ValueTyped, literal_is, record_is, con_is, con_function_is, con_of_is, exn_is, exn_function_is, exn_of_is, ref_is, address_is, primitive_is, closure_is, group_is, FieldsTyped, no_fields_are, a_field_is, SortTyped, value_is, name_is, EnvTyped, empty_is, bind_is}
-use Rattle.ir_mono.proofs.Values.{Grows, stays, further, SameLength, no_names, one_more, ValuesTyped, no_values_are, a_value_is, IsPacket, alone_is, with_argument_is, as-value, value-grows, env-grows, Found, found, look_up-typed, members-typed, FieldFound, field_found, field-typed, MatchFine, matches_fine, no_match_fine, case-fine, packet-of, record-of, Recorded, recorded, literal-name, data-name, StoreTyped, no_store, WorldTyped}
+use Rattle.ir_mono.proofs.Values.{Grows, stays, further, SameLength, no_names, one_more, ValuesTyped, no_values_are, a_value_is, IsPacket, alone_is, with_argument_is, as-value, env-grows, Found, found, look_up-typed, members-typed, FieldFound, field_found, field-typed, MatchFine, matches_fine, no_match_fine, case-fine, packet-of, record-of, Recorded, recorded, literal-name, data-name, no_store, WorldTyped}
 use Rattle.ir_mono.proofs.Comparing.{address-of, Addressed, addressed}
 use Rattle.ir_mono.proofs.Performed.{OfType, Fine, fine_gives, fine_raises, fine_stops, widen, here, store-grows, CellFound, cell_found, get-stored, still, reference-fine, Begun, perform-fine, arguments-typed}
 

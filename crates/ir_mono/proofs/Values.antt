@@ -3,22 +3,20 @@ use Rattle.std.proofs.Common.{◌≡◌, ℕ, suc, List, [], ◌∷◌, length, 
 use Rattle.std.proofs.lemmas.Bool.{eqb-true, eq-eqb, ltb-true}
 use Rattle.mlc_base.specs.Run.{World}
 use Rattle.mlc_base.specs.declared.label.Label.{Label}
-use Rattle.mlc_prims.specs.LitOf.{Literal, int, word, char, string}
+use Rattle.mlc_prims.specs.LitOf.{Literal}
 use Rattle.mlc_prims.specs.Table.{literal_eq}
-use Rattle.mlc_prims.specs.declared.basis.BasisPrimitive.{BasisPrimitive}
-use Rattle.ty_core.specs.Types.{arrow, labels, name}
+use Rattle.ty_core.specs.Types.{labels, name}
 use Rattle.ty_core.specs.declared.name.TyName.{TyName}
-use Rattle.ir_values.specs.Values.{Value, literal, record_of, con, con_of, exn, exn_of, ref, address, cell, primitive, closure, no_fields, field, empty, bind, same_label, field_in, count, literal_in}
+use Rattle.ir_values.specs.Values.{record_of, con, con_of, exn, exn_of, cell, closure, same_label, field_in, count}
 use Rattle.ir_values.specs.Match.{matches, no_match, mismatch, where_same, against_literal, against_con, under_con, against_exn, under_exn, under_record, match_at, of_size}
-use Rattle.ir_plain.specs.Kind.{Kind}
 use Rattle.ir_plain.specs.Tree.{Fun, Funs, Case}
-use Rattle.ir_plain.specs.Meaning.{V, Scope, Fits, Parts, alone, one_of, argument_tag, look_up, members_from, check}
+use Rattle.ir_plain.specs.Meaning.{V, Scope, Fits, Parts, one_of, look_up, members_from, check}
 use Rattle.ir_poly.specs.Types.{int_name, word_name, char_name, string_name, ref_name, exn_name}
 use Rattle.ir_poly.specs.TestsChecked.{is_size}
-use Rattle.ir_mono.specs.Types.{Row, Node, node, node_at, constructor_at, part, by_number, Is, IsFunction, IsRef, IsExn, HasLiteral, has_int, has_word, has_char, has_string, IsTable, IsTuple}
+use Rattle.ir_mono.specs.Types.{Row, constructor_at, part, by_number, Is, IsExn, HasLiteral, has_int, has_word, has_char, has_string, IsTable}
 use Rattle.ir_mono.specs.Mono.{mono}
 use Rattle.ir_mono.specs.Values.{Shape, ValueTyped, literal_is, record_is, con_is, con_function_is, con_of_is, exn_is, exn_function_is, exn_of_is, ref_is, address_is, primitive_is, closure_is, group_is, FieldsTyped, no_fields_are, a_field_is, SortTyped, value_is, name_is, EnvTyped, empty_is, bind_is}
-use Rattle.ir_mono.specs.Typing.{Sort, of_type, exception, Sorts, sort_of, group_sorts, PrimAt, CaseTyped, literal_typed, con_typed, con_of_typed, exn_typed, exn_of_typed, record_typed, FunTyped, FunsTyped, t_last, t_more, t_no_funs, t_fun}
+use Rattle.ir_mono.specs.Typing.{Sort, exception, Sorts, sort_of, group_sorts, CaseTyped, literal_typed, con_typed, con_of_typed, exn_typed, exn_of_typed, record_typed, FunTyped, FunsTyped, t_last, t_more, t_no_funs, t_fun}
 
 pub record Grows (S S' : Shape) : Type 0 where
   pub store : (i t : ℕ) → slice_get S.store i ≡ Some t → slice_get S'.store i ≡ Some t

@@ -1,6 +1,6 @@
 -- Closed types as numbers in a table. A type is a head with parts, which are types of the table: the arrow, labels of a record, or a type name. A datatype
 -- stands there by instance, with those of its constructors that the program uses.
-use Rattle.std.specs.Prelude.{◌≡◌, ℕ, suc, Bool, true, false, List, [], ◌∷◌, Option, Some, None, option_map, option_and_then, nat_eq, nat_lt, if◌then◌else◌, ⊤}
+use Rattle.std.specs.Prelude.{◌≡◌, ℕ, suc, Bool, true, false, List, [], ◌∷◌, Option, Some, None, option_map, option_and_then, nat_eq, nat_lt, if◌then◌else◌}
 use Rattle.std.specs.Map.{lookup}
 use Rattle.std.specs.Prelude.{slice_get}
 use Rattle.mlc_base.specs.declared.label.Label.{Label}

@@ -2,3 +2,11 @@ pub mod Related
 pub mod Refined
 pub mod Keeps
 pub mod Stripped
+pub mod Numbers
+pub mod Typing
+pub mod Locals
+pub mod Kept
+pub mod Names
+pub mod Fits
+pub mod Made
+pub mod Numbered

@@ -33,10 +33,16 @@ pub struct Field {
 pub enum Case {
     Constant(Constant),
     Constructor(usize),
-    ConstructorOf { constructor: usize, argument: Parameter },
+    ConstructorOf {
+        constructor: usize,
+        argument: Parameter,
+    },
     /// The exception that a variable stands for.
     Exception(usize),
-    ExceptionOf { exception: usize, argument: Parameter },
+    ExceptionOf {
+        exception: usize,
+        argument: Parameter,
+    },
     /// A record, with so many fields where a number is given.
     Record(Option<usize>),
 }
@@ -55,20 +61,56 @@ pub enum Operation {
     Use(usize, Vec<usize>),
     Constant(Constant),
     /// A constructor as a value, of this datatype.
-    Constructor { constructor: usize, ty: usize },
-    Construct { place: Option<Place>, constructor: usize, ty: usize, argument: usize },
+    Constructor {
+        constructor: usize,
+        ty: usize,
+    },
+    Construct {
+        place: Option<Place>,
+        constructor: usize,
+        ty: usize,
+        argument: usize,
+    },
     /// The constructor `ref` as a function, at the type of what is held.
     Reference(usize),
-    Refer { place: Option<Place>, ty: usize, argument: usize },
-    Content { ty: usize, reference: usize },
-    Pack { place: Option<Place>, ty: usize, exception: usize, argument: usize },
-    Record { ty: usize, fields: Vec<Field> },
+    Refer {
+        place: Option<Place>,
+        ty: usize,
+        argument: usize,
+    },
+    Content {
+        ty: usize,
+        reference: usize,
+    },
+    Pack {
+        place: Option<Place>,
+        ty: usize,
+        exception: usize,
+        argument: usize,
+    },
+    Record {
+        ty: usize,
+        fields: Vec<Field>,
+    },
     /// A field of a record of this type.
-    Select { ty: usize, label: Label, record: usize },
+    Select {
+        ty: usize,
+        label: Label,
+        record: usize,
+    },
     /// A primitive as a function, at a type.
     Primitive(BasisPrimitive, usize),
-    Perform { place: Option<Place>, primitive: BasisPrimitive, ty: usize, arguments: Vec<usize> },
-    Apply { place: Place, function: usize, argument: usize },
+    Perform {
+        place: Option<Place>,
+        primitive: BasisPrimitive,
+        ty: usize,
+        arguments: Vec<usize>,
+    },
+    Apply {
+        place: Place,
+        function: usize,
+        argument: usize,
+    },
     Raise(usize),
     RaiseInitial(usize),
 }
@@ -79,7 +121,11 @@ pub enum Operation {
 pub enum Exp {
     Steps(Vec<Step>, Box<Exp>),
     Ret(usize),
-    Switch { atom: usize, ty: usize, arms: Vec<Arm> },
+    Switch {
+        atom: usize,
+        ty: usize,
+        arms: Vec<Arm>,
+    },
     /// Attempts in order, and the last.
     First(Vec<Exp>, Box<Exp>),
     Miss,
@@ -90,17 +136,35 @@ pub enum Exp {
 pub enum Step {
     Let(Binding, Operation),
     /// A function of some parameters and a last one.
-    Fn { binding: Binding, parameters: Vec<Parameter>, last: Parameter, body: Box<Exp> },
+    Fn {
+        binding: Binding,
+        parameters: Vec<Parameter>,
+        last: Parameter,
+        body: Box<Exp>,
+    },
     Block(Binding, Box<Exp>),
-    Handle { binding: Binding, body: Box<Exp>, packet: usize, handler: Box<Exp> },
+    Handle {
+        binding: Binding,
+        body: Box<Exp>,
+        packet: usize,
+        handler: Box<Exp>,
+    },
     /// A new exception, with its identifier and the type of its argument.
-    Exception { variable: usize, identifier: Name, argument: Option<usize> },
+    Exception {
+        variable: usize,
+        identifier: Name,
+        argument: Option<usize>,
+    },
     /// Brings in the name of an exception.
     Name(usize, Exception),
     /// Functions that know each other, generalised over a list of parameters.
     Group(usize, Vec<Function>),
     /// Misses where the atom of this type doesn't fit.
-    Test { atom: usize, ty: usize, case: Case },
+    Test {
+        atom: usize,
+        ty: usize,
+        case: Case,
+    },
     /// Stands for so many further nodes of the source.
     Counted(usize),
 }

@@ -15,7 +15,7 @@ use Rattle.ty_solve.proofs.Subs.{size, sizes}
 use Rattle.ty_solve.proofs.Freeing.{aside-other, aside-acyclic}
 use Rattle.ty_solve.proofs.Labels.{field-in, at-subs, at-size}
 
-lies-right : (p : Problem) (t u x : Typ) → Lies p t u → Forces p u x → Lies p t x
+pub lies-right : (p : Problem) (t u x : Typ) → Lies p t u → Forces p u x → Lies p t x
 lies-right p t u x (Lies.part h ts _ _ e b) g = Lies.part h ts t x (Forces.along _ _ _ (Forces.back _ _ g) e) b
 lies-right p t u x (Lies.deeper _ y _ a b) g = Lies.deeper t y x a (lies-right p y u x b g)
 lies-right p t u x (Lies.along _ y _ e b) g = Lies.along t y x e (lies-right p y u x b g)

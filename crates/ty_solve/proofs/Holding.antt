@@ -2,7 +2,7 @@
 use Rattle.std.proofs.Common.{◌≡◌, ◌<◌, ◌≤◌, ℕ, zero, suc, List, [], ◌∷◌, ◌++◌, length, get_or, set, take, Bool, true, false, if◌then◌else◌, refl, sym, ap, ap₂, subst, ◌∙◌, arith}
 use Rattle.ty_core.specs.Types.{Typ, var}
 use Rattle.ty_core.specs.declared.mark.Mark.{Mark}
-use Rattle.ty_table.specs.TypeAt.{type_at}
+use Rattle.ty_table.specs.TypeAt.{type_at, AllBelow}
 use Rattle.ty_solve.specs.Substitution.{bound}
 use Rattle.ty_solve.specs.Held.{IsHeld, AreHeld, IsHeldTask, AreHeldTasks}
 use Rattle.ty_solve.specs.SlotsOf.{entry_of, entries, seen, look}
@@ -87,3 +87,15 @@ table-grown ts us os e h b a i =
       inhabited = subst AreInhabited (sym s) i;
       says = s;
     }
+
+-- lists of numbers
+pub below-append : (n : ℕ) (l r : List ℕ) → AllBelow n l → AllBelow n r → AllBelow n (l ++ r)
+below-append n [] r h k = k
+below-append n (x ∷ l) r h k = (h.0, below-append n l r h.1 k)
+
+pub below-pop : (n : ℕ) (l all : List ℕ) (k : ℕ) → all ≡ l ++ k ∷ [] → AllBelow n all → AllBelow n l × (k < n)
+below-pop n l all k e h = go l (subst (AllBelow n) e h)
+  where
+    go : (l : List ℕ) → AllBelow n (l ++ k ∷ []) → AllBelow n l × (k < n)
+    go [] h = (tt, h.0)
+    go (x ∷ l) h = let p = go l h.1 in ((h.0, p.0), p.1)

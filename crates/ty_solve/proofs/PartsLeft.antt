@@ -1,17 +1,16 @@
 -- Going through the parts of two types from the last one on.
 use Rattle.std.proofs.Common.{◌≡◌, ◌↔◌, ℕ, ◌+◌, Bool, true, List, [], ◌∷◌, ◌++◌, length, refl, sym, ap, ap₂, subst, arith}
 use Rattle.std.proofs.lemmas.Bool.{and_parts, and_from}
-use Rattle.ty_core.specs.Types.{Typ, var, con, Typs, none, more, Symbol, admits, all_admit}
-use Rattle.ty_core.specs.declared.mark.Mark.{Mark}
+use Rattle.ty_core.specs.Types.{Typ, var, con, Typs, none, more, Symbol}
 use Rattle.ty_solve.specs.Compared.{Waits, Alike}
 use Rattle.ty_solve.proofs.Comparing.{waits-front, waits-last, alike-map}
 use Rattle.ty_solve.specs.Substitution.{sub, subs, is_below, are_below}
 use Rattle.ty_solve.specs.Weight.{weight, weights}
-use Rattle.ty_solve.specs.Forces.{Problem, Forces, Asks, Met, Beside}
+use Rattle.ty_solve.specs.Forces.{Problem, Forces, Met, Beside}
 use Rattle.ty_solve.specs.Tasks.{AllHold, AreForced, AreWithin, burdens}
-use Rattle.ty_solve.specs.Parts.{EqualParts, AdmitParts}
+use Rattle.ty_solve.specs.Parts.{EqualParts}
 use Rattle.ty_solve.specs.Task.{Task}
-use Rattle.ty_solve.specs.Task.{Equal, Admit}
+use Rattle.ty_solve.specs.Task.{Equal}
 use Rattle.ty_solve.proofs.Lists.{all}
 use Rattle.ty_solve.proofs.Subs.{head_of, tail_of}
 use Rattle.ty_solve.proofs.StepArms.{hold-push, forced-push, within-push, burdens-push}
@@ -61,13 +60,6 @@ weights-last : (w : ℕ → ℕ) (l : List Typ) (t : Typ) → weights w (all (l 
 weights-last w [] t = omega arith
 weights-last w (x ∷ l) t = let p = weights-last w l t in omega arith
 
-admit-last : (m : ℕ → Bool) (f : ℕ → Typ) (l : List Typ) (t : Typ) → (all_admit m (subs f (all (l ++ t ∷ []))) ≡ true) ↔ ((all_admit m (subs f (all l)) ≡ true) × (admits m (sub f t) ≡ true))
-admit-last m f [] t = (λ h. (refl, (and_parts (admits m (sub f t)) true h).0), λ h. and_from _ _ h.1 refl)
-admit-last m f (x ∷ l) t = (
-  λ h. let p = and_parts (admits m (sub f x)) (all_admit m (subs f (all (l ++ t ∷ [])))) h in let q = (admit-last m f l t).0 p.1 in (and_from _ _ p.0 q.0, q.1),
-  λ h. let p = and_parts (admits m (sub f x)) (all_admit m (subs f (all l))) h.0 in and_from _ _ p.0 ((admit-last m f l t).1 (p.1, h.1)),
-)
-
 alike-last : (P : Typ → Typ → Type 0) (l r : List Typ) (t u : Typ) → Alike P (all l) (all r) → P t u → Alike P (all (l ++ t ∷ [])) (all (r ++ u ∷ []))
 alike-last P [] [] t u h p = Alike.part t u none none p Alike.nothing
 alike-last P [] (y ∷ r) t u h p = elim h [ ]
@@ -108,35 +100,3 @@ equal-next old now new ts us l r t u n e b g = subst (λ x. EqualSome old x ts u
 
 pub equal-all : (old now : List Task) (l r : List Typ) → EqualSome old now (all l) (all r) l r → EqualParts old now (all l) (all r)
 equal-all old now l r g = record { same = g.same; forced = g.forced; within = g.within; burden_is = g.burden_is; stay = g.stay; wait = g.wait }
-
--- the types of l have been put on, of those of ts
-pub record AdmitSome (old now : List Task) (ts : Typs) (l : List Typ) : Type 0 where
-  pub same : (m : ℕ → Bool) (f : ℕ → Typ) → AllHold m f now ↔ (AllHold m f old × (all_admit m (subs f (all l)) ≡ true))
-  pub forced : (p : Problem) → AreForced p old → ((t : Typ) → Beside t t ts ts → Asks p Mark.Equality t × Met p t) → AreForced p now
-  pub within : (n : ℕ) → AreWithin n old → are_below n (all l) ≡ true → AreWithin n now
-  pub burden_is : (w : ℕ → ℕ) → burdens w now ≡ burdens w old + weights w (all l)
-  pub stay : (a b : Typ) → Waits old a b → Waits now a b
-
-pub admit-none : (old : List Task) (ts : Typs) → AdmitSome old old ts []
-admit-none old ts = record {
-  same = λ m f. (λ h. (h, refl), λ h. h.0);
-  forced = λ p i j. i;
-  within = λ n i j. i;
-  burden_is = λ w. omega arith;
-  stay = λ a b w. w;
-}
-
-pub admit-next : (old now new : List Task) (ts : Typs) (l : List Typ) (t : Typ) → new ≡ now ++ Admit Mark.Equality t ∷ [] → Beside t t ts ts → AdmitSome old now ts l → AdmitSome old new ts (l ++ t ∷ [])
-admit-next old now new ts l t e b g = subst (λ x. AdmitSome old x ts (l ++ t ∷ [])) (sym e) (record {
-  same = λ m f. (
-    λ h. let p = (hold-push m f now (Admit Mark.Equality t)).0 h in let q = (g.same m f).0 p.0 in (q.0, (admit-last m f l t).1 (q.1, p.1)),
-    λ h. let q = (admit-last m f l t).0 h.1 in (hold-push m f now (Admit Mark.Equality t)).1 ((g.same m f).1 (h.0, q.0), q.1),
-  );
-  forced = λ p i j. forced-push p now (Admit Mark.Equality t) (g.forced p i j) (j t b);
-  within = λ m i j. let x = below-last m l t j in within-push m now (Admit Mark.Equality t) (g.within m i x.0) (refl, x.1);
-  burden_is = λ w. let p = burdens-push w now (Admit Mark.Equality t) in let q = g.burden_is w in let x = weights-last w l t in omega arith;
-  stay = λ a c w. waits-front now (Admit Mark.Equality t ∷ []) a c (g.stay a c w);
-})
-
-pub admit-all : (old now : List Task) (l : List Typ) → AdmitSome old now (all l) l → AdmitParts old now (all l)
-admit-all old now l g = record { same = g.same; forced = g.forced; within = g.within; burden_is = g.burden_is; stay = g.stay }

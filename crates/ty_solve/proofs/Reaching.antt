@@ -6,17 +6,12 @@ use Rattle.ty_core.specs.Types.{Typ, var}
 use Rattle.ty_table.specs.TypeAt.{type_at, types_at, top}
 use Rattle.ty_solve.specs.Substitution.{Entry, aside, resolved, Resolves, sub, subs, is_in, are_in}
 use Rattle.ty_solve.specs.Weight.{weight, weights, IsAcyclic}
-use Rattle.ty_solve.specs.Walk.{Next, Looks}
+use Rattle.ty_solve.specs.Walk.{Has, Next, Looks}
 use Rattle.std.proofs.Common.{not, if◌then◌else◌}
 use Rattle.std.specs.List.{list_any}
 use Rattle.indexmap.specs.IndexSet.{insert_key}
 use Rattle.ty_solve.proofs.Freeing.{aside-here, aside-other}
 use Rattle.ty_solve.proofs.Walking.{ground-same, ground-out, next-lighter}
-
--- k stands in a list
-abbrev pub Has : List ℕ → ℕ → Type 0
-Has [] k = ⊥
-Has (x ∷ l) k = (k ≡ x) ⊎ Has l k
 
 -- a number is accounted for: looked through, pending, or of a type with no variable
 pub data Covered (ts : List Typ) (done pending : List ℕ) (k : ℕ) : Type 0 where
@@ -35,20 +30,20 @@ pub record Reaching (ts : List Typ) (s : ℕ → Entry) (v t : ℕ) (done pendin
   pub through : (k : ℕ) → Has done k → Through ts s v done pending k
   pub found : (f : ℕ → Typ) → Resolves f (aside v s) → (k : ℕ) → Has pending k → is_in v (sub f (type_at ts k)) ≡ true → is_in v (sub f (type_at ts t)) ≡ true
 
-has-last : (l : List ℕ) (k : ℕ) → Has (l ++ k ∷ []) k
+pub has-last : (l : List ℕ) (k : ℕ) → Has (l ++ k ∷ []) k
 has-last [] k = inl refl
 has-last (x ∷ l) k = inr (has-last l k)
 
-has-front : (l r : List ℕ) (k : ℕ) → Has l k → Has (l ++ r) k
+pub has-front : (l r : List ℕ) (k : ℕ) → Has l k → Has (l ++ r) k
 has-front [] r k h = absurd h
 has-front (x ∷ l) r k (inl e) = inl e
 has-front (x ∷ l) r k (inr h) = inr (has-front l r k h)
 
-has-back : (l r : List ℕ) (k : ℕ) → Has r k → Has (l ++ r) k
+pub has-back : (l r : List ℕ) (k : ℕ) → Has r k → Has (l ++ r) k
 has-back [] r k h = h
 has-back (x ∷ l) r k h = inr (has-back l r k h)
 
-has-either : (l r : List ℕ) (k : ℕ) → Has (l ++ r) k → Has l k ⊎ Has r k
+pub has-either : (l r : List ℕ) (k : ℕ) → Has (l ++ r) k → Has l k ⊎ Has r k
 has-either [] r k h = inr h
 has-either (x ∷ l) r k (inl e) = inl (inl e)
 has-either (x ∷ l) r k (inr h) = go (has-either l r k h)
@@ -57,7 +52,7 @@ has-either (x ∷ l) r k (inr h) = go (has-either l r k h)
     go (inl a) = inl (inr a)
     go (inr b) = inr b
 
-only : (k j : ℕ) → Has (k ∷ []) j → j ≡ k
+pub only : (k j : ℕ) → Has (k ∷ []) j → j ≡ k
 only k j (inl e) = e
 only k j (inr h) = absurd h
 

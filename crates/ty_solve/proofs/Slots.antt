@@ -3,7 +3,7 @@ use Rattle.std.proofs.Common.{◌≡◌, ◌<◌, ◌≤◌, ℕ, zero, suc, Lis
 use Rattle.ty_core.specs.Types.{Typ}
 use Rattle.ty_core.specs.Marks.{is_inhabited}
 use Rattle.ty_core.specs.declared.mark.Mark.{Mark}
-use Rattle.ty_solve.specs.Substitution.{free, is_open, mark}
+use Rattle.ty_solve.specs.Substitution.{free, bound, is_open, mark}
 use Rattle.ty_solve.specs.SlotsOf.{look, entries, entry_of, seen, task_of, tasks_of}
 use Rattle.ty_solve.specs.declared.task.Todo.{Todo}
 use Rattle.ty_solve.specs.Finding.{Reads}
@@ -90,3 +90,9 @@ open-free ts (o ∷ os) (suc v) h = open-free ts os v h
 pub none-more : (l : List ℕ) → l ≡ l ++ []
 none-more [] = refl
 none-more (k ∷ l) = ap (λ m. k ∷ m) (none-more l)
+
+-- a variable that stands for a type is one of the substitution's
+pub bound-within : (ts : List Typ) (os : List Slot) (v : ℕ) (t : Typ) → seen ts os v ≡ bound t → v < length os
+bound-within ts [] v t e = cc
+bound-within ts (o ∷ os) zero t e = omega arith
+bound-within ts (o ∷ os) (suc v) t e = let lt = bound-within ts os v t e in omega arith

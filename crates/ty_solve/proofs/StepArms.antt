@@ -17,7 +17,7 @@ use Rattle.ty_solve.specs.Task.{Bind, Remark}
 use Rattle.std.proofs.lemmas.Bool.{ltb-true}
 use Rattle.ty_solve.specs.declared.refused.UnifyRefused.{UnifyRefused}
 use Rattle.ty_solve.specs.declared.refused.UnifyRefused.TheVariants.{Clash, Circular, Large, Memory}
-use Rattle.ty_solve.specs.Parts.{EqualParts, AdmitParts}
+use Rattle.ty_solve.specs.Parts.{EqualParts, AdmitParts, RefusesParts}
 use Rattle.ty_solve.proofs.Sigma.{solves-fits}
 use Rattle.ty_solve.proofs.Subs.{parts_of}
 use Rattle.ty_solve.proofs.Lists.{all}
@@ -174,20 +174,30 @@ never-clash s h ts t p e = (
 pub always-steps : (n : ℕ) (s : ℕ → Entry) (w : ℕ → ℕ) (old : List Task) (h : Symbol) (ts : Typs) (t : Typ) → t ≡ con h ts → Always ≡ attribute h → Steps n s w old (Admit Mark.Equality t) old None
 always-steps n s w old h ts t p e = steps-nothing n s w old (Admit Mark.Equality t) (λ m f k. subst (λ z. admits m (sub f z) ≡ true) (sym p) (subst (λ q. allowed q (all_admit m (subs f ts)) ≡ true) e refl))
 
-pub arguments-steps : (n : ℕ) (s : ℕ → Entry) (w : ℕ → ℕ) (old new : List Task) (h : Symbol) (ts : Typs) (t : Typ) → t ≡ con h ts → ByArguments ≡ attribute h → AdmitParts old new ts → Steps n s w old (Admit Mark.Equality t) new None
+pub arguments-steps : (n : ℕ) (s : ℕ → Entry) (w : ℕ → ℕ) (old new : List Task) (h : Symbol) (ts : Typs) (t : Typ) → t ≡ con h ts → ByArguments ≡ attribute h → AdmitParts n s w old new ts → Steps n s w old (Admit Mark.Equality t) new None
 arguments-steps n s w old new h ts t p e x =
-    let x1 = x.burden_is w in
+    let x1 = x.lighter in
     let p1 = ap (weight w) p in
     record {
       same = λ m f k. (
-        λ y. ((x.same m f).1 (y.0, subst (λ q. allowed q (all_admit m (subs f ts)) ≡ true) (sym e) (subst (λ z. admits m (sub f z) ≡ true) p y.1)), tt),
-        λ y. let z = (x.same m f).0 y.0 in (z.0, subst (λ z. admits m (sub f z) ≡ true) (sym p) (subst (λ q. allowed q (all_admit m (subs f ts)) ≡ true) e z.1)),
+        λ y. ((x.same m f (solves-fits m s f k)).1 (y.0, subst (λ q. allowed q (all_admit m (subs f ts)) ≡ true) (sym e) (subst (λ z. admits m (sub f z) ≡ true) p y.1)), tt),
+        λ y. let z = (x.same m f (solves-fits m s f k)).0 y.0 in (z.0, subst (λ z. admits m (sub f z) ≡ true) (sym p) (subst (λ q. allowed q (all_admit m (subs f ts)) ≡ true) e z.1)),
       );
-      forced = λ o i j r. (x.forced o j (λ y b. (Asks.part h ts y (subst (Asks o Mark.Equality) p r.0) (sym e) b, Met.part h ts y (subst (Met o) p r.1) b)), tt);
-      within = λ j y. x.within n j (subst (λ z. is_below n z ≡ true) p y.1);
+      forced = λ o i j r. (x.forced o i j (λ y b. (Asks.part h ts y (subst (Asks o Mark.Equality) p r.0) (sym e) b, Met.part h ts y (subst (Met o) p r.1) b)), tt);
+      within = λ j y. x.within j (subst (λ z. is_below n z ≡ true) p y.1);
       lighter = omega arith;
       fit = λ r. tt;
     }
+
+-- a part that never admits equality
+pub arguments-clash : (s : ℕ → Entry) (h : Symbol) (ts : Typs) (t : Typ) → t ≡ con h ts → ByArguments ≡ attribute h → (e : UnifyRefused) → RefusesParts s ts e → RefusesTask s (Admit Mark.Equality t) e
+arguments-clash s h ts t p e Clash x = (
+  λ m f k y. x.0 m f (solves-fits m s f k) (subst (λ q. allowed q (all_admit m (subs f ts)) ≡ true) (sym e) (subst (λ z. admits m (sub f z) ≡ true) p y)),
+  λ o i r. x.1 o i (λ y b. (Asks.part h ts y (subst (Asks o Mark.Equality) p r.0) (sym e) b, Met.part h ts y (subst (Met o) p r.1) b)),
+)
+arguments-clash s h ts t p e Circular x = absurd x
+arguments-clash s h ts t p e Large x = absurd x
+arguments-clash s h ts t p e Memory x = tt
 
 pub class-steps : (n : ℕ) (s : ℕ → Entry) (w : ℕ → ℕ) (old : List Task) (c : Class) (h : Symbol) (l : List Typ) (t : Typ) → t ≡ con h (all l) → length l ≡ 0 → IsOf c (con h none) → Steps n s w old (Admit (Mark.Class c) t) old None
 class-steps n s w old c h [] t p e x = steps-nothing n s w old (Admit (Mark.Class c) t) (λ m f k. subst (λ z. IsOf c (sub f z)) (sym p) x)

@@ -1,5 +1,5 @@
 -- One table of types for another that is the same.
-use Rattle.std.proofs.Common.{◌≡◌, ℕ, List, length, Option, Result, Ok, Err, IfOk, subst, sym}
+use Rattle.std.proofs.Common.{◌≡◌, ℕ, List, [], ◌∷◌, length, Option, Result, Ok, Err, IfOk, IfErr, refl, subst, sym}
 use Rattle.ty_core.specs.Types.{Typ}
 use Rattle.ty_solve.specs.Held.{AreHeld}
 use Rattle.ty_solve.specs.Substitution.{Entry}
@@ -39,3 +39,15 @@ pub record IsKept (u : List Typ) (os : List Slot) : Type 0 where
 
 pub put-back : (t u : List Typ) (os ps : List Slot) → u ≡ t → ps ≡ os → AreHeld (length t) os → AreBelow (length os) (seen t os) → IsAcyclic (seen t os) → AreInhabited (seen t os) → IsKept u ps
 put-back t u os ps e q h b a i = subst (λ (x : List Typ). IsKept x ps) (sym e) (subst (λ l. IsKept t l) (sym q) (record { held = h; below = b; acyclic = a; inhabited = i }))
+
+pub ok-then : {X E : Type 0} (P Q : Type 0) (r : Result X E) → (P → Q) → IfOk r (λ _. P) → IfOk r (λ _. Q)
+ok-then P Q (Ok x) g h = g h
+ok-then P Q (Err e) g h = tt
+
+pub err-then : {X E : Type 0} (P Q : E → Type 0) (r : Result X E) → ((e : E) → P e → Q e) → IfErr r P → IfErr r Q
+err-then P Q (Ok x) g h = tt
+err-then P Q (Err e) g h = g e h
+
+pub none-left : {X : Type 0} (l : List X) → length l ≡ 0 → l ≡ []
+none-left [] e = refl
+none-left (x ∷ l) e = cc

@@ -38,7 +38,7 @@ mutual
       go (inr e) a b = b e
 
 -- lists of numbers
-weights-append : (w : ℕ → ℕ) (ts : List Typ) (l r : List ℕ) → weights w (types_at ts (l ++ r)) ≡ weights w (types_at ts l) + weights w (types_at ts r)
+pub weights-append : (w : ℕ → ℕ) (ts : List Typ) (l r : List ℕ) → weights w (types_at ts (l ++ r)) ≡ weights w (types_at ts l) + weights w (types_at ts r)
 weights-append w ts [] r = omega arith
 weights-append w ts (k ∷ l) r = let e = weights-append w ts l r in omega arith
 

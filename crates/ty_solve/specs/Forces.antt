@@ -53,7 +53,8 @@ mutual
     along : (k : Mark) (t u : Typ) → Asks p k t → Forces p t u → Asks p k u
     part : (h : Symbol) (ts : Typs) (t : Typ) → Asks p Mark.Equality (con h ts) → attribute h ≡ ByArguments → Beside t t ts ts → Asks p Mark.Equality t
     both : (j k r : Mark) (t : Typ) → Asks p j t → Asks p k t → ((m : ℕ → Bool) (u : Typ) → Allows j m u → Allows k m u → Allows r m u) → Asks p r t
-    further : (ks ls : List Label) (ts : Typs) (l : Label) (x : Typ) → Strict p (con (labels ls) ts) ks → At l x ls ts → (Among l ks → ⊥) → Asks p Mark.Equality x
+    further : (ks ls : List Label) (ts : Typs) (l : Label) (x : Typ) → Strict p (con (labels ls) ts) ks → At l x ls ts → (Among l ks → ⊥)
+        → Asks p Mark.Equality x
     rest : (ks : List Label) (t : Typ) (l : Label) (u : Typ) → Strict p t ks → Has p t l u → (Among l ks → ⊥) → Asks p Mark.Equality u
 
   -- the fields of a type with labels other than ks are forced to admit equality

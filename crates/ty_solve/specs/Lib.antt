@@ -14,3 +14,7 @@ pub mod Walk
 pub mod Compared
 pub mod Held
 pub mod HeldProps
+pub mod Limits
+pub mod LimitProps
+pub mod Lowering
+pub mod Said

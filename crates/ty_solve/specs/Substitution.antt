@@ -36,7 +36,8 @@ abbrev mutual
   are_in v none = false
   are_in v (more t ts) = is_in v t || are_in v ts
 
--- what a substitution says of a variable: it is free and has a mark, or it stands for a type, or for a record with these fields and perhaps further ones, which admit equality where the flag is true
+-- what a substitution says of a variable: it is free and has a mark, or it stands for a type, or for a record with
+-- these fields and perhaps further ones, which admit equality where the flag is true
 pub data Entry : Type 0 where
   free : Mark → Entry
   bound : Typ → Entry
@@ -47,7 +48,8 @@ Meets m f t (free k) = Allows k m t
 Meets m f t (bound u) = t ≡ sub f u
 Meets m f t (row e ks us) = Extends m e ks (subs f us) t
 
--- f solves a substitution, where m says which declared variables admit equality: each bound variable has its type's value, each free one a type that its mark allows, each row a record that has its fields
+-- f solves a substitution, where m says which declared variables admit equality: each bound variable has its type's
+-- value, each free one a type that its mark allows, each row a record that has its fields
 abbrev pub Solves : (ℕ → Bool) → (ℕ → Typ) → (ℕ → Entry) → Type 0
 Solves m f s = (v : ℕ) → Meets m f (f v) (s v)
 

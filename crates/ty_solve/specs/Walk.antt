@@ -1,9 +1,14 @@
 -- What is looked at next in a type.
-use Rattle.std.specs.Prelude.{◌≡◌, ◌+◌, ◌<◌, ◌≤◌, ◌^◌, ◌-◌, ℕ, List, [], ◌∷◌, ◌++◌}
+use Rattle.std.specs.Prelude.{◌≡◌, ◌⊎◌, ◌+◌, ◌<◌, ◌≤◌, ◌^◌, ◌-◌, ℕ, List, [], ◌∷◌, ◌++◌}
 use Rattle.ty_core.specs.Types.{Typ, var, con, Symbol, nodes, all_nodes}
 use Rattle.ty_table.specs.TypeAt.{type_at, types_at}
 use Rattle.ty_solve.specs.Substitution.{Entry, free, bound, mark, Resolves, sub, subs}
 use Rattle.ty_solve.specs.Weight.{weight, weights}
+
+-- k stands in a list
+abbrev pub Has : List ℕ → ℕ → Type 0
+Has [] k = ⊥
+Has (x ∷ l) k = (k ≡ x) ⊎ Has l k
 
 -- the numbers ks are what the type of t stands for, or its arguments
 pub data Next (ts : List Typ) (s : ℕ → Entry) (t : ℕ) (ks : List ℕ) : Type 0 where
@@ -18,6 +23,7 @@ pub record Looks (ts : List Typ) (s : ℕ → Entry) (t : ℕ) (old new : List �
 
 -- n nodes of t are counted, and the others are those of what was put on
 pub record Counts (ts : List Typ) (s : ℕ → Entry) (w : ℕ → ℕ) (t : ℕ) (old new : List ℕ) (n : ℕ) : Type 0 where
-  pub exact : n < 2 ^ 64 - 1 → (f : ℕ → Typ) → Resolves f s → all_nodes (subs f (types_at ts new)) + n ≡ all_nodes (subs f (types_at ts old)) + nodes (sub f (type_at ts t))
+  pub exact : n < 2 ^ 64 - 1 → (f : ℕ → Typ) → Resolves f s → all_nodes (subs f (types_at ts new)) + n ≡ all_nodes (subs f (types_at ts old)) + nodes
+      (sub f (type_at ts t))
   pub large : n ≡ 2 ^ 64 - 1 → (f : ℕ → Typ) → Resolves f s → 2 ^ 64 - 1 ≤ nodes (sub f (type_at ts t))
   pub lighter : weights w (types_at ts new) < weights w (types_at ts old) + weight w (type_at ts t)

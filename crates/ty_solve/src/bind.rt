@@ -33,7 +33,9 @@ fn bind_free(
     ensures undone { undo trail.new.items s.new.slots.items ≡ undo trail.old.items s.old.slots.items }
     ensures same_length { length s.new.slots.items ≡ length s.old.slots.items }
     ensures types { s.new.types ≡ s.old.types }
-    ensures changes { IfOk result (λ _. Changes (entries s.old.types s.old.slots.items) (entries s.old.types s.new.slots.items) (tasks_of s.old.types tasks.old.items) (tasks_of s.old.types tasks.new.items) (Bind v (type_at s.old.types t))) }
+    ensures changes { IfOk result (λ _. Changes (entries s.old.types s.old.slots.items) (entries s.old.types s.new.slots.items)
+        (tasks_of s.old.types tasks.old.items)
+        (tasks_of s.old.types tasks.new.items) (Bind v (type_at s.old.types t))) }
     ensures held { IfOk result (λ _. AreHeldTasks (length s.old.types) tasks.old.items → AreHeldTasks (length s.old.types) tasks.new.items) }
     ensures cause { IfErr result (λ e. e ≡ UnifyRefused.Memory) }
 {
@@ -57,7 +59,9 @@ pub fn bind_variable(
     ensures undone { undo trail.new.items s.new.slots.items ≡ undo trail.old.items s.old.slots.items }
     ensures same_length { length s.new.slots.items ≡ length s.old.slots.items }
     ensures types { s.new.types ≡ s.old.types }
-    ensures changes { IfOk result (λ _. Changes (entries s.old.types s.old.slots.items) (entries s.old.types s.new.slots.items) (tasks_of s.old.types tasks.old.items) (tasks_of s.old.types tasks.new.items) (Bind v (type_at s.old.types t))) }
+    ensures changes { IfOk result (λ _. Changes (entries s.old.types s.old.slots.items) (entries s.old.types s.new.slots.items)
+        (tasks_of s.old.types tasks.old.items)
+        (tasks_of s.old.types tasks.new.items) (Bind v (type_at s.old.types t))) }
     ensures held { IfOk result (λ _. AreHeldTasks (length s.old.types) tasks.old.items → AreHeldTasks (length s.old.types) tasks.new.items) }
     ensures cause { IfErr result (RefusesWrite (seen s.old.types s.old.slots.items) (Bind v (type_at s.old.types t))) }
 {
@@ -78,7 +82,9 @@ pub fn lower_mark(
     ensures undone { undo trail.new.items s.new.slots.items ≡ undo trail.old.items s.old.slots.items }
     ensures same_length { length s.new.slots.items ≡ length s.old.slots.items }
     ensures types { s.new.types ≡ s.old.types }
-    ensures changes { IfOk result (λ _. (tasks : List Task) → Changes (entries s.old.types s.old.slots.items) (entries s.old.types s.new.slots.items) tasks tasks (Remark v mark)) }
+    ensures changes { IfOk result (λ _. (tasks : List Task) → Changes (entries s.old.types s.old.slots.items) (entries s.old.types s.new.slots.items)
+        tasks tasks
+        (Remark v mark)) }
     ensures cause { IfErr result (λ e. e ≡ UnifyRefused.Memory) }
 {
     write(s, v, Slot::Open(mark), trail)?;

@@ -32,7 +32,9 @@ fn change(
     ensures undone { undo trail.new.items s.new.slots.items ≡ undo trail.old.items s.old.slots.items }
     ensures same_length { length s.new.slots.items ≡ length s.old.slots.items }
     ensures types { s.new.types ≡ s.old.types }
-    ensures changes { IfOk result (λ _. Changes (entries s.old.types s.old.slots.items) (entries s.old.types s.new.slots.items) (tasks_of s.old.types tasks.old.items) (tasks_of s.old.types tasks.new.items) (write_of s.old.types write)) }
+    ensures changes { IfOk result (λ _. Changes (entries s.old.types s.old.slots.items) (entries s.old.types s.new.slots.items)
+        (tasks_of s.old.types tasks.old.items)
+        (tasks_of s.old.types tasks.new.items) (write_of s.old.types write)) }
     ensures held { IfOk result (λ _. AreHeldTasks (length s.old.types) tasks.old.items → AreHeldTasks (length s.old.types) tasks.new.items) }
     ensures cause { IfErr result (RefusesWrite (seen s.old.types s.old.slots.items) (write_of s.old.types write)) }
 {
@@ -57,15 +59,17 @@ fn solve(
     ensures undone { undo trail.new.items s.new.slots.items ≡ undo trail.old.items s.old.slots.items }
     ensures same_length { length s.new.slots.items ≡ length s.old.slots.items }
     ensures types { s.new.types ≡ s.old.types }
-    ensures general { IfOk result (λ _. IsMostGeneral (seen s.old.types s.old.slots.items) (seen s.old.types s.new.slots.items) (type_at s.old.types a) (type_at s.old.types b)) }
-    ensures forced { IfOk result (λ _. IsForced (problem (seen s.old.types s.old.slots.items) (type_at s.old.types a) (type_at s.old.types b)) (seen s.old.types s.new.slots.items)) }
+    ensures general { IfOk result (λ _. IsMostGeneral (seen s.old.types s.old.slots.items) (seen s.old.types s.new.slots.items) (type_at s.old.types a)
+        (type_at s.old.types b)) }
+    ensures forced { IfOk result (λ _. IsForced (problem (seen s.old.types s.old.slots.items) (type_at s.old.types a) (type_at s.old.types b))
+        (seen s.old.types s.new.slots.items)) }
     ensures cause { IfErr result (IsEarlyCause (seen s.old.types s.old.slots.items) (type_at s.old.types a) (type_at s.old.types b)) }
 {
     let mut compared: IndexSet<(usize, usize)> = IndexSet::new(alloc);
     let mut tasks = Vec::new(alloc);
     tasks.push(Todo::Equal(a, b))?;
     loop {
-        match next_write(s, &mut compared, &mut tasks) {
+        match next_write(alloc, s, &mut compared, &mut tasks) {
             Err(refused) => return Err(refused),
             Ok(next) => match next {
                 None => return Ok(()),
@@ -79,7 +83,7 @@ fn solve(
 }
 
 /// Makes two types equal, where their type is not too large. What is changed is kept.
-fn attempt(
+pub fn attempt(
     alloc: Global,
     s: &mut Subst,
     a: usize,
@@ -93,8 +97,10 @@ fn attempt(
     ensures undone { undo trail.new.items s.new.slots.items ≡ undo trail.old.items s.old.slots.items }
     ensures same_length { length s.new.slots.items ≡ length s.old.slots.items }
     ensures types { s.new.types ≡ s.old.types }
-    ensures general { IfOk result (λ _. IsMostGeneral (seen s.old.types s.old.slots.items) (seen s.old.types s.new.slots.items) (type_at s.old.types a) (type_at s.old.types b)) }
-    ensures forced { IfOk result (λ _. IsForced (problem (seen s.old.types s.old.slots.items) (type_at s.old.types a) (type_at s.old.types b)) (seen s.old.types s.new.slots.items)) }
+    ensures general { IfOk result (λ _. IsMostGeneral (seen s.old.types s.old.slots.items) (seen s.old.types s.new.slots.items) (type_at s.old.types a)
+        (type_at s.old.types b)) }
+    ensures forced { IfOk result (λ _. IsForced (problem (seen s.old.types s.old.slots.items) (type_at s.old.types a) (type_at s.old.types b))
+        (seen s.old.types s.new.slots.items)) }
     ensures small { IfOk result (λ _. IsSmall (seen s.old.types s.new.slots.items) (type_at s.old.types a)) }
     ensures cause { IfErr result (IsCause (seen s.old.types s.old.slots.items) (type_at s.old.types a) (type_at s.old.types b)) }
 {
@@ -117,11 +123,13 @@ pub fn unify(alloc: Global, s: &mut Subst, a: usize, b: usize) -> Result<(), Uni
     requires a_below { is_below (length s.old.slots.items) (type_at s.old.types a) ≡ true }
     requires b_below { is_below (length s.old.slots.items) (type_at s.old.types b) ≡ true }
 
-    ensures general { IfOk result (λ _. IsMostGeneral (seen s.old.types s.old.slots.items) (seen s.old.types s.new.slots.items) (type_at s.old.types a) (type_at s.old.types b)) }
+    ensures general { IfOk result (λ _. IsMostGeneral (seen s.old.types s.old.slots.items) (seen s.old.types s.new.slots.items) (type_at s.old.types a)
+        (type_at s.old.types b)) }
     ensures solvable { IfOk result (λ _. IsSolvable (seen s.new.types s.new.slots.items)) }
     ensures small { IfOk result (λ _. IsSmall (seen s.old.types s.new.slots.items) (type_at s.old.types a)) }
     ensures same_length { IfOk result (λ _. length s.new.slots.items ≡ length s.old.slots.items) }
-    ensures rest { IfOk result (λ _. LeavesRest (seen s.old.types s.old.slots.items) (seen s.old.types s.new.slots.items) (type_at s.old.types a) (type_at s.old.types b)) }
+    ensures rest { IfOk result (λ _. LeavesRest (seen s.old.types s.old.slots.items) (seen s.old.types s.new.slots.items) (type_at s.old.types a)
+        (type_at s.old.types b)) }
     ensures types { s.new.types ≡ s.old.types }
 
     ensures cause { IfErr result (IsCause (seen s.old.types s.old.slots.items) (type_at s.old.types a) (type_at s.old.types b)) }

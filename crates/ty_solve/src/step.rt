@@ -10,15 +10,17 @@ ghost use Rattle.ty_core.specs.TypesOf.{head_of};
 ghost use Rattle.ty_solve.specs.Finding.{Reads, IsWalked};
 ghost use Rattle.ty_solve.specs.Compared.{Waits, WasThere, Remembers};
 ghost use Rattle.ty_solve.specs.Held.{AreHeldTasks, IsHeldMove, KeepsHeld};
-ghost use Rattle.ty_solve.specs.Parts.{EqualParts, AdmitParts};
+ghost use Rattle.ty_solve.specs.Parts.{EqualParts};
 ghost use Rattle.ty_solve.specs.Task.{Task, Equal, Admit};
 ghost use Rattle.ty_solve.specs.Tasks.{Steps, RefusesTask, Comes, RefusesTasks, AreWithin};
 
+use crate::equality::admit_all;
 use crate::refused::UnifyRefused;
 use crate::subst::Subst;
 use crate::task::{Move, Todo};
 use indexmap::IndexSet;
 use mlc_base::memory::NoMemory;
+use std::alloc::Global;
 use ty_core::mark::{Class, Mark, is_of, meet};
 use ty_core::name::Equality;
 use ty_core::ty::{Head, equality_of, same_head};
@@ -27,24 +29,15 @@ use ty_table::types::View;
 /// Asks that the types of two lists are equal, one by one.
 fn equal_parts(s: &Subst, ts: &[usize], us: &[usize], tasks: &mut Vec<Todo>) -> Result<(), NoMemory>
     requires { length ts.now ≡ length us.now }
-    ensures parts { IfOk result (λ _. EqualParts (tasks_of s.now.types tasks.old.items) (tasks_of s.now.types tasks.new.items) (types_at s.now.types ts.now) (types_at s.now.types us.now)) }
-    ensures held { IfOk result (λ _. AllBelow (length s.now.types) ts.now → AllBelow (length s.now.types) us.now → AreHeldTasks (length s.now.types) tasks.old.items → AreHeldTasks (length s.now.types) tasks.new.items) }
+    ensures parts { IfOk result (λ _. EqualParts (tasks_of s.now.types tasks.old.items) (tasks_of s.now.types tasks.new.items) (types_at s.now.types ts.now)
+        (types_at s.now.types us.now)) }
+    ensures held { IfOk result (λ _. AllBelow (length s.now.types) ts.now → AllBelow (length s.now.types) us.now
+        → AreHeldTasks (length s.now.types) tasks.old.items
+        → AreHeldTasks (length s.now.types) tasks.new.items) }
 {
     let _types = &s.types;
     for i in 0..ts.len() {
         tasks.push(Todo::Equal(ts[i], us[i]))?;
-    }
-    Ok(())
-}
-
-/// Asks that each type of a list admits equality.
-fn admit_parts(s: &Subst, ts: &[usize], tasks: &mut Vec<Todo>) -> Result<(), NoMemory>
-    ensures parts { IfOk result (λ _. AdmitParts (tasks_of s.now.types tasks.old.items) (tasks_of s.now.types tasks.new.items) (types_at s.now.types ts.now)) }
-    ensures held { IfOk result (λ _. AllBelow (length s.now.types) ts.now → AreHeldTasks (length s.now.types) tasks.old.items → AreHeldTasks (length s.now.types) tasks.new.items) }
-{
-    let _types = &s.types;
-    for i in 0..ts.len() {
-        tasks.push(Todo::Admit(Mark::Equality, ts[i]))?;
     }
     Ok(())
 }
@@ -69,11 +62,17 @@ fn compare(
     tasks: &mut Vec<Todo>,
 ) -> Result<(), NoMemory>
     requires same_length { length ts.now ≡ length us.now }
-    requires same_symbol { (h : Symbol) × (type_at s.now.types a ≡ con h (types_at s.now.types ts.now)) × (type_at s.now.types b ≡ con h (types_at s.now.types us.now)) }
-    requires remembered { Remembers s.now.types (seen s.now.types s.now.slots.items) None compared.old.keys (tasks_of s.now.types tasks.old.items ++ Equal (type_at s.now.types a) (type_at s.now.types b) ∷ []) }
-    ensures steps { IfOk result (λ _. Steps (length (entries s.now.types s.now.slots.items)) (seen s.now.types s.now.slots.items) s.now.acyclic.0 (tasks_of s.now.types tasks.old.items) (Equal (type_at s.now.types a) (type_at s.now.types b)) (tasks_of s.now.types tasks.new.items) None) }
-    ensures remembers { IfOk result (λ _. Remembers s.now.types (seen s.now.types s.now.slots.items) None compared.new.keys (tasks_of s.now.types tasks.new.items)) }
-    ensures held { IfOk result (λ _. AllBelow (length s.now.types) ts.now → AllBelow (length s.now.types) us.now → AreHeldTasks (length s.now.types) tasks.old.items → AreHeldTasks (length s.now.types) tasks.new.items) }
+    requires same_symbol { (h : Symbol) × (type_at s.now.types a ≡ con h (types_at s.now.types ts.now))
+        × (type_at s.now.types b ≡ con h (types_at s.now.types us.now)) }
+    requires remembered { Remembers s.now.types (seen s.now.types s.now.slots.items) None compared.old.keys
+        (tasks_of s.now.types tasks.old.items ++ Equal (type_at s.now.types a) (type_at s.now.types b) ∷ []) }
+    ensures steps { IfOk result (λ _. Steps (length (entries s.now.types s.now.slots.items)) (seen s.now.types s.now.slots.items) s.now.acyclic.0
+        (tasks_of s.now.types tasks.old.items) (Equal (type_at s.now.types a) (type_at s.now.types b)) (tasks_of s.now.types tasks.new.items) None) }
+    ensures remembers { IfOk result (λ _. Remembers s.now.types (seen s.now.types s.now.slots.items) None compared.new.keys
+        (tasks_of s.now.types tasks.new.items)) }
+    ensures held { IfOk result (λ _. AllBelow (length s.now.types) ts.now → AllBelow (length s.now.types) us.now
+        → AreHeldTasks (length s.now.types) tasks.old.items
+        → AreHeldTasks (length s.now.types) tasks.new.items) }
 {
     let new = note(compared, a, b)?;
     if !new {
@@ -93,9 +92,14 @@ fn equal_found(
 ) -> Result<Option<Move>, UnifyRefused>
     requires left_walked { IsWalked (seen s.now.types s.now.slots.items) (type_at s.now.types a) }
     requires right_walked { IsWalked (seen s.now.types s.now.slots.items) (type_at s.now.types b) }
-    requires remembered { Remembers s.now.types (seen s.now.types s.now.slots.items) None compared.old.keys (tasks_of s.now.types tasks.old.items ++ Equal (type_at s.now.types a) (type_at s.now.types b) ∷ []) }
-    ensures steps { IfOk result (λ write. Steps (length (entries s.now.types s.now.slots.items)) (seen s.now.types s.now.slots.items) s.now.acyclic.0 (tasks_of s.now.types tasks.old.items) (Equal (type_at s.now.types a) (type_at s.now.types b)) (tasks_of s.now.types tasks.new.items) (option_map (write_of s.now.types) write)) }
-    ensures remembers { IfOk result (λ write. Remembers s.now.types (seen s.now.types s.now.slots.items) (option_map (write_of s.now.types) write) compared.new.keys (tasks_of s.now.types tasks.new.items)) }
+    requires remembered { Remembers s.now.types (seen s.now.types s.now.slots.items) None compared.old.keys
+        (tasks_of s.now.types tasks.old.items ++ Equal (type_at s.now.types a) (type_at s.now.types b) ∷ []) }
+    ensures steps { IfOk result (λ write. Steps (length (entries s.now.types s.now.slots.items)) (seen s.now.types s.now.slots.items) s.now.acyclic.0
+        (tasks_of s.now.types tasks.old.items) (Equal (type_at s.now.types a) (type_at s.now.types b)) (tasks_of s.now.types tasks.new.items)
+        (option_map (write_of s.now.types) write)) }
+    ensures remembers { IfOk result (λ write. Remembers s.now.types (seen s.now.types s.now.slots.items) (option_map (write_of s.now.types) write)
+        compared.new.keys
+        (tasks_of s.now.types tasks.new.items)) }
     ensures held { IfOk result (λ write. KeepsHeld (length s.now.types) tasks.old.items (Todo.Equal a b) tasks.new.items write) }
     ensures cause { IfErr result (RefusesTask (seen s.now.types s.now.slots.items) (Equal (type_at s.now.types a) (type_at s.now.types b))) }
 {
@@ -134,9 +138,14 @@ fn equal(
     compared: &mut IndexSet<(usize, usize)>,
     tasks: &mut Vec<Todo>,
 ) -> Result<Option<Move>, UnifyRefused>
-    requires remembered { Remembers s.now.types (seen s.now.types s.now.slots.items) None compared.old.keys (tasks_of s.now.types tasks.old.items ++ Equal (type_at s.now.types a) (type_at s.now.types b) ∷ []) }
-    ensures steps { IfOk result (λ write. Steps (length (entries s.now.types s.now.slots.items)) (seen s.now.types s.now.slots.items) s.now.acyclic.0 (tasks_of s.now.types tasks.old.items) (Equal (type_at s.now.types a) (type_at s.now.types b)) (tasks_of s.now.types tasks.new.items) (option_map (write_of s.now.types) write)) }
-    ensures remembers { IfOk result (λ write. Remembers s.now.types (seen s.now.types s.now.slots.items) (option_map (write_of s.now.types) write) compared.new.keys (tasks_of s.now.types tasks.new.items)) }
+    requires remembered { Remembers s.now.types (seen s.now.types s.now.slots.items) None compared.old.keys
+        (tasks_of s.now.types tasks.old.items ++ Equal (type_at s.now.types a) (type_at s.now.types b) ∷ []) }
+    ensures steps { IfOk result (λ write. Steps (length (entries s.now.types s.now.slots.items)) (seen s.now.types s.now.slots.items) s.now.acyclic.0
+        (tasks_of s.now.types tasks.old.items) (Equal (type_at s.now.types a) (type_at s.now.types b)) (tasks_of s.now.types tasks.new.items)
+        (option_map (write_of s.now.types) write)) }
+    ensures remembers { IfOk result (λ write. Remembers s.now.types (seen s.now.types s.now.slots.items) (option_map (write_of s.now.types) write)
+        compared.new.keys
+        (tasks_of s.now.types tasks.new.items)) }
     ensures held { IfOk result (λ write. KeepsHeld (length s.now.types) tasks.old.items (Todo.Equal a b) tasks.new.items write) }
     ensures cause { IfErr result (RefusesTask (seen s.now.types s.now.slots.items) (Equal (type_at s.now.types a) (type_at s.now.types b))) }
 {
@@ -151,7 +160,8 @@ fn equal(
 /// Lets a mark stand at a free variable.
 fn remark(s: &Subst, x: usize, mark: Mark) -> Result<Option<Move>, UnifyRefused>
     requires { (seen s.now.types s.now.slots.items) x ≡ free (mark_of ((seen s.now.types s.now.slots.items) x)) }
-    ensures steps { IfOk result (λ write. (tasks : List Task) → Steps (length (entries s.now.types s.now.slots.items)) (seen s.now.types s.now.slots.items) s.now.acyclic.0 tasks (Admit mark (var x)) tasks (option_map (write_of s.now.types) write)) }
+    ensures steps { IfOk result (λ write. (tasks : List Task) → Steps (length (entries s.now.types s.now.slots.items)) (seen s.now.types s.now.slots.items)
+        s.now.acyclic.0 tasks (Admit mark (var x)) tasks (option_map (write_of s.now.types) write)) }
     ensures held { IfOk result (λ write. IsHeldMove (length s.now.types) write) }
     ensures cause { IfErr result (RefusesTask (seen s.now.types s.now.slots.items) (Admit mark (var x))) }
 {
@@ -181,25 +191,26 @@ fn head_is_of(class: Class, head: &Head) -> bool
 
 /// Lets a mark stand at a type that is no variable.
 fn admit_applied(
+    alloc: Global,
     s: &Subst,
     mark: Mark,
     h: &Head,
     ts: &[usize],
     tasks: &mut Vec<Todo>,
 ) -> Result<(), UnifyRefused>
-    ensures steps { IfOk result (λ _. Steps (length (entries s.now.types s.now.slots.items)) (seen s.now.types s.now.slots.items) s.now.acyclic.0 (tasks_of s.now.types tasks.old.items) (Admit mark (con (head_of h.now) (types_at s.now.types ts.now))) (tasks_of s.now.types tasks.new.items) None) }
+    ensures steps { IfOk result (λ _. Steps (length (entries s.now.types s.now.slots.items)) (seen s.now.types s.now.slots.items) s.now.acyclic.0
+        (tasks_of s.now.types tasks.old.items) (Admit mark (con (head_of h.now) (types_at s.now.types ts.now))) (tasks_of s.now.types tasks.new.items)
+        None) }
     ensures stay { IfOk result (λ _. (a b : Typ) → Waits (tasks_of s.now.types tasks.old.items) a b → Waits (tasks_of s.now.types tasks.new.items) a b) }
-    ensures held { IfOk result (λ _. AllBelow (length s.now.types) ts.now → AreHeldTasks (length s.now.types) tasks.old.items → AreHeldTasks (length s.now.types) tasks.new.items) }
+    ensures held { IfOk result (λ _. AllBelow (length s.now.types) ts.now → AreHeldTasks (length s.now.types) tasks.old.items
+        → AreHeldTasks (length s.now.types) tasks.new.items) }
     ensures cause { IfErr result (RefusesTask (seen s.now.types s.now.slots.items) (Admit mark (con (head_of h.now) (types_at s.now.types ts.now)))) }
 {
     match mark {
         Mark::Any => Ok(()),
         Mark::Equality => match equality_of(h) {
             Equality::Always => Ok(()),
-            Equality::ByArguments => {
-                admit_parts(s, ts, tasks)?;
-                Ok(())
-            }
+            Equality::ByArguments => admit_all(alloc, s, ts, tasks),
             Equality::Never => Err(UnifyRefused::Clash),
         },
         Mark::Class(class) => {
@@ -217,12 +228,15 @@ fn admit_applied(
 
 /// Lets a mark stand at a type.
 fn admit(
+    alloc: Global,
     s: &Subst,
     mark: Mark,
     t: usize,
     tasks: &mut Vec<Todo>,
 ) -> Result<Option<Move>, UnifyRefused>
-    ensures steps { IfOk result (λ write. Steps (length (entries s.now.types s.now.slots.items)) (seen s.now.types s.now.slots.items) s.now.acyclic.0 (tasks_of s.now.types tasks.old.items) (Admit mark (type_at s.now.types t)) (tasks_of s.now.types tasks.new.items) (option_map (write_of s.now.types) write)) }
+    ensures steps { IfOk result (λ write. Steps (length (entries s.now.types s.now.slots.items)) (seen s.now.types s.now.slots.items) s.now.acyclic.0
+        (tasks_of s.now.types tasks.old.items) (Admit mark (type_at s.now.types t)) (tasks_of s.now.types tasks.new.items)
+        (option_map (write_of s.now.types) write)) }
     ensures stay { IfOk result (λ _. (a b : Typ) → Waits (tasks_of s.now.types tasks.old.items) a b → Waits (tasks_of s.now.types tasks.new.items) a b) }
     ensures held { IfOk result (λ write. KeepsHeld (length s.now.types) tasks.old.items (Todo.Admit mark t) tasks.new.items write) }
     ensures cause { IfErr result (RefusesTask (seen s.now.types s.now.slots.items) (Admit mark (type_at s.now.types t))) }
@@ -230,7 +244,7 @@ fn admit(
     let found = s.find(t);
     match s.types.view(found) {
         View::Var(x) => remark(s, x, mark),
-        View::Apply(h, ts) => match admit_applied(s, mark, h, ts, tasks) {
+        View::Apply(h, ts) => match admit_applied(alloc, s, mark, h, ts, tasks) {
             Ok(()) => Ok(None),
             Err(refused) => Err(refused),
         },
@@ -239,39 +253,49 @@ fn admit(
 
 /// Takes one task.
 fn take(
+    alloc: Global,
     s: &Subst,
     task: Todo,
     compared: &mut IndexSet<(usize, usize)>,
     tasks: &mut Vec<Todo>,
 ) -> Result<Option<Move>, UnifyRefused>
-    requires remembered { Remembers s.now.types (seen s.now.types s.now.slots.items) None compared.old.keys (tasks_of s.now.types tasks.old.items ++ task_of s.now.types task ∷ []) }
-    ensures steps { IfOk result (λ write. Steps (length (entries s.now.types s.now.slots.items)) (seen s.now.types s.now.slots.items) s.now.acyclic.0 (tasks_of s.now.types tasks.old.items) (task_of s.now.types task) (tasks_of s.now.types tasks.new.items) (option_map (write_of s.now.types) write)) }
-    ensures remembers { IfOk result (λ write. Remembers s.now.types (seen s.now.types s.now.slots.items) (option_map (write_of s.now.types) write) compared.new.keys (tasks_of s.now.types tasks.new.items)) }
+    requires remembered { Remembers s.now.types (seen s.now.types s.now.slots.items) None compared.old.keys
+        (tasks_of s.now.types tasks.old.items ++ task_of s.now.types task ∷ []) }
+    ensures steps { IfOk result (λ write. Steps (length (entries s.now.types s.now.slots.items)) (seen s.now.types s.now.slots.items) s.now.acyclic.0
+        (tasks_of s.now.types tasks.old.items) (task_of s.now.types task) (tasks_of s.now.types tasks.new.items)
+        (option_map (write_of s.now.types) write)) }
+    ensures remembers { IfOk result (λ write. Remembers s.now.types (seen s.now.types s.now.slots.items) (option_map (write_of s.now.types) write)
+        compared.new.keys
+        (tasks_of s.now.types tasks.new.items)) }
     ensures held { IfOk result (λ write. KeepsHeld (length s.now.types) tasks.old.items task tasks.new.items write) }
     ensures cause { IfErr result (RefusesTask (seen s.now.types s.now.slots.items) (task_of s.now.types task)) }
 {
     match task {
         Todo::Equal(a, b) => equal(s, a, b, compared, tasks),
-        Todo::Admit(mark, t) => admit(s, mark, t, tasks),
+        Todo::Admit(mark, t) => admit(alloc, s, mark, t, tasks),
     }
 }
 
 /// Takes tasks up to the first that asks for a change.
 pub fn next_write(
+    alloc: Global,
     s: &Subst,
     compared: &mut IndexSet<(usize, usize)>,
     tasks: &mut Vec<Todo>,
 ) -> Result<Option<Move>, UnifyRefused>
     requires remembered { Remembers s.now.types (seen s.now.types s.now.slots.items) None compared.old.keys (tasks_of s.now.types tasks.old.items) }
     requires held { AreHeldTasks (length s.now.types) tasks.old.items }
-    ensures comes { IfOk result (λ write. Comes (length (entries s.now.types s.now.slots.items)) (seen s.now.types s.now.slots.items) (tasks_of s.now.types tasks.old.items) (tasks_of s.now.types tasks.new.items) (option_map (write_of s.now.types) write)) }
-    ensures remembers { IfOk result (λ write. Remembers s.now.types (seen s.now.types s.now.slots.items) (option_map (write_of s.now.types) write) compared.new.keys (tasks_of s.now.types tasks.new.items)) }
+    ensures comes { IfOk result (λ write. Comes (length (entries s.now.types s.now.slots.items)) (seen s.now.types s.now.slots.items)
+        (tasks_of s.now.types tasks.old.items) (tasks_of s.now.types tasks.new.items) (option_map (write_of s.now.types) write)) }
+    ensures remembers { IfOk result (λ write. Remembers s.now.types (seen s.now.types s.now.slots.items) (option_map (write_of s.now.types) write)
+        compared.new.keys
+        (tasks_of s.now.types tasks.new.items)) }
     ensures held_tasks { IfOk result (λ _. AreHeldTasks (length s.now.types) tasks.new.items) }
     ensures held_write { IfOk result (IsHeldMove (length s.now.types)) }
     ensures cause { IfErr result (RefusesTasks (seen s.now.types s.now.slots.items) (tasks_of s.now.types tasks.old.items)) }
 {
     while let Some(task) = tasks.pop() {
-        match take(s, task, compared, tasks) {
+        match take(alloc, s, task, compared, tasks) {
             Err(refused) => return Err(refused),
             Ok(found) => match found {
                 Some(write) => return Ok(Some(write)),

@@ -91,7 +91,8 @@ impl Subst {
     /// The type that a bound variable stands for.
     pub fn get(&self, v: usize) -> Option<usize>
         ensures held { IfSome result (λ t. t < length self.now.types) }
-        ensures is { MatchOption result (is_open ((seen self.now.types self.now.slots.items) v) ≡ true) (λ t. (seen self.now.types self.now.slots.items) v ≡ bound (type_at self.now.types t)) }
+        ensures is { MatchOption result (is_open ((seen self.now.types self.now.slots.items) v) ≡ true)
+            (λ t. (seen self.now.types self.now.slots.items) v ≡ bound (type_at self.now.types t)) }
     {
         if v < self.slots.len() {
             match self.slots[v] {
@@ -131,7 +132,8 @@ impl Subst {
     /// What a type stands for, if it is a bound variable.
     pub fn step(&self, t: usize) -> Option<usize>
         ensures held { IfSome result (λ u. u < length self.now.types) }
-        ensures is { MatchOption result (IsWalked (seen self.now.types self.now.slots.items) (type_at self.now.types t)) (λ u. StandsFor (seen self.now.types self.now.slots.items) (type_at self.now.types t) (type_at self.now.types u)) }
+        ensures is { MatchOption result (IsWalked (seen self.now.types self.now.slots.items) (type_at self.now.types t))
+            (λ u. StandsFor (seen self.now.types self.now.slots.items) (type_at self.now.types t) (type_at self.now.types u)) }
     {
         match self.types.view(t) {
             View::Var(v) => self.get(v),
@@ -142,7 +144,8 @@ impl Subst {
     /// The type itself, or what it stands for in the end: a free variable, or a type that is no variable.
     pub fn find(&self, t: usize) -> usize
         ensures held { t < length self.now.types → result < length self.now.types }
-        ensures reads { Reads (length self.now.slots.items) (seen self.now.types self.now.slots.items) self.now.acyclic.0 (type_at self.now.types t) (type_at self.now.types result) }
+        ensures reads { Reads (length self.now.slots.items) (seen self.now.types self.now.slots.items) self.now.acyclic.0 (type_at self.now.types t)
+            (type_at self.now.types result) }
     {
         let mut found = t;
         while let Some(next) = self.step(found) {

@@ -17,7 +17,7 @@ use ty_table::types::View;
 pub const NODE_LIMIT: u64 = 65_536;
 
 /// Puts the types of a list on those that are pending.
-fn add_all(pending: &mut Vec<usize>, types: &[usize]) -> Result<(), NoMemory>
+pub fn add_all(pending: &mut Vec<usize>, types: &[usize]) -> Result<(), NoMemory>
     ensures { IfOk result (λ _. pending.new.items ≡ pending.old.items ++ types.now) }
 {
     pending.extend_from_slice(types)?;
@@ -57,7 +57,8 @@ fn is_variable(s: &Subst, t: usize, v: usize) -> bool
 
 /// Whether a variable lies in the type that t stands for. Each type is looked through once.
 pub fn occurs(alloc: Global, s: &Subst, v: usize, t: usize) -> Result<bool, NoMemory>
-    ensures { IfOk result (λ found. (f : ℕ → Typ) → Resolves f (aside v (seen_in s.now.types s.now.slots.items)) → found ≡ is_in v (sub f (type_at s.now.types t))) }
+    ensures { IfOk result (λ found. (f : ℕ → Typ) → Resolves f (aside v (seen_in s.now.types s.now.slots.items))
+        → found ≡ is_in v (sub f (type_at s.now.types t))) }
 {
     let mut seen: IndexSet<usize> = IndexSet::new(alloc);
     let mut pending = Vec::new(alloc);
@@ -90,7 +91,8 @@ fn open(s: &Subst, t: usize, pending: &mut Vec<usize>) -> Result<u64, NoMemory>
 
 /// Whether the type that t stands for has at most `NODE_LIMIT` nodes.
 pub fn is_small(alloc: Global, s: &Subst, t: usize) -> Result<bool, NoMemory>
-    ensures { IfOk result (λ small. (f : ℕ → Typ) → Resolves f (seen_in s.now.types s.now.slots.items) → IsTrue small ↔ (nodes (sub f (type_at s.now.types t)) ≤ node_limit)) }
+    ensures { IfOk result (λ small. (f : ℕ → Typ) → Resolves f (seen_in s.now.types s.now.slots.items) → IsTrue small
+        ↔ (nodes (sub f (type_at s.now.types t)) ≤ node_limit)) }
 {
     let mut pending = Vec::new(alloc);
     pending.push(t)?;
