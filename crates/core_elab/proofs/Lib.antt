@@ -8,3 +8,4 @@ pub mod Declared
 pub mod Chains
 pub mod Kept
 pub mod Initial
+mod Example
