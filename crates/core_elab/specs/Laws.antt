@@ -1,0 +1,18 @@
+-- What is claimed of the elaboration of declarations: the same meaning.
+use Rattle.std.specs.Prelude.{◌≡◌, ℕ, List, map}
+use Rattle.sml_tree.specs.BareTree.{Decs}
+use Rattle.core_rules.specs.Eval.{identifier}
+use Rattle.core_rules.specs.Initial.{exceptions}
+use Rattle.core_rules.specs.Meaning.{meaning}
+use Rattle.ir_poly.specs.Prog as prog
+use Rattle.ir_poly.specs.ProgMeaning.{run}
+use Rattle.core_elab.specs.Scopes.{Scope, initial_scope}
+use Rattle.core_elab.specs.Resolves.{DecsTo}
+
+-- the identifiers of the exceptions of the initial basis, in the order of their names
+abbrev pub initial_identifiers : List ℕ
+initial_identifiers = map (λ r. identifier r.vid) exceptions
+
+-- a program that resolves declarations does what they do at every number of turns: output, end and places of turns
+abbrev pub MeaningKept : Type 0
+MeaningKept = (ds : Decs) (es : prog.Decs) (r : Scope) (k : ℕ) → DecsTo initial_scope 0 ds es r k → (m : ℕ) → run initial_identifiers es m ≡ meaning ds m

@@ -1,0 +1,8 @@
+// Laws of the relation, as contracts.
+
+ghost use Rattle.core_elab.specs.Laws.{MeaningKept};
+
+/// A program that resolves declarations does what they do, at every number of turns.
+pub fn meaning_kept()
+    ensures { MeaningKept }
+{}
