@@ -94,7 +94,8 @@ module _ (table : List Constructor) where
     pub check_decs : List Quantified → Knowns → Decs → Bool
     check_decs D G no_decs = true
     check_decs D G (val_dec qs bs fs ds) =
-        are_new qs D && (check_binds qs D G bs && (check_funs (qs ++ D) (funs_onto own fs G) fs && check_decs D (binds_onto qs bs (funs_onto (declared qs) fs G)) ds))
+        are_new qs D && (check_binds qs D G bs && (check_funs (qs ++ D) (funs_onto own fs G) fs
+        && check_decs D (binds_onto qs bs (funs_onto (declared qs) fs G)) ds))
     check_decs D G (exception_dec x identifier a ds) = option_over D a && check_decs D ((x, exception a) ∷ G) ds
     check_decs D G (counted_dec n ds) = check_decs D G ds
 

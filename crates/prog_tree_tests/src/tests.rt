@@ -88,28 +88,28 @@ fn nodes_of(alloc: Global, exp: Exp) -> Result<u64, NoMemory> {
 fn many_declarations(rt: HostRuntime) -> Result<(), Fail> {
     let tables = Tables::new(rt.alloc())?;
     let body = weights(rt.alloc(), 100_000)?;
-    assert_eq!(nodes(&tables, &body), 100_000);
+    assert_eq!(rt; nodes(&tables, &body), 100_000);
     Ok(())
 }
 
 #[test]
 fn a_deep_let(rt: HostRuntime) -> Result<(), Fail> {
     let exp = deep(rt.alloc(), 399)?;
-    assert_eq!(nodes_of(rt.alloc(), exp)?, 99_750);
+    assert_eq!(rt; nodes_of(rt.alloc(), exp)?, 99_750);
     Ok(())
 }
 
 #[test]
 fn a_long_record(rt: HostRuntime) -> Result<(), Fail> {
     let exp = record(rt.alloc(), 10_000)?;
-    assert_eq!(nodes_of(rt.alloc(), exp)?, 20_000);
+    assert_eq!(rt; nodes_of(rt.alloc(), exp)?, 20_000);
     Ok(())
 }
 
 #[test]
 fn a_long_list(rt: HostRuntime) -> Result<(), Fail> {
     let exp = list(rt.alloc(), 10_000)?;
-    assert_eq!(nodes_of(rt.alloc(), exp)?, 30_000);
+    assert_eq!(rt; nodes_of(rt.alloc(), exp)?, 30_000);
     Ok(())
 }
 
@@ -117,6 +117,6 @@ fn a_long_list(rt: HostRuntime) -> Result<(), Fail> {
 fn nodes_stop_at_the_limit(rt: HostRuntime) -> Result<(), Fail> {
     let tables = Tables::new(rt.alloc())?;
     let body = vec![in rt.alloc(); Dec::Weight(usize::MAX), Dec::Weight(2)]?;
-    assert_eq!(nodes(&tables, &body), u64::MAX);
+    assert_eq!(rt; nodes(&tables, &body), u64::MAX);
     Ok(())
 }
