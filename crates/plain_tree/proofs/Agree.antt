@@ -1,22 +1,19 @@
 -- What is summed up along the code's tree is what is summed up along its clean tree, under any reading.
-use Rattle.std.proofs.Common.{◌≡◌, ℕ, ◌+◌, List, [], ◌∷◌, ◌++◌, map, sum, refl, sym, ap, ◌∙◌, subst, arith}
+use Rattle.std.proofs.Common.{◌≡◌, ℕ, ◌+◌, List, [], ◌∷◌, map, sum, refl, sym, ap, ◌∙◌, subst, arith}
 use Rattle.std.proofs.lemmas.List.Sums.{sum_by-cons}
 use Rattle.ir_plain.specs.Kind.{Kind}
 use Rattle.ir_plain.specs.Tree as t
 use Rattle.ir_plain.specs.Weight.{weight, arms_weight, op_weight, fun_weight, funs_weight}
-use Rattle.ir_plain.specs.Once.{times, arms_times, op_times, fun_times, funs_times, case_times}
-use Rattle.plain_tree.specs.declared.tree.Case.{Case}
-use Rattle.plain_tree.specs.declared.tree.Case.TheVariants as case
 use Rattle.plain_tree.specs.declared.tree.Parameter.{Parameter}
 use Rattle.plain_tree.specs.declared.tree.Operation.{Operation}
 use Rattle.plain_tree.specs.declared.tree.Operation.TheVariants as op
 use Rattle.plain_tree.specs.declared.tree.Exp.{Exp, Exp-F}
-use Rattle.plain_tree.specs.declared.tree.Exp.TheFolds.{fold-Exp, fold-roll-Exp, fold-roll-Step, fold-roll-Arm, fold-roll-Function, map-Exp, map-Step, map-Arm, map-Function, fold-Step, fold-Arm, fold-Function, ind-Exp}
+use Rattle.plain_tree.specs.declared.tree.Exp.TheFolds.{fold-roll-Exp, fold-roll-Step, fold-roll-Arm, fold-roll-Function, map-Exp, map-Step, map-Arm, map-Function, ind-Exp}
 use Rattle.plain_tree.specs.declared.tree.Exp.TheViews.{roll-Exp, roll-Step, roll-Arm, roll-Function}
 use Rattle.plain_tree.specs.declared.tree.Step.{Step, Step-F}
 use Rattle.plain_tree.specs.declared.tree.Arm.{Arm, Arm-F}
 use Rattle.plain_tree.specs.declared.tree.Function.{Function, Function-F}
-use Rattle.plain_tree.specs.TreeOf.{Reading, StepTree, ArmTree, FunctionTree, put, onto, firsts, arms_of, funs_of, fun_of, case_of, operation_of, tree_of, step_of, arm_of, function_of, node_exp, node_step, node_arm, node_function}
+use Rattle.plain_tree.specs.TreeOf.{Reading, StepTree, ArmTree, FunctionTree, put, onto, firsts, arms_of, funs_of, fun_of, operation_of, tree_of, step_of, arm_of, function_of, node_exp, node_step, node_arm, node_function}
 use Rattle.plain_tree.specs.Sums.{weight_of, step_weight, arm_weight, function_weight, node_weight, node_step_weight, node_arm_weight, node_function_weight}
 
 sum-more : (n : ℕ) (ns : List ℕ) → sum (n ∷ ns) ≡ n + sum ns

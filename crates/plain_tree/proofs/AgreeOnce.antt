@@ -1,8 +1,7 @@
 -- How often a variable is bound in the clean tree is how often it is among the variables that the code's tree binds.
-use Rattle.std.proofs.Common.{◌≡◌, ℕ, ◌+◌, List, [], ◌∷◌, ◌++◌, map, sum, refl, sym, ap, ◌∙◌, subst, arith}
+use Rattle.std.proofs.Common.{◌≡◌, ℕ, ◌+◌, List, [], ◌∷◌, ◌++◌, map, refl, sym, ap, ◌∙◌, subst, arith}
 use Rattle.ir_plain.specs.Kind.{Kind}
 use Rattle.ir_plain.specs.Tree as t
-use Rattle.ir_plain.specs.Weight.{weight, arms_weight, op_weight, fun_weight, funs_weight}
 use Rattle.ir_plain.specs.Once.{times, arms_times, op_times, fun_times, funs_times, case_times}
 use Rattle.plain_tree.specs.declared.tree.Case.{Case}
 use Rattle.plain_tree.specs.declared.tree.Case.TheVariants as case
@@ -10,7 +9,7 @@ use Rattle.plain_tree.specs.declared.tree.Parameter.{Parameter}
 use Rattle.plain_tree.specs.declared.tree.Operation.{Operation}
 use Rattle.plain_tree.specs.declared.tree.Operation.TheVariants as op
 use Rattle.plain_tree.specs.declared.tree.Exp.{Exp, Exp-F}
-use Rattle.plain_tree.specs.declared.tree.Exp.TheFolds.{fold-Exp, fold-roll-Exp, fold-roll-Step, fold-roll-Arm, fold-roll-Function, map-Exp, map-Step, map-Arm, map-Function, fold-Step, fold-Arm, fold-Function, ind-Exp}
+use Rattle.plain_tree.specs.declared.tree.Exp.TheFolds.{fold-roll-Exp, fold-roll-Step, fold-roll-Arm, fold-roll-Function, map-Exp, map-Step, map-Arm, map-Function, ind-Exp}
 use Rattle.plain_tree.specs.declared.tree.Exp.TheViews.{roll-Exp, roll-Step, roll-Arm, roll-Function}
 use Rattle.plain_tree.specs.declared.tree.Step.{Step, Step-F}
 use Rattle.plain_tree.specs.declared.tree.Arm.{Arm, Arm-F}

@@ -1,7 +1,6 @@
 -- The clean tree of the code's tree.
-use Rattle.std.specs.Prelude.{ℕ, List, [], ◌∷◌, map, Option}
+use Rattle.std.specs.Prelude.{ℕ, List, [], ◌∷◌, Option}
 use Rattle.std.specs.Option.{option_map}
-use Rattle.mlc_base.specs.declared.label.Label.{Label}
 use Rattle.ir_tables.specs.Tables.{literal_at}
 use Rattle.ir_plain.specs.Kind.{Kind}
 use Rattle.ir_plain.specs.Tree as t
