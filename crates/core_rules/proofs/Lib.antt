@@ -5,6 +5,7 @@ mod Readings
 mod Lost
 mod Projects
 pub mod Growing
+mod Statics
 mod Typings
 mod Refused
 pub mod Basics

@@ -4,6 +4,5 @@ pub mod Determined
 pub mod Sound
 mod Examples
 mod Growing
-pub mod Names
 mod Refusals
 pub mod Tables
