@@ -116,8 +116,7 @@ path-again at (c ∷ path) i text items (a_path n other {i = j} {items = later} 
     let w = c ∷ path in
     let same : other ≡ w =
     begins-is-front (other ++ j) other (record { rest = j; stands = refl; is = p'; parted = q' }) ∙ sym (begins-is-front (other ++ j) w (record { rest = i; stands = e; is = p; parted = q })) in
-    let rest : j ≡ i = sym (drop-append_seam other j) ∙ ap (drop (length other)) e ∙ ap (λ n. drop n (w ++ i)) (ap length same) ∙ drop-append_seam w i in
-    (
+    let rest : j ≡ i = sym (drop-append_seam other j) ∙ ap (drop (length other)) e ∙ ap (λ n. drop n (w ++ i)) (ap length same) ∙ drop-append_seam w i in (
       later,
       subst (λ t. Reads (at + length w) t later) rest (subst (λ z. Reads (at + length z) j later) same r),
       ap (λ z. record { byte = at; word = z } ∷ later) (sym same),
@@ -192,8 +191,7 @@ module _ (one_reading : OneReading) (one_tree : OneTree) where
       let file : a.file ≡ b.file = same-bytes files a.file b.file (a.has_mlb.path ∙ sym b.has_mlb.path) a.has_mlb.has b.has_mlb.has in
       let items : a.items ≡ b.items = one-list 0 b.file.bytes a.items b.items (subst (λ z. Reads 0 z.bytes a.items) file a.has_mlb.is) b.has_mlb.is in
       let loads : Loads files b.file.path (begun b.file) b.items a.last = subst (λ z. Loads files b.file.path (begun b.file) z a.last) items (subst (λ z. Loads files z.path (begun z) a.items a.last) file a.loads) in
-      let last : a.last ≡ b.last = one-load files b.file.path (begun b.file) a.last b.last b.items standard_words-apart loads b.loads in
-      (
+      let last : a.last ≡ b.last = one-load files b.file.path (begun b.file) a.last b.last b.items standard_words-apart loads b.loads in (
         a.names_are ∙ ap (λ z. z.names) last ∙ sym b.names_are,
         a.parts_are ∙ ap (λ z. z.parts) last ∙ sym b.parts_are,
         a.reads_are ∙ ap (λ z. z.reads) last ∙ sym b.reads_are,
