@@ -17,7 +17,7 @@ use Rattle.sml_rules.specs.Values.{Value, literal, record_of, primitive, packet,
 use Rattle.sml_rules.specs.Eval.{long_value, giving, print_literals, perform, enter, literals_in, bind_pat, eval, eval_fields, eval_binds, eval_val, eval_dec, eval_decs, eval_parts}
 
 -- a phrase in worlds with few and with more turns
-abbrev On : {A : Type 0} → (World Value → Answer Value A) → Type 0
+abbrev pub On : {A : Type 0} → (World Value → Answer Value A) → Type 0
 On run = GoesOn run run
 
 -- Primitives.

@@ -3,6 +3,6 @@ pub mod Typings
 pub mod Determined
 pub mod Sound
 mod Examples
-mod Growing
+pub mod Growing
 mod Refusals
 pub mod Tables
