@@ -1,5 +1,5 @@
 -- With more turns a project does the same, or goes on from where it was cut short.
-use Rattle.std.proofs.Common.{◌≡◌, ℕ, List, [], ◌∷◌, refl, ap}
+use Rattle.std.proofs.Common.{◌≡◌, List, [], ◌∷◌, refl, ap}
 use Rattle.std.specs.Prelude.{slice_get}
 use Rattle.mlc_base.specs.declared.place.Place.{Place}
 use Rattle.mlc_base.specs.MoreTurns.{HasMoreTurns, GoesOn}
