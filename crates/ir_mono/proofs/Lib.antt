@@ -5,3 +5,4 @@ pub mod Performed
 pub mod Sound
 pub mod Bound
 pub mod Examples
+pub mod Growing

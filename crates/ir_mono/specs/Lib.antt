@@ -1,4 +1,5 @@
 pub mod Types
+pub mod Growing
 pub mod Mono
 pub mod Typing
 pub mod Values

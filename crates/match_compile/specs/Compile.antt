@@ -472,7 +472,8 @@ abbrev mutual
   links D N (only e) b n = making D N e n (ret (atom (value_at e n)))
   links D N (link e c) b n =
       let i = value_at e n in
-      making D N e n (switch (atom i) bool_type (arm (is_con (truth_number b)) (links D N c b (suc i)) (arm (is_con (truth_number (not b))) (ret (atom i)) no_arms)))
+      making D N e n
+      (switch (atom i) bool_type (arm (is_con (truth_number b)) (links D N c b (suc i)) (arm (is_con (truth_number (not b))) (ret (atom i)) no_arms)))
 
   -- rules for a value of type u, with results of type t
   pub rules : List Quantified → Names → Rules → (u t : Typ) → (n a : ℕ) → Otherwise → Tests

@@ -1,2 +1,4 @@
 pub mod Next
 pub mod Counts
+pub mod Agree
+pub mod AgreeOnce

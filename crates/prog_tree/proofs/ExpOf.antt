@@ -3,9 +3,14 @@ use Rattle.std.proofs.Common.{◌≡◌, ℕ, Bool, map, Vec, Box, Global, sym, 
 use Rattle.mlc_base.specs.declared.label.Label.{Label}
 use Rattle.mlc_base.specs.declared.place.Place.{Place}
 use Rattle.ir_poly.specs.Prog as t
-use Rattle.prog_tree.specs.TreeOf.{Reading, DecTree, val_tree, RuleTree, tree_of, function_of, dec_of, decs_of, record_of, rules_of, apply_by, joins_by, chain_of, sequence_of, binds_by, funs_by, after_parameters, pat_of, field_of, rule_of, argument_of, join_of, bind_of, fun_of, node_dec, node_exp, node_function, node_rule}
+use Rattle.prog_tree.specs.TreeOf.{Reading, PatFieldTree, PatPartTree, pat_field_of, pat_part_of, fields_of, before, chain_pats, node_pat, node_pat_field, node_pat_part, DecTree, val_tree, RuleTree, tree_of, function_of, dec_of, decs_of, record_of, rules_of, apply_by, joins_by, chain_of, sequence_of, binds_by, funs_by, after_parameters, pat_of, field_of, rule_of, argument_of, join_of, bind_of, fun_of, node_dec, node_exp, node_function, node_rule}
 use Rattle.prog_tree.specs.declared.tree.Side.{Side}
 use Rattle.prog_tree.specs.declared.tree.Join.{Join}
+use Rattle.prog_tree.specs.declared.tree.Head.{Head}
+use Rattle.prog_tree.specs.declared.tree.Pat.{Pat, Pat-F, fold-roll-Pat}
+use Rattle.prog_tree.specs.declared.tree.Pat.TheVariants as patterns
+use Rattle.prog_tree.specs.declared.tree.PatField.{PatField, fold_out-PatField}
+use Rattle.prog_tree.specs.declared.tree.PatPart.{PatPart, fold_out-PatPart}
 use Rattle.prog_tree.specs.declared.tree.Binding.{Binding}
 use Rattle.prog_tree.specs.declared.tree.Parameter.{Parameter}
 use Rattle.prog_tree.specs.declared.tree.Function.{Function, Function-F, fold-roll-Function}
@@ -55,3 +60,18 @@ module _ (R : Reading) where
 
   pub rule_of-parts : (r : Rule) → rule_of R r ≡ record { pat = pat_of R r.pat; exp = tree_of R r.exp }
   rule_of-parts = fold_out-Rule DecTree t.Exp t.Fun RuleTree (node_dec R) (node_exp R) (node_function R) (node_rule R)
+
+  pub pat_of-Record : (b : Bool) (fs : Vec PatField Global) → pat_of R (patterns.Record b fs) ≡ t.fields_pat b (fields_of (map (pat_field_of R) fs.items))
+  pat_of-Record b fs = ap (pat_of R) (sym (patterns.rolls-Record b fs)) ∙ fold-roll-Pat t.Pat PatFieldTree PatPartTree (node_pat R) (node_pat_field R) (node_pat_part R) (Pat-F.Record b fs)
+
+  pub pat_of-Before : (c : Head) (a : ℕ) (p : Box Pat Global) → pat_of R (patterns.Before c a p) ≡ before c (R.type a) (pat_of R p.value)
+  pat_of-Before c a p = ap (pat_of R) (sym (patterns.rolls-Before c a p)) ∙ fold-roll-Pat t.Pat PatFieldTree PatPartTree (node_pat R) (node_pat_field R) (node_pat_part R) (Pat-F.Before c a p)
+
+  pub pat_of-Chain : (s : Side) (p : Box Pat Global) (js : Vec PatPart Global) → pat_of R (patterns.Chain s p js) ≡ chain_pats s (pat_of R p.value) (map (pat_part_of R) js.items)
+  pat_of-Chain s p js = ap (pat_of R) (sym (patterns.rolls-Chain s p js)) ∙ fold-roll-Pat t.Pat PatFieldTree PatPartTree (node_pat R) (node_pat_field R) (node_pat_part R) (Pat-F.Chain s p js)
+
+  pub pat_field_of-parts : (f : PatField) → pat_field_of R f ≡ record { label = f.label; type = R.type f.ty; pat = pat_of R f.pat }
+  pat_field_of-parts = fold_out-PatField t.Pat PatFieldTree PatPartTree (node_pat R) (node_pat_field R) (node_pat_part R)
+
+  pub pat_part_of-parts : (j : PatPart) → pat_part_of R j ≡ record { head = j.head; whole = R.type j.pair.ty; left = R.type j.pair.left; right = R.type j.pair.right; pat = pat_of R j.pat }
+  pat_part_of-parts = fold_out-PatPart t.Pat PatFieldTree PatPartTree (node_pat R) (node_pat_field R) (node_pat_part R)

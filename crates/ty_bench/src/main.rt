@@ -35,12 +35,7 @@ const SMALL: Sizes = Sizes {
     instances: 1_000,
 };
 
-fn print(
-    rt: &HostRuntime,
-    name: &str,
-    measured: Measured,
-    with_times: bool,
-) -> anyhow::Result<()> {
+fn print(rt: &HostRuntime, name: &str, measured: Measured, with_times: bool) -> anyhow::Result<()> {
     let Measured { answer, nanos } = measured;
     if with_times {
         println!(rt; "{name}: {answer}, {nanos} ns a node")?;
@@ -51,12 +46,19 @@ fn print(
 }
 
 fn main(rt: HostRuntime) -> anyhow::Result<ExitCode> {
-    let small = env::args(&rt)?.nth(1).is_some_and(|word| word == "small");
+    let small = env::args(&rt)?
+        .nth(1)
+        .is_some_and(|word| word.as_str() == "small");
     let sizes = if small { SMALL } else { FULL };
     let deep = deep(rt.alloc(), &rt, sizes.nodes)?;
     print(&rt, "two deep types", deep, !small)?;
     let shared = shared(rt.alloc(), &rt, sizes.refusals)?;
-    print(&rt, "two shared types of 2^40 written nodes", shared, !small)?;
+    print(
+        &rt,
+        "two shared types of 2^40 written nodes",
+        shared,
+        !small,
+    )?;
     let bound = chain(rt.alloc(), &rt, sizes.variables)?;
     print(&rt, "a chain of bindings, resolved", bound, !small)?;
     let instances = instances(rt.alloc(), &rt, sizes.instances)?;

@@ -1,6 +1,8 @@
 // What each measure takes.
 
-use crate::make::{LIST, NONE, Problem, are_unified, deep_types, one, scheme_body, shared_types, variable};
+use crate::make::{
+    LIST, NONE, Problem, are_unified, deep_types, one, scheme_body, shared_types, variable,
+};
 use mlc_base::memory::NoMemory;
 use std::alloc::Global;
 use std::time::{Clock, Duration, Instant};
@@ -16,7 +18,7 @@ pub struct Measured {
     pub nanos: u64,
 }
 
-fn measured(answer: &'static str, took: Duration, nodes: usize) -> Measured {
+fn per_node(answer: &'static str, took: Duration, nodes: usize) -> Measured {
     let total = u64::try_from(took.as_nanos()).unwrap_or(u64::MAX);
     Measured {
         answer,
@@ -24,76 +26,104 @@ fn measured(answer: &'static str, took: Duration, nodes: usize) -> Measured {
     }
 }
 
-/// Unifies two types of so many nodes.
-pub fn deep(alloc: Global, clock: &impl Clock, nodes: usize) -> anyhow::Result<Measured> {
-    let Problem {
-        mut s,
-        left,
-        right,
-    } = deep_types(alloc, nodes)?;
-    let start = Instant::now(clock)?;
-    let are_equal = are_unified(alloc, &mut s, left, right);
-    let took = start.elapsed(clock)?;
-    let answer = if are_equal { "equal" } else { "refused" };
-    Ok(measured(answer, took, nodes.saturating_mul(2)))
+fn are_equal(alloc: Global, problem: &mut Problem) -> bool {
+    let left = problem.left;
+    let right = problem.right;
+    are_unified(alloc, &mut problem.s, left, right)
 }
 
-/// How often two shared types are refused.
-fn refusals(alloc: Global, count: usize) -> Result<usize, NoMemory> {
-    let Problem {
-        mut s,
-        left,
-        right,
-    } = shared_types(alloc)?;
-    let mut refused: usize = 0;
+fn time_deep(
+    alloc: Global,
+    clock: &impl Clock,
+    problem: &mut Problem,
+    nodes: usize,
+) -> anyhow::Result<Measured> {
+    let start = Instant::now(clock)?;
+    let answer = if are_equal(alloc, problem) {
+        "equal"
+    } else {
+        "refused"
+    };
+    Ok(per_node(answer, start.elapsed(clock)?, nodes))
+}
+
+/// Unifies two types of so many nodes.
+pub fn deep(alloc: Global, clock: &impl Clock, nodes: usize) -> anyhow::Result<Measured> {
+    let mut problem = deep_types(alloc, nodes)?;
+    time_deep(alloc, clock, &mut problem, nodes.saturating_mul(2))
+}
+
+/// Whether two types are refused each time.
+fn are_refused(alloc: Global, problem: &mut Problem, count: usize) -> bool {
+    let mut all = true;
     for _ in 0..count {
-        if !are_unified(alloc, &mut s, left, right) {
-            refused = refused.saturating_add(1);
-        }
+        all = !are_equal(alloc, problem) && all;
     }
-    Ok(refused)
+    all
+}
+
+fn time_shared(
+    alloc: Global,
+    clock: &impl Clock,
+    problem: &mut Problem,
+    count: usize,
+) -> anyhow::Result<Measured> {
+    let start = Instant::now(clock)?;
+    let answer = if are_refused(alloc, problem, count) {
+        "refused"
+    } else {
+        "equal"
+    };
+    Ok(per_node(answer, start.elapsed(clock)?, count.saturating_mul(82)))
 }
 
 /// Refuses two shared types so many times.
 pub fn shared(alloc: Global, clock: &impl Clock, count: usize) -> anyhow::Result<Measured> {
-    let start = Instant::now(clock)?;
-    let refused = refusals(alloc, count)?;
-    let took = start.elapsed(clock)?;
-    let answer = if refused == count { "refused" } else { "equal" };
-    Ok(measured(answer, took, count.saturating_mul(82)))
+    let mut problem = shared_types(alloc)?;
+    time_shared(alloc, clock, &mut problem, count)
 }
 
-/// Variables, each but the last bound to a list of the next. The first one, or no type where a binding was refused.
-fn bind_all(alloc: Global, s: &mut Subst, count: usize) -> Result<usize, NoMemory> {
+/// A new variable, once the last one is bound to a list of it. No type where that is refused.
+fn link(alloc: Global, s: &mut Subst, last: usize) -> Result<usize, NoMemory> {
+    let next = variable(alloc, s)?;
+    let list = one(alloc, s, LIST, next)?;
+    if are_unified(alloc, s, last, list) {
+        Ok(next)
+    } else {
+        Ok(NONE)
+    }
+}
+
+/// Binds so many variables, each to a list of the next, and resolves the first.
+fn resolved(alloc: Global, s: &mut Subst, count: usize) -> Result<&'static str, NoMemory> {
     let first = variable(alloc, s)?;
     let mut last = first;
-    let mut are_bound = true;
     for _ in 0..count {
-        let next = variable(alloc, s)?;
-        let list = one(alloc, s, LIST, next)?;
-        are_bound = are_unified(alloc, s, last, list) && are_bound;
-        last = next;
+        last = link(alloc, s, last)?;
     }
-    Ok(if are_bound { first } else { NONE })
-}
-
-fn resolved(alloc: Global, s: &mut Subst, t: usize) -> Result<&'static str, NoMemory> {
-    if t < s.types.len() {
-        let _resolved = resolve(alloc, s, t)?;
+    if first < s.types.len() && last < s.types.len() {
+        let _resolved = resolve(alloc, s, first)?;
         Ok("resolved")
     } else {
         Ok("refused")
     }
 }
 
-/// Binds so many variables, each to a list of the next, and resolves the first.
+fn time_chain(
+    alloc: Global,
+    clock: &impl Clock,
+    s: &mut Subst,
+    count: usize,
+) -> anyhow::Result<Measured> {
+    let start = Instant::now(clock)?;
+    let answer = resolved(alloc, s, count)?;
+    Ok(per_node(answer, start.elapsed(clock)?, count))
+}
+
+/// Binds and resolves a chain of variables.
 pub fn chain(alloc: Global, clock: &impl Clock, count: usize) -> anyhow::Result<Measured> {
     let mut s = Subst::new(alloc)?;
-    let start = Instant::now(clock)?;
-    let first = bind_all(alloc, &mut s, count)?;
-    let answer = resolved(alloc, &mut s, first)?;
-    let took = start.elapsed(clock)?;
-    Ok(measured(answer, took, count))
+    time_chain(alloc, clock, &mut s, count)
 }
 
 /// An instance of a body at two variables.
@@ -109,21 +139,33 @@ fn instance(alloc: Global, types: &mut Types, body: usize, v: usize) -> Result<b
     }
 }
 
-fn all_instances(alloc: Global, types: &mut Types, body: usize, count: usize) -> Result<bool, NoMemory> {
+fn all_instances(
+    alloc: Global,
+    types: &mut Types,
+    body: usize,
+    count: usize,
+) -> Result<&'static str, NoMemory> {
     let mut all = true;
     for v in 0..count {
         all = instance(alloc, types, body, v)? && all;
     }
-    Ok(all)
+    Ok(if all { "made" } else { "wrong" })
+}
+
+fn time_instances(
+    alloc: Global,
+    clock: &impl Clock,
+    types: &mut Types,
+    count: usize,
+) -> anyhow::Result<Measured> {
+    let body = scheme_body(alloc, types)?;
+    let start = Instant::now(clock)?;
+    let answer = all_instances(alloc, types, body, count)?;
+    Ok(per_node(answer, start.elapsed(clock)?, count.saturating_mul(20)))
 }
 
 /// Makes so many instances of a scheme of 20 nodes, each at another two variables.
 pub fn instances(alloc: Global, clock: &impl Clock, count: usize) -> anyhow::Result<Measured> {
     let mut types = Types::new(alloc)?;
-    let body = scheme_body(alloc, &mut types)?;
-    let start = Instant::now(clock)?;
-    let are_right = all_instances(alloc, &mut types, body, count)?;
-    let took = start.elapsed(clock)?;
-    let answer = if are_right { "made" } else { "wrong" };
-    Ok(measured(answer, took, count.saturating_mul(20)))
+    time_instances(alloc, clock, &mut types, count)
 }
