@@ -62,7 +62,7 @@ texts_stand before spot (keep ∷ ops) e fit = (tt, texts_stand before (spot_aft
 texts_stand before spot (forget ∷ ops) e fit = (tt, texts_stand before (spot_after spot forget) ops e fit.1)
 texts_stand before spot (forget_unit ∷ ops) e fit = (tt, texts_stand before (spot_after spot forget_unit) ops e fit.1)
 
-abbrev -- a whole run
+-- a whole run
 run_comes : (laws : MachineLaws) (ops : List Op) (heap stack : ℕ) → AllFit ops → size_of ops ≤ 2 ^ 27 → heap ≤ 2 ^ 28
     → Comes laws (image_of ops).code (length (image_of ops).constants) (keeps_in ops) basis_exceptions (start (image_of ops).constants heap stack) [] (do_all ops no_values (begin (length ops)))
 run_comes laws ops heap stack fit small few =
