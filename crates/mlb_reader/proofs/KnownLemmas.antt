@@ -24,7 +24,7 @@ use Rattle.sml_phrases.specs.declared.source.Source.{Source}
 use Rattle.sml_rules.specs.Basis.{IsTable}
 use Rattle.sml_rules.specs.Phrases.{Phrase, brings_basis, decs_phrases, parts_phrases}
 use Rattle.sml_rules.specs.Project.{Part, source, standard_basis}
-use Rattle.sml_rules.proofs.Names.{texts-apart}
+use Rattle.mlc_base.proofs.NamesLemmas.{standard_words-apart}
 use Rattle.mlb_reader.specs.Loading.{Grows, IsKnown, IsPlaceOf}
 use Rattle.mlb_reader.specs.Project.{Loaded, most_bytes}
 use Rattle.mlb_reader.specs.Within.{AllPlacedIn, HoldsAll, HoldsName, PlacedIn}
@@ -116,7 +116,7 @@ nothing-known s table e = record {
 
 -- the standard words by themselves are one
 pub standard-table : (names : List (List ℕ)) → names ≡ standard_words → IsTable names
-standard-table names is = subst IsTable (sym is) (record { apart = texts-apart standard_words refl; begins = refl })
+standard-table names is = subst IsTable (sym is) (record { apart = standard_words-apart; begins = refl })
 
 pub table-stays : (a b : List (List ℕ)) → Keeps a b → IsTable a → IsTable b
 table-stays a b keeps table = record { apart = keeps.apart table.apart; begins = front-stays standard_words a b table.begins keeps }

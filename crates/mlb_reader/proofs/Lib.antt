@@ -4,6 +4,7 @@ pub mod Folders
 pub mod KnownLemmas
 pub mod LoadLemmas
 pub mod MlbLemmas
+mod OneProject
 pub mod RefusalLemmas
 pub mod SegmentLemmas
 pub mod SourceLemmas

@@ -19,7 +19,7 @@ both-true : (p q : Bool) → (p && q) ≡ true → (p ≡ true) × (q ≡ true)
 both-true true q h = (refl, h)
 both-true false q h = absurd (let k : false ≡ true = h in cc)
 
-path-head : (word rest : List ℕ) (b : ℕ) (i : List ℕ) → IsPath word → word ++ rest ≡ b ∷ i → is_no_blank b ≡ true
+pub path-head : (word rest : List ℕ) (b : ℕ) (i : List ℕ) → IsPath word → word ++ rest ≡ b ∷ i → is_no_blank b ≡ true
 path-head [] rest b i p e = absurd (p.some refl)
 path-head (c ∷ word) rest b i p e =
     let same : c ≡ b = cc in
@@ -64,7 +64,7 @@ front-begins text word e p = record {
 
 -- One step of reading, backwards.
 
-after-blank : (at b : ℕ) (i text : List ℕ) (items : List Item) → Reads at text items → text ≡ b ∷ i → is_blank b ≡ true → Reads (at + 1) i items
+pub after-blank : (at b : ℕ) (i text : List ℕ) (items : List Item) → Reads at text items → text ≡ b ∷ i → is_blank b ≡ true → Reads (at + 1) i items
 after-blank at b i text items (no_more n) e h = absurd (let k : [] ≡ b ∷ i = e in cc)
 after-blank at b i text items (a_blank n c {i = j} k r) e h = let same : j ≡ i = cc in subst (λ t. Reads (at + 1) t items) same r
 after-blank at b i text items (a_path n word {i = j} {items = js} p q r) e h =

@@ -1,6 +1,7 @@
 pub mod BasisOf
 pub mod Broken
 pub mod Counting
+pub mod Laws
 pub mod Loading
 pub mod Mlb
 pub mod MlbOf

@@ -4,6 +4,7 @@
 mod basis;
 mod counts;
 mod fault;
+pub mod law;
 pub mod load;
 pub mod mlb;
 pub mod path;

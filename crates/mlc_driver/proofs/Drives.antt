@@ -33,42 +33,41 @@ use Rattle.mlc_driver.proofs.Checks.{taped-types}
 use Rattle.mlc_driver.proofs.Means.{tape-means}
 use Rattle.mlc_driver.proofs.Places.{foreign-placed, broken-placed}
 
-pub stops-foreign : (texts : List (List ℕ)) (xs : List Phrase) (p : Place) → first_foreign xs ≡ Some p → Stops texts xs (record { code = NotCompiled; place = p; name = None })
-stops-foreign texts xs p e = by_form e
+pub stops-foreign : (xs : List Phrase) (p : Place) → first_foreign xs ≡ Some p → Stops xs (record { code = NotCompiled; place = p; name = None })
+stops-foreign xs p e = by_form e
 
-pub stops-ruled : {T : Type 0} (texts : List (List ℕ)) (xs : List Phrase) (r : Result T Refused) → first_foreign xs ≡ None → IfFault r (λ f. FirstBroken texts xs f) → IfFault r (λ f. Stops texts xs f)
-stops-ruled texts xs (Ok x) e b = tt
-stops-ruled texts xs (Err (refusal.Fault f)) e b = by_rule e b
-stops-ruled texts xs (Err refusal.Memory) e b = tt
+pub stops-ruled : {T : Type 0} (xs : List Phrase) (r : Result T Refused) → first_foreign xs ≡ None → IfFault r (λ f. FirstBroken xs f) → IfFault r (λ f. Stops xs f)
+stops-ruled xs (Ok x) e b = tt
+stops-ruled xs (Err (refusal.Fault f)) e b = by_rule e b
+stops-ruled xs (Err refusal.Memory) e b = tt
 
 -- a project whose phrases all pass is checked
-pub passes-checked : PhrasesAreTyped → (texts : List (List ℕ)) (parts : List Part) (xs : List Phrase) (ops : List Op) (nodes : ℕ) → xs ≡ parts_phrases parts → IsTable texts → Passes texts xs ops
-    → nodes ≡ min (nodes_in xs) (max_nodes + 1) → IsChecked texts (record { parts = parts; tape = ops; nodes = nodes })
-passes-checked typed texts parts xs ops nodes are table passes count =
+pub passes-checked : PhrasesAreTyped → (parts : List Part) (xs : List Phrase) (ops : List Op) (nodes : ℕ) → xs ≡ parts_phrases parts → Passes xs ops
+    → nodes ≡ min (nodes_in xs) (max_nodes + 1) → IsChecked (record { parts = parts; tape = ops; nodes = nodes })
+passes-checked typed parts xs ops nodes are passes count =
     let native : first_foreign (parts_phrases parts) ≡ None = subst (λ ys. first_foreign ys ≡ None) are passes.native in
-    let taped : Taped texts nothing_known (parts_phrases parts) ops passes.known = subst (λ ys. Taped texts nothing_known ys ops passes.known) are passes.taped in
+    let taped : Taped nothing_known (parts_phrases parts) ops passes.known = subst (λ ys. Taped nothing_known ys ops passes.known) are passes.taped in
     record {
-      table = table;
-      checks = record { native = native; elaborates = (typed texts parts native).1 (taped-types texts (parts_phrases parts) ops passes.known taped) };
+      checks = record { native = native; elaborates = (typed parts native).1 (taped-types (parts_phrases parts) ops passes.known taped) };
       known = passes.known;
       taped = taped;
       nodes = subst (λ ys. nodes ≡ min (nodes_in ys) (max_nodes + 1)) are count;
     }
 
 -- the fault of phrases refuses the project
-stops-refused : (texts : List (List ℕ)) (parts : List Part) (xs : List Phrase) (f : base.Fault) → xs ≡ parts_phrases parts → Stops texts xs f → IsRefused texts parts f
-stops-refused texts parts xs f are (by_form {p = p} e) = rules.by_form (subst (λ ys. first_foreign ys ≡ Some p) are e)
-stops-refused texts parts xs f are (by_rule e b) = rules.by_rule (subst (λ ys. first_foreign ys ≡ None) are e) (subst (λ ys. FirstBroken texts ys f) are b)
+stops-refused : (parts : List Part) (xs : List Phrase) (f : base.Fault) → xs ≡ parts_phrases parts → Stops xs f → IsRefused parts f
+stops-refused parts xs f are (by_form {p = p} e) = rules.by_form (subst (λ ys. first_foreign ys ≡ Some p) are e)
+stops-refused parts xs f are (by_rule e b) = rules.by_rule (subst (λ ys. first_foreign ys ≡ None) are e) (subst (λ ys. FirstBroken ys f) are b)
 
 pub stops-breaks : (texts : List (List ℕ)) (files : Files) (input : List ℕ) (parts : List Part) (reads : List File) (xs : List Phrase) (f : base.Fault) → xs ≡ parts_phrases parts → ProjectOf files input texts parts reads
-    → Stops texts xs f → Breaks files input texts f reads
-stops-breaks texts files input parts reads xs f are project stops = in_project parts project (stops-refused texts parts xs f are stops)
+    → Stops xs f → Breaks files input texts f reads
+stops-breaks texts files input parts reads xs f are project stops = in_project parts project (stops-refused parts xs f are stops)
 
 over-limit : (n count : ℕ) → n ≡ min count (2 ^ 20 + 1) → 2 ^ 20 < n → 2 ^ 20 < count
 over-limit n count is lt = omega (arith, is, lt)
 
-pub size-refused : (texts : List (List ℕ)) (p : Project) → IsChecked texts p → max_nodes < p.nodes → IsRefused texts p.parts (record { code = ExpansionTooLarge; place = record { file = 0; byte = 0 }; name = None })
-size-refused texts p c lt = rules.by_size c.checks.native c.checks.elaborates (over-limit p.nodes (nodes_in (parts_phrases p.parts)) c.nodes lt)
+pub size-refused : (p : Project) → IsChecked p → max_nodes < p.nodes → IsRefused p.parts (record { code = ExpansionTooLarge; place = record { file = 0; byte = 0 }; name = None })
+size-refused p c lt = rules.by_size c.checks.native c.checks.elaborates (over-limit p.nodes (nodes_in (parts_phrases p.parts)) c.nodes lt)
 
 -- a machine's runs are those of one meaning as of an equal one
 same-means : (text_of : ℕ → List ℕ) (a b : ℕ → Outcome) (run : ℕ → RunResult) → ((m : ℕ) → a m ≡ b m) → SameRuns text_of a run → SameRuns text_of b run
@@ -83,21 +82,21 @@ same-means text_of a b run e s = record {
 }
 
 -- the image of a checked project's tape ends as the project does
-pub checked-same : NeverWrong → MeaningGrows → ImageIsRight → (texts : List (List ℕ)) (p : Project) → IsChecked texts p → AllFit p.tape → size_of p.tape ≤ 2 ^ 27 → Same texts p.parts (image_of p.tape)
-checked-same wrong grows right texts p c fit small heap stack h1 h2 s1 s2 =
-    let e = tape-means texts p.parts p.tape c.known c.checks.native c.taped in
-    let is : IsRight texts p.tape = record {
-      never_wrong = λ m w. wrong texts p.parts m c.checks.native c.checks.elaborates (sym (ap (λ o. o.end) (e m)) ∙ w);
-      grows = λ m n le. subst (λ o. GrowsTo o (tape_meaning texts p.tape n)) (sym (e m)) (subst (λ o. GrowsTo (meaning texts p.parts m) o) (sym (e n)) (grows texts p.parts m n le));
+pub checked-same : NeverWrong → MeaningGrows → ImageIsRight → (texts : List (List ℕ)) (p : Project) → IsTable texts → IsChecked p → AllFit p.tape → size_of p.tape ≤ 2 ^ 27 → Same texts p.parts (image_of p.tape)
+checked-same wrong grows right texts p table c fit small heap stack h1 h2 s1 s2 =
+    let e = tape-means p.parts p.tape c.known c.checks.native c.taped in
+    let is : IsRight p.tape = record {
+      never_wrong = λ m w. wrong p.parts m c.checks.native c.checks.elaborates (sym (ap (λ o. o.end) (e m)) ∙ w);
+      grows = λ m n le. subst (λ o. GrowsTo o (tape_meaning p.tape n)) (sym (e m)) (subst (λ o. GrowsTo (meaning p.parts m) o) (sym (e n)) (grows p.parts m n le));
     } in
-    same-means (text_in texts) (tape_meaning texts p.tape) (meaning texts p.parts) (run_of (image_of p.tape) heap stack) e (right texts p.tape heap stack c.table fit small is h2)
+    same-means (text_in texts) (tape_meaning p.tape) (meaning p.parts) (run_of (image_of p.tape) heap stack) e (right texts p.tape heap stack table fit small is h2)
 
 few-words : (n count size : ℕ) → n ≡ min count (2 ^ 20 + 1) → n ≤ 2 ^ 20 → size ≤ 128 * max 1 count → size ≤ 2 ^ 27
 few-words n count size is le small = omega (arith, is, le, small)
 
 -- a project within the limit has a small image
-pub small-tape : ImageIsSmall → (texts : List (List ℕ)) (p : Project) → IsChecked texts p → p.nodes ≤ max_nodes → size_of p.tape ≤ 2 ^ 27
-small-tape small texts p c le = few-words p.nodes (nodes_in (parts_phrases p.parts)) (size_of p.tape) c.nodes le (small texts nothing_known c.known (parts_phrases p.parts) p.tape c.taped)
+pub small-tape : ImageIsSmall → (p : Project) → IsChecked p → p.nodes ≤ max_nodes → size_of p.tape ≤ 2 ^ 27
+small-tape small p c le = few-words p.nodes (nodes_in (parts_phrases p.parts)) (size_of p.tape) c.nodes le (small nothing_known c.known (parts_phrases p.parts) p.tape c.taped)
 
 -- what loading answers
 pub loading-breaks : (T U : Type 0) (names : List (List ℕ)) (told : Option Files) (input : List ℕ) (reads : List File) (e : LoadRefused) →
@@ -109,12 +108,11 @@ loading-breaks T U names None input reads (load.Fault f) h unnamed = tt
 loading-breaks T U names (Some fs) input reads (load.Fault f) h unnamed = in_loading h unnamed
 loading-breaks T U names told input reads load.Memory h unnamed = tt
 
-pub parts-break : (names names' : List (List ℕ)) → names' ≡ names → (told : Option Files) (input : List ℕ) (parts : List Part) (reads : List File) (f : base.Fault) →
-    IfTold told (λ fs. ProjectOf fs input names parts reads) → Stops names (parts_phrases parts) f → IfTold told (λ fs. Breaks fs input names' f reads)
-parts-break names names' same None input parts reads f project stops = tt
-parts-break names names' same (Some fs) input parts reads f project stops =
-    subst (λ t. Breaks fs input t f reads) (sym same) (stops-breaks names fs input parts reads (parts_phrases parts) f refl project stops)
+pub parts-break : (names : List (List ℕ)) (told : Option Files) (input : List ℕ) (parts : List Part) (reads : List File) (f : base.Fault) →
+    IfTold told (λ fs. ProjectOf fs input names parts reads) → Stops (parts_phrases parts) f → IfTold told (λ fs. Breaks fs input names f reads)
+parts-break names None input parts reads f project stops = tt
+parts-break names (Some fs) input parts reads f project stops = stops-breaks names fs input parts reads (parts_phrases parts) f refl project stops
 
-pub stops-placed : (P : Place → Type 0) → P (record { file = 0; byte = 0 }) → (texts : List (List ℕ)) (xs : List Phrase) (f : base.Fault) → AllPlacedIn P xs → Stops texts xs f → P f.place
-stops-placed P zero texts xs f h (by_form e) = foreign-placed P xs h e
-stops-placed P zero texts xs f h (by_rule e b) = broken-placed P zero texts xs f b h
+pub stops-placed : (P : Place → Type 0) → P (record { file = 0; byte = 0 }) → (xs : List Phrase) (f : base.Fault) → AllPlacedIn P xs → Stops xs f → P f.place
+stops-placed P zero xs f h (by_form e) = foreign-placed P xs h e
+stops-placed P zero xs f h (by_rule e b) = broken-placed P zero xs f b h

@@ -30,4 +30,3 @@ mod Reading
 mod Shapes
 mod Steps
 mod Views
-mod Words

@@ -89,28 +89,28 @@ bind_vid_size false (Named x) s = omega arith
 bind_vid_size false Equals s = omega arith
 bind_vid_size false (Fresh k) s = omega arith
 
-check_size : (texts : List (List ℕ)) (s : Statics) (x : Phrase) → verdict_size (check texts s x) ≤ 42 * node_count x
-check_size texts s (integer p z) = omega arith
-check_size texts s (text p b) = omega arith
-check_size texts s (identifier p x) = omega (arith, found_size (look texts s.scope x) s)
-check_size texts s (nothing p) = omega arith
-check_size texts s (applies p) = omega (arith, apply_one_size p s.stack s)
-check_size texts s (applies_pair p between) = omega (arith, apply_pair_size p between s.stack s)
-check_size texts s (binds_any p) = omega arith
-check_size texts s (binds p v) = omega (arith, bind_vid_size (is_restricted texts v) v s)
-check_size texts s (binds_nothing p) = omega arith
-check_size texts s (declares p) = omega (arith, declare_size s.pattern s.stack s)
-check_size texts s brings_basis = omega arith
-check_size texts s (foreign p) = omega arith
+check_size : (s : Statics) (x : Phrase) → verdict_size (check s x) ≤ 42 * node_count x
+check_size s (integer p z) = omega arith
+check_size s (text p b) = omega arith
+check_size s (identifier p x) = omega (arith, found_size (look s.scope x) s)
+check_size s (nothing p) = omega arith
+check_size s (applies p) = omega (arith, apply_one_size p s.stack s)
+check_size s (applies_pair p between) = omega (arith, apply_pair_size p between s.stack s)
+check_size s (binds_any p) = omega arith
+check_size s (binds p v) = omega (arith, bind_vid_size (is_restricted v) v s)
+check_size s (binds_nothing p) = omega arith
+check_size s (declares p) = omega (arith, declare_size s.pattern s.stack s)
+check_size s brings_basis = omega arith
+check_size s (foreign p) = omega arith
 
 append_size : (ops more : List Op) → ops_size (ops ++ more) ≡ ops_size ops + ops_size more
 append_size [] more = omega arith
 append_size (op ∷ ops) more = omega (arith, append_size ops more)
 
-taped_size : (texts : List (List ℕ)) (s s' : Statics) (phrases : List Phrase) (ops : List Op) → Taped texts s phrases ops s' → ops_size ops ≤ 42 * nodes_in phrases
-taped_size texts s s' [] _ (no_more u) = omega arith
-taped_size texts s s'' (x ∷ xs) _ (one_more {s' = t} {ops = ops} {more = more} e later) =
-    omega (arith, check_size texts s x, ap verdict_size e, taped_size texts t s'' xs more later, append_size ops more)
+taped_size : (s s' : Statics) (phrases : List Phrase) (ops : List Op) → Taped s phrases ops s' → ops_size ops ≤ 42 * nodes_in phrases
+taped_size s s' [] _ (no_more u) = omega arith
+taped_size s s'' (x ∷ xs) _ (one_more {s' = t} {ops = ops} {more = more} e later) =
+    omega (arith, check_size s x, ap verdict_size e, taped_size t s'' xs more later, append_size ops more)
 
 pub image_is_small : ImageIsSmall
-image_is_small texts s s' phrases ops taped = omega (arith, taped_size texts s s' phrases ops taped)
+image_is_small s s' phrases ops taped = omega (arith, taped_size s s' phrases ops taped)

@@ -18,7 +18,8 @@ use Rattle.mlc_driver.specs.Same.{IsExhausted, of_stack}
 use Rattle.mlc_driver.specs.Tape.{Op, number, text, unit, slot, apply, keep, forget, forget_unit, Values, do_all}
 use Rattle.mlc_driver.specs.Code.{AllFit, Spot, basis_constants, code_from, spot_after, op_keeps, keeps_in}
 use Rattle.mlc_driver.proofs.MachineSeams.{HasAt, get_within, get_set_same, get_set_other}
-use Rattle.mlc_driver.proofs.MachineGrows.{output_in, all_grow}
+use Rattle.mlc_base.specs.MoreTurns.{output_in}
+use Rattle.mlc_driver.proofs.MachineGrows.{all_grow}
 use Rattle.mlc_driver.proofs.MachineValues.{IsString, Is, Longer, longer_same, string_longer, KeptAt, LatestAt, SameBelow, kept_stays, latest_stays, latest_above, kept_more}
 use Rattle.mlc_driver.proofs.MachineSteps.{MachineLaws, Leads, then_leads, at, stop}
 use Rattle.mlc_driver.proofs.MachineSteps as steps

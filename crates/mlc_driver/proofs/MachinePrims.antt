@@ -24,7 +24,8 @@ use Rattle.mlc_driver.specs.Same.{IsExhausted, of_heap}
 use Rattle.mlc_driver.specs.Tape.{Op, apply, Values, result_for, do_all}
 use Rattle.mlc_driver.specs.Code.{Spot, basis_constants, raising_code, number_code, cat_code, code_from, spot_after}
 use Rattle.mlc_driver.proofs.MachineSeams.{HasAt, has_front, has_back, get_within, get_set_same, get_set_other}
-use Rattle.mlc_driver.proofs.MachineGrows.{output_in, all_grow}
+use Rattle.mlc_base.specs.MoreTurns.{output_in}
+use Rattle.mlc_driver.proofs.MachineGrows.{all_grow}
 use Rattle.mlc_driver.proofs.MachineValues.{IsString, Is, Longer, longer_same, string_is, string_bytes_there, SameBelow, kept_stays, latest_stays}
 use Rattle.mlc_driver.proofs.MachineSteps.{MachineLaws, Leads, then_leads, at}
 use Rattle.mlc_driver.proofs.MachineSteps as steps

@@ -13,7 +13,7 @@ use Rattle.ir_code.specs.Run.{RunResult, result_of, run_of}
 use Rattle.ir_code.specs.Run as machine
 use Rattle.mlc_prims.specs.declared.prim.Primitive.TheVariants.{Add, Sub, Mul, Cat, Print}
 use Rattle.mlc_base.specs.StandardWords.{word_Overflow, word_Size}
-use Rattle.sml_rules.specs.Basis.{text_in, identifier_of, basis_exceptions, IsTable}
+use Rattle.sml_rules.specs.Basis.{text_in, basis_exceptions, IsTable}
 use Rattle.sml_rules.specs.Laws.{IsPrefix}
 use Rattle.sml_rules.specs.Values.{Value}
 use Rattle.sml_rules.specs.Meaning.{packet_identifier, begin}
@@ -22,13 +22,13 @@ use Rattle.mlc_driver.specs.Tape.{Op, number, text, unit, slot, apply, keep, for
 use Rattle.mlc_driver.specs.Code.{AllFit, Spot, string_words, basis_constants, text_constants, raising_code, code_from, spot_after, keeps_in, first_spot, image_of, size_of}
 use Rattle.mlc_driver.specs.CodeLaws.{ImageIsRight}
 use Rattle.mlc_driver.proofs.MachineSeams.{HasAt, has_front, has_back, has_all}
-use Rattle.mlc_driver.proofs.MachineGrows.{output_in}
+use Rattle.mlc_base.specs.MoreTurns.{output_in}
 use Rattle.mlc_driver.proofs.MachineSteps.{MachineLaws, jmp}
 use Rattle.mlc_driver.proofs.MachineOps.{TextsAt, Names, names_overflow, names_size, Comes, comes_end, comes_raised, comes_short, comes_wrong, before_comes, Follows, nothing_follows, number_follows, text_follows, unit_follows, slot_follows, keep_follows, forget_follows, unit_goes}
 use Rattle.mlc_driver.proofs.MachinePrims.{print_follows, add_follows, sub_follows, mul_follows, cat_follows}
 use Rattle.mlc_driver.proofs.MachineSame.{Stopped, alike, exhausted, same_runs}
 use Rattle.mlc_driver.proofs.MachineSizes.{image_size, keeps_few}
-use Rattle.sml_rules.proofs.Tables.{has-word}
+use Rattle.sml_rules.proofs.Tables.{word-text}
 
 -- all operations, one after the other
 all_follow : (laws : MachineLaws) (code : List Instr) (base total : ℕ) (exceptions : List ℕ) → HasAt code 0 raising_code → total < 2 ^ 32 → (ops : List Op) → Follows laws code base total exceptions ops
@@ -62,13 +62,10 @@ texts_stand before spot (keep ∷ ops) e fit = (tt, texts_stand before (spot_aft
 texts_stand before spot (forget ∷ ops) e fit = (tt, texts_stand before (spot_after spot forget) ops e fit.1)
 texts_stand before spot (forget_unit ∷ ops) e fit = (tt, texts_stand before (spot_after spot forget_unit) ops e fit.1)
 
-abbrev exceptions_of : List (List ℕ) → List ℕ
-exceptions_of texts = map (identifier_of texts) basis_exceptions
-
 -- a whole run
-run_comes : (laws : MachineLaws) (texts : List (List ℕ)) (ops : List Op) (heap stack : ℕ) → AllFit ops → size_of ops ≤ 2 ^ 27 → heap ≤ 2 ^ 28
-    → Comes laws (image_of ops).code (length (image_of ops).constants) (keeps_in ops) (exceptions_of texts) (start (image_of ops).constants heap stack) [] (do_all ops no_values (begin texts (length ops)))
-run_comes laws texts ops heap stack fit small few =
+run_comes : (laws : MachineLaws) (ops : List Op) (heap stack : ℕ) → AllFit ops → size_of ops ≤ 2 ^ 27 → heap ≤ 2 ^ 28
+    → Comes laws (image_of ops).code (length (image_of ops).constants) (keeps_in ops) basis_exceptions (start (image_of ops).constants heap stack) [] (do_all ops no_values (begin (length ops)))
+run_comes laws ops heap stack fit small few =
     let constants = (image_of ops).constants in
     let code = (image_of ops).code in
     let base = length constants in
@@ -78,8 +75,8 @@ run_comes laws texts ops heap stack fit small few =
     let whole : HasAt code 0 code = has_all code [] in
     let raising : HasAt code 0 raising_code = has_front code 0 raising_code rest whole in
     let low : 4 * keeps_in ops ≤ 2 ^ 27 = omega (arith, keeps_few ops) in
-    before_comes laws code base (keeps_in ops) (exceptions_of texts) (jmp laws code base {o = []} words (constants ++ free) 0 base 5 raising.0)
-    (all_follow laws code base (keeps_in ops) (exceptions_of texts) raising (omega arith) ops (first_spot ops) [] [] (begin texts (length ops)) 5 words constants free (record {
+    before_comes laws code base (keeps_in ops) basis_exceptions (jmp laws code base {o = []} words (constants ++ free) 0 base 5 raising.0)
+    (all_follow laws code base (keeps_in ops) basis_exceptions raising (omega arith) ops (first_spot ops) [] [] (begin (length ops)) 5 words constants free (record {
       has = has_back code 0 5 raising_code rest refl whole;
       count = refl;
       depth = omega arith;
@@ -95,26 +92,11 @@ run_comes laws texts ops heap stack fit small few =
       basis = (text_constants ops, refl);
     }))
 
--- a text that the table has is found
-found_text : (texts : List (List ℕ)) (name : List ℕ) → Contains texts name → text_in texts (identifier_of texts name) ≡ name
-found_text [] name h = absurd (omega (arith, h.1))
-found_text (t ∷ texts) name h = go (λ c. found_text texts name c) (bytes_eq t name) refl
-  where
-    rest : t ≢ name → (k : ℕ) → k < length (t ∷ texts) → slice_index_or (t ∷ texts) k name ≡ name → Contains texts name
-    rest differs zero lt e = absurd (differs e)
-    rest differs (suc k) lt e = (k, omega arith, e)
-
-    go : (Contains texts name → text_in texts (identifier_of texts name) ≡ name) → (b : Bool) → bytes_eq t name ≡ b → text_in (t ∷ texts) (if b then 0 else suc (identifier_of texts name)) ≡ name
-    go later true e = (bytes_eq-Decides t name).0 e
-    go later false e = later (rest (λ same. let k : false ≡ true = sym e ∙ (bytes_eq-Decides t name).1 same in cc) h.0 h.1 h.2)
-
-packet_end : (texts : List (List ℕ)) (v : Value) (w : World Value) (name : List ℕ) → IsTable texts → Names v name → w.exceptions ≡ exceptions_of texts → SameEnd (text_in texts) (uncaught_end (packet_identifier v w)) (machine.uncaught name)
+packet_end : (texts : List (List ℕ)) (v : Value) (w : World Value) (name : List ℕ) → IsTable texts → Names v name → w.exceptions ≡ basis_exceptions → SameEnd (text_in texts) (uncaught_end (packet_identifier v w)) (machine.uncaught name)
 packet_end texts v w name table names_overflow e =
-    let found : text_in texts (identifier_of texts (codes "Overflow")) ≡ codes "Overflow" = found_text texts (codes "Overflow") (has-word texts table word_Overflow (codes "Overflow") refl refl) in
-    subst (λ l. SameEnd (text_in texts) (uncaught_end (slice_get l 2)) (machine.uncaught (codes "Overflow"))) (sym e) (both_uncaught (identifier_of texts (codes "Overflow")) found)
+    subst (λ l. SameEnd (text_in texts) (uncaught_end (slice_get l 2)) (machine.uncaught (codes "Overflow"))) (sym e) (both_uncaught word_Overflow (word-text texts table word_Overflow (codes "Overflow") refl refl))
 packet_end texts v w name table names_size e =
-    let found : text_in texts (identifier_of texts (codes "Size")) ≡ codes "Size" = found_text texts (codes "Size") (has-word texts table word_Size (codes "Size") refl refl) in
-    subst (λ l. SameEnd (text_in texts) (uncaught_end (slice_get l 5)) (machine.uncaught (codes "Size"))) (sym e) (both_uncaught (identifier_of texts (codes "Size")) found)
+    subst (λ l. SameEnd (text_in texts) (uncaught_end (slice_get l 5)) (machine.uncaught (codes "Size"))) (sym e) (both_uncaught word_Size (word-text texts table word_Size (codes "Size") refl refl))
 
 record StopsAt (texts : List (List ℕ)) (o : Outcome) (runs : ℕ → RunResult) : Type 0 where
   count : ℕ
@@ -126,7 +108,7 @@ output_is (raises v w) = refl
 output_is (stops cut w) = refl
 
 stops_at : (laws : MachineLaws) (texts : List (List ℕ)) (code : List Instr) (base total : ℕ) (s : State) (r : Answer Value Values) → IsTable texts → (outcome_of packet_identifier r).end ≢ source.wrong
-    → Comes laws code base total (exceptions_of texts) s [] r → StopsAt texts (outcome_of packet_identifier r) (λ n. result_of (run code n s []))
+    → Comes laws code base total basis_exceptions s [] r → StopsAt texts (outcome_of packet_identifier r) (λ n. result_of (run code n s []))
 stops_at laws texts code base total s r table right (comes_end a w n e) = record {
   count = n;
   stopped = alike (record { output = ap (λ x. x.output) e; end = subst (λ x. SameEnd (text_in texts) source.ended x) (sym (ap (λ x. x.end) e)) both_ended });
@@ -142,5 +124,5 @@ stops_at laws texts code base total s r table right (comes_wrong w) = absurd (ri
 pub image_is_right : MachineLaws → ImageIsRight
 image_is_right laws texts ops heap stack table fit small right few =
     let image = image_of ops in
-    let at = stops_at laws texts image.code (length image.constants) (keeps_in ops) (start image.constants heap stack) (do_all ops no_values (begin texts (length ops))) table (right.never_wrong (length ops)) (run_comes laws texts ops heap stack fit small few) in
-    same_runs (text_in texts) (tape_meaning texts ops) (run_of image heap stack) right.grows right.never_wrong (laws.results.end_stays image heap stack) (laws.results.output_grows image heap stack) (length ops) at.count at.stopped
+    let at = stops_at laws texts image.code (length image.constants) (keeps_in ops) (start image.constants heap stack) (do_all ops no_values (begin (length ops))) table (right.never_wrong (length ops)) (run_comes laws ops heap stack fit small few) in
+    same_runs (text_in texts) (tape_meaning ops) (run_of image heap stack) right.grows right.never_wrong (laws.results.end_stays image heap stack) (laws.results.output_grows image heap stack) (length ops) at.count at.stopped

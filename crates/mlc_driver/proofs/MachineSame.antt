@@ -8,7 +8,7 @@ use Rattle.ir_code.specs.Run as machine
 use Rattle.sml_rules.specs.Laws.{IsPrefix, GrowsTo}
 use Rattle.mlc_driver.specs.Same.{SameEnd, both_ended, both_uncaught, IsOver, HasEnded, IsExhausted, of_heap, of_stack, SameResult, SameRuns}
 use Rattle.mlc_driver.specs.Same as same
-use Rattle.mlc_driver.proofs.MachineGrows.{prefix_refl, prefix_trans}
+use Rattle.mlc_base.proofs.MoreTurnsLaws.{prefix-refl, prefix-trans}
 
 -- how the machine stands when it has stopped
 pub data Stopped (text_of : ℕ → List ℕ) (o : Outcome) (r : RunResult) : Type 0 where
@@ -44,7 +44,7 @@ stuck_not_ended same.HasEnded.by_itself h = cc
 stuck_not_ended (same.HasEnded.by_exception t) h = cc
 
 equal_prefix : (a b : List ℕ) → a ≡ b → IsPrefix a b
-equal_prefix a b e = subst (IsPrefix a) e (prefix_refl a)
+equal_prefix a b e = subst (IsPrefix a) e (prefix-refl a)
 
 module _ (text_of : ℕ → List ℕ) (means : ℕ → Outcome) (run : ℕ → RunResult)
     (grows : (m n : ℕ) → m ≤ n → GrowsTo (means m) (means n)) (right : (m : ℕ) → (means m).end ≢ source.wrong)
@@ -84,7 +84,7 @@ module _ (text_of : ℕ → List ℕ) (means : ℕ → Outcome) (run : ℕ → R
       (cases_lt n last)
 
   within : (n : ℕ) → IsPrefix (run n).output (means big).output
-  within n = prefix_trans (run n).output (run last).output (means big).output (before_last n) last_within
+  within n = prefix-trans (run n).output (run last).output (means big).output (before_last n) last_within
 
   -- a meaning that is over is the one at many turns
   is_big : (m : ℕ) → (means m).end ≢ source.going → (means big).end ≢ source.going → ((means m).end ≡ (means big).end) × ((means m).output ≡ (means big).output)
@@ -99,7 +99,7 @@ module _ (text_of : ℕ → List ℕ) (means : ℕ → Outcome) (run : ℕ → R
   over_output m h =
       ⊎_elim
       (λ lt. let le : m ≤ big = omega arith in subst (IsPrefix (run last).output) ((grows m big le).end h).1 last_within)
-      (λ le. prefix_trans (run last).output (means big).output (means m).output last_within (grows big m le).output)
+      (λ le. prefix-trans (run last).output (means big).output (means m).output last_within (grows big m le).output)
       (cases_lt m big)
 
   over_case : (m : ℕ) → IsOver (means m).end → Stopped text_of (means big) (run last) → ((n : ℕ) × SameResult text_of (means m) (run n)) ⊎ ((n : ℕ) × IsExhausted (run n).end × IsPrefix (run n).output (means m).output)

@@ -31,8 +31,8 @@ pub data FoundAs (kept : List Value) : Option Entry → Option Value → Type 0 
   found_known : (q : Primitive) → FoundAs kept (Some (entry.Known q)) (Some (primitive q))
   found_kept : (k : Kind) (n : ℕ) (v : Value) → slice_get kept n ≡ Some v → FoundAs kept (Some (entry.Kept k n)) (Some v)
 
-abbrev pub Agrees : List (List ℕ) → List Value → Scope → Env → Type 0
-Agrees texts kept scope env = (x : ℕ) → FoundAs kept (look texts scope x) (value_of texts env x)
+abbrev pub Agrees : List Value → Scope → Env → Type 0
+Agrees kept scope env = (x : ℕ) → FoundAs kept (look scope x) (value_of env x)
 
 -- a tape does what an expression does: it is a primitive and nothing is done, or its value comes under way
 pub data Does (run : World Value → Answer Value Value) (kept : List Value) (s : Statics) : List Op → Statics → Type 0 where
@@ -121,7 +121,7 @@ two-does p q kept a b as_ bs e ha hb rest w =
         ∙ then-same (b w) (λ v w. do_all (tape.apply q p ∷ []) (record { kept = kept; latest = v ∷ u ∷ rest }) w) (λ v w. then_do (enter p (primitive q) (pair_value u v) w) (result_for kept rest)) (λ v w. two-apply p q kept rest u v w e)
         ∙ sym (then-join (b w) (λ v w. enter p (primitive q) (pair_value u v) w) (result_for kept rest))
 
-module _ (texts : List (List ℕ)) (env : Env) (kept : List Value) where
+module _ (env : Env) (kept : List Value) where
   -- known and pushed statics that a primitive doesn't take
   known-one : (P : List Op → Statics → Type 0) (p : Place) (q q' : Primitive) (rest : List Static) (s : Statics) → Where P (applied q p (one_result q (Known q')) rest s)
   known-one P p Add q' rest s = tt
@@ -159,13 +159,13 @@ module _ (texts : List (List ℕ)) (env : Env) (kept : List Value) where
   two-where P p _ _ _ rest s h = tt
 
   abbrev run_of : Exp → World Value → Answer Value Value
-  run_of e w = eval texts env e w
+  run_of e w = eval env e w
 
   one-app : (p : Place) (f a : Exp) (q : Primitive) (rest : List Value) (w : World Value) → run_of f w ≡ gives (primitive q) w →
       then_do (primitive_app p q (run_of a) w) (result_for kept rest) ≡ then_do (run_of (app p f a) w) (result_for kept rest)
   one-app p f a q rest w e = ap (λ r. then_do (then_do r (λ g w. then_do (run_of a w) (λ v w. enter p g v w))) (result_for kept rest)) (sym e)
 
-  app-does : (p : Place) (f a : Exp) {s s1 s2 s3 : Statics} {fs as_ xs : List Op} → Does (run_of f) kept s fs s1 → Does (run_of a) kept s1 as_ s2 → check texts s2 (applies p) ≡ goes xs s3 →
+  app-does : (p : Place) (f a : Exp) {s s1 s2 s3 : Statics} {fs as_ xs : List Op} → Does (run_of f) kept s fs s1 → Does (run_of a) kept s1 as_ s2 → check s2 (applies p) ≡ goes xs s3 →
       Does (run_of (app p f a)) kept s (fs ++ (as_ ++ xs)) s3
   app-does p f a {s = s} (is_known q hf) (is_pushed k as_ ha) e =
       let P : List Op → Statics → Type 0 = λ xs s3. Does (run_of (app p f a)) kept s (as_ ++ xs) s3 in
@@ -192,7 +192,7 @@ module _ (texts : List (List ℕ)) (env : Env) (kept : List Value) where
   PairDoes p r f a b s xs ys zs more s' = Does (run_of (app p f (pair_exp r a b))) kept s (xs ++ (ys ++ (zs ++ more))) s'
 
   infix-does : (p r : Place) (f a b : Exp) {s s1 s2 s3 s4 : Statics} {fs as_ bs xs : List Op} → Does (run_of a) kept s as_ s1 → Does (run_of f) kept s1 fs s2 → Does (run_of b) kept s2 bs s3 →
-      check texts s3 (applies_pair p true) ≡ goes xs s4 → PairDoes p r f a b s as_ fs bs xs s4
+      check s3 (applies_pair p true) ≡ goes xs s4 → PairDoes p r f a b s as_ fs bs xs s4
   infix-does p r f a b {s = s} (is_pushed k as_ ha) (is_known q hf) (is_pushed k' bs hb) e =
       let P = PairDoes p r f a b s as_ [] bs in checked P e (two-where P p q k k' s.stack _ (λ o h. two-app p r f a b q o as_ bs h hf ha hb))
   infix-does p r f a b {s = s} (is_pushed k as_ _) (is_known q _) (is_known q' _) e = let P = PairDoes p r f a b s as_ [] [] in checked P e (known-second P p q q' k s.stack _)
@@ -204,7 +204,7 @@ module _ (texts : List (List ℕ)) (env : Env) (kept : List Value) where
   infix-does p r f a b {s = s} (is_known _ _) (is_pushed _ fs _) (is_known _ _) e = checked (PairDoes p r f a b s [] fs []) e tt
 
   prefix-does : (p r : Place) (f a b : Exp) {s s1 s2 s3 s4 : Statics} {fs as_ bs xs : List Op} → Does (run_of f) kept s fs s1 → Does (run_of a) kept s1 as_ s2 → Does (run_of b) kept s2 bs s3 →
-      check texts s3 (applies_pair p false) ≡ goes xs s4 → PairDoes p r f a b s fs as_ bs xs s4
+      check s3 (applies_pair p false) ≡ goes xs s4 → PairDoes p r f a b s fs as_ bs xs s4
   prefix-does p r f a b {s = s} (is_known q hf) (is_pushed k as_ ha) (is_pushed k' bs hb) e =
       let P = PairDoes p r f a b s [] as_ bs in checked P e (two-where P p q k k' s.stack _ (λ o h. two-app p r f a b q o as_ bs h hf ha hb))
   prefix-does p r f a b {s = s} (is_known q _) (is_pushed k as_ _) (is_known q' _) e = let P = PairDoes p r f a b s [] as_ [] in checked P e (known-second P p q q' k s.stack _)
@@ -216,11 +216,11 @@ module _ (texts : List (List ℕ)) (env : Env) (kept : List Value) where
   prefix-does p r f a b {s = s} (is_pushed _ fs _) (is_known _ _) (is_known _ _) e = checked (PairDoes p r f a b s fs [] []) e tt
 
   -- expressions leave the scope as it is
-  scope-stays : {run : World Value → Answer Value Value} {s s' : Statics} {ops : List Op} → Does run kept s ops s' → Agrees texts kept s.scope env → Agrees texts kept s'.scope env
+  scope-stays : {run : World Value → Answer Value Value} {s s' : Statics} {ops : List Op} → Does run kept s ops s' → Agrees kept s.scope env → Agrees kept s'.scope env
   scope-stays (is_known q h) agrees = agrees
   scope-stays (is_pushed k ops h) agrees = agrees
 
-  pub exp-does : {e : Exp} {ps : List Phrase} → NativeExp e ps → (s : Statics) {s' : Statics} {ops : List Op} → Agrees texts kept s.scope env → Taped texts s ps ops s' → Does (run_of e) kept s ops s'
+  pub exp-does : {e : Exp} {ps : List Phrase} → NativeExp e ps → (s : Statics) {s' : Statics} {ops : List Op} → Agrees kept s.scope env → Taped s ps ops s' → Does (run_of e) kept s ops s'
   exp-does (native_int p z) s agrees t = checked (DoesAs (run_of (constant_exp p (term.int z))) kept s) (single t) (pushes kind.Number (tape.number z) (λ rest w. refl))
   exp-does (native_string p b) s agrees t = checked (DoesAs (run_of (constant_exp p (term.string b))) kept s) (single t) (pushes kind.Text (tape.text b) (λ rest w. refl))
   exp-does (native_unit p) s agrees t = checked (DoesAs (run_of (fields_exp p no_exp_fields)) kept s) (single t) (pushes kind.Unit tape.unit (λ rest w. refl))

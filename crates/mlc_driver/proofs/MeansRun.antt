@@ -42,21 +42,21 @@ do-pushed ops more run kept h rest w =
 
 -- Checked phrases.
 
-pub record Split (texts : List (List ℕ)) (s : Statics) (xs ys : List Phrase) (ops : List Op) (s' : Statics) : Type 0 where
+pub record Split (s : Statics) (xs ys : List Phrase) (ops : List Op) (s' : Statics) : Type 0 where
   pub middle : Statics
   pub first : List Op
   pub second : List Op
   pub is : ops ≡ first ++ second
-  pub before : Taped texts s xs first middle
-  pub after : Taped texts middle ys second s'
+  pub before : Taped s xs first middle
+  pub after : Taped middle ys second s'
 
-pub split : {texts : List (List ℕ)} {s s' : Statics} (xs ys : List Phrase) {ops : List Op} → Taped texts s (xs ++ ys) ops s' → Split texts s xs ys ops s'
+pub split : {s s' : Statics} (xs ys : List Phrase) {ops : List Op} → Taped s (xs ++ ys) ops s' → Split s xs ys ops s'
 split {s = s} [] ys {ops = ops} t = record { middle = s; first = []; second = ops; is = refl; before = no_more s; after = t }
 split (x ∷ xs) ys (one_more {ops = ops} e t) =
     let k = split xs ys t in
     record { middle = k.middle; first = ops ++ k.first; second = k.second; is = ap (λ l. ops ++ l) k.is ∙ sym (append_assoc ops k.first k.second); before = one_more e k.before; after = k.after }
 
-pub single : {texts : List (List ℕ)} {s s' : Statics} {x : Phrase} {ops : List Op} → Taped texts s (x ∷ []) ops s' → check texts s x ≡ goes ops s'
+pub single : {s s' : Statics} {x : Phrase} {ops : List Op} → Taped s (x ∷ []) ops s' → check s x ≡ goes ops s'
 single (one_more {ops = ops} e (no_more s)) = e ∙ ap (λ l. goes l s) (sym (append-nil ops))
 
 -- what holds of a verdict, where it isn't a broken rule

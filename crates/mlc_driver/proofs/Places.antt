@@ -48,11 +48,11 @@ module _ (P : Place → Type 0) where
   declaration-placed zero (brings_basis ∷ xs) h = declaration-placed zero xs (tail brings_basis xs h)
   declaration-placed zero (foreign q ∷ xs) h = declaration-placed zero xs (tail (foreign q) xs h)
 
-  breaks-placed : P (record { file = 0; byte = 0 }) → (texts : List (List ℕ)) (s : Typed) (x : Phrase) (xs : List Phrase) (f : Fault) → Breaks texts s x xs f → AllPlacedIn P (x ∷ xs) → P f.place
-  breaks-placed zero texts s x xs f (is_unbound p n after unbound) h = head (identifier p n) xs h p refl
-  breaks-placed zero texts s x xs f (is_never_bound p v after restricted) h = head (binds p v) xs h p refl
-  breaks-placed zero texts s x xs f (has_no_typing y after asks none) h = declaration-placed zero (x ∷ xs) h
+  breaks-placed : P (record { file = 0; byte = 0 }) → (s : Typed) (x : Phrase) (xs : List Phrase) (f : Fault) → Breaks s x xs f → AllPlacedIn P (x ∷ xs) → P f.place
+  breaks-placed zero s x xs f (is_unbound p n after unbound) h = head (identifier p n) xs h p refl
+  breaks-placed zero s x xs f (is_never_bound p v after restricted) h = head (binds p v) xs h p refl
+  breaks-placed zero s x xs f (has_no_typing y after asks none) h = declaration-placed zero (x ∷ xs) h
 
   -- the fault of the first phrase that breaks a rule lies where a phrase does, or at the first byte
-  pub broken-placed : P (record { file = 0; byte = 0 }) → (texts : List (List ℕ)) (xs : List Phrase) (f : Fault) → FirstBroken texts xs f → AllPlacedIn P xs → P f.place
-  broken-placed zero texts xs f b h = breaks-placed zero texts b.types b.broken b.after f b.breaks (after b.before (b.broken ∷ b.after) (subst (AllPlacedIn P) b.are h))
+  pub broken-placed : P (record { file = 0; byte = 0 }) → (xs : List Phrase) (f : Fault) → FirstBroken xs f → AllPlacedIn P xs → P f.place
+  broken-placed zero xs f b h = breaks-placed zero b.types b.broken b.after f b.breaks (after b.before (b.broken ∷ b.after) (subst (AllPlacedIn P) b.are h))

@@ -1,6 +1,7 @@
 -- The checker of the code: what it knows, and what a phrase does to it.
-use Rattle.std.specs.Prelude.{◌≡◌, ℕ, Bool, true, false, if◌then◌else◌, ◌≤◌, ◌+◌, List, [], ◌∷◌, ◌++◌, reverse, Option, Some, None, Result, Ok, Err, ⊤, nat_eq, slice_get, codes}
+use Rattle.std.specs.Prelude.{◌≡◌, ℕ, Bool, true, false, if◌then◌else◌, ◌≤◌, ◌+◌, List, [], ◌∷◌, ◌++◌, reverse, Option, Some, None, Result, Ok, Err, ⊤, nat_eq}
 use Rattle.std.specs.HashMap.{get}
+use Rattle.mlc_base.specs.StandardWords.{word_plus, word_minus, word_times, word_concatenate, word_print}
 use Rattle.mlc_base.specs.declared.code.Code.TheVariants.{Unbound, NoTyping, Restriction}
 use Rattle.mlc_base.specs.declared.place.Place.{Place}
 use Rattle.mlc_base.specs.declared.refused.Refused.{Refused}
@@ -25,7 +26,6 @@ use Rattle.mlc_driver.specs.declared.check.Pattern.{Pattern}
 use Rattle.mlc_driver.specs.declared.check.Pattern.TheVariants as pattern
 use Rattle.mlc_driver.specs.declared.check.Stop.{Stop}
 use Rattle.mlc_driver.specs.declared.check.Stop.TheVariants as stop
-use Rattle.mlc_driver.specs.declared.check.Words.{Words}
 use Rattle.mlc_driver.specs.declared.check.Checker.{Checker}
 use Rattle.mlc_driver.specs.Statics.{Scope, look, Statics, Verdict, goes, unbound, never_bound, no_typing, pair_result, check}
 
@@ -42,8 +42,8 @@ abbrev pub statics_of : Scope → Checker → Statics
 statics_of scope c = record { scope = scope; pattern = pattern_of c.pattern; stack = latest c; kept = c.kept }
 
 -- the table has what is in scope
-abbrev pub Knows : List (List ℕ) → Checker → Scope → Type 0
-Knows texts c scope = (x : ℕ) → get nat_eq c.scope x ≡ look texts scope x
+abbrev pub Knows : Checker → Scope → Type 0
+Knows c scope = (x : ℕ) → get nat_eq c.scope x ≡ look scope x
 
 -- more of the tape, and these expressions; all else stays
 pub record Keeps (ops : List Op) (under_way : List Static) (old new : Checker) : Type 0 where
@@ -106,11 +106,11 @@ Binds (pattern.Variable x) a old (Err s) new = s ≡ stop.Memory
 Binds pattern.Unit a old (Err s) new = IsMisfit a s
 
 -- a verdict by which the checker goes on, with more of the tape
-pub record GoesOn (texts : List (List ℕ)) (v : Verdict) (old new : Checker) : Type 0 where
+pub record GoesOn (v : Verdict) (old new : Checker) : Type 0 where
   pub ops : List tape.Op
   pub scope : Scope
   pub verdict : v ≡ goes ops (statics_of scope new)
-  pub knows : Knows texts new scope
+  pub knows : Knows new scope
   pub tape : ops_of new.tape.items ≡ ops_of old.tape.items ++ ops
   pub kept : new.kept ≤ old.kept + 1
 
@@ -121,13 +121,13 @@ Stops v x (stop.NeverBound p) = (w : Vid) × (x ≡ binds p w) × (v ≡ never_b
 Stops v x stop.NoTyping = v ≡ no_typing
 Stops v x stop.Memory = ⊤
 
-abbrev pub Heeds : List (List ℕ) → Verdict → Phrase → Checker → {T : Type 0} → Result T Stop → Checker → Type 0
-Heeds texts v x old (Ok _) new = GoesOn texts v old new
-Heeds texts v x old (Err s) new = Stops v x s
+abbrev pub Heeds : Verdict → Phrase → Checker → {T : Type 0} → Result T Stop → Checker → Type 0
+Heeds v x old (Ok _) new = GoesOn v old new
+Heeds v x old (Err s) new = Stops v x s
 
 -- the phrase is checked by the verdict that it has
-abbrev pub Steps : List (List ℕ) → Phrase → Checker → {T : Type 0} → Result T Stop → Checker → Type 0
-Steps texts x old r new = (scope : Scope) → Knows texts old scope → Heeds texts (check texts (statics_of scope old) x) x old r new
+abbrev pub Steps : Phrase → Checker → {T : Type 0} → Result T Stop → Checker → Type 0
+Steps x old r new = (scope : Scope) → Knows old scope → Heeds (check (statics_of scope old) x) x old r new
 
 -- an operator is applied to the parts of a pair, whose kind it gives
 abbrev pub AppliesKnown : Primitive → Place → Option Kind → Checker → {T : Type 0} → Result T Stop → Checker → Type 0
@@ -141,22 +141,14 @@ AppliesTo (Known q) p a b old r new = AppliesKnown q p (pair_result q a b) old r
 AppliesTo (Pushed k) p a b old (Ok _) new = ⊥
 AppliesTo (Pushed k) p a b old (Err s) new = s ≡ stop.NoTyping
 
--- the identifiers of the primitives
-pub record IsBasis (texts : List (List ℕ)) (words : Words) : Type 0 where
-  pub add : slice_get texts words.add ≡ Some (codes "+")
-  pub sub : slice_get texts words.sub ≡ Some (codes "-")
-  pub mul : slice_get texts words.mul ≡ Some (codes "*")
-  pub cat : slice_get texts words.cat ≡ Some (codes "^")
-  pub print : slice_get texts words.print ≡ Some (codes "print")
-
 -- those that are words of the basis have their primitives; all else stays
-pub record BringsBasis (words : Words) (old new : Checker) : Type 0 where
+pub record BringsBasis (old new : Checker) : Type 0 where
   pub scope : (y : ℕ) → get nat_eq new.scope y
-      ≡ (if nat_eq words.add y then Some (entry.Known Add) else
-      (if nat_eq words.sub y then Some (entry.Known Sub) else
-      (if nat_eq words.mul y then Some (entry.Known Mul) else
-      (if nat_eq words.cat y then Some (entry.Known Cat) else
-      (if nat_eq words.print y then Some (entry.Known Print) else get nat_eq old.scope y)))))
+      ≡ (if nat_eq word_plus y then Some (entry.Known Add) else
+      (if nat_eq word_minus y then Some (entry.Known Sub) else
+      (if nat_eq word_times y then Some (entry.Known Mul) else
+      (if nat_eq word_concatenate y then Some (entry.Known Cat) else
+      (if nat_eq word_print y then Some (entry.Known Print) else get nat_eq old.scope y)))))
   pub pattern : new.pattern ≡ old.pattern
   pub stack : latest new ≡ latest old
   pub kept : new.kept ≡ old.kept

@@ -12,15 +12,15 @@ use Rattle.mlc_driver.specs.Tape.{Op, tape_meaning}
 use Rattle.mlc_driver.specs.Code.{AllFit, image_of, size_of}
 
 -- a tape that never goes wrong, and that with more turns goes on from what it did
-pub record IsRight (texts : List (List ℕ)) (ops : List Op) : Type 0 where
-  pub never_wrong : (m : ℕ) → (tape_meaning texts ops m).end ≢ wrong
-  pub grows : (m n : ℕ) → m ≤ n → GrowsTo (tape_meaning texts ops m) (tape_meaning texts ops n)
+pub record IsRight (ops : List Op) : Type 0 where
+  pub never_wrong : (m : ℕ) → (tape_meaning ops m).end ≢ wrong
+  pub grows : (m n : ℕ) → m ≤ n → GrowsTo (tape_meaning ops m) (tape_meaning ops n)
 
 -- whatever the stack, and up to the greatest heap, the image of such a tape and the tape end alike
 abbrev pub ImageIsRight : Type 0
 ImageIsRight =
-    (texts : List (List ℕ)) (ops : List Op) (heap stack : ℕ) → IsTable texts → AllFit ops → size_of ops ≤ 2 ^ 27 → IsRight texts ops → heap ≤ 2 ^ 28
-    → SameRuns (text_in texts) (tape_meaning texts ops) (run_of (image_of ops) heap stack)
+    (texts : List (List ℕ)) (ops : List Op) (heap stack : ℕ) → IsTable texts → AllFit ops → size_of ops ≤ 2 ^ 27 → IsRight ops → heap ≤ 2 ^ 28
+    → SameRuns (text_in texts) (tape_meaning ops) (run_of (image_of ops) heap stack)
 
 -- the image of a tape is a program, with as many words as its size says
 abbrev pub ImageIsProgram : Type 0
@@ -32,4 +32,4 @@ ImageHasSize = (ops : List Op) → length (image_of ops).constants + 4 * length 
 -- the tape of a project has an image with at most 128 words a node
 abbrev pub ImageIsSmall : Type 0
 ImageIsSmall =
-    (texts : List (List ℕ)) (s s' : Statics) (phrases : List Phrase) (ops : List Op) → Taped texts s phrases ops s' → size_of ops ≤ 128 * max 1 (nodes_in phrases)
+    (s s' : Statics) (phrases : List Phrase) (ops : List Op) → Taped s phrases ops s' → size_of ops ≤ 128 * max 1 (nodes_in phrases)

@@ -56,4 +56,4 @@ pub record SameRuns (text_of : ℕ → List ℕ) (means : ℕ → Outcome) (run 
 abbrev pub Same : List (List ℕ) → List Part → Program → Type 0
 Same texts parts image =
     (heap stack : ℕ) → 2 ^ 10 ≤ heap → heap ≤ 2 ^ 28 → 2 ^ 8 ≤ stack → stack ≤ 2 ^ 24
-    → SameRuns (text_in texts) (meaning texts parts) (run_of image heap stack)
+    → SameRuns (text_in texts) (meaning parts) (run_of image heap stack)

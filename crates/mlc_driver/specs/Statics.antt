@@ -5,7 +5,7 @@ use Rattle.mlc_prims.specs.declared.prim.Primitive.{Primitive}
 use Rattle.mlc_prims.specs.declared.prim.Primitive.TheVariants.{Add, Sub, Mul, Cat, Print}
 use Rattle.sml_tree.specs.declared.ident.Vid.{Vid}
 use Rattle.sml_tree.specs.declared.ident.Vid.TheVariants.{Named, Equals, Fresh}
-use Rattle.sml_rules.specs.Basis.{text_in, basis_prim, is_restricted}
+use Rattle.sml_rules.specs.Basis.{basis_prim, is_restricted}
 use Rattle.sml_rules.specs.Broken.{Pattern, any, variable}
 use Rattle.sml_rules.specs.Broken as rules
 use Rattle.sml_rules.specs.Phrases.{Phrase, integer, text, identifier, nothing, applies, applies_pair, binds_any, binds, binds_nothing, declares, brings_basis, foreign}
@@ -28,10 +28,10 @@ abbrev pub basis_entry : Option Primitive → Option Entry → Option Entry
 basis_entry None before = before
 basis_entry (Some p) before = Some (entry.Known p)
 
-abbrev pub look : List (List ℕ) → Scope → ℕ → Option Entry
-look texts nothing_in x = None
-look texts (named y e scope) x = if nat_eq x y then Some e else look texts scope x
-look texts (basis_in scope) x = basis_entry (basis_prim (text_in texts x)) (look texts scope x)
+abbrev pub look : Scope → ℕ → Option Entry
+look nothing_in x = None
+look (named y e scope) x = if nat_eq x y then Some e else look scope x
+look (basis_in scope) x = basis_entry (basis_prim x) (look scope x)
 
 -- what is known before a phrase: the scope, the pattern of the declaration that is open, what the expressions are that no later phrase has taken, the latest first, and how many slots are kept
 pub record Statics : Type 0 where
@@ -101,24 +101,24 @@ bind_vid false (Named x) s = goes [] (record s { pattern = variable x })
 bind_vid false Equals s = never_bound
 bind_vid false (Fresh k) s = never_bound
 
-abbrev pub check : List (List ℕ) → Statics → Phrase → Verdict
-check texts s (integer p z) = pushing Number (tape.number z) s
-check texts s (text p b) = pushing Text (tape.text b) s
-check texts s (identifier p x) = found (look texts s.scope x) s
-check texts s (nothing p) = pushing Unit tape.unit s
-check texts s (applies p) = apply_one p s.stack s
-check texts s (applies_pair p between) = apply_pair p between s.stack s
-check texts s (binds_any p) = goes [] (record s { pattern = any })
-check texts s (binds p v) = bind_vid (is_restricted texts v) v s
-check texts s (binds_nothing p) = goes [] (record s { pattern = rules.unit })
-check texts s (declares p) = declare s.pattern s.stack s
-check texts s brings_basis = goes [] (record s { scope = basis_in s.scope })
-check texts s (foreign p) = no_typing
+abbrev pub check : Statics → Phrase → Verdict
+check s (integer p z) = pushing Number (tape.number z) s
+check s (text p b) = pushing Text (tape.text b) s
+check s (identifier p x) = found (look s.scope x) s
+check s (nothing p) = pushing Unit tape.unit s
+check s (applies p) = apply_one p s.stack s
+check s (applies_pair p between) = apply_pair p between s.stack s
+check s (binds_any p) = goes [] (record s { pattern = any })
+check s (binds p v) = bind_vid (is_restricted v) v s
+check s (binds_nothing p) = goes [] (record s { pattern = rules.unit })
+check s (declares p) = declare s.pattern s.stack s
+check s brings_basis = goes [] (record s { scope = basis_in s.scope })
+check s (foreign p) = no_typing
 
 abbrev pub nothing_known : Statics
 nothing_known = record { scope = nothing_in; pattern = any; stack = []; kept = 0 }
 
 -- phrases that all pass, the tape that they give, and what is known after them
-pub data Taped (texts : List (List ℕ)) : Statics → List Phrase → List Op → Statics → Type 0 where
-  no_more : (s : Statics) → Taped texts s [] [] s
-  one_more : {s s' s'' : Statics} {x : Phrase} {xs : List Phrase} {ops more : List Op} → check texts s x ≡ goes ops s' → Taped texts s' xs more s'' → Taped texts s (x ∷ xs) (ops ++ more) s''
+pub data Taped : Statics → List Phrase → List Op → Statics → Type 0 where
+  no_more : (s : Statics) → Taped s [] [] s
+  one_more : {s s' s'' : Statics} {x : Phrase} {xs : List Phrase} {ops more : List Op} → check s x ≡ goes ops s' → Taped s' xs more s'' → Taped s (x ∷ xs) (ops ++ more) s''

@@ -89,5 +89,5 @@ abbrev pub no_values : Values
 no_values = record { kept = []; latest = [] }
 
 -- what a tape does at m turns
-abbrev pub tape_meaning : List (List ℕ) → List Op → ℕ → Outcome
-tape_meaning texts ops m = outcome_of packet_identifier (do_all ops no_values (begin texts m))
+abbrev pub tape_meaning : List Op → ℕ → Outcome
+tape_meaning ops m = outcome_of packet_identifier (do_all ops no_values (begin m))

@@ -1,14 +1,14 @@
 // The checker: phrases one after the other, to a tape or the first rule that is broken.
 
-ghost use Rattle.std.specs.Prelude.{◌≡◌, ◌≢◌, ℕ, ◌+◌, ◌<◌, ◌≤◌, ◌^◌, [], ◌∷◌, ◌++◌, List, length, codes, reverse, nat_eq, slice_get, Contains, Some, None, IfOk, OnOk, OnErr};
+ghost use Rattle.std.specs.Prelude.{◌≡◌, ◌≢◌, ℕ, ◌+◌, ◌<◌, ◌≤◌, ◌^◌, [], ◌∷◌, ◌++◌, length, reverse, nat_eq, Some, None, IfOk, OnOk, OnErr};
 ghost use Rattle.std.specs.HashMap.{get};
-ghost use Rattle.std.specs.Option.{ForSome};
-ghost use Rattle.sml_rules.specs.Basis.{IsTable, is_kept};
+ghost use Rattle.sml_rules.specs.Basis.{is_kept};
 ghost use Rattle.sml_rules.specs.Broken.{declaration_at, FirstBroken};
 ghost use Rattle.sml_rules.specs.Phrases as rules;
 ghost use Rattle.sml_rules.specs.Phrases.{first_foreign};
 ghost use Rattle.mlc_base.specs.declared.place.Place as base;
-ghost use Rattle.mlc_driver.specs.Checker.{latest, statics_of, Knows, Keeps, Pops, has_unit, forgetting, Defines, Binds, AppliesTo, Steps, IsBasis, BringsBasis, refusal_of};
+ghost use Rattle.mlc_driver.specs.Checked.{IsHeldWith};
+ghost use Rattle.mlc_driver.specs.Checker.{latest, statics_of, Knows, Keeps, Pops, has_unit, forgetting, Defines, Binds, AppliesTo, Steps, BringsBasis, refusal_of};
 ghost use Rattle.mlc_driver.specs.declared.statics.Static.TheVariants.{Known, Pushed};
 ghost use Rattle.sml_tree.specs.declared.ident.Vid.TheVariants.{Named};
 ghost use Rattle.mlc_driver.specs.Fault.{IfFault};
@@ -16,7 +16,6 @@ ghost use Rattle.mlc_driver.specs.PhraseOf.{phrase_of, phrases_of};
 ghost use Rattle.mlc_driver.specs.Statics as spec;
 ghost use Rattle.mlc_driver.specs.Statics.{Statics, Taped, nothing_known};
 ghost use Rattle.mlc_driver.specs.TapeOf.{ops_of};
-ghost use Rattle.mlb_reader.specs.Within.{HoldsAll, HoldsName};
 
 use crate::phrase::Phrase;
 use crate::statics::{Entry, Kind, Static};
@@ -24,9 +23,10 @@ use crate::tape::Op;
 use mlc_base::code::Code;
 use mlc_base::fault::Fault;
 use mlc_base::memory::NoMemory;
-use mlc_base::names::{Name, Names};
+use mlc_base::names::Name;
 use mlc_base::place::Place;
 use mlc_base::refused::Refused;
+use mlc_base::words;
 use mlc_prims::prim::Primitive;
 use std::alloc::Global;
 use std::collections::HashMap;
@@ -58,16 +58,6 @@ impl From<NoMemory> for Stop {
     }
 }
 
-/// The identifiers of the primitives of the standard basis.
-#[derive(Clone, Copy)]
-struct Words {
-    add: Name,
-    sub: Name,
-    mul: Name,
-    cat: Name,
-    print: Name,
-}
-
 /// What is known between two phrases, and the tape so far.
 #[derive(Drop)]
 struct Checker {
@@ -78,40 +68,16 @@ struct Checker {
     tape: Vec<Op>,
 }
 
-/// The name that a table has for a word.
-fn held_word(alloc: Global, names: &mut Names, word: &[u8]) -> Result<Name, NoMemory>
-    requires { Contains names.old word.now }
-    ensures same { names.new ≡ names.old }
-    ensures held { IfOk result (λ name. slice_get names.old name ≡ Some word.now) }
+/// Whether an identifier is never bound.
+fn is_kept(name: Name) -> bool
+    ensures { result ≡ is_kept name }
 {
-    names.intern(alloc, word)
-}
-
-impl Words {
-    fn find(alloc: Global, names: &mut Names) -> Result<Words, NoMemory>
-        requires { IsTable names.old }
-        ensures same { names.new ≡ names.old }
-        ensures held { IfOk result (λ words. IsBasis names.old words) }
-    {
-        Ok(Words {
-            add: held_word(alloc, names, b"+")?,
-            sub: held_word(alloc, names, b"-")?,
-            mul: held_word(alloc, names, b"*")?,
-            cat: held_word(alloc, names, b"^")?,
-            print: held_word(alloc, names, b"print")?,
-        })
-    }
-}
-
-/// Whether identifiers that are written so are never bound.
-fn is_reserved(text: &[u8]) -> bool
-    ensures { result ≡ is_kept text.now }
-{
-    text == b"true".as_slice()
-        || text == b"false".as_slice()
-        || text == b"nil".as_slice()
-        || text == b"::".as_slice()
-        || text == b"ref".as_slice()
+    let number = name.number();
+    number == words::TRUE
+        || number == words::FALSE
+        || number == words::NIL
+        || number == words::CONS
+        || number == words::REF
 }
 
 /// What a primitive gives for one argument.
@@ -154,7 +120,7 @@ fn is_unit(value: Static) -> bool
 impl Checker {
     fn new(alloc: Global) -> Checker
         ensures starts { statics_of spec.nothing_in result ≡ nothing_known }
-        ensures knows { (texts : List (List ℕ)) → Knows texts result spec.nothing_in }
+        ensures knows { Knows result spec.nothing_in }
         ensures tape { result.tape.items ≡ [] }
         ensures kept { result.kept ≡ 0 }
     {
@@ -252,7 +218,7 @@ impl Checker {
     }
 
     fn text(&mut self, alloc: Global, bytes: &[u8]) -> Result<(), Stop>
-        ensures { (texts : List (List ℕ)) (place : base.Place) → Steps texts (rules.text place bytes.now) self.old result self.new }
+        ensures { (place : base.Place) → Steps (rules.text place bytes.now) self.old result self.new }
     {
         let text = Vec::from_slice(alloc, bytes).map_err(NoMemory::from)?;
         self.push(Op::Text(text), Kind::Text)?;
@@ -260,7 +226,7 @@ impl Checker {
     }
 
     fn identifier(&mut self, place: Place, name: Name) -> Result<(), Stop>
-        ensures { (texts : List (List ℕ)) → Steps texts (rules.identifier place name) self.old result self.new }
+        ensures { Steps (rules.identifier place name) self.old result self.new }
     {
         let Some(entry) = self.scope.get(&name).copied() else {
             return Err(Stop::Unbound(place, name));
@@ -274,7 +240,7 @@ impl Checker {
 
     /// An application of the operator to its argument.
     fn apply(&mut self, place: Place) -> Result<(), Stop>
-        ensures { (texts : List (List ℕ)) → Steps texts (rules.applies place) self.old result self.new }
+        ensures { Steps (rules.applies place) self.old result self.new }
     {
         let Some(argument) = self.pop() else {
             return Err(Stop::NoTyping);
@@ -314,7 +280,7 @@ impl Checker {
 
     /// An application to a pair.
     fn apply_pair(&mut self, place: Place, between: bool) -> Result<(), Stop>
-        ensures { (texts : List (List ℕ)) → Steps texts (rules.applies_pair place between) self.old result self.new }
+        ensures { Steps (rules.applies_pair place between) self.old result self.new }
     {
         let Some(third) = self.pop() else {
             return Err(Stop::NoTyping);
@@ -332,11 +298,10 @@ impl Checker {
         }
     }
 
-    fn bind_name(&mut self, names: &Names, place: Place, name: Name) -> Result<(), Stop>
-        requires { name < length names.now }
-        ensures { Steps names.now (rules.binds place (Named name)) self.old result self.new }
+    fn bind_name(&mut self, place: Place, name: Name) -> Result<(), Stop>
+        ensures { Steps (rules.binds place (Named name)) self.old result self.new }
     {
-        if is_reserved(names.text(name)) {
+        if is_kept(name) {
             return Err(Stop::NeverBound(place));
         }
         self.pattern = Pattern::Variable(name);
@@ -345,7 +310,7 @@ impl Checker {
 
     fn declare(&mut self) -> Result<(), Stop>
         requires { self.old.kept < usize.MAX }
-        ensures { (texts : List (List ℕ)) (place : base.Place) → Steps texts (rules.declares place) self.old result self.new }
+        ensures { (place : base.Place) → Steps (rules.declares place) self.old result self.new }
     {
         let Some(value) = self.pop() else {
             return Err(Stop::NoTyping);
@@ -355,31 +320,28 @@ impl Checker {
         Ok(())
     }
 
-    fn bring_basis(&mut self, words: &Words) -> Result<(), NoMemory>
+    fn bring_basis(&mut self) -> Result<(), NoMemory>
         requires { self.old.kept < usize.MAX }
-        ensures { OnOk result (BringsBasis words.now self.old self.new) }
+        ensures { OnOk result (BringsBasis self.old self.new) }
     {
-        self.define(words.print, Static::Known(Primitive::Print))?;
-        self.define(words.cat, Static::Known(Primitive::Cat))?;
-        self.define(words.mul, Static::Known(Primitive::Mul))?;
-        self.define(words.sub, Static::Known(Primitive::Sub))?;
-        self.define(words.add, Static::Known(Primitive::Add))?;
+        self.define(
+            Name::standard(words::PRINT),
+            Static::Known(Primitive::Print),
+        )?;
+        self.define(
+            Name::standard(words::CONCATENATE),
+            Static::Known(Primitive::Cat),
+        )?;
+        self.define(Name::standard(words::TIMES), Static::Known(Primitive::Mul))?;
+        self.define(Name::standard(words::MINUS), Static::Known(Primitive::Sub))?;
+        self.define(Name::standard(words::PLUS), Static::Known(Primitive::Add))?;
         Ok(())
     }
 
     /// Checks one phrase.
-    fn step(
-        &mut self,
-        alloc: Global,
-        names: &Names,
-        words: &Words,
-        phrase: &Phrase,
-    ) -> Result<(), Stop>
-        requires room { self.old.kept < usize.MAX }
-        requires table { IsTable names.now }
-        requires basis { IsBasis names.now words.now }
-        requires held { HoldsName (length names.now) (phrase_of phrase.now) }
-        ensures { Steps names.now (phrase_of phrase.now) self.old result self.new }
+    fn step(&mut self, alloc: Global, phrase: &Phrase) -> Result<(), Stop>
+        requires { self.old.kept < usize.MAX }
+        ensures { Steps (phrase_of phrase.now) self.old result self.new }
     {
         match phrase {
             Phrase::Integer(_, value) => Ok(self.push(Op::Number(*value), Kind::Number)?),
@@ -392,14 +354,14 @@ impl Checker {
                 self.pattern = Pattern::Any;
                 Ok(())
             }
-            Phrase::Binds(place, name) => self.bind_name(names, *place, *name),
+            Phrase::Binds(place, name) => self.bind_name(*place, *name),
             Phrase::BindsEquals(place) => Err(Stop::NeverBound(*place)),
             Phrase::BindsNothing(_) => {
                 self.pattern = Pattern::Unit;
                 Ok(())
             }
             Phrase::Declares(_) => self.declare(),
-            Phrase::BringsBasis => Ok(self.bring_basis(words)?),
+            Phrase::BringsBasis => Ok(self.bring_basis()?),
             Phrase::Foreign(_) => Err(Stop::NoTyping),
         }
     }
@@ -442,19 +404,15 @@ fn refusal(stop: Stop, phrases: &[Phrase]) -> Refused
 }
 
 /// Checks phrases, which are then a tape.
-pub fn check(alloc: Global, names: &mut Names, phrases: &[Phrase]) -> Result<Vec<Op>, Refused>
-    requires native { first_foreign (phrases_of phrases.now) ≡ None }
-    requires table { IsTable names.old }
-    requires held { HoldsAll (length names.old) (phrases_of phrases.now) }
-    ensures same { names.new ≡ names.old }
-    ensures taped { IfOk result (λ ops. (s : Statics) × Taped names.old nothing_known (phrases_of phrases.now) (ops_of ops.items) s) }
-    ensures broken { IfFault result (λ fault. FirstBroken names.old (phrases_of phrases.now) fault) }
-    ensures name { IfFault result (λ fault. ForSome fault.name (λ n. n < length names.old)) }
+pub fn check(alloc: Global, phrases: &[Phrase]) -> Result<Vec<Op>, Refused>
+    requires { first_foreign (phrases_of phrases.now) ≡ None }
+    ensures taped { IfOk result (λ ops. (s : Statics) × Taped nothing_known (phrases_of phrases.now) (ops_of ops.items) s) }
+    ensures broken { IfFault result (λ fault. FirstBroken (phrases_of phrases.now) fault) }
+    ensures name { IfFault result (λ fault. IsHeldWith fault.name (phrases_of phrases.now)) }
 {
-    let words = Words::find(alloc, names)?;
     let mut checker = Checker::new(alloc);
     for at in 0..phrases.len() {
-        if let Err(stop) = checker.step(alloc, names, &words, &phrases[at]) {
+        if let Err(stop) = checker.step(alloc, &phrases[at]) {
             return Err(refusal(stop, &phrases[at..]));
         }
     }

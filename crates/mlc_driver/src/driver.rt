@@ -15,8 +15,7 @@ ghost use Rattle.mlb_reader.specs.PartOf.{part_of};
 ghost use Rattle.mlb_reader.specs.Project.{ProjectOf, IsNeeded};
 ghost use Rattle.mlb_reader.specs.Refusals.{IfTold, IfLoadFault, IfNoFile, IfReadFault};
 ghost use Rattle.sml_rules.specs.Basis.{IsTable};
-ghost use Rattle.mlb_reader.specs.Within.{HoldsAll};
-ghost use Rattle.mlc_driver.specs.Checked.{IsChecked, Breaks, Passes, Stops};
+ghost use Rattle.mlc_driver.specs.Checked.{IsChecked, Breaks, Passes, Stops, IsHeldWith};
 ghost use Rattle.mlc_driver.specs.CheckedOf.{checked_of};
 ghost use Rattle.mlc_driver.specs.PhraseOf.{phrases_of};
 ghost use Rattle.mlc_driver.specs.TapeOf.{ops_of};
@@ -46,13 +45,10 @@ use sml_rules::law as rules;
 use std::alloc::Global;
 
 /// The tape of phrases of the language that is compiled so far, or the first fault.
-fn check_phrases(alloc: Global, names: &mut Names, phrases: &[Phrase]) -> Result<Vec<Op>, Refused>
-    requires table { IsTable names.old }
-    requires held { HoldsAll (length names.old) (phrases_of phrases.now) }
-    ensures same { names.new ≡ names.old }
-    ensures checked { IfOk result (λ ops. Passes names.old (phrases_of phrases.now) (ops_of ops.items)) }
-    ensures broken { IfFault result (λ fault. Stops names.old (phrases_of phrases.now) fault) }
-    ensures name { IfFault result (λ fault. ForSome fault.name (λ n. n < length names.old)) }
+fn check_phrases(alloc: Global, phrases: &[Phrase]) -> Result<Vec<Op>, Refused>
+    ensures checked { IfOk result (λ ops. Passes (phrases_of phrases.now) (ops_of ops.items)) }
+    ensures broken { IfFault result (λ fault. Stops (phrases_of phrases.now) fault) }
+    ensures name { IfFault result (λ fault. IsHeldWith fault.name (phrases_of phrases.now)) }
 {
     match first_foreign(phrases) {
         Some(place) => Err(Refused::Fault(Fault {
@@ -60,23 +56,20 @@ fn check_phrases(alloc: Global, names: &mut Names, phrases: &[Phrase]) -> Result
             place,
             name: None,
         })),
-        None => check(alloc, names, phrases),
+        None => check(alloc, phrases),
     }
 }
 
 /// Checks the parts of a project.
-fn check_parts(alloc: Global, names: &mut Names, parts: Vec<Part>) -> Result<Checked, Refused>
-    requires table { IsTable names.old }
-    requires held { HoldsAll (length names.old) (parts_phrases (map part_of parts.items)) }
-    ensures same { names.new ≡ names.old }
+fn check_parts(alloc: Global, parts: Vec<Part>) -> Result<Checked, Refused>
     ensures parts { IfOk result (λ c. (checked_of c).parts ≡ map part_of parts.items) }
-    ensures checked { IfOk result (λ c. IsChecked names.old (checked_of c)) }
-    ensures broken { IfFault result (λ fault. Stops names.old (parts_phrases (map part_of parts.items)) fault) }
-    ensures name { IfFault result (λ fault. ForSome fault.name (λ n. n < length names.old)) }
+    ensures checked { IfOk result (λ c. IsChecked (checked_of c)) }
+    ensures broken { IfFault result (λ fault. Stops (parts_phrases (map part_of parts.items)) fault) }
+    ensures name { IfFault result (λ fault. IsHeldWith fault.name (parts_phrases (map part_of parts.items))) }
 {
     rules::phrases_are_typed();
     let phrases = phrases(alloc, &parts)?;
-    match check_phrases(alloc, names, &phrases) {
+    match check_phrases(alloc, &phrases) {
         Err(refused) => Err(refused),
         Ok(tape) => {
             let nodes = count_nodes(&phrases);
@@ -99,7 +92,8 @@ pub fn check_project<S: Store>(
     ensures writes_same { S.write_faults store.new ≡ S.write_faults store.old }
     ensures reads_kept { S.read_faults store.old ≤ S.read_faults store.new }
     ensures project { IfOk result (λ c. IfTold (S.files store.old) (λ f. ProjectOf f path.now names.new (checked_of c).parts files.new)) }
-    ensures checked { IfOk result (λ c. IsChecked names.new (checked_of c)) }
+    ensures table { IfOk result (λ _. IsTable names.new) }
+    ensures checked { IfOk result (λ c. IsChecked (checked_of c)) }
     ensures some { IfOk result (λ _. 0 < length files.new) }
     ensures broken { IfLoadFault result (λ fault. IfTold (S.files store.old) (λ f. Breaks f path.now names.new fault files.new)) }
     ensures fault_lies { IfLoadFault result (λ fault. LiesIn fault.place files.new) }
@@ -110,7 +104,7 @@ pub fn check_project<S: Store>(
 {
     match load(alloc, names, files, store, path) {
         Err(refused) => Err(refused),
-        Ok(project) => match check_parts(alloc, names, project.parts) {
+        Ok(project) => match check_parts(alloc, project.parts) {
             Ok(checked) => Ok(checked),
             Err(Refused::Fault(fault)) => Err(LoadRefused::Fault(fault)),
             Err(Refused::Memory) => Err(LoadRefused::Memory),
@@ -120,12 +114,13 @@ pub fn check_project<S: Store>(
 
 /// Compiles a checked project.
 pub fn compile(alloc: Global, names: &Names, checked: Checked) -> Result<Image, Refused>
-    requires { IsChecked names.now (checked_of checked) }
+    requires table { IsTable names.now }
+    requires checked { IsChecked (checked_of checked) }
     ensures same { IfOk result (λ image. Same names.now (checked_of checked).parts image) }
     ensures program { IfOk result (λ image. IsProgram image) }
-    ensures accepted { IfOk result (λ _. IsAccepted names.now (checked_of checked).parts) }
+    ensures accepted { IfOk result (λ _. IsAccepted (checked_of checked).parts) }
     ensures size { IfOk result (λ image. length image.constants + 4 * length image.code ≤ 128 * max 1 (nodes_in (parts_phrases (checked_of checked).parts))) }
-    ensures refused { IfFault result (λ fault. IsRefused names.now (checked_of checked).parts fault) }
+    ensures refused { IfFault result (λ fault. IsRefused (checked_of checked).parts fault) }
     ensures fault_is { IfFault result (λ fault. fault ≡ record { code = ExpansionTooLarge; place = record { file = 0; byte = 0 }; name = None }) }
 {
     let _ = names;

@@ -18,12 +18,12 @@ first-byte [] some = absurd (omega (arith, some))
 first-byte (file ∷ files) some = (omega arith, omega arith)
 
 breaks-project : (files : Option Files) (c : Command) (names : List (List ℕ)) (parts : List Part) (reads : List File) (fault : Fault) →
-    IfTold files (λ f. ProjectOf f c.input names parts reads) → IsRefused names parts fault → IfTold files (λ f. Breaks f c.input names fault reads)
+    IfTold files (λ f. ProjectOf f c.input names parts reads) → IsRefused parts fault → IfTold files (λ f. Breaks f c.input names fault reads)
 breaks-project None c names parts reads fault is refused = tt
 breaks-project (Some f) c names parts reads fault is refused = in_project parts is refused
 
 -- a project that was loaded is refused
 pub refused-project : (files : Option Files) (c : Command) (names : List (List ℕ)) (parts : List Part) (reads : List File) (fault : Fault) (line : List ℕ) →
-    IfTold files (λ f. ProjectOf f c.input names parts reads) → IsRefused names parts fault → line ≡ refusal reads names fault → Refuses files c line
+    IfTold files (λ f. ProjectOf f c.input names parts reads) → IsRefused parts fault → line ≡ refusal reads names fault → Refuses files c line
 refused-project files c names parts reads fault line is refused tells =
     record { names = names; fault = fault; reads = reads; breaks = breaks-project files c names parts reads fault is refused; tells = tells }

@@ -35,7 +35,3 @@ told_both a b old mid new before between after Done first second =
     (Done, record { wrote = second.wrote ∙ ap (λ o. adds o b) first.wrote ∙ adds-adds old a b; kept = omega (arith, first.kept, second.kept) })
 told_both a b old mid new before between after Failed first second =
     (Failed, record { taken = length a + second.taken; wrote = second.wrote ∙ ap (λ o. adds o (take second.taken b)) first.wrote ∙ adds-adds old a (take second.taken b) ∙ ap (adds old) (sym (take-append-add a b second.taken)); rose = rose-after before between after first.kept second.rose; kept = omega (arith, first.kept, second.kept) })
-
--- nothing was sent
-pub told_nothing : (old : Option (List ℕ)) (before : ℕ) → Told [] old old before before
-told_nothing old before = (Done, record { wrote = adds-nil old; kept = omega arith })

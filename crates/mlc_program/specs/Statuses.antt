@@ -40,7 +40,7 @@ pub record Compiles (files : Option Files) (command : Command) (image : Program)
   pub parts : List Part
   pub reads : List File
   pub is_project : IfTold files (λ f. ProjectOf f command.input names parts reads)
-  pub accepted : IsAccepted names parts
+  pub accepted : IsAccepted parts
   pub is_program : IsProgram image
   pub same : Same names parts image
   pub small : words_in image ≤ 128 * max 1 (nodes_in (parts_phrases parts))

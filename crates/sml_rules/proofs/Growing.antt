@@ -1,5 +1,5 @@
 -- With more turns a project does the same, or goes on from where it was cut short.
-use Rattle.std.proofs.Common.{◌≡◌, ℕ, List, [], ◌∷◌, refl, ap}
+use Rattle.std.proofs.Common.{◌≡◌, List, [], ◌∷◌, refl, ap}
 use Rattle.std.specs.Prelude.{slice_get}
 use Rattle.mlc_base.specs.declared.place.Place.{Place}
 use Rattle.mlc_base.specs.MoreTurns.{HasMoreTurns, GoesOn}
@@ -17,7 +17,7 @@ use Rattle.sml_rules.specs.Values.{Value, literal, record_of, primitive, packet,
 use Rattle.sml_rules.specs.Eval.{long_value, giving, print_literals, perform, enter, literals_in, bind_pat, eval, eval_fields, eval_binds, eval_val, eval_dec, eval_decs, eval_parts}
 
 -- a phrase in worlds with few and with more turns
-abbrev On : {A : Type 0} → (World Value → Answer Value A) → Type 0
+abbrev pub On : {A : Type 0} → (World Value → Answer Value A) → Type 0
 On run = GoesOn run run
 
 -- Primitives.
@@ -48,50 +48,49 @@ enter-on p (literal l) v = fail-on
 enter-on p (record_of fs) v = fail-on
 enter-on p (packet n) v = fail-on
 
-module _ (texts : List (List ℕ)) where
-  mutual
-    eval-on : (env : Env) (e : Exp) → On (λ w. eval texts env e w)
-    eval-on env (constant_exp p c) = gives-on _
-    eval-on env (vid_exp p x) = or_fail-on (long_value texts env x.qualifiers x.vid) gives-on
-    eval-on env (built_exp p b) = fail-on
-    eval-on env (fields_exp p fs) = then_do-on (fields-on env fs) (λ vs. gives-on (record_of vs))
-    eval-on env (let_in p ds e) = fail-on
-    eval-on env (app p f a) = then_do-on (eval-on env f) (λ g. then_do-on (eval-on env a) (λ v. enter-on p g v))
-    eval-on env (typed p e t) = fail-on
-    eval-on env (handle p e rs) = fail-on
-    eval-on env (raise p e) = fail-on
-    eval-on env (fn p rs) = fail-on
+mutual
+  eval-on : (env : Env) (e : Exp) → On (λ w. eval env e w)
+  eval-on env (constant_exp p c) = gives-on _
+  eval-on env (vid_exp p x) = or_fail-on (long_value env x.qualifiers x.vid) gives-on
+  eval-on env (built_exp p b) = fail-on
+  eval-on env (fields_exp p fs) = then_do-on (fields-on env fs) (λ vs. gives-on (record_of vs))
+  eval-on env (let_in p ds e) = fail-on
+  eval-on env (app p f a) = then_do-on (eval-on env f) (λ g. then_do-on (eval-on env a) (λ v. enter-on p g v))
+  eval-on env (typed p e t) = fail-on
+  eval-on env (handle p e rs) = fail-on
+  eval-on env (raise p e) = fail-on
+  eval-on env (fn p rs) = fail-on
 
-    fields-on : (env : Env) (fs : ExpFields) → On (λ w. eval_fields texts env fs w)
-    fields-on env no_exp_fields = gives-on _
-    fields-on env (exp_field l e fs) = then_do-on (eval-on env e) (λ v. then_do-on (fields-on env fs) (λ vs. gives-on (field l v vs)))
+  fields-on : (env : Env) (fs : ExpFields) → On (λ w. eval_fields env fs w)
+  fields-on env no_exp_fields = gives-on _
+  fields-on env (exp_field l e fs) = then_do-on (eval-on env e) (λ v. then_do-on (fields-on env fs) (λ vs. gives-on (field l v vs)))
 
-  binds-on : (env new : Env) (bs : Binds) → On (λ w. eval_binds texts env new bs w)
-  binds-on env new no_binds = gives-on new
-  binds-on env new (bind p a e bs) = then_do-on (eval-on env e) (λ v. or_fail-on (bind_pat a v new) (λ new'. binds-on env new' bs))
+binds-on : (env new : Env) (bs : Binds) → On (λ w. eval_binds env new bs w)
+binds-on env new no_binds = gives-on new
+binds-on env new (bind p a e bs) = then_do-on (eval-on env e) (λ v. or_fail-on (bind_pat a v new) (λ new'. binds-on env new' bs))
 
-  val-on : (env : Env) (bs cs : Binds) → On (λ w. eval_val texts env bs cs w)
-  val-on env bs no_binds = binds-on env env bs
-  val-on env bs (bind p a e cs) = fail-on
+val-on : (env : Env) (bs cs : Binds) → On (λ w. eval_val env bs cs w)
+val-on env bs no_binds = binds-on env env bs
+val-on env bs (bind p a e cs) = fail-on
 
-  dec-on : (env : Env) (d : Dec) → On (λ w. eval_dec texts env d w)
-  dec-on env (val_dec p q as_ bs cs) = val-on env bs cs
-  dec-on env (type_dec p bs) = fail-on
-  dec-on env (datatype_dec p bs) = fail-on
-  dec-on env (replicate_dec p x c) = fail-on
-  dec-on env (exception_dec p bs) = fail-on
-  dec-on env (local_dec p ds es) = fail-on
-  dec-on env (open_dec p xs) = fail-on
-  dec-on env (sequence_dec p ds) = fail-on
+dec-on : (env : Env) (d : Dec) → On (λ w. eval_dec env d w)
+dec-on env (val_dec p q as_ bs cs) = val-on env bs cs
+dec-on env (type_dec p bs) = fail-on
+dec-on env (datatype_dec p bs) = fail-on
+dec-on env (replicate_dec p x c) = fail-on
+dec-on env (exception_dec p bs) = fail-on
+dec-on env (local_dec p ds es) = fail-on
+dec-on env (open_dec p xs) = fail-on
+dec-on env (sequence_dec p ds) = fail-on
 
-  decs-on : (env : Env) (ds : Decs) → On (λ w. eval_decs texts env ds w)
-  decs-on env no_decs = gives-on env
-  decs-on env (dec d ds) = then_do-on (dec-on env d) (λ env'. decs-on env' ds)
+decs-on : (env : Env) (ds : Decs) → On (λ w. eval_decs env ds w)
+decs-on env no_decs = gives-on env
+decs-on env (dec d ds) = then_do-on (dec-on env d) (λ env'. decs-on env' ds)
 
-  parts-on : (env : Env) (parts : List Part) → On (λ w. eval_parts texts env parts w)
-  parts-on env [] = gives-on env
-  parts-on env (standard_basis ∷ parts) = parts-on (basis_bound env) parts
-  parts-on env (source ds ∷ parts) = then_do-on (decs-on env ds) (λ env'. parts-on env' parts)
+parts-on : (env : Env) (parts : List Part) → On (λ w. eval_parts env parts w)
+parts-on env [] = gives-on env
+parts-on env (standard_basis ∷ parts) = parts-on (basis_bound env) parts
+parts-on env (source ds ∷ parts) = then_do-on (decs-on env ds) (λ env'. parts-on env' parts)
 
 -- what a packet's exception is doesn't turn on the turns that are left
 identifier-same : (p : Value) (w w' : World Value) → HasMoreTurns w w' → packet_identifier p w' ≡ packet_identifier p w
@@ -101,5 +100,5 @@ identifier-same (record_of fs) w w' x = refl
 identifier-same (primitive q) w w' x = refl
 
 pub meaning-grows : MeaningGrows
-meaning-grows texts parts m n le =
-    outcome_of-grows packet_identifier identifier-same ((parts-on texts nothing_bound parts).continues (begin texts m) (begin texts n) (record { same = refl; more = le }))
+meaning-grows parts m n le =
+    outcome_of-grows packet_identifier identifier-same ((parts-on nothing_bound parts).continues (begin m) (begin n) (record { same = refl; more = le }))

@@ -3,7 +3,6 @@ pub mod Typings
 pub mod Determined
 pub mod Sound
 mod Examples
-mod Growing
-pub mod Names
+pub mod Growing
 mod Refusals
 pub mod Tables

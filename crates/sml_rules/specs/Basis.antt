@@ -1,8 +1,7 @@
--- What the path of the standard basis brings so far: `+`, `-` and `*` on int, `^`, `print`, and fixities. Identifiers are names, and texts tells what each is written as.
-use Rattle.std.specs.Prelude.{◌≡◌, ◌≢◌, ℕ, suc, Bool, true, false, ◌||◌, if◌then◌else◌, List, [], ◌∷◌, length, map, take, AllPairs, Option, Some, None, codes, slice_get}
-use Rattle.std.specs.Str.{bytes_eq}
+-- What the path of the standard basis brings so far: `+`, `-` and `*` on int, `^`, `print`, and fixities. Identifiers are names: standard words by their numbers.
+use Rattle.std.specs.Prelude.{◌≡◌, ◌≢◌, ℕ, Bool, true, false, ◌||◌, if◌then◌else◌, List, [], ◌∷◌, length, map, take, AllPairs, Option, Some, None, nat_eq, slice_get}
 use Rattle.mlc_base.specs.Labels.{held_text}
-use Rattle.mlc_base.specs.StandardWords.{standard_words, word_cons, word_plus, word_minus, word_times, word_div, word_mod, word_less_than, word_at_most, word_greater_than, word_at_least, word_assign, word_divide, word_not_equal, word_append, word_concatenate, word_compose, word_before}
+use Rattle.mlc_base.specs.StandardWords.{standard_words, word_ref, word_true, word_false, word_nil, word_cons, word_Match, word_Bind, word_Overflow, word_Div, word_Subscript, word_Size, word_Chr, word_plus, word_minus, word_times, word_div, word_mod, word_less_than, word_at_most, word_greater_than, word_at_least, word_assign, word_divide, word_not_equal, word_append, word_concatenate, word_compose, word_before, word_print}
 use Rattle.mlc_prims.specs.declared.prim.Primitive.{Primitive}
 use Rattle.mlc_prims.specs.declared.prim.Primitive.TheVariants.{Add, Sub, Mul, Cat, Print}
 use Rattle.sml_tree.specs.declared.fixity.Infix.{Infix}
@@ -10,37 +9,28 @@ use Rattle.sml_tree.specs.declared.ident.Vid.{Vid}
 use Rattle.sml_tree.specs.declared.ident.Vid.TheVariants.{Named, Equals, Fresh}
 use Rattle.sml_tree.specs.Fixity.{Fixity}
 
-abbrev pub text_in : List (List ℕ) → ℕ → List ℕ
-text_in texts x = held_text (slice_get texts x)
-
 -- the primitive that an identifier of the basis stands for
-abbrev pub basis_prim : List ℕ → Option Primitive
-basis_prim text =
-    if bytes_eq text (codes "+") then Some Add else
-    (if bytes_eq text (codes "-") then Some Sub else
-    (if bytes_eq text (codes "*") then Some Mul else
-    (if bytes_eq text (codes "^") then Some Cat else
-    (if bytes_eq text (codes "print") then Some Print else None))))
+abbrev pub basis_prim : ℕ → Option Primitive
+basis_prim x =
+    if nat_eq x word_plus then Some Add else
+    (if nat_eq x word_minus then Some Sub else
+    (if nat_eq x word_times then Some Mul else
+    (if nat_eq x word_concatenate then Some Cat else
+    (if nat_eq x word_print then Some Print else None))))
 
 -- identifiers that are never bound
-abbrev pub is_kept : List ℕ → Bool
-is_kept text =
-    bytes_eq text (codes "true") || (bytes_eq text (codes "false") || (bytes_eq text (codes "nil") || (bytes_eq text (codes "::") || bytes_eq text (codes "ref"))))
+abbrev pub is_kept : ℕ → Bool
+is_kept x = nat_eq x word_true || (nat_eq x word_false || (nat_eq x word_nil || (nat_eq x word_cons || nat_eq x word_ref)))
 
 -- whether a binding of the identifier breaks the restriction that `true`, `false`, `nil`, `::`, `ref` and `=` are never bound. [Definition 2.9]
-abbrev pub is_restricted : List (List ℕ) → Vid → Bool
-is_restricted texts (Named x) = is_kept (text_in texts x)
-is_restricted texts Equals = true
-is_restricted texts (Fresh k) = false
+abbrev pub is_restricted : Vid → Bool
+is_restricted (Named x) = is_kept x
+is_restricted Equals = true
+is_restricted (Fresh k) = false
 
 -- the exceptions of the initial basis, in the order in which their names are made
-abbrev pub basis_exceptions : List (List ℕ)
-basis_exceptions = codes "Match" ∷ codes "Bind" ∷ codes "Overflow" ∷ codes "Div" ∷ codes "Subscript" ∷ codes "Size" ∷ codes "Chr" ∷ []
-
--- the identifier that is written so: the first one
-abbrev pub identifier_of : List (List ℕ) → List ℕ → ℕ
-identifier_of [] text = 0
-identifier_of (t ∷ texts) text = if bytes_eq t text then 0 else suc (identifier_of texts text)
+abbrev pub basis_exceptions : List ℕ
+basis_exceptions = word_Match ∷ word_Bind ∷ word_Overflow ∷ word_Div ∷ word_Subscript ∷ word_Size ∷ word_Chr ∷ []
 
 -- The fixities of the standard basis. [Basis Library, top-level environment]
 
@@ -69,3 +59,7 @@ standard_fixities =
 pub record IsTable (texts : List (List ℕ)) : Type 0 where
   pub apart : AllPairs (λ text other. text ≢ other) texts
   pub begins : take (length standard_words) texts ≡ standard_words
+
+-- what a name is written as, for lines of refusals and for the name of an exception that nothing handles
+abbrev pub text_in : List (List ℕ) → ℕ → List ℕ
+text_in texts x = held_text (slice_get texts x)

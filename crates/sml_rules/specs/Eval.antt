@@ -21,14 +21,14 @@ constant_value (term.char n) = literal (char n)
 constant_value (term.string s) = literal (string s)
 
 -- what an identifier without qualifiers is bound to
-abbrev pub named_value : List (List ℕ) → Env → Vid → Option Value
-named_value texts env (Named x) = value_of texts env x
-named_value texts env Equals = None
-named_value texts env (Fresh k) = None
+abbrev pub named_value : Env → Vid → Option Value
+named_value env (Named x) = value_of env x
+named_value env Equals = None
+named_value env (Fresh k) = None
 
-abbrev pub long_value : List (List ℕ) → Env → List ℕ → Vid → Option Value
-long_value texts env [] v = named_value texts env v
-long_value texts env (q ∷ qs) v = None
+abbrev pub long_value : Env → List ℕ → Vid → Option Value
+long_value env [] v = named_value env v
+long_value env (q ∷ qs) v = None
 
 -- Primitives.
 
@@ -79,22 +79,22 @@ enter p (packet n) v w = fail w
 -- Expressions, left to right.
 
 abbrev mutual
-  pub eval : List (List ℕ) → Env → Exp → World Value → Answer Value Value
-  eval texts env (constant_exp p c) w = gives (constant_value c) w
-  eval texts env (vid_exp p x) w = or_fail (long_value texts env x.qualifiers x.vid) w (λ v. gives v w)
-  eval texts env (built_exp p b) w = fail w
-  eval texts env (fields_exp p fs) w = then_do (eval_fields texts env fs w) (λ vs w. gives (record_of vs) w)
-  eval texts env (let_in p ds e) w = fail w
-  eval texts env (app p f a) w = then_do (eval texts env f w) (λ g w. then_do (eval texts env a w) (λ v w. enter p g v w))
-  eval texts env (typed p e t) w = fail w
-  eval texts env (handle p e rs) w = fail w
-  eval texts env (raise p e) w = fail w
-  eval texts env (fn p rs) w = fail w
+  pub eval : Env → Exp → World Value → Answer Value Value
+  eval env (constant_exp p c) w = gives (constant_value c) w
+  eval env (vid_exp p x) w = or_fail (long_value env x.qualifiers x.vid) w (λ v. gives v w)
+  eval env (built_exp p b) w = fail w
+  eval env (fields_exp p fs) w = then_do (eval_fields env fs w) (λ vs w. gives (record_of vs) w)
+  eval env (let_in p ds e) w = fail w
+  eval env (app p f a) w = then_do (eval env f w) (λ g w. then_do (eval env a w) (λ v w. enter p g v w))
+  eval env (typed p e t) w = fail w
+  eval env (handle p e rs) w = fail w
+  eval env (raise p e) w = fail w
+  eval env (fn p rs) w = fail w
 
-  pub eval_fields : List (List ℕ) → Env → ExpFields → World Value → Answer Value Fields
-  eval_fields texts env no_exp_fields w = gives no_fields w
-  eval_fields texts env (exp_field l e fs) w =
-      then_do (eval texts env e w) (λ v w. then_do (eval_fields texts env fs w) (λ vs w. gives (field l v vs) w))
+  pub eval_fields : Env → ExpFields → World Value → Answer Value Fields
+  eval_fields env no_exp_fields w = gives no_fields w
+  eval_fields env (exp_field l e fs) w =
+      then_do (eval env e w) (λ v w. then_do (eval_fields env fs w) (λ vs w. gives (field l v vs) w))
 
 -- Patterns: what they bind, where the value is of the right kind.
 
@@ -137,33 +137,33 @@ bind_pat (as_pat p x t a) v env = None
 
 -- Declarations: the environment after them. The bindings of one `val` are evaluated in order under the environment before it.
 
-abbrev pub eval_binds : List (List ℕ) → Env → Env → Binds → World Value → Answer Value Env
-eval_binds texts env new no_binds w = gives new w
-eval_binds texts env new (bind p a e bs) w =
-    then_do (eval texts env e w) (λ v w. or_fail (bind_pat a v new) w (λ new. eval_binds texts env new bs w))
+abbrev pub eval_binds : Env → Env → Binds → World Value → Answer Value Env
+eval_binds env new no_binds w = gives new w
+eval_binds env new (bind p a e bs) w =
+    then_do (eval env e w) (λ v w. or_fail (bind_pat a v new) w (λ new. eval_binds env new bs w))
 
 -- bindings before `rec`, where there are none after it
-abbrev pub eval_val : List (List ℕ) → Env → Binds → Binds → World Value → Answer Value Env
-eval_val texts env bs no_binds w = eval_binds texts env env bs w
-eval_val texts env bs (bind p a e cs) w = fail w
+abbrev pub eval_val : Env → Binds → Binds → World Value → Answer Value Env
+eval_val env bs no_binds w = eval_binds env env bs w
+eval_val env bs (bind p a e cs) w = fail w
 
-abbrev pub eval_dec : List (List ℕ) → Env → Dec → World Value → Answer Value Env
-eval_dec texts env (val_dec p q as_ bs cs) w = eval_val texts env bs cs w
-eval_dec texts env (type_dec p bs) w = fail w
-eval_dec texts env (datatype_dec p bs) w = fail w
-eval_dec texts env (replicate_dec p x c) w = fail w
-eval_dec texts env (exception_dec p bs) w = fail w
-eval_dec texts env (local_dec p ds es) w = fail w
-eval_dec texts env (open_dec p xs) w = fail w
-eval_dec texts env (sequence_dec p ds) w = fail w
+abbrev pub eval_dec : Env → Dec → World Value → Answer Value Env
+eval_dec env (val_dec p q as_ bs cs) w = eval_val env bs cs w
+eval_dec env (type_dec p bs) w = fail w
+eval_dec env (datatype_dec p bs) w = fail w
+eval_dec env (replicate_dec p x c) w = fail w
+eval_dec env (exception_dec p bs) w = fail w
+eval_dec env (local_dec p ds es) w = fail w
+eval_dec env (open_dec p xs) w = fail w
+eval_dec env (sequence_dec p ds) w = fail w
 
-abbrev pub eval_decs : List (List ℕ) → Env → Decs → World Value → Answer Value Env
-eval_decs texts env no_decs w = gives env w
-eval_decs texts env (dec d ds) w = then_do (eval_dec texts env d w) (λ env w. eval_decs texts env ds w)
+abbrev pub eval_decs : Env → Decs → World Value → Answer Value Env
+eval_decs env no_decs w = gives env w
+eval_decs env (dec d ds) w = then_do (eval_dec env d w) (λ env w. eval_decs env ds w)
 
 -- The parts of a project, one after the other. [ML Basis, basdec]
 
-abbrev pub eval_parts : List (List ℕ) → Env → List Part → World Value → Answer Value Env
-eval_parts texts env [] w = gives env w
-eval_parts texts env (standard_basis ∷ parts) w = eval_parts texts (basis_bound env) parts w
-eval_parts texts env (source ds ∷ parts) w = then_do (eval_decs texts env ds w) (λ env w. eval_parts texts env parts w)
+abbrev pub eval_parts : Env → List Part → World Value → Answer Value Env
+eval_parts env [] w = gives env w
+eval_parts env (standard_basis ∷ parts) w = eval_parts (basis_bound env) parts w
+eval_parts env (source ds ∷ parts) w = then_do (eval_decs env ds w) (λ env w. eval_parts env parts w)

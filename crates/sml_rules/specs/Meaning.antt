@@ -1,9 +1,9 @@
 -- What a project does: its output and its end at m turns. An exception that nothing handles ends it.
-use Rattle.std.specs.Prelude.{ℕ, List, map, Option, None, slice_get}
+use Rattle.std.specs.Prelude.{ℕ, List, Option, None, slice_get}
 use Rattle.mlc_base.specs.Outcome.{Outcome}
 use Rattle.mlc_base.specs.Run.{World, start, outcome_of}
 use Rattle.sml_rules.specs.Project.{Part}
-use Rattle.sml_rules.specs.Basis.{basis_exceptions, identifier_of}
+use Rattle.sml_rules.specs.Basis.{basis_exceptions}
 use Rattle.sml_rules.specs.Values.{Value, literal, record_of, primitive, packet, nothing_bound}
 use Rattle.sml_rules.specs.Eval.{eval_parts}
 
@@ -15,8 +15,8 @@ packet_identifier (record_of fs) w = None
 packet_identifier (primitive p) w = None
 
 -- before the first turn: the exceptions of the initial basis are made
-abbrev pub begin : List (List ℕ) → ℕ → World Value
-begin texts m = record (start m) { exceptions = map (identifier_of texts) basis_exceptions }
+abbrev pub begin : ℕ → World Value
+begin m = record (start m) { exceptions = basis_exceptions }
 
-abbrev pub meaning : List (List ℕ) → List Part → ℕ → Outcome
-meaning texts parts m = outcome_of packet_identifier (eval_parts texts nothing_bound parts (begin texts m))
+abbrev pub meaning : List Part → ℕ → Outcome
+meaning parts m = outcome_of packet_identifier (eval_parts nothing_bound parts (begin m))

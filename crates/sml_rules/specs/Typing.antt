@@ -12,7 +12,7 @@ use Rattle.sml_tree.specs.BareTree.{Exp, constant_exp, vid_exp, fields_exp, app,
 use Rattle.ty_core.specs.Types.{Typ, con, Typs, none, more, arrow, labels, name}
 use Rattle.ty_core.specs.declared.name.Equality.TheVariants.{Always}
 use Rattle.sml_rules.specs.Project.{Part, standard_basis, source}
-use Rattle.sml_rules.specs.Basis.{text_in, basis_prim, is_restricted}
+use Rattle.sml_rules.specs.Basis.{basis_prim, is_restricted}
 
 abbrev pub named_type : ℕ → Typ
 named_type n = con (name (record { stamp = n; arity = 0; equality = Always })) none
@@ -64,45 +64,45 @@ abbrev pub basis_type : Option Primitive → Option Typ → Option Typ
 basis_type None before = before
 basis_type (Some p) before = Some (prim_type p)
 
-abbrev pub type_in : List (List ℕ) → Context → ℕ → Option Typ
-type_in texts nothing_typed x = None
-type_in texts (typed y t c) x = if nat_eq x y then Some t else type_in texts c x
-type_in texts (basis_typed c) x = basis_type (basis_prim (text_in texts x)) (type_in texts c x)
+abbrev pub type_in : Context → ℕ → Option Typ
+type_in nothing_typed x = None
+type_in (typed y t c) x = if nat_eq x y then Some t else type_in c x
+type_in (basis_typed c) x = basis_type (basis_prim x) (type_in c x)
 
 mutual
-  pub data HasType (texts : List (List ℕ)) (c : Context) : Exp → Typ → Type 0 where
-    constant_has : (p : Place) (k : term.Constant) → HasType texts c (constant_exp p k) (constant_type k)
-    vid_has : (p : Place) (x : ℕ) {t : Typ} → type_in texts c x ≡ Some t → HasType texts c (vid_exp p (short (Named x))) t
-    record_has : (p : Place) {fs : ExpFields} {ls : List Label} {ts : Typs} → HaveTypes texts c fs ls ts → HasType texts c (fields_exp p fs) (con (labels ls) ts)
-    app_has : (p : Place) {f a : Exp} {t u : Typ} → HasType texts c f (function_type t u) → HasType texts c a t → HasType texts c (app p f a) u
+  pub data HasType (c : Context) : Exp → Typ → Type 0 where
+    constant_has : (p : Place) (k : term.Constant) → HasType c (constant_exp p k) (constant_type k)
+    vid_has : (p : Place) (x : ℕ) {t : Typ} → type_in c x ≡ Some t → HasType c (vid_exp p (short (Named x))) t
+    record_has : (p : Place) {fs : ExpFields} {ls : List Label} {ts : Typs} → HaveTypes c fs ls ts → HasType c (fields_exp p fs) (con (labels ls) ts)
+    app_has : (p : Place) {f a : Exp} {t u : Typ} → HasType c f (function_type t u) → HasType c a t → HasType c (app p f a) u
 
-  pub data HaveTypes (texts : List (List ℕ)) (c : Context) : ExpFields → List Label → Typs → Type 0 where
-    no_field_has : HaveTypes texts c no_exp_fields [] none
-    field_has : (l : Label) {e : Exp} {fs : ExpFields} {t : Typ} {ls : List Label} {ts : Typs} → HasType texts c e t → HaveTypes texts c fs ls ts →
-        HaveTypes texts c (exp_field l e fs) (l ∷ ls) (more t ts)
+  pub data HaveTypes (c : Context) : ExpFields → List Label → Typs → Type 0 where
+    no_field_has : HaveTypes c no_exp_fields [] none
+    field_has : (l : Label) {e : Exp} {fs : ExpFields} {t : Typ} {ls : List Label} {ts : Typs} → HasType c e t → HaveTypes c fs ls ts →
+        HaveTypes c (exp_field l e fs) (l ∷ ls) (more t ts)
 
 -- a pattern of a type, and the context with its bindings; no restriction is broken
-pub data PatHasType (texts : List (List ℕ)) (c : Context) : Pat → Typ → Context → Type 0 where
-  wild_has : (p : Place) (t : Typ) → PatHasType texts c (wild_pat p) t c
-  variable_has : (p : Place) (x : ℕ) (t : Typ) → is_restricted texts (Named x) ≡ false → PatHasType texts c (vid_pat p (short (Named x))) t (typed x t c)
-  unit_has : (p : Place) → PatHasType texts c (fields_pat p no_pat_fields false) unit_type c
+pub data PatHasType (c : Context) : Pat → Typ → Context → Type 0 where
+  wild_has : (p : Place) (t : Typ) → PatHasType c (wild_pat p) t c
+  variable_has : (p : Place) (x : ℕ) (t : Typ) → is_restricted (Named x) ≡ false → PatHasType c (vid_pat p (short (Named x))) t (typed x t c)
+  unit_has : (p : Place) → PatHasType c (fields_pat p no_pat_fields false) unit_type c
 
 -- a declaration, and the context after it. A binding without variables of types has nothing to generalise.
-pub data DecHasType (texts : List (List ℕ)) (c : Context) : Dec → Context → Type 0 where
-  val_has : (p q : Place) {r : Place} {a : Pat} {e : Exp} {t : Typ} {c' : Context} → HasType texts c e t → PatHasType texts c a t c' →
-      DecHasType texts c (val_dec p r [] (bind q a e no_binds) no_binds) c'
+pub data DecHasType (c : Context) : Dec → Context → Type 0 where
+  val_has : (p q : Place) {r : Place} {a : Pat} {e : Exp} {t : Typ} {c' : Context} → HasType c e t → PatHasType c a t c' →
+      DecHasType c (val_dec p r [] (bind q a e no_binds) no_binds) c'
 
-pub data DecsHaveType (texts : List (List ℕ)) : Context → Decs → Context → Type 0 where
-  no_dec_has : (c : Context) → DecsHaveType texts c no_decs c
-  dec_has : {c c' c'' : Context} {d : Dec} {ds : Decs} → DecHasType texts c d c' → DecsHaveType texts c' ds c'' → DecsHaveType texts c (dec d ds) c''
+pub data DecsHaveType : Context → Decs → Context → Type 0 where
+  no_dec_has : (c : Context) → DecsHaveType c no_decs c
+  dec_has : {c c' c'' : Context} {d : Dec} {ds : Decs} → DecHasType c d c' → DecsHaveType c' ds c'' → DecsHaveType c (dec d ds) c''
 
 -- the parts of a project, one after the other: each sees what those before it brought
-pub data PartsHaveType (texts : List (List ℕ)) : Context → List Part → Context → Type 0 where
-  no_part_has : (c : Context) → PartsHaveType texts c [] c
-  basis_has : {c c' : Context} {parts : List Part} → PartsHaveType texts (basis_typed c) parts c' → PartsHaveType texts c (standard_basis ∷ parts) c'
-  source_has : {c c' c'' : Context} {ds : Decs} {parts : List Part} → DecsHaveType texts c ds c' → PartsHaveType texts c' parts c'' →
-      PartsHaveType texts c (source ds ∷ parts) c''
+pub data PartsHaveType : Context → List Part → Context → Type 0 where
+  no_part_has : (c : Context) → PartsHaveType c [] c
+  basis_has : {c c' : Context} {parts : List Part} → PartsHaveType (basis_typed c) parts c' → PartsHaveType c (standard_basis ∷ parts) c'
+  source_has : {c c' c'' : Context} {ds : Decs} {parts : List Part} → DecsHaveType c ds c' → PartsHaveType c' parts c'' →
+      PartsHaveType c (source ds ∷ parts) c''
 
 -- the project elaborates, in the empty basis
-abbrev pub Elaborates : List (List ℕ) → List Part → Type 0
-Elaborates texts parts = (c : Context) × PartsHaveType texts nothing_typed parts c
+abbrev pub Elaborates : List Part → Type 0
+Elaborates parts = (c : Context) × PartsHaveType nothing_typed parts c

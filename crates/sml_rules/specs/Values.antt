@@ -1,12 +1,12 @@
 -- Values, and the environments in which expressions are evaluated. [Definition 6.2, 6.3]
-use Rattle.std.specs.Prelude.{ℕ, Bool, false, List, Option, Some, None, nat_eq, if◌then◌else◌}
+use Rattle.std.specs.Prelude.{ℕ, Bool, false, Option, Some, None, nat_eq, if◌then◌else◌}
 use Rattle.mlc_base.specs.declared.label.Label.{Label}
 use Rattle.mlc_base.specs.declared.label.Label.TheVariants.{Number, Word}
 use Rattle.mlc_prims.specs.LitOf.{Literal}
 use Rattle.mlc_prims.specs.declared.prim.Primitive.{Primitive}
 use Rattle.mlc_prims.specs.declared.prim.PrimExn.{PrimExn}
 use Rattle.mlc_prims.specs.declared.prim.PrimExn.TheVariants.{Overflow, Div, Subscript, Size, Chr}
-use Rattle.sml_rules.specs.Basis.{text_in, basis_prim}
+use Rattle.sml_rules.specs.Basis.{basis_prim}
 
 mutual
   pub data Value : Type 0 where
@@ -52,7 +52,7 @@ abbrev pub basis_value : Option Primitive → Option Value → Option Value
 basis_value None before = before
 basis_value (Some p) before = Some (primitive p)
 
-abbrev pub value_of : List (List ℕ) → Env → ℕ → Option Value
-value_of texts nothing_bound x = None
-value_of texts (bound y v env) x = if nat_eq x y then Some v else value_of texts env x
-value_of texts (basis_bound env) x = basis_value (basis_prim (text_in texts x)) (value_of texts env x)
+abbrev pub value_of : Env → ℕ → Option Value
+value_of nothing_bound x = None
+value_of (bound y v env) x = if nat_eq x y then Some v else value_of env x
+value_of (basis_bound env) x = basis_value (basis_prim x) (value_of env x)

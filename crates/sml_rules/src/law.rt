@@ -1,6 +1,6 @@
 // Laws of the rules, as contracts.
 
-ghost use Rattle.sml_rules.specs.Laws.{PhrasesAreTyped, BrokenIsUntyped, NeverWrong, MeaningGrows, NamesAreFound};
+ghost use Rattle.sml_rules.specs.Laws.{PhrasesAreTyped, BrokenIsUntyped, NeverWrong, MeaningGrows};
 
 /// A project without foreign phrases elaborates exactly where its phrases have a typing one after the other.
 pub fn phrases_are_typed()
@@ -20,9 +20,4 @@ pub fn never_wrong()
 /// With more turns the output of a project goes on from what it was, and an end other than going stays.
 pub fn meaning_grows()
     ensures { MeaningGrows }
-{}
-
-/// Where no two names are written alike, a name is found by what it is written as.
-pub fn names_are_found()
-    ensures { NamesAreFound }
 {}

@@ -6,5 +6,5 @@ use Rattle.mlc_driver.proofs.check.check.Given as goal
 abbrev pub invariant-loop-at : goal.invariant-loop-at
 invariant-loop-at l = record {
   kept : l.checker.kept ≤ l.at;
-  passed : Passed l.names (phrases_of (take l.at l.phrases)) l.checker;
+  passed : Passed (phrases_of (take l.at l.phrases)) l.checker;
 }
