@@ -66,13 +66,13 @@ raising_is_well_formed : IsWellFormed raising
 raising_is_well_formed = record {
   tables = record {
     initial = refl;
-    strings = ((refl, tt), (refl, tt), tt);
-    types = (tt, (tt, (refl, refl, tt), tt), tt);
+    strings = ((refl, tt), ((refl, tt), tt));
+    types = (tt, ((tt, ((refl, (refl, tt)), tt)), tt));
     sets = (tt, tt);
   };
   main = refl;
-  scoped = ((tt, (refl, tt), ((refl, tt), (refl, refl, tt), ((((refl, _, refl, refl, tt), (refl, tt)), refl), (refl, refl, tt), refl), (refl, refl, tt), refl)), (refl, refl), tt);
-  whole = ((refl, tt, tt, tt, tt, ((refl, tt, tt), (refl, tt, tt)), tt, tt), (refl, tt, tt), tt);
+  scoped = ((tt, ((refl, tt), (((refl, refl), tt), ((refl, (refl, (refl, tt))), (((((refl, ((record { tag = 7; function = 1 } ∷ []), refl, (refl, tt))), (refl, tt)), refl), ((refl, (refl, tt)), refl)), ((refl, (refl, tt)), refl)))))), ((refl, refl), tt));
+  whole = ((refl, (tt, (tt, (tt, (tt, (((refl, (tt, tt)), (refl, (tt, tt))), (tt, tt))))))), ((refl, (tt, tt)), tt));
 }
 
 -- the second is tried where the first misses
