@@ -1,0 +1,4 @@
+// What the forms without function values share: values, equality, and what is done with them at once. Definitions, and laws of them.
+#![tactic(auto)]
+
+pub mod law;

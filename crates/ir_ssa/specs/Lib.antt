@@ -1,0 +1,4 @@
+pub mod Tree
+pub mod Meaning
+pub mod WellFormed
+pub mod Size
