@@ -112,17 +112,19 @@ next : {n : ℕ} → n ≤ suc n
 next = omega arith
 
 resolves : (r : Scope) × DecsTo initial_scope 0 source program r 10
-resolves = (_,
-    dec_to (datatype_to p (a_datatype_to _ (a_con_to _ refl (a_con_to _ refl no_cons_to)) no_datatypes_to))
-    (dec_to (replicate_to p 203 refl)
-    (dec_to (local_to p (dec_to (exception_to p (new_exn_to p (Named 204) 0 None le no_exns_to)) no_decs_to) (dec_to (exception_to p (same_exn_to p (Named 205) p refl no_exns_to)) no_decs_to))
-    (dec_to (val_to p p [] (heads_to p p _ t _ no_heads_to (head_variable p (short (Named 206)) 1 le)) (fun_to p p _ _ t (by_rules_to p t t (rule_to p (alone_to p refl (alone_constructor 201)) (app_to (at 1) t (called_vid _ _) (vid_to p refl (use_own 1 t)) (vid_to p refl (use_constructor 202 y [] t))) (rule_to p (variable_to p (Named 207) 2 le refl) (raise_to p t (vid_to p refl (use_exception (held 0) t))) no_rules_to))) no_funs_to) no_binds_to)
-    (dec_to (val_to p p [] no_heads_to no_funs_to (bind_to p p false t (variable_to p (Named 208) 3 next refl) (handle_to p t (app_to (at 2) t (called_vid _ _) (vid_to p refl (use_variable 1 [] t)) (vid_to p refl (use_constructor 201 y [] t))) (rule_to p (alone_to p refl (alone_exception (held 0))) (constant_exp_to p _ t) no_rules_to)) no_binds_to))
-    (dec_to (open_to p refl)
-    (dec_to (val_to p p [] no_heads_to no_funs_to (bind_to p p false t (as_to p (Named 212) 4 le refl (fields_to p true (pat_field_to (Number 1) t (variable_to p (Named 207) 5 le refl) no_pats_to))) (fields_exp_to p t (field_to (Number 1) (app_to (at 3) t (called_vid _ _) (vid_to p refl (use_primitive Quotient [] t)) (fields_exp_to p t (field_to (Number 1) (constant_exp_to p _ t) (field_to (Number 2) (constant_exp_to p _ t) no_fields_to)))) (field_to (Number 2) (vid_to p refl (use_variable 3 [] t)) no_fields_to))) no_binds_to))
-    (dec_to (val_to p p [] (heads_to p p _ t _ no_heads_to (head_variable p (short (Named 209)) 6 le)) (fun_to p p _ _ t (more_to p p 7 t le (variable_parameter p (Named 210) refl) (last_to p 8 t le (variable_parameter p (Named 211) refl) (vid_to p refl (use_variable 7 [] t)))) no_funs_to) no_binds_to)
-    (dec_to (val_to p p [] no_heads_to no_funs_to (bind_to p p false t (variable_to p (Named 213) 9 (omega arith) refl) (chain_to true t (and_to p (app_to (at 5) t (called_app _ _ _) (app_to (at 4) t (called_vid _ _) (vid_to p refl (use_variable 6 [] t)) (built_exp_to p True y [] t)) (built_exp_to p False y [] t)) (only_to true (built_exp_to p False y [] t)))) no_binds_to))
-    (dec_to (val_to p p [] no_heads_to no_funs_to (bind_to p p false t (wild_to p) (raise_to p t (vid_to p refl (use_exception (held 0) t))) no_binds_to)) no_decs_to))))))))))
+resolves = (
+  _,
+  dec_to (datatype_to p (a_datatype_to _ (a_con_to _ refl (a_con_to _ refl no_cons_to)) no_datatypes_to))
+      (dec_to (replicate_to p 203 refl)
+      (dec_to (local_to p (dec_to (exception_to p (new_exn_to p (Named 204) 0 None le no_exns_to)) no_decs_to) (dec_to (exception_to p (same_exn_to p (Named 205) p refl no_exns_to)) no_decs_to))
+      (dec_to (val_to p p [] (heads_to p p _ t _ no_heads_to (head_variable p (short (Named 206)) 1 le)) (fun_to p p _ _ t (by_rules_to p t t (rule_to p (alone_to p refl (alone_constructor 201)) (app_to (at 1) t (called_vid _ _) (vid_to p refl (use_own 1 t)) (vid_to p refl (use_constructor 202 y [] t))) (rule_to p (variable_to p (Named 207) 2 le refl) (raise_to p t (vid_to p refl (use_exception (held 0) t))) no_rules_to))) no_funs_to) no_binds_to)
+      (dec_to (val_to p p [] no_heads_to no_funs_to (bind_to p p false t (variable_to p (Named 208) 3 next refl) (handle_to p t (app_to (at 2) t (called_vid _ _) (vid_to p refl (use_variable 1 [] t)) (vid_to p refl (use_constructor 201 y [] t))) (rule_to p (alone_to p refl (alone_exception (held 0))) (constant_exp_to p _ t) no_rules_to)) no_binds_to))
+      (dec_to (open_to p refl)
+      (dec_to (val_to p p [] no_heads_to no_funs_to (bind_to p p false t (as_to p (Named 212) 4 le refl (fields_to p true (pat_field_to (Number 1) t (variable_to p (Named 207) 5 le refl) no_pats_to))) (fields_exp_to p t (field_to (Number 1) (app_to (at 3) t (called_vid _ _) (vid_to p refl (use_primitive Quotient [] t)) (fields_exp_to p t (field_to (Number 1) (constant_exp_to p _ t) (field_to (Number 2) (constant_exp_to p _ t) no_fields_to)))) (field_to (Number 2) (vid_to p refl (use_variable 3 [] t)) no_fields_to))) no_binds_to))
+      (dec_to (val_to p p [] (heads_to p p _ t _ no_heads_to (head_variable p (short (Named 209)) 6 le)) (fun_to p p _ _ t (more_to p p 7 t le (variable_parameter p (Named 210) refl) (last_to p 8 t le (variable_parameter p (Named 211) refl) (vid_to p refl (use_variable 7 [] t)))) no_funs_to) no_binds_to)
+      (dec_to (val_to p p [] no_heads_to no_funs_to (bind_to p p false t (variable_to p (Named 213) 9 (omega arith) refl) (chain_to true t (and_to p (app_to (at 5) t (called_app _ _ _) (app_to (at 4) t (called_vid _ _) (vid_to p refl (use_variable 6 [] t)) (built_exp_to p True y [] t)) (built_exp_to p False y [] t)) (only_to true (built_exp_to p False y [] t)))) no_binds_to))
+      (dec_to (val_to p p [] no_heads_to no_funs_to (bind_to p p false t (wild_to p) (raise_to p t (vid_to p refl (use_exception (held 0) t))) no_binds_to)) no_decs_to))))))))),
+)
 
 -- The packet of G has the identifier of E, and each application took its turn.
 
