@@ -59,7 +59,7 @@ on-match-rel S w u go go' other other' (both_bind a) s h g = h _ _ a
 on-match-rel S w u go go' other other' both_fail s h g = g
 on-match-rel S w u go go' other other' both_misfit s h g = both_stop _ s
 
-abbrev Calls : Apply → run.Apply → Type 0
+abbrev pub Calls : Apply → run.Apply → Type 0
 Calls call call' =
     (p : Place) (f a : Value) (f' a' : V) (w : World Value) (u : World V) → Rel f f' → Rel a a' → Alike w u → Ends (call p f a w) (call' p f' a' u)
 
@@ -144,7 +144,7 @@ module _ (call : Apply) (call' : run.Apply) (calls : Calls call call') where
         on-match-rel Rel w u _ (λ t u. gives (made.closure (run.alone f) t) u) _ (λ u. raises (made.exn tt 0) u) (parameter-rel w.store a c le h) q
         (λ d z m. both_give (rel_alone (anew-scope c m) g) q) (both_raise (rel_exn 0) q)
 
-    decs-rel : {s : Scope} {k : ℕ} {ds : bare.Decs} {ds' : prog.Decs} {r : Scope} {j : ℕ} → DecsTo s k ds ds' r j → {e : Env} {t : Bound} (w : World Value)
+    pub decs-rel : {s : Scope} {k : ℕ} {ds : bare.Decs} {ds' : prog.Decs} {r : Scope} {j : ℕ} → DecsTo s k ds ds' r j → {e : Env} {t : Bound} (w : World Value)
         (u : World V) → Covers k t s e → Alike w u → Agree Rel Stored (Anew k j t r) (eval_decs call e ds w) (run.eval_decs call' ds' t u)
     decs-rel (no_decs_to {k = k}) {t = t} w u c q = both_give (anew-nothing k t) q
     decs-rel {k = k} (dec_to {d = d} {ds = ds} {d' = d'} {ds' = ds'} {r = r} {q = o} {j = j} {i = i} x xs) {e = e} {t = t} w u c q =
@@ -215,13 +215,13 @@ enter-rel go go' h p f a f' a' w u (rel_alone c g) r s = take_turn-agree Rel Sto
 enter-rel go go' h p f a f' a' w u (rel_one_of c hs fs g) r s =
     take_turn-agree Rel Stored Rel p w u _ _ s (λ w u s. h _ _ _ _ _ _ _ _ w u g (anew-scope c (recursive-rel c hs fs)) r s)
 
-apply-rel : (k : ℕ) → Calls (apply k) (run.apply k)
+pub apply-rel : (k : ℕ) → Calls (apply k) (run.apply k)
 apply-rel zero = enter-rel _ _ (λ _ _ _ _ _ _ _ _ w u f c r s. both_stop out_of_turns s)
 apply-rel (suc k) = enter-rel _ _ (λ _ _ _ _ _ _ _ _ w u f c r s. fun-rel (apply k) (run.apply k) (apply-rel k) f w u c r s)
 
 -- Runs
 
-named-rel : (p : Value) (q : V) (w : World Value) (u : World V) → Rel p q → Alike w u → identifier_of q u ≡ packet_identifier p w
+pub named-rel : (p : Value) (q : V) (w : World Value) (u : World V) → Rel p q → Alike w u → identifier_of q u ≡ packet_identifier p w
 named-rel p q w u (rel_exn n) s = ap (λ l. slice_get l n) s.exceptions
 named-rel p q w u (rel_exn_of n h) s = ap (λ l. slice_get l n) s.exceptions
 named-rel p q w u (rel_literal l) s = refl

@@ -1,5 +1,5 @@
 -- Look-ups in a scope and in an environment that it covers find the same.
-use Rattle.std.proofs.Common.{◌≡◌, ℕ, Bool, true, false, if◌then◌else◌, List, [], ◌∷◌, Option, Some, None, subst}
+use Rattle.std.proofs.Common.{◌≡◌, ℕ, ◌≤◌, Bool, true, false, if◌then◌else◌, List, [], ◌∷◌, Option, Some, None, subst}
 use Rattle.std.specs.Prelude.{option_and_then, option_map, nat_eq}
 use Rattle.sml_tree.specs.Terminal.{LongVid}
 use Rattle.sml_tree.specs.declared.ident.Vid.{Vid}
@@ -10,7 +10,7 @@ use Rattle.core_rules.specs.Values.{Value, Env, plus, Found, value_in, tycon_in,
 use Rattle.core_rules.specs.Eval.{long_tycon_in, long_structure_in, opened}
 use Rattle.ir_poly.specs.ProgMeaning.{Scope as Bound}
 use Rattle.core_elab.specs.Scopes.{Denotes, Scope, plus_scope, denotes_in, typed_in, inside_in, along_scope, long_denotes_in, long_typed_in, long_inside_in, opened_scope}
-use Rattle.core_elab.proofs.Related.{Known, Covers, covers_nothing, covers_value, covers_tycon, covers_structure, covers-plus}
+use Rattle.core_elab.proofs.Related.{Known, Covers, covers_nothing, covers_value, covers_tycon, covers_structure, covers-plus, covers-more, SameBelow}
 
 pub data KnownAs (k : ℕ) (t : Bound) : Option Denotes → Option Found → Type 0 where
   known_none : KnownAs k t None None
@@ -19,6 +19,10 @@ pub data KnownAs (k : ℕ) (t : Bound) : Option Denotes → Option Found → Typ
 pub data CoversBoth (k : ℕ) (t : Bound) : Option Scope → Option Env → Type 0 where
   covers_none : CoversBoth k t None None
   covers_some : {s : Scope} {e : Env} → Covers k t s e → CoversBoth k t (Some s) (Some e)
+
+pub both-more : {k j : ℕ} {t u : Bound} {s : Option Scope} {e : Option Env} → k ≤ j → SameBelow k t u → CoversBoth k t s e → CoversBoth j u s e
+both-more h m covers_none = covers_none
+both-more h m (covers_some c) = covers_some (covers-more h m c)
 
 module _ {k : ℕ} {t : Bound} where
   known-if : (b : Bool) {d : Option Denotes} {f : Option Found} {d' : Option Denotes} {f' : Option Found} → KnownAs k t d f → KnownAs k t d' f'

@@ -1,3 +1,4 @@
 pub mod Scopes
 pub mod Resolves
+pub mod Parts
 pub mod Laws
