@@ -34,7 +34,7 @@ at_top [] w r = r
 at_top (h ∷ hs) w r = fail w
 
 abbrev pub go_to : List Onward → ℕ → Onward
-go_to ks l turn vs w = or_fail (slice_get ks l) w (λ k. k turn vs w)
+go_to ks l place vs w = or_fail (slice_get ks l) w (λ k. k place vs w)
 
 abbrev pub may_turn : Option Place → World Value → (World Value → Run Value) → Run Value
 may_turn None w go = go w
@@ -46,8 +46,8 @@ must_turn (Some p) w go = take_turn p w go
 
 -- a block that may go to itself: each time takes a turn, and at most so many are made
 abbrev pub spin : List ℕ → Env → (Onward → Env → World Value → Run Value) → ℕ → Onward
-spin params env go zero turn vs w = or_fail (bind_all params vs env) w (λ inner. must_turn turn w (λ u. stops out_of_turns u))
-spin params env go (suc j) turn vs w = or_fail (bind_all params vs env) w (λ inner. must_turn turn w (go (spin params env go j) inner))
+spin params env go zero place vs w = or_fail (bind_all params vs env) w (λ inner. must_turn place w (λ u. stops out_of_turns u))
+spin params env go (suc j) place vs w = or_fail (bind_all params vs env) w (λ inner. must_turn place w (go (spin params env go j) inner))
 
 module _ (T : Tables) (calls : Calls) (fuel : ℕ) where
   abbrev mutual
@@ -59,7 +59,7 @@ module _ (T : Tables) (calls : Calls) (fuel : ℕ) where
     eval (turn p b) env ks hs w = take_turn p w (λ u. eval b env ks hs u)
     eval (call p c xs x b) env ks hs w =
         or_fail (look_all xs env) w (λ vs. or_fail (called T c env vs) w (λ f. then_go hs (calls p f.function f.arguments w) (λ v u. eval b (bind x v env) ks hs u)))
-    eval (label params a b) env ks hs w = eval b env ((λ turn vs u. or_fail (bind_all params vs env) u (λ inner. may_turn turn u (eval a inner ks hs))) ∷ ks) hs w
+    eval (label params a b) env ks hs w = eval b env ((λ place vs u. or_fail (bind_all params vs env) u (λ inner. may_turn place u (eval a inner ks hs))) ∷ ks) hs w
     eval (again params a b) env ks hs w = eval b env (spin params env (λ k inner u. eval a inner (k ∷ ks) hs u) fuel ∷ ks) hs w
     eval (guard l a y h) env ks hs w = eval a env (go_to ks l ∷ []) ((λ p u. eval h (bind y p env) ks hs u) ∷ hs) w
     eval (goto l xs) env ks hs w = or_fail (look_all xs env) w (λ vs. go_to ks l None vs w)

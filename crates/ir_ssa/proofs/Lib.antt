@@ -1,0 +1,2 @@
+pub mod FuelLemmas
+mod Examples
