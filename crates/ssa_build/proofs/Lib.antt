@@ -1,0 +1,6 @@
+pub mod Same
+pub mod Scopes
+pub mod Counts
+pub mod Binders
+pub mod Fits
+mod Examples
