@@ -93,7 +93,8 @@ alias-rel : {k j : ℕ} {t u : Bound} {n : Denotes} {r : Scope} {d : Env} {f : F
 alias-rel x (known_some m) a = record { up = a.up; same = a.same; covers = covers_value x (known-more a.up a.same m) a.covers }
 
 module _ (call' : Apply) where
-  aliased-rel : {k j : ℕ} {t : Bound} {n : Denotes} {r : Scope} {o : Option Found} (x : Vid) (w : World Value) {rest : Answer Value Env} {rest' : Answer V Bound}
+  aliased-rel : {k j : ℕ} {t : Bound} {n : Denotes} {r : Scope} {o : Option Found} (x : Vid) (w : World Value) {rest : Answer Value Env}
+      {rest' : Answer V Bound}
       → KnownAs k t (Some n) o → Agree Rel Stored (Anew k j t r) rest rest'
       → Agree Rel Stored (Anew k j t (scoped x n r)) (or_fail o w (λ f. then_do rest (λ d w. gives (value x f.status f.value d) w))) rest'
   aliased-rel x w (known_some {q = q} {v = v} m) a = map-left (λ d. value x q v d) (λ d z b. alias-rel x (known_some m) b) a
@@ -114,7 +115,8 @@ module _ (call' : Apply) where
   exns-rel (same_exn_to p x q {y = y} i b) w u c s = aliased-rel x w (known-of y i c) (exns-rel b w u c s)
 
   -- declarations one after the other
-  pub joined-is : (a b : prog.Decs) (t : Bound) (u : World V) → run.eval_decs call' (joined a b) t u ≡ then_do (run.eval_decs call' a t u) (λ t u. run.eval_decs call' b t u)
+  pub joined-is : (a b : prog.Decs) (t : Bound) (u : World V) → run.eval_decs call' (joined a b) t u ≡ then_do (run.eval_decs call' a t u)
+      (λ t u. run.eval_decs call' b t u)
   joined-is prog.no_decs b t u = refl
   joined-is (prog.val_dec qs bs fs ds) b t u =
       (λ i. then_do (run.eval_binds call' bs t (members fs t) u) (λ t u. joined-is ds b t u i))
