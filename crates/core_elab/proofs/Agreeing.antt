@@ -54,18 +54,18 @@ module _ {V W : Type 0} (P R : V → W → Type 0) where
         → SameWorlds R w u → ((w' : World V) (u' : World W) → SameWorlds R w' u' → Agree S (go w') (go' u')) → Agree S (assign at v w go) (assign at v' u go')
     assign-agree at v v' w u go go' r s h =
         rw (length-same R s.store) (if-agree (nat_lt at (length w.store)) _ _ w u
-            (h _ _ (record { output = s.output; left = s.left; taken = s.taken; store = slice_set-same R at s.store r; exceptions = s.exceptions })) s)
+        (h _ _ (record { output = s.output; left = s.left; taken = s.taken; store = slice_set-same R at s.store r; exceptions = s.exceptions })) s)
 
     pub new_exception-agree : (identifier : ℕ) (w : World V) (u : World W) (go : ℕ → World V → Answer V A) (go' : ℕ → World W → Answer W B)
         → SameWorlds R w u → ((name : ℕ) (w' : World V) (u' : World W) → SameWorlds R w' u' → Agree S (go name w') (go' name u'))
         → Agree S (new_exception identifier w go) (new_exception identifier u go')
     new_exception-agree identifier w u go go' s h =
         let same : SameWorlds R (record w { exceptions = w.exceptions ++ identifier ∷ [] })
-            (record u { exceptions = u.exceptions ++ identifier ∷ [] }) = record
-            { output = s.output; left = s.left; taken = s.taken; store = s.store; exceptions = ap (λ names. names ++ identifier ∷ []) s.exceptions } in
+        (record u { exceptions = u.exceptions ++ identifier ∷ [] }) = record
+        { output = s.output; left = s.left; taken = s.taken; store = s.store; exceptions = ap (λ names. names ++ identifier ∷ []) s.exceptions } in
         let made : length u.exceptions ≡ length w.exceptions = ap length s.exceptions in
         subst (λ n. Agree S (go (length w.exceptions) (record w { exceptions = w.exceptions ++ identifier ∷ [] }))
-            (go' n (record u { exceptions = u.exceptions ++ identifier ∷ [] }))) (sym made) (h (length w.exceptions) _ _ same)
+        (go' n (record u { exceptions = u.exceptions ++ identifier ∷ [] }))) (sym made) (h (length w.exceptions) _ _ same)
 
     -- runs that agree have one outcome
     pub outcome_of-agree : (name : V → World V → Option ℕ) (name' : W → World W → Option ℕ) {r : Answer V A} {r' : Answer W B}

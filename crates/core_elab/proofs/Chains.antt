@@ -52,7 +52,7 @@ module _ (w : World Value) (u : World V) (s : Alike w u) (go : Env → World Val
     where
       go-on : (p q : Bool) → same_con (built False) c ≡ q
           → Ends (on_match (if p then binds nothing else fails) w go (λ w. on_match (if q then binds nothing else fails) w
-              (λ d w. gives (con (built False)) w) (λ w. raises match_packet w)))
+          (λ d w. gives (con (built False)) w) (λ w. raises match_packet w)))
           (tested p q (made.con tt n) u go')
       go-on true q r = h
       go-on false true r = both_give (is-built False c e r) s
@@ -68,10 +68,14 @@ module _ (w : World Value) (u : World V) (s : Alike w u) (go : Env → World Val
     where
       go-on : (p q : Bool) → same_con (built True) c ≡ p → same_con (built False) c ≡ q
           → Ends (on_match (if p then binds nothing else fails) w (λ d w. gives (con (built True)) w)
-              (λ w. on_match (if q then binds nothing else fails) w go (λ w. raises match_packet w)))
+          (λ w. on_match (if q then binds nothing else fails) w go (λ w. raises match_packet w)))
           (tested q p (made.con tt n) u go')
-      go-on true true r r' = absurd (omega (arith, eqb-true word_true n (same-numbers (built True) c refl e ∙ r), eqb-true word_false n
-          (same-numbers (built False) c refl e ∙ r')))
+      go-on true true r r' = absurd (omega (
+        arith,
+        eqb-true word_true n (same-numbers (built True) c refl e ∙ r),
+        eqb-true word_false n
+            (same-numbers (built False) c refl e ∙ r'),
+      ))
       go-on true false r r' = both_give (is-built True c e r) s
       go-on false true r r' = h
       go-on false false r r' = both_raise (rel_exn 0) s
@@ -83,12 +87,12 @@ module _ (w : World Value) (u : World V) (s : Alike w u) (go : Env → World Val
       subst (λ p. Ends (tests True False (con_of c x) w go (λ d w. gives (con (built False)) w)) (misfitted p (nat_eq word_false n) (made.con_of tt n y) u go'))
       (sym (same-numbers (built True) c refl e))
       (subst (λ q. Ends (tests True False (con_of c x) w go (λ d w. gives (con (built False)) w))
-          (misfitted (same_con (built True) c) q (made.con_of tt n y) u go'))
+      (misfitted (same_con (built True) c) q (made.con_of tt n y) u go'))
       (sym (same-numbers (built False) c refl e)) (go-on (same_con (built True) c) (same_con (built False) c)))
     where
       go-on : (p q : Bool)
           → Ends (on_match (if p then misfits else fails) w go (λ w. on_match (if q then misfits else fails) w (λ d w. gives (con (built False)) w)
-              (λ w. raises match_packet w)))
+          (λ w. raises match_packet w)))
           (misfitted p q (made.con_of tt n y) u go')
       go-on true q = both_stop _ s
       go-on false true = both_stop _ s
@@ -100,12 +104,12 @@ module _ (w : World Value) (u : World V) (s : Alike w u) (go : Env → World Val
       subst (λ p. Ends (tests True False (con_of c x) w (λ d w. gives (con (built True)) w) go) (misfitted p (nat_eq word_true n) (made.con_of tt n y) u go'))
       (sym (same-numbers (built False) c refl e))
       (subst (λ q. Ends (tests True False (con_of c x) w (λ d w. gives (con (built True)) w) go)
-          (misfitted (same_con (built False) c) q (made.con_of tt n y) u go'))
+      (misfitted (same_con (built False) c) q (made.con_of tt n y) u go'))
       (sym (same-numbers (built True) c refl e)) (go-on (same_con (built True) c) (same_con (built False) c)))
     where
       go-on : (p q : Bool)
           → Ends (on_match (if p then misfits else fails) w (λ d w. gives (con (built True)) w)
-              (λ w. on_match (if q then misfits else fails) w go (λ w. raises match_packet w)))
+          (λ w. on_match (if q then misfits else fails) w go (λ w. raises match_packet w)))
           (misfitted q p (made.con_of tt n y) u go')
       go-on true true = both_stop _ s
       go-on true false = both_stop _ s

@@ -62,19 +62,24 @@ long x = record { place = p; long = record { qualifiers = []; id = x } }
 -- val _ = raise G
 abbrev source : bare.Decs
 source =
-    bare.dec (bare.datatype_dec p (record { place = p; tyvars = []; tycon = 200; cons = record { place = p; vid = Named 201; of_ty = None } ∷ record
-        { place = p; vid = Named 202; of_ty = None } ∷ [] } ∷ []))
+    bare.dec (bare.datatype_dec p (record {
+      place = p;
+      tyvars = [];
+      tycon = 200;
+      cons = record { place = p; vid = Named 201; of_ty = None } ∷ record
+          { place = p; vid = Named 202; of_ty = None } ∷ [];
+    } ∷ []))
     (bare.dec (bare.replicate_dec p 203 (long 200))
     (bare.dec (bare.local_dec p (bare.dec (bare.exception_dec p (new_exn p (Named 204) None ∷ [])) bare.no_decs)
-        (bare.dec (bare.exception_dec p (same_exn p (Named 205) p (short (Named 204)) ∷ [])) bare.no_decs))
+    (bare.dec (bare.exception_dec p (same_exn p (Named 205) p (short (Named 204)) ∷ [])) bare.no_decs))
     (bare.dec (fun 206 (rule (bound 201) (bare.app (at 1) (named 206) (named 202)) (rule (bound 207) (bare.raise p (named 205)) bare.no_rules)))
     (bare.dec (val (bound 208) (bare.handle p (bare.app (at 2) (named 206) (named 201)) (rule (bound 205) one bare.no_rules)))
     (bare.dec (bare.open_dec p (long word_Int ∷ []))
     (bare.dec (val (bare.as_pat p (Named 212) None (bare.fields_pat p (bare.pat_field (Number 1) (bound 207) bare.no_pat_fields) true))
-        (pair (bare.app (at 3) (named word_quot) (pair one one)) (named 208)))
+    (pair (bare.app (at 3) (named word_quot) (pair one one)) (named 208)))
     (bare.dec (fun 209 (rule (bound 210) (bare.fn p (rule (bound 211) (named 210) bare.no_rules)) bare.no_rules))
     (bare.dec (val (bound 213) (and_of p (bare.app (at 5) (bare.app (at 4) (named 209) (bare.built_exp p True)) (bare.built_exp p False))
-        (bare.built_exp p False)))
+    (bare.built_exp p False)))
     (bare.dec (val (bare.wild_pat p) (bare.raise p (named 205))) bare.no_decs)))))))))
 
 -- Types are not looked at.
@@ -101,15 +106,15 @@ abbrev program : prog.Decs
 program =
     prog.exception_dec 0 204 None
     (fun_of 1 (prog.by_rules p t t (prog.a_rule (prog.con_pat 201) (prog.app_exp (at 1) t (prog.own_exp 1 t) (prog.con_exp 202 y [] t))
-        (prog.a_rule (prog.variable_pat 2) (prog.raise_exp t (prog.exn_exp (held 0) t)) prog.no_rules)))
+    (prog.a_rule (prog.variable_pat 2) (prog.raise_exp t (prog.exn_exp (held 0) t)) prog.no_rules)))
     (val_of (prog.variable_pat 3) (prog.handle_exp t (prog.app_exp (at 2) t (prog.variable_exp 1 [] t) (prog.con_exp 201 y [] t))
-        (prog.a_rule (prog.exn_pat (held 0)) one_to prog.no_rules))
+    (prog.a_rule (prog.exn_pat (held 0)) one_to prog.no_rules))
     (val_of (prog.as_pat 4 (prog.fields_pat true (prog.a_pat (Number 1) t (prog.variable_pat 5) prog.no_pats)))
-        (pair_to (prog.app_exp (at 3) t (prog.prim_exp Quotient [] t) (pair_to one_to one_to)) (prog.variable_exp 3 [] t))
+    (pair_to (prog.app_exp (at 3) t (prog.prim_exp Quotient [] t) (pair_to one_to one_to)) (prog.variable_exp 3 [] t))
     (fun_of 6 (prog.more 7 t (prog.last 8 t (prog.variable_exp 7 [] t)))
     (val_of (prog.variable_pat 9) (prog.chain_exp true t (prog.link
-        (prog.app_exp (at 5) t (prog.app_exp (at 4) t (prog.variable_exp 6 [] t) (prog.con_exp 11 y [] t)) (prog.con_exp 12 y [] t))
-        (prog.only (prog.con_exp 12 y [] t))))
+    (prog.app_exp (at 5) t (prog.app_exp (at 4) t (prog.variable_exp 6 [] t) (prog.con_exp 11 y [] t)) (prog.con_exp 12 y [] t))
+    (prog.only (prog.con_exp 12 y [] t))))
     (val_of prog.any_pat (prog.raise_exp t (prog.exn_exp (held 0) t)) prog.no_decs))))))
 
 -- The program resolves the declarations.
@@ -125,41 +130,30 @@ resolves = (
   _,
   dec_to (datatype_to p (a_datatype_to _ (a_con_to _ refl (a_con_to _ refl no_cons_to)) no_datatypes_to))
       (dec_to (replicate_to p 203 refl)
-<<<<<<< HEAD
-      (dec_to (local_to p (dec_to (exception_to p (new_exn_to p (Named 204) 0 None le no_exns_to)) no_decs_to) (dec_to (exception_to p (same_exn_to p (Named 205) p refl no_exns_to)) no_decs_to))
-      (dec_to (val_to p p [] (heads_to p p _ t _ no_heads_to (head_variable p (short (Named 206)) 1 le)) (fun_to p p _ _ t (by_rules_to p t t (rule_to p (alone_to p refl (alone_constructor 201)) (app_to (at 1) t (called_vid _ _) (vid_to p refl (use_own 1 t)) (vid_to p refl (use_constructor 202 y [] t))) (rule_to p (variable_to p (Named 207) 2 le refl) (raise_to p t (vid_to p refl (use_exception (held 0) t))) no_rules_to))) no_funs_to) no_binds_to)
-      (dec_to (val_to p p [] no_heads_to no_funs_to (bind_to p p false t (variable_to p (Named 208) 3 next refl) (handle_to p t (app_to (at 2) t (called_vid _ _) (vid_to p refl (use_variable 1 [] t)) (vid_to p refl (use_constructor 201 y [] t))) (rule_to p (alone_to p refl (alone_exception (held 0))) (constant_exp_to p _ t) no_rules_to)) no_binds_to))
-      (dec_to (open_to p refl)
-      (dec_to (val_to p p [] no_heads_to no_funs_to (bind_to p p false t (as_to p (Named 212) 4 le refl (fields_to p true (pat_field_to (Number 1) t (variable_to p (Named 207) 5 le refl) no_pats_to))) (fields_exp_to p t (field_to (Number 1) (app_to (at 3) t (called_vid _ _) (vid_to p refl (use_primitive Quotient [] t)) (fields_exp_to p t (field_to (Number 1) (constant_exp_to p _ t) (field_to (Number 2) (constant_exp_to p _ t) no_fields_to)))) (field_to (Number 2) (vid_to p refl (use_variable 3 [] t)) no_fields_to))) no_binds_to))
-      (dec_to (val_to p p [] (heads_to p p _ t _ no_heads_to (head_variable p (short (Named 209)) 6 le)) (fun_to p p _ _ t (more_to p p 7 t le (variable_parameter p (Named 210) refl) (last_to p 8 t le (variable_parameter p (Named 211) refl) (vid_to p refl (use_variable 7 [] t)))) no_funs_to) no_binds_to)
-      (dec_to (val_to p p [] no_heads_to no_funs_to (bind_to p p false t (variable_to p (Named 213) 9 (omega arith) refl) (chain_to true t (and_to p (app_to (at 5) t (called_app _ _ _) (app_to (at 4) t (called_vid _ _) (vid_to p refl (use_variable 6 [] t)) (built_exp_to p True y [] t)) (built_exp_to p False y [] t)) (only_to true (built_exp_to p False y [] t)))) no_binds_to))
-      (dec_to (val_to p p [] no_heads_to no_funs_to (bind_to p p false t (wild_to p) (raise_to p t (vid_to p refl (use_exception (held 0) t))) no_binds_to)) no_decs_to))))))))),
-=======
       (dec_to (local_to p (dec_to (exception_to p (new_exn_to p (Named 204) 0 None le no_exns_to)) no_decs_to)
-          (dec_to (exception_to p (same_exn_to p (Named 205) p refl no_exns_to)) no_decs_to))
+      (dec_to (exception_to p (same_exn_to p (Named 205) p refl no_exns_to)) no_decs_to))
       (dec_to (val_to p p [] (heads_to p p _ t _ no_heads_to (head_variable p (short (Named 206)) 1 le))
-          (fun_to p p _ _ t (by_rules_to p t t (rule_to p (alone_to p refl (alone_constructor 201))
-          (app_to (at 1) t (called_vid _ _) (vid_to p refl (use_own 1 t)) (vid_to p refl (use_constructor 202 y [] t)))
-          (rule_to p (variable_to p (Named 207) 2 le refl) (raise_to p t (vid_to p refl (use_exception (held 0) t))) no_rules_to))) no_funs_to) no_binds_to)
+      (fun_to p p _ _ t (by_rules_to p t t (rule_to p (alone_to p refl (alone_constructor 201))
+      (app_to (at 1) t (called_vid _ _) (vid_to p refl (use_own 1 t)) (vid_to p refl (use_constructor 202 y [] t)))
+      (rule_to p (variable_to p (Named 207) 2 le refl) (raise_to p t (vid_to p refl (use_exception (held 0) t))) no_rules_to))) no_funs_to) no_binds_to)
       (dec_to (val_to p p [] no_heads_to no_funs_to (bind_to p p false t (variable_to p (Named 208) 3 next refl)
-          (handle_to p t (app_to (at 2) t (called_vid _ _) (vid_to p refl (use_variable 1 [] t)) (vid_to p refl (use_constructor 201 y [] t)))
-          (rule_to p (alone_to p refl (alone_exception (held 0))) (constant_exp_to p _ t) no_rules_to)) no_binds_to))
+      (handle_to p t (app_to (at 2) t (called_vid _ _) (vid_to p refl (use_variable 1 [] t)) (vid_to p refl (use_constructor 201 y [] t)))
+      (rule_to p (alone_to p refl (alone_exception (held 0))) (constant_exp_to p _ t) no_rules_to)) no_binds_to))
       (dec_to (open_to p refl)
       (dec_to (val_to p p [] no_heads_to no_funs_to (bind_to p p false t
-          (as_to p (Named 212) 4 le refl (fields_to p true (pat_field_to (Number 1) t (variable_to p (Named 207) 5 le refl) no_pats_to)))
-          (fields_exp_to p t (field_to (Number 1) (app_to (at 3) t (called_vid _ _) (vid_to p refl (use_primitive Quotient [] t))
-          (fields_exp_to p t (field_to (Number 1) (constant_exp_to p _ t) (field_to (Number 2) (constant_exp_to p _ t) no_fields_to))))
-          (field_to (Number 2) (vid_to p refl (use_variable 3 [] t)) no_fields_to))) no_binds_to))
+      (as_to p (Named 212) 4 le refl (fields_to p true (pat_field_to (Number 1) t (variable_to p (Named 207) 5 le refl) no_pats_to)))
+      (fields_exp_to p t (field_to (Number 1) (app_to (at 3) t (called_vid _ _) (vid_to p refl (use_primitive Quotient [] t))
+      (fields_exp_to p t (field_to (Number 1) (constant_exp_to p _ t) (field_to (Number 2) (constant_exp_to p _ t) no_fields_to))))
+      (field_to (Number 2) (vid_to p refl (use_variable 3 [] t)) no_fields_to))) no_binds_to))
       (dec_to (val_to p p [] (heads_to p p _ t _ no_heads_to (head_variable p (short (Named 209)) 6 le))
-          (fun_to p p _ _ t (more_to p p 7 t le (variable_parameter p (Named 210) refl)
-          (last_to p 8 t le (variable_parameter p (Named 211) refl) (vid_to p refl (use_variable 7 [] t)))) no_funs_to) no_binds_to)
+      (fun_to p p _ _ t (more_to p p 7 t le (variable_parameter p (Named 210) refl)
+      (last_to p 8 t le (variable_parameter p (Named 211) refl) (vid_to p refl (use_variable 7 [] t)))) no_funs_to) no_binds_to)
       (dec_to (val_to p p [] no_heads_to no_funs_to (bind_to p p false t (variable_to p (Named 213) 9 (omega arith) refl)
-          (chain_to true t (and_to p (app_to (at 5) t (called_app _ _ _)
-          (app_to (at 4) t (called_vid _ _) (vid_to p refl (use_variable 6 [] t)) (built_exp_to p True y [] t)) (built_exp_to p False y [] t))
-          (only_to true (built_exp_to p False y [] t)))) no_binds_to))
+      (chain_to true t (and_to p (app_to (at 5) t (called_app _ _ _)
+      (app_to (at 4) t (called_vid _ _) (vid_to p refl (use_variable 6 [] t)) (built_exp_to p True y [] t)) (built_exp_to p False y [] t))
+      (only_to true (built_exp_to p False y [] t)))) no_binds_to))
       (dec_to (val_to p p [] no_heads_to no_funs_to (bind_to p p false t (wild_to p) (raise_to p t (vid_to p refl (use_exception (held 0) t))) no_binds_to))
-          no_decs_to))))))))),
->>>>>>> 5f5ddc1b0f53532cbf5e3a3c66757636ed259a88
+      no_decs_to))))))))),
 )
 
 -- The packet of G has the identifier of E, and each application took its turn.

@@ -48,17 +48,97 @@ members-cover [] h = covers_nothing
 members-cover (m ∷ ms) h = covers_structure m.0 (rows-cover m.1 h.0) (members-cover ms h.1)
 
 types-known : TypesKnown type_rows
-types-known = (tt, (tt, (tt, (tt, (tt, (tt, ((known_reference, tt),
-    ((known_constructor _ refl, (known_constructor _ refl, tt)), ((known_constructor _ refl, (known_constructor _ refl, tt)), tt)))))))))
+types-known = (
+  tt,
+  (
+    tt,
+    (
+      tt,
+      (
+        tt,
+        (
+          tt,
+          (
+            tt,
+            (
+              (known_reference, tt),
+              ((known_constructor _ refl, (known_constructor _ refl, tt)), ((known_constructor _ refl, (known_constructor _ refl, tt)), tt)),
+            ),
+          ),
+        ),
+      ),
+    ),
+  ),
+)
 
 entries-known : RowsKnown entries
-entries-known = (known_reference, (known_constructor _ refl, (known_constructor _ refl,
-    (known_constructor _ refl, (known_constructor _ refl, (known_fixed _,
-    (known_fixed _, (known_fixed _, (known_fixed _, (known_fixed _,
-    (known_fixed _, (known_fixed _, (known_primitive _, (known_primitive _,
-    (known_primitive _, (known_primitive _, (known_primitive _, (known_primitive _,
-    (known_primitive _, (known_primitive _, (known_primitive _, (known_primitive _,
-    (known_primitive _, (known_primitive _, (known_primitive _, tt)))))))))))))))))))))))))
+entries-known = (
+  known_reference,
+  (
+    known_constructor _ refl,
+    (
+      known_constructor _ refl,
+      (
+        known_constructor _ refl,
+        (
+          known_constructor _ refl,
+          (
+            known_fixed _,
+            (
+              known_fixed _,
+              (
+                known_fixed _,
+                (
+                  known_fixed _,
+                  (
+                    known_fixed _,
+                    (
+                      known_fixed _,
+                      (
+                        known_fixed _,
+                        (
+                          known_primitive _,
+                          (
+                            known_primitive _,
+                            (
+                              known_primitive _,
+                              (
+                                known_primitive _,
+                                (
+                                  known_primitive _,
+                                  (
+                                    known_primitive _,
+                                    (
+                                      known_primitive _,
+                                      (
+                                        known_primitive _,
+                                        (
+                                          known_primitive _,
+                                          (
+                                            known_primitive _,
+                                            (known_primitive _, (known_primitive _, (known_primitive _, tt))),
+                                          ),
+                                        ),
+                                      ),
+                                    ),
+                                  ),
+                                ),
+                              ),
+                            ),
+                          ),
+                        ),
+                      ),
+                    ),
+                  ),
+                ),
+              ),
+            ),
+          ),
+        ),
+      ),
+    ),
+  ),
+)
 
 members-known : MembersKnown initial_members
 members-known = ((known_primitive _, (known_primitive _, (known_primitive _, tt))), tt)
@@ -72,12 +152,55 @@ meaning-kept-initial ds es r k h m = meaning-kept (basis-covers initial_members 
 -- Projects
 
 prelude-known : MembersKnown prelude_members
-prelude-known = ((known_primitive _, (known_primitive _, (known_primitive _,
-    (known_primitive _, (known_primitive _, (known_primitive _, (known_primitive _,
-    (known_primitive _, (known_primitive _, (known_primitive _, (known_primitive _,
-    (known_primitive _, (known_primitive _, (known_primitive _, (known_primitive _,
-    (known_primitive _, (known_primitive _, (known_primitive _, (known_primitive _, (known_primitive _, (known_primitive _, tt))))))))))))))))))))),
-    members-known)
+prelude-known = (
+  (
+    known_primitive _,
+    (
+      known_primitive _,
+      (
+        known_primitive _,
+        (
+          known_primitive _,
+          (
+            known_primitive _,
+            (
+              known_primitive _,
+              (
+                known_primitive _,
+                (
+                  known_primitive _,
+                  (
+                    known_primitive _,
+                    (
+                      known_primitive _,
+                      (
+                        known_primitive _,
+                        (
+                          known_primitive _,
+                          (
+                            known_primitive _,
+                            (
+                              known_primitive _,
+                              (
+                                known_primitive _,
+                                (known_primitive _, (known_primitive _, (known_primitive _, (known_primitive _, (known_primitive _, (known_primitive _, tt)))))),
+                              ),
+                            ),
+                          ),
+                        ),
+                      ),
+                    ),
+                  ),
+                ),
+              ),
+            ),
+          ),
+        ),
+      ),
+    ),
+  ),
+  members-known,
+)
 
 -- what needs no variables
 closed-covers : (k : ℕ) (t : Bound) {s : Scope} {e : Env} → Covers 0 made.empty s e → Covers k t s e
@@ -97,7 +220,7 @@ module _ (call : Apply) (call' : run.Apply) (calls : Calls call call') (prelude 
       (then_do-agree Rel Stored (λ (d : Env) (z : Bound). ⊤) (Anew k j t r) _ _
       (decs-rel call call' calls x w u (closed-covers k t (basis-covers prelude_members prelude-known)) q) (λ d z w u a q.
       let b : Covers j z (plus_scope initial_scope r) (dynamic_standard prelude d) = covers-plus
-          (closed-covers j z (basis-covers initial_members members-known)) a.covers in
+      (closed-covers j z (basis-covers initial_members members-known)) a.covers in
       parts-rel y w u (covers-plus (covers-more a.up a.same c) b) (covers_some b) q))
   parts-rel (later_basis_to y) w u c (covers_some b) q = parts-rel y w u (covers-plus c b) (covers_some b) q
 
@@ -105,4 +228,4 @@ pub project-kept : ProjectKept
 project-kept prelude parts es h m =
     outcome_of-agree Rel Stored (λ (d : Env) (z : Bound). ⊤) packet_identifier identifier_of named-rel
     (parts-rel (apply m) (run.apply m) (apply-rel m) prelude h (begin m) _ covers_nothing covers_none
-        (record { output = refl; left = refl; taken = refl; store = none; exceptions = refl }))
+    (record { output = refl; left = refl; taken = refl; store = none; exceptions = refl }))

@@ -158,7 +158,7 @@ module _ (call : Apply) (call' : run.Apply) (calls : Calls call call') where
     dec-rel {k = k} (val_to p p' qs {bs = bs} {rs = rs} {bs' = bs'} {fs = fs} {r = r} {f = o} {j = j} {i = i} h f b) {e = e} {t = t} w u c q =
         let a : Anew k j t o (recursive e rs) (members fs t) = recursive-rel c h f in
         subst (λ z. Agree Rel Stored (Anew k i t (plus_scope r o)) (then_do (eval_binds call e bs w) (with_recursive e rs z))
-            (then_do (run.eval_binds call' bs' t (members fs t) u) (λ t u. gives t u)))
+        (then_do (run.eval_binds call' bs' t (members fs t) u) (λ t u. gives t u)))
         (sym (are-fns f))
         (then_do-agree Rel Stored (Anew k i t (plus_scope r o)) (Anew j i (members fs t) r) _ _ (binds-rel b w u c q (members fs t)) (λ d z w u m q.
         both_give (record {

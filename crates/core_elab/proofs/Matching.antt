@@ -38,7 +38,7 @@ fitting-literal : (k : ℕ) (u : Bound) (l : Literal) {v : Value} {z : V} → Re
     → Fitting k k empty u (where_same (option_and_then (literal_eq l) (literal_in v)) (binds nothing)) (against_literal l z (matches u))
 fitting-literal k u l {v} {z} r =
     subst (λ o. Fitting k k empty u (where_same (option_and_then (literal_eq l) (literal_in v)) (binds nothing))
-        (made_match.where_same (option_and_then (literal_eq l) o) (matches u)))
+    (made_match.where_same (option_and_then (literal_eq l) o) (matches u)))
     (sym (literal-rel r)) (go (option_and_then (literal_eq l) (literal_in v)))
   where
     go : (o : Option Bool) → Fitting k k empty u (where_same o (binds nothing)) (made_match.where_same o (matches u))
@@ -208,7 +208,7 @@ module _ {h : ℕ} {t : Bound} where
   fitting-before u go (before_exception (fixed n) s a) (known_some (known_fixed _)) stores r g = under-exn n r g
   fitting-before {k} {j} {q} {a = a} {v = v} {z = z} {store' = store'} u go (before_exception (held n) s _) (known_some (known_held _ {i = i} l e)) stores r g =
       subst (λ o. Fitting k j q u (behind nat_eq i (exn_in v) go) (under_exn untagged tt (option_and_then only_name o) z (λ y. match_pat store' t a y u)))
-          (sym e)
+      (sym e)
       (under-exn i r g)
 
 pats-count : {s r : Scope} {k j : ℕ} {fs : bare.PatFields} {gs : prog.PatFields} → PatFieldsTo s k fs gs r j → prog.pat_count gs ≡ pat_count fs
