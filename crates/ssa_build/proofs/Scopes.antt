@@ -1,5 +1,5 @@
 -- The SSA form of a well formed program is well formed.
-use Rattle.std.proofs.Common.{◌≡◌, ℕ, zero, suc, ◌||◌, List, [], ◌∷◌, ◌++◌, length, map, Option, Some, None, Bool, true, false, nat_eq, slice_get, refl, sym, ap, subst, ◌∙◌}
+use Rattle.std.proofs.Common.{◌≡◌, ℕ, suc, ◌||◌, List, [], ◌∷◌, length, map, Some, Bool, true, false, nat_eq, slice_get, refl, sym, ap, subst}
 use Rattle.std.proofs.lemmas.Bool.{eq-eqb}
 use Rattle.std.specs.Prelude.{⊤}
 use Rattle.std.specs.List.{AllByRecursion}
@@ -8,12 +8,12 @@ use Rattle.first_values.specs.Operations.{Tables, Callee}
 use Rattle.first_values.specs.WellFormed.{is_among, IsIn, AreIn, IsCallee}
 use Rattle.ir_first.specs.Tree as f
 use Rattle.ir_first.specs.Tree.{Exp, Op, Arms, let_in, first, miss, block, handle, no_arms}
-use Rattle.ir_first.specs.Whole.{may_miss, IsWhole, HasWhole, OpHasWhole, ArmsHaveWhole, FunIsWhole}
+use Rattle.ir_first.specs.Whole.{may_miss, HasWhole, OpHasWhole, ArmsHaveWhole, FunIsWhole}
 use Rattle.ir_first.specs.WellFormed as before
 use Rattle.ir_ssa.specs.Tree as s
 use Rattle.ir_ssa.specs.WellFormed as after
 use Rattle.ir_ssa.specs.WellFormed.{Label, IsForward}
-use Rattle.ssa_build.specs.Build.{Exit, returns, joins, under, leave, is_last, call_or_tail, handler_exit, build, build_op, build_arms, build_fun, ssa}
+use Rattle.ssa_build.specs.Build.{Exit, returns, joins, under, leave, is_last, call_or_tail, handler_exit, build, build_op, build_arms, build_fun}
 use Rattle.ssa_build.specs.Laws.{StaysWellFormed}
 
 nat_eq-self : (x : ℕ) → nat_eq x x ≡ true
@@ -103,9 +103,13 @@ module _ (T : Tables) (arities : List ℕ) where
     op-scoped (f.call p c ys) t m x q rest xs ls g h w l r = call-scoped t q p c ys x rest xs ls g l h r
     op-scoped (block b) t m x true rest xs ls g h w l r = scoped b t m xs ls g h w.1 l (misses-not (may_miss b) m ls w.0)
     op-scoped (block b) t m x false rest xs ls g h w l r = (r, scoped b (joins 0) (suc m) xs (record { takes = 1; loops = false } ∷ ls) g h w.1 refl (misses-not (may_miss b) (suc m) (record { takes = 1; loops = false } ∷ ls) w.0))
-    op-scoped (handle b y d) t m x q rest xs ls g h w l r =
-        (r, ((record { takes = 1; loops = false }, refl, scoped b (joins 0) 1 xs (record { takes = 1; loops = false } ∷ []) true h.0 w.0.1 refl (misses-not (may_miss b) 1 (record { takes = 1; loops = false } ∷ []) w.0.0)),
-        scoped d (handler_exit q t) (suc m) (y ∷ xs) (record { takes = 1; loops = false } ∷ ls) g h.1 w.1.1 (handler-leaves q t ls g l) (misses-not (may_miss d) (suc m) (record { takes = 1; loops = false } ∷ ls) w.1.0)))
+    op-scoped (handle b y d) t m x q rest xs ls g h w l r = (
+      r,
+      (
+        (record { takes = 1; loops = false }, refl, scoped b (joins 0) 1 xs (record { takes = 1; loops = false } ∷ []) true h.0 w.0.1 refl (misses-not (may_miss b) 1 (record { takes = 1; loops = false } ∷ []) w.0.0)),
+        scoped d (handler_exit q t) (suc m) (y ∷ xs) (record { takes = 1; loops = false } ∷ ls) g h.1 w.1.1 (handler-leaves q t ls g l) (misses-not (may_miss d) (suc m) (record { takes = 1; loops = false } ∷ ls) w.1.0),
+      ),
+    )
     op-scoped (f.raise y) t m x q rest xs ls g h w l r = h
 
     arms-scoped : (arms : Arms) (t : Exit) (m : ℕ) (xs : List ℕ) (ls : List Label) (g : Bool) → before.ArmsScoped T arities xs arms → ArmsHaveWhole arms → Leaves t ls g → IsForward ls m 0 → after.AllScoped T arities xs ls g (build_arms t m arms)
