@@ -1,14 +1,14 @@
 -- Small cases, by computation.
-use Rattle.std.proofs.Common.{◌≡◌, ℕ, List, [], ◌∷◌, Option, Some, None, Bool, true, false, refl}
+use Rattle.std.proofs.Common.{◌≡◌, ℕ, [], ◌∷◌, Some, None, true, false, refl}
 use Rattle.std.specs.Prelude.{pos}
-use Rattle.mlc_base.specs.Run.{World, gives, stops, went_wrong, start}
-use Rattle.mlc_prims.specs.LitOf.{int, word, string}
+use Rattle.mlc_base.specs.Run.{gives, stops, went_wrong, start}
+use Rattle.mlc_prims.specs.LitOf.{int, string}
 use Rattle.mlc_prims.specs.PrimOf.{made, raised}
 use Rattle.mlc_prims.specs.declared.basis.BasisPrimitive.TheVariants.{Add, Less, Divide}
-use Rattle.mlc_prims.specs.declared.prim.PrimExn.TheVariants.{Div, Overflow}
-use Rattle.first_values.specs.Values.{Value, literal, cell, name, packet, no_values, value, unit, Env, Run, one, run, gather}
-use Rattle.first_values.specs.Equality.{numbers, texts, cells, opaque, equal_at}
-use Rattle.first_values.specs.Operations.{Tables, Member, an_int, a_text, ints, words, constant, field, compute, equal, pack, is, is_of, holds, known, one_of, attempted, perform, decide, Called, called}
+use Rattle.mlc_prims.specs.declared.prim.PrimExn.TheVariants.{Div}
+use Rattle.first_values.specs.Values.{Value, literal, cell, name, packet, no_values, value, unit, one, run, gather}
+use Rattle.first_values.specs.Equality.{numbers, cells, opaque, equal_at}
+use Rattle.first_values.specs.Operations.{Tables, an_int, a_text, ints, words, constant, compute, is, is_of, holds, one_of, attempted, perform, decide, called}
 
 abbrev n : ℕ → Value
 n k = literal (int (pos k))

@@ -1,6 +1,6 @@
 -- Only the primitives that are said to raise do: row by row.
-use Rattle.std.proofs.Common.{◌≡◌, ℕ, ◌+◌, ◌-◌, ◌*◌, ◌^◌, Bool, true, false, ◌||◌, if◌then◌else◌, List, [], ◌∷◌, length, Option, Some, None, refl}
-use Rattle.std.specs.Prelude.{ℤ, pos, option_map, option_and_then, bit_and, bit_or, bit_xor}
+use Rattle.std.proofs.Common.{◌≡◌, ℕ, ◌+◌, ◌-◌, ◌*◌, ◌^◌, Bool, true, false, ◌||◌, List, [], ◌∷◌, length, Option, Some, None, refl}
+use Rattle.std.specs.Prelude.{ℤ, pos, option_map, bit_and, bit_or, bit_xor}
 use Rattle.std.specs.Int.{cast_signed, cast_unsigned, w32}
 use Rattle.std.specs.Option.{option_or}
 use Rattle.std.specs.Ordering.{is_lt, is_le, is_gt, is_ge}
@@ -8,7 +8,7 @@ use Rattle.std.specs.declared.cmp.Ordering.{Ordering}
 use Rattle.word_arithmetic.specs.Arithmetic.{word_for, shift_left, shift_right, shift_signed, signed_text}
 use Rattle.mlc_prims.specs.LitOf.{Literal, int, word, char, string, truth, int_in, word_in, char_in, string_in, one_in, two_in, both}
 use Rattle.mlc_prims.specs.PrimOf.{Gives, made, raised}
-use Rattle.mlc_prims.specs.Table.{row_of, literal_cmp, literal_eq, tested, compared, one, two, string_place, string_part}
+use Rattle.mlc_prims.specs.Table.{row_of, literal_cmp, literal_eq, tested, compared, one, two}
 use Rattle.mlc_prims.specs.declared.basis.BasisPrimitive.{BasisPrimitive}
 use Rattle.mlc_prims.specs.declared.basis.BasisPrimitive.TheVariants.{Add, Subtract, Multiply, Divide, Modulo, Negate, Absolute, Less, LessEqual, Greater, GreaterEqual, Equals, Assign, Quotient, Remainder, BitsAnd, BitsOr, BitsXor, BitsNot, ShiftLeft, ShiftRight, ShiftSigned, ToInt, ToIntSigned, FromInt, CharCode, CharOf, TextOf, SizeOf, CharAt, PartOf, Concat, StringOf, Print}
 use Rattle.mlc_prims.specs.declared.prim.PrimExn.{PrimExn}

@@ -5,7 +5,7 @@ use Rattle.mlc_prims.specs.LitOf.{Literal}
 use Rattle.mlc_prims.specs.PrimOf.{raised}
 use Rattle.mlc_prims.specs.declared.basis.BasisPrimitive.{BasisPrimitive}
 use Rattle.mlc_prims.specs.declared.prim.PrimExn.{PrimExn}
-use Rattle.first_values.specs.Values.{Value, cell, Values, values_of, count, Piece, run, Env, look_up, gather}
+use Rattle.first_values.specs.Values.{Value, cell, values_of, count, run, Env, look_up, gather}
 use Rattle.first_values.specs.Operations.{Operands, Plain, Tables, row_at, perform}
 use Rattle.first_values.specs.Raising.{may_raise}
 

@@ -7,7 +7,7 @@ use Rattle.mlc_prims.specs.PrimOf.{Gives, made, raised}
 use Rattle.mlc_prims.specs.Table.{row_of, literal_eq}
 use Rattle.mlc_prims.specs.declared.basis.BasisPrimitive.{BasisPrimitive}
 use Rattle.ir_values.specs.Primitives.{raised_name}
-use Rattle.first_values.specs.Values.{Value, literal, cell, reference, name, packet, Values, Run, unit, truth_value, value_of, at, Env, look_up}
+use Rattle.first_values.specs.Values.{Value, literal, cell, reference, name, packet, Run, unit, truth_value, value_of, at, Env, look_up}
 use Rattle.first_values.specs.Equality.{Shape, opaque, equal_at}
 
 -- a closure's tag, and its function

@@ -1,5 +1,5 @@
 -- What may stand where: which operands an operation takes, and that all that it names is there.
-use Rattle.std.specs.Prelude.{◌≡◌, ℕ, suc, Bool, true, false, ◌||◌, List, [], ◌∷◌, length, Option, Some, None, nat_eq, nat_lt, slice_get, ⊤}
+use Rattle.std.specs.Prelude.{◌≡◌, ℕ, suc, Bool, true, false, ◌||◌, List, [], ◌∷◌, length, Some, nat_eq, nat_lt, slice_get, ⊤}
 use Rattle.std.specs.List.{AllByRecursion}
 use Rattle.first_values.specs.Values.{Piece, one, run}
 use Rattle.first_values.specs.Equality.{Shape, cells}

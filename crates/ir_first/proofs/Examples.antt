@@ -1,16 +1,15 @@
 -- Small programs, by computation: in both meanings.
-use Rattle.std.proofs.Common.{◌≡◌, ℕ, List, [], ◌∷◌, Option, Some, None, refl}
-use Rattle.std.specs.Prelude.{pos, negsuc, ⊤}
+use Rattle.std.proofs.Common.{◌≡◌, ℕ, List, [], ◌∷◌, refl}
+use Rattle.std.specs.Prelude.{pos}
 use Rattle.mlc_base.specs.Outcome.{Outcome, ended, wrong, going, uncaught}
 use Rattle.mlc_base.specs.declared.place.Place.{Place}
 use Rattle.mlc_prims.specs.declared.basis.BasisPrimitive.TheVariants.{Add, Less, Divide}
 use Rattle.first_values.specs.Values.{one, run}
 use Rattle.first_values.specs.Equality.{numbers, cells}
-use Rattle.first_values.specs.Operations.{Tables, an_int, a_text, ints, constant, field, refer, content, assign, exception, initial, pack, argument, equal, print, is, is_of, holds, known, one_of}
-use Rattle.ir_first.specs.Tree.{Exp, Fun, Program, ret, let_in, turn, switch, branch, first, miss, plain, make, attempt, call, block, handle, raise, no_arms, arm}
+use Rattle.first_values.specs.Operations.{Tables, an_int, a_text, ints, constant, refer, content, assign, exception, initial, pack, argument, equal, print, is, is_of, holds, one_of}
+use Rattle.ir_first.specs.Tree.{Exp, Program, ret, let_in, turn, switch, branch, first, miss, plain, make, attempt, call, block, handle, raise, no_arms, arm}
 use Rattle.ir_first.specs.Meaning.{meaning}
 use Rattle.ir_first.specs.Continued as continued
-use Rattle.ir_first.specs.Whole.{AreWhole}
 use Rattle.ir_first.specs.WellFormed.{IsWellFormed}
 
 abbrev here : Place

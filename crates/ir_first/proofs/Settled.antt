@@ -1,16 +1,16 @@
 -- The two meanings, in one simulation: equal where nothing misses that is not to (s), else unless the continued one is wrong.
-use Rattle.std.proofs.Common.{◌≡◌, ℕ, zero, suc, ◌||◌, List, [], ◌∷◌, Option, Some, None, Bool, true, false, if◌then◌else◌, nat_eq, slice_get, refl, sym, ap, subst, ◌∙◌}
+use Rattle.std.proofs.Common.{◌≡◌, ℕ, zero, suc, ◌||◌, List, [], ◌∷◌, Option, Some, None, Bool, true, false, if◌then◌else◌, nat_eq, slice_get, refl, ap, subst}
 use Rattle.std.specs.Prelude.{⊤}
 use Rattle.std.specs.List.{AllByRecursion}
 use Rattle.mlc_base.specs.Outcome.{wrong}
-use Rattle.mlc_base.specs.Run.{World, gives, raises, stops, went_wrong, then_do, or_handle, fail, or_fail, take_turn, turn_from, outcome_of}
+use Rattle.mlc_base.specs.Run.{World, gives, raises, stops, went_wrong, then_do, or_handle, fail, or_fail, turn_from, outcome_of}
 use Rattle.mlc_base.specs.declared.place.Place.{Place}
 use Rattle.mlc_prims.specs.PrimOf.{Gives, made, raised}
 use Rattle.first_values.specs.Values.{Value, literal, cell, reference, name, packet, values_of, Env, Run, bind, look_up, look_all, bind_all, gather, identifier_of, tag_of}
 use Rattle.first_values.specs.Operations.{Tables, perform, attempted, either_way, decide, called, raised_from}
 use Rattle.ir_first.specs.Tree.{Exp, Op, Arms, Fun, Program, ret, let_in, turn, switch, branch, first, miss, plain, make, attempt, call, block, handle, raise, no_arms, arm}
 use Rattle.ir_first.specs.Meaning as r
-use Rattle.ir_first.specs.Meaning.{Result, it, missed, with_value, then_value, after_miss, or_next, value_in, whole, as_result, Calls, body_of, begin}
+use Rattle.ir_first.specs.Meaning.{Result, it, missed, then_value, or_next, whole, as_result, Calls, body_of, begin}
 use Rattle.ir_first.specs.Continued as m
 use Rattle.ir_first.specs.Whole.{may_miss, IsWhole, HasWhole, OpHasWhole, ArmsHaveWhole, FunIsWhole, AreWhole}
 use Rattle.ir_first.specs.Laws.{MeaningsAreOne, MeaningsAreOneUnlessWrong}

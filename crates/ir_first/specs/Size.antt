@@ -1,6 +1,6 @@
 -- How large a program is, which variables it binds, and how many are in scope at one place of one function.
-use Rattle.std.specs.Prelude.{◌≡◌, ℕ, zero, suc, ◌+◌, List, [], ◌∷◌, ◌++◌, length, ⊤}
-use Rattle.ir_first.specs.Tree.{Exp, Op, Arms, Fun, Program, ret, let_in, turn, switch, branch, first, miss, plain, make, attempt, call, block, handle, raise, no_arms, arm}
+use Rattle.std.specs.Prelude.{◌≡◌, ℕ, suc, ◌+◌, List, [], ◌∷◌, ◌++◌, length, ⊤}
+use Rattle.ir_first.specs.Tree.{Exp, Op, Arms, Fun, ret, let_in, turn, switch, branch, first, miss, plain, make, attempt, call, block, handle, raise, no_arms, arm}
 
 -- operations, operands and pieces, variables that are bound, arms
 abbrev mutual

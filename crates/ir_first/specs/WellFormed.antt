@@ -1,6 +1,6 @@
 -- Which programs are well formed: what is named is there, calls give as many arguments as functions take, and what is not to miss doesn't. There are no types:
 -- that a program is never wrong comes from the form before.
-use Rattle.std.specs.Prelude.{◌≡◌, ℕ, List, [], ◌∷◌, length, map, Option, Some, ⊤, slice_get}
+use Rattle.std.specs.Prelude.{◌≡◌, ℕ, List, ◌∷◌, length, map, Some, ⊤, slice_get}
 use Rattle.std.specs.List.{AllByRecursion}
 use Rattle.first_values.specs.Operations.{Tables}
 use Rattle.first_values.specs.WellFormed.{IsIn, AreIn, PiecesIn, IsPlain, IsTest, IsCallee, AreTables}

@@ -1,5 +1,5 @@
 -- Which expressions may miss; and that none does which is not to: bodies, blocks, what is handled, and handlers.
-use Rattle.std.specs.Prelude.{◌≡◌, ℕ, Bool, true, false, ◌||◌, List, ⊤}
+use Rattle.std.specs.Prelude.{◌≡◌, Bool, true, false, ◌||◌, ⊤}
 use Rattle.std.specs.List.{AllByRecursion}
 use Rattle.ir_first.specs.Tree.{Exp, Op, Arms, Fun, Program, ret, let_in, turn, switch, branch, first, miss, plain, make, attempt, call, block, handle, raise, no_arms, arm}
 

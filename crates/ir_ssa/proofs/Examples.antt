@@ -1,11 +1,11 @@
 -- Small programs, by computation: what no pass makes yet.
-use Rattle.std.proofs.Common.{◌≡◌, ℕ, List, [], ◌∷◌, refl}
+use Rattle.std.proofs.Common.{◌≡◌, ℕ, [], ◌∷◌, refl}
 use Rattle.std.specs.Prelude.{pos}
-use Rattle.mlc_base.specs.Outcome.{Outcome, ended, wrong, going}
+use Rattle.mlc_base.specs.Outcome.{ended, wrong, going}
 use Rattle.mlc_base.specs.declared.place.Place.{Place}
 use Rattle.mlc_prims.specs.declared.basis.BasisPrimitive.TheVariants.{Subtract}
 use Rattle.first_values.specs.Operations.{Tables, an_int, a_text, ints, constant, print, is}
-use Rattle.ir_ssa.specs.Tree.{Body, Program, plain, make, attempt, turn, call, label, again, guard, goto, jump, branch, switch, tail, ret, raise, last, arm}
+use Rattle.ir_ssa.specs.Tree.{Body, Program, plain, make, attempt, label, again, guard, goto, jump, branch, ret, raise}
 use Rattle.ir_ssa.specs.Meaning.{meaning}
 
 abbrev there : Place

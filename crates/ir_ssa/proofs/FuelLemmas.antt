@@ -2,14 +2,14 @@
 use Rattle.std.proofs.Common.{◌≡◌, ℕ, zero, suc, ◌≤◌, Bool, true, false, if◌then◌else◌, List, [], ◌∷◌, ◌++◌, length, Option, Some, None, nat_eq, nat_lt, slice_get, refl, ap, arith}
 use Rattle.std.specs.Prelude.{get_or, slice_set}
 use Rattle.mlc_base.specs.declared.place.Place.{Place}
-use Rattle.mlc_base.specs.Run.{World, Cut, out_of_turns, went_wrong, gives, raises, stops, or_fail, fail, turn_from, writes, outcome_of}
-use Rattle.mlc_prims.specs.LitOf.{Literal, int, word, char, string, truth}
+use Rattle.mlc_base.specs.Run.{World, Cut, out_of_turns, went_wrong, gives, raises, stops, or_fail, turn_from, writes, outcome_of}
+use Rattle.mlc_prims.specs.LitOf.{int, word, char, string, truth}
 use Rattle.mlc_prims.specs.PrimOf.{Gives, made, raised}
 use Rattle.first_values.specs.Values.{Value, literal, cell, reference, name, packet, values_of, Env, Run, bind, look_up, look_all, bind_all, gather, identifier_of, tag_of, at}
 use Rattle.first_values.specs.Equality.{opaque, equal_at}
 use Rattle.first_values.specs.Operations.{Plain, same, constant, field, refer, content, assign, exception, initial, pack, argument, compute, equal, print, Tables, literal_at, attempted, either_way, decide, called, raised_from, none, one, two, field_from, read, write, print_value, packet_of, argument_of, made_in, perform}
 use Rattle.ir_ssa.specs.Tree.{Body, Bodies, Fun, Program, plain, make, attempt, turn, call, label, again, guard, goto, jump, branch, switch, tail, ret, raise, last, arm}
-use Rattle.ir_ssa.specs.Meaning.{Onward, Handler, Calls, throw, then_go, at_top, go_to, may_turn, must_turn, spin, eval, eval_arm, Evaluator, enter, idle, apply, body_of, begin, run_at, meaning}
+use Rattle.ir_ssa.specs.Meaning.{Onward, Handler, Calls, throw, then_go, at_top, go_to, may_turn, must_turn, spin, eval, eval_arm, Evaluator, enter, idle, apply, body_of, begin}
 use Rattle.ir_ssa.specs.Laws.{FuelIsEnough}
 
 -- one answer, with at most j turns left

@@ -4,7 +4,7 @@ use Rattle.mlc_base.specs.Outcome.{Outcome}
 use Rattle.mlc_base.specs.Run.{World, gives, raises, stops, out_of_turns, start, fail, or_fail, take_turn, outcome_of}
 use Rattle.mlc_base.specs.declared.place.Place.{Place}
 use Rattle.first_values.specs.Values.{Value, cell, values_of, Env, Run, bind, look_up, look_all, bind_all, gather, identifier_of, tag_of}
-use Rattle.first_values.specs.Operations.{Tables, perform, attempted, either_way, decide, called, Called, raised_from}
+use Rattle.first_values.specs.Operations.{Tables, perform, attempted, either_way, decide, called, raised_from}
 use Rattle.ir_ssa.specs.Tree.{Body, Bodies, Fun, Program, plain, make, attempt, turn, call, label, again, guard, goto, jump, branch, switch, tail, ret, raise, last, arm}
 
 -- what follows, from the place of the turn that is taken, if any, and the values that it is given

@@ -1,6 +1,6 @@
 -- Which programs are well formed: what is named is there, each goto gives as many values as the label takes, each call as many as the function takes, and a
 -- function returns outside its handlers alone. There are no types: that a program is never wrong comes from the forms before.
-use Rattle.std.specs.Prelude.{◌≡◌, ℕ, Bool, true, false, List, [], ◌∷◌, ◌++◌, length, map, Option, Some, slice_get}
+use Rattle.std.specs.Prelude.{◌≡◌, ℕ, Bool, true, false, List, [], ◌∷◌, ◌++◌, length, map, Some, slice_get}
 use Rattle.std.specs.List.{AllByRecursion}
 use Rattle.first_values.specs.Operations.{Tables}
 use Rattle.first_values.specs.WellFormed.{IsIn, AreIn, PiecesIn, IsPlain, IsTest, IsCallee, AreTables}

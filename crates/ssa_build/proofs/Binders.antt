@@ -1,5 +1,5 @@
 -- What the SSA form binds, the program binds, in the same order and as often.
-use Rattle.std.proofs.Common.{◌≡◌, ℕ, zero, suc, List, [], ◌∷◌, ◌++◌, Bool, true, false}
+use Rattle.std.proofs.Common.{ℕ, suc, List, [], ◌∷◌, ◌++◌, Bool, true, false}
 use Rattle.mlc_base.specs.declared.place.Place.{Place}
 use Rattle.first_values.specs.Operations.{Callee}
 use Rattle.ir_first.specs.Tree as f

@@ -1,5 +1,5 @@
 -- The SSA form is at most twice as large.
-use Rattle.std.proofs.Common.{◌≡◌, ℕ, zero, suc, ◌+◌, ◌≤◌, List, [], ◌∷◌, length, map, Bool, true, false, arith}
+use Rattle.std.proofs.Common.{ℕ, suc, ◌+◌, ◌≤◌, List, [], ◌∷◌, length, map, Bool, true, false, arith}
 use Rattle.mlc_base.specs.declared.place.Place.{Place}
 use Rattle.first_values.specs.Operations.{Callee}
 use Rattle.ir_first.specs.Tree as f

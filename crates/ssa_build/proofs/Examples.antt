@@ -1,11 +1,11 @@
 -- Small programs and their SSA forms, by computation.
-use Rattle.std.proofs.Common.{◌≡◌, ℕ, List, [], ◌∷◌, refl}
+use Rattle.std.proofs.Common.{◌≡◌, ℕ, [], ◌∷◌, refl}
 use Rattle.std.specs.Prelude.{pos}
-use Rattle.mlc_base.specs.Outcome.{Outcome, ended, wrong, going, uncaught}
+use Rattle.mlc_base.specs.Outcome.{ended, wrong, going, uncaught}
 use Rattle.mlc_base.specs.declared.place.Place.{Place}
 use Rattle.mlc_prims.specs.declared.basis.BasisPrimitive.TheVariants.{Add, Subtract}
 use Rattle.first_values.specs.Operations.{Tables, an_int, a_text, ints, constant, exception, initial, pack, argument, print, is, is_of, known, one_of}
-use Rattle.ir_first.specs.Tree.{Exp, Fun, Program, ret, let_in, turn, switch, branch, first, miss, plain, make, attempt, call, block, handle, raise, no_arms, arm}
+use Rattle.ir_first.specs.Tree.{Exp, Program, ret, let_in, turn, switch, branch, first, plain, make, attempt, call, block, handle, raise, no_arms, arm}
 use Rattle.ir_first.specs.Meaning.{meaning}
 use Rattle.ir_ssa.specs.Tree as s
 use Rattle.ir_ssa.specs.Meaning as after

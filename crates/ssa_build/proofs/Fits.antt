@@ -1,6 +1,5 @@
 -- The SSA form has no more variables in scope at once than the program.
-use Rattle.std.proofs.Common.{◌≡◌, ℕ, zero, suc, ◌+◌, List, [], ◌∷◌, length, Bool, true, false, arith}
-use Rattle.std.specs.Prelude.{⊤}
+use Rattle.std.proofs.Common.{◌≡◌, ℕ, suc, List, Bool, true, false, arith}
 use Rattle.mlc_base.specs.declared.place.Place.{Place}
 use Rattle.first_values.specs.Operations.{Callee}
 use Rattle.ir_first.specs.Tree as f

@@ -3,13 +3,12 @@ use Rattle.std.proofs.Common.{◌≡◌, ℕ, zero, suc, List, [], ◌∷◌, ma
 use Rattle.std.proofs.lemmas.Bool.{eq-eqb}
 use Rattle.std.proofs.lemmas.Option.{slice_get-map}
 use Rattle.std.specs.Prelude.{option_map}
-use Rattle.mlc_base.specs.Outcome.{Outcome}
-use Rattle.mlc_base.specs.Run.{World, Answer, gives, raises, stops, out_of_turns, then_do, or_handle, fail, or_fail, take_turn, turn_from, outcome_of}
+use Rattle.mlc_base.specs.Run.{World, gives, raises, stops, then_do, or_handle, or_fail, take_turn, turn_from, outcome_of}
 use Rattle.mlc_base.specs.declared.place.Place.{Place}
 use Rattle.mlc_prims.specs.PrimOf.{Gives, made, raised}
 use Rattle.ir_values.specs.Primitives.{raised_name}
 use Rattle.first_values.specs.Values.{Value, literal, cell, reference, name, packet, values_of, Env, Run, unit, bind, look_up, look_all, bind_all, gather, identifier_of, tag_of, first_some}
-use Rattle.first_values.specs.Operations.{Tables, Callee, perform, attempted, either_way, decide, called, Called, raised_from}
+use Rattle.first_values.specs.Operations.{Tables, Callee, perform, attempted, either_way, decide, called, raised_from}
 use Rattle.ir_first.specs.Tree as f
 use Rattle.ir_first.specs.Tree.{Exp, Op, Arms, let_in, first, miss, block, handle, no_arms}
 use Rattle.ir_first.specs.Meaning as src
@@ -18,7 +17,7 @@ use Rattle.ir_ssa.specs.Tree as s
 use Rattle.ir_ssa.specs.Tree.{label, guard}
 use Rattle.ir_ssa.specs.Meaning as tgt
 use Rattle.ir_ssa.specs.Meaning.{Onward, Handler, throw, then_go, at_top, go_to, may_turn}
-use Rattle.ssa_build.specs.Build.{Exit, returns, joins, under, leave, is_last, call_or_tail, handler_exit, build, build_op, build_arms, build_fun, ssa}
+use Rattle.ssa_build.specs.Build.{Exit, returns, joins, under, leave, is_last, call_or_tail, build, build_op, build_arms, build_fun, ssa}
 use Rattle.ssa_build.specs.Laws.{SameMeaning}
 
 -- where a value goes

@@ -1,5 +1,5 @@
 -- The SSA form of a well formed program is well formed.
-use Rattle.std.proofs.Common.{◌≡◌, ℕ, zero, suc, ◌||◌, List, [], ◌∷◌, ◌++◌, length, map, Option, Some, None, Bool, true, false, nat_eq, slice_get, refl, sym, ap, subst, ◌∙◌}
+use Rattle.std.proofs.Common.{◌≡◌, ℕ, suc, ◌||◌, List, [], ◌∷◌, length, map, Some, Bool, true, false, nat_eq, slice_get, refl, sym, ap, subst}
 use Rattle.std.proofs.lemmas.Bool.{eq-eqb}
 use Rattle.std.specs.Prelude.{⊤}
 use Rattle.std.specs.List.{AllByRecursion}
@@ -8,12 +8,12 @@ use Rattle.first_values.specs.Operations.{Tables, Callee}
 use Rattle.first_values.specs.WellFormed.{is_among, IsIn, AreIn, IsCallee}
 use Rattle.ir_first.specs.Tree as f
 use Rattle.ir_first.specs.Tree.{Exp, Op, Arms, let_in, first, miss, block, handle, no_arms}
-use Rattle.ir_first.specs.Whole.{may_miss, IsWhole, HasWhole, OpHasWhole, ArmsHaveWhole, FunIsWhole}
+use Rattle.ir_first.specs.Whole.{may_miss, HasWhole, OpHasWhole, ArmsHaveWhole, FunIsWhole}
 use Rattle.ir_first.specs.WellFormed as before
 use Rattle.ir_ssa.specs.Tree as s
 use Rattle.ir_ssa.specs.WellFormed as after
 use Rattle.ir_ssa.specs.WellFormed.{Label, IsForward}
-use Rattle.ssa_build.specs.Build.{Exit, returns, joins, under, leave, is_last, call_or_tail, handler_exit, build, build_op, build_arms, build_fun, ssa}
+use Rattle.ssa_build.specs.Build.{Exit, returns, joins, under, leave, is_last, call_or_tail, handler_exit, build, build_op, build_arms, build_fun}
 use Rattle.ssa_build.specs.Laws.{StaysWellFormed}
 
 nat_eq-self : (x : ℕ) → nat_eq x x ≡ true

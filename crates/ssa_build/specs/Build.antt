@@ -1,5 +1,5 @@
 -- The SSA form of a program: where an expression's value goes is known when it is built, and a miss goes to a label.
-use Rattle.std.specs.Prelude.{ℕ, zero, suc, List, [], ◌∷◌, map, Bool, true, false, nat_eq, if◌then◌else◌}
+use Rattle.std.specs.Prelude.{ℕ, suc, List, [], ◌∷◌, map, Bool, true, false, nat_eq, if◌then◌else◌}
 use Rattle.mlc_base.specs.declared.place.Place.{Place}
 use Rattle.first_values.specs.Operations.{Callee}
 use Rattle.ir_first.specs.Tree as f
