@@ -58,8 +58,7 @@ with_parameters c as_ = record c { tyvars = scope 0 variable as_ }
 -- type bindings [rule 27]
 abbrev pub types_bound : Context → List TypeBind → Option (Map ℕ TypeStructure)
 types_bound c [] = Some []
-types_bound c (b ∷ bs) =
-    option_map (λ r. (b.tycon, record { function = record { arity = length b.tyvars; body = r.0 }; constructors = [] }) ∷ r.1)
+types_bound c (b ∷ bs) = option_map (λ r. (b.tycon, record { function = record { arity = length b.tyvars; body = r.0 }; constructors = [] }) ∷ r.1)
     (option_zip (type_of (with_parameters c b.tyvars) b.ty) (types_bound c bs))
 
 -- Datatype bindings [rules 28, 29]: constructors of the type name n
@@ -88,8 +87,7 @@ constructors_of c as_ n (b ∷ bs) =
     (option_zip (behind_of (with_parameters c as_) b.of_ty) (constructors_of c as_ n bs))
 
 abbrev pub structures_of : Context → List TyName → List DataBind → Option (Map ℕ TypeStructure)
-structures_of c (n ∷ ns) (b ∷ bs) =
-    option_map (λ r. (b.tycon, record { function = named n; constructors = r.0 }) ∷ r.1)
+structures_of c (n ∷ ns) (b ∷ bs) = option_map (λ r. (b.tycon, record { function = named n; constructors = r.0 }) ∷ r.1)
     (option_zip (constructors_of c b.tyvars n b.cons) (structures_of c ns bs))
 structures_of c ns bs = Some []
 

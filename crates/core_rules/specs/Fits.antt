@@ -51,8 +51,7 @@ Giving P (stops c w) = ⊤
 
 -- declarations that have a typing give an environment that fits it, where the one that they are evaluated in fits
 abbrev pub DeclarationsFit : Type 0
-DeclarationsFit = (m : ℕ → Bool) (c : Context) (ds : Decs) (made : ℕ) (e : static.Env) (k : Choices) (call : Apply) (d : Env)
-    (w : World Value) →
+DeclarationsFit = (m : ℕ → Bool) (c : Context) (ds : Decs) (made : ℕ) (e : static.Env) (k : Choices) (call : Apply) (d : Env) (w : World Value) →
     DecsHave m c ds made e k → Fits c.env d → Giving (Fits e) (eval_decs call d ds w)
 
 -- the views of the initial basis fit, and those of the basis that the prelude sees

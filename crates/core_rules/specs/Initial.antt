@@ -59,14 +59,12 @@ plain_row x q = record { vid = Named x; scheme = monomorphic (primitive_type q);
 
 -- in the order of their names' numbers
 abbrev pub exceptions : List Entry
-exceptions =
-    exception_row word_Match match_packet ∷ exception_row word_Bind bind_packet ∷ exception_row word_Overflow (packet_of Overflow)
+exceptions = exception_row word_Match match_packet ∷ exception_row word_Bind bind_packet ∷ exception_row word_Overflow (packet_of Overflow)
     ∷ exception_row word_Div (packet_of Div) ∷ exception_row word_Subscript (packet_of Subscript) ∷ exception_row word_Size (packet_of Size)
     ∷ exception_row word_Chr (packet_of Chr) ∷ []
 
 abbrev pub primitives : List Entry
-primitives =
-    general_row (Named word_plus) prim.Add ∷ general_row (Named word_minus) prim.Subtract ∷ general_row (Named word_times) prim.Multiply
+primitives = general_row (Named word_plus) prim.Add ∷ general_row (Named word_minus) prim.Subtract ∷ general_row (Named word_times) prim.Multiply
     ∷ general_row (Named word_div) prim.Divide ∷ general_row (Named word_mod) prim.Modulo ∷ general_row (Named word_negate) prim.Negate
     ∷ plain_row word_abs prim.Absolute ∷ general_row (Named word_less_than) prim.Less ∷ general_row (Named word_at_most) prim.LessEqual
     ∷ general_row (Named word_greater_than) prim.Greater ∷ general_row (Named word_at_least) prim.GreaterEqual ∷ general_row Equals prim.Equals
@@ -74,8 +72,7 @@ primitives =
 
 -- the members of the structure `Prim`, which only the prelude sees
 abbrev pub hidden : List Entry
-hidden =
-    plain_row word_quot prim.Quotient ∷ plain_row word_rem prim.Remainder ∷ plain_row word_andb prim.BitsAnd ∷ plain_row word_orb prim.BitsOr
+hidden = plain_row word_quot prim.Quotient ∷ plain_row word_rem prim.Remainder ∷ plain_row word_andb prim.BitsAnd ∷ plain_row word_orb prim.BitsOr
     ∷ plain_row word_xorb prim.BitsXor ∷ plain_row word_notb prim.BitsNot ∷ plain_row word_shl prim.ShiftLeft ∷ plain_row word_shr prim.ShiftRight
     ∷ plain_row word_sar prim.ShiftSigned ∷ plain_row word_toInt prim.ToInt ∷ plain_row word_toIntX prim.ToIntSigned ∷ plain_row word_fromInt prim.FromInt
     ∷ plain_row word_ord prim.CharCode ∷ plain_row word_chr prim.CharOf ∷ plain_row word_text prim.TextOf ∷ plain_row word_size prim.SizeOf
@@ -92,8 +89,7 @@ abbrev pub type_row : ℕ → TyName → List Entry → TypeEntry
 type_row x n cs = record { tycon = x; function = named n; constructors = cs }
 
 abbrev pub type_rows : List TypeEntry
-type_rows =
-    record { tycon = word_unit; function = record { arity = 0; body = unit_type }; constructors = [] } ∷ type_row word_int int_name []
+type_rows = record { tycon = word_unit; function = record { arity = 0; body = unit_type }; constructors = [] } ∷ type_row word_int int_name []
     ∷ type_row word_word word_name [] ∷ type_row word_char char_name [] ∷ type_row word_string string_name [] ∷ type_row word_exn exn_name []
     ∷ type_row word_ref ref_name (ref_row ∷ []) ∷ type_row word_bool bool_name (built_row word_true True ∷ built_row word_false False ∷ [])
     ∷ type_row word_list list_name (built_row word_nil Nil ∷ built_row word_cons Cons ∷ []) ∷ []

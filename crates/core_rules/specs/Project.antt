@@ -51,8 +51,7 @@ module _ (prelude : Decs) where
   abbrev pub eval_all : Apply → dynamic.Env → Option dynamic.Env → List Part → World dynamic.Value → Answer dynamic.Value dynamic.Env
   eval_all call e s [] w = gives e w
   eval_all call e s (source run ∷ parts) w = then_do (eval_decs call e run w) (λ d w. eval_all call (dynamic.plus e d) s parts w)
-  eval_all call e None (standard_basis ∷ parts) w =
-      then_do (eval_decs call (dynamic_env prelude_members) prelude w)
+  eval_all call e None (standard_basis ∷ parts) w = then_do (eval_decs call (dynamic_env prelude_members) prelude w)
       (λ d w. eval_all call (dynamic.plus e (dynamic_standard d)) (Some (dynamic_standard d)) parts w)
   eval_all call e (Some d) (standard_basis ∷ parts) w = eval_all call (dynamic.plus e d) (Some d) parts w
 

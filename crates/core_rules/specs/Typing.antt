@@ -180,8 +180,7 @@ module _ (m : ℕ → Bool) where
       variable_has : (p : Place) {x : Vid} {t : Typ} → is_matched_in (value_in c.env x) ≡ false → is_kept x ≡ false → Over c.names t →
           PatHas c (vid_pat p (short x)) t ((x, t) ∷ []) no_choice
       constructor_has : (p : Place) {x : LongVid} {v : Value} {n : TyName} {ts : Typs} → long_value_in c.env x ≡ Some v → is_matched v.status ≡ true →
-          IsInstance c v.scheme (con (name n) ts) no_choice →
-          PatHas c (vid_pat p x) (con (name n) ts) [] no_choice
+          IsInstance c v.scheme (con (name n) ts) no_choice → PatHas c (vid_pat p x) (con (name n) ts) [] no_choice
       built_has : (p : Place) {b : BuiltIn} {n : TyName} {ts : Typs} → IsInstance c (built_scheme b) (con (name n) ts) no_choice →
           PatHas c (built_pat p b) (con (name n) ts) [] no_choice
       fields_has : (p : Place) {fs : PatFields} {r : Row} {t : Typ} {vs : Bound} {k : Choices} → PatsHave c fs r vs k → t ≡ row_type (sorted r) →
@@ -199,8 +198,7 @@ module _ (m : ℕ → Bool) where
       typed_has : (p : Place) {a : Pat} {ty : Ty} {t : Typ} {vs : Bound} {k : Choices} → PatHas c a t vs k → type_of c ty ≡ Some t →
           PatHas c (typed_pat p a ty) t vs k
       as_has : (p : Place) {x : Vid} {ty : Option Ty} {a : Pat} {t : Typ} {vs : Bound} {k : Choices} → is_matched_in (value_in c.env x) ≡ false →
-          is_kept x ≡ false → Annotated c ty t → PatHas c a t vs k →
-          PatHas c (as_pat p x ty a) t ((x, t) ∷ vs) k
+          is_kept x ≡ false → Annotated c ty t → PatHas c a t vs k → PatHas c (as_pat p x ty a) t ((x, t) ∷ vs) k
 
     pub data PatsHave (c : Context) : PatFields → Row → Bound → Choices → Type 0 where
       no_field_has : PatsHave c no_pat_fields [] [] no_choice
@@ -237,8 +235,7 @@ module _ (m : ℕ → Bool) where
     pub data RulesHave : Context → Rules → Typ → Typ → Choices → Type 0 where
       no_rule_has : {c : Context} {t u : Typ} → RulesHave c no_rules t u no_choice
       rule_has : {c : Context} (p : Place) {a : Pat} {e : Exp} {rs : Rules} {t u : Typ} {vs : Bound} {k j l : Choices} → PatHas c a t vs k →
-          AreDistinct (bound_in vs) → HasType (with_bound c vs) e u j → RulesHave c rs t u l →
-          RulesHave c (rule p a e rs) t u (both k (both j l))
+          AreDistinct (bound_in vs) → HasType (with_bound c vs) e u j → RulesHave c rs t u l → RulesHave c (rule p a e rs) t u (both k (both j l))
 
     -- C ⊢ dec ⇒ E, with the number of type names that it makes [rules 15 to 24]
     pub data DecHas : Context → Dec → ℕ → Env → Choices → Type 0 where
@@ -255,8 +252,7 @@ module _ (m : ℕ → Bool) where
       datatype_has : {c : Context} (p : Place) {bs : List DataBind} {ts : Map ℕ TypeStructure} (qs : List Bool) → length qs ≡ length bs →
           datatypes c qs bs ≡ Some ts → respects_equality qs ts ≡ true →
           ((qs' : List Bool) (ts' : Map ℕ TypeStructure) → length qs' ≡ length bs → datatypes c qs' bs ≡ Some ts' → respects_equality qs' ts' ≡ true →
-          AllBelow qs' qs) →
-          DecHas c (datatype_dec p bs) (length bs) (datatypes_env ts) no_choice
+          AllBelow qs' qs) → DecHas c (datatype_dec p bs) (length bs) (datatypes_env ts) no_choice
       replicate_has : {c : Context} (p : Place) {x : ℕ} {y : LongIdAt} {s : TypeStructure} → replicated c.env y ≡ Some s →
           DecHas c (replicate_dec p x y) 0 (env s.constructors ((x, s) ∷ []) no_structures) no_choice
       exception_has : {c : Context} (p : Place) {bs : List ExBind} {vs : Values} → exceptions_of c bs ≡ Some vs →
@@ -276,5 +272,4 @@ module _ (m : ℕ → Bool) where
       no_bind_has : {c : Context} {n : ℕ} {r : ℕ → Typ} → BindsHave c n r no_binds [] no_choice
       bind_has : {c : Context} {n : ℕ} {r : ℕ → Typ} (p : Place) {a : Pat} {e : Exp} {bs : Binds} {t : Typ} {v vs : Bound} {us : List Bound} {k j l : Choices} →
           PatHas c a t v k → v ≡ put_bound n r vs → HasType c e t j → (is_non_expansive c.env e ≡ false → bound_have_none n vs ≡ true) →
-          BindsHave c n r bs us l →
-          BindsHave c n r (bind p a e bs) (vs ∷ us) (both (settles (is_non_expansive c.env e) (both k j)) l)
+          BindsHave c n r bs us l → BindsHave c n r (bind p a e bs) (vs ∷ us) (both (settles (is_non_expansive c.env e) (both k j)) l)
