@@ -1,6 +1,7 @@
 -- What types and declarations without expressions stand for. [Definition 4.4, 4.9, rules 16 to 20 and 27 to 31, 44 to 49]
-use Rattle.std.specs.Prelude.{◌≡◌, ℕ, suc, Bool, true, false, not, ◌&&◌, ◌||◌, nat_eq, nat_lt, if◌then◌else◌, List, [], ◌∷◌, ◌++◌, map, length, Option, Some, None, option_map, option_and_then, ⊤}
+use Rattle.std.specs.Prelude.{◌≡◌, ℕ, suc, Bool, true, false, not, ◌&&◌, ◌||◌, nat_eq, nat_lt, if◌then◌else◌, List, [], ◌∷◌, ◌++◌, map, flat_map, length, Option, Some, None, option_map, option_and_then, ⊤}
 use Rattle.std.specs.Option.{option_zip}
+use Rattle.std.specs.List.{list_all}
 use Rattle.ty_core.specs.Types.{Typ, con as built_of, var as variable, Typs, none, more, arrow as to, name, admits}
 use Rattle.ty_core.specs.Statics.{apply, named, variables}
 use Rattle.ty_core.specs.declared.name.TyName.{TyName}
@@ -14,8 +15,7 @@ use Rattle.ty_basis.specs.Types.{Row, exn_type, function_type, row_type}
 use Rattle.core_rules.specs.Objects.{sorted, monomorphic, Map, at, Value, Values, TypeStructure, Env, env, no_structures, no_env, types_env, types, structures, plus, along, long_value_in, Context, with_env}
 
 abbrev pub is_exception : Status → Bool
-is_exception Exception = true
-is_exception s = false
+is_exception s = elim s [ Exception ↦ true | o ↦ false ]
 
 abbrev pub type_in : Env → List ℕ → ℕ → Option TypeStructure
 type_in e qs x = option_and_then (λ d. at nat_eq (types d) x) (along e qs)
@@ -65,8 +65,7 @@ types_bound c (b ∷ bs) = option_map (λ r. (b.tycon, record { function = recor
 
 -- t, or a function to it from what stands behind `of`
 abbrev pub from_argument : Option Typ → Typ → Typ
-from_argument None t = t
-from_argument (Some u) t = function_type u t
+from_argument o t = elim o [ None ↦ t | Some u ↦ function_type u t ]
 
 abbrev pub constructed : TyName → Option Typ → Typ
 constructed n u = from_argument u (built_of (name n) (variables 0 n.arity))
@@ -77,8 +76,7 @@ any_marks as_ = map (λ a. Any) as_
 
 -- the type of what stands behind `of`, if that is there
 abbrev pub behind_of : Context → Option Ty → Option (Option Typ)
-behind_of c None = Some None
-behind_of c (Some t) = option_map Some (type_of c t)
+behind_of c o = elim o [ None ↦ Some None | Some t ↦ option_map Some (type_of c t) ]
 
 abbrev pub constructors_of : Context → List Tyvar → TyName → List ConBind → Option Values
 constructors_of c as_ n [] = Some []
@@ -128,8 +126,7 @@ argument_admits n (built_of to (more t ts)) = admits (λ v. nat_lt v n) t
 argument_admits n t = true
 
 abbrev pub all_arguments_admit : Values → Bool
-all_arguments_admit [] = true
-all_arguments_admit (v ∷ vs) = argument_admits (length v.1.scheme.marks) v.1.scheme.body && all_arguments_admit vs
+all_arguments_admit = list_all (λ v. argument_admits (length v.1.scheme.marks) v.1.scheme.body)
 
 abbrev pub respects_equality : List Bool → Map ℕ TypeStructure → Bool
 respects_equality (q ∷ qs) (s ∷ ss) = (not q || all_arguments_admit s.1.constructors) && respects_equality qs ss
@@ -140,8 +137,7 @@ AllBelow (q ∷ qs) (r ∷ rs) = (q ≡ true → r ≡ true) × AllBelow qs rs
 AllBelow qs rs = ⊤
 
 abbrev pub all_constructors : Map ℕ TypeStructure → Values
-all_constructors [] = []
-all_constructors (s ∷ ss) = s.1.constructors ++ all_constructors ss
+all_constructors = flat_map (λ s. s.1.constructors)
 
 abbrev pub datatypes_env : Map ℕ TypeStructure → Env
 datatypes_env ts = env (all_constructors ts) ts no_structures

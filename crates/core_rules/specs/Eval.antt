@@ -1,6 +1,6 @@
 -- Evaluation in the run algebra. [Definition 6.7] A phrase is evaluated left to right in an environment; calls go through `apply`, which takes the turns.
 -- Where no case applies the run goes wrong.
-use Rattle.std.specs.Prelude.{ℕ, zero, suc, Bool, true, false, List, [], ◌∷◌, Option, Some, None, option_map, option_and_then}
+use Rattle.std.specs.Prelude.{ℕ, zero, suc, Bool, true, false, List, [], ◌∷◌, Option, Some, None, option_map, option_and_then, if◌then◌else◌}
 use Rattle.mlc_base.specs.Run.{World, Answer, gives, raises, stops, out_of_turns, then_do, or_handle, or_fail, fail, take_turn, writes, new_reference, assign, new_exception}
 use Rattle.mlc_base.specs.declared.label.Label.TheVariants.{Number}
 use Rattle.mlc_base.specs.declared.place.Place.{Place}
@@ -28,11 +28,7 @@ abbrev pub bind_packet : Value
 bind_packet = exn 1
 
 abbrev pub packet_of : PrimExn → Value
-packet_of Overflow = exn 2
-packet_of Div = exn 3
-packet_of Subscript = exn 4
-packet_of Size = exn 5
-packet_of Chr = exn 6
+packet_of e = elim e [ Overflow ↦ exn 2 | Div ↦ exn 3 | Subscript ↦ exn 4 | Size ↦ exn 5 | Chr ↦ exn 6 ]
 
 abbrev pub raise_value : Value → World Value → Answer Value Value
 raise_value v w = or_fail (exn_in v) w (λ t. raises v w)
@@ -40,16 +36,13 @@ raise_value v w = or_fail (exn_in v) w (λ t. raises v w)
 -- Primitives [6.4].
 
 abbrev pub truth_value : Bool → Value
-truth_value true = con (built True)
-truth_value false = con (built False)
+truth_value b = if b then con (built True) else con (built False)
 
 abbrev pub value_of : Literal → Value
-value_of (truth b) = truth_value b
-value_of l = literal l
+value_of l = elim l [ truth b ↦ truth_value b | k ↦ literal k ]
 
 abbrev pub giving : Gives → World Value → Answer Value Value
-giving (made l) w = gives (value_of l) w
-giving (raised e) w = raises (packet_of e) w
+giving g w = elim g [ made l ↦ gives (value_of l) w | raised e ↦ raises (packet_of e) w ]
 
 -- n fields, with the labels from k on
 abbrev pub parts : ℕ → ℕ → Fields → Option (List Value)
@@ -111,16 +104,13 @@ all_fns (bind p a (fn q rs) bs) = all_fns bs
 all_fns (bind p a e bs) = false
 
 abbrev pub with_recursive : Env → Binds → Bool → Env → World Value → Answer Value Env
-with_recursive e rs true d w = gives (plus d (recursive e rs)) w
-with_recursive e rs false d w = fail w
+with_recursive e rs fns d w = if fns then gives (plus d (recursive e rs)) w else fail w
 
 abbrev pub Apply : Type 0
 Apply = Place → Value → Value → World Value → Answer Value Value
 
 abbrev pub on_match : {A : Type 0} → Matching → World Value → (Env → World Value → Answer Value A) → (World Value → Answer Value A) → Answer Value A
-on_match (binds d) w go otherwise = go d w
-on_match fails w go otherwise = otherwise w
-on_match misfits w go otherwise = fail w
+on_match m w go otherwise = elim m [ binds d ↦ go d w | fails ↦ otherwise w | misfits ↦ fail w ]
 
 -- Declarations without expressions
 
@@ -148,8 +138,7 @@ opened e (x ∷ xs) = option_and_then (λ d. option_map (plus d) (opened e xs)) 
 
 -- the identifier that a binding of an exception tells
 abbrev pub identifier : Vid → ℕ
-identifier (Named x) = x
-identifier v = 0
+identifier v = elim v [ Named x ↦ x | u ↦ 0 ]
 
 abbrev pub eval_exns : Env → List ExBind → World Value → Answer Value Env
 eval_exns e [] w = gives nothing w

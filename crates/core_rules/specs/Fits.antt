@@ -45,9 +45,7 @@ pub record Fits (e : static.Env) (d : Env) : Type 0 where
 
 -- what is given, if something is, has P
 abbrev pub Giving : {V A : Type 0} → (A → Type 0) → Answer V A → Type 0
-Giving P (gives a w) = P a
-Giving P (raises p w) = ⊤
-Giving P (stops c w) = ⊤
+Giving P r = elim r [ gives a w ↦ P a | raises p w ↦ ⊤ | stops c w ↦ ⊤ ]
 
 -- declarations that have a typing give an environment that fits it, where the one that they are evaluated in fits
 abbrev pub DeclarationsFit : Type 0

@@ -14,24 +14,18 @@ use Rattle.core_rules.specs.Words.{same_vid}
 use Rattle.core_rules.specs.Values.{Con, built, declared, Value, literal, record_of, con, con_of, ref, address, exn, exn_of, Fields, no_fields, field, Env, nothing, value, plus, Found, long_value_in, field_in, count}
 
 abbrev pub constant_of : term.Constant → Literal
-constant_of (term.int z) = int z
-constant_of (term.word n) = word n
-constant_of (term.char n) = char n
-constant_of (term.string s) = string s
+constant_of k = elim k [ term.int z ↦ int z | term.word n ↦ word n | term.char n ↦ char n | term.string s ↦ string s ]
 
 -- What a value is.
 
 abbrev pub literal_in : Value → Option Literal
-literal_in (literal l) = Some l
-literal_in v = None
+literal_in v = elim v [ literal l ↦ Some l | u ↦ None ]
 
 abbrev pub fields_in : Value → Option Fields
-fields_in (record_of fs) = Some fs
-fields_in v = None
+fields_in v = elim v [ record_of fs ↦ Some fs | u ↦ None ]
 
 abbrev pub address_in : Value → Option ℕ
-address_in (address a) = Some a
-address_in v = None
+address_in v = elim v [ address a ↦ Some a | u ↦ None ]
 
 -- a constructor, or an exception name, and its argument if it has one
 pub record Tagged (A : Type 0) : Type 0 where
@@ -39,14 +33,10 @@ pub record Tagged (A : Type 0) : Type 0 where
   pub argument : Option Value
 
 abbrev pub con_in : Value → Option (Tagged Con)
-con_in (con c) = Some (record { tag = c; argument = None })
-con_in (con_of c v) = Some (record { tag = c; argument = Some v })
-con_in v = None
+con_in v = elim v [ con c ↦ Some (record { tag = c; argument = None }) | con_of c w ↦ Some (record { tag = c; argument = Some w }) | u ↦ None ]
 
 abbrev pub exn_in : Value → Option (Tagged ℕ)
-exn_in (exn n) = Some (record { tag = n; argument = None })
-exn_in (exn_of n v) = Some (record { tag = n; argument = Some v })
-exn_in v = None
+exn_in v = elim v [ exn n ↦ Some (record { tag = n; argument = None }) | exn_of n w ↦ Some (record { tag = n; argument = Some w }) | u ↦ None ]
 
 abbrev pub same_built : BuiltIn → BuiltIn → Bool
 same_built True True = true
@@ -89,9 +79,7 @@ pub data Matching : Type 0 where
   misfits : Matching
 
 abbrev pub then_match : Matching → (Env → Matching) → Matching
-then_match (binds d) go = go d
-then_match fails go = fails
-then_match misfits go = misfits
+then_match m go = elim m [ binds d ↦ go d | fails ↦ fails | misfits ↦ misfits ]
 
 -- goes on where a test of values of one kind says yes
 abbrev pub where_same : Option Bool → Matching → Matching
@@ -101,13 +89,11 @@ where_same (Some false) go = fails
 
 -- goes on with a value
 abbrev pub on_found : Option Value → (Value → Matching) → Matching
-on_found None go = misfits
-on_found (Some v) go = go v
+on_found o go = elim o [ None ↦ misfits | Some v ↦ go v ]
 
 -- goes on with the argument behind the same tag
 abbrev pub behind : {A : Type 0} → (A → A → Bool) → A → Option (Tagged A) → (Value → Matching) → Matching
-behind same t None go = misfits
-behind same t (Some u) go = if same t u.tag then on_found u.argument go else fails
+behind same t o go = elim o [ None ↦ misfits | Some u ↦ if same t u.tag then on_found u.argument go else fails ]
 
 -- a constructor, `ref` or an exception name f against v, whose argument is for go
 abbrev pub against : List Value → Value → Value → (Value → Matching) → Matching
@@ -118,12 +104,10 @@ against store f v go = misfits
 
 -- the same without an argument
 abbrev pub unless_argument : Option Value → Matching
-unless_argument None = binds nothing
-unless_argument (Some v) = misfits
+unless_argument o = elim o [ None ↦ binds nothing | Some v ↦ misfits ]
 
 abbrev pub tagged : {A : Type 0} → (A → A → Bool) → A → Option (Tagged A) → Matching
-tagged same t None = misfits
-tagged same t (Some u) = if same t u.tag then unless_argument u.argument else fails
+tagged same t o = elim o [ None ↦ misfits | Some u ↦ if same t u.tag then unless_argument u.argument else fails ]
 
 abbrev pub alone : Value → Value → Matching
 alone (con c) v = tagged same_con c (con_in v)
@@ -131,25 +115,21 @@ alone (exn n) v = tagged nat_eq n (exn_in v)
 alone f v = misfits
 
 abbrev pub is_variable : Status → Bool
-is_variable Constructor = false
-is_variable Exception = false
-is_variable s = true
+is_variable s = elim s [ Constructor ↦ false | Exception ↦ false | other ↦ true ]
 
 abbrev pub bound_to : Vid → Value → Env
 bound_to x v = value x Variable v nothing
 
 -- an identifier by what it is in scope; a variable has no qualifiers
 abbrev pub match_variable : List ℕ → Vid → Value → Matching
-match_variable [] x v = binds (bound_to x v)
-match_variable (q ∷ qs) x v = misfits
+match_variable qs x v = elim qs [ [] ↦ binds (bound_to x v) | q ∷ rest ↦ misfits ]
 
 abbrev pub match_vid : Option Found → LongVid → Value → Matching
 match_vid None x v = match_variable x.qualifiers x.vid v
 match_vid (Some f) x v = if is_variable f.status then match_variable x.qualifiers x.vid v else alone f.value v
 
 abbrev pub match_con : Option Found → List Value → Value → (Value → Matching) → Matching
-match_con None store v go = misfits
-match_con (Some f) store v go = if is_variable f.status then misfits else against store f.value v go
+match_con o store v go = elim o [ None ↦ misfits | Some f ↦ if is_variable f.status then misfits else against store f.value v go ]
 
 -- the fields of a record: those of the pattern, and others only where `...` ends it
 abbrev pub pat_count : PatFields → ℕ
@@ -157,8 +137,7 @@ pat_count no_pat_fields = 0
 pat_count (pat_field l a fs) = suc (pat_count fs)
 
 abbrev pub on_fields : ℕ → Bool → Option Fields → (Fields → Matching) → Matching
-on_fields n further None go = misfits
-on_fields n further (Some gs) go = if further || nat_eq n (count gs) then go gs else misfits
+on_fields n further o go = elim o [ None ↦ misfits | Some gs ↦ if further || nat_eq n (count gs) then go gs else misfits ]
 
 -- under the environment e, with the references of the store
 abbrev mutual

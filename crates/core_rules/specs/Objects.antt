@@ -125,9 +125,7 @@ with_env c made e = record { names = c.names + made; tyvars = c.tyvars; env = pl
 
 -- the type names of a type are among the first so many
 abbrev pub SymbolOver : ℕ → Symbol → Type 0
-SymbolOver count arrow = ⊤
-SymbolOver count (labels ls) = ⊤
-SymbolOver count (name n) = nat_lt n.stamp count ≡ true
+SymbolOver count s = elim s [ arrow ↦ ⊤ | labels ls ↦ ⊤ | name n ↦ nat_lt n.stamp count ≡ true ]
 
 abbrev mutual
   pub Over : ℕ → Typ → Type 0

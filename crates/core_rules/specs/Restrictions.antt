@@ -1,7 +1,7 @@
 -- The syntactic restrictions: the places of the phrases that break one, whatever is in scope, in the order of the phrases' ends, inner ones first.
 -- [Definition 2.9, 4.11]
 -- That no variable is bound twice, nor one of the kept identifiers, is asked by the rules of patterns: there an identifier's status is known.
-use Rattle.std.specs.Prelude.{ℕ, zero, suc, Bool, true, false, not, ◌&&◌, ◌||◌, nat_eq, List, [], ◌∷◌, ◌++◌, map, flat_map, length}
+use Rattle.std.specs.Prelude.{ℕ, zero, suc, Bool, true, false, not, ◌&&◌, ◌||◌, nat_eq, if◌then◌else◌, List, [], ◌∷◌, ◌++◌, map, flat_map, length}
 use Rattle.std.specs.List.{list_all}
 use Rattle.mlc_base.specs.StandardWords.{word_true, word_false, word_nil, word_cons, word_ref, word_it}
 use Rattle.mlc_base.specs.declared.label.Label.{Label}
@@ -21,17 +21,11 @@ distinct same (x ∷ xs) = not (is_in same x xs) && distinct same xs
 
 -- identifiers that are never bound
 abbrev pub is_kept : Vid → Bool
-is_kept (Named x) = is_in nat_eq x (word_true ∷ word_false ∷ word_nil ∷ word_cons ∷ word_ref ∷ [])
-is_kept Equals = true
-is_kept (Fresh k) = false
+is_kept v = elim v [ Named x ↦ is_in nat_eq x (word_true ∷ word_false ∷ word_nil ∷ word_cons ∷ word_ref ∷ []) | Equals ↦ true | Fresh k ↦ false ]
 
 -- where a phrase begins
 abbrev pub ty_place : Ty → Place
-ty_place (bare.var p a) = p
-ty_place (bare.fields p fs) = p
-ty_place (bare.con p ts q x) = p
-ty_place (bare.arrow p t u) = p
-ty_place (bare.ill p) = p
+ty_place t = elim t [ bare.var p a ↦ p | bare.fields p fs ↦ p | bare.con p ts q x ↦ p | bare.arrow p t u ↦ p | bare.ill p ↦ p ]
 
 abbrev pub exp_place : Exp → Place
 exp_place (bare.constant_exp p c) = p
@@ -47,8 +41,7 @@ exp_place (bare.fn p rs) = p
 
 -- broken at p, unless a test holds
 abbrev pub unless : Bool → Place → List Place
-unless true p = []
-unless false p = p ∷ []
+unless b p = if b then [] else p ∷ []
 
 -- no label twice in a record, a record pattern or a record type
 
@@ -79,18 +72,11 @@ right_side as_ (c ∷ cs) = unless (are_among as_ (tyvars_in (flat_map (λ c. ph
 
 -- no type constructor, constructor or exception twice in a declaration; `withtype` counts, of which a sequence is made
 
-abbrev pub con_vids : List DataBind → List Vid
-con_vids bs = flat_map (λ b. map (λ c. c.vid) b.cons) bs
-
 abbrev pub exn_vids : List ExBind → List Vid
-exn_vids [] = []
-exn_vids (new_exn p x t ∷ bs) = x ∷ exn_vids bs
-exn_vids (same_exn p x q y ∷ bs) = x ∷ exn_vids bs
+exn_vids = map (λ b. elim b [ new_exn p x t ↦ x | same_exn p x q y ↦ x ])
 
 abbrev pub tycons_of : Dec → List ℕ
-tycons_of (type_dec p bs) = map (λ b. b.tycon) bs
-tycons_of (datatype_dec p bs) = map (λ b. b.tycon) bs
-tycons_of d = []
+tycons_of d = elim d [ type_dec p bs ↦ map (λ b. b.tycon) bs | datatype_dec p bs ↦ map (λ b. b.tycon) bs | other ↦ [] ]
 
 abbrev pub tycons_in : Decs → List ℕ
 tycons_in bare.no_decs = []
@@ -100,7 +86,7 @@ tycons_in (bare.dec d ds) = tycons_of d ++ tycons_in ds
 abbrev pub broken_by_dec : List ℕ → Dec → List Place
 broken_by_dec scoped (val_dec p q as_ bs rs) = unless (no_repetition as_ && list_all (λ a. not (is_in nat_eq a.name scoped)) as_) q
 broken_by_dec scoped (type_dec p bs) = unless (distinct nat_eq (map (λ b. b.tycon) bs)) p
-broken_by_dec scoped (datatype_dec p bs) = unless (distinct nat_eq (map (λ b. b.tycon) bs) && distinct same_vid (con_vids bs)) p
+broken_by_dec scoped (datatype_dec p bs) = unless (distinct nat_eq (map (λ b. b.tycon) bs) && distinct same_vid (flat_map (λ b. map (λ c. c.vid) b.cons) bs)) p
 broken_by_dec scoped (exception_dec p bs) = unless (distinct same_vid (exn_vids bs)) p
 broken_by_dec scoped (sequence_dec p ds) = unless (distinct nat_eq (tycons_in ds)) p
 broken_by_dec scoped d = []

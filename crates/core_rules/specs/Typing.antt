@@ -1,6 +1,7 @@
 -- Core typing: relations that guess types, over type names of the context alone. [Definition 4.10] Each typing tells its choices.
 -- A `val` declaration is typed at once for all types of its parameters: this is the closure of its types [4.7, 4.8], with no type variables to keep apart.
-use Rattle.std.specs.Prelude.{◌≡◌, ℕ, ◌+◌, ◌<◌, Bool, true, false, not, ◌&&◌, nat_eq, nat_lt, if◌then◌else◌, List, [], ◌∷◌, ◌++◌, map, length, Option, Some, None, ⊤}
+use Rattle.std.specs.Prelude.{◌≡◌, ℕ, ◌+◌, ◌<◌, Bool, true, false, not, ◌&&◌, nat_eq, nat_lt, if◌then◌else◌, List, [], ◌∷◌, ◌++◌, map, flat_map, length, Option, Some, None, ⊤}
+use Rattle.std.specs.List.{list_all}
 use Rattle.mlc_base.specs.declared.label.Label.{Label}
 use Rattle.mlc_base.specs.declared.place.Place.{Place}
 use Rattle.ty_core.specs.Types.{Typ, var, con, Typs, none, more, arrow, name}
@@ -29,10 +30,7 @@ use Rattle.core_rules.specs.Words.{same_vid, same_label}
 use Rattle.core_rules.specs.Restrictions.{distinct, is_kept}
 
 abbrev pub constant_type : term.Constant → Typ
-constant_type (term.int z) = int_type
-constant_type (term.word n) = word_type
-constant_type (term.char n) = char_type
-constant_type (term.string s) = string_type
+constant_type k = elim k [ term.int z ↦ int_type | term.word n ↦ word_type | term.char n ↦ char_type | term.string s ↦ string_type ]
 
 -- Statuses [4.1]
 
@@ -41,8 +39,7 @@ is_matched s = not (is_variable s)
 
 -- an identifier that a pattern matches, as a constructor or exception
 abbrev pub is_matched_in : Option Value → Bool
-is_matched_in None = false
-is_matched_in (Some v) = is_matched v.status
+is_matched_in o = elim o [ None ↦ false | Some v ↦ is_matched v.status ]
 
 -- Non-expansive expressions [4.7]. `ref` is the constructor of references, under whatever name.
 
@@ -51,8 +48,7 @@ gives_reference (con arrow (more t (more (con (name n) ts) us))) = nat_eq n.stam
 gives_reference t = false
 
 abbrev pub is_conexp_in : Option Value → Bool
-is_conexp_in None = false
-is_conexp_in (Some v) = is_matched v.status && not (gives_reference v.scheme.body)
+is_conexp_in o = elim o [ None ↦ false | Some v ↦ is_matched v.status && not (gives_reference v.scheme.body) ]
 
 abbrev pub is_conexp : Env → Exp → Bool
 is_conexp e (vid_exp p x) = is_conexp_in (long_value_in e x)
@@ -93,12 +89,10 @@ with_bound c vs = record c { env = plus c.env (values_env (map (λ b. (b.0, reco
 -- Parameters of a declaration: no class is among them, since overloaded types are never generalised.
 
 abbrev pub is_general : Mark → Bool
-is_general (Class c) = false
-is_general a = true
+is_general a = elim a [ Class c ↦ false | Any ↦ true | Equality ↦ true ]
 
 abbrev pub all_general : List Mark → Bool
-all_general [] = true
-all_general (a ∷ as_) = is_general a && all_general as_
+all_general = list_all is_general
 
 abbrev pub mark_of : Tyvar → Mark
 mark_of a = if a.equality then Equality else Any
@@ -119,8 +113,7 @@ abbrev pub put_bound : ℕ → (ℕ → Typ) → Bound → Bound
 put_bound n r = map (λ b. (b.0, put n r b.1))
 
 abbrev pub together : List Bound → Bound
-together [] = []
-together (b ∷ bs) = b ++ together bs
+together = flat_map (λ b. b)
 
 -- no parameter stands in a type
 abbrev mutual
@@ -133,8 +126,7 @@ abbrev mutual
   have_none n (more t ts) = has_none n t && have_none n ts
 
 abbrev pub bound_have_none : ℕ → Bound → Bool
-bound_have_none n [] = true
-bound_have_none n (b ∷ bs) = has_none n b.1 && bound_have_none n bs
+bound_have_none n = list_all (λ b. has_none n b.1)
 
 -- Clos VE [4.8]
 abbrev pub closed : List Mark → Bound → Env
@@ -142,8 +134,7 @@ closed marks vs = values_env (map (λ b. (b.0, record { scheme = record { marks 
 
 -- a binding's choices, where it counts as settled
 abbrev pub settles : Bool → Choices → Choices
-settles true k = settled k
-settles false k = k
+settles b k = if b then settled k else k
 
 -- the choice of an occurrence: only schemes of the initial basis are overloaded, in their one parameter
 abbrev pub Chosen : List Mark → (ℕ → Typ) → Choices → Type 0

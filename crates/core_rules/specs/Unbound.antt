@@ -19,15 +19,13 @@ pub data Unbound : Type 0 where
   structure_at : Place → LongId → Unbound
 
 abbrev pub unless_bound : {A : Type 0} → Option A → Unbound → List Unbound
-unless_bound None u = u ∷ []
-unless_bound (Some a) u = []
+unless_bound o u = elim o [ None ↦ u ∷ [] | Some a ↦ [] ]
 
 -- What declarations and patterns bind.
 
 -- an identifier that stands alone in a pattern is bound by it unless it is a constructor or an exception
 abbrev pub alone_names : Option Found → Vid → Env
-alone_names None x = bound_to x unit_value
-alone_names (Some f) x = if is_variable f.status then bound_to x unit_value else nothing
+alone_names o x = elim o [ None ↦ bound_to x unit_value | Some f ↦ if is_variable f.status then bound_to x unit_value else nothing ]
 
 abbrev mutual
   pub pat_names : Env → Pat → Env
@@ -101,8 +99,7 @@ parts_in e x = all_in e (parts x)
 
 -- an identifier without qualifiers is bound by the pattern, if it isn't matched
 abbrev pub unless_alone : List ℕ → List Unbound → List Unbound
-unless_alone [] us = []
-unless_alone (q ∷ qs) us = us
+unless_alone qs us = elim qs [ [] ↦ [] | q ∷ rest ↦ us ]
 
 abbrev pub own_unbound : Env → Phrase → List Unbound
 own_unbound e (exp (vid_exp p x)) = unless_bound (long_value_in e x) (value_at p x)

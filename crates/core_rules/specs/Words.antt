@@ -1,5 +1,6 @@
 -- Identifiers and labels: when two are one, and the order of labels.
 use Rattle.std.specs.Prelude.{Bool, true, false, ◌||◌, nat_eq, nat_lt, List, [], ◌∷◌}
+use Rattle.std.specs.List.{list_any}
 use Rattle.mlc_base.specs.declared.label.Label.{Label}
 use Rattle.mlc_base.specs.declared.label.Label.TheVariants.{Number, Word}
 use Rattle.sml_tree.specs.declared.ident.Vid.{Vid}
@@ -24,5 +25,4 @@ label_before (Word x) (Number n) = false
 label_before (Word x) (Word y) = nat_lt x y
 
 abbrev pub is_in : {A : Type 0} → (A → A → Bool) → A → List A → Bool
-is_in same x [] = false
-is_in same x (y ∷ ys) = same x y || is_in same x ys
+is_in same x = list_any (same x)
