@@ -70,8 +70,7 @@ perform_print (string s ∷ []) w = gives unit_value (writes s w)
 perform_print ls w = fail w
 
 abbrev pub perform_literals : BasisPrimitive → List Literal → World Value → Answer Value Value
-perform_literals prim.Print ls w = perform_print ls w
-perform_literals q ls w = or_fail (row_of q ls) w (λ g. giving g w)
+perform_literals q ls w = elim q [ prim.Print ↦ perform_print ls w | other ↦ or_fail (row_of other ls) w (λ g. giving g w) ]
 
 abbrev pub perform : BasisPrimitive → List Value → World Value → Answer Value Value
 perform prim.Equals vs w = perform_equals vs w

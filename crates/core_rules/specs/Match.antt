@@ -53,9 +53,7 @@ same_con c d = false
 -- Equality: of parts, left to right up to the first difference; of references by identity. Functions and packets have none.
 
 abbrev pub unless_different : Option Bool → Option Bool → Option Bool
-unless_different None more = None
-unless_different (Some true) more = more
-unless_different (Some false) more = Some false
+unless_different o more = elim o [ None ↦ None | Some true ↦ more | Some false ↦ Some false ]
 
 abbrev mutual
   pub same_value : Value → Value → Option Bool
@@ -83,9 +81,7 @@ then_match m go = elim m [ binds d ↦ go d | fails ↦ fails | misfits ↦ misf
 
 -- goes on where a test of values of one kind says yes
 abbrev pub where_same : Option Bool → Matching → Matching
-where_same None go = misfits
-where_same (Some true) go = go
-where_same (Some false) go = fails
+where_same o go = elim o [ None ↦ misfits | Some true ↦ go | Some false ↦ fails ]
 
 -- goes on with a value
 abbrev pub on_found : Option Value → (Value → Matching) → Matching

@@ -93,13 +93,10 @@ broken_by_dec scoped d = []
 
 -- each right side of `val rec` is a `fn`
 abbrev pub unless_fn : Phrase → List Place
-unless_fn (bind p a (bare.fn q rs)) = []
-unless_fn (bind p a e) = exp_place e ∷ []
-unless_fn x = []
+unless_fn x = elim x [ bind p a (bare.fn q rs) ↦ [] | bind p a e ↦ exp_place e ∷ [] | other ↦ [] ]
 
 abbrev pub scoped_inside : List ℕ → Phrase → List ℕ
-scoped_inside scoped (dec (val_dec p q as_ bs rs)) = tyvar_names (scoped_at scoped as_ bs rs) ++ scoped
-scoped_inside scoped x = scoped
+scoped_inside scoped x = elim x [ dec (val_dec p q as_ bs rs) ↦ tyvar_names (scoped_at scoped as_ bs rs) ++ scoped | other ↦ scoped ]
 
 -- what the parts of a phrase give
 abbrev pub inside : (Phrase → List Place) → Phrase → List Place

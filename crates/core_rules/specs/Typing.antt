@@ -160,8 +160,7 @@ module _ (m : ℕ → Bool) where
 
   -- the type of an optional annotation
   abbrev pub Annotated : Context → Option Ty → Typ → Type 0
-  Annotated c None t = ⊤
-  Annotated c (Some a) t = type_of c a ≡ Some t
+  Annotated c o t = elim o [ None ↦ ⊤ | Some a ↦ type_of c a ≡ Some t ]
 
   mutual
     -- C ⊢ pat ⇒ (VE, t) [rules 32 to 43]

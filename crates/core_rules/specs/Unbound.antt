@@ -112,8 +112,7 @@ own_unbound e (ex_bind (same_exn p x q y)) = unless_bound (long_value_in e y) (v
 own_unbound e x = []
 
 abbrev pub with_parts : Env → Phrase → List Unbound → List Unbound
-with_parts e (pat a) inner = own_unbound e (pat a) ++ inner
-with_parts e x inner = inner ++ own_unbound e x
+with_parts e x inner = elim x [ pat a ↦ own_unbound e (pat a) ++ inner | other ↦ inner ++ own_unbound e other ]
 
 -- so many levels deep
 abbrev pub unbound_to : ℕ → Env → Phrase → List Unbound
