@@ -1,5 +1,5 @@
 -- What types and declarations without expressions stand for. [Definition 4.4, 4.9, rules 16 to 20 and 27 to 31, 44 to 49]
-use Rattle.std.specs.Prelude.{◌≡◌, ℕ, suc, Bool, true, false, not, ◌&&◌, ◌||◌, nat_eq, nat_lt, if◌then◌else◌, List, [], ◌∷◌, ◌++◌, map, flat_map, length, Option, Some, None, option_map, option_and_then, ⊤}
+use Rattle.std.specs.Prelude.{◌≡◌, ℕ, suc, Bool, true, false, not, ◌&&◌, ◌||◌, nat_eq, nat_lt, if◌then◌else◌, List, [], ◌∷◌, map, flat_map, length, Option, Some, None, option_map, option_and_then, ⊤}
 use Rattle.std.specs.Option.{option_zip}
 use Rattle.std.specs.List.{list_all}
 use Rattle.ty_core.specs.Types.{Typ, con as built_of, var as variable, Typs, none, more, arrow as to, name, admits}

@@ -1,5 +1,5 @@
 -- Identifiers and labels: when two are one, and the order of labels.
-use Rattle.std.specs.Prelude.{Bool, true, false, ◌||◌, nat_eq, nat_lt, List, [], ◌∷◌}
+use Rattle.std.specs.Prelude.{Bool, true, false, nat_eq, nat_lt, List}
 use Rattle.std.specs.List.{list_any}
 use Rattle.mlc_base.specs.declared.label.Label.{Label}
 use Rattle.mlc_base.specs.declared.label.Label.TheVariants.{Number, Word}
