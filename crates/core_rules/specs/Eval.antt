@@ -109,7 +109,9 @@ abbrev pub Apply : Type 0
 Apply = Place → Value → Value → World Value → Answer Value Value
 
 abbrev pub on_match : {A : Type 0} → Matching → World Value → (Env → World Value → Answer Value A) → (World Value → Answer Value A) → Answer Value A
-on_match m w go otherwise = elim m [ binds d ↦ go d w | fails ↦ otherwise w | misfits ↦ fail w ]
+on_match (binds d) w go otherwise = go d w
+on_match fails w go otherwise = otherwise w
+on_match misfits w go otherwise = fail w
 
 -- Declarations without expressions
 
