@@ -15,7 +15,8 @@ pub record Member : Type 0 where
   pub tag : ℕ
   pub function : ℕ
 
--- what a program has beside its functions: the identifiers of the exceptions of the initial basis, its strings, its types, and the sets of closures that it calls
+-- what a program has beside its functions: the identifiers of the exceptions of the initial basis, its strings, its types, and the sets of
+-- closures that it calls
 pub record Tables : Type 0 where
   pub initial : List ℕ
   pub strings : List (List ℕ)

@@ -44,7 +44,8 @@ NameSent Stuck r old new = new ≡ old
 NameSent WriteFault r old new = new ≡ old
 
 -- what a first run and the name after it tell of a run with a result
-pub record TellsFirst (stop : Stop) (put : Put) (r : RunResult) (old new : Option (List ℕ)) (before now : ℕ) (old_name new_name : Option (List ℕ)) : Type 0 where
+pub record TellsFirst (stop : Stop) (put : Put) (r : RunResult) (old new : Option (List ℕ)) (before now : ℕ)
+    (old_name new_name : Option (List ℕ)) : Type 0 where
   pub after : State
   pub told : Tells stop r after old new before now
   pub name : put ≡ Done → NameSent stop r old_name new_name

@@ -17,7 +17,8 @@ module _ (T : Tables) (calls : Calls) where
     eval (let_in x op e) env w other = then_do (eval_op op env w) (λ v u. eval e (bind x v env) u other)
     eval (turn p e) env w other = take_turn p w (λ u. eval e env u other)
     eval (switch x arms) env w other = or_fail (tag_of (look_up x env)) w (λ t. eval_arm t arms env w other)
-    eval (branch q xs a b) env w other = or_fail (look_all xs env) w (λ vs. or_fail (decide T q vs) w (λ c. if c then eval a env w other else eval b env w other))
+    eval (branch q xs a b) env w other = or_fail (look_all xs env) w
+        (λ vs. or_fail (decide T q vs) w (λ c. if c then eval a env w other else eval b env w other))
     eval (first e d) env w other = eval e env w (λ u. eval d env u other)
     eval miss env w other = other w
 

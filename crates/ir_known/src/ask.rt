@@ -82,7 +82,8 @@ pub fn is_named(types: &Types, t: usize, name: TyName) -> bool
 
 /// What a function from this type gives, if a type is one.
 pub fn result_from(types: &Types, t: usize, argument: usize) -> Option<usize>
-    ensures { MatchOption result ((u : Typ) → type_at types.now t ≡ function_type (type_at types.now argument) u → ⊥) (λ u. type_at types.now t ≡ function_type (type_at types.now argument) (type_at types.now u)) }
+    ensures { MatchOption result ((u : Typ) → type_at types.now t ≡ function_type (type_at types.now argument) u → ⊥)
+        (λ u. type_at types.now t ≡ function_type (type_at types.now argument) (type_at types.now u)) }
 {
     match types.view(t) {
         View::Var(_) => None,

@@ -18,7 +18,8 @@ pub enum Known {
 
 /// A variable that is declared of a type over a list of parameters.
 pub fn declare(tables: &Tables, parameters: usize, ty: usize) -> Known
-    ensures { known_of tables.now.types (parameters_of tables.now) result ≡ declared (parameters_at (parameters_of tables.now) parameters) (type_at tables.now.types ty) }
+    ensures { known_of tables.now.types (parameters_of tables.now) result
+        ≡ declared (parameters_at (parameters_of tables.now) parameters) (type_at tables.now.types ty) }
 {
     if tables.parameters(parameters).is_empty() {
         Known::OfType(ty)

@@ -87,7 +87,8 @@ impl Scope {
 
     /// Comes back to where the mark was made.
     pub fn restore(&mut self, mark: Mark)
-        ensures { (added local around : List (ℕ × Known)) → self.old.0 ++ self.old.1 ≡ added ++ (local ++ around) → mark.len ≡ length (local ++ around) → mark.start ≡ length around → self.new ≡ (local, around) }
+        ensures { (added local around : List (ℕ × Known)) → self.old.0 ++ self.old.1 ≡ added ++ (local ++ around) → mark.len ≡ length (local ++ around)
+            → mark.start ≡ length around → self.new ≡ (local, around) }
     {
         self.known.truncate(mark.len);
         self.start = mark.start.min(self.known.len());

@@ -55,11 +55,14 @@ module _ (T : Tables) (calls : Calls) (fuel : ℕ) where
     eval (plain p xs x b) env ks hs w = or_fail (look_all xs env) w (λ vs. then_go hs (perform T p vs w) (λ v u. eval b (bind x v env) ks hs u))
     eval (make t ps x b) env ks hs w = or_fail (gather ps env) w (λ vs. eval b (bind x (cell t (values_of vs)) env) ks hs w)
     eval (attempt k p xs x a b) env ks hs w =
-        or_fail (look_all xs env) w (λ vs. or_fail (attempted k p vs) w (λ g. either_way g (λ v. eval a (bind x v env) ks hs w) (λ q. eval b (bind x q env) ks hs w)))
+        or_fail (look_all xs env) w
+        (λ vs. or_fail (attempted k p vs) w (λ g. either_way g (λ v. eval a (bind x v env) ks hs w) (λ q. eval b (bind x q env) ks hs w)))
     eval (turn p b) env ks hs w = take_turn p w (λ u. eval b env ks hs u)
     eval (call p c xs x b) env ks hs w =
-        or_fail (look_all xs env) w (λ vs. or_fail (called T c env vs) w (λ f. then_go hs (calls p f.function f.arguments w) (λ v u. eval b (bind x v env) ks hs u)))
-    eval (label params a b) env ks hs w = eval b env ((λ place vs u. or_fail (bind_all params vs env) u (λ inner. may_turn place u (eval a inner ks hs))) ∷ ks) hs w
+        or_fail (look_all xs env) w
+        (λ vs. or_fail (called T c env vs) w (λ f. then_go hs (calls p f.function f.arguments w) (λ v u. eval b (bind x v env) ks hs u)))
+    eval (label params a b) env ks hs w = eval b env
+        ((λ place vs u. or_fail (bind_all params vs env) u (λ inner. may_turn place u (eval a inner ks hs))) ∷ ks) hs w
     eval (again params a b) env ks hs w = eval b env (spin params env (λ k inner u. eval a inner (k ∷ ks) hs u) fuel ∷ ks) hs w
     eval (guard l a y h) env ks hs w = eval a env (go_to ks l ∷ []) ((λ p u. eval h (bind y p env) ks hs u) ∷ hs) w
     eval (goto l xs) env ks hs w = or_fail (look_all xs env) w (λ vs. go_to ks l None vs w)

@@ -29,7 +29,8 @@ module _ (T : Tables) (arities : List ℕ) where
     IsScoped xs ls g (call p c ys x b) = (IsCallee T arities xs c (length ys) × AreIn xs ys) × IsScoped (x ∷ xs) ls g b
     IsScoped xs ls g (label params a b) = IsScoped (params ++ xs) ls g a × IsScoped xs (record { takes = length params; loops = false } ∷ ls) g b
     IsScoped xs ls g (again params a b) =
-        IsScoped (params ++ xs) (record { takes = length params; loops = true } ∷ ls) g a × IsScoped xs (record { takes = length params; loops = true } ∷ ls) g b
+        IsScoped (params ++ xs) (record { takes = length params; loops = true } ∷ ls) g a
+        × IsScoped xs (record { takes = length params; loops = true } ∷ ls) g b
     IsScoped xs ls g (guard l a y h) = ((label_of : Label) × (slice_get ls l ≡ Some label_of) × IsScoped xs (label_of ∷ []) true a) × IsScoped (y ∷ xs) ls g h
     IsScoped xs ls g (goto l ys) = IsForward ls l (length ys) × AreIn xs ys
     IsScoped xs ls g (jump p l ys) = IsLabel ls l (length ys) × AreIn xs ys

@@ -71,7 +71,9 @@ pub record IsKnown (s : Loaded) : Type 0 where
 abbrev pub path_fault : Item → ℕ → Option Fault
 path_fault item reads =
     if has_variable item.word then Some (fault_at PathVariable 0 item.byte)
-    else (if is_source item.word then (if nat_lt reads most_reads then None else Some (fault_at TooManyFiles 0 item.byte)) else Some (fault_at Extension 0 item.byte))
+    else (if is_source item.word
+    then (if nat_lt reads most_reads then None else Some (fault_at TooManyFiles 0 item.byte))
+    else Some (fault_at Extension 0 item.byte))
 
 -- loading that comes to this path, with these loaded, is refused
 abbrev pub BreaksAt : Option Files → List ℕ → Loaded → Item → Fault → List File → Type 0

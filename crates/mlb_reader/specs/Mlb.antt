@@ -21,7 +21,8 @@ is_path_byte b = is_letter_or_digit b || (b == 46 || (b == 95 || (b == 45 || (b 
 
 -- the reserved words of ML Basis files are no paths
 abbrev pub reserved : List (List ℕ)
-reserved = codes "ann" ∷ codes "and" ∷ codes "bas" ∷ codes "basis" ∷ codes "end" ∷ codes "functor" ∷ codes "in" ∷ codes "let" ∷ codes "local" ∷ codes "open" ∷ codes "signature" ∷ codes "structure" ∷ []
+reserved = codes "ann" ∷ codes "and" ∷ codes "bas" ∷ codes "basis" ∷ codes "end" ∷ codes "functor" ∷ codes "in" ∷ codes "let" ∷ codes "local" ∷ codes "open"
+    ∷ codes "signature" ∷ codes "structure" ∷ []
 
 abbrev pub is_reserved : List ℕ → Bool
 is_reserved word = list_any (bytes_eq word) reserved
@@ -56,4 +57,5 @@ has_variable word = list_any (λ b. b == 36) word
 
 -- the extensions of sources
 abbrev pub is_source : List ℕ → Bool
-is_source word = ends_with nat_eq word (codes ".sml") || (ends_with nat_eq word (codes ".sig") || (ends_with nat_eq word (codes ".fun") || ends_with nat_eq word (codes ".ML")))
+is_source word = ends_with nat_eq word (codes ".sml")
+    || (ends_with nat_eq word (codes ".sig") || (ends_with nat_eq word (codes ".fun") || ends_with nat_eq word (codes ".ML")))

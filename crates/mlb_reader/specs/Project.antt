@@ -43,7 +43,8 @@ pub record HasTokens (names : List (List ℕ)) (bytes : List ℕ) (tokens : List
   pub held : HoldsAllNames names' tokens
   pub table : names' ≡ names_after names (map (lexed_of names') tokens)
 
--- a source of these bytes, the file of this number, is these declarations where it is read with the table `names` under the fixities f; names' and f' hold after it
+-- a source of these bytes, the file of this number, is these declarations where it is read with the table `names` under the fixities f;
+-- names' and f' hold after it
 pub record IsSource (names : List (List ℕ)) (file : ℕ) (f : Fixity) (bytes : List ℕ) (ds : Decs) (names' : List (List ℕ)) (f' : Fixity) : Type 0 where
   pub tokens : List Token
   pub has_tokens : HasTokens names bytes tokens names'
@@ -81,10 +82,11 @@ pub record IsRead (files : Files) (mlb : List ℕ) (s : Loaded) (item : Item) (f
 -- paths of the ML Basis file at the path mlb, loaded one after the other
 pub data Loads (files : Files) (mlb : List ℕ) : Loaded → List Item → Loaded → Type 0 where
   no_item : (s : Loaded) → Loads files mlb s [] s
-  the_basis : {s s' : Loaded} {item : Item} {items : List Item} → item.word ≡ basis_path → Loads files mlb (with_basis s) items s' → Loads files mlb s (item ∷ items) s'
-  a_source : {s s' : Loaded} {item : Item} {items : List Item} (file : File) {ds : Decs} {names : List (List ℕ)} {f : Fixity} → IsRead files mlb s item file →
-      IsSource s.names (length s.reads) s.fixities file.bytes ds names f → Loads files mlb (with_source file ds names f s) items s' →
-      Loads files mlb s (item ∷ items) s'
+  the_basis : {s s' : Loaded} {item : Item} {items : List Item} → item.word ≡ basis_path → Loads files mlb (with_basis s) items s'
+      → Loads files mlb s (item ∷ items) s'
+  a_source : {s s' : Loaded} {item : Item} {items : List Item} (file : File) {ds : Decs} {names : List (List ℕ)} {f : Fixity} → IsRead files mlb s item file
+      → IsSource s.names (length s.reads) s.fixities file.bytes ds names f → Loads files mlb (with_source file ds names f s) items s'
+      → Loads files mlb s (item ∷ items) s'
 
 -- before the first path: the ML Basis file was read, its basis is empty, and the table has the standard words
 abbrev pub begun : File → Loaded

@@ -148,7 +148,8 @@ fn load_mlb<S: Store>(
 /// Puts the standard basis in force.
 fn load_basis(fixities: &Fixities, loading: &mut Loading) -> Result<(), NoMemory>
     requires { fixities.now ≡ standard_fixities }
-    ensures loaded { OnOk result ((names : List (List ℕ)) (reads : List File) → loaded_of names loading.new reads ≡ with_basis (loaded_of names loading.old reads)) }
+    ensures loaded { OnOk result ((names : List (List ℕ)) (reads : List File)
+        → loaded_of names loading.new reads ≡ with_basis (loaded_of names loading.old reads)) }
     ensures counts { loading.new.counts ≡ loading.old.counts }
 {
     loading.fixities.add_newest(fixities, 0)?;
@@ -218,12 +219,17 @@ fn load_source<S: Store>(
     ensures count { IfOk result (λ _. IsCount loading.new.counts files.new) }
     ensures grown { OnOk result (Grows files.old files.new) }
     ensures known { OnOk result (IsKnown (loaded_of names.new loading.new files.new)) }
-    ensures loaded { OnOk result (IfTold (S.files store.old) (λ f. Loads f (string_bytes setting.now.path) (loaded_of names.old loading.old files.old) (item_of item.now ∷ []) (loaded_of names.new loading.new files.new))) }
-    ensures broken { IfLoadFault result (λ fault. BreaksAt (S.files store.old) (string_bytes setting.now.path) (loaded_of names.old loading.old files.old) (item_of item.now) fault files.new) }
+    ensures loaded { OnOk result (IfTold (S.files store.old)
+        (λ f. Loads f (string_bytes setting.now.path) (loaded_of names.old loading.old files.old) (item_of item.now ∷ [])
+        (loaded_of names.new loading.new files.new))) }
+    ensures broken { IfLoadFault result (λ fault. BreaksAt (S.files store.old) (string_bytes setting.now.path) (loaded_of names.old loading.old files.old)
+        (item_of item.now) fault files.new) }
     ensures fault_lies { IfLoadFault result (λ fault. LiesIn fault.place files.new) }
     ensures fault_unnamed { IfLoadFault result (λ fault. fault.name ≡ None) }
-    ensures missing { IfNoFile result (λ missing. MissesAt (S.files store.old) (string_bytes setting.now.path) (loaded_of names.old loading.old files.old) (item_of item.now) (string_bytes missing)) }
-    ensures needed { IfReadFault result (λ failed. NeedsAt (S.files store.old) (string_bytes setting.now.path) (loaded_of names.old loading.old files.old) (item_of item.now) (string_bytes failed)) }
+    ensures missing { IfNoFile result (λ missing. MissesAt (S.files store.old) (string_bytes setting.now.path) (loaded_of names.old loading.old files.old)
+        (item_of item.now) (string_bytes missing)) }
+    ensures needed { IfReadFault result (λ failed. NeedsAt (S.files store.old) (string_bytes setting.now.path) (loaded_of names.old loading.old files.old)
+        (item_of item.now) (string_bytes failed)) }
     ensures read_fault { IfReadFault result (λ _. Rose (S.read_faults store.old) (S.read_faults store.new)) }
 {
     let path = path_from(alloc, setting.path.as_str(), item.word.as_slice())?;
@@ -263,12 +269,17 @@ fn load_item<S: Store>(
     ensures count { IfOk result (λ _. IsCount loading.new.counts files.new) }
     ensures grown { OnOk result (Grows files.old files.new) }
     ensures known { OnOk result (IsKnown (loaded_of names.new loading.new files.new)) }
-    ensures loaded { OnOk result (IfTold (S.files store.old) (λ f. Loads f (string_bytes setting.now.path) (loaded_of names.old loading.old files.old) (item_of item.now ∷ []) (loaded_of names.new loading.new files.new))) }
-    ensures broken { IfLoadFault result (λ fault. BreaksAt (S.files store.old) (string_bytes setting.now.path) (loaded_of names.old loading.old files.old) (item_of item.now) fault files.new) }
+    ensures loaded { OnOk result (IfTold (S.files store.old)
+        (λ f. Loads f (string_bytes setting.now.path) (loaded_of names.old loading.old files.old) (item_of item.now ∷ [])
+        (loaded_of names.new loading.new files.new))) }
+    ensures broken { IfLoadFault result (λ fault. BreaksAt (S.files store.old) (string_bytes setting.now.path) (loaded_of names.old loading.old files.old)
+        (item_of item.now) fault files.new) }
     ensures fault_lies { IfLoadFault result (λ fault. LiesIn fault.place files.new) }
     ensures fault_unnamed { IfLoadFault result (λ fault. fault.name ≡ None) }
-    ensures missing { IfNoFile result (λ missing. MissesAt (S.files store.old) (string_bytes setting.now.path) (loaded_of names.old loading.old files.old) (item_of item.now) (string_bytes missing)) }
-    ensures needed { IfReadFault result (λ failed. NeedsAt (S.files store.old) (string_bytes setting.now.path) (loaded_of names.old loading.old files.old) (item_of item.now) (string_bytes failed)) }
+    ensures missing { IfNoFile result (λ missing. MissesAt (S.files store.old) (string_bytes setting.now.path) (loaded_of names.old loading.old files.old)
+        (item_of item.now) (string_bytes missing)) }
+    ensures needed { IfReadFault result (λ failed. NeedsAt (S.files store.old) (string_bytes setting.now.path) (loaded_of names.old loading.old files.old)
+        (item_of item.now) (string_bytes failed)) }
     ensures read_fault { IfReadFault result (λ _. Rose (S.read_faults store.old) (S.read_faults store.new)) }
 {
     if is_basis(item.word.as_slice()) {

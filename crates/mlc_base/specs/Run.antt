@@ -3,7 +3,8 @@ use Rattle.std.specs.Prelude.{ℕ, zero, suc, List, [], ◌∷◌, ◌++◌, len
 use Rattle.mlc_base.specs.Outcome.{End, ended, uncaught, going, wrong, Outcome}
 use Rattle.mlc_base.specs.declared.place.Place.{Place}
 
--- what a run has done so far, and the turns that are left. A reference is a place in the store, and an exception name one among those made, each with its identifier.
+-- what a run has done so far, and the turns that are left. A reference is a place in the store, and an exception name one among those made,
+-- each with its identifier.
 pub record World (V : Type 0) : Type 0 where
   pub output : List ℕ
   pub left : ℕ

@@ -28,8 +28,8 @@ pub record IsChecked (p : Project) : Type 0 where
   pub taped : Taped nothing_known (parts_phrases p.parts) p.tape known
   pub nodes : p.nodes ≡ min (nodes_in (parts_phrases p.parts)) (max_nodes + 1)
 
--- why the project of the files at a path is refused, with the table of names and the files that were read: in loading, by a fault that names no identifier; or by
--- the static rules and limits, where the table is the project's
+-- why the project of the files at a path is refused, with the table of names and the files that were read: in loading, by a fault that names no identifier;
+-- or by the static rules and limits, where the table is the project's
 pub data Breaks (files : Files) (input : List ℕ) : List (List ℕ) → Fault → List File → Type 0 where
   in_loading : {names : List (List ℕ)} {f : Fault} {reads : List File} → IsBroken files input f reads → f.name ≡ None → Breaks files input names f reads
   in_project : {names : List (List ℕ)} {f : Fault} {reads : List File} (parts : List Part) → ProjectOf files input names parts reads → IsRefused parts f →

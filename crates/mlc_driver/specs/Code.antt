@@ -1,4 +1,5 @@
--- The image of a tape. Each value has a stack slot: first those for all values that the tape keeps, in order, and then those of the values under way, the latest last. An int is its word, a string the address of its length and its bytes, one to a word, and () any word.
+-- The image of a tape. Each value has a stack slot: first those for all values that the tape keeps, in order, and then those of the values under way,
+-- the latest last. An int is its word, a string the address of its length and its bytes, one to a word, and () any word.
 use Rattle.std.specs.Prelude.{ℕ, ◌+◌, ◌-◌, ◌^◌, ◌<◌, min, List, [], ◌∷◌, ◌++◌, length, codes, FitsSigned, ⊤}
 use Rattle.std.specs.List.{AllByRecursion}
 use Rattle.std.specs.Int.{cast_unsigned, w32}
@@ -54,7 +55,8 @@ checked_code i = i ∷ instr.Jmp 1 ∷ []
 abbrev pub number_code : (ℕ → ℕ → ℕ → Instr) → ℕ → List Instr
 number_code row b = checked_code (row b b (b + 1))
 
--- to the raise of Size unless the strings in the slots b and b + 1 have fewer than 2^28 bytes together; b + 2 and b + 3 have their lengths then, and b + 4 the sum
+-- to the raise of Size unless the strings in the slots b and b + 1 have fewer than 2^28 bytes together; b + 2 and b + 3 have their lengths
+-- then, and b + 4 the sum
 abbrev pub sizes_code : ℕ → List Instr
 sizes_code b =
     instr.Li (b + 7) 0 ∷ instr.Ld (b + 2) b 0 ∷ instr.Ld (b + 3) (b + 1) 0 ∷ instr.WAdd (b + 4) (b + 2) (b + 3)

@@ -33,7 +33,8 @@ look nothing_in x = None
 look (named y e scope) x = if nat_eq x y then Some e else look scope x
 look (basis_in scope) x = basis_entry (basis_prim x) (look scope x)
 
--- what is known before a phrase: the scope, the pattern of the declaration that is open, what the expressions are that no later phrase has taken, the latest first, and how many slots are kept
+-- what is known before a phrase: the scope, the pattern of the declaration that is open, what the expressions are that no later phrase has taken, the latest
+-- first, and how many slots are kept
 pub record Statics : Type 0 where
   pub scope : Scope
   pub pattern : Pattern
@@ -87,7 +88,8 @@ abbrev pub bind : Pattern → Static → List Static → Statics → Verdict
 bind any (Known q) rest s = goes [] (record s { stack = rest; pattern = any })
 bind any (Pushed k) rest s = goes (tape.forget ∷ []) (record s { stack = rest; pattern = any })
 bind (variable x) (Known q) rest s = goes [] (record s { scope = named x (entry.Known q) s.scope; stack = rest; pattern = any })
-bind (variable x) (Pushed k) rest s = goes (tape.keep ∷ []) (record s { scope = named x (entry.Kept k s.kept) s.scope; stack = rest; pattern = any; kept = suc s.kept })
+bind (variable x) (Pushed k) rest s = goes (tape.keep ∷ [])
+    (record s { scope = named x (entry.Kept k s.kept) s.scope; stack = rest; pattern = any; kept = suc s.kept })
 bind rules.unit (Pushed Unit) rest s = goes (tape.forget_unit ∷ []) (record s { stack = rest; pattern = any })
 bind rules.unit _ rest s = no_typing
 
@@ -121,4 +123,5 @@ nothing_known = record { scope = nothing_in; pattern = any; stack = []; kept = 0
 -- phrases that all pass, the tape that they give, and what is known after them
 pub data Taped : Statics → List Phrase → List Op → Statics → Type 0 where
   no_more : (s : Statics) → Taped s [] [] s
-  one_more : {s s' s'' : Statics} {x : Phrase} {xs : List Phrase} {ops more : List Op} → check s x ≡ goes ops s' → Taped s' xs more s'' → Taped s (x ∷ xs) (ops ++ more) s''
+  one_more : {s s' s'' : Statics} {x : Phrase} {xs : List Phrase} {ops more : List Op} → check s x ≡ goes ops s' → Taped s' xs more s''
+      → Taped s (x ∷ xs) (ops ++ more) s''

@@ -450,7 +450,8 @@ fn infix(
     args: &[Exp],
 ) -> Result<Kind, NoMemory>
     requires { 0 < length args.now }
-    ensures phrases { OnOk result (phrases_of out.new.items ≡ phrases_of out.old.items ++ infix_phrases place (between_phrase operator) (map shape (map exp_of args.now))) }
+    ensures phrases { OnOk result (phrases_of out.new.items ≡ phrases_of out.old.items
+        ++ infix_phrases place (between_phrase operator) (map shape (map exp_of args.now))) }
     ensures kind { IfOk result (λ kind. kind ≡ One) }
 {
     expression(alloc, out, &args[0], Some(operator))?;
@@ -487,7 +488,8 @@ fn left_parts(
     parts: &[Part],
 ) -> Result<Kind, NoMemory>
     requires { start ≤ length out.old.items }
-    ensures phrases { OnOk result (phrases_of out.new.items ≡ phrases_of (take start out.old.items) ++ left_phrases place (phrases_of (drop start out.old.items)) (map part_of parts.now)) }
+    ensures phrases { OnOk result (phrases_of out.new.items ≡ phrases_of (take start out.old.items)
+        ++ left_phrases place (phrases_of (drop start out.old.items)) (map part_of parts.now)) }
     ensures kind { IfOk result (λ kind. kind ≡ One) }
 {
     for i in 0..parts.len() {
@@ -513,7 +515,8 @@ fn right_parts(
     parts: &[Part],
 ) -> Result<Kind, NoMemory>
     requires { 0 < length parts.now }
-    ensures phrases { OnOk result (phrases_of out.new.items ≡ phrases_of out.old.items ++ (operands (map part_of parts.now) ++ applications place (joined (map part_of parts.now)) (map part_of parts.now))) }
+    ensures phrases { OnOk result (phrases_of out.new.items ≡ phrases_of out.old.items
+        ++ (operands (map part_of parts.now) ++ applications place (joined (map part_of parts.now)) (map part_of parts.now))) }
     ensures kind { IfOk result (λ kind. kind ≡ One) }
 {
     operands(alloc, out, parts)?;

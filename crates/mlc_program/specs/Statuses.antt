@@ -95,7 +95,8 @@ abbrev pub uncaught_line : List ℕ → List ℕ
 uncaught_line name = codes "unhandled exception: " ++ name ++ codes "\n"
 
 -- status 1: an exception of some name ended the run, and that name was told on err
-pub record ToldUncaught (old new : Option Files) (before after : Option (List ℕ)) (err err' : Option (List ℕ)) (faults faults' : ℕ) (command : Command) : Type 0 where
+pub record ToldUncaught (old new : Option Files) (before after : Option (List ℕ)) (err err' : Option (List ℕ)) (faults faults' : ℕ)
+    (command : Command) : Type 0 where
   pub name : List ℕ
   pub ran : RanTo (uncaught name) old new before after command
   pub told : Told (uncaught_line name) err err' faults faults'
@@ -128,8 +129,10 @@ pub data Says (usage : List ℕ) (words : List (List ℕ)) (files : Option Files
   says_step_limit : Says usage words files reads_before reads_after 3 (codes "step limit\n")
   says_out_of_heap : Says usage words files reads_before reads_after 4 (codes "out of heap\n")
   says_out_of_stack : Says usage words files reads_before reads_after 5 (codes "out of stack\n")
-  says_missing : (path : List ℕ) → ByCommand words (λ c. Misses files c path) → Says usage words files reads_before reads_after 6 (path ++ codes ": no such file\n")
-  says_read_failed : (path : List ℕ) → ByCommand words (λ c. Needs files c path) → Rose reads_before reads_after → Says usage words files reads_before reads_after 7 (path ++ codes ": read failed\n")
+  says_missing : (path : List ℕ) → ByCommand words (λ c. Misses files c path)
+      → Says usage words files reads_before reads_after 6 (path ++ codes ": no such file\n")
+  says_read_failed : (path : List ℕ) → ByCommand words (λ c. Needs files c path) → Rose reads_before reads_after
+      → Says usage words files reads_before reads_after 7 (path ++ codes ": read failed\n")
   says_write_failed : Says usage words files reads_before reads_after 8 (codes "write failed\n")
   says_no_memory : Says usage words files reads_before reads_after 11 (codes "out of memory\n")
   says_usage : NoCommand words → Says usage words files reads_before reads_after 64 usage

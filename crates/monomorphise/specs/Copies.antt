@@ -112,8 +112,8 @@ module _ (T : Target) where
     -- s says what type variables stand for
     pub data Copy : Names → (ℕ → Typ) → Exp poly → Exp K → Type 0 where
       copy_ret : {r : Names} {s : ℕ → Typ} {x : ℕ} {k : T.Name} → Has x [] k r → Copy r s (ret (inst x [])) (ret k)
-      copy_let : {r : Names} {s : ℕ
-          → Typ} {x : ℕ} {ps : List Quantified} {t : Typ} {o : Op poly} {e : Exp poly} {k : T.Name} {n : T.Type_of} {u : ⊤} {o' : Op K} {e' : Exp K} (a : List Typ)
+      copy_let : {r : Names} {s : ℕ → Typ} {x : ℕ} {ps : List Quantified} {t : Typ} {o : Op poly} {e : Exp poly} {k : T.Name} {n : T.Type_of} {u : ⊤}
+          {o' : Op K} {e' : Exp K} (a : List Typ)
           → AreAllowed no_variable ps a → T.Is n (replace (changed ps a s) t) → CopyOp r (changed ps a s) o o' → IsNewName x r → IsNewCopy k r
           → Rest r s x ps t o e (entry x a k r) e' → Copy r s (let_in x ps t o e) (let_in k u n o' e')
       copy_exception : {r : Names} {s : ℕ → Typ} (x i : ℕ) (k : T.Name) {t : Option Typ} {n : Option T.Type_of} {e : Exp poly} {e' : Exp K}
@@ -197,8 +197,8 @@ module _ (T : Target) where
     pub data Rest : Names → (ℕ → Typ) → ℕ → List Quantified → Typ → Op poly → Exp poly → Names → Exp K → Type 0 where
       no_more_copies : {r r' : Names} {s : ℕ → Typ} {x : ℕ} {ps : List Quantified} {t : Typ} {o : Op poly} {e : Exp poly} {e' : Exp K} → Copy r' s e e'
           → Rest r s x ps t o e r' e'
-      one_more_copy : {r r' : Names} {s : ℕ
-          → Typ} {x : ℕ} {ps : List Quantified} {t : Typ} {o : Op poly} {e : Exp poly} {k : T.Name} {n : T.Type_of} {u : ⊤} {o' : Op K} {e' : Exp K} (a : List Typ)
+      one_more_copy : {r r' : Names} {s : ℕ → Typ} {x : ℕ} {ps : List Quantified} {t : Typ} {o : Op poly} {e : Exp poly} {k : T.Name} {n : T.Type_of} {u : ⊤}
+          {o' : Op K} {e' : Exp K} (a : List Typ)
           → AreAllowed no_variable ps a → is_value_op o ≡ true → T.Is n (replace (changed ps a s) t) → CopyOp r (changed ps a s) (strip_op o) o'
           → IsNewCopy k r'
           → Rest r s x ps t o e (entry x a k r') e' → Rest r s x ps t o e r' (let_in k u n o' e')

@@ -13,7 +13,8 @@ use Rattle.sml_grammar.specs.Types.{read_ty, maybe_ty}
 -- type variables in brackets, after the bracket
 abbrev pub tyvar_turn : NoState → List Terminal → Answer (Turn (List Tyvar) NoState)
 tyvar_turn s i =
-    then_taken (first_as as_tyvar i) (λ a m. on_some (after_word res.Comma m) (λ o. read (more (λ as_. a.it ∷ as_) s) o) (word_then res.RightParen (λ o. read (last (a.it ∷ [])) o) m))
+    then_taken (first_as as_tyvar i)
+    (λ a m. on_some (after_word res.Comma m) (λ o. read (more (λ as_. a.it ∷ as_) s) o) (word_then res.RightParen (λ o. read (last (a.it ∷ [])) o) m))
 
 -- a bracket with no type variable after it isn't the bracket of a tyvarseq
 abbrev pub bracketed_tyvars : List Terminal → List Terminal → Answer (List Tyvar)
@@ -34,7 +35,8 @@ bound_tycon g i = then_read (read_tyvars i) (λ as_ m. then_taken (first_as as_t
 abbrev pub type_bind_turn : ℕ → NoState → List Terminal → Answer (Turn (List TypeBind) NoState)
 type_bind_turn n s i =
     bound_tycon (λ as_ t k. then_read (read_ty n 0 k) (λ a o.
-    separated (after_word res.And o) (λ bs. record { place = place_at i; tyvars = as_; tycon = t; ty = a } ∷ bs) (record { place = place_at i; tyvars = as_; tycon = t; ty = a } ∷ []) s o)) i
+    separated (after_word res.And o) (λ bs. record { place = place_at i; tyvars = as_; tycon = t; ty = a } ∷ bs)
+    (record { place = place_at i; tyvars = as_; tycon = t; ty = a } ∷ []) s o)) i
 
 abbrev pub read_type_binds : ℕ → List Terminal → Answer (List TypeBind)
 read_type_binds n i = whole (type_bind_turn n) no_state i
@@ -42,7 +44,8 @@ read_type_binds n i = whole (type_bind_turn n) no_state i
 abbrev pub con_turn : ℕ → Fixity → NoState → List Terminal → Answer (Turn (List ConBind) NoState)
 con_turn n f s i =
     then_taken (binds_vid f i) (λ v m. then_read (maybe_ty n (after_word res.Of m) m) (λ t o.
-    separated (after_word res.Bar o) (λ cs. record { place = v.place; vid = v.it; of_ty = t } ∷ cs) (record { place = v.place; vid = v.it; of_ty = t } ∷ []) s o))
+    separated (after_word res.Bar o) (λ cs. record { place = v.place; vid = v.it; of_ty = t } ∷ cs)
+    (record { place = v.place; vid = v.it; of_ty = t } ∷ []) s o))
 
 abbrev pub read_cons : ℕ → Fixity → List Terminal → Answer (List ConBind)
 read_cons n f i = whole (con_turn n f) no_state i
@@ -50,7 +53,8 @@ read_cons n f i = whole (con_turn n f) no_state i
 abbrev pub data_bind_turn : ℕ → Fixity → NoState → List Terminal → Answer (Turn (List DataBind) NoState)
 data_bind_turn n f s i =
     bound_tycon (λ as_ t k. then_read (read_cons n f k) (λ cs o.
-    separated (after_word res.And o) (λ bs. record { place = place_at i; tyvars = as_; tycon = t; cons = cs } ∷ bs) (record { place = place_at i; tyvars = as_; tycon = t; cons = cs } ∷ []) s o)) i
+    separated (after_word res.And o) (λ bs. record { place = place_at i; tyvars = as_; tycon = t; cons = cs } ∷ bs)
+    (record { place = place_at i; tyvars = as_; tycon = t; cons = cs } ∷ []) s o)) i
 
 abbrev pub read_data_binds : ℕ → Fixity → List Terminal → Answer (List DataBind)
 read_data_binds n f i = whole (data_bind_turn n f) no_state i

@@ -184,7 +184,8 @@ application self n f i = then_read (atom_by self f (atom_start f i)) (apply_to s
 
 abbrev pub rule_turn : ℕ → Reader → Fixity → NoState → List Terminal → Answer (Turn Rules NoState)
 rule_turn n self f s i =
-    then_read (read_pat n f i) (λ a m. word_then res.DoubleArrow (λ k. then_read (self f 0 k) (λ e o. separated (after_word res.Bar o) (rule a e) (last_rule a e) s o)) m)
+    then_read (read_pat n f i)
+    (λ a m. word_then res.DoubleArrow (λ k. then_read (self f 0 k) (λ e o. separated (after_word res.Bar o) (rule a e) (last_rule a e) s o)) m)
 
 abbrev pub read_match : ℕ → Reader → Fixity → List Terminal → Answer Rules
 read_match n self f i = whole (rule_turn n self f) no_state i
@@ -280,7 +281,8 @@ exp_from self n f l i =
 abbrev pub bind_turn : ℕ → Reader → Fixity → NoState → List Terminal → Answer (Turn Binds NoState)
 bind_turn n self f s i =
     on_some (after_word res.Rec i) (λ m. read (more rec_binds s) m)
-    (then_read (read_pat n f i) (λ a m. word_then res.Equals (λ k. then_read (self f 0 k) (λ e o. separated (after_word res.And o) (bind a e) (last_bind a e) s o)) m))
+    (then_read (read_pat n f i)
+    (λ a m. word_then res.Equals (λ k. then_read (self f 0 k) (λ e o. separated (after_word res.And o) (bind a e) (last_bind a e) s o)) m))
 
 abbrev pub read_binds : ℕ → Reader → Fixity → List Terminal → Answer Binds
 read_binds n self f i = whole (bind_turn n self f) no_state i
@@ -372,8 +374,10 @@ local_rest inner f p ds i =
     word_then res.In (λ k. then_read (inner (after f ds) k) (λ es m. word_then res.End (λ o. read (local_dec p ds es) o) m)) i
 
 abbrev pub dec_by : ℕ → Reader → DecsReader → Fixity → DecStart → Answer Dec
-dec_by n self inner f (val_start p i) = then_read (read_tyvars i) (λ as_ m. then_read (read_binds n self f m) (λ bs o. read (val_dec p (tyvars_place p i as_) as_ bs) o))
-dec_by n self inner f (fun_start p i) = then_read (read_tyvars i) (λ as_ m. then_read (read_funs n self f m) (λ fs o. read (fun_dec p (tyvars_place p i as_) as_ fs) o))
+dec_by n self inner f (val_start p i) = then_read (read_tyvars i)
+    (λ as_ m. then_read (read_binds n self f m) (λ bs o. read (val_dec p (tyvars_place p i as_) as_ bs) o))
+dec_by n self inner f (fun_start p i) = then_read (read_tyvars i)
+    (λ as_ m. then_read (read_funs n self f m) (λ fs o. read (fun_dec p (tyvars_place p i as_) as_ fs) o))
 dec_by n self inner f (type_start p i) = then_read (read_type_binds n i) (λ bs o. read (type_dec p bs) o)
 dec_by n self inner f (datatype_start p i) = datatype_form n f p i
 dec_by n self inner f (exception_start p i) = then_read (read_ex_binds n f i) (λ bs o. read (exception_dec p bs) o)

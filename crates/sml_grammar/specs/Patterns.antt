@@ -116,7 +116,8 @@ bracket_pat self f p i =
 -- after `(a`
 abbrev pub paren_pat_rest : PatReader → Fixity → ℕ → Pat → List Terminal → Answer Pat
 paren_pat_rest self f p a i =
-    on_some (after_word res.Comma i) (λ m. then_read (whole (pat_commas_turn self f) no_state m) (λ as_ k. word_then res.RightParen (λ o. read (tuple_pat p (pat a as_)) o) k))
+    on_some (after_word res.Comma i)
+    (λ m. then_read (whole (pat_commas_turn self f) no_state m) (λ as_ k. word_then res.RightParen (λ o. read (tuple_pat p (pat a as_)) o) k))
     (word_then res.RightParen (λ o. read (paren_pat p a) o) i)
 
 -- after `(`
@@ -156,14 +157,16 @@ abbrev pub pat_suffix_mark : ℕ → Fixity → ℕ → Pat → List Terminal �
 pat_suffix_mark n f l a i None = read (last a) i
 pat_suffix_mark n f l a i (Some m) =
     if nat_le l 5
-    then (if nat_le 5 (pat_level f a) then (if nat_le (depth_pat a) n then then_read (read_ty n 0 m) (λ t o. read (more (λ b. b) (typed_pat a t)) o) else deep) else bad)
+    then (if nat_le 5 (pat_level f a)
+    then (if nat_le (depth_pat a) n then then_read (read_ty n 0 m) (λ t o. read (more (λ b. b) (typed_pat a t)) o) else deep) else bad)
     else read (last a) i
 
 abbrev pub pat_suffix_joint : PatReader → ℕ → Fixity → ℕ → Pat → List Terminal → Placed ℕ → List Terminal → Answer (Turn Pat Pat)
 pat_suffix_joint self n f l a i x m =
     if nat_le l (vid_level f (Named x.it))
     then (if nat_le (suc (vid_level f (Named x.it))) (pat_level f a)
-    then (if nat_le (depth_pat a) n then then_read (whole_pat_parts self f x m) (λ ps o. read (more (λ b. b) (chain_pat (vid_right f (Named x.it)) a ps)) o) else deep)
+    then (if nat_le (depth_pat a) n then then_read (whole_pat_parts self f x m)
+    (λ ps o. read (more (λ b. b) (chain_pat (vid_right f (Named x.it)) a ps)) o) else deep)
     else bad)
     else read (last a) i
 
@@ -176,7 +179,8 @@ pat_suffix self n f l a i = whole (pat_suffix_turn self n f l) a i
 -- a constructor and its argument, or an atomic pattern
 abbrev pub pat_first : PatReaders → ℕ → Fixity → List Terminal → Answer Pat
 pat_first self n f i =
-    on_taken (names_vid f i) (λ x m. if begins_pat f m then then_read (self.atpat f m) (λ a o. read (con_pat (place_at i) x a) o) else read (vid_pat (place_at i) x) m)
+    on_taken (names_vid f i)
+    (λ x m. if begins_pat f m then then_read (self.atpat f m) (λ a o. read (con_pat (place_at i) x a) o) else read (vid_pat (place_at i) x) m)
     (at_pat n self.pat f (pat_start f i))
 
 abbrev pub plain_form : PatReaders → ℕ → Fixity → ℕ → List Terminal → Answer Pat

@@ -41,7 +41,8 @@ TyReader = ℕ → List Terminal → Answer Ty
 
 abbrev pub ty_field_turn : TyReader → NoState → List Terminal → Answer (Turn TyFields NoState)
 ty_field_turn self s i =
-    then_taken (first_as as_label i) (λ l m. word_then res.Colon (λ k. then_read (self 0 k) (λ t o. separated (after_word res.Comma o) (ty_field l.it t) (ty_field l.it t no_ty_fields) s o)) m)
+    then_taken (first_as as_label i)
+    (λ l m. word_then res.Colon (λ k. then_read (self 0 k) (λ t o. separated (after_word res.Comma o) (ty_field l.it t) (ty_field l.it t no_ty_fields) s o)) m)
 
 abbrev pub ty_commas_turn : TyReader → NoState → List Terminal → Answer (Turn Tys NoState)
 ty_commas_turn self s i = then_read (self 0 i) (λ t o. separated (after_word res.Comma o) (ty t) (ty t no_tys) s o)
@@ -61,7 +62,8 @@ brace_ty self p i =
 -- after `(t,`
 abbrev pub arguments : TyReader → ℕ → Ty → List Terminal → Answer Ty
 arguments self p t i =
-    then_read (whole (ty_commas_turn self) no_state i) (λ ts m. word_then res.RightParen (λ k. then_taken (first_as as_long_tycon k) (λ c o. read (con_ty p (ty t ts) c) o)) m)
+    then_read (whole (ty_commas_turn self) no_state i)
+    (λ ts m. word_then res.RightParen (λ k. then_taken (first_as as_long_tycon k) (λ c o. read (con_ty p (ty t ts) c) o)) m)
 
 -- after `(t`
 abbrev pub paren_rest : TyReader → ℕ → Ty → List Terminal → Answer Ty
@@ -77,19 +79,22 @@ ty_atom self no_start = bad
 -- type constructors after their one argument; the argument is one only if there is room for it
 abbrev pub postfix_turn : ℕ → Ty → List Terminal → Answer (Turn Ty Ty)
 postfix_turn n a i =
-    on_taken (first_as as_long_tycon i) (λ c o. if nat_le (depth_ty a) n then read (more (λ b. b) (con_ty (ty_place a) (ty a no_tys) c)) o else deep) (read (last a) i)
+    on_taken (first_as as_long_tycon i) (λ c o. if nat_le (depth_ty a) n then read (more (λ b. b) (con_ty (ty_place a) (ty a no_tys) c)) o else deep)
+    (read (last a) i)
 
 -- after the first operand
 abbrev pub product_rest : TyReader → ℕ → ℕ → Ty → List Terminal → Answer Ty
 product_rest self n l a i =
     if nat_le l 1
-    then on_some (after_star i) (λ m. if nat_le (depth_ty a) n then then_read (whole (star_turn self) no_state m) (λ ts o. read (product_ty a ts) o) else deep) (read a i)
+    then on_some (after_star i)
+    (λ m. if nat_le (depth_ty a) n then then_read (whole (star_turn self) no_state m) (λ ts o. read (product_ty a ts) o) else deep) (read a i)
     else read a i
 
 abbrev pub arrow_rest : TyReader → ℕ → ℕ → Ty → List Terminal → Answer Ty
 arrow_rest self n l a i =
     if nat_le l 0
-    then on_some (after_word res.Arrow i) (λ m. if nat_le (depth_ty a) n then then_read (whole (arrow_turn self) no_state m) (λ ts o. read (arrow_ty a ts) o) else deep) (read a i)
+    then on_some (after_word res.Arrow i)
+    (λ m. if nat_le (depth_ty a) n then then_read (whole (arrow_turn self) no_state m) (λ ts o. read (arrow_ty a ts) o) else deep) (read a i)
     else read a i
 
 abbrev pub ty_from : TyReader → ℕ → ℕ → List Terminal → Answer Ty
@@ -107,4 +112,5 @@ maybe_ty n None i = read None i
 
 -- a type that has to have level l or more, and ended before these terminals, could go on with them
 abbrev pub ty_could_go_on : ℕ → List Terminal → Bool
-ty_could_go_on l i = on_taken (first_as as_long_tycon i) (λ c o. true) (on_some (after_star i) (λ o. nat_le l 1) (on_some (after_word res.Arrow i) (λ o. nat_le l 0) false))
+ty_could_go_on l i = on_taken (first_as as_long_tycon i) (λ c o. true)
+    (on_some (after_star i) (λ o. nat_le l 1) (on_some (after_word res.Arrow i) (λ o. nat_le l 0) false))

@@ -24,7 +24,8 @@ lexed size lexeme text rest = record { lexeme = lexeme; span = record { first = 
 pub data Reads (size : ℕ) : List ℕ → List Lexed → List ℕ → Type 0 where
   nothing : (text : List ℕ) → Reads size text [] text
   a_blank : (text rest left : List ℕ) (tokens : List Lexed) → item_at text ≡ blank rest → Reads size rest tokens left → Reads size text tokens left
-  a_token : (text rest left : List ℕ) (lexeme : Lexeme) (tokens : List Lexed) → item_at text ≡ found lexeme rest → Reads size rest tokens left → Reads size text (lexed size lexeme text rest ∷ tokens) left
+  a_token : (text rest left : List ℕ) (lexeme : Lexeme) (tokens : List Lexed) → item_at text ≡ found lexeme rest → Reads size rest tokens left
+      → Reads size text (lexed size lexeme text rest ∷ tokens) left
 
 -- the file is a sequence of items of which these are the tokens
 abbrev pub Lexes : List ℕ → List Lexed → Type 0

@@ -23,4 +23,5 @@ pub record IsLongest (text : List ℕ) (item : List ℕ → Item) (rest : List �
 pub record ItemsAreLongest : Type 0 where
   pub tokens : (text rest : List ℕ) (lexeme : Lexeme) → item_at text ≡ found lexeme rest → (len : ℕ) × IsLongest text (found lexeme) rest len
   pub blanks : (text rest : List ℕ) → item_at text ≡ blank rest → (len : ℕ) × IsLongest text blank rest len
-  pub none_there : (text : List ℕ) → item_at text ≡ refused NoToken → begins_char text ≡ false → begins_comment text ≡ false → (len : ℕ) → len ≤ length text → IsOneItem (take len text) → ⊥
+  pub none_there : (text : List ℕ) → item_at text ≡ refused NoToken → begins_char text ≡ false → begins_comment text ≡ false → (len : ℕ) → len ≤ length text
+      → IsOneItem (take len text) → ⊥

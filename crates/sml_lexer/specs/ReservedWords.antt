@@ -66,7 +66,9 @@ spelling Hash = codes "#"
 
 -- those that are alphanumeric
 abbrev pub words : List Reserved
-words = Abstype ∷ And ∷ Andalso ∷ As ∷ Case ∷ Datatype ∷ Do ∷ Else ∷ End ∷ Eqtype ∷ Exception ∷ Fn ∷ Fun ∷ Functor ∷ Handle ∷ If ∷ In ∷ Include ∷ Infix ∷ Infixr ∷ Let ∷ Local ∷ Nonfix ∷ Of ∷ Op ∷ Open ∷ Orelse ∷ Raise ∷ Rec ∷ Sharing ∷ Sig ∷ Signature ∷ Struct ∷ Structure ∷ Then ∷ TypeWord ∷ Val ∷ Where ∷ While ∷ With ∷ Withtype ∷ []
+words = Abstype ∷ And ∷ Andalso ∷ As ∷ Case ∷ Datatype ∷ Do ∷ Else ∷ End ∷ Eqtype ∷ Exception ∷ Fn ∷ Fun ∷ Functor ∷ Handle ∷ If ∷ In ∷ Include ∷ Infix ∷ Infixr
+    ∷ Let ∷ Local ∷ Nonfix ∷ Of ∷ Op ∷ Open ∷ Orelse ∷ Raise ∷ Rec ∷ Sharing ∷ Sig ∷ Signature ∷ Struct ∷ Structure ∷ Then ∷ TypeWord ∷ Val ∷ Where ∷ While
+    ∷ With ∷ Withtype ∷ []
 
 -- those that are symbolic
 abbrev pub symbolic : List Reserved

@@ -97,7 +97,8 @@ pub fn digits_value(base: u64, digits: &[u8]) -> Option<u32>
 
 /// The integer of this sign and magnitude, where there is one of 32 bits.
 fn int_value(is_negative: bool, magnitude: u32) -> Option<i32>
-    ensures { MatchOption result (int_limit is_negative < magnitude) (λ value. (magnitude ≤ int_limit is_negative) × (value ≡ int_value is_negative magnitude)) }
+    ensures { MatchOption result (int_limit is_negative < magnitude)
+        (λ value. (magnitude ≤ int_limit is_negative) × (value ≡ int_value is_negative magnitude)) }
 {
     let magnitude = i64::from(magnitude);
     let value = if is_negative { -magnitude } else { magnitude };

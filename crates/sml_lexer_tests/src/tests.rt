@@ -11,10 +11,20 @@ use std::test::Fail;
 
 // Texts, each with its tokens and their spans, or with the refusal's code and place, after a byte 1; a byte 2 ends a row.
 static TABLE: &[u8] = b"\
-    abstype and andalso as case datatype do else end eqtype exception fn fun functor handle if in include infix infixr let local nonfix of op open orelse raise rec sharing sig signature struct structure then type val where while with withtype \x01Abstype 0-7; And 8-11; Andalso 12-19; As 20-22; Case 23-27; Datatype 28-36; Do 37-39; Else 40-44; End 45-48; Eqtype 49-55; Exception 56-65; Fn 66-68; Fun 69-72; Functor 73-80; Handle 81-87; If 88-90; In 91-93; Include 94-101; Infix 102-107; Infixr 108-114; Let 115-118; Local 119-124; Nonfix 125-131; Of 132-134; Op 135-137; Open 138-142; Orelse 143-149; Raise 150-155; Rec 156-159; Sharing 160-167; Sig 168-171; Signature 172-181; Struct 182-188; Structure 189-198; Then 199-203; TypeWord 204-208; Val 209-212; Where 213-218; While 219-224; With 225-229; Withtype 230-238; \x02\
-    ()[]{},;..._\x01LeftParen 0-1; RightParen 1-2; LeftBracket 2-3; RightBracket 3-4; LeftBrace 4-5; RightBrace 5-6; Comma 6-7; Semicolon 7-8; Dots 8-11; Underscore 11-12; \x02\
-    :\t\n\r\x0c :>\t\n\r\x0c |\t\n\r\x0c =\t\n\r\x0c =>\t\n\r\x0c ->\t\n\r\x0c #\t\n\r\x0c \x01Colon 0-1; ColonGreater 6-8; Bar 13-14; Equals 19-20; DoubleArrow 25-27; Arrow 32-34; Hash 39-40; \x02\
-    0 7 07 ~7 0xfF ~0x10 2147483647 ~2147483648 0x7fffffff ~0x80000000\x01plain 0 0-1; plain 7 2-3; int 7 4-6; int -7 7-9; int 255 10-14; int -16 15-20; plain 2147483647 21-31; int -2147483648 32-43; int 2147483647 44-54; int -2147483648 55-66; \x02\
+    abstype and andalso as case datatype do else end eqtype exception fn fun functor handle if in include infix infixr let local nonfix of op open orelse \
+        raise rec sharing sig signature struct structure then type val where while with withtype \
+        \x01Abstype 0-7; And 8-11; Andalso 12-19; As 20-22; Case 23-27; Datatype 28-36; Do 37-39; Else 40-44; End 45-48; Eqtype 49-55; Exception 56-65; \
+        Fn 66-68; Fun 69-72; Functor 73-80; Handle 81-87; If 88-90; In 91-93; Include 94-101; Infix 102-107; Infixr 108-114; Let 115-118; Local 119-124; \
+        Nonfix 125-131; Of 132-134; Op 135-137; Open 138-142; Orelse 143-149; Raise 150-155; Rec 156-159; Sharing 160-167; Sig 168-171; Signature 172-181; \
+        Struct 182-188; Structure 189-198; Then 199-203; TypeWord 204-208; Val 209-212; Where 213-218; While 219-224; With 225-229; Withtype 230-238; \x02\
+    ()[]{},;..._\
+        \x01LeftParen 0-1; RightParen 1-2; LeftBracket 2-3; RightBracket 3-4; LeftBrace 4-5; RightBrace 5-6; Comma 6-7; Semicolon 7-8; Dots 8-11; \
+        Underscore 11-12; \x02\
+    :\t\n\r\x0c :>\t\n\r\x0c |\t\n\r\x0c =\t\n\r\x0c =>\t\n\r\x0c ->\t\n\r\x0c #\t\n\r\x0c \
+        \x01Colon 0-1; ColonGreater 6-8; Bar 13-14; Equals 19-20; DoubleArrow 25-27; Arrow 32-34; Hash 39-40; \x02\
+    0 7 07 ~7 0xfF ~0x10 2147483647 ~2147483648 0x7fffffff ~0x80000000\
+        \x01plain 0 0-1; plain 7 2-3; int 7 4-6; int -7 7-9; int 255 10-14; int -16 15-20; plain 2147483647 21-31; int -2147483648 32-43; \
+        int 2147483647 44-54; int -2147483648 55-66; \x02\
     0w10 0wx1f 0w4294967295 0wxFFFFFFFF\x01word 10 0-4; word 31 5-10; word 4294967295 11-23; word 4294967295 24-35; \x02\
     val x = 2147483648\x01E12 in 7 at 8\x02\
     ~2147483649\x01E12 in 7 at 0\x02\

@@ -69,7 +69,8 @@ pub record IsTypeBind (s : Source) (n : ℕ) (i : List Terminal) (bind : TypeBin
   pub fits : depth_ty got.tree.ty ≤ n
   pub shorter : length got.rest < length i
 
-pub record IsTypeBinds (s : Source) (n : ℕ) (i : List Terminal) (binds : List TypeBind) (d : ℕ) (o : List Token) (got : Read (List read_tree.TypeBind)) : Type 0 where
+pub record IsTypeBinds (s : Source) (n : ℕ) (i : List Terminal) (binds : List TypeBind) (d : ℕ) (o : List Token)
+    (got : Read (List read_tree.TypeBind)) : Type 0 where
   pub rest : left s o ≡ got.rest
   pub bare : map type_bind_of binds ≡ map (bare_type_bind s.file) got.tree
   pub depth : d ≡ depth_type_binds got.tree
@@ -78,7 +79,8 @@ pub record IsTypeBinds (s : Source) (n : ℕ) (i : List Terminal) (binds : List 
 
 -- one constructor
 abbrev pub read_con : ℕ → Fixity → List Terminal → Answer read_tree.ConBind
-read_con n f i = then_taken (binds_vid f i) (λ v m. then_read (maybe_ty n (after_word res.Of m) m) (λ t o. read (record { place = v.place; vid = v.it; of_ty = t }) o))
+read_con n f i = then_taken (binds_vid f i)
+    (λ v m. then_read (maybe_ty n (after_word res.Of m) m) (λ t o. read (record { place = v.place; vid = v.it; of_ty = t }) o))
 
 pub record IsCon (s : Source) (n : ℕ) (i : List Terminal) (con : ConBind) (d : ℕ) (o : List Token) (got : Read read_tree.ConBind) : Type 0 where
   pub rest : left s o ≡ got.rest
@@ -96,7 +98,8 @@ pub record IsCons (s : Source) (n : ℕ) (i : List Terminal) (cons : List ConBin
 
 -- one binding of a datatype
 abbrev pub read_data_bind : ℕ → Fixity → List Terminal → Answer read_tree.DataBind
-read_data_bind n f i = bound_tycon (λ as_ t k. then_read (read_cons n f k) (λ cs o. read (record { place = place_at i; tyvars = as_; tycon = t; cons = cs }) o)) i
+read_data_bind n f i = bound_tycon
+    (λ as_ t k. then_read (read_cons n f k) (λ cs o. read (record { place = place_at i; tyvars = as_; tycon = t; cons = cs }) o)) i
 
 pub record IsDataBind (s : Source) (n : ℕ) (i : List Terminal) (bind : DataBind) (d : ℕ) (o : List Token) (got : Read read_tree.DataBind) : Type 0 where
   pub rest : left s o ≡ got.rest
@@ -105,7 +108,8 @@ pub record IsDataBind (s : Source) (n : ℕ) (i : List Terminal) (bind : DataBin
   pub fits : depth_cons got.tree.cons ≤ n
   pub shorter : length got.rest < length i
 
-pub record IsDataBinds (s : Source) (n : ℕ) (i : List Terminal) (binds : List DataBind) (d : ℕ) (o : List Token) (got : Read (List read_tree.DataBind)) : Type 0 where
+pub record IsDataBinds (s : Source) (n : ℕ) (i : List Terminal) (binds : List DataBind) (d : ℕ) (o : List Token)
+    (got : Read (List read_tree.DataBind)) : Type 0 where
   pub rest : left s o ≡ got.rest
   pub bare : map data_bind_of binds ≡ map (bare_data_bind s.file) got.tree
   pub depth : d ≡ depth_data_binds got.tree

@@ -112,14 +112,16 @@ pub record HeadingRead : Type 0 where
 
 abbrev pub read_heading : ℕ → Fixity → Option Shape → List Terminal → Answer HeadingRead
 read_heading n f s i =
-    then_read (read_head n f i) (λ h m. if agrees s h then then_read (maybe_ty n (after_word res.Colon m) m) (λ t o. read (record { head = h; ty = t }) o) else bad)
+    then_read (read_head n f i)
+    (λ h m. if agrees s h then then_read (maybe_ty n (after_word res.Colon m) m) (λ t o. read (record { head = h; ty = t }) o) else bad)
 
 -- what the clauses before have, in the code's terms
 abbrev pub shape_from : Option headings.Shape → Option Shape
 shape_from None = None
 shape_from (Some x) = Some (record { vid = x.vid; count = x.count })
 
-pub record IsHeading (shape : Option headings.Shape) (s : Source) (n : ℕ) (i : List Terminal) (h : Heading.Heading) (d : ℕ) (o : List Token) (got : Read HeadingRead) : Type 0 where
+pub record IsHeading (shape : Option headings.Shape) (s : Source) (n : ℕ) (i : List Terminal) (h : Heading.Heading) (d : ℕ) (o : List Token)
+    (got : Read HeadingRead) : Type 0 where
   pub rest : left s o ≡ got.rest
   pub place : h.shape.place ≡ at s.file (head_place got.tree.head)
   pub vid_place : h.shape.vid_place ≡ at s.file (head_vid_place got.tree.head)

@@ -37,7 +37,8 @@ pub record IsAtom (f : Fixity) (s : Source) (n : ℕ) (i : List Terminal) (e : E
   pub high : level f got.tree ≡ 1000
 
 -- a list of phrases, the elements of which stand for those of what was read
-pub record IsList {C B : Type 0} (list : B → List C) (depth_of : B → ℕ) (s : Source) (n : ℕ) (i : List Terminal) (xs : List C) (d : ℕ) (o : List Token) (got : Read B) : Type 0 where
+pub record IsList {C B : Type 0} (list : B → List C) (depth_of : B → ℕ) (s : Source) (n : ℕ) (i : List Terminal) (xs : List C) (d : ℕ) (o : List Token)
+    (got : Read B) : Type 0 where
   pub rest : left s o ≡ got.rest
   pub same : xs ≡ list got.tree
   pub deep : d ≡ depth_of got.tree

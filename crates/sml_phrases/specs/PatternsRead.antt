@@ -48,7 +48,8 @@ pub record IsPatAt (s : Source) (f : Fixity) (l : ℕ) (n : ℕ) (i : List Termi
   pub level : pat_level f got.tree ≡ l
 
 -- further patterns after those of `front`, the deepest of which is d0 deep
-pub record IsPats (s : Source) (n : ℕ) (i : List Terminal) (front : List Pat) (d0 : ℕ) (pats : List Pat) (d : ℕ) (o : List Token) (got : Read Pats) : Type 0 where
+pub record IsPats (s : Source) (n : ℕ) (i : List Terminal) (front : List Pat) (d0 : ℕ) (pats : List Pat) (d : ℕ) (o : List Token)
+    (got : Read Pats) : Type 0 where
   pub rest : left s o ≡ got.rest
   pub bare : map pat_of pats ≡ map pat_of front ++ pat_list s.file got.tree
   pub depth : d ≡ max d0 (depth_pats got.tree)
@@ -56,7 +57,8 @@ pub record IsPats (s : Source) (n : ℕ) (i : List Terminal) (front : List Pat) 
   pub shorter : length got.rest ≤ length i
 
 -- the operands of a chain after the first, of which v is the first joint
-pub record IsPatParts (s : Source) (f : Fixity) (n : ℕ) (i : List Terminal) (v : ℕ) (parts : List PatPart) (d : ℕ) (o : List Token) (got : Read PatParts) : Type 0 where
+pub record IsPatParts (s : Source) (f : Fixity) (n : ℕ) (i : List Terminal) (v : ℕ) (parts : List PatPart) (d : ℕ) (o : List Token)
+    (got : Read PatParts) : Type 0 where
   pub rest : left s o ≡ got.rest
   pub bare : map pat_part_of parts ≡ pat_operands s.file got.tree
   pub depth : d ≡ depth_pat_parts got.tree
@@ -78,7 +80,8 @@ pub record IsPatField (s : Source) (n : ℕ) (i : List Terminal) (field : PatFie
   pub shorter : length got.rest < length i
 
 -- the fields of a record pattern, and whether `...` ends them
-pub record IsPatRow (s : Source) (n : ℕ) (i : List Terminal) (fields : List PatField) (dots : Bool) (d : ℕ) (o : List Token) (got : Read PatRowRead) : Type 0 where
+pub record IsPatRow (s : Source) (n : ℕ) (i : List Terminal) (fields : List PatField) (dots : Bool) (d : ℕ) (o : List Token)
+    (got : Read PatRowRead) : Type 0 where
   pub rest : left s o ≡ got.rest
   pub bare : pat_fields_of (map pat_field_of fields) ≡ bare_pat_fields s.file got.tree.fields
   pub dots_are : dots ≡ got.tree.dots
@@ -110,7 +113,8 @@ suffix_least (Joint x how) = suc (infix_level (Some how))
 -- what follows the pattern a and a suffix whose first terminal is at p, and what they make
 abbrev pub suffix_read : PatReader → ℕ → Fixity → read.Pat → ℕ → Suffix → List Terminal → Answer read.Pat
 suffix_read self n f a p Colon m = then_read (read_ty n 0 m) (λ t o. answer.read (read.typed_pat a t) o)
-suffix_read self n f a p (Joint x how) m = then_read (whole_pat_parts self f (record { place = p; it = x }) m) (λ ps o. answer.read (read.chain_pat (vid_right f (Named x)) a ps) o)
+suffix_read self n f a p (Joint x how) m = then_read (whole_pat_parts self f (record { place = p; it = x }) m)
+    (λ ps o. answer.read (read.chain_pat (vid_right f (Named x)) a ps) o)
 
 -- an atomic pattern begins here that begins neither with `op` nor with an identifier without a qualifier
 abbrev pub pat_word : Reserved → Bool

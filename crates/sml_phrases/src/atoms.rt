@@ -115,7 +115,8 @@ fn atom_vid<'a>(
     tokens: &'a [Token],
 ) -> Result<Option<(LongVid, &'a [Token])>, Stop>
     ensures { MatchResult result (λ found. MatchOption found (atom_vid fix.now (left source.now tokens.now) ≡ None)
-        (λ x. atom_vid fix.now (left source.now tokens.now) ≡ taken (record { place = vid_place (left source.now tokens.now); it = long_vid_of x.0 }) (left source.now x.1.now)))
+        (λ x. atom_vid fix.now (left source.now tokens.now)
+        ≡ taken (record { place = vid_place (left source.now tokens.now); it = long_vid_of x.0 }) (left source.now x.1.now)))
         (λ e. e ≡ Memory) }
 {
     match after_word(source, Reserved::Equals, tokens) {
@@ -142,7 +143,8 @@ pub fn leaf_atom<'a>(
     fix: &Fixities,
     tokens: &'a [Token],
 ) -> Result<Got<'a, Exp>, Stop>
-    ensures gives { Gives (λ x r. IsAtom fix.now source.now 1 (left source.now tokens.now) x.it x.depth x.rest.now r) result (leaf_by (atom_start fix.now (left source.now tokens.now))) }
+    ensures gives { Gives (λ x r. IsAtom fix.now source.now 1 (left source.now tokens.now) x.it x.depth x.rest.now r)
+        result (leaf_by (atom_start fix.now (left source.now tokens.now))) }
 {
     let place = place_at(source, tokens);
     if let Some((it, rest)) = constant_at(alloc, source, tokens)? {

@@ -30,7 +30,8 @@ pub fn read_tyvars<'a>(
     source: &Source,
     tokens: &'a [Token],
 ) -> Result<Got<'a, Vec<Tyvar>>, Stop>
-    ensures gives { Gives (λ x r. IsTyvars source.now (left source.now tokens.now) x.it.items x.depth x.rest.now r) result (read_tyvars (left source.now tokens.now)) }
+    ensures gives { Gives (λ x r. IsTyvars source.now (left source.now tokens.now) x.it.items x.depth x.rest.now r)
+        result (read_tyvars (left source.now tokens.now)) }
 {
     let mut tyvars = Vec::new(alloc);
     if let Some((tyvar, rest)) = tyvar_at(source, tokens) {
@@ -80,7 +81,8 @@ fn bracketed_tyvars<'a>(
     source: &Source,
     tokens: &'a [Token],
 ) -> Result<Got<'a, Vec<Tyvar>>, Stop>
-    ensures gives { Gives (λ x r. IsTyvars source.now (left source.now tokens.now) x.it.items x.depth x.rest.now r) result (whole tyvar_turn no_state (left source.now tokens.now)) }
+    ensures gives { Gives (λ x r. IsTyvars source.now (left source.now tokens.now) x.it.items x.depth x.rest.now r)
+        result (whole tyvar_turn no_state (left source.now tokens.now)) }
 {
     let mut tyvars = Vec::new(alloc);
     let mut rest = tokens;
@@ -109,7 +111,8 @@ pub fn read_strids<'a>(
     source: &Source,
     tokens: &'a [Token],
 ) -> Result<Got<'a, Vec<LongIdAt>>, Stop>
-    ensures gives { Gives (λ x r. IsStrids source.now (left source.now tokens.now) x.it.items x.depth x.rest.now r) result (read_strids (left source.now tokens.now)) }
+    ensures gives { Gives (λ x r. IsStrids source.now (left source.now tokens.now) x.it.items x.depth x.rest.now r)
+        result (read_strids (left source.now tokens.now)) }
 {
     let mut strids = Vec::new(alloc);
     let mut rest = tokens;
@@ -136,7 +139,8 @@ pub fn read_vids<'a>(
     source: &Source,
     tokens: &'a [Token],
 ) -> Result<Got<'a, Vec<Name>>, Stop>
-    ensures gives { Gives (λ x r. IsVids source.now (left source.now tokens.now) x.it.items x.depth x.rest.now r) result (read_vids (left source.now tokens.now)) }
+    ensures gives { Gives (λ x r. IsVids source.now (left source.now tokens.now) x.it.items x.depth x.rest.now r)
+        result (read_vids (left source.now tokens.now)) }
 {
     let mut vids = Vec::new(alloc);
     let mut rest = tokens;
@@ -171,7 +175,8 @@ fn tycon_head<'a>(
     source: &Source,
     tokens: &'a [Token],
 ) -> Result<Got<'a, (Vec<Tyvar>, Name)>, Stop>
-    ensures gives { Gives (λ x r. IsTyconHead source.now (left source.now tokens.now) x.it.0.items x.it.1 x.depth x.rest.now r) result (read_tycon_head (left source.now tokens.now)) }
+    ensures gives { Gives (λ x r. IsTyconHead source.now (left source.now tokens.now) x.it.0.items x.it.1 x.depth x.rest.now r)
+        result (read_tycon_head (left source.now tokens.now)) }
 {
     let Got {
         it: tyvars,
@@ -199,7 +204,8 @@ fn type_bind<'a>(
     tokens: &'a [Token],
 ) -> Result<Got<'a, TypeBind>, Stop>
     requires { n < 1000 }
-    ensures gives { Gives (λ x r. IsTypeBind source.now n (left source.now tokens.now) x.it x.depth x.rest.now r) result (read_type_bind n (left source.now tokens.now)) }
+    ensures gives { Gives (λ x r. IsTypeBind source.now n (left source.now tokens.now) x.it x.depth x.rest.now r)
+        result (read_type_bind n (left source.now tokens.now)) }
 {
     let place = place_at(source, tokens);
     let Got {
@@ -228,7 +234,8 @@ pub fn read_type_binds<'a>(
     tokens: &'a [Token],
 ) -> Result<Got<'a, Vec<TypeBind>>, Stop>
     requires { n < 1000 }
-    ensures gives { Gives (λ x r. IsTypeBinds source.now n (left source.now tokens.now) x.it.items x.depth x.rest.now r) result (read_type_binds n (left source.now tokens.now)) }
+    ensures gives { Gives (λ x r. IsTypeBinds source.now n (left source.now tokens.now) x.it.items x.depth x.rest.now r)
+        result (read_type_binds n (left source.now tokens.now)) }
 {
     let mut binds = Vec::new(alloc);
     let mut deepest = 0;
@@ -258,7 +265,8 @@ fn con_bind<'a>(
     tokens: &'a [Token],
 ) -> Result<Got<'a, ConBind>, Stop>
     requires { n < 1000 }
-    ensures gives { Gives (λ x r. IsCon source.now n (left source.now tokens.now) x.it x.depth x.rest.now r) result (read_con n fix.now (left source.now tokens.now)) }
+    ensures gives { Gives (λ x r. IsCon source.now n (left source.now tokens.now) x.it x.depth x.rest.now r)
+        result (read_con n fix.now (left source.now tokens.now)) }
 {
     let Some((vid, after)) = binds_vid(source, fix, tokens) else {
         return Err(Stop::Bad(tokens.len()))
@@ -288,7 +296,8 @@ fn read_cons<'a>(
     tokens: &'a [Token],
 ) -> Result<Got<'a, Vec<ConBind>>, Stop>
     requires { n < 1000 }
-    ensures gives { Gives (λ x r. IsCons source.now n (left source.now tokens.now) x.it.items x.depth x.rest.now r) result (read_cons n fix.now (left source.now tokens.now)) }
+    ensures gives { Gives (λ x r. IsCons source.now n (left source.now tokens.now) x.it.items x.depth x.rest.now r)
+        result (read_cons n fix.now (left source.now tokens.now)) }
 {
     let mut cons = Vec::new(alloc);
     let mut deepest = 0;
@@ -318,7 +327,8 @@ fn data_bind<'a>(
     tokens: &'a [Token],
 ) -> Result<Got<'a, DataBind>, Stop>
     requires { n < 1000 }
-    ensures gives { Gives (λ x r. IsDataBind source.now n (left source.now tokens.now) x.it x.depth x.rest.now r) result (read_data_bind n fix.now (left source.now tokens.now)) }
+    ensures gives { Gives (λ x r. IsDataBind source.now n (left source.now tokens.now) x.it x.depth x.rest.now r)
+        result (read_data_bind n fix.now (left source.now tokens.now)) }
 {
     let place = place_at(source, tokens);
     let Got {
@@ -348,7 +358,8 @@ pub fn read_data_binds<'a>(
     tokens: &'a [Token],
 ) -> Result<Got<'a, Vec<DataBind>>, Stop>
     requires { n < 1000 }
-    ensures gives { Gives (λ x r. IsDataBinds source.now n (left source.now tokens.now) x.it.items x.depth x.rest.now r) result (read_data_binds n fix.now (left source.now tokens.now)) }
+    ensures gives { Gives (λ x r. IsDataBinds source.now n (left source.now tokens.now) x.it.items x.depth x.rest.now r)
+        result (read_data_binds n fix.now (left source.now tokens.now)) }
 {
     let mut binds = Vec::new(alloc);
     let mut deepest = 0;
@@ -378,7 +389,8 @@ fn ex_bind<'a>(
     tokens: &'a [Token],
 ) -> Result<Got<'a, ExBind>, Stop>
     requires { n < 1000 }
-    ensures gives { Gives (λ x r. IsExBind source.now n (left source.now tokens.now) x.it x.depth x.rest.now r) result (read_ex_bind n fix.now (left source.now tokens.now)) }
+    ensures gives { Gives (λ x r. IsExBind source.now n (left source.now tokens.now) x.it x.depth x.rest.now r)
+        result (read_ex_bind n fix.now (left source.now tokens.now)) }
 {
     let place = vid_place(source, tokens);
     let Some((vid, after)) = binds_vid(source, fix, tokens) else {
@@ -415,7 +427,8 @@ pub fn read_ex_binds<'a>(
     tokens: &'a [Token],
 ) -> Result<Got<'a, Vec<ExBind>>, Stop>
     requires { n < 1000 }
-    ensures gives { Gives (λ x r. IsExBinds source.now n (left source.now tokens.now) x.it.items x.depth x.rest.now r) result (read_ex_binds n fix.now (left source.now tokens.now)) }
+    ensures gives { Gives (λ x r. IsExBinds source.now n (left source.now tokens.now) x.it.items x.depth x.rest.now r)
+        result (read_ex_binds n fix.now (left source.now tokens.now)) }
 {
     let mut binds = Vec::new(alloc);
     let mut deepest = 0;

@@ -43,7 +43,8 @@ pub fn read_decs<'a>(
     tokens: &'a [Token],
 ) -> Result<Got<'a, Vec<Dec>>, Stop>
     requires { n < 1000 }
-    ensures gives { Gives (λ x r. IsDecs fix.old fix.new source.now n (left source.now tokens.now) x.it.items x.depth x.rest.now r) result ((readers n).decs fix.old (left source.now tokens.now)) }
+    ensures gives { Gives (λ x r. IsDecs fix.old fix.new source.now n (left source.now tokens.now) x.it.items x.depth x.rest.now r)
+        result ((readers n).decs fix.old (left source.now tokens.now)) }
 {
     let mut all = Vec::new(alloc);
     let mut deepest = 0;
@@ -133,8 +134,9 @@ fn read_local<'a>(
     tokens: &'a [Token],
 ) -> Result<Got<'a, Option<Dec>>, Stop>
     requires { n < 999 }
-    ensures gives { (p : ℕ) → place ≡ at source.now.file p →
-        Gives (λ x r. IsDec fix.old fix.new source.now (n + 1) (left source.now tokens.now) x.it x.depth x.rest.now r) result (local_by n fix.old p (left source.now tokens.now)) }
+    ensures gives { (p : ℕ) → place ≡ at source.now.file p
+        → Gives (λ x r. IsDec fix.old fix.new source.now (n + 1) (left source.now tokens.now) x.it x.depth x.rest.now r)
+        result (local_by n fix.old p (left source.now tokens.now)) }
 {
     let mut inner = fix.copy(alloc)?;
     let Got {
@@ -242,8 +244,9 @@ fn read_functions<'a>(
     tokens: &'a [Token],
 ) -> Result<Got<'a, Vec<Function>>, Stop>
     requires { n < 1000 }
-    ensures gives { Gives (λ x r. IsList (functions source.now.file) depth_funs source.now n (left source.now tokens.now) (map function_of x.it.items) x.depth x.rest.now r) result
-        (read_funs n (readers n).exp fix.now (left source.now tokens.now)) }
+    ensures gives { Gives (λ x r. IsList (functions source.now.file) depth_funs source.now n (left source.now tokens.now)
+        (map function_of x.it.items) x.depth x.rest.now r)
+        result (read_funs n (readers n).exp fix.now (left source.now tokens.now)) }
 {
     let mut all = Vec::new(alloc);
     let mut deepest = 0;

@@ -49,7 +49,8 @@ pub fn read_exp<'a>(
     tokens: &'a [Token],
 ) -> Result<Got<'a, Exp>, Stop>
     requires { n < 1000 }
-    ensures gives { Gives (λ x r. IsExp source.now n (left source.now tokens.now) x.it x.depth x.rest.now r) result ((readers n).exp fix.now level (left source.now tokens.now)) }
+    ensures gives { Gives (λ x r. IsExp source.now n (left source.now tokens.now) x.it x.depth x.rest.now r)
+        result ((readers n).exp fix.now level (left source.now tokens.now)) }
 {
     if n == 0 {
         return Err(no_room(source, fix, level, tokens));
@@ -101,7 +102,8 @@ fn keyword_form<'a>(
     tokens: &'a [Token],
 ) -> Result<Got<'a, Exp>, Stop>
     requires { n < 999 }
-    ensures gives { Gives (λ x r. IsExp source.now (n + 1) (left source.now tokens.now) x.it x.depth x.rest.now r) result (keyword_form n (readers n).exp fix.now (start_of (left source.now tokens.now))) }
+    ensures gives { Gives (λ x r. IsExp source.now (n + 1) (left source.now tokens.now) x.it x.depth x.rest.now r)
+        result (keyword_form n (readers n).exp fix.now (start_of (left source.now tokens.now))) }
 {
     let place = place_at(source, tokens);
     let inner = tail(source, tokens);
@@ -185,7 +187,8 @@ fn case<'a>(
 ) -> Result<Got<'a, Exp>, Stop>
     requires { n < 999 }
     ensures gives { Gives (λ x r. IsExp source.now (n + 1) (left source.now tokens.now) x.it x.depth x.rest.now r) result
-        (then_read ((readers n).exp fix.now 0 (tail (left source.now tokens.now))) (case_rest n (readers n).exp fix.now (place_at (left source.now tokens.now)))) }
+        (then_read ((readers n).exp fix.now 0 (tail (left source.now tokens.now)))
+        (case_rest n (readers n).exp fix.now (place_at (left source.now tokens.now)))) }
 {
     let exp = read_exp(alloc, source, fix, n, 0, tail(source, tokens))?;
     let rest = exp.rest;
@@ -208,7 +211,8 @@ pub fn read_after<'a>(
     tokens: &'a [Token],
 ) -> Result<Got<'a, Exp>, Stop>
     requires { n < 1000 }
-    ensures gives { Gives (λ x r. IsExp source.now n (tail (left source.now tokens.now)) x.it x.depth x.rest.now r) result (word_then word ((readers n).exp fix.now 0) (left source.now tokens.now)) }
+    ensures gives { Gives (λ x r. IsExp source.now n (tail (left source.now tokens.now)) x.it x.depth x.rest.now r)
+        result (word_then word ((readers n).exp fix.now 0) (left source.now tokens.now)) }
 {
     match after_word(source, word, tokens) {
         Some(after) => read_exp(alloc, source, fix, n, 0, after),
@@ -226,7 +230,8 @@ fn application<'a>(
     tokens: &'a [Token],
 ) -> Result<Got<'a, Exp>, Stop>
     requires { n < 999 }
-    ensures gives { Gives (λ x r. IsAtom fix.now source.now (n + 1) (left source.now tokens.now) x.it x.depth x.rest.now r) result (application (readers n) n fix.now (left source.now tokens.now)) }
+    ensures gives { Gives (λ x r. IsAtom fix.now source.now (n + 1) (left source.now tokens.now) x.it x.depth x.rest.now r)
+        result (application (readers n) n fix.now (left source.now tokens.now)) }
 {
     let place = place_at(source, tokens);
     let first = read_atom(alloc, source, fix, n + 1, tokens)?;
@@ -254,7 +259,8 @@ fn read_atoms<'a>(
 ) -> Result<Got<'a, Vec<Exp>>, Stop>
     requires room { n < 999 }
     requires begins { begins_atom fix.now (left source.now tokens.now) ≡ true }
-    ensures gives { Gives (λ x r. IsList (exp_list source.now.file) depth_exps source.now n (left source.now tokens.now) (map exp_of x.it.items) x.depth x.rest.now r)
+    ensures gives { Gives (λ x r. IsList (exp_list source.now.file) depth_exps source.now n (left source.now tokens.now)
+        (map exp_of x.it.items) x.depth x.rest.now r)
         result (whole (atoms_turn (readers n).atom fix.now) no_state (left source.now tokens.now)) }
 {
     let mut all = Vec::new(alloc);
@@ -285,7 +291,8 @@ fn read_atom<'a>(
     tokens: &'a [Token],
 ) -> Result<Got<'a, Exp>, Stop>
     requires { n < 1000 }
-    ensures gives { Gives (λ x r. IsAtom fix.now source.now n (left source.now tokens.now) x.it x.depth x.rest.now r) result ((readers n).atom fix.now (left source.now tokens.now)) }
+    ensures gives { Gives (λ x r. IsAtom fix.now source.now n (left source.now tokens.now) x.it x.depth x.rest.now r)
+        result ((readers n).atom fix.now (left source.now tokens.now)) }
 {
     if n == 0 {
         return Err(no_atom_room(source, fix, tokens));
@@ -345,7 +352,8 @@ fn read_rows<'a>(
     tokens: &'a [Token],
 ) -> Result<Got<'a, Vec<ExpField>>, Stop>
     requires { n < 999 }
-    ensures gives { Gives (λ x r. IsList (field_list source.now.file) depth_exp_fields source.now n (left source.now tokens.now) (map exp_field_of x.it.items) x.depth x.rest.now r)
+    ensures gives { Gives (λ x r. IsList (field_list source.now.file) depth_exp_fields source.now n (left source.now tokens.now)
+        (map exp_field_of x.it.items) x.depth x.rest.now r)
         result (closed_rows (readers n).exp fix.now (left source.now tokens.now)) }
 {
     let mut all = Vec::new(alloc);
@@ -533,7 +541,8 @@ fn read_exps<'a>(
     tokens: &'a [Token],
 ) -> Result<Got<'a, Vec<Exp>>, Stop>
     requires { n < 999 }
-    ensures gives { Gives (λ x r. IsList (exp_list source.now.file) depth_exps source.now n (left source.now tokens.now) (map exp_of x.it.items) x.depth x.rest.now r)
+    ensures gives { Gives (λ x r. IsList (exp_list source.now.file) depth_exps source.now n (left source.now tokens.now)
+        (map exp_of x.it.items) x.depth x.rest.now r)
         result (closed_exps word closing (readers n).exp fix.now (left source.now tokens.now)) }
 {
     let mut all = Vec::new(alloc);
@@ -568,7 +577,8 @@ fn read_match<'a>(
     tokens: &'a [Token],
 ) -> Result<Got<'a, Vec<Rule>>, Stop>
     requires { n < 999 }
-    ensures gives { Gives (λ x r. IsList (rule_list source.now.file) depth_rules source.now n (left source.now tokens.now) (map rule_of x.it.items) x.depth x.rest.now r)
+    ensures gives { Gives (λ x r. IsList (rule_list source.now.file) depth_rules source.now n (left source.now tokens.now)
+        (map rule_of x.it.items) x.depth x.rest.now r)
         result (read_match n (readers n).exp fix.now (left source.now tokens.now)) }
 {
     let mut all = Vec::new(alloc);
@@ -609,7 +619,8 @@ fn read_parts<'a>(
 ) -> Result<Got<'a, Vec<Part>>, Stop>
     requires room { n < 999 }
     requires place { joint_of source.now.file (joint_from first.now) ≡ first.now }
-    ensures gives { Gives (λ x r. IsList (operands source.now.file) depth_parts source.now n (left source.now tokens.now) (map part_of x.it.items) x.depth x.rest.now r)
+    ensures gives { Gives (λ x r. IsList (operands source.now.file) depth_parts source.now n (left source.now tokens.now)
+        (map part_of x.it.items) x.depth x.rest.now r)
         result (whole_parts (readers n).exp fix.now (joint_from first.now) (left source.now tokens.now)) }
 {
     let level = joint_level(fix, first);

@@ -56,7 +56,8 @@ fn agrees(shape: Option<Shape>, vid: &Vid, count: usize) -> bool
 
 /// Refuses a clause that may not follow those of this shape.
 fn agreeing(shape: Option<Shape>, vid: &Vid, count: usize, tokens: &[Token]) -> Result<(), Stop>
-    ensures agrees { (h : read.Head) → vid.now ≡ head_vid h → count ≡ head_count h → MatchResult result (λ _. agrees (shape_from shape) h ≡ true) (λ e. agrees (shape_from shape) h ≡ false) }
+    ensures agrees { (h : read.Head) → vid.now ≡ head_vid h → count ≡ head_count h
+        → MatchResult result (λ _. agrees (shape_from shape) h ≡ true) (λ e. agrees (shape_from shape) h ≡ false) }
     ensures stop { IfErr result (λ e. e ≡ Bad (length tokens.now)) }
 {
     if agrees(shape, vid, count) {
@@ -76,7 +77,8 @@ pub fn read_heading<'a>(
     tokens: &'a [Token],
 ) -> Result<Got<'a, Heading>, Stop>
     requires { n < 1000 }
-    ensures gives { Gives (λ x r. IsHeading shape source.now n (left source.now tokens.now) x.it x.depth x.rest.now r) result (read_heading n fix.now (shape_from shape) (left source.now tokens.now)) }
+    ensures gives { Gives (λ x r. IsHeading shape source.now n (left source.now tokens.now) x.it x.depth x.rest.now r)
+        result (read_heading n fix.now (shape_from shape) (left source.now tokens.now)) }
 {
     let Got {
         it: Head {
@@ -117,7 +119,8 @@ pub fn clause_from(
     place: Place,
     exp: Exp,
 ) -> Result<Clause, NoMemory>
-    ensures { IfOk result (λ c. clause_of c ≡ record { place = heading.shape.place; pats = map pat_of heading.pats.items; body = with_result place (exp_of exp) (some_ty_of heading.ty) }) }
+    ensures { IfOk result (λ c. clause_of c
+        ≡ record { place = heading.shape.place; pats = map pat_of heading.pats.items; body = with_result place (exp_of exp) (some_ty_of heading.ty) }) }
 {
     let (pats, body) = with(heading.pats, with_result(alloc, place, exp, heading.ty))?;
     Ok(clause(heading.shape.place, pats, body))

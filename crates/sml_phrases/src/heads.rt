@@ -60,7 +60,8 @@ pub fn read_head<'a>(
     tokens: &'a [Token],
 ) -> Result<Got<'a, Head>, Stop>
     requires { n < 1000 }
-    ensures gives { Gives (λ x r. IsHead source.now n (left source.now tokens.now) x.it x.depth x.rest.now r) result (read_head n fix.now (left source.now tokens.now)) }
+    ensures gives { Gives (λ x r. IsHead source.now n (left source.now tokens.now) x.it x.depth x.rest.now r)
+        result (read_head n fix.now (left source.now tokens.now)) }
 {
     let place = place_at(source, tokens);
     if let Some((vid, after)) = binds_vid(source, fix, tokens) {
@@ -93,8 +94,10 @@ fn named_head<'a>(
     tokens: &'a [Token],
 ) -> Result<Got<'a, Head>, Stop>
     requires { n < 1000 }
-    ensures gives { (i : List Terminal) (q : ℕ) → place ≡ bare.at source.now.file (place_at i) → name_place ≡ bare.at source.now.file q → length (left source.now tokens.now) < length i →
-        Gives (λ x r. IsHead source.now n i x.it x.depth x.rest.now r) result (vid_head n fix.now (place_at i) (record { place = q; it = vid }) (left source.now tokens.now)) }
+    ensures gives { (i : List Terminal) (q : ℕ) → place ≡ bare.at source.now.file (place_at i) → name_place ≡ bare.at source.now.file q
+        → length (left source.now tokens.now) < length i
+        → Gives (λ x r. IsHead source.now n i x.it x.depth x.rest.now r)
+        result (vid_head n fix.now (place_at i) (record { place = q; it = vid }) (left source.now tokens.now)) }
 {
     match joint_at(source, fix, tokens) {
         Some(found) => {
@@ -137,8 +140,10 @@ fn prefix_head<'a>(
     tokens: &'a [Token],
 ) -> Result<Got<'a, Head>, Stop>
     requires { n < 1000 }
-    ensures gives { (i : List Terminal) (q : ℕ) → place ≡ bare.at source.now.file (place_at i) → name_place ≡ bare.at source.now.file q → length (left source.now tokens.now) < length i →
-        Gives (λ x r. IsHead source.now n i x.it x.depth x.rest.now r) result (prefix_rest n fix.now (place_at i) (record { place = q; it = vid }) (left source.now tokens.now)) }
+    ensures gives { (i : List Terminal) (q : ℕ) → place ≡ bare.at source.now.file (place_at i) → name_place ≡ bare.at source.now.file q
+        → length (left source.now tokens.now) < length i
+        → Gives (λ x r. IsHead source.now n i x.it x.depth x.rest.now r)
+        result (prefix_rest n fix.now (place_at i) (record { place = q; it = vid }) (left source.now tokens.now)) }
 {
     let Got {
         it: first,
@@ -177,8 +182,11 @@ fn infix_head<'a>(
     tokens: &'a [Token],
 ) -> Result<Got<'a, Head>, Stop>
     requires { n < 1000 }
-    ensures gives { (i : List Terminal) (a : read.Pat) (p : ℕ) → place ≡ bare.at source.now.file (place_at i) → name_place ≡ bare.at source.now.file p → pat_of first ≡ bare_pat source.now.file a → depth ≡ depth_pat a → read.pat_place a ≡ place_at i → depth ≤ n → length (left source.now tokens.now) < length i →
-        Gives (λ x r. IsHead source.now n i x.it x.depth x.rest.now r) result (infix_rest n fix.now a (record { place = p; it = name }) (left source.now tokens.now)) }
+    ensures gives { (i : List Terminal) (a : read.Pat) (p : ℕ) → place ≡ bare.at source.now.file (place_at i) → name_place ≡ bare.at source.now.file p
+        → pat_of first ≡ bare_pat source.now.file a → depth ≡ depth_pat a → read.pat_place a ≡ place_at i → depth ≤ n
+        → length (left source.now tokens.now) < length i
+        → Gives (λ x r. IsHead source.now n i x.it x.depth x.rest.now r)
+        result (infix_rest n fix.now a (record { place = p; it = name }) (left source.now tokens.now)) }
 {
     let (first, second) = with(first, read_atpat(alloc, source, fix, n, tokens))?;
     let (second_depth, rest) = (second.depth, second.rest);
@@ -216,8 +224,9 @@ fn bracket_head<'a>(
 ) -> Result<Got<'a, Head>, Stop>
     requires room { n < 1000 }
     requires fits { depth ≤ n }
-    ensures gives { (i : List Terminal) (b : Bracketed) → place ≡ bare.at source.now.file (place_at i) → IsPair source.now pair i depth b → length (left source.now tokens.now) < length i →
-        Gives (λ x r. IsHead source.now n i x.it x.depth x.rest.now r) result (bracket_rest n fix.now (left source.now tokens.now) (Some b)) }
+    ensures gives { (i : List Terminal) (b : Bracketed) → place ≡ bare.at source.now.file (place_at i) → IsPair source.now pair i depth b
+        → length (left source.now tokens.now) < length i
+        → Gives (λ x r. IsHead source.now n i x.it x.depth x.rest.now r) result (bracket_rest n fix.now (left source.now tokens.now) (Some b)) }
 {
     let Pair {
         left: first,
@@ -255,7 +264,8 @@ pub fn more_atpats<'a>(
 ) -> Result<Got<'a, Vec<Pat>>, Stop>
     requires room { n < 1000 }
     requires fits { depth ≤ n }
-    ensures gives { Gives (λ x r. IsPats source.now n (left source.now tokens.now) front.items depth x.it.items x.depth x.rest.now r) result (read_atpats n fix.now (left source.now tokens.now)) }
+    ensures gives { Gives (λ x r. IsPats source.now n (left source.now tokens.now) front.items depth x.it.items x.depth x.rest.now r)
+        result (read_atpats n fix.now (left source.now tokens.now)) }
 {
     let mut all = front;
     let mut deepest = depth;
@@ -283,7 +293,8 @@ fn maybe_atpat<'a>(
 ) -> Result<Option<Got<'a, Pat>>, Stop>
     requires { n < 1000 }
     ensures { MatchResult result (λ found. MatchOption found (NoPattern (read_atpat n fix.now (left source.now tokens.now)))
-        (λ x. Gave (λ x r. IsPatAt source.now fix.now 1000 n (left source.now tokens.now) x.it x.depth x.rest.now r) x (read_atpat n fix.now (left source.now tokens.now)))) (λ e. e ≡ Memory) }
+        (λ x. Gave (λ x r. IsPatAt source.now fix.now 1000 n (left source.now tokens.now) x.it x.depth x.rest.now r) x
+        (read_atpat n fix.now (left source.now tokens.now)))) (λ e. e ≡ Memory) }
 {
     match read_atpat(alloc, source, fix, n, tokens) {
         Ok(got) => Ok(Some(got)),
@@ -304,8 +315,10 @@ fn bracketed(
     tokens: &[Token],
 ) -> Result<Option<Pair>, Stop>
     requires { n < 1000 }
-    ensures { (y : Read read.Pat) → read_atpat n fix.now (left source.now tokens.now) ≡ ok y → MatchResult result (λ found. MatchOption found (bracketed y.tree ≡ None)
-        (λ pair. (b : Bracketed) × (bracketed y.tree ≡ Some b) × IsPair source.now pair (left source.now tokens.now) (depth_pat y.tree) b)) (λ e. e ≡ Memory) }
+    ensures { (y : Read read.Pat) → read_atpat n fix.now (left source.now tokens.now) ≡ ok y
+        → MatchResult result (λ found. MatchOption found (bracketed y.tree ≡ None)
+        (λ pair. (b : Bracketed) × (bracketed y.tree ≡ Some b) × IsPair source.now pair (left source.now tokens.now) (depth_pat y.tree) b))
+        (λ e. e ≡ Memory) }
 {
     if n < 2 {
         return Ok(None);
@@ -330,8 +343,10 @@ fn after_first(
 ) -> Result<Option<Pair>, Stop>
     requires room { n < 1000 }
     requires two { 2 ≤ n }
-    ensures { (i m : List Terminal) (y one : Read read.Pat) → read_atpat n fix.now i ≡ ok y → after_word LeftParen i ≡ Some m → read_atpat (n - 2) fix.now m ≡ ok one → pat_of pat ≡ bare_pat source.now.file one.tree → left source.now tokens.now ≡ one.rest →
-        MatchResult result (λ found. MatchOption found (bracketed y.tree ≡ None) (λ pair. (b : Bracketed) × (bracketed y.tree ≡ Some b) × IsPair source.now pair i (depth_pat y.tree) b)) (λ e. e ≡ Memory) }
+    ensures { (i m : List Terminal) (y one : Read read.Pat) → read_atpat n fix.now i ≡ ok y → after_word LeftParen i ≡ Some m
+        → read_atpat (n - 2) fix.now m ≡ ok one → pat_of pat ≡ bare_pat source.now.file one.tree → left source.now tokens.now ≡ one.rest
+        → MatchResult result (λ found. MatchOption found (bracketed y.tree ≡ None)
+        (λ pair. (b : Bracketed) × (bracketed y.tree ≡ Some b) × IsPair source.now pair i (depth_pat y.tree) b)) (λ e. e ≡ Memory) }
 {
     match joint_at(source, fix, tokens) {
         Some(found) => {
@@ -361,7 +376,8 @@ fn paired(
     second: Pat,
     tokens: &[Token],
 ) -> Option<Pair>
-    ensures { MatchOption (after_word RightParen (left source.now tokens.now)) (result ≡ None) (λ o. result ≡ Some (record { left = first; vid_place = vid_place; vid = vid; right = second })) }
+    ensures { MatchOption (after_word RightParen (left source.now tokens.now)) (result ≡ None)
+        (λ o. result ≡ Some (record { left = first; vid_place = vid_place; vid = vid; right = second })) }
 {
     match after_word(source, Reserved::RightParen, tokens) {
         Some(_) => Some(Pair {

@@ -148,7 +148,8 @@ pub fn function(place: Place, vid_place: Place, vid: Vid, clauses: Vec<Clause>) 
 }
 
 pub fn val(place: Place, tyvars: TyvarSeq, plain: Vec<Bind>, recursive: Vec<Bind>) -> Dec
-    ensures { dec_of result ≡ bare.val_dec place tyvars.place tyvars.tyvars.items (binds_of (map bind_of plain.items)) (binds_of (map bind_of recursive.items)) }
+    ensures { dec_of result ≡ bare.val_dec place tyvars.place tyvars.tyvars.items (binds_of (map bind_of plain.items))
+        (binds_of (map bind_of recursive.items)) }
 {
     Dec::Val(place, tyvars, plain, recursive)
 }

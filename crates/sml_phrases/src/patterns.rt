@@ -65,8 +65,10 @@ fn suffix_at<'a>(
     fix: &Fixities,
     tokens: &'a [Token],
 ) -> Option<(Suffix, &'a [Token])>
-    ensures none { MatchOption result (infix_vid fix.now (left source.now tokens.now) ≡ None) (λ x. Suffixed fix.now (left source.now tokens.now) x.0 (left source.now x.1.now)) }
-    ensures no_colon { MatchOption result (after_word Colon (left source.now tokens.now) ≡ None) (λ x. length (left source.now x.1.now) < length (left source.now tokens.now)) }
+    ensures none { MatchOption result (infix_vid fix.now (left source.now tokens.now) ≡ None)
+        (λ x. Suffixed fix.now (left source.now tokens.now) x.0 (left source.now x.1.now)) }
+    ensures no_colon { MatchOption result (after_word Colon (left source.now tokens.now) ≡ None)
+        (λ x. length (left source.now x.1.now) < length (left source.now tokens.now)) }
 {
     if let Some((name, how, rest)) = infix_vid(source, fix, tokens) {
         return Some((Suffix::Joint(name, how), rest));
@@ -174,7 +176,8 @@ pub fn read_pat<'a>(
     tokens: &'a [Token],
 ) -> Result<Got<'a, Pat>, Stop>
     requires { n < 1000 }
-    ensures gives { Gives (λ x r. IsPat source.now n (left source.now tokens.now) x.it x.depth x.rest.now r) result ((read_pats n).pat fix.now level (left source.now tokens.now)) }
+    ensures gives { Gives (λ x r. IsPat source.now n (left source.now tokens.now) x.it x.depth x.rest.now r)
+        result ((read_pats n).pat fix.now level (left source.now tokens.now)) }
 {
     if n == 0 {
         if begins_pat(source, fix, tokens) {
@@ -204,7 +207,9 @@ fn vid_form<'a>(
 ) -> Result<Got<'a, Pat>, Stop>
     requires room { n < 1000 }
     requires shorter { length (left source.now after.now) < length (left source.now tokens.now) }
-    ensures gives { Gives (λ x r. IsPat source.now (n + 1) (left source.now tokens.now) x.it x.depth x.rest.now r) result (vid_form (read_pats n) n fix.now (left source.now tokens.now) (record { place = vid_place (left source.now tokens.now); it = vid }) (left source.now after.now)) }
+    ensures gives { Gives (λ x r. IsPat source.now (n + 1) (left source.now tokens.now) x.it x.depth x.rest.now r)
+        result (vid_form (read_pats n) n fix.now (left source.now tokens.now) (record { place = vid_place (left source.now tokens.now); it = vid })
+        (left source.now after.now)) }
 {
     let name_place = vid_place(source, tokens);
     if let Some(rest) = after_word(source, Reserved::As, after) {
@@ -240,8 +245,11 @@ fn as_form<'a>(
 ) -> Result<Got<'a, Pat>, Stop>
     requires room { n < 1000 }
     requires fits { ty_depth ≤ n }
-    ensures gives { (i : List Terminal) (q : ℕ) (t : Option read.Ty) → place ≡ bare.at source.now.file q → some_ty_of ty ≡ bare_some source.now.file t → ty_depth ≡ depth_some t → length (left source.now tokens.now) < length i →
-        Gives (λ x r. IsPat source.now (n + 1) i x.it x.depth x.rest.now r) result (then_read ((read_pats n).pat fix.now 0 (left source.now tokens.now)) (λ a o. answer.read (read.as_pat (place_at i) (record { place = q; it = vid }) t a) o)) }
+    ensures gives { (i : List Terminal) (q : ℕ) (t : Option read.Ty) → place ≡ bare.at source.now.file q → some_ty_of ty ≡ bare_some source.now.file t
+        → ty_depth ≡ depth_some t → length (left source.now tokens.now) < length i
+        → Gives (λ x r. IsPat source.now (n + 1) i x.it x.depth x.rest.now r)
+        result (then_read ((read_pats n).pat fix.now 0 (left source.now tokens.now))
+        (λ a o. answer.read (read.as_pat (place_at i) (record { place = q; it = vid }) t a) o)) }
 {
     let (ty, pat) = with(ty, read_pat(alloc, source, fix, n, 0, tokens))?;
     Ok(Got {
@@ -272,8 +280,10 @@ fn typed_form<'a>(
     tokens: &'a [Token],
 ) -> Result<Got<'a, Pat>, Stop>
     requires { n < 1000 }
-    ensures gives { (i : List Terminal) (q : ℕ) → place ≡ bare.at source.now.file (place_at i) → name_place ≡ bare.at source.now.file q → length (left source.now tokens.now) < length i →
-        Gives (λ x r. IsPat source.now (n + 1) i x.it x.depth x.rest.now r) result (typed_form (read_pats n) n fix.now (place_at i) (record { place = q; it = vid }) (left source.now tokens.now)) }
+    ensures gives { (i : List Terminal) (q : ℕ) → place ≡ bare.at source.now.file (place_at i) → name_place ≡ bare.at source.now.file q
+        → length (left source.now tokens.now) < length i
+        → Gives (λ x r. IsPat source.now (n + 1) i x.it x.depth x.rest.now r)
+        result (typed_form (read_pats n) n fix.now (place_at i) (record { place = q; it = vid }) (left source.now tokens.now)) }
 {
     if n == 0 {
         return Err(Stop::Deep(tokens.len()));
@@ -329,7 +339,8 @@ fn plain_form<'a>(
     tokens: &'a [Token],
 ) -> Result<Got<'a, Pat>, Stop>
     requires { n < 1000 }
-    ensures gives { Gives (λ x r. IsPat source.now (n + 1) (left source.now tokens.now) x.it x.depth x.rest.now r) result (plain_form (read_pats n) n fix.now level (left source.now tokens.now)) }
+    ensures gives { Gives (λ x r. IsPat source.now (n + 1) (left source.now tokens.now) x.it x.depth x.rest.now r)
+        result (plain_form (read_pats n) n fix.now level (left source.now tokens.now)) }
 {
     let place = place_at(source, tokens);
     let Got { it, depth, rest } = first_pat(alloc, source, fix, n, tokens)?;
@@ -360,7 +371,8 @@ fn first_pat<'a>(
     tokens: &'a [Token],
 ) -> Result<Got<'a, Pat>, Stop>
     requires { n < 1000 }
-    ensures gives { Gives (λ x r. IsPatAt source.now fix.now 1000 (n + 1) (left source.now tokens.now) x.it x.depth x.rest.now r) result (pat_first (read_pats n) n fix.now (left source.now tokens.now)) }
+    ensures gives { Gives (λ x r. IsPatAt source.now fix.now 1000 (n + 1) (left source.now tokens.now) x.it x.depth x.rest.now r)
+        result (pat_first (read_pats n) n fix.now (left source.now tokens.now)) }
 {
     let name_place = vid_place(source, tokens);
     match names_vid(alloc, source, fix, tokens)? {
@@ -399,7 +411,8 @@ pub fn read_atpat<'a>(
     tokens: &'a [Token],
 ) -> Result<Got<'a, Pat>, Stop>
     requires { n < 1000 }
-    ensures gives { Gives (λ x r. IsPatAt source.now fix.now 1000 n (left source.now tokens.now) x.it x.depth x.rest.now r) result ((read_pats n).atpat fix.now (left source.now tokens.now)) }
+    ensures gives { Gives (λ x r. IsPatAt source.now fix.now 1000 n (left source.now tokens.now) x.it x.depth x.rest.now r)
+        result ((read_pats n).atpat fix.now (left source.now tokens.now)) }
 {
     if n == 0 {
         if begins_pat(source, fix, tokens) {
@@ -419,7 +432,8 @@ fn atomic_pat<'a>(
     tokens: &'a [Token],
 ) -> Result<Got<'a, Pat>, Stop>
     requires { n < 1000 }
-    ensures gives { Gives (λ x r. IsPatAt source.now fix.now 1000 (n + 1) (left source.now tokens.now) x.it x.depth x.rest.now r) result (at_pat n (read_pats n).pat fix.now (pat_start fix.now (left source.now tokens.now))) }
+    ensures gives { Gives (λ x r. IsPatAt source.now fix.now 1000 (n + 1) (left source.now tokens.now) x.it x.depth x.rest.now r)
+        result (at_pat n (read_pats n).pat fix.now (pat_start fix.now (left source.now tokens.now))) }
 {
     let place = place_at(source, tokens);
     if let Some(rest) = after_word(source, Reserved::LeftBrace, tokens) {
@@ -441,7 +455,8 @@ fn plain_atpat<'a>(
     fix: &Fixities,
     tokens: &'a [Token],
 ) -> Result<Got<'a, Pat>, Stop>
-    ensures gives { (n : ℕ) (self : PatReader) → Gives (λ x r. IsPatAt source.now fix.now 1000 1 (left source.now tokens.now) x.it x.depth x.rest.now r) result (at_pat n self fix.now (plain_pat_start fix.now (left source.now tokens.now))) }
+    ensures gives { (n : ℕ) (self : PatReader) → Gives (λ x r. IsPatAt source.now fix.now 1000 1 (left source.now tokens.now) x.it x.depth x.rest.now r)
+        result (at_pat n self fix.now (plain_pat_start fix.now (left source.now tokens.now))) }
 {
     let place = place_at(source, tokens);
     if let Some(rest) = after_word(source, Reserved::Underscore, tokens) {
@@ -479,8 +494,9 @@ fn brace_pat<'a>(
     tokens: &'a [Token],
 ) -> Result<Got<'a, Pat>, Stop>
     requires { n < 1000 }
-    ensures gives { (i : List Terminal) → place ≡ bare.at source.now.file (place_at i) → length (left source.now tokens.now) < length i →
-        Gives (λ x r. IsPatAt source.now fix.now 1000 (n + 1) i x.it x.depth x.rest.now r) result (brace_pat n (read_pats n).pat fix.now (place_at i) (left source.now tokens.now)) }
+    ensures gives { (i : List Terminal) → place ≡ bare.at source.now.file (place_at i) → length (left source.now tokens.now) < length i
+        → Gives (λ x r. IsPatAt source.now fix.now 1000 (n + 1) i x.it x.depth x.rest.now r)
+        result (brace_pat n (read_pats n).pat fix.now (place_at i) (left source.now tokens.now)) }
 {
     if let Some(rest) = after_word(source, Reserved::RightBrace, tokens) {
         return Ok(Got {
@@ -512,7 +528,8 @@ fn pat_row<'a>(
     tokens: &'a [Token],
 ) -> Result<Got<'a, PatRow>, Stop>
     requires { n < 1000 }
-    ensures gives { Gives (λ x r. IsPatRow source.now n (left source.now tokens.now) x.it.fields.items x.it.dots x.depth x.rest.now r) result (whole (pat_row_turn n (read_pats n).pat fix.now) no_state (left source.now tokens.now)) }
+    ensures gives { Gives (λ x r. IsPatRow source.now n (left source.now tokens.now) x.it.fields.items x.it.dots x.depth x.rest.now r)
+        result (whole (pat_row_turn n (read_pats n).pat fix.now) no_state (left source.now tokens.now)) }
 {
     let mut fields = Vec::new(alloc);
     let mut deepest = 0;
@@ -553,7 +570,8 @@ fn pat_field<'a>(
     tokens: &'a [Token],
 ) -> Result<Got<'a, PatField>, Stop>
     requires { n < 1000 }
-    ensures gives { Gives (λ x r. IsPatField source.now n (left source.now tokens.now) x.it x.depth x.rest.now r) result (field n (read_pats n).pat fix.now (left source.now tokens.now)) }
+    ensures gives { Gives (λ x r. IsPatField source.now n (left source.now tokens.now) x.it x.depth x.rest.now r)
+        result (field n (read_pats n).pat fix.now (left source.now tokens.now)) }
 {
     if let Some((label, rest)) = label_equals(source, tokens) {
         let Got {
@@ -580,7 +598,8 @@ fn punned_field<'a>(
     tokens: &'a [Token],
 ) -> Result<Got<'a, PatField>, Stop>
     requires { n < 1000 }
-    ensures gives { Gives (λ x r. IsPatField source.now n (left source.now tokens.now) x.it x.depth x.rest.now r) result (punned_field n (read_pats n).pat fix.now (left source.now tokens.now)) }
+    ensures gives { Gives (λ x r. IsPatField source.now n (left source.now tokens.now) x.it x.depth x.rest.now r)
+        result (punned_field n (read_pats n).pat fix.now (left source.now tokens.now)) }
 {
     let place = place_at(source, tokens);
     let Some((name, after_name)) = plain_vid(source, fix, tokens) else {
@@ -646,8 +665,9 @@ fn paren_pat<'a>(
     tokens: &'a [Token],
 ) -> Result<Got<'a, Pat>, Stop>
     requires { n < 1000 }
-    ensures gives { (i : List Terminal) → place ≡ bare.at source.now.file (place_at i) → length (left source.now tokens.now) < length i →
-        Gives (λ x r. IsPatAt source.now fix.now 1000 (n + 1) i x.it x.depth x.rest.now r) result (paren_pat_in (read_pats n).pat fix.now (place_at i) (left source.now tokens.now)) }
+    ensures gives { (i : List Terminal) → place ≡ bare.at source.now.file (place_at i) → length (left source.now tokens.now) < length i
+        → Gives (λ x r. IsPatAt source.now fix.now 1000 (n + 1) i x.it x.depth x.rest.now r)
+        result (paren_pat_in (read_pats n).pat fix.now (place_at i) (left source.now tokens.now)) }
 {
     if let Some(rest) = after_word(source, Reserved::RightParen, tokens) {
         return Ok(Got {
@@ -686,8 +706,11 @@ fn tuple_pat<'a>(
 ) -> Result<Got<'a, Pat>, Stop>
     requires room { n < 1000 }
     requires fits { depth ≤ n }
-    ensures gives { (i : List Terminal) (a : read.Pat) → place ≡ bare.at source.now.file (place_at i) → pat_of first ≡ bare_pat source.now.file a → depth ≡ depth_pat a → length (left source.now tokens.now) < length i →
-        Gives (λ x r. IsPatAt source.now fix.now 1000 (n + 1) i x.it x.depth x.rest.now r) result (then_read (whole (pat_commas_turn (read_pats n).pat fix.now) no_state (left source.now tokens.now)) (λ as_ k. word_then RightParen (λ o. answer.read (read.tuple_pat (place_at i) (read.pat a as_)) o) k)) }
+    ensures gives { (i : List Terminal) (a : read.Pat) → place ≡ bare.at source.now.file (place_at i) → pat_of first ≡ bare_pat source.now.file a
+        → depth ≡ depth_pat a → length (left source.now tokens.now) < length i
+        → Gives (λ x r. IsPatAt source.now fix.now 1000 (n + 1) i x.it x.depth x.rest.now r)
+        result (then_read (whole (pat_commas_turn (read_pats n).pat fix.now) no_state (left source.now tokens.now))
+        (λ as_ k. word_then RightParen (λ o. answer.read (read.tuple_pat (place_at i) (read.pat a as_)) o) k)) }
 {
     let front = one(alloc, first)?;
     let Got {
@@ -714,8 +737,9 @@ fn bracket_pat<'a>(
     tokens: &'a [Token],
 ) -> Result<Got<'a, Pat>, Stop>
     requires { n < 1000 }
-    ensures gives { (i : List Terminal) → place ≡ bare.at source.now.file (place_at i) → length (left source.now tokens.now) < length i →
-        Gives (λ x r. IsPatAt source.now fix.now 1000 (n + 1) i x.it x.depth x.rest.now r) result (bracket_pat (read_pats n).pat fix.now (place_at i) (left source.now tokens.now)) }
+    ensures gives { (i : List Terminal) → place ≡ bare.at source.now.file (place_at i) → length (left source.now tokens.now) < length i
+        → Gives (λ x r. IsPatAt source.now fix.now 1000 (n + 1) i x.it x.depth x.rest.now r)
+        result (bracket_pat (read_pats n).pat fix.now (place_at i) (left source.now tokens.now)) }
 {
     if let Some(rest) = after_word(source, Reserved::RightBracket, tokens) {
         return Ok(Got {
@@ -750,7 +774,8 @@ fn more_pats<'a>(
 ) -> Result<Got<'a, Vec<Pat>>, Stop>
     requires room { n < 1000 }
     requires fits { depth ≤ n }
-    ensures gives { Gives (λ x r. IsPats source.now n (left source.now tokens.now) front.items depth x.it.items x.depth x.rest.now r) result (whole (pat_commas_turn (read_pats n).pat fix.now) no_state (left source.now tokens.now)) }
+    ensures gives { Gives (λ x r. IsPats source.now n (left source.now tokens.now) front.items depth x.it.items x.depth x.rest.now r)
+        result (whole (pat_commas_turn (read_pats n).pat fix.now) no_state (left source.now tokens.now)) }
 {
     let mut all = front;
     let mut deepest = depth;
@@ -786,8 +811,9 @@ fn suffixes<'a>(
     tokens: &'a [Token],
 ) -> Result<Got<'a, Pat>, Stop>
     requires { n < 1000 }
-    ensures gives { (i : List Terminal) (a : Read read.Pat) → place ≡ bare.at source.now.file (place_at i) → IsPatAt source.now fix.now level (n + 1) i first depth tokens.now a →
-        Gives (λ x r. IsPat source.now (n + 1) i x.it x.depth x.rest.now r) result (pat_suffix (read_pats n).pat n fix.now least a.tree a.rest) }
+    ensures gives { (i : List Terminal) (a : Read read.Pat) → place ≡ bare.at source.now.file (place_at i)
+        → IsPatAt source.now fix.now level (n + 1) i first depth tokens.now a
+        → Gives (λ x r. IsPat source.now (n + 1) i x.it x.depth x.rest.now r) result (pat_suffix (read_pats n).pat n fix.now least a.tree a.rest) }
 {
     let mut pat = first;
     let mut deep = depth;
@@ -856,8 +882,11 @@ fn extended<'a>(
 ) -> Result<Got<'a, Pat>, Stop>
     requires room { n < 1000 }
     requires fits { depth ≤ n }
-    ensures gives { (i k : List Terminal) (a : read.Pat) → place ≡ bare.at source.now.file (place_at i) → joint ≡ bare.at source.now.file (place_at k) → pat_of first ≡ bare_pat source.now.file a → depth ≡ depth_pat a → pat_place a ≡ place_at i → length (left source.now tokens.now) < length i → Suffixed fix.now k suffix.now (left source.now tokens.now) →
-        Gives (λ x r. IsPatAt source.now fix.now (suffix_level suffix.now) (n + 1) i x.it x.depth x.rest.now r) result (suffix_read (read_pats n).pat n fix.now a (place_at k) suffix.now (left source.now tokens.now)) }
+    ensures gives { (i k : List Terminal) (a : read.Pat) → place ≡ bare.at source.now.file (place_at i) → joint ≡ bare.at source.now.file (place_at k)
+        → pat_of first ≡ bare_pat source.now.file a → depth ≡ depth_pat a → pat_place a ≡ place_at i → length (left source.now tokens.now) < length i
+        → Suffixed fix.now k suffix.now (left source.now tokens.now)
+        → Gives (λ x r. IsPatAt source.now fix.now (suffix_level suffix.now) (n + 1) i x.it x.depth x.rest.now r)
+        result (suffix_read (read_pats n).pat n fix.now a (place_at k) suffix.now (left source.now tokens.now)) }
     ensures shorter { IfOk result (λ x. length (left source.now x.rest.now) < length (left source.now tokens.now)) }
 {
     match suffix {
@@ -896,8 +925,9 @@ fn pat_parts<'a>(
     tokens: &'a [Token],
 ) -> Result<Got<'a, Vec<PatPart>>, Stop>
     requires { n < 1000 }
-    ensures gives { (p : ℕ) → joint ≡ bare.at source.now.file p → fix_of (Named name) fix.now ≡ Some how →
-        Gives (λ x r. IsPatParts source.now fix.now n (left source.now tokens.now) name x.it.items x.depth x.rest.now r) result (whole_pat_parts (read_pats n).pat fix.now (record { place = p; it = name }) (left source.now tokens.now)) }
+    ensures gives { (p : ℕ) → joint ≡ bare.at source.now.file p → fix_of (Named name) fix.now ≡ Some how
+        → Gives (λ x r. IsPatParts source.now fix.now n (left source.now tokens.now) name x.it.items x.depth x.rest.now r)
+        result (whole_pat_parts (read_pats n).pat fix.now (record { place = p; it = name }) (left source.now tokens.now)) }
     ensures fits { IfOk result (λ x. x.depth ≤ n) }
     ensures shorter { IfOk result (λ x. length (left source.now x.rest.now) < length (left source.now tokens.now)) }
 {

@@ -53,7 +53,8 @@ pub fn simple_dec<'a>(
     tokens: &'a [Token],
 ) -> Result<Got<'a, Option<Dec>>, Stop>
     requires { n < 1000 }
-    ensures gives { Gives (λ x r. IsDec fix.old fix.new source.now n (left source.now tokens.now) x.it x.depth x.rest.now r) result (simple_by n fix.old (dec_start (left source.now tokens.now))) }
+    ensures gives { Gives (λ x r. IsDec fix.old fix.new source.now n (left source.now tokens.now) x.it x.depth x.rest.now r)
+        result (simple_by n fix.old (dec_start (left source.now tokens.now))) }
 {
     let place = place_at(source, tokens);
     let inner = tail(source, tokens);
@@ -117,8 +118,9 @@ fn datatype_dec<'a>(
     tokens: &'a [Token],
 ) -> Result<Got<'a, Option<Dec>>, Stop>
     requires { n < 1000 }
-    ensures gives { (p : ℕ) → place ≡ at source.now.file p →
-        Gives (λ x r. IsDec fix.now fix.now source.now n (left source.now tokens.now) x.it x.depth x.rest.now r) result (datatype_form n fix.now p (left source.now tokens.now)) }
+    ensures gives { (p : ℕ) → place ≡ at source.now.file p
+        → Gives (λ x r. IsDec fix.now fix.now source.now n (left source.now tokens.now) x.it x.depth x.rest.now r)
+        result (datatype_form n fix.now p (left source.now tokens.now)) }
 {
     if let Some((tycon, named)) = replicated_at(source, tokens) {
         let Some((long, rest)) = long_tycon_at(alloc, source, named)? else {
@@ -164,8 +166,9 @@ fn infix_dec<'a>(
     right: bool,
     tokens: &'a [Token],
 ) -> Result<Got<'a, Option<Dec>>, Stop>
-    ensures gives { (n p : ℕ) →
-        Gives (λ x r. IsDec fix.old fix.new source.now n (left source.now tokens.now) x.it x.depth x.rest.now r) result (precedence_then (infix_directive p right) (left source.now tokens.now)) }
+    ensures gives { (n p : ℕ)
+        → Gives (λ x r. IsDec fix.old fix.new source.now n (left source.now tokens.now) x.it x.depth x.rest.now r)
+        result (precedence_then (infix_directive p right) (left source.now tokens.now)) }
 {
     let (precedence, rest) = read_precedence(source, tokens);
     directive(alloc, source, fix, Some(Infix { precedence, right }), rest)
@@ -179,8 +182,9 @@ fn directive<'a>(
     status: Option<Infix>,
     tokens: &'a [Token],
 ) -> Result<Got<'a, Option<Dec>>, Stop>
-    ensures gives { (n p : ℕ) →
-        Gives (λ x r. IsDec fix.old fix.new source.now n (left source.now tokens.now) x.it x.depth x.rest.now r) result (directive p status (left source.now tokens.now)) }
+    ensures gives { (n p : ℕ)
+        → Gives (λ x r. IsDec fix.old fix.new source.now n (left source.now tokens.now) x.it x.depth x.rest.now r)
+        result (directive p status (left source.now tokens.now)) }
 {
     let Got { it, depth: _, rest } = read_vids(alloc, source, tokens)?;
     fix.add(status, &it)?;

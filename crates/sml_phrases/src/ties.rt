@@ -40,7 +40,8 @@ pub fn tie_at<'a>(
     fix: &Fixities,
     tokens: &'a [Token],
 ) -> Option<(Tie, &'a [Token])>
-    ensures next { MatchOption result (next_of fix.now (left source.now tokens.now) ≡ nothing) (λ x. next_of fix.now (left source.now tokens.now) ≡ next_from x.0 (left source.now x.1.now)) }
+    ensures next { MatchOption result (next_of fix.now (left source.now tokens.now) ≡ nothing)
+        (λ x. next_of fix.now (left source.now tokens.now) ≡ next_from x.0 (left source.now x.1.now)) }
     ensures rest { MatchOption result ⊤ (λ x. left source.now x.1.now ≡ tail (left source.now tokens.now)) }
     ensures place { MatchOption result ⊤ (λ x. FromFile source.now.file x.0) }
     ensures shorter { MatchOption result ⊤ (λ x. length (left source.now x.1.now) < length (left source.now tokens.now)) }
@@ -141,10 +142,12 @@ pub fn next_joint(
     tokens: &[Token],
 ) -> Result<Option<Joint>, Stop>
     ensures next { MatchResult result
-        (λ found. MatchOption found (PartEnds fix.now level right (left source.now tokens.now)) (λ joint. PartGoes fix.now level right (left source.now tokens.now) joint (tail (left source.now tokens.now))))
+        (λ found. MatchOption found (PartEnds fix.now level right (left source.now tokens.now))
+        (λ joint. PartGoes fix.now level right (left source.now tokens.now) joint (tail (left source.now tokens.now))))
         (λ e. PartFails fix.now level right (left source.now tokens.now) e) }
     ensures place { MatchResult result (λ found. MatchOption found ⊤ (λ joint. joint_of source.now.file (joint_from joint) ≡ joint)) (λ e. ⊤) }
-    ensures shorter { MatchResult result (λ found. MatchOption found ⊤ (λ joint. length (tail (left source.now tokens.now)) < length (left source.now tokens.now))) (λ e. ⊤) }
+    ensures shorter { MatchResult result (λ found. MatchOption found ⊤
+        (λ joint. length (tail (left source.now tokens.now)) < length (left source.now tokens.now))) (λ e. ⊤) }
 {
     let Some((tie, _after)) = tie_at(source, fix, tokens) else {
         return Ok(None)

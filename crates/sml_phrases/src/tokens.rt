@@ -41,7 +41,8 @@ pub fn tail<'a>(source: &Source, tokens: &'a [Token]) -> &'a [Token]
 
 /// What follows a reserved word, where it stands first.
 pub fn after_word<'a>(source: &Source, word: Reserved, tokens: &'a [Token]) -> Option<&'a [Token]>
-    ensures { MatchOption result (after_word word (left source.now tokens.now) ≡ None) (λ rest. after_word word (left source.now tokens.now) ≡ Some (left source.now rest.now)) }
+    ensures { MatchOption result (after_word word (left source.now tokens.now) ≡ None)
+        (λ rest. after_word word (left source.now tokens.now) ≡ Some (left source.now rest.now)) }
 {
     match word_at(source, tokens) {
         Some(first) => {
@@ -57,7 +58,8 @@ pub fn after_word<'a>(source: &Source, word: Reserved, tokens: &'a [Token]) -> O
 
 /// What follows a reserved word, which has to stand first.
 pub fn past<'a>(source: &Source, word: Reserved, tokens: &'a [Token]) -> Result<&'a [Token], Stop>
-    ensures word { MatchResult result (λ rest. after_word word (left source.now tokens.now) ≡ Some (left source.now rest.now)) (λ e. after_word word (left source.now tokens.now) ≡ None) }
+    ensures word { MatchResult result (λ rest. after_word word (left source.now tokens.now) ≡ Some (left source.now rest.now))
+        (λ e. after_word word (left source.now tokens.now) ≡ None) }
     ensures stop { IfErr result (λ e. e ≡ Bad (length tokens.now)) }
 {
     match after_word(source, word, tokens) {
@@ -96,7 +98,8 @@ pub fn place_at(source: &Source, tokens: &[Token]) -> Place
 /// The label that stands first.
 pub fn label_at<'a>(source: &Source, tokens: &'a [Token]) -> Option<(Label, &'a [Token])>
     ensures { MatchOption result (first_as as_label (left source.now tokens.now) ≡ None)
-        (λ x. first_as as_label (left source.now tokens.now) ≡ taken (record { place = place_at (left source.now tokens.now); it = x.0 }) (left source.now x.1.now)) }
+        (λ x. first_as as_label (left source.now tokens.now)
+        ≡ taken (record { place = place_at (left source.now tokens.now); it = x.0 }) (left source.now x.1.now)) }
 {
     match tokens {
         [first, rest @ ..] => match &first.kind {
@@ -118,7 +121,8 @@ pub fn label_at<'a>(source: &Source, tokens: &'a [Token]) -> Option<(Label, &'a 
 /// The type variable that stands first.
 pub fn tyvar_at<'a>(source: &Source, tokens: &'a [Token]) -> Option<(Tyvar, &'a [Token])>
     ensures { MatchOption result (first_as as_tyvar (left source.now tokens.now) ≡ None)
-        (λ x. first_as as_tyvar (left source.now tokens.now) ≡ taken (record { place = place_at (left source.now tokens.now); it = x.0 }) (left source.now x.1.now)) }
+        (λ x. first_as as_tyvar (left source.now tokens.now)
+        ≡ taken (record { place = place_at (left source.now tokens.now); it = x.0 }) (left source.now x.1.now)) }
 {
     match tokens {
         [first, rest @ ..] => match &first.kind {
@@ -144,7 +148,8 @@ pub fn tyvar_at<'a>(source: &Source, tokens: &'a [Token]) -> Option<(Tyvar, &'a 
 
 /// What follows `*`, where it stands first.
 pub fn after_star<'a>(source: &Source, tokens: &'a [Token]) -> Option<&'a [Token]>
-    ensures { MatchOption result (after_star (left source.now tokens.now) ≡ None) (λ rest. after_star (left source.now tokens.now) ≡ Some (left source.now rest.now)) }
+    ensures { MatchOption result (after_star (left source.now tokens.now) ≡ None)
+        (λ rest. after_star (left source.now tokens.now) ≡ Some (left source.now rest.now)) }
 {
     match tokens {
         [first, rest @ ..] => match &first.kind {
@@ -164,7 +169,8 @@ pub fn after_star<'a>(source: &Source, tokens: &'a [Token]) -> Option<&'a [Token
 /// The value identifier that stands first, other than `=`.
 pub fn vid_at<'a>(source: &Source, tokens: &'a [Token]) -> Option<(Name, &'a [Token])>
     ensures { MatchOption result (first_as as_vid (left source.now tokens.now) ≡ None)
-        (λ x. first_as as_vid (left source.now tokens.now) ≡ taken (record { place = place_at (left source.now tokens.now); it = x.0 }) (left source.now x.1.now)) }
+        (λ x. first_as as_vid (left source.now tokens.now)
+        ≡ taken (record { place = place_at (left source.now tokens.now); it = x.0 }) (left source.now x.1.now)) }
 {
     match tokens {
         [first, rest @ ..] => match &first.kind {
@@ -179,7 +185,8 @@ pub fn vid_at<'a>(source: &Source, tokens: &'a [Token]) -> Option<(Name, &'a [To
 /// The type constructor without a qualifier that stands first.
 pub fn tycon_at<'a>(source: &Source, tokens: &'a [Token]) -> Option<(Name, &'a [Token])>
     ensures { MatchOption result (first_as as_tycon (left source.now tokens.now) ≡ None)
-        (λ x. first_as as_tycon (left source.now tokens.now) ≡ taken (record { place = place_at (left source.now tokens.now); it = x.0 }) (left source.now x.1.now)) }
+        (λ x. first_as as_tycon (left source.now tokens.now)
+        ≡ taken (record { place = place_at (left source.now tokens.now); it = x.0 }) (left source.now x.1.now)) }
 {
     match tokens {
         [first, rest @ ..] => match &first.kind {
@@ -204,7 +211,8 @@ pub fn long_tycon_at<'a>(
     tokens: &'a [Token],
 ) -> Result<Option<(LongId, &'a [Token])>, Stop>
     ensures { MatchResult result (λ found. MatchOption found (first_as as_long_tycon (left source.now tokens.now) ≡ None)
-        (λ x. first_as as_long_tycon (left source.now tokens.now) ≡ taken (record { place = place_at (left source.now tokens.now); it = long_id_of x.0 }) (left source.now x.1.now)))
+        (λ x. first_as as_long_tycon (left source.now tokens.now)
+        ≡ taken (record { place = place_at (left source.now tokens.now); it = long_id_of x.0 }) (left source.now x.1.now)))
         (λ e. e ≡ Memory) }
 {
     match tokens {
@@ -264,7 +272,8 @@ pub fn long_strid_at<'a>(
     tokens: &'a [Token],
 ) -> Result<Option<(LongId, &'a [Token])>, Stop>
     ensures { MatchResult result (λ found. MatchOption found (first_as as_long_strid (left source.now tokens.now) ≡ None)
-        (λ x. first_as as_long_strid (left source.now tokens.now) ≡ taken (record { place = place_at (left source.now tokens.now); it = long_id_of x.0 }) (left source.now x.1.now)))
+        (λ x. first_as as_long_strid (left source.now tokens.now)
+        ≡ taken (record { place = place_at (left source.now tokens.now); it = long_id_of x.0 }) (left source.now x.1.now)))
         (λ e. e ≡ Memory) }
 {
     match tokens {

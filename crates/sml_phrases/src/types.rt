@@ -52,7 +52,8 @@ fn after_separator<'a>(
     separator: Separator,
     tokens: &'a [Token],
 ) -> Option<&'a [Token]>
-    ensures { MatchOption result (after_separator separator (left source.now tokens.now) ≡ None) (λ rest. after_separator separator (left source.now tokens.now) ≡ Some (left source.now rest.now)) }
+    ensures { MatchOption result (after_separator separator (left source.now tokens.now) ≡ None)
+        (λ rest. after_separator separator (left source.now tokens.now) ≡ Some (left source.now rest.now)) }
 {
     match separator {
         Separator::Comma => after_word(source, Reserved::Comma, tokens),
@@ -90,7 +91,8 @@ pub fn read_ty<'a>(
     tokens: &'a [Token],
 ) -> Result<Got<'a, Ty>, Stop>
     requires { n < 1000 }
-    ensures gives { Gives (λ x r. IsTy source.now n (left source.now tokens.now) x.it x.depth x.rest.now r) result (read_ty n level (left source.now tokens.now)) }
+    ensures gives { Gives (λ x r. IsTy source.now n (left source.now tokens.now) x.it x.depth x.rest.now r)
+        result (read_ty n level (left source.now tokens.now)) }
 {
     if n == 0 {
         if begins_ty(source, tokens) {
@@ -135,7 +137,8 @@ fn atomic_ty<'a>(
     tokens: &'a [Token],
 ) -> Result<Got<'a, Ty>, Stop>
     requires { n < 1000 }
-    ensures gives { Gives (λ x r. IsTy source.now (n + 1) (left source.now tokens.now) x.it x.depth x.rest.now r) result (ty_atom (read_ty n) (ty_start (left source.now tokens.now))) }
+    ensures gives { Gives (λ x r. IsTy source.now (n + 1) (left source.now tokens.now) x.it x.depth x.rest.now r)
+        result (ty_atom (read_ty n) (ty_start (left source.now tokens.now))) }
 {
     let place = place_at(source, tokens);
     if let Some(rest) = after_word(source, Reserved::LeftBrace, tokens) {
@@ -149,7 +152,8 @@ fn atomic_ty<'a>(
 
 /// A type variable, or a type constructor without arguments.
 fn plain_ty<'a>(alloc: Global, source: &Source, tokens: &'a [Token]) -> Result<Got<'a, Ty>, Stop>
-    ensures gives { (self : TyReader) → Gives (λ x r. IsTy source.now 1 (left source.now tokens.now) x.it x.depth x.rest.now r) result (ty_atom self (plain_start (left source.now tokens.now))) }
+    ensures gives { (self : TyReader) → Gives (λ x r. IsTy source.now 1 (left source.now tokens.now) x.it x.depth x.rest.now r)
+        result (ty_atom self (plain_start (left source.now tokens.now))) }
 {
     let place = place_at(source, tokens);
     if let Some((tyvar, rest)) = tyvar_at(source, tokens) {
@@ -179,8 +183,8 @@ fn record_ty<'a>(
     tokens: &'a [Token],
 ) -> Result<Got<'a, Ty>, Stop>
     requires { n < 1000 }
-    ensures gives { (i : List Terminal) → place ≡ bare.at source.now.file (place_at i) → length (left source.now tokens.now) < length i →
-        Gives (λ x r. IsTy source.now (n + 1) i x.it x.depth x.rest.now r) result (brace_ty (read_ty n) (place_at i) (left source.now tokens.now)) }
+    ensures gives { (i : List Terminal) → place ≡ bare.at source.now.file (place_at i) → length (left source.now tokens.now) < length i
+        → Gives (λ x r. IsTy source.now (n + 1) i x.it x.depth x.rest.now r) result (brace_ty (read_ty n) (place_at i) (left source.now tokens.now)) }
 {
     if let Some(rest) = after_word(source, Reserved::RightBrace, tokens) {
         return Ok(Got {
@@ -211,7 +215,8 @@ fn ty_fields<'a>(
     tokens: &'a [Token],
 ) -> Result<Got<'a, Vec<TyField>>, Stop>
     requires { n < 1000 }
-    ensures gives { Gives (λ x r. IsTyFields source.now n (left source.now tokens.now) x.it.items x.depth x.rest.now r) result (whole (ty_field_turn (read_ty n)) no_state (left source.now tokens.now)) }
+    ensures gives { Gives (λ x r. IsTyFields source.now n (left source.now tokens.now) x.it.items x.depth x.rest.now r)
+        result (whole (ty_field_turn (read_ty n)) no_state (left source.now tokens.now)) }
 {
     let mut all = Vec::new(alloc);
     let mut deepest = 0;
@@ -246,8 +251,9 @@ fn bracketed_ty<'a>(
     tokens: &'a [Token],
 ) -> Result<Got<'a, Ty>, Stop>
     requires { n < 1000 }
-    ensures gives { (i : List Terminal) → place ≡ bare.at source.now.file (place_at i) → length (left source.now tokens.now) < length i →
-        Gives (λ x r. IsTy source.now (n + 1) i x.it x.depth x.rest.now r) result (then_read (read_ty n 0 (left source.now tokens.now)) (paren_rest (read_ty n) (place_at i))) }
+    ensures gives { (i : List Terminal) → place ≡ bare.at source.now.file (place_at i) → length (left source.now tokens.now) < length i
+        → Gives (λ x r. IsTy source.now (n + 1) i x.it x.depth x.rest.now r)
+        result (then_read (read_ty n 0 (left source.now tokens.now)) (paren_rest (read_ty n) (place_at i))) }
 {
     let Got {
         it,
@@ -278,8 +284,9 @@ fn applied_to<'a>(
 ) -> Result<Got<'a, Ty>, Stop>
     requires room { n < 1000 }
     requires fits { depth ≤ n }
-    ensures gives { (i : List Terminal) (a : read.Ty) → place ≡ bare.at source.now.file (place_at i) → ty_of first ≡ bare_ty source.now.file a → depth ≡ depth_ty a → length (left source.now tokens.now) < length i →
-        Gives (λ x r. IsTy source.now (n + 1) i x.it x.depth x.rest.now r) result (arguments (read_ty n) (place_at i) a (left source.now tokens.now)) }
+    ensures gives { (i : List Terminal) (a : read.Ty) → place ≡ bare.at source.now.file (place_at i) → ty_of first ≡ bare_ty source.now.file a
+        → depth ≡ depth_ty a → length (left source.now tokens.now) < length i
+        → Gives (λ x r. IsTy source.now (n + 1) i x.it x.depth x.rest.now r) result (arguments (read_ty n) (place_at i) a (left source.now tokens.now)) }
 {
     let Got {
         it,
@@ -311,7 +318,8 @@ fn types_after<'a>(
 ) -> Result<Got<'a, Vec<Ty>>, Stop>
     requires room { n < 1000 }
     requires fits { depth ≤ n }
-    ensures gives { Gives (λ x r. IsTys source.now n (left source.now tokens.now) (first ∷ []) depth x.it.items x.depth x.rest.now r) result (whole (separator_turn separator (read_ty n)) no_state (left source.now tokens.now)) }
+    ensures gives { Gives (λ x r. IsTys source.now n (left source.now tokens.now) (first ∷ []) depth x.it.items x.depth x.rest.now r)
+        result (whole (separator_turn separator (read_ty n)) no_state (left source.now tokens.now)) }
 {
     let mut all = one(alloc, first)?;
     let mut deepest = depth;
@@ -360,8 +368,8 @@ fn applied_ty<'a>(
     tokens: &'a [Token],
 ) -> Result<Got<'a, Ty>, Stop>
     requires { n < 1000 }
-    ensures gives { (i : List Terminal) (a : Read read.Ty) → place ≡ bare.at source.now.file (place_at i) → IsTy source.now (n + 1) i first depth tokens.now a →
-        Gives (λ x r. IsTy source.now (n + 1) i x.it x.depth x.rest.now r) result (whole (postfix_turn n) a.tree a.rest) }
+    ensures gives { (i : List Terminal) (a : Read read.Ty) → place ≡ bare.at source.now.file (place_at i) → IsTy source.now (n + 1) i first depth tokens.now a
+        → Gives (λ x r. IsTy source.now (n + 1) i x.it x.depth x.rest.now r) result (whole (postfix_turn n) a.tree a.rest) }
 {
     let mut ty = first;
     let mut deep = depth;
@@ -396,8 +404,8 @@ fn product_ty<'a>(
     tokens: &'a [Token],
 ) -> Result<Got<'a, Ty>, Stop>
     requires { n < 1000 }
-    ensures gives { (i : List Terminal) (a : Read read.Ty) → place ≡ bare.at source.now.file (place_at i) → IsTy source.now (n + 1) i first depth tokens.now a →
-        Gives (λ x r. IsTy source.now (n + 1) i x.it x.depth x.rest.now r) result (product_rest (read_ty n) n level a.tree a.rest) }
+    ensures gives { (i : List Terminal) (a : Read read.Ty) → place ≡ bare.at source.now.file (place_at i) → IsTy source.now (n + 1) i first depth tokens.now a
+        → Gives (λ x r. IsTy source.now (n + 1) i x.it x.depth x.rest.now r) result (product_rest (read_ty n) n level a.tree a.rest) }
 {
     if level > 1 {
         return Ok(Got {
@@ -439,8 +447,8 @@ fn function_ty<'a>(
     tokens: &'a [Token],
 ) -> Result<Got<'a, Ty>, Stop>
     requires { n < 1000 }
-    ensures gives { (i : List Terminal) (a : Read read.Ty) → place ≡ bare.at source.now.file (place_at i) → IsTy source.now (n + 1) i first depth tokens.now a →
-        Gives (λ x r. IsTy source.now (n + 1) i x.it x.depth x.rest.now r) result (arrow_rest (read_ty n) n level a.tree a.rest) }
+    ensures gives { (i : List Terminal) (a : Read read.Ty) → place ≡ bare.at source.now.file (place_at i) → IsTy source.now (n + 1) i first depth tokens.now a
+        → Gives (λ x r. IsTy source.now (n + 1) i x.it x.depth x.rest.now r) result (arrow_rest (read_ty n) n level a.tree a.rest) }
 {
     if level > 0 {
         return Ok(Got {
@@ -477,7 +485,8 @@ fn ty_parts<'a>(
     tokens: &'a [Token],
 ) -> Result<Got<'a, Vec<TyPart>>, Stop>
     requires { n < 1000 }
-    ensures gives { Gives (λ x r. IsTyParts source.now n (left source.now tokens.now) x.it.items x.depth x.rest.now r) result (whole (arrow_turn (read_ty n)) no_state (left source.now tokens.now)) }
+    ensures gives { Gives (λ x r. IsTyParts source.now n (left source.now tokens.now) x.it.items x.depth x.rest.now r)
+        result (whole (arrow_turn (read_ty n)) no_state (left source.now tokens.now)) }
 {
     let mut all = Vec::new(alloc);
     let mut deepest = 0;
@@ -508,7 +517,8 @@ pub fn maybe_ty<'a>(
     tokens: &'a [Token],
 ) -> Result<Got<'a, Option<Ty>>, Stop>
     requires { n < 1000 }
-    ensures gives { Gives (λ x r. IsMaybeTy source.now n (left source.now tokens.now) x.it x.depth x.rest.now r) result (maybe_ty n (after_word word (left source.now tokens.now)) (left source.now tokens.now)) }
+    ensures gives { Gives (λ x r. IsMaybeTy source.now n (left source.now tokens.now) x.it x.depth x.rest.now r)
+        result (maybe_ty n (after_word word (left source.now tokens.now)) (left source.now tokens.now)) }
 {
     match after_word(source, word, tokens) {
         Some(more) => {

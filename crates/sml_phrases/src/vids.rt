@@ -32,7 +32,8 @@ pub fn infix_level(how: Infix) -> u32
 /// The digit that stands first.
 pub fn digit_at<'a>(source: &Source, tokens: &'a [Token]) -> Option<(u8, &'a [Token])>
     ensures { MatchOption result (first_as as_digit (left source.now tokens.now) ≡ None)
-        (λ x. first_as as_digit (left source.now tokens.now) ≡ taken (record { place = place_at (left source.now tokens.now); it = x.0 }) (left source.now x.1.now)) }
+        (λ x. first_as as_digit (left source.now tokens.now)
+        ≡ taken (record { place = place_at (left source.now tokens.now); it = x.0 }) (left source.now x.1.now)) }
 {
     match tokens {
         [first, rest @ ..] => match &first.kind {
@@ -56,7 +57,8 @@ pub fn constant_at<'a>(
     tokens: &'a [Token],
 ) -> Result<Option<(Constant, &'a [Token])>, Stop>
     ensures { MatchResult result (λ found. MatchOption found (first_as as_constant (left source.now tokens.now) ≡ None)
-        (λ x. first_as as_constant (left source.now tokens.now) ≡ taken (record { place = place_at (left source.now tokens.now); it = constant_of x.0 }) (left source.now x.1.now)))
+        (λ x. first_as as_constant (left source.now tokens.now)
+        ≡ taken (record { place = place_at (left source.now tokens.now); it = constant_of x.0 }) (left source.now x.1.now)))
         (λ e. e ≡ Memory) }
 {
     match tokens {
@@ -81,7 +83,8 @@ pub fn plain_vid<'a>(
     tokens: &'a [Token],
 ) -> Option<(Name, &'a [Token])>
     ensures { MatchOption result (plain_vid fix.now (left source.now tokens.now) ≡ None)
-        (λ x. plain_vid fix.now (left source.now tokens.now) ≡ taken (record { place = place_at (left source.now tokens.now); it = x.0 }) (left source.now x.1.now)) }
+        (λ x. plain_vid fix.now (left source.now tokens.now)
+        ≡ taken (record { place = place_at (left source.now tokens.now); it = x.0 }) (left source.now x.1.now)) }
 {
     match vid_at(source, tokens) {
         Some((name, rest)) => match fix.of(&Vid::Named(name)) {
@@ -99,7 +102,8 @@ pub fn infix_vid<'a>(
     tokens: &'a [Token],
 ) -> Option<(Name, Infix, &'a [Token])>
     ensures vid { MatchOption result (infix_vid fix.now (left source.now tokens.now) ≡ None)
-        (λ x. infix_vid fix.now (left source.now tokens.now) ≡ taken (record { place = place_at (left source.now tokens.now); it = x.0 }) (left source.now x.2.now)) }
+        (λ x. infix_vid fix.now (left source.now tokens.now)
+        ≡ taken (record { place = place_at (left source.now tokens.now); it = x.0 }) (left source.now x.2.now)) }
     ensures binds { IfSome result (λ x. fix_of (Named x.0) fix.now ≡ Some x.1) }
 {
     match vid_at(source, tokens) {
@@ -118,7 +122,8 @@ pub fn joint_at<'a>(
     tokens: &'a [Token],
 ) -> Option<(Name, &'a [Token])>
     ensures { MatchOption result (infix_vid fix.now (left source.now tokens.now) ≡ None)
-        (λ x. infix_vid fix.now (left source.now tokens.now) ≡ taken (record { place = place_at (left source.now tokens.now); it = x.0 }) (left source.now x.1.now)) }
+        (λ x. infix_vid fix.now (left source.now tokens.now)
+        ≡ taken (record { place = place_at (left source.now tokens.now); it = x.0 }) (left source.now x.1.now)) }
 {
     match infix_vid(source, fix, tokens) {
         Some((name, _, rest)) => Some((name, rest)),
@@ -149,7 +154,8 @@ pub fn vid_right(fix: &Fixities, name: Name) -> bool
 /// What `op` may stand before, without a qualifier.
 fn any_vid<'a>(source: &Source, tokens: &'a [Token]) -> Option<(Vid, &'a [Token])>
     ensures { MatchOption result (first_as as_any_vid (left source.now tokens.now) ≡ None)
-        (λ x. first_as as_any_vid (left source.now tokens.now) ≡ taken (record { place = place_at (left source.now tokens.now); it = x.0 }) (left source.now x.1.now)) }
+        (λ x. first_as as_any_vid (left source.now tokens.now)
+        ≡ taken (record { place = place_at (left source.now tokens.now); it = x.0 }) (left source.now x.1.now)) }
 {
     match tokens {
         [first, rest @ ..] => match &first.kind {
@@ -179,7 +185,8 @@ pub fn binds_vid<'a>(
     tokens: &'a [Token],
 ) -> Option<(Vid, &'a [Token])>
     ensures { MatchOption result (binds_vid fix.now (left source.now tokens.now) ≡ None)
-        (λ x. binds_vid fix.now (left source.now tokens.now) ≡ taken (record { place = vid_place (left source.now tokens.now); it = x.0 }) (left source.now x.1.now)) }
+        (λ x. binds_vid fix.now (left source.now tokens.now)
+        ≡ taken (record { place = vid_place (left source.now tokens.now); it = x.0 }) (left source.now x.1.now)) }
 {
     if let Some(rest) = after_word(source, Reserved::Op, tokens) {
         return any_vid(source, rest);
@@ -197,7 +204,8 @@ fn qualified<'a>(
     tokens: &'a [Token],
 ) -> Result<Option<(LongVid, &'a [Token])>, Stop>
     ensures { MatchResult result (λ found. MatchOption found (first_as as_qualified (left source.now tokens.now) ≡ None)
-        (λ x. first_as as_qualified (left source.now tokens.now) ≡ taken (record { place = place_at (left source.now tokens.now); it = long_vid_of x.0 }) (left source.now x.1.now)))
+        (λ x. first_as as_qualified (left source.now tokens.now)
+        ≡ taken (record { place = place_at (left source.now tokens.now); it = long_vid_of x.0 }) (left source.now x.1.now)))
         (λ e. e ≡ Memory) }
 {
     match tokens {
@@ -235,7 +243,8 @@ fn any_long<'a>(
     tokens: &'a [Token],
 ) -> Result<Option<(LongVid, &'a [Token])>, Stop>
     ensures { MatchResult result (λ found. MatchOption found (first_as as_any_long (left source.now tokens.now) ≡ None)
-        (λ x. first_as as_any_long (left source.now tokens.now) ≡ taken (record { place = place_at (left source.now tokens.now); it = long_vid_of x.0 }) (left source.now x.1.now)))
+        (λ x. first_as as_any_long (left source.now tokens.now)
+        ≡ taken (record { place = place_at (left source.now tokens.now); it = long_vid_of x.0 }) (left source.now x.1.now)))
         (λ e. e ≡ Memory) }
 {
     if let Some((vid, rest)) = any_vid(source, tokens) {
@@ -261,7 +270,8 @@ pub fn names_vid<'a>(
     tokens: &'a [Token],
 ) -> Result<Option<(LongVid, &'a [Token])>, Stop>
     ensures { MatchResult result (λ found. MatchOption found (names_vid fix.now (left source.now tokens.now) ≡ None)
-        (λ x. names_vid fix.now (left source.now tokens.now) ≡ taken (record { place = vid_place (left source.now tokens.now); it = long_vid_of x.0 }) (left source.now x.1.now)))
+        (λ x. names_vid fix.now (left source.now tokens.now)
+        ≡ taken (record { place = vid_place (left source.now tokens.now); it = long_vid_of x.0 }) (left source.now x.1.now)))
         (λ e. e ≡ Memory) }
 {
     if let Some(rest) = after_word(source, Reserved::Op, tokens) {

@@ -1,4 +1,5 @@
--- What the path of the standard basis brings so far: `+`, `-` and `*` on int, `^`, `print`, and fixities. Identifiers are names: standard words by their numbers.
+-- What the path of the standard basis brings so far: `+`, `-` and `*` on int, `^`, `print`, and fixities. Identifiers are names: standard words
+-- by their numbers.
 use Rattle.std.specs.Prelude.{◌≡◌, ◌≢◌, ℕ, Bool, true, false, ◌||◌, if◌then◌else◌, List, [], ◌∷◌, length, map, take, AllPairs, Option, Some, None, nat_eq, slice_get}
 use Rattle.mlc_base.specs.Labels.{held_text}
 use Rattle.mlc_base.specs.StandardWords.{standard_words, word_ref, word_true, word_false, word_nil, word_cons, word_Match, word_Bind, word_Overflow, word_Div, word_Subscript, word_Size, word_Chr, word_plus, word_minus, word_times, word_div, word_mod, word_less_than, word_at_most, word_greater_than, word_at_least, word_assign, word_divide, word_not_equal, word_append, word_concatenate, word_compose, word_before, word_print}
@@ -46,7 +47,8 @@ fixity_rows =
     (infix_left 7, word_times) ∷ (infix_left 7, word_divide) ∷ (infix_left 7, word_div) ∷ (infix_left 7, word_mod)
     ∷ (infix_left 6, word_plus) ∷ (infix_left 6, word_minus) ∷ (infix_left 6, word_concatenate)
     ∷ (infix_right 5, word_cons) ∷ (infix_right 5, word_append)
-    ∷ (infix_left 4, word_not_equal) ∷ (infix_left 4, word_greater_than) ∷ (infix_left 4, word_at_least) ∷ (infix_left 4, word_less_than) ∷ (infix_left 4, word_at_most)
+    ∷ (infix_left 4, word_not_equal) ∷ (infix_left 4, word_greater_than) ∷ (infix_left 4, word_at_least) ∷ (infix_left 4, word_less_than)
+    ∷ (infix_left 4, word_at_most)
     ∷ (infix_left 3, word_assign) ∷ (infix_left 3, word_compose)
     ∷ (infix_left 0, word_before) ∷ []
 

@@ -17,7 +17,8 @@ pub data Pattern : Type 0 where
   variable : ℕ → Pattern
   unit : Pattern
 
--- types of the phrases so far: the context, the pattern of the declaration that is open, and the types of its expressions that no later phrase has taken, the latest first
+-- types of the phrases so far: the context, the pattern of the declaration that is open, and the types of its expressions that no later phrase has
+-- taken, the latest first
 pub record Typed : Type 0 where
   pub context : Context
   pub pattern : Pattern
@@ -38,17 +39,19 @@ pub data Types : Typed → Phrase → Typed → Type 0 where
   text_types : (s : Typed) (p : Place) (b : List ℕ) → Types s (text p b) (push string_type s)
   identifier_types : (s : Typed) (p : Place) (x : ℕ) {t : Typ} → type_in s.context x ≡ Some t → Types s (identifier p x) (push t s)
   nothing_types : (s : Typed) (p : Place) → Types s (nothing p) (push unit_type s)
-  applies_types : (p : Place) (c : Context) (a : Pattern) (t u : Typ) (ts : List Typ) →
-      Types (record { context = c; pattern = a; types = t ∷ function_type t u ∷ ts }) (applies p) (record { context = c; pattern = a; types = u ∷ ts })
-  prefix_types : (p : Place) (c : Context) (a : Pattern) (t t' u : Typ) (ts : List Typ) →
-      Types (record { context = c; pattern = a; types = t' ∷ t ∷ function_type (pair_type t t') u ∷ ts }) (applies_pair p false) (record { context = c; pattern = a; types = u ∷ ts })
-  infix_types : (p : Place) (c : Context) (a : Pattern) (t t' u : Typ) (ts : List Typ) →
-      Types (record { context = c; pattern = a; types = t' ∷ function_type (pair_type t t') u ∷ t ∷ ts }) (applies_pair p true) (record { context = c; pattern = a; types = u ∷ ts })
+  applies_types : (p : Place) (c : Context) (a : Pattern) (t u : Typ) (ts : List Typ)
+      → Types (record { context = c; pattern = a; types = t ∷ function_type t u ∷ ts }) (applies p) (record { context = c; pattern = a; types = u ∷ ts })
+  prefix_types : (p : Place) (c : Context) (a : Pattern) (t t' u : Typ) (ts : List Typ)
+      → Types (record { context = c; pattern = a; types = t' ∷ t ∷ function_type (pair_type t t') u ∷ ts }) (applies_pair p false)
+      (record { context = c; pattern = a; types = u ∷ ts })
+  infix_types : (p : Place) (c : Context) (a : Pattern) (t t' u : Typ) (ts : List Typ)
+      → Types (record { context = c; pattern = a; types = t' ∷ function_type (pair_type t t') u ∷ t ∷ ts }) (applies_pair p true)
+      (record { context = c; pattern = a; types = u ∷ ts })
   any_types : (s : Typed) (p : Place) → Types s (binds_any p) (record s { pattern = any })
   variable_types : (s : Typed) (p : Place) (x : ℕ) → is_restricted (Named x) ≡ false → Types s (binds p (Named x)) (record s { pattern = variable x })
   unit_types : (s : Typed) (p : Place) → Types s (binds_nothing p) (record s { pattern = unit })
-  declares_types : (p : Place) (c c' : Context) (a : Pattern) (t : Typ) (ts : List Typ) → Binding c a t c' →
-      Types (record { context = c; pattern = a; types = t ∷ ts }) (declares p) (record { context = c'; pattern = any; types = ts })
+  declares_types : (p : Place) (c c' : Context) (a : Pattern) (t : Typ) (ts : List Typ) → Binding c a t c'
+      → Types (record { context = c; pattern = a; types = t ∷ ts }) (declares p) (record { context = c'; pattern = any; types = ts })
   basis_types : (s : Typed) → Types s brings_basis (record s { context = basis_typed s.context })
 
 -- a run of phrases has a typing
@@ -90,14 +93,15 @@ AsksTypes (declares p) = ⊤
 AsksTypes brings_basis = ⊥
 AsksTypes (foreign p) = ⊥
 
--- what a phrase breaks, where all before it have the types s, and the fault that tells it: its identifier isn't bound there; its identifier is never bound; the phrases up to this one have no typing
+-- what a phrase breaks, where all before it have the types s, and the fault that tells it: its identifier isn't bound there; its identifier is
+-- never bound; the phrases up to this one have no typing
 pub data Breaks (s : Typed) : Phrase → List Phrase → Fault → Type 0 where
-  is_unbound : (p : Place) (x : ℕ) (after : List Phrase) → type_in s.context x ≡ None →
-      Breaks s (identifier p x) after (record { code = Unbound; place = p; name = Some x })
-  is_never_bound : (p : Place) (v : Vid) (after : List Phrase) → is_restricted v ≡ true →
-      Breaks s (binds p v) after (record { code = Restriction; place = p; name = None })
-  has_no_typing : (x : Phrase) (after : List Phrase) → AsksTypes x → ((s' : Typed) → ¬ (Types s x s')) →
-      Breaks s x after (record { code = NoTyping; place = declaration_at (x ∷ after); name = None })
+  is_unbound : (p : Place) (x : ℕ) (after : List Phrase) → type_in s.context x ≡ None
+      → Breaks s (identifier p x) after (record { code = Unbound; place = p; name = Some x })
+  is_never_bound : (p : Place) (v : Vid) (after : List Phrase) → is_restricted v ≡ true
+      → Breaks s (binds p v) after (record { code = Restriction; place = p; name = None })
+  has_no_typing : (x : Phrase) (after : List Phrase) → AsksTypes x → ((s' : Typed) → ¬ (Types s x s'))
+      → Breaks s x after (record { code = NoTyping; place = declaration_at (x ∷ after); name = None })
 
 -- the first phrase that breaks a rule
 pub record FirstBroken (xs : List Phrase) (f : Fault) : Type 0 where
@@ -113,12 +117,13 @@ pub record FirstBroken (xs : List Phrase) (f : Fault) : Type 0 where
 abbrev pub max_nodes : ℕ
 max_nodes = 2 ^ 20
 
--- Why a project is refused, in the one order: a foreign phrase; the first broken rule; too many nodes, told at the first byte of the ML Basis file. A binding has one type here, so the expansion is the project.
+-- Why a project is refused, in the one order: a foreign phrase; the first broken rule; too many nodes, told at the first byte of the ML Basis file.
+-- A binding has one type here, so the expansion is the project.
 pub data IsRefused (parts : List Part) : Fault → Type 0 where
   by_form : {p : Place} → first_foreign (parts_phrases parts) ≡ Some p → IsRefused parts (record { code = NotCompiled; place = p; name = None })
   by_rule : {f : Fault} → first_foreign (parts_phrases parts) ≡ None → FirstBroken (parts_phrases parts) f → IsRefused parts f
-  by_size : first_foreign (parts_phrases parts) ≡ None → Elaborates parts → max_nodes < nodes_in (parts_phrases parts) →
-      IsRefused parts (record { code = ExpansionTooLarge; place = record { file = 0; byte = 0 }; name = None })
+  by_size : first_foreign (parts_phrases parts) ≡ None → Elaborates parts → max_nodes < nodes_in (parts_phrases parts)
+      → IsRefused parts (record { code = ExpansionTooLarge; place = record { file = 0; byte = 0 }; name = None })
 
 -- the project is of the language that is compiled so far, and elaborates
 pub record Checks (parts : List Part) : Type 0 where

@@ -1,5 +1,6 @@
 -- The phrases of a project in the order of their ends, part by part; of two that end together the inner one is first. Static rules are looked at in this order.
--- The operator of an infix application stands between its operands. A phrase outside the language that is compiled so far is foreign, and stands for all that is in it; a pair may only be an argument.
+-- The operator of an infix application stands between its operands. A phrase outside the language that is compiled so far is foreign, and
+-- stands for all that is in it; a pair may only be an argument.
 use Rattle.std.specs.Prelude.{ℕ, ◌+◌, ℤ, Bool, true, false, ◌&&◌, nat_eq, if◌then◌else◌, List, [], ◌∷◌, ◌++◌, length, Option, Some, None}
 use Rattle.mlc_base.specs.declared.label.Label.{Label}
 use Rattle.mlc_base.specs.declared.place.Place.{Place}

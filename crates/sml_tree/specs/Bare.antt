@@ -74,7 +74,8 @@ abbrev mutual
   bare_pat_fields f no_pat_fields = bare.no_pat_fields
   bare_pat_fields f (pat_field (labelled l a) fs) = bare.pat_field l (bare_pat f a) (bare_pat_fields f fs)
   bare_pat_fields f (pat_field (punned p x t) fs) = bare.pat_field (Word x) (pun (at f p) x (bare_some f t)) (bare_pat_fields f fs)
-  bare_pat_fields f (pat_field (punned_as p x t a) fs) = bare.pat_field (Word x) (bare.as_pat (at f p) (Named x) (bare_some f t) (bare_pat f a)) (bare_pat_fields f fs)
+  bare_pat_fields f (pat_field (punned_as p x t a) fs) = bare.pat_field (Word x) (bare.as_pat (at f p) (Named x) (bare_some f t) (bare_pat f a))
+      (bare_pat_fields f fs)
 
   pub pat_operands : ℕ → PatParts → List (Operand VidAt bare.Pat)
   pat_operands f (last_pat_part x a) = record { joint = vid_at f x; place = at f (pat_place a); operand = bare_pat f a } ∷ []
@@ -205,9 +206,15 @@ abbrev mutual
   all_binds f (rec_binds bs) = all_binds f bs
 
   pub functions : ℕ → Funs → List Function
-  functions f (last_fun cs) = record { place = at f (clauses_place cs); vid_place = at f (clauses_vid_place cs); vid = clauses_vid cs; clauses = clause_list f cs } ∷ []
-  functions f (fun_and cs fs) = record { place = at f (clauses_place cs); vid_place = at f (clauses_vid_place cs); vid = clauses_vid cs; clauses = clause_list f cs } ∷ functions f fs
+  functions f (last_fun cs) =
+      record { place = at f (clauses_place cs); vid_place = at f (clauses_vid_place cs); vid = clauses_vid cs; clauses = clause_list f cs } ∷ []
+  functions f (fun_and cs fs) =
+      record { place = at f (clauses_place cs); vid_place = at f (clauses_vid_place cs); vid = clauses_vid cs; clauses = clause_list f cs }
+      ∷ functions f fs
 
   pub clause_list : ℕ → Clauses → List Clause
-  clause_list f (last_clause h t e) = record { place = at f (head_place h); pats = head_pats f h; body = with_result (at f (exp_place e)) (bare_exp f e) (bare_some f t) } ∷ []
-  clause_list f (clause h t e cs) = record { place = at f (head_place h); pats = head_pats f h; body = with_result (at f (exp_place e)) (bare_exp f e) (bare_some f t) } ∷ clause_list f cs
+  clause_list f (last_clause h t e) =
+      record { place = at f (head_place h); pats = head_pats f h; body = with_result (at f (exp_place e)) (bare_exp f e) (bare_some f t) } ∷ []
+  clause_list f (clause h t e cs) =
+      record { place = at f (head_place h); pats = head_pats f h; body = with_result (at f (exp_place e)) (bare_exp f e) (bare_some f t) }
+      ∷ clause_list f cs

@@ -1,5 +1,6 @@
 -- The bare tree of the core (the Definition, sections 2.8 and 2.9, figures of the bare language): what every later definition speaks of.
--- Each phrase carries the place of its first byte; an identifier after `op` that of its own first byte. The constructors that derived forms name are apart from identifiers.
+-- Each phrase carries the place of its first byte; an identifier after `op` that of its own first byte. The constructors that derived forms name are apart
+-- from identifiers.
 use Rattle.std.specs.Prelude.{ℕ, Bool, List, Option}
 use Rattle.mlc_base.specs.declared.label.Label.{Label}
 use Rattle.mlc_base.specs.declared.place.Place.{Place}

@@ -45,7 +45,9 @@ fn visit(
 ) -> Result<(), NoMemory>
     requires some { 0 < length images.now }
     requires held { AllBelow (length types.old) images.now }
-    ensures moves { IfOk result (λ _. (f : ℕ → Typ) (goal : ℕ) → ((v : ℕ) → f v ≡ image_at types.old images.now v) → Going types.old nothing f (get nat_eq made.old) (steps.old.items ++ Visit k ∷ []) goal → Moves types.old types.new nothing f (λ v. 0) (get nat_eq made.old) (get nat_eq made.new) (steps.old.items ++ Visit k ∷ []) steps.new.items goal) }
+    ensures moves { IfOk result (λ _. (f : ℕ → Typ) (goal : ℕ) → ((v : ℕ) → f v ≡ image_at types.old images.now v)
+        → Going types.old nothing f (get nat_eq made.old) (steps.old.items ++ Visit k ∷ []) goal
+        → Moves types.old types.new nothing f (λ v. 0) (get nat_eq made.old) (get nat_eq made.new) (steps.old.items ++ Visit k ∷ []) steps.new.items goal) }
     ensures earlier_stay { take (length types.old) types.new ≡ types.old }
 {
     if is_done(types, made, k) {

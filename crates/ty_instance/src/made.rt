@@ -44,7 +44,8 @@ fn visit_all(parts: &[usize], steps: &mut Vec<Step>) -> Result<(), NoMemory>
 
 /// Asks for the images of a type's parts, and then for its own. A variable is handed out in their place.
 pub fn open(types: &Types, k: usize, steps: &mut Vec<Step>) -> Result<Option<usize>, NoMemory>
-    ensures { IfOk result (λ found. MatchOption found (Opens types.now k steps.old.items steps.new.items) (λ v. (type_at types.now k ≡ var v) × (steps.new.items ≡ steps.old.items))) }
+    ensures { IfOk result (λ found. MatchOption found (Opens types.now k steps.old.items steps.new.items)
+        (λ v. (type_at types.now k ≡ var v) × (steps.new.items ≡ steps.old.items))) }
 {
     match types.view(k) {
         View::Var(v) => Ok(Some(v)),
@@ -78,7 +79,8 @@ fn part_images(
     made: &IndexMap<usize, usize>,
     k: usize,
 ) -> Result<Vec<usize>, NoMemory>
-    ensures { IfOk result (λ images. (h : Symbol) (parts : List ℕ) → type_at types.now k ≡ con h (types_at types.now parts) → AllBelow (length types.now) parts → images.items ≡ map (image_in (get nat_eq made.now)) parts) }
+    ensures { IfOk result (λ images. (h : Symbol) (parts : List ℕ) → type_at types.now k ≡ con h (types_at types.now parts) → AllBelow (length types.now) parts
+        → images.items ≡ map (image_in (get nat_eq made.now)) parts) }
 {
     let _len = types.len();
     match types.view(k) {
@@ -95,7 +97,8 @@ pub fn build(
     k: usize,
 ) -> Result<usize, NoMemory>
     requires { CanBuild types.old (get nat_eq made.now) k }
-    ensures is { IfOk result (λ r. (h : Symbol) (parts : List ℕ) → type_at types.old k ≡ con h (types_at types.old parts) → AllBelow (length types.old) parts → slice_get types.new r ≡ Some (con h (types_at types.old (map (image_in (get nat_eq made.now)) parts)))) }
+    ensures is { IfOk result (λ r. (h : Symbol) (parts : List ℕ) → type_at types.old k ≡ con h (types_at types.old parts) → AllBelow (length types.old) parts
+        → slice_get types.new r ≡ Some (con h (types_at types.old (map (image_in (get nat_eq made.now)) parts)))) }
     ensures earlier_stay { take (length types.old) types.new ≡ types.old }
 {
     let images = part_images(alloc, types, made, k)?;

@@ -24,7 +24,11 @@ fn visit(
     made: &mut IndexMap<usize, usize>,
     steps: &mut Vec<Step>,
 ) -> Result<(), NoMemory>
-    ensures { IfOk result (λ _. (f : ℕ → Typ) (w : ℕ → ℕ) (goal : ℕ) → Ends f (seen s.now.types s.now.slots.items) → Weighs w (seen s.now.types s.now.slots.items) → Going s.now.types (seen s.now.types s.now.slots.items) f (get nat_eq made.old) (steps.old.items ++ Visit k ∷ []) goal → Moves s.now.types s.now.types (seen s.now.types s.now.slots.items) f w (get nat_eq made.old) (get nat_eq made.new) (steps.old.items ++ Visit k ∷ []) steps.new.items goal) }
+    ensures { IfOk result (λ _. (f : ℕ → Typ) (w : ℕ → ℕ) (goal : ℕ) → Ends f (seen s.now.types s.now.slots.items)
+        → Weighs w (seen s.now.types s.now.slots.items)
+        → Going s.now.types (seen s.now.types s.now.slots.items) f (get nat_eq made.old) (steps.old.items ++ Visit k ∷ []) goal
+        → Moves s.now.types s.now.types (seen s.now.types s.now.slots.items) f w (get nat_eq made.old) (get nat_eq made.new)
+        (steps.old.items ++ Visit k ∷ []) steps.new.items goal) }
 {
     if is_done(&s.types, made, k) {
         return Ok(());
@@ -53,7 +57,8 @@ fn build_in(
     k: usize,
 ) -> Result<usize, NoMemory>
     requires { CanBuild s.old.types (get nat_eq made.now) k }
-    ensures is { IfOk result (λ r. (h : Symbol) (parts : List ℕ) → type_at s.old.types k ≡ con h (types_at s.old.types parts) → AllBelow (length s.old.types) parts → slice_get s.new.types r ≡ Some (con h (types_at s.old.types (map (image_in (get nat_eq made.now)) parts)))) }
+    ensures is { IfOk result (λ r. (h : Symbol) (parts : List ℕ) → type_at s.old.types k ≡ con h (types_at s.old.types parts)
+        → AllBelow (length s.old.types) parts → slice_get s.new.types r ≡ Some (con h (types_at s.old.types (map (image_in (get nat_eq made.now)) parts)))) }
     ensures earlier_stay { take (length s.old.types) s.new.types ≡ s.old.types }
     ensures slots { s.new.slots.items ≡ s.old.slots.items }
     ensures says { seen s.new.types s.new.slots.items ≡ seen s.old.types s.old.slots.items }
@@ -66,9 +71,11 @@ pub fn resolve(alloc: Global, s: &mut Subst, t: usize) -> Result<usize, NoMemory
     requires { t < length s.old.types }
     ensures held { IfOk result (λ r. r < length s.new.types) }
     ensures is { IfOk result (λ r. IsResolved (seen s.old.types s.old.slots.items) (type_at s.old.types t) (type_at s.new.types r)) }
-    ensures same { IfOk result (λ r. (f : ℕ → Typ) → Fits f (seen s.old.types s.old.slots.items) → sub f (type_at s.new.types r) ≡ sub f (type_at s.old.types t)) }
+    ensures same { IfOk result (λ r. (f : ℕ → Typ) → Fits f (seen s.old.types s.old.slots.items)
+        → sub f (type_at s.new.types r) ≡ sub f (type_at s.old.types t)) }
     ensures open_in { IfOk result (λ r. (v : ℕ) → is_in v (type_at s.new.types r) ≡ true → is_open (seen s.old.types s.old.slots.items v) ≡ true) }
-    ensures below { IfOk result (λ r. is_below (length s.old.slots.items) (type_at s.old.types t) ≡ true → is_below (length s.old.slots.items) (type_at s.new.types r) ≡ true) }
+    ensures below { IfOk result (λ r. is_below (length s.old.slots.items) (type_at s.old.types t) ≡ true
+        → is_below (length s.old.slots.items) (type_at s.new.types r) ≡ true) }
     ensures earlier_stay { take (length s.old.types) s.new.types ≡ s.old.types }
     ensures slots { s.new.slots.items ≡ s.old.slots.items }
     ensures says { seen s.new.types s.new.slots.items ≡ seen s.old.types s.old.slots.items }

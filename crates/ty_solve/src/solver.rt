@@ -65,7 +65,8 @@ pub struct Solver {
     pub subst: Subst,
     pub limits: Vec<Limit>,
     pub ghost each_has_one: { length limits.items ≡ length subst.slots.items },
-    pub ghost limited: { AreLimited (limit_at limits.items) (seen subst.types subst.slots.items) } by { AreLimited-prop (limit_at limits.items) (seen subst.types subst.slots.items) },
+    pub ghost limited: { AreLimited (limit_at limits.items)
+        (seen subst.types subst.slots.items) } by { AreLimited-prop (limit_at limits.items) (seen subst.types subst.slots.items) },
     pub ghost wide: { AreWide (limit_at limits.items) } by { AreWide-prop (limit_at limits.items) },
 }
 

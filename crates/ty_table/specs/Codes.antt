@@ -109,7 +109,9 @@ mutual
   types_in-codes : (t : Typ) (l : List (ℕ × List ℕ)) → types_in (node_codes t l) ≡ t ∷ types_in l
   types_in-codes (var v) l = refl
   types_in-codes (con h ts) l =
-      ap (λ us. con (symbol_in (code_of h)) (typs_of (take (count ts) us)) ∷ drop (count ts) us) (types_in-all ts l) ∙ ap₂ (λ g us. con g us ∷ drop (count ts) (listed ts (types_in l))) (symbol_in-code h) (first_listed ts (types_in l)) ∙ ap (λ us. con h ts ∷ us) (rest_listed ts (types_in l))
+      ap (λ us. con (symbol_in (code_of h)) (typs_of (take (count ts) us)) ∷ drop (count ts) us) (types_in-all ts l)
+      ∙ ap₂ (λ g us. con g us ∷ drop (count ts) (listed ts (types_in l))) (symbol_in-code h) (first_listed ts (types_in l))
+      ∙ ap (λ us. con h ts ∷ us) (rest_listed ts (types_in l))
 
   types_in-all : (ts : Typs) (l : List (ℕ × List ℕ)) → types_in (all_node_codes ts l) ≡ listed ts (types_in l)
   types_in-all none l = refl

@@ -44,13 +44,16 @@ RefusesWrite s x = Refuses s (λ m f. Does m f (Some x)) (λ p. IsForcedWrite p 
 
 -- the type t has come to have the fields of a row, with tasks for what is asked besides
 pub record Demands (old new : List Slot) (tasks now : List Task) (r : Row) (t : Typ) : Type 0 where
-  pub same : (m : ℕ → Bool) (f : ℕ → Typ) → (Solves m f (look new) × AllHold m f now) ↔ (Solves m f (look old) × AllHold m f tasks × Extends m r.equality r.labels.items (subs f (types_of r)) (sub f t))
-  pub forced : (p : Problem) → IsForced p (look old) → AreForced p tasks → IsForcedRow p t r.equality r.labels.items (types_of r) → IsForced p (look new) × AreForced p now
+  pub same : (m : ℕ → Bool) (f : ℕ → Typ) → (Solves m f (look new) × AllHold m f now)
+      ↔ (Solves m f (look old) × AllHold m f tasks × Extends m r.equality r.labels.items (subs f (types_of r)) (sub f t))
+  pub forced : (p : Problem) → IsForced p (look old) → AreForced p tasks → IsForcedRow p t r.equality r.labels.items (types_of r)
+      → IsForced p (look new) × AreForced p now
   pub within : AreWithin (length old) tasks → AreWithin (length old) now
   pub lower : ranks new ≤ ranks old
 
 abbrev pub RefusesRow : (ℕ → Entry) → Row → Typ → UnifyRefused → Type 0
-RefusesRow s r t = Refuses s (λ m f. Extends m r.equality r.labels.items (subs f (types_of r)) (sub f t)) (λ p. IsForcedRow p t r.equality r.labels.items (types_of r))
+RefusesRow s r t = Refuses s (λ m f. Extends m r.equality r.labels.items (subs f (types_of r)) (sub f t))
+    (λ p. IsForcedRow p t r.equality r.labels.items (types_of r))
 
 -- a row whose variables are below n, with each label once
 pub record IsFitRow (n : ℕ) (r : Row) : Type 0 where

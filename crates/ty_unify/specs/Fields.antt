@@ -36,7 +36,8 @@ pub record FieldsMeet (old new : List Task) (ls : List Label) (ts : Typs) (ks : 
 
 -- to the tasks come, where e is true, those that make the types of labels other than ks admit equality
 pub record OthersAdmit (e : Bool) (old new : List Task) (ls : List Label) (ts : Typs) (ks : List Label) : Type 0 where
-  pub same : (m : ℕ → Bool) (f : ℕ → Typ) → AllHold m f new ↔ (AllHold m f old × (e ≡ true → (l : Label) (t : Typ) → At l t ls ts → (Among l ks → ⊥) → admits m (sub f t) ≡ true))
+  pub same : (m : ℕ → Bool) (f : ℕ → Typ) → AllHold m f new
+      ↔ (AllHold m f old × (e ≡ true → (l : Label) (t : Typ) → At l t ls ts → (Among l ks → ⊥) → admits m (sub f t) ≡ true))
   pub forced : (p : Problem) → AreForced p old → (e ≡ true → (l : Label) (t : Typ) → At l t ls ts → (Among l ks → ⊥) → Asks p Mark.Equality t) → AreForced p new
   pub within : (n : ℕ) → AreWithin n old → are_below n ts ≡ true → AreWithin n new
 
@@ -48,10 +49,14 @@ pub record IsUnion (ls : List Label) (ts : Typs) (ks : List Label) (us : Typs) (
 
 -- the rows a and b come to one, r, with tasks for what is asked besides
 pub record Joins (old new : List Task) (a b r : Row) : Type 0 where
-  pub same : (m : ℕ → Bool) (f : ℕ → Typ) (t : Typ) → (AllHold m f new × Extends m r.equality r.labels.items (subs f (types_of r)) t) ↔ (AllHold m f old × Extends m a.equality a.labels.items (subs f (types_of a)) t × Extends m b.equality b.labels.items (subs f (types_of b)) t)
-  pub forced : (p : Problem) (t : Typ) → AreForced p old → IsForcedRow p t a.equality a.labels.items (types_of a) → IsForcedRow p t b.equality b.labels.items (types_of b) → AreForced p new × IsForcedRow p t r.equality r.labels.items (types_of r)
-  pub all : (m : ℕ → Bool) (f : ℕ → Typ) (t : Typ) → Extends m a.equality a.labels.items (subs f (types_of a)) t → Extends m b.equality b.labels.items (subs f (types_of b)) t → Extends m r.equality r.labels.items (subs f (types_of r)) t
-  pub all_forced : (p : Problem) (t : Typ) → IsForcedRow p t a.equality a.labels.items (types_of a) → IsForcedRow p t b.equality b.labels.items (types_of b) → IsForcedRow p t r.equality r.labels.items (types_of r)
+  pub same : (m : ℕ → Bool) (f : ℕ → Typ) (t : Typ) → (AllHold m f new × Extends m r.equality r.labels.items (subs f (types_of r)) t)
+      ↔ (AllHold m f old × Extends m a.equality a.labels.items (subs f (types_of a)) t × Extends m b.equality b.labels.items (subs f (types_of b)) t)
+  pub forced : (p : Problem) (t : Typ) → AreForced p old → IsForcedRow p t a.equality a.labels.items (types_of a)
+      → IsForcedRow p t b.equality b.labels.items (types_of b) → AreForced p new × IsForcedRow p t r.equality r.labels.items (types_of r)
+  pub all : (m : ℕ → Bool) (f : ℕ → Typ) (t : Typ) → Extends m a.equality a.labels.items (subs f (types_of a)) t
+      → Extends m b.equality b.labels.items (subs f (types_of b)) t → Extends m r.equality r.labels.items (subs f (types_of r)) t
+  pub all_forced : (p : Problem) (t : Typ) → IsForcedRow p t a.equality a.labels.items (types_of a) → IsForcedRow p t b.equality b.labels.items (types_of b)
+      → IsForcedRow p t r.equality r.labels.items (types_of r)
   pub within : (n : ℕ) → AreWithin n old → IsFitRow n a → IsFitRow n b → AreWithin n new
   pub fit : (n : ℕ) → IsFitRow n a → IsFitRow n b → IsFitRow n r
   pub lower : row_rank r.equality ≤ row_rank a.equality
@@ -64,7 +69,8 @@ pub record Closes (old new : List Task) (r : Row) (t : Typ) : Type 0 where
 
 -- the row r says of a record what the substitution says of y
 pub record IsBase (n : ℕ) (s : ℕ → Entry) (y : ℕ) (r : Row) : Type 0 where
-  pub same : (m : ℕ → Bool) (f : ℕ → Typ) (t : Typ) (e : Bool) (ks : List Label) (us : Typs) → Extends m e ks us t → Meets m f t (s y) ↔ Extends m r.equality r.labels.items (subs f (types_of r)) t
+  pub same : (m : ℕ → Bool) (f : ℕ → Typ) (t : Typ) (e : Bool) (ks : List Label) (us : Typs) → Extends m e ks us t
+      → Meets m f t (s y) ↔ Extends m r.equality r.labels.items (subs f (types_of r)) t
   pub forced : (p : Problem) → Records p (var y) → ForcedAt p y (s y) → IsForcedRow p (var y) r.equality r.labels.items (types_of r)
   pub fit : IsFitRow n r
   pub lower : row_rank r.equality ≤ entry_rank (s y)

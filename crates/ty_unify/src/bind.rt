@@ -69,7 +69,9 @@ fn bind_free(
 
 /// The row of a variable, in memory of its own.
 fn own_row(alloc: Global, s: &Subst, v: usize) -> Result<Option<Row>, NoMemory>
-    ensures { IfOk result (λ own. MatchOption own (is_open (look s.now.slots.items v) ≡ true → look s.now.slots.items v ≡ free (mark_of (look s.now.slots.items v))) (λ r. look s.now.slots.items v ≡ row_of r)) }
+    ensures { IfOk result (λ own. MatchOption own
+        (is_open (look s.now.slots.items v) ≡ true → look s.now.slots.items v ≡ free (mark_of (look s.now.slots.items v)))
+        (λ r. look s.now.slots.items v ≡ row_of r)) }
 {
     match s.row(v) {
         None => Ok(None),

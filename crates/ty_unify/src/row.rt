@@ -127,7 +127,8 @@ pub fn equal_common(
     requires same_length { length labels.now ≡ length types.now }
     requires other_proper { IsProper others.now (typs_of (map type_of other_types.now)) }
     requires other_length { length others.now ≡ length other_types.now }
-    ensures { IfOk result (λ _. FieldsMeet tasks.old.items tasks.new.items labels.now (typs_of (map type_of types.now)) others.now (typs_of (map type_of other_types.now))) }
+    ensures { IfOk result (λ _. FieldsMeet tasks.old.items tasks.new.items labels.now (typs_of (map type_of types.now)) others.now
+        (typs_of (map type_of other_types.now))) }
 {
     for i in 0..labels.len() {
         equal_field(alloc, tasks, labels[i], &types[i], others, other_types)?;
@@ -165,7 +166,8 @@ fn unite(alloc: Global, row: &mut Row, labels: &[Label], types: &[Ty]) -> Result
     requires other_proper { IsProper labels.now (typs_of (map type_of types.now)) }
     requires other_length { length labels.now ≡ length types.now }
     ensures equality { IfOk result (λ _. row.new.equality ≡ row.old.equality) }
-    ensures union { IfOk result (λ _. IsUnion row.old.labels.items (types_of row.old) labels.now (typs_of (map type_of types.now)) row.new.labels.items (types_of row.new)) }
+    ensures union { IfOk result (λ _. IsUnion row.old.labels.items (types_of row.old) labels.now (typs_of (map type_of types.now)) row.new.labels.items
+        (types_of row.new)) }
 {
     for i in 0..labels.len() {
         let label = labels[i];

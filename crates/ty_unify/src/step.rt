@@ -53,8 +53,11 @@ fn equal_applied(
     us: Vec<Ty>,
     tasks: &mut Vec<Task>,
 ) -> Result<(), UnifyRefused>
-    ensures steps { IfOk result (λ _. (a b : Ty) → type_of a ≡ con (head_of head.now) (typs_of (map type_of ts.items)) → type_of b ≡ con (head_of other.now) (typs_of (map type_of us.items)) → Steps (length s.now.slots.items) (look s.now.slots.items) s.now.acyclic.0 tasks.old.items (Equal a b) tasks.new.items None) }
-    ensures cause { IfErr result (λ e. (a b : Ty) → type_of a ≡ con (head_of head.now) (typs_of (map type_of ts.items)) → type_of b ≡ con (head_of other.now) (typs_of (map type_of us.items)) → RefusesTask (look s.now.slots.items) (Equal a b) e) }
+    ensures steps { IfOk result (λ _. (a b : Ty) → type_of a ≡ con (head_of head.now) (typs_of (map type_of ts.items))
+        → type_of b ≡ con (head_of other.now) (typs_of (map type_of us.items))
+        → Steps (length s.now.slots.items) (look s.now.slots.items) s.now.acyclic.0 tasks.old.items (Equal a b) tasks.new.items None) }
+    ensures cause { IfErr result (λ e. (a b : Ty) → type_of a ≡ con (head_of head.now) (typs_of (map type_of ts.items))
+        → type_of b ≡ con (head_of other.now) (typs_of (map type_of us.items)) → RefusesTask (look s.now.slots.items) (Equal a b) e) }
 {
     if !same_head(head, other) {
         return Err(UnifyRefused::Clash);
@@ -115,7 +118,8 @@ fn equal(
 /// Lets a mark stand at a free variable.
 fn remark(s: &Subst, x: usize, mark: Mark) -> Result<Option<Write>, UnifyRefused>
     requires { look s.now.slots.items x ≡ free (mark_of (look s.now.slots.items x)) }
-    ensures steps { IfOk result (λ write. (tasks : List Task) (t : Ty) → type_of t ≡ var x → Steps (length s.now.slots.items) (look s.now.slots.items) s.now.acyclic.0 tasks (Admit mark t) tasks write) }
+    ensures steps { IfOk result (λ write. (tasks : List Task) (t : Ty) → type_of t ≡ var x
+        → Steps (length s.now.slots.items) (look s.now.slots.items) s.now.acyclic.0 tasks (Admit mark t) tasks write) }
     ensures cause { IfErr result (λ e. (t : Ty) → type_of t ≡ var x → RefusesTask (look s.now.slots.items) (Admit mark t) e) }
 {
     let old = s.mark_of(x);
@@ -141,7 +145,8 @@ fn remark_row(
     tasks: &mut Vec<Task>,
 ) -> Result<Option<Write>, UnifyRefused>
     requires { look s.now.slots.items x ≡ row_of row.now }
-    ensures steps { IfOk result (λ write. (t : Ty) → type_of t ≡ var x → Steps (length s.now.slots.items) (look s.now.slots.items) s.now.acyclic.0 tasks.old.items (Admit mark t) tasks.new.items write) }
+    ensures steps { IfOk result (λ write. (t : Ty) → type_of t ≡ var x
+        → Steps (length s.now.slots.items) (look s.now.slots.items) s.now.acyclic.0 tasks.old.items (Admit mark t) tasks.new.items write) }
     ensures cause { IfErr result (λ e. (t : Ty) → type_of t ≡ var x → RefusesTask (look s.now.slots.items) (Admit mark t) e) }
 {
     match mark {
@@ -167,7 +172,8 @@ fn admit_variable(
     tasks: &mut Vec<Task>,
 ) -> Result<Option<Write>, UnifyRefused>
     requires { is_open (look s.now.slots.items x) ≡ true }
-    ensures steps { IfOk result (λ write. (t : Ty) → type_of t ≡ var x → Steps (length s.now.slots.items) (look s.now.slots.items) s.now.acyclic.0 tasks.old.items (Admit mark t) tasks.new.items write) }
+    ensures steps { IfOk result (λ write. (t : Ty) → type_of t ≡ var x
+        → Steps (length s.now.slots.items) (look s.now.slots.items) s.now.acyclic.0 tasks.old.items (Admit mark t) tasks.new.items write) }
     ensures cause { IfErr result (λ e. (t : Ty) → type_of t ≡ var x → RefusesTask (look s.now.slots.items) (Admit mark t) e) }
 {
     match s.row(x) {
@@ -195,8 +201,10 @@ fn admit_applied(
     ts: Vec<Ty>,
     tasks: &mut Vec<Task>,
 ) -> Result<(), UnifyRefused>
-    ensures steps { IfOk result (λ _. (t : Ty) → type_of t ≡ con (head_of head.now) (typs_of (map type_of ts.items)) → Steps (length s.now.slots.items) (look s.now.slots.items) s.now.acyclic.0 tasks.old.items (Admit mark t) tasks.new.items None) }
-    ensures cause { IfErr result (λ e. (t : Ty) → type_of t ≡ con (head_of head.now) (typs_of (map type_of ts.items)) → RefusesTask (look s.now.slots.items) (Admit mark t) e) }
+    ensures steps { IfOk result (λ _. (t : Ty) → type_of t ≡ con (head_of head.now) (typs_of (map type_of ts.items))
+        → Steps (length s.now.slots.items) (look s.now.slots.items) s.now.acyclic.0 tasks.old.items (Admit mark t) tasks.new.items None) }
+    ensures cause { IfErr result (λ e. (t : Ty) → type_of t ≡ con (head_of head.now) (typs_of (map type_of ts.items))
+        → RefusesTask (look s.now.slots.items) (Admit mark t) e) }
 {
     match mark {
         Mark::Any => Ok(()),

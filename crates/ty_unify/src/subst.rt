@@ -86,7 +86,8 @@ impl Subst {
 
     /// The row of a variable that stands for a record with its fields.
     pub fn row(&self, v: usize) -> Option<&Row>
-        ensures { MatchOption result (is_open (look self.now.slots.items v) ≡ true → look self.now.slots.items v ≡ free (mark (look self.now.slots.items v))) (λ r. look self.now.slots.items v ≡ row_of r.now) }
+        ensures { MatchOption result (is_open (look self.now.slots.items v) ≡ true → look self.now.slots.items v ≡ free (mark (look self.now.slots.items v)))
+            (λ r. look self.now.slots.items v ≡ row_of r.now) }
     {
         if v < self.slots.len() {
             match &self.slots[v] {
@@ -125,7 +126,8 @@ impl Subst {
 
     /// What a type stands for, if it is a bound variable.
     pub fn step<'a>(&'a self, ty: &'a Ty) -> Option<&'a Ty>
-        ensures { MatchOption result (IsWalked (look self.now.slots.items) (type_of ty.now)) (λ t. StandsFor (look self.now.slots.items) (type_of ty.now) (type_of t.now)) }
+        ensures { MatchOption result (IsWalked (look self.now.slots.items) (type_of ty.now))
+            (λ t. StandsFor (look self.now.slots.items) (type_of ty.now) (type_of t.now)) }
     {
         match ty {
             Ty::Var(v) => self.get(*v),

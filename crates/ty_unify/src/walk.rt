@@ -86,7 +86,8 @@ pub fn occurs(alloc: Global, s: &Subst, v: usize, t: &Ty) -> Result<bool, NoMemo
 
 /// Whether a variable lies in one of the types that these stand for.
 pub fn occurs_in(alloc: Global, s: &Subst, v: usize, types: &[Ty]) -> Result<bool, NoMemory>
-    ensures { IfOk result (λ found. (f : ℕ → Typ) → Resolves f (aside v (look s.now.slots.items)) → found ≡ are_in v (subs f (typs_of (map type_of types.now)))) }
+    ensures { IfOk result (λ found. (f : ℕ → Typ) → Resolves f (aside v (look s.now.slots.items))
+        → found ≡ are_in v (subs f (typs_of (map type_of types.now)))) }
 {
     let mut pending = Vec::new(alloc);
     add_all(&mut pending, types)?;
