@@ -22,11 +22,3 @@ write_more memory at bs i v lb lm e =
     let n : at + i ≡ at + length (take i bs) = grind (arith, common_steps) in
     let t : take (i + 1) bs ≡ take i bs ++ v ∷ [] = grind (arith, common_steps) in
     rw t (write_push memory at (take i bs) (at + i) v n lm)
-
-pub write_before : (memory : List ℕ) (at : ℕ) (ws : List ℕ) (v : ℕ) → at + 1 + length ws ≤ length memory → set (write_at memory (at + 1) ws) at v ≡ write_at memory at (v ∷ ws)
-write_before memory at ws v le =
-    let p : at ≡ length (take at memory) = grind (arith, common_steps) in
-    let t : take (at + 1) memory ≡ take at memory ++ get_or memory at 0 ∷ [] = grind (arith, common_steps) in
-    let l : write_at memory (at + 1) ws ≡ take at memory ++ (get_or memory at 0 ∷ (ws ++ drop (at + 1 + length ws) memory)) = rw t (append_assoc (take at memory) (get_or memory at 0 ∷ []) _) in
-    let k : at + length (v ∷ ws) ≡ at + 1 + length ws = omega arith in
-    ap (λ x. set x at v) l ∙ set_after (take at memory) at (get_or memory at 0) v _ p ∙ rw k refl

@@ -50,11 +50,6 @@ reference ts t (k ∷ []) found p held b e i l q w = (
 pub no-function : (ts : List Typ) (t : Typ) (ks : List ℕ) (h : Symbol) (a : Typ) → t ≡ con h (types_at ts ks) → length ks ≢ 2 → (u : Typ) → t ≡ function_type a u → ⊥
 no-function ts t ks h a e n u y = n (two-parts ts ks a u (parts-are (sym e ∙ y)))
 
-pub other-function : (ts : List Typ) (t : Typ) (ks : List ℕ) (h : Symbol) (p a : ℕ) → t ≡ con h (types_at ts ks) → length ks ≡ 2 → p ≡ slice_index_or ks 0 p → (type_at ts p ≡ type_at ts a → ⊥) → (u : Typ)
-    → t ≡ function_type (type_at ts a) u → ⊥
-other-function ts t [] h p a e l q n u y = absurd (cc)
-other-function ts t (k ∷ ks) h p a e l q n u y = n (ap (type_at ts) q ∙ first-is (parts-are (sym e ∙ y)))
-
 pub function : (ts : List Typ) (t : Typ) (ks : List ℕ) (p r a : ℕ) → t ≡ con arrow (types_at ts ks) → length ks ≡ 2 → p ≡ slice_index_or ks 0 p → r ≡ slice_index_or ks 1 r → type_at ts p ≡ type_at ts a
     → t ≡ function_type (type_at ts a) (type_at ts r)
 function ts t [] p r a e l q i same = absurd (cc)

@@ -84,11 +84,6 @@ pub record Declared (rows all : List (ℕ × Mark)) (qs : List Quantified) (n : 
   pub new : are_new (drop n qs) (marks_of rows) ≡ true
   pub declared : marks_of all ≡ drop n qs ++ marks_of rows
 
-pub none-declared : (rows : List (ℕ × Mark)) (qs : List Quantified) (n : ℕ) → n ≡ length qs → Declared rows rows qs n
-none-declared rows qs n e = subst (Declared rows rows qs) (sym e) (record {
-  within = omega arith;
-  new = ap (λ l. are_new l (marks_of rows)) (drop-length qs);
-  declared = ap (λ l. l ++ marks_of rows) (sym (drop-length qs));
 })
 
 pub one-declared : (rows all : List (ℕ × Mark)) (qs : List Quantified) (n : ℕ) (d : Quantified) → n < length qs → Declared rows all qs (suc n) → lookup (nat_eq (slice_index_or qs n d).variable) all ≡ None

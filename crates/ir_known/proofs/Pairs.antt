@@ -16,9 +16,6 @@ use Rattle.ir_known.proofs.Opening.{nodes-positive}
 abbrev pub same-pair : Pair → Pair → Bool
 same-pair a b = nat_eq a.0 b.0 && nat_eq a.1 b.1
 
-symbols-are : {h k : Symbol} {ts us : Typs} → con h ts ≡ con k us → h ≡ k
-symbols-are e = cc
-
 parts-are : {h k : Symbol} {ts us : Typs} → con h ts ≡ con k us → ts ≡ us
 parts-are e = cc
 
@@ -57,14 +54,8 @@ module _ (ts : List Typ) (f : ℕ → Typ) where
   pub pair-variable : (p : Pair) (v : ℕ) (old : List Pair) → type_at ts p.0 ≡ var v → type_at ts p.1 ≡ f v → OpensImage ts f p old old
   pair-variable p v old e i = pair-none p old (i ∙ sym (ap (replace f) e))
 
-  pub other-variable : (p : Pair) (v : ℕ) → type_at ts p.0 ≡ var v → (type_at ts p.1 ≡ f v → ⊥) → IsImage ts f p → ⊥
-  other-variable p v e n i = n (i ∙ ap (replace f) e)
-
   pub no-variable : (p : Pair) (v : ℕ) (h : Symbol) (us : Typs) → type_at ts p.0 ≡ con h us → type_at ts p.1 ≡ var v → IsImage ts f p → ⊥
   no-variable p v h us e i r = absurd (let q : var v ≡ con h (replace_all f us) = sym i ∙ r ∙ ap (replace f) e in cc)
-
-  pub other-symbol : (p : Pair) (h k : Symbol) (us vs : Typs) → type_at ts p.0 ≡ con h us → type_at ts p.1 ≡ con k vs → (h ≡ k → ⊥) → IsImage ts f p → ⊥
-  other-symbol p h k us vs e i n r = n (sym (symbols-are (sym i ∙ r ∙ ap (replace f) e)))
 
   pub other-length : (p : Pair) (h k : Symbol) (ks ls : List ℕ) → type_at ts p.0 ≡ con h (types_at ts ks) → type_at ts p.1 ≡ con k (types_at ts ls) → length ks ≢ length ls → IsImage ts f p → ⊥
   other-length p h k ks ls e i n r = n (as-long ks ls (parts-are (sym i ∙ r ∙ ap (replace f) e)))

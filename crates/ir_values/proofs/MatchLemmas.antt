@@ -48,10 +48,6 @@ module _ (K : Tagging) {B C D E : Type 0} (R : Value B C K.Tag → Value D E K.T
   where-same (Some true) h = h
   where-same (Some false) h = neither_matches
 
-  pub on-found-same : {o : Option V} {q : Option W} {go : V → M} {go' : W → N} → BothOrNeither R o q → ((v : V) (z : W) → R v z → SameMatched S (go v) (go' z)) → SameMatched S (on_found o go) (on_found q go')
-  on-found-same neither h = both_mismatch
-  on-found-same (both r) h = h _ _ r
-
   pub literal-same : {v : V} {z : W} {m : M} {n : N} (l : Literal) → R v z → SameMatched S m n → SameMatched S (against_literal l v m) (against_literal l z n)
   literal-same {v} {n = n} l r h = rw (literal-alike R (by.kind _ _ r)) (where-same (option_and_then (literal_eq l) (literal_in v)) h)
 

@@ -24,11 +24,6 @@ module _ (K : Tagging) {B C D E : Type 0} (R : Value B C K.Tag → Value D E K.T
   abbrev Ends : Answer V V → Answer W W → Type 0
   Ends = Agree R R
 
-  pub marked-same : {A A' : Type 0} (S : A → A' → Type 0) (m : Option Place) (w : World V) (u : World W) {go : World V → Answer V A} {go' : World W → Answer W A'} → SameWorlds R w u
-      → ((w' : World V) (u' : World W) → SameWorlds R w' u' → Agree R S (go w') (go' u')) → Agree R S (marked m w go) (marked m u go')
-  marked-same S None w u s h = h w u s
-  marked-same S (Some place) w u {go} {go'} s h = take_turn-agree R S place w u go go' s h
-
   pub found-same : {o : Option V} {q : Option W} (w : World V) (u : World W) {go : V → Answer V V} {go' : W → Answer W W} → BothOrNeither R o q → SameWorlds R w u → ((v : V) (v' : W) → R v v' → Ends (go v) (go' v')) → Ends (or_fail o w go) (or_fail q u go')
   found-same w u neither s h = both_stop _ s
   found-same w u (both r) s h = h _ _ r

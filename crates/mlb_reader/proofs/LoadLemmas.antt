@@ -219,10 +219,6 @@ module _ (mlb : List ℕ) (items : List Item) (first : Loaded) where
 
 -- The ML Basis file itself.
 
-pub breaks-first : (files : Option Files) (mlb input : List ℕ) (fault : Fault) (reads : List File) → clean input ≡ mlb → BreaksFirst files mlb fault reads → IfTold files (λ f. IsBroken f input fault reads)
-breaks-first None mlb input fault reads same h = tt
-breaks-first (Some f) mlb input fault reads same h = h input same
-
 pub needs-first : (files : Option Files) (mlb input failed : List ℕ) → clean input ≡ mlb → failed ≡ mlb → IfTold files (λ f. IsNeeded f input failed)
 needs-first None mlb input failed same e = tt
 needs-first (Some f) mlb input failed same e = subst (IsNeeded f input) (same ∙ sym e) the_mlb

@@ -16,16 +16,6 @@ then_do-then_do (gives a w) f g = refl
 then_do-then_do (raises p w) f g = refl
 then_do-then_do (stops cut w) f g = refl
 
-pub or_handle-raises : {V A : Type 0} (r : Answer V A) → or_handle r raises ≡ r
-or_handle-raises (gives a w) = refl
-or_handle-raises (raises p w) = refl
-or_handle-raises (stops cut w) = refl
-
-pub or_handle-or_handle : {V A : Type 0} (r : Answer V A) (f g : V → World V → Answer V A) → or_handle (or_handle r f) g ≡ or_handle r (λ p w. or_handle (f p w) g)
-or_handle-or_handle (gives a w) f g = refl
-or_handle-or_handle (raises p w) f g = refl
-or_handle-or_handle (stops cut w) f g = refl
-
 module _ {V W : Type 0} (R : V → W → Type 0) where
   pub ends-same : (w : World V) (u : World W) (e : End) {e' : End} → SameWorlds R w u → e' ≡ e → ends u e' ≡ ends w e
   ends-same w u e s same = λ i. record { output = s.output i; end = same i; turns = s.taken i }

@@ -11,9 +11,6 @@ use Rattle.sml_tree.specs.declared.tree.Part.{Part, fold_out-Part}
 use Rattle.sml_tree.specs.declared.tree.Exp.{Exp, Exp-F, fold-roll-Exp}
 use Rattle.sml_tree.specs.declared.tree.Exp.TheVariants.{Record, Tuple, List as List_, Sequence, Apply, Chain, rolls-Record, rolls-Tuple, rolls-List, rolls-Sequence, rolls-Apply, rolls-Chain}
 
-pub exp_of-Record : (p : Place) (fs : Vec ExpField Global) → exp_of (Record p fs) ≡ bare.fields_exp p (exp_fields_of (map exp_field_of fs.items))
-exp_of-Record p fs = ap exp_of (sym (rolls-Record p fs)) ∙ fold-roll-Exp bare.Dec bare.Exp RuleOf derived.Clause ExpFieldOf derived.Function (Operand Joint bare.Exp) RuleOf node_dec node_exp node_bind node_clause node_exp_field node_function node_part node_rule (Exp-F.Record p fs)
-
 pub exp_of-Tuple : (p : Place) (es : Vec Exp Global) → exp_of (Tuple p es) ≡ tuple p (map exp_of es.items)
 exp_of-Tuple p es = ap exp_of (sym (rolls-Tuple p es)) ∙ fold-roll-Exp bare.Dec bare.Exp RuleOf derived.Clause ExpFieldOf derived.Function (Operand Joint bare.Exp) RuleOf node_dec node_exp node_bind node_clause node_exp_field node_function node_part node_rule (Exp-F.Tuple p es)
 

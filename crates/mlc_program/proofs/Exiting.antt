@@ -28,17 +28,3 @@ module _ (old new : Disk) (out out' : Stream) (c : Command) (image : Program) (c
   run-exit StoreFailed r = absurd r
   run-exit OutFailed r = record { built = built; rose = r.rose; sent = r.sent; part = r.part; output = r.output }
   run-exit NoMemory r = (inr built, r)
-
--- before that: nothing was sent to out
-pub unbuilt-exit : (old new : Disk) (out : Stream) (c : Command) (e : Exit) → Unbuilt e old new c → Exited e old new out out c
-unbuilt-exit old new out c Ended h = absurd h
-unbuilt-exit old new out c (Uncaught vm) h = absurd h
-unbuilt-exit old new out c StepLimit h = absurd h
-unbuilt-exit old new out c OutOfHeap h = absurd h
-unbuilt-exit old new out c OutOfStack h = absurd h
-unbuilt-exit old new out c (Refused line) h = (h, (refl, refl))
-unbuilt-exit old new out c (Missing path) h = (h, (refl, refl))
-unbuilt-exit old new out c (ReadFailed path) h = (h, (refl, refl))
-unbuilt-exit old new out c StoreFailed h = (h, (refl, refl))
-unbuilt-exit old new out c OutFailed h = absurd h
-unbuilt-exit old new out c NoMemory h = (inl h, (refl, refl))

@@ -11,10 +11,6 @@ adds-adds : (o : Option (List ℕ)) (a b : List ℕ) → adds (adds o a) b ≡ a
 adds-adds None a b = refl
 adds-adds (Some w) a b = ap Some (append_assoc w a b)
 
-adds-nil : (o : Option (List ℕ)) → o ≡ adds o []
-adds-nil None = refl
-adds-nil (Some w) = ap Some (sym (append-nil w))
-
 rose-after : (a b c : ℕ) → a ≤ b → Rose b c → Rose a c
 rose-after a b c le rose = grind arith
 

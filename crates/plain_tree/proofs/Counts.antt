@@ -21,13 +21,6 @@ hit-at-most k x = by (nat_eq k x)
     by true = omega arith
     by false = omega arith
 
-hit-same : (k x : ℕ) → 1 ≤ hit k x → k ≡ x
-hit-same k x le = by (nat_eq k x) refl le
-  where
-    by : (b : Bool) → nat_eq k x ≡ b → 1 ≤ (if b then 1 else 0) → k ≡ x
-    by true e le = eqb-true k x e
-    by false e le = absurd (omega arith)
-
 there : (ks : List ℕ) (k : ℕ) → list_any (nat_eq k) ks ≡ true → 1 ≤ count_of k ks
 there [] k h = absurd (false≢true h)
 there (x ∷ ks) k h = by (nat_eq k x) h (there ks k)
@@ -59,9 +52,6 @@ take-more xs i x lt e = ap (λ n. take n xs) one ∙ go xs i lt e
 pub record Counted (xs ks : List ℕ) (i : ℕ) : Type 0 where
   pub held : ks ≡ take i xs
   pub once : (k : ℕ) → count_of k (take i xs) ≤ 1
-
-pub none-counted : (xs ks : List ℕ) → ks ≡ [] → Counted xs ks 0
-none-counted xs ks e = record { held = e; once = λ k. omega arith }
 
 pub one-counted : (xs ks new : List ℕ) (i x : ℕ) (b : Bool) → i < length xs → x ≡ slice_index_or xs i x → Counted xs ks i → b ≡ not (list_any (nat_eq x) ks) → new ≡ insert_key nat_eq ks x → b ≡ true → Counted xs new (i + 1)
 one-counted xs ks new i x b lt e c p q t = go (list_any (nat_eq x) ks) refl
@@ -95,15 +85,6 @@ twice-counted xs ks new i x b lt e c p t once = go (list_any (nat_eq x) ks) refl
         let v : count_of x xs ≡ count_of x (take (i + 1) xs ++ drop (i + 1) xs) = ap (count_of x) (sym (take-append-drop (i + 1) xs)) in
         let w : count_of x (take (i + 1) xs) ≡ count_of x (take i xs ++ x ∷ []) = ap (count_of x) (take-more xs i x lt e) in
         let y = once x in omega arith
-
-pub all-counted : (xs ks : List ℕ) (i : ℕ) → length xs ≤ i → Counted xs ks i → (k : ℕ) → count_of k xs ≤ 1
-all-counted xs ks i le c k = subst (λ l. count_of k l ≤ 1) (take-all xs i le) (c.once k)
-  where
-    take-all : (xs : List ℕ) (i : ℕ) → length xs ≤ i → take i xs ≡ xs
-    take-all [] zero le = refl
-    take-all [] (suc i) le = refl
-    take-all (x ∷ xs) zero le = absurd (omega arith)
-    take-all (x ∷ xs) (suc i) le = ap (λ l. x ∷ l) (take-all xs i (omega arith))
 
 any-default : (xs : List ℕ) (i d e : ℕ) → i < length xs → slice_index_or xs i d ≡ slice_index_or xs i e
 any-default [] i d e lt = absurd (omega arith)

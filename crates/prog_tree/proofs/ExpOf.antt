@@ -46,9 +46,6 @@ module _ (R : Reading) where
   pub tree_of-Handle : (a : ℕ) (e : Box Exp Global) (rs : Vec Rule Global) → tree_of R (Handle a e rs) ≡ t.handle_exp (R.type a) (tree_of R e.value) (rules_of (map (rule_of R) rs.items))
   tree_of-Handle a e rs = ap (tree_of R) (sym (rolls-Handle a e rs)) ∙ fold-roll-Exp DecTree t.Exp t.Fun RuleTree (node_dec R) (node_exp R) (node_function R) (node_rule R) (Exp-F.Handle a e rs)
 
-  pub tree_of-Fn : (a : ℕ) (f : Function) → tree_of R (Fn a f) ≡ t.fn_exp (R.type a) (function_of R f)
-  tree_of-Fn a f = ap (tree_of R) (sym (rolls-Fn a f)) ∙ fold-roll-Exp DecTree t.Exp t.Fun RuleTree (node_dec R) (node_exp R) (node_function R) (node_rule R) (Exp-F.Fn a f)
-
   pub function_of-Named : (xs : Vec Parameter Global) (x : Parameter) (e : Box Exp Global) → function_of R (Named xs x e) ≡ after_parameters R xs.items (t.last x.variable (R.type x.ty) (tree_of R e.value))
   function_of-Named xs x e = ap (function_of R) (sym (rolls-Named xs x e)) ∙ fold-roll-Function DecTree t.Exp t.Fun RuleTree (node_dec R) (node_exp R) (node_function R) (node_rule R) (Function-F.Named xs x e)
 
@@ -64,14 +61,5 @@ module _ (R : Reading) where
   pub pat_of-Record : (b : Bool) (fs : Vec PatField Global) → pat_of R (patterns.Record b fs) ≡ t.fields_pat b (fields_of (map (pat_field_of R) fs.items))
   pat_of-Record b fs = ap (pat_of R) (sym (patterns.rolls-Record b fs)) ∙ fold-roll-Pat t.Pat PatFieldTree PatPartTree (node_pat R) (node_pat_field R) (node_pat_part R) (Pat-F.Record b fs)
 
-  pub pat_of-Before : (c : Head) (a : ℕ) (p : Box Pat Global) → pat_of R (patterns.Before c a p) ≡ before c (R.type a) (pat_of R p.value)
-  pat_of-Before c a p = ap (pat_of R) (sym (patterns.rolls-Before c a p)) ∙ fold-roll-Pat t.Pat PatFieldTree PatPartTree (node_pat R) (node_pat_field R) (node_pat_part R) (Pat-F.Before c a p)
-
   pub pat_of-Chain : (s : Side) (p : Box Pat Global) (js : Vec PatPart Global) → pat_of R (patterns.Chain s p js) ≡ chain_pats s (pat_of R p.value) (map (pat_part_of R) js.items)
   pat_of-Chain s p js = ap (pat_of R) (sym (patterns.rolls-Chain s p js)) ∙ fold-roll-Pat t.Pat PatFieldTree PatPartTree (node_pat R) (node_pat_field R) (node_pat_part R) (Pat-F.Chain s p js)
-
-  pub pat_field_of-parts : (f : PatField) → pat_field_of R f ≡ record { label = f.label; type = R.type f.ty; pat = pat_of R f.pat }
-  pat_field_of-parts = fold_out-PatField t.Pat PatFieldTree PatPartTree (node_pat R) (node_pat_field R) (node_pat_part R)
-
-  pub pat_part_of-parts : (j : PatPart) → pat_part_of R j ≡ record { head = j.head; whole = R.type j.pair.ty; left = R.type j.pair.left; right = R.type j.pair.right; pat = pat_of R j.pat }
-  pat_part_of-parts = fold_out-PatPart t.Pat PatFieldTree PatPartTree (node_pat R) (node_pat_field R) (node_pat_part R)

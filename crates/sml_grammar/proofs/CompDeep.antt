@@ -49,9 +49,6 @@ all-over (suc n) = over-suc n (all-over n)
 
 -- by name
 
-pub exp-over : (n : ℕ) → OverExp n (readers n).exp
-exp-over n = (all-over n).exp
-
 pub atom-over : (n : ℕ) → OverAtom n (readers n).atom
 atom-over n = (all-over n).atom
 

@@ -104,10 +104,6 @@ level-low f (infixed v) = go (fix_of v.it f)
     go None = omega arith
     go (Some d) = omega arith
 
-pub parts-low : (f : Fixity) (ps : Parts) → suc (parts_level f ps) ≤ 1000
-parts-low f (last_part j e) = level-low f j
-parts-low f (part j e ps) = level-low f j
-
 -- no joint has the level of a typed expression, nor that of handle
 pub level-gap : (f : Fixity) (j : Joint) → 5 ≤ joint_level f j → 6 ≤ joint_level f j
 level-gap f and_also h = absurd (omega arith)

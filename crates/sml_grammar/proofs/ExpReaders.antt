@@ -16,11 +16,5 @@ atom-sound n = (readers-sound below n).atom
 pub decs-sound : (n : ℕ) → SoundsDecs n (readers n).decs
 decs-sound n = (readers-sound below n).decs
 
-pub exp-far : (n : ℕ) → Fars n (readers n).exp
-exp-far n = (readers-far below far_below n).exp
-
 pub atom-far : (n : ℕ) → FarsAtom n (readers n).atom
 atom-far n = (readers-far below far_below n).atom
-
-pub decs-far : (n : ℕ) → FarsDecs n (readers n).decs
-decs-far n = (readers-far below far_below n).decs

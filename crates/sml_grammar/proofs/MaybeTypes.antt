@@ -100,9 +100,6 @@ pub record GoodColon (n : ℕ) (i : List Terminal) (y : Read (Option Ty)) : Type
 pub colon-sound : (n : ℕ) (i : List Terminal) (y : Read (Option Ty)) → maybe_ty n (after_word res.Colon i) i ≡ ok y → GoodColon n i y
 colon-sound n i y h = let g = maybe-sound n res.Colon i y h in record { reads = colon-of g.reads; stops = g.stops; fits = g.fits }
 
-pub colon-settled : (n : ℕ) {i o : List Terminal} {t : Option Ty} → MaybeTy i t o → MaybeStops res.Colon t o → Settled (maybe_ty n (after_word res.Colon i) i) n (depth_some t) t o
-colon-settled n d st = maybe-settled n (of-colon d) st
-
 pub colon-complete : (n : ℕ) {i o : List Terminal} {t : Option Ty} → MaybeTy i t o → depth_some t ≤ n → MaybeStops res.Colon t o → maybe_ty n (after_word res.Colon i) i ≡ read t o
 colon-complete n d le st = maybe-complete n (of-colon d) le st
 
@@ -116,9 +113,6 @@ pub record GoodOf (n : ℕ) (i : List Terminal) (y : Read (Option Ty)) : Type 0 
 
 pub of-sound : (n : ℕ) (i : List Terminal) (y : Read (Option Ty)) → maybe_ty n (after_word res.Of i) i ≡ ok y → GoodOf n i y
 of-sound n i y h = let g = maybe-sound n res.Of i y h in record { reads = of-of g.reads; stops = g.stops; fits = g.fits }
-
-pub of-settled : (n : ℕ) {i o : List Terminal} {t : Option Ty} → MaybeOf i t o → MaybeStops res.Of t o → Settled (maybe_ty n (after_word res.Of i) i) n (depth_some t) t o
-of-settled n d st = maybe-settled n (after-of d) st
 
 pub of-complete : (n : ℕ) {i o : List Terminal} {t : Option Ty} → MaybeOf i t o → depth_some t ≤ n → MaybeStops res.Of t o → maybe_ty n (after_word res.Of i) i ≡ read t o
 of-complete n d le st = maybe-complete n (after-of d) le st

@@ -268,7 +268,3 @@ pat-complete n f l {i} {o} {a} d le high st = pat-reads n f l i o a d le high st
 
 pub atpat-complete : (n : ℕ) (f : Fixity) {i o : List Terminal} {a : Pat} → AtPat f i a o → depth_pat a ≤ n → (read_pats n).atpat f i ≡ read a o
 atpat-complete n f {i} {o} {a} d le = atpat-reads n f i o a d le
-
--- before a word that ends patterns
-pub pat-before : (n : ℕ) (f : Fixity) (w : Reserved) → ends_pat w ≡ true → {p : ℕ} {i o : List Terminal} {a : Pat} → Pattern f i a (reserved p w ∷ o) → depth_pat a ≤ n → read_pat n f i ≡ read a (reserved p w ∷ o)
-pat-before n f w e {p} {o} d le = pat-complete n f 0 d le (omega arith) (pat-stops-word w e f 0 p o)

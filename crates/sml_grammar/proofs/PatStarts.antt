@@ -169,9 +169,6 @@ pat-stops-word res.DoubleArrow e f l p o = record { no_pat = refl; no_infix = re
 pat-stops-word res.Bar e f l p o = record { no_pat = refl; no_infix = refl; no_mark = λ h. refl; no_as = λ h. refl; no_ty = λ h. refl }
 pat-stops-word _ e f l p o = not_true e
 
-pub pat-stops-end : (f : Fixity) (l : ℕ) → PatStops f l []
-pat-stops-end f l = record { no_pat = refl; no_infix = refl; no_mark = λ h. refl; no_as = λ h. refl; no_ty = λ h. refl }
-
 pub infix_ties-more : (f : Fixity) (k l : ℕ) (o : List Terminal) → k ≤ l → infix_ties f k o ≡ false → infix_ties f l o ≡ false
 infix_ties-more f k l o le e = go (infix_vid f o) e
   where

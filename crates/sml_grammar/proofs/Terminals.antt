@@ -16,10 +16,6 @@ pub data Holds {B : Type 0} (P : B → Type 0) : Option B → Type 0 where
   holds : {b : B} → P b → Holds P (Some b)
   nothing : Holds P None
 
-pub holds-some : {B : Type 0} {P : B → Type 0} {v : Option B} {b : B} → Holds P v → v ≡ Some b → P b
-holds-some {P} (holds h) e = subst P (got_some e) h
-holds-some nothing e = not_some e
-
 -- a terminal of R, with its place and what it stands for, and the terminals after it
 pub data Front {B : Type 0} (R : Terminal → ℕ → B → Type 0) : List Terminal → Placed B → List Terminal → Type 0 where
   front : {t : Terminal} {p : ℕ} {b : B} {o : List Terminal} → R t p b → Front R (t ∷ o) (record { place = p; it = b }) o
@@ -63,11 +59,6 @@ any_long-holds (long_alpha p qs x) = holds (any_long (long_alpha_vid p qs x))
 any_long-holds (long_symbol p qs x) = holds (any_long (long_symbol_vid p qs x))
 any_long-holds (long_star p qs x) = holds (any_long (long_star_vid p qs x))
 any_long-holds _ = nothing
-
-pub constant-holds : (t : Terminal) → Holds (IsConstant t (place_of t)) (as_constant t)
-constant-holds (number p n plain) = holds (is_number p n plain)
-constant-holds (constant p c) = holds (is_constant p c)
-constant-holds _ = nothing
 
 pub tycon-holds : (t : Terminal) → Holds (IsTycon t (place_of t)) (as_tycon t)
 tycon-holds (alpha p x) = holds (alpha_tycon p x)
@@ -117,9 +108,6 @@ any_vid-is = front-is as_any_vid IsAnyVid any_vid-holds
 pub any_long-is : (i : List Terminal) (x : Placed LongVid) (o : List Terminal) → first_as as_any_long i ≡ taken x o → Front IsAnyLongVid i x o
 any_long-is = front-is as_any_long IsAnyLongVid any_long-holds
 
-pub constant-is : (i : List Terminal) (x : Placed Constant) (o : List Terminal) → first_as as_constant i ≡ taken x o → Front IsConstant i x o
-constant-is = front-is as_constant IsConstant constant-holds
-
 pub tycon-is : (i : List Terminal) (x : Placed ℕ) (o : List Terminal) → first_as as_tycon i ≡ taken x o → Front IsTycon i x o
 tycon-is = front-is as_tycon IsTycon tycon-holds
 
@@ -142,11 +130,6 @@ vid-found (alpha_vid p x) o = refl
 vid-found (symbol_vid p x) o = refl
 vid-found (star_vid p x) o = refl
 
-pub qualified-found : {t : Terminal} {p : ℕ} {x : LongVid} → IsQualifiedVid t p x → (o : List Terminal) → first_as as_qualified (t ∷ o) ≡ taken (record { place = p; it = x }) o
-qualified-found (long_alpha_vid p qs x) o = refl
-qualified-found (long_symbol_vid p qs x) o = refl
-qualified-found (long_star_vid p qs x) o = refl
-
 pub any_vid-found : {t : Terminal} {p : ℕ} {v : Vid} → IsAnyVid t p v → (o : List Terminal) → first_as as_any_vid (t ∷ o) ≡ taken (record { place = p; it = v }) o
 any_vid-found (any_named (alpha_vid p x)) o = refl
 any_vid-found (any_named (symbol_vid p x)) o = refl
@@ -161,10 +144,6 @@ any_long-found (any_short (any_equals p)) o = refl
 any_long-found (any_long (long_alpha_vid p qs x)) o = refl
 any_long-found (any_long (long_symbol_vid p qs x)) o = refl
 any_long-found (any_long (long_star_vid p qs x)) o = refl
-
-pub constant-found : {t : Terminal} {p : ℕ} {c : Constant} → IsConstant t p c → (o : List Terminal) → first_as as_constant (t ∷ o) ≡ taken (record { place = p; it = c }) o
-constant-found (is_number p n plain) o = refl
-constant-found (is_constant p c) o = refl
 
 pub tycon-found : {t : Terminal} {p x : ℕ} → IsTycon t p x → (o : List Terminal) → first_as as_tycon (t ∷ o) ≡ taken (record { place = p; it = x }) o
 tycon-found (alpha_tycon p x) o = refl
@@ -197,59 +176,6 @@ vid-word (alpha_vid p x) = refl
 vid-word (symbol_vid p x) = refl
 vid-word (star_vid p x) = refl
 
-pub qualified-word : {t : Terminal} {p : ℕ} {x : LongVid} → IsQualifiedVid t p x → word_of t ≡ None
-qualified-word (long_alpha_vid p qs x) = refl
-qualified-word (long_symbol_vid p qs x) = refl
-qualified-word (long_star_vid p qs x) = refl
-
-pub constant-word : {t : Terminal} {p : ℕ} {c : Constant} → IsConstant t p c → word_of t ≡ None
-constant-word (is_number p n plain) = refl
-constant-word (is_constant p c) = refl
-
-pub tycon-word : {t : Terminal} {p x : ℕ} → IsTycon t p x → word_of t ≡ None
-tycon-word (alpha_tycon p x) = refl
-tycon-word (symbol_tycon p x) = refl
-
-pub long_tycon-word : {t : Terminal} {p : ℕ} {c : LongId} → IsLongTycon t p c → word_of t ≡ None
-long_tycon-word (short_tycon (alpha_tycon p x)) = refl
-long_tycon-word (short_tycon (symbol_tycon p x)) = refl
-long_tycon-word (long_alpha_tycon p qs x) = refl
-long_tycon-word (long_symbol_tycon p qs x) = refl
-
 pub label-word : {t : Terminal} {l : Label} → IsLabel t l → word_of t ≡ None
 label-word (grammar.number_label p n) = refl
 label-word (word_label v) = vid-word v
-
-pub long_tycon-star : {t : Terminal} {p : ℕ} {c : LongId} → IsLongTycon t p c → (o : List Terminal) → after_star (t ∷ o) ≡ None
-long_tycon-star (short_tycon (alpha_tycon p x)) o = refl
-long_tycon-star (short_tycon (symbol_tycon p x)) o = refl
-long_tycon-star (long_alpha_tycon p qs x) o = refl
-long_tycon-star (long_symbol_tycon p qs x) o = refl
-
-pub vid-no_qualified : {t : Terminal} {p x : ℕ} → IsVid t p x → (o : List Terminal) → first_as as_qualified (t ∷ o) ≡ None
-vid-no_qualified (alpha_vid p x) o = refl
-vid-no_qualified (symbol_vid p x) o = refl
-vid-no_qualified (star_vid p x) o = refl
-
-pub qualified-no_vid : {t : Terminal} {p : ℕ} {x : LongVid} → IsQualifiedVid t p x → (o : List Terminal) → first_as as_vid (t ∷ o) ≡ None
-qualified-no_vid (long_alpha_vid p qs x) o = refl
-qualified-no_vid (long_symbol_vid p qs x) o = refl
-qualified-no_vid (long_star_vid p qs x) o = refl
-
-pub vid-no_constant : {t : Terminal} {p x : ℕ} → IsVid t p x → (o : List Terminal) → first_as as_constant (t ∷ o) ≡ None
-vid-no_constant (alpha_vid p x) o = refl
-vid-no_constant (symbol_vid p x) o = refl
-vid-no_constant (star_vid p x) o = refl
-
-pub qualified-no_constant : {t : Terminal} {p : ℕ} {x : LongVid} → IsQualifiedVid t p x → (o : List Terminal) → first_as as_constant (t ∷ o) ≡ None
-qualified-no_constant (long_alpha_vid p qs x) o = refl
-qualified-no_constant (long_symbol_vid p qs x) o = refl
-qualified-no_constant (long_star_vid p qs x) o = refl
-
-pub constant-no_vid : {t : Terminal} {p : ℕ} {c : Constant} → IsConstant t p c → (o : List Terminal) → first_as as_vid (t ∷ o) ≡ None
-constant-no_vid (is_number p n plain) o = refl
-constant-no_vid (is_constant p c) o = refl
-
-pub constant-no_qualified : {t : Terminal} {p : ℕ} {c : Constant} → IsConstant t p c → (o : List Terminal) → first_as as_qualified (t ∷ o) ≡ None
-constant-no_qualified (is_number p n plain) o = refl
-constant-no_qualified (is_constant p c) o = refl

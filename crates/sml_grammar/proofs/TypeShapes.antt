@@ -166,9 +166,6 @@ arrows-at (more_arrows p lv d ds) = at_word p
 pub star-no_con : {i o : List Terminal} → StarAt i o → first_as as_long_tycon i ≡ None
 star-no_con (at_star p x) = refl
 
-pub star-no_arrow : {i o : List Terminal} → StarAt i o → after_word res.Arrow i ≡ None
-star-no_arrow (at_star p x) = refl
-
 pub arrow-no_con : {i o : List Terminal} → WordAt res.Arrow i o → first_as as_long_tycon i ≡ None
 arrow-no_con (at_word p) = refl
 

@@ -49,12 +49,6 @@ plain-found f v e o = let h = vid-found v o in rw (h, e) refl
 pub infix-found : {f : Fixity} {t : Terminal} {x : Placed ℕ} → IsInfixVid f t x → (o : List Terminal) → infix_vid f (t ∷ o) ≡ taken x o
 infix-found v o = let h = vid-found v.is o in let e = v.status in rw (h, e) refl
 
-pub plain-no_infix : (f : Fixity) {t : Terminal} {p x : ℕ} → IsVid t p x → fix_of (Named x) f ≡ None → (o : List Terminal) → infix_vid f (t ∷ o) ≡ None
-plain-no_infix f v e o = let h = vid-found v o in rw (h, e) refl
-
-pub infix-no_plain : {f : Fixity} {t : Terminal} {x : Placed ℕ} → IsInfixVid f t x → (o : List Terminal) → plain_vid f (t ∷ o) ≡ None
-infix-no_plain v o = let h = vid-found v.is o in let e = v.status in rw (h, e) refl
-
 -- [op] vid
 
 -- where `op` isn't first, only a plain identifier may be
@@ -168,25 +162,6 @@ infix-no_names {f} {t} {x} v o = go v.is v.status
     go (symbol_vid p x) e = rw e refl
     go (star_vid p x) e = rw e refl
 
-pub infix-no_binds : {f : Fixity} {t : Terminal} {x : Placed ℕ} → IsInfixVid f t x → (o : List Terminal) → binds_vid f (t ∷ o) ≡ None
-infix-no_binds {f} {t} {x} v o = go v.is v.status
-  where
-    go : {t : Terminal} {p y : ℕ} → IsVid t p y → fix_of (Named y) f ≡ Some v.fix → binds_vid f (t ∷ o) ≡ None
-    go (alpha_vid p x) e = rw e refl
-    go (symbol_vid p x) e = rw e refl
-    go (star_vid p x) e = rw e refl
-
--- a qualified identifier is neither plain nor infix
-pub qualified-no_plain : (f : Fixity) {t : Terminal} {p : ℕ} {x : LongVid} → IsQualifiedVid t p x → (o : List Terminal) → plain_vid f (t ∷ o) ≡ None
-qualified-no_plain f (long_alpha_vid p qs x) o = refl
-qualified-no_plain f (long_symbol_vid p qs x) o = refl
-qualified-no_plain f (long_star_vid p qs x) o = refl
-
-pub qualified-no_infix : (f : Fixity) {t : Terminal} {p : ℕ} {x : LongVid} → IsQualifiedVid t p x → (o : List Terminal) → infix_vid f (t ∷ o) ≡ None
-qualified-no_infix f (long_alpha_vid p qs x) o = refl
-qualified-no_infix f (long_symbol_vid p qs x) o = refl
-qualified-no_infix f (long_star_vid p qs x) o = refl
-
 pub constant-no_names : (f : Fixity) {t : Terminal} {p : ℕ} {c : Constant} → IsConstant t p c → (o : List Terminal) → names_vid f (t ∷ o) ≡ None
 constant-no_names f (is_number p n plain) o = refl
 constant-no_names f (is_constant p c) o = refl
@@ -194,13 +169,3 @@ constant-no_names f (is_constant p c) o = refl
 pub constant-no_binds : (f : Fixity) {t : Terminal} {p : ℕ} {c : Constant} → IsConstant t p c → (o : List Terminal) → binds_vid f (t ∷ o) ≡ None
 constant-no_binds f (is_number p n plain) o = refl
 constant-no_binds f (is_constant p c) o = refl
-
-pub constant-no_infix : (f : Fixity) {t : Terminal} {p : ℕ} {c : Constant} → IsConstant t p c → (o : List Terminal) → infix_vid f (t ∷ o) ≡ None
-constant-no_infix f (is_number p n plain) o = refl
-constant-no_infix f (is_constant p c) o = refl
-
--- what names a value is no infix identifier
-pub names-no_infix : {f : Fixity} {i : List Terminal} {p : ℕ} {x : Placed LongVid} {o : List Terminal} → NamesVid f i p x o → infix_vid f i ≡ None
-names-no_infix {f} (plain_long {o} v e) = plain-no_infix f v e o
-names-no_infix {f} (qualified {o} v) = qualified-no_infix f v o
-names-no_infix (op_long p v) = refl

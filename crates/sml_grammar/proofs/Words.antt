@@ -117,10 +117,6 @@ word-at w i o h = go (after-is w i) h
 pub word-found : {w : Reserved} {i o : List Terminal} → WordAt w i o → after_word w i ≡ Some o
 word-found {w} {o} (at_word p) = word-self w p o
 
--- another word isn't there
-pub word-other : (v w : Reserved) (p : ℕ) (o : List Terminal) → nat_eq (word_number v) (word_number w) ≡ false → after_word w (reserved p v ∷ o) ≡ None
-word-other v w p o e = rw e refl
-
 -- the terminals begin with `*`
 pub data StarAt : List Terminal → List Terminal → Type 0 where
   at_star : {o : List Terminal} (p x : ℕ) → StarAt (star p x ∷ o) o

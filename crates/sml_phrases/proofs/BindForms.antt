@@ -65,11 +65,3 @@ ex-turns n f i = go (binds_vid f i)
     go : (x : Option (Taken (Placed Vid))) → then_taken x (λ v m. then_read (ex_bind_rest n f v m) (put_after res.And)) ≡ then_read (then_taken x (ex_bind_rest n f)) (put_after res.And)
     go (Some x) = refl
     go None = refl
-
--- a precedence first
-pub precedence-then : {A : Type 0} (g : ℕ → List Terminal → Answer A) (i : List Terminal) → precedence_then g i ≡ then_read (precedence_then read i) g
-precedence-then g i = go (first_as as_digit i)
-  where
-    go : (x : Option (Taken (Placed ℕ))) → ◌≡◌ {A = Answer _} (on_taken x (λ d o. g d.it o) (g 0 i)) (then_read (on_taken x (λ d o. read d.it o) (read 0 i)) g)
-    go (Some x) = refl
-    go None = refl

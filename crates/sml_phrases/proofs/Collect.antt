@@ -35,17 +35,6 @@ module _ {B S C : Type 0} (list : B → List C) (depth_of : B → ℕ) (step : S
         deepest = λ b. g.deepest (c b) ∙ ap (max d) (deeps b) ∙ rw e' (omega arith);
       }
 
-  -- what was read is not part of any list: a directive, `rec`, a semicolon
-  pub collects-pass : {s t : S} {i m : List Terminal} {front : List C} {d d' : ℕ} {total : Answer B} (c : B → B) (e : ℕ) → step s i ≡ read (more c t) m → length m < length i →
-      ((b : B) → list (c b) ≡ list b) → ((b : B) → depth_of (c b) ≡ max e (depth_of b)) → d' ≡ max e d → Collects s i front d total → Collects t m front d' total
-  collects-pass {front} {d} c e h lt lists deeps e' g =
-      record {
-        put = λ b. g.put (c b);
-        going = going-more step h lt g.going;
-        items = λ b. g.items (c b) ∙ ap (λ z. front ++ z) (lists b);
-        deepest = λ b. g.deepest (c b) ∙ ap (max d) (deeps b) ∙ rw e' (omega arith);
-      }
-
   some-push : (front : List C) (x : C) → 0 < length (front ++ x ∷ [])
   some-push [] x = omega arith
   some-push (y ∷ front) x = omega arith

@@ -314,15 +314,9 @@ newest-are xs ys = ap (λ (k : ℕ). take k (xs ++ ys)) (fewer (length-append xs
     fewer : length (xs ++ ys) ≡ length xs + length ys → length (xs ++ ys) - length ys ≡ length xs
     fewer e = omega arith
 
-pub local-first : (x : Stop) (n : ℕ) (f : Fixity) (p : ℕ) (i : List Terminal) → Fails x ((readers n).decs f i) → Fails x (local_by n f p i)
-local-first x n f p i h = fails-then x ((readers n).decs f i) (local_rest (readers n).decs f p) h
-
 module _ (s : Source) (n : ℕ) (f f1 : Fixity) (p : ℕ) (i : List Terminal) (ds : List Dec) (d : ℕ) (o : List Token) (first : Read Decs) (by : (readers n).decs f i ≡ ok first) (is : IsDecs f f1 s n i ds d o first) where
   rest-is : local_by n f p i ≡ local_rest (readers n).decs f p first.tree (left s o)
   rest-is = (rw by refl) ∙ ap (local_rest (readers n).decs f p first.tree) (sym is.rest)
-
-  pub local-no_in : after_word res.In (left s o) ≡ None → local_by n f p i ≡ bad
-  local-no_in h = rest-is ∙ rw h refl
 
   module _ (k : List Terminal) (is_in : after_word res.In (left s o) ≡ Some k) where
     inside-is : local_by n f p i ≡ then_read ((readers n).decs f1 k) (λ es m. word_then res.End (λ q. read (local_dec p first.tree es) q) m)

@@ -59,15 +59,6 @@ module _ (f : Fixity) (s : Source) (n : ℕ) (i : List Terminal) where
         high = refl;
       }
 
-  pub is-list : {made : Exp} {d : ℕ} {o : List Token} {xs : List bare.Exp} (es : Read Exps) → IsList (exp_list s.file) depth_exps s n (tail i) xs d o es → exp_of made ≡ list_of (at s.file (place_at i)) xs →
-      IsAtom f s (n + 1) i made (d + 1) o (record { tree = list_exp (place_at i) es.tree; rest = es.rest })
-  is-list es l h =
-      let q = l.deep in
-      record {
-        is = record { rest = l.rest; bare = h ∙ ap (list_of (at s.file (place_at i))) l.same; deep = omega (arith, q); place = refl; fits = omega (arith, l.fits); shorter = omega (arith, l.shorter, tail-short i) };
-        high = refl;
-      }
-
   module _ {e : Exp} {d : ℕ} {o : List Token} (r : Read read.Exp) (is : IsExp s n (tail i) e d o r) where
     pub is-tuple : {made : Exp} {d2 : ℕ} {o2 : List Token} {m : List Terminal} {xs : List bare.Exp} (es : Read Exps) → length m < length (left s o) → IsList (exp_list s.file) depth_exps s n m xs d2 o2 es →
         exp_of made ≡ tuple (at s.file (place_at i)) (exp_of e ∷ xs) → IsAtom f s (n + 1) i made (max d d2 + 1) o2 (record { tree = tuple_exp (place_at i) (exp r.tree es.tree); rest = es.rest })

@@ -19,23 +19,8 @@ use Rattle.sml_phrases.proofs.ExpLemmas.{word-in, closed-in}
 
 -- brackets, after the first terminal
 module _ (self : Reader) (f : Fixity) (p : ℕ) (i : List Terminal) where
-  pub brace-empty : {o : List Terminal} → after_word res.RightBrace i ≡ Some o → brace_exp self f p i ≡ read (record_exp p no_exp_fields) o
-  brace-empty e = rw e refl
-
   pub brace-rows : after_word res.RightBrace i ≡ None → brace_exp self f p i ≡ then_read (closed_rows self f i) (λ fs o. read (record_exp p fs) o)
   brace-rows e = rw e (sym (closed-in (whole (row_turn self f) no_state i) res.RightBrace (record_exp p)))
-
-  pub bracket-empty : {o : List Terminal} → after_word res.RightBracket i ≡ Some o → bracket_exp self f p i ≡ read (list_exp p no_exps) o
-  bracket-empty e = rw e refl
-
-  pub bracket-exps : after_word res.RightBracket i ≡ None → bracket_exp self f p i ≡ then_read (closed_exps res.Comma res.RightBracket self f i) (λ es o. read (list_exp p es) o)
-  bracket-exps e = rw e (sym (closed-in (whole (commas_turn self f) no_state i) res.RightBracket (list_exp p)))
-
-  pub paren-unit : {o : List Terminal} → after_word res.RightParen i ≡ Some o → paren_in self f p i ≡ read (unit_exp p) o
-  paren-unit e = rw e refl
-
-  pub paren-first : after_word res.RightParen i ≡ None → paren_in self f p i ≡ then_read (self f 0 i) (Rattle.sml_grammar.specs.Expressions.paren_rest self f p)
-  paren-first e = rw e refl
 
   module _ (r : Read read.Exp) (none : after_word res.RightParen i ≡ None) (e : self f 0 i ≡ ok r) where
     pub paren-tuple : {m : List Terminal} → after_word res.Comma r.rest ≡ Some m → paren_in self f p i ≡ then_read (closed_exps res.Comma res.RightParen self f m) (λ es o. read (tuple_exp p (exp r.tree es)) o)
@@ -53,9 +38,6 @@ module _ (self : Reader) (f : Fixity) (p : ℕ) (i : List Terminal) where
 
 -- let
 module _ (self : Readers) (f : Fixity) (p : ℕ) (i : List Terminal) (ds : Read Decs) (e : self.decs f i ≡ ok ds) where
-  pub let-open : after_word res.In ds.rest ≡ None → let_exp self f p i ≡ bad
-  let-open h = rw (e, h) refl
-
   pub let-body : {m : List Terminal} → after_word res.In ds.rest ≡ Some m →
       let_exp self f p i ≡ then_read (closed_exps res.Semicolon res.End self.exp (after f ds.tree) m) (λ es o. read (let_in p ds.tree es) o)
   let-body {m} h = rw (e, h) (sym (closed-in (whole (semicolons_turn self.exp (after f ds.tree)) no_state m) res.End (let_in p ds.tree)))
@@ -95,17 +77,8 @@ form-at (long_symbol p qs x ∷ o) e = absurd (cc)
 form-at (long_star p qs x ∷ o) e = absurd (cc)
 form-at (type_var p a ∷ o) e = absurd (cc)
 
-pub at-raise : (i : List Terminal) → word_at i ≡ Some res.Raise → start_of i ≡ raise_start (place_at i) (tail i)
-at-raise i e = ap start_of (form-at i e)
-
-pub at-if : (i : List Terminal) → word_at i ≡ Some res.If → start_of i ≡ if_start (place_at i) (tail i)
-at-if i e = ap start_of (form-at i e)
-
 pub at-while : (i : List Terminal) → word_at i ≡ Some res.While → start_of i ≡ while_start (place_at i) (tail i)
 at-while i e = ap start_of (form-at i e)
-
-pub at-case : (i : List Terminal) → word_at i ≡ Some res.Case → start_of i ≡ case_start (place_at i) (tail i)
-at-case i e = ap start_of (form-at i e)
 
 pub at-fn : (i : List Terminal) → word_at i ≡ Some res.Fn → start_of i ≡ fn_start (place_at i) (tail i)
 at-fn i e = ap start_of (form-at i e)

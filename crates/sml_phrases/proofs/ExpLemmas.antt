@@ -65,10 +65,6 @@ chose-some : (b : Bool) (o m : List Terminal) → (if b then Some o else None) �
 chose-some true o m e = got_some e
 chose-some false o m e = not_some e
 
-pub after-tail : (w : Reserved) (i o : List Terminal) → after_word w i ≡ Some o → o ≡ tail i
-after-tail w [] o e = not_some e
-after-tail w (t ∷ i) o e = sym (chose-some (is_word w (word_of t)) i o e)
-
 pub after-shorter : (w : Reserved) (i o : List Terminal) → after_word w i ≡ Some o → length o < length i
 after-shorter w [] o e = not_some e
 after-shorter w (t ∷ i) o e = let q = chose-some (is_word w (word_of t)) i o e in subst (λ z. length z < length (t ∷ i)) q (omega arith)

@@ -115,9 +115,6 @@ pub record Seeking (s : Source) (f : Fixity) (self : PatReader) (n least : ℕ) 
   pub going : Going (pat_suffix_turn self n f least) it.tree it.rest (λ b. b) total
 
 module _ (s : Source) (f : Fixity) (self : PatReader) (n least : ℕ) (i : List Terminal) (p : Pat) (d high : ℕ) (o : List Token) where
-  pub seeking-start : (a : Read read_tree.Pat) → IsPatAt s f high (n + 1) i p d o a → Seeking s f self n least i p d high o (whole (pat_suffix_turn self n f least) a.tree a.rest)
-  seeking-start a h = record { it = a; is = h; going = going-start (pat_suffix_turn self n f least) a.tree a.rest }
-
   module _ (total : Answer read_tree.Pat) (g : Seeking s f self n least i p d high o total) where
     as-pat : IsPat s (n + 1) i p d o g.it
     as-pat = record { rest = g.is.rest; bare = g.is.bare; depth = g.is.depth; place = g.is.place; fits = g.is.fits; shorter = g.is.shorter }

@@ -30,14 +30,5 @@ pat_of-Wild p = ap pat_of (sym (rolls-Wild p)) ∙ fold-roll-Pat bare.Pat PatFie
 pub pat_of-Vid : (p : Place) (x : LongVid) → pat_of (Vid p x) ≡ bare.vid_pat p (long_vid_of x)
 pat_of-Vid p x = ap pat_of (sym (rolls-Vid p x)) ∙ fold-roll-Pat bare.Pat PatFieldOf (Operand VidAt bare.Pat) node_pat node_pat_field node_pat_part (Pat-F.Vid p x)
 
-pub pat_of-Con : (p q : Place) (x : LongVid) (a : Box Pat Global) → pat_of (Con p q x a) ≡ bare.con_pat p q (long_vid_of x) (pat_of a.value)
-pat_of-Con p q x a = ap pat_of (sym (rolls-Con p q x a)) ∙ fold-roll-Pat bare.Pat PatFieldOf (Operand VidAt bare.Pat) node_pat node_pat_field node_pat_part (Pat-F.Con p q x a)
-
-pub pat_field-of : (l : Label) (a : Pat) → pat_field_of (record { label = l; pat = a }) ≡ record { label = l; pat = pat_of a }
-pat_field-of l a = fold-roll-PatField bare.Pat PatFieldOf (Operand VidAt bare.Pat) node_pat node_pat_field node_pat_part (record { label = l; pat = a })
-
 pub pat_part-of : (p : Place) (v : ident.Vid) (q : Place) (a : Pat) → pat_part_of (record { vid_place = p; vid = v; place = q; pat = a }) ≡ record { joint = record { place = p; vid = v }; place = q; operand = pat_of a }
 pat_part-of p v q a = fold-roll-PatPart bare.Pat PatFieldOf (Operand VidAt bare.Pat) node_pat node_pat_field node_pat_part (record { vid_place = p; vid = v; place = q; pat = a })
-
-pub pat_of-Typed : (p : Place) (a : Box Pat Global) (t : Ty) → pat_of (Typed p a t) ≡ bare.typed_pat p (pat_of a.value) (ty_of t)
-pat_of-Typed p a t = ap pat_of (sym (rolls-Typed p a t)) ∙ fold-roll-Pat bare.Pat PatFieldOf (Operand VidAt bare.Pat) node_pat node_pat_field node_pat_part (Pat-F.Typed p a t)

@@ -123,9 +123,6 @@ module _ (n l : ℕ) (i : List Terminal) (pos : 0 < n) where
       pub after-product : (p : Read read_tree.Ty) → product_rest (read_ty (n - 1)) (n - 1) l b.tree b.rest ≡ ok p → read_ty n l i ≡ arrow_rest (read_ty (n - 1)) (n - 1) l p.tree p.rest
       after-product p h = after-applied ∙ ap (λ (z : Answer read_tree.Ty). then_read z (arrow_rest (read_ty (n - 1)) (n - 1) l)) h
 
-pub at-depth : (s : Source) (m n : ℕ) (i : List Terminal) (t : Ty) (d : ℕ) (o : List Token) (a : Read read_tree.Ty) → m ≡ n → IsTy s m i t d o a → IsTy s n i t d o a
-at-depth s m n i t d o a e h = subst (λ (k : ℕ). IsTy s k i t d o a) e h
-
 -- Type constructors after an argument.
 
 pub con-of : (s : Source) (i : List Terminal) (p q r : Place) (v : Vec Ty Global) (c : code.LongId) (ts : List Ty) → p ≡ at s.file (place_at i) → q ≡ r → v.items ≡ ts → ty_of (Con p v q c) ≡ tree.con (at s.file (place_at i)) (tys_of (map ty_of ts)) r (long_id_of c)
@@ -137,9 +134,6 @@ pub record Applying (s : Source) (n : ℕ) (i : List Terminal) (t : Ty) (d : ℕ
   pub going : Going (postfix_turn n) it.tree it.rest (λ b. b) total
 
 module _ (s : Source) (n : ℕ) (i : List Terminal) (t : Ty) (d : ℕ) (o : List Token) where
-  pub applying-start : (a : Read read_tree.Ty) → IsTy s (n + 1) i t d o a → Applying s n i t d o (whole (postfix_turn n) a.tree a.rest)
-  applying-start a h = record { it = a; is = h; going = going-start (postfix_turn n) a.tree a.rest }
-
   module _ (total : Answer read_tree.Ty) (g : Applying s n i t d o total) where
     turn-from : first_as as_long_tycon (left s o) ≡ first_as as_long_tycon g.it.rest
     turn-from = ap (first_as as_long_tycon) g.is.rest
@@ -179,9 +173,6 @@ bare_tys-list f no_tys = refl
 bare_tys-list f (ty t ts) = ap (tree.ty (bare_ty f t)) (bare_tys-list f ts)
 
 module _ (s : Source) (n : ℕ) (i k : List Terminal) (t : read_tree.Ty) where
-  pub arguments-fail : (e : Stop) → Fails e (whole (separator_turn Comma (read_ty n)) no_state k) → Fails e (arguments (read_ty n) (place_at i) t k)
-  arguments-fail e h = fails-then e (whole (ty_commas_turn (read_ty n)) no_state k) (λ ts m. word_then res.RightParen (λ k. then_taken (first_as as_long_tycon k) (λ c o. read (con_ty (place_at i) (ty t ts) c) o)) m) h
-
   module _ (front ts : List Ty) (d0 d : ℕ) (o : List Token) (a : Read Tys) (w : whole (separator_turn Comma (read_ty n)) no_state k ≡ ok a) (is : IsTys s n k front d0 ts d o a) where
     pub arguments-open : after_word res.RightParen (left s o) ≡ None → arguments (read_ty n) (place_at i) t k ≡ bad
     arguments-open q = let q' : after_word res.RightParen a.rest ≡ None = subst (λ (z : List Terminal). after_word res.RightParen z ≡ None) is.rest q in rw (w, q') refl

@@ -50,10 +50,6 @@ pub place-plain : (i : List Terminal) → after_word res.Op i ≡ None → vid_p
 place-plain (reserved p res.Op ∷ m) h = absurd (cc)
 place-plain _ h = refl
 
-pub place-equals : (i o : List Terminal) → after_word res.Equals i ≡ Some o → vid_place i ≡ place_at i
-place-equals (reserved p res.Op ∷ m) o h = absurd (cc)
-place-equals _ o h = refl
-
 -- without `op`
 
 pub binds-op : (f : Fixity) (i o : List Terminal) → after_word res.Op i ≡ Some o → binds_vid f i ≡ first_as as_any_vid o

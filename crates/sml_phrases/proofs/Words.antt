@@ -78,7 +78,3 @@ after_here (t ∷ o) v w at h = let e = sym (same-is v w) ∙ h in rw (at, e) re
 pub after_elsewhere : (i : List Terminal) (v w : Reserved) → word_at i ≡ Some v → sameb the_type v w ≡ false → after_word w i ≡ None
 after_elsewhere [] v w at h = refl
 after_elsewhere (t ∷ o) v w at h = let e = sym (same-is v w) ∙ h in rw (at, e) refl
-
-pub after_none : (i : List Terminal) (w : Reserved) → word_at i ≡ None → after_word w i ≡ None
-after_none [] w at = refl
-after_none (t ∷ o) w at = rw at refl

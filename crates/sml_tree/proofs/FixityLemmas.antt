@@ -24,9 +24,6 @@ one_number (Fresh x) Equals = grind (arith, nat_tests)
 one_number (Fresh x) (Named y) = grind (arith, nat_tests)
 one_number (Fresh x) (Fresh y) = grind (arith, nat_tests)
 
-pub no_directives : Agrees nothing nothing 0
-no_directives = record { aged = λ n pos le. absurd (omega arith); newest = λ v. refl }
-
 abbrev Aged : Trie → ℕ → Type 0
 Aged t count = (n : ℕ) → 0 < n → n ≤ count → (d : Directive) × (kept t n ≡ Some d)
 
@@ -102,33 +99,3 @@ module _ (by_age by_vid more_age more_vid : Trie) (count number : ℕ) (d : Dire
   one_first self is = let e : count + 1 ≡ suc count = omega arith in rw e (more_first ∙ ap (λ ds. d ∷ ds) is)
 
 -- the directives of a declaration, and the newest of a scope
-
-pub none_added : (self : Fixity) (status : Option Infix) (vids : List ℕ) → self ≡ directives_for status (take 0 vids) ++ self
-none_added self status vids = refl
-
-pub one_added : (new now self : Fixity) (status : Option Infix) (vids : List ℕ) (k x : ℕ) → now ≡ directives_for status (take k vids) ++ self → x ≡ get_or vids k x → k < length vids →
-    new ≡ record { vid = Named x; status = status } ∷ now → new ≡ directives_for status (take (k + 1) vids) ++ self
-one_added new now self status vids k x h is lt e =
-    let n : k + 1 ≡ suc k = omega arith in
-    let t = take-suc vids k x lt in
-    let g : ℕ → Directive = λ y. record { vid = Named y; status = status } in
-    let m = map-append g (take k vids) (x ∷ []) in
-    let r = reverse-append (map g (take k vids)) (g x ∷ []) in
-    let f = sym is in
-    rw (e, n, t, f, m, r, h) refl
-
-pub all_added : (now self : Fixity) (status : Option Infix) (vids : List ℕ) (k : ℕ) → now ≡ directives_for status (take k vids) ++ self → length vids ≤ k → now ≡ directives_for status vids ++ self
-all_added now self status vids k h le = let t = take_all k vids le in h ∙ rw t refl
-
-pub newest_added : (new now self inner : Fixity) (skipped k : ℕ) (d : Directive) → now ≡ take (k - skipped) (drop (length inner - k) inner) ++ self → skipped ≤ k → k < length inner →
-    drop (length inner - (k + 1)) inner ≡ d ∷ drop (length inner - (k + 1 - 1)) inner → new ≡ d ∷ now → new ≡ take (k + 1 - skipped) (drop (length inner - (k + 1)) inner) ++ self
-newest_added new now self inner skipped k d h le lt is e =
-    let n : k + 1 - skipped ≡ suc (k - skipped) = omega arith in
-    let m : k + 1 - 1 ≡ k = omega arith in
-    rw (e, n, is, m, h) refl
-
-pub nothing_newer : (self inner : Fixity) (skipped : ℕ) → self ≡ take (skipped - skipped) (drop (length inner - skipped) inner) ++ self
-nothing_newer self inner skipped = let e : skipped - skipped ≡ 0 = omega arith in rw e refl
-
-pub all_newer : (now self inner : Fixity) (skipped k : ℕ) → k ≡ length inner → now ≡ take (k - skipped) (drop (length inner - k) inner) ++ self → now ≡ take (length inner - skipped) inner ++ self
-all_newer now self inner skipped k is h = let e : length inner - length inner ≡ 0 = omega arith in h ∙ rw (is, e) refl

@@ -16,9 +16,3 @@ type_of-Var x = ap type_of (sym (rolls-Var x)) ∙ fold-roll-Ty Typ node_type (T
 
 pub type_of-Apply : (h : Head) (ts : Vec Ty Global) → type_of (Apply h ts) ≡ con (head_of h) (typs_of (map type_of ts.items))
 type_of-Apply h ts = ap type_of (sym (rolls-Apply h ts)) ∙ fold-roll-Ty Typ node_type (Ty-F.Apply h ts)
-
-pub env_of-is : (e : Env) → env_of e ≡ env (map_of value_of (out-Env e).values) (map_of type_structure_of (out-Env e).types) (structures_of (map structure_of (out-Env e).structures.items))
-env_of-is e = ap env_of (sym (roll-out-Env e)) ∙ fold-roll-Env static.Env (ℕ × static.Env) node_env node_structure (out-Env e)
-
-pub structure_of-is : (s : Structure) → structure_of s ≡ ((out-Structure s).name, env_of (out-Structure s).env)
-structure_of-is s = ap structure_of (sym (roll-out-Structure s)) ∙ fold-roll-Structure static.Env (ℕ × static.Env) node_env node_structure (out-Structure s)

@@ -156,9 +156,6 @@ along e (q ∷ qs) = option_and_then (λ d. along d qs) (structure_in e q)
 abbrev pub long_value_in : Env → List ℕ → ℕ → Option Value
 long_value_in e qs x = option_and_then (λ d. value_in d x) (along e qs)
 
-abbrev pub long_type_in : Env → List ℕ → ℕ → Option TypeStructure
-long_type_in e qs x = option_and_then (λ d. type_in d x) (along e qs)
-
 abbrev pub long_structure_in : Env → List ℕ → ℕ → Option Env
 long_structure_in e qs x = option_and_then (λ d. structure_in d x) (along e qs)
 

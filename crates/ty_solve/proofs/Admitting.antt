@@ -40,9 +40,6 @@ mutual
   all-anyhow m f none h = refl
   all-anyhow m f (more t ts) h = let p = and_parts (admits no_variable t) (all_admit no_variable ts) h in and_from _ _ (admits-anyhow m f t p.0) (all-anyhow m f ts p.1)
 
-pub admits-always : (m : ℕ → Bool) (f : ℕ → Typ) (t : Typ) (h : Symbol) (ts : Typs) → t ≡ con h ts → Always ≡ attribute h → admits m (sub f t) ≡ true
-admits-always m f t h ts p e = subst (λ z. admits m (sub f z) ≡ true) (sym p) (subst (λ q. allowed q (all_admit m (subs f ts)) ≡ true) e refl)
-
 beside-has : (ts : List Typ) (ks : List ℕ) (j : ℕ) → Has ks j → Beside (type_at ts j) (type_at ts j) (types_at ts ks) (types_at ts ks)
 beside-has ts [] j a = absurd a
 beside-has ts (k ∷ ks) j (inl e) = subst (λ x. Beside (type_at ts x) (type_at ts x) (types_at ts (k ∷ ks)) (types_at ts (k ∷ ks))) (sym e) (Beside.here _ _ _ _)

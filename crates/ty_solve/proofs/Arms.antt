@@ -11,12 +11,6 @@ use Rattle.ty_solve.specs.Tasks.{Steps, RefusesTask}
 use Rattle.ty_solve.specs.declared.refused.UnifyRefused.{UnifyRefused}
 use Rattle.ty_solve.proofs.StepArms.{steps-along, refuses-along, steps-admit-along, refuses-admit-along}
 
-pub steps-is : (n : ℕ) (s : ℕ → Entry) (w : ℕ → ℕ) (old new : List Task) (x : Option Write) (a b c d : Typ) → a ≡ c → b ≡ d → Steps n s w old (Equal c d) new x → Steps n s w old (Equal a b) new x
-steps-is n s w old new x a b c d p q h = subst (λ t. Steps n s w old (Equal t b) new x) (sym p) (subst (λ t. Steps n s w old (Equal c t) new x) (sym q) h)
-
-pub refuses-same : (s : ℕ → Entry) (a b c d : Typ) (e : UnifyRefused) → a ≡ c → b ≡ d → RefusesTask s (Equal c d) e → RefusesTask s (Equal a b) e
-refuses-same s a b c d e p q h = subst (λ t. RefusesTask s (Equal t b) e) (sym p) (subst (λ t. RefusesTask s (Equal c t) e) (sym q) h)
-
 module _ {X : Type 0} (g : X → Option Write) (n : ℕ) (s : ℕ → Entry) (w : ℕ → ℕ) (old new : List Task) where
   pub equal-ok : (a b c d : Typ) (r : Result X UnifyRefused) → Reads n s w a c → Reads n s w b d → IfOk r (λ x. Steps n s w old (Equal c d) new (g x)) → IfOk r (λ x. Steps n s w old (Equal a b) new (g x))
   equal-ok a b c d (Ok x) p q h = steps-along n s w old new (g x) a b c d p q h

@@ -4,21 +4,6 @@ use Rattle.ty_core.specs.Types.{Symbol, Typ, var, con, nodes, all_nodes, admits,
 use Rattle.ty_table.specs.TypeAt.{type_at, types_at, AllBelow, top, tops}
 use Rattle.ty_table.specs.Nodes.{symbol_at, type_in, IsNode}
 
-pub node-some : (m n : ℕ) (x : List ℕ) → IsNode m n x → 0 < length x
-node-some m n [] a = absurd a
-node-some m n (k ∷ l) a = omega arith
-
-pub variable-some : (m n : ℕ) (x : List ℕ) → IsNode m n x → get_or x 0 0 ≡ 0 → 1 < length x
-variable-some m n [] a e = absurd a
-variable-some m n (zero ∷ l) a e = omega (arith, a)
-variable-some m n (suc s ∷ l) a e = absurd (omega arith)
-
-pub variable-is : (m n : ℕ) (ss : List Symbol) (ts : List Typ) (x : List ℕ) → IsNode m n x → get_or x 0 0 ≡ 0 → type_in ss ts x ≡ var (get_or x 1 0)
-variable-is m n ss ts [] a e = absurd a
-variable-is m n ss ts (zero ∷ []) a e = absurd (omega (arith, a))
-variable-is m n ss ts (zero ∷ v ∷ l) a e = refl
-variable-is m n ss ts (suc s ∷ l) a e = absurd (omega arith)
-
 abbrev pub arguments : List ℕ → List ℕ
 arguments x = take (length x - 1) (drop 1 x)
 
@@ -49,9 +34,6 @@ pub below-at : (n : ℕ) (l : List ℕ) (i : ℕ) → AllBelow n l → i < lengt
 below-at n [] i a lt = absurd (omega arith)
 below-at n (k ∷ l) zero a lt = a.0
 below-at n (k ∷ l) (suc i) a lt = below-at n l i a.1 (omega arith)
-
-pub take-end : (l : List ℕ) → take (length l) l ≡ l
-take-end l = take-whole l (length l) refl
 
 -- one argument more
 pub next-nodes : (ts : List Typ) (l : List ℕ) (i : ℕ) → i < length l → all_nodes (types_at ts (take (suc i) l)) ≡ all_nodes (types_at ts (take i l)) + nodes (type_at ts (get_or l i 0))

@@ -57,15 +57,6 @@ base-none n s y r e p q i = record {
   lower = let a = ap row_rank p in let b = ap entry_rank e in omega arith;
 }
 
-pub base-any : (n : ℕ) (s : ℕ → Entry) (y : ℕ) (r : Row) → s y ≡ free Mark.Any → r.equality ≡ false → r.labels.items ≡ [] → r.types.items ≡ [] → IsBase n s y r
-base-any n s y r e p q i = record {
-  same = λ m f t d ks us x. (
-    λ h. none-extends r false p q i m f t (extends-none m d ks us t x),
-    λ h. subst (Meets m f t) (sym e) tt,
-  );
-  forced = λ o g h. none-forced r false p q i o (var y) (record { is_record = g; has = λ l u a. absurd a; strict = λ j. absurd (false≢true j) });
-  fit = none-fit r false p q i n;
-  lower = let a = ap row_rank p in let b = ap entry_rank e in omega arith;
 }
 
 pub base-class : (s : ℕ → Entry) (y : ℕ) (r : Row) (c : Class) → s y ≡ free (Mark.Class c) → RefusesRow s r (var y) Clash
@@ -74,21 +65,8 @@ base-class s y r c e = (
   λ p i x. Clashes.classed c (var y) x.is_record (subst (ForcedAt p y) e (i y)),
 )
 
--- a row in memory of its own
-pub row-copied : (a b : Row) → b.equality ≡ a.equality → b.labels.items ≡ a.labels.items → types_of b ≡ types_of a → row_of b ≡ row_of a
-row-copied a b p q r = ap (λ x. row x b.labels.items (types_of b)) p ∙ ap (λ x. row a.equality x (types_of b)) q ∙ ap (row a.equality a.labels.items) r
-
-pub base-row : (n : ℕ) (s : ℕ → Entry) (y : ℕ) (r : Row) → AreBelow n s → AreInhabited s → s y ≡ row_of r → IsBase n s y r
-base-row n s y r b i e = record {
-  same = λ m f t d ks us x. (λ h. subst (Meets m f t) e h, λ h. subst (Meets m f t) (sym e) h);
-  forced = λ o g h. subst (ForcedAt o y) e h;
-  fit = row-fit n s y r b i e;
-  lower = let a = ap entry_rank e in omega arith;
 }
 
 -- the row that was found
 pub owned : (P : Type 0) (e : Entry) (o : Option Row) (r : Row) → o ≡ Some r → MatchOption o P (λ x. e ≡ row_of x) → e ≡ row_of r
 owned P e o r p h = subst (λ z. MatchOption z P (λ x. e ≡ row_of x)) p h
-
-pub not-owned : (P : Type 0) (e : Entry) (o : Option Row) → o ≡ None → MatchOption o P (λ x. e ≡ row_of x) → P
-not-owned P e o p h = subst (λ z. MatchOption z P (λ x. e ≡ row_of x)) p h

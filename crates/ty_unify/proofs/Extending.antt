@@ -66,7 +66,3 @@ extends-loose m ks us t x = record {
   fields = x.fields;
   further = λ i l u a n. absurd (false≢true i);
 }
-
--- the same row, said otherwise
-pub extends-same : (m : ℕ → Bool) (t : Typ) (d e : Bool) (ks js : List Label) (us vs : Typs) → d ≡ e → ks ≡ js → us ≡ vs → Extends m d ks us t → Extends m e js vs t
-extends-same m t d e ks js us vs p q r x = subst (λ y. Extends m y js vs t) p (subst (λ y. Extends m d y vs t) q (subst (λ y. Extends m d ks y t) r x))

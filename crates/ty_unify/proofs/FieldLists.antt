@@ -171,21 +171,11 @@ module _ (ls : List Label) (ts : List Ty) (i : ℕ) (x : Label) (t : Ty) (lt : i
         admit m f c b l u ne (inl y) = c l u y ne
         admit m f c b l u ne (inr y) = ap (λ z. admits m (sub f z)) y.1 ∙ b
 
-pub fields-begin : (old : List Task) (ks : List Label) (us : Typs) → FieldsMeet old old [] none ks us
-fields-begin old ks us = record {
-  same = λ m f. (λ h. (h, λ l t u a b. absurd a), λ h. h.0);
-  forced = λ p h c. h;
-  within = λ n h a b. h;
 }
 
 pub fields-end : (old now : List Task) (ls : List Label) (ts : List Ty) (ks : List Label) (us : Typs) (i : ℕ) → i ≡ length ls → length ls ≡ length ts → FieldsMeet old now (take i ls) (all (take i ts)) ks us → FieldsMeet old now ls (all ts) ks us
 fields-end old now ls ts ks us i e n a = subst (λ z. FieldsMeet old now z (all ts) ks us) (ap (λ k. take k ls) e ∙ take-whole ls) (subst (λ z. FieldsMeet old now (take i ls) (all z) ks us) (ap (λ k. take k ts) (e ∙ n) ∙ take-whole ts) a)
 
-pub others-begin : (d : Bool) (old : List Task) (ks : List Label) → OthersAdmit d old old [] none ks
-others-begin d old ks = record {
-  same = λ m f. (λ h. (h, λ q l t a b. absurd a), λ h. h.0);
-  forced = λ p h c. h;
-  within = λ n h a. h;
 }
 
 pub others-end : (d : Bool) (old now : List Task) (ls : List Label) (ts : List Ty) (ks : List Label) (i : ℕ) → i ≡ length ls → length ls ≡ length ts → OthersAdmit d old now (take i ls) (all (take i ts)) ks → OthersAdmit d old now ls (all ts) ks

@@ -65,14 +65,6 @@ pub record EqualLeft (old now : List Task) (ts us : Typs) (l r : List Ty) : Type
   pub within : (n : ℕ) → AreWithin n old → are_below n ts ≡ true → are_below n us ≡ true → (AreWithin n now) × (are_below n (all l) ≡ true) × (are_below n (all r) ≡ true)
   pub burden_is : (w : ℕ → ℕ) → burdens w now + (weights w (all l) + weights w (all r)) ≡ burdens w old + (weights w ts + weights w us)
 
-pub equal-begins : (old : List Task) (l r : List Ty) → length l ≡ length r → EqualLeft old old (all l) (all r) l r
-equal-begins old l r n = record {
-  lengths = n;
-  same = λ m f. (λ h. h, λ h. h);
-  forced = λ p h a e. a;
-  beside = λ t u h. h;
-  within = λ n a b c. (a, b, c);
-  burden_is = λ w. refl;
 }
 
 pub equal-next : (old now : List Task) (ts us : Typs) (l r : List Ty) (t u : Ty) → EqualLeft old now ts us (l ++ t ∷ []) (r ++ u ∷ []) → length l ≡ length r → EqualLeft old (now ++ Equal t u ∷ []) ts us l r
@@ -113,13 +105,6 @@ pub record AdmitLeft (old now : List Task) (ts : Typs) (l : List Ty) : Type 0 wh
   pub within : (n : ℕ) → AreWithin n old → are_below n ts ≡ true → (AreWithin n now) × (are_below n (all l) ≡ true)
   pub burden_is : (w : ℕ → ℕ) → burdens w now + weights w (all l) ≡ burdens w old + weights w ts
 
-pub admit-begins : (old : List Task) (l : List Ty) → AdmitLeft old old (all l) l
-admit-begins old l = record {
-  same = λ m f. (λ h. h, λ h. h);
-  forced = λ p a e. a;
-  beside = λ t u h. h;
-  within = λ n a b. (a, b);
-  burden_is = λ w. refl;
 }
 
 pub admit-next : (old now : List Task) (ts : Typs) (l : List Ty) (t : Ty) → AdmitLeft old now ts (l ++ t ∷ []) → AdmitLeft old (now ++ Admit Mark.Equality t ∷ []) ts l

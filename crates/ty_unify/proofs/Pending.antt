@@ -13,9 +13,6 @@ or-assoc : (a b c : Bool) → (a || (b || c)) ≡ ((a || b) || c)
 or-assoc true b c = refl
 or-assoc false b c = refl
 
-or-false : (a : Bool) → a ≡ (false || a)
-or-false a = refl
-
 or-none : (a : Bool) → (a || false) ≡ a
 or-none true = refl
 or-none false = refl
@@ -82,9 +79,6 @@ adds-inner old new ts e b p q a = subst (Adds old new) (sym (ap inner p ∙ q)) 
 
 pub pend-one : (v : ℕ) (f : ℕ → Typ) (empty l : List (Bor Ty)) (r : Bor Ty) → empty ≡ [] → l ≡ empty ++ r ∷ [] → are_in v (subs f (pend l)) ≡ is_in v (sub f (type_of r.now))
 pend-one v f empty l r p e = ap (λ x. are_in v (subs f (pend x))) e ∙ in-push v f empty r ∙ ap (λ x. are_in v (subs f (pend x)) || is_in v (sub f (type_of r.now))) p
-
-pub pend-all : (v : ℕ) (f : ℕ → Typ) (empty l : List (Bor Ty)) (ts : Typs) → empty ≡ [] → Adds empty l ts → are_in v (subs f (pend l)) ≡ are_in v (subs f ts)
-pend-all v f empty l ts p a = a.in_is v f ∙ ap (λ x. are_in v (subs f (pend x)) || are_in v (subs f ts)) p
 
 -- what was found, of the same types
 pub found-as : (R : (ℕ → Typ) → Type 0) (X Y : (ℕ → Typ) → Bool) (r : Result Bool NoMemory) → ((f : ℕ → Typ) → X f ≡ Y f) → IfOk r (λ found. (f : ℕ → Typ) → R f → found ≡ X f) → IfOk r (λ found. (f : ℕ → Typ) → R f → found ≡ Y f)

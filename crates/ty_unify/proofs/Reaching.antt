@@ -91,12 +91,6 @@ reaching-along s v ts seen l l' h g r = record {
   found = λ f k e. r.found f k (g f k e);
 }
 
-pub reaching-begins : (s : ℕ → Entry) (v : ℕ) (seen : List Bool) (l : List (Bor Ty)) → seen ≡ [] → Reaching s v (pend l) seen l
-reaching-begins s v seen l e = subst (λ z. Reaching s v (pend l) z l) (sym e) (record {
-  start = λ y h. Covered.waiting h;
-  through = λ x h y q. absurd (false≢true h);
-  apart = λ x h. absurd (false≢true h);
-  found = λ f k h. h;
 })
 
 -- what a variable stands for weighs no more than the variable

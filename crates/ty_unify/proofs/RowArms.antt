@@ -57,15 +57,6 @@ row-parts n s w old new x ks us t p q pr b h a =
       fit = λ r. tt;
     }
 
-pub row-further : (n : ℕ) (s : ℕ → Entry) (w : ℕ → ℕ) (old : List Task) (x : ℕ) (ks : List Label) (us : Typs) (t : Ty) → type_of t ≡ var x → s x ≡ row false ks us → Steps n s w old (Admit Mark.Equality t) old (Some (Further x))
-row-further n s w old x ks us t p q = steps-write n s w old (Admit Mark.Equality t) (Further x)
-    (λ m f k. (λ a. subst (λ z. admits m (sub f z) ≡ true) p a, λ a. subst (λ z. admits m (sub f z) ≡ true) (sym p) a))
-    (λ o i a. subst (Asks o Mark.Equality) p a)
-    (λ a. record {
-      in_range = ltb-true x n (subst (λ z. is_below n z ≡ true) p a.1);
-      loose = subst IsLoose (sym q) tt;
-    })
-
 -- the flag of a row
 pub row-flag : (b : Entry) (d e : Bool) (ks : List Label) (us : Typs) → b ≡ row d ks us → d ≡ e → b ≡ row e ks us
 row-flag b d e ks us p q = p ∙ ap (λ y. row y ks us) q
@@ -75,9 +66,6 @@ pub row-parts-copied : (n : ℕ) (s : ℕ → Entry) (w : ℕ → ℕ) (old new 
 row-parts-copied n s w old new x r ts t p q e inh bel ws c a =
     let i : s x ≡ row true r.labels.items (types_of r) = row-flag (s x) r.equality true r.labels.items (types_of r) q e in
     row-parts n s w old new x r.labels.items (types_of r) t p i (subst InhabitedAt i (inh x)) (subst (BelowAt n) i (bel x)) (subst (WeighsAt w (w x)) i (ws x)) (subst (λ z. AdmitParts old new (typs_of z)) c a)
-
-pub any-steps : (n : ℕ) (s : ℕ → Entry) (w : ℕ → ℕ) (old : List Task) (t : Ty) → Steps n s w old (Admit Mark.Any t) old None
-any-steps n s w old t = steps-nothing n s w old (Admit Mark.Any t) (λ m f k. tt)
 
 -- whatever the tasks are, so for these
 pub for-tasks : (n : ℕ) (s : ℕ → Entry) (w : ℕ → ℕ) (x : ℕ) (k : Mark) (tasks : List Task) (r : Result (Option Write) UnifyRefused) → IfOk r (λ z. (l : List Task) (t : Ty) → type_of t ≡ var x → Steps n s w l (Admit k t) l z) → IfOk r (λ z. (t : Ty) → type_of t ≡ var x → Steps n s w tasks (Admit k t) tasks z)

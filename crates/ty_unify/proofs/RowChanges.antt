@@ -163,9 +163,6 @@ module _ (l : List Slot) (tasks now : List Task) (y : ℕ) (base r joined : Row)
         lower = omega arith;
       }
 
-  pub may-extend : ((f : ℕ → Typ) → Resolves f (aside y (look l)) → false ≡ are_in y (subs f (types_of joined))) → MayPut (length l) (look l) y (row_of joined)
-  may-extend h = record { in_range = lt; below = joined-fit.below; inhabited = joined-fit.proper; avoids = λ f i. sym (h f i) }
-
   pub extend-circular : IsAcyclic (look l) → AreInhabited (look l) → ((f : ℕ → Typ) → Resolves f (aside y (look l)) → true ≡ are_in y (subs f (types_of joined))) → RefusesRow (look l) r (var y) Circular
   extend-circular a inh h =
       let c = circular-row (look l) a inh y joined.labels.items (types_of joined) joined-fit.proper h in (

@@ -42,18 +42,12 @@ within-as a b ls p h l k = h l (subst (Among l) (sym p) k)
 pub refuses-as : {R : Type 0} → (r : Row) (t u : Typ) (x : Result R UnifyRefused) → t ≡ u → IfErr x (λ e. (s : ℕ → Entry) → RefusesRow s r t e) → IfErr x (λ e. (s : ℕ → Entry) → RefusesRow s r u e)
 refuses-as r t u x p h = subst (λ z. IfErr x (λ e. (s : ℕ → Entry) → RefusesRow s r z e)) p h
 
-pub closes-as : {R : Type 0} → (o n : List Task) (r : Row) (t u : Typ) (x : Result R UnifyRefused) → t ≡ u → IfOk x (λ _. Closes o n r t) → IfOk x (λ _. Closes o n r u)
-closes-as o n r t u x p h = subst (λ z. IfOk x (λ _. Closes o n r z)) p h
-
 pub refuses-at : {R : Type 0} → (s : ℕ → Entry) (r : Row) (t u : Typ) (x : Result R UnifyRefused) → t ≡ u → IfErr x (λ e. (s : ℕ → Entry) → RefusesRow s r t e) → IfErr x (RefusesRow s r u)
 refuses-at s r t u (Ok x) p h = h
 refuses-at s r t u (Err e) p h = subst (λ z. RefusesRow s r z e) p (h s)
 
 pub refuses-type : {R : Type 0} → (s : ℕ → Entry) (r : Row) (t u : Typ) (x : Result R UnifyRefused) → t ≡ u → IfErr x (RefusesRow s r t) → IfErr x (RefusesRow s r u)
 refuses-type s r t u x p h = subst (λ z. IfErr x (RefusesRow s r z)) p h
-
-pub demands-type : {R : Type 0} → (l k : List Slot) (o n : List Task) (r : Row) (t u : Typ) (x : Result R UnifyRefused) → t ≡ u → IfOk x (λ _. Demands l k o n r t) → IfOk x (λ _. Demands l k o n r u)
-demands-type l k o n r t u x p h = subst (λ z. IfOk x (λ _. Demands l k o n r z)) p h
 
 pub closes-demands : {R : Type 0} → (l : List Slot) (o n : List Task) (r : Row) (t u : Typ) (x : Result R UnifyRefused) → IsFitRow (length l) r → is_below (length l) u ≡ true → t ≡ u → IfOk x (λ _. Closes o n r t) → IfOk x (λ _. Demands l l o n r u)
 closes-demands l o n r t u (Ok x) f b p h = close-demands l o n r u f b (subst (Closes o n r) p h)

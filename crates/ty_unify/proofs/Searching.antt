@@ -51,15 +51,6 @@ pub nodes-positive : (t : Typ) → 0 < nodes t
 nodes-positive (var v) = omega arith
 nodes-positive (con c ts) = omega arith
 
--- something pending has a node
-pub pending-nodes : (f : ℕ → Typ) (l : List (Bor Ty)) → 0 < length l → 0 < all_nodes (subs f (pend l))
-pending-nodes f [] h = absurd (omega arith)
-pending-nodes f (x ∷ l) h = let p = nodes-positive (sub f (type_of x.now)) in omega arith
-
-pub none-nodes : (f : ℕ → Typ) (l : List (Bor Ty)) → length l ≡ 0 → all_nodes (subs f (pend l)) ≡ 0
-none-nodes f [] h = refl
-none-nodes f (x ∷ l) h = cc
-
 -- all that counts is whether something is left
 pub small-is : (f : ℕ → Typ) (l : List (Bor Ty)) (k total : ℕ) → k ≡ node_limit → (b : Bool) → IsTrue b ↔ (length l ≡ 0) → k + all_nodes (subs f (pend l)) ≡ total → IsTrue b ↔ (total ≤ node_limit)
 small-is f [] k total e b p h = (λ i. omega arith, λ i. p.1 refl)
