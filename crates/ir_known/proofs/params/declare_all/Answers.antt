@@ -1,5 +1,5 @@
-use Rattle.std.proofs.Common.{◌-◌, subst, arith}
-use Rattle.ir_known.proofs.Declaring.{Declared, one-declared, not-declared, the-next, not-yes}
+use Rattle.std.proofs.Common.{◌-◌, sym, ◌∙◌, subst, arith}
+use Rattle.ir_known.proofs.Declaring.{Declared, one-declared, not-declared, not-declarable, the-next, not-yes}
 use Rattle.ir_known.proofs.params.declare_all.Goals as goal
 
 pub offset_bounds-parameters-left : goal.offset_bounds-parameters-left
@@ -20,4 +20,10 @@ loop-left-preserved c =
     let t = c.loop-left-test.true in
     let w = c.loop-left.invariant.within in
     let d = subst (Declared c.args.scope.now c.loop-left.scope c.args.parameters.now) (the-next c.loop-left.left t) c.loop-left.invariant in
-    one-declared c.args.scope.now c.loop-left.scope c.args.parameters.now (c.loop-left.left - 1) _ (omega arith) d (c.in_ok-new.ensures.new.0 c.if-not-new.false) c.push.new.self (c.in_ok-new.ensures.pushed c.if-not-new.false)
+    one-declared c.args.scope.now c.loop-left.scope c.args.parameters.now (c.loop-left.left - 1) _ (omega arith) d (sym c.is_for_declaration-declarable.ensures ∙ c.if-not-declarable.false) (c.in_ok-new.ensures.new.0 c.if-not-new.false) c.push.new.self (c.in_ok-new.ensures.pushed c.if-not-new.false)
+
+pub returns-then-not-declarable-clause-new : goal.returns-then-not-declarable-clause-new
+returns-then-not-declarable-clause-new c =
+    let t = c.loop-left-test.true in
+    let w = c.loop-left.invariant.within in
+    ((λ f. absurd (cc)), (λ n. absurd (not-declarable c.args.scope.now c.args.parameters.now (c.loop-left.left - 1) _ (omega arith) (sym c.is_for_declaration-declarable.ensures ∙ c.if-not-declarable.true) n)))
