@@ -84,8 +84,6 @@ pub record Declared (rows all : List (ℕ × Mark)) (qs : List Quantified) (n : 
   pub new : are_new (drop n qs) (marks_of rows) ≡ true
   pub declared : marks_of all ≡ drop n qs ++ marks_of rows
 
-})
-
 pub one-declared : (rows all : List (ℕ × Mark)) (qs : List Quantified) (n : ℕ) (d : Quantified) → n < length qs → Declared rows all qs (suc n) → lookup (nat_eq (slice_index_or qs n d).variable) all ≡ None
     → (new : List (ℕ × Mark)) → new ≡ ((slice_index_or qs n d).variable, (slice_index_or qs n d).mark) ∷ all → Declared rows new qs n
 one-declared rows all qs n d lt f none new is = record {
