@@ -5,3 +5,4 @@ pub mod Leads
 pub mod Steps
 pub mod Stands
 pub mod Compares
+mod Examples
