@@ -1,5 +1,5 @@
-use Rattle.equality_code.proofs.Compares.{answers}
-use Rattle.equality_code.proofs.law.equal.Goals as goal
+use Rattle.machine_routines.proofs.Compares.{answers}
+use Rattle.machine_routines.proofs.law.equal.Goals as goal
 
 pub returns : goal.returns
 returns c = λ shapes start most code fits stands lay f behind back frame above v u t q a b l r m free show low hv hu e.

@@ -15,18 +15,18 @@ use Rattle.std.specs.Ordering.{int_eq}
 use Rattle.std.proofs.lemmas.Bool.Decides.{Decides-int_eq}
 use Rattle.ir_code.specs.Words.{word_of}
 use Rattle.mlc_prims.specs.Table.{literal_eq}
-use Rattle.equality_code.proofs.IntWords.{words-apart}
+use Rattle.machine_routines.proofs.IntWords.{words-apart}
 use Rattle.first_values.specs.Values.{Value, literal, cell, reference, name, packet, Values, no_values, value}
 use Rattle.first_values.specs.Equality.{Shape, numbers, texts, cells, references, opaque, equal_at, equal_parts, unless, is_text, unless_different}
-use Rattle.equality_code.specs.Layout.{Word, stays, is_reference, nth_at, TextAt, IsLiteral, Is, AreAt, Shows}
-use Rattle.equality_code.specs.EqualCode.{Way, by_word, as_last, as_inner, is_word, way_of, way_at, way_size, offset_of, place, way_code, parts_code, word_code, shape_code, equal_code}
-use Rattle.equality_code.specs.Runs.{HasAt, Frame, inside, returned, Leads, RunsOut}
-use Rattle.equality_code.specs.EqualLaw.{words, Answers, returns, exhausts}
-use Rattle.equality_code.proofs.Seams.{get_left, get_right, get_within}
-use Rattle.equality_code.proofs.LayoutLemmas.{nth_apart, shows_more, texts_compare}
-use Rattle.equality_code.proofs.Leads.{stays_here, trans, out_after, step_to, no_heap}
-use Rattle.equality_code.proofs.Steps.{does_li, does_mov, does_eq, does_ld, does_scmp, does_jmp, does_brz_zero, does_brz, does_switch, does_ret, does_alloc, no_words, does_st}
-use Rattle.equality_code.proofs.Stands.{Goes as TagGoes, to_parts, to_start, cell_goes, rest_stands, shape_stands}
+use Rattle.machine_routines.specs.Layout.{Word, stays, is_reference, nth_at, TextAt, IsLiteral, Is, AreAt, Shows}
+use Rattle.machine_routines.specs.EqualCode.{Way, by_word, as_last, as_inner, is_word, way_of, way_at, way_size, offset_of, place, way_code, parts_code, word_code, shape_code, equal_code}
+use Rattle.machine_routines.specs.Runs.{HasAt, Frame, inside, returned, Leads, RunsOut}
+use Rattle.machine_routines.specs.EqualLaw.{words, Answers, returns, exhausts}
+use Rattle.machine_routines.proofs.Seams.{get_left, get_right, get_within}
+use Rattle.machine_routines.proofs.LayoutLemmas.{nth_apart, shows_more, texts_compare}
+use Rattle.machine_routines.proofs.Leads.{stays_here, trans, out_after, step_to, no_heap}
+use Rattle.machine_routines.proofs.Steps.{does_li, does_mov, does_eq, does_ld, does_scmp, does_jmp, does_brz_zero, does_brz, does_switch, does_ret, does_alloc, no_words, does_st}
+use Rattle.machine_routines.proofs.Stands.{Goes as TagGoes, to_parts, to_start, cell_goes, rest_stands, shape_stands}
 
 -- both of two answers
 and_split : (x y : Option Bool) (q : Bool) → unless_different x y ≡ Some q → ((x ≡ Some false) × (q ≡ false)) ⊎ ((x ≡ Some true) × (y ≡ Some q))

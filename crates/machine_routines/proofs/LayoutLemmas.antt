@@ -10,8 +10,8 @@ use Rattle.std.proofs.lemmas.Map.Text.{is_eq-slice_cmp}
 use Rattle.std.proofs.lemmas.Bool.{lt-ltb, le-leb}
 use Rattle.ir_code.specs.Machine.{string_at, has_string}
 use Rattle.ir_code.specs.Words.{order_code}
-use Rattle.equality_code.specs.Layout.{Word, after_one, nth_step, nth_at, BytesAt, TextAt, Shows}
-use Rattle.equality_code.proofs.Seams.{get_left, get_within, index_of}
+use Rattle.machine_routines.specs.Layout.{Word, after_one, nth_step, nth_at, BytesAt, TextAt, Shows}
+use Rattle.machine_routines.proofs.Seams.{get_left, get_within, index_of}
 
 pub after_is : (o : Option ℕ) (x : ℕ) → after_one o ≡ Some x → (y : ℕ) × (o ≡ Some y) × (x ≡ suc y)
 after_is None x e = absurd (cc)

@@ -5,9 +5,9 @@ use Rattle.ir_code.specs.Words.{one_if}
 use Rattle.ir_code.specs.Machine.{State}
 use Rattle.first_values.specs.Values.{Value}
 use Rattle.first_values.specs.Equality.{Shape, opaque, equal_at}
-use Rattle.equality_code.specs.Layout.{Word, Is, Shows}
-use Rattle.equality_code.specs.EqualCode.{offset_of, place, equal_code}
-use Rattle.equality_code.specs.Runs.{HasAt, Frame, inside, returned, Leads, RunsOut}
+use Rattle.machine_routines.specs.Layout.{Word, Is, Shows}
+use Rattle.machine_routines.specs.EqualCode.{offset_of, place, equal_code}
+use Rattle.machine_routines.specs.Runs.{HasAt, Frame, inside, returned, Leads, RunsOut}
 
 -- the words of its frame
 abbrev pub words : ℕ → ℕ → List ℕ → ℕ → ℕ → ℕ → ℕ → ℕ → List ℕ

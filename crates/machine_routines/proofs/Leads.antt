@@ -6,7 +6,7 @@ use Rattle.ir_code.specs.declared.halt.Halt.{Halt}
 use Rattle.ir_code.specs.declared.halt.Halt.TheVariants.{NoHeap}
 use Rattle.ir_code.specs.Machine.{State, Goes, Halts, act, run}
 use Rattle.ir_code.specs.Laws.{NextLaws}
-use Rattle.equality_code.specs.Runs.{Leads, CutBy, RunsOut}
+use Rattle.machine_routines.specs.Runs.{Leads, CutBy, RunsOut}
 
 module _ (code : List Instr) where
   abbrev pub stays_here : (s : State) → Leads code s s

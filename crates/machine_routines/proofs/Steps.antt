@@ -11,10 +11,10 @@ use Rattle.ir_code.specs.declared.halt.Halt.TheVariants.{NoHeap, NoStack}
 use Rattle.ir_code.specs.Words.{same_word, order_code}
 use Rattle.ir_code.specs.Machine.{State, Goes, Halts, act, string_at, check, next, put}
 use Rattle.ir_code.specs.Laws.{HasSlot, Holds, ControlLaws, MemoryLaws, ArithmeticLaws, Total}
-use Rattle.equality_code.specs.Layout.{Word, TextAt, Shows}
-use Rattle.equality_code.specs.Runs.{Frame, inside, returned}
-use Rattle.equality_code.proofs.Seams.{get_left, get_right, set_right, get_within, index_of}
-use Rattle.equality_code.proofs.LayoutLemmas.{text_string}
+use Rattle.machine_routines.specs.Layout.{Word, TextAt, Shows}
+use Rattle.machine_routines.specs.Runs.{Frame, inside, returned}
+use Rattle.machine_routines.proofs.Seams.{get_left, get_right, set_right, get_within, index_of}
+use Rattle.machine_routines.proofs.LayoutLemmas.{text_string}
 
 module _ (C : ControlLaws) (M : MemoryLaws) (A : ArithmeticLaws) (f : Frame) (pc : ℕ) (ws m free : List ℕ) where
   abbrev s : State

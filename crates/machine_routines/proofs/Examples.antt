@@ -1,12 +1,13 @@
 -- Two lists of integers and two pairs with texts, compared by the machine.
-use Rattle.std.specs.Prelude.{◌≡◌, refl, ℕ, List, [], ◌∷◌, Some}
+use Rattle.std.specs.Prelude.{◌≡◌, refl, ℕ, List, [], ◌∷◌, Some, true}
 use Rattle.ir_code.specs.declared.instr.Instr.{Instr}
 use Rattle.ir_code.specs.declared.halt.Halt.TheVariants.{NoHeap}
 use Rattle.ir_code.specs.Machine.{State, run}
 use Rattle.first_values.specs.Equality.{Shape, numbers, texts, cells}
-use Rattle.equality_code.specs.EqualCode.{offset_of, place, equal_code}
-use Rattle.equality_code.specs.EqualLaw.{words}
-use Rattle.equality_code.specs.Runs.{Frame, inside}
+use Rattle.machine_routines.specs.EqualCode.{offset_of, place, equal_code}
+use Rattle.machine_routines.specs.EqualLaw.{words}
+use Rattle.machine_routines.specs.FindCode.{Target, way_of, way_code}
+use Rattle.machine_routines.specs.Runs.{Frame, inside}
 
 -- integers, lists of them, texts, pairs of a text and a list
 abbrev shapes : List Shape
@@ -55,3 +56,22 @@ other_text = refl
 no_room : (run code 100 (compare 3 16 19 (0 ∷ 0 ∷ 0 ∷ [])) []).halt ≡ Some NoHeap
 unfolding run
 no_room = refl
+
+-- the tags 3, 7 and 9 by a search that has tests, and 0 and 2 by a table, with the tag in slot 0
+abbrev sparse : List Target
+sparse = record { tag = 3; place = 903 } ∷ record { tag = 7; place = 907 } ∷ record { tag = 9; place = 909 } ∷ []
+
+abbrev dense : List Target
+dense = record { tag = 0; place = 900 } ∷ record { tag = 2; place = 902 } ∷ []
+
+-- where it goes for a tag, or to 999
+abbrev found : List Target → ℕ → ℕ → ℕ
+found set n t = (run (way_code set 0 0 1 999 (way_of true 999 n set)) 40 (inside frame 0 (t ∷ 0 ∷ []) memory []) []).state.pc
+
+searched : (found sparse 10 3 ∷ found sparse 10 7 ∷ found sparse 10 9 ∷ found sparse 10 8 ∷ []) ≡ 903 ∷ 907 ∷ 909 ∷ 999 ∷ []
+unfolding run
+searched = refl
+
+tabled : (found dense 3 0 ∷ found dense 3 1 ∷ found dense 3 2 ∷ found dense 3 7 ∷ []) ≡ 900 ∷ 999 ∷ 902 ∷ 999 ∷ []
+unfolding run
+tabled = refl

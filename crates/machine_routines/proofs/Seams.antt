@@ -2,7 +2,7 @@
 use Rattle.std.proofs.Common.{◌≡◌, ℕ, zero, suc, ◌+◌, ◌<◌, ◌≤◌, List, [], ◌∷◌, ◌++◌, length, Some, refl, ap, subst, arith, append_assoc, length-append}
 use Rattle.std.specs.Prelude.{slice_get, slice_set, slice_index}
 use Rattle.ir_code.specs.declared.instr.Instr.{Instr}
-use Rattle.equality_code.specs.Runs.{HasAt}
+use Rattle.machine_routines.specs.Runs.{HasAt}
 
 pub get_left : {A : Type 0} (xs ys : List A) (i : ℕ) (a : A) → slice_get xs i ≡ Some a → slice_get (xs ++ ys) i ≡ Some a
 get_left [] ys i a e = absurd (cc)

@@ -5,4 +5,6 @@ pub mod Leads
 pub mod Steps
 pub mod Stands
 pub mod Compares
+pub mod Finds
+pub mod Sizes
 mod Examples

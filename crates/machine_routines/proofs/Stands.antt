@@ -4,9 +4,9 @@ use Rattle.std.specs.Prelude.{slice_get, min}
 use Rattle.ir_code.specs.declared.instr.Instr.{Instr}
 use Rattle.ir_code.specs.declared.instr.Instr.TheVariants.{Jmp}
 use Rattle.first_values.specs.Equality.{Shape, numbers, texts, cells, references, opaque}
-use Rattle.equality_code.specs.EqualCode.{Way, by_word, as_last, as_inner, way_size, way_at, parts_size, tags_size, shape_size, offset_from, offset_of, place, way_code, parts_code, tag_table, tags_code, shape_code, shapes_code, equal_code}
-use Rattle.equality_code.specs.Runs.{HasAt}
-use Rattle.equality_code.proofs.Seams.{has_front, has_back}
+use Rattle.machine_routines.specs.EqualCode.{Way, by_word, as_last, as_inner, way_size, way_at, parts_size, tags_size, shape_size, offset_from, offset_of, place, way_code, parts_code, tag_table, tags_code, shape_code, shapes_code, equal_code}
+use Rattle.machine_routines.specs.Runs.{HasAt}
+use Rattle.machine_routines.proofs.Seams.{has_front, has_back}
 
 module _ (shapes : List Shape) (start most : ℕ) where
   way_length : (w : Way) (o j t : ℕ) → length (way_code shapes start most w o j t) ≡ way_size w
