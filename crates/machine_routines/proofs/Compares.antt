@@ -95,12 +95,15 @@ pub record AreTexts (lay : List Word) (x y : ℕ) (q : Bool) : Type 0 where
   pub is_right : TextAt lay right y
   pub is : bytes_eq left right ≡ q
 
-text_equal : (shapes : List Shape) (lay : List Word) (v u : Value) (x y : ℕ) (q : Bool) → Is lay v x → Is lay u y → equal_at shapes texts v u ≡ Some q → AreTexts lay x y q
+text_equal : (shapes : List Shape) (lay : List Word) (v u : Value) (x y : ℕ) (q : Bool) → Is lay v x → Is lay u y → equal_at shapes texts v u ≡ Some q
+    → AreTexts lay x y q
 text_equal shapes lay (literal (string s)) (literal (string t)) x y q i j e = record { left = s; right = t; is_left = i; is_right = j; is = cc }
 text_equal shapes lay (literal c) (literal (truth b)) x y q i j e = absurd j
 text_equal shapes lay v u x y q i j e = absurd (cc)
 
-module _ (C : ControlLaws) (M : MemoryLaws) (A : ArithmeticLaws) (N : NextLaws) (shapes : List Shape) (start most : ℕ) (code : List Instr) (fits : length code ≤ most) (stands : HasAt code start (equal_code shapes start most)) (lay : List Word) (f : Frame) (behind : 0 < f.base) (back frame : ℕ) (above : List ℕ) where
+module _ (C : ControlLaws) (M : MemoryLaws) (A : ArithmeticLaws) (N : NextLaws) (shapes : List Shape) (start most : ℕ) (code : List Instr)
+    (fits : length code ≤ most) (stands : HasAt code start (equal_code shapes start most)) (lay : List Word) (f : Frame) (behind : 0 < f.base)
+    (back frame : ℕ) (above : List ℕ) where
   abbrev there : ℕ → ℕ
   there o = place shapes start most o
 
@@ -123,22 +126,28 @@ module _ (C : ControlLaws) (M : MemoryLaws) (A : ArithmeticLaws) (N : NextLaws) 
 
   -- more words were in use
   grown : {s : State} {p : ℕ} {q : Bool} (m more : List ℕ) → Compared s (m ++ more) p q → Compared s m p q
-  grown {s} {p} m more (same a b l r new free x) = same a b l r (more ++ new) free (subst (λ z. Leads code s (at start a b p l r z free)) (append_assoc m more new) x)
-  grown {s} {p} m more (differs b p' l r new free x) = differs b p' l r (more ++ new) free (subst (λ z. Leads code s (at (start + 7) 0 b p' l r z free)) (append_assoc m more new) x)
+  grown {s} {p} m more (same a b l r new free x) = same a b l r (more ++ new) free
+      (subst (λ z. Leads code s (at start a b p l r z free)) (append_assoc m more new) x)
+  grown {s} {p} m more (differs b p' l r new free x) = differs b p' l r (more ++ new) free
+      (subst (λ z. Leads code s (at (start + 7) 0 b p' l r z free)) (append_assoc m more new) x)
   grown m more (runs_out q x) = runs_out q x
 
   at_start : (a b p l r : ℕ) (m free : List ℕ) → Compared (at start a b p l r m free) m p true
-  at_start a b p l r m free = same a b l r [] free (subst (λ z. Leads code (at start a b p l r m free) (at start a b p l r z free)) (sym (append-nil m)) (stays_here code _))
+  at_start a b p l r m free = same a b l r [] free (subst (λ z. Leads code (at start a b p l r m free) (at start a b p l r z free)) (sym (append-nil m))
+      (stays_here code _))
 
   at_differ : (b p' l r : ℕ) (m free : List ℕ) (p : ℕ) → Compared (at (start + 7) 0 b p' l r m free) m p false
-  at_differ b p' l r m free p = differs b p' l r [] free (subst (λ z. Leads code (at (start + 7) 0 b p' l r m free) (at (start + 7) 0 b p' l r z free)) (sym (append-nil m)) (stays_here code _))
+  at_differ b p' l r m free p = differs b p' l r [] free (subst (λ z. Leads code (at (start + 7) 0 b p' l r m free) (at (start + 7) 0 b p' l r z free))
+      (sym (append-nil m)) (stays_here code _))
 
   -- a place reached in another way of counting
-  put_at : {m : List ℕ} {p : ℕ} {q : Bool} (pc pc' a b p' l r : ℕ) (m' free : List ℕ) → pc ≡ pc' → Compared (at pc' a b p' l r m' free) m p q → Compared (at pc a b p' l r m' free) m p q
+  put_at : {m : List ℕ} {p : ℕ} {q : Bool} (pc pc' a b p' l r : ℕ) (m' free : List ℕ) → pc ≡ pc' → Compared (at pc' a b p' l r m' free) m p q
+      → Compared (at pc a b p' l r m' free) m p q
   put_at {m} {p} {q} pc pc' a b p' l r m' free e x = subst (λ z. Compared (at z a b p' l r m' free) m p q) (sym e) x
 
   -- after a test of two words: on where they are the same, else to the end
-  tested : (x y : ℕ) (c q : Bool) (pc b p l r : ℕ) (m free : List ℕ) → nat_eq x y ≡ c → slice_get code pc ≡ Some (Brz 2 (start + 7)) → (c ≡ false → q ≡ false) → (c ≡ true → Compared (at (pc + 1) 1 b p l r m free) m p q) → Compared (at pc (same_word x y) b p l r m free) m p q
+  tested : (x y : ℕ) (c q : Bool) (pc b p l r : ℕ) (m free : List ℕ) → nat_eq x y ≡ c → slice_get code pc ≡ Some (Brz 2 (start + 7)) → (c ≡ false → q ≡ false)
+      → (c ≡ true → Compared (at (pc + 1) 1 b p l r m free) m p q) → Compared (at pc (same_word x y) b p l r m free) m p q
   tested x y true q pc b p l r m free e has unless then =
       subst (λ z. Compared (at pc z b p l r m free) m p q) (sym (one_yes x y e))
       (does (Brz 2 (start + 7)) has (does_brz C M A f pc (words back frame above 1 b p l r) m free 2 (start + 7) 1 refl (omega arith)) (then refl))
@@ -149,26 +158,32 @@ module _ (C : ControlLaws) (M : MemoryLaws) (A : ArithmeticLaws) (N : NextLaws) 
 
   -- what the code of a type does with a value and any other
   abbrev pub Compares : Value → Type 0
-  Compares v = (u : Value) (t : ℕ) (q : Bool) (a b p l r : ℕ) (m free : List ℕ) → Shows lay m → f.base ≤ length m → Is lay v l → Is lay u r → equal_at shapes (get_or shapes t opaque) v u ≡ Some q → Compared (at (there (offset_of shapes t)) a b p l r m free) m p q
+  Compares v = (u : Value) (t : ℕ) (q : Bool) (a b p l r : ℕ) (m free : List ℕ) → Shows lay m → f.base ≤ length m → Is lay v l → Is lay u r
+      → equal_at shapes (get_or shapes t opaque) v u ≡ Some q → Compared (at (there (offset_of shapes t)) a b p l r m free) m p q
 
   -- what the code of the parts of a cell from the j-th on does
   abbrev pub Follows : Values → Type 0
-  Follows vs = (us : Values) (ts : List ℕ) (q : Bool) (o j a b p l r : ℕ) (m free : List ℕ) → HasAt code (there o) (parts_code shapes start most o j ts) → Shows lay m → f.base ≤ length m → AreAt lay vs (l + j) → AreAt lay us (r + j) → equal_parts shapes ts vs us ≡ Some q → Compared (at (there o) a b p l r m free) m p q
+  Follows vs = (us : Values) (ts : List ℕ) (q : Bool) (o j a b p l r : ℕ) (m free : List ℕ) → HasAt code (there o) (parts_code shapes start most o j ts)
+      → Shows lay m → f.base ≤ length m → AreAt lay vs (l + j) → AreAt lay us (r + j) → equal_parts shapes ts vs us ≡ Some q
+      → Compared (at (there o) a b p l r m free) m p q
 
   -- Words and texts.
 
-  words_compared : (x y : ℕ) (q : Bool) (pc a b p : ℕ) (m free : List ℕ) → nat_eq x y ≡ q → HasAt code pc (word_code shapes start most) → Compared (at pc a b p x y m free) m p q
+  words_compared : (x y : ℕ) (q : Bool) (pc a b p : ℕ) (m free : List ℕ) → nat_eq x y ≡ q → HasAt code pc (word_code shapes start most)
+      → Compared (at pc a b p x y m free) m p q
   words_compared x y q pc a b p m free e has =
       does (Eq 2 5 6) has.0 (does_eq C M A f pc (words back frame above a b p x y) m free 2 5 6 x y (omega arith) refl refl)
       (tested x y q q (pc + 1) b p x y m free e has.1.0 (λ g. g)
       (λ g. subst (λ z. Compared (at (pc + 1 + 1) 1 b p x y m free) m p z) (sym g)
       (does (Jmp start) has.1.1.0 (does_jmp C M A f (pc + 1 + 1) (words back frame above 1 b p x y) m free start) (at_start 1 b p x y m free))))
 
-  texts_compared : (x y : ℕ) (q : Bool) (o a b p : ℕ) (m free : List ℕ) → Shows lay m → AreTexts lay x y q → HasAt code (there o) (shape_code shapes start most o texts) → Compared (at (there o) a b p x y m free) m p q
+  texts_compared : (x y : ℕ) (q : Bool) (o a b p : ℕ) (m free : List ℕ) → Shows lay m → AreTexts lay x y q
+      → HasAt code (there o) (shape_code shapes start most o texts) → Compared (at (there o) a b p x y m free) m p q
   texts_compared x y q o a b p m free show t has =
       let pc = there o in
       let c = order_code (slice_cmp nat_cmp t.left t.right) in
-      does (SCmp 2 5 6) has.0 (does_scmp C M A f pc (words back frame above a b p x y) m free lay 2 5 6 x y t.left t.right (omega arith) refl refl show t.is_left t.is_right)
+      does (SCmp 2 5 6) has.0 (does_scmp C M A f pc (words back frame above a b p x y) m free lay 2 5 6 x y t.left t.right (omega arith) refl refl show
+      t.is_left t.is_right)
       (does (Li 3 1) has.1.0 (does_li C M A f (pc + 1) (words back frame above c b p x y) m free 3 1 (omega arith))
       (does (Eq 2 2 3) has.1.1.0 (does_eq C M A f (pc + 1 + 1) (words back frame above c 1 p x y) m free 2 2 3 c 1 (omega arith) refl refl)
       (tested c 1 q q (pc + 1 + 1 + 1) 1 p x y m free (texts_compare t.left t.right ∙ t.is) has.1.1.1.0 (λ g. g)
@@ -183,14 +198,17 @@ module _ (C : ControlLaws) (M : MemoryLaws) (A : ArithmeticLaws) (N : NextLaws) 
   read_tag : (m : List ℕ) (x y : ℕ) → Shows lay m → slice_get lay x ≡ Some (stays y) → slice_get m (x + 0) ≡ Some y
   read_tag m x y show e = let n : x ≡ x + 0 = omega arith in subst (λ z. slice_get m z ≡ Some y) n (show x y e)
 
-  cells_compared : (i j : ℕ) (vs us : Values) → Follows vs → (tags : List (List ℕ)) (q : Bool) (o a b p l r : ℕ) (m free : List ℕ) → Shows lay m → f.base ≤ length m → Is lay (cell i vs) l → Is lay (cell j us) r → HasAt code (there o) (shape_code shapes start most o (cells tags)) → equal_at shapes (cells tags) (cell i vs) (cell j us) ≡ Some q → Compared (at (there o) a b p l r m free) m p q
+  cells_compared : (i j : ℕ) (vs us : Values) → Follows vs → (tags : List (List ℕ)) (q : Bool) (o a b p l r : ℕ) (m free : List ℕ) → Shows lay m
+      → f.base ≤ length m → Is lay (cell i vs) l → Is lay (cell j us) r → HasAt code (there o) (shape_code shapes start most o (cells tags))
+      → equal_at shapes (cells tags) (cell i vs) (cell j us) ≡ Some q → Compared (at (there o) a b p l r m free) m p q
   cells_compared i j vs us go tags q o a b p l r m free show low hl hr has e =
       let pc = there o in
       does (Ld 2 5 0) has.0 (does_ld C M A f pc (words back frame above a b p l r) m free 2 5 0 l i (omega arith) refl (read_tag m l i show hl.0))
       (does (Ld 3 6 0) has.1.0 (does_ld C M A f (pc + 1) (words back frame above i b p l r) m free 3 6 0 r j (omega arith) refl (read_tag m r j show hr.0))
       (does (Eq 2 2 3) has.1.1.0 (does_eq C M A f (pc + 1 + 1) (words back frame above i j p l r) m free 2 2 3 i j (omega arith) refl refl)
       (tested i j (nat_eq i j) q (pc + 1 + 1 + 1) j p l r m free refl has.1.1.1.0 apart
-      (λ g. does (Switch 3 (length tags)) has.1.1.1.1.0 (does_switch C M A f (pc + 1 + 1 + 1 + 1) (words back frame above 1 j p l r) m free 3 (length tags) j refl)
+      (λ g. does (Switch 3 (length tags)) has.1.1.1.1.0 (does_switch C M A f (pc + 1 + 1 + 1 + 1) (words back frame above 1 j p l r) m free 3 (length tags) j
+      refl)
       (parts (one_tag g) (cell_goes shapes start most code tags o (pc + 1 + 1 + 1 + 1 + 1) j (omega arith) has.1.1.1.1.1))))))
     where
       apart : nat_eq i j ≡ false → q ≡ false
@@ -200,12 +218,15 @@ module _ (C : ControlLaws) (M : MemoryLaws) (A : ArithmeticLaws) (N : NextLaws) 
 
       one_tag : nat_eq i j ≡ true → equal_parts shapes (get_or tags j []) vs us ≡ Some q
       one_tag g =
-          let h : equal_parts shapes (get_or tags i []) vs us ≡ Some q = sym (ap (λ c. cond c (equal_parts shapes (get_or tags i []) vs us) (Some false)) g) ∙ e in
+          let h : equal_parts shapes (get_or tags i []) vs us ≡ Some q =
+          sym (ap (λ c. cond c (equal_parts shapes (get_or tags i []) vs us) (Some false)) g) ∙ e in
           subst (λ z. equal_parts shapes (get_or tags z []) vs us ≡ Some q) (eqb-true i j g) h
 
-      parts : {pc : ℕ} → equal_parts shapes (get_or tags j []) vs us ≡ Some q → TagGoes shapes start most code tags j pc → Compared (at pc 1 j p l r m free) m p q
+      parts : {pc : ℕ} → equal_parts shapes (get_or tags j []) vs us ≡ Some q → TagGoes shapes start most code tags j pc
+          → Compared (at pc 1 j p l r m free) m p q
       parts {pc} h (to_parts d goes there_d) =
-          does (Jmp (there d)) goes (does_jmp C M A f pc (words back frame above 1 j p l r) m free (there d)) (go us (get_or tags j []) q d 1 1 j p l r m free there_d show low hl.1 hr.1 h)
+          does (Jmp (there d)) goes (does_jmp C M A f pc (words back frame above 1 j p l r) m free (there d))
+          (go us (get_or tags j []) q d 1 1 j p l r m free there_d show low hl.1 hr.1 h)
       parts {pc} h (to_start goes none) =
           let k : true ≡ q = last_true shapes vs us q (subst (λ z. equal_parts shapes z vs us ≡ Some q) none h) in
           subst (λ z. Compared (at pc 1 j p l r m free) m p z) k
@@ -219,8 +240,11 @@ module _ (C : ControlLaws) (M : MemoryLaws) (A : ArithmeticLaws) (N : NextLaws) 
   CellFollows (name i) = Unit {0}
   CellFollows (packet i v) = Unit {0}
 
-  cell_case : (v u : Value) → CellFollows v → (tags : List (List ℕ)) (q : Bool) (o a b p l r : ℕ) (m free : List ℕ) → Shows lay m → f.base ≤ length m → Is lay v l → Is lay u r → HasAt code (there o) (shape_code shapes start most o (cells tags)) → equal_at shapes (cells tags) v u ≡ Some q → Compared (at (there o) a b p l r m free) m p q
-  cell_case (cell i vs) (cell j us) go tags q o a b p l r m free show low hl hr has e = cells_compared i j vs us go tags q o a b p l r m free show low hl hr has e
+  cell_case : (v u : Value) → CellFollows v → (tags : List (List ℕ)) (q : Bool) (o a b p l r : ℕ) (m free : List ℕ) → Shows lay m → f.base ≤ length m
+      → Is lay v l → Is lay u r → HasAt code (there o) (shape_code shapes start most o (cells tags)) → equal_at shapes (cells tags) v u ≡ Some q
+      → Compared (at (there o) a b p l r m free) m p q
+  cell_case (cell i vs) (cell j us) go tags q o a b p l r m free show low hl hr has e =
+      cells_compared i j vs us go tags q o a b p l r m free show low hl hr has e
   cell_case v u go tags q o a b p l r m free show low hl hr has e = absurd (cc)
 
   compare : (v : Value) → CellFollows v → Compares v
@@ -229,7 +253,8 @@ module _ (C : ControlLaws) (M : MemoryLaws) (A : ArithmeticLaws) (N : NextLaws) 
       o : ℕ
       o = offset_of shapes t
 
-      by_shape : (sh : Shape) → HasAt code (there (offset_of shapes t)) (shape_code shapes start most (offset_of shapes t) sh) → equal_at shapes sh v u ≡ Some q → Compared (at (there (offset_of shapes t)) a b p l r m free) m p q
+      by_shape : (sh : Shape) → HasAt code (there (offset_of shapes t)) (shape_code shapes start most (offset_of shapes t) sh)
+          → equal_at shapes sh v u ≡ Some q → Compared (at (there (offset_of shapes t)) a b p l r m free) m p q
       by_shape numbers has g = words_compared l r q (there (offset_of shapes t)) a b p m free (word_equal shapes lay numbers v u l r q refl hv hu g) has
       by_shape texts has g = texts_compared l r q (offset_of shapes t) a b p m free show (text_equal shapes lay v u l r q hv hu g) has
       by_shape (cells tags) has g = cell_case v u go tags q (offset_of shapes t) a b p l r m free show low hv hu has g
@@ -257,14 +282,18 @@ module _ (C : ControlLaws) (M : MemoryLaws) (A : ArithmeticLaws) (N : NextLaws) 
       first as_inner h = get_within code pc _ h.0
 
   -- after a part that was compared with more in use, and perhaps more pending
-  after : {s : State} {n : ℕ} {c : Bool} (q : Bool) (m more : List ℕ) (p : ℕ) → Compared s (m ++ more) n c → (c ≡ false → q ≡ false) → (c ≡ true → (a b l r : ℕ) (new free : List ℕ) → Compared (at start a b n l r ((m ++ more) ++ new) free) m p q) → Compared s m p q
+  after : {s : State} {n : ℕ} {c : Bool} (q : Bool) (m more : List ℕ) (p : ℕ) → Compared s (m ++ more) n c → (c ≡ false → q ≡ false)
+      → (c ≡ true → (a b l r : ℕ) (new free : List ℕ) → Compared (at start a b n l r ((m ++ more) ++ new) free) m p q) → Compared s m p q
   after {s} q m more p (same a b l r new free x) unless then = before x (then refl a b l r new free)
   after {s} q m more p (differs b p' l r new free x) unless then =
-      subst (λ z. Compared s m p z) (sym (unless refl)) (differs b p' l r (more ++ new) free (subst (λ z. Leads code s (at (start + 7) 0 b p' l r z free)) (append_assoc m more new) x))
+      subst (λ z. Compared s m p z) (sym (unless refl)) (differs b p' l r (more ++ new) free
+      (subst (λ z. Leads code s (at (start + 7) 0 b p' l r z free)) (append_assoc m more new) x))
   after q m more p (runs_out c x) unless then = runs_out q x
 
   -- the next pending comparison
-  pops : (k a b n l r l' r' p q' : ℕ) (m free : List ℕ) (m0 : List ℕ) (q : Bool) → 0 < n → slice_get m (n + 0) ≡ Some k → slice_get m (n + 1) ≡ Some l → slice_get m (n + 2) ≡ Some r → slice_get m (n + 3) ≡ Some p → k ≤ most → Compared (at (there k) k b p l r m free) m0 q' q → Compared (at start a b n l' r' m free) m0 q' q
+  pops : (k a b n l r l' r' p q' : ℕ) (m free : List ℕ) (m0 : List ℕ) (q : Bool) → 0 < n → slice_get m (n + 0) ≡ Some k → slice_get m (n + 1) ≡ Some l
+      → slice_get m (n + 2) ≡ Some r → slice_get m (n + 3) ≡ Some p → k ≤ most → Compared (at (there k) k b p l r m free) m0 q' q
+      → Compared (at start a b n l' r' m free) m0 q' q
   pops k a b n l r l' r' p q' m free m0 q pos e0 e1 e2 e3 le x =
       let pc = start in
       let goes : pc + 1 + 1 + 1 + 1 + 1 + 1 + min k most ≡ there k = omega arith in
@@ -276,7 +305,8 @@ module _ (C : ControlLaws) (M : MemoryLaws) (A : ArithmeticLaws) (N : NextLaws) 
       (does (Switch 2 most) stands.1.1.1.1.1.0 (does_switch C M A f (pc + 1 + 1 + 1 + 1 + 1) (words back frame above k b p l r) m free 2 most k refl)
       (put_at (pc + 1 + 1 + 1 + 1 + 1 + 1 + min k most) (there k) k b p l r m free goes x))))))
 
-  module _ (v u : Value) (vs us : Values) (go : Compares v) (rest : Follows vs) (t : ℕ) (q : Bool) (o j a b p l r : ℕ) (m : List ℕ) (show : Shows lay m) (low : f.base ≤ length m) (hl : AreAt lay (value v vs) (l + j)) (hr : AreAt lay (value u us) (r + j)) where
+  module _ (v u : Value) (vs us : Values) (go : Compares v) (rest : Follows vs) (t : ℕ) (q : Bool) (o j a b p l r : ℕ) (m : List ℕ) (show : Shows lay m)
+      (low : f.base ≤ length m) (hl : AreAt lay (value v vs) (l + j)) (hr : AreAt lay (value u us) (r + j)) where
     abbrev x : ℕ
     x = hl.0
 
@@ -290,7 +320,8 @@ module _ (C : ControlLaws) (M : MemoryLaws) (A : ArithmeticLaws) (N : NextLaws) 
     rest_right = let n : r + j + 1 ≡ r + suc j = omega arith in subst (λ z. AreAt lay us z) n hr.3
 
     abbrev Way_does : Way → List ℕ → List ℕ → Type 0
-    Way_does w ts free = HasAt code (there o) (way_code shapes start most w o j t ++ parts_code shapes start most (o + way_size w) (suc j) ts) → equal_parts shapes (t ∷ ts) (value v vs) (value u us) ≡ Some q → Compared (at (there o) a b p l r m free) m p q
+    Way_does w ts free = HasAt code (there o) (way_code shapes start most w o j t ++ parts_code shapes start most (o + way_size w) (suc j) ts)
+        → equal_parts shapes (t ∷ ts) (value v vs) (value u us) ≡ Some q → Compared (at (there o) a b p l r m free) m p q
 
     as_a_word : (ts free : List ℕ) → is_word (get_or shapes t opaque) ≡ true → Way_does by_word ts free
     as_a_word ts free w has e =
@@ -299,8 +330,10 @@ module _ (C : ControlLaws) (M : MemoryLaws) (A : ArithmeticLaws) (N : NextLaws) 
         (does (Ld 3 6 j) has.1.0 (does_ld C M A f (pc + 1) (words back frame above x b p l r) m free 3 6 j r y (omega arith) refl (read m r j y show hr.1))
         (does (Eq 2 2 3) has.1.1.0 (does_eq C M A f (pc + 1 + 1) (words back frame above x y p l r) m free 2 2 3 x y (omega arith) refl refl)
         (⊎_elim
-        (λ h. tested x y false q (pc + 1 + 1 + 1) y p l r m free (word_equal shapes lay (get_or shapes t opaque) v u x y false w hl.2 hr.2 h.0) has.1.1.1.0 (λ g. h.1) (λ g. absurd (cc)))
-        (λ h. tested x y true q (pc + 1 + 1 + 1) y p l r m free (word_equal shapes lay (get_or shapes t opaque) v u x y true w hl.2 hr.2 h.0) has.1.1.1.0 (λ g. absurd (cc))
+        (λ h. tested x y false q (pc + 1 + 1 + 1) y p l r m free (word_equal shapes lay (get_or shapes t opaque) v u x y false w hl.2 hr.2 h.0) has.1.1.1.0
+        (λ g. h.1) (λ g. absurd (cc)))
+        (λ h. tested x y true q (pc + 1 + 1 + 1) y p l r m free (word_equal shapes lay (get_or shapes t opaque) v u x y true w hl.2 hr.2 h.0) has.1.1.1.0
+        (λ g. absurd (cc))
         (λ g. put_at (pc + 1 + 1 + 1 + 1) (there (o + 4)) 1 y p l r m free (omega arith)
         (rest us ts q (o + 4) (suc j) 1 y p l r m free (rest_stands shapes start most code by_word o j t ts has) show low rest_left rest_right h.1)))
         (and_split (equal_at shapes (get_or shapes t opaque) v u) (equal_parts shapes ts vs us) q e))))
@@ -319,10 +352,14 @@ module _ (C : ControlLaws) (M : MemoryLaws) (A : ArithmeticLaws) (N : NextLaws) 
 
     -- with the comparison of the parts after it pending
     as_an_inner : (ts free : List ℕ) → Way_does as_inner ts free
-    as_an_inner ts [] has e = runs_out q (no_heap code N (at (there o) a b p l r m []) (Alloc 2 4) has.0 (no_words C M A f (there o) (words back frame above a b p l r) m [] 2 4 (omega arith) (omega arith)))
-    as_an_inner ts (w ∷ []) has e = runs_out q (no_heap code N (at (there o) a b p l r m (w ∷ [])) (Alloc 2 4) has.0 (no_words C M A f (there o) (words back frame above a b p l r) m (w ∷ []) 2 4 (omega arith) (omega arith)))
-    as_an_inner ts (w ∷ w' ∷ []) has e = runs_out q (no_heap code N (at (there o) a b p l r m (w ∷ w' ∷ [])) (Alloc 2 4) has.0 (no_words C M A f (there o) (words back frame above a b p l r) m (w ∷ w' ∷ []) 2 4 (omega arith) (omega arith)))
-    as_an_inner ts (w ∷ w' ∷ w'' ∷ []) has e = runs_out q (no_heap code N (at (there o) a b p l r m (w ∷ w' ∷ w'' ∷ [])) (Alloc 2 4) has.0 (no_words C M A f (there o) (words back frame above a b p l r) m (w ∷ w' ∷ w'' ∷ []) 2 4 (omega arith) (omega arith)))
+    as_an_inner ts [] has e = runs_out q (no_heap code N (at (there o) a b p l r m []) (Alloc 2 4) has.0
+        (no_words C M A f (there o) (words back frame above a b p l r) m [] 2 4 (omega arith) (omega arith)))
+    as_an_inner ts (w ∷ []) has e = runs_out q (no_heap code N (at (there o) a b p l r m (w ∷ [])) (Alloc 2 4) has.0
+        (no_words C M A f (there o) (words back frame above a b p l r) m (w ∷ []) 2 4 (omega arith) (omega arith)))
+    as_an_inner ts (w ∷ w' ∷ []) has e = runs_out q (no_heap code N (at (there o) a b p l r m (w ∷ w' ∷ [])) (Alloc 2 4) has.0
+        (no_words C M A f (there o) (words back frame above a b p l r) m (w ∷ w' ∷ []) 2 4 (omega arith) (omega arith)))
+    as_an_inner ts (w ∷ w' ∷ w'' ∷ []) has e = runs_out q (no_heap code N (at (there o) a b p l r m (w ∷ w' ∷ w'' ∷ [])) (Alloc 2 4) has.0
+        (no_words C M A f (there o) (words back frame above a b p l r) m (w ∷ w' ∷ w'' ∷ []) 2 4 (omega arith) (omega arith)))
     as_an_inner ts (w0 ∷ w1 ∷ w2 ∷ w3 ∷ free) has e =
         let pc = there o in
         let n = length m in
@@ -334,15 +371,22 @@ module _ (C : ControlLaws) (M : MemoryLaws) (A : ArithmeticLaws) (N : NextLaws) 
         let low' : f.base ≤ length big = omega (arith, length-append m entry) in
         let stands_k : HasAt code (there k) (parts_code shapes start most k (suc j) ts) = rest_stands shapes start most code as_inner o j t ts has in
         let within : k ≤ most = let i = parts_begin (there k) k (suc j) ts stands_k in omega (arith, i, fits) in
-        does (Alloc 2 4) has.0 (does_alloc C M A f pc (words back frame above a b p l r) m (w0 ∷ w1 ∷ w2 ∷ w3 ∷ free) 2 4 (w0 ∷ w1 ∷ w2 ∷ w3 ∷ []) free (omega arith) refl refl)
+        does (Alloc 2 4) has.0 (does_alloc C M A f pc (words back frame above a b p l r) m (w0 ∷ w1 ∷ w2 ∷ w3 ∷ free) 2 4 (w0 ∷ w1 ∷ w2 ∷ w3 ∷ []) free
+        (omega arith) refl refl)
         (does (Li 3 k) has.1.0 (does_li C M A f (pc + 1) (words back frame above n b p l r) (m ++ w0 ∷ w1 ∷ w2 ∷ w3 ∷ []) free 3 k (omega arith))
-        (does (St 2 0 3) has.1.1.0 (does_st M f (pc + 1 + 1) (words back frame above n k p l r) m (w0 ∷ w1 ∷ w2 ∷ w3 ∷ []) free 2 0 3 k low (omega arith) refl refl)
-        (does (St 2 1 5) has.1.1.1.0 (does_st M f (pc + 1 + 1 + 1) (words back frame above n k p l r) m (k ∷ w1 ∷ w2 ∷ w3 ∷ []) free 2 1 5 l low (omega arith) refl refl)
-        (does (St 2 2 6) has.1.1.1.1.0 (does_st M f (pc + 1 + 1 + 1 + 1) (words back frame above n k p l r) m (k ∷ l ∷ w2 ∷ w3 ∷ []) free 2 2 6 r low (omega arith) refl refl)
-        (does (St 2 3 4) has.1.1.1.1.1.0 (does_st M f (pc + 1 + 1 + 1 + 1 + 1) (words back frame above n k p l r) m (k ∷ l ∷ r ∷ w3 ∷ []) free 2 3 4 p low (omega arith) refl refl)
+        (does (St 2 0 3) has.1.1.0 (does_st M f (pc + 1 + 1) (words back frame above n k p l r) m (w0 ∷ w1 ∷ w2 ∷ w3 ∷ []) free 2 0 3 k low (omega arith) refl
+        refl)
+        (does (St 2 1 5) has.1.1.1.0 (does_st M f (pc + 1 + 1 + 1) (words back frame above n k p l r) m (k ∷ w1 ∷ w2 ∷ w3 ∷ []) free 2 1 5 l low (omega arith)
+        refl refl)
+        (does (St 2 2 6) has.1.1.1.1.0 (does_st M f (pc + 1 + 1 + 1 + 1) (words back frame above n k p l r) m (k ∷ l ∷ w2 ∷ w3 ∷ []) free 2 2 6 r low
+        (omega arith) refl refl)
+        (does (St 2 3 4) has.1.1.1.1.1.0 (does_st M f (pc + 1 + 1 + 1 + 1 + 1) (words back frame above n k p l r) m (k ∷ l ∷ r ∷ w3 ∷ []) free 2 3 4 p low
+        (omega arith) refl refl)
         (does (Mov 4 2) has.1.1.1.1.1.1.0 (does_mov C M A f (pc + 1 + 1 + 1 + 1 + 1 + 1) (words back frame above n k p l r) big free 4 2 n (omega arith) refl)
-        (does (Ld 5 5 j) has.1.1.1.1.1.1.1.0 (does_ld C M A f (pc + 1 + 1 + 1 + 1 + 1 + 1 + 1) (words back frame above n k n l r) big free 5 5 j l x (omega arith) refl (read big l j x show' hl.1))
-        (does (Ld 6 6 j) has.1.1.1.1.1.1.1.1.0 (does_ld C M A f (pc + 1 + 1 + 1 + 1 + 1 + 1 + 1 + 1) (words back frame above n k n x r) big free 6 6 j r y (omega arith) refl (read big r j y show' hr.1))
+        (does (Ld 5 5 j) has.1.1.1.1.1.1.1.0 (does_ld C M A f (pc + 1 + 1 + 1 + 1 + 1 + 1 + 1) (words back frame above n k n l r) big free 5 5 j l x
+        (omega arith) refl (read big l j x show' hl.1))
+        (does (Ld 6 6 j) has.1.1.1.1.1.1.1.1.0 (does_ld C M A f (pc + 1 + 1 + 1 + 1 + 1 + 1 + 1 + 1) (words back frame above n k n x r) big free 6 6 j r y
+        (omega arith) refl (read big r j y show' hr.1))
         (does (Jmp to) has.1.1.1.1.1.1.1.1.1.0 (does_jmp C M A f (pc + 1 + 1 + 1 + 1 + 1 + 1 + 1 + 1 + 1) (words back frame above n k n x y) big free to)
         (⊎_elim
         (λ h. after q m entry p (go u t false n k n x y big free show' low' hl.2 hr.2 h.0) (λ g. h.1) (λ g. absurd (cc)))
@@ -350,7 +394,8 @@ module _ (C : ControlLaws) (M : MemoryLaws) (A : ArithmeticLaws) (N : NextLaws) 
         (λ g a' b' l' r' new free'. popped a' b' l' r' new free' k stands_k within h.1))
         (and_split (equal_at shapes (get_or shapes t opaque) v u) (equal_parts shapes ts vs us) q e)))))))))))
       where
-        popped : (a' b' l' r' : ℕ) (new free' : List ℕ) (k : ℕ) → HasAt code (there k) (parts_code shapes start most k (suc j) ts) → k ≤ most → equal_parts shapes ts vs us ≡ Some q → Compared (at start a' b' (length m) l' r' ((m ++ (k ∷ l ∷ r ∷ p ∷ [])) ++ new) free') m p q
+        popped : (a' b' l' r' : ℕ) (new free' : List ℕ) (k : ℕ) → HasAt code (there k) (parts_code shapes start most k (suc j) ts) → k ≤ most
+            → equal_parts shapes ts vs us ≡ Some q → Compared (at start a' b' (length m) l' r' ((m ++ (k ∷ l ∷ r ∷ p ∷ [])) ++ new) free') m p q
         popped a' b' l' r' new free' k stands_k within h =
             let entry = k ∷ l ∷ r ∷ p ∷ [] in
             let big = (m ++ entry) ++ new in
@@ -394,18 +439,24 @@ module _ (C : ControlLaws) (M : MemoryLaws) (A : ArithmeticLaws) (N : NextLaws) 
       let now = m ++ new in
       let at_yes : start + 6 ≡ start + 1 + 1 + 1 + 1 + 1 + 1 = omega arith in
       let yes = start + 1 + 1 + 1 + 1 + 1 + 1 in
-      let y0 : Leads code (at start a b 0 l r now free) (at (start + 6) a b 0 l r now free) = step_to code N (Brz 4 (start + 6)) stands.0 (does_brz_zero C M A f start (words back frame above a b 0 l r) now free 4 (start + 6) refl) in
-      let y1 : Leads code (at yes a b 0 l r now free) (at (yes + 1) 1 b 0 l r now free) = step_to code N (Li 2 1) stands.1.1.1.1.1.1.0 (does_li C M A f yes (words back frame above a b 0 l r) now free 2 1 (omega arith)) in
-      let y2 : Leads code (at (yes + 1) 1 b 0 l r now free) (returned f back frame 1 (words back frame above 1 b 0 l r) now free) = step_to code N (Ret 2) stands.1.1.1.1.1.1.1.0 (does_ret C M A f (yes + 1) (words back frame above 1 b 0 l r) now free 2 1 back frame refl refl refl) in
+      let y0 : Leads code (at start a b 0 l r now free) (at (start + 6) a b 0 l r now free) =
+      step_to code N (Brz 4 (start + 6)) stands.0 (does_brz_zero C M A f start (words back frame above a b 0 l r) now free 4 (start + 6) refl) in
+      let y1 : Leads code (at yes a b 0 l r now free) (at (yes + 1) 1 b 0 l r now free) =
+      step_to code N (Li 2 1) stands.1.1.1.1.1.1.0 (does_li C M A f yes (words back frame above a b 0 l r) now free 2 1 (omega arith)) in
+      let y2 : Leads code (at (yes + 1) 1 b 0 l r now free) (returned f back frame 1 (words back frame above 1 b 0 l r) now free) =
+      step_to code N (Ret 2) stands.1.1.1.1.1.1.1.0 (does_ret C M A f (yes + 1) (words back frame above 1 b 0 l r) now free 2 1 back frame refl refl refl) in
       let y01 = subst (λ z. Leads code (at start a b 0 l r now free) (at z a b 0 l r now free)) at_yes y0 in
       returns (1 ∷ b ∷ 0 ∷ l ∷ r ∷ above) new free (trans code x (trans code y01 (trans code y1 y2)))
   answers_from {s} {m} (differs b p' l r new free x) =
       let now = m ++ new in
       let end = start + 1 + 1 + 1 + 1 + 1 + 1 + 1 in
       let at_end : end ≡ start + 7 = omega arith in
-      let y : Leads code (at end 0 b p' l r now free) (returned f back frame 0 (words back frame above 0 b p' l r) now free) = step_to code N (Ret 2) stands.1.1.1.1.1.1.1.0 (does_ret C M A f end (words back frame above 0 b p' l r) now free 2 0 back frame refl refl refl) in
-      returns (0 ∷ b ∷ p' ∷ l ∷ r ∷ above) new free (trans code x (subst (λ z. Leads code (at z 0 b p' l r now free) (returned f back frame 0 (words back frame above 0 b p' l r) now free)) at_end y))
+      let y : Leads code (at end 0 b p' l r now free) (returned f back frame 0 (words back frame above 0 b p' l r) now free) =
+      step_to code N (Ret 2) stands.1.1.1.1.1.1.1.0 (does_ret C M A f end (words back frame above 0 b p' l r) now free 2 0 back frame refl refl refl) in
+      returns (0 ∷ b ∷ p' ∷ l ∷ r ∷ above) new free (trans code x
+      (subst (λ z. Leads code (at z 0 b p' l r now free) (returned f back frame 0 (words back frame above 0 b p' l r) now free)) at_end y))
   answers_from (runs_out q x) = exhausts x
 
-  pub answers : (v u : Value) (t : ℕ) (q : Bool) (a b l r : ℕ) (m free : List ℕ) → Shows lay m → f.base ≤ length m → Is lay v l → Is lay u r → equal_at shapes (get_or shapes t opaque) v u ≡ Some q → Answers code f back frame (at (there (offset_of shapes t)) a b 0 l r m free) m q
+  pub answers : (v u : Value) (t : ℕ) (q : Bool) (a b l r : ℕ) (m free : List ℕ) → Shows lay m → f.base ≤ length m → Is lay v l → Is lay u r
+      → equal_at shapes (get_or shapes t opaque) v u ≡ Some q → Answers code f back frame (at (there (offset_of shapes t)) a b 0 l r m free) m q
   answers v u t q a b l r m free show low hv hu e = answers_from (compares v u t q a b 0 l r m free show low hv hu e)

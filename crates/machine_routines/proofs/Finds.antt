@@ -34,7 +34,8 @@ rises_left : (least : ℕ) (xs ys : List Target) → Rises least (xs ++ ys) → 
 rises_left least [] ys h = tt
 rises_left least (x ∷ xs) ys h = (h.0, rises_left (suc x.tag) xs ys h.1)
 
-at_left : (t least : ℕ) (xs : List Target) (m : Target) (ms : List Target) → Rises least (xs ++ m ∷ ms) → t < m.tag → member_at t (xs ++ m ∷ ms) ≡ member_at t xs
+at_left : (t least : ℕ) (xs : List Target) (m : Target) (ms : List Target) → Rises least (xs ++ m ∷ ms) → t < m.tag
+    → member_at t (xs ++ m ∷ ms) ≡ member_at t xs
 at_left t least [] m ms h lt = none_below t m.tag (m ∷ ms) (omega arith, h.1) lt
 at_left t least (x ∷ xs) m ms h lt = ap (λ o. if nat_eq t x.tag then Some x.place else o) (at_left t (suc x.tag) xs m ms h.1 lt)
 
@@ -42,7 +43,8 @@ first_low : (least : ℕ) (xs : List Target) (m : Target) (ms : List Target) →
 first_low least [] m ms h = h.0
 first_low least (x ∷ xs) m ms h = let a = first_low (suc x.tag) xs m ms h.1 in let b = h.0 in omega arith
 
-at_right : (t least : ℕ) (xs : List Target) (m : Target) (ms : List Target) → Rises least (xs ++ m ∷ ms) → m.tag ≤ t → member_at t (xs ++ m ∷ ms) ≡ member_at t (m ∷ ms)
+at_right : (t least : ℕ) (xs : List Target) (m : Target) (ms : List Target) → Rises least (xs ++ m ∷ ms) → m.tag ≤ t
+    → member_at t (xs ++ m ∷ ms) ≡ member_at t (m ∷ ms)
 at_right t least [] m ms h le = refl
 at_right t least (x ∷ xs) m ms h le =
     let a = first_low (suc x.tag) xs m ms h.1 in
@@ -54,7 +56,8 @@ abbrev Wanted : Bool → ℕ → ℕ → List Target → Search → Type 0
 Wanted true p t set s = finds t s p ≡ or_place (member_at t set) p
 Wanted false p t set s = (q : ℕ) → member_at t set ≡ Some q → finds t s p ≡ q
 
-wanted_same : (tests : Bool) (p t : ℕ) (xs ys : List Target) (a b : Search) → member_at t ys ≡ member_at t xs → finds t b p ≡ finds t a p → Wanted tests p t xs a → Wanted tests p t ys b
+wanted_same : (tests : Bool) (p t : ℕ) (xs ys : List Target) (a b : Search) → member_at t ys ≡ member_at t xs → finds t b p ≡ finds t a p
+    → Wanted tests p t xs a → Wanted tests p t ys b
 wanted_same true p t xs ys a b e g h = g ∙ h ∙ ap (λ o. or_place o p) (sym e)
 wanted_same false p t xs ys a b e g h = λ q k. g ∙ h q (sym e ∙ k)
 
@@ -74,18 +77,22 @@ wanted_leaf false p t m = by (nat_eq t m.tag)
     by true q e = cc
     by false q e = absurd (cc)
 
-wanted_node : (tests : Bool) (p t least : ℕ) (xs : List Target) (m : Target) (ms : List Target) (a b : Search) → Rises least (xs ++ m ∷ ms) → Wanted tests p t xs a → Wanted tests p t (m ∷ ms) b → Wanted tests p t (xs ++ m ∷ ms) (node m.tag a b)
+wanted_node : (tests : Bool) (p t least : ℕ) (xs : List Target) (m : Target) (ms : List Target) (a b : Search) → Rises least (xs ++ m ∷ ms)
+    → Wanted tests p t xs a → Wanted tests p t (m ∷ ms) b → Wanted tests p t (xs ++ m ∷ ms) (node m.tag a b)
 wanted_node tests p t least xs m ms a b h l r =
     ⊎_elim
-    (λ lt. wanted_same tests p t xs (xs ++ m ∷ ms) a (node m.tag a b) (at_left t least xs m ms h lt) (ap (λ z. if z then finds t a p else finds t b p) (lt-ltb t m.tag lt)) l)
-    (λ le. wanted_same tests p t (m ∷ ms) (xs ++ m ∷ ms) b (node m.tag a b) (at_right t least xs m ms h le) (ap (λ z. if z then finds t a p else finds t b p) (le-ltb t m.tag le)) r)
+    (λ lt. wanted_same tests p t xs (xs ++ m ∷ ms) a (node m.tag a b) (at_left t least xs m ms h lt)
+    (ap (λ z. if z then finds t a p else finds t b p) (lt-ltb t m.tag lt)) l)
+    (λ le. wanted_same tests p t (m ∷ ms) (xs ++ m ∷ ms) b (node m.tag a b) (at_right t least xs m ms h le)
+    (ap (λ z. if z then finds t a p else finds t b p) (le-ltb t m.tag le)) r)
     (cases_lt t m.tag)
 
 no_more : (set : List Target) → length set ≡ 0 → set ≡ []
 no_more [] e = refl
 no_more (m ∷ ms) e = absurd (omega arith)
 
-wanted_joined : (tests : Bool) (p t least : ℕ) (xs ys : List Target) (a b : Search) → length xs ≡ length (xs ++ ys) / 2 → Rises least (xs ++ ys) → Wanted tests p t xs a → (0 < length xs → Wanted tests p t ys b) → Wanted tests p t (xs ++ ys) (joined tests p xs ys a b)
+wanted_joined : (tests : Bool) (p t least : ℕ) (xs ys : List Target) (a b : Search) → length xs ≡ length (xs ++ ys) / 2 → Rises least (xs ++ ys)
+    → Wanted tests p t xs a → (0 < length xs → Wanted tests p t ys b) → Wanted tests p t (xs ++ ys) (joined tests p xs ys a b)
 wanted_joined tests p t least [] [] a b n h l r = wanted_none tests p t
 wanted_joined tests p t least (x ∷ xs) [] a b n h l r = absurd (omega (arith, length-append (x ∷ xs) []))
 wanted_joined tests p t least [] (m ∷ ms) a b n h l r =
@@ -109,7 +116,8 @@ searches tests p t least (suc k) set le h =
     (λ some. searches tests p t least k ys (omega (arith, nx, ny)) (rises_right least xs ys h')))
 
 -- Where the machine goes, with the tag t behind the words of front, and a free word after it.
-module _ (C : ControlLaws) (M : MemoryLaws) (A : ArithmeticLaws) (N : NextLaws) (code : List Instr) (f : Frame) (front above m free : List ℕ) (t k : ℕ) (deep : length front ≡ k) (p : ℕ) where
+module _ (C : ControlLaws) (M : MemoryLaws) (A : ArithmeticLaws) (N : NextLaws) (code : List Instr) (f : Frame) (front above m free : List ℕ) (t k : ℕ)
+    (deep : length front ≡ k) (p : ℕ) where
   abbrev at : ℕ → ℕ → State
   at pc x = inside f pc (front ++ (t ∷ x ∷ above)) m free
 
@@ -120,22 +128,28 @@ module _ (C : ControlLaws) (M : MemoryLaws) (A : ArithmeticLaws) (N : NextLaws) 
   tag_there x = let n : length front + 0 ≡ k = omega arith in subst (λ z. slice_get (front ++ (t ∷ x ∷ above)) z ≡ Some t) n (get_right front (t ∷ x ∷ above) 0)
 
   free_there : (x : ℕ) → slice_get (front ++ (t ∷ x ∷ above)) (suc k) ≡ Some x
-  free_there x = let n : length front + 1 ≡ suc k = omega arith in subst (λ z. slice_get (front ++ (t ∷ x ∷ above)) z ≡ Some x) n (get_right front (t ∷ x ∷ above) 1)
+  free_there x = let n : length front + 1 ≡ suc k = omega arith in
+      subst (λ z. slice_get (front ++ (t ∷ x ∷ above)) z ≡ Some x) n (get_right front (t ∷ x ∷ above) 1)
 
   room : (x : ℕ) → suc k < length (front ++ (t ∷ x ∷ above))
   room x = omega (arith, length-append front (t ∷ x ∷ above))
 
   sets : (x v : ℕ) → slice_set (front ++ (t ∷ x ∷ above)) (suc k) v ≡ front ++ (t ∷ v ∷ above)
-  sets x v = let n : length front + 1 ≡ suc k = omega arith in subst (λ z. slice_set (front ++ (t ∷ x ∷ above)) z v ≡ front ++ (t ∷ v ∷ above)) n (set_right front (t ∷ x ∷ above) 1 v)
+  sets x v = let n : length front + 1 ≡ suc k = omega arith in subst (λ z. slice_set (front ++ (t ∷ x ∷ above)) z v ≡ front ++ (t ∷ v ∷ above)) n
+      (set_right front (t ∷ x ∷ above) 1 v)
 
   after : {s u : State} {q : ℕ} → Leads code s u → Comes u q → Comes s q
   after a c = record { word = c.word; leads = trans code a c.leads; some = let h = c.some in omega arith }
 
   loads : (pc x v : ℕ) → slice_get code pc ≡ Some (Li (suc k) v) → Leads code (at pc x) (at (pc + 1) v)
-  loads pc x v e = step_to code N (Li (suc k) v) e (does_li C M A f pc (front ++ (t ∷ x ∷ above)) m free (suc k) v (room x) ∙ ap (λ z. Goes (inside f (pc + 1) z m free)) (sets x v))
+  loads pc x v e = step_to code N (Li (suc k) v) e (does_li C M A f pc (front ++ (t ∷ x ∷ above)) m free (suc k) v (room x)
+      ∙ ap (λ z. Goes (inside f (pc + 1) z m free)) (sets x v))
 
-  computes : (row : ℕ → ℕ → ℕ → Instr) (g : ℕ → ℕ → ℕ) → Total row g → (pc x : ℕ) → slice_get code pc ≡ Some (row (suc k) k (suc k)) → Leads code (at pc x) (at (pc + 1) (g t x))
-  computes row g law pc x e = step_to code N (row (suc k) k (suc k)) e (does_two C M A f pc (front ++ (t ∷ x ∷ above)) m free row g law (suc k) k (suc k) t x (room x) (tag_there x) (free_there x) ∙ ap (λ z. Goes (inside f (pc + 1) z m free)) (sets x (g t x)))
+  computes : (row : ℕ → ℕ → ℕ → Instr) (g : ℕ → ℕ → ℕ) → Total row g → (pc x : ℕ) → slice_get code pc ≡ Some (row (suc k) k (suc k))
+      → Leads code (at pc x) (at (pc + 1) (g t x))
+  computes row g law pc x e = step_to code N (row (suc k) k (suc k)) e
+      (does_two C M A f pc (front ++ (t ∷ x ∷ above)) m free row g law (suc k) k (suc k) t x (room x) (tag_there x) (free_there x)
+      ∙ ap (λ z. Goes (inside f (pc + 1) z m free)) (sets x (g t x)))
 
   jumps_to : (pc x q : ℕ) → slice_get code pc ≡ Some (Jmp q) → Comes (at pc x) q
   jumps_to pc x q e = record { word = x; leads = step_to code N (Jmp q) e (does_jmp C M A f pc (front ++ (t ∷ x ∷ above)) m free q); some = omega arith }
@@ -167,7 +181,8 @@ module _ (C : ControlLaws) (M : MemoryLaws) (A : ArithmeticLaws) (N : NextLaws) 
   search_goes (exactly u q) pc x has =
       after (loads pc x u has.0) (after (computes Eq same_word A.eq (pc + 1) u has.1.0)
       (⊎_elim
-      (λ e. here (ap (λ z. if z then q else p) (sym e)) (after (passes (pc + 1 + 1) (same_word t u) p has.1.1.0 (ap one_if e)) (jumps_to (pc + 1 + 1 + 1) (same_word t u) q has.1.1.1.0)))
+      (λ e. here (ap (λ z. if z then q else p) (sym e)) (after (passes (pc + 1 + 1) (same_word t u) p has.1.1.0 (ap one_if e))
+      (jumps_to (pc + 1 + 1 + 1) (same_word t u) q has.1.1.1.0)))
       (λ e. here (ap (λ z. if z then q else p) (sym e)) (branches (pc + 1 + 1) (same_word t u) p has.1.1.0 (ap one_if e)))
       (cases_Bool (nat_eq t u))))
   search_goes (node c a b) pc x has =
@@ -177,16 +192,22 @@ module _ (C : ControlLaws) (M : MemoryLaws) (A : ArithmeticLaws) (N : NextLaws) 
       let y = word_less t c in
       after (loads pc x c has.0) (after (computes ULt word_less A.ult (pc + 1) c has.1.0)
       (⊎_elim
-      (λ e. here (ap (λ z. if z then finds t a p else finds t b p) (sym e)) (after (passes (pc + 1 + 1) y (pc + 3 + search_size a) has.1.1.0 (ap one_if e)) (at_place (pc + 3) (pc + 1 + 1 + 1) y n (search_goes a (pc + 3) y (has_front code (pc + 3) l _ both)))))
-      (λ e. here (ap (λ z. if z then finds t a p else finds t b p) (sym e)) (after (branch_to (pc + 1 + 1) y (pc + 3 + search_size a) has.1.1.0 (ap one_if e)) (search_goes b (pc + 3 + search_size a) y (has_back code (pc + 3) (pc + 3 + search_size a) l _ (omega (arith, search_length (pc + 3) a)) both))))
+      (λ e. here (ap (λ z. if z then finds t a p else finds t b p) (sym e))
+      (after (passes (pc + 1 + 1) y (pc + 3 + search_size a) has.1.1.0 (ap one_if e))
+      (at_place (pc + 3) (pc + 1 + 1 + 1) y n (search_goes a (pc + 3) y (has_front code (pc + 3) l _ both)))))
+      (λ e. here (ap (λ z. if z then finds t a p else finds t b p) (sym e))
+      (after (branch_to (pc + 1 + 1) y (pc + 3 + search_size a) has.1.1.0 (ap one_if e))
+      (search_goes b (pc + 3 + search_size a) y (has_back code (pc + 3) (pc + 3 + search_size a) l _ (omega (arith, search_length (pc + 3) a)) both))))
       (cases_Bool (nat_lt t c))))
 
-  jump_in : (set : List Target) (i n pc : ℕ) → HasAt code pc (jumps set p i n) → (j : ℕ) → j < n → i + j ≡ t → slice_get code (pc + j) ≡ Some (Jmp (or_place (member_at t set) p))
+  jump_in : (set : List Target) (i n pc : ℕ) → HasAt code pc (jumps set p i n) → (j : ℕ) → j < n → i + j ≡ t
+      → slice_get code (pc + j) ≡ Some (Jmp (or_place (member_at t set) p))
   jump_in set i zero pc has j lt e = absurd (omega arith)
   jump_in set i (suc n) pc has zero lt e =
       let same : i ≡ t = omega arith in
       let there : pc + zero ≡ pc = omega arith in
-      subst (λ z. slice_get code z ≡ Some (Jmp (or_place (member_at t set) p))) (sym there) (subst (λ z. slice_get code pc ≡ Some (Jmp (or_place (member_at z set) p))) same has.0)
+      subst (λ z. slice_get code z ≡ Some (Jmp (or_place (member_at t set) p))) (sym there)
+      (subst (λ z. slice_get code pc ≡ Some (Jmp (or_place (member_at z set) p))) same has.0)
   jump_in set i (suc n) pc has (suc j) lt e =
       let n' : pc + 1 + j ≡ pc + suc j = omega arith in
       subst (λ z. slice_get code z ≡ Some (Jmp (or_place (member_at t set) p))) n' (jump_in set (suc i) n (pc + 1) has.1 j (omega arith) (omega arith))
@@ -195,7 +216,8 @@ module _ (C : ControlLaws) (M : MemoryLaws) (A : ArithmeticLaws) (N : NextLaws) 
   jumps_length set i zero = refl
   jumps_length set i (suc n) = ap suc (jumps_length set (suc i) n)
 
-  pub table_goes : (set : List Target) (n pc x : ℕ) → HasAt code pc (table_code set k p n) → Comes (at pc x) (if nat_lt t n then or_place (member_at t set) p else p)
+  pub table_goes : (set : List Target) (n pc x : ℕ) → HasAt code pc (table_code set k p n)
+      → Comes (at pc x) (if nat_lt t n then or_place (member_at t set) p else p)
   table_goes set n pc x has =
       let last = has_back code (pc + 1) (pc + 1 + n) (jumps set p 0 n) (Jmp p ∷ []) (omega (arith, jumps_length set 0 n)) has.1 in
       after (step_to code N (Switch k n) has.0 (does_switch C M A f pc (front ++ (t ∷ x ∷ above)) m free k n t (tag_there x)))
@@ -203,7 +225,9 @@ module _ (C : ControlLaws) (M : MemoryLaws) (A : ArithmeticLaws) (N : NextLaws) 
       (λ lt.
       let there : pc + 1 + t ≡ pc + 1 + min t n = omega arith in
       here (ap (λ z. if z then or_place (member_at t set) p else p) (sym (lt-ltb t n lt)))
-      (jumps_to (pc + 1 + min t n) x (or_place (member_at t set) p) (subst (λ z. slice_get code z ≡ Some (Jmp (or_place (member_at t set) p))) there (jump_in set 0 n (pc + 1) (has_front code (pc + 1) (jumps set p 0 n) _ has.1) t lt (omega arith)))))
+      (jumps_to (pc + 1 + min t n) x (or_place (member_at t set) p)
+      (subst (λ z. slice_get code z ≡ Some (Jmp (or_place (member_at t set) p))) there
+      (jump_in set 0 n (pc + 1) (has_front code (pc + 1) (jumps set p 0 n) _ has.1) t lt (omega arith)))))
       (λ le.
       let there : pc + 1 + n ≡ pc + 1 + min t n = omega arith in
       here (ap (λ z. if z then or_place (member_at t set) p else p) (sym (le-ltb t n le)))
@@ -218,21 +242,26 @@ module _ (C : ControlLaws) (M : MemoryLaws) (A : ArithmeticLaws) (N : NextLaws) 
       ap (λ b. if b then Some m'.place else member_at t ms) e ∙ not_in ms n h.1 le
 
   -- all tags, with tests
-  pub way_goes : (set : List Target) (n pc x : ℕ) → Rises 0 set → Below n set → HasAt code pc (way_code set pc k (suc k) p (way_of true p n set)) → Comes (at pc x) (or_place (member_at t set) p)
+  pub way_goes : (set : List Target) (n pc x : ℕ) → Rises 0 set → Below n set → HasAt code pc (way_code set pc k (suc k) p (way_of true p n set))
+      → Comes (at pc x) (or_place (member_at t set) p)
   way_goes set n pc x rises below has = by (nat_le n (2 * length set)) has
     where
-      by : (b : Bool) → HasAt code pc (way_code set pc k (suc k) p (if b then by_table n else by_search (search_of true p (length set) set))) → Comes (at pc x) (or_place (member_at t set) p)
+      by : (b : Bool) → HasAt code pc (way_code set pc k (suc k) p (if b then by_table n else by_search (search_of true p (length set) set)))
+          → Comes (at pc x) (or_place (member_at t set) p)
       by true h = ⊎_elim
           (λ lt. here (ap (λ z. if z then or_place (member_at t set) p else p) (lt-ltb t n lt)) (table_goes set n pc x h))
-          (λ le. here (ap (λ z. if z then or_place (member_at t set) p else p) (le-ltb t n le) ∙ ap (λ o. or_place o p) (sym (not_in set n below le))) (table_goes set n pc x h))
+          (λ le. here (ap (λ z. if z then or_place (member_at t set) p else p) (le-ltb t n le) ∙ ap (λ o. or_place o p) (sym (not_in set n below le)))
+          (table_goes set n pc x h))
           (cases_lt t n)
       by false h = here (searches true p t 0 (length set) set (omega arith) rises) (search_goes (search_of true p (length set) set) pc x h)
 
   -- members, with no test
-  pub member_goes : (set : List Target) (n pc x q : ℕ) → Rises 0 set → Below n set → member_at t set ≡ Some q → HasAt code pc (way_code set pc k (suc k) p (way_of false p n set)) → Comes (at pc x) q
+  pub member_goes : (set : List Target) (n pc x q : ℕ) → Rises 0 set → Below n set → member_at t set ≡ Some q
+      → HasAt code pc (way_code set pc k (suc k) p (way_of false p n set)) → Comes (at pc x) q
   member_goes set n pc x q rises below e has = by (nat_le n (2 * length set)) has
     where
-      by : (b : Bool) → HasAt code pc (way_code set pc k (suc k) p (if b then by_table n else by_search (search_of false p (length set) set))) → Comes (at pc x) q
+      by : (b : Bool) → HasAt code pc (way_code set pc k (suc k) p (if b then by_table n else by_search (search_of false p (length set) set)))
+          → Comes (at pc x) q
       by true h = ⊎_elim
           (λ lt. here (ap (λ z. if z then or_place (member_at t set) p else p) (lt-ltb t n lt) ∙ ap (λ o. or_place o p) e) (table_goes set n pc x h))
           (λ le. let none = not_in set n below le in absurd (let g : None ≡ Some q = sym none ∙ e in cc))
@@ -240,7 +269,8 @@ module _ (C : ControlLaws) (M : MemoryLaws) (A : ArithmeticLaws) (N : NextLaws) 
       by false h = here (searches false p t 0 (length set) set (omega arith) rises q e) (search_goes (search_of false p (length set) set) pc x h)
 
 pub way_finds : ControlLaws → MemoryLaws → ArithmeticLaws → NextLaws → FindLaw
-way_finds C M A N code f front above m free t k deep p set n pc x rises below has = way_goes C M A N code f front above m free t k deep p set n pc x rises below has
+way_finds C M A N code f front above m free t k deep p set n pc x rises below has =
+    way_goes C M A N code f front above m free t k deep p set n pc x rises below has
 
 pub finds_members : ControlLaws → MemoryLaws → ArithmeticLaws → NextLaws → FindMemberLaw
 finds_members C M A N code f front above m free t k deep p set n pc x q rises below e has =

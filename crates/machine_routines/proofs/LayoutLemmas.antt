@@ -18,7 +18,8 @@ after_is None x e = absurd (cc)
 after_is (Some y) x e = (y, refl, let f : suc y ≡ x = cc in sym f)
 
 -- no two references, and no two names, have one address
-apart_step : (b : Bool) (i j x : ℕ) (f : ℕ → Option ℕ) → ((i j x : ℕ) → f i ≡ Some x → f j ≡ Some x → i ≡ j) → nth_step b i f ≡ Some x → nth_step b j f ≡ Some x → i ≡ j
+apart_step : (b : Bool) (i j x : ℕ) (f : ℕ → Option ℕ) → ((i j x : ℕ) → f i ≡ Some x → f j ≡ Some x → i ≡ j) → nth_step b i f ≡ Some x
+    → nth_step b j f ≡ Some x → i ≡ j
 apart_step false i j x f h e g =
     let a = after_is (f i) x e in let b = after_is (f j) x g in
     let same : b.0 ≡ a.0 = omega (arith, a.2, b.2) in
@@ -69,7 +70,8 @@ bytes_end m (c ∷ t) x h b =
     omega (arith, r)
 
 -- a text, as the machine reads it
-pub text_string : (l : List Word) (m free t : List ℕ) (x : ℕ) → Shows l m → TextAt l t x → (string_at (m ++ free) x ≡ t) × (has_string (m ++ free) (length m) x ≡ true)
+pub text_string : (l : List Word) (m free t : List ℕ) (x : ℕ) → Shows l m → TextAt l t x
+    → (string_at (m ++ free) x ≡ t) × (has_string (m ++ free) (length m) x ≡ true)
 text_string l m free t x h k =
     let first : slice_get m x ≡ Some (length t) = h x (length t) k.0 in
     let count : slice_index (m ++ free) x ≡ length t = index_of (m ++ free) x (length t) (get_left m free x (length t) first) in

@@ -50,7 +50,9 @@ equal_is_short shapes start most = omega (arith, shapes_bound shapes start most 
 
 -- Going to a tag's place.
 
-joined_bound : (p : ℕ) (xs ys : List Target) (a b : Search) → length xs ≡ length (xs ++ ys) / 2 → 1 ≤ length (xs ++ ys) → (0 < length xs → search_size a + 3 ≤ 4 * length xs) → (0 < length xs → search_size b + 3 ≤ 4 * length ys) → search_size (joined false p xs ys a b) + 3 ≤ 4 * length (xs ++ ys)
+joined_bound : (p : ℕ) (xs ys : List Target) (a b : Search) → length xs ≡ length (xs ++ ys) / 2 → 1 ≤ length (xs ++ ys)
+    → (0 < length xs → search_size a + 3 ≤ 4 * length xs) → (0 < length xs → search_size b + 3 ≤ 4 * length ys)
+    → search_size (joined false p xs ys a b) + 3 ≤ 4 * length (xs ++ ys)
 joined_bound p [] [] a b n some l r = absurd (omega arith)
 joined_bound p (x ∷ xs) [] a b n some l r = absurd (omega (arith, length-append (x ∷ xs) []))
 joined_bound p [] (m ∷ ms) a b n some l r = omega arith

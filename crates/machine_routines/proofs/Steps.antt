@@ -42,7 +42,8 @@ module _ (C : ControlLaws) (M : MemoryLaws) (A : ArithmeticLaws) (f : Frame) (pc
   pub does_eq : (k x y v w : ℕ) → k < length ws → slice_get ws x ≡ Some v → slice_get ws y ≡ Some w → act s (Eq k x y) ≡ Goes (with_slot k (same_word v w))
   does_eq k x y v w h e g = A.eq s k x y v w (has k h) (holds x v e) (holds y w g) ∙ ap Goes (puts k (same_word v w))
 
-  pub does_two : (row : ℕ → ℕ → ℕ → Instr) (g : ℕ → ℕ → ℕ) → Total row g → (k x y v w : ℕ) → k < length ws → slice_get ws x ≡ Some v → slice_get ws y ≡ Some w → act s (row k x y) ≡ Goes (with_slot k (g v w))
+  pub does_two : (row : ℕ → ℕ → ℕ → Instr) (g : ℕ → ℕ → ℕ) → Total row g → (k x y v w : ℕ) → k < length ws → slice_get ws x ≡ Some v → slice_get ws y ≡ Some w
+      → act s (row k x y) ≡ Goes (with_slot k (g v w))
   does_two row g law k x y v w h e i = law s k x y v w (has k h) (holds x v e) (holds y w i) ∙ ap Goes (puts k (g v w))
 
   pub does_ld : (k x c v y : ℕ) → k < length ws → slice_get ws x ≡ Some v → slice_get m (v + c) ≡ Some y → act s (Ld k x c) ≡ Goes (with_slot k y)
@@ -51,7 +52,8 @@ module _ (C : ControlLaws) (M : MemoryLaws) (A : ArithmeticLaws) (f : Frame) (pc
       ∙ ap (λ z. Goes (next (put s k z))) (index_of (m ++ free) (v + c) y (get_left m free (v + c) y g))
       ∙ ap Goes (puts k y)
 
-  pub does_scmp : (lay : List Word) (k x y v w : ℕ) (t u : List ℕ) → k < length ws → slice_get ws x ≡ Some v → slice_get ws y ≡ Some w → Shows lay m → TextAt lay t v → TextAt lay u w → act s (SCmp k x y) ≡ Goes (with_slot k (order_code (slice_cmp nat_cmp t u)))
+  pub does_scmp : (lay : List Word) (k x y v w : ℕ) (t u : List ℕ) → k < length ws → slice_get ws x ≡ Some v → slice_get ws y ≡ Some w → Shows lay m
+      → TextAt lay t v → TextAt lay u w → act s (SCmp k x y) ≡ Goes (with_slot k (order_code (slice_cmp nat_cmp t u)))
   does_scmp lay k x y v w t u h e g show i j =
       let a = text_string lay m free t v show i in let b = text_string lay m free u w show j in
       M.scmp s k x y v w (has k h) (holds x v e) (holds y w g) a.1 b.1
@@ -71,11 +73,13 @@ module _ (C : ControlLaws) (M : MemoryLaws) (A : ArithmeticLaws) (f : Frame) (pc
   pub does_switch : (x n v : ℕ) → slice_get ws x ≡ Some v → act s (Switch x n) ≡ Goes (inside f (pc + 1 + min v n) ws m free)
   does_switch x n v e = C.switch s x n v (holds x v e)
 
-  pub does_ret : (x v back frame : ℕ) → slice_get ws x ≡ Some v → slice_get ws 0 ≡ Some back → slice_get ws 1 ≡ Some frame → act s (Ret x) ≡ Goes (returned f back frame v ws m free)
+  pub does_ret : (x v back frame : ℕ) → slice_get ws x ≡ Some v → slice_get ws 0 ≡ Some back → slice_get ws 1 ≡ Some frame
+      → act s (Ret x) ≡ Goes (returned f back frame v ws m free)
   does_ret x v back frame e g h = C.ret s x v back frame (holds x v e) (holds 0 back g) (holds 1 frame h)
 
   -- new words, where there are so many
-  pub does_alloc : (k n : ℕ) (new free' : List ℕ) → k < length ws → free ≡ new ++ free' → length new ≡ n → act s (Alloc k n) ≡ Goes (inside f (pc + 1) (slice_set ws k (length m)) (m ++ new) free')
+  pub does_alloc : (k n : ℕ) (new free' : List ℕ) → k < length ws → free ≡ new ++ free' → length new ≡ n
+      → act s (Alloc k n) ≡ Goes (inside f (pc + 1) (slice_set ws k (length m)) (m ++ new) free')
   does_alloc k n new free' h e l =
       let room : length m + n ≤ length (m ++ free) = omega (arith, length-append m free, ap length e, length-append new free') in
       let whole : m ++ free ≡ (m ++ new) ++ free' = ap (λ z. m ++ z) e ∙ sym (append_assoc m new free') in
@@ -89,17 +93,21 @@ module _ (C : ControlLaws) (M : MemoryLaws) (A : ArithmeticLaws) (f : Frame) (pc
   no_words k n h lt =
       let none : nat_le (length m + n) (length (m ++ free)) ≡ false = lt-leb _ _ (omega (arith, length-append m free)) in
       let there : nat_lt (length f.lower + k) (length (f.lower ++ ws)) ≡ true = lt-ltb _ _ (has k h) in
-      ap (λ b. check b NoStack s (check (nat_le (length m + n) (length (m ++ free))) NoHeap s (Goes (next (record (put s k (length m)) { limit = length m + n }))))) there
+      ap (λ b. check b NoStack s (check (nat_le (length m + n) (length (m ++ free))) NoHeap s
+      (Goes (next (record (put s k (length m)) { limit = length m + n }))))) there
       ∙ ap (λ b. check b NoHeap s (Goes (next (record (put s k (length m)) { limit = length m + n })))) none
 
 -- a word of the newest words
-pub does_st : (M : MemoryLaws) (f : Frame) (pc : ℕ) (ws m new free : List ℕ) (x c y v : ℕ) → f.base ≤ length m → c < length new → slice_get ws x ≡ Some (length m) → slice_get ws y ≡ Some v → act (inside f pc ws (m ++ new) free) (St x c y) ≡ Goes (inside f (pc + 1) ws (m ++ slice_set new c v) free)
+pub does_st : (M : MemoryLaws) (f : Frame) (pc : ℕ) (ws m new free : List ℕ) (x c y v : ℕ) → f.base ≤ length m → c < length new
+    → slice_get ws x ≡ Some (length m) → slice_get ws y ≡ Some v
+    → act (inside f pc ws (m ++ new) free) (St x c y) ≡ Goes (inside f (pc + 1) ws (m ++ slice_set new c v) free)
 does_st M f pc ws m new free x c y v low lt e g =
     let s = inside f pc ws (m ++ new) free in
     let inside_new : length m + c < length (m ++ new) = omega (arith, length-append m new) in
     let set : slice_set ((m ++ new) ++ free) (length m + c) v ≡ (m ++ slice_set new c v) ++ free =
     set-append_left (m ++ new) free (length m + c) v inside_new ∙ ap (λ z. z ++ free) (set_right m new c v) in
-    let size : length (m ++ new) ≡ length (m ++ slice_set new c v) = omega (arith, length-append m new, length-append m (slice_set new c v), length-set new c v) in
+    let size : length (m ++ new) ≡ length (m ++ slice_set new c v) =
+    omega (arith, length-append m new, length-append m (slice_set new c v), length-set new c v) in
     M.st s x c y (length m) v (get_right f.lower ws x ∙ e) (get_right f.lower ws y ∙ g) (omega arith) inside_new
     ∙ ap (λ z. Goes (record s { pc = pc + 1; memory = z })) set
     ∙ ap (λ z. Goes (record s { pc = pc + 1; memory = (m ++ slice_set new c v) ++ free; limit = z })) size

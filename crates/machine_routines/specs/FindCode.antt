@@ -79,7 +79,8 @@ joined tests p (x ∷ xs) (m ∷ ms) a b = node m.tag a b
 
 abbrev pub search_of : Bool → ℕ → ℕ → List Target → Search
 search_of tests p zero set = only p
-search_of tests p (suc k) set = joined tests p (take (half set) set) (drop (half set) set) (search_of tests p k (take (half set) set)) (search_of tests p k (drop (half set) set))
+search_of tests p (suc k) set = joined tests p (take (half set) set) (drop (half set) set) (search_of tests p k (take (half set) set))
+    (search_of tests p k (drop (half set) set))
 
 -- a dense table where the members are at least half of the tags below n, else a search
 abbrev pub way_of : Bool → ℕ → ℕ → List Target → Way

@@ -14,7 +14,8 @@ pub record ComesTo (code : List Instr) (s : State) (there : ℕ → State) : Typ
 -- With a tag in slot k and a free word after it, where the tags rise and are below n: any tag goes to its member's place, or to p where there is none.
 abbrev pub FindLaw : Type 0
 FindLaw =
-    (code : List Instr) (f : Frame) (front above m free : List ℕ) (t k : ℕ) → length front ≡ k → (p : ℕ) (set : List Target) (n pc x : ℕ) → Rises 0 set → Below n set
+    (code : List Instr) (f : Frame) (front above m free : List ℕ) (t k : ℕ) → length front ≡ k → (p : ℕ) (set : List Target) (n pc x : ℕ) → Rises 0 set
+    → Below n set
     → HasAt code pc (way_code set pc k (suc k) p (way_of true p n set))
     → ComesTo code (inside f pc (front ++ (t ∷ x ∷ above)) m free) (λ y. inside f (or_place (member_at t set) p) (front ++ (t ∷ y ∷ above)) m free)
 
