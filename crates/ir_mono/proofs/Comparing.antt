@@ -7,7 +7,7 @@ use Rattle.mlc_prims.specs.Table.{literal_eq}
 use Rattle.ty_core.specs.Types.{labels, name}
 use Rattle.ty_core.specs.declared.name.TyName.{TyName}
 use Rattle.ir_values.specs.Values.{literal, record_of, con, con_of, address, same_label}
-use Rattle.ir_values.specs.Equality.{unless_different, where_holds, if_equal, Constructed, same_part, same_at, same_fields}
+use Rattle.ir_values.specs.Equality.{both_equal, where_holds, if_equal, Constructed, same_part, same_at, same_fields}
 use Rattle.ir_plain.specs.Meaning.{V, Parts}
 use Rattle.ir_poly.specs.Types.{int_name, word_name, char_name, string_name, ref_name, exn_name}
 use Rattle.ir_mono.specs.Types.{Row, Node, node, node_at, constructor_at, admits, part, part_of, holds, has_literal, is_named, by_number, Is, IsRef, HasLiteral, has_int, has_word, has_char, has_string, IsOther, other_none, other_more, AreDistinct, distinct_none, distinct_more, AllAdmit, admit_none, admit_more, IsComparable, constants_are, references_are, records_are, constructions_are, IsTable}
@@ -20,9 +20,8 @@ use Rattle.ir_mono.proofs.Values.{other-name, literal-name, literal-few, FieldFo
 pub data Answers : Option Bool → Type 0 where
   answers : (b : Bool) → Answers (Some b)
 
-unless-answers : {o q : Option Bool} → Answers o → Answers q → Answers (unless_different o q)
-unless-answers (answers true) h = h
-unless-answers (answers false) h = answers false
+both-answer : {o q : Option Bool} → Answers o → Answers q → Answers (both_equal o q)
+both-answer (answers b) (answers c) = answers _
 
 if-answers : (b : Bool) {o : Option Bool} → (b ≡ true → Answers o) → Answers (if_equal b o)
 if-answers true h = h refl
@@ -211,7 +210,7 @@ module _ (types : List Row) where
       fields-answer : (n : ℕ) {ls ks : List Label} {ts us : List ℕ} {fs gs : Parts (mono types)} → Is types n (labels ls) ts → FieldsTyped types S fs ks us → FieldsTyped types S gs ls ts → AtParts ls ts ks us → Answers (same_fields (by_number types) n fs gs)
       fields-answer n e no_fields_are k parts_none = answers true
       fields-answer n e (a_field_is {l = l} {v = v} {t = t} h hs) k (parts_more p a ps) =
-          unless-answers (part-answers v (field-type n l e ∙ p) (field-typed types S l k p) (λ u j. same-answers h j (table.comparable t a))) (fields-answer n e hs k ps)
+          both-answer (part-answers v (field-type n l e ∙ p) (field-typed types S l k p) (λ u j. same-answers h j (table.comparable t a))) (fields-answer n e hs k ps)
 
 pub equality-answers : (types : List Row) → IsTable types → (S : Shape) (n : ℕ) (v u : V (mono types)) → ValueTyped types S v n → ValueTyped types S u n → admits types n ≡ true → (b : Bool) × (same_at (by_number types) n v u ≡ Some b)
 equality-answers types table S n v u h k a = go (same-answers types table S h k (table.comparable n a))

@@ -13,7 +13,7 @@ use Rattle.mlc_prims.specs.Table.{literal_eq, row_of}
 use Rattle.mlc_prims.specs.declared.basis.BasisPrimitive.{BasisPrimitive}
 use Rattle.ir_values.specs.Tags.{untagged}
 use Rattle.ir_values.specs.Values.{count, address_in, unit_value, truth_value}
-use Rattle.ir_values.specs.Equality.{unless_different, where_holds, if_equal, Constructed, fields_at, con_at, same_part, same_at, same_fields}
+use Rattle.ir_values.specs.Equality.{both_equal, where_holds, if_equal, Constructed, fields_at, con_at, same_part, same_at, same_fields}
 use Rattle.ir_values.specs.Primitives.{is_overloaded, Sort, compares, assigns, prints, computes, sort_of, begin_at, row_at, literals, parts, tuple, arguments, giving, compare_values, assign_value, print_literals, perform_as, perform, make_reference}
 use Rattle.ir_values.proofs.PrimitiveLemmas.{untagged-row}
 use Rattle.ir_plain.specs.Meaning.{V, Parts}
@@ -30,10 +30,10 @@ equal-answered : (o : Option Bool) → Answered o o
 equal-answered None = no_answer
 equal-answered (Some b) = answered b
 
-unless-answered : {a b c d : Option Bool} → Answered a c → Answered b d → Answered (unless_different a b) (unless_different c d)
-unless-answered no_answer k = no_answer
-unless-answered (answered true) k = k
-unless-answered (answered false) k = answered false
+both-answered : {a b c d : Option Bool} → Answered a c → Answered b d → Answered (both_equal a b) (both_equal c d)
+both-answered no_answer k = no_answer
+both-answered (answered b) no_answer = no_answer
+both-answered (answered b) (answered c) = answered _
 
 where-answered : (b : Bool) {o q : Option Bool} → Answered o q → Answered (where_holds b o) q
 where-answered true h = h
@@ -112,7 +112,7 @@ module _ (T : Target) where
 
     fields-answered : (g : G T) {fs' gs' : Parts (K T)} {fs gs : Parts poly} → RelFields T fs' fs → RelFields T gs' gs → Answered (same_fields T.tags g fs' gs') (same_fields untagged tt fs gs)
     fields-answered g rel_no_fields k = answered true
-    fields-answered g (rel_a_field l {v' = v'} {v = v} h hs) k = unless-answered (part-answered v' v (T.tags.field g l) (λ a u' u p. same-answered a h p) (field-same T l k)) (fields-answered g hs k)
+    fields-answered g (rel_a_field l {v' = v'} {v = v} h hs) k = both-answered (part-answered v' v (T.tags.field g l) (λ a u' u p. same-answered a h p) (field-same T l k)) (fields-answered g hs k)
 
   literals-related : {vs' : List (V (K T))} {vs : List (V poly)} → AllRelated R vs' vs → literals vs' ≡ literals vs
   literals-related none = refl
