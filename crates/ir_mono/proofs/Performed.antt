@@ -11,7 +11,7 @@ use Rattle.mlc_prims.specs.Table.{row_of}
 use Rattle.mlc_prims.specs.declared.prim.PrimExn.{PrimExn}
 use Rattle.mlc_prims.specs.declared.prim.PrimExn.TheVariants.{Overflow, Div, Subscript, Size, Chr}
 use Rattle.mlc_prims.specs.declared.basis.BasisPrimitive.{BasisPrimitive}
-use Rattle.mlc_prims.specs.declared.basis.BasisPrimitive.TheVariants.{Equals, Assign, Print}
+use Rattle.mlc_prims.specs.declared.basis.BasisPrimitive.TheVariants.{Add, Subtract, Multiply, Divide, Modulo, Negate, Less, LessEqual, Greater, GreaterEqual, Equals, Assign, Print}
 use Rattle.ty_core.specs.Types.{Typ, var, name, typs_of}
 use Rattle.ty_core.specs.Marks.{overloaded}
 use Rattle.ir_values.specs.Values.{literal, record_of, cell, address, exn, con, no_fields, field, Fields, field_in, truth_number}
