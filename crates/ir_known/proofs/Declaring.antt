@@ -1,7 +1,6 @@
 -- Parameters that are declared from the last to the first.
 use Rattle.std.proofs.Common.{◌≡◌, ℕ, zero, suc, ◌<◌, ◌≤◌, ◌-◌, Bool, true, false, not, ◌&&◌, ◌||◌, List, [], ◌∷◌, ◌++◌, length, drop, slice_index_or, Some, None, nat_eq, cond, refl, sym, ap, ◌∙◌, subst, arith}
 use Rattle.std.proofs.lemmas.Bool.{and_parts, and_from, both_ways, eqb-true, eq-eqb}
-use Rattle.std.proofs.Math.Seq.{drop-length}
 use Rattle.std.specs.Map.{lookup}
 use Rattle.ty_core.specs.declared.mark.Mark.{Mark}
 use Rattle.ty_core.specs.declared.scheme.Quantified.{Quantified}

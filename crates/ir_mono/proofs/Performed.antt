@@ -18,7 +18,7 @@ use Rattle.ir_values.specs.Values.{literal, record_of, cell, address, exn, con, 
 use Rattle.ir_values.specs.Primitives.{is_overloaded, Sort, compares, assigns, prints, computes, sort_of, begin_at, row_at, literals, parts, arguments, giving, raised_name, perform, perform_as}
 use Rattle.ir_plain.specs.Meaning.{V, Parts}
 use Rattle.ir_poly.specs.Types.{int_name, word_name, char_name, string_name, bool_name, prim_type}
-use Rattle.ir_mono.specs.Types.{Row, Is, IsRef, HasLiteral, has_int, has_word, has_char, has_string, Stands, stands_var, stands_con, AllStand, stand_none, stand_more, IsTable, IsTuple, nothing, alone, together, by_number, numbered, bool_number, unit_number}
+use Rattle.ir_mono.specs.Types.{Row, Is, IsRef, HasLiteral, has_int, has_word, has_char, has_string, distinct_none, Stands, stands_var, stands_con, AllStand, stand_none, stand_more, IsTable, IsTuple, nothing, alone, together, by_number, numbered, bool_number, unit_number}
 use Rattle.ir_mono.specs.Mono.{mono}
 use Rattle.ir_mono.specs.Typing.{PrimAt}
 use Rattle.ir_mono.specs.Values.{Shape, ValueTyped, literal_is, record_is, con_is, address_is, FieldsTyped, no_fields_are, a_field_is}
@@ -177,7 +177,7 @@ module _ (types : List Row) where
     truth-result (stands_con i stand_none) = i
 
     unit-typed : {S : Shape} {u n : ℕ} → Stands types (λ v. u) n Rattle.ir_poly.specs.Types.unit_type → ValueTyped types S (record_of unit_number no_fields) n
-    unit-typed {S} {n = n} (stands_con i stand_none) = subst (ValueTyped types S (record_of unit_number no_fields)) (table.once unit_number n _ table.unit i) (record_is table.unit no_fields_are)
+    unit-typed {S} {n = n} (stands_con i stand_none) = subst (ValueTyped types S (record_of unit_number no_fields)) (table.once unit_number n _ table.unit i) (record_is table.unit distinct_none no_fields_are)
 
     given-fine : {S : Shape} {b : Base} {l : Literal} {n : ℕ} (w : World W) → IsBase b l → HasLiteral types l n → WorldTyped types S w → Fine (OfType n) S (giving (by_number types) (made l) w)
     given-fine w (is_int z) h k = here k (literal_is h)
