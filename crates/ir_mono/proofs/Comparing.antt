@@ -35,7 +35,7 @@ module _ (types : List Row) where
   named : (y : TyName) (n : ℕ) {ps : List ℕ} → Is types n (name y) ps → holds (is_named y) (node_at types n) ≡ true
   named y n {ps} e = ap (holds (is_named y)) e ∙ eq-eqb y.stamp y.stamp refl
 
-  literal-there : {l : Literal} {n : ℕ} → HasLiteral types l n → holds (λ k. has_literal k l) (node_at types n) ≡ true
+  pub literal-there : {l : Literal} {n : ℕ} → HasLiteral types l n → holds (λ k. has_literal k l) (node_at types n) ≡ true
   literal-there {n = n} (has_int z e) = named int_name n e
   literal-there {n = n} (has_word k e) = named word_name n e
   literal-there {n = n} (has_char k e) = named char_name n e

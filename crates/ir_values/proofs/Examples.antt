@@ -167,5 +167,15 @@ at-another-type = refl
 taken-apart-elsewhere : under_record numbered 11 None one (λ fs. matches empty) ≡ mismatch
 taken-apart-elsewhere = refl
 
+-- `+` at a type takes constants of that type; one without a choice asks nothing of it
+sum-at-its-type : perform numbered {B = ℕ} {C = ℕ} 1 Add (literal (int (pos 5)) ∷ literal (int (pos 6)) ∷ []) (start 0) ≡ gives (literal (int (pos 11))) (start 0)
+sum-at-its-type = refl
+
+sum-at-another-type : perform numbered {B = ℕ} {C = ℕ} 2 Add (literal (int (pos 5)) ∷ literal (int (pos 6)) ∷ []) (start 0) ≡ stops went_wrong (start 0)
+sum-at-another-type = refl
+
+no-choice : perform numbered {B = ℕ} {C = ℕ} 2 SizeOf (literal (string []) ∷ []) (start 0) ≡ gives (literal (int (pos 0))) (start 0)
+no-choice = refl
+
 truth-is-tagged : perform numbered {B = ℕ} {C = ℕ} 1 Equals (literal (int (pos 5)) ∷ literal (int (pos 5)) ∷ []) (start 0) ≡ gives (con 6 true_number) (start 0)
 truth-is-tagged = refl

@@ -1,6 +1,6 @@
 -- What is done with values of the copies is done with those of the program, unless it goes wrong with the copies.
 use Rattle.std.proofs.Common.{◌≡◌, ℕ, List, [], ◌∷◌, Bool, true, false, Option, Some, None, option_map, option_and_then, nat_eq, subst, refl, sym}
-use Rattle.std.specs.Prelude.{zero, suc}
+use Rattle.std.specs.Prelude.{zero, suc, not, ◌||◌, if◌then◌else◌}
 use Rattle.mlc_base.specs.declared.label.Label.TheVariants.{Number}
 use Rattle.mlc_base.specs.Agreement.{AllRelated, none, more, BothOrNeither, neither, both, SameWorlds}
 use Rattle.mlc_base.specs.Refinement.{Refines, both_give, both_raise, both_stop, first_wrong}
@@ -14,7 +14,8 @@ use Rattle.mlc_prims.specs.declared.basis.BasisPrimitive.{BasisPrimitive}
 use Rattle.ir_values.specs.Tags.{untagged}
 use Rattle.ir_values.specs.Values.{count, address_in, unit_value, truth_value}
 use Rattle.ir_values.specs.Equality.{unless_different, where_holds, if_equal, Constructed, fields_at, con_at, same_part, same_at, same_fields}
-use Rattle.ir_values.specs.Primitives.{Sort, compares, assigns, prints, computes, sort_of, literals, parts, tuple, arguments, giving, compare_values, assign_value, print_literals, perform_as, perform, make_reference}
+use Rattle.ir_values.specs.Primitives.{is_overloaded, Sort, compares, assigns, prints, computes, sort_of, begin_at, row_at, literals, parts, tuple, arguments, giving, compare_values, assign_value, print_literals, perform_as, perform, make_reference}
+use Rattle.ir_values.proofs.PrimitiveLemmas.{untagged-row}
 use Rattle.ir_plain.specs.Meaning.{V, Parts}
 use Rattle.ir_poly.specs.Tests.{poly}
 use Rattle.monomorphise.specs.Copies.{Target}
@@ -156,11 +157,19 @@ module _ (T : Target) where
   print-refines (string t ∷ []) u w s = both_give unit-related (writes-same R t u w s)
   print-refines _ u w s = both_stop _ s
 
+  -- at a type whose constants the arguments aren't, it goes wrong with the copies
+  row-refines : (g : G T) (p : BasisPrimitive) (ls : List Literal) (u : World (V (K T))) (w : World (V poly)) → Worlds u w → Ends (or_fail (row_at T.tags g p ls) u (λ r. giving T.tags r u)) (or_fail (row_at untagged tt p ls) w (λ r. giving untagged r w))
+  row-refines g p ls u w s = rw (untagged-row p ls) (go (not (is_overloaded p) || begin_at T.tags g ls))
+    where
+      go : (b : Bool) → Ends (or_fail (if b then row_of p ls else None) u (λ r. giving T.tags r u)) (or_fail (row_of p ls) w (λ r. giving untagged r w))
+      go true = equal-refines (row_of p ls) u w refl s (λ r. giving-refines r u w s)
+      go false = first_wrong _
+
   perform-as-refines : (o : Sort) (g : G T) (p : BasisPrimitive) {vs' : List (V (K T))} {vs : List (V poly)} (u : World (V (K T))) (w : World (V poly)) → AllRelated R vs' vs → Worlds u w → Ends (perform_as T.tags o g p vs' u) (perform_as untagged o tt p vs w)
   perform-as-refines compares g p u w rs s = compare-refines g u w rs s
   perform-as-refines assigns g p u w rs s = assign-value-refines g u w rs s
   perform-as-refines prints g p {vs' = vs'} u w rs s = equal-refines (literals vs') u w (literals-related rs) s (λ ls. print-refines ls u w s)
-  perform-as-refines computes g p {vs' = vs'} u w rs s = equal-refines (literals vs') u w (literals-related rs) s (λ ls. equal-refines (row_of p ls) u w refl s (λ r. giving-refines r u w s))
+  perform-as-refines computes g p {vs' = vs'} u w rs s = equal-refines (literals vs') u w (literals-related rs) s (λ ls. row-refines g p ls u w s)
 
   pub perform-refines : (g : G T) (p : BasisPrimitive) {vs' : List (V (K T))} {vs : List (V poly)} (u : World (V (K T))) (w : World (V poly)) → AllRelated R vs' vs → Worlds u w → Ends (perform T.tags g p vs' u) (perform untagged tt p vs w)
   perform-refines g p u w rs s = perform-as-refines (sort_of p) g p u w rs s
