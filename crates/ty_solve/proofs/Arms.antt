@@ -20,8 +20,8 @@ module _ {X : Type 0} (g : X → Option Write) (n : ℕ) (s : ℕ → Entry) (w 
   equal-err a b c d (Ok x) p q h = h
   equal-err a b c d (Err e) p q h = refuses-along n s w a b c d p q e h
 
-  pub admit-ok : (k : Mark) (a c : Typ) (v : ℕ) (r : Result X UnifyRefused) → Reads n s w a c → c ≡ var v → IfOk r (λ x. (l : List Task) → Steps n s w l (Admit k (var v)) l (g x)) → IfOk r (λ x. Steps n s w old (Admit k a) old (g x))
-  admit-ok k a c v (Ok x) p e h = steps-admit-along n s w old old (g x) k a c p (subst (λ t. Steps n s w old (Admit k t) old (g x)) (sym e) (h old))
+  pub admit-ok : (k : Mark) (a c : Typ) (v : ℕ) (r : Result X UnifyRefused) → Reads n s w a c → c ≡ var v → IfOk r (λ x. Steps n s w old (Admit k (var v)) new (g x)) → IfOk r (λ x. Steps n s w old (Admit k a) new (g x))
+  admit-ok k a c v (Ok x) p e h = steps-admit-along n s w old new (g x) k a c p (subst (λ t. Steps n s w old (Admit k t) new (g x)) (sym e) h)
   admit-ok k a c v (Err e) p q h = h
 
   pub admit-err : (k : Mark) (a c : Typ) (v : ℕ) (r : Result X UnifyRefused) → Reads n s w a c → c ≡ var v → IfErr r (RefusesTask s (Admit k (var v))) → IfErr r (RefusesTask s (Admit k a))
@@ -63,3 +63,8 @@ beside-at ts [] r i h k = absurd (omega arith)
 beside-at ts (x ∷ l) [] i h k = absurd (omega arith)
 beside-at ts (x ∷ l) (y ∷ r) zero h k = Beside.here _ _ _ _
 beside-at ts (x ∷ l) (y ∷ r) (suc i) h k = Beside.later _ _ _ _ _ _ (beside-at ts l r i (omega arith) (omega arith))
+
+pub map-get : (ts : List Typ) (l : List ℕ) (i : ℕ) → i < length l → type_at ts (get_or l i 0) ≡ get_or (map (type_at ts) l) i (type_at ts (get_or l i 0))
+map-get ts [] i h = absurd (omega arith)
+map-get ts (k ∷ l) zero h = refl
+map-get ts (k ∷ l) (suc i) h = map-get ts l i (omega arith)

@@ -84,7 +84,7 @@ open-before p v e (inl q) h = ap is_open (sym q) ∙ h
 open-before p v e (inr q) h = q.0
 
 -- what fits the new fits the old
-fits-put : (f : ℕ → Typ) (s s' : ℕ → Entry) (v : ℕ) (e : Entry) → Puts s s' v e → FitsAt f (f v) (s v) → Fits f s' → Fits f s
+pub fits-put : (f : ℕ → Typ) (s s' : ℕ → Entry) (v : ℕ) (e : Entry) → Puts s s' v e → FitsAt f (f v) (s v) → Fits f s' → Fits f s
 fits-put f s s' v e p k h x = go (cases_eq x v)
   where
     go : (x ≡ v) ⊎ (x ≡ v → ⊥) → FitsAt f (f x) (s x)

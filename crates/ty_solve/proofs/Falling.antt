@@ -3,14 +3,14 @@ use Rattle.std.proofs.Common.{◌≡◌, ◌≢◌, ◌<◌, ◌≤◌, ◌+◌,
 use Rattle.std.proofs.Math.Nat.{min-eq_left}
 use Rattle.std.proofs.lemmas.Bool.{cases_eq, and_parts, ltb-true}
 use mathlib.Core.Logic.{◌⊎◌, inl, inr}
-use Rattle.ty_core.specs.Types.{Typ, var, con, Typs, none, more, Symbol, nodes, all_nodes}
+use Rattle.ty_core.specs.Types.{Typ, var, con, Typs, none, more, Symbol, labels, nodes, all_nodes}
 use Rattle.ty_table.specs.TypeAt.{type_at, types_at}
 use Rattle.ty_solve.specs.Substitution.{is_below, are_below}
 use Rattle.ty_solve.specs.Forces.{Beside}
 use Rattle.ty_solve.specs.Weight.{weight, weights}
 use Rattle.ty_solve.specs.Walk.{Has}
 use Rattle.ty_solve.specs.Limits.{SymbolOver, limit_at, narrower, NoFurther, Limited, AllLimited}
-use Rattle.ty_solve.specs.Lowering.{undo_limits, sum, PartOf, LowersOne, Visits, Fell, LowersType, RefusesName, RefusesIn}
+use Rattle.ty_solve.specs.Lowering.{undo_limits, sum, together, PartOf, LowersOne, Visits, Fell, LowersType, RefusesName, RefusesIn}
 use Rattle.ty_solve.specs.declared.limit.Limit.{Limit}
 use Rattle.ty_solve.specs.declared.limit.KeptLimit.{KeptLimit}
 use Rattle.ty_solve.specs.declared.refused.UnifyRefused.{UnifyRefused}
@@ -167,26 +167,15 @@ pub data Through (ts : List Typ) (to : Limit) (b : ℕ → Limit) (done pending 
   variable : (y : ℕ) → type_at ts k ≡ var y → NoFurther (b y) to → Through ts to b done pending k
   applied : (h : Symbol) (parts : List ℕ) → type_at ts k ≡ con h (types_at ts parts) → SymbolOver to.names h → ((j : ℕ) → Has parts j → Has done j ⊎ Has pending j) → Through ts to b done pending k
 
--- the type t was looked through but for what is pending
-pub record Walked (ts : List Typ) (t : ℕ) (to : Limit) (old b : List Limit) (noted now done pending : List ℕ) : Type 0 where
-  pub start : Has done t ⊎ Has pending t
+-- the types of us were looked through but for what is pending
+pub record Walked (ts : List Typ) (us : List ℕ) (to : Limit) (old b : List Limit) (noted now done pending : List ℕ) : Type 0 where
+  pub start : (k : ℕ) → Has us k → Has done k ⊎ Has pending k
   pub through : (k : ℕ) → Has done k → Through ts to (limit_at b) done pending k
-  pub inside : (k : ℕ) → Has pending k → PartOf (type_at ts t) (type_at ts k)
+  pub inside : (k : ℕ) → Has pending k → PartOf (together (types_at ts us)) (type_at ts k)
   pub down : (x : ℕ) → NoFurther (limit_at b x) (limit_at old x)
-  pub from : (x : ℕ) → (limit_at b x ≡ limit_at old x) ⊎ Fell (type_at ts t) to (limit_at old) (limit_at b) now x
+  pub from : (x : ℕ) → (limit_at b x ≡ limit_at old x) ⊎ Fell (together (types_at ts us)) to (limit_at old) (limit_at b) now x
   pub stay : (x : ℕ) → Has noted x → Has now x
   pub fewer : sum b + length now ≤ sum old + length noted
-
-pub walked-first : (ts : List Typ) (t : ℕ) (to : Limit) (old : List Limit) (noted done empty l : List ℕ) → done ≡ [] → empty ≡ [] → l ≡ empty ++ t ∷ [] → Walked ts t to old old noted noted done l
-walked-first ts t to old noted done empty l p q e = subst (λ d. Walked ts t to old old noted noted d l) (sym p) (subst (λ m. Walked ts t to old old noted noted [] m) (sym (e ∙ ap (λ m. m ++ t ∷ []) q)) (record {
-  start = inr (inl refl);
-  through = λ k h. absurd h;
-  inside = λ k h. subst (λ x. PartOf (type_at ts t) (type_at ts x)) (sym (only t k h)) PartOf.whole;
-  down = λ x. further-same _;
-  from = λ x. inl refl;
-  stay = λ x h. h;
-  fewer = omega arith;
-}))
 
 part-of : (ts : List Typ) (t : Typ) (h : Symbol) (us : Typs) (ks : List ℕ) → PartOf t (con h us) → ((u : Typ) → Beside u u (types_at ts ks) (types_at ts ks) → Beside u u us us) → (j : ℕ) → Has ks j → PartOf t (type_at ts j)
 part-of ts t h us ks q into j a = PartOf.part h us (type_at ts j) q (into (type_at ts j) (beside ks j a))
@@ -196,8 +185,19 @@ part-of ts t h us ks q into j a = PartOf.part h us (type_at ts j) q (into (type_
     beside (k ∷ ks) j (inl e) = subst (λ x. Beside (type_at ts x) (type_at ts x) (types_at ts (k ∷ ks)) (types_at ts (k ∷ ks))) (sym e) (Beside.here _ _ _ _)
     beside (k ∷ ks) j (inr a) = Beside.later _ _ _ _ _ _ (beside ks j a)
 
-module _ (ts : List Typ) (t : ℕ) (to : Limit) (old b : List Limit) (noted now done all rest : List ℕ) (k : ℕ) (e : all ≡ rest ++ k ∷ []) (g : Walked ts t to old b noted now done all) where
-  pub part-here : PartOf (type_at ts t) (type_at ts k)
+pub walked-first : (ts : List Typ) (us : List ℕ) (to : Limit) (old : List Limit) (noted done : List ℕ) → done ≡ [] → Walked ts us to old old noted noted done us
+walked-first ts us to old noted done p = subst (λ d. Walked ts us to old old noted noted d us) (sym p) (record {
+  start = λ k h. inr h;
+  through = λ k h. absurd h;
+  inside = λ k h. part-of ts (together (types_at ts us)) (labels []) (types_at ts us) us PartOf.whole (λ u b. b) k h;
+  down = λ x. further-same _;
+  from = λ x. inl refl;
+  stay = λ x h. h;
+  fewer = omega arith;
+})
+
+module _ (ts : List Typ) (us : List ℕ) (to : Limit) (old b : List Limit) (noted now done all rest : List ℕ) (k : ℕ) (e : all ≡ rest ++ k ∷ []) (g : Walked ts us to old b noted now done all) where
+  pub part-here : PartOf (together (types_at ts us)) (type_at ts k)
   part-here = g.inside k (subst (λ l. Has l k) (sym e) (has-last rest k))
 
   along : (then next : List ℕ) → Has then k ⊎ Has next k → ((j : ℕ) → Has done j → Has then j) → ((j : ℕ) → Has rest j → Has next j) → (j : ℕ) → Has done j ⊎ Has all j → Has then j ⊎ Has next j
@@ -216,9 +216,9 @@ module _ (ts : List Typ) (t : ℕ) (to : Limit) (old b : List Limit) (noted now 
       go (Through.applied f parts p o i) = Through.applied f parts p o (λ u w. along then next c x y u (i u w))
 
   -- a type that was looked at before
-  pub walked-skips : Has done k → Walked ts t to old b noted now done rest
+  pub walked-skips : Has done k → Walked ts us to old b noted now done rest
   walked-skips c = record {
-    start = along done rest (inl c) (λ j h. h) (λ j h. h) t g.start;
+    start = λ i w. along done rest (inl c) (λ j h. h) (λ j h. h) i (g.start i w);
     through = λ j h. through-along done rest (limit_at b) (λ x. further-same _) (inl c) (λ j h. h) (λ j h. h) j h;
     inside = λ j h. g.inside j (subst (λ l. Has l j) (sym e) (has-front rest (k ∷ []) j h));
     down = g.down;
@@ -242,11 +242,11 @@ module _ (ts : List Typ) (t : ℕ) (to : Limit) (old b : List Limit) (noted now 
         go (inr i) = subst P (sym (only k j i)) y
 
     -- a type that is no variable
-    walked-applied : (next : List ℕ) (h : Symbol) (parts : List ℕ) → type_at ts k ≡ con h (types_at ts parts) → SymbolOver to.names h → next ≡ rest ++ parts → Walked ts t to old b noted now then next
+    walked-applied : (next : List ℕ) (h : Symbol) (parts : List ℕ) → type_at ts k ≡ con h (types_at ts parts) → SymbolOver to.names h → next ≡ rest ++ parts → Walked ts us to old b noted now then next
     walked-applied next h parts p o q =
         let y : (j : ℕ) → Has rest j → Has next j = λ j i. subst (λ l. Has l j) (sym q) (has-front rest parts j i) in
         record {
-          start = along then next (inl now-here) kept-done y t g.start;
+          start = λ i w. along then next (inl now-here) kept-done y i (g.start i w);
           through = each (Through ts to (limit_at b) then next) (through-along then next (limit_at b) (λ x. further-same _) (inl now-here) kept-done y) (Through.applied h parts p o (λ j i. inr (subst (λ l. Has l j) (sym q) (has-back rest parts j i))));
           inside = λ j i. inner j (has-either rest parts j (subst (λ l. Has l j) q i));
           down = g.down;
@@ -255,17 +255,17 @@ module _ (ts : List Typ) (t : ℕ) (to : Limit) (old b : List Limit) (noted now 
           fewer = g.fewer;
         }
       where
-        inner : (j : ℕ) → Has rest j ⊎ Has parts j → PartOf (type_at ts t) (type_at ts j)
+        inner : (j : ℕ) → Has rest j ⊎ Has parts j → PartOf (together (types_at ts us)) (type_at ts j)
         inner j (inl i) = g.inside j (subst (λ l. Has l j) (sym e) (has-front rest (k ∷ []) j i))
-        inner j (inr i) = part-of ts (type_at ts t) h (types_at ts parts) parts (subst (PartOf (type_at ts t)) p part-here) (λ u w. w) j i
+        inner j (inr i) = part-of ts (together (types_at ts us)) h (types_at ts parts) parts (subst (PartOf (together (types_at ts us))) p part-here) (λ u w. w) j i
 
     -- a variable
-    walked-variable : (y : ℕ) (new : List Limit) (after : List ℕ) → type_at ts k ≡ var y → y < length b → LowersOne b new y to now after → Walked ts t to old new noted after then rest
+    walked-variable : (y : ℕ) (new : List Limit) (after : List ℕ) → type_at ts k ≡ var y → y < length b → LowersOne b new y to now after → Walked ts us to old new noted after then rest
     walked-variable y new after p lt o =
         let fewer = g.fewer in
         let less = one-fewer b new y to now after lt o in
         record {
-          start = along then rest (inl now-here) kept-done (λ j i. i) t g.start;
+          start = λ u w. along then rest (inl now-here) kept-done (λ j i. i) u (g.start u w);
           through = each (Through ts to (limit_at new) then rest) (through-along then rest (limit_at new) (one-down b new y to now after lt o) (inl now-here) kept-done (λ j i. i)) (Through.variable y p (one-at b new y to now after lt o));
           inside = λ j i. g.inside j (subst (λ l. Has l j) (sym e) (has-front rest (k ∷ []) j i));
           down = λ x. further-along _ _ _ (one-down b new y to now after lt o x) (g.down x);
@@ -274,7 +274,7 @@ module _ (ts : List Typ) (t : ℕ) (to : Limit) (old b : List Limit) (noted now 
           fewer = omega arith;
         }
       where
-        names-of : (x : ℕ) → ((limit_at new x).names ≡ (limit_at b x).names) ⊎ ((limit_at new x).names ≡ to.names) → (limit_at b x ≡ limit_at old x) ⊎ Fell (type_at ts t) to (limit_at old) (limit_at b) now x → ((limit_at new x).names ≡ (limit_at old x).names) ⊎ ((limit_at new x).names ≡ to.names)
+        names-of : (x : ℕ) → ((limit_at new x).names ≡ (limit_at b x).names) ⊎ ((limit_at new x).names ≡ to.names) → (limit_at b x ≡ limit_at old x) ⊎ Fell (together (types_at ts us)) to (limit_at old) (limit_at b) now x → ((limit_at new x).names ≡ (limit_at old x).names) ⊎ ((limit_at new x).names ≡ to.names)
         names-of x (inr i) f = inr i
         names-of x (inl i) (inl q) = inl (i ∙ ap (λ l. l.names) q)
         names-of x (inl i) (inr f) = go f.names
@@ -283,7 +283,7 @@ module _ (ts : List Typ) (t : ℕ) (to : Limit) (old b : List Limit) (noted now 
             go (inl q) = inl (i ∙ q)
             go (inr q) = inr (i ∙ q)
 
-        go : (x : ℕ) → (limit_at new x ≡ limit_at b x) ⊎ OneFell y to (limit_at b) (limit_at new) after x → (limit_at b x ≡ limit_at old x) ⊎ Fell (type_at ts t) to (limit_at old) (limit_at b) now x → (limit_at new x ≡ limit_at old x) ⊎ Fell (type_at ts t) to (limit_at old) (limit_at new) after x
+        go : (x : ℕ) → (limit_at new x ≡ limit_at b x) ⊎ OneFell y to (limit_at b) (limit_at new) after x → (limit_at b x ≡ limit_at old x) ⊎ Fell (together (types_at ts us)) to (limit_at old) (limit_at b) now x → (limit_at new x ≡ limit_at old x) ⊎ Fell (together (types_at ts us)) to (limit_at old) (limit_at new) after x
         go x (inl q) (inl r) = inl (q ∙ r)
         go x (inl q) (inr f) = inr (record {
           has = one-stay b new y to now after lt o x f.has;
@@ -293,17 +293,17 @@ module _ (ts : List Typ) (t : ℕ) (to : Limit) (old b : List Limit) (noted now 
         })
         go x (inr f) r = inr (record {
           has = f.has;
-          part = subst (λ z. PartOf (type_at ts t) (var z)) (sym f.is) (subst (PartOf (type_at ts t)) p part-here);
+          part = subst (λ z. PartOf (together (types_at ts us)) (var z)) (sym f.is) (subst (PartOf (together (types_at ts us))) p part-here);
           names = names-of x f.names r;
           further = λ h. f.further (further-along _ _ _ (g.down x) h);
         })
 
-    pub walked-visits : (new : List Limit) (next after : List ℕ) → ((y : ℕ) → type_at ts k ≡ var y → y < length b) → Visits ts k to b new rest next now after → Walked ts t to old new noted after then next
-    walked-visits new next after lt (Visits.variable y p q o) = subst (Walked ts t to old new noted after then) (sym q) (walked-variable y new after p (lt y p) o)
-    walked-visits new next after lt (Visits.applied h parts p o q r z) = subst (λ l. Walked ts t to old l noted after then next) (sym r) (subst (λ l. Walked ts t to old b noted l then next) (sym z) (walked-applied next h parts p o q))
+    pub walked-visits : (new : List Limit) (next after : List ℕ) → ((y : ℕ) → type_at ts k ≡ var y → y < length b) → Visits ts k to b new rest next now after → Walked ts us to old new noted after then next
+    walked-visits new next after lt (Visits.variable y p q o) = subst (Walked ts us to old new noted after then) (sym q) (walked-variable y new after p (lt y p) o)
+    walked-visits new next after lt (Visits.applied h parts p o q r z) = subst (λ l. Walked ts us to old l noted after then next) (sym r) (subst (λ l. Walked ts us to old b noted l then next) (sym z) (walked-applied next h parts p o q))
 
-  pub refuses-in : (c : UnifyRefused) → RefusesName (type_at ts k) to c → RefusesIn (type_at ts t) to c
-  refuses-in Clash h = (h.0, h.1, subst (PartOf (type_at ts t)) h.2 part-here, h.3)
+  pub refuses-in : (c : UnifyRefused) → RefusesName (type_at ts k) to c → RefusesIn (together (types_at ts us)) to c
+  refuses-in Clash h = (h.0, h.1, subst (PartOf (together (types_at ts us))) h.2 part-here, h.3)
   refuses-in Circular h = h
   refuses-in Large h = h
   refuses-in Memory h = tt
@@ -326,19 +326,15 @@ module _ (ts : List Typ) (to : Limit) (b : ℕ → Limit) (done : List ℕ) (thr
       go (Through.variable y p q) again = subst (Limited b to) (sym p) q
       go (Through.applied f parts p o i) again = let z = ap nodes p in subst (Limited b to) (sym p) (o, all-limited n again parts (omega arith) i)
 
-pub walked-ends : (ts : List Typ) (t : ℕ) (to : Limit) (old b : List Limit) (noted now done l : List ℕ) → length l ≡ 0 → Walked ts t to old b noted now done l → LowersType (type_at ts t) to old b noted now
-walked-ends ts t to old b noted now done (x ∷ l) e g = absurd (omega arith)
-walked-ends ts t to old b noted now done [] e g = record {
-  limited = go g.start;
+pub walked-ends : (ts : List Typ) (us : List ℕ) (to : Limit) (old b : List Limit) (noted now done l : List ℕ) → length l ≡ 0 → Walked ts us to old b noted now done l → LowersType (together (types_at ts us)) to old b noted now
+walked-ends ts us to old b noted now done (x ∷ l) e g = absurd (omega arith)
+walked-ends ts us to old b noted now done [] e g = record {
+  limited = (tt, all-limited ts to (limit_at b) done g.through (suc (all_nodes (types_at ts us))) (λ j lt h. limited-by ts to (limit_at b) done g.through (suc (nodes (type_at ts j))) j (omega arith) h) us (omega arith) g.start);
   down = g.down;
   from = g.from;
   stay = g.stay;
   fewer = g.fewer;
 }
-  where
-    go : Has done t ⊎ Has [] t → Limited (limit_at b) to (type_at ts t)
-    go (inl h) = limited-by ts to (limit_at b) done g.through (suc (nodes (type_at ts t))) t (omega arith) h
-    go (inr h) = absurd h
 
 -- what is looked at next has fewer nodes
 pub visit-lighter : (ts : List Typ) (to : Limit) (b new : List Limit) (old rest next now after : List ℕ) (k : ℕ) → old ≡ rest ++ k ∷ [] → Visits ts k to b new rest next now after → weights (λ v. 0) (types_at ts next) < weights (λ v. 0) (types_at ts old)

@@ -1,23 +1,28 @@
 -- Limits on their way to those that never rise.
-use Rattle.std.proofs.Common.{◌≡◌, ◌<◌, ◌≤◌, ℕ, List, [], ◌∷◌, ◌++◌, refl, sym, ap, ◌∙◌, subst, arith}
-use Rattle.std.proofs.lemmas.Bool.{cases_eq, ltb-true, lt-ltb}
+use Rattle.std.proofs.Common.{◌≡◌, ◌<◌, ◌≤◌, ℕ, Bool, true, List, [], ◌∷◌, ◌++◌, refl, sym, ap, ◌∙◌, subst, arith}
+use Rattle.std.proofs.lemmas.Bool.{cases_eq, ltb-true, lt-ltb, and_from}
 use mathlib.Core.Logic.{◌⊎◌, inl, inr}
 use Rattle.ty_core.specs.Types.{Typ, var, con, Typs, none, more, Symbol, arrow, labels, name}
-use Rattle.ty_solve.specs.Substitution.{Entry, free, bound, row, sub, subs, Fits, FitsAt}
+use Rattle.ty_core.specs.declared.name.TyName.{TyName}
+use Rattle.ty_table.specs.TypeAt.{type_at, types_at}
+use Rattle.ty_solve.specs.Substitution.{Entry, free, bound, row, sub, subs, are_below, Meets, Solves}
 use Rattle.ty_solve.specs.SlotsOf.{look, entries, entry_of, seen}
-use Rattle.ty_solve.specs.Forces.{Problem, Forces, Lies, Met, Beside, ForcedAt, LeftAt, IsForced}
+use Rattle.ty_solve.specs.Forces.{Problem, Forces, Lies, Met, EntryMet, Beside, ForcedAt, LeftAt, IsForced}
 use Rattle.ty_solve.specs.Solve.{problem, undo, IsMostGeneral}
-use Rattle.ty_solve.specs.Walk.{Has}
+use Rattle.ty_solve.specs.Walk.{Has, LooksInRow, LooksUnder}
+use Rattle.ty_solve.specs.Weight.{BelowAt, InhabitedAt}
 use Rattle.ty_solve.specs.Limits.{SymbolOver, Over, AllOver, limit_at, NoFurther, Limited, AllLimited, LimitedAt, AreLimited, IsCauseWithin}
-use Rattle.ty_solve.specs.Lowering.{PartOf, Above, Lowering, Fell, LowersType, RefusesIn, RefusesLimits, IsSettled, variables}
+use Rattle.ty_solve.specs.Lowering.{together, PartOf, Under, Above, Lowering, Fell, LowersType, RefusesIn, RefusesLimits, IsSettled, variables}
 use Rattle.ty_solve.specs.declared.limit.Limit.{Limit}
 use Rattle.ty_solve.specs.declared.trail.Kept.{Kept}
 use Rattle.ty_solve.specs.declared.subst.Slot.{Slot}
 use Rattle.ty_solve.specs.declared.refused.UnifyRefused.{UnifyRefused}
 use Rattle.ty_solve.specs.declared.refused.UnifyRefused.TheVariants.{Clash, Circular, Large, Memory}
-use Rattle.ty_solve.proofs.Sigma.{solves-fits}
 use Rattle.ty_solve.proofs.Circular.{lies-right}
-use Rattle.ty_solve.proofs.Finds.{step-met}
+use Rattle.ty_solve.proofs.RowArms.{entry-met}
+use Rattle.ty_solve.proofs.Joining.{at-beside}
+use Rattle.ty_solve.proofs.Labels.{at-subs, beside-at}
+use Rattle.ty_solve.proofs.Subs.{parts_of, head_of, tail_of}
 use Rattle.ty_solve.proofs.Look.{look-set-other}
 use Rattle.ty_solve.proofs.Slots.{entries-set}
 use Rattle.ty_solve.proofs.Falling.{further-same, further-along}
@@ -56,14 +61,58 @@ in-part : (p : Problem) (t u : Typ) → PartOf t u → In p u t
 in-part p t _ PartOf.whole = inl (Forces.same t)
 in-part p t _ (PartOf.part c ts u q i) = in-along p u (con c ts) t (inr (Lies.part c ts u (con c ts) (Forces.same _) i)) (in-part p t (con c ts) q)
 
+-- what stands in the types of a list stands in one of them
+split-on : (T : Typ) (h : Symbol) (us : Typs) (c : Symbol) (ts : Typs) (u : Typ) → T ≡ con h us → Beside u u ts ts → (con c ts ≡ T) ⊎ ((t : Typ) × Beside t t us us × PartOf t (con c ts)) → (u ≡ T) ⊎ ((t : Typ) × Beside t t us us × PartOf t u)
+split-on T h us c ts u e i (inl p) = inr (u, subst (λ z. Beside u u z z) (ap parts_of (p ∙ e)) i, PartOf.whole)
+split-on T h us c ts u e i (inr r) = inr (r.0, r.1, PartOf.part c ts u r.2 i)
+
+split : (T : Typ) (h : Symbol) (us : Typs) (u : Typ) → T ≡ con h us → PartOf T u → (u ≡ T) ⊎ ((t : Typ) × Beside t t us us × PartOf t u)
+split T h us _ e PartOf.whole = inl refl
+split T h us _ e (PartOf.part c ts u q i) = split-on T h us c ts u e i (split T h us (con c ts) e q)
+
+variable-in : (us : Typs) (x : ℕ) → PartOf (together us) (var x) → (t : Typ) × Beside t t us us × PartOf t (var x)
+variable-in us x q = go (split (together us) (labels []) us (var x) refl q)
+  where
+    go : (var x ≡ together us) ⊎ ((t : Typ) × Beside t t us us × PartOf t (var x)) → (t : Typ) × Beside t t us us × PartOf t (var x)
+    go (inl e) = cc
+    go (inr r) = r
+
+name-in : (us : Typs) (n : TyName) (ts : Typs) → PartOf (together us) (con (name n) ts) → (t : Typ) × Beside t t us us × PartOf t (con (name n) ts)
+name-in us n ts q = go (split (together us) (labels []) us (con (name n) ts) refl q)
+  where
+    go : (con (name n) ts ≡ together us) ⊎ ((t : Typ) × Beside t t us us × PartOf t (con (name n) ts)) → (t : Typ) × Beside t t us us × PartOf t (con (name n) ts)
+    go (inl e) = cc
+    go (inr r) = r
+
+-- what stands right below a variable
+over-under : (m : ℕ → Bool) (f : ℕ → Typ) (n : ℕ) (y t : Typ) (e : Entry) → Meets m f y e → Under e t → Over n y → Over n (sub f t)
+over-under m f n y t (free k) g u h = absurd u
+over-under m f n y t (bound x) g u h = subst (λ z. Over n (sub f z)) (sym u) (subst (Over n) g h)
+over-under m f n y t (row e ks us) g u h = all-beside (Over n) (AllOver n) (λ t ts k. k) (sub f t) (sub f t) g.types g.types (at-beside u.0 (sub f t) g.names g.types (g.fields u.0 (sub f t) (at-subs f u.0 t ks us u.1))) (subst (Over n) g.is h).1
+
+limited-under : (b : ℕ → Limit) (l : Limit) (e : Entry) (t : Typ) → Under e t → LimitedAt b l e → Limited b l t
+limited-under b l (free k) t u h = absurd u
+limited-under b l (bound x) t u h = subst (Limited b l) (sym u) h
+limited-under b l (row e ks us) t u h = all-beside (Limited b l) (AllLimited b l) (λ t ts k. k) t t us us (at-beside u.0 t ks us u.1) h
+
+in-under : (p : Problem) (v : ℕ) (e : Entry) (t : Typ) → ForcedAt p v e → Under e t → In p t (var v)
+in-under p v (free k) t g u = absurd u
+in-under p v (bound x) t g u = inl (subst (Forces p (var v)) (sym u) g)
+in-under p v (row e ks us) t g u = inr (Lies.field (var v) u.0 t (g.has u.0 t u.1))
+
+met-under : (p : Problem) (e : Entry) (t : Typ) → EntryMet p e → Under e t → Met p t
+met-under p (free k) t g u = absurd u
+met-under p (bound x) t g u = subst (Met p) (sym u) g
+met-under p (row e ks us) t g u = g u.0 t u.1
+
 module _ (s : ℕ → Entry) where
-  above-over : (f : ℕ → Typ) → Fits f s → (n u v : ℕ) → Above s u v → Over n (f u) → Over n (f v)
-  above-over f i n u _ Above.itself h = h
-  above-over f i n u _ (Above.inner v y t a e q) h = over-part n f t (var y) q (subst (Over n) (subst (FitsAt f (f v)) e (i v)) (above-over f i n u v a h))
+  above-over : (m : ℕ → Bool) (f : ℕ → Typ) → Solves m f s → (n u v : ℕ) → Above s u v → Over n (f u) → Over n (f v)
+  above-over m f i n u _ Above.itself h = h
+  above-over m f i n u _ (Above.inner v y t a e q) h = over-part n f t (var y) q (over-under m f n (f v) t (s v) (i v) e (above-over m f i n u v a h))
 
   above-in : (p : Problem) → IsForced p s → (u v : ℕ) → Above s u v → In p (var v) (var u)
   above-in p i u _ Above.itself = inl (Forces.same _)
-  above-in p i u _ (Above.inner v y t a e q) = in-along p (var y) (var v) (var u) (in-along p (var y) t (var v) (in-part p t (var y) q) (inl (subst (ForcedAt p v) e (i v).0))) (above-in p i u v a)
+  above-in p i u _ (Above.inner v y t a e q) = in-along p (var y) (var v) (var u) (in-along p (var y) t (var v) (in-part p t (var y) q) (in-under p v (s v) t (i v).0 e)) (above-in p i u v a)
 
 -- lower limits
 mutual
@@ -94,46 +143,46 @@ module _ (p : Problem) (s : ℕ → Entry) (i : IsForced p s) (first : ℕ → L
           by (inl r) = inl (r, h.1)
           by (inr r) = inr (subst (λ z. LimitedAt (limit_at old) (limit_at old z) (s z)) (sym (only v x r)) o)
 
-  -- it stands for a type
-  module _ (t : Typ) (b : s v ≡ bound t) where
-    pub refuses-under : (c : UnifyRefused) → RefusesIn t (limit_at old v) c → RefusesLimits p s first c
+  -- what stands right below it has the types us
+  module _ (us : Typs) (inner : (t : Typ) → Beside t t us us → Under (s v) t) where
+    pub refuses-under : (c : UnifyRefused) → RefusesIn (together us) (limit_at old v) c → RefusesLimits p s first c
     refuses-under Circular h = h
     refuses-under Large h = h
     refuses-under Memory h = h
     refuses-under Clash h =
         let r = g.from v in
+        let z = name-in us h.0 h.1 h.2 in
+        let below = inner z.0 z.1 in
         let late : (limit_at old v).names ≤ h.0.stamp = h.3 in
         let same : (first r.0).names ≡ (limit_at old v).names = r.1 in (
           λ m f k o.
-              let fits = solves-fits m s f k in
-              let a : Over (first r.0).names (f v) = above-over s f fits (first r.0).names r.0 v r.2 (o r.0) in
-              let c : Over (first r.0).names (sub f t) = subst (Over (first r.0).names) (subst (FitsAt f (f v)) b (fits v)) a in
-              let d = over-part (first r.0).names f t (con (name h.0) h.1) h.2 c in
+              let a : Over (first r.0).names (f v) = above-over s m f k (first r.0).names r.0 v r.2 (o r.0) in
+              let d = over-part (first r.0).names f z.0 (con (name h.0) h.1) z.2 (over-under m f (first r.0).names (f v) z.0 (s v) (k v) below a) in
               let lt : h.0.stamp < (first r.0).names = ltb-true h.0.stamp (first r.0).names d.0 in
               omega arith,
           record {
             variable = r.0;
             used = h.0;
             arguments = h.1;
-            stands = in-along p (con (name h.0) h.1) (var v) (var r.0) (in-along p (con (name h.0) h.1) t (var v) (in-part p t _ h.2) (inl (subst (ForcedAt p v) b (i v).0))) (above-in s p i r.0 v r.2);
+            stands = in-along p (con (name h.0) h.1) (var v) (var r.0) (in-along p (con (name h.0) h.1) z.0 (var v) (in-part p z.0 _ z.2) (in-under p v (s v) z.0 (i v).0 below)) (above-in s p i r.0 v r.2);
             late = omega arith;
           },
         )
 
-    module _ (h : LowersType t (limit_at old v) old new rest now) where
-      fell-met : (x : ℕ) → Fell t (limit_at old v) (limit_at old) (limit_at new) now x → Met p (var x)
+    module _ (whole : AllLimited (limit_at new) (limit_at new v) us → LimitedAt (limit_at new) (limit_at new v) (s v)) (h : LowersType (together us) (limit_at old v) old new rest now) where
+      fell-met : (x : ℕ) → Fell (together us) (limit_at old v) (limit_at old) (limit_at new) now x → Met p (var x)
       fell-met x f = go (g.done v)
         where
           go : (Has noted v × Met p (var v)) ⊎ LimitedAt (limit_at old) (limit_at old v) (s v) → Met p (var x)
-          go (inl m) = met-part p t (var x) f.part (step-met p s (var v) t b i m.1)
-          go (inr l) = absurd (f.further (limited-part (limit_at old) (limit_at old v) t (var x) f.part (subst (LimitedAt (limit_at old) (limit_at old v)) b l)))
+          go (inl m) = let z = variable-in us x f.part in met-part p z.0 (var x) z.2 (met-under p (s v) z.0 (entry-met p s v i m.1) (inner z.0 z.1))
+          go (inr l) = let z = variable-in us x f.part in absurd (f.further (limited-part (limit_at old) (limit_at old v) z.0 (var x) z.2 (limited-under (limit_at old) (limit_at old v) (s v) z.0 (inner z.0 z.1) l)))
 
-      done-other : (x : ℕ) → LimitedAt (limit_at old) (limit_at old x) (s x) → (limit_at new x ≡ limit_at old x) ⊎ Fell t (limit_at old v) (limit_at old) (limit_at new) now x → (Has now x × Met p (var x)) ⊎ LimitedAt (limit_at new) (limit_at new x) (s x)
+      done-other : (x : ℕ) → LimitedAt (limit_at old) (limit_at old x) (s x) → (limit_at new x ≡ limit_at old x) ⊎ Fell (together us) (limit_at old v) (limit_at old) (limit_at new) now x → (Has now x × Met p (var x)) ⊎ LimitedAt (limit_at new) (limit_at new x) (s x)
       done-other x l (inl q) = inr (subst (λ k. LimitedAt (limit_at new) k (s x)) (sym q) (at-lower (limit_at old) (limit_at new) h.down (limit_at old x) (s x) l))
       done-other x l (inr f) = inl (f.has, fell-met x f)
 
-      done-here : (limit_at new v ≡ limit_at old v) ⊎ Fell t (limit_at old v) (limit_at old) (limit_at new) now v → (Has now v × Met p (var v)) ⊎ LimitedAt (limit_at new) (limit_at new v) (s v)
-      done-here (inl q) = inr (subst (LimitedAt (limit_at new) (limit_at new v)) (sym b) (subst (λ k. Limited (limit_at new) k t) (sym q) h.limited))
+      done-here : (limit_at new v ≡ limit_at old v) ⊎ Fell (together us) (limit_at old v) (limit_at old) (limit_at new) now v → (Has now v × Met p (var v)) ⊎ LimitedAt (limit_at new) (limit_at new v) (s v)
+      done-here (inl q) = inr (whole (subst (λ k. AllLimited (limit_at new) k us) (sym q) h.limited.1))
       done-here (inr f) = inl (f.has, fell-met v f)
 
       done-after : (x : ℕ) → (Has noted x × Met p (var x)) ⊎ LimitedAt (limit_at old) (limit_at old x) (s x) → (Has now x × Met p (var x)) ⊎ LimitedAt (limit_at new) (limit_at new x) (s x)
@@ -144,18 +193,18 @@ module _ (p : Problem) (s : ℕ → Entry) (i : IsForced p s) (first : ℕ → L
           go (inl r) = inl (h.stay x r, m.1)
           go (inr r) = subst (λ z. (Has now z × Met p (var z)) ⊎ LimitedAt (limit_at new) (limit_at new z) (s z)) (sym (only v x r)) (done-here (h.from v))
 
-      left-after : (x : ℕ) → (limit_at new x ≡ limit_at old x) ⊎ Fell t (limit_at old v) (limit_at old) (limit_at new) now x → (limit_at old x ≡ first x) ⊎ Met p (var x) → (limit_at new x ≡ first x) ⊎ Met p (var x)
+      left-after : (x : ℕ) → (limit_at new x ≡ limit_at old x) ⊎ Fell (together us) (limit_at old v) (limit_at old) (limit_at new) now x → (limit_at old x ≡ first x) ⊎ Met p (var x) → (limit_at new x ≡ first x) ⊎ Met p (var x)
       left-after x (inl q) (inl r) = inl (q ∙ r)
       left-after x (inl q) (inr m) = inr m
       left-after x (inr f) r = inr (fell-met x f)
 
-      from-after : (x : ℕ) → (limit_at new x ≡ limit_at old x) ⊎ Fell t (limit_at old v) (limit_at old) (limit_at new) now x → (u : ℕ) × ((first u).names ≡ (limit_at new x).names) × Above s u x
+      from-after : (x : ℕ) → (limit_at new x ≡ limit_at old x) ⊎ Fell (together us) (limit_at old v) (limit_at old) (limit_at new) now x → (u : ℕ) × ((first u).names ≡ (limit_at new x).names) × Above s u x
       from-after x (inl q) = let r = g.from x in (r.0, r.1 ∙ ap (λ k. k.names) (sym q), r.2)
       from-after x (inr f) = go f.names
         where
           go : ((limit_at new x).names ≡ (limit_at old x).names) ⊎ ((limit_at new x).names ≡ (limit_at old v).names) → (u : ℕ) × ((first u).names ≡ (limit_at new x).names) × Above s u x
           go (inl n) = let r = g.from x in (r.0, r.1 ∙ sym n, r.2)
-          go (inr n) = let r = g.from v in (r.0, r.1 ∙ sym n, Above.inner v x t r.2 b f.part)
+          go (inr n) = let r = g.from v in let z = variable-in us x f.part in (r.0, r.1 ∙ sym n, Above.inner v x z.0 r.2 (inner z.0 z.1) z.2)
 
       pub under-bound : Lowering p s first (limit_at new) now
       under-bound = record {
@@ -164,6 +213,36 @@ module _ (p : Problem) (s : ℕ → Entry) (i : IsForced p s) (first : ℕ → L
         left = λ x. left-after x (h.from x) (g.left x);
         from = λ x. from-after x (h.from x);
       }
+
+-- what is looked at below a variable
+module _ (ts : List Typ) (s : ℕ → Entry) (v : ℕ) where
+  pub under-all : (empty ks : List ℕ) → empty ≡ [] → LooksUnder ts s v empty ks → InhabitedAt (s v) → (t : Typ) → Beside t t (types_at ts ks) (types_at ts ks) → Under (s v) t
+  under-all empty ks p (LooksUnder.stands u q r) i t b = subst (λ e. Under e t) (sym q) (one t u (subst (λ l. Beside t t (types_at ts l) (types_at ts l)) (r ∙ ap (λ l. l ++ u ∷ []) p) b))
+    where
+      one : (t : Typ) (u : ℕ) → Beside t t (types_at ts (u ∷ [])) (types_at ts (u ∷ [])) → t ≡ type_at ts u
+      one t u b = all-beside (λ z. z ≡ type_at ts u) (λ z. (z ≡ types_at ts (u ∷ [])) ⊎ (z ≡ none)) (λ x xs h. first x xs h) t t (types_at ts (u ∷ [])) (types_at ts (u ∷ [])) b (inl refl)
+        where
+          first : (x : Typ) (xs : Typs) → (more x xs ≡ types_at ts (u ∷ [])) ⊎ (more x xs ≡ none) → (x ≡ type_at ts u) × ((xs ≡ types_at ts (u ∷ [])) ⊎ (xs ≡ none))
+          first x xs (inl e) = (ap (λ z. head_of z x) e, inr (ap tail_of e))
+          first x xs (inr e) = cc
+  under-all empty ks p (LooksUnder.others (LooksInRow.fields e ls js q r)) i t b =
+      let z = ap (λ l. l ++ js) p in
+      let w = beside-at t t ls (types_at ts js) (types_at ts js) (subst InhabitedAt q i) (subst (λ l. Beside t t (types_at ts l) (types_at ts l)) (r ∙ z) b) in
+      subst (λ e. Under e t) (sym q) w
+  under-all empty ks p (LooksUnder.others (LooksInRow.ends q r)) i t b = absurd (nothing (subst (λ l. Beside t t (types_at ts l) (types_at ts l)) (r ∙ p) b))
+    where
+      nothing : Beside t t none none → ⊥
+      nothing b = elim b [ ]
+
+  pub under-below : (n : ℕ) (empty ks : List ℕ) → empty ≡ [] → LooksUnder ts s v empty ks → BelowAt n (s v) → are_below n (types_at ts ks) ≡ true
+  under-below n empty ks p (LooksUnder.stands u q r) h = subst (λ l. are_below n (types_at ts l) ≡ true) (sym (r ∙ ap (λ l. l ++ u ∷ []) p)) (and_from _ _ (subst (BelowAt n) q h) refl)
+  under-below n empty ks p (LooksUnder.others (LooksInRow.fields e ls js q r)) h = subst (λ l. are_below n (types_at ts l) ≡ true) (sym (r ∙ ap (λ l. l ++ js) p)) (subst (BelowAt n) q h)
+  under-below n empty ks p (LooksUnder.others (LooksInRow.ends q r)) h = subst (λ l. are_below n (types_at ts l) ≡ true) (sym (r ∙ p)) refl
+
+  pub under-whole : (b : ℕ → Limit) (k : Limit) (empty ks : List ℕ) → empty ≡ [] → LooksUnder ts s v empty ks → AllLimited b k (types_at ts ks) → LimitedAt b k (s v)
+  under-whole b k empty ks p (LooksUnder.stands u q r) h = subst (LimitedAt b k) (sym q) (subst (λ l. AllLimited b k (types_at ts l)) (r ∙ ap (λ l. l ++ u ∷ []) p) h).0
+  under-whole b k empty ks p (LooksUnder.others (LooksInRow.fields e ls js q r)) h = subst (LimitedAt b k) (sym q) (subst (λ l. AllLimited b k (types_at ts l)) (r ∙ ap (λ l. l ++ js) p) h)
+  under-whole b k empty ks p (LooksUnder.others (LooksInRow.ends q r)) h = subst (LimitedAt b k) (sym q) tt
 
 -- the beginning: what is in no trail is as it was
 has-or : (l : List ℕ) (x : ℕ) → Has l x ⊎ (Has l x → ⊥)
@@ -217,7 +296,7 @@ lowering-ends first s a b old new g = record {
   wide = λ h x. let r = g.from x in let q : (old r.0).names ≡ (new x).names = r.1 in let w = h r.0 in omega arith;
   falls = g.down;
   same = λ m f k. (
-    λ o x. let r = g.from x in subst (λ n. Over n (f x)) r.1 (above-over s f (solves-fits m s f k) (old r.0).names r.0 x r.2 (o r.0)),
+    λ o x. let r = g.from x in subst (λ n. Over n (f x)) r.1 (above-over s m f k (old r.0).names r.0 x r.2 (o r.0)),
     λ o x. over-more _ _ (g.down x).0 (f x) (o x),
   );
   rest = g.left;

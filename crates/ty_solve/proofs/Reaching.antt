@@ -2,7 +2,7 @@
 use Rattle.std.proofs.Common.{◌≡◌, ◌<◌, ◌≤◌, ℕ, zero, suc, Bool, true, false, ◌||◌, List, [], ◌∷◌, ◌++◌, length, nat_eq, refl, sym, ap, ◌∙◌, subst, arith}
 use Rattle.std.proofs.lemmas.Bool.{eq-eqb, eqb-true, or_right, false≢true}
 use mathlib.Core.Logic.{◌⊎◌, inl, inr}
-use Rattle.ty_core.specs.Types.{Typ, var}
+use Rattle.ty_core.specs.Types.{Typ, var, con, labels}
 use Rattle.ty_table.specs.TypeAt.{type_at, types_at, top}
 use Rattle.ty_solve.specs.Substitution.{Entry, aside, resolved, Resolves, sub, subs, is_in, are_in}
 use Rattle.ty_solve.specs.Weight.{weight, weights, IsAcyclic}
@@ -25,10 +25,11 @@ pub record Through (ts : List Typ) (s : ℕ → Entry) (v : ℕ) (done pending :
   pub apart : type_at ts k ≡ var v → ⊥
   pub covered : (j : ℕ) → Has parts j → Covered ts done pending j
 
-pub record Reaching (ts : List Typ) (s : ℕ → Entry) (v t : ℕ) (done pending : List ℕ) : Type 0 where
-  pub start : Covered ts done pending t
+-- v is looked for in the types that the numbers us stand for
+pub record Reaching (ts : List Typ) (s : ℕ → Entry) (v : ℕ) (us done pending : List ℕ) : Type 0 where
+  pub start : (k : ℕ) → Has us k → Covered ts done pending k
   pub through : (k : ℕ) → Has done k → Through ts s v done pending k
-  pub found : (f : ℕ → Typ) → Resolves f (aside v s) → (k : ℕ) → Has pending k → is_in v (sub f (type_at ts k)) ≡ true → is_in v (sub f (type_at ts t)) ≡ true
+  pub found : (f : ℕ → Typ) → Resolves f (aside v s) → (k : ℕ) → Has pending k → is_in v (sub f (type_at ts k)) ≡ true → are_in v (subs f (types_at ts us)) ≡ true
 
 pub has-last : (l : List ℕ) (k : ℕ) → Has (l ++ k ∷ []) k
 has-last [] k = inl refl
@@ -68,6 +69,10 @@ among v f ts (k ∷ ks) j (inr h) i = or_right (is_in v (sub f (type_at ts k))) 
 
 -- what is looked at next lies within
 inside : (ts : List Typ) (s : ℕ → Entry) (v k : ℕ) (ks : List ℕ) → Next ts s k ks → (type_at ts k ≡ var v → ⊥) → (f : ℕ → Typ) → Resolves f (aside v s) → (j : ℕ) → Has ks j → is_in v (sub f (type_at ts j)) ≡ true → is_in v (sub f (type_at ts k)) ≡ true
+inside ts s v k ks (Next.fields x d ls p q) ne f h j a i =
+    let n : (x ≡ v → ⊥) = λ e. ne (p ∙ ap var e) in
+    let e : sub f (type_at ts k) ≡ con (labels ls) (subs f (types_at ts ks)) = ap (sub f) p ∙ h x ∙ ap (resolved f x) (aside-other s v x n ∙ q) in
+    ap (is_in v) e ∙ among v f ts ks j a i
 inside ts s v k ks (Next.ends x p q r) ne f h j a i = absurd (subst (λ l. Has l j) r a)
 inside ts s v k ks (Next.stands x u p q r) ne f h j a i =
     let n : (x ≡ v → ⊥) = λ e. ne (p ∙ ap var e) in
@@ -75,18 +80,18 @@ inside ts s v k ks (Next.stands x u p q r) ne f h j a i =
     ap (is_in v) (e ∙ ap (λ y. sub f (type_at ts y)) (sym (only u j (subst (λ l. Has l j) r a)))) ∙ i
 inside ts s v k ks (Next.applied c p) ne f h j a i = ap (λ t. is_in v (sub f t)) p ∙ among v f ts ks j a i
 
-pub reaching-first : (ts : List Typ) (s : ℕ → Entry) (v t : ℕ) (done empty l : List ℕ) → done ≡ [] → empty ≡ [] → l ≡ empty ++ t ∷ [] → Reaching ts s v t done l
-reaching-first ts s v t done empty l p q e = subst (λ d. Reaching ts s v t d l) (sym p) (subst (λ m. Reaching ts s v t [] m) (sym (e ∙ ap (λ m. m ++ t ∷ []) q)) (record {
-  start = Covered.waits (inl refl);
+pub reaching-first : (ts : List Typ) (s : ℕ → Entry) (v : ℕ) (us done : List ℕ) → done ≡ [] → Reaching ts s v us done us
+reaching-first ts s v us done p = subst (λ d. Reaching ts s v us d us) (sym p) (record {
+  start = λ k h. Covered.waits h;
   through = λ k h. absurd h;
-  found = λ f h k a i. ap (λ x. is_in v (sub f (type_at ts x))) (sym (only t k a)) ∙ i;
-}))
+  found = λ f h k a i. among v f ts us k a i;
+})
 
-module _ (ts : List Typ) (s : ℕ → Entry) (v t : ℕ) (done old rest : List ℕ) (k : ℕ) (e : old ≡ rest ++ k ∷ []) (g : Reaching ts s v t done old) where
+module _ (ts : List Typ) (s : ℕ → Entry) (v : ℕ) (us done old rest : List ℕ) (k : ℕ) (e : old ≡ rest ++ k ∷ []) (g : Reaching ts s v us done old) where
   last : Has old k
   last = subst (λ l. Has l k) (sym e) (has-last rest k)
 
-  pub hits : type_at ts k ≡ var v → (f : ℕ → Typ) → Resolves f (aside v s) → true ≡ is_in v (sub f (type_at ts t))
+  pub hits : type_at ts k ≡ var v → (f : ℕ → Typ) → Resolves f (aside v s) → true ≡ are_in v (subs f (types_at ts us))
   hits p f h = sym (g.found f h k last (ap (λ x. is_in v (sub f x)) p ∙ ap (is_in v) (h v ∙ ap (resolved f v) (aside-here s v)) ∙ eq-eqb v v refl))
 
   -- old is covered by what comes after
@@ -103,21 +108,21 @@ module _ (ts : List Typ) (s : ℕ → Entry) (v t : ℕ) (done old rest : List �
   through-along now new c a b j h = let x = g.through j h in record { parts = x.parts; next = x.next; apart = x.apart; covered = λ i y. along now new c a b i (x.covered i y) }
 
   -- a number that needs no look
-  pub passes : Covered ts done rest k → Reaching ts s v t done rest
+  pub passes : Covered ts done rest k → Reaching ts s v us done rest
   passes c = record {
-    start = along done rest c (λ j h. h) (λ j h. h) t g.start;
+    start = λ j h. along done rest c (λ i x. x) (λ i x. x) j (g.start j h);
     through = λ j h. through-along done rest c (λ j h. h) (λ j h. h) j h;
     found = λ f h j a i. g.found f h j (subst (λ l. Has l j) (sym e) (has-front rest (k ∷ []) j a)) i;
   }
 
   -- a number that is looked through from now on
-  pub enters : (now new : List ℕ) → now ≡ done ++ k ∷ [] → Looks ts s k rest new → (type_at ts k ≡ var v → ⊥) → Reaching ts s v t now new
+  pub enters : (now new : List ℕ) → now ≡ done ++ k ∷ [] → Looks ts s k rest new → (type_at ts k ≡ var v → ⊥) → Reaching ts s v us now new
   enters now new d l ne =
       let c : Covered ts now new k = Covered.looked (subst (λ x. Has x k) (sym d) (has-last done k)) in
       let a : (j : ℕ) → Has done j → Has now j = λ j h. subst (λ x. Has x j) (sym d) (has-front done (k ∷ []) j h) in
       let b : (j : ℕ) → Has rest j → Has new j = λ j h. subst (λ x. Has x j) (sym l.is) (has-front rest l.parts j h) in
       record {
-        start = along now new c a b t g.start;
+        start = λ j h. along now new c a b j (g.start j h);
         through = λ j h. fresh c a b j (has-either done (k ∷ []) j (subst (λ x. Has x j) d h));
         found = λ f h j x i. deeper f h j i (has-either rest l.parts j (subst (λ y. Has y j) l.is x));
       }
@@ -131,7 +136,7 @@ module _ (ts : List Typ) (s : ℕ → Entry) (v t : ℕ) (done old rest : List �
         covered = λ i y. Covered.waits (subst (λ x. Has x i) (sym l.is) (has-back rest l.parts i y));
       })
 
-      deeper : (f : ℕ → Typ) → Resolves f (aside v s) → (j : ℕ) → is_in v (sub f (type_at ts j)) ≡ true → Has rest j ⊎ Has l.parts j → is_in v (sub f (type_at ts t)) ≡ true
+      deeper : (f : ℕ → Typ) → Resolves f (aside v s) → (j : ℕ) → is_in v (sub f (type_at ts j)) ≡ true → Has rest j ⊎ Has l.parts j → are_in v (subs f (types_at ts us)) ≡ true
       deeper f h j i (inl x) = g.found f h j (subst (λ y. Has y j) (sym e) (has-front rest (k ∷ []) j x)) i
       deeper f h j i (inr x) = g.found f h k last (inside ts s v k l.parts l.next ne f h j x i)
 
@@ -148,7 +153,7 @@ some v f w ts (k ∷ ks) h = go (cases (is_in v (sub f (type_at ts k))) (are_in 
     go (inl i) r = (k, inl refl, i, omega arith)
     go (inr i) r = let x = r i in let lt = x.3 in (x.0, inr x.1, x.2, omega arith)
 
-module _ (ts : List Typ) (s : ℕ → Entry) (a : IsAcyclic s) (v t : ℕ) (done : List ℕ) (g : Reaching ts s v t done []) (f : ℕ → Typ) (h : Resolves f (aside v s)) where
+module _ (ts : List Typ) (s : ℕ → Entry) (a : IsAcyclic s) (v : ℕ) (us done : List ℕ) (g : Reaching ts s v us done []) (f : ℕ → Typ) (h : Resolves f (aside v s)) where
   avoids : (n k : ℕ) → weight a.0 (type_at ts k) < n → Covered ts done [] k → is_in v (sub f (type_at ts k)) ≡ true → ⊥
   avoids zero k lt c i = omega arith
   avoids (suc n) k lt (Covered.ground z) i = ground-out v (type_at ts k) z (ap (is_in v) (sym (ground-same f (type_at ts k) z)) ∙ i)
@@ -159,6 +164,13 @@ module _ (ts : List Typ) (s : ℕ → Entry) (a : IsAcyclic s) (v t : ℕ) (done
       go r again = arm r.next
         where
           arm : Next ts s k r.parts → ⊥
+          arm (Next.fields x d ls p q) =
+              let ne : (x ≡ v → ⊥) = λ e. r.apart (p ∙ ap var e) in
+              let e : sub f (type_at ts k) ≡ con (labels ls) (subs f (types_at ts r.parts)) = ap (sub f) p ∙ h x ∙ ap (resolved f x) (aside-other s v x ne ∙ q) in
+              let y = some v f a.0 ts r.parts (ap (is_in v) (sym e) ∙ i) in
+              let l = next-lighter ts s a k r.parts r.next in
+              let w = y.3 in
+              again y.0 (omega arith) (r.covered y.0 y.1) y.2
           arm (Next.ends x p q o) =
               let ne : (x ≡ v → ⊥) = λ e. r.apart (p ∙ ap var e) in
               let e : sub f (type_at ts k) ≡ var x = ap (sub f) p ∙ h x ∙ ap (resolved f x) (aside-other s v x ne ∙ q) in
@@ -175,16 +187,28 @@ module _ (ts : List Typ) (s : ℕ → Entry) (a : IsAcyclic s) (v t : ℕ) (done
               let w = y.3 in
               again y.0 (omega arith) (r.covered y.0 y.1) y.2
 
-  none-found : false ≡ is_in v (sub f (type_at ts t))
-  none-found = go (is_in v (sub f (type_at ts t))) refl
+  none-found : false ≡ are_in v (subs f (types_at ts us))
+  none-found = go (are_in v (subs f (types_at ts us))) refl
     where
-      go : (b : Bool) → is_in v (sub f (type_at ts t)) ≡ b → false ≡ b
+      go : (b : Bool) → are_in v (subs f (types_at ts us)) ≡ b → false ≡ b
       go false e = refl
-      go true e = absurd (avoids (suc (weight a.0 (type_at ts t))) t (omega arith) g.start e)
+      go true e = let y = some v f a.0 ts us e in absurd (avoids (suc (weight a.0 (type_at ts y.0))) y.0 (omega arith) (g.start y.0 y.1) y.2)
 
-pub reaching-ends : (ts : List Typ) (s : ℕ → Entry) (a : IsAcyclic s) (v t : ℕ) (done l : List ℕ) → length l ≡ 0 → Reaching ts s v t done l → (f : ℕ → Typ) → Resolves f (aside v s) → false ≡ is_in v (sub f (type_at ts t))
-reaching-ends ts s a v t done [] e g f h = none-found ts s a v t done g f h
-reaching-ends ts s a v t done (x ∷ l) e g f h = absurd (omega arith)
+pub reaching-ends : (ts : List Typ) (s : ℕ → Entry) (a : IsAcyclic s) (v : ℕ) (us done l : List ℕ) → length l ≡ 0 → Reaching ts s v us done l → (f : ℕ → Typ) → Resolves f (aside v s) → false ≡ are_in v (subs f (types_at ts us))
+reaching-ends ts s a v us done [] e g f h = none-found ts s a v us done g f h
+reaching-ends ts s a v us done (x ∷ l) e g f h = absurd (omega arith)
+
+-- one type
+pub in-one : (v : ℕ) (f : ℕ → Typ) (ts : List Typ) (t : ℕ) (empty l : List ℕ) (b : Bool) → empty ≡ [] → l ≡ empty ++ t ∷ [] → b ≡ are_in v (subs f (types_at ts l)) → b ≡ is_in v (sub f (type_at ts t))
+in-one v f ts t empty l b p q h = h ∙ ap (λ x. are_in v (subs f (types_at ts x))) (q ∙ ap (λ x. x ++ t ∷ []) p) ∙ no-more (is_in v (sub f (type_at ts t)))
+  where
+    no-more : (a : Bool) → (a || false) ≡ a
+    no-more true = refl
+    no-more false = refl
+
+-- the types of a list
+pub in-list : (v : ℕ) (f : ℕ → Typ) (ts : List Typ) (us empty l : List ℕ) (b : Bool) → empty ≡ [] → l ≡ empty ++ us → b ≡ are_in v (subs f (types_at ts l)) → b ≡ are_in v (subs f (types_at ts us))
+in-list v f ts us empty l b p q h = h ∙ ap (λ x. are_in v (subs f (types_at ts x))) (q ∙ ap (λ x. x ++ us) p)
 
 -- a number that is put into a set
 pub noted-new : (ks ks' : List ℕ) (k : ℕ) (b : Bool) → b ≡ not (list_any (nat_eq k) ks) → ks' ≡ insert_key nat_eq ks k → b ≡ true → ks' ≡ ks ++ k ∷ []

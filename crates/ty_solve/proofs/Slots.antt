@@ -3,16 +3,19 @@ use Rattle.std.proofs.Common.{◌≡◌, ◌<◌, ◌≤◌, ℕ, zero, suc, Lis
 use Rattle.ty_core.specs.Types.{Typ}
 use Rattle.ty_core.specs.Marks.{is_inhabited}
 use Rattle.ty_core.specs.declared.mark.Mark.{Mark}
-use Rattle.ty_solve.specs.Substitution.{free, bound, is_open, mark}
-use Rattle.ty_solve.specs.SlotsOf.{look, entries, entry_of, seen, task_of, tasks_of}
+use Rattle.ty_table.specs.TypeAt.{types_at}
+use Rattle.ty_solve.specs.Substitution.{free, bound, are_below}
+use Rattle.ty_solve.specs.SlotsOf.{look, entries, entry_of, seen, row_in, row_of, task_of, tasks_of}
+use Rattle.ty_solve.specs.Changes.{IsFitRow}
+use Rattle.ty_solve.specs.declared.row.Row.{Row}
 use Rattle.ty_solve.specs.declared.task.Todo.{Todo}
 use Rattle.ty_solve.specs.Finding.{Reads}
 use Rattle.ty_solve.specs.Weight.{BelowAt, AreBelow, IsAcyclic, AreInhabited}
 use Rattle.ty_solve.specs.Tasks.{MayPut}
 use Rattle.ty_solve.specs.declared.subst.Slot.{Slot}
-use Rattle.ty_solve.specs.declared.subst.Slot.TheVariants.{Open, Full}
+use Rattle.ty_solve.specs.declared.subst.Slot.TheVariants.{Open, Partial}
 use Rattle.ty_solve.proofs.Look.{look-past, grown-below, grown-inhabited}
-use Rattle.ty_solve.proofs.Growing.{grown-acyclic}
+use Rattle.ty_solve.proofs.Growing.{grown-acyclic, grown-row}
 use Rattle.ty_solve.proofs.Setting.{set-below, set-puts, set-inhabited, put-acyclic}
 
 pub entries-length : (ts : List Typ) (os : List Slot) → length (entries ts os) ≡ length os
@@ -54,6 +57,22 @@ grown ts b k old new e i h a n =
       inhabited = grown-inhabited b (free k) (entries ts old) (entries ts new) c i n;
     }
 
+choice-row : (ts : List Typ) (b : Bool) (r : Row) (old new : List Slot) → new ≡ (if b then old ++ Partial r ∷ [] else old) → entries ts new ≡ (if b then entries ts old ++ row_of (row_in ts r) ∷ [] else entries ts old)
+choice-row ts true r old new e = ap (entries ts) e ∙ entries-snoc ts old (Partial r)
+choice-row ts false r old new e = ap (entries ts) e
+
+pub grown-by-row : (ts : List Typ) (b : Bool) (r : Row) (old new : List Slot) → new ≡ (if b then old ++ Partial r ∷ [] else old) → IsFitRow (length old) (row_in ts r) → AreBelow (length old) (seen ts old) → IsAcyclic (seen ts old) → AreInhabited (seen ts old) → IsFit ts new
+grown-by-row ts b r old new e f h a n =
+    let c = choice-row ts b r old new e in
+    let d = sym (entries-length ts old) in
+    let k = subst (λ m. AreBelow m (seen ts old)) d h in
+    let i = subst (λ m. are_below m (types_at ts r.types.items) ≡ true) d f.below in
+    record {
+      below = subst (λ m. AreBelow m (seen ts new)) (entries-length ts new) (grown-below b (row_of (row_in ts r)) (entries ts old) (entries ts new) c i k);
+      acyclic = grown-row b (row_in ts r) (entries ts old) (entries ts new) c k i a;
+      inhabited = grown-inhabited b (row_of (row_in ts r)) (entries ts old) (entries ts new) c f.proper n;
+    }
+
 pub put : (ts : List Typ) (os : List Slot) (v : ℕ) (o : Slot) → MayPut (length os) (seen ts os) v (entry_of ts o) → AreBelow (length os) (seen ts os) → IsAcyclic (seen ts os) → AreInhabited (seen ts os) → IsFit ts (set os v o)
 put ts os v o m h a n =
     let e = entries-set ts os v o in
@@ -79,13 +98,6 @@ tasks-length ts (x ∷ l) = ap suc (tasks-length ts l)
 
 pub reads-in : (ts : List Typ) (os : List Slot) (w : ℕ → ℕ) (t u : Typ) → Reads (length os) (seen ts os) w t u → Reads (length (entries ts os)) (seen ts os) w t u
 reads-in ts os w t u r = subst (λ n. Reads n (seen ts os) w t u) (sym (entries-length ts os)) r
-
--- there are no rows among slots
-pub open-free : (ts : List Typ) (os : List Slot) (v : ℕ) → is_open (seen ts os v) ≡ true → seen ts os v ≡ free (mark (seen ts os v))
-open-free ts [] v h = refl
-open-free ts (Open k ∷ os) zero h = refl
-open-free ts (Full t ∷ os) zero h = cc
-open-free ts (o ∷ os) (suc v) h = open-free ts os v h
 
 pub none-more : (l : List ℕ) → l ≡ l ++ []
 none-more [] = refl

@@ -1,5 +1,5 @@
 -- One table of types for another that is the same.
-use Rattle.std.proofs.Common.{◌≡◌, ℕ, List, [], ◌∷◌, length, Option, Result, Ok, Err, IfOk, IfErr, refl, subst, sym}
+use Rattle.std.proofs.Common.{◌≡◌, ℕ, List, [], ◌∷◌, length, Option, Some, None, MatchOption, IfSome, Result, Ok, Err, IfOk, IfErr, refl, subst, sym}
 use Rattle.ty_core.specs.Types.{Typ}
 use Rattle.ty_solve.specs.Held.{AreHeld}
 use Rattle.ty_solve.specs.Substitution.{Entry}
@@ -51,3 +51,16 @@ err-then P Q (Err e) g h = g e h
 pub none-left : {X : Type 0} (l : List X) → length l ≡ 0 → l ≡ []
 none-left [] e = refl
 none-left (x ∷ l) e = cc
+
+pub some-of : {X : Type 0} (P : Type 0) (Q : X → Type 0) (o : Option X) (x : X) → o ≡ Some x → MatchOption o P Q → Q x
+some-of P Q o x e h = subst (λ z. MatchOption z P Q) e h
+
+pub some-in : {X : Type 0} (Q : X → Type 0) (o : Option X) (x : X) → o ≡ Some x → IfSome o Q → Q x
+some-in Q o x e h = subst (λ z. IfSome z Q) e h
+
+pub none-of : {X : Type 0} (P : Type 0) (Q : X → Type 0) (o : Option X) → o ≡ None → MatchOption o P Q → P
+none-of P Q o e h = subst (λ z. MatchOption z P Q) e h
+
+pub ok-such : {X E : Type 0} (P Q : X → Type 0) (r : Result X E) → ((x : X) → P x → Q x) → IfOk r P → IfOk r Q
+ok-such P Q (Ok x) g h = g x h
+ok-such P Q (Err e) g h = tt

@@ -52,6 +52,10 @@ positive w (con c ts) = omega arith
 
 -- what is looked at next weighs less
 pub next-lighter : (ts : List Typ) (s : ℕ → Entry) (a : IsAcyclic s) (t : ℕ) (ks : List ℕ) → Next ts s t ks → weights a.0 (types_at ts ks) < weight a.0 (type_at ts t)
+next-lighter ts s a t ks (Next.fields x e ls p q) =
+    let b = ap (weight a.0) p in
+    let d = subst (WeighsAt a.0 (a.0 x)) q (a.1 x) in
+    omega arith
 next-lighter ts s a t ks (Next.ends x p q r) = let e = ap (λ l. weights a.0 (types_at ts l)) r in let b = positive a.0 (type_at ts t) in omega arith
 next-lighter ts s a t ks (Next.stands x u p q r) =
     let e = ap (λ l. weights a.0 (types_at ts l)) r in
@@ -81,6 +85,10 @@ counts-ground ts n s w t u l size g z e =
     }
 
 next-nodes : (ts : List Typ) (s : ℕ → Entry) (t : ℕ) (ks : List ℕ) → IsWalked s (type_at ts t) → Next ts s t ks → (f : ℕ → Typ) → Resolves f s → suc (all_nodes (subs f (types_at ts ks))) ≡ nodes (sub f (type_at ts t))
+next-nodes ts s t ks i (Next.fields x e ls p q) f h =
+    let b = ap (λ y. nodes (sub f y)) p in
+    let d = ap nodes (h x ∙ ap (resolved f x) q) in
+    omega arith
 next-nodes ts s t ks i (Next.ends x p q r) f h =
     let e = ap (λ l. all_nodes (subs f (types_at ts l))) r in
     let b = ap (λ y. nodes (sub f y)) p in

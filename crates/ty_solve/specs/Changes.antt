@@ -1,10 +1,11 @@
 -- What a change to a substitution comes to.
-use Rattle.std.specs.Prelude.{◌↔◌, ◌<◌, ℕ, ◌+◌, Bool, true, false, List, [], ◌∷◌, length, Some}
+use Rattle.std.specs.Prelude.{◌≡◌, ◌↔◌, ◌<◌, ◌≤◌, ℕ, ◌+◌, Bool, true, false, List, [], ◌∷◌, length, Some}
 use Rattle.ty_core.specs.Types.{Typ}
 use Rattle.ty_core.specs.Marks.{rank_of}
-use Rattle.ty_solve.specs.Substitution.{Entry, free, bound, row, Solves, Fits}
+use Rattle.ty_solve.specs.Rows.{Known, Extends, IsProper}
+use Rattle.ty_solve.specs.Substitution.{Entry, free, bound, row, Solves, Fits, sub, subs, are_below}
 use Rattle.ty_solve.specs.SlotsOf.{look}
-use Rattle.ty_solve.specs.Forces.{Problem, IsForced}
+use Rattle.ty_solve.specs.Forces.{Problem, IsForced, IsDue}
 use Rattle.ty_solve.specs.Tasks.{AllHold, AreForced, AreWithin, Does, IsForcedWrite, Refuses}
 use Rattle.ty_solve.specs.Compared.{Waits, Stands}
 use Rattle.ty_solve.specs.Task.{Task}
@@ -40,3 +41,20 @@ pub record Changes (old new : List Entry) (tasks now : List Task) (x : Write) : 
 
 abbrev pub RefusesWrite : (ℕ → Entry) → Write → UnifyRefused → Type 0
 RefusesWrite s x = Refuses s (λ m f. Does m f (Some x)) (λ p. IsForcedWrite p (Some x))
+
+-- what is known of t comes to be said, with tasks for what is asked besides
+pub record Demands (old new : List Entry) (tasks now : List Task) (r : Known) (t : Typ) : Type 0 where
+  pub same : (m : ℕ → Bool) (f : ℕ → Typ) → (Solves m f (look new) × AllHold m f now) ↔ (Solves m f (look old) × AllHold m f tasks × Extends m r.equality r.labels (subs f r.types) (sub f t))
+  pub forced : (p : Problem) → IsForced p (look old) → AreForced p tasks → IsDue p t r → IsForced p (look new) × AreForced p now
+  pub within : AreWithin (length old) tasks → AreWithin (length old) now
+  pub lower : ranks new ≤ ranks old
+  pub fits : (f : ℕ → Typ) → Fits f (look new) → Fits f (look old)
+  pub stay : (a b : Typ) → Waits tasks a b → Waits now a b
+
+abbrev pub RefusesRow : (ℕ → Entry) → Known → Typ → UnifyRefused → Type 0
+RefusesRow s r t = Refuses s (λ m f. Extends m r.equality r.labels (subs f r.types) (sub f t)) (λ p. IsDue p t r)
+
+-- a row whose variables are below n, with each label once
+pub record IsFitRow (n : ℕ) (r : Known) : Type 0 where
+  pub below : are_below n r.types ≡ true
+  pub proper : IsProper r.labels r.types

@@ -7,7 +7,7 @@ use Rattle.ty_core.specs.declared.mark.Class.{Class}
 use Rattle.ty_core.specs.declared.mark.Mark.{Mark}
 use Rattle.ty_core.specs.declared.name.Equality.TheVariants.{ByArguments, Never}
 use Rattle.ty_solve.specs.Substitution.{Entry, free, bound, row, is_open}
-use Rattle.ty_solve.specs.Rows.{Among, At, IsProper}
+use Rattle.ty_solve.specs.Rows.{Among, At, IsProper, Known}
 
 -- t and u stand at the same place of two lists
 pub data Beside : Typ → Typ → Typs → Typs → Type 0 where
@@ -122,3 +122,9 @@ LeftAt p v e = (e ≡ p.before v) ⊎ ((is_open (p.before v) ≡ true) × Met p 
 -- what a substitution says of a variable is forced, and said of no other than those that are met
 abbrev pub IsForced : Problem → (ℕ → Entry) → Type 0
 IsForced p s = (v : ℕ) → ForcedAt p v (s v) × LeftAt p v (s v)
+
+-- what is known of t is forced; t and the fields' types are met
+pub record IsDue (p : Problem) (t : Typ) (r : Known) : Type 0 where
+  pub row : IsForcedRow p t r.equality r.labels r.types
+  pub here : Met p t
+  pub fields : (l : Label) (u : Typ) → At l u r.labels r.types → Met p u

@@ -18,3 +18,4 @@ pub mod Limits
 pub mod LimitProps
 pub mod Lowering
 pub mod Said
+pub mod Fields

@@ -1,9 +1,11 @@
 -- Limits while they are lowered, one variable after the other.
 use Rattle.std.specs.Prelude.{◌≡◌, ◌⊎◌, ◌≤◌, ℕ, ◌+◌, Bool, List, [], ◌∷◌, ◌++◌, length, map, slice_set, ⊤}
-use Rattle.ty_core.specs.Types.{Typ, var, con, Typs, Symbol, name}
+use Rattle.mlc_base.specs.declared.label.Label.{Label}
+use Rattle.ty_core.specs.Types.{Typ, var, con, Typs, Symbol, labels, name}
 use Rattle.ty_core.specs.declared.name.TyName.{TyName}
 use Rattle.ty_table.specs.TypeAt.{type_at, types_at}
-use Rattle.ty_solve.specs.Substitution.{Entry, bound, Solves}
+use Rattle.ty_solve.specs.Rows.{At}
+use Rattle.ty_solve.specs.Substitution.{Entry, free, bound, row, Solves}
 use Rattle.ty_solve.specs.Forces.{Problem, Beside, Met}
 use Rattle.ty_solve.specs.Walk.{Has}
 use Rattle.ty_solve.specs.Limits.{SymbolOver, limit_at, narrower, NoFurther, Limited, LimitedAt, AreLimited, AreWide, IsOver, Fall, AskTheSame, LeavesLimits, Excludes}
@@ -34,10 +36,20 @@ pub data PartOf (t : Typ) : Typ → Type 0 where
   whole : PartOf t t
   part : (h : Symbol) (ts : Typs) (u : Typ) → PartOf t (con h ts) → Beside u u ts ts → PartOf t u
 
+-- the types of a list, as the parts of one
+abbrev pub together : Typs → Typ
+together ts = con (labels []) ts
+
+-- t is the type of a bound variable, or of one of a row's fields
+abbrev pub Under : Entry → Typ → Type 0
+Under (free k) t = ⊥
+Under (bound u) t = t ≡ u
+Under (row e ks us) t = (l : Label) × At l t ks us
+
 -- y is u, or stands in what u stands for, through the substitution
 pub data Above (s : ℕ → Entry) (u : ℕ) : ℕ → Type 0 where
   itself : Above s u u
-  inner : (v y : ℕ) (t : Typ) → Above s u v → s v ≡ bound t → PartOf t (var y) → Above s u y
+  inner : (v y : ℕ) (t : Typ) → Above s u v → Under (s v) t → PartOf t (var y) → Above s u y
 
 -- limits are on their way from `first` to those that never rise; what is noted is still to be looked at
 pub record Lowering (p : Problem) (s : ℕ → Entry) (first now : ℕ → Limit) (noted : List ℕ) : Type 0 where

@@ -3,19 +3,19 @@ ghost use Rattle.std.specs.Prelude.{◌≡◌, ◌<◌, ◌≤◌, ◌+◌, ◌+
 ghost use Rattle.ty_core.specs.Types.{var, name};
 ghost use Rattle.ty_core.specs.TypesOf.{head_of};
 ghost use Rattle.ty_core.specs.declared.name.TyName.{TyName};
-ghost use Rattle.ty_table.specs.TypeAt.{type_at};
-ghost use Rattle.ty_solve.specs.Substitution.{is_below};
+ghost use Rattle.ty_table.specs.TypeAt.{type_at, types_at};
+ghost use Rattle.ty_solve.specs.Substitution.{are_below};
 ghost use Rattle.ty_solve.specs.Forces.{Problem, IsForced};
 ghost use Rattle.ty_solve.specs.Said.{said};
 ghost use Rattle.ty_solve.specs.Limits.{SymbolOver, limit_at};
-ghost use Rattle.ty_solve.specs.Lowering.{undo_limits, variables, sum, Lowering, LowersOne, Visits, LowersType, RefusesName, RefusesIn, RefusesLimits};
+ghost use Rattle.ty_solve.specs.Lowering.{undo_limits, variables, sum, together, Lowering, LowersOne, Visits, LowersType, RefusesName, RefusesIn, RefusesLimits};
 ghost use Rattle.ty_solve.specs.declared.limit.Limit.{Limit};
 
 use crate::limit::{KeptLimit, Limit, narrower};
 use crate::refused::UnifyRefused;
 use crate::subst::Subst;
 use crate::trail::Kept;
-use crate::walk::add_all;
+use crate::walk::{add_all, look_under};
 use indexmap::IndexSet;
 use mlc_base::memory::NoMemory;
 use std::alloc::Global;
@@ -112,25 +112,25 @@ fn visit(
     }
 }
 
-/// Gives the variables of a type limits no wider than `to`. Each part of it is looked at once.
-fn lower_type(
+/// Gives the variables of types limits no wider than `to`. Each part of them is looked at once.
+fn lower_types(
     alloc: Global,
     types: &Types,
-    t: usize,
+    parts: Vec<usize>,
     to: Limit,
     limits: &mut Vec<Limit>,
     noted: &mut Vec<usize>,
     kept: &mut Vec<KeptLimit>,
 ) -> Result<(), UnifyRefused>
-    requires { is_below (length limits.old.items) (type_at types.now t) ≡ true }
+    requires { are_below (length limits.old.items) (types_at types.now parts.items) ≡ true }
     ensures undone { undo_limits kept.new.items limits.new.items ≡ undo_limits kept.old.items limits.old.items }
     ensures same_length { length limits.new.items ≡ length limits.old.items }
-    ensures lowers { IfOk result (λ _. LowersType (type_at types.now t) to limits.old.items limits.new.items noted.old.items noted.new.items) }
-    ensures cause { IfErr result (RefusesIn (type_at types.now t) to) }
+    ensures lowers { IfOk result (λ _. LowersType (together (types_at types.now parts.items)) to limits.old.items limits.new.items noted.old.items
+        noted.new.items) }
+    ensures cause { IfErr result (RefusesIn (together (types_at types.now parts.items)) to) }
 {
     let mut seen: IndexSet<usize> = IndexSet::new(alloc);
-    let mut pending = Vec::new(alloc);
-    pending.push(t)?;
+    let mut pending = parts;
     while let Some(next) = pending.pop() {
         let new = seen.insert(next)?;
         if new {
@@ -162,13 +162,13 @@ fn lower_under(
     ensures cause { IfErr result (λ e. (p : Problem) (b : ℕ → Limit) → IsForced p (said s.now)
         → Lowering p (said s.now) b (limit_at limits.old.items) (noted.old.items ++ v ∷ []) → RefusesLimits p (said s.now) b e) }
 {
-    match s.get(v) {
-        None => Ok(()),
-        Some(t) => {
-            let to = limits[v];
-            lower_type(alloc, &s.types, t, to, limits, noted, kept)
-        }
+    if v >= limits.len() {
+        return Ok(());
     }
+    let to = limits[v];
+    let mut parts = Vec::new(alloc);
+    look_under(s, v, &mut parts)?;
+    lower_types(alloc, &s.types, parts, to, limits, noted, kept)
 }
 
 /// The variables of a trail.

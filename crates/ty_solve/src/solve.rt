@@ -9,7 +9,7 @@ ghost use Rattle.ty_solve.specs.Changes.{Changes, RefusesWrite};
 ghost use Rattle.ty_solve.specs.Forces.{IsForced};
 ghost use Rattle.ty_solve.specs.Solve.{problem, IsMostGeneral, IsSolvable, IsSmall, IsCause, IsEarlyCause, LeavesRest, undo};
 
-use crate::bind::{bind_variable, lower_mark};
+use crate::bind::{bind_variable, lower_mark, narrow};
 use crate::refused::UnifyRefused;
 use crate::step::next_write;
 use crate::subst::Subst;
@@ -41,6 +41,7 @@ fn change(
     match write {
         Move::Bind(v, t) => bind_variable(alloc, s, v, t, tasks, trail),
         Move::Remark(v, mark) => lower_mark(s, v, mark, trail),
+        Move::Further(v) => narrow(alloc, s, v, tasks, trail),
     }
 }
 

@@ -5,17 +5,19 @@ ghost use Rattle.ty_core.specs.TypesOf.{head_of};
 ghost use Rattle.ty_core.specs.Marks.{is_inhabited};
 ghost use Rattle.ty_table.specs.TypeAt.{type_at, types_at, AllBelow, IsWith};
 ghost use Rattle.ty_solve.specs.Substitution.{is_below};
-ghost use Rattle.ty_solve.specs.SlotsOf.{seen};
+ghost use Rattle.ty_solve.specs.SlotsOf.{seen, row_in};
 ghost use Rattle.ty_solve.specs.Said.{said};
+ghost use Rattle.ty_solve.specs.Changes.{IsFitRow};
 ghost use Rattle.ty_solve.specs.Solve.{IsMostGeneral, IsSmall, LeavesRest, undo};
 ghost use Rattle.ty_solve.specs.Lowering.{IsSettled, undo_limits};
-ghost use Rattle.ty_solve.specs.Limits.{limit_at, AreLimited, AreWide, Fall, AskTheSame, LeavesLimits, IsSolvableOver, IsCauseWithin};
+ghost use Rattle.ty_solve.specs.Limits.{limit_at, AllLimited, AreLimited, AreWide, Fall, AskTheSame, LeavesLimits, IsSolvableOver, IsCauseWithin};
 ghost use Rattle.ty_solve.specs.LimitProps.{AreLimited-prop, AreWide-prop};
 ghost use Rattle.ty_solve.specs.declared.subst.Slot.{Slot};
 
 use crate::limit::{KeptLimit, Limit};
 use crate::lower::{lower, put_back_limits};
 use crate::refused::UnifyRefused;
+use crate::row::Row;
 use crate::solve::attempt;
 use crate::subst::Subst;
 use crate::trail::{Kept, put_back};
@@ -94,6 +96,29 @@ impl Solver {
     {
         self.limits.push(limit)?;
         match self.subst.fresh(mark) {
+            Ok(v) => Ok(v),
+            Err(e) => {
+                self.limits.pop();
+                Err(e)
+            }
+        }
+    }
+
+    /// A new variable that stands for a record with the fields of a row, and its limit, which no field reaches over.
+    pub fn fresh_row(&mut self, row: Row, limit: Limit) -> Result<usize, NoMemory>
+        requires held { AllBelow (length self.old.subst.types) row.types.items }
+        requires fit { IsFitRow (length self.old.subst.slots.items) (row_in self.old.subst.types row) }
+        requires wide { 4 ≤ limit.names }
+        requires within { AllLimited (limit_at self.old.limits.items) limit (types_at self.old.subst.types row.types.items) }
+        ensures next { IfOk result (λ v. v ≡ length self.old.subst.slots.items) }
+        ensures known { IfOk result (λ _. self.new.subst.slots.items ≡ self.old.subst.slots.items ++ Slot.Partial row ∷ []) }
+        ensures limited { IfOk result (λ _. self.new.limits.items ≡ self.old.limits.items ++ limit ∷ []) }
+        ensures types { self.new.subst.types ≡ self.old.subst.types }
+        ensures err { OnErr result (self.new.subst.slots.items ≡ self.old.subst.slots.items) }
+        ensures err_limits { OnErr result (self.new.limits.items ≡ self.old.limits.items) }
+    {
+        self.limits.push(limit)?;
+        match self.subst.fresh_row(row) {
             Ok(v) => Ok(v),
             Err(e) => {
                 self.limits.pop();

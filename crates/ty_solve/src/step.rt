@@ -5,7 +5,8 @@ ghost use Rattle.ty_core.specs.Types.{Typ, Symbol, var, con, none};
 ghost use Rattle.ty_core.specs.Marks.{IsOf, Allows, is_inhabited};
 ghost use Rattle.ty_table.specs.TypeAt.{type_at, types_at, AllBelow};
 ghost use Rattle.ty_solve.specs.Substitution.{is_below, are_below, is_open, free, mark as mark_of};
-ghost use Rattle.ty_solve.specs.SlotsOf.{seen, entries, task_of, tasks_of, write_of};
+ghost use Rattle.ty_solve.specs.SlotsOf.{seen, entries, task_of, tasks_of, write_of, row_in, row_of};
+ghost use Rattle.ty_solve.specs.Said.{said};
 ghost use Rattle.ty_core.specs.TypesOf.{head_of};
 ghost use Rattle.ty_solve.specs.Finding.{Reads, IsWalked};
 ghost use Rattle.ty_solve.specs.Compared.{Waits, WasThere, Remembers};
@@ -16,6 +17,7 @@ ghost use Rattle.ty_solve.specs.Tasks.{Steps, RefusesTask, Comes, RefusesTasks, 
 
 use crate::equality::admit_all;
 use crate::refused::UnifyRefused;
+use crate::row::Row;
 use crate::subst::Subst;
 use crate::task::{Move, Todo};
 use indexmap::IndexSet;
@@ -178,6 +180,60 @@ fn remark(s: &Subst, x: usize, mark: Mark) -> Result<Option<Move>, UnifyRefused>
     }
 }
 
+/// Lets a mark stand at a variable that stands for a record.
+fn remark_row(
+    alloc: Global,
+    s: &Subst,
+    x: usize,
+    row: &Row,
+    mark: Mark,
+    tasks: &mut Vec<Todo>,
+) -> Result<Option<Move>, UnifyRefused>
+    requires { said s.now x ≡ row_of (row_in s.now.types row.now) }
+    ensures steps { IfOk result (λ write. Steps (length (entries s.now.types s.now.slots.items)) (said s.now) s.now.acyclic.0
+        (tasks_of s.now.types tasks.old.items) (Admit mark (var x)) (tasks_of s.now.types tasks.new.items) (option_map (write_of s.now.types) write)) }
+    ensures stay { IfOk result (λ _. (a b : Typ) → Waits (tasks_of s.now.types tasks.old.items) a b → Waits (tasks_of s.now.types tasks.new.items) a b) }
+    ensures held { IfOk result (λ write. AllBelow (length s.now.types) row.now.types.items → AreHeldTasks (length s.now.types) tasks.old.items
+        → AreHeldTasks (length s.now.types) tasks.new.items × IsHeldMove (length s.now.types) write) }
+    ensures cause { IfErr result (RefusesTask (said s.now) (Admit mark (var x))) }
+{
+    match mark {
+        Mark::Any => Ok(None),
+        Mark::Class(_) => Err(UnifyRefused::Clash),
+        Mark::Equality => {
+            if !row.equality {
+                return Ok(Some(Move::Further(x)));
+            }
+            match admit_all(alloc, s, &row.types, tasks) {
+                Err(refused) => Err(refused),
+                Ok(()) => Ok(None),
+            }
+        }
+    }
+}
+
+/// Lets a mark stand at a variable that stands for no type yet.
+fn admit_variable(
+    alloc: Global,
+    s: &Subst,
+    x: usize,
+    mark: Mark,
+    tasks: &mut Vec<Todo>,
+) -> Result<Option<Move>, UnifyRefused>
+    requires { is_open (said s.now x) ≡ true }
+    ensures steps { IfOk result (λ write. Steps (length (entries s.now.types s.now.slots.items)) (said s.now) s.now.acyclic.0
+        (tasks_of s.now.types tasks.old.items) (Admit mark (var x)) (tasks_of s.now.types tasks.new.items) (option_map (write_of s.now.types) write)) }
+    ensures stay { IfOk result (λ _. (a b : Typ) → Waits (tasks_of s.now.types tasks.old.items) a b → Waits (tasks_of s.now.types tasks.new.items) a b) }
+    ensures held { IfOk result (λ write. AreHeldTasks (length s.now.types) tasks.old.items
+        → AreHeldTasks (length s.now.types) tasks.new.items × IsHeldMove (length s.now.types) write) }
+    ensures cause { IfErr result (RefusesTask (said s.now) (Admit mark (var x))) }
+{
+    match s.row(x) {
+        None => remark(s, x, mark),
+        Some(row) => remark_row(alloc, s, x, row, mark, tasks),
+    }
+}
+
 /// Whether a type with this head and no arguments is of the class.
 fn head_is_of(class: Class, head: &Head) -> bool
     ensures { IsTrue result ↔ IsOf class (con (head_of head.now) none) }
@@ -243,7 +299,7 @@ fn admit(
 {
     let found = s.find(t);
     match s.types.view(found) {
-        View::Var(x) => remark(s, x, mark),
+        View::Var(x) => admit_variable(alloc, s, x, mark, tasks),
         View::Apply(h, ts) => match admit_applied(alloc, s, mark, h, ts, tasks) {
             Ok(()) => Ok(None),
             Err(refused) => Err(refused),

@@ -5,14 +5,16 @@ ghost use Rattle.ty_core.specs.TypesOf.{head_of};
 ghost use Rattle.ty_core.specs.Marks.{is_inhabited};
 ghost use Rattle.ty_table.specs.TypeAt.{type_at, types_at, AllBelow, IsWith};
 ghost use Rattle.ty_solve.specs.Substitution.{mark, free, bound, is_open, Fits};
-ghost use Rattle.ty_solve.specs.SlotsOf.{seen, entry_of};
+ghost use Rattle.ty_solve.specs.SlotsOf.{seen, entry_of, row_in, row_of};
 ghost use Rattle.ty_solve.specs.Held.{IsHeld, AreHeld};
 ghost use Rattle.ty_solve.specs.HeldProps.{AreHeld-prop};
 ghost use Rattle.ty_solve.specs.Weight.{IsAcyclic, AreBelow, AreInhabited, weight};
 ghost use Rattle.ty_solve.specs.Props.{IsAcyclic-prop, AreBelow-prop, AreInhabited-prop};
 ghost use Rattle.ty_solve.specs.Tasks.{MayPut};
+ghost use Rattle.ty_solve.specs.Changes.{IsFitRow};
 ghost use Rattle.ty_solve.specs.Finding.{StandsFor, IsWalked, Reads};
 
+use crate::row::Row;
 use mlc_base::memory::NoMemory;
 use std::alloc::Global;
 use std::mem;
@@ -20,10 +22,11 @@ use ty_core::mark::Mark;
 use ty_core::ty::Head;
 use ty_table::types::{Types, View};
 
-/// What one variable stands for: any type that its mark allows, or one type.
-#[derive(Clone, Copy)]
+/// What one variable stands for: any type that its mark allows, a record with the fields of a row, or one type.
+#[derive(Drop)]
 pub enum Slot {
     Open(Mark),
+    Partial(Row),
     Full(usize),
 }
 
@@ -61,6 +64,20 @@ impl Subst {
         Ok(v)
     }
 
+    /// A new variable that stands for a record with the fields of a row. They may come in any order.
+    pub fn fresh_row(&mut self, row: Row) -> Result<usize, NoMemory>
+        requires held { AllBelow (length self.old.types) row.types.items }
+        requires fit { IsFitRow (length self.old.slots.items) (row_in self.old.types row) }
+        ensures next { IfOk result (λ v. v ≡ length self.old.slots.items) }
+        ensures known { IfOk result (λ _. self.new.slots.items ≡ self.old.slots.items ++ Slot.Partial row ∷ []) }
+        ensures types { self.new.types ≡ self.old.types }
+        ensures err { OnErr result (self.new.slots.items ≡ self.old.slots.items) }
+    {
+        let v = self.slots.len();
+        self.slots.push(Slot::Partial(row))?;
+        Ok(v)
+    }
+
     /// The type that is a variable.
     pub fn variable(&mut self, alloc: Global, v: usize) -> Result<usize, NoMemory>
         requires { v < length self.old.slots.items }
@@ -95,9 +112,28 @@ impl Subst {
             (λ t. (seen self.now.types self.now.slots.items) v ≡ bound (type_at self.now.types t)) }
     {
         if v < self.slots.len() {
-            match self.slots[v] {
-                Slot::Full(t) => Some(t),
+            match &self.slots[v] {
+                Slot::Full(t) => Some(*t),
                 Slot::Open(_) => None,
+                Slot::Partial(_) => None,
+            }
+        } else {
+            None
+        }
+    }
+
+    /// The row of a variable that stands for a record with its fields.
+    pub fn row(&self, v: usize) -> Option<&Row>
+        ensures held { IfSome result (λ r. AllBelow (length self.now.types) r.now.types.items) }
+        ensures is { MatchOption result (is_open (seen self.now.types self.now.slots.items v) ≡ true
+            → seen self.now.types self.now.slots.items v ≡ free (mark (seen self.now.types self.now.slots.items v)))
+            (λ r. seen self.now.types self.now.slots.items v ≡ row_of (row_in self.now.types r.now)) }
+    {
+        if v < self.slots.len() {
+            match &self.slots[v] {
+                Slot::Partial(row) => Some(row),
+                Slot::Open(_) => None,
+                Slot::Full(_) => None,
             }
         } else {
             None
@@ -109,9 +145,10 @@ impl Subst {
         ensures { result ≡ mark ((seen self.now.types self.now.slots.items) v) }
     {
         if v < self.slots.len() {
-            match self.slots[v] {
+            match &self.slots[v] {
                 Slot::Full(_) => Mark::Any,
-                Slot::Open(k) => k,
+                Slot::Partial(_) => Mark::Any,
+                Slot::Open(k) => *k,
             }
         } else {
             Mark::Any

@@ -10,7 +10,7 @@ use mlc_base::memory::NoMemory;
 use ty_core::mark::Mark;
 
 /// What a variable stood for before a change.
-#[derive(Clone, Copy)]
+#[derive(Drop)]
 pub struct Kept {
     pub variable: usize,
     pub slot: Slot,

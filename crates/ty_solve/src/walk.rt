@@ -1,9 +1,10 @@
 // Looking through the type that a number stands for.
-ghost use Rattle.std.specs.Prelude.{◌≡◌, ◌↔◌, ◌≤◌, ◌++◌, ℕ, ◌||◌, nat_eq, IfOk, IsTrue, length};
+ghost use Rattle.std.specs.Prelude.{◌≡◌, ◌↔◌, ◌≤◌, ◌++◌, ℕ, ◌||◌, nat_eq, IfOk, IsTrue, length, true};
 ghost use Rattle.ty_core.specs.Types.{Typ, var, nodes};
-ghost use Rattle.ty_table.specs.TypeAt.{type_at, top};
-ghost use Rattle.ty_solve.specs.Walk.{Looks, Counts};
-ghost use Rattle.ty_solve.specs.Substitution.{Resolves, aside, sub, is_in};
+ghost use Rattle.ty_table.specs.TypeAt.{type_at, types_at, top};
+ghost use Rattle.ty_solve.specs.Said.{said};
+ghost use Rattle.ty_solve.specs.Walk.{Looks, LooksInRow, LooksUnder, Counts};
+ghost use Rattle.ty_solve.specs.Substitution.{Resolves, aside, sub, subs, is_in, are_in, is_open};
 ghost use Rattle.ty_solve.specs.SlotsOf.{seen as seen_in};
 ghost use Rattle.ty_solve.specs.Solve.{node_limit};
 
@@ -24,14 +25,36 @@ pub fn add_all(pending: &mut Vec<usize>, types: &[usize]) -> Result<(), NoMemory
     Ok(())
 }
 
-/// Puts what a type stands for, or its arguments, on the types that are pending.
+/// Puts the types of a row's fields on those that are pending.
+fn look_in_row(s: &Subst, x: usize, pending: &mut Vec<usize>) -> Result<(), NoMemory>
+    requires { is_open (said s.now x) ≡ true }
+    ensures { IfOk result (λ _. LooksInRow s.now.types (said s.now) x pending.old.items pending.new.items) }
+{
+    match s.row(x) {
+        Some(row) => add_all(pending, &row.types),
+        None => Ok(()),
+    }
+}
+
+/// Puts what a variable stands for, or the types of its fields, on the types that are pending.
+pub fn look_under(s: &Subst, v: usize, pending: &mut Vec<usize>) -> Result<(), NoMemory>
+    ensures { IfOk result (λ _. LooksUnder s.now.types (said s.now) v pending.old.items pending.new.items) }
+{
+    match s.get(v) {
+        Some(u) => pending.push(u)?,
+        None => look_in_row(s, v, pending)?,
+    }
+    Ok(())
+}
+
+/// Puts what a type stands for, or its arguments or fields, on the types that are pending.
 fn look_in(s: &Subst, t: usize, pending: &mut Vec<usize>) -> Result<(), NoMemory>
     ensures { IfOk result (λ _. Looks s.now.types (seen_in s.now.types s.now.slots.items) t pending.old.items pending.new.items) }
 {
     match s.types.view(t) {
         View::Var(x) => match s.get(x) {
             Some(u) => pending.push(u)?,
-            None => {}
+            None => look_in_row(s, x, pending)?,
         },
         View::Apply(_, arguments) => add_all(pending, arguments)?,
     }
@@ -55,14 +78,12 @@ fn is_variable(s: &Subst, t: usize, v: usize) -> bool
     }
 }
 
-/// Whether a variable lies in the type that t stands for. Each type is looked through once.
-pub fn occurs(alloc: Global, s: &Subst, v: usize, t: usize) -> Result<bool, NoMemory>
-    ensures { IfOk result (λ found. (f : ℕ → Typ) → Resolves f (aside v (seen_in s.now.types s.now.slots.items))
-        → found ≡ is_in v (sub f (type_at s.now.types t))) }
+/// Whether a variable lies in what the pending types stand for. Each type is looked through once.
+fn reaches(alloc: Global, s: &Subst, v: usize, types: Vec<usize>) -> Result<bool, NoMemory>
+    ensures { IfOk result (λ found. (f : ℕ → Typ) → Resolves f (aside v (said s.now)) → found ≡ are_in v (subs f (types_at s.now.types types.items))) }
 {
     let mut seen: IndexSet<usize> = IndexSet::new(alloc);
-    let mut pending = Vec::new(alloc);
-    pending.push(t)?;
+    let mut pending = types;
     while let Some(next) = pending.pop() {
         if is_variable(s, next, v) {
             return Ok(true);
@@ -75,6 +96,24 @@ pub fn occurs(alloc: Global, s: &Subst, v: usize, t: usize) -> Result<bool, NoMe
         }
     }
     Ok(false)
+}
+
+/// Whether a variable lies in the type that t stands for.
+pub fn occurs(alloc: Global, s: &Subst, v: usize, t: usize) -> Result<bool, NoMemory>
+    ensures { IfOk result (λ found. (f : ℕ → Typ) → Resolves f (aside v (said s.now)) → found ≡ is_in v (sub f (type_at s.now.types t))) }
+{
+    let mut pending = Vec::new(alloc);
+    pending.push(t)?;
+    reaches(alloc, s, v, pending)
+}
+
+/// Whether a variable lies in one of the types that these stand for.
+pub fn occurs_in(alloc: Global, s: &Subst, v: usize, types: &[usize]) -> Result<bool, NoMemory>
+    ensures { IfOk result (λ found. (f : ℕ → Typ) → Resolves f (aside v (said s.now)) → found ≡ are_in v (subs f (types_at s.now.types types.now))) }
+{
+    let mut pending = Vec::new(alloc);
+    add_all(&mut pending, types)?;
+    reaches(alloc, s, v, pending)
 }
 
 /// Counts those nodes of a type that can be counted at once, and puts the others on the types that are pending.

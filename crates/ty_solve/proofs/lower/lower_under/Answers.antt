@@ -1,45 +1,57 @@
-use Rattle.std.proofs.Common.{◌≡◌, ◌++◌, ◌∷◌, [], ℕ, true, length, refl, sym, subst, arith}
-use Rattle.ty_table.specs.TypeAt.{type_at}
-use Rattle.ty_solve.specs.Substitution.{is_below}
-use Rattle.ty_solve.specs.Weight.{BelowAt}
+use Rattle.std.proofs.Common.{◌≡◌, ◌≤◌, ◌++◌, ◌∷◌, [], ℕ, true, length, refl, sym, subst, arith}
+use Rattle.ty_core.specs.Types.{Typ}
+use Rattle.ty_table.specs.TypeAt.{types_at}
+use Rattle.ty_solve.specs.Substitution.{are_below}
 use Rattle.ty_solve.specs.Forces.{Problem, IsForced}
 use Rattle.ty_solve.specs.Said.{said}
 use Rattle.ty_solve.specs.Limits.{limit_at, LimitedAt}
-use Rattle.ty_solve.specs.Lowering.{Lowering, LowersType, RefusesIn, RefusesLimits}
+use Rattle.ty_solve.specs.Lowering.{together, Lowering, LowersType, RefusesIn, RefusesLimits}
 use Rattle.ty_solve.specs.declared.limit.Limit.{Limit}
-use Rattle.ty_solve.proofs.Slots.{open-free, bound-within}
+use Rattle.ty_solve.proofs.Slots.{seen-past}
 use Rattle.ty_solve.proofs.Falling.{limit-get}
-use Rattle.ty_solve.proofs.Lowered.{under-open, under-bound, refuses-under}
+use Rattle.ty_solve.proofs.Lowered.{under-open, under-bound, refuses-under, under-all, under-below, under-whole}
 use Rattle.ty_solve.proofs.Turns.{ok-then, err-then}
 use Rattle.ty_solve.proofs.lower.lower_under.Goals as goal
 
-pub index-to-requires : goal.index-to-requires
-index-to-requires c = let lt = bound-within c.args.s.now.types c.args.s.now.slots.items c.args.v _ c.in-Some.ensures.is in omega (arith, c.requires, c.args.limits.now.ok.0)
+pub returns-then-v-len-clause-lowers : goal.returns-then-v-len-clause-lowers
+returns-then-v-len-clause-lowers c =
+    let s = c.args.s.now in
+    let le : length s.slots.items ≤ c.args.v = omega (arith, c.requires, c.if-v-len.true, c.args.limits.now.ok.0) in
+    λ p b i g. under-open p (said s) i b c.args.limits.now.items c.args.limits.now.items c.args.noted.now.items _ [] c.args.v refl g (subst (LimitedAt (limit_at c.args.limits.now.items) (limit_at c.args.limits.now.items c.args.v)) (sym (seen-past s.types s.slots.items c.args.v le)) tt)
 
-pub lower_type-requires : goal.lower_type-requires
-lower_type-requires c = subst (λ n. is_below n (type_at c.args.s.now.types c.in-Some.t) ≡ true) (sym c.requires) (subst (BelowAt (length c.args.s.now.slots.items)) c.in-Some.ensures.is (c.args.s.now.below c.args.v))
+pub lower_types-requires : goal.lower_types-requires
+lower_types-requires c =
+    let s = c.args.s.now in
+    subst (λ n. are_below n (types_at s.types c.look_under.new.pending.items) ≡ true) (sym c.requires) (under-below s.types (said s) c.args.v (length s.slots.items) _ _ c.new-parts.ensures.items c.in_ok-look_under.ensures (s.below c.args.v))
 
-pub returns-in-None-clause-lowers : goal.returns-in-None-clause-lowers
-returns-in-None-clause-lowers c = λ p b i g. under-open p (said c.args.s.now) i b c.args.limits.now.items c.args.limits.now.items c.args.noted.now.items _ [] c.args.v refl g (subst (LimitedAt (limit_at c.args.limits.now.items) (limit_at c.args.limits.now.items c.args.v)) (sym (open-free c.args.s.now.types c.args.s.now.slots.items c.args.v c.in-None.ensures.is)) tt)
-
-pub returns-in-Some-clause-lowers : goal.returns-in-Some-clause-lowers
-returns-in-Some-clause-lowers c =
-    let lt = bound-within c.args.s.now.types c.args.s.now.slots.items c.args.v _ c.in-Some.ensures.is in
-    let q = limit-get c.args.limits.now.items c.args.v _ (omega (arith, c.requires)) c.index-to.ensures in
+pub returns-clause-lowers : goal.returns-clause-lowers
+returns-clause-lowers c =
+    let s = c.args.s.now in
+    let ks = c.look_under.new.pending.items in
+    let us = types_at s.types ks in
+    let old = c.args.limits.now.items in
+    let new = c.lower_types.new.limits.items in
+    let rest = c.args.noted.now.items in
+    let now = c.lower_types.new.noted.items in
+    let q = limit-get old c.args.v _ (omega (arith, c.if-v-len.false, c.args.limits.now.ok.0)) c.index-to.ensures in
     ok-then
-    (LowersType (type_at c.args.s.now.types c.in-Some.t) c.index-to.result.now c.args.limits.now.items c.lower_type.new.limits.items c.args.noted.now.items c.lower_type.new.noted.items)
-    ((p : Problem) (b : ℕ → Limit) → IsForced p (said c.args.s.now) → Lowering p (said c.args.s.now) b (limit_at c.args.limits.now.items) (c.args.noted.now.items ++ c.args.v ∷ []) → Lowering p (said c.args.s.now) b (limit_at c.lower_type.new.limits.items) c.lower_type.new.noted.items)
-    c.lower_type.result
-    (λ h p b i g. under-bound p (said c.args.s.now) i b c.args.limits.now.items c.lower_type.new.limits.items c.args.noted.now.items _ c.lower_type.new.noted.items c.args.v refl g (type_at c.args.s.now.types c.in-Some.t) c.in-Some.ensures.is (subst (λ k. LowersType (type_at c.args.s.now.types c.in-Some.t) k c.args.limits.now.items c.lower_type.new.limits.items c.args.noted.now.items c.lower_type.new.noted.items) (sym q) h))
-    c.lower_type.ensures.lowers
+    (LowersType (together us) c.index-to.result.now old new rest now)
+    ((p : Problem) (b : ℕ → Limit) → IsForced p (said s) → Lowering p (said s) b (limit_at old) (rest ++ c.args.v ∷ []) → Lowering p (said s) b (limit_at new) now)
+    c.lower_types.result
+    (λ h p b i g. under-bound p (said s) i b old new rest _ now c.args.v refl g us (under-all s.types (said s) c.args.v _ ks c.new-parts.ensures.items c.in_ok-look_under.ensures (s.inhabited c.args.v)) (under-whole s.types (said s) c.args.v (limit_at new) (limit_at new c.args.v) _ ks c.new-parts.ensures.items c.in_ok-look_under.ensures) (subst (λ k. LowersType (together us) k old new rest now) (sym q) h))
+    c.lower_types.ensures.lowers
 
-pub returns-in-Some-clause-cause : goal.returns-in-Some-clause-cause
-returns-in-Some-clause-cause c =
-    let lt = bound-within c.args.s.now.types c.args.s.now.slots.items c.args.v _ c.in-Some.ensures.is in
-    let q = limit-get c.args.limits.now.items c.args.v _ (omega (arith, c.requires)) c.index-to.ensures in
+pub returns-clause-cause : goal.returns-clause-cause
+returns-clause-cause c =
+    let s = c.args.s.now in
+    let ks = c.look_under.new.pending.items in
+    let us = types_at s.types ks in
+    let old = c.args.limits.now.items in
+    let rest = c.args.noted.now.items in
+    let q = limit-get old c.args.v _ (omega (arith, c.if-v-len.false, c.args.limits.now.ok.0)) c.index-to.ensures in
     err-then
-    (RefusesIn (type_at c.args.s.now.types c.in-Some.t) c.index-to.result.now)
-    (λ e. (p : Problem) (b : ℕ → Limit) → IsForced p (said c.args.s.now) → Lowering p (said c.args.s.now) b (limit_at c.args.limits.now.items) (c.args.noted.now.items ++ c.args.v ∷ []) → RefusesLimits p (said c.args.s.now) b e)
-    c.lower_type.result
-    (λ e h p b i g. refuses-under p (said c.args.s.now) i b c.args.limits.now.items c.args.limits.now.items c.args.noted.now.items _ [] c.args.v refl g (type_at c.args.s.now.types c.in-Some.t) c.in-Some.ensures.is e (subst (λ k. RefusesIn (type_at c.args.s.now.types c.in-Some.t) k e) (sym q) h))
-    c.lower_type.ensures.cause
+    (RefusesIn (together us) c.index-to.result.now)
+    (λ e. (p : Problem) (b : ℕ → Limit) → IsForced p (said s) → Lowering p (said s) b (limit_at old) (rest ++ c.args.v ∷ []) → RefusesLimits p (said s) b e)
+    c.lower_types.result
+    (λ e h p b i g. refuses-under p (said s) i b old old rest _ [] c.args.v refl g us (under-all s.types (said s) c.args.v _ ks c.new-parts.ensures.items c.in_ok-look_under.ensures (s.inhabited c.args.v)) e (subst (λ k. RefusesIn (together us) k e) (sym q) h))
+    c.lower_types.ensures.cause

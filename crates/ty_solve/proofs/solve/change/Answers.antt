@@ -21,3 +21,9 @@ bind_variable-requires-clause-held c = subst (λ x. IsHeldMove (length c.args.s.
 
 pub returns-in-Remark-clause-held : goal.returns-in-Remark-clause-held
 returns-in-Remark-clause-held c = ok-all (AreHeldTasks (length c.args.s.now.types) c.args.tasks.now.items → AreHeldTasks (length c.args.s.now.types) c.args.tasks.now.items) c.lower_mark.result (λ h. h)
+
+pub returns-in-Further-clause-changes : goal.returns-in-Further-clause-changes
+returns-in-Further-clause-changes c = subst (λ x. IfOk c.narrow.result (λ _. Changes (entries c.args.s.now.types c.args.s.now.slots.items) (entries c.args.s.now.types c.narrow.new.s.slots.items) (tasks_of c.args.s.now.types c.args.tasks.now.items) (tasks_of c.args.s.now.types c.narrow.new.tasks.items) (write_of c.args.s.now.types x))) (sym c.in-Further.is) c.narrow.ensures.changes
+
+pub returns-in-Further-clause-cause : goal.returns-in-Further-clause-cause
+returns-in-Further-clause-cause c = subst (λ x. IfErr c.narrow.result (RefusesWrite (seen c.args.s.now.types c.args.s.now.slots.items) (write_of c.args.s.now.types x))) (sym c.in-Further.is) c.narrow.ensures.cause

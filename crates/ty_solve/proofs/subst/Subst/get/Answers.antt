@@ -18,3 +18,6 @@ returns-in-Open-clause-is c = ap is_open (seen-get c.args.self.now.types c.args.
 
 pub returns-else-v-len-clause-is : goal.returns-else-v-len-clause-is
 returns-else-v-len-clause-is c = ap is_open (seen-past c.args.self.now.types c.args.self.now.slots.items c.args.v (omega (arith, c.args.self.now.slots.ok.0)))
+
+pub returns-in-Partial-clause-is : goal.returns-in-Partial-clause-is
+returns-in-Partial-clause-is c = ap is_open (seen-get c.args.self.now.types c.args.self.now.slots.items c.args.v _ (omega (arith, c.args.self.now.slots.ok.0)) c.index.ensures ∙ ap (entry_of c.args.self.now.types) c.in-Partial.is)

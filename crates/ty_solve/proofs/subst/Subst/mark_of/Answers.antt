@@ -12,3 +12,6 @@ returns-in-Open c = sym (ap mark (seen-get c.args.self.now.types c.args.self.now
 
 pub returns-else-v-len : goal.returns-else-v-len
 returns-else-v-len c = sym (ap mark (seen-past c.args.self.now.types c.args.self.now.slots.items c.args.v (omega (arith, c.args.self.now.slots.ok.0))))
+
+pub returns-in-Partial : goal.returns-in-Partial
+returns-in-Partial c = sym (ap mark (seen-get c.args.self.now.types c.args.self.now.slots.items c.args.v _ (omega (arith, c.args.self.now.slots.ok.0)) c.index.ensures ∙ ap (entry_of c.args.self.now.types) c.in-Partial.is))
