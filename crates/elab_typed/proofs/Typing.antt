@@ -31,11 +31,12 @@ use Rattle.ir_poly.specs.Prog as prog
 use Rattle.ir_poly.specs.Types.{are_new, Constructor}
 use Rattle.ir_poly.specs.TestsChecked.{Knowns}
 use Rattle.ir_poly.proofs.ReplaceLemmas.{row_read, row_type-read}
-use Rattle.elab_typed.specs.Contexts.{Kept, given, general, single, raised, value_under, KeptValues, KeptEnv, values_under, env_under, kept_values, plus_kept, kept_in, Around, context_under, generic, IsOver, generals, with_bound, after}
+use Rattle.elab_typed.specs.Contexts.{Kept, given, general, single, raised, value_under, KeptValues, KeptEnv, values_under, env_under, kept_values, given_values, plus_kept, kept_in, Around, context_under, generic, IsOver, generals, with_bound, after}
 use Rattle.elab_typed.specs.Instances.{AloneElab, alone_constructor, alone_exception, alone_given_exception, BeforeElab, before_constructor, before_reference, before_exception}
-use Rattle.elab_typed.specs.Elaborates.{Stands, StandsIf, PatElab, wild_elab, constant_elab, variable_elab, alone_elab, built_elab, fields_elab, open_elab, con_elab, built_con_elab, typed_elab, as_elab, PatsElab, no_pats_elab, a_pat_elab, ParameterElab, any_elab, named_elab, annotated_elab, HeadElab, head_wild, head_variable, head_typed, head_as, ExnsElab, no_exns_elab, new_exn_elab, same_exn_elab, given_values, inner, without, ExpElab, ordered_elab, chain_elab, HeldElab, none_held_elab, held_elab, ChainElab, only_elab, and_elab, or_elab, constant_exp_elab, vid_elab, built_exp_elab, record_elab, let_elab, case_elab, app_elab, typed_exp_elab, handle_elab, raise_elab, fn_elab, counted_elab, FieldsElab, no_fields_elab, a_field_elab, RulesElab, no_rules_elab, a_rule_elab, FunElab, by_rules_elab, last_elab, more_elab, DecsElab, no_decs_elab, a_dec_elab, counted_decs_elab, DecElab, val_elab, type_elab, datatype_elab, replicate_elab, exception_elab, local_elab, open_dec_elab, sequence_elab, counted_dec_elab, BindsElab, no_binds_elab, general_elab, plain_elab, FunsElab, no_funs_elab, a_fun_elab}
+use Rattle.elab_typed.specs.Elaborates.{Stands, StandsIf, PatElab, wild_elab, constant_elab, variable_elab, alone_elab, built_elab, fields_elab, open_elab, con_elab, built_con_elab, typed_elab, as_elab, PatsElab, no_pats_elab, a_pat_elab, ParameterElab, any_elab, named_elab, annotated_elab, HeadElab, head_wild, head_variable, head_typed, head_as, ExnsElab, no_exns_elab, new_exn_elab, same_exn_elab, inner, without, ExpElab, ordered_elab, chain_elab, HeldElab, none_held_elab, held_elab, ChainElab, only_elab, and_elab, or_elab, constant_exp_elab, vid_elab, built_exp_elab, record_elab, let_elab, case_elab, app_elab, typed_exp_elab, handle_elab, raise_elab, fn_elab, counted_elab, FieldsElab, no_fields_elab, a_field_elab, RulesElab, no_rules_elab, a_rule_elab, FunElab, by_rules_elab, last_elab, more_elab, DecsElab, no_decs_elab, a_dec_elab, counted_decs_elab, DecElab, val_elab, type_elab, datatype_elab, replicate_elab, exception_elab, local_elab, open_dec_elab, sequence_elab, counted_dec_elab, BindsElab, no_binds_elab, general_elab, plain_elab, FunsElab, no_funs_elab, a_fun_elab}
 use Rattle.elab_typed.specs.Laws.{Fits}
 use Rattle.elab_typed.proofs.Under.{bound_under, plus-under, with-bound-under, with-nothing, after-under, long-under, matched-under, non-expansive-under, replicated-under, opened-under, given-under, kept-env-under, sorted-under, append-row, labels-under, bound-in-under, bound-append, over-under, over-more}
+use Rattle.elab_typed.proofs.Closed.{types-bound-under, datatypes-under}
 use Rattle.elab_typed.proofs.Instancing.{given-instance, single-instance, raised-instance, raised-is, use-typed}
 use Rattle.elab_typed.proofs.Vals.{at_types, outside, inner-fits, without-fits, marks-same, scoping-under, closing, put-closing, closing-in, closing-append, closing-together, closed-under, bound-none}
 
@@ -292,10 +293,10 @@ module _ {table : List Constructor} where
     dec-typed {A} (val_elab p q {as_ = as_} qs extra {bs = bs} {rs = rs} {vs = vs} {us = us} {c = c} {d = d} {f = h} new over e g apart hs xs ys) s f =
         val-typed p q qs extra vs us c d h _ new over e g apart (all-functions xs) s f
         (λ r i i'. binds-typed qs ys s new refl r i i') (λ r i. funs-typed xs s qs r i)
-    dec-typed (type_elab p h) s f = type_has p (h s)
+    dec-typed {A} (type_elab p {bs = bs} h) s f = type_has p (types-bound-under s A bs ∙ h)
     dec-typed {A} (datatype_elab p {bs = bs} {ts = ts} qs number l h e m a i b) s f =
         subst (λ vs. DecHas no_variable (context_under s A) (bare.datatype_dec p bs) (length bs) (env vs ts no_structures) no_choice)
-        (sym (given-under s (all_constructors ts))) (datatype_has p qs l (h s) e (m s))
+        (sym (given-under s (all_constructors ts))) (datatype_has p qs l (datatypes-under s A qs bs ∙ h) e (λ qs' ts' k d. m qs' ts' k (sym (datatypes-under s A qs' bs) ∙ d)))
     dec-typed {A} (replicate_elab p x {y = y} {v = v} h i) s f =
         subst (λ vs. DecHas no_variable (context_under s A) (bare.replicate_dec p x y) 0 (env vs ((x, v) ∷ []) no_structures) no_choice)
         (sym (given-under s v.constructors)) (replicate_has p (replicated-under s A.env y ∙ h))

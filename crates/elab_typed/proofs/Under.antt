@@ -20,8 +20,7 @@ use Rattle.core_rules.specs.Typing as rules
 use Rattle.ir_poly.specs.TestsChecked.{Knowns}
 use Rattle.ir_poly.proofs.ReplaceLemmas.{row_read}
 use Rattle.core_elab.specs.Scopes.{Scope}
-use Rattle.elab_typed.specs.Contexts.{Kept, given, general, single, raised, value_under, KeptValues, KeptEnv, values_under, env_under, kept_values, plus_kept, kept_in, Around, context_under, singles, with_bound, after}
-use Rattle.elab_typed.specs.Elaborates.{given_values, kept_env}
+use Rattle.elab_typed.specs.Contexts.{Kept, given, general, single, raised, value_under, KeptValues, KeptEnv, values_under, env_under, kept_values, given_values, kept_env, plus_kept, kept_in, Around, context_under, singles, with_bound, after}
 
 -- what is bound, under s
 abbrev pub bound_under : (ℕ → Typ) → Bound → Bound

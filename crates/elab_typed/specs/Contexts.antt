@@ -1,6 +1,6 @@
 -- What is around a phrase, for its source and for its program. A kept value says what an identifier has over parameters in scope; with types put for these it
 -- is a value of the rules.
-use Rattle.std.specs.Prelude.{◌≡◌, ℕ, ◌+◌, true, List, [], ◌∷◌, ◌++◌, map, Option, Some, None, option_map}
+use Rattle.std.specs.Prelude.{◌≡◌, ℕ, ◌+◌, true, nat_eq, List, [], ◌∷◌, ◌++◌, map, Option, Some, None, option_map}
 use Rattle.sml_tree.specs.Terminal.{LongVid}
 use Rattle.sml_tree.specs.declared.ident.Vid.{Vid}
 use Rattle.ty_core.specs.Types.{Typ, var}
@@ -10,13 +10,14 @@ use Rattle.ty_core.specs.declared.env.Status.TheVariants.{Variable, Exception}
 use Rattle.ty_core.specs.declared.scheme.Quantified.{Quantified}
 use Rattle.core_rules.specs.Closing.{scheme_under}
 use Rattle.core_rules.specs.Words.{same_vid}
-use Rattle.core_rules.specs.Objects.{monomorphic, Map, at, joined, Value, TypeStructure, Env, env, Structures, structures_of, structure_map, Context}
+use Rattle.core_rules.specs.Objects.{monomorphic, Map, at, joined, Value, Values, TypeStructure, Env, env, Structures, structures_of, structure_map, Context}
 use Rattle.core_rules.specs.Objects as static
 use Rattle.core_rules.specs.Elaborated.{exception_type}
 use Rattle.core_rules.specs.Typing.{Bound}
 use Rattle.ir_poly.specs.Types.{in_scope}
 use Rattle.ir_poly.specs.TestsChecked.{Knowns}
-use Rattle.core_elab.specs.Scopes.{Scope, plus_scope}
+use Rattle.core_rules.specs.Initial.{initial_context}
+use Rattle.core_elab.specs.Scopes.{Scope, plus_scope, initial_scope}
 
 pub data Kept : Type 0 where
   -- a constructor, or a value of a basis
@@ -43,7 +44,7 @@ pub record KeptEnv : Type 0 where
   pub types : Map ℕ TypeStructure
   pub structures : Structures
 
-abbrev pub values_under : (ℕ → Typ) → KeptValues → static.Values
+abbrev pub values_under : (ℕ → Typ) → KeptValues → Values
 values_under s vs = map (λ v. (v.0, value_under s v.1)) vs
 
 abbrev pub env_under : (ℕ → Typ) → KeptEnv → Env
@@ -52,11 +53,18 @@ env_under s e = env (values_under s e.values) e.types e.structures
 abbrev pub kept_values : KeptValues → KeptEnv
 kept_values vs = record { values = vs; types = []; structures = static.no_structures }
 
+-- closed environments, kept
+abbrev pub given_values : Values → KeptValues
+given_values vs = map (λ v. (v.0, given v.1)) vs
+
+abbrev pub kept_env : Env → KeptEnv
+kept_env (env vs ts ss) = record { values = given_values vs; types = ts; structures = ss }
+
 abbrev pub plus_kept : KeptEnv → KeptEnv → KeptEnv
 plus_kept e d = record {
   values = joined same_vid e.values d.values;
-  types = joined Rattle.std.specs.Prelude.nat_eq e.types d.types;
-  structures = structures_of (joined Rattle.std.specs.Prelude.nat_eq (structure_map e.structures) (structure_map d.structures));
+  types = joined nat_eq e.types d.types;
+  structures = structures_of (joined nat_eq (structure_map e.structures) (structure_map d.structures));
 }
 
 -- a long identifier; what structures have is given
@@ -77,6 +85,18 @@ pub record Around : Type 0 where
 -- the context of the rules, with s's types for the parameters in scope
 abbrev pub context_under : (ℕ → Typ) → Around → Context
 context_under s A = record { names = A.names; tyvars = map (λ a. (a.0, replace s a.1)) A.tyvars; env = env_under s A.env }
+
+-- before any declaration, in the initial basis
+abbrev pub initial_around : Around
+initial_around = record {
+  names = initial_context.names;
+  number = λ k. k;
+  tyvars = [];
+  env = kept_env initial_context.env;
+  scope = initial_scope;
+  known = [];
+  parameters = [];
+}
 
 -- where parameters stand for themselves
 abbrev pub generic : Around → Context

@@ -37,7 +37,7 @@ use Rattle.ir_poly.specs.ProgChecked.{pat_onto, funs_onto, binds_onto}
 use Rattle.core_elab.specs.Scopes.{Denotes, variable, exception, Scope, empty, scoped, typed_by, plus_scope, denotes_in, long_denotes_in, long_typed_in, opened_scope, is_free_in, built_number, types_scope}
 use Rattle.core_elab.specs.Resolves.{is_still, HeadsTo, DatatypesTo, IsCalled, joined}
 use Rattle.elab_typed.specs.Numbers.{type_as, row_as, KeepsInitial, AgreeBelow}
-use Rattle.elab_typed.specs.Contexts.{Kept, given, general, single, raised, KeptValues, KeptEnv, kept_values, plus_kept, kept_in, Around, context_under, generic, IsOver, singles, generals, with_bound, after}
+use Rattle.elab_typed.specs.Contexts.{Kept, given, general, single, raised, KeptValues, KeptEnv, kept_values, given_values, kept_env, plus_kept, kept_in, Around, context_under, generic, IsOver, singles, generals, with_bound, after}
 use Rattle.elab_typed.specs.Instances.{as_typed, IsGivenAt, ConHas, UseElab, AloneElab, BeforeElab}
 
 -- a type expression stands for t, whatever the parameters in scope stand for
@@ -104,13 +104,6 @@ pub data ExnsElab (A : Around) : Knowns → ℕ → List ExBind → prog.Decs �
   same_exn_elab : (p : Place) (x : Vid) (q : Place) {y : LongVid} {v : Kept} {d : Denotes} {G G' : Knowns} {bs : List ExBind} {ds : prog.Decs}
       {vs : KeptValues} {r : Scope} {k j : ℕ} → kept_in A.env y ≡ Some v → is_exception (Rattle.elab_typed.specs.Contexts.value_under var v).status ≡ true
       → long_denotes_in A.scope y ≡ Some d → ExnsElab A G k bs ds vs r j G' → ExnsElab A G k (same_exn p x q y ∷ bs) ds ((x, v) ∷ vs) (scoped x d r) j G'
-
--- closed environments, kept
-abbrev pub given_values : Values → KeptValues
-given_values vs = map (λ v. (v.0, given v.1)) vs
-
-abbrev pub kept_env : Env → KeptEnv
-kept_env (env vs ts ss) = record { values = given_values vs; types = ts; structures = ss }
 
 module _ (table : List ConRow) where
   mutual
@@ -260,13 +253,13 @@ module _ (table : List ConRow) where
           → DecElab A k (bare.val_dec p q as_ bs rs) (prog.val_dec qs bs' fs prog.no_decs) 0 A.number (kept_values (generals qs (together vs ++ together us)))
           (plus_scope r f) (binds_onto qs bs' (funs_onto (declared qs) fs A.known)) (both c d) i
       type_elab : {A : Around} {k : ℕ} (p : Place) {bs : List TypeBind} {ts : Map ℕ TypeStructure}
-          → ((s : ℕ → Typ) → types_bound (context_under s A) bs ≡ Some ts)
+          → types_bound (generic A) bs ≡ Some ts
           → DecElab A k (bare.type_dec p bs) prog.no_decs 0 A.number (record { values = []; types = ts; structures = no_structures }) (types_scope bs) A.known
           no_choice k
-      -- new names have any numbers; which of them admit equality doesn't depend on parameters in scope
+      -- new names have any numbers
       datatype_elab : {A : Around} {k : ℕ} (p : Place) {bs : List DataBind} {ts : Map ℕ TypeStructure} (qs : List Bool) (number : ℕ → ℕ) {r : Scope}
-          → length qs ≡ length bs → ((s : ℕ → Typ) → datatypes (context_under s A) qs bs ≡ Some ts) → respects_equality qs ts ≡ true
-          → ((s : ℕ → Typ) (qs' : List Bool) (ts' : Map ℕ TypeStructure) → length qs' ≡ length bs → datatypes (context_under s A) qs' bs ≡ Some ts'
+          → length qs ≡ length bs → datatypes (generic A) qs bs ≡ Some ts → respects_equality qs ts ≡ true
+          → ((qs' : List Bool) (ts' : Map ℕ TypeStructure) → length qs' ≡ length bs → datatypes (generic A) qs' bs ≡ Some ts'
           → respects_equality qs' ts' ≡ true → AllBelow qs' qs)
           → AgreeBelow A.names A.number number → KeepsInitial number → DatatypesTo bs r
           → DecElab A k (bare.datatype_dec p bs) prog.no_decs (length bs) number
