@@ -1,0 +1,11 @@
+pub mod Resolving
+pub mod Names
+pub mod Checking
+pub mod Under
+pub mod Closed
+pub mod Instancing
+pub mod Vals
+pub mod Typing
+pub mod Whole
+mod Example
+pub mod Standing
