@@ -1,0 +1,4 @@
+pub mod Scope
+pub mod Closed
+pub mod Capture
+pub mod Laws
