@@ -47,7 +47,7 @@ abbrev pub AllEntered : List Entry → List Entry → Type 0
 AllEntered all [] = ⊤
 AllEntered all (e ∷ es) = (entry_of e.number all ≡ Some e) × AllEntered all es
 
-swapped : (x y : ℕ) → nat_eq y x ≡ false → nat_eq x y ≡ false
+pub swapped : (x y : ℕ) → nat_eq y x ≡ false → nat_eq x y ≡ false
 swapped x y h = go (nat_eq x y) refl
   where
     go : (b : Bool) → nat_eq x y ≡ b → b ≡ false
