@@ -1,6 +1,5 @@
 -- Flow sets by computation: a function in a record, and one that gives a function.
-use Rattle.std.proofs.Common.{◌≡◌, ℕ, true, false, List, [], ◌∷◌, Some, None, refl}
-use Rattle.std.specs.Prelude.{⊤}
+use Rattle.std.proofs.Common.{◌≡◌, true, false, List, [], ◌∷◌, None, refl}
 use Rattle.mlc_base.specs.declared.label.Label.TheVariants.{Number}
 use Rattle.ty_core.specs.Types.{arrow, labels, name}
 use Rattle.ir_values.specs.Values.{true_number, false_number}
@@ -8,7 +7,7 @@ use Rattle.ir_plain.specs.Tree.{ret, let_in, fn, use_of, make_record, select, no
 use Rattle.ir_poly.specs.Types.{bool_name}
 use Rattle.ir_mono.specs.Types.{Row, Node, node}
 use Rattle.ir_mono.specs.Mono.{Mono, Program}
-use Rattle.flow_sets.specs.Flow.{variable, result, field, content, Flow, at, Solves, SolvesProgram}
+use Rattle.flow_sets.specs.Flow.{variable, result, field, content, Flow, at, SolvesProgram}
 use Rattle.flow_sets.specs.ByType.{by_type}
 
 abbrev row : Node → Row

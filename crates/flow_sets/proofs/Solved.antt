@@ -1,11 +1,11 @@
 -- In a well typed program all functions of each type are a solution: one case a construct.
-use Rattle.std.proofs.Common.{◌≡◌, ℕ, Bool, true, false, List, [], ◌∷◌, ◌++◌, length, Option, Some, None, nat_eq, if◌then◌else◌, refl, sym, ap, subst, ◌∙◌}
-use Rattle.std.specs.Prelude.{⊤, option_and_then}
+use Rattle.std.proofs.Common.{◌≡◌, ℕ, Bool, true, false, List, [], ◌∷◌, ◌++◌, length, Option, Some, nat_eq, if◌then◌else◌, refl, sym, ap, subst, ◌∙◌}
+use Rattle.std.specs.Prelude.{option_and_then}
 use Rattle.mlc_base.specs.declared.label.Label.{Label}
 use Rattle.mlc_base.specs.declared.label.Label.TheVariants.{Number, Word}
 use Rattle.mlc_prims.specs.declared.basis.BasisPrimitive.{BasisPrimitive}
 use Rattle.mlc_prims.specs.declared.basis.BasisPrimitive.TheVariants.{Assign}
-use Rattle.ty_core.specs.Types.{arrow, labels, Typs, typs_of}
+use Rattle.ty_core.specs.Types.{labels, typs_of}
 use Rattle.ir_values.specs.Primitives as prims
 use Rattle.ir_values.specs.Primitives.{compares, assigns, prints, computes}
 use Rattle.ir_values.specs.Values.{same_label}
@@ -17,10 +17,10 @@ use Rattle.ir_mono.specs.Mono.{mono}
 use Rattle.ir_mono.specs.Typing as tt
 use Rattle.ir_mono.specs.Typing.{Sort, of_type, exception, Sorts, sort_of, group_sorts, PrimAt, AtomsTyped, an_atom_typed, no_atoms_typed, RowTyped, no_row_typed, a_row_typed, CaseTyped, literal_typed, con_typed, con_of_typed, exn_typed, exn_of_typed, record_typed, FunTyped, t_last, t_more, FunsTyped, t_no_funs, t_fun}
 use Rattle.flow_sets.specs.Member.{is_in, Within}
-use Rattle.flow_sets.specs.Flow.{variable, result, Flow, number_of, Connects, SolvesRow, SolvesPrim, SolvesCase, Solves, SolvesArms, SolvesOp, SolvesFun, SolvesFuns}
+use Rattle.flow_sets.specs.Flow.{Flow, number_of, Connects, SolvesRow, SolvesPrim, SolvesCase, Solves, SolvesArms, SolvesOp, SolvesFun, SolvesFuns}
 use Rattle.flow_sets.specs.ByType.{What, value, name, parameter, Bound, bound_in, nothing, or_nothing, takes, gives, type_of, result_of, type_at, bound_case, bound, bound_arms, bound_op, bound_fun, bound_funs}
 use Rattle.flow_sets.proofs.Member.{nat_eq-to, nat_eq-same, within-same, within-further, in-none}
-use Rattle.flow_sets.proofs.Sets.{AllKnown, known-left, known-right, IsParameter, sets, of, same-type, of-nothing, in-set, of-set}
+use Rattle.flow_sets.proofs.Sets.{AllKnown, known-left, known-right, sets, of, same-type, of-nothing, in-set, of-set}
 
 module _ (types : List table.Row) (sound : table.IsTable types) (all : List Bound) (known : AllKnown all all) where
   abbrev pub F : Flow

@@ -1,0 +1,27 @@
+-- What is claimed of the table of captures.
+use Rattle.std.specs.Prelude.{ℕ, suc, ◌+◌, ◌≤◌, List, [], ◌++◌, length}
+use Rattle.ir_plain.specs.Tree.{Fun}
+use Rattle.ir_mono.specs.Types as table
+use Rattle.ir_mono.specs.Mono.{mono, Program}
+use Rattle.ir_mono.specs.WellFormed.{IsWellFormed}
+use Rattle.closure_convert.specs.Scope.{Member, names, Scope, top}
+use Rattle.closure_convert.specs.Closed.{IsClosed}
+use Rattle.closure_convert.specs.Capture.{onto, kept, cut, occurs_fun, wanted, table_of}
+use Rattle.closure_convert.specs.Counts.{dropped, Aligned, parameters, IsFresh, inner_pieces, Captures}
+
+-- of a well formed program it is a right table
+abbrev pub CapturesAreRight : Type 0
+CapturesAreRight = (p : Program) → IsWellFormed p → IsClosed p.types (table_of p.types p.body) top p.body
+
+-- a closure is made of a piece for each gap in what was captured, and one for each variable of the body or of the group
+abbrev pub PiecesAreFew : Type 0
+PiecesAreFew =
+    (types : List table.Row) (s : Scope) (f : Fun (mono types)) → Aligned s 0 s.captured
+    → length (cut s (wanted types s f)) ≤ suc (dropped (λ y. occurs_fun types y f) s.captured)
+    + length (kept (λ y. occurs_fun types y f) (names s.group ++ onto s.locals []))
+
+-- a curried function makes closures of at most two pieces a parameter, but for two, and of one more for each name of its group
+abbrev pub CurriedAreFew : Type 0
+CurriedAreFew =
+    (types : List table.Row) (f : Fun (mono types)) (cs : List ℕ) (ms : List Member) (xs : List ℕ) → Captures types cs ms xs f → IsFresh types xs f
+    → inner_pieces types cs ms f + 2 ≤ parameters types f + parameters types f + length (names ms)

@@ -1,0 +1,5 @@
+pub mod Scope
+pub mod Closed
+pub mod Capture
+pub mod Counts
+pub mod Laws

@@ -1,0 +1,4 @@
+// Closures: what functions capture, and of which pieces their closures are made. Definitions, and laws of them.
+#![tactic(auto)]
+
+pub mod law;
