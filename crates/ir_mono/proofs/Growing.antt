@@ -18,7 +18,7 @@ node-still [] more n e = absurd (cc)
 node-still (r ∷ types) more zero e = e
 node-still (r ∷ types) more (suc n) e = node-still types more n e
 
-constructor-still : (types more : List Row) (n c : ℕ) {a : Option ℕ} → constructor_at types n c ≡ Some a → constructor_at (types ++ more) n c ≡ Some a
+pub constructor-still : (types more : List Row) (n c : ℕ) {a : Option ℕ} → constructor_at types n c ≡ Some a → constructor_at (types ++ more) n c ≡ Some a
 constructor-still [] more n c e = absurd (cc)
 constructor-still (r ∷ types) more zero c e = e
 constructor-still (r ∷ types) more (suc n) c e = constructor-still types more n c e
@@ -174,7 +174,7 @@ constructor-set (p ∷ types) (suc n) r c a e (suc i) d {b} q = step (constructo
     step (entered_old h) = entered_old h
     step (entered_new h j k) = entered_new (ap suc h) j k
 
-constructor-kept : (types : List Row) (n : ℕ) (r : Row) (c : ℕ) (a : Option ℕ) → slice_get types n ≡ Some r → lookup (nat_eq c) r.constructors ≡ None → (i d : ℕ) {b : Option ℕ} → constructor_at types i d ≡ Some b → constructor_at (slice_set types n (with_constructor r c a)) i d ≡ Some b
+pub constructor-kept : (types : List Row) (n : ℕ) (r : Row) (c : ℕ) (a : Option ℕ) → slice_get types n ≡ Some r → lookup (nat_eq c) r.constructors ≡ None → (i d : ℕ) {b : Option ℕ} → constructor_at types i d ≡ Some b → constructor_at (slice_set types n (with_constructor r c a)) i d ≡ Some b
 constructor-kept [] n r c a e new i d q = q
 constructor-kept (p ∷ types) zero r c a e new zero d {b} q = go (nat_eq d c) refl
   where
@@ -188,7 +188,7 @@ constructor-kept (p ∷ types) zero r c a e new (suc i) d q = q
 constructor-kept (p ∷ types) (suc n) r c a e new zero d q = q
 constructor-kept (p ∷ types) (suc n) r c a e new (suc i) d q = constructor-kept types n r c a e new i d q
 
-entered-there : (types : List Row) (n : ℕ) (r : Row) (c : ℕ) (a : Option ℕ) → slice_get types n ≡ Some r → constructor_at (slice_set types n (with_constructor r c a)) n c ≡ Some a
+pub entered-there : (types : List Row) (n : ℕ) (r : Row) (c : ℕ) (a : Option ℕ) → slice_get types n ≡ Some r → constructor_at (slice_set types n (with_constructor r c a)) n c ≡ Some a
 entered-there [] n r c a e = absurd (cc)
 entered-there (p ∷ types) zero r c a e = first (nat_eq c c) (eq-eqb c c refl)
   where

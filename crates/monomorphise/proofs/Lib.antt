@@ -3,6 +3,7 @@ pub mod Refined
 pub mod Keeps
 pub mod Stripped
 pub mod Numbers
+pub mod Labels
 pub mod Typing
 pub mod Locals
 pub mod Kept
@@ -15,3 +16,5 @@ pub mod Weights
 pub mod Whole
 pub mod Examples
 pub mod Tables
+pub mod Placed
+pub mod Entered

@@ -36,13 +36,13 @@ labels-same : (ls : List Label) → same_labels ls ls ≡ true
 labels-same [] = refl
 labels-same (l ∷ ls) = both (same_label l l) (same_labels ls ls) (label-same l) (labels-same ls)
 
-symbol-same : (h : Symbol) → same_symbol h h ≡ true
+pub symbol-same : (h : Symbol) → same_symbol h h ≡ true
 symbol-same arrow = refl
 symbol-same (labels ls) = labels-same ls
 symbol-same (name y) = both (nat_eq y.stamp y.stamp) (nat_eq y.arity y.arity && same_attribute y.equality y.equality) (eq-eqb y.stamp y.stamp refl) (both (nat_eq y.arity y.arity) (same_attribute y.equality y.equality) (eq-eqb y.arity y.arity refl) (attribute-same y.equality))
 
 mutual
-  type-same : (t : Typ) → same_type t t ≡ true
+  pub type-same : (t : Typ) → same_type t t ≡ true
   type-same (var v) = eq-eqb v v refl
   type-same (con h ts) = both (same_symbol h h) (same_parts ts ts) (symbol-same h) (parts-same ts)
 
@@ -71,21 +71,21 @@ labels-is [] [] e = refl
 labels-is (l ∷ ls) (k ∷ ks) e = rw (label-is l k (left (same_label l k) (same_labels ls ks) e), labels-is ls ks (right (same_label l k) (same_labels ls ks) e)) refl
 labels-is _ _ e = absurd (cc)
 
-name-is : (y z : TyName) → same_name y z ≡ true → y ≡ z
+pub name-is : (y z : TyName) → same_name y z ≡ true → y ≡ z
 name-is y z e = λ i. record {
   stamp = eqb-true y.stamp z.stamp (left (nat_eq y.stamp z.stamp) (nat_eq y.arity z.arity && same_attribute y.equality z.equality) e) i;
   arity = eqb-true y.arity z.arity (left (nat_eq y.arity z.arity) (same_attribute y.equality z.equality) (right (nat_eq y.stamp z.stamp) (nat_eq y.arity z.arity && same_attribute y.equality z.equality) e)) i;
   equality = attribute-is y.equality z.equality (right (nat_eq y.arity z.arity) (same_attribute y.equality z.equality) (right (nat_eq y.stamp z.stamp) (nat_eq y.arity z.arity && same_attribute y.equality z.equality) e)) i;
 }
 
-symbol-is : (h k : Symbol) → same_symbol h k ≡ true → h ≡ k
+pub symbol-is : (h k : Symbol) → same_symbol h k ≡ true → h ≡ k
 symbol-is arrow arrow e = refl
 symbol-is (labels ls) (labels ks) e = ap labels (labels-is ls ks e)
 symbol-is (name y) (name z) e = ap name (name-is y z e)
 symbol-is _ _ e = absurd (cc)
 
 mutual
-  type-is : (t u : Typ) → same_type t u ≡ true → t ≡ u
+  pub type-is : (t u : Typ) → same_type t u ≡ true → t ≡ u
   type-is (var v) (var u) e = ap var (eqb-true v u e)
   type-is (con h ts) (con k us) e = λ i. con (symbol-is h k (left (same_symbol h k) (same_parts ts us) e) i) (parts-is ts us (right (same_symbol h k) (same_parts ts us) e) i)
   type-is _ _ e = absurd (cc)

@@ -129,7 +129,7 @@ module _ (types : List Row) (once : (n m : ℕ) (k : Node) → node_at types n �
           from i (stand_more {n = a} j (stand_more {n = b} {ns = ns} k js)) =
               record { parts = a ∷ b ∷ ns; is = together (subst (λ z. Is types n (labels z) (a ∷ b ∷ ns)) (numbered-labels 1 (t ∷ u ∷ ts) (stand_more j (stand_more k js))) i); parts_are = stand_more j (stand_more k js) }
 
-allowed-still : (e : Eq.Equality) (b d : Bool) → (b ≡ true → d ≡ true) → allowed e b ≡ true → allowed e d ≡ true
+pub allowed-still : (e : Eq.Equality) (b d : Bool) → (b ≡ true → d ≡ true) → allowed e b ≡ true → allowed e d ≡ true
 allowed-still Always b d f h = refl
 allowed-still ByArguments b d f h = f h
 allowed-still Never b d f h = absurd (cc)

@@ -10,12 +10,12 @@ use Rattle.ir_mono.proofs.Growing.{OldOrNew, is_old, is_new, node-where, constru
 use Rattle.monomorphise.specs.Simple.{all_flagged, AllThere, none_there, one_there, ArgumentIs, argument_is_none, argument_is, IsTableOf, IsNewTypeOf, IsNewConstructorOf}
 
 module _ (types types' : List Row) (still : (n : ℕ) (k : Node) → node_at types n ≡ Some k → node_at types' n ≡ Some k) where
-  all-there-still : {ps : List ℕ} → AllThere types ps → AllThere types' ps
+  pub all-there-still : {ps : List ℕ} → AllThere types ps → AllThere types' ps
   all-there-still none_there = none_there
   all-there-still (one_there {p = p} k e h) = one_there k (still p k e) (all-there-still h)
 
   mutual
-    stands-moved : {s : ℕ → ℕ} {n : ℕ} {t : Typ} → Stands types s n t → Stands types' s n t
+    pub stands-moved : {s : ℕ → ℕ} {n : ℕ} {t : Typ} → Stands types s n t → Stands types' s n t
     stands-moved stands_var = stands_var
     stands-moved {n = n} (stands_con i is) = stands_con (still n _ i) (all-moved is)
 
@@ -27,26 +27,26 @@ module _ (types types' : List Row) (still : (n : ℕ) (k : Node) → node_at typ
   argument-moved argument_is_none = argument_is_none
   argument-moved (argument_is i) = argument_is (stands-moved i)
 
-within : (types : List Row) (n : ℕ) {k : Node} → node_at types n ≡ Some k → n ≡ length types → ⊥
+pub within : (types : List Row) (n : ℕ) {k : Node} → node_at types n ≡ Some k → n ≡ length types → ⊥
 within [] n e q = cc
 within (p ∷ types) zero e q = absurd (omega (Rattle.std.proofs.Common.arith, q))
 within (p ∷ types) (suc n) e q = within types n e (omega (Rattle.std.proofs.Common.arith, q))
 
-admits-end : (types : List Row) (r : Row) → admits (types ++ r ∷ []) (length types) ≡ r.equality
+pub admits-end : (types : List Row) (r : Row) → admits (types ++ r ∷ []) (length types) ≡ r.equality
 admits-end [] r = refl
 admits-end (p ∷ types) r = admits-end types r
 
 -- the flags of parts that are there don't change
-flag-back : (types : List Row) (r : Row) (n : ℕ) {k : Node} → node_at types n ≡ Some k → admits (types ++ r ∷ []) n ≡ admits types n
+pub flag-back : (types : List Row) (r : Row) (n : ℕ) {k : Node} → node_at types n ≡ Some k → admits (types ++ r ∷ []) n ≡ admits types n
 flag-back [] r n e = absurd (cc)
 flag-back (p ∷ types) r zero e = refl
 flag-back (p ∷ types) r (suc n) e = flag-back types r n e
 
-flags-back : (types : List Row) (r : Row) {ps : List ℕ} → AllThere types ps → all_flagged (types ++ r ∷ []) ps ≡ all_flagged types ps
+pub flags-back : (types : List Row) (r : Row) {ps : List ℕ} → AllThere types ps → all_flagged (types ++ r ∷ []) ps ≡ all_flagged types ps
 flags-back types r none_there = refl
 flags-back types r (one_there {p = p} k e h) = rw (flag-back types r p e, flags-back types r h) refl
 
-flags-set : (types types' : List Row) → ((n : ℕ) → admits types' n ≡ admits types n) → (ps : List ℕ) → all_flagged types' ps ≡ all_flagged types ps
+pub flags-set : (types types' : List Row) → ((n : ℕ) → admits types' n ≡ admits types n) → (ps : List ℕ) → all_flagged types' ps ≡ all_flagged types ps
 flags-set types types' h [] = refl
 flags-set types types' h (p ∷ ps) = rw (h p, flags-set types types' h ps) refl
 

@@ -19,6 +19,7 @@ use Rattle.ir_mono.specs.Typing as mt
 use Rattle.ir_mono.specs.Typing.{Sort, of_type, exception, Sorts, sort_of, group_sorts}
 use Rattle.monomorphise.specs.Copies.{Pairs, Copied, no_copies, entry, entries, Has, at_head, deeper, IsNewName, newer_name, IsNewCopy, newer_copy, IsNotAmong, not_this, AreNewNames, no_names, a_new_name, AreNewCopies, none_copied, a_new_copy, CopyAtoms, copy_no_atoms, copy_an_atom, CopyRow, copy_no_row, copy_a_row, CopyName, copy_fixed, copy_held, CopyArgument, copy_no_argument, copy_argument, CopyCase, copy_is_literal, copy_is_con, copy_is_con_of, copy_is_exn, copy_is_exn_of, copy_is_record, Copy, copy_ret, copy_let, copy_exception, copy_name, copy_rec, copy_switch, copy_first, copy_miss, copy_counted, CopyArms, copy_no_arms, copy_arm, CopyOp, copy_use, copy_own, copy_const, copy_con_alone, copy_construct, copy_ref_alone, copy_refer, copy_content, copy_pack, copy_make_record, copy_select, copy_prim_alone, copy_prim, copy_app, copy_fn, copy_block, copy_handle, copy_raise, copy_raise_initial, CopyFun, copy_last, copy_more, CopyFuns, copy_no_funs, copy_fun, Rest, no_more_copies, one_more_copy, RestGroups, no_more_groups, one_more_group}
 use Rattle.monomorphise.specs.Simple.{IsType, simple, SameArgument, no_argument, an_argument, IsTableOf}
+use Rattle.monomorphise.proofs.Labels.{ascend-distinct}
 use Rattle.monomorphise.proofs.Numbers.{arguments-at, unique, function-of, ref-of, exn-of, literal-of, labels_of, types_of, record-of, length-labels, part-of, tuple-of, prim-at}
 use Rattle.monomorphise.proofs.Related.{skip, hit, new-copy-base, copies-reclosed}
 use Rattle.monomorphise.proofs.Stripped.{strip-op-typed}
@@ -287,7 +288,7 @@ module _ (constructors : List Constructor) (types : List table.Row) (tab : IsTab
     op-copied {H = H} (copy_make_record b k {row' = row'} j row) (tt.t_make_record {r = q} ws e o d) h i =
         let z = record-of types tab.sound.once {r = q} (subst (IsType types k) (d ∙ e) j) in
         let same = the (subst (IsType types k) d j) i in
-        subst (λ v. mt.OpTyped types H (Rattle.ir_plain.specs.Tree.make_record k row') v) same (mt.t_make_record (row-at row ws h z.parts_are) z.is)
+        subst (λ v. mt.OpTyped types H (Rattle.ir_plain.specs.Tree.make_record k row') v) same (mt.t_make_record (row-at row ws h z.parts_are) z.is (ascend-distinct o))
     op-copied (copy_select b k l j y) (tt.t_select q w e d c) h i =
         let p = subst (IsType types k) c j in
         let z = record-of types tab.sound.once {r = q} (subst (IsType types k) e p) in

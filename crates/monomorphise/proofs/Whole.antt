@@ -27,7 +27,7 @@ module _ (p : tests.Program Tests) (k : Numbering) (ready : IsReady p k) where
     initial = refl;
     table = ready.table;
     standing = nowhere;
-    copies = numbered-copies k.types k.index (copies-made (table_of p) nowhere-typed (once-unique (λ x. x) p.body ready.tests.once) ready.inhabited) ready.known;
+    copies = numbered-copies (table_of p) k.types k.index (copies-made (table_of p) nowhere-typed (once-unique (λ x. x) p.body ready.tests.once) ready.inhabited) ready.known;
   }
 
   pub makes-well-formed : IsWellFormed (monomorphised p k)

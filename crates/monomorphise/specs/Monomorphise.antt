@@ -19,7 +19,8 @@ use Rattle.ir_plain.specs.Copies.{strip_op}
 use Rattle.ir_plain.specs.Kind.{Kind}
 use Rattle.ir_plain.specs.Tree.{Case, is_literal, is_con, is_con_of, is_exn, is_exn_of, is_record, Exception, fixed, held, Atoms, no_atoms, an_atom, Row, no_row, a_row, Exp, ret, let_in, exception_in, name_in, rec_in, switch, first, miss, counted, Arms, no_arms, arm, Op, use_of, const, con_alone, construct, ref_alone, refer, content, pack, make_record, select, prim_alone, prim, app, fn, block, handle, raise, raise_initial, Fun, last, more as more_of, Funs, no_funs, fun}
 use Rattle.ir_poly.specs.Tests.{Use, inst, poly}
-use Rattle.ir_poly.specs.Types.{of_name, unit_type, changed}
+use Rattle.ir_poly.specs.Types.{of_name, unit_type, changed, Constructor}
+use Rattle.ir_poly.specs.TestsChecked.{HasConstructor}
 use Rattle.monomorphise.specs.Copies.{Target, kind_of}
 
 -- Whether two types are one.
@@ -67,12 +68,20 @@ pub data Name : Type 0 where
 abbrev pub is_same : Name → Name → Bool
 is_same (copy_of x a) (copy_of y b) = if nat_eq x y then same_types a b else false
 
--- copies with names, and with types as they are
-abbrev pub named : Target
-named = record { Name = Name; same = is_same; Type_of = Typ; tags = untagged; tag_of = λ t. tt; Is = λ n t. n ≡ t; Has = λ n c. ⊤ }
+-- copies with names, and with types as they are, whose constructors are those of the program
+abbrev pub named : List Constructor → Target
+named constructors = record {
+  Name = Name;
+  same = is_same;
+  Type_of = Typ;
+  tags = untagged;
+  tag_of = λ t. tt;
+  Is = λ n t. n ≡ t;
+  Has = λ t c. (a : Option Typ) × HasConstructor constructors c t a;
+}
 
 abbrev pub Named : Kind
-Named = kind_of named
+Named = kind_of (named [])
 
 -- The first copy: each parameter at unit, or at the first type of its class.
 
