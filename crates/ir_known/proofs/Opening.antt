@@ -14,8 +14,8 @@ use Rattle.ty_core.specs.declared.scheme.Quantified.{Quantified}
 use Rattle.ty_table.specs.TypeAt.{type_at, types_at, top, tops}
 use Rattle.ir_poly.specs.Types.{over, all_over, admits_in, in_scope, is_equality}
 use Rattle.ir_known.specs.declared.walk.Question.{Question}
-use Rattle.ir_known.specs.declared.walk.Question.TheVariants.{Over, Admits}
-use Rattle.ir_known.specs.Asked.{Asked, rule_of, All, total, Opens}
+use Rattle.ir_known.specs.declared.walk.Question.TheVariants.{Over, Admits, Everywhere}
+use Rattle.ir_known.specs.Asked.{every, Asked, rule_of, so_anyway, All, total, Opens}
 use Rattle.std.specs.Map.{lookup}
 use Rattle.ty_core.specs.declared.mark.Mark.{Mark}
 use Rattle.ir_known.specs.Knows.{marks_of}
@@ -50,6 +50,14 @@ admit-all : (ts : List Typ) (D : List Quantified) (ks : List ℕ) → all_admit 
 admit-all ts D [] e = tt
 admit-all ts D (k ∷ ks) e = let b = both-are (admits (admits_in D) (type_at ts k)) (all_admit (admits_in D) (types_at ts ks)) e in (b.0, admit-all ts D ks b.1)
 
+all-admit-every : (ts : List Typ) (D : List Quantified) (ks : List ℕ) → All (λ k. Asked Everywhere D (type_at ts k)) ks → all_admit every (types_at ts ks) ≡ true
+all-admit-every ts D [] a = refl
+all-admit-every ts D (k ∷ ks) (p, a) = and-true (admits every (type_at ts k)) (all_admit every (types_at ts ks)) p (all-admit-every ts D ks a)
+
+every-admit-all : (ts : List Typ) (D : List Quantified) (ks : List ℕ) → all_admit every (types_at ts ks) ≡ true → All (λ k. Asked Everywhere D (type_at ts k)) ks
+every-admit-all ts D [] e = tt
+every-admit-all ts D (k ∷ ks) e = let b = both-are (admits every (type_at ts k)) (all_admit every (types_at ts ks)) e in (b.0, every-admit-all ts D ks b.1)
+
 pub nodes-positive : (t : Typ) → 0 < nodes t
 nodes-positive (var v) = omega arith
 nodes-positive (con h ts) = omega arith
@@ -60,14 +68,17 @@ opens-none ts P k old p = record { parts = []; is = sym (append-nil old); whole 
 pub always : (q : Question) (D : List Quantified) (h : Symbol) (us : Typs) → rule_of q h ≡ Always → Asked q D (con h us)
 always Over D h us e = absurd (cc)
 always Admits D h us e = ap (λ a. allowed a (all_admit (admits_in D) us)) e
+always Everywhere D h us e = ap (λ a. allowed a (all_admit every us)) e
 
 by-parts : (ts : List Typ) (q : Question) (D : List Quantified) (h : Symbol) (ks : List ℕ) → rule_of q h ≡ ByArguments → All (λ k. Asked q D (type_at ts k)) ks → Asked q D (con h (types_at ts ks))
 by-parts ts Over D h ks e a = all-over ts D ks a
 by-parts ts Admits D h ks e a = ap (λ r. allowed r (all_admit (admits_in D) (types_at ts ks))) e ∙ all-admit ts D ks a
+by-parts ts Everywhere D h ks e a = ap (λ r. allowed r (all_admit every (types_at ts ks))) e ∙ all-admit-every ts D ks a
 
 parts-by : (ts : List Typ) (q : Question) (D : List Quantified) (h : Symbol) (ks : List ℕ) → rule_of q h ≡ ByArguments → Asked q D (con h (types_at ts ks)) → All (λ k. Asked q D (type_at ts k)) ks
 parts-by ts Over D h ks e a = over-all ts D ks a
 parts-by ts Admits D h ks e a = admit-all ts D ks (sym (ap (λ r. allowed r (all_admit (admits_in D) (types_at ts ks))) e) ∙ a)
+parts-by ts Everywhere D h ks e a = every-admit-all ts D ks (sym (ap (λ r. allowed r (all_admit every (types_at ts ks))) e) ∙ a)
 
 pub opens-parts : (ts : List Typ) (q : Question) (D : List Quantified) (k : ℕ) (h : Symbol) (ks old new : List ℕ) → type_at ts k ≡ con h (types_at ts ks) → rule_of q h ≡ ByArguments → new ≡ old ++ ks → Opens ts (Asked q D) k old new
 opens-parts ts q D k h ks old new e r i = record {
@@ -107,9 +118,13 @@ some-over rows v m q e i = subst (λ q. IsTrue true ↔ Asked q (marks_of rows) 
 pub some-admits : (rows : List (ℕ × Mark)) (v : ℕ) (m : Mark) (q : Question) (b : Bool) → Some m ≡ lookup (nat_eq v) rows → q ≡ Admits → b ≡ is_equality m → IsTrue b ↔ Asked q (marks_of rows) (var v)
 some-admits rows v m q b e i d = subst (λ q. IsTrue b ↔ Asked q (marks_of rows) (var v)) (sym i) ((λ y. so-admits rows v m (sym e) ∙ sym d ∙ y), (λ y. d ∙ sym (so-admits rows v m (sym e)) ∙ y))
 
-pub none-so : (rows : List (ℕ × Mark)) (v : ℕ) (q : Question) → None ≡ lookup (nat_eq v) rows → IsTrue false ↔ Asked q (marks_of rows) (var v)
-none-so rows v Over e = ((λ f. absurd (false≢true f)), (λ y. sym (not-in-scope rows v (sym e)) ∙ y))
-none-so rows v Admits e = ((λ f. absurd (false≢true f)), (λ y. sym (none-admits rows v (sym e)) ∙ y))
+pub some-everywhere : (rows : List (ℕ × Mark)) (v : ℕ) (q : Question) → q ≡ Everywhere → IsTrue true ↔ Asked q (marks_of rows) (var v)
+some-everywhere rows v q i = subst (λ q. IsTrue true ↔ Asked q (marks_of rows) (var v)) (sym i) ((λ _. refl), (λ _. refl))
+
+pub none-so : (rows : List (ℕ × Mark)) (v : ℕ) (q : Question) (b : Bool) → None ≡ lookup (nat_eq v) rows → b ≡ so_anyway q → IsTrue b ↔ Asked q (marks_of rows) (var v)
+none-so rows v Over b e d = ((λ f. absurd (let y : false ≡ true = sym d ∙ f in false≢true y)), (λ y. d ∙ sym (not-in-scope rows v (sym e)) ∙ y))
+none-so rows v Admits b e d = ((λ f. absurd (let y : false ≡ true = sym d ∙ f in false≢true y)), (λ y. d ∙ sym (none-admits rows v (sym e)) ∙ y))
+none-so rows v Everywhere b e d = ((λ _. refl), (λ _. d))
 
 -- a number that is put into a set
 pub noted-new : (ks ks' : List ℕ) (k : ℕ) (b : Bool) → b ≡ not (list_any (nat_eq k) ks) → ks' ≡ insert_key nat_eq ks k → b ≡ true → ks' ≡ ks ++ k ∷ []

@@ -5,7 +5,7 @@ ghost use Rattle.ty_core.specs.TypesOf.{head_of};
 ghost use Rattle.ty_table.specs.TypeAt.{type_at};
 ghost use Rattle.ir_poly.specs.Types.{over, admits_in, is_equality};
 ghost use Rattle.ir_known.specs.Knows.{marks_of};
-ghost use Rattle.ir_known.specs.Asked.{Asked, Opens, rule_of};
+ghost use Rattle.ir_known.specs.Asked.{every, Asked, Opens, rule_of, so_anyway};
 
 use crate::stack::Stack;
 use indexmap::IndexSet;
@@ -16,11 +16,12 @@ use ty_core::name::Equality;
 use ty_core::ty::{Head, equality_of};
 use ty_table::types::{Types, View};
 
-/// What is asked of a type: whether its variables are parameters in scope, or whether it admits equality where those do that are marked so.
+/// What is asked of a type: whether its variables are parameters in scope; whether it admits equality where those do that are marked so; or where all do.
 #[derive(Clone, Copy)]
 pub enum Question {
     Over,
     Admits,
+    Everywhere,
 }
 
 /// Whether a mark asks for equality.
@@ -42,8 +43,20 @@ fn is_so(scope: &Stack<Mark>, question: Question, v: usize) -> bool
         Some(mark) => match question {
             Question::Over => true,
             Question::Admits => is_equality_mark(mark),
+            Question::Everywhere => true,
         },
-        None => false,
+        None => is_so_anyway(question),
+    }
+}
+
+/// Whether a variable is so that is no parameter in scope.
+fn is_so_anyway(question: Question) -> bool
+    ensures { result ≡ so_anyway question }
+{
+    match question {
+        Question::Over => false,
+        Question::Admits => false,
+        Question::Everywhere => true,
     }
 }
 
@@ -54,6 +67,7 @@ fn rule(question: Question, head: &Head) -> Equality
     match question {
         Question::Over => Equality::ByArguments,
         Question::Admits => equality_of(head),
+        Question::Everywhere => equality_of(head),
     }
 }
 
@@ -135,5 +149,17 @@ pub fn is_equality(
         return Ok(true);
     }
     let yes = ask(alloc, types, scope, Question::Admits, t)?;
+    Ok(yes)
+}
+
+/// Whether a type admits equality where all its variables do.
+pub fn admits_everywhere(alloc: Global, types: &Types, t: usize) -> Result<bool, NoMemory>
+    ensures { IfOk result (λ yes. IsTrue yes ↔ (admits every (type_at types.now t) ≡ true)) }
+{
+    if types.admits_eq(t) {
+        return Ok(true);
+    }
+    let scope = Stack::new(alloc);
+    let yes = ask(alloc, types, &scope, Question::Everywhere, t)?;
     Ok(yes)
 }

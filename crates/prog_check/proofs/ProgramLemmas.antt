@@ -90,11 +90,11 @@ row-complete : (k : Constructor) → IsConstructor k → check_constructor k ≡
 row-complete k h = and_from _ _ (and_from _ _ (ap not h.declared) (since-never k.datatype.equality h.equality)) (argument-since k.datatype.arity k.datatype.equality k.argument
     (λ a e. (below-since k.datatype.arity a (h.closed a e var (cut k.datatype.arity) (cut-below k.datatype.arity)), respects-complete k.datatype.equality a (h.admits a e))))
 
-table-sound : (ks : List Constructor) → check_table ks ≡ true → AllByRecursion IsConstructor ks
+pub table-sound : (ks : List Constructor) → check_table ks ≡ true → AllByRecursion IsConstructor ks
 table-sound [] e = tt
 table-sound (k ∷ ks) e = let a = and_parts (check_constructor k) _ e in (row-sound k a.0, table-sound ks a.1)
 
-table-complete : (ks : List Constructor) → AllByRecursion IsConstructor ks → check_table ks ≡ true
+pub table-complete : (ks : List Constructor) → AllByRecursion IsConstructor ks → check_table ks ≡ true
 table-complete [] h = refl
 table-complete (k ∷ ks) h = and_from _ _ (row-complete k h.0) (table-complete ks h.1)
 
