@@ -130,7 +130,7 @@ module _ {F : Kind} (R : Reading F) where
   step-agrees (Step-F.Exception x i a) e = omega arith
   step-agrees (Step-F.Name x y) e = omega arith
   step-agrees (Step-F.Group ps fs) e = ap (λ n. n + weight e) (funs-agree fs.items)
-  step-agrees (Step-F.Test a u c) e = omega arith
+  step-agrees (Step-F.Test a u c others) e = let h = arms-agree others.items in omega (arith, h)
   step-agrees (Step-F.Counted n) e = refl
 
   step-case : (y : Step-F E S A U) → StepAgrees (roll-Step (map-Step E S A U Exp Step Arm Function (λ e. e.0) (λ e. e.0) (λ e. e.0) (λ e. e.0) y))

@@ -148,7 +148,9 @@ module _ {F : Kind} (R : Reading F) (h : F.Binder → ℕ) where
   step-agrees (Step-F.Exception x i a) e = omega arith
   step-agrees (Step-F.Name x y) e = omega arith
   step-agrees (Step-F.Group ps fs) e = ap (λ n. n + times h e) (funs-agree fs.items)
-  step-agrees (Step-F.Test a u c) e = let p = case-agrees c in omega (arith, p)
+  step-agrees (Step-F.Test a u c others) e =
+      let p = case-agrees c in let q = arms-agree others.items in let r = tally-append (case_binders c) (joined (map arm_binders (map (λ p. p.0) others.items))) in
+      omega (arith, p, q, r)
   step-agrees (Step-F.Counted n) e = omega arith
 
   step-case : (y : Step-F E S A U) → StepAgrees (roll-Step (map-Step E S A U Exp Step Arm Function (λ e. e.0) (λ e. e.0) (λ e. e.0) (λ e. e.0) y))

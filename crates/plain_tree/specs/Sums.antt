@@ -24,7 +24,7 @@ node_step_weight (Step-F.Handle b e x h) = e.value + h.value
 node_step_weight (Step-F.Exception x i a) = 0
 node_step_weight (Step-F.Name x y) = 0
 node_step_weight (Step-F.Group ps fs) = sum fs.items
-node_step_weight (Step-F.Test a u c) = 0
+node_step_weight (Step-F.Test a u c others) = sum others.items
 node_step_weight (Step-F.Counted n) = n
 
 abbrev pub node_arm_weight : Arm-F ℕ ℕ ℕ ℕ → ℕ
@@ -83,7 +83,7 @@ node_step_binders (Step-F.Handle b e x h) = b.variable ∷ (e.value ++ x ∷ h.v
 node_step_binders (Step-F.Exception x i a) = x ∷ []
 node_step_binders (Step-F.Name x y) = x ∷ []
 node_step_binders (Step-F.Group ps fs) = joined fs.items
-node_step_binders (Step-F.Test a u c) = case_binders c
+node_step_binders (Step-F.Test a u c others) = case_binders c ++ joined others.items
 node_step_binders (Step-F.Counted n) = []
 
 abbrev pub node_arm_binders : Arm-F Vars Vars Vars Vars → Vars

@@ -33,7 +33,8 @@ pub data StepTree (F : Kind) : Type 0 where
   exception_step : F.Binder → ℕ → Option F.Type_of → StepTree F
   name_step : F.Binder → t.Exception F → StepTree F
   rec_step : F.Params_of → t.Funs F → StepTree F
-  test_step : F.Use → F.Type_of → t.Case F → StepTree F
+  -- a switch, whose first arm goes on; the others stand there
+  test_step : F.Use → F.Type_of → t.Case F → t.Arms F → StepTree F
   counted_step : ℕ → StepTree F
 
 pub record ArmTree (F : Kind) : Type 0 where
@@ -51,7 +52,7 @@ module _ {F : Kind} where
   put (exception_step x i a) e = t.exception_in x i a e
   put (name_step x y) e = t.name_in x y e
   put (rec_step ps fs) e = t.rec_in ps fs e
-  put (test_step a u c) e = t.switch a u (t.arm c e t.no_arms)
+  put (test_step a u c others) e = t.switch a u (t.arm c e others)
   put (counted_step n) e = t.counted n e
 
   -- steps in front of an expression
@@ -132,7 +133,7 @@ module _ {F : Kind} (R : Reading F) where
   node_step (Step-F.Exception x i a) = exception_step (R.binder x) i (option_map R.type a)
   node_step (Step-F.Name x y) = name_step (R.binder x) (exception_of y)
   node_step (Step-F.Group ps fs) = rec_step (R.parameters ps) (funs_of fs.items)
-  node_step (Step-F.Test a u c) = test_step (R.atom a) (R.type u) (case_of c)
+  node_step (Step-F.Test a u c others) = test_step (R.atom a) (R.type u) (case_of c) (arms_of others.items)
   node_step (Step-F.Counted n) = counted_step n
 
   abbrev pub node_arm : Arm-F (t.Exp F) (StepTree F) (ArmTree F) (FunctionTree F) → ArmTree F

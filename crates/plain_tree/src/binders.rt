@@ -103,7 +103,11 @@ fn push_of_step(step: &Step, found: &mut Vec<usize>) -> Result<(), NoMemory>
             atom: _,
             ty: _,
             case,
-        } => push_of_case(*case, found)?,
+            others,
+        } => {
+            push_of_case(*case, found)?;
+            push_of_arms(others, found)?;
+        }
         Step::Counted(_) => {}
     }
     Ok(())

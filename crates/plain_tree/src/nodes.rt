@@ -52,7 +52,8 @@ fn nodes_of_step(step: &Step) -> usize
             atom: _,
             ty: _,
             case: _,
-        } => 0,
+            others,
+        } => nodes_of_arms(others),
         Step::Counted(more) => *more,
     }
 }

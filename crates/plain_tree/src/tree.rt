@@ -159,11 +159,12 @@ pub enum Step {
     Name(usize, Exception),
     /// Functions that know each other, generalised over a list of parameters.
     Group(usize, Vec<Function>),
-    /// Misses where the atom of this type doesn't fit.
+    /// What comes next is the first arm of a switch on the atom of this type, with this case; the others stand here. It misses where none fits.
     Test {
         atom: usize,
         ty: usize,
         case: Case,
+        others: Vec<Arm>,
     },
     /// Stands for so many further nodes of the source.
     Counted(usize),
