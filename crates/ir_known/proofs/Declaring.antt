@@ -1,7 +1,6 @@
 -- Parameters that are declared from the last to the first.
 use Rattle.std.proofs.Common.{◌≡◌, ℕ, zero, suc, ◌<◌, ◌≤◌, ◌-◌, Bool, true, false, not, ◌&&◌, ◌||◌, List, [], ◌∷◌, ◌++◌, length, drop, slice_index_or, Some, None, nat_eq, cond, refl, sym, ap, ◌∙◌, subst, arith}
 use Rattle.std.proofs.lemmas.Bool.{eqb-true, eq-eqb}
-use Rattle.std.proofs.Math.Seq.{drop-length}
 use Rattle.std.specs.Map.{lookup}
 use Rattle.ty_core.specs.declared.mark.Mark.{Mark}
 use Rattle.ty_core.specs.declared.scheme.Quantified.{Quantified}
@@ -83,8 +82,8 @@ pub record Declared (rows all : List (ℕ × Mark)) (qs : List Quantified) (n : 
   pub within : n ≤ length qs
   pub new : are_new (drop n qs) (marks_of rows) ≡ true
   pub declared : marks_of all ≡ drop n qs ++ marks_of rows
-
-})
+  pub longer : length rows ≤ length all
+  pub behind : drop (length all - length rows) all ≡ rows
 
 pub one-declared : (rows all : List (ℕ × Mark)) (qs : List Quantified) (n : ℕ) (d : Quantified) → n < length qs → Declared rows all qs (suc n) → lookup (nat_eq (slice_index_or qs n d).variable) all ≡ None
     → (new : List (ℕ × Mark)) → new ≡ ((slice_index_or qs n d).variable, (slice_index_or qs n d).mark) ∷ all → Declared rows new qs n
@@ -93,6 +92,8 @@ one-declared rows all qs n d lt f none new is = record {
   new = subst (λ l. are_new l (marks_of rows) ≡ true) (sym there)
       (new-more q (drop (suc n) qs) (marks_of rows) f.new (subst (λ l. in_scope l q.variable ≡ false) f.declared (not-in-scope all q.variable none)));
   declared = ap marks_of is ∙ ap (λ l. q ∷ l) f.declared ∙ ap (λ l. l ++ marks_of rows) (sym there);
+  longer = let e = ap length is in let l = f.longer in omega arith;
+  behind = ap (λ l. drop (length l - length rows) l) is ∙ ap (λ k. drop k ((q.variable, q.mark) ∷ all)) less ∙ f.behind;
 }
   where
     q : Quantified
@@ -100,6 +101,9 @@ one-declared rows all qs n d lt f none new is = record {
 
     there : drop n qs ≡ q ∷ drop (suc n) qs
     there = drop-there n qs q d lt refl
+
+    less : suc (length all) - length rows ≡ suc (length all - length rows)
+    less = let l = f.longer in omega arith
 
 pub not-declared : (rows all : List (ℕ × Mark)) (qs : List Quantified) (n : ℕ) (d : Quantified) → n < length qs → Declared rows all qs (suc n) → (lookup (nat_eq (slice_index_or qs n d).variable) all ≡ None → ⊥)
     → are_new qs (marks_of rows) ≡ true → ⊥

@@ -1,5 +1,5 @@
 // Parameters in scope.
-ghost use Rattle.std.specs.Prelude.{◌≡◌, ◌↔◌, ◌++◌, true, IsTrue, IfOk};
+ghost use Rattle.std.specs.Prelude.{◌≡◌, ◌↔◌, ◌++◌, true, false, IsTrue, IfOk, OnErr};
 ghost use Rattle.ir_poly.specs.Types.{are_new};
 ghost use Rattle.ir_known.specs.Knows.{marks_of};
 
@@ -12,14 +12,24 @@ use ty_core::scheme::Quantified;
 pub fn declare_all(scope: &mut Stack<Mark>, parameters: &[Quantified]) -> Result<bool, NoMemory>
     ensures new { IfOk result (λ new. IsTrue new ↔ (are_new parameters.now (marks_of scope.old) ≡ true)) }
     ensures declared { IfOk result (λ new. new ≡ true → marks_of scope.new ≡ parameters.now ++ marks_of scope.old) }
+    ensures kept { IfOk result (λ new. new ≡ false → scope.new ≡ scope.old) }
+    ensures err { OnErr result (scope.new ≡ scope.old) }
 {
+    let len = scope.len();
     let mut left = parameters.len();
     while left > 0 {
         left -= 1;
         let parameter = parameters[left];
-        let new = scope.push(parameter.variable, parameter.mark)?;
-        if !new {
-            return Ok(false);
+        match scope.push(parameter.variable, parameter.mark) {
+            Ok(true) => {}
+            Ok(false) => {
+                scope.truncate(len);
+                return Ok(false);
+            }
+            Err(e) => {
+                scope.truncate(len);
+                return Err(e);
+            }
         }
     }
     Ok(true)

@@ -1,5 +1,5 @@
 // Variables in scope: those of the same function, and those around it.
-ghost use Rattle.std.specs.Prelude.{◌≡◌, ◌↔◌, ◌++◌, ◌∷◌, [], List, ℕ, None, true, IsTrue, IfOk, length, nat_eq};
+ghost use Rattle.std.specs.Prelude.{◌≡◌, ◌↔◌, ◌++◌, ◌∷◌, [], List, ℕ, None, true, false, IsTrue, IfOk, OnErr, length, nat_eq};
 ghost use Rattle.std.specs.Map.{lookup};
 ghost use Rattle.ir_known.specs.declared.known.Known.{Known};
 
@@ -63,6 +63,8 @@ impl Scope {
     pub fn bind(&mut self, variable: usize, known: Known) -> Result<bool, NoMemory>
         ensures new { IfOk result (λ new. IsTrue new ↔ (lookup (nat_eq variable) (self.old.0 ++ self.old.1) ≡ None)) }
         ensures bound { IfOk result (λ new. new ≡ true → self.new ≡ ((variable, known) ∷ self.old.0, self.old.1)) }
+        ensures kept { IfOk result (λ new. new ≡ false → self.new ≡ self.old) }
+        ensures err { OnErr result (self.new ≡ self.old) }
     {
         self.known.push(variable, known)
     }

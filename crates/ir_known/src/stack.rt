@@ -1,5 +1,5 @@
 // Numbers with what is known of them, the latest first, each once.
-ghost use Rattle.std.specs.Prelude.{◌≡◌, ◌↔◌, ◌-◌, ◌≤◌, ◌∷◌, [], None, true, IsTrue, IfOk, length, take, drop, nat_eq};
+ghost use Rattle.std.specs.Prelude.{◌≡◌, ◌↔◌, ◌-◌, ◌≤◌, ◌∷◌, [], None, true, false, IsTrue, IfOk, OnErr, length, take, drop, nat_eq};
 ghost use Rattle.std.specs.Map.{lookup};
 
 use indexmap::IndexMap;
@@ -46,6 +46,8 @@ impl<V: Copy> Stack<V> {
         ensures new { IfOk result (λ new. IsTrue new ↔ (lookup (nat_eq number) self.old ≡ None)) }
         ensures grows { length self.old ≤ length self.new }
         ensures pushed { IfOk result (λ new. new ≡ true → self.new ≡ (number, value) ∷ self.old) }
+        ensures kept { IfOk result (λ new. new ≡ false → self.new ≡ self.old) }
+        ensures err { OnErr result (self.new ≡ self.old) }
     {
         if self.entries.contains_key(&number) {
             return Ok(false);

@@ -48,6 +48,20 @@ number byte n = constant_exp (at byte) (int (pos n))
 abbrev with_basis : Decs → List Part
 with_basis ds = standard_basis ∷ source ds ∷ []
 
+-- val p = print val () = p ("a" ^ "b")
+abbrev renames : List Part
+renames =
+    with_basis (dec (val 0 (variable 4 p_name) (name 8 word_print))
+    (dec (val 14 (tuple_pat (at 18) []) (app (at 23) (name 23 p_name) (app (at 26) (name 30 word_concatenate) (tuple (at 26) (words 26 (codes "a") ∷ words 32 (codes "b") ∷ []))))) no_decs))
+
+argument_first : meaning renames 9 ≡ record { output = codes "ab"; end = ended; turns = at 26 ∷ at 23 ∷ [] }
+argument_first = refl
+
+-- val _ = (print "a", print "b")
+left_to_right : meaning (with_basis (dec (val 0 (wild_pat (at 4)) (tuple (at 8) (app (at 9) (name 9 word_print) (words 15 (codes "a")) ∷ app (at 20) (name 20 word_print) (words 26 (codes "b")) ∷ []))) no_decs)) 9
+    ≡ record { output = codes "ab"; end = ended; turns = at 9 ∷ at 20 ∷ [] }
+left_to_right = refl
+
 -- val x = 1 + "a": no typing, told at the declaration
 abbrev adds_text : List Part
 adds_text = with_basis (dec (val 0 (variable 4 x_name) (app (at 8) (name 10 word_plus) (tuple (at 8) (number 8 1 ∷ words 12 (codes "a") ∷ [])))) no_decs)
@@ -102,6 +116,16 @@ unbound = by_rule refl (record {
   breaks = is_unbound _ _ _ refl;
 })
 
+-- val () = print "a", before the path of the standard basis: `print` isn't bound there
+unbound_before_basis : IsRefused (source (dec (val 0 (tuple_pat (at 4) []) (app (at 9) (name 9 word_print) (words 15 (codes "a")))) no_decs) ∷ standard_basis ∷ []) (record { code = Unbound; place = at 9; name = Some word_print })
+unbound_before_basis = by_rule refl (record {
+  before = binds_nothing (at 4) ∷ [];
+  broken = identifier (at 9) word_print;
+  after = text (at 15) (codes "a") ∷ applies (at 9) ∷ declares (at 0) ∷ brings_basis ∷ [];
+  types = record { context = nothing_typed; pattern = bound_unit; types = [] };
+  are = refl;
+  typed = next_phrase (unit_types _ _) (no_phrase _);
+  breaks = is_unbound _ _ _ refl;
 })
 
 -- val ref = 1: a restriction, told at the identifier

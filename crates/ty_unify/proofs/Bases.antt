@@ -57,15 +57,11 @@ base-none n s y r e p q i = record {
   lower = let a = ap row_rank p in let b = ap entry_rank e in omega arith;
 }
 
-}
-
 pub base-class : (s : ℕ → Entry) (y : ℕ) (r : Row) (c : Class) → s y ≡ free (Mark.Class c) → RefusesRow s r (var y) Clash
 base-class s y r c e = (
   λ m f i x. no-class m c r.equality r.labels.items (subs f (types_of r)) (f y) x (subst (Meets m f (f y)) e (i y)),
   λ p i x. Clashes.classed c (var y) x.is_record (subst (ForcedAt p y) e (i y)),
 )
-
-}
 
 -- the row that was found
 pub owned : (P : Type 0) (e : Entry) (o : Option Row) (r : Row) → o ≡ Some r → MatchOption o P (λ x. e ≡ row_of x) → e ≡ row_of r

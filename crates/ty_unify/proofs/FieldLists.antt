@@ -171,12 +171,8 @@ module _ (ls : List Label) (ts : List Ty) (i : ℕ) (x : Label) (t : Ty) (lt : i
         admit m f c b l u ne (inl y) = c l u y ne
         admit m f c b l u ne (inr y) = ap (λ z. admits m (sub f z)) y.1 ∙ b
 
-}
-
 pub fields-end : (old now : List Task) (ls : List Label) (ts : List Ty) (ks : List Label) (us : Typs) (i : ℕ) → i ≡ length ls → length ls ≡ length ts → FieldsMeet old now (take i ls) (all (take i ts)) ks us → FieldsMeet old now ls (all ts) ks us
 fields-end old now ls ts ks us i e n a = subst (λ z. FieldsMeet old now z (all ts) ks us) (ap (λ k. take k ls) e ∙ take-whole ls) (subst (λ z. FieldsMeet old now (take i ls) (all z) ks us) (ap (λ k. take k ts) (e ∙ n) ∙ take-whole ts) a)
-
-}
 
 pub others-end : (d : Bool) (old now : List Task) (ls : List Label) (ts : List Ty) (ks : List Label) (i : ℕ) → i ≡ length ls → length ls ≡ length ts → OthersAdmit d old now (take i ls) (all (take i ts)) ks → OthersAdmit d old now ls (all ts) ks
 others-end d old now ls ts ks i e n a = subst (λ z. OthersAdmit d old now z (all ts) ks) (ap (λ k. take k ls) e ∙ take-whole ls) (subst (λ z. OthersAdmit d old now (take i ls) (all z) ks) (ap (λ k. take k ts) (e ∙ n) ∙ take-whole ts) a)

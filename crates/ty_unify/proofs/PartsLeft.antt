@@ -65,8 +65,6 @@ pub record EqualLeft (old now : List Task) (ts us : Typs) (l r : List Ty) : Type
   pub within : (n : ℕ) → AreWithin n old → are_below n ts ≡ true → are_below n us ≡ true → (AreWithin n now) × (are_below n (all l) ≡ true) × (are_below n (all r) ≡ true)
   pub burden_is : (w : ℕ → ℕ) → burdens w now + (weights w (all l) + weights w (all r)) ≡ burdens w old + (weights w ts + weights w us)
 
-}
-
 pub equal-next : (old now : List Task) (ts us : Typs) (l r : List Ty) (t u : Ty) → EqualLeft old now ts us (l ++ t ∷ []) (r ++ u ∷ []) → length l ≡ length r → EqualLeft old (now ++ Equal t u ∷ []) ts us l r
 equal-next old now ts us l r t u e n = record {
   lengths = n;
@@ -104,8 +102,6 @@ pub record AdmitLeft (old now : List Task) (ts : Typs) (l : List Ty) : Type 0 wh
   pub beside : (t u : Typ) → Beside t u (all l) (all l) → Beside t u ts ts
   pub within : (n : ℕ) → AreWithin n old → are_below n ts ≡ true → (AreWithin n now) × (are_below n (all l) ≡ true)
   pub burden_is : (w : ℕ → ℕ) → burdens w now + weights w (all l) ≡ burdens w old + weights w ts
-
-}
 
 pub admit-next : (old now : List Task) (ts : Typs) (l : List Ty) (t : Ty) → AdmitLeft old now ts (l ++ t ∷ []) → AdmitLeft old (now ++ Admit Mark.Equality t ∷ []) ts l
 admit-next old now ts l t e = record {

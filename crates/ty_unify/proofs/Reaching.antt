@@ -91,8 +91,6 @@ reaching-along s v ts seen l l' h g r = record {
   found = λ f k e. r.found f k (g f k e);
 }
 
-})
-
 -- what a variable stands for weighs no more than the variable
 inner-weight : (w : ℕ → ℕ) (k : ℕ) (e : Entry) → WeighsAt w k e → weights w (inner e) ≤ k
 inner-weight w k (free j) h = omega arith
