@@ -149,8 +149,8 @@ known_as t (Over ps) = declared (parameters_at (parameters_of t) ps)
 pub record IsGroup (t : Tables) (D : List Quantified) (s : Names) (ps : ℕ) (fs : List Function) : Type 0 where
   pub new : are_new (parameters_at (parameters_of t) ps) D ≡ true
   pub each_new : FunsNew (all t s) (funs_of (map (function_of (reading t)) fs))
-  pub bodies : FunsFit (table_of t) (parameters_at (parameters_of t) ps ++ D) (group_knowns clean_known.own (funs_of (map (function_of (reading t)) fs)) (all t s))
-      (funs_of (map (function_of (reading t)) fs))
+  pub bodies : FunsFit (table_of t) (parameters_at (parameters_of t) ps ++ D)
+      (group_knowns clean_known.own (funs_of (map (function_of (reading t)) fs)) (all t s)) (funs_of (map (function_of (reading t)) fs))
 
 -- an exception's name comes into scope
 pub record IsName (t : Tables) (old new : Names) (x : ℕ) (y : clean.Exception poly) : Type 0 where

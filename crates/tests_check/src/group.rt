@@ -44,7 +44,8 @@ fn bind_functions(
     standing: Standing,
     functions: &[Function],
 ) -> Result<bool, NoMemory>
-    ensures yes { IfOk result (λ yes. yes ≡ true → Gathers tables.now (known_as tables.now standing) scope.old scope.new (funs_of (map (function_of (reading tables.now)) functions.now))) }
+    ensures yes { IfOk result (λ yes. yes ≡ true
+        → Gathers tables.now (known_as tables.now standing) scope.old scope.new (funs_of (map (function_of (reading tables.now)) functions.now))) }
     ensures no { IfOk result (λ yes. yes ≡ false → FunsNew (all tables.now scope.old) (funs_of (map (function_of (reading tables.now)) functions.now)) → ⊥) }
 {
     let mut left = functions.len();

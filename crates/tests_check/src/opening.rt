@@ -48,7 +48,8 @@ pub fn open_binding(
 ) -> Result<bool, NoMemory>
     ensures yes { IfOk result (λ yes. yes ≡ true → IsOpen tables.now (marks_of marks.old) binding) }
     ensures no { IfOk result (λ yes. yes ≡ false → IsOpen tables.now (marks_of marks.old) binding → ⊥) }
-    ensures declared { IfOk result (λ yes. yes ≡ true → marks_of marks.new ≡ parameters_at (parameters_of tables.now) binding.parameters ++ marks_of marks.old) }
+    ensures declared { IfOk result (λ yes. yes ≡ true
+        → marks_of marks.new ≡ parameters_at (parameters_of tables.now) binding.parameters ++ marks_of marks.old) }
 {
     let new = declare_all(marks, tables.parameters(binding.parameters))?;
     if !new {
