@@ -9,3 +9,6 @@ pub mod Chains
 pub mod Kept
 pub mod Initial
 mod Example
+mod Ordered
+mod Fields
+mod Still

@@ -19,6 +19,7 @@ use Rattle.core_rules.specs.Eval.{packet_of, raise_value, truth_value, value_of,
 use Rattle.ir_values.specs.Tags.{untagged}
 use Rattle.ir_values.specs.Values as made
 use Rattle.ir_values.specs.Primitives as call
+use Rattle.ir_values.proofs.PrimitiveLemmas.{untagged-row}
 use Rattle.ir_poly.specs.ProgMeaning.{V, Parts}
 use Rattle.core_elab.proofs.Agreeing.{Agree, both_give, both_raise, both_stop, assign-agree}
 use Rattle.core_elab.proofs.Related.{Rel, rel_literal, rel_record, rel_con, rel_con_of, rel_ref, rel_address, rel_exn, rel_exn_of, rel_primitive, rel_alone, rel_one_of, RelFields, rel_no_fields, Stored, in_cell}
@@ -99,6 +100,10 @@ given-rel : (o : Option Gives) {w : World Value} {u : World V} → Alike w u
 given-rel None s = both_stop _ s
 given-rel (Some g) s = giving-rel g s
 
+row-rel : (q : BasisPrimitive) (ls : List Literal) {w : World Value} {u : World V} → Alike w u
+    → Ends (or_fail (row_of q ls) w (λ g. giving g w)) (or_fail (call.row_at untagged tt q ls) u (λ g. call.giving untagged g u))
+row-rel q ls s = rw (untagged-row q ls) (given-rel (row_of q ls) s)
+
 print-rel : (ls : List Literal) (w : World Value) (u : World V) → Alike w u → Ends (perform_print ls w) (call.print_literals untagged ls u)
 print-rel [] w u s = both_stop _ s
 print-rel (string t ∷ []) w u s = both_give (rel_record rel_no_fields) (writes-same Stored t w u s)
@@ -161,7 +166,7 @@ pub perform-rel : (q : BasisPrimitive) {vs : List Value} {us : List V} (w : Worl
 perform-rel prim.Equals w u h s = equals-rel w u h s
 perform-rel prim.Assign w u h s = assign-rel w u h s
 perform-rel prim.Print w u h s = on-literals w u _ _ h (λ ls. print-rel ls w u s) s
-perform-rel q w u h s = on-literals w u _ _ h (λ ls. given-rel (row_of q ls) s) s
+perform-rel q w u h s = on-literals w u _ _ h (λ ls. row-rel q ls s) s
 
 pub raised-rel : {v : Value} {z : V} (w : World Value) (u : World V) → Rel v z → Alike w u → Ends (raise_value v w) (call.raise_value z u)
 raised-rel w u (rel_exn n) s = both_raise (rel_exn n) s

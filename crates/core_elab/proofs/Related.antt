@@ -17,6 +17,11 @@ use Rattle.ir_poly.specs.ProgMeaning.{V, Scope as Bound, Parts, alone, one_of, l
 use Rattle.core_elab.specs.Scopes.{Denotes, variable, constructor, reference, exception, primitive as performed, Scope, empty, scoped, typed_by, inside, plus_scope, con_number}
 use Rattle.core_elab.specs.Resolves.{FunTo, FunsTo, HeadsTo}
 
+-- a field among others, past those of other labels
+pub data Among (l : Label) (u : V) : Parts → Parts → Type 0 where
+  among_here : {gs : Parts} → Among l u gs (made.field l u gs)
+  among_past : (k : Label) (z : V) {gs hs : Parts} → made.same_label l k ≡ false → Among l u gs hs → Among l u (made.field k z gs) (made.field k z hs)
+
 mutual
   pub data Rel : Value → V → Type 0 where
     rel_literal : (l : Literal) → Rel (literal l) (made.literal l)
@@ -33,9 +38,10 @@ mutual
     rel_one_of : {s r : Scope} {k j : ℕ} {rs : Rules} {f : Fun} {e : Env} {t : Bound} {bs : Binds} {fs : Funs} → Covers k t s e → HeadsTo k bs fs r j
         → FunsTo (plus_scope s r) j bs fs → FunTo (plus_scope s r) j rs f → Rel (closure rs e bs) (made.closure (one_of f fs) t)
 
+  -- the program's fields may stand in another order
   pub data RelFields : Fields → Parts → Type 0 where
     rel_no_fields : RelFields no_fields made.no_fields
-    rel_field : (l : Label) {v : Value} {u : V} {fs : Fields} {gs : Parts} → Rel v u → RelFields fs gs → RelFields (field l v fs) (made.field l u gs)
+    rel_field : (l : Label) {v : Value} {u : V} {fs : Fields} {gs hs : Parts} → Rel v u → RelFields fs gs → Among l u gs hs → RelFields (field l v fs) hs
 
   -- what an identifier stands for has its value; variables are below k
   pub data Known : ℕ → Bound → Denotes → Status → Value → Type 0 where

@@ -11,13 +11,13 @@ use Rattle.sml_tree.specs.declared.ident.BuiltIn.TheVariants.{True, False, Nil, 
 use Rattle.core_rules.specs.Words as words
 use Rattle.core_rules.specs.Restrictions.{is_kept}
 use Rattle.core_rules.specs.Values.{Con, built, declared, Value, Fields, field_in, count}
-use Rattle.core_rules.specs.Match.{literal_in, address_in, same_built, same_con, same_value, same_fields, unless_different}
+use Rattle.core_rules.specs.Match.{literal_in, address_in, same_built, same_con, same_value, same_fields, both_equal}
 use Rattle.ir_values.specs.Tags.{untagged}
 use Rattle.ir_values.specs.Values as made
 use Rattle.ir_values.specs.Equality as made_same
 use Rattle.ir_poly.specs.ProgMeaning.{V, Parts}
 use Rattle.core_elab.specs.Scopes.{built_number, con_number}
-use Rattle.core_elab.proofs.Related.{Rel, rel_literal, rel_record, rel_con, rel_con_of, rel_ref, rel_address, rel_exn, rel_exn_of, rel_primitive, rel_alone, rel_one_of, RelFields, rel_no_fields, rel_field}
+use Rattle.core_elab.proofs.Related.{Among, among_here, among_past, Rel, rel_literal, rel_record, rel_con, rel_con_of, rel_ref, rel_address, rel_exn, rel_exn_of, rel_primitive, rel_alone, rel_one_of, RelFields, rel_no_fields, rel_field}
 
 -- Numbers of constructors
 
@@ -102,13 +102,38 @@ found-if {b} {b'} {v} {u} {o} {p} e r h = subst (λ c. BothOrNeither Rel (if b t
     go true = both r
     go false = h
 
+label-is : (l k : Label) → made.same_label l k ≡ true → l ≡ k
+label-is (Number m) (Number n) e = ap Number (eqb-true m n e)
+label-is (Number m) (Word x) e = absurd (cc)
+label-is (Word x) (Number n) e = absurd (cc)
+label-is (Word x) (Word y) e = ap Word (eqb-true x y e)
+
+-- no label is equal to two that differ
+not-both : (l k j : Label) → made.same_label k j ≡ false → made.same_label l j ≡ true → made.same_label l k ≡ true → ⊥
+not-both l k j d e h = let a : l ≡ k = label-is l k h in let b : made.same_label k j ≡ true = subst (λ z. made.same_label z j ≡ true) a e in absurd (cc)
+
+exchanged : {A : Type 0} (a b : Bool) (x y z : A) → (a ≡ true → b ≡ true → ⊥) → (if a then x else (if b then y else z)) ≡ (if b then y else (if a then x else z))
+exchanged true true x y z h = absurd (h refl refl)
+exchanged true false x y z h = refl
+exchanged false b x y z h = refl
+
+among-found : (l : Label) {k : Label} {u : V} {gs hs : Parts} → Among k u gs hs
+    → made.field_in l hs ≡ (if made.same_label l k then Some u else made.field_in l gs)
+among-found l among_here = refl
+among-found l {k} {u} (among_past j z {gs = gs} d a) =
+    (λ i. if made.same_label l j then Some z else among-found l a i) ∙ exchanged (made.same_label l j) (made.same_label l k) (Some z) (Some u) (made.field_in l gs) (not-both l k j d)
+
+among-count : {k : Label} {u : V} {gs hs : Parts} → Among k u gs hs → made.count hs ≡ suc (made.count gs)
+among-count among_here = refl
+among-count (among_past j z d a) = ap suc (among-count a)
+
 pub field-rel : {fs : Fields} {gs : Parts} (l : Label) → RelFields fs gs → BothOrNeither Rel (field_in l fs) (made.field_in l gs)
 field-rel l rel_no_fields = neither
-field-rel l (rel_field k r rs) = found-if (labels-same l k) r (field-rel l rs)
+field-rel {fs} l (rel_field k r rs a) = subst (BothOrNeither Rel (field_in l fs)) (sym (among-found l a)) (found-if (labels-same l k) r (field-rel l rs))
 
 pub count-rel : {fs : Fields} {gs : Parts} → RelFields fs gs → made.count gs ≡ count fs
 count-rel rel_no_fields = refl
-count-rel (rel_field l r rs) = ap suc (count-rel rs)
+count-rel (rel_field l r rs a) = among-count a ∙ ap suc (count-rel rs)
 
 pub literal-rel : {v : Value} {u : V} → Rel v u → made.literal_in u ≡ literal_in v
 literal-rel (rel_literal l) = refl
@@ -141,10 +166,26 @@ address-rel (rel_one_of c h fs f) = refl
 abbrev equal : V → V → Option Bool
 equal v u = made_same.same_at untagged tt v u
 
-unless-same : (o p : Option Bool) → made_same.unless_different o p ≡ unless_different o p
-unless-same None p = refl
-unless-same (Some true) p = refl
-unless-same (Some false) p = refl
+both-same : (o p : Option Bool) → made_same.both_equal o p ≡ both_equal o p
+both-same None p = refl
+both-same (Some b) p = refl
+
+both-exchanged : (a b c : Option Bool) → made_same.both_equal a (made_same.both_equal b c) ≡ made_same.both_equal b (made_same.both_equal a c)
+both-exchanged None None c = refl
+both-exchanged None (Some b) c = refl
+both-exchanged (Some a) None c = refl
+both-exchanged (Some a) (Some b) None = refl
+both-exchanged (Some true) (Some b) (Some c) = refl
+both-exchanged (Some false) (Some true) (Some c) = refl
+both-exchanged (Some false) (Some false) (Some c) = refl
+
+-- where a field stands among others makes no difference
+among-equal : {l : Label} {u : V} {gs hs : Parts} → Among l u gs hs → (js : Parts) → made_same.same_fields untagged tt hs js
+    ≡ made_same.both_equal (option_and_then (equal u) (made.field_in l js)) (made_same.same_fields untagged tt gs js)
+among-equal among_here js = refl
+among-equal {l} {u} (among_past k z {gs = gs} d a) js =
+    (λ i. made_same.both_equal (option_and_then (equal z) (made.field_in k js)) (among-equal a js i))
+    ∙ both-exchanged (option_and_then (equal z) (made.field_in k js)) (option_and_then (equal u) (made.field_in l js)) (made_same.same_fields untagged tt gs js)
 
 found-same : (v : Value) (t : V) {o : Option Value} {p : Option V} → ((u : Value) (z : V) → Rel u z → equal t z ≡ same_value v u) → BothOrNeither Rel o p
     → option_and_then (equal t) p ≡ option_and_then (same_value v) o
@@ -198,6 +239,6 @@ mutual
   same-fields-rel : {fs : Fields} {gs : Parts} → RelFields fs gs → {hs : Fields} {js : Parts} → RelFields hs js
       → made_same.same_fields untagged tt gs js ≡ same_fields fs hs
   same-fields-rel rel_no_fields k = refl
-  same-fields-rel (rel_field l {v = v} {u = t} {gs = gs} r rs) {js = js} k =
-      unless-same (option_and_then (equal t) (made.field_in l js)) (made_same.same_fields untagged tt gs js)
-      ∙ (λ i. unless_different (found-same v t (λ u z q. same-rel r q) (field-rel l k) i) (same-fields-rel rs k i))
+  same-fields-rel (rel_field l {v = v} {u = t} {gs = gs} r rs a) {js = js} k =
+      among-equal a js ∙ both-same (option_and_then (equal t) (made.field_in l js)) (made_same.same_fields untagged tt gs js)
+      ∙ (λ i. both_equal (found-same v t (λ u z q. same-rel r q) (field-rel l k) i) (same-fields-rel rs k i))

@@ -35,15 +35,25 @@ two_fields l m k n = fields_exp at (exp_field (label.Word l) (num m) (exp_field 
 fields_in_any_order : (run (do_ (print (told (eq (two_fields word_a 1 word_b 2) (two_fields word_b 2 word_a 1)))) ∷ []) 2).output ≡ codes "true"
 fields_in_any_order = refl
 
--- equality stops at the first difference, before what can't be compared: (1, fn x => x) = (2, fn x => x)
+-- a function has no equality wherever it stands, whatever stands before it: (1, fn x => x) = (2, fn x => x)
 abbrev with_fn : ℕ → Exp
 with_fn n = tuple at (num n ∷ fn at (one_rule (pv word_x) (v word_x) no_rules) ∷ [])
 
-stops_at_a_difference : (run (do_ (print (told (eq (with_fn 1) (with_fn 2)))) ∷ []) 2).output ≡ codes "false"
-stops_at_a_difference = refl
-
 functions_are_not_compared : (run (do_ (print (told (eq (with_fn 1) (with_fn 1)))) ∷ []) 2).end ≡ wrong
 functions_are_not_compared = refl
+
+nor_behind_a_difference : (run (do_ (print (told (eq (with_fn 1) (with_fn 2)))) ∷ []) 2).end ≡ wrong
+nor_behind_a_difference = refl
+
+abbrev fn_first : ℕ → Exp
+fn_first n = tuple at (fn at (one_rule (pv word_x) (v word_x) no_rules) ∷ num n ∷ [])
+
+nor_before_one : (run (do_ (print (told (eq (fn_first 1) (fn_first 2)))) ∷ []) 2).end ≡ wrong
+nor_before_one = refl
+
+-- parts that all have an answer: (1, 2) = (1, 3)
+a_part_differs : (run (do_ (print (told (eq (two_fields word_a 1 word_b 2) (two_fields word_a 1 word_b 3)))) ∷ []) 2).output ≡ codes "false"
+a_part_differs = refl
 
 -- a truth value that is made and one that is written are one: (1 < 2) = true
 made_is_written : (run (do_ (print (told (eq (op (num 1) word_less_than (num 2)) (built_exp at True)))) ∷ []) 3).output ≡ codes "true"

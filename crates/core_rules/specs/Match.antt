@@ -1,5 +1,5 @@
 -- Matching, and equality of values. [Definition 6.7, rules 133 to 149] A status tells an identifier that binds from one that is matched.
-use Rattle.std.specs.Prelude.{ℕ, suc, Bool, true, false, ◌||◌, List, [], ◌∷◌, Option, Some, None, option_map, option_and_then, nat_eq, slice_get, if◌then◌else◌}
+use Rattle.std.specs.Prelude.{ℕ, suc, Bool, true, false, ◌&&◌, ◌||◌, List, [], ◌∷◌, Option, Some, None, option_map, option_and_then, nat_eq, slice_get, if◌then◌else◌}
 use Rattle.mlc_prims.specs.LitOf.{Literal, int, word, char, string}
 use Rattle.mlc_prims.specs.Table.{literal_eq}
 use Rattle.sml_tree.specs.Terminal as term
@@ -50,10 +50,11 @@ same_con (built b) (built c) = same_built b c
 same_con (declared x) (declared y) = same_vid x y
 same_con c d = false
 
--- Equality: of parts, left to right up to the first difference; of references by identity. Functions and packets have none.
+-- Equality: of all parts; of references by identity. Functions and packets have none, nor has what has such a part, wherever it stands.
 
-abbrev pub unless_different : Option Bool → Option Bool → Option Bool
-unless_different o more = elim o [ None ↦ None | Some true ↦ more | Some false ↦ Some false ]
+-- the answer for two parts: both have one, and both say yes
+abbrev pub both_equal : Option Bool → Option Bool → Option Bool
+both_equal o more = option_and_then (λ b. option_map (λ c. b && c) more) o
 
 abbrev mutual
   pub same_value : Value → Value → Option Bool
@@ -66,7 +67,7 @@ abbrev mutual
 
   pub same_fields : Fields → Fields → Option Bool
   same_fields no_fields gs = Some true
-  same_fields (field l v fs) gs = unless_different (option_and_then (same_value v) (field_in l gs)) (same_fields fs gs)
+  same_fields (field l v fs) gs = both_equal (option_and_then (same_value v) (field_in l gs)) (same_fields fs gs)
 
 -- Matching
 

@@ -1,10 +1,10 @@
 -- Parameters that are declared from the last to the first.
 use Rattle.std.proofs.Common.{◌≡◌, ℕ, zero, suc, ◌<◌, ◌≤◌, ◌-◌, Bool, true, false, not, ◌&&◌, ◌||◌, List, [], ◌∷◌, ◌++◌, length, drop, slice_index_or, Some, None, nat_eq, cond, refl, sym, ap, ◌∙◌, subst, arith}
-use Rattle.std.proofs.lemmas.Bool.{eqb-true, eq-eqb}
+use Rattle.std.proofs.lemmas.Bool.{and_parts, and_from, both_ways, eqb-true, eq-eqb}
 use Rattle.std.specs.Map.{lookup}
 use Rattle.ty_core.specs.declared.mark.Mark.{Mark}
 use Rattle.ty_core.specs.declared.scheme.Quantified.{Quantified}
-use Rattle.ir_poly.specs.Types.{in_scope, are_new}
+use Rattle.ir_poly.specs.Types.{in_scope, is_declarable, are_new}
 use Rattle.ir_known.specs.Knows.{marks_of}
 
 pub nat_eq-turned : (x y : ℕ) → nat_eq x y ≡ nat_eq y x
@@ -42,8 +42,8 @@ in_scope-append (q ∷ qs) D v = by (nat_eq q.variable v) (in_scope-append qs D 
     by false e = e
 
 -- one more is new where it is outside all that are in scope then
-new-more : (q : Quantified) (qs D : List Quantified) → are_new qs D ≡ true → in_scope (qs ++ D) q.variable ≡ false → are_new (q ∷ qs) D ≡ true
-new-more q qs D n o = by (in_scope qs q.variable) (in_scope D q.variable) (sym (in_scope-append qs D q.variable) ∙ o)
+new-more : (q : Quantified) (qs D : List Quantified) → is_declarable q.mark ≡ true → are_new qs D ≡ true → in_scope (qs ++ D) q.variable ≡ false → are_new (q ∷ qs) D ≡ true
+new-more q qs D m n o = and_from _ _ m (by (in_scope qs q.variable) (in_scope D q.variable) (sym (in_scope-append qs D q.variable) ∙ o))
   where
     by : (a b : Bool) → (a || b) ≡ false → (not b && (not a && are_new qs D)) ≡ true
     by false false e = n
@@ -51,7 +51,7 @@ new-more q qs D n o = by (in_scope qs q.variable) (in_scope D q.variable) (sym (
     by false true e = absurd (cc)
 
 new-outside : (q : Quantified) (qs D : List Quantified) → are_new (q ∷ qs) D ≡ true → in_scope (qs ++ D) q.variable ≡ false
-new-outside q qs D n = in_scope-append qs D q.variable ∙ by (in_scope qs q.variable) (in_scope D q.variable) n
+new-outside q qs D n = in_scope-append qs D q.variable ∙ by (in_scope qs q.variable) (in_scope D q.variable) (and_parts (is_declarable q.mark) _ n).1
   where
     by : (a b : Bool) → (not b && (not a && are_new qs D)) ≡ true → (a || b) ≡ false
     by false false e = refl
@@ -60,7 +60,7 @@ new-outside q qs D n = in_scope-append qs D q.variable ∙ by (in_scope qs q.var
     by false true e = absurd (cc)
 
 new-rest : (q : Quantified) (qs D : List Quantified) → are_new (q ∷ qs) D ≡ true → are_new qs D ≡ true
-new-rest q qs D n = by (not (in_scope D q.variable)) (not (in_scope qs q.variable)) n
+new-rest q qs D n = by (not (in_scope D q.variable)) (not (in_scope qs q.variable)) (and_parts (is_declarable q.mark) _ n).1
   where
     by : (a b : Bool) → (a && (b && are_new qs D)) ≡ true → are_new qs D ≡ true
     by true true e = e
@@ -85,12 +85,12 @@ pub record Declared (rows all : List (ℕ × Mark)) (qs : List Quantified) (n : 
   pub longer : length rows ≤ length all
   pub behind : drop (length all - length rows) all ≡ rows
 
-pub one-declared : (rows all : List (ℕ × Mark)) (qs : List Quantified) (n : ℕ) (d : Quantified) → n < length qs → Declared rows all qs (suc n) → lookup (nat_eq (slice_index_or qs n d).variable) all ≡ None
+pub one-declared : (rows all : List (ℕ × Mark)) (qs : List Quantified) (n : ℕ) (d : Quantified) → n < length qs → Declared rows all qs (suc n) → is_declarable (slice_index_or qs n d).mark ≡ true → lookup (nat_eq (slice_index_or qs n d).variable) all ≡ None
     → (new : List (ℕ × Mark)) → new ≡ ((slice_index_or qs n d).variable, (slice_index_or qs n d).mark) ∷ all → Declared rows new qs n
-one-declared rows all qs n d lt f none new is = record {
+one-declared rows all qs n d lt f mark none new is = record {
   within = omega arith;
   new = subst (λ l. are_new l (marks_of rows) ≡ true) (sym there)
-      (new-more q (drop (suc n) qs) (marks_of rows) f.new (subst (λ l. in_scope l q.variable ≡ false) f.declared (not-in-scope all q.variable none)));
+      (new-more q (drop (suc n) qs) (marks_of rows) mark f.new (subst (λ l. in_scope l q.variable ≡ false) f.declared (not-in-scope all q.variable none)));
   declared = ap marks_of is ∙ ap (λ l. q ∷ l) f.declared ∙ ap (λ l. l ++ marks_of rows) (sym there);
   longer = let e = ap length is in let l = f.longer in omega arith;
   behind = ap (λ l. drop (length l - length rows) l) is ∙ ap (λ k. drop k ((q.variable, q.mark) ∷ all)) less ∙ f.behind;
@@ -112,6 +112,12 @@ not-declared rows all qs n d lt f some new = some (outside-found all q.variable 
   where
     q : Quantified
     q = slice_index_or qs n d
+
+pub not-declarable : (rows : List (ℕ × Mark)) (qs : List Quantified) (n : ℕ) (d : Quantified) → n < length qs → is_declarable (slice_index_or qs n d).mark ≡ false → are_new qs (marks_of rows) ≡ true → ⊥
+not-declarable rows qs n d lt mark new =
+    let q = slice_index_or qs n d in
+    both_ways (is_declarable q.mark) mark
+    (and_parts (is_declarable q.mark) _ (subst (λ l. are_new l (marks_of rows) ≡ true) (drop-there n qs q d lt refl) (new-dropped n qs (marks_of rows) new))).0
 
 pub the-next : (n : ℕ) → 0 < n → n ≡ suc (n - 1)
 the-next n lt = omega arith

@@ -72,7 +72,7 @@ module _ (types : List table.Row) where
     op-bound {G = G} (tt.t_refer e i) = refer_scoped (among G e)
     op-bound {G = G} (tt.t_content e i) = content_scoped (among G e)
     op-bound {G = G} (tt.t_pack e d i) = pack_scoped (among G e) (among G d)
-    op-bound (tt.t_make_record r i) = make_record_scoped (row-bound r)
+    op-bound (tt.t_make_record r i d) = make_record_scoped (row-bound r)
     op-bound {G = G} (tt.t_select e i q) = select_scoped (among G e)
     op-bound (tt.t_prim_alone p t i) = prim_alone_scoped
     op-bound (tt.t_prim p r) = prim_scoped (atoms-bound r)

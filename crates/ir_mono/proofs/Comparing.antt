@@ -7,10 +7,10 @@ use Rattle.mlc_prims.specs.Table.{literal_eq}
 use Rattle.ty_core.specs.Types.{labels, name}
 use Rattle.ty_core.specs.declared.name.TyName.{TyName}
 use Rattle.ir_values.specs.Values.{literal, record_of, con, con_of, address, same_label}
-use Rattle.ir_values.specs.Equality.{unless_different, where_holds, if_equal, Constructed, same_part, same_at, same_fields}
+use Rattle.ir_values.specs.Equality.{both_equal, where_holds, if_equal, Constructed, same_part, same_at, same_fields}
 use Rattle.ir_plain.specs.Meaning.{V, Parts}
 use Rattle.ir_poly.specs.Types.{int_name, word_name, char_name, string_name, ref_name, exn_name}
-use Rattle.ir_mono.specs.Types.{Row, Node, node, node_at, constructor_at, admits, part, part_of, holds, has_literal, is_named, by_number, Is, IsRef, HasLiteral, has_int, has_word, has_char, has_string, IsOther, other_none, other_more, AreDistinct, distinct_none, distinct_more, AllAdmit, admit_none, admit_more, IsComparable, constants_are, references_are, records_are, constructions_are, IsTable}
+use Rattle.ir_mono.specs.Types.{Row, Node, node, node_at, constructor_at, admits, part, part_of, holds, has_literal, is_named, by_number, Is, IsRef, HasLiteral, has_int, has_word, has_char, has_string, IsOther, other_none, other_more, AreDistinct, distinct_none, distinct_more, AllAdmit, admit_none, admit_more, IsComparable, records_are, named_are, IsTable}
 use Rattle.ir_mono.specs.Mono.{mono}
 use Rattle.ir_mono.proofs.Values as values
 use Rattle.ir_mono.specs.Values.{Shape, ValueTyped, literal_is, record_is, con_is, con_function_is, con_of_is, exn_is, exn_function_is, exn_of_is, ref_is, address_is, primitive_is, closure_is, group_is, FieldsTyped, no_fields_are, a_field_is}
@@ -20,9 +20,8 @@ use Rattle.ir_mono.proofs.Values.{other-name, literal-name, literal-few, FieldFo
 pub data Answers : Option Bool → Type 0 where
   answers : (b : Bool) → Answers (Some b)
 
-unless-answers : {o q : Option Bool} → Answers o → Answers q → Answers (unless_different o q)
-unless-answers (answers true) h = h
-unless-answers (answers false) h = answers false
+both-answer : {o q : Option Bool} → Answers o → Answers q → Answers (both_equal o q)
+both-answer (answers b) (answers c) = answers _
 
 if-answers : (b : Bool) {o : Option Bool} → (b ≡ true → Answers o) → Answers (if_equal b o)
 if-answers true h = h refl
@@ -35,7 +34,7 @@ module _ (types : List Row) where
   named : (y : TyName) (n : ℕ) {ps : List ℕ} → Is types n (name y) ps → holds (is_named y) (node_at types n) ≡ true
   named y n {ps} e = ap (holds (is_named y)) e ∙ eq-eqb y.stamp y.stamp refl
 
-  literal-there : {l : Literal} {n : ℕ} → HasLiteral types l n → holds (λ k. has_literal k l) (node_at types n) ≡ true
+  pub literal-there : {l : Literal} {n : ℕ} → HasLiteral types l n → holds (λ k. has_literal k l) (node_at types n) ≡ true
   literal-there {n = n} (has_int z e) = named int_name n e
   literal-there {n = n} (has_word k e) = named word_name n e
   literal-there {n = n} (has_char k e) = named char_name n e
@@ -68,7 +67,7 @@ module _ (types : List Row) where
     constant-of h (literal_is k) = constant k
     constant-of h (con_is {c = c} e) = absurd (values.data-literal types S table c e h)
     constant-of h (con_of_is {c = c} e k) = absurd (values.data-literal types S table c e h)
-    constant-of h (record_is e k) = let d = (literal-name types h).is in absurd (cc)
+    constant-of h (record_is e o k) = let d = (literal-name types h).is in absurd (cc)
     constant-of h (con_function_is e k) = let d = (literal-name types h).is in absurd (cc)
     constant-of h (exn_is e k) = let few = literal-few types exn_name h k in absurd (cc)
     constant-of h (exn_function_is e k j) = let d = (literal-name types h).is in absurd (cc)
@@ -88,7 +87,7 @@ module _ (types : List Row) where
     address-of e (literal_is h) = let few = literal-few types ref_name h e in absurd (cc)
     address-of {n} e (con_is {c = c} h) = let d = data-name types S table n c h in absurd (values.few-data types S table d.0 ref_name n d.3 refl d.2 e)
     address-of {n} e (con_of_is {c = c} h k) = let d = data-name types S table n c h in absurd (values.few-data types S table d.0 ref_name n d.3 refl d.2 e)
-    address-of e (record_is h k) = absurd (cc)
+    address-of e (record_is h o k) = absurd (cc)
     address-of e (con_function_is h k) = absurd (cc)
     address-of {n} e (exn_is h k) = absurd (other-name types ref_name exn_name n refl e k)
     address-of e (exn_function_is h k j) = absurd (cc)
@@ -131,16 +130,12 @@ module _ (types : List Row) where
     at-parts (a_field_is {l = l} {t = t} h hs) (distinct_more o d) (admit_more a as_) = parts_more (take-first (same_label l l) _ _ (first-part l)) a (later l t o (at-parts hs d as_))
 
     record-admits : {n : ℕ} {ls : List Label} {ps : List ℕ} → IsComparable types n → Is types n (labels ls) ps → AllAdmit types ps
-    record-admits (constants_are h) e = let d = (literal-name types h).is in absurd (cc)
-    record-admits (references_are h) e = absurd (cc)
     record-admits {ps = ps} (records_are {ps = qs} h a) e = let same : qs ≡ ps = cc in subst (AllAdmit types) same a
-    record-admits (constructions_are h m a) e = absurd (cc)
+    record-admits (named_are h m a) e = absurd (cc)
 
     argument-admits : (n c : ℕ) {a : ℕ} → IsComparable types n → constructor_at types n c ≡ Some (Some a) → admits types a ≡ true
-    argument-admits n c (constants_are h) e = absurd (values.data-literal types S table c e h)
-    argument-admits n c (references_are h) e = let d = data-name types S table n c e in absurd (values.few-data types S table d.0 ref_name n d.3 refl d.2 h)
     argument-admits n c (records_are h a) e = let d = data-name types S table n c e in let i = d.2 in absurd (cc)
-    argument-admits n c {a} (constructions_are h m k) e = k c a e
+    argument-admits n c {a} (named_are h m k) e = k c a e
 
     field-type : (n : ℕ) {ls : List Label} {ts : List ℕ} (l : Label) → Is types n (labels ls) ts → option_and_then (part_of l) (node_at types n) ≡ part l ls ts
     field-type n l e = ap (option_and_then (part_of l)) e
@@ -149,16 +144,12 @@ module _ (types : List Row) where
     argument-type n c e = ap (option_and_then (λ o. o)) e
 
     no-exn : {n : ℕ} → IsComparable types n → Is types n (name exn_name) [] → ⊥
-    no-exn (constants_are h) e = let few = literal-few types exn_name h e in absurd (cc)
-    no-exn {n} (references_are h) e = other-name types ref_name exn_name n refl h e
     no-exn (records_are h a) e = absurd (cc)
-    no-exn {n} (constructions_are {y = y} h m k) e = values.few-data types S table y exn_name n m refl h e
+    no-exn {n} (named_are {y = y} h m k) e = m (let same : y ≡ exn_name = cc in same)
 
     no-function : {n a b : ℕ} → IsComparable types n → Rattle.ir_mono.specs.Types.IsFunction types n a b → ⊥
-    no-function (constants_are h) e = let d = (literal-name types h).is in absurd (cc)
-    no-function (references_are h) e = absurd (cc)
     no-function (records_are h a) e = absurd (cc)
-    no-function (constructions_are h m k) e = absurd (cc)
+    no-function (named_are h m k) e = absurd (cc)
 
     part-answers : (v : V (mono types)) {t : ℕ} {g : Option ℕ} {o : Option (V (mono types))} → g ≡ Some t → FieldFound types S t o → ((u : V (mono types)) → ValueTyped types S u t → Answers (same_at (by_number types) t v u))
         → Answers (same_part (by_number types) (λ a. same_at (by_number types) a v) g o)
@@ -194,8 +185,8 @@ module _ (types : List Row) where
     mutual
       pub same-answers : {n : ℕ} {v u : V (mono types)} → ValueTyped types S v n → ValueTyped types S u n → IsComparable types n → Answers (same_at (by_number types) n v u)
       same-answers (literal_is h) k i = literal-comparable h k
-      same-answers {n} (record_is {fs = fs} {ls = ls} {ps = ps} e h) k i =
-          records-answer n fs (record-of types S table e k) (λ gs j. fields-answer n e h j (at-parts h (table.distinct n ls ps e) (record-admits i e)))
+      same-answers {n} (record_is {fs = fs} {ls = ls} {ps = ps} e d h) k i =
+          records-answer n fs (record-of types S table e k) (λ gs j. fields-answer n e h j (at-parts h d (record-admits i e)))
       same-answers {n} (con_is {c = c} e) k i = constructors-answer n c (constructed types S table c e k)
       same-answers {n} (con_of_is {c = c} {a = a} {v = v} e h) k i = constructions-answer n c v e (constructed types S table c e k) (λ x j. same-answers h j (table.comparable a (argument-admits n c i e)))
       same-answers {n} (address_is {i = j} h k) u i = addresses-answer n j k (address-of k u)
@@ -211,7 +202,7 @@ module _ (types : List Row) where
       fields-answer : (n : ℕ) {ls ks : List Label} {ts us : List ℕ} {fs gs : Parts (mono types)} → Is types n (labels ls) ts → FieldsTyped types S fs ks us → FieldsTyped types S gs ls ts → AtParts ls ts ks us → Answers (same_fields (by_number types) n fs gs)
       fields-answer n e no_fields_are k parts_none = answers true
       fields-answer n e (a_field_is {l = l} {v = v} {t = t} h hs) k (parts_more p a ps) =
-          unless-answers (part-answers v (field-type n l e ∙ p) (field-typed types S l k p) (λ u j. same-answers h j (table.comparable t a))) (fields-answer n e hs k ps)
+          both-answer (part-answers v (field-type n l e ∙ p) (field-typed types S l k p) (λ u j. same-answers h j (table.comparable t a))) (fields-answer n e hs k ps)
 
 pub equality-answers : (types : List Row) → IsTable types → (S : Shape) (n : ℕ) (v u : V (mono types)) → ValueTyped types S v n → ValueTyped types S u n → admits types n ≡ true → (b : Bool) × (same_at (by_number types) n v u ≡ Some b)
 equality-answers types table S n v u h k a = go (same-answers types table S h k (table.comparable n a))

@@ -8,8 +8,8 @@ use Rattle.mlc_prims.specs.LitOf.{Literal}
 use Rattle.ty_core.specs.Types.{labels, name, Typ, Typs}
 use Rattle.ty_core.specs.declared.name.TyName.{TyName}
 use Rattle.ir_values.specs.Values.{truth_number}
-use Rattle.ir_mono.specs.Types.{Row, Node, node, node_at, constructor_at, admits, unit_number, bool_number, HasLiteral, has_int, has_word, has_char, has_string, AllAdmit, admit_none, admit_more, Stands, stands_var, stands_con, AllStand, stand_none, stand_more, IsComparable, constants_are, references_are, records_are, constructions_are, IsTable}
-use Rattle.ir_mono.specs.Growing.{MayCompare, integers_may, words_may, characters_may, strings_may, references_may, records_may, datatypes_may, IsNewRow, IsNewConstructor, with_constructor}
+use Rattle.ir_mono.specs.Types.{Row, Node, node, node_at, constructor_at, admits, unit_number, bool_number, HasLiteral, has_int, has_word, has_char, has_string, AllAdmit, admit_none, admit_more, Stands, stands_var, stands_con, AllStand, stand_none, stand_more, IsComparable, records_are, named_are, IsTable}
+use Rattle.ir_mono.specs.Growing.{MayCompare, records_may, names_may, IsNewRow, IsNewConstructor, with_constructor}
 
 -- What is there stays.
 
@@ -36,12 +36,6 @@ mutual
   all-still : (types more : List Row) (s : ℕ → ℕ) {ns : List ℕ} {ts : Typs} → AllStand types s ns ts → AllStand (types ++ more) s ns ts
   all-still types more s stand_none = stand_none
   all-still types more s (stand_more i is) = stand_more (stands-still types more s i) (all-still types more s is)
-
-literal-still : (types types' : List Row) → ((n : ℕ) (k : Node) → node_at types n ≡ Some k → node_at types' n ≡ Some k) → {l : Literal} {n : ℕ} → HasLiteral types l n → HasLiteral types' l n
-literal-still types types' h {n = n} (has_int z e) = has_int z (h n _ e)
-literal-still types types' h {n = n} (has_word z e) = has_word z (h n _ e)
-literal-still types types' h {n = n} (has_char z e) = has_char z (h n _ e)
-literal-still types types' h {n = n} (has_string z e) = has_string z (h n _ e)
 
 all-admit-still : (types types' : List Row) → ((n : ℕ) → admits types n ≡ true → admits types' n ≡ true) → {ns : List ℕ} → AllAdmit types ns → AllAdmit types' ns
 all-admit-still types types' h admit_none = admit_none
@@ -108,23 +102,16 @@ module _ (types : List Row) (r : Row) (table : IsTable types) (row : IsNewRow ty
       go (is_new p q) (is_new i j) = p ∙ sym i
 
   old-comparable : (n : ℕ) → IsComparable types n → IsComparable grown n
-  old-comparable n (constants_are h) = constants_are (literal-still types grown node-grown h)
-  old-comparable n (references_are h) = references_are (node-grown n _ h)
   old-comparable n (records_are h as_) = records_are (node-grown n _ h) (all-admit-still types grown (admits-still types (r ∷ [])) as_)
-  old-comparable n (constructions_are h m f) = constructions_are (node-grown n _ h) m (λ c a e. admits-still types (r ∷ []) a (f c a (constructor-where types r n c row.none e)))
+  old-comparable n (named_are h m f) = named_are (node-grown n _ h) m (λ c a e. admits-still types (r ∷ []) a (f c a (constructor-where types r n c row.none e)))
 
   pub past-end : (ts : List Row) (c : ℕ) {a : Option ℕ} → constructor_at ts (length ts) c ≡ Some a → ⊥
   past-end [] c e = cc
   past-end (p ∷ ts) c e = past-end ts c e
 
   new-comparable : (k : Node) → node_at grown (length types) ≡ Some k → MayCompare types k → IsComparable grown (length types)
-  new-comparable k e integers_may = constants_are (has_int (Rattle.std.proofs.Common.pos 0) e)
-  new-comparable k e words_may = constants_are (has_word 0 e)
-  new-comparable k e characters_may = constants_are (has_char 0 e)
-  new-comparable k e strings_may = constants_are (has_string [] e)
-  new-comparable k e references_may = references_are e
   new-comparable k e (records_may as_) = records_are e (all-admit-still types grown (admits-still types (r ∷ [])) as_)
-  new-comparable k e (datatypes_may m) = constructions_are e m (λ c a d. absurd (past-end types c (constructor-where types r (length types) c row.none d)))
+  new-comparable k e (names_may m) = named_are e m (λ c a d. absurd (past-end types c (constructor-where types r (length types) c row.none d)))
 
   comparable-grown : (n : ℕ) → admits grown n ≡ true → IsComparable grown n
   comparable-grown n e = go (admits-where types r n e)
@@ -132,13 +119,6 @@ module _ (types : List Row) (r : Row) (table : IsTable types) (row : IsNewRow ty
       go : Admitted types r n → IsComparable grown n
       go (admitted_old d) = old-comparable n (table.comparable n d)
       go (admitted_new d q) = subst (IsComparable grown) (sym d) (new-comparable r.type (at-end types r) (row.comparable q))
-
-  distinct-grown : (n : ℕ) (ls : List Label) (ps : List ℕ) → node_at grown n ≡ Some (node (labels ls) ps) → Rattle.ir_mono.specs.Types.AreDistinct ls
-  distinct-grown n ls ps e = go (node-where types r n e)
-    where
-      go : OldOrNew types r n (node (labels ls) ps) → Rattle.ir_mono.specs.Types.AreDistinct ls
-      go (is_old d) = table.distinct n ls ps d
-      go (is_new d q) = row.distinct ls ps q
 
   datatypes-grown : (n c : ℕ) (a : Option ℕ) → constructor_at grown n c ≡ Some a → (y : TyName) × (ps : List ℕ) × (node_at grown n ≡ Some (node (name y) ps)) × (nat_lt 5 y.stamp ≡ true)
   datatypes-grown n c a e = let d = table.datatypes n c a (constructor-where types r n c row.none e) in (d.0, d.1, node-grown n _ d.2, d.3)
@@ -149,7 +129,6 @@ module _ (types : List Row) (r : Row) (table : IsTable types) (row : IsNewRow ty
     unit = node-grown unit_number _ table.unit;
     bool = node-grown bool_number _ table.bool;
     truths = λ b. constructor-still types (r ∷ []) bool_number (truth_number b) (table.truths b);
-    distinct = distinct-grown;
     datatypes = datatypes-grown;
     comparable = comparable-grown;
   }
@@ -245,10 +224,8 @@ module _ (types : List Row) (n : ℕ) (r : Row) (c : ℕ) (a : Option ℕ) (tabl
       go (entered_new k j q) = entry.argument b q (subst (λ z. admits types z ≡ true) k f)
 
   still-comparable : (i : ℕ) → admits types i ≡ true → IsComparable types i → IsComparable added i
-  still-comparable i f (constants_are h) = constants_are (literal-still types added node-added h)
-  still-comparable i f (references_are h) = references_are (node-added i _ h)
   still-comparable i f (records_are h as_) = records_are (node-added i _ h) (all-admit-still types added admits-added as_)
-  still-comparable i f (constructions_are h m k) = constructions_are (node-added i _ h) m (λ d b e. admits-added b (argument-admits i d b f k e))
+  still-comparable i f (named_are h m k) = named_are (node-added i _ h) m (λ d b e. admits-added b (argument-admits i d b f k e))
 
   datatypes-added : (i d : ℕ) (b : Option ℕ) → constructor_at added i d ≡ Some b → (y : TyName) × (ps : List ℕ) × (node_at added i ≡ Some (node (name y) ps)) × (nat_lt 5 y.stamp ≡ true)
   datatypes-added i d b e = go (constructor-set types n r c a entry.there i d e)
@@ -263,7 +240,6 @@ module _ (types : List Row) (n : ℕ) (r : Row) (c : ℕ) (a : Option ℕ) (tabl
     unit = node-added unit_number _ table.unit;
     bool = node-added bool_number _ table.bool;
     truths = λ b. constructor-kept types n r c a entry.there entry.new bool_number (truth_number b) (table.truths b);
-    distinct = λ i ls ps e. table.distinct i ls ps (node-before i _ e);
     datatypes = datatypes-added;
     comparable = λ i e. let f = sym (admits-set types n r c a entry.there i) ∙ e in still-comparable i f (table.comparable i f);
   }

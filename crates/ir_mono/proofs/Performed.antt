@@ -1,28 +1,29 @@
 -- What primitives give of values of their types.
 use Rattle.std.proofs.Common.{◌≡◌, ℕ, zero, suc, ◌<◌, List, [], ◌∷◌, ◌++◌, length, Bool, true, false, Option, Some, None, slice_get, if◌then◌else◌, nat_eq, nat_lt, option_map, option_and_then, subst, refl, sym, ap, arith, ◌∙◌}
-use Rattle.std.specs.Prelude.{slice_set}
+use Rattle.std.specs.Prelude.{slice_set, not, ◌||◌}
 use Rattle.std.proofs.lemmas.Bool.{lt-ltb, eq-eqb, eqb-true}
 use Rattle.mlc_base.specs.Run.{World, Answer, gives, raises, stops, out_of_turns, then_do, or_handle, or_fail, fail, turn_from}
 use Rattle.mlc_base.specs.declared.label.Label.{Label}
 use Rattle.mlc_base.specs.declared.label.Label.TheVariants.{Number}
 use Rattle.mlc_prims.specs.LitOf.{Literal, int, word, char, string}
 use Rattle.mlc_prims.specs.PrimOf.{Gives, made}
+use Rattle.mlc_prims.specs.Table.{row_of}
 use Rattle.mlc_prims.specs.declared.prim.PrimExn.{PrimExn}
 use Rattle.mlc_prims.specs.declared.prim.PrimExn.TheVariants.{Overflow, Div, Subscript, Size, Chr}
 use Rattle.mlc_prims.specs.declared.basis.BasisPrimitive.{BasisPrimitive}
-use Rattle.mlc_prims.specs.declared.basis.BasisPrimitive.TheVariants.{Equals, Assign, Print}
-use Rattle.ty_core.specs.Types.{Typ, name, typs_of}
+use Rattle.mlc_prims.specs.declared.basis.BasisPrimitive.TheVariants.{Add, Subtract, Multiply, Divide, Modulo, Negate, Less, LessEqual, Greater, GreaterEqual, Equals, Assign, Print}
+use Rattle.ty_core.specs.Types.{Typ, var, name, typs_of}
 use Rattle.ty_core.specs.Marks.{overloaded}
 use Rattle.ir_values.specs.Values.{literal, record_of, cell, address, exn, con, no_fields, field, Fields, field_in, truth_number}
-use Rattle.ir_values.specs.Primitives.{Sort, compares, assigns, prints, computes, sort_of, literals, parts, arguments, giving, raised_name, perform, perform_as}
+use Rattle.ir_values.specs.Primitives.{is_overloaded, Sort, compares, assigns, prints, computes, sort_of, begin_at, row_at, literals, parts, arguments, giving, raised_name, perform, perform_as}
 use Rattle.ir_plain.specs.Meaning.{V, Parts}
 use Rattle.ir_poly.specs.Types.{int_name, word_name, char_name, string_name, bool_name, prim_type}
-use Rattle.ir_mono.specs.Types.{Row, Is, IsRef, HasLiteral, has_int, has_word, has_char, has_string, Stands, stands_var, stands_con, AllStand, stand_none, stand_more, IsTable, IsTuple, nothing, alone, together, by_number, numbered, bool_number, unit_number}
+use Rattle.ir_mono.specs.Types.{Row, Is, IsRef, HasLiteral, has_int, has_word, has_char, has_string, distinct_none, Stands, stands_var, stands_con, AllStand, stand_none, stand_more, IsTable, IsTuple, nothing, alone, together, by_number, numbered, bool_number, unit_number}
 use Rattle.ir_mono.specs.Mono.{mono}
 use Rattle.ir_mono.specs.Typing.{PrimAt}
 use Rattle.ir_mono.specs.Values.{Shape, ValueTyped, literal_is, record_is, con_is, address_is, FieldsTyped, no_fields_are, a_field_is}
 use Rattle.ir_mono.proofs.Values.{Grows, stays, further, ValuesTyped, no_values_are, a_value_is, IsPacket, alone_is, value-grows, StoreTyped, no_store, stored, WorldTyped, record-of, recorded, Recorded, FieldFound, field_found, count-typed, other-name}
-use Rattle.ir_mono.proofs.Comparing.{Answers, answers, same-answers, address-of, Addressed, addressed, constant-of, Constant, constant}
+use Rattle.ir_mono.proofs.Comparing.{Answers, answers, same-answers, address-of, literal-there, Addressed, addressed, constant-of, Constant, constant}
 use Rattle.ir_mono.proofs.Rows as rows
 use Rattle.ir_mono.proofs.Rows.{Base, integers, words, characters, strings, number_of, IsBase, is_int, is_word, is_char, is_string, AllBase, all_none, all_more, the_parameter, the_base, Shapes, shapes_none, shapes_more, Result, a_constant, a_truth, GivesTyped, made_constant, made_truth, was_raised, RowGives, row_gives, ParameterIs, any_type, a_base, performs}
 
@@ -176,7 +177,7 @@ module _ (types : List Row) where
     truth-result (stands_con i stand_none) = i
 
     unit-typed : {S : Shape} {u n : ℕ} → Stands types (λ v. u) n Rattle.ir_poly.specs.Types.unit_type → ValueTyped types S (record_of unit_number no_fields) n
-    unit-typed {S} {n = n} (stands_con i stand_none) = subst (ValueTyped types S (record_of unit_number no_fields)) (table.once unit_number n _ table.unit i) (record_is table.unit no_fields_are)
+    unit-typed {S} {n = n} (stands_con i stand_none) = subst (ValueTyped types S (record_of unit_number no_fields)) (table.once unit_number n _ table.unit i) (record_is table.unit distinct_none no_fields_are)
 
     given-fine : {S : Shape} {b : Base} {l : Literal} {n : ℕ} (w : World W) → IsBase b l → HasLiteral types l n → WorldTyped types S w → Fine (OfType n) S (giving (by_number types) (made l) w)
     given-fine w (is_int z) h k = here k (literal_is h)
@@ -195,11 +196,35 @@ module _ (types : List Row) where
     literals-fine : {S : Shape} {Q : Shape → W → Type 0} {bs : List Base} {o : Option (List Literal)} (w : World W) (go : List Literal → Answer W W) → Literals bs o → ((ls : List Literal) → AllBase bs ls → Fine Q S (go ls)) → Fine Q S (or_fail o w go)
     literals-fine w go (literals_are h) k = k _ h
 
+    -- a primitive with a choice of types has a first argument of the type that it is used at
+    begins : {o : Option Base} {u v : ℕ} {bs : List Base} {ts : List Typ} {ls : List Literal} → ParameterIs types u o → Shapes o bs (var v ∷ ts) → AllBase bs ls → begin_at (by_number types) u ls ≡ true
+    begins i (shapes_more s ss) (all_more h hs) = literal-there types (has-base h (shape-at i s stands_var))
+
+    begins-at : (p : BasisPrimitive) {o : Option Base} {u : ℕ} {bs : List Base} {ls : List Literal} → is_overloaded p ≡ true → ParameterIs types u o → Shapes o bs (prim_type p).arguments → AllBase bs ls → begin_at (by_number types) u ls ≡ true
+    begins-at Add e i s h = begins i s h
+    begins-at Subtract e i s h = begins i s h
+    begins-at Multiply e i s h = begins i s h
+    begins-at Divide e i s h = begins i s h
+    begins-at Modulo e i s h = begins i s h
+    begins-at Negate e i s h = begins i s h
+    begins-at Less e i s h = begins i s h
+    begins-at LessEqual e i s h = begins i s h
+    begins-at Greater e i s h = begins i s h
+    begins-at GreaterEqual e i s h = begins i s h
+    begins-at _ e i s h = absurd (cc)
+
+    row-there : (p : BasisPrimitive) {o : Option Base} {u : ℕ} {bs : List Base} {ls : List Literal} {kind : Option Base} → ParameterIs types u o → Shapes o bs (prim_type p).arguments → AllBase bs ls → RowGives kind (row_of p ls) → RowGives kind (row_at (by_number types) u p ls)
+    row-there p {u = u} {ls = ls} {kind = kind} i s h r = go (is_overloaded p) refl
+      where
+        go : (b : Bool) → is_overloaded p ≡ b → RowGives kind (if not b || begin_at (by_number types) u ls then row_of p ls else None)
+        go true e = rw (begins-at p e i s h) r
+        go false e = r
+
     computes-fine : (p : BasisPrimitive) {S : Shape} {u n : ℕ} {ns : List ℕ} {vs : List W} (w : World W) → sort_of p ≡ computes → Begun S → PrimAt types p u ns n → ValuesTyped types S vs ns → WorldTyped types S w
         → Fine (OfType n) S (perform_as (by_number types) computes u p vs w)
     computes-fine p w e b a h k =
         let r = performs types p e a.mark in
-        literals-fine w _ (literals-of r.is r.has_row.arguments a.arguments h) (λ ls q. row-fine w b r.is r.has_row.result a.result (r.has_row.row q) k)
+        literals-fine w _ (literals-of r.is r.has_row.arguments a.arguments h) (λ ls q. row-fine w b r.is r.has_row.result a.result (row-there p r.is r.has_row.arguments q (r.has_row.row q)) k)
 
     compared-fine : {S : Shape} {o : Option Bool} {n : ℕ} (w : World W) → Answers o → Is types n (name bool_name) [] → WorldTyped types S w → Fine (OfType n) S (or_fail o w (λ b. gives (con bool_number (truth_number b)) w))
     compared-fine w (answers b) e k = here k (truth-typed b e)

@@ -181,7 +181,7 @@ module _ (types : List table.Row) (sound : IsTable types) where
       op-fine {S} w b (tt.t_refer {m = m} {x = x} e i) h k = atom-fine w _ (look_up-typed types S x h e) (λ v q. marked-fine m w _ k (λ w' l. reference-fine types w' i q l))
       op-fine {S} w b (tt.t_content {x = x} e i) h k = atom-fine w _ (look_up-typed types S x h e) (λ v q. read-fine w (address-of types sound S i q) k)
       op-fine {S} w b (tt.t_pack {m = m} {y = y} {x = x} e d i) h k = atom-fine w _ (look_up-typed types S x h d) (λ v q. packed-fine m w (look_up-typed types S y h e) q i k)
-      op-fine w b (tt.t_make_record r i) h k = row-fine w _ (look-row r h) (λ fs q. here types k (record_is i q))
+      op-fine w b (tt.t_make_record r i d) h k = row-fine w _ (look-row r h) (λ fs q. here types k (record_is i d q))
       op-fine {S} w b (tt.t_select {x = x} {l = l} e i d) h k = atom-fine w _ (look_up-typed types S x h e) (λ v q. select-fine l w (record-of types S sound i q) d k)
       op-fine w b (tt.t_prim_alone p t i) h k = here types k (primitive_is p t i)
       op-fine w b (tt.t_prim {m = m} {p = p} a r) h k = all-fine w _ (look-all r h) (λ vs q. marked-fine m w _ k (λ w' l. perform-fine types sound p w' b a q l))
@@ -204,7 +204,7 @@ module _ (types : List table.Row) (sound : IsTable types) where
 
   enter-fine : (go : Bodies) → BodiesFine go → CallsFine (enter go)
   enter-fine go h S place f v w n a b beg i (literal_is d) q k = let e = (literal-name types d).is in absurd (cc)
-  enter-fine go h S place f v w n a b beg i (record_is d z) q k = absurd (cc)
+  enter-fine go h S place f v w n a b beg i (record_is d o z) q k = absurd (cc)
   enter-fine go h S place f v w n a b beg i (con_is {c = c} d) q k = let e = data-name types S sound n c d in let j = e.2 in absurd (cc)
   enter-fine go h S place f v w n a b beg i (con_of_is {c = c} d z) q k = let e = data-name types S sound n c d in let j = e.2 in absurd (cc)
   enter-fine go h S place f v w n a b beg i (exn_is d z) q k = absurd (cc)

@@ -82,7 +82,7 @@ module _ (types : List Row) where
   mutual
     pub value-grows : {S S' : Shape} {v : V (mono types)} {t : ℕ} → Grows S S' → ValueTyped types S v t → ValueTyped types S' v t
     value-grows g (literal_is h) = literal_is h
-    value-grows g (record_is e h) = record_is e (fields-grow g h)
+    value-grows g (record_is e d h) = record_is e d (fields-grow g h)
     value-grows g (con_is e) = con_is e
     value-grows g (con_function_is e h) = con_function_is e h
     value-grows g (con_of_is e h) = con_of_is e (value-grows g h)
@@ -191,7 +191,7 @@ module _ (types : List Row) where
       literal-fine h (literal_is k) r = literals-fine h k r
       literal-fine h (con_is {c = c} e) r = absurd (data-literal c e h)
       literal-fine h (con_of_is {c = c} e k) r = absurd (data-literal c e h)
-      literal-fine h (record_is e k) r = let d = (literal-name h).is in absurd (cc)
+      literal-fine h (record_is e o k) r = let d = (literal-name h).is in absurd (cc)
       literal-fine h (con_function_is e k) r = let d = (literal-name h).is in absurd (cc)
       literal-fine h (exn_is e k) r = let few = literal-few exn_name h k in absurd (cc)
       literal-fine h (exn_function_is e k j) r = let d = (literal-name h).is in absurd (cc)
@@ -214,7 +214,7 @@ module _ (types : List Row) where
       constructed c e (con_is k) = alone_made k
       constructed c e (con_of_is k h) = argument_made k h
       constructed c e (literal_is h) = absurd (data-literal c e h)
-      constructed {n} c e (record_is k h) = let d = data-name n c e in let i = d.2 in absurd (cc)
+      constructed {n} c e (record_is k o h) = let d = data-name n c e in let i = d.2 in absurd (cc)
       constructed {n} c e (con_function_is h k) = let d = data-name n c e in let i = d.2 in absurd (cc)
       constructed {n} c e (exn_is h k) = let d = data-name n c e in absurd (few-data d.0 exn_name n d.3 refl d.2 k)
       constructed {n} c e (exn_function_is h k j) = let d = data-name n c e in let i = d.2 in absurd (cc)
@@ -250,7 +250,7 @@ module _ (types : List Row) where
       packet-of e (literal_is h) = let few = literal-few exn_name h e in absurd (cc)
       packet-of {n} e (con_is {c = c} h) = let d = data-name n c h in absurd (few-data d.0 exn_name n d.3 refl d.2 e)
       packet-of {n} e (con_of_is {c = c} h k) = let d = data-name n c h in absurd (few-data d.0 exn_name n d.3 refl d.2 e)
-      packet-of e (record_is h k) = absurd (cc)
+      packet-of e (record_is h o k) = absurd (cc)
       packet-of e (con_function_is h k) = absurd (cc)
       packet-of e (exn_function_is h k j) = absurd (cc)
       packet-of e (ref_is k j) = absurd (cc)
@@ -282,7 +282,7 @@ module _ (types : List Row) where
         recorded : {fs : Parts (mono types)} → FieldsTyped types S fs ls ts → Recorded n ls ts (record_of n fs)
 
       pub record-of : {n : ℕ} {ls : List Label} {ts : List ℕ} {v : V (mono types)} → Is types n (labels ls) ts → ValueTyped types S v n → Recorded n ls ts v
-      record-of {n} {ls} {ts} e (record_is {fs = fs} {ls = ks} {ps = ps} k h) =
+      record-of {n} {ls} {ts} e (record_is {fs = fs} {ls = ks} {ps = ps} k o h) =
           let names : ks ≡ ls = cc in let parts : ps ≡ ts = cc in recorded (subst (λ z. FieldsTyped types S fs z ts) names (subst (FieldsTyped types S fs ks) parts h))
       record-of e (literal_is h) = let d = (literal-name h).is in absurd (cc)
       record-of {n} e (con_is {c = c} h) = let d = data-name n c h in let i = d.2 in absurd (cc)

@@ -4,24 +4,18 @@ use Rattle.std.specs.Map.{lookup}
 use Rattle.mlc_base.specs.declared.label.Label.{Label}
 use Rattle.ty_core.specs.Types.{labels, name, Typ}
 use Rattle.ty_core.specs.declared.name.TyName.{TyName}
-use Rattle.ir_poly.specs.Types.{int_name, word_name, char_name, string_name, ref_name}
-use Rattle.ir_mono.specs.Types.{Row, Node, node, node_at, constructor_at, admits, AreDistinct, AllAdmit, Stands, IsTable}
+use Rattle.ir_poly.specs.Types.{exn_name}
+use Rattle.ir_mono.specs.Types.{Row, Node, node, node_at, constructor_at, admits, AllAdmit, Stands, IsTable}
 
 -- a type of which two values can be compared, as long as it has no constructors with arguments that can't
 pub data MayCompare (types : List Row) : Node → Type 0 where
-  integers_may : MayCompare types (node (name int_name) [])
-  words_may : MayCompare types (node (name word_name) [])
-  characters_may : MayCompare types (node (name char_name) [])
-  strings_may : MayCompare types (node (name string_name) [])
-  references_may : {a : ℕ} → MayCompare types (node (name ref_name) (a ∷ []))
   records_may : {ls : List Label} {ps : List ℕ} → AllAdmit types ps → MayCompare types (node (labels ls) ps)
-  datatypes_may : {y : TyName} {ps : List ℕ} → nat_lt 5 y.stamp ≡ true → MayCompare types (node (name y) ps)
+  names_may : {y : TyName} {ps : List ℕ} → (y ≡ exn_name → ⊥) → MayCompare types (node (name y) ps)
 
 -- it isn't there yet, and has no constructors so far
 pub record IsNewRow (types : List Row) (r : Row) : Type 0 where
   pub new : (n : ℕ) → node_at types n ≡ Some r.type → ⊥
   pub none : r.constructors ≡ []
-  pub distinct : (ls : List Label) (ps : List ℕ) → r.type ≡ node (labels ls) ps → AreDistinct ls
   pub comparable : r.equality ≡ true → MayCompare types r.type
 
 -- a constructor that the datatype doesn't have yet; its argument admits equality where the datatype does

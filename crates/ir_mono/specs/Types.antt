@@ -124,22 +124,18 @@ module _ (types : List Row) where
     admit_none : AllAdmit []
     admit_more : {n : ℕ} {ns : List ℕ} → admits types n ≡ true → AllAdmit ns → AllAdmit (n ∷ ns)
 
-  -- what can be compared: constants, references, records of what can, and constructions whose arguments can
+  -- what can be compared: records of what can, and constants, references and constructions, whose arguments can; so all that has a type name, but packets
   pub data IsComparable (n : ℕ) : Type 0 where
-    constants_are : {l : Literal} → HasLiteral l n → IsComparable n
-    references_are : {a : ℕ} → IsRef n a → IsComparable n
     records_are : {ls : List Label} {ps : List ℕ} → Is n (labels ls) ps → AllAdmit ps → IsComparable n
-    constructions_are : {y : TyName} {ps : List ℕ} → Is n (name y) ps → nat_lt 5 y.stamp ≡ true
+    named_are : {y : TyName} {ps : List ℕ} → Is n (name y) ps → (y ≡ exn_name → ⊥)
         → ((c a : ℕ) → constructor_at types n c ≡ Some (Some a) → admits types a ≡ true) → IsComparable n
 
--- Each type stands there once. Records have distinct labels, and only datatypes have constructors: their names are not among those of the basis that come
--- before.
+-- Each type stands there once. Only datatypes have constructors: their names are not among those of the basis that come before.
 pub record IsTable (types : List Row) : Type 0 where
   pub once : (n m : ℕ) (k : Node) → node_at types n ≡ Some k → node_at types m ≡ Some k → n ≡ m
   pub unit : Is types unit_number (labels []) []
   pub bool : Is types bool_number (name bool_name) []
   pub truths : (b : Bool) → constructor_at types bool_number (truth_number b) ≡ Some None
-  pub distinct : (n : ℕ) (ls : List Label) (ps : List ℕ) → Is types n (labels ls) ps → AreDistinct ls
   pub datatypes : (n c : ℕ) (a : Option ℕ) → constructor_at types n c ≡ Some a
       → (y : TyName) × (ps : List ℕ) × Is types n (name y) ps × (nat_lt 5 y.stamp ≡ true)
   pub comparable : (n : ℕ) → admits types n ≡ true → IsComparable types n

@@ -14,7 +14,7 @@ use Rattle.ir_plain.specs.Tree.{Case, is_literal, is_con, is_con_of, is_exn, is_
 use Rattle.ir_poly.specs.Types.{prim_type}
 use Rattle.ir_poly.specs.TestsChecked.{is_size}
 use Rattle.ir_mono.specs.Types as table
-use Rattle.ir_mono.specs.Types.{constructor_at, admits, part, Is, IsFunction, IsRef, IsExn, HasLiteral, Stands, AllStand, IsTuple}
+use Rattle.ir_mono.specs.Types.{constructor_at, admits, part, Is, IsFunction, IsRef, IsExn, HasLiteral, AreDistinct, Stands, AllStand, IsTuple}
 use Rattle.ir_mono.specs.Mono.{mono}
 
 -- what a variable is: of a type; or an exception, with the type of its argument
@@ -122,7 +122,7 @@ module _ (types : List table.Row) where
       t_pack : {G : Sorts} {m : Option Place} {y x a t : ℕ} → sort_of G y ≡ Some (exception (Some a)) → sort_of G x ≡ Some (of_type a) → IsExn types t
           → OpTyped G (pack m a y x) t
       t_make_record : {G : Sorts} {t : ℕ} {row : Row (mono types)} {ls : List Label} {ts : List ℕ} → RowTyped G row ls ts → Is types t (labels ls) ts
-          → OpTyped G (make_record t row) t
+          → AreDistinct ls → OpTyped G (make_record t row) t
       t_select : {G : Sorts} {u x t : ℕ} {l : Label} {ls : List Label} {ts : List ℕ} → sort_of G x ≡ Some (of_type u) → Is types u (labels ls) ts
           → part l ls ts ≡ Some t → OpTyped G (select u l x) t
       t_prim_alone : {G : Sorts} {p : BasisPrimitive} {u a r t : ℕ} {ns : List ℕ} → PrimAt p u ns r → IsTuple types ns a → IsFunction types t a r

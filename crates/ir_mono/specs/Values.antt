@@ -8,7 +8,7 @@ use Rattle.ty_core.specs.Types.{labels}
 use Rattle.ir_values.specs.Values.{literal, record_of, con, con_of, exn, exn_of, ref, address, primitive, closure, no_fields, field, empty, bind}
 use Rattle.ir_plain.specs.Tree.{Fun, Funs}
 use Rattle.ir_plain.specs.Meaning.{V, Scope, Parts, alone, one_of, argument_tag}
-use Rattle.ir_mono.specs.Types.{Row, constructor_at, Is, IsFunction, IsRef, IsExn, HasLiteral, IsTuple}
+use Rattle.ir_mono.specs.Types.{Row, constructor_at, Is, IsFunction, IsRef, IsExn, HasLiteral, AreDistinct, IsTuple}
 use Rattle.ir_mono.specs.Mono.{mono}
 use Rattle.ir_mono.specs.Typing.{Sort, of_type, exception, Sorts, group_sorts, PrimAt, FunTyped, FunsTyped}
 
@@ -22,7 +22,7 @@ module _ (types : List Row) where
     mutual
       pub data ValueTyped : V (mono types) → ℕ → Type 0 where
         literal_is : {l : Literal} {n : ℕ} → HasLiteral types l n → ValueTyped (literal l) n
-        record_is : {fs : Parts (mono types)} {ls : List Label} {ps : List ℕ} {n : ℕ} → Is types n (labels ls) ps → FieldsTyped fs ls ps
+        record_is : {fs : Parts (mono types)} {ls : List Label} {ps : List ℕ} {n : ℕ} → Is types n (labels ls) ps → AreDistinct ls → FieldsTyped fs ls ps
             → ValueTyped (record_of n fs) n
         con_is : {c n : ℕ} → constructor_at types n c ≡ Some None → ValueTyped (con n c) n
         con_function_is : {c g n a : ℕ} → constructor_at types g c ≡ Some (Some a) → IsFunction types n a g → ValueTyped (con g c) n

@@ -6,13 +6,12 @@ use Rattle.mlc_base.specs.declared.place.Place.{Place}
 use Rattle.mlc_base.specs.Run.{World, Cut, out_of_turns, went_wrong, Answer, gives, raises, stops, start, then_do, or_handle, or_fail, fail, turn_from, writes, outcome_of}
 use Rattle.mlc_prims.specs.LitOf.{Literal, string}
 use Rattle.mlc_prims.specs.PrimOf.{Gives, made, raised}
-use Rattle.mlc_prims.specs.Table.{row_of}
 use Rattle.mlc_prims.specs.declared.basis.BasisPrimitive.{BasisPrimitive}
 use Rattle.ir_values.specs.Tags.{Tagging}
 use Rattle.ir_values.specs.Values.{Value, record_of, con, exn, ref, cell, primitive, closure, empty, bind, field_in, address_in, packet_name}
 use Rattle.ir_values.specs.Equality.{same_at}
 use Rattle.ir_values.specs.Match.{matches, no_match, mismatch, after_match}
-use Rattle.ir_values.specs.Primitives.{Sort, compares, assigns, prints, computes, sort_of, literals, arguments, marked, giving, compare_values, assign_value, print_literals, perform_as, perform, make_reference, content_of}
+use Rattle.ir_values.specs.Primitives.{Sort, compares, assigns, prints, computes, sort_of, row_at, literals, arguments, marked, giving, compare_values, assign_value, print_literals, perform_as, perform, make_reference, content_of}
 use Rattle.ir_plain.specs.Kind.{Kind}
 use Rattle.ir_plain.specs.Tree.{Exp, ret, let_in, exception_in, name_in, rec_in, switch, first, miss, counted, Arms, no_arms, arm, Op, use_of, const, con_alone, construct, ref_alone, refer, content, pack, make_record, select, prim_alone, prim, app, fn, block, handle, raise, raise_initial, Fun, last, more}
 use Rattle.ir_plain.specs.Meaning.{Code, alone, one_of, V, Scope, Fits, Apply, Go, look_up, look_all, look_row, check, members, on_name, exception_of, pack_value, select_from, eval, eval_arms, eval_op, run_fun, body, enter, apply, identifier_of, run_at, run}
@@ -82,7 +81,7 @@ module _ (K : Tagging) {B C : Type 0} (j : ℕ) where
   perform-as-within compares g p vs w h = compare-within g vs w h
   perform-as-within assigns g p vs w h = assign-within g vs w h
   perform-as-within prints g p vs w h = found-within (literals vs) w _ _ (λ ls. print-within ls w h)
-  perform-as-within computes g p vs w h = found-within (literals vs) w _ _ (λ ls. found-within (row_of p ls) w _ _ (λ r. giving-within r w h))
+  perform-as-within computes g p vs w h = found-within (literals vs) w _ _ (λ ls. found-within (row_at K g p ls) w _ _ (λ r. giving-within r w h))
 
   perform-within : (g : K.Tag) (p : BasisPrimitive) (vs : List (Value B C K.Tag)) (w : World (Value B C K.Tag)) → w.left ≤ j → Within j (perform K g p vs w) (perform K g p vs w)
   perform-within g p vs w h = perform-as-within (sort_of p) g p vs w h

@@ -13,7 +13,7 @@ use Rattle.ty_core.specs.declared.mark.Mark.TheVariants.{Any, Equality, Class}
 use Rattle.ty_core.specs.declared.name.Equality as Eq
 use Rattle.ty_core.specs.declared.name.Equality.TheVariants.{Always, ByArguments, Never}
 use Rattle.ty_core.specs.declared.scheme.Quantified.{Quantified}
-use Rattle.ir_poly.specs.Types.{row_type, in_scope, is_equality, admits_in, over, all_over, are_new, changed, AreAllowed, nth_type, argument_at, put, prim_type, arguments_at, result_at, numbered, tuple_type}
+use Rattle.ir_poly.specs.Types.{row_type, in_scope, is_equality, is_declarable, admits_in, over, all_over, are_new, changed, AreAllowed, nth_type, argument_at, put, prim_type, arguments_at, result_at, numbered, tuple_type}
 use Rattle.ir_poly.specs.TestsTyped.{option_read}
 
 pub left-true : (a b : Bool) → (a && b) ≡ true → a ≡ true
@@ -105,7 +105,7 @@ abbrev pub row_read : (ℕ → Typ) → List (Label × Typ) → List (Label × T
 row_read s [] = []
 row_read s (f ∷ r) = (f.0, replace s f.1) ∷ row_read s r
 
-labels-read : (s : ℕ → Typ) (r : List (Label × Typ)) → map (λ f. f.0) (row_read s r) ≡ map (λ f. f.0) r
+pub labels-read : (s : ℕ → Typ) (r : List (Label × Typ)) → map (λ f. f.0) (row_read s r) ≡ map (λ f. f.0) r
 labels-read s [] = refl
 labels-read s (f ∷ r) = ap (λ ls. f.0 ∷ ls) (labels-read s r)
 
@@ -193,10 +193,10 @@ no-truth false h e = cc
 pub changed-outside : (D : List Quantified) (s : ℕ → Typ) (qs : List Quantified) (ts : List Typ) → are_new qs D ≡ true → (v : ℕ) → in_scope D v ≡ true → s v ≡ changed qs ts s v
 changed-outside D s [] ts n v h = refl
 changed-outside D s (q ∷ qs) [] n v h = refl
-changed-outside D s (q ∷ qs) (t ∷ ts) n v h = go (nat_eq q.variable v) refl (changed-outside D s qs ts (right-true (not (in_scope qs q.variable)) _ (right-true (not (in_scope D q.variable)) _ n)) v h)
+changed-outside D s (q ∷ qs) (t ∷ ts) n v h = go (nat_eq q.variable v) refl (changed-outside D s qs ts (right-true (not (in_scope qs q.variable)) _ (right-true (not (in_scope D q.variable)) _ (right-true (is_declarable q.mark) _ n))) v h)
   where
     go : (b : Bool) → nat_eq q.variable v ≡ b → s v ≡ changed qs ts s v → s v ≡ (if b then t else changed qs ts s v)
-    go true e r = absurd (no-truth (in_scope D q.variable) (left-true (not (in_scope D q.variable)) _ n) (subst (λ x. in_scope D x ≡ true) (sym (eqb-true q.variable v e)) h))
+    go true e r = absurd (no-truth (in_scope D q.variable) (left-true (not (in_scope D q.variable)) _ (right-true (is_declarable q.mark) _ n)) (subst (λ x. in_scope D x ≡ true) (sym (eqb-true q.variable v e)) h))
     go false e r = r
 
 mark-admits : (a : Mark) (t : Typ) → Allows a no_variable t → is_equality a ≡ true → admits no_variable t ≡ true

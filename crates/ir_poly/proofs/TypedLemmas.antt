@@ -8,10 +8,10 @@ use Rattle.ty_core.specs.declared.scheme.Quantified.{Quantified}
 use Rattle.ir_values.specs.Values.{same_label}
 use Rattle.ir_plain.specs.Tree.{Case, Exception, Atoms, Row, Exp, Arms, Op, Fun, Funs}
 use Rattle.ir_poly.specs.Tests.{Use, poly}
-use Rattle.ir_poly.specs.Types.{in_scope, over, are_new, changed, AreAllowed, Constructor, prim_type, arguments_at}
+use Rattle.ir_poly.specs.Types.{ascend, in_scope, over, are_new, changed, AreAllowed, Constructor, prim_type, arguments_at}
 use Rattle.ir_poly.specs.TestsChecked.{Known, of_type, general, own, exception, Knowns, at, HasLiteral, has_int, has_word, has_char, has_string, value_type, alone_type, group_knowns, bound, declared, AtomChecked, atom_checked, AtomsChecked, no_atoms_checked, an_atom_checked, RowChecked, no_row_checked, a_row_checked, NameChecked, fixed_checked, held_checked, is_size, HasConstructor, CaseChecked, literal_checked, con_checked, con_of_checked, exn_checked, exn_of_checked, record_checked, Checked, c_ret, c_let, c_exception, c_exception_alone, c_name, c_rec, c_switch, c_first, c_miss, c_counted, ArmsChecked, c_no_arms, c_arm, OpChecked, c_use, c_use_one, c_use_own, c_use_exception, c_const, c_con_alone, c_construct, c_ref_alone, c_refer, c_content, c_pack, c_make_record, c_select, c_prim_alone, c_prim, c_app, c_fn, c_block, c_handle, c_raise, c_raise_initial, FunChecked, c_last, c_more, FunsChecked, c_no_funs, c_fun}
 use Rattle.ir_poly.specs.TestsTyped.{option_read, own_at, CaseTyped, literal_typed, con_typed, con_of_typed, exn_typed, exn_of_typed, record_typed, Typed, t_ret, t_let, t_exception, t_name, t_rec, t_switch, t_first, t_miss, t_counted, ArmsTyped, t_no_arms, t_arm, OpTyped, t_use, t_use_one, t_use_own, t_use_exception, t_const, t_con_alone, t_construct, t_ref_alone, t_refer, t_content, t_pack, t_make_record, t_select, t_prim_alone, t_prim, t_app, t_fn, t_block, t_handle, t_raise, t_raise_initial, FunTyped, t_last, t_more, FunsTyped, t_no_funs, t_fun}
-use Rattle.ir_poly.proofs.ReplaceLemmas.{replace-agree, over-mono, Fits, allows-read, are-allowed-read, typs_of-read, row_read, row_type-read, length-read, part-read, argument-read, arguments-read, result-read, tuple-read, more-scope, instance-read, changed-outside, changed-fits}
+use Rattle.ir_poly.proofs.ReplaceLemmas.{replace-agree, over-mono, Fits, allows-read, are-allowed-read, typs_of-read, row_read, row_type-read, labels-read, length-read, part-read, argument-read, arguments-read, result-read, tuple-read, more-scope, instance-read, changed-outside, changed-fits}
 
 -- an exception's argument is over the parameters in scope
 abbrev pub option_over : List Quantified → Option Typ → Bool
@@ -200,7 +200,7 @@ module _ {table : List Constructor} where
     op-read (c_refer a e) s f rs = t_refer (atom-read _ s rs a) (ap (replace s) e)
     op-read (c_content a e) s f rs = t_content (atom-read _ s rs a) (ap (replace s) e) refl
     op-read (c_pack {x = x} e a h) s f rs = t_pack (exception-at _ s rs x e) (atom-read _ s rs a) (ap (replace s) h)
-    op-read (c_make_record {r = r} row e) s f rs = t_make_record (row-read _ s rs row) (ap (replace s) e ∙ row_type-read s r) refl
+    op-read (c_make_record {r = r} row e a) s f rs = t_make_record (row-read _ s rs row) (ap (replace s) e ∙ row_type-read s r) (ap ascend (labels-read s r) ∙ a) refl
     op-read (c_select {t = t} {l = l} r a e h) s f rs = t_select (row_read s r) (atom-read _ s rs a) (ap (replace s) e ∙ row_type-read s r) (part-read s (same_label l) r t h) refl
     op-read (c_prim_alone {D = D} {p = p} {u = u} al e) s f rs =
         t_prim_alone (allows-read (prim_type p).mark D s f u al) (ap (replace s) e ∙ rw (tuple-read s (arguments_at p u), arguments-read s p u, result-read s p u) refl)

@@ -7,14 +7,16 @@ use Rattle.mlc_base.specs.declared.place.Place.{Place}
 use Rattle.mlc_prims.specs.LitOf.{int, string}
 use Rattle.mlc_prims.specs.declared.basis.BasisPrimitive.TheVariants.{Add, Equals}
 use Rattle.ty_core.specs.Types.{Typ, con, var, none, more, name}
-use Rattle.ty_core.specs.declared.mark.Mark.TheVariants.{Any}
+use Rattle.ty_core.specs.declared.mark.Mark.TheVariants.{Any, Class}
+use Rattle.ty_core.specs.declared.name.Equality.TheVariants.{Always}
 use Rattle.ty_core.specs.declared.scheme.Quantified.{Quantified}
 use Rattle.ir_poly.specs.Prog.{fixed, held, any_pat, variable_pat, con_pat, con_of_pat, exn_pat, exn_of_pat, fields_pat, no_pats, a_pat, Exp, constant_exp, variable_exp, own_exp, con_exp, ref_exp, exn_exp, prim_exp, fields_exp, let_exp, app_exp, case_exp, chain_exp, handle_exp, raise_exp, fn_exp, no_fields, a_field, only, link, no_rules, a_rule, last, more, Decs, no_decs, val_dec, exception_dec, no_binds, a_bind, no_funs, a_fun}
 use Rattle.ir_poly.specs.ProgOnce.{IsOnce}
 use Rattle.ir_poly.specs.ProgChecked.{fixed_checked, held_checked, PatChecked, any_checked, variable_checked, con_checked, con_of_checked, exn_checked, exn_of_checked, fields_checked, no_pats_checked, a_pat_checked, Checked, c_constant, c_variable, c_variable_one, c_own, c_con, c_exn, c_prim, c_fields, c_let, c_app, c_case, c_chain, c_handle, c_raise, c_fn, c_no_fields, c_field, c_only, c_link, c_no_rules, c_rule, c_last, DecsChecked, c_no_decs, c_val, c_exception, c_no_binds, c_general, c_plain, c_no_funs, c_fun}
 use Rattle.ir_poly.specs.TestsChecked.{of_type, general, exception, Knowns, exn_type, HasLiteral, has_int, has_string, is_size}
 use Rattle.ir_values.specs.Values.{true_number, nil_number, cons_number}
-use Rattle.ir_poly.specs.Types.{int_name, string_name, exn_name, bool_name, list_name, of_name, function_type, ref_type, row_type, pair_type, Constructor, constructor_of, initial_constructors}
+use Rattle.ir_poly.specs.Types.{int_name, string_name, exn_name, bool_name, list_name, of_name, function_type, ref_type, row_type, pair_type, Constructor, constructor_of, initial_constructors, IsConstructor}
+use Rattle.ir_poly.specs.WellFormed.{IsProg}
 
 abbrev table : List Constructor
 table = initial_constructors
@@ -86,7 +88,7 @@ heads = case_exp (at 1) integer (app_exp (at 0) integers (con_exp cons_number li
 heads-are-typed : Checked table [] [] heads integer
 heads-are-typed =
     c_case (c_app (c_con {c = cons_number} {ts = integer ∷ []} (constructor_of list_name cons_number (Some (pair_type (var 0) (con (name list_name) (more (var 0) none))))) refl refl refl refl)
-    (c_fields (c_field (c_constant (has_int (pos 3))) (c_field (c_con {c = nil_number} {ts = integer ∷ []} (constructor_of list_name nil_number None) refl refl refl refl) c_no_fields)) refl) refl) refl
+    (c_fields (c_field (c_constant (has_int (pos 3))) (c_field (c_con {c = nil_number} {ts = integer ∷ []} (constructor_of list_name nil_number None) refl refl refl refl) c_no_fields)) refl refl) refl) refl
     (c_rule (con_of_checked {c = cons_number} (record { datatype = list_name; arguments = integer ∷ []; row = constructor_of list_name cons_number (Some (pair_type (var 0) (con (name list_name) (more (var 0) none)))); found = refl; same = refl; type = refl; argument = refl }) refl
     (fields_checked {further = false} ((Number 1, integer) ∷ (Number 2, integers) ∷ []) refl
     (a_pat_checked {l = Number 1} {a = integer} refl refl (variable_checked {x = 1}) (a_pat_checked {l = Number 2} {a = integers} refl refl any_checked no_pats_checked)) refl))
@@ -112,8 +114,8 @@ compares = let_exp truth (val [] false 1 integer (app_exp (at 0) integer (prim_e
 compares-is-typed : Checked table [] [] compares truth
 compares-is-typed =
     c_let ((1, of_type integer) ∷ []) (c_val refl (c_plain refl variable_checked (c_app (c_prim refl (record { number = 0; is = refl; held = refl }) refl)
-    (c_fields (c_field (c_constant (has_int (pos 3))) (c_field (c_constant (has_int (pos 3))) c_no_fields)) refl) refl) c_no_binds) c_no_funs c_no_decs)
-    (c_chain (c_link (c_app (c_prim refl refl refl) (c_fields (c_field (c_variable_one refl) (c_field (c_constant (has_int (pos 3))) c_no_fields)) refl) refl) refl
+    (c_fields (c_field (c_constant (has_int (pos 3))) (c_field (c_constant (has_int (pos 3))) c_no_fields)) refl refl) refl) c_no_binds) c_no_funs c_no_decs)
+    (c_chain (c_link (c_app (c_prim refl refl refl) (c_fields (c_field (c_variable_one refl) (c_field (c_constant (has_int (pos 3))) c_no_fields)) refl refl) refl) refl
     (c_only (c_con (constructor_of bool_name true_number None) refl refl refl refl) refl)) refl)
 
 -- Refused, at any type
@@ -178,3 +180,21 @@ fields-of (f ∷ g ∷ r) e n = let one = eqb-true 1 (length (f ∷ g ∷ r)) n 
 
 too-few-fields : PatChecked table [] [] (fields_pat false (a_pat (Number 1) integer any_pat no_pats)) (pair_type integer integer) → ⊥
 too-few-fields (fields_checked r e ps n) = fields-of r e n
+
+label-twice : {t u : Typ} → Checked table [] [] (fields_exp t (a_field (Number 1) three (a_field (Number 1) three no_fields))) u → ⊥
+label-twice (c_fields (c_field e (c_field f c_no_fields)) h d) = cc
+
+overloaded-parameter : {G' : Knowns} → DecsChecked table [] [] (val (record { variable = 0; mark = Class (record { int = true; word = true; char = false; string = false }) } ∷ []) true 1 (to a a) identity no_decs) G' → ⊥
+overloaded-parameter (c_val n bs fs ds) = cc
+
+-- a third truth value
+constructor-of-the-basis : IsConstructor (constructor_of bool_name 2 None) → ⊥
+constructor-of-the-basis h = let d = h.declared in cc
+
+-- a datatype that admits equality whatever it holds
+always-comparable : IsConstructor (constructor_of (record { stamp = 8; arity = 0; equality = Always }) 0 None) → ⊥
+always-comparable h = h.equality refl
+
+-- the six exceptions of a smaller basis
+too-few-exceptions : IsProg (record { initial = 90 ∷ 91 ∷ 92 ∷ 93 ∷ 94 ∷ 95 ∷ []; constructors = []; body = no_decs }) → ⊥
+too-few-exceptions h = let n = h.initial in omega (arith, n)

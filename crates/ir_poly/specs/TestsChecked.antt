@@ -14,7 +14,7 @@ use Rattle.ty_core.specs.declared.scheme.Quantified.{Quantified}
 use Rattle.ir_plain.specs.Tree.{Case, is_literal, is_con, is_con_of, is_exn, is_exn_of, is_record, Exception, fixed, held, Atoms, no_atoms, an_atom, Row, no_row, a_row, Exp, ret, let_in, exception_in, name_in, rec_in, switch, first, miss, counted, Arms, no_arms, arm, Op, use_of, const, con_alone, construct, ref_alone, refer, content, pack, make_record, select, prim_alone, prim, app, fn, block, handle, raise, raise_initial, Fun, last, more, Funs, no_funs, fun, is_value_op}
 use Rattle.ir_values.specs.Values.{same_label}
 use Rattle.ir_poly.specs.Tests.{Use, inst, poly}
-use Rattle.ir_poly.specs.Types.{int_name, word_name, char_name, string_name, exn_name, of_name, function_type, ref_type, row_type, admits_in, over, all_over, are_new, changed, AreAllowed, Constructor, find, argument_at, prim_type, arguments_at, result_at, tuple_type}
+use Rattle.ir_poly.specs.Types.{int_name, word_name, char_name, string_name, exn_name, of_name, function_type, ref_type, row_type, labels_in, ascend, admits_in, over, all_over, are_new, changed, AreAllowed, Constructor, find, argument_at, prim_type, arguments_at, result_at, tuple_type}
 
 -- What a variable is: of one type; generalised over parameters, with what the other variables of its type stand for; a function inside its own group; or an
 -- exception, with the type of its argument.
@@ -163,7 +163,7 @@ module _ (table : List Constructor) where
       c_pack : {D : List Quantified} {G : Knowns} {m : Option Place} {x : ℕ} {k : Use} {a t : Typ} → at G x ≡ Some (exception (Some a)) → AtomChecked G k a
           → t ≡ exn_type → OpChecked D G (pack m a (inst x []) k) t
       c_make_record : {D : List Quantified} {G : Knowns} {t : Typ} {row : Row poly} {r : List (Label × Typ)} → RowChecked G row r → t ≡ row_type r
-          → OpChecked D G (make_record t row) t
+          → ascend (labels_in r) ≡ true → OpChecked D G (make_record t row) t
       c_select : {D : List Quantified} {G : Knowns} {u t : Typ} {l : Label} {k : Use} (r : List (Label × Typ)) → AtomChecked G k u → u ≡ row_type r
           → lookup (same_label l) r ≡ Some t → OpChecked D G (select u l k) t
       c_prim_alone : {D : List Quantified} {G : Knowns} {p : BasisPrimitive} {u t : Typ} → Allows (prim_type p).mark (admits_in D) u

@@ -14,7 +14,7 @@ use Rattle.ty_core.specs.declared.scheme.Quantified.{Quantified}
 use Rattle.ir_values.specs.Values.{same_label}
 use Rattle.ir_plain.specs.Tree.{Case, is_literal, is_con, is_con_of, is_exn, is_exn_of, is_record, Exception, Atoms, Row, Exp, ret, let_in, exception_in, name_in, rec_in, switch, first, miss, counted, Arms, no_arms, arm, Op, use_of, const, con_alone, construct, ref_alone, refer, content, pack, make_record, select, prim_alone, prim, app, fn, block, handle, raise, raise_initial, Fun, last, more, Funs, no_funs, fun}
 use Rattle.ir_poly.specs.Tests.{Use, inst, poly}
-use Rattle.ir_poly.specs.Types.{function_type, ref_type, row_type, changed, AreAllowed, Constructor, prim_type, arguments_at, result_at, tuple_type}
+use Rattle.ir_poly.specs.Types.{function_type, ref_type, row_type, labels_in, ascend, changed, AreAllowed, Constructor, prim_type, arguments_at, result_at, tuple_type}
 use Rattle.ir_poly.specs.TestsChecked.{Known, of_type, general, own, exception, Knowns, at, exn_type, HasLiteral, value_type, alone_type, group_knowns, may_generalise, bound, AtomChecked, AtomsChecked, RowChecked, NameChecked, is_size, HasConstructor}
 
 abbrev pub option_read : (ℕ → Typ) → Option Typ → Option Typ
@@ -78,7 +78,7 @@ module _ (table : List Constructor) where
       t_pack : {s : ℕ → Typ} {G : Knowns} {m : Option Place} {x : ℕ} {k : Use} {a t : Typ} → at G x ≡ Some (exception (Some (replace s a)))
           → AtomChecked G k (replace s a) → t ≡ exn_type → OpTyped s G (pack m a (inst x []) k) t
       t_make_record : {s : ℕ → Typ} {G : Knowns} {b t : Typ} {row : Row poly} {r : List (Label × Typ)} → RowChecked G row r → t ≡ row_type r
-          → replace s b ≡ t → OpTyped s G (make_record b row) t
+          → ascend (labels_in r) ≡ true → replace s b ≡ t → OpTyped s G (make_record b row) t
       t_select : {s : ℕ → Typ} {G : Knowns} {b u t : Typ} {l : Label} {k : Use} (r : List (Label × Typ)) → AtomChecked G k u → u ≡ row_type r
           → lookup (same_label l) r ≡ Some t → replace s b ≡ u → OpTyped s G (select b l k) t
       t_prim_alone : {s : ℕ → Typ} {G : Knowns} {p : BasisPrimitive} {b t : Typ} → Allows (prim_type p).mark no_variable (replace s b)

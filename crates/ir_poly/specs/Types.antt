@@ -1,6 +1,8 @@
 -- Types of the program: parameters of declarations in scope, instances, the program's table of constructors, and the types of primitives at instances.
 -- [Definition 4.2 to 4.5] Type names and the types of primitives are those of the initial basis.
 use Rattle.std.specs.Prelude.{◌≡◌, ℕ, zero, suc, Bool, true, false, not, ◌&&◌, ◌||◌, List, [], ◌∷◌, map, Option, Some, None, nat_eq, nat_lt, if◌then◌else◌, ⊤}
+use Rattle.mlc_base.specs.declared.label.Label.{Label}
+use Rattle.mlc_base.specs.declared.label.Label.TheVariants.{Number, Word}
 use Rattle.mlc_prims.specs.declared.basis.BasisPrimitive.{BasisPrimitive}
 use Rattle.ty_core.specs.Types.{Typ, var, con, Typs, none, more, admits}
 use Rattle.ty_core.specs.Marks.{Allows}
@@ -8,10 +10,10 @@ use Rattle.ty_core.specs.Statics.{replace}
 use Rattle.ty_core.specs.declared.mark.Mark.{Mark}
 use Rattle.ty_core.specs.declared.mark.Mark.TheVariants.{Any, Equality, Class}
 use Rattle.ty_core.specs.declared.name.TyName.{TyName}
-use Rattle.ty_core.specs.declared.name.Equality.TheVariants.{ByArguments}
+use Rattle.ty_core.specs.declared.name.Equality.TheVariants.{Always, ByArguments}
 use Rattle.ty_core.specs.declared.scheme.Quantified.{Quantified}
 use Rattle.ir_values.specs.Values.{true_number, false_number, nil_number, cons_number}
-pub use Rattle.ty_basis.specs.Types.{int_name, word_name, char_name, string_name, ref_name, exn_name, bool_name, list_name, of_name, function_type, ref_type, list_type, row_type, unit_type, pair_type}
+pub use Rattle.ty_basis.specs.Types.{int_name, word_name, char_name, string_name, ref_name, exn_name, bool_name, list_name, of_name, function_type, ref_type, list_type, row_type, labels_in, unit_type, pair_type, name_count}
 pub use Rattle.ty_basis.specs.Primitives.{PrimType, prim_type, numbered, tuple_type}
 
 -- Parameters in scope, each with its mark.
@@ -40,10 +42,29 @@ abbrev mutual
   all_over qs none = true
   all_over qs (more t ts) = over qs t && all_over qs ts
 
+-- a parameter that is declared may ask for equality, and never for a class: overloading ends with the declaration
+abbrev pub is_declarable : Mark → Bool
+is_declarable Any = true
+is_declarable Equality = true
+is_declarable (Class c) = false
+
 -- parameters that are declared are new, each once
 abbrev pub are_new : List Quantified → List Quantified → Bool
 are_new [] scope = true
-are_new (q ∷ qs) scope = not (in_scope scope q.variable) && (not (in_scope qs q.variable) && are_new qs scope)
+are_new (q ∷ qs) scope = is_declarable q.mark && (not (in_scope scope q.variable) && (not (in_scope qs q.variable) && are_new qs scope))
+
+-- Labels of a record: numbers by value, then words by their numbers, and none twice.
+
+abbrev pub label_before : Label → Label → Bool
+label_before (Number m) (Number n) = nat_lt m n
+label_before (Number m) (Word x) = true
+label_before (Word x) (Number n) = false
+label_before (Word x) (Word y) = nat_lt x y
+
+abbrev pub ascend : List Label → Bool
+ascend [] = true
+ascend (l ∷ []) = true
+ascend (l ∷ k ∷ ls) = label_before l k && ascend (k ∷ ls)
 
 -- s changed at parameters: these types are put for them
 abbrev pub changed : List Quantified → List Typ → (ℕ → Typ) → ℕ → Typ
@@ -88,8 +109,15 @@ abbrev pub argument_at : List Typ → Option Typ → Option Typ
 argument_at ts None = None
 argument_at ts (Some a) = Some (replace (nth_type ts) a)
 
--- a table's constructors have arguments over the parameters, which admit equality where the datatype does
+-- a type name of the initial basis
+abbrev pub is_of_basis : TyName → Bool
+is_of_basis y = nat_lt y.stamp name_count
+
+-- A table's constructors are of datatypes that the program declares, and so none of the basis, and none that admits equality always. Their arguments are over
+-- the parameters, and admit equality where the datatype does. [Definition 4.9]
 pub record IsConstructor (k : Constructor) : Type 0 where
+  pub declared : is_of_basis k.datatype ≡ false
+  pub equality : k.datatype.equality ≡ Always → ⊥
   pub closed : (a : Typ) → k.argument ≡ Some a → (r s : ℕ → Typ) → ((i : ℕ) → nat_lt i k.datatype.arity ≡ true → r i ≡ s i) → replace r a ≡ replace s a
   pub admits : (a : Typ) → k.argument ≡ Some a → k.datatype.equality ≡ ByArguments → admits (λ i. true) a ≡ true
 

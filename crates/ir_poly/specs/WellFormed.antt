@@ -1,5 +1,5 @@
--- Programs, and which of them are well formed: typed, each variable bound once. The tables stand beside the body.
-use Rattle.std.specs.Prelude.{ℕ, false, List, [], ◌++◌}
+-- Programs, and which of them are well formed: typed, each variable bound once, the basis' seven exceptions named. The tables stand beside the body.
+use Rattle.std.specs.Prelude.{◌≡◌, ℕ, false, List, [], ◌++◌, length}
 use Rattle.std.specs.List.{AllByRecursion}
 use Rattle.mlc_base.specs.Outcome.{Outcome}
 use Rattle.ty_core.specs.Types.{Typ}
@@ -34,6 +34,7 @@ abbrev pub meaning_of_tests : Program Tests → ℕ → Outcome
 meaning_of_tests p m = tests.run p.initial p.body m
 
 pub record IsProg (p : Program Decs) : Type 0 where
+  pub initial : length p.initial ≡ 7
   pub table : IsTable p
   pub after : Knowns
   pub typed : DecsChecked (table_of p) [] [] p.body after
@@ -41,6 +42,7 @@ pub record IsProg (p : Program Decs) : Type 0 where
 
 -- no miss gets out, and only a use and an exception's name that is brought in reach into functions around
 pub record IsTests (p : Program Tests) : Type 0 where
+  pub initial : length p.initial ≡ 7
   pub table : IsTable p
   pub type : Typ
   pub typed : Checked (table_of p) false [] [] p.body type

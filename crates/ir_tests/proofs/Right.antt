@@ -222,8 +222,8 @@ module _ (table : List Constructor) where
       scoped = pack_scoped (known-among L x ts (exception (Some a)) e) (atom-scoped L k a p);
       unique = pack_unique;
     }
-    op-right D G L (make_record u row) t w (e, (r, p, i)) = record {
-      typed = subst (λ u. OpChecked table D G (make_record u row) t) (sym e) (c_make_record (row-typed L G row r w p) i);
+    op-right D G L (make_record u row) t w (e, (r, p, i, a)) = record {
+      typed = subst (λ u. OpChecked table D G (make_record u row) t) (sym e) (c_make_record (row-typed L G row r w p) i a);
       scoped = make_record_scoped (row-scoped L row r p);
       unique = make_record_unique;
     }
@@ -325,7 +325,7 @@ module _ (table : List Constructor) where
     op-fits D G L (refer m a k) t w (c_refer p e) (refer_scoped s) u = (atom-fits L G k a w p s, e)
     op-fits D G L (content a k) t w (c_content {u = r} p e) (content_scoped s) u = (refl, atom-fits L G k (ref_type t) w (subst (AtomChecked G k) e p) s)
     op-fits D G L (pack m a (inst x ts) k) t w (c_pack e p i) (pack_scoped s s') u = ((refl, among-within L G x [] (exception (Some a)) w s e), atom-fits L G k a w p s', i)
-    op-fits D G L (make_record k row) t w (c_make_record {r = r} p e) (make_record_scoped s) u = (refl, (r, row-fits L G row r w p s, e))
+    op-fits D G L (make_record k row) t w (c_make_record {r = r} p e a) (make_record_scoped s) u = (refl, (r, row-fits L G row r w p s, e, a))
     op-fits D G L (select k l a) t w (c_select r p e i) (select_scoped s) u = (atom-fits L G a k w p s, (r, e, i))
     op-fits D G L (prim_alone p k) t w (c_prim_alone a e) s u = (a, e)
     op-fits D G L (prim m p k as_) t w (c_prim {ts = ts} a q e i) (prim_scoped s) u = (a, atoms-fit L G as_ (arguments_at p k) w (subst (AtomsChecked G as_) e q) s, i)

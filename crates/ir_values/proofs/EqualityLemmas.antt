@@ -5,7 +5,7 @@ use Rattle.mlc_base.specs.declared.label.Label.{Label}
 use Rattle.mlc_prims.specs.Table.{literal_eq}
 use Rattle.ir_values.specs.Tags.{Tagging}
 use Rattle.ir_values.specs.Values.{Value, literal, record_of, con, con_of, exn, exn_of, ref, address, cell, primitive, closure, Fields, no_fields, field, same_label, field_in, count, literal_in, address_in, packet_name}
-use Rattle.ir_values.specs.Equality.{unless_different, where_holds, Constructed, fields_at, con_at, same_part, same_at, same_fields}
+use Rattle.ir_values.specs.Equality.{both_equal, where_holds, Constructed, fields_at, con_at, same_part, same_at, same_fields}
 use Rattle.ir_values.specs.Related.{SameFields, same_none, same_more, literals_alike, records_alike, con_alike, con_of_alike, exn_alike, exn_of_alike, ref_alike, address_alike, cell_alike, primitive_alike, AreOfOneKind, alike, functions, IsByKind}
 
 pub if-both : {V W : Type 0} (R : V → W → Type 0) {v : V} {w : W} {o : Option V} {q : Option W} (b : Bool) → R v w → BothOrNeither R o q → BothOrNeither R (if b then Some v else o) (if b then Some w else q)
@@ -16,8 +16,8 @@ pub and_then-same : {V W A : Type 0} (R : V → W → Type 0) {o : Option V} {q 
 and_then-same R neither h = refl
 and_then-same R (both r) h = h _ _ r
 
-unless-same : {a b c d : Option Bool} → b ≡ a → d ≡ c → unless_different b d ≡ unless_different a c
-unless-same e h = rw (e, h) refl
+both-same : {a b c d : Option Bool} → b ≡ a → d ≡ c → both_equal b d ≡ both_equal a c
+both-same e h = rw (e, h) refl
 
 where-both : {V W : Type 0} (R : V → W → Type 0) {o : Option V} {q : Option W} (b : Bool) → BothOrNeither R o q → BothOrNeither R (where_holds b o) (where_holds b q)
 where-both R true h = h
@@ -96,7 +96,7 @@ module _ (K : Tagging) {B C D E : Type 0} (R : Value B C K.Tag → Value D E K.T
 
     same-rows : (g : K.Tag) (fs : Fields B C K.Tag) {fs' : Fields D E K.Tag} {gs : Fields B C K.Tag} {gs' : Fields D E K.Tag} → SameFields R fs fs' → SameFields R gs gs' → same_fields K g fs' gs' ≡ same_fields K g fs gs
     same-rows g no_fields same_none q = refl
-    same-rows g (field l v fs) (same_more _ r rs) q = unless-same (part-same (K.field g l) (λ a y x k. same-kind a v (by.kind _ _ r) k) (field-same R l q)) (same-rows g fs rs q)
+    same-rows g (field l v fs) (same_more _ r rs) q = both-same (part-same (K.field g l) (λ a y x k. same-kind a v (by.kind _ _ r) k) (field-same R l q)) (same-rows g fs rs q)
 
   pub same-same : (g : K.Tag) {v : Value B C K.Tag} {w : Value D E K.Tag} {u : Value B C K.Tag} {z : Value D E K.Tag} → R v w → R u z → same_at K g w z ≡ same_at K g v u
   same-same g {v} r q = same-kind g v (by.kind _ _ r) q

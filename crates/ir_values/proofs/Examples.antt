@@ -36,8 +36,17 @@ two v u = record_of tt (field (Number 1) v (field (Number 2) u no_fields))
 parts-are-compared : same_at untagged {B = ℕ} {C = ℕ} tt (con_of tt 9 (two five six)) (con_of tt 9 (two five six)) ≡ Some true
 parts-are-compared = refl
 
-the-first-difference-decides : same_at untagged {B = ℕ} {C = ℕ} tt (two five (closure 0 empty)) (two six (closure 0 empty)) ≡ Some false
-the-first-difference-decides = refl
+a-difference-decides : same_at untagged {B = ℕ} {C = ℕ} tt (two five six) (two six six) ≡ Some false
+a-difference-decides = refl
+
+all-parts-are-compared : same_at untagged {B = ℕ} {C = ℕ} tt (two five (closure 0 empty)) (two six (closure 0 empty)) ≡ None
+all-parts-are-compared = refl
+
+in-any-order : same_at untagged {B = ℕ} {C = ℕ} tt (two (closure 0 empty) five) (two (closure 0 empty) six) ≡ None
+in-any-order = refl
+
+other-constructors-differ : same_at untagged {B = ℕ} {C = ℕ} tt (con_of tt 9 five) (con_of tt 8 (closure 0 empty)) ≡ Some false
+other-constructors-differ = refl
 
 fields-go-by-label : same_at untagged {B = ℕ} {C = ℕ} tt (two five six) (record_of tt (field (Number 2) six (field (Number 1) five no_fields))) ≡ Some true
 fields-go-by-label = refl
@@ -166,6 +175,16 @@ at-another-type = refl
 
 taken-apart-elsewhere : under_record numbered 11 None one (λ fs. matches empty) ≡ mismatch
 taken-apart-elsewhere = refl
+
+-- `+` at a type takes constants of that type; one without a choice asks nothing of it
+sum-at-its-type : perform numbered {B = ℕ} {C = ℕ} 1 Add (literal (int (pos 5)) ∷ literal (int (pos 6)) ∷ []) (start 0) ≡ gives (literal (int (pos 11))) (start 0)
+sum-at-its-type = refl
+
+sum-at-another-type : perform numbered {B = ℕ} {C = ℕ} 2 Add (literal (int (pos 5)) ∷ literal (int (pos 6)) ∷ []) (start 0) ≡ stops went_wrong (start 0)
+sum-at-another-type = refl
+
+no-choice : perform numbered {B = ℕ} {C = ℕ} 2 SizeOf (literal (string []) ∷ []) (start 0) ≡ gives (literal (int (pos 0))) (start 0)
+no-choice = refl
 
 truth-is-tagged : perform numbered {B = ℕ} {C = ℕ} 1 Equals (literal (int (pos 5)) ∷ literal (int (pos 5)) ∷ []) (start 0) ≡ gives (con 6 true_number) (start 0)
 truth-is-tagged = refl

@@ -1,4 +1,5 @@
 -- Primitives, references and calls agree on related values.
+use Rattle.std.specs.Prelude.{not, ◌||◌}
 use Rattle.std.proofs.Common.{◌≡◌, ℕ, zero, suc, Bool, true, false, List, [], ◌∷◌, Option, Some, None, if◌then◌else◌, option_map, option_and_then, refl, sym, subst}
 use Rattle.mlc_base.specs.Agreement.{AllRelated, none, more, BothOrNeither, neither, both, SameWorlds, Agree, both_give, both_raise, both_stop}
 use Rattle.mlc_base.specs.Run.{World, Answer, gives, or_fail, fail}
@@ -7,12 +8,25 @@ use Rattle.mlc_base.specs.declared.place.Place.{Place}
 use Rattle.mlc_base.proofs.RunLaws.{take_turn-agree, new_reference-agree, assign-agree, writes-same}
 use Rattle.mlc_prims.specs.LitOf.{Literal, int, word, char, string, truth}
 use Rattle.mlc_prims.specs.PrimOf.{Gives, made, raised}
+use Rattle.mlc_prims.specs.Table.{row_of}
 use Rattle.mlc_prims.specs.declared.basis.BasisPrimitive.{BasisPrimitive}
-use Rattle.ir_values.specs.Tags.{Tagging}
+use Rattle.ir_values.specs.Tags.{Tagging, untagged}
 use Rattle.ir_values.specs.Values.{Value, literal, record_of, con, con_of, exn, exn_of, ref, address, cell, primitive, closure, Fields, no_fields, field, Env, field_in, count, literal_in, address_in, packet_name}
-use Rattle.ir_values.specs.Primitives.{Sort, compares, assigns, prints, computes, sort_of, literals, parts, tuple, arguments, marked, raise_value, giving, compare_values, assign_value, print_literals, perform_as, perform, make_reference, content_of, enter}
+use Rattle.ir_values.specs.Primitives.{is_overloaded, Sort, compares, assigns, prints, computes, sort_of, begin_at, row_at, literals, parts, tuple, arguments, marked, raise_value, giving, compare_values, assign_value, print_literals, perform_as, perform, make_reference, content_of, enter}
 use Rattle.ir_values.specs.Related.{SameFields, same_none, literals_alike, records_alike, con_alike, con_of_alike, exn_alike, exn_of_alike, ref_alike, address_alike, cell_alike, primitive_alike, AreOfOneKind, alike, functions, IsByKind}
 use Rattle.ir_values.proofs.EqualityLemmas.{field-same, count-same, literal-alike, address-alike', packet-alike, same-same}
+
+-- where there are no tags, the type is of no account
+begin-untagged : (ls : List Literal) → begin_at untagged tt ls ≡ true
+begin-untagged [] = refl
+begin-untagged (l ∷ ls) = refl
+
+or-true : (b : Bool) → (b || true) ≡ true
+or-true true = refl
+or-true false = refl
+
+pub untagged-row : (p : BasisPrimitive) (ls : List Literal) → row_at untagged tt p ls ≡ row_of p ls
+untagged-row p ls = rw (begin-untagged ls, or-true (not (is_overloaded p))) refl
 
 module _ (K : Tagging) {B C D E : Type 0} (R : Value B C K.Tag → Value D E K.Tag → Type 0) (by : IsByKind R) where
   abbrev V : Type 0

@@ -1,14 +1,14 @@
--- Equality of two values at a type: of parts, left to right up to the first difference; of references by identity. Functions and packets have none, nor have
--- values of other types.
-use Rattle.std.specs.Prelude.{ℕ, Bool, true, false, Option, Some, None, option_map, option_and_then, nat_eq, if◌then◌else◌}
+-- Equality of two values at a type: of all parts; of references by identity. Functions and packets have none, nor have values of other types, nor has what has
+-- such a part, wherever it stands and whatever the others are.
+use Rattle.std.specs.Prelude.{ℕ, Bool, true, false, Option, Some, None, option_map, option_and_then, nat_eq, if◌then◌else◌, ◌&&◌}
 use Rattle.mlc_prims.specs.Table.{literal_eq}
 use Rattle.ir_values.specs.Tags.{Tagging}
 use Rattle.ir_values.specs.Values.{Value, literal, record_of, con, con_of, exn, exn_of, ref, address, cell, primitive, closure, Fields, no_fields, field, literal_in, address_in, field_in}
 
-abbrev pub unless_different : Option Bool → Option Bool → Option Bool
-unless_different None more = None
-unless_different (Some true) more = more
-unless_different (Some false) more = Some false
+-- the answer for two parts: both have one, and both say yes
+abbrev pub both_equal : Option Bool → Option Bool → Option Bool
+both_equal None more = None
+both_equal (Some b) more = option_map (λ c. b && c) more
 
 abbrev pub where_holds : {A : Type 0} → Bool → Option A → Option A
 where_holds b o = if b then o else None
@@ -53,4 +53,4 @@ module _ (K : Tagging) {B C : Type 0} where
 
     pub same_fields : K.Tag → Fields B C K.Tag → Fields B C K.Tag → Option Bool
     same_fields g no_fields gs = Some true
-    same_fields g (field l v fs) gs = unless_different (same_part (λ a. same_at a v) (K.field g l) (field_in l gs)) (same_fields g fs gs)
+    same_fields g (field l v fs) gs = both_equal (same_part (λ a. same_at a v) (K.field g l) (field_in l gs)) (same_fields g fs gs)

@@ -1,5 +1,5 @@
 -- Primitives, and calls of what is a function: they take a turn. [Definition 6.7, rules 101 to 108, and Appendix D]
-use Rattle.std.specs.Prelude.{ℕ, zero, suc, List, [], ◌∷◌, Option, Some, None, option_map, option_and_then, if◌then◌else◌}
+use Rattle.std.specs.Prelude.{ℕ, zero, suc, Bool, true, false, not, ◌||◌, List, [], ◌∷◌, Option, Some, None, option_map, option_and_then, if◌then◌else◌}
 use Rattle.mlc_base.specs.Run.{World, Answer, gives, raises, or_fail, fail, take_turn, writes, new_reference, assign}
 use Rattle.mlc_base.specs.declared.label.Label.TheVariants.{Number}
 use Rattle.mlc_base.specs.declared.place.Place.{Place}
@@ -7,7 +7,7 @@ use Rattle.mlc_prims.specs.LitOf.{Literal, string}
 use Rattle.mlc_prims.specs.PrimOf.{Gives, made, raised}
 use Rattle.mlc_prims.specs.Table.{row_of}
 use Rattle.mlc_prims.specs.declared.basis.BasisPrimitive.{BasisPrimitive}
-use Rattle.mlc_prims.specs.declared.basis.BasisPrimitive.TheVariants.{Equals, Assign, Print}
+use Rattle.mlc_prims.specs.declared.basis.BasisPrimitive.TheVariants.{Add, Subtract, Multiply, Divide, Modulo, Negate, Less, LessEqual, Greater, GreaterEqual, Equals, Assign, Print}
 use Rattle.mlc_prims.specs.declared.prim.PrimExn.{PrimExn}
 use Rattle.mlc_prims.specs.declared.prim.PrimExn.TheVariants.{Overflow, Div, Subscript, Size, Chr}
 use Rattle.ir_values.specs.Tags.{Tagging}
@@ -42,6 +42,20 @@ sort_of Assign = assigns
 sort_of Print = prints
 sort_of p = computes
 
+-- which primitives have a choice of types [Definition, Appendix E]
+abbrev pub is_overloaded : BasisPrimitive → Bool
+is_overloaded Add = true
+is_overloaded Subtract = true
+is_overloaded Multiply = true
+is_overloaded Divide = true
+is_overloaded Modulo = true
+is_overloaded Negate = true
+is_overloaded Less = true
+is_overloaded LessEqual = true
+is_overloaded Greater = true
+is_overloaded GreaterEqual = true
+is_overloaded p = false
+
 module _ {B C T : Type 0} where
   abbrev pub literals : List (Value B C T) → Option (List Literal)
   literals [] = Some []
@@ -69,6 +83,16 @@ module _ {B C T : Type 0} where
   abbrev pub raise_value : Value B C T → World (Value B C T) → Answer (Value B C T) (Value B C T)
   raise_value v w = or_fail (packet_name v) w (λ n. raises v w)
 
+module _ (K : Tagging) where
+  -- whether the first argument, if there is one, is a constant of the type
+  abbrev pub begin_at : K.Tag → List Literal → Bool
+  begin_at g [] = true
+  begin_at g (l ∷ ls) = K.has_literal g l
+
+  -- the row of a primitive at a type: one that has a choice of types takes constants of this one
+  abbrev pub row_at : K.Tag → BasisPrimitive → List Literal → Option Gives
+  row_at g p ls = if not (is_overloaded p) || begin_at g ls then row_of p ls else None
+
 module _ (K : Tagging) {B C : Type 0} where
   abbrev pub packet : ℕ → Value B C K.Tag
   packet n = exn K.of_unit n
@@ -93,7 +117,7 @@ module _ (K : Tagging) {B C : Type 0} where
   perform_as compares g p vs w = compare_values g vs w
   perform_as assigns g p vs w = assign_value g vs w
   perform_as prints g p vs w = or_fail (literals vs) w (λ ls. print_literals ls w)
-  perform_as computes g p vs w = or_fail (literals vs) w (λ ls. or_fail (row_of p ls) w (λ r. giving r w))
+  perform_as computes g p vs w = or_fail (literals vs) w (λ ls. or_fail (row_at K g p ls) w (λ r. giving r w))
 
   -- a primitive at a type, with these arguments
   abbrev pub perform : K.Tag → BasisPrimitive → List (Value B C K.Tag) → World (Value B C K.Tag) → Answer (Value B C K.Tag) (Value B C K.Tag)

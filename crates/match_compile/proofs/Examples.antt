@@ -234,7 +234,7 @@ two_at_two =
 two-are-typed : DecsChecked (initial_constructors ++ []) [] [] two_at_two ((2, general (q ∷ []) var (to a)) ∷ (1, general (q ∷ []) var (to a)) ∷ [])
 two-are-typed =
     c_val refl (c_general refl refl (fields_checked ((Number 1, to a) ∷ (Number 2, to a) ∷ []) refl (a_pat_checked refl refl variable_checked (a_pat_checked refl refl variable_checked no_pats_checked)) refl)
-    (c_fields (c_field (c_fn (c_last refl (c_variable_one refl) refl)) (c_field (c_fn (c_last refl (c_variable_one refl) refl)) c_no_fields)) refl) c_no_binds) c_no_funs
+    (c_fields (c_field (c_fn (c_last refl (c_variable_one refl) refl)) (c_field (c_fn (c_last refl (c_variable_one refl) refl)) c_no_fields)) refl refl) c_no_binds) c_no_funs
     (c_val refl (c_plain refl any_checked (c_app (c_variable {qs = q ∷ []} refl (tt, tt) refl refl) (c_constant (has_int (pos 3))) refl)
     (c_plain refl any_checked (c_app (c_variable {qs = q ∷ []} refl (tt, tt) refl refl) (c_constant (has_string (97 ∷ []))) refl)
     (c_plain refl any_checked (c_app (c_variable {qs = q ∷ []} refl (tt, tt) refl refl) (c_constant (has_int (pos 3))) refl) c_no_binds))) c_no_funs c_no_decs)

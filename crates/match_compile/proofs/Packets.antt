@@ -10,9 +10,8 @@ use Rattle.ir_values.specs.Tags.{untagged}
 use Rattle.ir_values.specs.Values.{con, exn, ref, primitive, closure, packet_name, address_in, empty, truth_number}
 use Rattle.ir_values.specs.Match.{matches, no_match, mismatch, after_match, against_con}
 use Rattle.ir_values.specs.Equality.{same_at}
-use Rattle.ir_values.specs.Primitives.{Sort, compares, assigns, prints, computes, sort_of, giving, compare_values, assign_value, print_literals, perform_as, perform, arguments, literals, raise_value, make_reference, packet, match_name, bind_name}
+use Rattle.ir_values.specs.Primitives.{Sort, compares, assigns, prints, computes, sort_of, row_at, giving, compare_values, assign_value, print_literals, perform_as, perform, arguments, literals, raise_value, make_reference, packet, match_name, bind_name}
 use Rattle.ir_values.specs.Primitives as call
-use Rattle.mlc_prims.specs.Table.{row_of}
 use Rattle.ir_poly.specs.Prog.{Exp, constant_exp, variable_exp, own_exp, con_exp, ref_exp, exn_exp, prim_exp, fields_exp, let_exp, app_exp, case_exp, chain_exp, handle_exp, raise_exp, fn_exp, counted_exp, Fields, no_fields, a_field, Chain, only, link, Rules, no_rules, a_rule, Fun, last, by_rules, more, Decs, no_decs, val_dec, exception_dec, counted_dec, Binds, no_binds, a_bind}
 use Rattle.ir_poly.specs.ProgMeaning as src
 
@@ -85,7 +84,7 @@ perform-packs : (s : Sort) (p : BasisPrimitive) (vs : List src.V) (w : World src
 perform-packs compares p vs w = compare-packs vs w
 perform-packs assigns p vs w = assign-packs vs w
 perform-packs prints p vs w = fail-packs (literals vs) w _ (λ ls. print-packs ls w)
-perform-packs computes p vs w = fail-packs (literals vs) w _ (λ ls. fail-packs (row_of p ls) w _ (λ r. giving-packs r w))
+perform-packs computes p vs w = fail-packs (literals vs) w _ (λ ls. fail-packs (row_at untagged tt p ls) w _ (λ r. giving-packs r w))
 
 abbrev pub CallPacks : src.Apply → Type 0
 CallPacks call = (place : Place) (g v : src.V) (w : World src.V) → Packs (call place g v w)

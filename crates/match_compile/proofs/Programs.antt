@@ -24,7 +24,7 @@ pub typing-kept : (ds : Decs) → KeepsTyping ds
 typing-kept ds cs G h = run-typed (initial_constructors ++ cs) (truths cs) ds G h
 
 pub well-formed : (p : Program Decs) → StaysWellFormed p
-well-formed p h = record { table = h.table; type = unit_type; typed = typing-kept p.body p.constructors h.after h.typed; once = run-once p.body; local = run-local p.body }
+well-formed p h = record { initial = h.initial; table = h.table; type = unit_type; typed = typing-kept p.body p.constructors h.after h.typed; once = run-once p.body; local = run-local p.body }
 
 brings-none : (us : List ℕ) → BringsNone us us
 brings-none us = All-weaker (Contains us) (Contains (us ++ initial_exceptions)) (λ x h. Contains-append_left us initial_exceptions x h) us (All-contains_itself us)

@@ -11,7 +11,7 @@ use Rattle.ty_core.specs.declared.mark.Mark.TheVariants.{Any, Equality, Class}
 use Rattle.ty_core.specs.declared.name.Equality as Eq
 use Rattle.ty_core.specs.declared.name.Equality.TheVariants.{Always, ByArguments, Never}
 use Rattle.ty_core.specs.declared.scheme.Quantified.{Quantified}
-use Rattle.ir_poly.specs.Types.{row_type, unit_type, in_scope, is_equality, admits_in, over, all_over, are_new, changed, AreAllowed, Constructor, numbered, tuple_type}
+use Rattle.ir_poly.specs.Types.{row_type, unit_type, in_scope, is_equality, is_declarable, admits_in, over, all_over, are_new, changed, AreAllowed, Constructor, numbered, tuple_type}
 use Rattle.ir_poly.specs.TestsChecked.{HasLiteral, has_int, has_word, has_char, has_string, value_type, alone_type, HasConstructor}
 use Rattle.ir_poly.proofs.ReplaceLemmas.{left-true, right-true, both-true, replace-agree, replace-replace, typs_of-read, argument-read, more-scope}
 use Rattle.match_compile.specs.Compile.{standing, scoped, all_scoped, option_scoped, opened, unclassed, own_types}
@@ -95,10 +95,10 @@ not-new q S n v h = go (nat_eq q.variable v) refl
     go false e = refl
 
 rest-new : (q : Quantified) (qs S : List Quantified) → are_new (q ∷ qs) S ≡ true → are_new qs S ≡ true
-rest-new q qs S n = right-true (not (in_scope qs q.variable)) _ (right-true (not (in_scope S q.variable)) _ n)
+rest-new q qs S n = right-true (not (in_scope qs q.variable)) _ (right-true (not (in_scope S q.variable)) _ (right-true (is_declarable q.mark) _ n))
 
 first-new : (q : Quantified) (qs S : List Quantified) → are_new (q ∷ qs) S ≡ true → not (in_scope S q.variable) ≡ true
-first-new q qs S n = left-true (not (in_scope S q.variable)) _ n
+first-new q qs S n = left-true (not (in_scope S q.variable)) _ (right-true (is_declarable q.mark) _ n)
 
 new-in : (qs D S : List Quantified) → are_new qs S ≡ true → (v : ℕ) → in_scope S v ≡ true → in_scope (unclassed qs ++ D) v ≡ in_scope D v
 new-in [] D S n v h = refl
@@ -120,11 +120,16 @@ not-inside : (a b : Bool) → (a ≡ true → b ≡ true) → not b ≡ true →
 not-inside true b h n = absurd (no-truth b n (h refl))
 not-inside false b h n = refl
 
+opened-declarable : (a : Mark) → is_declarable (opened a) ≡ true
+opened-declarable Any = refl
+opened-declarable Equality = refl
+opened-declarable (Class c) = refl
+
 pub new-within : (qs D S : List Quantified) → Within D S → are_new qs S ≡ true → are_new (unclassed qs) D ≡ true
 new-within [] D S w n = refl
 new-within (q ∷ qs) D S w n =
-    both-true (not-inside (in_scope D q.variable) (in_scope S q.variable) (w.inside q.variable) (first-new q qs S n))
-    (both-true (ap not (unclassed-in qs q.variable) ∙ left-true (not (in_scope qs q.variable)) _ (right-true (not (in_scope S q.variable)) _ n)) (new-within qs D S w (rest-new q qs S n)))
+    both-true (opened-declarable q.mark) (both-true (not-inside (in_scope D q.variable) (in_scope S q.variable) (w.inside q.variable) (first-new q qs S n))
+    (both-true (ap not (unclassed-in qs q.variable) ∙ left-true (not (in_scope qs q.variable)) _ (right-true (not (in_scope S q.variable)) _ (right-true (is_declarable q.mark) _ n))) (new-within qs D S w (rest-new q qs S n))))
 
 -- Equality
 
@@ -252,7 +257,7 @@ fit-more v c m (q ∷ rs) n h = (λ e. rw (no-eq q.variable v (or-left-false _ (
 all-fit : (rs D : List Quantified) → are_new rs D ≡ true → AllFit (admits_in (rs ++ D)) rs
 all-fit [] D n = tt
 all-fit (q ∷ rs) D n =
-    (λ e. rw (eq-eqb q.variable q.variable refl) e, fit-more q.variable (is_equality q.mark) (admits_in (rs ++ D)) rs (left-true (not (in_scope rs q.variable)) _ (right-true (not (in_scope D q.variable)) _ n)) (all-fit rs D (rest-new q rs D n)))
+    (λ e. rw (eq-eqb q.variable q.variable refl) e, fit-more q.variable (is_equality q.mark) (admits_in (rs ++ D)) rs (left-true (not (in_scope rs q.variable)) _ (right-true (not (in_scope D q.variable)) _ (right-true (is_declarable q.mark) _ n))) (all-fit rs D (rest-new q rs D n)))
 
 own-fit : (m : ℕ → Bool) (qs : List Quantified) → AllFit m (unclassed qs) → AreAllowed m (unclassed qs) (own_types (unclassed qs))
 own-fit m [] h = tt

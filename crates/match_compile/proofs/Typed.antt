@@ -13,10 +13,10 @@ use Rattle.ir_poly.specs.Prog.{Exc, Pat, any_pat, variable_pat, constant_pat, co
 use Rattle.ir_poly.specs.ProgChecked as pr
 use Rattle.ir_poly.specs.ProgChecked.{ExcChecked, pat_onto, funs_onto, binds_onto}
 use Rattle.ir_poly.specs.Tests.{Tests}
-use Rattle.ir_poly.specs.Types.{function_type, ref_type, row_type, unit_type, admits_in, over, are_new, Constructor, argument_at, prim_type, arguments_at, result_at, numbered, tuple_type, put}
+use Rattle.ir_poly.specs.Types.{function_type, ref_type, row_type, ascend, unit_type, admits_in, over, are_new, Constructor, argument_at, prim_type, arguments_at, result_at, numbered, tuple_type, put}
 use Rattle.ir_poly.specs.TestsChecked.{Known, of_type, own, exception, Knowns, exn_type, HasConstructor, value_type, alone_type, declared, AtomChecked, AtomsChecked, no_atoms_checked, an_atom_checked, RowChecked, no_row_checked, a_row_checked, con_checked, Checked, c_ret, c_let, c_exception, c_exception_alone, c_name, c_switch, c_first, c_counted, c_no_arms, c_arm, OpChecked, c_use, c_use_one, c_use_own, c_use_exception, c_const, c_con_alone, c_construct, c_ref_alone, c_refer, c_pack, c_make_record, c_prim_alone, c_prim, c_app, c_fn, c_block, c_handle, c_raise, c_raise_initial, FunChecked, c_last, c_more, FunsChecked, c_no_funs, c_fun}
 use Rattle.ir_poly.proofs.SaidLemmas.{said}
-use Rattle.ir_poly.proofs.ReplaceLemmas.{left-true, both-true, row_read, row_type-read, arguments-read, result-read, tuple-read}
+use Rattle.ir_poly.proofs.ReplaceLemmas.{left-true, both-true, row_read, row_type-read, labels-read, arguments-read, result-read, tuple-read}
 use Rattle.match_compile.specs.Compile as pass
 use Rattle.match_compile.specs.Compile.{Names, no_names, named, funs_named, past_group, scoped, all_scoped, option_scoped, standing, unclassed, bool_type, exception_type, atom, excepted, Otherwise, again, initial, otherwise, otherwise_op, Spots, no_spots, spot, spots, spots_named, past_pat, tests, Shape, plain, alone, recorded, general_shape, shape, record_type, together, past_shape, shape_spots, shaped, grouped, Built, a_con, a_ref, an_exn, Way, by_call, by_building, by_performing, used_at, is_tuple, arity, performed, way, weighed, past_built, beginning, building, along, fits_all, is_direct, value_at, value_of_rule, past_tuple, past_fields, past_chain, past_rules, past_fun, past_decs, past_binds, past_funs, binds_spots, val_named, decs_named, field_row, field_atoms, tuple_atoms, making, making_rule, making_tuple, making_all, links, rules, function, functions, bindings, decs, compile}
 use Rattle.match_compile.proofs.Numbers.{le-trans, le-suc, le-refl, le-less, less-of, pat-up, shape-up, group-up, up, tuple-up, fields-up, chain-up, fun-up, rules-up, binds-up, funs-up}
@@ -116,7 +116,7 @@ module _ (table : List Constructor) (truths : (b : Bool) → HasConstructor tabl
   built-as a b (pr.c_variable h al o d) e = absurd (cc)
   built-as a b (pr.c_variable_one h) e = absurd (cc)
   built-as a b (pr.c_own h) e = absurd (cc)
-  built-as a b (pr.c_fields h d) e = absurd (cc)
+  built-as a b (pr.c_fields h d o) e = absurd (cc)
   built-as a b (pr.c_let G' h k) e = absurd (cc)
   built-as a b (pr.c_app h k d) e = absurd (cc)
   built-as a b (pr.c_case h o k) e = absurd (cc)
@@ -140,7 +140,7 @@ module _ (table : List Constructor) (truths : (b : Bool) → HasConstructor tabl
   performed-as a p w (pr.c_variable h al o d) e = absurd (cc)
   performed-as a p w (pr.c_variable_one h) e = absurd (cc)
   performed-as a p w (pr.c_own h) e = absurd (cc)
-  performed-as a p w (pr.c_fields h d) e = absurd (cc)
+  performed-as a p w (pr.c_fields h d o) e = absurd (cc)
   performed-as a p w (pr.c_let G' h k) e = absurd (cc)
   performed-as a p w (pr.c_app h k d) e = absurd (cc)
   performed-as a p w (pr.c_case h o k) e = absurd (cc)
@@ -268,9 +268,9 @@ module _ (table : List Constructor) (truths : (b : Bool) → HasConstructor tabl
         c_name (name-typed c s) (put-typed table D (suc n) (suc n) t (le-refl (suc n)) (c_use_exception (here n k H) (ap (scoped D) d ∙ value-scoped D a)) (more-follows D n (suc n) (suc n) H H1 t le (holds-bind n n k H (le-refl n)) f))
     making-typed {S} {D} (pr.c_prim {p = p} {u = u} {t = t} o al d) w N m n H rest z s f =
         put-typed table D n n t (le-refl n) (c_prim_alone (allows-scoped (prim_type p).mark D S w u al) (ap (scoped D) d ∙ rw (tuple-read (standing D) (arguments_at p u), arguments-read (standing D) p u, result-read (standing D) p u) refl)) f
-    making-typed {D = D} (pr.c_fields {fs = fs} {r = r} {t = t} h d) w N m n H rest z s f =
+    making-typed {D = D} (pr.c_fields {fs = fs} {r = r} {t = t} h d a) w N m n H rest z s f =
         let i = past_fields fs n in
-        fields-typed h w N m n H _ z s (λ H1 h1 w1 a1. put-typed table D i i t (le-refl i) (c_make_record w1 (ap (scoped D) d ∙ row_type-read (standing D) r)) (more-follows D n i i H H1 t (fields-up fs n) h1 f))
+        fields-typed h w N m n H _ z s (λ H1 h1 w1 a1. put-typed table D i i t (le-refl i) (c_make_record w1 (ap (scoped D) d ∙ row_type-read (standing D) r) (ap ascend (labels-read (standing D) r) ∙ a)) (more-follows D n i i H H1 t (fields-up fs n) h1 f))
     making-typed {D = D} (pr.c_let G' {ds = ds} {e = e} {t = t} h k) w N m n H rest z s f =
         let i = past_decs ds n in let j = value_at e i in
         put-typed table D n (suc (suc j)) t (up (let_exp t ds e) n)
@@ -306,7 +306,7 @@ module _ (table : List Constructor) (truths : (b : Bool) → HasConstructor tabl
     rule-typed (pr.c_rule c l (pr.c_rule b k ks)) d w o N m n j H rest z s a lt f = absurd (cc)
 
     tuple-typed : {S D : List Quantified} {G : Knowns} {e : Exp} {a : Typ} (k : ℕ) → pr.Checked table S G e a → is_tuple k e ≡ true → Within D S → (N : Names) → TupleTyped S D N G e a
-    tuple-typed k (pr.c_fields {r = r} h d) e w N m n H rest z s f = fields-typed h w N m n H rest z s (λ H1 h1 w1 a1. f H1 h1 r d a1)
+    tuple-typed k (pr.c_fields {r = r} h d o) e w N m n H rest z s f = fields-typed h w N m n H rest z s (λ H1 h1 w1 a1. f H1 h1 r d a1)
     tuple-typed k (pr.c_counted h) e w N m n H rest z s f = c_counted (tuple-typed k h e w N m n H rest z s f)
     tuple-typed k (pr.c_constant h) e w N m n H rest z s f = absurd (cc)
     tuple-typed k (pr.c_variable h al o d) e w N m n H rest z s f = absurd (cc)
@@ -405,4 +405,4 @@ module _ (table : List Constructor) (truths : (b : Bool) → HasConstructor tabl
   pub run-typed : (ds : Decs) (G : Knowns) → pr.DecsChecked table [] [] ds G → Checked table false [] [] (compile ds) unit_type
   run-typed ds G h =
       let k = past_decs ds 1 in
-      c_first (decs-typed h within-none no_names 1 nothing-known (λ H s. put-typed table [] k k unit_type (le-refl k) (c_make_record no_row_checked refl) (λ H1 h1 w1. c_ret w1))) (otherwise-typed table [] (suc k) 0 (initial bind_name) unit_type (c_raise_initial refl))
+      c_first (decs-typed h within-none no_names 1 nothing-known (λ H s. put-typed table [] k k unit_type (le-refl k) (c_make_record no_row_checked refl refl) (λ H1 h1 w1. c_ret w1))) (otherwise-typed table [] (suc k) 0 (initial bind_name) unit_type (c_raise_initial refl))

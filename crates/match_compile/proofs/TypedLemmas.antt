@@ -2,7 +2,7 @@
 use Rattle.std.proofs.Common.{◌≡◌, ℕ, suc, ◌<◌, ◌≤◌, Bool, true, false, ◌||◌, List, [], ◌∷◌, ◌++◌, Option, Some, None, nat_eq, if◌then◌else◌, refl, sym, ap, subst, ◌∙◌, arith}
 use Rattle.std.specs.Prelude.{⊤}
 use Rattle.std.specs.Map.{lookup}
-use Rattle.std.proofs.lemmas.Bool.{eq-eqb}
+use Rattle.std.proofs.lemmas.Bool.{eq-eqb, lt-ltb}
 use Rattle.mlc_base.specs.declared.label.Label.{Label}
 use Rattle.mlc_base.specs.declared.label.Label.TheVariants.{Number}
 use Rattle.ty_core.specs.Types.{Typ, var}
@@ -15,9 +15,9 @@ use Rattle.ir_poly.specs.ProgMeaning.{size_of}
 use Rattle.ir_poly.specs.ProgChecked as pr
 use Rattle.ir_poly.specs.ProgChecked.{pat_onto, pats_onto, each_onto, funs_onto, ExcChecked}
 use Rattle.ir_poly.specs.Tests.{inst, poly, Tests}
-use Rattle.ir_poly.specs.Types.{row_type, in_scope, over, are_new, Constructor}
+use Rattle.ir_poly.specs.Types.{row_type, labels_in, ascend, in_scope, over, are_new, Constructor}
 use Rattle.ir_poly.specs.TestsChecked.{Known, of_type, general, own, exception, Knowns, at, exn_type, declared, may_generalise, group_knowns, is_size, AtomChecked, atom_checked, RowChecked, no_row_checked, a_row_checked, NameChecked, fixed_checked, held_checked, literal_checked, con_checked, con_of_checked, exn_checked, exn_of_checked, record_checked, Checked, c_ret, c_let, c_name, c_rec, c_switch, ArmsChecked, c_no_arms, c_arm, OpChecked, c_use, c_use_one, c_content, c_make_record, c_select, c_block, FunsChecked}
-use Rattle.ir_poly.proofs.ReplaceLemmas.{over-mono, more-scope, row_read, row_type-read, length-read, part-read}
+use Rattle.ir_poly.proofs.ReplaceLemmas.{both-true, over-mono, more-scope, row_read, row_type-read, length-read, part-read}
 use Rattle.match_compile.specs.Compile as pass
 use Rattle.match_compile.specs.Compile.{Names, named, each_named, funs_named, past_group, scoped, option_scoped, standing, unclassed, own_types, atom, put, excepted, Otherwise, otherwise, otherwise_op, initial, Spots, no_spots, spot, spots, field_spots, spots_named, past_pat, past_pats, tests, field_tests, row_of, spots_row, record_type, together, part, split, past_split, split_spots, function, past_fun, grouped}
 use Rattle.match_compile.proofs.Numbers.{different, le-trans, le-suc, le-refl, le-less, less-of, pat-up, split-up, group-up}
@@ -274,8 +274,13 @@ module _ (table : List Constructor) where
   row-typed places_none l = no_row_checked
   row-typed (places_one lt o w p) l = a_row_checked w (row-typed p (suc l))
 
+  row-ascends : (s : ℕ → Typ) (vs : Spots) (l : ℕ) → ascend (labels_in (row_read s (row_of vs l))) ≡ true
+  row-ascends s no_spots l = refl
+  row-ascends s (spot x a t no_spots) l = refl
+  row-ascends s (spot x a t (spot y b u vs)) l = both-true (lt-ltb l (suc l) (omega arith)) (row-ascends s (spot y b u vs) (suc l))
+
   pub together-typed : {f : Typ → Known} {n : ℕ} {S D : List Quantified} {H G0 G : Knowns} {vs : Spots} → Places f n S D H no_spots G0 vs G → (j : ℕ) → Checked table true D H (together D vs j) (scoped D (record_type vs))
-  together-typed {D = D} {H = H} {vs = vs} p j = put-typed D j j (record_type vs) (le-refl j) (c_make_record (row-typed p 1) (row_type-read (standing D) (row_of vs 1))) (λ H1 h w. c_ret w)
+  together-typed {D = D} {H = H} {vs = vs} p j = put-typed D j j (record_type vs) (le-refl j) (c_make_record (row-typed p 1) (row_type-read (standing D) (row_of vs 1)) (row-ascends (standing D) vs 1)) (λ H1 h w. c_ret w)
 
   -- the fields of a row are the variables', from l on
   pub data Fielded (q : List (Label × Typ)) : Spots → ℕ → Type 0 where

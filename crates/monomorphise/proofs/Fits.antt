@@ -353,7 +353,7 @@ module _ (table : List Constructor) where
     op-fit (refer m t u) (tt.t_refer a h) n i d q = atom-fit a all_none
     op-fit (content t u) (tt.t_content a h e) n i d q = atom-fit a all_none
     op-fit (pack m t (inst y ts) u) (tt.t_pack e a h) n i d q = all_one (at-exception e) (atom-fit a all_none)
-    op-fit (make_record t row) (tt.t_make_record k e h) n i d q = row-fit row k
+    op-fit (make_record t row) (tt.t_make_record k e o h) n i d q = row-fit row k
     op-fit (select t l u) (tt.t_select r a e f h) n i d q = atom-fit a all_none
     op-fit (prim_alone p t) k n i d q = all_none
     op-fit (prim m p t as_) (tt.t_prim f k e h) n i d q = atoms-fit as_ k

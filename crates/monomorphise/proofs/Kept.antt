@@ -30,18 +30,17 @@ module _ (p : tests.Program Tests) (q : Program) (well : IsTests p) (copied : Is
   copies-typed : (n : ℕ) × mt.Typed q.types false [] q.body n
   copies-typed = run-copied (table_of p) q.types copied.table copied.copies at-types
 
-  module _ (seven : length p.initial ≡ 7) where
-    same-length : length q.initial ≡ 7
-    same-length = ap length copied.initial ∙ seven
+  same-length : length q.initial ≡ 7
+  same-length = ap length copied.initial ∙ well.initial
 
-    pub copies-well-formed : IsOnce (λ x. x) q.body → IsWellFormed q
-    copies-well-formed once = record { table = copied.table.sound; initial = same-length; type = copies-typed.0; typed = copies-typed.1; once = once; local = copies-local (simple q.types) number-same copied.copies well.local }
+  pub copies-well-formed : IsOnce (λ x. x) q.body → IsWellFormed q
+  copies-well-formed once = record { table = copied.table.sound; initial = same-length; type = copies-typed.0; typed = copies-typed.1; once = once; local = copies-local (simple q.types) number-same copied.copies well.local }
 
-    never : (m : ℕ) → (meaning q m).end ≡ wrong → ⊥
-    never m = run-never-wrong q.types copied.table.sound q.initial q.body m same-length copies-typed.1
+  never : (m : ℕ) → (meaning q m).end ≡ wrong → ⊥
+  never m = run-never-wrong q.types copied.table.sound q.initial q.body m same-length copies-typed.1
 
-    pub copies-same : (m : ℕ) → meaning q m ≡ meaning_of_tests p m
-    copies-same m = sym (subst (λ is. run is p.body m ≡ run q.initial q.body m) copied.initial (run-refines (simple q.types) number-same q.initial m copied.copies (never m)))
+  pub copies-same : (m : ℕ) → meaning q m ≡ meaning_of_tests p m
+  copies-same m = sym (subst (λ is. run is p.body m ≡ run q.initial q.body m) copied.initial (run-refines (simple q.types) number-same q.initial m copied.copies (never m)))
 
-    pub source-never : (m : ℕ) → (meaning_of_tests p m).end ≡ wrong → ⊥
-    source-never m e = never m (ap (λ o. o.end) (copies-same m) ∙ e)
+  pub source-never : (m : ℕ) → (meaning_of_tests p m).end ≡ wrong → ⊥
+  source-never m e = never m (ap (λ o. o.end) (copies-same m) ∙ e)

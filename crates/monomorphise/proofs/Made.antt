@@ -326,7 +326,7 @@ module _ (table : List Constructor) where
     op-made (refer m t u) {s = s} (tt.t_refer (atom_checked a) p) un.refer_unique i d q w (all_one j h) = copy_refer m t (replace s t) refl j
     op-made (content t u) {s = s} (tt.t_content (atom_checked a) p e) un.content_unique i d q w (all_one j h) = copy_content t (replace s t) refl j
     op-made (pack m t (inst y ts) u) {s = s} (tt.t_pack e (atom_checked a) p) un.pack_unique i d q w (all_one j (all_one k h)) = copy_pack m t (replace s t) refl j k
-    op-made (make_record t row) {s = s} (tt.t_make_record k e p) u i d q w h = copy_make_record t (replace s t) refl (row-made row k h)
+    op-made (make_record t row) {s = s} (tt.t_make_record k e o p) u i d q w h = copy_make_record t (replace s t) refl (row-made row k h)
     op-made (select t l u) {s = s} (tt.t_select r (atom_checked a) e f p) un.select_unique i d q w (all_one j h) = copy_select t (replace s t) l refl j
     op-made (prim_alone p t) {s = s} k u i d q w h = copy_prim_alone p t (replace s t) refl
     op-made (prim m p t as_) {s = s} (tt.t_prim f k e z) u i d q w h = copy_prim m p t (replace s t) refl (atoms-made as_ k h)

@@ -1,6 +1,6 @@
 -- What is done with values of the copies is done with those of the program, unless it goes wrong with the copies.
 use Rattle.std.proofs.Common.{◌≡◌, ℕ, List, [], ◌∷◌, Bool, true, false, Option, Some, None, option_map, option_and_then, nat_eq, subst, refl, sym}
-use Rattle.std.specs.Prelude.{zero, suc}
+use Rattle.std.specs.Prelude.{zero, suc, not, ◌||◌, if◌then◌else◌}
 use Rattle.mlc_base.specs.declared.label.Label.TheVariants.{Number}
 use Rattle.mlc_base.specs.Agreement.{AllRelated, none, more, BothOrNeither, neither, both, SameWorlds}
 use Rattle.mlc_base.specs.Refinement.{Refines, both_give, both_raise, both_stop, first_wrong}
@@ -13,8 +13,9 @@ use Rattle.mlc_prims.specs.Table.{literal_eq, row_of}
 use Rattle.mlc_prims.specs.declared.basis.BasisPrimitive.{BasisPrimitive}
 use Rattle.ir_values.specs.Tags.{untagged}
 use Rattle.ir_values.specs.Values.{count, address_in, unit_value, truth_value}
-use Rattle.ir_values.specs.Equality.{unless_different, where_holds, if_equal, Constructed, fields_at, con_at, same_part, same_at, same_fields}
-use Rattle.ir_values.specs.Primitives.{Sort, compares, assigns, prints, computes, sort_of, literals, parts, tuple, arguments, giving, compare_values, assign_value, print_literals, perform_as, perform, make_reference}
+use Rattle.ir_values.specs.Equality.{both_equal, where_holds, if_equal, Constructed, fields_at, con_at, same_part, same_at, same_fields}
+use Rattle.ir_values.specs.Primitives.{is_overloaded, Sort, compares, assigns, prints, computes, sort_of, begin_at, row_at, literals, parts, tuple, arguments, giving, compare_values, assign_value, print_literals, perform_as, perform, make_reference}
+use Rattle.ir_values.proofs.PrimitiveLemmas.{untagged-row}
 use Rattle.ir_plain.specs.Meaning.{V, Parts}
 use Rattle.ir_poly.specs.Tests.{poly}
 use Rattle.monomorphise.specs.Copies.{Target}
@@ -29,10 +30,10 @@ equal-answered : (o : Option Bool) → Answered o o
 equal-answered None = no_answer
 equal-answered (Some b) = answered b
 
-unless-answered : {a b c d : Option Bool} → Answered a c → Answered b d → Answered (unless_different a b) (unless_different c d)
-unless-answered no_answer k = no_answer
-unless-answered (answered true) k = k
-unless-answered (answered false) k = answered false
+both-answered : {a b c d : Option Bool} → Answered a c → Answered b d → Answered (both_equal a b) (both_equal c d)
+both-answered no_answer k = no_answer
+both-answered (answered b) no_answer = no_answer
+both-answered (answered b) (answered c) = answered _
 
 where-answered : (b : Bool) {o q : Option Bool} → Answered o q → Answered (where_holds b o) q
 where-answered true h = h
@@ -111,7 +112,7 @@ module _ (T : Target) where
 
     fields-answered : (g : G T) {fs' gs' : Parts (K T)} {fs gs : Parts poly} → RelFields T fs' fs → RelFields T gs' gs → Answered (same_fields T.tags g fs' gs') (same_fields untagged tt fs gs)
     fields-answered g rel_no_fields k = answered true
-    fields-answered g (rel_a_field l {v' = v'} {v = v} h hs) k = unless-answered (part-answered v' v (T.tags.field g l) (λ a u' u p. same-answered a h p) (field-same T l k)) (fields-answered g hs k)
+    fields-answered g (rel_a_field l {v' = v'} {v = v} h hs) k = both-answered (part-answered v' v (T.tags.field g l) (λ a u' u p. same-answered a h p) (field-same T l k)) (fields-answered g hs k)
 
   literals-related : {vs' : List (V (K T))} {vs : List (V poly)} → AllRelated R vs' vs → literals vs' ≡ literals vs
   literals-related none = refl
@@ -156,11 +157,19 @@ module _ (T : Target) where
   print-refines (string t ∷ []) u w s = both_give unit-related (writes-same R t u w s)
   print-refines _ u w s = both_stop _ s
 
+  -- at a type whose constants the arguments aren't, it goes wrong with the copies
+  row-refines : (g : G T) (p : BasisPrimitive) (ls : List Literal) (u : World (V (K T))) (w : World (V poly)) → Worlds u w → Ends (or_fail (row_at T.tags g p ls) u (λ r. giving T.tags r u)) (or_fail (row_at untagged tt p ls) w (λ r. giving untagged r w))
+  row-refines g p ls u w s = rw (untagged-row p ls) (go (not (is_overloaded p) || begin_at T.tags g ls))
+    where
+      go : (b : Bool) → Ends (or_fail (if b then row_of p ls else None) u (λ r. giving T.tags r u)) (or_fail (row_of p ls) w (λ r. giving untagged r w))
+      go true = equal-refines (row_of p ls) u w refl s (λ r. giving-refines r u w s)
+      go false = first_wrong _
+
   perform-as-refines : (o : Sort) (g : G T) (p : BasisPrimitive) {vs' : List (V (K T))} {vs : List (V poly)} (u : World (V (K T))) (w : World (V poly)) → AllRelated R vs' vs → Worlds u w → Ends (perform_as T.tags o g p vs' u) (perform_as untagged o tt p vs w)
   perform-as-refines compares g p u w rs s = compare-refines g u w rs s
   perform-as-refines assigns g p u w rs s = assign-value-refines g u w rs s
   perform-as-refines prints g p {vs' = vs'} u w rs s = equal-refines (literals vs') u w (literals-related rs) s (λ ls. print-refines ls u w s)
-  perform-as-refines computes g p {vs' = vs'} u w rs s = equal-refines (literals vs') u w (literals-related rs) s (λ ls. equal-refines (row_of p ls) u w refl s (λ r. giving-refines r u w s))
+  perform-as-refines computes g p {vs' = vs'} u w rs s = equal-refines (literals vs') u w (literals-related rs) s (λ ls. row-refines g p ls u w s)
 
   pub perform-refines : (g : G T) (p : BasisPrimitive) {vs' : List (V (K T))} {vs : List (V poly)} (u : World (V (K T))) (w : World (V poly)) → AllRelated R vs' vs → Worlds u w → Ends (perform T.tags g p vs' u) (perform untagged tt p vs w)
   perform-refines g p u w rs s = perform-as-refines (sort_of p) g p u w rs s

@@ -84,7 +84,7 @@ module _ (constructors : List Constructor) where
     strip-op-typed (tt.t_refer a q) = tt.t_refer a q
     strip-op-typed (tt.t_content a q e) = tt.t_content a q e
     strip-op-typed (tt.t_pack e a q) = tt.t_pack e a q
-    strip-op-typed (tt.t_make_record r e q) = tt.t_make_record r e q
+    strip-op-typed (tt.t_make_record r e o q) = tt.t_make_record r e o q
     strip-op-typed (tt.t_select r a e f q) = tt.t_select r a e f q
     strip-op-typed (tt.t_prim_alone a q) = tt.t_prim_alone a q
     strip-op-typed (tt.t_prim a r e q) = tt.t_prim a r e q

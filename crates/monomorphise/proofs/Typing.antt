@@ -284,7 +284,7 @@ module _ (constructors : List Constructor) (types : List table.Row) (tab : IsTab
         let same = the (subst (IsType types k) e j) i in
         subst (λ v. mt.OpTyped types H (Rattle.ir_plain.specs.Tree.content k y') v) same (mt.t_content z.there (ref-of types tab.sound.once (subst (IsType types z.number) q z.is) (subst (IsType types k) e j)))
     op-copied {n = n} (copy_pack m b k j y x) (tt.t_pack e w q) h i = mt.t_pack (with-argument (exception-of y h e) j) (atom-at x h w j) (exn-of types tab.sound.once (subst (IsType types n) q i))
-    op-copied {H = H} (copy_make_record b k {row' = row'} j row) (tt.t_make_record {r = q} ws e d) h i =
+    op-copied {H = H} (copy_make_record b k {row' = row'} j row) (tt.t_make_record {r = q} ws e o d) h i =
         let z = record-of types tab.sound.once {r = q} (subst (IsType types k) (d ∙ e) j) in
         let same = the (subst (IsType types k) d j) i in
         subst (λ v. mt.OpTyped types H (Rattle.ir_plain.specs.Tree.make_record k row') v) same (mt.t_make_record (row-at row ws h z.parts_are) z.is)

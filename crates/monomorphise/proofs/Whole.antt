@@ -31,10 +31,10 @@ module _ (p : tests.Program Tests) (k : Numbering) (ready : IsReady p k) where
   }
 
   pub makes-well-formed : IsWellFormed (monomorphised p k)
-  makes-well-formed = copies-well-formed p (monomorphised p k) ready.tests makes-copies ready.initial (numbered-once k.types k.index (copies p.body))
+  makes-well-formed = copies-well-formed p (monomorphised p k) ready.tests makes-copies (numbered-once k.types k.index (copies p.body))
 
   pub makes-same : (m : ℕ) → meaning (monomorphised p k) m ≡ meaning_of_tests p m
-  makes-same m = copies-same p (monomorphised p k) ready.tests makes-copies ready.initial m
+  makes-same m = copies-same p (monomorphised p k) ready.tests makes-copies m
 
   pub makes-never-wrong : (m : ℕ) → (meaning (monomorphised p k) m).end ≡ wrong → ⊥
   makes-never-wrong m = well-formed-never-wrong (monomorphised p k) makes-well-formed m

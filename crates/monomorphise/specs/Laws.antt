@@ -1,5 +1,5 @@
 -- What the pass keeps.
-use Rattle.std.specs.Prelude.{◌≡◌, ℕ, true, List, length}
+use Rattle.std.specs.Prelude.{◌≡◌, ℕ, true, List}
 use Rattle.mlc_base.specs.Outcome.{wrong}
 use Rattle.ty_core.specs.Types.{Typ}
 use Rattle.ir_plain.specs.Meaning.{run}
@@ -34,16 +34,16 @@ pub record IsCopied (p : tests.Program Tests) (q : Program) : Type 0 where
 -- copies of a well formed program, in which each variable is bound once, are a well formed program
 abbrev pub CopiesAreWellFormed : Type 0
 CopiesAreWellFormed =
-    (p : tests.Program Tests) (q : Program) → IsTests p → length p.initial ≡ 7 → IsCopied p q → IsOnce (λ x. x) q.body → IsWellFormed q
+    (p : tests.Program Tests) (q : Program) → IsTests p → IsCopied p q → IsOnce (λ x. x) q.body → IsWellFormed q
 
 -- they go wrong at no number of turns, and neither does the program; both do the same
 abbrev pub CopiesKeepTheMeaning : Type 0
 CopiesKeepTheMeaning =
-    (p : tests.Program Tests) (q : Program) → IsTests p → length p.initial ≡ 7 → IsCopied p q → (m : ℕ) → meaning q m ≡ meaning_of_tests p m
+    (p : tests.Program Tests) (q : Program) → IsTests p → IsCopied p q → (m : ℕ) → meaning q m ≡ meaning_of_tests p m
 
 abbrev pub NeitherGoesWrong : Type 0
 NeitherGoesWrong =
-    (p : tests.Program Tests) (q : Program) → IsTests p → length p.initial ≡ 7 → IsCopied p q → (m : ℕ) → (meaning_of_tests p m).end ≡ wrong → ⊥
+    (p : tests.Program Tests) (q : Program) → IsTests p → IsCopied p q → (m : ℕ) → (meaning_of_tests p m).end ≡ wrong → ⊥
 
 -- What the function makes: copies, with numbers for names and for types.
 
@@ -59,7 +59,6 @@ monomorphised p k = record { initial = p.initial; types = k.types; expansion = k
 -- the program is well formed, each of its parameters may stand for some type, and the table has the types of its copies
 pub record IsReady (p : tests.Program Tests) (k : Numbering) : Type 0 where
   pub tests : IsTests p
-  pub initial : length p.initial ≡ 7
   pub inhabited : Inhabited p.body
   pub table : IsTableOf (table_of p) k.types
   pub known : AllKnown k.types k.index (copies p.body)

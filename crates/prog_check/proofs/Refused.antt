@@ -1,21 +1,26 @@
 -- For each premise of the rules of typing a phrase that breaks it alone. The answers are computed; `refused` and those after it turn them into refutations of
 -- the rules.
-use Rattle.std.proofs.Common.{◌≡◌, ℕ, Bool, true, false, List, [], ◌∷◌, Some, None, pos, refl}
+use Rattle.std.proofs.Common.{◌≡◌, ℕ, Bool, true, false, List, [], ◌∷◌, Option, Some, None, pos, refl}
 use Rattle.std.proofs.lemmas.Bool.{both_ways}
 use Rattle.mlc_base.specs.declared.label.Label.TheVariants.{Number}
 use Rattle.mlc_base.specs.declared.place.Place.{Place}
 use Rattle.mlc_prims.specs.LitOf.{int, string}
 use Rattle.mlc_prims.specs.declared.basis.BasisPrimitive.TheVariants.{Add, Equals}
 use Rattle.ty_core.specs.Types.{Typ, con, var, none, more, name}
-use Rattle.ty_core.specs.declared.mark.Mark.TheVariants.{Any, Equality}
+use Rattle.ty_core.specs.declared.mark.Mark.TheVariants.{Any, Equality, Class}
+use Rattle.ty_core.specs.declared.name.TyName.{TyName}
+use Rattle.ty_core.specs.declared.name.Equality.{Equality as Attribute}
+use Rattle.ty_core.specs.declared.name.Equality.TheVariants.{Always, ByArguments}
 use Rattle.ty_core.specs.declared.scheme.Quantified.{Quantified}
 use Rattle.ir_poly.specs.Prog.{fixed, held, Pat, any_pat, variable_pat, constant_pat, con_pat, con_of_pat, ref_of_pat, exn_pat, exn_of_pat, fields_pat, no_pats, a_pat, Exp, constant_exp, variable_exp, own_exp, con_exp, ref_exp, exn_exp, prim_exp, fields_exp, let_exp, app_exp, case_exp, chain_exp, handle_exp, raise_exp, fn_exp, no_fields, a_field, only, link, no_rules, a_rule, last, by_rules, more as more_fun, Decs, no_decs, val_dec, exception_dec, no_binds, a_bind, no_funs, a_fun}
 use Rattle.ir_poly.specs.ProgChecked.{Checked, DecsChecked}
 use Rattle.ir_poly.specs.ProgOnce.{IsOnce}
 use Rattle.ir_poly.specs.TestsChecked.{of_type, general, own, exception, Knowns, exn_type}
-use Rattle.ir_poly.specs.Types.{int_name, string_name, bool_name, list_name, of_name, function_type, ref_type, pair_type, Constructor, initial_constructors}
+use Rattle.ir_poly.specs.Types.{int_name, string_name, bool_name, list_name, of_name, function_type, ref_type, row_type, pair_type, Constructor, constructor_of, initial_constructors}
+use Rattle.ir_poly.specs.WellFormed.{Program}
 use Rattle.prog_check.specs.Binders.{decs_binders, are_distinct}
 use Rattle.prog_check.specs.Checking.{check_pat, check_exp, check_decs}
+use Rattle.prog_check.specs.Program.{check}
 use Rattle.prog_check.proofs.BindersLemmas.{once-complete}
 use Rattle.prog_check.proofs.Complete.{exp-complete, decs-complete}
 
@@ -205,6 +210,12 @@ primitive-without-its-type = refl
 record-written-otherwise : exp (fields_exp cell (a_field (Number 1) three (a_field (Number 2) three no_fields))) ≡ false
 record-written-otherwise = refl
 
+label-twice : exp (fields_exp (row_type ((Number 1, integer) ∷ (Number 1, integer) ∷ [])) (a_field (Number 1) three (a_field (Number 1) three no_fields))) ≡ false
+label-twice = refl
+
+labels-descend : exp (fields_exp (row_type ((Number 2, integer) ∷ (Number 1, integer) ∷ [])) (a_field (Number 2) three (a_field (Number 1) three no_fields))) ≡ false
+labels-descend = refl
+
 let-escapes : exp (fields_exp (pair_type integer integer) (a_field (Number 1) (let_exp integer (val [] false 7 integer three no_decs) (variable_exp 7 [] integer)) (a_field (Number 2) (variable_exp 7 [] integer) no_fields))) ≡ false
 let-escapes = refl
 
@@ -262,6 +273,9 @@ parameter-escapes = refl
 parameter-twice : decs (val (q ∷ q ∷ []) true 1 (to a a) (identity a) no_decs) ≡ false
 parameter-twice = refl
 
+overloaded-parameter : decs (val (record { variable = 0; mark = Class (record { int = true; word = true; char = false; string = false }) } ∷ []) true 1 (to a a) (identity a) no_decs) ≡ false
+overloaded-parameter = refl
+
 parameter-in-scope-already : check_decs table (q ∷ []) [] (val (q ∷ []) true 1 (to a a) (identity a) no_decs) ≡ false
 parameter-in-scope-already = refl
 
@@ -295,3 +309,33 @@ rules-leak-refuted = refused rules-leak
 
 parameter-escapes-refuted : {G' : Knowns} → DecsChecked table [] [] (val (q ∷ []) false 1 (to a a) (identity a) no_decs) G' → ⊥
 parameter-escapes-refuted = refused-decs parameter-escapes
+
+-- Programs
+
+abbrev basis : List ℕ
+basis = 90 ∷ 91 ∷ 92 ∷ 93 ∷ 94 ∷ 95 ∷ 96 ∷ []
+
+abbrev program : List ℕ → TyName → Option Typ → Program Decs
+program initial y t = record { initial = initial; constructors = constructor_of y 0 t ∷ []; body = no_decs }
+
+abbrev datatype : ℕ → Attribute → TyName
+datatype k e = record { stamp = k; arity = 1; equality = e }
+
+a-program : check (program basis (datatype 8 ByArguments) (Some a)) ≡ true
+a-program = refl
+
+six-exceptions : check (program (90 ∷ 91 ∷ 92 ∷ 93 ∷ 94 ∷ 95 ∷ []) (datatype 8 ByArguments) (Some a)) ≡ false
+six-exceptions = refl
+
+-- a further constructor of lists
+datatype-of-the-basis : check (program basis (datatype 7 ByArguments) (Some a)) ≡ false
+datatype-of-the-basis = refl
+
+comparable-whatever-it-holds : check (program basis (datatype 8 Always) (Some a)) ≡ false
+comparable-whatever-it-holds = refl
+
+argument-does-not-admit-equality : check (program basis (datatype 8 ByArguments) (Some (to a a))) ≡ false
+argument-does-not-admit-equality = refl
+
+argument-over-another-parameter : check (program basis (datatype 8 ByArguments) (Some (var 1))) ≡ false
+argument-over-another-parameter = refl

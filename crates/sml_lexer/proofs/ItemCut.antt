@@ -27,6 +27,9 @@ option_cases (Some a) = inl (a, refl)
 refused_found : (c : Code) (l : Lexeme) (r : List ℕ) → refused c ≡ found l r → ⊥
 refused_found c l r e = cc
 
+refused_blank : (c : Code) (r : List ℕ) → refused c ≡ blank r → ⊥
+refused_blank c r e = cc
+
 blank_rest : (r s : List ℕ) → blank r ≡ blank s → r ≡ s
 blank_rest r s e = cc
 

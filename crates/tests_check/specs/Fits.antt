@@ -10,7 +10,7 @@ use Rattle.ty_core.specs.declared.scheme.Quantified.{Quantified}
 use Rattle.ir_values.specs.Values.{same_label}
 use Rattle.ir_plain.specs.Tree.{Case, is_literal, is_con, is_con_of, is_exn, is_exn_of, is_record, Atoms, no_atoms, an_atom, Row, no_row, a_row, Exp, ret, let_in, exception_in, name_in, rec_in, switch, first, miss, counted, Arms, no_arms, arm, Op, use_of, const, con_alone, construct, ref_alone, refer, content, pack, make_record, select, prim_alone, prim, app, fn, block, handle, raise, raise_initial, Fun, last, more, Funs, no_funs, fun}
 use Rattle.ir_poly.specs.Tests.{Use, inst, poly}
-use Rattle.ir_poly.specs.Types.{function_type, ref_type, row_type, admits_in, over, all_over, are_new, changed, AreAllowed, Constructor, prim_type, arguments_at, result_at, tuple_type}
+use Rattle.ir_poly.specs.Types.{function_type, ref_type, row_type, labels_in, ascend, admits_in, over, all_over, are_new, changed, AreAllowed, Constructor, prim_type, arguments_at, result_at, tuple_type}
 use Rattle.ir_poly.specs.TestsChecked.{Known, of_type, general, own, exception, Knowns, at, exn_type, HasLiteral, value_type, alone_type, group_knowns, may_generalise, declared, NameChecked, is_size, HasConstructor}
 
 -- an atom is a variable of one type
@@ -97,7 +97,7 @@ module _ (table : List Constructor) where
     OpFits D G L (refer m a k) t = AtomFits L k a × (t ≡ ref_type a)
     OpFits D G L (content u k) t = (u ≡ t) × AtomFits L k (ref_type t)
     OpFits D G L (pack m a x k) t = ExceptionFits L x (Some a) × AtomFits L k a × (t ≡ exn_type)
-    OpFits D G L (make_record u row) t = (u ≡ t) × ((r : List (Label × Typ)) × RowFits L row r × (t ≡ row_type r))
+    OpFits D G L (make_record u row) t = (u ≡ t) × ((r : List (Label × Typ)) × RowFits L row r × (t ≡ row_type r) × (ascend (labels_in r) ≡ true))
     OpFits D G L (select u l k) t = AtomFits L k u × ((r : List (Label × Typ)) × (u ≡ row_type r) × (lookup (same_label l) r ≡ Some t))
     OpFits D G L (prim_alone p u) t = Allows (prim_type p).mark (admits_in D) u × (t ≡ function_type (tuple_type (arguments_at p u)) (result_at p u))
     OpFits D G L (prim m p u as_) t = Allows (prim_type p).mark (admits_in D) u × AtomsFit L as_ (arguments_at p u) × (t ≡ result_at p u)

@@ -1,0 +1,5 @@
+pub mod Member
+pub mod Sets
+pub mod Solved
+pub mod Known
+pub mod Examples

@@ -1,0 +1,4 @@
+pub mod Member
+pub mod Flow
+pub mod ByType
+pub mod Laws
