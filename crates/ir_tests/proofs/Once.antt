@@ -9,7 +9,7 @@ use Rattle.plain_tree.specs.TreeOf.{tree_of}
 use Rattle.plain_tree.specs.Sums.{count_of, binders_of, weight_of}
 use Rattle.plain_tree.proofs.Agree.{weights-agree}
 use Rattle.plain_tree.proofs.AgreeOnce.{tally, binders-agree}
-use Rattle.ir_tests.specs.Programs.{reading}
+use Rattle.tests_check.specs.Reads.{reading}
 
 counted : (t : Tables) (k : ℕ) (xs : List ℕ) → tally (reading t) (λ x. hit k x) xs ≡ count_of k xs
 counted t k [] = refl

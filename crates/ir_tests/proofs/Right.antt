@@ -9,7 +9,7 @@ use Rattle.ir_plain.specs.Unique.{IsOutside, AreNew, none_new, one_new, CaseUniq
 use Rattle.ir_poly.specs.Tests.{Use, inst, poly}
 use Rattle.ir_poly.specs.Types.{function_type, ref_type, row_type, Constructor, arguments_at, over, AreAllowed, admits_in}
 use Rattle.ir_poly.specs.TestsChecked.{Known, of_type, general, own, exception, Knowns, at, exn_type, group_knowns, declared, NameChecked, AtomChecked, atom_checked, AtomsChecked, no_atoms_checked, an_atom_checked, RowChecked, no_row_checked, a_row_checked, CaseChecked, literal_checked, con_checked, con_of_checked, exn_checked, exn_of_checked, record_checked, Checked, c_ret, c_let, c_exception, c_exception_alone, c_name, c_rec, c_switch, c_first, c_miss, c_counted, ArmsChecked, c_no_arms, c_arm, OpChecked, c_use, c_use_one, c_use_own, c_use_exception, c_const, c_con_alone, c_construct, c_ref_alone, c_refer, c_content, c_pack, c_make_record, c_select, c_prim_alone, c_prim, c_app, c_fn, c_block, c_handle, c_raise, c_raise_initial, FunChecked, c_last, c_more, FunsChecked, c_no_funs, c_fun, value_type}
-use Rattle.ir_tests.specs.Fits.{AtomFits, ExceptionFits, AtomsFit, RowFits, UseFits, ArgumentFits, case_onto, FunsNew, CaseFits, ExpFits, ArmsFit, OpFits, FunFits, FunsFit}
+use Rattle.tests_check.specs.Fits.{AtomFits, ExceptionFits, AtomsFit, RowFits, UseFits, ArgumentFits, case_onto, FunsNew, CaseFits, ExpFits, ArmsFit, OpFits, FunFits, FunsFit}
 use Rattle.ir_tests.specs.Laws.{IsRight, FitsIsRight}
 use Rattle.ir_tests.proofs.Known.{keys, Within, within-none, within-more, within-group, known-among, among-within, outside-unknown, unknown-outside, group-scoped, group-unique}
 

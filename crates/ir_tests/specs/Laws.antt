@@ -7,7 +7,7 @@ use Rattle.ir_plain.specs.Unique.{IsUnique}
 use Rattle.ir_poly.specs.Tests.{poly}
 use Rattle.ir_poly.specs.Types.{Constructor}
 use Rattle.ir_poly.specs.TestsChecked.{Checked}
-use Rattle.ir_tests.specs.Fits.{ExpFits}
+use Rattle.tests_check.specs.Fits.{ExpFits}
 
 -- well typed, each atom bound in its own function, nothing bound where it is bound already
 pub record IsRight (table : List Constructor) (m : Bool) (e : Exp poly) (t : Typ) : Type 0 where

@@ -1,0 +1,6 @@
+use Rattle.ir_known.specs.Knows.{marks_of}
+use Rattle.tests_check.proofs.Openings.{Within}
+use Rattle.tests_check.proofs.opening.enter_function.Given as goal
+
+abbrev pub invariant-loop-i : goal.invariant-loop-i
+invariant-loop-i l = Within l.tables (marks_of l.marks) l.fn.scope l.scope l.parameters l.last l.ty l.rest l.i

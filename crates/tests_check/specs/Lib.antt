@@ -1,0 +1,3 @@
+pub mod Fits
+pub mod Reads
+pub mod Walk

@@ -1,0 +1,5 @@
+// Tests of what bindings, functions and groups bring into scope.
+#![tactic(auto)]
+
+#[cfg(test)]
+mod tests;
