@@ -1,7 +1,0 @@
-use Rattle.std.proofs.Common.{take}
-use Rattle.mlc_base.specs.declared.label.Label.{Label}
-use Rattle.ty_unify.specs.Rows.{Among}
-use Rattle.ty_unify.proofs.row.lacking.Given as goal
-
-abbrev pub invariant-loop-i : goal.invariant-loop-i
-invariant-loop-i l = (x : Label) → Among x (take l.i l.known) → Among x l.labels
