@@ -21,20 +21,20 @@ use Rattle.elab_typed.specs.Contexts.{KeptEnv, kept_values, Around}
 use Rattle.elab_typed.specs.Instances.{use_general, use_single}
 use Rattle.elab_typed.specs.Elaborates.{variable_elab, named_elab, constant_exp_elab, vid_elab, app_elab, fn_elab, last_elab, DecsElab, no_decs_elab, a_dec_elab, val_elab, no_binds_elab, general_elab, plain_elab, no_funs_elab}
 
-abbrev p : Place
+abbrev pub p : Place
 p = record { file = 0; byte = 0 }
 
 -- nothing is in scope but the initial type names
-abbrev around : Around
+abbrev pub around : Around
 around = record { names = name_count; number = λ k. k; tyvars = []; env = kept_values []; scope = empty; known = []; parameters = [] }
 
-abbrev named : ℕ → bare.Exp
+abbrev pub named : ℕ → bare.Exp
 named x = bare.vid_exp p (short (Named x))
 
-abbrev bound : ℕ → bare.Pat
+abbrev pub bound : ℕ → bare.Pat
 bound x = bare.vid_pat p (short (Named x))
 
-abbrev val : bare.Pat → bare.Exp → bare.Dec
+abbrev pub val : bare.Pat → bare.Exp → bare.Dec
 val a e = bare.val_dec p p [] (bare.bind p a e bare.no_binds) bare.no_binds
 
 -- identifiers: id 200, x 201, y 202
@@ -53,7 +53,7 @@ program =
     (prog.app_exp p int_type (prog.variable_exp 0 (int_type ∷ []) (function_type int_type int_type)) (prog.constant_exp (int (pos 3)) int_type)) prog.no_binds)
     prog.no_funs prog.no_decs)
 
-le : {n : ℕ} → n ≤ n
+pub le : {n : ℕ} → n ≤ n
 le = omega arith
 
 above : {n : ℕ} → n ≤ suc n

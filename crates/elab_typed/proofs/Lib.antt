@@ -7,5 +7,7 @@ pub mod Instancing
 pub mod Vals
 pub mod Typing
 pub mod Whole
-mod Example
+pub mod Example
+mod Datatypes
+mod Handled
 pub mod Standing

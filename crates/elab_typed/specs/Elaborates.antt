@@ -110,7 +110,8 @@ module _ (table : List ConRow) where
     -- a pattern, with its type, what it binds, its choices, the scope that it makes and the next number
     pub data PatElab (A : Around) : ℕ → bare.Pat → prog.Pat → Typ → Bound → Choices → Scope → ℕ → Type 0 where
       wild_elab : (p : Place) {t : Typ} {k : ℕ} → Over A.names t → PatElab A k (bare.wild_pat p) prog.any_pat t [] no_choice empty k
-      constant_elab : (p : Place) (c : Constant) {k : ℕ} → PatElab A k (bare.constant_pat p c) (prog.constant_pat (constant_of c)) (constant_type c) [] no_choice empty k
+      constant_elab : (p : Place) (c : Constant) {k : ℕ}
+          → PatElab A k (bare.constant_pat p c) (prog.constant_pat (constant_of c)) (constant_type c) [] no_choice empty k
       variable_elab : (p : Place) (x : Vid) (n : ℕ) {t : Typ} {k : ℕ} → k ≤ n → Binds A x t
           → PatElab A k (bare.vid_pat p (short x)) (prog.variable_pat n) t ((x, t) ∷ []) no_choice (scoped x (variable n) empty) (suc n)
       alone_elab : (p : Place) {x : LongVid} {v : Kept} {d : Denotes} {a : prog.Pat} {n : TyName} {ts : Typs} {k : ℕ} → kept_in A.env x ≡ Some v
@@ -145,8 +146,9 @@ module _ (table : List ConRow) where
     -- fields of a pattern, against a row
     pub data PatsElab (A : Around) : Row → ℕ → bare.PatFields → prog.PatFields → Row → Bound → Choices → Scope → ℕ → Type 0 where
       no_pats_elab : {whole : Row} {k : ℕ} → PatsElab A whole k bare.no_pat_fields prog.no_pats [] [] no_choice empty k
-      a_pat_elab : {whole : Row} (l : Label) {a : bare.Pat} {fs : bare.PatFields} {a' : prog.Pat} {gs : prog.PatFields} {t : Typ} {r : Row} {vs us : Bound} {c d : Choices}
-          {q o : Scope} {k j i : ℕ} → lookup (same_label l) whole ≡ Some t → over A.parameters (as_typed A t) ≡ true → PatElab A k a a' t vs c q j
+      a_pat_elab : {whole : Row} (l : Label) {a : bare.Pat} {fs : bare.PatFields} {a' : prog.Pat} {gs : prog.PatFields} {t : Typ} {r : Row}
+          {vs us : Bound} {c d : Choices} {q o : Scope} {k j i : ℕ} → lookup (same_label l) whole ≡ Some t → over A.parameters (as_typed A t) ≡ true
+          → PatElab A k a a' t vs c q j
           → PatsElab A whole j fs gs r us d o i
           → PatsElab A whole k (bare.pat_field l a fs) (prog.a_pat l (as_typed A t) a' gs) ((l, t) ∷ r) (vs ++ us) (both c d) (plus_scope q o) i
 
@@ -161,7 +163,8 @@ module _ (table : List ConRow) where
           → IsGivenAt A (built_value b) ts t c → ConHas table A (built_number b) y us (as_typed A t)
           → ExpElab A k (bare.built_exp p b) (prog.con_exp (built_number b) y us (as_typed A t)) t c
       record_elab : {A : Around} {k : ℕ} (p : Place) {fs : bare.ExpFields} {gs : prog.Fields} {r : Row} {c : Choices} → FieldsElab A k fs gs r (sorted r) c
-          → ascend (labels_in (sorted r)) ≡ true → ExpElab A k (bare.fields_exp p fs) (prog.fields_exp (as_typed A (row_type (sorted r))) gs) (row_type (sorted r)) c
+          → ascend (labels_in (sorted r)) ≡ true
+          → ExpElab A k (bare.fields_exp p fs) (prog.fields_exp (as_typed A (row_type (sorted r))) gs) (row_type (sorted r)) c
       -- fields whose order matters are bound first, as they are written; then the record is made of the variables
       ordered_elab : {A : Around} {k : ℕ} (p : Place) {fs : bare.ExpFields} {bs : prog.Binds} {gs : prog.Fields} {r : Row} {c : Choices}
           → HeldElab A k k fs bs gs r (sorted r) c → ascend (labels_in (sorted r)) ≡ true
@@ -206,7 +209,8 @@ module _ (table : List ConRow) where
 
     -- operands of andalso (true) and orelse (false), with the choices of the derived form
     pub data ChainElab : Around → ℕ → Bool → bare.Exp → prog.Chain → Choices → Type 0 where
-      only_elab : {A : Around} {k : ℕ} (b : Bool) {e : bare.Exp} {e' : prog.Exp} {c : Choices} → ExpElab A k e e' bool_type c → ChainElab A k b e (prog.only e') c
+      only_elab : {A : Around} {k : ℕ} (b : Bool) {e : bare.Exp} {e' : prog.Exp} {c : Choices} → ExpElab A k e e' bool_type c
+          → ChainElab A k b e (prog.only e') c
       and_elab : {A : Around} {k : ℕ} (p : Place) {a e : bare.Exp} {a' : prog.Exp} {x : prog.Chain} {c d : Choices} → Over A.names bool_type
           → ExpElab A k a a' bool_type c → ChainElab A k true e x d
           → ChainElab A k true (and_of p a e) (prog.link a' x) (both (both no_choice (both d (both no_choice (both no_choice no_choice)))) c)

@@ -23,13 +23,13 @@ use Rattle.elab_typed.specs.Elaborates.{Stands, DecsElab}
 
 -- the program resolves the declarations
 abbrev pub ElaboratedResolves : Type 0
-ElaboratedResolves = (table : List Constructor) (A : Around) (k : ℕ) (ds : Decs) (es : prog.Decs) (made : ℕ) (number : ℕ → ℕ) (d : KeptEnv) (r : Scope) (G : Knowns)
-    (c : Choices) (j : ℕ) → DecsElab table A k ds es made number d r G c j → DecsTo A.scope k ds es r j
+ElaboratedResolves = (table : List Constructor) (A : Around) (k : ℕ) (ds : Decs) (es : prog.Decs) (made : ℕ) (number : ℕ → ℕ) (d : KeptEnv) (r : Scope)
+    (G : Knowns) (c : Choices) (j : ℕ) → DecsElab table A k ds es made number d r G c j → DecsTo A.scope k ds es r j
 
 -- it is well typed as a checker decides it
 abbrev pub ElaboratedIsChecked : Type 0
-ElaboratedIsChecked = (table : List Constructor) (A : Around) (k : ℕ) (ds : Decs) (es : prog.Decs) (made : ℕ) (number : ℕ → ℕ) (d : KeptEnv) (r : Scope) (G : Knowns)
-    (c : Choices) (j : ℕ) → KeepsInitial A.number → DecsElab table A k ds es made number d r G c j → DecsChecked table A.parameters A.known es G
+ElaboratedIsChecked = (table : List Constructor) (A : Around) (k : ℕ) (ds : Decs) (es : prog.Decs) (made : ℕ) (number : ℕ → ℕ) (d : KeptEnv) (r : Scope)
+    (G : Knowns) (c : Choices) (j : ℕ) → KeepsInitial A.number → DecsElab table A k ds es made number d r G c j → DecsChecked table A.parameters A.known es G
 
 -- types that the parameters in scope may stand for, over the names in use
 pub record Fits (A : Around) (s : ℕ → Typ) : Type 0 where
@@ -38,8 +38,8 @@ pub record Fits (A : Around) (s : ℕ → Typ) : Type 0 where
 
 -- the declarations have a typing, whatever the parameters in scope stand for
 abbrev pub ElaboratedHasTyping : Type 0
-ElaboratedHasTyping = (table : List Constructor) (A : Around) (k : ℕ) (ds : Decs) (es : prog.Decs) (made : ℕ) (number : ℕ → ℕ) (d : KeptEnv) (r : Scope) (G : Knowns)
-    (c : Choices) (j : ℕ) → DecsElab table A k ds es made number d r G c j → (s : ℕ → Typ) → Fits A s
+ElaboratedHasTyping = (table : List Constructor) (A : Around) (k : ℕ) (ds : Decs) (es : prog.Decs) (made : ℕ) (number : ℕ → ℕ) (d : KeptEnv) (r : Scope)
+    (G : Knowns) (c : Choices) (j : ℕ) → DecsElab table A k ds es made number d r G c j → (s : ℕ → Typ) → Fits A s
     → DecsHave no_variable (context_under s A) ds made (env_under s d) c
 
 -- a program for declarations in the initial basis: it is well typed, they have a typing, and it does what they do at every number of turns
