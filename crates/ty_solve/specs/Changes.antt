@@ -44,7 +44,8 @@ RefusesWrite s x = Refuses s (λ m f. Does m f (Some x)) (λ p. IsForcedWrite p 
 
 -- what is known of t comes to be said, with tasks for what is asked besides
 pub record Demands (old new : List Entry) (tasks now : List Task) (r : Known) (t : Typ) : Type 0 where
-  pub same : (m : ℕ → Bool) (f : ℕ → Typ) → (Solves m f (look new) × AllHold m f now) ↔ (Solves m f (look old) × AllHold m f tasks × Extends m r.equality r.labels (subs f r.types) (sub f t))
+  pub same : (m : ℕ → Bool) (f : ℕ → Typ) → (Solves m f (look new) × AllHold m f now) ↔ (Solves m f (look old) × AllHold m f tasks
+      × Extends m r.equality r.labels (subs f r.types) (sub f t))
   pub forced : (p : Problem) → IsForced p (look old) → AreForced p tasks → IsDue p t r → IsForced p (look new) × AreForced p now
   pub within : AreWithin (length old) tasks → AreWithin (length old) now
   pub lower : ranks new ≤ ranks old

@@ -37,8 +37,10 @@ pub record FieldsMeet (old new : List Task) (ls : List Label) (ts : Typs) (ks : 
 
 -- to the tasks come, where e is true, those that make the types of labels other than ks admit equality
 pub record OthersAdmit (e : Bool) (old new : List Task) (ls : List Label) (ts : Typs) (ks : List Label) : Type 0 where
-  pub same : (m : ℕ → Bool) (f : ℕ → Typ) → AllHold m f new ↔ (AllHold m f old × (e ≡ true → (l : Label) (t : Typ) → At l t ls ts → (Among l ks → ⊥) → admits m (sub f t) ≡ true))
-  pub forced : (p : Problem) → AreForced p old → (e ≡ true → (l : Label) (t : Typ) → At l t ls ts → (Among l ks → ⊥) → Asks p Mark.Equality t × Met p t) → AreForced p new
+  pub same : (m : ℕ → Bool) (f : ℕ → Typ) → AllHold m f new ↔ (AllHold m f old × (e ≡ true → (l : Label) (t : Typ) → At l t ls ts → (Among l ks → ⊥)
+      → admits m (sub f t) ≡ true))
+  pub forced : (p : Problem) → AreForced p old → (e ≡ true → (l : Label) (t : Typ) → At l t ls ts → (Among l ks → ⊥) → Asks p Mark.Equality t × Met p t)
+      → AreForced p new
   pub within : (n : ℕ) → AreWithin n old → are_below n ts ≡ true → AreWithin n new
   pub stay : (a b : Typ) → Waits old a b → Waits new a b
 
@@ -50,10 +52,13 @@ pub record IsUnion (ls : List Label) (ts : Typs) (ks : List Label) (us : Typs) (
 
 -- the rows a and b come to one, r, with tasks for what is asked besides
 pub record Joins (old new : List Task) (a b r : Known) : Type 0 where
-  pub same : (m : ℕ → Bool) (f : ℕ → Typ) (t : Typ) → (AllHold m f new × Extends m r.equality r.labels (subs f r.types) t) ↔ (AllHold m f old × Extends m a.equality a.labels (subs f a.types) t × Extends m b.equality b.labels (subs f b.types) t)
+  pub same : (m : ℕ → Bool) (f : ℕ → Typ) (t : Typ) → (AllHold m f new × Extends m r.equality r.labels (subs f r.types) t) ↔ (AllHold m f old
+      × Extends m a.equality a.labels (subs f a.types) t × Extends m b.equality b.labels (subs f b.types) t)
   pub forced : (p : Problem) (t : Typ) → AreForced p old → IsDue p t a → IsDue p t b → AreForced p new × IsDue p t r
-  pub all : (m : ℕ → Bool) (f : ℕ → Typ) (t : Typ) → Extends m a.equality a.labels (subs f a.types) t → Extends m b.equality b.labels (subs f b.types) t → Extends m r.equality r.labels (subs f r.types) t
-  pub all_forced : (p : Problem) (t : Typ) → IsForcedRow p t a.equality a.labels a.types → IsForcedRow p t b.equality b.labels b.types → IsForcedRow p t r.equality r.labels r.types
+  pub all : (m : ℕ → Bool) (f : ℕ → Typ) (t : Typ) → Extends m a.equality a.labels (subs f a.types) t → Extends m b.equality b.labels (subs f b.types) t
+      → Extends m r.equality r.labels (subs f r.types) t
+  pub all_forced : (p : Problem) (t : Typ) → IsForcedRow p t a.equality a.labels a.types → IsForcedRow p t b.equality b.labels b.types
+      → IsForcedRow p t r.equality r.labels r.types
   pub within : (n : ℕ) → AreWithin n old → IsFitRow n a → IsFitRow n b → AreWithin n new
   pub fit : (n : ℕ) → IsFitRow n a → IsFitRow n b → IsFitRow n r
   pub lower : row_rank r.equality ≤ row_rank a.equality
@@ -68,7 +73,8 @@ pub record Closes (old new : List Task) (r : Known) (t : Typ) : Type 0 where
 
 -- the row r says of a record what the substitution says of y
 pub record IsBase (n : ℕ) (s : ℕ → Entry) (y : ℕ) (r : Known) : Type 0 where
-  pub same : (m : ℕ → Bool) (f : ℕ → Typ) (t : Typ) (e : Bool) (ks : List Label) (us : Typs) → Extends m e ks us t → Meets m f t (s y) ↔ Extends m r.equality r.labels (subs f r.types) t
+  pub same : (m : ℕ → Bool) (f : ℕ → Typ) (t : Typ) (e : Bool) (ks : List Label) (us : Typs) → Extends m e ks us t → Meets m f t (s y)
+      ↔ Extends m r.equality r.labels (subs f r.types) t
   pub forced : (p : Problem) → Records p (var y) → Met p (var y) → ForcedAt p y (s y) → EntryMet p (s y) → IsDue p (var y) r
   pub fit : IsFitRow n r
   pub lower : row_rank r.equality ≤ entry_rank (s y)
