@@ -1,15 +1,16 @@
 -- The table of copies is one of the program, and has what they want.
-use Rattle.std.proofs.Common.{◌≡◌, ℕ, zero, suc, Bool, true, false, List, [], ◌∷◌, ◌++◌, Option, Some, None, nat_eq, nat_lt, slice_get, if◌then◌else◌, ⊤, refl, sym, ap, subst, ◌∙◌, arith}
+use Rattle.std.proofs.Common.{◌≡◌, ℕ, zero, suc, Bool, true, false, ◌&&◌, ◌⊎◌, inl, inr, List, [], ◌∷◌, ◌++◌, Option, Some, None, nat_eq, nat_lt, slice_get, if◌then◌else◌, refl, sym, ap, subst, ◌∙◌, arith}
 use Rattle.std.proofs.lemmas.Bool.{lt-ltb, ltb-false, eqb-true}
 use Rattle.std.specs.List.{AllByRecursion}
+use Rattle.std.specs.Prelude.{⊤}
 use Rattle.ty_core.specs.Types as typ
-use Rattle.ty_core.specs.Types.{Symbol, arrow, labels, name, Typ, con, Typs, typs_of, allowed, attribute}
+use Rattle.ty_core.specs.Types.{Symbol, arrow, labels, name, Typ, var, con, Typs, typs_of, allowed, attribute}
 use Rattle.ty_core.specs.declared.name.TyName.{TyName}
 use Rattle.ty_core.specs.declared.name.Equality.{Equality}
 use Rattle.ty_core.specs.declared.name.Equality.TheVariants.{Always, ByArguments}
 use Rattle.ir_plain.specs.Tree.{Case, is_literal, is_con, is_con_of, is_exn, is_exn_of, is_record, Exp, ret, let_in, exception_in, name_in, rec_in, switch, first, miss, counted, Arms, no_arms, arm, Op, use_of, const, con_alone, construct, ref_alone, refer, content, pack, make_record, select, prim_alone, prim, app, fn, block, handle, raise, raise_initial, Fun, last, more as more_of, Funs, no_funs, fun}
-use Rattle.ir_values.specs.Values.{truth_number}
-use Rattle.ir_poly.specs.Types.{Constructor, find, bool_name, exn_name, initial_constructors, IsConstructor}
+use Rattle.ir_values.specs.Values.{false_number, true_number, nil_number, cons_number, truth_number}
+use Rattle.ir_poly.specs.Types.{Constructor, constructor_of, find, list_name, pair_type, list_type, bool_name, exn_name, initial_constructors, IsConstructor}
 use Rattle.ir_poly.specs.TestsChecked.{HasConstructor}
 use Rattle.ir_mono.specs.Types.{Row, Node, node, node_at, constructor_at, admits, unit_number, Is, IsComparable, records_are, named_are, admit_none, Stands, stands_con, IsTable}
 use Rattle.monomorphise.specs.Monomorphise.{Named}
@@ -20,17 +21,17 @@ use Rattle.monomorphise.proofs.Tables.{stands-moved}
 use Rattle.monomorphise.proofs.Placed.{There, IsExact, TypePlaced, type-placed, number-found}
 use Rattle.monomorphise.proofs.Entered.{Keeps, keeps-itself, keeps-then, longer-keeps, IsListable, AreListable, Tried, entered-tried, entered-listed}
 
-pub all-front : {A : Type 0} {P : A → Type 0} (xs ys : List A) → AllByRecursion P (xs ++ ys) → AllByRecursion P xs
-all-front [] ys h = tt
-all-front (x ∷ xs) ys h = (h.0, all-front xs ys h.1)
+pub all-front : {A : Type 0} (P : A → Type 0) (xs ys : List A) → AllByRecursion P (xs ++ ys) → AllByRecursion P xs
+all-front P [] ys h = tt
+all-front P (x ∷ xs) ys h = (h.0, all-front P xs ys h.1)
 
-pub all-back : {A : Type 0} {P : A → Type 0} (xs ys : List A) → AllByRecursion P (xs ++ ys) → AllByRecursion P ys
-all-back [] ys h = h
-all-back (x ∷ xs) ys h = all-back xs ys h.1
+pub all-back : {A : Type 0} (P : A → Type 0) (xs ys : List A) → AllByRecursion P (xs ++ ys) → AllByRecursion P ys
+all-back P [] ys h = h
+all-back P (x ∷ xs) ys h = all-back P xs ys h.1
 
-pub all-join : {A : Type 0} {P : A → Type 0} (xs ys : List A) → AllByRecursion P xs → AllByRecursion P ys → AllByRecursion P (xs ++ ys)
-all-join [] ys h k = k
-all-join (x ∷ xs) ys h k = (h.0, all-join xs ys h.1 k)
+pub all-join : {A : Type 0} (P : A → Type 0) (xs ys : List A) → AllByRecursion P xs → AllByRecursion P ys → AllByRecursion P (xs ++ ys)
+all-join P [] ys h k = k
+all-join P (x ∷ xs) ys h k = (h.0, all-join P xs ys h.1 k)
 
 -- a constructor is one of the program
 abbrev pub Has : List Constructor → Wanted → Type 0
@@ -46,6 +47,10 @@ got-kept : {a b : List Row} → Keeps a b → (w : Wanted) → Got a w → Got b
 got-kept {a} {b} h (a_type t) g = (g.0, stands-moved a b h.nodes g.1)
 got-kept {a} {b} h (a_constructor t c) g = (g.0, stands-moved a b h.nodes g.1, (g.2.0, h.lists g.0 c g.2.0 g.2.1))
 
+-- what a type that is no variable begins with
+node-of : {types : List Row} {s : ℕ → ℕ} {n : ℕ} {h : Symbol} {ts : Typs} → Stands types s n (con h ts) → (ps : List ℕ) × Is types n h ps
+node-of (stands_con {ns = ps} i is) = (ps, i)
+
 module _ (constructors : List Constructor) (listable : AreListable constructors) where
   record One (types types' : List Row) (w : Wanted) : Type 0 where
     exact : IsExact constructors types'
@@ -59,22 +64,15 @@ module _ (constructors : List Constructor) (listable : AreListable constructors)
   one-entered types x (a_type t) h =
       let p = type-placed constructors (λ v. unit_number) types x (unit-there types x) t in
       record { exact = p.exact; keeps = longer-keeps p.longer; got = ((place_type (λ v. unit_number) types t).1, p.stands) }
-  one-entered types x (a_constructor t c) h = with-type (subst (Stands q.0 (λ v. unit_number) q.1) h.1.type p.stands)
-    where
-      q : List Row × ℕ
-      q = place_type (λ v. unit_number) types t
-
-      p : TypePlaced constructors (λ v. unit_number) types q.0 q.1 t
-      p = type-placed constructors (λ v. unit_number) types x (unit-there types x) t
-
-      tried : Tried constructors listable q.0 (enter_at constructors q.0 q.1 c (slice_get q.0 q.1))
-      tried = entered-tried constructors listable q.0 q.1 c p.exact (slice_get q.0 q.1) refl
-
-      with-type : {n : ℕ} → Stands q.0 (λ v. unit_number) q.1 (con (name h.1.datatype) (typs_of h.1.arguments)) → One types (enter_at constructors q.0 q.1 c (slice_get q.0 q.1)) (a_constructor t c)
-      with-type (stands_con {ns = ps} i is) = record {
+  one-entered types x (a_constructor t c) h =
+      let q = place_type (λ v. unit_number) types t in
+      let p = type-placed constructors (λ v. unit_number) types x (unit-there types x) t in
+      let tried = entered-tried constructors listable q.0 q.1 c p.exact (slice_get q.0 q.1) refl in
+      let k = node-of (subst (Stands q.0 (λ v. unit_number) q.1) h.1.type p.stands) in
+      record {
         exact = tried.exact;
         keeps = keeps-then (longer-keeps p.longer) tried.keeps;
-        got = (q.1, stands-moved _ _ tried.keeps.nodes p.stands, entered-listed constructors listable q.0 q.1 c h.1.datatype ps h.1.row p.exact h.1.found h.1.same i (slice_get q.0 q.1) refl);
+        got = (q.1, stands-moved _ _ tried.keeps.nodes p.stands, entered-listed constructors listable q.0 q.1 c h.1.datatype k.0 h.1.row p.exact h.1.found h.1.same k.1 (slice_get q.0 q.1) refl);
       }
 
   pub record Every (types types' : List Row) (ws : List Wanted) : Type 0 where
@@ -98,13 +96,16 @@ program-listable k h = record {
   admits = h.admits;
 }
 
+some-is : {A : Type 0} {a b : A} → Some a ≡ Some b → a ≡ b
+some-is e = cc
+
 found-listable : (ks : List Constructor) → AllByRecursion IsListable ks → (y : TyName) (c : ℕ) (k : Constructor) → find ks y c ≡ Some k → IsListable k
 found-listable [] h y c k e = absurd (cc)
-found-listable (j ∷ ks) h y c k e = go (nat_eq j.datatype.stamp y.stamp Rattle.std.specs.Prelude.◌&&◌ nat_eq j.number c) e
+found-listable (j ∷ ks) h y c k e = go (nat_eq j.datatype.stamp y.stamp && nat_eq j.number c) e (found-listable ks h.1 y c k)
   where
-    go : (b : Bool) → (if b then Some j else find ks y c) ≡ Some k → IsListable k
-    go true d = subst IsListable (let same : j ≡ k = cc in same) h.0
-    go false d = found-listable ks h.1 y c k d
+    go : (b : Bool) → (if b then Some j else find ks y c) ≡ Some k → (find ks y c ≡ Some k → IsListable k) → IsListable k
+    go true d rest = subst IsListable (some-is d) h.0
+    go false d rest = rest d
 
 all-listable : (ks : List Constructor) → AllByRecursion IsConstructor ks → AllByRecursion IsListable ks
 all-listable [] h = tt
@@ -113,17 +114,16 @@ all-listable (k ∷ ks) h = (program-listable k h.0, all-listable ks h.1)
 no-attribute : ByArguments ≡ Always → ⊥
 no-attribute e = cc
 
+alone-listable : (y : TyName) (c : ℕ) → nat_lt 5 y.stamp ≡ true → (y.equality ≡ Always → ⊥) → IsListable (constructor_of y c None)
+alone-listable y c d e = record { declared = d; equality = e; admits = λ a n q. absurd (cc) }
+
+cell-listable : IsListable (constructor_of list_name cons_number (Some (pair_type (var 0) (list_type (var 0)))))
+cell-listable = record { declared = refl; equality = no-attribute; admits = λ a e q. subst (λ z. typ.admits (λ i. true) z ≡ true) (some-is e) refl }
+
 pub table-listable : (ks : List Constructor) → AllByRecursion IsConstructor ks → AreListable (initial_constructors ++ ks)
-table-listable ks h = found-listable (initial_constructors ++ ks) (
-  record { declared = refl; equality = no-attribute; admits = λ a e q. absurd (cc) },
-  record { declared = refl; equality = no-attribute; admits = λ a e q. absurd (cc) },
-  record { declared = refl; equality = no-attribute; admits = λ a e q. absurd (cc) },
-  record { declared = refl; equality = no-attribute; admits = λ a e q. subst (λ z. typ.admits (λ i. true) z ≡ true) (some-is e) refl },
-  all-listable ks h,
-)
-  where
-    some-is : {a b : Typ} → Some a ≡ Some b → a ≡ b
-    some-is e = cc
+table-listable ks h =
+    found-listable (initial_constructors ++ ks)
+    (alone-listable bool_name false_number refl no-attribute, (alone-listable bool_name true_number refl no-attribute, (alone-listable list_name nil_number refl no-attribute, (cell-listable, all-listable ks h))))
 
 -- What comes first is a table of the program.
 
@@ -159,10 +159,17 @@ module _ (ks : List Constructor) where
   first-datatypes (suc (suc (suc n))) c a e = absurd (cc)
 
   -- truth values have no arguments
-  listed-truth : (c : ℕ) (a : Option ℕ) → constructor_at first_types 1 c ≡ Some a → (a ≡ None) × ((c ≡ 0) ⊎ (c ≡ 1))
-  listed-truth zero a e = (let same : None ≡ a = cc in sym same, inl refl)
-  listed-truth (suc zero) a e = (let same : None ≡ a = cc in sym same, inr refl)
-  listed-truth (suc (suc c)) a e = absurd (cc)
+  listed-truth : (c : ℕ) (a : Option ℕ) → constructor_at first_types 1 c ≡ Some a → (a ≡ None) × ((c ≡ false_number) ⊎ (c ≡ true_number))
+  listed-truth c a e = go (nat_eq c false_number) (nat_eq c true_number) refl refl e
+    where
+      go : (t u : Bool) → nat_eq c false_number ≡ t → nat_eq c true_number ≡ u → (if t then Some None else (if u then Some None else None)) ≡ Some a → (a ≡ None) × ((c ≡ false_number) ⊎ (c ≡ true_number))
+      go true u d f e = (sym (some-is e), inl (eqb-true c false_number d))
+      go false true d f e = (sym (some-is e), inr (eqb-true c true_number f))
+      go false false d f e = absurd (cc)
+
+  first-truths : (b : Bool) → constructor_at first_types 1 (truth_number b) ≡ Some None
+  first-truths true = refl
+  first-truths false = refl
 
   first-comparable : (n : ℕ) → admits first_types n ≡ true → IsComparable first_types n
   first-comparable zero e = records_are {ls = []} {ps = []} refl admit_none
@@ -172,7 +179,7 @@ module _ (ks : List Constructor) where
   first-comparable (suc (suc (suc n))) e = absurd (cc)
 
   first-sound : IsTable first_types
-  first-sound = record { once = first-once; unit = refl; bool = refl; truths = λ b. elim b [ true ↦ refl | false ↦ refl ]; datatypes = first-datatypes; comparable = first-comparable }
+  first-sound = record { once = first-once; unit = refl; bool = refl; truths = first-truths; datatypes = first-datatypes; comparable = first-comparable }
 
   first-closed : (n : ℕ) (h : Symbol) (ps : List ℕ) → Is first_types n h ps → AllThere first_types ps
   first-closed zero h ps e = subst (AllThere first_types) (let same : [] ≡ ps = cc in same) none_there
@@ -201,9 +208,15 @@ module _ (ks : List Constructor) where
   first-flags (suc (suc zero)) h ps e f = absurd (cc)
   first-flags (suc (suc (suc n))) h ps e f = absurd (cc)
 
-  truth-found : (c : ℕ) (k : Constructor) → (c ≡ 0) ⊎ (c ≡ 1) → find constructors bool_name c ≡ Some k → k.argument ≡ None
-  truth-found c k (inl d) e = ap (λ z. z.argument) (let same : find constructors bool_name 0 ≡ Some k = subst (λ z. find constructors bool_name z ≡ Some k) d e in let one : k ≡ Rattle.ir_poly.specs.Types.constructor_of bool_name 0 None = cc in one)
-  truth-found c k (inr d) e = ap (λ z. z.argument) (let same : find constructors bool_name 1 ≡ Some k = subst (λ z. find constructors bool_name z ≡ Some k) d e in let one : k ≡ Rattle.ir_poly.specs.Types.constructor_of bool_name 1 None = cc in one)
+  false-found : find constructors bool_name false_number ≡ Some (constructor_of bool_name false_number None)
+  false-found = refl
+
+  true-found : find constructors bool_name true_number ≡ Some (constructor_of bool_name true_number None)
+  true-found = refl
+
+  truth-found : (c : ℕ) (k : Constructor) → (c ≡ false_number) ⊎ (c ≡ true_number) → find constructors bool_name c ≡ Some k → k.argument ≡ None
+  truth-found c k (inl d) e = sym (ap (λ z. z.argument) (some-is (sym false-found ∙ ap (find constructors bool_name) (sym d) ∙ e)))
+  truth-found c k (inr d) e = sym (ap (λ z. z.argument) (some-is (sym true-found ∙ ap (find constructors bool_name) (sym d) ∙ e)))
 
   first-arguments : (n c : ℕ) (y : TyName) (ps : List ℕ) (k : Constructor) (a : Option ℕ) → Is first_types n (name y) ps → find constructors y c ≡ Some k → k.datatype ≡ y → constructor_at first_types n c ≡ Some a → ArgumentIs first_types ps k.argument a
   first-arguments zero c y ps k a e f d h = absurd (cc)
@@ -246,20 +259,20 @@ module _ (types : List Row) (table : IsTable types) where
   mutual
     pub all-known : (e : Exp Named) → AllByRecursion (Got types) (wanted e) → AllKnown types index e
     all-known (ret k) h = tt
-    all-known (let_in k u t o e) h = (known t h.0, op-known o (all-front (op_wanted o) (wanted e) h.1), all-known e (all-back (op_wanted o) (wanted e) h.1))
+    all-known (let_in k u t o e) h = (known t h.0, op-known o (all-front (Got types) (op_wanted o) (wanted e) h.1), all-known e (all-back (Got types) (op_wanted o) (wanted e) h.1))
     all-known (exception_in k i t e) h = let a = argument-known t (wanted e) h in (a.0, all-known e a.1)
     all-known (name_in k j e) h = all-known e h
-    all-known (rec_in u fs e) h = (funs-known fs (all-front (funs_wanted fs) (wanted e) h), all-known e (all-back (funs_wanted fs) (wanted e) h))
+    all-known (rec_in u fs e) h = (funs-known fs (all-front (Got types) (funs_wanted fs) (wanted e) h), all-known e (all-back (Got types) (funs_wanted fs) (wanted e) h))
     all-known (switch k t arms) h = (known t h.0, arms-known t arms h.1)
-    all-known (first e d) h = (all-known e (all-front (wanted e) (wanted d) h), all-known d (all-back (wanted e) (wanted d) h))
+    all-known (first e d) h = (all-known e (all-front (Got types) (wanted e) (wanted d) h), all-known d (all-back (Got types) (wanted e) (wanted d) h))
     all-known miss h = tt
     all-known (counted n e) h = all-known e h
 
     arms-known : (u : Typ) (arms : Arms Named) → AllByRecursion (Got types) (arms_wanted u arms) → ArmsKnown types index u arms
     arms-known u no_arms h = tt
     arms-known u (arm c e arms) h =
-        let k = all-back (case_wanted u c) (wanted e ++ arms_wanted u arms) h in
-        (case-known u c (all-front (case_wanted u c) (wanted e ++ arms_wanted u arms) h), all-known e (all-front (wanted e) (arms_wanted u arms) k), arms-known u arms (all-back (wanted e) (arms_wanted u arms) k))
+        let k = all-back (Got types) (case_wanted u c) (wanted e ++ arms_wanted u arms) h in
+        (case-known u c (all-front (Got types) (case_wanted u c) (wanted e ++ arms_wanted u arms) h), all-known e (all-front (Got types) (wanted e) (arms_wanted u arms) k), arms-known u arms (all-back (Got types) (wanted e) (arms_wanted u arms) k))
 
     op-known : (o : Op Named) → AllByRecursion (Got types) (op_wanted o) → OpKnown types index o
     op-known (use_of k) h = tt
@@ -277,7 +290,7 @@ module _ (types : List Row) (table : IsTable types) where
     op-known (app place j k) h = tt
     op-known (fn f) h = fun-known f h
     op-known (block e) h = all-known e h
-    op-known (handle e k d) h = (all-known e (all-front (wanted e) (wanted d) h), all-known d (all-back (wanted e) (wanted d) h))
+    op-known (handle e k d) h = (all-known e (all-front (Got types) (wanted e) (wanted d) h), all-known d (all-back (Got types) (wanted e) (wanted d) h))
     op-known (raise k) h = tt
     op-known (raise_initial i) h = tt
 
@@ -287,4 +300,4 @@ module _ (types : List Row) (table : IsTable types) where
 
     funs-known : (fs : Funs Named) → AllByRecursion (Got types) (funs_wanted fs) → FunsKnown types index fs
     funs-known no_funs h = tt
-    funs-known (fun k t f fs) h = (known t h.0, fun-known f (all-front (fun_wanted f) (funs_wanted fs) h.1), funs-known fs (all-back (fun_wanted f) (funs_wanted fs) h.1))
+    funs-known (fun k t f fs) h = (known t h.0, fun-known f (all-front (Got types) (fun_wanted f) (funs_wanted fs) h.1), funs-known fs (all-back (Got types) (fun_wanted f) (funs_wanted fs) h.1))

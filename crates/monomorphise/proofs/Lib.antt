@@ -18,3 +18,9 @@ pub mod Examples
 pub mod Tables
 pub mod Placed
 pub mod Entered
+pub mod Filled
+pub mod Constructed
+pub mod Inhabited
+pub mod Counted
+pub mod Limited
+pub mod CountExamples

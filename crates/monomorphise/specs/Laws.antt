@@ -1,5 +1,5 @@
 -- What the pass keeps.
-use Rattle.std.specs.Prelude.{◌≡◌, ℕ, true, List}
+use Rattle.std.specs.Prelude.{◌≡◌, ◌≤◌, ℕ, true, List, Option, Some, None, option_map}
 use Rattle.mlc_base.specs.Outcome.{wrong}
 use Rattle.ty_core.specs.Types.{Typ}
 use Rattle.ir_plain.specs.Meaning.{run}
@@ -13,9 +13,11 @@ use Rattle.ir_mono.specs.WellFormed.{IsWellFormed}
 use Rattle.monomorphise.specs.Copies.{Target, kind_of, no_copies, Copy}
 use Rattle.ir_mono.specs.Types.{Row}
 use Rattle.ir_plain.specs.Weight.{weight}
-use Rattle.monomorphise.specs.Monomorphise.{Inhabited, copies}
-use Rattle.monomorphise.specs.Number.{none_given, number, AllKnown, Rises}
+use Rattle.monomorphise.specs.Monomorphise.{copies}
+use Rattle.monomorphise.specs.Number.{none_given, number, Rises}
+use Rattle.monomorphise.specs.Table.{number_in, types_for}
 use Rattle.monomorphise.specs.Expansion.{Expands}
+use Rattle.monomorphise.specs.Counting.{expansion_within, greatest_expansion, Passes}
 use Rattle.monomorphise.specs.Simple.{simple, IsTableOf}
 
 -- a program does what any copies of it do, unless they go wrong
@@ -45,40 +47,47 @@ abbrev pub NeitherGoesWrong : Type 0
 NeitherGoesWrong =
     (p : tests.Program Tests) (q : Program) → IsTests p → IsCopied p q → (m : ℕ) → (meaning_of_tests p m).end ≡ wrong → ⊥
 
--- What the function makes: copies, with numbers for names and for types.
+-- What the function makes: copies, with numbers for names, and for types those of the table that it makes of them.
 
--- the table, the number of each type in it, and how large the program is
-pub record Numbering : Type 0 where
-  pub types : List Row
-  pub index : Typ → ℕ
-  pub expansion : ℕ
+abbrev pub types_of : tests.Program Tests → List Row
+types_of p = types_for (table_of p) (copies p.body)
 
-abbrev pub monomorphised : tests.Program Tests → Numbering → Program
-monomorphised p k = record { initial = p.initial; types = k.types; expansion = k.expansion; body = number k.types k.index none_given 0 (copies p.body) }
-
--- the program is well formed, each of its parameters may stand for some type, and the table has the types of its copies
-pub record IsReady (p : tests.Program Tests) (k : Numbering) : Type 0 where
-  pub tests : IsTests p
-  pub inhabited : Inhabited p.body
-  pub table : IsTableOf (table_of p) k.types
-  pub known : AllKnown k.types k.index (copies p.body)
-  pub expansion : Expands (table_of p) (copies p.body) k.expansion
+-- n says how many nodes it has, written out
+abbrev pub monomorphised : tests.Program Tests → ℕ → Program
+monomorphised p n = record { initial = p.initial; types = types_of p; expansion = n; body = number (types_of p) (number_in (types_of p)) none_given 0 (copies p.body) }
 
 abbrev pub MakesCopies : Type 0
-MakesCopies = (p : tests.Program Tests) (k : Numbering) → IsReady p k → IsCopied p (monomorphised p k)
+MakesCopies = (p : tests.Program Tests) (n : ℕ) → IsTests p → IsCopied p (monomorphised p n)
 
 abbrev pub MakesWellFormed : Type 0
-MakesWellFormed = (p : tests.Program Tests) (k : Numbering) → IsReady p k → IsWellFormed (monomorphised p k)
+MakesWellFormed = (p : tests.Program Tests) (n : ℕ) → IsTests p → IsWellFormed (monomorphised p n)
 
 abbrev pub KeepsTheMeaning : Type 0
-KeepsTheMeaning = (p : tests.Program Tests) (k : Numbering) → IsReady p k → (m : ℕ) → meaning (monomorphised p k) m ≡ meaning_of_tests p m
+KeepsTheMeaning = (p : tests.Program Tests) (n : ℕ) → IsTests p → (m : ℕ) → meaning (monomorphised p n) m ≡ meaning_of_tests p m
 
 abbrev pub IsNeverWrong : Type 0
-IsNeverWrong = (p : tests.Program Tests) (k : Numbering) → IsReady p k → (m : ℕ) → (meaning (monomorphised p k) m).end ≡ wrong → ⊥
+IsNeverWrong = (p : tests.Program Tests) (n : ℕ) → IsTests p → (m : ℕ) → (meaning (monomorphised p n) m).end ≡ wrong → ⊥
 
 -- whatever the program: a variable has a greater number than those in scope where it is bound, and numbers change no count
 abbrev pub NumbersRise : Type 0
-NumbersRise = (p : tests.Program Tests) (k : Numbering) → Rises k.types k.index 0 (monomorphised p k).body
+NumbersRise = (p : tests.Program Tests) (n : ℕ) → Rises (types_of p) (number_in (types_of p)) 0 (monomorphised p n).body
 
 abbrev pub NumbersWeigh : Type 0
-NumbersWeigh = (p : tests.Program Tests) (k : Numbering) → weight (monomorphised p k).body ≡ weight (copies p.body)
+NumbersWeigh = (p : tests.Program Tests) (n : ℕ) → weight (monomorphised p n).body ≡ weight (copies p.body)
+
+-- The whole function gives no program where the count passes the limit.
+abbrev pub monomorphise : tests.Program Tests → Option Program
+monomorphise p = option_map (monomorphised p) (expansion_within greatest_expansion (table_of p) (copies p.body))
+
+abbrev pub IsMade : Type 0
+IsMade = (p : tests.Program Tests) (q : Program) → monomorphise p ≡ Some q → q ≡ monomorphised p q.expansion
+
+-- its count is the program's, and at most the limit
+abbrev pub IsCounted : Type 0
+IsCounted =
+    (p : tests.Program Tests) (q : Program) → monomorphise p ≡ Some q
+    → Expands (table_of p) (copies p.body) q.expansion × (q.expansion ≤ greatest_expansion)
+
+-- it is refused where there is more than the limit, and as soon as there is
+abbrev pub IsRefused : Type 0
+IsRefused = (p : tests.Program Tests) → monomorphise p ≡ None → Passes greatest_expansion (table_of p) (copies p.body)

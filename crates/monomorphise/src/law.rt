@@ -3,7 +3,7 @@
 ghost use Rattle.monomorphise.specs.Copies.{Target};
 ghost use Rattle.monomorphise.specs.Laws.{CopiesDoTheSame, CopiesAreWellFormed, CopiesKeepTheMeaning, NeitherGoesWrong};
 ghost use Rattle.monomorphise.specs.Simple.{TypesArePushed, ConstructorsAreAdded};
-ghost use Rattle.monomorphise.specs.Laws.{MakesCopies, MakesWellFormed, KeepsTheMeaning, IsNeverWrong, NumbersRise, NumbersWeigh};
+ghost use Rattle.monomorphise.specs.Laws.{MakesCopies, MakesWellFormed, KeepsTheMeaning, IsNeverWrong, NumbersRise, NumbersWeigh, IsMade, IsCounted, IsRefused};
 
 /// What copies are written in.
 pub trait Copies {
@@ -30,6 +30,13 @@ pub fn monomorphise_keeps()
     ensures never_wrong { IsNeverWrong }
     ensures rising { NumbersRise }
     ensures weight { NumbersWeigh }
+{}
+
+/// The whole function gives what it makes with the program's count, which is at most 2^20; it gives nothing where there is more, as soon as there is.
+pub fn expansion_is_counted()
+    ensures made { IsMade }
+    ensures counted { IsCounted }
+    ensures refused { IsRefused }
 {}
 
 /// A table of a program stays one where it is given a type with its parts there, or a constructor with the argument that it has in the program.
