@@ -1,4 +1,5 @@
--- How large a program is, as a function that stops as soon as there is more than a limit: its nodes, and then the types that equality needs, one after the other.
+-- How large a program is, as a function that stops as soon as there is more than a limit: its nodes, and then the types that equality needs, one after the
+-- other.
 use Rattle.std.specs.Prelude.{◌≡◌, ℕ, zero, suc, ◌+◌, ◌-◌, ◌^◌, ◌<◌, ◌⊎◌, Bool, true, false, List, [], ◌∷◌, ◌++◌, length, Option, Some, None, option_map, nat_lt, if◌then◌else◌}
 use Rattle.ty_core.specs.Types.{arrow, labels, name, Typ, var, con, Typs, none, more}
 use Rattle.ty_core.specs.declared.name.TyName.{TyName}

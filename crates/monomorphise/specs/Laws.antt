@@ -54,7 +54,12 @@ types_of p = types_for (table_of p) (copies p.body)
 
 -- n says how many nodes it has, written out
 abbrev pub monomorphised : tests.Program Tests → ℕ → Program
-monomorphised p n = record { initial = p.initial; types = types_of p; expansion = n; body = number (types_of p) (number_in (types_of p)) none_given 0 (copies p.body) }
+monomorphised p n = record {
+  initial = p.initial;
+  types = types_of p;
+  expansion = n;
+  body = number (types_of p) (number_in (types_of p)) none_given 0 (copies p.body);
+}
 
 abbrev pub MakesCopies : Type 0
 MakesCopies = (p : tests.Program Tests) (n : ℕ) → IsTests p → IsCopied p (monomorphised p n)

@@ -1,5 +1,5 @@
--- The table of the closed types of copies. A type is placed after its parts, where it isn't there yet; a constructor is entered at its datatype's instance where
--- a copy uses it, with the type of its argument.
+-- The table of the closed types of copies. A type is placed after its parts, where it isn't there yet; a constructor is entered at its datatype's instance
+-- where a copy uses it, with the type of its argument.
 use Rattle.std.specs.Prelude.{◌≡◌, ℕ, suc, Bool, true, false, ◌&&◌, List, [], ◌∷◌, ◌++◌, length, Option, Some, None, option_map, nat_eq, slice_get, slice_set, if◌then◌else◌, ⊤}
 use Rattle.std.specs.Map.{lookup}
 use Rattle.ty_core.specs.Types.{arrow, labels, name, Typ, var, con, Typs, none, more, attribute, allowed}
