@@ -107,4 +107,4 @@ once-known types e h = each-known (bound types e) (λ k. subst (λ n. n ≤ 1) (
 pub by-type-solves : (p : Program) → IsWellFormed p → SolvesProgram p.types (by_type p) p.body
 by-type-solves p h =
     let known = once-known p.types p.body h.once in
-    (of p.types (bound p.types p.body) h.type, solves p.types h.table (bound p.types p.body) known (record { fits = λ x s e. absurd (cc) }) known (of p.types (bound p.types p.body) h.type) (within-same refl) h.typed)
+    (of p.types (bound p.types p.body) h.type, solves p.types (bound p.types p.body) known (record { fits = λ x s e. absurd (cc) }) known (of p.types (bound p.types p.body) h.type) (within-same refl) h.typed)

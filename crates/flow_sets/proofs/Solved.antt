@@ -22,7 +22,7 @@ use Rattle.flow_sets.specs.ByType.{What, value, name, parameter, Bound, bound_in
 use Rattle.flow_sets.proofs.Member.{nat_eq-to, nat_eq-same, within-same, within-further, in-none}
 use Rattle.flow_sets.proofs.Sets.{AllKnown, known-left, known-right, sets, of, same-type, of-nothing, in-set, of-set}
 
-module _ (types : List table.Row) (sound : table.IsTable types) (all : List Bound) (known : AllKnown all all) where
+module _ (types : List table.Row) (all : List Bound) (known : AllKnown all all) where
   abbrev pub F : Flow
   F = record { sets = sets types all; number = type_at types all }
 
@@ -179,7 +179,7 @@ module _ (types : List table.Row) (sound : table.IsTable types) (all : List Boun
     op-solves g k to w (tt.t_refer {a = a} {x = x} e i) = g.fits x (of_type a) e
     op-solves g k to w (tt.t_content e i) = w
     op-solves g k to w (tt.t_pack {x = x} {a = a} e d i) = g.fits x (of_type a) d
-    op-solves g k to w (tt.t_make_record {t = t} {ls = ls} r i) = row-solved t g r (λ l v q. part-is t v l i q) (sound.distinct t ls _ i)
+    op-solves g k to w (tt.t_make_record {t = t} r i d) = row-solved t g r (λ l v q. part-is t v l i q) d
     op-solves g k to w (tt.t_select {u = u} {t = t} {l = l} e i d) = within-further (same-type types all (part-is u t l i d)) w
     op-solves g k to w (tt.t_prim_alone p s i) = tt
     op-solves g k to w (tt.t_prim {p = p} a h) = prim-solved p (prims.sort_of p) refl g a h
