@@ -1,0 +1,6 @@
+// The numbers that the source's variables get.
+#![tactic(auto)]
+
+pub mod names;
+#[cfg(test)]
+mod tests;
