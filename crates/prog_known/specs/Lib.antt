@@ -1,0 +1,4 @@
+pub mod Logs
+pub mod Environments
+pub mod Lists
+pub mod Onto

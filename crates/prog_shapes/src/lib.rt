@@ -1,0 +1,4 @@
+// What an expression says of itself.
+#![tactic(auto)]
+
+pub mod types;
