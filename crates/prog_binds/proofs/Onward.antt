@@ -15,7 +15,7 @@ use Rattle.prog_known.specs.Onto.{Onto, known_by}
 use Rattle.prog_known.proofs.ListLemmas.{drop-next, drop-all}
 use Rattle.prog_known.proofs.OntoLemmas.{Backing, back-starts, back-more, back-ends}
 use Rattle.prog_tree.specs.Readings.{reading}
-use Rattle.prog_tree.specs.TreeOf.{PatFieldTree, PatPartTree, pat_of, pat_field_of, pat_part_of, node_pat, node_pat_field, node_pat_part, before, fields_of, join_pats, left_pats, right_pats, funs_by, fun_of, binds_by, bind_of}
+use Rattle.prog_tree.specs.TreeOf.{PatFieldTree, PatPartTree, RuleTree, pat_of, pat_field_of, pat_part_of, node_pat, node_pat_field, node_pat_part, before, fields_of, join_pats, left_pats, right_pats, chain_pats, rule_of, funs_by, fun_of, binds_by, bind_of}
 use Rattle.prog_tree.specs.declared.tree.Binding.{Binding}
 use Rattle.prog_tree.specs.declared.tree.Function.{Function}
 use Rattle.prog_tree.specs.declared.tree.Head.{Head}

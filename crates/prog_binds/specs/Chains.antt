@@ -1,6 +1,7 @@
 -- What each part of a list puts in scope.
 use Rattle.std.specs.Prelude.{ℕ, Bool, true, false, List, [], ◌∷◌, Vec}
 use Rattle.std.specs.Global.{Global}
+use Rattle.ty_core.specs.Types.{Typ}
 use Rattle.ty_table.specs.TypeAt.{type_at}
 use Rattle.ir_poly.specs.ProgChecked.{pat_onto, each_onto}
 use Rattle.ir_poly.specs.TestsChecked.{Knowns}
