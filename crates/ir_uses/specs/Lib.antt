@@ -1,3 +1,0 @@
-pub mod Uses
-pub mod Puts
-pub mod Shapes
