@@ -1,6 +1,6 @@
 -- Small cases, by computation.
-use Rattle.std.proofs.Common.{◌≡◌, ℕ, [], ◌∷◌, Some, None, true, false, refl}
-use Rattle.std.specs.Prelude.{pos}
+use Rattle.std.proofs.Common.{◌≡◌, ℕ, ◌-◌, ◌^◌, [], ◌∷◌, Some, None, true, false, refl}
+use Rattle.std.specs.Prelude.{pos, negsuc}
 use Rattle.mlc_base.specs.Run.{gives, stops, went_wrong, start}
 use Rattle.mlc_prims.specs.LitOf.{int, string}
 use Rattle.mlc_prims.specs.PrimOf.{made, raised}
@@ -8,7 +8,7 @@ use Rattle.mlc_prims.specs.declared.basis.BasisPrimitive.TheVariants.{Add, Less,
 use Rattle.mlc_prims.specs.declared.prim.PrimExn.TheVariants.{Div}
 use Rattle.first_values.specs.Values.{Value, literal, cell, name, packet, no_values, value, unit, one, run, gather}
 use Rattle.first_values.specs.Equality.{numbers, cells, opaque, equal_at}
-use Rattle.first_values.specs.Operations.{Tables, an_int, a_text, ints, words, constant, compute, is, is_of, holds, one_of, attempted, perform, decide, called}
+use Rattle.first_values.specs.Operations.{Tables, an_int, a_word, a_char, a_text, ints, words, constant, initial, compute, is, is_of, holds, one_of, attempted, perform, decide, called}
 
 abbrev n : ℕ → Value
 n k = literal (int (pos k))
@@ -18,7 +18,7 @@ list = cell 1 (value (n 5) (value (cell 0 no_values) no_values))
 
 abbrev tables : Tables
 tables = record {
-  initial = [];
+  initial = 40 ∷ [];
   strings = (65 ∷ []) ∷ [];
   types = numbers ∷ cells ([] ∷ (0 ∷ 1 ∷ []) ∷ []) ∷ [];
   sets = (record { tag = 7; function = 3 } ∷ record { tag = 9; function = 4 } ∷ []) ∷ [];
@@ -47,6 +47,26 @@ functions_have_none = refl
 
 text_constant : perform tables (constant (a_text 0)) [] (start 0) ≡ gives (literal (string (65 ∷ []))) (start 0)
 text_constant = refl
+
+-- constants have 32 bits or 8
+least_constant : perform tables (constant (an_int (negsuc (2 ^ 31 - 1)))) [] (start 0) ≡ gives (literal (int (negsuc (2 ^ 31 - 1)))) (start 0)
+least_constant = refl
+
+no_such_constant : perform tables (constant (an_int (pos (2 ^ 31)))) [] (start 0) ≡ stops went_wrong (start 0)
+no_such_constant = refl
+
+no_such_word : perform tables (constant (a_word (2 ^ 32))) [] (start 0) ≡ stops went_wrong (start 0)
+no_such_word = refl
+
+no_such_char : decide tables (is (a_char 256)) (n 0 ∷ []) ≡ None
+no_such_char = refl
+
+-- the names of the initial exceptions alone are there
+first_exception : perform tables (initial 0) [] (start 0) ≡ gives (name 0) (start 0)
+first_exception = refl
+
+no_such_exception : perform tables (initial 1) [] (start 0) ≡ stops went_wrong (start 0)
+no_such_exception = refl
 
 sum : attempted ints Add (n 2 ∷ n 3 ∷ []) ≡ Some (made (int (pos 5)))
 sum = refl

@@ -1,9 +1,9 @@
 -- What is done with values at once: operations that give a value, primitives that may raise, tests, and which function a call enters.
-use Rattle.std.specs.Prelude.{ℕ, ℤ, Bool, true, false, List, [], ◌∷◌, Option, Some, None, option_map, option_and_then, nat_eq, if◌then◌else◌, slice_get, get_or}
+use Rattle.std.specs.Prelude.{ℕ, ◌^◌, ℤ, Bool, true, false, List, [], ◌∷◌, Option, Some, None, option_map, option_and_then, nat_eq, nat_lt, if◌then◌else◌, slice_get, get_or}
 use Rattle.mlc_base.specs.Run.{World, Answer, gives, raises, fail, or_fail, writes, new_reference, dereference, new_exception}
 use Rattle.mlc_base.specs.Run as run
 use Rattle.mlc_prims.specs.LitOf.{Literal, int, word, char, string, truth}
-use Rattle.mlc_prims.specs.PrimOf.{Gives, made, raised}
+use Rattle.mlc_prims.specs.PrimOf.{Gives, made, raised, fitting}
 use Rattle.mlc_prims.specs.Table.{row_of, literal_eq}
 use Rattle.mlc_prims.specs.declared.basis.BasisPrimitive.{BasisPrimitive}
 use Rattle.ir_values.specs.Primitives.{raised_name}
@@ -70,10 +70,14 @@ pub data Callee : Type 0 where
   known : (function : ℕ) → Callee
   one_of : (set closure : ℕ) → Callee
 
+abbrev pub below : ℕ → ℕ → Option ℕ
+below m n = if nat_lt n m then Some n else None
+
+-- an integer and a word have 32 bits, a character has 8
 abbrev pub literal_at : Tables → Constant → Option Literal
-literal_at T (an_int z) = Some (int z)
-literal_at T (a_word n) = Some (word n)
-literal_at T (a_char n) = Some (char n)
+literal_at T (an_int z) = option_map int (fitting z)
+literal_at T (a_word n) = option_map word (below (2 ^ 32) n)
+literal_at T (a_char n) = option_map char (below 256 n)
 literal_at T (a_text i) = option_map string (slice_get T.strings i)
 literal_at T (a_truth b) = Some (truth b)
 
@@ -164,7 +168,7 @@ perform T refer vs w = one vs w (λ v. new_reference v w (λ a u. gives (referen
 perform T content vs w = one vs w (λ v. read v w)
 perform T assign vs w = two vs w (λ r v. write r v w)
 perform T (exception identifier) vs w = none vs w (new_exception identifier w (λ n u. gives (name n) u))
-perform T (initial n) vs w = none vs w (gives (name n) w)
+perform T (initial n) vs w = none vs w (or_fail (slice_get T.initial n) w (λ identifier. gives (name n) w))
 perform T pack vs w = two vs w (λ n v. packet_of n v w)
 perform T argument vs w = one vs w (λ p. argument_of p w)
 perform T (compute k p) vs w = or_fail (attempted k p vs) w (λ g. made_in g w)

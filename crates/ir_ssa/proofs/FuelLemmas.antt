@@ -177,7 +177,7 @@ module _ (j : ℕ) where
   perform-within T content vs w e = one-within vs w _ (λ v. read-within v w e)
   perform-within T assign vs w e = two-within vs w _ (λ r v. write-within r v w e)
   perform-within T (exception identifier) vs w e = none-within vs w _ (both_give _ (record w { exceptions = w.exceptions ++ identifier ∷ [] }) e)
-  perform-within T (initial n) vs w e = none-within vs w _ (both_give _ w e)
+  perform-within T (initial n) vs w e = none-within vs w _ (found-within j (slice_get T.initial n) w _ _ (λ i. both_give _ w e))
   perform-within T pack vs w e = two-within vs w _ (λ n v. pack-within n v w e)
   perform-within T argument vs w e = one-within vs w _ (λ p. argument-within p w e)
   perform-within T (compute k p) vs w e = found-within j (attempted k p vs) w _ _ (λ g. made-within g w e)

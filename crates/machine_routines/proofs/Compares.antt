@@ -55,7 +55,7 @@ nat_eq_iff i j x y to from = cases (cases_Bool (nat_eq x y)) (cases_Bool (nat_eq
     cases (inr a) (inr b) = a ∙ sym b
 
 -- numbers are equal where their words are
-numbers_equal : (lay : List Word) (c d : Literal) (x y : ℕ) (q : Bool) → IsLiteral lay c x → IsLiteral lay d y → unless (is_text c) (literal_eq c d) ≡ Some q
+pub numbers_equal : (lay : List Word) (c d : Literal) (x y : ℕ) (q : Bool) → IsLiteral lay c x → IsLiteral lay d y → unless (is_text c) (literal_eq c d) ≡ Some q
     → nat_eq x y ≡ q
 numbers_equal lay (int z) (int k) x y q i j e = let f : int_eq z k ≡ q = cc in by (int_eq z k) refl ∙ f
   where
@@ -65,8 +65,8 @@ numbers_equal lay (int z) (int k) x y q i j e = let f : int_eq z k ≡ q = cc in
     by : (b : Bool) → int_eq z k ≡ b → nat_eq x y ≡ int_eq z k
     by true g = eq-eqb x y (one_word ((Decides-int_eq z k).0 g)) ∙ sym g
     by false g = ne_eqb x y (λ h. let t : int_eq z k ≡ true = (Decides-int_eq z k).1 (words-apart z k x y i j h) in absurd (cc)) ∙ sym g
-numbers_equal lay (word m) (word n) x y q i j e = let f : nat_eq m n ≡ q = cc in ap (λ z. nat_eq z y) i ∙ ap (λ z. nat_eq m z) j ∙ f
-numbers_equal lay (char m) (char n) x y q i j e = let f : nat_eq m n ≡ q = cc in ap (λ z. nat_eq z y) i ∙ ap (λ z. nat_eq m z) j ∙ f
+numbers_equal lay (word m) (word n) x y q i j e = let f : nat_eq m n ≡ q = cc in ap (λ z. nat_eq z y) i.0 ∙ ap (λ z. nat_eq m z) j.0 ∙ f
+numbers_equal lay (char m) (char n) x y q i j e = let f : nat_eq m n ≡ q = cc in ap (λ z. nat_eq z y) i.0 ∙ ap (λ z. nat_eq m z) j.0 ∙ f
 numbers_equal lay (string s) d x y q i j e = absurd (cc)
 numbers_equal lay (truth b) d x y q i j e = absurd i
 numbers_equal lay c (truth b) x y q i j e = absurd j

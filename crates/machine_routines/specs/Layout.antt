@@ -1,5 +1,5 @@
 -- Values and the words that stand for them, over a layout of the memory in use, which only grows.
-use Rattle.std.specs.Prelude.{◌≡◌, ℕ, zero, suc, ◌+◌, List, [], ◌∷◌, length, Bool, true, false, Option, Some, None, slice_get}
+use Rattle.std.specs.Prelude.{◌≡◌, ℕ, zero, suc, ◌+◌, ◌^◌, ◌<◌, List, [], ◌∷◌, length, Bool, true, false, Option, Some, None, slice_get}
 use Rattle.ir_code.specs.Machine.{all_bytes}
 use Rattle.ir_code.specs.Words.{word_of}
 use Rattle.mlc_prims.specs.LitOf.{Literal, int, word, char, string, truth}
@@ -44,11 +44,11 @@ BytesAt l (c ∷ t) x = (slice_get l x ≡ Some (stays c)) × BytesAt l t (x + 1
 abbrev pub TextAt : List Word → List ℕ → ℕ → Type 0
 TextAt l t x = (slice_get l x ≡ Some (stays (length t))) × BytesAt l t (x + 1) × (all_bytes t ≡ true)
 
--- an integer in its word, a word or a character itself, a string by its address; truth values are cells
+-- an integer in its word, a word of 32 bits or a character of 8 itself, a string by its address; truth values are cells
 abbrev pub IsLiteral : List Word → Literal → ℕ → Type 0
 IsLiteral l (int z) x = word_of z ≡ Some x
-IsLiteral l (word n) x = x ≡ n
-IsLiteral l (char n) x = x ≡ n
+IsLiteral l (word n) x = (x ≡ n) × (n < 2 ^ 32)
+IsLiteral l (char n) x = (x ≡ n) × (n < 256)
 IsLiteral l (string t) x = TextAt l t x
 IsLiteral l (truth b) x = ⊥
 

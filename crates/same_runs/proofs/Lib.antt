@@ -1,0 +1,2 @@
+pub mod FollowsLemmas
+mod Examples
