@@ -1,0 +1,12 @@
+pub mod Deciding
+pub mod Putting
+pub mod Exceptions
+pub mod Lists
+pub mod Constructing
+pub mod Initial
+pub mod Records
+pub mod Describing
+pub mod UseLemmas
+pub mod ClassLemmas
+pub mod Knowing
+pub mod Tabling

@@ -1,0 +1,9 @@
+use Rattle.ir_known.proofs.Declaring.{not-yes}
+use Rattle.ir_uses.proofs.Tabling.{argument-above, argument-below}
+use Rattle.ir_uses.proofs.table.fits_datatype.Goals as goal
+
+pub returns-then-not-is_below : goal.returns-then-not-is_below
+returns-then-not-is_below c = argument-above c.args.types.now c.args.datatype.arity c.args.datatype.equality c.args.argument c.in-Some.t c.in-Some.is (λ p. not-yes c.if-not-is_below.true (c.is_below.ensures.1 p))
+
+pub returns-in_ok-yes-in-Some : goal.returns-in_ok-yes-in-Some
+returns-in_ok-yes-in-Some c = argument-below c.args.types.now c.args.datatype.arity c.args.datatype.equality c.args.argument c.in-Some.t c.in-Some.is c.in_ok-yes-in-Some.yes (c.is_below.ensures.0 c.if-not-is_below.false) c.in_ok-yes-in-Some.ensures

@@ -1,0 +1,12 @@
+use Rattle.std.proofs.Common.{ap, ◌∙◌}
+use Rattle.ir_tables.specs.Rows.{constructors_at}
+use Rattle.prog_check.specs.Program.{check_table}
+use Rattle.ir_tables.specs.Tables.{constructors_of}
+use Rattle.ir_uses.proofs.Tabling.{table-fits}
+use Rattle.ir_uses.proofs.table.is_table.Goals as goal
+
+pub returns-clause-fits : goal.returns-clause-fits
+returns-clause-fits c = table-fits (constructors_of c.args.tables.now) c.in_ok-yes.yes (c.in_ok-yes.ensures ∙ ap (λ ks. check_table (constructors_at c.args.tables.now.types ks)) c.rows.ensures)
+
+pub returns-clause-decided : goal.returns-clause-decided
+returns-clause-decided c = c.in_ok-yes.ensures ∙ ap (λ ks. check_table (constructors_at c.args.tables.now.types ks)) c.rows.ensures

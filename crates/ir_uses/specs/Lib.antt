@@ -1,0 +1,5 @@
+pub mod Uses
+pub mod Puts
+pub mod Shapes
+pub mod Rows
+pub mod Fields
