@@ -1,0 +1,6 @@
+// Numbers with values, in scopes that are left again.
+#![tactic(auto)]
+
+pub mod scoped;
+#[cfg(test)]
+mod tests;
