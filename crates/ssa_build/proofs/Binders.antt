@@ -10,16 +10,16 @@ use Rattle.ir_ssa.specs.Size as new
 use Rattle.ssa_build.specs.Build.{Exit, returns, joins, under, leave, is_last, call_or_tail, handler_exit, build, build_op, build_arms}
 use Rattle.ssa_build.specs.Laws.{IsPart, nothing, kept, left, BindsNoMore}
 
-none-of : (ys : List ℕ) → IsPart [] ys
+pub none-of : (ys : List ℕ) → IsPart [] ys
 none-of [] = nothing
 none-of (y ∷ ys) = left y [] ys (none-of ys)
 
-joined : {xs ys us vs : List ℕ} → IsPart xs ys → IsPart us vs → IsPart (xs ++ us) (ys ++ vs)
+pub joined : {xs ys us vs : List ℕ} → IsPart xs ys → IsPart us vs → IsPart (xs ++ us) (ys ++ vs)
 joined nothing q = q
 joined (kept x xs ys p) q = kept x _ _ (joined p q)
 joined (left x xs ys p) q = left x _ _ (joined p q)
 
-before-rest : {xs ys : List ℕ} → IsPart xs ys → (R : List ℕ) → IsPart xs (ys ++ R)
+pub before-rest : {xs ys : List ℕ} → IsPart xs ys → (R : List ℕ) → IsPart xs (ys ++ R)
 before-rest nothing R = none-of R
 before-rest (kept x xs ys p) R = kept x _ _ (before-rest p R)
 before-rest (left x xs ys p) R = left x _ _ (before-rest p R)

@@ -4,3 +4,4 @@ pub mod Counts
 pub mod Binders
 pub mod Fits
 mod Examples
+pub mod Exceptions

@@ -7,6 +7,8 @@ use Rattle.ir_first.specs.Size as f_size
 use Rattle.ir_ssa.specs.Meaning as after
 use Rattle.ir_ssa.specs.WellFormed as s_formed
 use Rattle.ir_ssa.specs.Size as s_size
+use Rattle.first_tree.specs.Exceptions as f_exceptions
+use Rattle.ssa_tree.specs.Exceptions as s_exceptions
 use Rattle.ssa_build.specs.Build.{returns, build, ssa}
 
 -- one outcome at every number of turns, Going and Wrong included, with no premise
@@ -33,3 +35,7 @@ BindsNoMore = (e : f.Exp) → IsPart (s_size.binders (build returns 0 e)) (f_siz
 -- where at most n more variables are in scope at once, at most n are
 abbrev pub NeedsNoMoreAtOnce : Type 0
 NeedsNoMoreAtOnce = (n : ℕ) (e : f.Exp) → f_size.FitsIn n e → s_size.FitsIn n (build returns 0 e)
+
+-- what a program's SSA form makes of exceptions, the program made, in that order and as often
+abbrev pub MakesNoMore : Type 0
+MakesNoMore = (p : f.Program) → IsPart (s_exceptions.exceptions (ssa p)) (f_exceptions.exceptions p)
