@@ -1,3 +1,4 @@
 pub mod Going
 pub mod Putting
 pub mod Ending
+pub mod Renaming

@@ -1,6 +1,7 @@
 // Types with other types put for their variables: instances of schemes, and types under a substitution.
 #![tactic(auto)]
 
+pub mod fresh;
 pub mod instantiate;
 mod made;
 pub mod resolve;

@@ -2,6 +2,8 @@
 #![tactic(auto)]
 
 #[cfg(test)]
+mod fresh;
+#[cfg(test)]
 mod read;
 #[cfg(test)]
 mod tests;
