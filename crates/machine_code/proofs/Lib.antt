@@ -1,0 +1,19 @@
+pub mod RoutineLaws
+pub mod Kept
+pub mod Grows
+pub mod Sim
+pub mod Slots
+pub mod Vars
+pub mod Pieces
+pub mod Primitives
+pub mod Ops
+pub mod Sizes
+pub mod Runs
+pub mod Tests
+pub mod Here
+pub mod Bodies
+pub mod Sets
+pub mod Constants
+pub mod Right
+pub mod Bounds
+mod Examples

@@ -1,0 +1,4 @@
+// The code of images as a function on programs in SSA form, and that it does what the program does. Definitions, and laws of them.
+#![tactic(auto)]
+
+pub mod law;
