@@ -2,6 +2,4 @@ pub mod Scope
 pub mod Closed
 pub mod Capture
 pub mod Counts
-pub mod Convert
-pub mod Fits
 pub mod Laws

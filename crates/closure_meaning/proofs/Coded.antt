@@ -1,5 +1,5 @@
 -- Where functions are numbered in the order of their codes, each has its code at its number.
-use Rattle.std.proofs.Common.{◌≡◌, ℕ, zero, suc, List, [], ◌∷◌, map, Option, Some, None, Bool, true, false, slice_get, refl, sym, ap, subst, ◌∙◌}
+use Rattle.std.proofs.Common.{◌≡◌, ℕ, zero, suc, List, [], ◌∷◌, map, Some, Bool, true, false, slice_get, refl, ap, subst, ◌∙◌}
 use Rattle.std.specs.Prelude.{⊤}
 use Rattle.ir_plain.specs.Tree as m
 use Rattle.ir_plain.specs.Tree.{Fun, last, more, Funs, no_funs, fun}
@@ -8,8 +8,8 @@ use Rattle.ir_first.specs.Tree as out
 use Rattle.flow_sets.specs.Flow.{number_of}
 use Rattle.closure_convert.specs.Scope.{Member}
 use Rattle.closure_convert.specs.Closed.{members, leader}
-use Rattle.closure_convert.specs.Convert.{codes, codes_arms, codes_op, codes_fun, codes_funs, numbers_in, numbers_arms, numbers_op, numbers_fun, numbers_funs}
-use Rattle.closure_convert.specs.Fits.{Setting}
+use Rattle.closure_meaning.specs.Convert.{codes, codes_arms, codes_op, codes_fun, codes_funs, numbers_in, numbers_arms, numbers_op, numbers_fun, numbers_funs}
+use Rattle.closure_meaning.specs.Fits.{Setting}
 use Rattle.closure_meaning.proofs.Related.{Coded, CodedArms, CodedOp, CodedFun, CodedFuns}
 
 -- the number that a code's second parameter stands for

@@ -1,24 +1,23 @@
 -- Two values of a program are equal where their conversions are.
-use Rattle.std.proofs.Common.{◌≡◌, ℕ, zero, suc, List, [], ◌∷◌, Option, Some, None, Bool, true, false, ◌&&◌, if◌then◌else◌, nat_eq, get_or, refl, sym, ap, subst, ◌∙◌}
+use Rattle.std.proofs.Common.{◌≡◌, ℕ, List, [], ◌∷◌, Option, Some, None, Bool, true, false, if◌then◌else◌, nat_eq, get_or, refl, sym, ap, subst, ◌∙◌}
 use Rattle.std.specs.Prelude.{option_map, option_and_then}
 use Rattle.mlc_base.specs.declared.label.Label.{Label}
 use Rattle.mlc_base.specs.declared.label.Label.TheVariants.{Number, Word}
 use Rattle.mlc_prims.specs.LitOf.{Literal, int, word, char, string, truth}
 use Rattle.mlc_prims.specs.Table.{literal_eq}
 use Rattle.ty_core.specs.Types.{labels}
-use Rattle.ir_values.specs.Values.{same_label, field_in, no_fields, field, literal_in}
+use Rattle.ir_values.specs.Values.{same_label, field_in}
 use Rattle.ir_values.specs.Equality.{both_equal, where_holds, if_equal, same_part, same_at, same_fields}
 use Rattle.ir_plain.specs.Meaning.{Parts}
 use Rattle.ir_mono.specs.Types as table
 use Rattle.ir_mono.specs.Types.{part, part_of, node_at, node, Is, IsOther, other_none, other_more, AreDistinct, distinct_none, distinct_more, IsTable, constructor_at, by_number}
 use Rattle.ir_mono.specs.Mono.{mono}
 use Rattle.first_values.specs.Values as cells
-use Rattle.first_values.specs.Equality.{Shape, numbers, texts, references, opaque, is_text, unless, when, unless_different, equal_at, equal_parts}
-use Rattle.first_values.specs.Equality as equality
+use Rattle.first_values.specs.Equality.{Shape, unless_different, equal_at, equal_parts}
 use Rattle.ir_first.specs.Tree as out
 use Rattle.flow_sets.proofs.Member.{nat_eq-to, nat_eq-same, decide}
-use Rattle.closure_convert.specs.Convert.{con_tag, argument_types, shapes}
-use Rattle.closure_convert.specs.Fits.{Setting}
+use Rattle.closure_meaning.specs.Convert.{con_tag, shapes}
+use Rattle.closure_meaning.specs.Fits.{Setting}
 use Rattle.closure_meaning.proofs.Related.{Val, Same, same_literal, same_record, same_con, same_con_of, same_exn, same_exn_of, same_ref, same_primitive, same_address, same_cell, same_closure, SameFields, no_fields_same, a_field_same}
 use Rattle.closure_meaning.proofs.Tags.{tag-test-first, shape_at, shape-record, shape-named, ConShape, con-shape}
 

@@ -1,17 +1,15 @@
 -- References, packets, fields and calls.
-use Rattle.std.proofs.Common.{◌≡◌, ℕ, zero, suc, List, [], ◌∷◌, map, Option, Some, None, Bool, true, false, ◌||◌, if◌then◌else◌, nat_eq, get_or, refl, sym, ap, subst, ◌∙◌}
+use Rattle.std.proofs.Common.{◌≡◌, ℕ, zero, suc, List, [], ◌∷◌, map, Option, Some, None, Bool, true, false, ◌||◌, if◌then◌else◌, nat_eq, get_or, refl, sym, ap, subst}
 use Rattle.mlc_base.specs.Run.{World, Answer, gives, raises, fail, or_fail}
 use Rattle.mlc_base.specs.Run as run
-use Rattle.mlc_base.specs.Agreement.{SameWorlds}
-use Rattle.mlc_base.specs.Refinement.{Refines, both_give, both_raise, both_stop, first_wrong}
+use Rattle.mlc_base.specs.Refinement.{Refines, both_give, both_raise, first_wrong}
 use Rattle.mlc_base.specs.declared.label.Label.{Label}
 use Rattle.mlc_base.specs.declared.place.Place.{Place}
 use Rattle.mlc_base.proofs.RefineLaws.{dereference-refines, take_turn-refines}
-use Rattle.ty_core.specs.Types.{labels}
-use Rattle.ir_values.specs.Values.{field_in, same_label, exn_of, cell}
+use Rattle.ir_values.specs.Values.{field_in, same_label}
 use Rattle.ir_values.specs.Primitives.{marked, content_of, raise_value}
 use Rattle.ir_plain.specs.Meaning.{Parts, read_reference, select_from}
-use Rattle.ir_mono.specs.Types.{Is, node_at, by_number, IsTable}
+use Rattle.ir_mono.specs.Types.{node_at, by_number, IsTable}
 use Rattle.ir_mono.specs.Mono.{mono}
 use Rattle.first_values.specs.Values as cells
 use Rattle.first_values.specs.Operations as op
@@ -21,11 +19,11 @@ use Rattle.ir_first.specs.Continued as tgt
 use Rattle.flow_sets.specs.Member.{is_in}
 use Rattle.flow_sets.specs.Flow as spots
 use Rattle.flow_sets.specs.Flow.{at}
-use Rattle.flow_sets.proofs.Member.{nat_eq-to, nat_eq-same}
-use Rattle.closure_convert.specs.Convert.{Numbering, label_index, labels_in, set_of}
-use Rattle.closure_convert.specs.Convert as conv
-use Rattle.closure_convert.specs.Fits.{Setting}
-use Rattle.closure_meaning.proofs.Related.{Val, IsOneOf, Same, same_literal, same_record, same_con, same_con_of, same_exn, same_exn_of, same_ref, same_primitive, same_address, same_cell, same_closure, SameFields, no_fields_same, a_field_same, Given, R}
+use Rattle.flow_sets.proofs.Member.{nat_eq-to}
+use Rattle.closure_meaning.specs.Convert.{Numbering, label_index, labels_in, set_of}
+use Rattle.closure_meaning.specs.Convert as conv
+use Rattle.closure_meaning.specs.Fits.{Setting}
+use Rattle.closure_meaning.proofs.Related.{Val, IsOneOf, Same, same_record, same_exn, same_exn_of, same_address, same_cell, SameFields, no_fields_same, a_field_same, R}
 use Rattle.closure_meaning.proofs.Equality.{labels-one}
 use Rattle.closure_meaning.proofs.Performed.{T, Worlds, Re, turn-then}
 

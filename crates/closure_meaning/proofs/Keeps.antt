@@ -1,17 +1,13 @@
 -- The converted program does what the program does, unless that goes wrong.
-use Rattle.std.proofs.Common.{◌≡◌, ℕ, zero, suc, List, [], ◌∷◌, map, Option, Some, None, Bool, true, false, ◌||◌, if◌then◌else◌, nat_eq, get_or, slice_get, refl, sym, ap, subst, ◌∙◌, arith}
-use Rattle.std.specs.Prelude.{option_map, option_and_then}
-use Rattle.mlc_base.specs.Outcome.{wrong}
-use Rattle.mlc_base.specs.Run.{World, Answer, gives, raises, stops, went_wrong, out_of_turns, then_do, fail, or_fail, take_turn, new_exception, start, outcome_of}
-use Rattle.mlc_base.specs.Agreement.{SameWorlds}
-use Rattle.mlc_base.specs.Agreement as agree
-use Rattle.mlc_base.specs.Refinement.{Refines, both_give, both_raise, both_stop, first_wrong}
+use Rattle.std.proofs.Common.{◌≡◌, ℕ, zero, suc, ◌<◌, length, List, [], ◌∷◌, map, Option, Some, Bool, true, false, ◌||◌, if◌then◌else◌, nat_eq, get_or, slice_get, refl, sym, ap, subst, ◌∙◌, arith}
+use Rattle.std.specs.Prelude.{option_map}
+use Rattle.std.proofs.lemmas.Bool.{ltb-true}
+use Rattle.mlc_base.specs.Run.{World, Answer, gives, raises, then_do, fail, or_fail}
+use Rattle.mlc_base.specs.Refinement.{both_give, both_raise, first_wrong}
 use Rattle.mlc_base.specs.declared.place.Place.{Place}
-use Rattle.mlc_base.proofs.RefineLaws.{then_do-refines, or_handle-refines, weaker, take_turn-refines, new_reference-refines, new_exception-refines, outcome_of-refines}
-use Rattle.mlc_prims.specs.LitOf.{Literal}
-use Rattle.mlc_prims.specs.Table.{literal_eq}
+use Rattle.mlc_base.proofs.RefineLaws.{then_do-refines, or_handle-refines, weaker, new_reference-refines, new_exception-refines}
 use Rattle.ir_values.specs.Values.{exn, exn_of, con, con_of, closure, bind, cell, value_of}
-use Rattle.ir_values.specs.Match.{matches, no_match, mismatch, Matched, after_match, where_same, against_literal, against_exn, under_exn, match_at, against_con, under_con, of_size, under_record}
+use Rattle.ir_values.specs.Match.{matches, after_match, against_exn, under_exn, against_con, under_con}
 use Rattle.ir_values.specs.Primitives as prims
 use Rattle.ir_plain.specs.Tree as m
 use Rattle.ir_plain.specs.Tree.{is_literal, is_con, is_con_of, is_exn, is_exn_of, is_record, Exception, fixed, held, Atoms, no_atoms, an_atom, Row, no_row, a_row, Fun, last, more, Funs, no_funs, fun}
@@ -27,20 +23,23 @@ use Rattle.ir_first.specs.Continued as tgt
 use Rattle.flow_sets.specs.Member.{is_in, Within}
 use Rattle.flow_sets.specs.Flow as spots
 use Rattle.flow_sets.specs.Flow.{variable, result, at, number_of, Connects, SolvesRow, SolvesPrim, SolvesCase, Solves, SolvesArms, SolvesOp, SolvesFun, SolvesFuns}
-use Rattle.flow_sets.proofs.Member.{nat_eq-to, nat_eq-same, decide}
-use Rattle.closure_convert.specs.Scope.{Scope, add, add_all, names, top, reaches}
-use Rattle.closure_convert.specs.Closed.{IsLocal, scope_of, members, leader, IsClosed, ArmsClosed, OpClosed, FunClosed, FunsClosed, GroupMade, AtomsClosed, RowClosed, NameClosed, CaseClosed}
-use Rattle.closure_convert.specs.Convert as conv
-use Rattle.closure_convert.specs.Convert.{holder, follower, given, spare, var, access, con_tag}
-use Rattle.closure_convert.specs.Fits.{Setting, IsValue, IsName, IsConstant, IsInitial, CaseFits, AtomsFit, RowFits, no_row_fits, a_row_fits, RecordFits, NameFits, Fits, ArmsFit, OpFits, FunFits, FunsFit}
+use Rattle.flow_sets.proofs.Member.{nat_eq-to}
+use Rattle.closure_convert.specs.Scope.{Scope, add, add_all, names, reaches}
+use Rattle.closure_convert.specs.Closed.{IsLocal, scope_of, members, leader, IsClosed, ArmsClosed, OpClosed, FunClosed, FunsClosed, AtomsClosed, RowClosed}
+use Rattle.closure_meaning.specs.Convert as conv
+use Rattle.closure_meaning.specs.Convert.{holder, follower, given, spare, var, access, con_tag}
+use Rattle.closure_meaning.specs.Fits.{Setting, IsValue, IsName, IsInitial, AtomsFit, RowFits, no_row_fits, a_row_fits, Fits, ArmsFit, OpFits, FunFits, FunsFit}
 use Rattle.closure_meaning.proofs.Related.{Val, IsOneOf, widen, of-none, fun_of, group_of, code_number, Coded, CodedArms, CodedOp, CodedFun, CodedFuns, CodedIn, Good, AllGood, Same, same_literal, same_record, same_con, same_con_of, same_exn, same_exn_of, same_ref, same_primitive, same_address, same_cell, same_closure, SameFields, no_fields_same, a_field_same, Stands, is_name, is_value, SameCaptured, Given, R}
 use Rattle.closure_meaning.proofs.Related as rel
 use Rattle.closure_meaning.proofs.Known.{different, here, past, past-holder, Found, found, Known, access-is, local-known, known-bind, known-between, known-body, stands, making-by, group-by}
-use Rattle.closure_meaning.proofs.Tags.{nat_eq-swap, tag-test-first}
 use Rattle.closure_meaning.proofs.Performed.{T, Worlds, Re, literal-same, literal-one, AtomsSame, no_same, more_same, perform-same, plain-is}
 use Rattle.closure_meaning.proofs.Arms as arms
 use Rattle.closure_meaning.proofs.Handled.{member-found, set-at, read-same, select-same, raise-same, marked-same}
 
+slice-found : {A : Type 0} (xs : List A) (i : ℕ) → i < length xs → (x : A) × (slice_get xs i ≡ Some x)
+slice-found [] i h = absurd (omega arith)
+slice-found (x ∷ xs) zero h = (x, refl)
+slice-found (x ∷ xs) (suc i) h = slice-found xs i (omega arith)
 
 module _ (C : Setting) (all : List out.Fun) (sound : IsTable C.types) where
   abbrev V : Type 0
@@ -176,7 +175,7 @@ module _ (C : Setting) (all : List out.Fun) (sound : IsTable C.types) where
 
     -- the name of an exception of the initial basis is there
     initial-is : (i : ℕ) (ρ : cells.Env) (u : World cells.Value) → IsInitial C i → gives (cells.name i) u ≡ ev_op (out.plain (op.initial i) []) ρ u
-    initial-is i ρ u h = refl
+    initial-is i ρ u h = let f = slice-found C.initial i (ltb-true i (length C.initial) h) in sym (ap (λ o. or_fail o u (λ identifier. gives (cells.name i) u)) f.1)
 
     -- an operation, and what comes after it
     step : {ks : List ℕ} (x : ℕ) (e : out.Exp) (go : V → World V → Answer V V) (s : Scope) (env : Env) (ρ : cells.Env) (u : World cells.Value) (other' : World cells.Value → cells.Run cells.Value) → K s env ρ → (r : Answer V V) (o' : out.Op) → Q (at C.flow (variable x)) r (ev_op o' ρ u) →

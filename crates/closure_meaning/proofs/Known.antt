@@ -17,10 +17,10 @@ use Rattle.ir_first.specs.Continued as tgt
 use Rattle.flow_sets.specs.Member.{is_in}
 use Rattle.flow_sets.specs.Flow.{variable, at, number_of}
 use Rattle.flow_sets.proofs.Member.{nat_eq-to, nat_eq-same, decide, or_left}
-use Rattle.closure_convert.specs.Scope.{Member, names, Scope, add, add_all, Way, no_way, leads, follows, way_in, way, is_way, reaches, index_of, Piece, alone, those, IsOuter, InRow, Makes, makes_none, makes_one, makes_run}
+use Rattle.closure_convert.specs.Scope.{names, Scope, add, add_all, Way, no_way, leads, follows, way_in, way, is_way, reaches, index_of, Piece, alone, those, IsOuter, InRow, Makes, makes_none, makes_one, makes_run}
 use Rattle.closure_convert.specs.Closed.{IsLocal, scope_of, members, IsMade}
-use Rattle.closure_convert.specs.Convert.{holder, var, outer, access, piece_list, ready, making, following, tables}
-use Rattle.closure_convert.specs.Fits.{Setting, IsValue}
+use Rattle.closure_meaning.specs.Convert.{holder, var, outer, access, piece_list, ready, making, following}
+use Rattle.closure_meaning.specs.Fits.{Setting, IsValue}
 use Rattle.closure_meaning.proofs.Related.{Val, IsOneOf, held, Good, AllGood, Same, same_closure, Stands, is_value, SameCaptured, no_captured, captured, R}
 
 -- Numbers

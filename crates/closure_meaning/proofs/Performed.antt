@@ -1,21 +1,20 @@
 -- What is done with values is done with their conversions: constants, primitives, references, packets.
-use Rattle.std.proofs.Common.{◌≡◌, ℕ, zero, suc, List, [], ◌∷◌, Option, Some, None, Bool, true, false, not, ◌||◌, if◌then◌else◌, nat_eq, get_or, refl, sym, ap, subst, ◌∙◌}
-use Rattle.std.specs.Prelude.{⊤, ℤ, option_map, option_and_then}
+use Rattle.std.proofs.Common.{◌≡◌, ℕ, zero, suc, List, [], ◌∷◌, Option, Some, None, Bool, true, false, not, ◌||◌, if◌then◌else◌, refl, sym, ap, subst, ◌∙◌}
+use Rattle.std.specs.Prelude.{ℤ, option_map, option_and_then}
 use Rattle.mlc_base.specs.Run.{World, Answer, gives, raises, fail, or_fail, writes}
 use Rattle.mlc_base.specs.Run as run
 use Rattle.mlc_base.specs.Agreement.{SameWorlds}
-use Rattle.mlc_base.specs.Refinement.{Refines, both_give, both_raise, both_stop, first_wrong}
-use Rattle.mlc_base.proofs.RefineLaws.{dereference-refines, assign-refines}
+use Rattle.mlc_base.specs.Refinement.{Refines, both_give, both_raise, first_wrong}
+use Rattle.mlc_base.proofs.RefineLaws.{assign-refines}
 use Rattle.mlc_prims.specs.LitOf.{Literal, int, word, char, string, truth, int_in, word_in, char_in, string_in, one_in, two_in}
 use Rattle.mlc_prims.specs.PrimOf.{Gives, made, raised}
 use Rattle.mlc_prims.specs.Table.{row_of}
 use Rattle.mlc_prims.specs.declared.basis.BasisPrimitive.{BasisPrimitive}
 use Rattle.mlc_prims.specs.declared.basis.BasisPrimitive.TheVariants.{Add, Subtract, Multiply, Divide, Modulo, Negate, Absolute, Less, LessEqual, Greater, GreaterEqual, Equals, Assign, Quotient, Remainder, BitsAnd, BitsOr, BitsXor, BitsNot, ShiftLeft, ShiftRight, ShiftSigned, ToInt, ToIntSigned, FromInt, CharCode, CharOf, TextOf, SizeOf, CharAt, PartOf, Concat, StringOf, Print}
-use Rattle.ir_values.specs.Values.{truth_number, unit_value, truth_value, value_of, cell, literal_in}
+use Rattle.ir_values.specs.Values.{truth_number, unit_value, truth_value, value_of, literal_in}
 use Rattle.ir_values.specs.Primitives.{Sort, compares, assigns, prints, computes, sort_of, is_overloaded, begin_at, perform_as, print_literals, giving, content_of, packet, raise_value, raised_name}
 use Rattle.ir_values.specs.Primitives as prims
 use Rattle.ir_plain.specs.Tree.{Atoms, no_atoms, an_atom}
-use Rattle.ir_plain.specs.Meaning.{pack_value, read_reference, select_from}
 use Rattle.ir_mono.specs.Types.{bool_number, unit_number, node_at, by_number, distinct_none, IsTable}
 use Rattle.ir_mono.specs.Mono.{mono}
 use Rattle.first_values.specs.Values as cells
@@ -26,14 +25,12 @@ use Rattle.first_values.proofs.RaisingLemmas.{only-these-raise}
 use Rattle.ir_first.specs.Tree as out
 use Rattle.ir_first.specs.Meaning.{Calls}
 use Rattle.ir_first.specs.Continued as tgt
-use Rattle.flow_sets.specs.Member.{Within}
 use Rattle.flow_sets.specs.Flow as spots
 use Rattle.flow_sets.specs.Flow.{variable, at, SolvesPrim}
-use Rattle.flow_sets.proofs.Member.{nat_eq-to, decide}
-use Rattle.closure_convert.specs.Convert.{operands_at, operands_of, operands, computed, performed, tables}
-use Rattle.closure_convert.specs.Fits.{Setting}
-use Rattle.closure_meaning.proofs.Related.{Val, IsOneOf, widen, Same, same_literal, same_record, same_con, same_con_of, same_exn, same_exn_of, same_ref, same_primitive, same_address, same_cell, same_closure, no_fields_same, Stands, is_name, Given, R}
-use Rattle.closure_meaning.proofs.Tags.{kind-operands, shape_at}
+use Rattle.closure_meaning.specs.Convert.{operands_at, operands_of, operands, computed, performed, tables}
+use Rattle.closure_meaning.specs.Fits.{Setting}
+use Rattle.closure_meaning.proofs.Related.{Val, IsOneOf, widen, Same, same_literal, same_record, same_con, same_exn, same_address, same_cell, no_fields_same, Given, R}
+use Rattle.closure_meaning.proofs.Tags.{kind-operands}
 use Rattle.closure_meaning.proofs.Equality.{Follows, follows_none, follows_some, equal-same}
 
 -- The first operand of each primitive

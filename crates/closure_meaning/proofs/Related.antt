@@ -1,5 +1,5 @@
 -- The values of a program and those of its conversion.
-use Rattle.std.proofs.Common.{◌≡◌, ℕ, zero, suc, List, [], ◌∷◌, Some, None, Bool, true, false, slice_get}
+use Rattle.std.proofs.Common.{◌≡◌, ℕ, List, [], ◌∷◌, Some, None, Bool, true, false, slice_get}
 use Rattle.std.specs.Prelude.{⊤}
 use Rattle.mlc_base.specs.declared.label.Label.{Label}
 use Rattle.mlc_prims.specs.LitOf.{Literal}
@@ -19,8 +19,8 @@ use Rattle.flow_sets.specs.Flow as spots
 use Rattle.flow_sets.specs.Flow.{variable, at, number_of, SolvesFun}
 use Rattle.flow_sets.proofs.Member.{in-none}
 use Rattle.closure_convert.specs.Closed.{members, leader, FunClosed}
-use Rattle.closure_convert.specs.Convert.{con_tag, code}
-use Rattle.closure_convert.specs.Fits.{Setting, IsValue, FunFits}
+use Rattle.closure_meaning.specs.Convert.{con_tag, code}
+use Rattle.closure_meaning.specs.Fits.{Setting, IsValue, FunFits}
 
 module _ (types : List table.Row) where
   abbrev pub Val : Type 0

@@ -1,13 +1,13 @@
 -- Calls do the same, and so does the whole program.
-use Rattle.std.proofs.Common.{◌≡◌, ℕ, zero, suc, List, [], ◌∷◌, Option, Some, None, Bool, true, false, nat_eq, slice_get, refl, sym, ap, subst, ◌∙◌, arith}
+use Rattle.std.proofs.Common.{◌≡◌, ℕ, zero, suc, List, [], ◌∷◌, Some, Bool, true, false, slice_get, refl, sym, ap, subst, ◌∙◌, arith}
 use Rattle.mlc_base.specs.Outcome.{wrong}
-use Rattle.mlc_base.specs.Run.{World, Answer, gives, stops, went_wrong, out_of_turns, then_do, fail, or_fail, take_turn, start}
+use Rattle.mlc_base.specs.Run.{World, Answer, stops, went_wrong, out_of_turns, then_do, fail, or_fail, take_turn, start}
 use Rattle.mlc_base.specs.Agreement.{none}
-use Rattle.mlc_base.specs.Refinement.{Refines, both_stop, first_wrong}
+use Rattle.mlc_base.specs.Refinement.{both_stop, first_wrong}
 use Rattle.mlc_base.specs.declared.place.Place.{Place}
 use Rattle.mlc_base.proofs.RefineLaws.{take_turn-refines, outcome_of-refines}
-use Rattle.ir_values.specs.Values.{literal, record_of, con, con_of, exn, exn_of, ref, address, cell, primitive, closure, bind, empty}
-use Rattle.ir_plain.specs.Tree.{Fun, last, more, Funs}
+use Rattle.ir_values.specs.Values.{literal, record_of, con, con_of, exn, exn_of, ref, address, cell, primitive, closure, empty}
+use Rattle.ir_plain.specs.Tree.{Fun, last, more}
 use Rattle.ir_plain.specs.Meaning as src
 use Rattle.ir_plain.specs.Meaning.{Code, alone, one_of, Apply}
 use Rattle.ir_mono.specs.Types.{IsTable}
@@ -20,16 +20,15 @@ use Rattle.ir_first.specs.Tree as out
 use Rattle.ir_first.specs.Continued as tgt
 use Rattle.ir_first.proofs.Settled.{meanings-are-one-unless-wrong}
 use Rattle.flow_sets.specs.Flow.{Flow, variable, result, at, number_of}
-use Rattle.flow_sets.proofs.Member.{nat_eq-same}
 use Rattle.closure_convert.specs.Scope.{Table, top}
 use Rattle.closure_convert.specs.Closed.{scope_of, members}
-use Rattle.closure_convert.specs.Convert as conv
-use Rattle.closure_convert.specs.Convert.{Numbering, holder, follower, var}
-use Rattle.closure_convert.specs.Fits.{Setting, IsValue, FunFits}
+use Rattle.closure_meaning.specs.Convert as conv
+use Rattle.closure_meaning.specs.Convert.{Numbering, holder, follower, var}
+use Rattle.closure_meaning.specs.Fits.{Setting, IsValue, FunFits}
 use Rattle.closure_meaning.specs.Laws.{setting, MayConvert, ConversionKeeps}
 use Rattle.closure_meaning.proofs.Related.{Val, IsOneOf, fun_of, group_of, code_number, Good, AllGood, Same, same_exn, same_exn_of, SameCaptured, Given, R, held}
 use Rattle.closure_meaning.proofs.Known.{different, here, past, past-holder, known-body, stands}
-use Rattle.closure_meaning.proofs.Performed.{T, Worlds, Re, plain-is}
+use Rattle.closure_meaning.proofs.Performed.{T, Worlds, Re}
 use Rattle.closure_meaning.proofs.Arms.{CallsSame}
 use Rattle.closure_meaning.proofs.Keeps.{eval-same, body-same}
 use Rattle.closure_meaning.proofs.Coded.{coded-program}

@@ -9,8 +9,8 @@ use Rattle.ir_first.specs.Meaning as first
 use Rattle.flow_sets.specs.Flow.{Flow, SolvesProgram}
 use Rattle.closure_convert.specs.Scope.{Table, top}
 use Rattle.closure_convert.specs.Closed.{IsClosed}
-use Rattle.closure_convert.specs.Convert.{Numbering, numbers_in, program}
-use Rattle.closure_convert.specs.Fits.{Setting, Fits}
+use Rattle.closure_meaning.specs.Convert.{Numbering, numbers_in, program}
+use Rattle.closure_meaning.specs.Fits.{Setting, Fits}
 
 -- functions have the numbers after the program itself, in the order of their codes
 abbrev pub IsNumbered : (types : List table.Row) → Numbering → Mono types → Type 0

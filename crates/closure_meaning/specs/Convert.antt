@@ -1,12 +1,12 @@
 -- Functions to cells with what they capture: the conversion, for any flow sets and any table of captures. Programs have no function by itself (a constructor,
 -- `ref`, a primitive or an exception as a function): each is a `fn` by now.
-use Rattle.std.specs.Prelude.{ℕ, zero, suc, Bool, true, false, List, [], ◌∷◌, length, map, Option, Some, None, nat_eq, if◌then◌else◌, slice_get}
+use Rattle.std.specs.Prelude.{ℕ, zero, suc, Bool, true, false, List, [], ◌∷◌, map, Option, Some, None, nat_eq, if◌then◌else◌, slice_get}
 use Rattle.mlc_base.specs.declared.label.Label.{Label}
 use Rattle.mlc_base.specs.declared.place.Place.{Place}
 use Rattle.mlc_prims.specs.LitOf.{Literal, int, word, char, string, truth}
 use Rattle.mlc_prims.specs.declared.basis.BasisPrimitive.{BasisPrimitive}
 use Rattle.mlc_prims.specs.declared.basis.BasisPrimitive.TheVariants as basis
-use Rattle.ty_core.specs.Types.{Symbol, arrow, labels, name}
+use Rattle.ty_core.specs.Types.{arrow, labels, name}
 use Rattle.ir_values.specs.Values.{same_label, false_number, true_number}
 use Rattle.ir_values.specs.Primitives.{Sort, compares, assigns, prints, computes, sort_of, is_overloaded}
 use Rattle.ir_plain.specs.Tree as m
@@ -26,7 +26,7 @@ use Rattle.ir_first.specs.Tree as out
 use Rattle.flow_sets.specs.Member.{is_in}
 use Rattle.flow_sets.specs.Flow.{Flow, variable, at, number_of}
 use Rattle.closure_convert.specs.Scope.{Member, names, Scope, add, add_all, Way, no_way, leads, follows, way, index_of, Piece, alone, those, Table, top}
-use Rattle.closure_convert.specs.Closed.{scope_of, members, leader, case_scope}
+use Rattle.closure_convert.specs.Closed.{scope_of, members, leader}
 
 -- Names. In the body of a function `holder` is the cell that has what was captured: the closure of a function alone, or of the first of its group. Another of a
 -- group is `follower` when it is entered, and has the first as its one part. `given` is the function that one of several parameters gives; `spare` and it

@@ -1,6 +1,6 @@
 -- What the conversion asks of a program, beside its sets and captures: that variables are what their numbering says, the names of exceptions or values; and that
 -- constants, constructors and labels are those of the tables.
-use Rattle.std.specs.Prelude.{◌≡◌, ℕ, true, false, List, [], ◌∷◌, length, Some, None, nat_lt, slice_get, ⊤}
+use Rattle.std.specs.Prelude.{◌≡◌, ℕ, true, false, List, [], ◌∷◌, length, Some, None, nat_lt, ⊤}
 use Rattle.mlc_base.specs.declared.label.Label.{Label}
 use Rattle.mlc_prims.specs.LitOf.{Literal}
 use Rattle.ty_core.specs.Types.{labels}
@@ -11,7 +11,7 @@ use Rattle.ir_mono.specs.Mono.{mono, Mono}
 use Rattle.first_values.specs.Operations.{literal_at}
 use Rattle.flow_sets.specs.Flow.{Flow}
 use Rattle.closure_convert.specs.Scope.{Table}
-use Rattle.closure_convert.specs.Convert.{Numbering, constant, tables}
+use Rattle.closure_meaning.specs.Convert.{Numbering, constant, tables}
 
 -- all that the conversion of a program is made with
 pub record Setting : Type 0 where
