@@ -1,0 +1,34 @@
+-- What is claimed of the conversion.
+use Rattle.std.specs.Prelude.{◌≡◌, ℕ, suc, List, [], Some, slice_get}
+use Rattle.mlc_base.specs.Outcome.{wrong}
+use Rattle.ir_mono.specs.Types as table
+use Rattle.ir_mono.specs.Types.{IsTable}
+use Rattle.ir_mono.specs.Mono.{Mono, Program}
+use Rattle.ir_explicit.specs.Explicit as source
+use Rattle.ir_first.specs.Meaning as first
+use Rattle.flow_sets.specs.Flow.{Flow, SolvesProgram}
+use Rattle.closure_convert.specs.Scope.{Table, top}
+use Rattle.closure_convert.specs.Closed.{IsClosed}
+use Rattle.closure_meaning.specs.Convert.{Numbering, numbers_in, program}
+use Rattle.closure_meaning.specs.Fits.{Setting, Fits}
+
+-- functions have the numbers after the program itself, in the order of their codes
+abbrev pub IsNumbered : (types : List table.Row) → Numbering → Mono types → Type 0
+IsNumbered types n e = (i k : ℕ) → slice_get (numbers_in types e []) i ≡ Some k → n.function k ≡ suc i
+
+abbrev pub setting : Numbering → List (List ℕ) → Flow → Table → Program → Setting
+setting n strings flow captures p = record { types = p.types; initial = p.initial; strings = strings; numbering = n; flow = flow; captures = captures }
+
+-- what a conversion asks of a program and of all that it is made with
+pub record MayConvert (n : Numbering) (strings : List (List ℕ)) (flow : Flow) (captures : Table) (p : Program) : Type 0 where
+  pub table : IsTable p.types
+  pub fits : Fits (setting n strings flow captures p) p.body
+  pub solves : SolvesProgram p.types flow p.body
+  pub closed : IsClosed p.types captures top p.body
+  pub numbered : IsNumbered p.types n p.body
+
+-- one outcome, for any sets that solve and any right table of captures
+abbrev pub ConversionKeeps : Type 0
+ConversionKeeps =
+    (n : Numbering) (strings : List (List ℕ)) (flow : Flow) (captures : Table) (p : Program) → MayConvert n strings flow captures p → (m : ℕ)
+    → ((source.meaning p m).end ≡ wrong → ⊥) → first.meaning (program n strings flow captures p) m ≡ source.meaning p m

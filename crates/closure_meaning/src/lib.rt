@@ -1,0 +1,4 @@
+// The conversion of functions to cells keeps what a program does.
+#![tactic(auto)]
+
+pub mod law;

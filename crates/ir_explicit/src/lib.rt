@@ -1,0 +1,2 @@
+// Programs in which only `fn` and groups are functions.
+#![tactic(auto)]
