@@ -1,0 +1,4 @@
+pub mod Checks
+pub mod Holding
+pub mod Loops
+pub mod Truths

@@ -1,0 +1,5 @@
+use Rattle.prog_parts.proofs.Truths.{two}
+use Rattle.prog_pats.proofs.heads.check_exception.Goals as goal
+
+pub returns : goal.returns
+returns c = two c.both.ensures c.takes-alone.ensures c.is_packet-packet.ensures

@@ -1,0 +1,4 @@
+// Which expressions are values.
+#![tactic(auto)]
+
+pub mod values;
