@@ -1,0 +1,4 @@
+pub mod Going
+pub mod Inside
+pub mod Nodes
+pub mod Typing
