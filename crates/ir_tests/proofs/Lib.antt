@@ -1,3 +1,4 @@
 pub mod Known
 pub mod Right
 pub mod Once
+pub mod Checks

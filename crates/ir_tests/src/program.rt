@@ -12,10 +12,11 @@ use plain_tree::once::binds_once;
 use plain_tree::tree::Exp;
 use std::alloc::Global;
 
-/// Tests, with the tables that their numbers stand in.
+/// Tests, with the tables that their numbers stand in, and the number of the type of exceptions.
 #[derive(Drop)]
 pub struct Program {
     pub tables: Tables,
+    pub exn: usize,
     pub body: Exp,
 }
 

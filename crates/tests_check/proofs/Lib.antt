@@ -5,3 +5,11 @@ pub mod Steps
 pub mod Groups
 pub mod Exps
 pub mod Lets
+pub mod Values
+pub mod Atoms
+pub mod Rolls
+pub mod Operations
+pub mod Cases
+pub mod Binding
+pub mod Ends
+pub mod Walking

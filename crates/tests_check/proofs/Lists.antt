@@ -1,5 +1,6 @@
 -- Lists of which each element is so, along a loop.
 use Rattle.std.proofs.Common.{◌≡◌, ℕ, zero, suc, ◌+◌, ◌<◌, List, [], ◌∷◌, map, take, drop, length, slice_index_or, refl, sym, ap, ◌∙◌, subst, arith}
+use Rattle.std.proofs.Math.Seq.{take-length}
 use Rattle.tests_check.specs.Walk.{Each}
 
 module _ {A : Type 0} where
@@ -15,3 +16,11 @@ module _ {A : Type 0} where
   each-at P [] i x lt e ps = absurd (omega arith)
   each-at P (y ∷ xs) zero x lt e ps = subst P (sym e) ps.0
   each-at P (y ∷ xs) (suc i) x lt e ps = each-at P xs i x (omega arith) e ps.1
+
+pub any-default : {A : Type 0} (xs : List A) (n : ℕ) (d e : A) → n < length xs → slice_index_or xs n d ≡ slice_index_or xs n e
+any-default [] n d e lt = absurd (omega arith)
+any-default (x ∷ xs) zero d e lt = refl
+any-default (x ∷ xs) (suc n) d e lt = any-default xs n d e (omega arith)
+
+pub all-taken : {A : Type 0} (xs : List A) (n : ℕ) → n ≡ length xs → take n xs ≡ xs
+all-taken xs n e = ap (λ n. take n xs) e ∙ take-length xs

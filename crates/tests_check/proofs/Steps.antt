@@ -8,6 +8,7 @@ use Rattle.ir_poly.specs.Tests.{poly}
 use Rattle.ir_poly.specs.TestsChecked.{Knowns, at, NameChecked, fixed_checked, held_checked, exception}
 use Rattle.ir_tables.specs.declared.tables.Tables.{Tables}
 use Rattle.ir_known.specs.declared.known.Known.{Known}
+use Rattle.ir_known.specs.declared.scope.Mark.{Mark}
 use Rattle.plain_tree.specs.declared.tree.Binding.{Binding}
 use Rattle.plain_tree.specs.TreeOf.{StepTree, put, onto, let_of, let_step, exception_step, name_step, rec_step, test_step, counted_step}
 use Rattle.tests_check.specs.Fits.{ExpFits, ArgumentFits, AtomFits, ArmsFit, CaseFits}
@@ -137,3 +138,13 @@ module _ (t : Tables) (m : Bool) (D : List Quantified) (v : ℕ) (old new : Name
 
 pub counted-brings : (t : Tables) (m : Bool) (D : List Quantified) (v : ℕ) (old : Names) (n : ℕ) (s : StepTree poly) → s ≡ counted_step n → Brings t m D v old old (put s)
 counted-brings t m D v old n s e = subst (λ s. Brings t m D v old old (put s)) (sym e) (record { grows = grows-none old; whole = λ c u _ p. p; back = λ c u _ p. p })
+
+-- back to a place
+
+pub back-to : (old rest new : Names) (mark : Mark) (added : List (ℕ × Known)) → rest.0 ++ rest.1 ≡ added ++ (old.0 ++ old.1) → mark.len ≡ length (old.0 ++ old.1) → mark.start ≡ length old.1
+    → ((a l r : List (ℕ × Known)) → rest.0 ++ rest.1 ≡ a ++ (l ++ r) → mark.len ≡ length (l ++ r) → mark.start ≡ length r → new ≡ (l, r)) → new ≡ old
+back-to old rest new mark added w l b r = r added old.0 old.1 w l b
+
+pub grown-within : (old now rest : Names) (g : Grows old now) → rest ≡ now → rest.0 ++ rest.1 ≡ g.added ++ (old.0 ++ old.1)
+grown-within old now rest g e =
+    ap (λ (s : Names). s.0 ++ s.1) e ∙ ap (λ x. x ++ now.1) g.local ∙ ap (λ y. (g.added ++ old.0) ++ y) g.around ∙ assoc g.added old.0 old.1

@@ -10,6 +10,7 @@ use Rattle.ty_core.specs.declared.scheme.Quantified.{Quantified}
 use Rattle.ir_values.specs.Values.{same_label}
 use Rattle.ir_plain.specs.Tree.{Case, is_literal, is_con, is_con_of, is_exn, is_exn_of, is_record, Atoms, no_atoms, an_atom, Row, no_row, a_row, Exp, ret, let_in, exception_in, name_in, rec_in, switch, first, miss, counted, Arms, no_arms, arm, Op, use_of, const, con_alone, construct, ref_alone, refer, content, pack, make_record, select, prim_alone, prim, app, fn, block, handle, raise, raise_initial, Fun, last, more, Funs, no_funs, fun}
 use Rattle.ir_poly.specs.Tests.{Use, inst, poly}
+pub use Rattle.ir_uses.specs.Uses.{UseFits, ArgumentFits}
 use Rattle.ir_poly.specs.Types.{function_type, ref_type, row_type, labels_in, ascend, admits_in, over, all_over, are_new, changed, AreAllowed, Constructor, prim_type, arguments_at, result_at, tuple_type}
 use Rattle.ir_poly.specs.TestsChecked.{Known, of_type, general, own, exception, Knowns, at, exn_type, HasLiteral, value_type, alone_type, group_knowns, may_generalise, declared, NameChecked, is_size, HasConstructor}
 
@@ -30,19 +31,6 @@ abbrev pub RowFits : Knowns → Row poly → List (Label × Typ) → Type 0
 RowFits L no_row r = r ≡ []
 RowFits L (a_row l a row) [] = ⊥
 RowFits L (a_row l a row) (f ∷ r) = (f.0 ≡ l) × AtomFits L a f.1 × RowFits L row r
-
--- a use at types of what is known of the variable
-abbrev pub UseFits : List Quantified → Option Known → List Typ → Typ → Type 0
-UseFits D None ts t = ⊥
-UseFits D (Some (of_type u)) ts t = (ts ≡ []) × (u ≡ t)
-UseFits D (Some (own u)) ts t = (ts ≡ []) × (u ≡ t)
-UseFits D (Some (exception a)) ts t = (ts ≡ []) × (t ≡ value_type a)
-UseFits D (Some (general qs s b)) ts t =
-    (s ≡ var) × AreAllowed (admits_in D) qs ts × (all_over D (typs_of ts) ≡ true) × (t ≡ replace (changed qs ts var) b)
-
-abbrev pub ArgumentFits : List Quantified → Option Typ → Type 0
-ArgumentFits D None = ⊤
-ArgumentFits D (Some a) = over D a ≡ true
 
 -- what is in scope where an arm fits
 abbrev pub case_onto : Case poly → Knowns → Knowns

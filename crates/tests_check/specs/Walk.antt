@@ -17,9 +17,10 @@ use Rattle.ir_known.specs.Knows.{known_of, knowns_of}
 use Rattle.plain_tree.specs.declared.tree.Binding.{Binding}
 use Rattle.plain_tree.specs.declared.tree.Parameter.{Parameter}
 use Rattle.plain_tree.specs.declared.tree.Exp.{Exp}
+use Rattle.plain_tree.specs.declared.tree.Step.{Step}
 use Rattle.plain_tree.specs.declared.tree.Arm.{Arm}
 use Rattle.plain_tree.specs.declared.tree.Function.{Function}
-use Rattle.plain_tree.specs.TreeOf.{tree_of, arm_of, function_of, fun_of, funs_of}
+use Rattle.plain_tree.specs.TreeOf.{tree_of, step_of, arm_of, function_of, fun_of, funs_of, onto}
 use Rattle.tests_check.specs.Fits.{CaseFits, ExpFits, OpFits, FunFits, FunsFit, case_onto, FunsNew}
 use Rattle.tests_check.specs.Reads.{reading}
 use Rattle.tests_check.specs.declared.group.Standing.{Standing}
@@ -52,6 +53,19 @@ pub record IsArm (t : Tables) (D : List Quantified) (s : Names) (u v : ℕ) (a :
 pub record IsFunction (t : Tables) (D : List Quantified) (s : Names) (f : Function) : Type 0 where
   pub type : over D (function_of (reading t) f).type ≡ true
   pub function : FunFits (table_of t) D (all t s) (function_of (reading t) f).function (function_of (reading t) f).type
+
+-- what steps stand in front of, and operations that hold expressions
+abbrev pub steps_before : Tables → List Step → clean.Exp poly → clean.Exp poly
+steps_before t ss = onto (map (step_of (reading t)) ss)
+
+abbrev pub function_made : Tables → List Parameter → Parameter → Exp → clean.Op poly
+function_made t xs x e = clean.fn (fun_of (reading t) xs x (tree_of (reading t) e))
+
+abbrev pub block_made : Tables → Exp → clean.Op poly
+block_made t e = clean.block (tree_of (reading t) e)
+
+abbrev pub handle_made : Tables → Exp → ℕ → Exp → clean.Op poly
+handle_made t e x h = clean.handle (tree_of (reading t) e) x (tree_of (reading t) h)
 
 -- all of a list are so
 abbrev pub Each : {A : Type 0} → (A → Type 0) → List A → Type 0
@@ -158,3 +172,11 @@ pub record IsName (t : Tables) (old new : Names) (x : ℕ) (y : clean.Exception 
   pub named : NameChecked (all t old) y argument
   pub free : at (all t old) x ≡ None
   pub holds : Holds t old new x (clean_known.exception argument)
+
+-- an expression fits at one type alone where no miss goes on; or at none
+pub record HasType (t : Tables) (D : List Quantified) (s : Names) (e : Exp) (k : ℕ) : Type 0 where
+  pub fits : ExpFits (table_of t) false D (all t s) (local t s) (tree_of (reading t) e) (type_at t.types k)
+  pub only : (u : Typ) → ExpFits (table_of t) false D (all t s) (local t s) (tree_of (reading t) e) u → u ≡ type_at t.types k
+
+pub record HasNone (t : Tables) (D : List Quantified) (s : Names) (e : Exp) : Type 0 where
+  pub never : (u : Typ) → ExpFits (table_of t) false D (all t s) (local t s) (tree_of (reading t) e) u → ⊥

@@ -2,5 +2,11 @@
 #![tactic(auto)]
 
 pub mod atom;
+pub mod case;
 pub mod group;
+pub mod infer;
 pub mod opening;
+pub mod operation;
+pub mod step;
+pub mod value;
+pub mod walk;
