@@ -1,0 +1,4 @@
+pub mod Shapes
+pub mod Orders
+pub mod Rows
+pub mod MoreRows

@@ -1,0 +1,68 @@
+-- Which primitives the code is right for.
+use Rattle.std.specs.Prelude.{◌-◌, ◌^◌}
+use Rattle.ir_code.specs.declared.instr.Instr.TheVariants.{Add as AddRow, Sub as SubRow, Mul as MulRow, WAdd, WSub, WMul, WDiv, WMod, And, Or, Xor, Shl, Shr, Sar, ILt, ULt, Eq}
+use Rattle.mlc_prims.specs.declared.basis.BasisPrimitive.TheVariants.{Add, Subtract, Multiply, Divide, Modulo, Negate, BitsAnd, BitsOr, BitsXor, BitsNot, ShiftLeft, ShiftRight, ShiftSigned, Less, LessEqual, Greater, GreaterEqual, Equals, FromInt, CharCode}
+use Rattle.mlc_prims.specs.declared.prim.PrimExn.TheVariants.{Overflow, Div}
+use Rattle.first_values.specs.Operations.{ints, words, chars}
+use Rattle.machine_primitives.specs.RowLaws.{RowIsRight, TestIsRight}
+use Rattle.machine_primitives.specs.RowCode.{total, raising, moved, from_word, holds, swapped, fails}
+
+-- sums, differences and products: of integers exact, or Overflow; of words modulo 2^32
+pub record SumsAreRight : Type 0 where
+  pub int_add : RowIsRight ints Add 3 (raising Overflow AddRow)
+  pub int_subtract : RowIsRight ints Subtract 3 (raising Overflow SubRow)
+  pub int_multiply : RowIsRight ints Multiply 3 (raising Overflow MulRow)
+  pub word_add : RowIsRight words Add 1 (total WAdd)
+  pub word_subtract : RowIsRight words Subtract 1 (total WSub)
+  pub word_multiply : RowIsRight words Multiply 1 (total WMul)
+
+-- quotients and remainders of words, or Div
+pub record WordQuotientsAreRight : Type 0 where
+  pub divide : RowIsRight words Divide 3 (raising Div WDiv)
+  pub modulo : RowIsRight words Modulo 3 (raising Div WMod)
+
+-- bits, shifts, and a word's negative and complement
+pub record BitsAreRight : Type 0 where
+  pub bits_and : RowIsRight words BitsAnd 1 (total And)
+  pub bits_or : RowIsRight words BitsOr 1 (total Or)
+  pub bits_xor : RowIsRight words BitsXor 1 (total Xor)
+  pub left : RowIsRight words ShiftLeft 1 (total Shl)
+  pub right : RowIsRight words ShiftRight 1 (total Shr)
+  pub signed : RowIsRight words ShiftSigned 1 (total Sar)
+  pub bits_not : RowIsRight words BitsNot 2 (from_word (2 ^ 32 - 1) WSub)
+  pub negate : RowIsRight words Negate 2 (from_word 0 WSub)
+
+-- a word of an integer's bits, and a character's code
+pub record ConversionsAreRight : Type 0 where
+  pub from_int : RowIsRight ints FromInt 1 moved
+  pub char_code : RowIsRight chars CharCode 1 moved
+
+-- truth values of comparisons
+pub record TruthsAreRight : Type 0 where
+  pub int_less : RowIsRight ints Less 1 (total ILt)
+  pub int_greater : RowIsRight ints Greater 1 (total (swapped ILt))
+  pub int_equals : RowIsRight ints Equals 1 (total Eq)
+  pub word_less : RowIsRight words Less 1 (total ULt)
+  pub word_greater : RowIsRight words Greater 1 (total (swapped ULt))
+  pub word_equals : RowIsRight words Equals 1 (total Eq)
+  pub char_less : RowIsRight chars Less 1 (total ULt)
+  pub char_greater : RowIsRight chars Greater 1 (total (swapped ULt))
+  pub char_equals : RowIsRight chars Equals 1 (total Eq)
+
+-- tests of two integers, words or characters
+pub record ComparisonsAreRight : Type 0 where
+  pub int_less : TestIsRight ints Less 2 (holds ILt)
+  pub int_greater : TestIsRight ints Greater 2 (holds (swapped ILt))
+  pub int_less_equal : TestIsRight ints LessEqual 3 (fails (swapped ILt))
+  pub int_greater_equal : TestIsRight ints GreaterEqual 3 (fails ILt)
+  pub int_equals : TestIsRight ints Equals 2 (holds Eq)
+  pub word_less : TestIsRight words Less 2 (holds ULt)
+  pub word_greater : TestIsRight words Greater 2 (holds (swapped ULt))
+  pub word_less_equal : TestIsRight words LessEqual 3 (fails (swapped ULt))
+  pub word_greater_equal : TestIsRight words GreaterEqual 3 (fails ULt)
+  pub word_equals : TestIsRight words Equals 2 (holds Eq)
+  pub char_less : TestIsRight chars Less 2 (holds ULt)
+  pub char_greater : TestIsRight chars Greater 2 (holds (swapped ULt))
+  pub char_less_equal : TestIsRight chars LessEqual 3 (fails (swapped ULt))
+  pub char_greater_equal : TestIsRight chars GreaterEqual 3 (fails ULt)
+  pub char_equals : TestIsRight chars Equals 2 (holds Eq)

@@ -1,0 +1,36 @@
+-- The code of primitives.
+use Rattle.std.specs.Prelude.{ℕ, ◌+◌, List, [], ◌∷◌, get_or}
+use Rattle.ir_code.specs.declared.instr.Instr.{Instr}
+use Rattle.ir_code.specs.declared.instr.Instr.TheVariants.{Li, Mov, Jmp, Brz}
+use Rattle.mlc_prims.specs.declared.prim.PrimExn.{PrimExn}
+use Rattle.machine_primitives.specs.RowLaws.{Code, TestCode}
+
+abbrev pub arg : ℕ → List ℕ → ℕ
+arg i xs = get_or xs i 0
+
+-- a row of the machine whose function always has a result
+abbrev pub total : (ℕ → ℕ → ℕ → Instr) → Code
+total row packets pc d other xs = row d (arg 0 xs) (arg 1 xs) ∷ []
+
+-- one that may have none: the packet is in the slot already
+abbrev pub raising : PrimExn → (ℕ → ℕ → ℕ → Instr) → Code
+raising e row packets pc d other xs = Li d (packets e) ∷ row d (arg 0 xs) (arg 1 xs) ∷ Jmp other ∷ []
+
+-- the word itself
+abbrev pub moved : Code
+moved packets pc d other xs = Mov d (arg 0 xs) ∷ []
+
+-- a row of a word and the operand
+abbrev pub from_word : ℕ → (ℕ → ℕ → ℕ → Instr) → Code
+from_word v row packets pc d other xs = Li d v ∷ row d d (arg 0 xs) ∷ []
+
+-- a comparison that gives 1 or 0: as it is, and its contrary
+abbrev pub holds : (ℕ → ℕ → ℕ → Instr) → TestCode
+holds row pc d other xs = row d (arg 0 xs) (arg 1 xs) ∷ Brz d other ∷ []
+
+-- with its operands the other way round
+abbrev pub swapped : (ℕ → ℕ → ℕ → Instr) → ℕ → ℕ → ℕ → Instr
+swapped row d x y = row d y x
+
+abbrev pub fails : (ℕ → ℕ → ℕ → Instr) → TestCode
+fails row pc d other xs = row d (arg 0 xs) (arg 1 xs) ∷ Brz d (pc + 3) ∷ Jmp other ∷ []

@@ -1,0 +1,63 @@
+// Which primitives the code is right for, as contracts.
+
+ghost use Rattle.machine_primitives.specs.Laws.{SumsAreRight, WordQuotientsAreRight, BitsAreRight, ConversionsAreRight, TruthsAreRight, ComparisonsAreRight};
+
+/// Sums, differences and products of integers, which may overflow, and of words.
+pub fn sums()
+    ensures { SumsAreRight }
+{
+    ir_code::law::begins();
+    ir_code::law::control();
+    ir_code::law::memory();
+    ir_code::law::arithmetic();
+}
+
+/// Quotients and remainders of words, by 0 too.
+pub fn word_quotients()
+    ensures { WordQuotientsAreRight }
+{
+    ir_code::law::begins();
+    ir_code::law::control();
+    ir_code::law::memory();
+    ir_code::law::arithmetic();
+}
+
+/// Comparisons of integers, words and characters, as tests.
+pub fn comparisons()
+    ensures { ComparisonsAreRight }
+{
+    ir_code::law::begins();
+    ir_code::law::control();
+    ir_code::law::memory();
+    ir_code::law::arithmetic();
+}
+
+/// Bits and shifts of words, complement and negative.
+pub fn bits()
+    ensures { BitsAreRight }
+{
+    ir_code::law::begins();
+    ir_code::law::control();
+    ir_code::law::memory();
+    ir_code::law::arithmetic();
+}
+
+/// An integer's bits as a word, and a character's code.
+pub fn conversions()
+    ensures { ConversionsAreRight }
+{
+    ir_code::law::begins();
+    ir_code::law::control();
+    ir_code::law::memory();
+    ir_code::law::arithmetic();
+}
+
+/// Comparisons of integers, words and characters, as values.
+pub fn truths()
+    ensures { TruthsAreRight }
+{
+    ir_code::law::begins();
+    ir_code::law::control();
+    ir_code::law::memory();
+    ir_code::law::arithmetic();
+}
