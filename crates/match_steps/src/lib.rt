@@ -1,0 +1,4 @@
+// The steps of single operations.
+#![tactic(auto)]
+
+pub mod steps;

@@ -1,0 +1,4 @@
+pub mod Scoping
+pub mod Seeing
+pub mod Standing
+pub mod Images
