@@ -4,7 +4,7 @@
 mod make;
 mod measure;
 
-use crate::measure::{Measured, chain, deep, instances, shared};
+use crate::measure::{Measured, chain, deep, instances, rows, shared};
 use std::env;
 use std::process::ExitCode;
 
@@ -17,6 +17,8 @@ struct Sizes {
     refusals: usize,
     /// The variables of a chain.
     variables: usize,
+    /// The rows that are made equal.
+    rows: usize,
     /// The instances of a scheme of 20 nodes.
     instances: usize,
 }
@@ -25,6 +27,7 @@ const FULL: Sizes = Sizes {
     nodes: 60_000,
     refusals: 1_000,
     variables: 10_000,
+    rows: 10_000,
     instances: 100_000,
 };
 
@@ -32,6 +35,7 @@ const SMALL: Sizes = Sizes {
     nodes: 600,
     refusals: 10,
     variables: 100,
+    rows: 100,
     instances: 1_000,
 };
 
@@ -61,6 +65,8 @@ fn main(rt: HostRuntime) -> anyhow::Result<ExitCode> {
     )?;
     let bound = chain(rt.alloc(), &rt, sizes.variables)?;
     print(&rt, "a chain of bindings, resolved", bound, !small)?;
+    let united = rows(rt.alloc(), &rt, sizes.rows)?;
+    print(&rt, "rows, each united with the last", united, !small)?;
     let instances = instances(rt.alloc(), &rt, sizes.instances)?;
     print(&rt, "instances of a scheme of 20 nodes", instances, !small)?;
     Ok(ExitCode::SUCCESS)

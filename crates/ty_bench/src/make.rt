@@ -6,7 +6,8 @@ use std::alloc::Global;
 use ty_core::mark::Mark;
 use ty_core::name::{Equality, TyName};
 use ty_core::ty::Head;
-use ty_solve::known::is_known;
+use ty_solve::known::{fits, is_known};
+use ty_solve::row::Row;
 use ty_solve::solve::unify;
 use ty_solve::subst::Subst;
 use ty_table::types::Types;
@@ -51,6 +52,20 @@ fn pair(alloc: Global, s: &mut Subst, part: usize) -> Result<usize, NoMemory> {
 pub fn variable(alloc: Global, s: &mut Subst) -> Result<usize, NoMemory> {
     let v = s.fresh(Mark::Any)?;
     s.variable(alloc, v)
+}
+
+/// A row with one field, of a new type, as a type.
+pub fn row(alloc: Global, s: &mut Subst) -> Result<usize, NoMemory> {
+    let field = variable(alloc, s)?;
+    let mut row = Row::empty(alloc, false);
+    row.labels.push(Label::Number(1))?;
+    row.types.push(field)?;
+    if fits(alloc, s, &row)? {
+        let v = s.fresh_row(row)?;
+        s.variable(alloc, v)
+    } else {
+        Ok(NONE)
+    }
 }
 
 /// A variable under so many lists.

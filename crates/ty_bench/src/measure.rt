@@ -1,7 +1,7 @@
 // What each measure takes.
 
 use crate::make::{
-    LIST, NONE, Problem, are_unified, deep_types, one, scheme_body, shared_types, variable,
+    LIST, NONE, Problem, are_unified, deep_types, one, row, scheme_body, shared_types, variable,
 };
 use mlc_base::memory::NoMemory;
 use std::alloc::Global;
@@ -124,6 +124,35 @@ fn time_chain(
 pub fn chain(alloc: Global, clock: &impl Clock, count: usize) -> anyhow::Result<Measured> {
     let mut s = Subst::new(alloc)?;
     time_chain(alloc, clock, &mut s, count)
+}
+
+/// Makes so many rows, each equal to the last.
+fn united(alloc: Global, s: &mut Subst, count: usize) -> Result<&'static str, NoMemory> {
+    let mut last = row(alloc, s)?;
+    let mut all = true;
+    for _ in 0..count {
+        let next = row(alloc, s)?;
+        all = are_unified(alloc, s, last, next) && all;
+        last = next;
+    }
+    Ok(if all { "united" } else { "refused" })
+}
+
+fn time_rows(
+    alloc: Global,
+    clock: &impl Clock,
+    s: &mut Subst,
+    count: usize,
+) -> anyhow::Result<Measured> {
+    let start = Instant::now(clock)?;
+    let answer = united(alloc, s, count)?;
+    Ok(per_node(answer, start.elapsed(clock)?, count))
+}
+
+/// Makes and unites rows.
+pub fn rows(alloc: Global, clock: &impl Clock, count: usize) -> anyhow::Result<Measured> {
+    let mut s = Subst::new(alloc)?;
+    time_rows(alloc, clock, &mut s, count)
 }
 
 /// An instance of a body at two variables.

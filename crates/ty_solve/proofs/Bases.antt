@@ -1,14 +1,14 @@
 -- What is known of the record that an open variable stands for.
-use Rattle.std.proofs.Common.{◌≡◌, ℕ, Bool, true, false, [], Option, Some, None, MatchOption, map, refl, sym, ap, ◌∙◌, subst, arith}
+use Rattle.std.proofs.Common.{◌≡◌, ℕ, Bool, true, false, [], refl, sym, ap, ◌∙◌, subst, arith}
 use Rattle.std.proofs.lemmas.Bool.{false≢true}
-use Rattle.ty_core.specs.Types.{Typ, var, none, typs_of}
+use Rattle.ty_core.specs.Types.{Typ, var, none}
 use Rattle.ty_core.specs.declared.mark.Class.{Class}
 use Rattle.ty_core.specs.declared.mark.Mark.{Mark}
 use Rattle.ty_solve.specs.Rows.{At, IsProper, Extends}
 use Rattle.ty_solve.specs.Substitution.{Entry, free, bound, row, mark, Meets, subs, are_below}
 use Rattle.ty_solve.specs.SlotsOf.{row_of}
 use Rattle.ty_solve.specs.Weight.{AreBelow, AreInhabited}
-use Rattle.ty_solve.specs.Forces.{Problem, Strict, Clashes, Met, EntryMet, ForcedAt, IsForcedRow, IsDue}
+use Rattle.ty_solve.specs.Forces.{Problem, Strict, Clashes, Met, EntryMet, ForcedAt, IsForcedRow}
 use Rattle.mlc_base.specs.declared.label.Label.{Label}
 use Rattle.ty_solve.specs.Changes.{RefusesRow, IsFitRow, row_rank, entry_rank}
 use Rattle.ty_solve.specs.Fields.{IsBase}

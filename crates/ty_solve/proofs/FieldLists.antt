@@ -66,12 +66,6 @@ not-proper ls ts ne p = ne (proper-lengths ls ts p)
 pub place-whole : (l : Label) (ls : List Label) (n i : ℕ) → n ≡ length ls → IsPlace ls n l i → Among l ls
 place-whole l ls n i e k = subst (Among l) (ap (λ z. take z ls) e ∙ take-whole ls) (place-among l ls n i k.in_range (omega arith) k.is)
 
-pub placed : (l : Label) (ls of : List Label) (n i : ℕ) → of ≡ ls → n ≡ length ls → IsPlace of n l i → Among l ls
-placed l ls of n i p e k = place-whole l ls n i e (subst (λ z. IsPlace z n l i) p k)
-
-pub not-placed : (l : Label) (ls of : List Label) (n : ℕ) → of ≡ ls → n ≡ length ls → (Among l (take n of) → ⊥) → Among l ls → ⊥
-not-placed l ls of n p e h = not-whole l n ls e (subst (λ z. Among l (take n z) → ⊥) p h)
-
 pub lacking-next : (ks ls : List Label) (i : ℕ) (x : Label) → i < length ks → x ≡ get_or ks i x → Among x ls → ((l : Label) → Among l (take i ks) → Among l ls) → (l : Label) → Among l (take (suc i) ks) → Among l ls
 lacking-next ks ls i x lt e a h l b = go (among-last l x (take i ks) (subst (Among l) (take-next ks i x lt e) b))
   where

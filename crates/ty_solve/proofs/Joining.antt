@@ -7,7 +7,7 @@ use Rattle.ty_core.specs.Types.{Symbol, arrow, labels, name, Typ, var, con, Typs
 use Rattle.ty_core.specs.declared.name.TyName.{TyName}
 use Rattle.ty_solve.specs.Rows.{Among, At, IsProper, Extends}
 use Rattle.ty_solve.specs.Substitution.{Entry, sub, subs}
-use Rattle.ty_solve.specs.Forces.{Problem, Forces, Has, Asks, Strict, Clashes, Met, Beside, IsForcedRow, IsDue}
+use Rattle.ty_solve.specs.Forces.{Problem, Forces, Has, Asks, Strict, Clashes, Met, Beside, IsForcedRow}
 use Rattle.ty_solve.specs.Changes.{row_rank, RefusesRow}
 use Rattle.ty_solve.specs.Fields.{FieldsMeet, OthersAdmit, IsUnion, Joins, Closes, IsLacking}
 use Rattle.ty_solve.specs.Task.{Task}

@@ -1,24 +1,21 @@
 -- A mark on a variable that stands for a record.
-use Rattle.std.proofs.Common.{◌≡◌, ℕ, suc, Bool, true, false, List, [], Option, Some, None, Result, Ok, Err, IfOk, map, ap, sym, ◌∙◌, subst, arith}
+use Rattle.std.proofs.Common.{◌≡◌, ℕ, suc, Bool, true, false, List, [], Some, None, ap, sym, ◌∙◌, subst, arith}
 use Rattle.std.proofs.lemmas.Bool.{ltb-true}
-use mathlib.Core.Logic.{◌⊎◌, inl, inr}
+use mathlib.Core.Logic.{inl, inr}
 use Rattle.mlc_base.specs.declared.label.Label.{Label}
-use Rattle.ty_core.specs.Types.{Typ, var, Typs, typs_of, admits}
+use Rattle.ty_core.specs.Types.{Typ, var, Typs, admits}
 use Rattle.ty_core.specs.Marks.{IsOf}
 use Rattle.ty_core.specs.declared.mark.Class.{Class}
 use Rattle.ty_core.specs.declared.mark.Mark.{Mark}
 use Rattle.ty_solve.specs.Rows.{IsProper, Extends}
 use Rattle.ty_solve.specs.Substitution.{Entry, free, bound, row, Meets, sub, subs, is_below, are_below}
-use Rattle.ty_solve.specs.SlotsOf.{row_of}
-use Rattle.ty_solve.specs.Rows.{Known}
-use Rattle.ty_solve.specs.Weight.{weight, weights, WeighsAt, Weighs, InhabitedAt, AreInhabited, BelowAt, AreBelow}
+use Rattle.ty_solve.specs.Weight.{weight, weights}
 use Rattle.ty_solve.specs.Forces.{Problem, Asks, Strict, Clashes, Met, EntryMet, LeftAt, ForcedAt, IsForced, IsForcedRow}
 use Rattle.ty_solve.proofs.Sigma.{solves-fits}
 use Rattle.ty_solve.specs.Tasks.{Steps, RefusesTask, IsLoose}
 use Rattle.ty_solve.specs.Parts.{AdmitParts, RefusesParts}
 use Rattle.ty_solve.specs.Task.{Task}
 use Rattle.ty_solve.specs.Task.{Admit}
-use Rattle.ty_solve.specs.Task.{Write}
 use Rattle.ty_solve.specs.Task.{Further}
 use Rattle.ty_solve.specs.declared.refused.UnifyRefused.{UnifyRefused}
 use Rattle.ty_solve.specs.declared.refused.UnifyRefused.TheVariants.{Clash, Circular, Large, Memory}

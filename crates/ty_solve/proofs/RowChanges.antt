@@ -1,15 +1,15 @@
 -- Changes to what a row stands for.
-use Rattle.std.proofs.Common.{◌≡◌, ◌<◌, ℕ, Bool, true, false, List, [], Some, map, length, set, ap, sym, ◌∙◌, subst, refl, arith}
+use Rattle.std.proofs.Common.{◌≡◌, ◌<◌, ℕ, Bool, true, false, List, [], Some, length, set, ap, sym, ◌∙◌, subst, refl, arith}
 use Rattle.std.proofs.lemmas.List.{length-set}
-use mathlib.Core.Logic.{inl, inr}
+use mathlib.Core.Logic.{inr}
 use Rattle.mlc_base.specs.declared.label.Label.{Label}
-use Rattle.ty_core.specs.Types.{Typ, var, con, Typs, typs_of}
+use Rattle.ty_core.specs.Types.{Typ, var, con, Typs}
 use Rattle.ty_solve.specs.Rows.{IsProper, Extends}
 use Rattle.ty_solve.specs.Substitution.{Entry, free, bound, row, is_open, Meets, Solves, Fits, FitsAt, Resolves, aside, sub, subs, are_in, is_below}
 use Rattle.ty_solve.specs.SlotsOf.{look, row_of}
 use Rattle.ty_solve.specs.Weight.{InhabitedAt, AreInhabited, BelowAt, AreBelow, IsAcyclic}
 use Rattle.ty_solve.specs.Finding.{IsWalked}
-use Rattle.ty_solve.specs.Forces.{Problem, Forces, Has, Records, Asks, Strict, Met, EntryMet, ForcedAt, IsForced, IsForcedRow, IsDue}
+use Rattle.ty_solve.specs.Forces.{Problem, Forces, Has, Records, Asks, Strict, EntryMet, ForcedAt, IsForced, IsForcedRow, IsDue}
 use Rattle.ty_solve.specs.Tasks.{AreWithin, IsForcedWrite, MayPut, Binds as MayBind, IsLoose, Narrows}
 use Rattle.ty_solve.specs.Changes.{Changes, Demands, RefusesRow, RefusesWrite, IsFitRow, row_rank, entry_rank}
 use Rattle.ty_solve.specs.Fields.{Joins, IsBase, Closes}

@@ -1,5 +1,5 @@
 -- What calls answer, of the same rows and types.
-use Rattle.std.proofs.Common.{◌≡◌, ◌<◌, ℕ, Bool, true, false, List, [], Option, Some, None, MatchOption, map, length, set, Result, Ok, Err, IfOk, IfErr, refl, sym, ap, ◌∙◌, subst}
+use Rattle.std.proofs.Common.{◌≡◌, ◌<◌, ℕ, Bool, true, false, List, None, map, length, set, Result, Ok, Err, IfOk, IfErr, refl, sym, ap, ◌∙◌, subst}
 use Rattle.std.proofs.lemmas.Bool.{false≢true}
 use Rattle.mlc_base.specs.declared.label.Label.{Label}
 use Rattle.ty_core.specs.Types.{Typ, var, Typs}
@@ -25,7 +25,7 @@ use Rattle.ty_solve.proofs.Arms.{all-length}
 use Rattle.ty_solve.proofs.Labels.{proper-lengths}
 use Rattle.ty_solve.proofs.Slots.{entries-length, entries-set}
 use Rattle.ty_solve.proofs.RowArms.{row-flag, row-parts, row-parts-clash}
-use Rattle.ty_solve.proofs.RowChanges.{row-changes, row-refused, close-demands, still-walked, extend-demands, extend-circular, may-extend, row-fit}
+use Rattle.ty_solve.proofs.RowChanges.{row-changes, row-refused, close-demands, still-walked, extend-demands, extend-circular, may-extend}
 
 -- lists that are the same
 pub lengths-as : (ts : List Typ) (a b : List Label) (x y : List ℕ) → a ≡ b → x ≡ y → IsProper b (types_at ts y) → length a ≡ length x

@@ -19,3 +19,5 @@ pub mod LimitProps
 pub mod Lowering
 pub mod Said
 pub mod Fields
+pub mod Sizes
+pub mod Places

@@ -1,10 +1,9 @@
 -- What is looked at next in a type.
-use Rattle.std.specs.Prelude.{◌≡◌, ◌⊎◌, ◌+◌, ◌<◌, ◌≤◌, ◌^◌, ◌-◌, ℕ, Bool, List, [], ◌∷◌, ◌++◌}
+use Rattle.std.specs.Prelude.{◌≡◌, ◌⊎◌, ℕ, Bool, List, [], ◌∷◌, ◌++◌}
 use Rattle.mlc_base.specs.declared.label.Label.{Label}
-use Rattle.ty_core.specs.Types.{Typ, var, con, Symbol, nodes, all_nodes}
+use Rattle.ty_core.specs.Types.{Typ, var, con, Symbol}
 use Rattle.ty_table.specs.TypeAt.{type_at, types_at}
-use Rattle.ty_solve.specs.Substitution.{Entry, free, bound, row, mark, Resolves, sub, subs}
-use Rattle.ty_solve.specs.Weight.{weight, weights}
+use Rattle.ty_solve.specs.Substitution.{Entry, free, bound, row, mark}
 
 -- k stands in a list
 abbrev pub Has : List ℕ → ℕ → Type 0
@@ -32,10 +31,3 @@ pub record Looks (ts : List Typ) (s : ℕ → Entry) (t : ℕ) (old new : List �
   pub parts : List ℕ
   pub is : new ≡ old ++ parts
   pub next : Next ts s t parts
-
--- n nodes of t are counted, and the others are those of what was put on
-pub record Counts (ts : List Typ) (s : ℕ → Entry) (w : ℕ → ℕ) (t : ℕ) (old new : List ℕ) (n : ℕ) : Type 0 where
-  pub exact : n < 2 ^ 64 - 1 → (f : ℕ → Typ) → Resolves f s → all_nodes (subs f (types_at ts new)) + n ≡ all_nodes (subs f (types_at ts old)) + nodes
-      (sub f (type_at ts t))
-  pub large : n ≡ 2 ^ 64 - 1 → (f : ℕ → Typ) → Resolves f s → 2 ^ 64 - 1 ≤ nodes (sub f (type_at ts t))
-  pub lighter : weights w (types_at ts new) < weights w (types_at ts old) + weight w (type_at ts t)

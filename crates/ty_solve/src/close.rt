@@ -14,11 +14,13 @@ use crate::refused::UnifyRefused;
 use crate::row::{Row, admit_others, equal_common, is_proper, lacking};
 use crate::task::Todo;
 use mlc_base::label::Label;
+use std::alloc::Global;
 use ty_core::ty::Head;
 use ty_table::types::Types;
 
 /// Gives a type that is no variable the fields of a row.
 pub fn close(
+    alloc: Global,
     table: &Types,
     head: &Head,
     types: &[usize],
@@ -35,12 +37,13 @@ pub fn close(
     match head {
         Head::Function => Err(UnifyRefused::Clash),
         Head::Named(_) => Err(UnifyRefused::Clash),
-        Head::Record(labels) => close_record(table, labels, types, row, tasks),
+        Head::Record(labels) => close_record(alloc, table, labels, types, row, tasks),
     }
 }
 
 /// Gives a record the fields of a row.
 fn close_record(
+    alloc: Global,
     table: &Types,
     labels: &[Label],
     types: &[usize],
@@ -55,14 +58,24 @@ fn close_record(
     ensures cause { IfErr result (λ e. (s : ℕ → Entry) → RefusesRow s (row_in table.now row.now) (con (labelled labels.now) (types_at table.now types.now)) e) }
 {
     let _table = table.len();
-    if !is_proper(labels, types) {
+    let proper = is_proper(alloc, labels, types)?;
+    if !proper {
         return Err(UnifyRefused::Clash);
     }
-    match lacking(&row.labels, labels) {
+    let missing = lacking(alloc, &row.labels, labels)?;
+    match missing {
         Some(_) => Err(UnifyRefused::Clash),
         None => {
-            equal_common(table, tasks, labels, types, &row.labels, &row.types)?;
-            admit_others(table, tasks, row.equality, labels, types, &row.labels)?;
+            equal_common(alloc, table, tasks, labels, types, &row.labels, &row.types)?;
+            admit_others(
+                alloc,
+                table,
+                tasks,
+                row.equality,
+                labels,
+                types,
+                &row.labels,
+            )?;
             Ok(())
         }
     }

@@ -64,7 +64,7 @@ fn extend_known(
     ensures held { IfOk result (λ _. AreHeldTasks (length s.old.types) tasks.old.items → AreHeldTasks (length s.old.types) tasks.new.items) }
     ensures cause { IfErr result (RefusesRow (said s.old) (row_in s.old.types row.now) (var y)) }
 {
-    let joined = join(&s.types, known, row, tasks)?;
+    let joined = join(alloc, &s.types, known, row, tasks)?;
     if occurs_in(alloc, s, y, &joined.types)? {
         return Err(UnifyRefused::Circular);
     }
@@ -122,6 +122,6 @@ pub fn demand(
 {
     match s.types.view(t) {
         View::Var(y) => extend(alloc, s, y, row, tasks, trail),
-        View::Apply(head, types) => close(&s.types, head, types, row, tasks),
+        View::Apply(head, types) => close(alloc, &s.types, head, types, row, tasks),
     }
 }

@@ -1,5 +1,5 @@
 // Whether a substitution has a type and its variables.
-ghost use Rattle.std.specs.Prelude.{◌≡◌, ◌↔◌, ◌<◌, IsTrue, length, true};
+ghost use Rattle.std.specs.Prelude.{◌≡◌, ◌↔◌, ◌<◌, IfOk, IsTrue, length, true};
 ghost use Rattle.ty_table.specs.TypeAt.{type_at, types_at, AllBelow};
 ghost use Rattle.ty_solve.specs.Changes.{IsFitRow};
 ghost use Rattle.ty_solve.specs.SlotsOf.{row_in};
@@ -7,6 +7,8 @@ ghost use Rattle.ty_solve.specs.Substitution.{is_below, are_below};
 
 use crate::row::{Row, is_proper};
 use crate::subst::Subst;
+use mlc_base::memory::NoMemory;
+use std::alloc::Global;
 
 /// Whether the table has the type, and every variable of it is one of the substitution's.
 pub fn is_known(s: &Subst, t: usize) -> bool
@@ -32,12 +34,13 @@ fn are_known(s: &Subst, types: &[usize]) -> bool
 }
 
 /// Whether a row has each label once, each with a type of the table, and the substitution has their variables.
-pub fn fits(s: &Subst, row: &Row) -> bool
-    ensures { IsTrue result ↔ (AllBelow (length s.now.types) row.now.types.items
-        × IsFitRow (length s.now.slots.items) (row_in s.now.types row.now)) }
+pub fn fits(alloc: Global, s: &Subst, row: &Row) -> Result<bool, NoMemory>
+    ensures { IfOk result (λ fit. IsTrue fit ↔ (AllBelow (length s.now.types) row.now.types.items
+        × IsFitRow (length s.now.slots.items) (row_in s.now.types row.now))) }
 {
-    if !is_proper(&row.labels, &row.types) {
-        return false;
+    let proper = is_proper(alloc, &row.labels, &row.types)?;
+    if !proper {
+        return Ok(false);
     }
-    are_known(s, &row.types)
+    Ok(are_known(s, &row.types))
 }

@@ -1,13 +1,17 @@
 // Records with fields that are not yet known.
-ghost use Rattle.std.specs.Prelude.{◌≡◌, ◌<◌, ◌≤◌, ◌↔◌, ◌++◌, ◌∷◌, [], List, length, take, IfOk, IsTrue, MatchOption};
+ghost use Rattle.std.specs.Prelude.{◌≡◌, ◌<◌, ◌↔◌, ◌++◌, ◌∷◌, [], List, nat_eq, length, IfOk, IsTrue, MatchOption};
+ghost use Rattle.indexmap.specs.IndexMap.{get};
 ghost use Rattle.ty_core.specs.Types.{Typ};
 ghost use Rattle.ty_table.specs.TypeAt.{type_at, types_at, AllBelow};
 ghost use Rattle.ty_solve.specs.Rows.{Among, IsProper};
 ghost use Rattle.ty_solve.specs.SlotsOf.{row_in, tasks_of};
 ghost use Rattle.ty_solve.specs.Held.{AreHeldTasks};
-ghost use Rattle.ty_solve.specs.Fields.{IsPlace, IsLacking, FieldMeets, FieldsMeet, OthersAdmit, IsUnion, Joins};
+ghost use Rattle.ty_solve.specs.Places.{AreNoted};
+ghost use Rattle.ty_solve.specs.Fields.{IsLacking, FieldMeets, FieldsMeet, OthersAdmit, IsUnion, Joins};
 
+use crate::places::{all_places, note, place};
 use crate::task::Todo;
+use indexmap::IndexMap;
 use mlc_base::label::Label;
 use mlc_base::memory::NoMemory;
 use std::alloc::Global;
@@ -62,46 +66,35 @@ pub fn copy_row(alloc: Global, row: &Row) -> Result<Row, NoMemory>
     })
 }
 
-/// The first place of a label among the first `count`.
-fn place(labels: &[Label], count: usize, label: Label) -> Option<usize>
-    requires { count ≤ length labels.now }
-    ensures { MatchOption result (Among label (take count labels.now) → ⊥) (IsPlace labels.now count label) }
-{
-    for i in 0..count {
-        if labels[i] == label {
-            return Some(i);
-        }
-    }
-    None
-}
-
 /// Whether each label has a type and none comes twice.
-pub fn is_proper(labels: &[Label], types: &[usize]) -> bool
-    ensures { (ts : List Typ) → IsTrue result ↔ IsProper labels.now (types_at ts types.now) }
+pub fn is_proper(alloc: Global, labels: &[Label], types: &[usize]) -> Result<bool, NoMemory>
+    ensures { IfOk result (λ proper. (ts : List Typ) → IsTrue proper ↔ IsProper labels.now (types_at ts types.now)) }
 {
     if labels.len() != types.len() {
-        return false;
+        return Ok(false);
     }
+    let mut places = IndexMap::new(alloc);
     for i in 0..labels.len() {
-        match place(labels, i, labels[i]) {
-            Some(_) => return false,
-            None => {}
+        match place(&places, labels[i]) {
+            Some(_) => return Ok(false),
+            None => note(&mut places, labels[i], i)?,
         }
     }
-    true
+    Ok(true)
 }
 
 /// The first of the known labels that a record hasn't.
-pub fn lacking(known: &[Label], labels: &[Label]) -> Option<Label>
-    ensures { MatchOption result ((l : Label) → Among l known.now → Among l labels.now) (IsLacking known.now labels.now) }
+pub fn lacking(alloc: Global, known: &[Label], labels: &[Label]) -> Result<Option<Label>, NoMemory>
+    ensures { IfOk result (λ found. MatchOption found ((l : Label) → Among l known.now → Among l labels.now) (IsLacking known.now labels.now)) }
 {
+    let places = all_places(alloc, labels)?;
     for i in 0..known.len() {
-        match place(labels, labels.len(), known[i]) {
+        match place(&places, known[i]) {
             Some(_) => {}
-            None => return Some(known[i]),
+            None => return Ok(Some(known[i])),
         }
     }
-    None
+    Ok(None)
 }
 
 /// Asks that a type is equal to that of the field with this label, if there is one.
@@ -110,9 +103,11 @@ fn equal_field(
     tasks: &mut Vec<Todo>,
     label: Label,
     t: usize,
+    places: &IndexMap<u64, usize>,
     labels: &[Label],
     types: &[usize],
 ) -> Result<(), NoMemory>
+    requires noted { AreNoted labels.now (length labels.now) (get nat_eq places.now) }
     requires proper { IsProper labels.now (types_at table.now types.now) }
     requires same_length { length labels.now ≡ length types.now }
     ensures meets { IfOk result (λ _. FieldMeets (tasks_of table.now tasks.old.items) (tasks_of table.now tasks.new.items) label (type_at table.now t)
@@ -121,7 +116,8 @@ fn equal_field(
         → AreHeldTasks (length table.now) tasks.new.items) }
 {
     let _table = table.len();
-    match place(labels, labels.len(), label) {
+    let _labels = labels.len();
+    match place(places, label) {
         None => Ok(()),
         Some(i) => {
             tasks.push(Todo::Equal(t, types[i]))?;
@@ -132,6 +128,7 @@ fn equal_field(
 
 /// Asks that the types of common labels are equal.
 pub fn equal_common(
+    alloc: Global,
     table: &Types,
     tasks: &mut Vec<Todo>,
     labels: &[Label],
@@ -147,14 +144,24 @@ pub fn equal_common(
     ensures held { IfOk result (λ _. AllBelow (length table.now) types.now → AllBelow (length table.now) other_types.now
         → AreHeldTasks (length table.now) tasks.old.items → AreHeldTasks (length table.now) tasks.new.items) }
 {
+    let places = all_places(alloc, others)?;
     for i in 0..labels.len() {
-        equal_field(table, tasks, labels[i], types[i], others, other_types)?;
+        equal_field(
+            table,
+            tasks,
+            labels[i],
+            types[i],
+            &places,
+            others,
+            other_types,
+        )?;
     }
     Ok(())
 }
 
 /// Asks, where `equality` is true, that the types of labels other than the known ones admit equality.
 pub fn admit_others(
+    alloc: Global,
     table: &Types,
     tasks: &mut Vec<Todo>,
     equality: bool,
@@ -172,8 +179,9 @@ pub fn admit_others(
     if !equality {
         return Ok(());
     }
+    let places = all_places(alloc, known)?;
     for i in 0..labels.len() {
-        match place(known, known.len(), labels[i]) {
+        match place(&places, labels[i]) {
             Some(_) => {}
             None => tasks.push(Todo::Admit(Mark::Equality, types[i]))?,
         }
@@ -193,7 +201,13 @@ fn add(row: &mut Row, label: Label, t: usize) -> Result<(), NoMemory>
 }
 
 /// Adds the fields with labels that the row hasn't yet.
-fn unite(table: &Types, row: &mut Row, labels: &[Label], types: &[usize]) -> Result<(), NoMemory>
+fn unite(
+    alloc: Global,
+    table: &Types,
+    row: &mut Row,
+    labels: &[Label],
+    types: &[usize],
+) -> Result<(), NoMemory>
     requires proper { IsProper row.old.labels.items (types_at table.now row.old.types.items) }
     requires other_proper { IsProper labels.now (types_at table.now types.now) }
     requires other_length { length labels.now ≡ length types.now }
@@ -204,17 +218,27 @@ fn unite(table: &Types, row: &mut Row, labels: &[Label], types: &[usize]) -> Res
         → AllBelow (length table.now) row.new.types.items) }
 {
     let _table = table.len();
+    let mut places = all_places(alloc, &row.labels)?;
     for i in 0..labels.len() {
-        match place(&row.labels, row.labels.len(), labels[i]) {
+        match place(&places, labels[i]) {
             Some(_) => {}
-            None => add(row, labels[i], types[i])?,
+            None => {
+                note(&mut places, labels[i], row.labels.len())?;
+                add(row, labels[i], types[i])?;
+            }
         }
     }
     Ok(())
 }
 
 /// The row of all fields of two rows.
-pub fn join(table: &Types, row: Row, other: &Row, tasks: &mut Vec<Todo>) -> Result<Row, NoMemory>
+pub fn join(
+    alloc: Global,
+    table: &Types,
+    row: Row,
+    other: &Row,
+    tasks: &mut Vec<Todo>,
+) -> Result<Row, NoMemory>
     requires proper { IsProper row.labels.items (types_at table.now row.types.items) }
     requires other_proper { IsProper other.now.labels.items (types_at table.now other.now.types.items) }
     ensures joins { IfOk result (λ r. Joins (tasks_of table.now tasks.old.items) (tasks_of table.now tasks.new.items) (row_in table.now row)
@@ -225,6 +249,7 @@ pub fn join(table: &Types, row: Row, other: &Row, tasks: &mut Vec<Todo>) -> Resu
         → AreHeldTasks (length table.now) tasks.old.items → AreHeldTasks (length table.now) tasks.new.items) }
 {
     admit_others(
+        alloc,
         table,
         tasks,
         row.equality,
@@ -233,6 +258,7 @@ pub fn join(table: &Types, row: Row, other: &Row, tasks: &mut Vec<Todo>) -> Resu
         &row.labels,
     )?;
     admit_others(
+        alloc,
         table,
         tasks,
         other.equality,
@@ -241,6 +267,7 @@ pub fn join(table: &Types, row: Row, other: &Row, tasks: &mut Vec<Todo>) -> Resu
         &other.labels,
     )?;
     equal_common(
+        alloc,
         table,
         tasks,
         &row.labels,
@@ -249,7 +276,7 @@ pub fn join(table: &Types, row: Row, other: &Row, tasks: &mut Vec<Todo>) -> Resu
         &other.types,
     )?;
     let mut all = row;
-    unite(table, &mut all, &other.labels, &other.types)?;
+    unite(alloc, table, &mut all, &other.labels, &other.types)?;
     all.equality = all.equality || other.equality;
     Ok(all)
 }

@@ -11,11 +11,11 @@ ghost use Rattle.ty_solve.specs.Solve.{problem, IsMostGeneral, IsSolvable, IsSma
 
 use crate::bind::{bind_variable, lower_mark, narrow};
 use crate::refused::UnifyRefused;
+use crate::size::is_small;
 use crate::step::next_write;
 use crate::subst::Subst;
 use crate::task::{Move, Todo};
 use crate::trail::{Kept, put_back};
-use crate::walk::is_small;
 use indexmap::IndexSet;
 use std::alloc::Global;
 

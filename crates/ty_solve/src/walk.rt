@@ -1,21 +1,17 @@
 // Looking through the type that a number stands for.
-ghost use Rattle.std.specs.Prelude.{◌≡◌, ◌↔◌, ◌≤◌, ◌++◌, ℕ, ◌||◌, nat_eq, IfOk, IsTrue, length, true};
-ghost use Rattle.ty_core.specs.Types.{Typ, var, nodes};
+ghost use Rattle.std.specs.Prelude.{◌≡◌, ◌↔◌, ◌++◌, ℕ, IfOk, IsTrue, true};
+ghost use Rattle.ty_core.specs.Types.{Typ, var};
 ghost use Rattle.ty_table.specs.TypeAt.{type_at, types_at, top};
 ghost use Rattle.ty_solve.specs.Said.{said};
-ghost use Rattle.ty_solve.specs.Walk.{Looks, LooksInRow, LooksUnder, Counts};
+ghost use Rattle.ty_solve.specs.Walk.{Looks, LooksInRow, LooksUnder};
 ghost use Rattle.ty_solve.specs.Substitution.{Resolves, aside, sub, subs, is_in, are_in, is_open};
 ghost use Rattle.ty_solve.specs.SlotsOf.{seen as seen_in};
-ghost use Rattle.ty_solve.specs.Solve.{node_limit};
 
 use crate::subst::Subst;
 use indexmap::IndexSet;
 use mlc_base::memory::NoMemory;
 use std::alloc::Global;
 use ty_table::types::View;
-
-/// The nodes that a type may have.
-pub const NODE_LIMIT: u64 = 65_536;
 
 /// Puts the types of a list on those that are pending.
 pub fn add_all(pending: &mut Vec<usize>, types: &[usize]) -> Result<(), NoMemory>
@@ -48,7 +44,7 @@ pub fn look_under(s: &Subst, v: usize, pending: &mut Vec<usize>) -> Result<(), N
 }
 
 /// Puts what a type stands for, or its arguments or fields, on the types that are pending.
-fn look_in(s: &Subst, t: usize, pending: &mut Vec<usize>) -> Result<(), NoMemory>
+pub fn look_in(s: &Subst, t: usize, pending: &mut Vec<usize>) -> Result<(), NoMemory>
     ensures { IfOk result (λ _. Looks s.now.types (seen_in s.now.types s.now.slots.items) t pending.old.items pending.new.items) }
 {
     match s.types.view(t) {
@@ -62,7 +58,7 @@ fn look_in(s: &Subst, t: usize, pending: &mut Vec<usize>) -> Result<(), NoMemory
 }
 
 /// Whether a type has no variable.
-fn is_ground(s: &Subst, t: usize) -> bool
+pub fn is_ground(s: &Subst, t: usize) -> bool
     ensures { IsTrue result ↔ (top (type_at s.now.types t) ≡ 0) }
 {
     s.types.top(t) == 0
@@ -114,34 +110,4 @@ pub fn occurs_in(alloc: Global, s: &Subst, v: usize, types: &[usize]) -> Result<
     let mut pending = Vec::new(alloc);
     add_all(&mut pending, types)?;
     reaches(alloc, s, v, pending)
-}
-
-/// Counts those nodes of a type that can be counted at once, and puts the others on the types that are pending.
-fn open(s: &Subst, t: usize, pending: &mut Vec<usize>) -> Result<u64, NoMemory>
-    ensures { IfOk result (λ n. Counts s.now.types (seen_in s.now.types s.now.slots.items) s.now.acyclic.0 t pending.old.items pending.new.items n) }
-{
-    let found = s.find(t);
-    if is_ground(s, found) {
-        return Ok(s.types.size(found));
-    }
-    look_in(s, found, pending)?;
-    Ok(1)
-}
-
-/// Whether the type that t stands for has at most `NODE_LIMIT` nodes.
-pub fn is_small(alloc: Global, s: &Subst, t: usize) -> Result<bool, NoMemory>
-    ensures { IfOk result (λ small. (f : ℕ → Typ) → Resolves f (seen_in s.now.types s.now.slots.items) → IsTrue small
-        ↔ (nodes (sub f (type_at s.now.types t)) ≤ node_limit)) }
-{
-    let mut pending = Vec::new(alloc);
-    pending.push(t)?;
-    let mut count: u64 = 0;
-    while let Some(next) = pending.pop() {
-        let more = open(s, next, &mut pending)?;
-        if more > NODE_LIMIT - count {
-            return Ok(false);
-        }
-        count += more;
-    }
-    Ok(true)
 }

@@ -7,3 +7,5 @@ mod large;
 mod pairs;
 #[cfg(test)]
 mod read;
+#[cfg(test)]
+mod rows;

@@ -76,6 +76,67 @@ static PAIRS: [Row; 64] = [
     ("to", "0 1", "1 i", "clash"),
 ];
 
+static ROWS: [Row; 58] = [
+    ("x", "", "0 iip", "ok"),
+    ("x", "", "iip 0", "ok"),
+    ("x", "", "0 wip", "clash"),
+    ("y", "", "0 iiq", "clash"),
+    ("y", "", "iiq 0", "clash"),
+    ("y", "", "0 u", "clash"),
+    ("e", "", "0 u", "ok"),
+    ("e", "", "0 i", "clash"),
+    ("e", "", "iif 0", "clash"),
+    ("m", "", "0 iwp", "ok"),
+    ("m", "", "0 iip", "clash"),
+    ("x", "", "0 iid", "clash"),
+    ("e", "", "iid 0", "clash"),
+    ("x.", "", "1 0", "ok"),
+    ("x.", "1 0", "1 wip", "clash"),
+    (".x", "", "0 1", "ok"),
+    ("x.", "0 1", "1 wip", "clash"),
+    ("xy", "", "0 1", "ok"),
+    ("xy", "0 1", "0 iwp", "ok"),
+    ("xy", "0 1", "1 wwp", "clash"),
+    ("xy", "1 0", "0 iip", "clash"),
+    ("xy", "0 1", "0 iwq", "clash"),
+    ("xw", "", "0 1", "clash"),
+    ("..zk", "", "2 3", "ok"),
+    ("..zk", "2 3", "01f iwf", "clash"),
+    ("..zk", "2 3", "01f iif", "ok"),
+    (".z", "", "0 1l", "circular"),
+    (".z", "", "0 1", "circular"),
+    (".z", "", "1 0", "circular"),
+    (".z", "", "1 11p", "circular"),
+    (".zz", "1 2", "0 1l", "circular"),
+    ("..zk", "0 3l", "2 3", "circular"),
+    ("xn", "", "0 1", "clash"),
+    ("xn", "", "1 0", "clash"),
+    ("x=", "", "0 1", "ok"),
+    ("x=", "", "1 0", "ok"),
+    ("x=", "0 1", "0 iiifp", "clash"),
+    ("x=", "1 0", "iiifp 1", "clash"),
+    ("x=", "0 1", "0 iip", "ok"),
+    ("x.", "0 1", "0 iiifp", "ok"),
+    (".h=", "", "1 2", "clash"),
+    (".h=", "", "2 1", "clash"),
+    (".z=", "1 2", "0 iif", "clash"),
+    (".z=", "2 1", "0 iif", "clash"),
+    (".z=", "1 2", "0 i", "ok"),
+    ("x=g", "0 1", "0 2", "clash"),
+    ("x=g", "0 1", "2 0", "clash"),
+    ("xg", "", "0 1", "ok"),
+    ("sg", "", "0 1", "clash"),
+    ("sg", "", "1 0", "clash"),
+    ("sx", "", "0 1", "ok"),
+    ("v", "", "0 iiifp", "ok"),
+    ("v", "", "0 iiifq", "clash"),
+    ("v=", "", "0 1", "clash"),
+    ("..xy.=", "0 2l", "123pp iw4pp", "clash"),
+    ("..xy.=", "0 2l", "425pp 33iifpp", "clash"),
+    ("..yz.=", "1 2l", "420pp i33lpp", "circular"),
+    ("..xz.=", "1 i", "415pp i4iifpp", "clash"),
+];
+
 fn pair_told(alloc: Global, s: &mut Subst, row: &Row) -> Result<&'static str, NoMemory> {
     let _before = told(alloc, s, row.1)?;
     told(alloc, s, row.2)
@@ -87,8 +148,8 @@ fn row_told(alloc: Global, row: &Row) -> Result<&'static str, NoMemory> {
 }
 
 /// The first pair with another answer, if there is one.
-fn first_wrong(alloc: Global) -> Result<&'static str, NoMemory> {
-    for row in &PAIRS {
+fn first_wrong(alloc: Global, rows: &[Row]) -> Result<&'static str, NoMemory> {
+    for row in rows {
         if row_told(alloc, row)? != row.3 {
             return Ok(row.2);
         }
@@ -98,6 +159,12 @@ fn first_wrong(alloc: Global) -> Result<&'static str, NoMemory> {
 
 #[test]
 fn pairs_have_their_answers(rt: HostRuntime) -> Result<(), Fail> {
-    assert_eq!(rt; first_wrong(rt.alloc())?, "none");
+    assert_eq!(rt; first_wrong(rt.alloc(), &PAIRS)?, "none");
+    Ok(())
+}
+
+#[test]
+fn rows_have_their_answers(rt: HostRuntime) -> Result<(), Fail> {
+    assert_eq!(rt; first_wrong(rt.alloc(), &ROWS)?, "none");
     Ok(())
 }

@@ -1,5 +1,6 @@
 // Types and substitutions from short texts.
 
+use crate::rows::{fresh_row, has_rows, is_row, rows};
 use mlc_base::label::Label;
 use mlc_base::memory::NoMemory;
 use std::alloc::Global;
@@ -102,6 +103,10 @@ fn binary(
     match letter {
         b'f' => two(alloc, s, Head::Function, left, right),
         b'p' => pair(alloc, s, left, right),
+        b'd' => {
+            let head = pair_head(alloc, 1, 1)?;
+            two(alloc, s, head, left, right)
+        }
         _ => {
             let head = pair_head(alloc, 1, 3)?;
             two(alloc, s, head, left, right)
@@ -129,13 +134,14 @@ fn next(
 ) -> Result<usize, NoMemory> {
     match letter {
         b'r' | b'l' | b'a' => unary(alloc, s, letter, done),
-        b'f' | b'p' | b'q' => binary(alloc, s, letter, done),
+        b'f' | b'p' | b'q' | b'd' => binary(alloc, s, letter, done),
         _ => leaf(alloc, s, letter),
     }
 }
 
-/// Two types in postfix, the second after a space: digits are variables, `f` is an arrow, `p` and `q` records of two fields.
-fn read_pair(alloc: Global, s: &mut Subst, text: &str) -> Result<(usize, usize), NoMemory> {
+/// Two types in postfix, the second after a space: digits are variables, `f` is an arrow, `p`, `q` and `d` records of two
+/// fields, in `d` of the same label.
+pub fn read_pair(alloc: Global, s: &mut Subst, text: &str) -> Result<(usize, usize), NoMemory> {
     let mut done: Vec<usize> = Vec::new(alloc);
     for letter in text.as_bytes() {
         if *letter != b' ' {
@@ -173,17 +179,21 @@ fn fresh(s: &mut Subst, mark: u8) -> Result<usize, NoMemory> {
     }
 }
 
-fn fresh_all(s: &mut Subst, marks: &str) -> Result<(), NoMemory> {
-    for mark in marks.as_bytes() {
-        let _variable = fresh(s, *mark)?;
+fn fresh_all(alloc: Global, s: &mut Subst, letters: &str) -> Result<(), NoMemory> {
+    for letter in letters.as_bytes() {
+        if is_row(*letter) {
+            fresh_row(alloc, s, *letter)?;
+        } else {
+            let _variable = fresh(s, *letter)?;
+        }
     }
     Ok(())
 }
 
-/// A variable for each letter.
-pub fn variables(alloc: Global, marks: &str) -> Result<Subst, NoMemory> {
+/// A variable for each letter: those of `fresh`, and the rows of `row`.
+pub fn variables(alloc: Global, letters: &str) -> Result<Subst, NoMemory> {
     let mut s = Subst::new(alloc)?;
-    fresh_all(&mut s, marks)?;
+    fresh_all(alloc, &mut s, letters)?;
     Ok(s)
 }
 
@@ -229,8 +239,9 @@ fn has_state(s: &Subst, state: &[(usize, Mark)]) -> bool {
 /// What unify answers, or that it refused and left a change.
 pub fn answer(alloc: Global, s: &mut Subst, a: usize, b: usize) -> Result<&'static str, NoMemory> {
     let before = state(alloc, s)?;
+    let rows_before = rows(alloc, s)?;
     let answer = bare_answer(alloc, s, a, b);
-    if answer == "ok" || has_state(s, &before) {
+    if answer == "ok" || (has_state(s, &before) && has_rows(s, &rows_before)) {
         Ok(answer)
     } else {
         Ok("changed")

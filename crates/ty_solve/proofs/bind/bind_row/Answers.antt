@@ -1,4 +1,4 @@
-use Rattle.std.proofs.Common.{◌≡◌, ◌<◌, true, length, List, ℕ, sym, ap, subst, ◌∙◌}
+use Rattle.std.proofs.Common.{◌≡◌, true, length, List, sym, ap, subst, ◌∙◌}
 use Rattle.ty_core.specs.Types.{Typ}
 use Rattle.ty_table.specs.TypeAt.{type_at, AllBelow}
 use Rattle.ty_solve.specs.Substitution.{is_below}

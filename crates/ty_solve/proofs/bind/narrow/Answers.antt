@@ -1,7 +1,6 @@
-use Rattle.std.proofs.Common.{◌≡◌, ◌<◌, ℕ, List, true, length, refl, sym, ap, subst, ◌∙◌, arith}
-use Rattle.ty_core.specs.Types.{Typ}
+use Rattle.std.proofs.Common.{◌<◌, ℕ, List, length, refl, sym, ap, subst, ◌∙◌, arith}
 use Rattle.ty_table.specs.TypeAt.{types_at}
-use Rattle.ty_solve.specs.SlotsOf.{entries, tasks_of, row_in, row_of, seen}
+use Rattle.ty_solve.specs.SlotsOf.{entries, tasks_of, row_in}
 use Rattle.ty_solve.specs.Said.{said}
 use Rattle.ty_solve.specs.Weight.{AreBelow}
 use Rattle.ty_solve.specs.Parts.{AdmitParts, RefusesParts}

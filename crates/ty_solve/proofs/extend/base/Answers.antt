@@ -1,6 +1,6 @@
-use Rattle.std.proofs.Common.{length, ap, sym, subst, ◌∙◌}
-use Rattle.ty_table.specs.TypeAt.{types_at, AllBelow}
-use Rattle.ty_solve.specs.SlotsOf.{row_in, row_of}
+use Rattle.std.proofs.Common.{length, ap, sym, ◌∙◌}
+use Rattle.ty_table.specs.TypeAt.{types_at}
+use Rattle.ty_solve.specs.SlotsOf.{row_of}
 use Rattle.ty_solve.specs.Said.{said}
 use Rattle.ty_solve.proofs.RowResults.{copied, below-as}
 use Rattle.ty_solve.proofs.Bases.{base-none, base-any, base-class, base-row, marked}

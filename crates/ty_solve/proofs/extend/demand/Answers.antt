@@ -1,9 +1,7 @@
 use Rattle.std.proofs.Common.{◌≡◌, true, length, sym, subst}
 use Rattle.std.proofs.lemmas.Bool.{ltb-true}
-use Rattle.ty_core.specs.Types.{var}
-use Rattle.ty_table.specs.TypeAt.{type_at, AllBelow}
 use Rattle.ty_solve.specs.Substitution.{is_below}
-use Rattle.ty_solve.specs.SlotsOf.{row_in, entries, tasks_of}
+use Rattle.ty_solve.specs.SlotsOf.{row_in}
 use Rattle.ty_solve.specs.Said.{said}
 use Rattle.ty_solve.specs.Finding.{IsWalked}
 use Rattle.ty_solve.proofs.RowResults.{refuses-type, refuses-at, demands-type, closes-demands}

@@ -21,11 +21,11 @@ loop-i-preserved c =
     let n = c.requires ∙ sym (all-length c.args.table.now c.args.types.now) in
     rw add-one (elim c.match-place.branch [
       | in-Some w ↦ rw w.tasks-is (record {
-        admit = others-known c.args.labels.now (map (type_at c.args.table.now) c.args.types.now) c.loop-i.i c.index-labels-i.result c.loop-i-test.true n c.index-labels-i.is _ _ _ _ c.loop-i.invariant.admit (place-whole _ c.args.known.now _ _ refl w.in-Some.ensures);
+        admit = others-known c.args.labels.now (map (type_at c.args.table.now) c.args.types.now) c.loop-i.i c.index-labels-i.result c.loop-i-test.true n c.index-labels-i.is _ _ _ _ c.loop-i.invariant.admit (place-whole _ c.args.known.now _ _ refl (w.in-Some.ensures c.args.known.now _ c.in_ok-places.ensures));
         held = c.loop-i.invariant.held;
       })
       | in-None+in_ok-push-in-None w ↦ rw w.tasks-is (record {
-        admit = others-push c.args.labels.now (map (type_at c.args.table.now) c.args.types.now) c.loop-i.i c.index-labels-i.result (type_at c.args.table.now (get_or c.args.types.now c.loop-i.i 0)) c.loop-i-test.true n c.index-labels-i.is (map-get c.args.table.now c.args.types.now c.loop-i.i lt) _ _ _ _ c.loop-i.invariant.admit _ _ on (not-whole _ _ c.args.known.now refl w.in-None.ensures) refl (tasks-push c.args.table.now _ _ _ w.in_ok-push-in-None.ensures.items);
+        admit = others-push c.args.labels.now (map (type_at c.args.table.now) c.args.types.now) c.loop-i.i c.index-labels-i.result (type_at c.args.table.now (get_or c.args.types.now c.loop-i.i 0)) c.loop-i-test.true n c.index-labels-i.is (map-get c.args.table.now c.args.types.now c.loop-i.i lt) _ _ _ _ c.loop-i.invariant.admit _ _ on (not-whole _ _ c.args.known.now refl (w.in-None.ensures c.args.known.now _ c.in_ok-places.ensures)) refl (tasks-push c.args.table.now _ _ _ w.in_ok-push-in-None.ensures.items);
         held = λ a h. held-push (length c.args.table.now) _ _ _ w.in_ok-push-in-None.ensures.items (c.loop-i.invariant.held a h) (below-at (length c.args.table.now) c.args.types.now c.loop-i.i a lt);
       })
     ])

@@ -7,11 +7,11 @@ use Rattle.ty_solve.proofs.row.lacking.Goals as goal
 pub returns-in-None : goal.returns-in-None
 returns-in-None c = record {
   among = among-get c.args.known.now c.loop-i.i _ c.loop-i-test.true c.index-known-i-in-None.is;
-  missing = subst (λ (x : Label). Among x c.args.labels.now → ⊥) (get-same c.args.known.now c.loop-i.i _ _ c.loop-i-test.true c.index-known-i.is c.index-known-i-in-None.is) (not-whole _ _ c.args.labels.now refl c.in-None.ensures);
+  missing = subst (λ (x : Label). Among x c.args.labels.now → ⊥) (get-same c.args.known.now c.loop-i.i _ _ c.loop-i-test.true c.index-known-i.is c.index-known-i-in-None.is) (not-whole _ _ c.args.labels.now refl (c.in-None.ensures c.args.labels.now _ c.in_ok-places.ensures));
 }
 
 pub loop-i-preserved : goal.loop-i-preserved
-loop-i-preserved c = rw add-one (lacking-next c.args.known.now c.args.labels.now c.loop-i.i _ c.loop-i-test.true c.index-known-i.is (place-whole _ c.args.labels.now _ _ refl c.in-Some.ensures) c.loop-i.invariant)
+loop-i-preserved c = rw add-one (lacking-next c.args.known.now c.args.labels.now c.loop-i.i _ c.loop-i-test.true c.index-known-i.is (place-whole _ c.args.labels.now _ _ refl (c.in-Some.ensures c.args.labels.now _ c.in_ok-places.ensures)) c.loop-i.invariant)
 
 pub returns : goal.returns
 returns c =

@@ -1,4 +1,4 @@
-use Rattle.std.proofs.Common.{◌≡◌, ℕ, true, false, length, List, None, Some, refl, sym, ap, subst, ◌∙◌}
+use Rattle.std.proofs.Common.{ℕ, false, length, List, None, Some, refl, sym, subst}
 use Rattle.ty_core.specs.Types.{var}
 use Rattle.ty_core.specs.declared.mark.Mark.{Mark}
 use Rattle.ty_table.specs.TypeAt.{types_at}
