@@ -98,11 +98,14 @@ variables-length : (n k : ℕ) → length (variables_from n k) ≡ k
 variables-length n zero = refl
 variables-length n (suc k) = ap suc (variables-length (suc n) k)
 
+pub images-length : (us : List Typ) (n k : ℕ) (ks : List ℕ) → map (type_at us) ks ≡ variables_from n k → length ks ≡ k
+images-length us n k ks e = sym (length-map ks (type_at us)) ∙ ap length e ∙ variables-length n k
+
 pub image-renamed : (us : List Typ) (n k : ℕ) (ks : List ℕ) (v : ℕ) → map (type_at us) ks ≡ variables_from n k → image_at us ks v ≡ renamed n k v
 image-renamed us n k ks v e = go (nat_lt v k) refl
   where
     size : length ks ≡ k
-    size = sym (length-map ks (type_at us)) ∙ ap length e ∙ variables-length n k
+    size = images-length us n k ks e
 
     go : (b : Bool) → nat_lt v k ≡ b → image_at us ks v ≡ renamed n k v
     go b c = ap (λ m. if nat_lt v m then type_at us (get_or ks v 0) else var (v - m)) size ∙ ap (λ x. if x then type_at us (get_or ks v 0) else var (v - k)) c ∙ last b c ∙ ap (λ x. if x then var (n + v) else var (v - k)) (sym c)

@@ -1,3 +1,4 @@
 pub mod Steps
 pub mod Images
 pub mod Renamed
+pub mod Put

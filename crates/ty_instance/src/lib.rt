@@ -4,6 +4,7 @@
 pub mod fresh;
 pub mod instantiate;
 mod made;
+pub mod put;
 pub mod resolve;
 pub mod step;
 pub mod within;

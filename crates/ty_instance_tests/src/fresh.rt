@@ -6,7 +6,7 @@ use std::alloc::Global;
 use std::test::Fail;
 use ty_core::mark::Mark;
 use ty_core::ty::Head;
-use ty_instance::fresh::instantiate_fresh;
+use ty_instance::fresh::{instantiate_fresh, put_fresh};
 use ty_solve::limit::Limit;
 use ty_solve::solver::Solver;
 
@@ -117,5 +117,40 @@ fn new_variables(alloc: Global) -> Result<bool, NoMemory> {
 #[test]
 fn new_variables_have_their_marks_and_limits(rt: HostRuntime) -> Result<(), Fail> {
     assert_eq!(rt; new_variables(rt.alloc())?, true);
+    Ok(())
+}
+
+/// A body with new variables put for the variables 5 and 2.
+fn put_new(alloc: Global, s: &mut Solver, body: usize) -> Result<usize, NoMemory> {
+    if body < s.subst.types.len() {
+        put_fresh(alloc, s, &[Mark::Any, Mark::Equality], body, &[5, 2], INNER)
+    } else {
+        Ok(NONE)
+    }
+}
+
+/// A body from one variable to another, and the variables that it has then.
+static PUT: [(usize, usize, usize, usize); 3] = [(5, 2, 6, 7), (2, 0, 7, 0), (1, 3, 1, 3)];
+
+fn put_is(
+    alloc: Global,
+    s: &mut Solver,
+    row: &(usize, usize, usize, usize),
+) -> Result<bool, NoMemory> {
+    let body = function(alloc, s, row.0, row.1)?;
+    let found = put_new(alloc, s, body)?;
+    Ok(found == function(alloc, s, row.2, row.3)?)
+}
+
+fn put_is_right(alloc: Global, row: &(usize, usize, usize, usize)) -> Result<bool, NoMemory> {
+    let mut s = variables(alloc, 6)?;
+    put_is(alloc, &mut s, row)
+}
+
+#[test]
+fn scattered_parameters_become_new_variables(rt: HostRuntime) -> Result<(), Fail> {
+    for row in &PUT {
+        assert_eq!(rt; put_is_right(rt.alloc(), row)?, true);
+    }
     Ok(())
 }

@@ -5,6 +5,7 @@ use mlc_base::memory::NoMemory;
 use std::alloc::Global;
 use std::test::Fail;
 use ty_instance::instantiate::instantiate;
+use ty_instance::put::put;
 use ty_instance::resolve::resolve;
 use ty_instance::within::instantiate_in;
 use ty_solve::subst::Subst;
@@ -55,6 +56,51 @@ fn instance_is_right(alloc: Global, row: &str) -> Result<bool, NoMemory> {
 fn parameters_stand_for_their_types(rt: HostRuntime) -> Result<(), Fail> {
     for row in &INSTANCES {
         assert_eq!(rt; instance_is_right(rt.alloc(), row)?, true, "{}", row);
+    }
+    Ok(())
+}
+
+/// A body, the types that are put for its variables 2 and 0, and what it is then.
+static PUT: [&str; 4] = [
+    "0 i il il",
+    "2 i il i",
+    "01f i il il1f",
+    "02l1ff 3 3l 3l3l1ff",
+];
+
+fn put_two(
+    alloc: Global,
+    s: &mut Subst,
+    body: usize,
+    first: usize,
+    second: usize,
+) -> Result<usize, NoMemory> {
+    let len = s.types.len();
+    if body < len && first < len && second < len {
+        put(alloc, s, body, &[2, 0], &[first, second])
+    } else {
+        Ok(NONE)
+    }
+}
+
+fn put_is(alloc: Global, s: &mut Subst, row: &str) -> Result<bool, NoMemory> {
+    let mut read = read_all(alloc, s, row)?;
+    let expected = last(&mut read);
+    let second = last(&mut read);
+    let first = last(&mut read);
+    let body = last(&mut read);
+    Ok(put_two(alloc, s, body, first, second)? == expected)
+}
+
+fn put_is_right(alloc: Global, row: &str) -> Result<bool, NoMemory> {
+    let mut s = variables(alloc, 4)?;
+    put_is(alloc, &mut s, row)
+}
+
+#[test]
+fn some_variables_stand_for_types(rt: HostRuntime) -> Result<(), Fail> {
+    for row in &PUT {
+        assert_eq!(rt; put_is_right(rt.alloc(), row)?, true, "{}", row);
     }
     Ok(())
 }
