@@ -1,0 +1,4 @@
+pub mod Logs
+pub mod Flags
+pub mod TableLemmas
+pub mod CallLemmas
