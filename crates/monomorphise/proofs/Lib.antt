@@ -24,3 +24,4 @@ pub mod Inhabited
 pub mod Counted
 pub mod Limited
 pub mod CountExamples
+pub mod TableExamples
