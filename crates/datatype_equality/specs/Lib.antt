@@ -1,0 +1,4 @@
+pub mod Falling
+pub mod Respects
+pub mod Graph
+pub mod Holding

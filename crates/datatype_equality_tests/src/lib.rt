@@ -1,0 +1,5 @@
+// Tests of which datatypes admit equality.
+#![tactic(auto)]
+
+#[cfg(test)]
+mod tests;
