@@ -31,7 +31,8 @@ rule_by Never = Refuses
 abbrev pub rule_of : ℕ → ℕ → Symbol → Rule
 rule_of first count arrow = Refuses
 rule_of first count (labels ls) = Parts
-rule_of first count (name n) = if nat_lt n.stamp first then rule_by n.equality else if nat_lt (n.stamp - first) count then New (n.stamp - first) else rule_by n.equality
+rule_of first count (name n) =
+    if nat_lt n.stamp first then rule_by n.equality else if nat_lt (n.stamp - first) count then New (n.stamp - first) else rule_by n.equality
 
 -- The graph with a vertex for the type k, which is v. A new vertex has nothing that rests on it, and k goes to the types that are pending.
 pub record HasVertex (count k : ℕ) (old new : Graph) (pending after : List ℕ) (v : ℕ) : Type 0 where

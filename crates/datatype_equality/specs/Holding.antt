@@ -36,7 +36,8 @@ module _ (ts : List Typ) (first count : ℕ) where
     pub right : (qs : List Bool) → length qs ≡ count → Respects first ts arguments qs → Spreads G.edges G.fails (λ v. not (good G.asked qs v))
     pub opened : (i k : ℕ) → slice_get G.asked i ≡ Some k → IsOpen ts first count G k (count + i) ⊎ Contains pending k
     pub waiting : (k : ℕ) → Contains pending k → (i : ℕ) × (slice_get G.asked i ≡ Some k)
-    pub argued : (a : Argument) → Contains done a → (a.datatype < count) × ((p : ℕ) × (slice_get G.asked p ≡ Some a.ty) × Contains (resting G.edges (count + p)) a.datatype)
+    pub argued : (a : Argument) → Contains done a
+        → (a.datatype < count) × ((p : ℕ) × (slice_get G.asked p ≡ Some a.ty) × Contains (resting G.edges (count + p)) a.datatype)
 
   -- v comes to rest on these types, which is right where it isn't good unless they are
   pub record Rested (old new : Graph) (parts : List ℕ) (v : ℕ) (pending after : List ℕ) : Type 0 where
@@ -47,7 +48,8 @@ module _ (ts : List Typ) (first count : ℕ) where
     pub more : IsMore old new
     pub rests : RestsOn ts first count new parts v
     pub holds : (arguments done : List Argument) (front : List ℕ) → v < length old.edges
-        → ((qs : List Bool) (m : ℕ) → length qs ≡ count → Respects first ts arguments qs → Contains parts m → type_good qs m ≡ false → good old.asked qs v ≡ false)
+        → ((qs : List Bool) (m : ℕ) → length qs ≡ count → Respects first ts arguments qs → Contains parts m → type_good qs m ≡ false
+        → good old.asked qs v ≡ false)
         → Holds arguments old done (front ++ pending) → Holds arguments new done (front ++ after)
     pub lighter : total ts after ≤ total ts pending + total ts parts
 
@@ -60,4 +62,5 @@ module _ (ts : List Typ) (first count : ℕ) where
   -- an argument is there, and its datatype rests on its type
   pub record Argues (a : Argument) (old new : Graph) (pending after : List ℕ) : Type 0 where
     pub size : length new.edges ≡ count + length new.asked
-    pub holds : (arguments done : List Argument) → a.datatype < count → Contains arguments a → Holds arguments old done pending → Holds arguments new (done ++ a ∷ []) after
+    pub holds : (arguments done : List Argument) → a.datatype < count → Contains arguments a → Holds arguments old done pending
+        → Holds arguments new (done ++ a ∷ []) after

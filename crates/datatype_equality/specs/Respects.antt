@@ -40,7 +40,8 @@ every_parameter v = true
 
 -- a name that admits equality has only constructors whose arguments do, once the parameters do
 abbrev pub Respects : ℕ → List Typ → List Argument → List Bool → Type 0
-Respects first ts arguments qs = (a : Argument) → Contains arguments a → slice_get qs a.datatype ≡ Some true → admits every_parameter (type_with first qs (type_at ts a.ty)) ≡ true
+Respects first ts arguments qs =
+    (a : Argument) → Contains arguments a → slice_get qs a.datatype ≡ Some true → admits every_parameter (type_with first qs (type_at ts a.ty)) ≡ true
 
 abbrev pub AllBelow : List Bool → List Bool → Type 0
 AllBelow (q ∷ qs) (r ∷ rs) = (q ≡ true → r ≡ true) × AllBelow qs rs
