@@ -1,0 +1,7 @@
+// From patterns to tests: the steps that test a value against a pattern, and where the pattern's variables are.
+#![tactic(auto)]
+
+pub mod made;
+pub mod parts;
+pub mod patterns;
+pub mod spots;
