@@ -1,4 +1,6 @@
 pub mod Shapes
+pub mod MoreShapes
 pub mod Orders
 pub mod Rows
 pub mod MoreRows
+pub mod LastRows

@@ -28,10 +28,10 @@ use Rattle.machine_primitives.proofs.Orders.{int_lt_is, int_gt_is, nat_lt_is, na
 use Rattle.machine_primitives.proofs.Shapes.{Short, total_comes, moved_comes, from_comes}
 use Rattle.machine_primitives.proofs.Rows.{Two, both, at_kind, Ints, Words, int_orders, word_orders, char_orders, int_equals, word_equals, char_equals, word_below, changed, lt_words, gt_words, total_short, ints_less, ints_greater, ints_equals, words_less, words_greater, words_equals, chars_less, chars_greater, chars_equals, more_ints, more_words, short_ilt, short_ult, short_eq, short_more_ints, short_more_words}
 
-data One (front : List ℕ) (P : ℕ → Type 0) : List ℕ → Type 0 where
+pub data One (front : List ℕ) (P : ℕ → Type 0) : List ℕ → Type 0 where
   alone : (x m : ℕ) → slice_get front x ≡ Some m → P m → One front P (x ∷ [])
 
-changed_one : (front : List ℕ) (P : ℕ → Type 0) {Q : ℕ → Type 0} {xs : List ℕ} → ((m : ℕ) → P m → Q m) → One front P xs → One front Q xs
+pub changed_one : (front : List ℕ) (P : ℕ → Type 0) {Q : ℕ → Type 0} {xs : List ℕ} → ((m : ℕ) → P m → Q m) → One front P xs → One front Q xs
 changed_one front P h (alone x m e p) = alone x m e (h m p)
 
 module _ (lay : List Word) (front : List ℕ) where
@@ -58,7 +58,7 @@ module _ (lay : List Word) (front : List ℕ) where
       alone x m e (omega arith, ap (λ z. wrapped (G z)) m_is ∙ s)
   word_negated F G g h r = absurd (cc)
 
-  int_alone : (G : ℤ → Gives) (g : Gives) {xs : List ℕ} {ls : List Literal} → HoldAll lay front xs ls → at_kind ints (one int_in G) ls ≡ Some g
+  pub int_alone : (G : ℤ → Gives) (g : Gives) {xs : List ℕ} {ls : List Literal} → HoldAll lay front xs ls → at_kind ints (one int_in G) ls ≡ Some g
       → One front (λ m. (a : ℤ) × (word_of a ≡ Some m) × (G a ≡ g)) xs
   int_alone G g (an_operand x (int a) m e i no_operand) r = alone x m e (a, i, (let s : G a ≡ g = cc in s))
   int_alone G g h r = absurd (cc)
@@ -123,7 +123,7 @@ tested_truth test (a ∷ []) q e = absurd (cc)
 tested_truth test (a ∷ b ∷ []) q e = option_truth (test a b) q e
 tested_truth test (a ∷ b ∷ c ∷ ls) q e = absurd (cc)
 
-kind_truth : (k : Operands) (test : Literal → Literal → Option Bool) (ls : List Literal) (q : Gives) → at_kind k (tested test) ls ≡ Some q → (c : Bool) × (q ≡ made (truth c))
+pub kind_truth : (k : Operands) (test : Literal → Literal → Option Bool) (ls : List Literal) (q : Gives) → at_kind k (tested test) ls ≡ Some q → (c : Bool) × (q ≡ made (truth c))
 kind_truth k test [] q e = absurd (cc)
 kind_truth k test (l ∷ ls) q e = by (is_at k l) e
   where
@@ -209,7 +209,7 @@ module _ (C : ControlLaws) (M : MemoryLaws) (A : ArithmeticLaws) (N : NextLaws) 
           subst (λ q. Comes code f lay front mem (given q) (way_on q (pc + 2) other) (inside f pc (front ++ above) mem free)) w.1
           (from_comes C M A N code f lay front mem free row g law (literal (word (G m))) k x m pc above e (same m w.0, below m w.0) has)
 
-  moved_row : (k : Operands) (p : BasisPrimitive) → ((lay : List Word) (front : List ℕ) (q : Gives) (xs : List ℕ) (ls : List Literal) → HoldAll lay front xs ls → row_at k p ls ≡ Some q
+  pub moved_row : (k : Operands) (p : BasisPrimitive) → ((lay : List Word) (front : List ℕ) (q : Gives) (xs : List ℕ) (ls : List Literal) → HoldAll lay front xs ls → row_at k p ls ≡ Some q
       → One front (λ m. (l : Literal) × (made l ≡ q) × Is lay (value_of l) m) xs) → RowIsRight k p 1 moved
   moved_row k p known = record {
     long = λ packets pc d other xs. refl;

@@ -6,6 +6,7 @@ use Rattle.std.specs.Ordering.{nat_cmp, int_cmp, is_lt, is_le, is_gt, is_ge}
 use Rattle.std.specs.declared.cmp.Ordering.{Ordering}
 use Rattle.std.specs.declared.cmp.Ordering.TheVariants.{Less, Equal, Greater}
 use Rattle.std.proofs.lemmas.Bool.{cases_lt, lt-ltb, le-ltb, eq-eqb, ne_eqb, ltb-true}
+use Rattle.std.proofs.Math.Facts.{sfits_to_z}
 use Rattle.std.proofs.lemmas.Int.{to_z-of_z, of_z-to_z, ints}
 use Rattle.std.proofs.Math.Nat.{div-le_self}
 use Rattle.word_arithmetic.specs.Arithmetic.{shift_signed}
@@ -119,3 +120,13 @@ shifted_below (negsuc j) k lt = omega arith
 
 pub signed_below : (m n : ℕ) → m < 2 ^ 32 → n < 2 ^ 32 → shift_signed m n < 2 ^ 32
 signed_below m n p q = shifted_below (cast_signed w32 m) (min n 31) (let e = of_z-to_z w32 m p in omega (arith, e, p))
+
+fits_word_of : (z : ℤ) → FitsSigned w32 z → fits_word z ≡ true
+fits_word_of (pos n) h = lt-ltb n (2 ^ 31) h.sfits
+fits_word_of (negsuc n) h = lt-ltb n (2 ^ 31) h.sfits
+
+-- a word's bits as an integer have the word
+pub signed_word : (m : ℕ) → m < 2 ^ 32 → word_of (cast_signed w32 m) ≡ Some m
+signed_word m lt =
+    let z = cast_signed w32 m in
+    ap (λ b. if b then Some (cast_unsigned w32 z) else None) (fits_word_of z (sfits_to_z (record { fits = lt }))) ∙ ap Some (of_z-to_z w32 m lt)

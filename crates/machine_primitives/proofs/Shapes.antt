@@ -25,36 +25,36 @@ module _ (C : ControlLaws) (M : MemoryLaws) (A : ArithmeticLaws) (N : NextLaws) 
   abbrev at : ℕ → List ℕ → State
   at pc rest = inside f pc (front ++ rest) mem free
 
-  past : nat_lt (length f.lower + length front) (length (f.lower ++ (front ++ []))) ≡ false
+  pub past : nat_lt (length f.lower + length front) (length (f.lower ++ (front ++ []))) ≡ false
   past = le-ltb _ _ (omega (arith, length-append f.lower (front ++ []), length-append front []))
 
   -- a slot past the stack
-  short : (pc : ℕ) (led : StepResult) → on_slot (at pc []) (length front) led ≡ Halts NoStack (at pc [])
+  pub short : (pc : ℕ) (led : StepResult) → on_slot (at pc []) (length front) led ≡ Halts NoStack (at pc [])
   short pc led = ap (λ b. check b NoStack (at pc []) led) past
 
-  room : (a : ℕ) (rest : List ℕ) → length front < length (front ++ a ∷ rest)
+  pub room : (a : ℕ) (rest : List ℕ) → length front < length (front ++ a ∷ rest)
   room a rest = omega (arith, length-append front (a ∷ rest))
 
-  written : (pc a v : ℕ) (rest : List ℕ) → steps.with_slot C M A f pc (front ++ a ∷ rest) mem free (length front) v ≡ at (pc + 1) (v ∷ rest)
+  pub written : (pc a v : ℕ) (rest : List ℕ) → steps.with_slot C M A f pc (front ++ a ∷ rest) mem free (length front) v ≡ at (pc + 1) (v ∷ rest)
   written pc a v rest = ap (λ z. inside f (pc + 1) z mem free) (set_here front rest a v)
 
-  there : (x v : ℕ) (rest : List ℕ) → slice_get front x ≡ Some v → slice_get (front ++ rest) x ≡ Some v
+  pub there : (x v : ℕ) (rest : List ℕ) → slice_get front x ≡ Some v → slice_get (front ++ rest) x ≡ Some v
   there x v rest e = get_left front rest x v e
 
-  does_li : (pc v a : ℕ) (rest : List ℕ) → act (at pc (a ∷ rest)) (Li (length front) v) ≡ Goes (at (pc + 1) (v ∷ rest))
+  pub does_li : (pc v a : ℕ) (rest : List ℕ) → act (at pc (a ∷ rest)) (Li (length front) v) ≡ Goes (at (pc + 1) (v ∷ rest))
   does_li pc v a rest = steps.does_li C M A f pc (front ++ a ∷ rest) mem free (length front) v (room a rest) ∙ ap Goes (written pc a v rest)
 
-  does_mov : (pc x v a : ℕ) (rest : List ℕ) → slice_get front x ≡ Some v → act (at pc (a ∷ rest)) (Mov (length front) x) ≡ Goes (at (pc + 1) (v ∷ rest))
+  pub does_mov : (pc x v a : ℕ) (rest : List ℕ) → slice_get front x ≡ Some v → act (at pc (a ∷ rest)) (Mov (length front) x) ≡ Goes (at (pc + 1) (v ∷ rest))
   does_mov pc x v a rest e = steps.does_mov C M A f pc (front ++ a ∷ rest) mem free (length front) x v (room a rest) (there x v (a ∷ rest) e) ∙ ap Goes (written pc a v rest)
 
-  does_two : (row : ℕ → ℕ → ℕ → Instr) (g : ℕ → ℕ → ℕ) → Total row g → (pc x y v w a : ℕ) (rest : List ℕ) → slice_get front x ≡ Some v → slice_get front y ≡ Some w
+  pub does_two : (row : ℕ → ℕ → ℕ → Instr) (g : ℕ → ℕ → ℕ) → Total row g → (pc x y v w a : ℕ) (rest : List ℕ) → slice_get front x ≡ Some v → slice_get front y ≡ Some w
       → act (at pc (a ∷ rest)) (row (length front) x y) ≡ Goes (at (pc + 1) (g v w ∷ rest))
   does_two row g law pc x y v w a rest e h =
       steps.does_two C M A f pc (front ++ a ∷ rest) mem free row g law (length front) x y v w (room a rest) (there x v (a ∷ rest) e) (there y w (a ∷ rest) h)
       ∙ ap Goes (written pc a (g v w) rest)
 
   -- it comes to a place with a word for the value, and the memory as it was
-  same_comes : (v : Value) (y place : ℕ) (s : State) (rest : List ℕ) → Is lay v y → (l : Leads code s (at place (y ∷ rest))) → 0 < l.steps → Comes code f lay front mem v place s
+  pub same_comes : (v : Value) (y place : ℕ) (s : State) (rest : List ℕ) → Is lay v y → (l : Leads code s (at place (y ∷ rest))) → 0 < l.steps → Comes code f lay front mem v place s
   same_comes v y place s rest is l pos =
       let e : at place (y ∷ rest) ≡ inside f place ((front ++ y ∷ []) ++ rest) (mem ++ []) free =
       ap (λ z. inside f place z mem free) (sym (append_assoc front (y ∷ []) rest)) ∙ ap (λ z. inside f place ((front ++ y ∷ []) ++ rest) z free) (sym (append-nil mem)) in

@@ -1,11 +1,11 @@
 -- Which primitives the code is right for.
 use Rattle.std.specs.Prelude.{◌-◌, ◌^◌}
 use Rattle.ir_code.specs.declared.instr.Instr.TheVariants.{Add as AddRow, Sub as SubRow, Mul as MulRow, WAdd, WSub, WMul, WDiv, WMod, And, Or, Xor, Shl, Shr, Sar, ILt, ULt, Eq}
-use Rattle.mlc_prims.specs.declared.basis.BasisPrimitive.TheVariants.{Add, Subtract, Multiply, Divide, Modulo, Negate, BitsAnd, BitsOr, BitsXor, BitsNot, ShiftLeft, ShiftRight, ShiftSigned, Less, LessEqual, Greater, GreaterEqual, Equals, FromInt, CharCode}
-use Rattle.mlc_prims.specs.declared.prim.PrimExn.TheVariants.{Overflow, Div}
-use Rattle.first_values.specs.Operations.{ints, words, chars}
+use Rattle.mlc_prims.specs.declared.basis.BasisPrimitive.TheVariants.{Add, Subtract, Multiply, Divide, Modulo, Negate, BitsAnd, BitsOr, BitsXor, BitsNot, ShiftLeft, ShiftRight, ShiftSigned, Less, LessEqual, Greater, GreaterEqual, Equals, FromInt, ToInt, ToIntSigned, CharCode, CharOf, SizeOf}
+use Rattle.mlc_prims.specs.declared.prim.PrimExn.TheVariants.{Overflow, Div, Chr}
+use Rattle.first_values.specs.Operations.{ints, words, chars, texts}
 use Rattle.machine_primitives.specs.RowLaws.{RowIsRight, TestIsRight}
-use Rattle.machine_primitives.specs.RowCode.{total, raising, moved, from_word, holds, swapped, fails}
+use Rattle.machine_primitives.specs.RowCode.{total, raising, moved, from_word, limited, loaded, contrary, holds, swapped, fails}
 
 -- sums, differences and products: of integers exact, or Overflow; of words modulo 2^32
 pub record SumsAreRight : Type 0 where
@@ -48,6 +48,25 @@ pub record TruthsAreRight : Type 0 where
   pub char_less : RowIsRight chars Less 1 (total ULt)
   pub char_greater : RowIsRight chars Greater 1 (total (swapped ULt))
   pub char_equals : RowIsRight chars Equals 1 (total Eq)
+
+-- a word as an integer, by its value or Overflow, or by its bits; a character of a code, or Chr
+pub record LimitsAreRight : Type 0 where
+  pub to_int : RowIsRight words ToInt 5 (limited Overflow (2 ^ 31))
+  pub to_int_signed : RowIsRight words ToIntSigned 1 moved
+  pub char_of : RowIsRight ints CharOf 5 (limited Chr 256)
+
+-- how many bytes a string has
+pub record SizesAreRight : Type 0 where
+  pub size_of : RowIsRight texts SizeOf 1 loaded
+
+-- at most and at least, as values
+pub record ContrariesAreRight : Type 0 where
+  pub int_less_equal : RowIsRight ints LessEqual 3 (contrary (swapped ILt))
+  pub int_greater_equal : RowIsRight ints GreaterEqual 3 (contrary ILt)
+  pub word_less_equal : RowIsRight words LessEqual 3 (contrary (swapped ULt))
+  pub word_greater_equal : RowIsRight words GreaterEqual 3 (contrary ULt)
+  pub char_less_equal : RowIsRight chars LessEqual 3 (contrary (swapped ULt))
+  pub char_greater_equal : RowIsRight chars GreaterEqual 3 (contrary ULt)
 
 -- tests of two integers, words or characters
 pub record ComparisonsAreRight : Type 0 where

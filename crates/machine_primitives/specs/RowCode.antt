@@ -1,7 +1,7 @@
 -- The code of primitives.
-use Rattle.std.specs.Prelude.{ℕ, ◌+◌, List, [], ◌∷◌, get_or}
+use Rattle.std.specs.Prelude.{ℕ, suc, ◌+◌, List, [], ◌∷◌, get_or}
 use Rattle.ir_code.specs.declared.instr.Instr.{Instr}
-use Rattle.ir_code.specs.declared.instr.Instr.TheVariants.{Li, Mov, Jmp, Brz}
+use Rattle.ir_code.specs.declared.instr.Instr.TheVariants.{Li, Mov, Jmp, Brz, Ld, Eq, ULt}
 use Rattle.mlc_prims.specs.declared.prim.PrimExn.{PrimExn}
 use Rattle.machine_primitives.specs.RowLaws.{Code, TestCode}
 
@@ -23,6 +23,19 @@ moved packets pc d other xs = Mov d (arg 0 xs) ∷ []
 -- a row of a word and the operand
 abbrev pub from_word : ℕ → (ℕ → ℕ → ℕ → Instr) → Code
 from_word v row packets pc d other xs = Li d v ∷ row d d (arg 0 xs) ∷ []
+
+-- the word itself, where it is below a limit
+abbrev pub limited : PrimExn → ℕ → Code
+limited e limit packets pc d other xs =
+    Li d (packets e) ∷ Li (suc d) limit ∷ ULt (suc d) (arg 0 xs) (suc d) ∷ Brz (suc d) other ∷ Mov d (arg 0 xs) ∷ []
+
+-- the first word at an address
+abbrev pub loaded : Code
+loaded packets pc d other xs = Ld d (arg 0 xs) 0 ∷ []
+
+-- 1 where a row gives 0
+abbrev pub contrary : (ℕ → ℕ → ℕ → Instr) → Code
+contrary row packets pc d other xs = row d (arg 0 xs) (arg 1 xs) ∷ Li (suc d) 0 ∷ Eq d d (suc d) ∷ []
 
 -- a comparison that gives 1 or 0: as it is, and its contrary
 abbrev pub holds : (ℕ → ℕ → ℕ → Instr) → TestCode

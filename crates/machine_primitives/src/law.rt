@@ -1,6 +1,6 @@
 // Which primitives the code is right for, as contracts.
 
-ghost use Rattle.machine_primitives.specs.Laws.{SumsAreRight, WordQuotientsAreRight, BitsAreRight, ConversionsAreRight, TruthsAreRight, ComparisonsAreRight};
+ghost use Rattle.machine_primitives.specs.Laws.{SumsAreRight, WordQuotientsAreRight, BitsAreRight, ConversionsAreRight, TruthsAreRight, LimitsAreRight, SizesAreRight, ContrariesAreRight, ComparisonsAreRight};
 
 /// Sums, differences and products of integers, which may overflow, and of words.
 pub fn sums()
@@ -55,6 +55,36 @@ pub fn conversions()
 /// Comparisons of integers, words and characters, as values.
 pub fn truths()
     ensures { TruthsAreRight }
+{
+    ir_code::law::begins();
+    ir_code::law::control();
+    ir_code::law::memory();
+    ir_code::law::arithmetic();
+}
+
+/// Words as integers, and characters of codes.
+pub fn limits()
+    ensures { LimitsAreRight }
+{
+    ir_code::law::begins();
+    ir_code::law::control();
+    ir_code::law::memory();
+    ir_code::law::arithmetic();
+}
+
+/// The size of a string.
+pub fn sizes()
+    ensures { SizesAreRight }
+{
+    ir_code::law::begins();
+    ir_code::law::control();
+    ir_code::law::memory();
+    ir_code::law::arithmetic();
+}
+
+/// At most and at least, as values.
+pub fn contraries()
+    ensures { ContrariesAreRight }
 {
     ir_code::law::begins();
     ir_code::law::control();
