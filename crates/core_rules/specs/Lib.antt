@@ -17,3 +17,4 @@ pub mod Project
 pub mod Closing
 pub mod Fits
 pub mod Laws
+pub mod Bases

@@ -1,6 +1,3 @@
-pub mod TreeLemmas
-pub mod Lists
 pub mod Classes
-pub mod Modified
-pub mod Schemes
+pub mod Functions
 mod Examples

@@ -2,5 +2,4 @@ pub mod Types
 pub mod Marks
 pub mod TypesOf
 pub mod Statics
-pub mod StaticsOf
 pub mod Laws

@@ -1,4 +1,4 @@
-// Types, type names, schemes and environments.
+// What types begin with, type names, and what is asked of type variables.
 #![tactic(auto)]
 
 pub mod env;
@@ -6,6 +6,4 @@ pub mod law;
 pub mod mark;
 pub mod name;
 pub mod scheme;
-#[cfg(test)]
-mod tests;
 pub mod ty;

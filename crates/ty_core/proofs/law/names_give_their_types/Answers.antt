@@ -1,4 +1,4 @@
-use Rattle.ty_core.proofs.Schemes.{names-give-their-types}
+use Rattle.ty_core.proofs.Functions.{names-give-their-types}
 use Rattle.ty_core.proofs.law.names_give_their_types.Goals as goal
 
 pub returns : goal.returns

@@ -1,22 +1,10 @@
--- Instances of schemes, and type names as functions.
+-- Type names as functions.
 use Rattle.std.proofs.Common.{◌≡◌, ℕ, suc, ◌+◌, Some, None, refl, sym, ap, ◌∙◌, arith}
 use Rattle.std.specs.Prelude.{unwrap_or, cond}
 use Rattle.std.proofs.lemmas.Bool.{eq-eqb}
 use Rattle.ty_core.specs.Types.{Typ, var, con, Typs, none, more, name}
-use Rattle.ty_core.specs.Statics.{replace, replace_all, argument, count, variables}
-use Rattle.ty_core.specs.Laws.{MonomorphicIsItself, NamesGiveTheirTypes}
-
-mutual
-  pub replace-none : (t : Typ) → replace var t ≡ t
-  replace-none (var v) = refl
-  replace-none (con h ts) = ap (con h) (replace_all-none ts)
-
-  pub replace_all-none : (ts : Typs) → replace_all var ts ≡ ts
-  replace_all-none none = refl
-  replace_all-none (more t ts) = ap (λ u. more u (replace_all var ts)) (replace-none t) ∙ ap (more t) (replace_all-none ts)
-
-pub monomorphic-is-itself : MonomorphicIsItself
-monomorphic-is-itself m t u = ((λ g. g.is ∙ replace-none t), (λ e. record { types = var; allowed = tt; is = e ∙ sym (replace-none t) }))
+use Rattle.ty_core.specs.Statics.{replace_all, argument, count, variables}
+use Rattle.ty_core.specs.Laws.{NamesGiveTheirTypes}
 
 -- the variables from k on become ts, where f gives them its types
 replace-variables : (f : ℕ → Typ) (k : ℕ) (ts : Typs) → ((j : ℕ) → f (k + j) ≡ unwrap_or (argument ts j) (var (k + j))) → replace_all f (variables k (count ts)) ≡ ts
