@@ -11,13 +11,13 @@ use Rattle.ir_ssa.specs.Tree as s
 use Rattle.ir_ssa.specs.Meaning as after
 use Rattle.ssa_build.specs.Build.{build, returns, ssa}
 
-abbrev here : Place
+abbrev pub here : Place
 here = record { file = 0; byte = 5 }
 
-abbrev there : Place
+abbrev pub there : Place
 there = record { file = 0; byte = 8 }
 
-abbrev tables : Tables
+abbrev pub tables : Tables
 tables = record {
   initial = 40 ∷ 41 ∷ 42 ∷ 43 ∷ 44 ∷ 45 ∷ 46 ∷ [];
   strings = (65 ∷ []) ∷ (66 ∷ []) ∷ [];
@@ -25,11 +25,11 @@ tables = record {
   sets = (record { tag = 7; function = 1 } ∷ []) ∷ [];
 }
 
-abbrev with_main : Exp → Program
+abbrev pub with_main : Exp → Program
 with_main e = record { tables = tables; funs = record { params = []; body = e } ∷ [] }
 
 -- prints string i
-abbrev prints : ℕ → Exp
+abbrev pub prints : ℕ → Exp
 prints i = let_in 30 (plain (constant (a_text i)) []) (let_in 31 (plain print (30 ∷ [])) (ret 31))
 
 -- function 1 raises its second argument; it is called by a closure, under a handler, whose value is printed
@@ -89,7 +89,7 @@ overflow_handled : after.meaning (ssa (with_main (overflows (let_in 2 (handle (l
 overflow_handled = refl
 
 -- a loop of tail calls, down from n
-abbrev looping : ℕ → Program
+abbrev pub looping : ℕ → Program
 looping n = record {
   tables = tables;
   funs =

@@ -5,3 +5,5 @@ pub mod Binders
 pub mod Fits
 mod Examples
 pub mod Exceptions
+mod Constructs
+mod LongLoop
