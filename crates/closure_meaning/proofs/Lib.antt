@@ -8,3 +8,4 @@ pub mod Arms
 pub mod Keeps
 pub mod Coded
 pub mod Run
+mod Examples

@@ -14,18 +14,23 @@ use Rattle.ir_mono.specs.Types.{IsTable}
 use Rattle.ir_mono.specs.Mono.{mono, Program}
 use Rattle.ir_explicit.specs.Explicit.{enter_closure, apply_closures}
 use Rattle.ir_explicit.specs.Explicit as explicit
+use Rattle.ir_explicit.proofs.Never.{explicit-never-wrong, explicit-same}
 use Rattle.first_values.specs.Values as cells
 use Rattle.first_values.specs.Operations as op
 use Rattle.ir_first.specs.Tree as out
 use Rattle.ir_first.specs.Continued as tgt
 use Rattle.ir_first.proofs.Settled.{meanings-are-one-unless-wrong}
+use Rattle.flow_sets.specs.ByType.{by_type}
+use Rattle.flow_sets.proofs.Known.{by-type-solves}
 use Rattle.flow_sets.specs.Flow.{Flow, variable, result, at, number_of}
+use Rattle.closure_convert.proofs.Numbered.{captures-are-right}
+use Rattle.closure_convert.specs.Capture.{table_of}
 use Rattle.closure_convert.specs.Scope.{Table, top}
 use Rattle.closure_convert.specs.Closed.{scope_of, members}
 use Rattle.closure_meaning.specs.Convert as conv
 use Rattle.closure_meaning.specs.Convert.{Numbering, holder, follower, var}
 use Rattle.closure_meaning.specs.Fits.{Setting, IsValue, FunFits}
-use Rattle.closure_meaning.specs.Laws.{setting, MayConvert, ConversionKeeps}
+use Rattle.closure_meaning.specs.Laws.{setting, MayConvert, ConversionKeeps, ConversionSame, ConversionByType}
 use Rattle.closure_meaning.proofs.Related.{Val, IsOneOf, fun_of, group_of, code_number, Good, AllGood, Same, same_exn, same_exn_of, SameCaptured, Given, R, held}
 use Rattle.closure_meaning.proofs.Known.{different, here, past, past-holder, known-body, stands}
 use Rattle.closure_meaning.proofs.Performed.{T, Worlds, Re}
@@ -141,3 +146,10 @@ pub conversion-keeps : ConversionKeeps
 conversion-keeps n strings flow captures p may m never =
     let c : tgt.meaning (conv.program n strings flow captures p) m ≡ explicit.meaning p m = continued-same n strings flow captures p may m never in
     meanings-are-one-unless-wrong (conv.program n strings flow captures p) m (λ e. never (sym (ap (λ o. o.end) c) ∙ e)) ∙ c
+
+pub conversion-same : ConversionSame
+conversion-same n strings flow captures p h x may m = conversion-keeps n strings flow captures p may m (explicit-never-wrong p h x m) ∙ sym (explicit-same p h x m)
+
+pub conversion-by-type : ConversionByType
+conversion-by-type n strings p h x fits numbered m =
+    conversion-same n strings (by_type p) (table_of p.types p.body) p h x (record { table = h.table; fits = fits; solves = by-type-solves p h; closed = captures-are-right p h; numbered = numbered }) m

@@ -113,7 +113,8 @@ shapes types = shapes_from 0 types
 -- Primitives
 
 abbrev pub operands_at : Option Node → Operands
-operands_at o = if holds (is_named int_name) o then ints else (if holds (is_named word_name) o then words else (if holds (is_named char_name) o then chars else op.texts))
+operands_at o =
+    if holds (is_named int_name) o then ints else (if holds (is_named word_name) o then words else (if holds (is_named char_name) o then chars else op.texts))
 
 -- of one that has no choice of types
 abbrev pub operands_of : BasisPrimitive → Operands
@@ -244,7 +245,8 @@ module _ (n : Numbering) where
       cases s a t (m.arm (is_literal l) e arms) = out.branch (op.is (constant l)) (var a ∷ []) (convert s e) (cases s a t arms)
       cases s a t (m.arm (is_con c) e arms) = out.switch (var a) (out.arm (con_tag types t c) (convert s e) (con_arms s a t arms))
       cases s a t (m.arm (is_con_of c x u) e arms) =
-          out.switch (var a) (out.arm (con_tag types t c) (out.let_in (var x) (out.plain (op.field 0) (var a ∷ [])) (convert (add x s) e)) (con_arms s a t arms))
+          out.switch (var a)
+          (out.arm (con_tag types t c) (out.let_in (var x) (out.plain (op.field 0) (var a ∷ [])) (convert (add x s) e)) (con_arms s a t arms))
       cases s a t (m.arm (is_exn y) e arms) = out.branch op.is_of (var a ∷ var y ∷ []) (convert s e) (cases s a t arms)
       cases s a t (m.arm (is_exn_of y x u) e arms) =
           out.branch op.is_of (var a ∷ var y ∷ []) (out.let_in (var x) (out.plain op.argument (var a ∷ [])) (convert (add x s) e)) (cases s a t arms)

@@ -1,5 +1,5 @@
--- What the conversion asks of a program, beside its sets and captures: that variables are what their numbering says, the names of exceptions or values; and that
--- constants, constructors and labels are those of the tables.
+-- What the conversion asks of a program, beside its sets and captures: that variables are what their numbering says, the names of exceptions or values; and
+-- that constants, constructors and labels are those of the tables.
 use Rattle.std.specs.Prelude.{◌≡◌, ℕ, true, false, List, [], ◌∷◌, length, Some, None, nat_lt, ⊤}
 use Rattle.mlc_base.specs.declared.label.Label.{Label}
 use Rattle.mlc_prims.specs.LitOf.{Literal}

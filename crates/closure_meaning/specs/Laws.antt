@@ -4,11 +4,16 @@ use Rattle.mlc_base.specs.Outcome.{wrong}
 use Rattle.ir_mono.specs.Types as table
 use Rattle.ir_mono.specs.Types.{IsTable}
 use Rattle.ir_mono.specs.Mono.{Mono, Program}
+use Rattle.ir_mono.specs.Mono as mono
+use Rattle.ir_mono.specs.Explicit.{IsExplicit}
+use Rattle.ir_mono.specs.WellFormed.{IsWellFormed}
 use Rattle.ir_explicit.specs.Explicit as source
 use Rattle.ir_first.specs.Meaning as first
 use Rattle.flow_sets.specs.Flow.{Flow, SolvesProgram}
+use Rattle.flow_sets.specs.ByType.{by_type}
 use Rattle.closure_convert.specs.Scope.{Table, top}
 use Rattle.closure_convert.specs.Closed.{IsClosed}
+use Rattle.closure_convert.specs.Capture.{table_of}
 use Rattle.closure_meaning.specs.Convert.{Numbering, numbers_in, program}
 use Rattle.closure_meaning.specs.Fits.{Setting, Fits}
 
@@ -32,3 +37,16 @@ abbrev pub ConversionKeeps : Type 0
 ConversionKeeps =
     (n : Numbering) (strings : List (List ℕ)) (flow : Flow) (captures : Table) (p : Program) → MayConvert n strings flow captures p → (m : ℕ)
     → ((source.meaning p m).end ≡ wrong → ⊥) → first.meaning (program n strings flow captures p) m ≡ source.meaning p m
+
+-- of a well formed program with no function by itself, whatever it does
+abbrev pub ConversionSame : Type 0
+ConversionSame =
+    (n : Numbering) (strings : List (List ℕ)) (flow : Flow) (captures : Table) (p : Program) → IsWellFormed p → IsExplicit p.types [] p.body
+    → MayConvert n strings flow captures p → (m : ℕ) → first.meaning (program n strings flow captures p) m ≡ mono.meaning p m
+
+-- so with all functions of each type, and captures in the order of binding
+abbrev pub ConversionByType : Type 0
+ConversionByType =
+    (n : Numbering) (strings : List (List ℕ)) (p : Program) → IsWellFormed p → IsExplicit p.types [] p.body
+    → Fits (setting n strings (by_type p) (table_of p.types p.body) p) p.body → IsNumbered p.types n p.body → (m : ℕ)
+    → first.meaning (program n strings (by_type p) (table_of p.types p.body) p) m ≡ mono.meaning p m

@@ -1,2 +1,4 @@
 // Programs in which only `fn` and groups are functions.
 #![tactic(auto)]
+
+pub mod law;

@@ -85,7 +85,7 @@ module _ (types : List Row) where
   still (t ∷ ts) us (suc i) e = still ts us i e
 
   more-stored : (S : Shape) (t : ℕ) → Grows S (record S { store = S.store ++ t ∷ [] })
-  more-stored S t = record { store = λ i u e. still S.store (t ∷ []) i e; exceptions = λ i u e. e }
+  more-stored S t = record { store = λ i u e. still S.store (t ∷ []) i e; exceptions = λ i u e. e; bare = refl }
 
   pushed : {S : Shape} {w : World W} {v : W} {t : ℕ} → WorldTyped types S w → ValueTyped types S v t → WorldTyped types (record S { store = S.store ++ t ∷ [] }) (record w { store = w.store ++ cell t v ∷ [] })
   pushed {S} {w} {v} {t} k h = record { store = push-stored (store-grows (more-stored S t) k.store) (value-grows types (more-stored S t) h); exceptions = k.exceptions }

@@ -1,5 +1,5 @@
 -- What is stored and which exceptions are made only grows; what a typed value is, and what arms find of it.
-use Rattle.std.proofs.Common.{◌≡◌, ℕ, suc, List, [], ◌∷◌, length, Bool, true, false, Option, Some, None, slice_get, if◌then◌else◌, nat_eq, nat_lt, subst, sym, refl, ap, arith}
+use Rattle.std.proofs.Common.{◌≡◌, ℕ, suc, List, [], ◌∷◌, length, Bool, true, false, Option, Some, None, slice_get, if◌then◌else◌, nat_eq, nat_lt, subst, sym, refl, ap, ◌∙◌, arith}
 use Rattle.std.proofs.lemmas.Bool.{eqb-true, eq-eqb, ltb-true}
 use Rattle.mlc_base.specs.Run.{World}
 use Rattle.mlc_base.specs.declared.label.Label.{Label}
@@ -16,17 +16,29 @@ use Rattle.ir_poly.specs.TestsChecked.{is_size}
 use Rattle.ir_mono.specs.Types.{Row, constructor_at, part, by_number, Is, IsExn, HasLiteral, has_int, has_word, has_char, has_string, IsTable}
 use Rattle.ir_mono.specs.Mono.{mono}
 use Rattle.ir_mono.specs.Values.{Shape, ValueTyped, literal_is, record_is, con_is, con_function_is, con_of_is, exn_is, exn_function_is, exn_of_is, ref_is, address_is, primitive_is, closure_is, group_is, FieldsTyped, no_fields_are, a_field_is, SortTyped, value_is, name_is, EnvTyped, empty_is, bind_is}
+use Rattle.ir_mono.specs.Explicit.{Unless, FunExplicit, FunsExplicit}
 use Rattle.ir_mono.specs.Typing.{Sort, exception, Sorts, sort_of, group_sorts, CaseTyped, literal_typed, con_typed, con_of_typed, exn_typed, exn_of_typed, record_typed, FunTyped, FunsTyped, t_last, t_more, t_no_funs, t_fun}
+
+-- what is asked only unless, of a consequence
+pub asked-of : {P Q : Type 0} (b : Bool) → (P → Q) → Unless b P → Unless b Q
+asked-of true f x = tt
+asked-of false f x = f x
+
+-- it isn't so: then nothing is asked
+pub bare-holds : {P : Type 0} (b : Bool) → Unless b P → (P → ⊥) → b ≡ true
+bare-holds true x f = refl
+bare-holds false x f = absurd (f x)
 
 pub record Grows (S S' : Shape) : Type 0 where
   pub store : (i t : ℕ) → slice_get S.store i ≡ Some t → slice_get S'.store i ≡ Some t
   pub exceptions : (i : ℕ) (a : Option ℕ) → slice_get S.exceptions i ≡ Some a → slice_get S'.exceptions i ≡ Some a
+  pub bare : S'.bare ≡ S.bare
 
 pub stays : (S : Shape) → Grows S S
-stays S = record { store = λ i t h. h; exceptions = λ i a h. h }
+stays S = record { store = λ i t h. h; exceptions = λ i a h. h; bare = refl }
 
 pub further : {S S' S'' : Shape} → Grows S S' → Grows S' S'' → Grows S S''
-further g h = record { store = λ i t e. h.store i t (g.store i t e); exceptions = λ i a e. h.exceptions i a (g.exceptions i a e) }
+further g h = record { store = λ i t e. h.store i t (g.store i t e); exceptions = λ i a e. h.exceptions i a (g.exceptions i a e); bare = h.bare ∙ g.bare }
 
 -- the identifiers of exceptions, and the types of their arguments
 pub data SameLength : List ℕ → List (Option ℕ) → Type 0 where
@@ -78,22 +90,25 @@ module _ (types : List Row) where
     as-value (alone_is e) h = exn_is e h
     as-value (with_argument_is e k) h = exn_of_is e k h
 
+  asked-still : (P : Type 0) {S S' : Shape} → Grows S S' → Unless S.bare P → Unless S'.bare P
+  asked-still P g x = subst (λ b. Unless b P) (sym g.bare) x
+
   -- what is typed stays so
   mutual
     pub value-grows : {S S' : Shape} {v : V (mono types)} {t : ℕ} → Grows S S' → ValueTyped types S v t → ValueTyped types S' v t
     value-grows g (literal_is h) = literal_is h
     value-grows g (record_is e d h) = record_is e d (fields-grow g h)
     value-grows g (con_is e) = con_is e
-    value-grows g (con_function_is e h) = con_function_is e h
+    value-grows g (con_function_is z e h) = con_function_is (g.bare ∙ z) e h
     value-grows g (con_of_is e h) = con_of_is e (value-grows g h)
     value-grows g (exn_is {i = i} e h) = exn_is (g.exceptions i None e) h
-    value-grows g (exn_function_is {i = i} {a = a} e h k) = exn_function_is (g.exceptions i (Some a) e) h k
+    value-grows g (exn_function_is {i = i} {a = a} z e h k) = exn_function_is (g.bare ∙ z) (g.exceptions i (Some a) e) h k
     value-grows g (exn_of_is {i = i} {a = a} e h k) = exn_of_is (g.exceptions i (Some a) e) (value-grows g h) k
-    value-grows g (ref_is e h) = ref_is e h
+    value-grows g (ref_is z e h) = ref_is (g.bare ∙ z) e h
     value-grows g (address_is {i = i} {a = a} e h) = address_is (g.store i a e) h
-    value-grows g (primitive_is p t h) = primitive_is p t h
-    value-grows g (closure_is h e k) = closure_is (env-grows g h) e k
-    value-grows g (group_is h fs e k) = group_is (env-grows g h) fs e k
+    value-grows g (primitive_is z p t h) = primitive_is (g.bare ∙ z) p t h
+    value-grows g (closure_is h e k x) = closure_is (env-grows g h) e k (asked-still _ g x)
+    value-grows g (group_is h fs e k x y) = group_is (env-grows g h) fs e k (asked-still _ g x) (asked-still _ g y)
 
     pub fields-grow : {S S' : Shape} {fs : Parts (mono types)} {ls : List Label} {ts : List ℕ} → Grows S S' → FieldsTyped types S fs ls ts → FieldsTyped types S' fs ls ts
     fields-grow g no_fields_are = no_fields_are
@@ -120,13 +135,13 @@ module _ (types : List Row) where
         go true k e = let same : s' ≡ s = cc in found (subst (SortTyped types S v) same h)
         go false k e = k e
 
-    member-typed : {f : Fun (mono types)} {all : Funs (mono types)} {env : Scope (mono types)} {G : Sorts} {t : ℕ} → EnvTyped types S env G → FunsTyped types (group_sorts types all G) all → FunTyped types (group_sorts types all G) f t → ValueTyped types S (closure (one_of f all) env) t
-    member-typed h k (t_last e x) = group_is h k e (t_last e x)
-    member-typed h k (t_more e x) = group_is h k e (t_more e x)
+    member-typed : {f : Fun (mono types)} {all : Funs (mono types)} {env : Scope (mono types)} {G : Sorts} {t : ℕ} → EnvTyped types S env G → FunsTyped types (group_sorts types all G) all → FunTyped types (group_sorts types all G) f t → Unless S.bare (FunsExplicit types (group_sorts types all G) all) → Unless S.bare (FunExplicit types (group_sorts types all G) f) → ValueTyped types S (closure (one_of f all) env) t
+    member-typed h k (t_last e x) y z = group_is h k e (t_last e x) y z
+    member-typed h k (t_more e x) y z = group_is h k e (t_more e x) y z
 
-    pub members-typed : {fs all : Funs (mono types)} {env : Scope (mono types)} {G H : Sorts} → EnvTyped types S env G → FunsTyped types (group_sorts types all G) all → FunsTyped types H fs → H ≡ group_sorts types all G → EnvTyped types S (members_from fs all env) (group_sorts types fs G)
-    members-typed h k t_no_funs e = h
-    members-typed h k (t_fun {t = t} {f = f} x xs) e = bind_is (value_is (member-typed h k (subst (λ H. FunTyped types H f t) e x))) (members-typed h k xs e)
+    pub members-typed : {fs all : Funs (mono types)} {env : Scope (mono types)} {G H : Sorts} → EnvTyped types S env G → FunsTyped types (group_sorts types all G) all → FunsTyped types H fs → H ≡ group_sorts types all G → Unless S.bare (FunsExplicit types (group_sorts types all G) all) → Unless S.bare (FunsExplicit types H fs) → EnvTyped types S (members_from fs all env) (group_sorts types fs G)
+    members-typed h k t_no_funs e y z = h
+    members-typed h k (t_fun {t = t} {f = f} x xs) e y z = bind_is (value_is (member-typed h k (subst (λ H. FunTyped types H f t) e x) y (asked-of S.bare (λ w. subst (λ H. FunExplicit types H f) e w.0) z))) (members-typed h k xs e y (asked-of S.bare (λ w. w.1) z))
 
     pub data FieldFound (t : ℕ) : Option (V (mono types)) → Type 0 where
       field_found : {v : V (mono types)} → ValueTyped types S v t → FieldFound t (Some v)
@@ -192,15 +207,15 @@ module _ (types : List Row) where
       literal-fine h (con_is {c = c} e) r = absurd (data-literal c e h)
       literal-fine h (con_of_is {c = c} e k) r = absurd (data-literal c e h)
       literal-fine h (record_is e o k) r = let d = (literal-name h).is in absurd (cc)
-      literal-fine h (con_function_is e k) r = let d = (literal-name h).is in absurd (cc)
+      literal-fine h (con_function_is bare_ e k) r = let d = (literal-name h).is in absurd (cc)
       literal-fine h (exn_is e k) r = let few = literal-few exn_name h k in absurd (cc)
-      literal-fine h (exn_function_is e k j) r = let d = (literal-name h).is in absurd (cc)
+      literal-fine h (exn_function_is bare_ e k j) r = let d = (literal-name h).is in absurd (cc)
       literal-fine h (exn_of_is e k j) r = let few = literal-few exn_name h j in absurd (cc)
-      literal-fine h (ref_is k j) r = let d = (literal-name h).is in absurd (cc)
+      literal-fine h (ref_is bare_ k j) r = let d = (literal-name h).is in absurd (cc)
       literal-fine h (address_is e k) r = let few = literal-few ref_name h k in absurd (cc)
-      literal-fine h (primitive_is p t k) r = let d = (literal-name h).is in absurd (cc)
-      literal-fine h (closure_is e k j) r = let d = (literal-name h).is in absurd (cc)
-      literal-fine h (group_is e i k j) r = let d = (literal-name h).is in absurd (cc)
+      literal-fine h (primitive_is bare_ p t k) r = let d = (literal-name h).is in absurd (cc)
+      literal-fine h (closure_is e k j _) r = let d = (literal-name h).is in absurd (cc)
+      literal-fine h (group_is e i k j _ _) r = let d = (literal-name h).is in absurd (cc)
 
       -- what a datatype's values are
       pub data Constructed (n : ℕ) : V (mono types) → Type 0 where
@@ -215,15 +230,15 @@ module _ (types : List Row) where
       constructed c e (con_of_is k h) = argument_made k h
       constructed c e (literal_is h) = absurd (data-literal c e h)
       constructed {n} c e (record_is k o h) = let d = data-name n c e in let i = d.2 in absurd (cc)
-      constructed {n} c e (con_function_is h k) = let d = data-name n c e in let i = d.2 in absurd (cc)
+      constructed {n} c e (con_function_is bare_ h k) = let d = data-name n c e in let i = d.2 in absurd (cc)
       constructed {n} c e (exn_is h k) = let d = data-name n c e in absurd (few-data d.0 exn_name n d.3 refl d.2 k)
-      constructed {n} c e (exn_function_is h k j) = let d = data-name n c e in let i = d.2 in absurd (cc)
+      constructed {n} c e (exn_function_is bare_ h k j) = let d = data-name n c e in let i = d.2 in absurd (cc)
       constructed {n} c e (exn_of_is h k j) = let d = data-name n c e in absurd (few-data d.0 exn_name n d.3 refl d.2 j)
-      constructed {n} c e (ref_is k j) = let d = data-name n c e in let i = d.2 in absurd (cc)
+      constructed {n} c e (ref_is bare_ k j) = let d = data-name n c e in let i = d.2 in absurd (cc)
       constructed {n} c e (address_is h k) = let d = data-name n c e in absurd (few-data d.0 ref_name n d.3 refl d.2 k)
-      constructed {n} c e (primitive_is p t k) = let d = data-name n c e in let i = d.2 in absurd (cc)
-      constructed {n} c e (closure_is h k j) = let d = data-name n c e in let i = d.2 in absurd (cc)
-      constructed {n} c e (group_is h fs k j) = let d = data-name n c e in let i = d.2 in absurd (cc)
+      constructed {n} c e (primitive_is bare_ p t k) = let d = data-name n c e in let i = d.2 in absurd (cc)
+      constructed {n} c e (closure_is h k j _) = let d = data-name n c e in let i = d.2 in absurd (cc)
+      constructed {n} c e (group_is h fs k j _ _) = let d = data-name n c e in let i = d.2 in absurd (cc)
 
       con-fine : (c : ℕ) {n : ℕ} {v : V (mono types)} {G : Sorts} {r : Fits (mono types)} → constructor_at types n c ≡ Some None → Constructed n v → MatchFine G r → MatchFine G (against_con (by_number types) n c v r)
       con-fine c {n} e (alone_made {c = d} k) h = at-fine n (if-fine (nat_eq c d) (λ b. h))
@@ -251,13 +266,13 @@ module _ (types : List Row) where
       packet-of {n} e (con_is {c = c} h) = let d = data-name n c h in absurd (few-data d.0 exn_name n d.3 refl d.2 e)
       packet-of {n} e (con_of_is {c = c} h k) = let d = data-name n c h in absurd (few-data d.0 exn_name n d.3 refl d.2 e)
       packet-of e (record_is h o k) = absurd (cc)
-      packet-of e (con_function_is h k) = absurd (cc)
-      packet-of e (exn_function_is h k j) = absurd (cc)
-      packet-of e (ref_is k j) = absurd (cc)
+      packet-of e (con_function_is bare_ h k) = absurd (cc)
+      packet-of e (exn_function_is bare_ h k j) = absurd (cc)
+      packet-of e (ref_is bare_ k j) = absurd (cc)
       packet-of {n} e (address_is h k) = absurd (other-name exn_name ref_name n refl e k)
-      packet-of e (primitive_is p t k) = absurd (cc)
-      packet-of e (closure_is h k j) = absurd (cc)
-      packet-of e (group_is h fs k j) = absurd (cc)
+      packet-of e (primitive_is bare_ p t k) = absurd (cc)
+      packet-of e (closure_is h k j _) = absurd (cc)
+      packet-of e (group_is h fs k j _ _) = absurd (cc)
 
       exn-fine : {o : Option (V (mono types))} {v : V (mono types)} {G : Sorts} {r : Fits (mono types)} → Found (exception None) o → IsPacket S v → MatchFine G r → MatchFine G (against_exn o v r)
       exn-fine (found (name_is {i = i} e)) (alone_is {i = j} k) h = if-fine (nat_eq i j) (λ b. h)
@@ -287,15 +302,15 @@ module _ (types : List Row) where
       record-of e (literal_is h) = let d = (literal-name h).is in absurd (cc)
       record-of {n} e (con_is {c = c} h) = let d = data-name n c h in let i = d.2 in absurd (cc)
       record-of {n} e (con_of_is {c = c} h k) = let d = data-name n c h in let i = d.2 in absurd (cc)
-      record-of e (con_function_is h k) = absurd (cc)
+      record-of e (con_function_is bare_ h k) = absurd (cc)
       record-of e (exn_is h k) = absurd (cc)
-      record-of e (exn_function_is h k j) = absurd (cc)
+      record-of e (exn_function_is bare_ h k j) = absurd (cc)
       record-of e (exn_of_is h k j) = absurd (cc)
-      record-of e (ref_is k j) = absurd (cc)
+      record-of e (ref_is bare_ k j) = absurd (cc)
       record-of e (address_is h k) = absurd (cc)
-      record-of e (primitive_is p t k) = absurd (cc)
-      record-of e (closure_is h k j) = absurd (cc)
-      record-of e (group_is h fs k j) = absurd (cc)
+      record-of e (primitive_is bare_ p t k) = absurd (cc)
+      record-of e (closure_is h k j _) = absurd (cc)
+      record-of e (group_is h fs k j _ _) = absurd (cc)
 
       size-fine : (size : Option ℕ) (n : ℕ) {G : Sorts} {r : Fits (mono types)} → is_size size n ≡ true → MatchFine G r → MatchFine G (of_size (by_number types) size n r)
       size-fine None n e h = h
