@@ -4,3 +4,4 @@ pub mod Orders
 pub mod Rows
 pub mod MoreRows
 pub mod LastRows
+pub mod IntRows

@@ -22,10 +22,10 @@ module _ (C : ControlLaws) (M : MemoryLaws) (A : ArithmeticLaws) (N : NextLaws) 
   abbrev at : ℕ → List ℕ → State
   at pc rest = inside f pc (front ++ rest) mem free
 
-  short2 : (pc : ℕ) (rest : List ℕ) (led : StepResult) → length rest ≤ 1 → on_slot (at pc rest) (suc (length front)) led ≡ Halts NoStack (at pc rest)
+  pub short2 : (pc : ℕ) (rest : List ℕ) (led : StepResult) → length rest ≤ 1 → on_slot (at pc rest) (suc (length front)) led ≡ Halts NoStack (at pc rest)
   short2 pc rest led le = ap (λ b. check b NoStack (at pc rest) led) (le-ltb _ _ (omega (arith, length-append f.lower (front ++ rest), length-append front rest)))
 
-  second : (a b : ℕ) (rest : List ℕ) → slice_get (front ++ a ∷ b ∷ rest) (suc (length front)) ≡ Some b
+  pub second : (a b : ℕ) (rest : List ℕ) → slice_get (front ++ a ∷ b ∷ rest) (suc (length front)) ≡ Some b
   second a b rest =
       let n : length front + 1 ≡ suc (length front) = omega arith in
       subst (λ k. slice_get (front ++ a ∷ b ∷ rest) k ≡ Some b) n (get_right front (a ∷ b ∷ rest) 1)
@@ -38,7 +38,7 @@ module _ (C : ControlLaws) (M : MemoryLaws) (A : ArithmeticLaws) (N : NextLaws) 
   room2 : (a b : ℕ) (rest : List ℕ) → suc (length front) < length (front ++ a ∷ b ∷ rest)
   room2 a b rest = omega (arith, length-append front (a ∷ b ∷ rest))
 
-  does_li2 : (pc v a b : ℕ) (rest : List ℕ) → act (at pc (a ∷ b ∷ rest)) (Li (suc (length front)) v) ≡ Goes (at (pc + 1) (a ∷ v ∷ rest))
+  pub does_li2 : (pc v a b : ℕ) (rest : List ℕ) → act (at pc (a ∷ b ∷ rest)) (Li (suc (length front)) v) ≡ Goes (at (pc + 1) (a ∷ v ∷ rest))
   does_li2 pc v a b rest = steps.does_li C M A f pc (front ++ a ∷ b ∷ rest) mem free (suc (length front)) v (room2 a b rest) ∙ ap Goes (written2 pc a b v rest)
 
   -- A word below a limit, or a packet.

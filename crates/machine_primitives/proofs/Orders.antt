@@ -121,7 +121,7 @@ shifted_below (negsuc j) k lt = omega arith
 pub signed_below : (m n : ℕ) → m < 2 ^ 32 → n < 2 ^ 32 → shift_signed m n < 2 ^ 32
 signed_below m n p q = shifted_below (cast_signed w32 m) (min n 31) (let e = of_z-to_z w32 m p in omega (arith, e, p))
 
-fits_word_of : (z : ℤ) → FitsSigned w32 z → fits_word z ≡ true
+pub fits_word_of : (z : ℤ) → FitsSigned w32 z → fits_word z ≡ true
 fits_word_of (pos n) h = lt-ltb n (2 ^ 31) h.sfits
 fits_word_of (negsuc n) h = lt-ltb n (2 ^ 31) h.sfits
 

@@ -1,11 +1,11 @@
 -- Which primitives the code is right for.
 use Rattle.std.specs.Prelude.{◌-◌, ◌^◌}
-use Rattle.ir_code.specs.declared.instr.Instr.TheVariants.{Add as AddRow, Sub as SubRow, Mul as MulRow, WAdd, WSub, WMul, WDiv, WMod, And, Or, Xor, Shl, Shr, Sar, ILt, ULt, Eq}
-use Rattle.mlc_prims.specs.declared.basis.BasisPrimitive.TheVariants.{Add, Subtract, Multiply, Divide, Modulo, Negate, BitsAnd, BitsOr, BitsXor, BitsNot, ShiftLeft, ShiftRight, ShiftSigned, Less, LessEqual, Greater, GreaterEqual, Equals, FromInt, ToInt, ToIntSigned, CharCode, CharOf, SizeOf}
+use Rattle.ir_code.specs.declared.instr.Instr.TheVariants.{Add as AddRow, Sub as SubRow, Mul as MulRow, WAdd, WSub, WMul, WDiv, WMod, IRem, And, Or, Xor, Shl, Shr, Sar, ILt, ULt, Eq}
+use Rattle.mlc_prims.specs.declared.basis.BasisPrimitive.TheVariants.{Add, Subtract, Multiply, Divide, Modulo, Remainder, Negate, BitsAnd, BitsOr, BitsXor, BitsNot, ShiftLeft, ShiftRight, ShiftSigned, Less, LessEqual, Greater, GreaterEqual, Equals, FromInt, ToInt, ToIntSigned, CharCode, CharOf, SizeOf}
 use Rattle.mlc_prims.specs.declared.prim.PrimExn.TheVariants.{Overflow, Div, Chr}
 use Rattle.first_values.specs.Operations.{ints, words, chars, texts}
 use Rattle.machine_primitives.specs.RowLaws.{RowIsRight, TestIsRight}
-use Rattle.machine_primitives.specs.RowCode.{total, raising, moved, from_word, limited, loaded, contrary, holds, swapped, fails}
+use Rattle.machine_primitives.specs.RowCode.{total, raising, negated, moved, from_word, limited, loaded, contrary, holds, swapped, fails}
 
 -- sums, differences and products: of integers exact, or Overflow; of words modulo 2^32
 pub record SumsAreRight : Type 0 where
@@ -20,6 +20,11 @@ pub record SumsAreRight : Type 0 where
 pub record WordQuotientsAreRight : Type 0 where
   pub divide : RowIsRight words Divide 3 (raising Div WDiv)
   pub modulo : RowIsRight words Modulo 3 (raising Div WMod)
+
+-- the remainder of integers with the sign of the dividend, or Div; the negative of an integer, or Overflow
+pub record IntRowsAreRight : Type 0 where
+  pub remainder : RowIsRight ints Remainder 3 (raising Div IRem)
+  pub negate : RowIsRight ints Negate 4 negated
 
 -- bits, shifts, and a word's negative and complement
 pub record BitsAreRight : Type 0 where

@@ -1,8 +1,9 @@
 -- The code of primitives.
 use Rattle.std.specs.Prelude.{ℕ, suc, ◌+◌, List, [], ◌∷◌, get_or}
 use Rattle.ir_code.specs.declared.instr.Instr.{Instr}
-use Rattle.ir_code.specs.declared.instr.Instr.TheVariants.{Li, Mov, Jmp, Brz, Ld, Eq, ULt}
+use Rattle.ir_code.specs.declared.instr.Instr.TheVariants.{Li, Mov, Jmp, Brz, Ld, Eq, ULt, Sub}
 use Rattle.mlc_prims.specs.declared.prim.PrimExn.{PrimExn}
+use Rattle.mlc_prims.specs.declared.prim.PrimExn.TheVariants.{Overflow}
 use Rattle.machine_primitives.specs.RowLaws.{Code, TestCode}
 
 abbrev pub arg : ℕ → List ℕ → ℕ
@@ -23,6 +24,10 @@ moved packets pc d other xs = Mov d (arg 0 xs) ∷ []
 -- a row of a word and the operand
 abbrev pub from_word : ℕ → (ℕ → ℕ → ℕ → Instr) → Code
 from_word v row packets pc d other xs = Li d v ∷ row d d (arg 0 xs) ∷ []
+
+-- 0 less an integer, or Overflow
+abbrev pub negated : Code
+negated packets pc d other xs = Li d (packets Overflow) ∷ Li (suc d) 0 ∷ Sub d (suc d) (arg 0 xs) ∷ Jmp other ∷ []
 
 -- the word itself, where it is below a limit
 abbrev pub limited : PrimExn → ℕ → Code

@@ -1,6 +1,6 @@
 // Which primitives the code is right for, as contracts.
 
-ghost use Rattle.machine_primitives.specs.Laws.{SumsAreRight, WordQuotientsAreRight, BitsAreRight, ConversionsAreRight, TruthsAreRight, LimitsAreRight, SizesAreRight, ContrariesAreRight, ComparisonsAreRight};
+ghost use Rattle.machine_primitives.specs.Laws.{SumsAreRight, WordQuotientsAreRight, IntRowsAreRight, BitsAreRight, ConversionsAreRight, TruthsAreRight, LimitsAreRight, SizesAreRight, ContrariesAreRight, ComparisonsAreRight};
 
 /// Sums, differences and products of integers, which may overflow, and of words.
 pub fn sums()
@@ -85,6 +85,16 @@ pub fn sizes()
 /// At most and at least, as values.
 pub fn contraries()
     ensures { ContrariesAreRight }
+{
+    ir_code::law::begins();
+    ir_code::law::control();
+    ir_code::law::memory();
+    ir_code::law::arithmetic();
+}
+
+/// Remainders and negatives of integers.
+pub fn int_rows()
+    ensures { IntRowsAreRight }
 {
     ir_code::law::begins();
     ir_code::law::control();
