@@ -1,0 +1,10 @@
+use Rattle.sml_tree.specs.TreeOf.{ty_of}
+use Rattle.elab_types.specs.Whole.{IsAnnotationRefused}
+use Rattle.elab_types.proofs.Keeping.{passes}
+use Rattle.elab_types.proofs.Wholes.{passed-on}
+use Rattle.elab_types.proofs.whole.annotation.Goals as goal
+
+pub returns-in_err-number-clause-refused : goal.returns-in_err-number-clause-refused
+returns-in_err-number-clause-refused c =
+    passes c.from_residual.result c.in_err-number.field-0.0 c.from_residual.ensures.1 (IsAnnotationRefused c.args.types.now c.args.scope.now (ty_of c.args.ty.now))
+    (passed-on c.args.types.now c.args.scope.now (ty_of c.args.ty.now) c.in_err-number.field-0.0 c.in_err-number.ensures.refused)

@@ -1,0 +1,4 @@
+pub mod Reading
+pub mod Building
+pub mod Annotations
+pub mod Whole

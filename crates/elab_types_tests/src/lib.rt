@@ -1,0 +1,5 @@
+// Tests of elab_types.
+#![tactic(auto)]
+
+#[cfg(test)]
+mod tests;
