@@ -1,0 +1,4 @@
+// Whether expressions and declarations are well typed.
+#![tactic(auto)]
+
+pub mod exps;
