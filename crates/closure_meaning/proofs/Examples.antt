@@ -1,5 +1,7 @@
 -- Conversions by computation, and a program that meets all that the law asks.
-use Rattle.std.proofs.Common.{◌≡◌, ℕ, List, [], ◌∷◌, None, false, if◌then◌else◌, nat_eq, refl}
+use Rattle.std.proofs.Common.{◌≡◌, ◌≤◌, ℕ, zero, suc, Bool, true, List, [], ◌∷◌, Option, Some, None, false, if◌then◌else◌, nat_eq, nat_lt, refl, ap, sym, ◌∙◌, subst, arith}
+use Rattle.std.proofs.lemmas.Bool.{eqb-true}
+use mathlib.Core.Logic.{◌⊎◌, inl, inr}
 use Rattle.std.specs.Prelude.{⊤}
 use Rattle.std.specs.Map.{lookup}
 use Rattle.mlc_base.specs.Outcome.{End, ended, uncaught, going, Outcome}
@@ -10,7 +12,15 @@ use Rattle.ty_core.specs.Types.{arrow, labels, name}
 use Rattle.ir_values.specs.Values.{false_number, true_number}
 use Rattle.ir_plain.specs.Tree.{is_exn, held, no_atoms, an_atom, no_row, ret, let_in, exception_in, name_in, rec_in, switch, first, no_arms, arm, Op, use_of, const, make_record, prim, app, fn, handle, raise, last, more, no_funs, fun}
 use Rattle.ir_poly.specs.Types.{bool_name, string_name, exn_name}
-use Rattle.ir_mono.specs.Types.{Row, Node, node}
+use Rattle.ty_core.specs.declared.name.TyName.{TyName}
+use Rattle.ir_values.specs.Values.{truth_number}
+use Rattle.ir_plain.specs.Once.{IsOnce, hit, times}
+use Rattle.ir_plain.specs.Scoped.{IsLocal, among_here, among_there, let_scoped, ret_scoped, use_scoped, app_scoped, fn_scoped, last_scoped, make_record_scoped, no_row_scoped}
+use Rattle.ir_mono.specs.Explicit.{IsExplicit}
+use Rattle.ir_mono.specs.Typing.{Typed, t_let, t_ret, t_fn, t_last, t_use, t_app, t_make_record, no_row_typed}
+use Rattle.ir_mono.specs.WellFormed.{IsWellFormed}
+use Rattle.ir_mono.specs.Mono as source
+use Rattle.ir_mono.specs.Types.{Row, Node, node, node_at, constructor_at, admits, Is, IsTable, bool_number, distinct_none}
 use Rattle.ir_mono.specs.Mono.{mono, Mono, Program}
 use Rattle.ir_first.specs.Tree as out
 use Rattle.ir_first.specs.Meaning as tgt
@@ -18,6 +28,9 @@ use Rattle.flow_sets.specs.Flow.{Flow, Spot, variable}
 use Rattle.flow_sets.specs.ByType.{by_type}
 use Rattle.closure_convert.specs.Capture.{table_of}
 use Rattle.closure_meaning.specs.Convert.{Numbering, program}
+use Rattle.closure_meaning.specs.Fits.{Fits, no_row_fits}
+use Rattle.closure_meaning.specs.Laws.{IsNumbered, setting}
+use Rattle.closure_meaning.proofs.Run.{conversion-by-type}
 
 abbrev row : Node → Row
 row n = record { type = n; constructors = []; equality = false }
@@ -122,3 +135,148 @@ few = record { sets = (11 ∷ []) ∷ (13 ∷ []) ∷ [] ∷ []; number = number
     numbers : Spot → ℕ
     numbers (variable x) = if nat_eq x 10 then 0 else (if nat_eq x 14 then 0 else (if nat_eq x 12 then 1 else 2))
     numbers s = 2
+
+-- The first program meets all that the law asks: it is well formed, with no function by itself, and fits its numbering.
+
+-- where a node stands in the table
+abbrev place_of : Node → ℕ
+place_of (node (labels ls) ps) = 0
+place_of (node arrow []) = 0
+place_of (node arrow (a ∷ [])) = 0
+place_of (node arrow (a ∷ b ∷ ps)) = if nat_eq b 0 then 2 else 5
+place_of (node (name y) ps) = if nat_eq y.stamp 6 then 1 else if nat_eq y.stamp 5 then 3 else 4
+
+stands-at : (n : ℕ) (k : Node) → node_at types n ≡ Some k → place_of k ≡ n
+stands-at zero k e = by k (cc)
+  where
+    by : (k : Node) → node (labels []) [] ≡ k → place_of k ≡ 0
+    by k e = ap place_of (sym e)
+stands-at (suc zero) k e = by k (cc)
+  where
+    by : (k : Node) → node (name bool_name) [] ≡ k → place_of k ≡ 1
+    by k e = ap place_of (sym e)
+stands-at (suc (suc zero)) k e = by k (cc)
+  where
+    by : (k : Node) → node arrow (0 ∷ 0 ∷ []) ≡ k → place_of k ≡ 2
+    by k e = ap place_of (sym e)
+stands-at (suc (suc (suc zero))) k e = by k (cc)
+  where
+    by : (k : Node) → node (name exn_name) [] ≡ k → place_of k ≡ 3
+    by k e = ap place_of (sym e)
+stands-at (suc (suc (suc (suc zero)))) k e = by k (cc)
+  where
+    by : (k : Node) → node (name string_name) [] ≡ k → place_of k ≡ 4
+    by k e = ap place_of (sym e)
+stands-at (suc (suc (suc (suc (suc zero))))) k e = by k (cc)
+  where
+    by : (k : Node) → node arrow (0 ∷ 2 ∷ []) ≡ k → place_of k ≡ 5
+    by k e = ap place_of (sym e)
+stands-at (suc (suc (suc (suc (suc (suc n)))))) k e = absurd (cc)
+
+has-constructors : (n c : ℕ) (a : Option ℕ) → constructor_at types n c ≡ Some a → (y : TyName) × (ps : List ℕ) × Is types n (name y) ps × (nat_lt 5 y.stamp ≡ true)
+has-constructors zero c a e = absurd (cc)
+has-constructors (suc zero) c a e = (bool_name, [], refl, refl)
+has-constructors (suc (suc zero)) c a e = absurd (cc)
+has-constructors (suc (suc (suc zero))) c a e = absurd (cc)
+has-constructors (suc (suc (suc (suc zero)))) c a e = absurd (cc)
+has-constructors (suc (suc (suc (suc (suc zero))))) c a e = absurd (cc)
+has-constructors (suc (suc (suc (suc (suc (suc n)))))) c a e = absurd (cc)
+
+none-compared : (n : ℕ) → admits types n ≡ true → ⊥
+none-compared zero e = cc
+none-compared (suc zero) e = cc
+none-compared (suc (suc zero)) e = cc
+none-compared (suc (suc (suc zero))) e = cc
+none-compared (suc (suc (suc (suc zero)))) e = cc
+none-compared (suc (suc (suc (suc (suc zero))))) e = cc
+none-compared (suc (suc (suc (suc (suc (suc n)))))) e = cc
+
+truth-values : (b : Bool) → constructor_at types bool_number (truth_number b) ≡ Some None
+truth-values true = refl
+truth-values false = refl
+
+is-table : IsTable types
+is-table = record {
+  once = λ n m k e f. sym (stands-at n k e) ∙ stands-at m k f;
+  unit = refl;
+  bool = refl;
+  truths = truth-values;
+  datatypes = has-constructors;
+  comparable = λ n e. absurd (none-compared n e);
+}
+
+calls-typed : Typed types false [] calls 0
+calls-typed =
+    t_let (t_fn (t_last refl (t_ret refl))) (t_let (t_fn (t_last refl (t_let (t_use refl) (t_let (t_app refl refl refl) (t_ret refl)))))
+    (t_let (t_make_record no_row_typed refl distinct_none) (t_let (t_app refl refl refl) (t_ret refl))))
+
+calls-local : IsLocal (mono types) [] calls
+calls-local =
+    let_scoped (fn_scoped (last_scoped (ret_scoped (among_here refl))))
+    (let_scoped (fn_scoped (last_scoped (let_scoped (use_scoped tt) (let_scoped (app_scoped (among_here refl) (among_there (among_here refl))) (ret_scoped (among_here refl))))))
+    (let_scoped (make_record_scoped no_row_scoped) (let_scoped (app_scoped (among_there (among_here refl)) (among_here refl)) (ret_scoped (among_here refl)))))
+
+-- a number is one of those that are different at most once
+hit-one : (k x : ℕ) → hit k x ≤ 1
+hit-one k x = by (nat_eq k x)
+  where
+    by : (b : Bool) → (if b then 1 else 0) ≤ 1
+    by true = omega arith
+    by false = omega arith
+
+abbrev bit : Bool → ℕ
+bit b = if b then 1 else 0
+
+hit-is : (k x : ℕ) → (hit k x ≡ 0) ⊎ (k ≡ x)
+hit-is k x = by (nat_eq k x) refl
+  where
+    by : (b : Bool) → nat_eq k x ≡ b → (bit b ≡ 0) ⊎ (k ≡ x)
+    by true e = inr (eqb-true k x e)
+    by false e = inl refl
+
+calls-once-bound : IsOnce {F = mono types} (λ x. x) calls
+calls-once-bound k = by (hit-is k 10) (hit-is k 11) (hit-is k 12) (hit-is k 13) (hit-is k 14) (hit-is k 15) (hit-is k 16)
+  where
+    last-one : hit k 17 ≤ 1
+    last-one = hit-one k 17
+
+    by : (hit k 10 ≡ 0) ⊎ (k ≡ 10) → (hit k 11 ≡ 0) ⊎ (k ≡ 11) → (hit k 12 ≡ 0) ⊎ (k ≡ 12) → (hit k 13 ≡ 0) ⊎ (k ≡ 13) → (hit k 14 ≡ 0) ⊎ (k ≡ 14) → (hit k 15 ≡ 0) ⊎ (k ≡ 15)
+        → (hit k 16 ≡ 0) ⊎ (k ≡ 16) → times {F = mono types} (λ x. hit k x) calls ≤ 1
+    by (inr e) b c d f g h = subst (λ z. times {F = mono types} (λ x. hit z x) calls ≤ 1) (sym e) (omega arith)
+    by (inl a) (inr e) c d f g h = subst (λ z. times {F = mono types} (λ x. hit z x) calls ≤ 1) (sym e) (omega arith)
+    by (inl a) (inl b) (inr e) d f g h = subst (λ z. times {F = mono types} (λ x. hit z x) calls ≤ 1) (sym e) (omega arith)
+    by (inl a) (inl b) (inl c) (inr e) f g h = subst (λ z. times {F = mono types} (λ x. hit z x) calls ≤ 1) (sym e) (omega arith)
+    by (inl a) (inl b) (inl c) (inl d) (inr e) g h = subst (λ z. times {F = mono types} (λ x. hit z x) calls ≤ 1) (sym e) (omega arith)
+    by (inl a) (inl b) (inl c) (inl d) (inl f) (inr e) h = subst (λ z. times {F = mono types} (λ x. hit z x) calls ≤ 1) (sym e) (omega arith)
+    by (inl a) (inl b) (inl c) (inl d) (inl f) (inl g) (inr e) = subst (λ z. times {F = mono types} (λ x. hit z x) calls ≤ 1) (sym e) (omega arith)
+    by (inl a) (inl b) (inl c) (inl d) (inl f) (inl g) (inl h) = omega (arith, a, b, c, d, f, g, h, last-one)
+
+calls-well : IsWellFormed (of_body calls)
+calls-well = record { table = is-table; initial = refl; type = 0; typed = calls-typed; once = calls-once-bound; local = calls-local }
+
+calls-explicit : IsExplicit types [] calls
+calls-explicit = (tt, (((λ a e. cc), (tt, tt)), (tt, (tt, tt))))
+
+calls-fit : Fits (setting (numbered places) ((104 ∷ []) ∷ []) (by_type (of_body calls)) (table_of types calls) (of_body calls)) calls
+calls-fit = (
+  refl,
+  (
+    (refl, refl),
+    (
+      refl,
+      (
+        (refl, (refl, (tt, (refl, ((refl, refl), refl))))),
+        (refl, (record { labels_of = []; types_of = []; is = refl; distinct = distinct_none; in_order = no_row_fits }, (refl, ((refl, refl), refl)))),
+      ),
+    ),
+  ),
+)
+
+calls-numbered : IsNumbered types (numbered places) calls
+calls-numbered zero k e = let s : 11 ≡ k = cc in ap places (sym s)
+calls-numbered (suc zero) k e = let s : 13 ≡ k = cc in ap places (sym s)
+calls-numbered (suc (suc i)) k e = absurd (cc)
+
+-- so the law is about it
+calls-kept : (m : ℕ) → does places calls m ≡ source.meaning (of_body calls) m
+calls-kept m = conversion-by-type (numbered places) ((104 ∷ []) ∷ []) (of_body calls) calls-well calls-explicit calls-fit calls-numbered m
