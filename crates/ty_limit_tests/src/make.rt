@@ -27,7 +27,7 @@ pub fn variables(alloc: Global, names: usize) -> Result<Solver, NoMemory> {
     let mut s = Solver::new(alloc)?;
     for v in 0..3 {
         let limit = Limit {
-            names: names.max(4) + v,
+            names: names.clamp(4, 100) + v,
             level: v,
         };
         s.fresh(Mark::Any, limit)?;
