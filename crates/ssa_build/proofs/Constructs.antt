@@ -4,7 +4,8 @@ use Rattle.std.specs.Prelude.{pos}
 use Rattle.mlc_base.specs.Outcome.{Outcome, ended, going, uncaught}
 use Rattle.mlc_prims.specs.declared.basis.BasisPrimitive.TheVariants.{Add, Less}
 use Rattle.first_values.specs.Values.{one, run}
-use Rattle.first_values.specs.Operations.{an_int, a_text, ints, constant, field, refer, content, assign, exception, pack, print, holds, known}
+use Rattle.first_values.specs.Equality.{numbers}
+use Rattle.first_values.specs.Operations.{an_int, a_text, ints, constant, field, refer, content, assign, exception, initial, pack, argument, equal, print, is_of, holds, known}
 use Rattle.ir_first.specs.Tree.{Exp, Program, ret, let_in, turn, switch, branch, first, miss, plain, make, attempt, call, block, handle, raise, no_arms, arm}
 use Rattle.ir_ssa.specs.Meaning as after
 use Rattle.ssa_build.specs.Build.{ssa}
@@ -143,3 +144,48 @@ calls_in_a_handler = refl
 
 calls_in_a_block : after.meaning (ssa (calling (let_in 80 (block call_it) (prints 1)))) 3 ≡ record { output = 65 ∷ 65 ∷ 66 ∷ []; end = ended; turns = here ∷ there ∷ [] }
 calls_in_a_block = refl
+
+-- equality at a type gives the tag of a truth value
+abbrev equals : ℕ → Exp
+equals n =
+    let_in 1 (plain (constant (an_int (pos n))) []) (let_in 2 (plain (constant (an_int (pos 5))) []) (let_in 3 (plain (equal 0) (1 ∷ 2 ∷ []))
+    (first (switch 3 (arm 0 (prints 1) (arm 1 (prints 0) no_arms))) (ret 3))))
+
+-- type 0 is that of integers
+abbrev comparing : Exp → Program
+comparing e = record {
+  tables = record { initial = tables.initial; strings = tables.strings; types = numbers ∷ []; sets = [] };
+  funs = record { params = []; body = e } ∷ [];
+}
+
+equals_outside : after.meaning (ssa (comparing (equals 5))) 0 ≡ printed (65 ∷ [])
+equals_outside = refl
+
+equals_under : after.meaning (ssa (comparing (under (equals 6)))) 0 ≡ printed (66 ∷ [])
+equals_under = refl
+
+-- the name of an exception of the basis is one, wherever it is made
+abbrev names : Exp
+names = let_in 1 (plain (initial 2) []) (let_in 2 (plain (initial 2) []) (let_in 3 (make 0 []) (let_in 4 (plain pack (1 ∷ 3 ∷ [])) (branch is_of (4 ∷ 2 ∷ []) (prints 0) (prints 1)))))
+
+names_outside : runs names 0 ≡ printed (65 ∷ [])
+names_outside = refl
+
+names_under : runs (under names) 0 ≡ printed (65 ∷ [])
+names_under = refl
+
+raises_of_the_basis : runs (let_in 1 (plain (initial 2) []) (let_in 2 (make 0 []) (let_in 3 (plain pack (1 ∷ 2 ∷ [])) (let_in 4 (raise 3) (ret 4))))) 0
+    ≡ record { output = []; end = uncaught 42; turns = [] }
+raises_of_the_basis = refl
+
+-- what a packet carries, inside a handler and in what the handler goes on with
+abbrev carries : Exp
+carries =
+    let_in 1 (plain (exception 9) []) (let_in 2 (plain (constant (a_text 0)) []) (let_in 3 (plain pack (1 ∷ 2 ∷ []))
+    (let_in 4 (handle (let_in 5 (raise 3) (ret 5)) 6 (let_in 7 (plain argument (6 ∷ [])) (ret 7))) (let_in 8 (plain print (4 ∷ [])) (ret 8)))))
+
+carries_outside : runs carries 0 ≡ printed (65 ∷ [])
+carries_outside = refl
+
+carries_under : runs (under carries) 0 ≡ printed (65 ∷ [])
+carries_under = refl
