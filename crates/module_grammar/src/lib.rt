@@ -1,0 +1,3 @@
+// The grammar of programs with modules as a function that reads it, and the laws of both.
+#![tactic(auto)]
+

@@ -1,0 +1,3 @@
+// The trees and the grammar of programs with modules.
+#![tactic(auto)]
+
