@@ -1,1 +1,4 @@
 mod SourceExamples
+pub mod SpecSound
+pub mod SigSound
+pub mod StrSound

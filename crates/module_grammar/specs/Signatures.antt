@@ -107,7 +107,8 @@ two_ids i = on_taken (first_as as_module_id i) (λ x m. on_taken (first_as as_mo
 abbrev pub include_form : ℕ → SigReader → ℕ → List Terminal → Answer Spec
 include_form n self p i =
     if two_ids i
-    then (if nat_le 1 n then then_read (whole sig_id_turn no_state i) (λ xs o. read (include_ids p xs) o) else deep)
+    then (if nat_le 1 n
+    then then_taken (first_as as_module_id i) (λ x m. then_read (whole sig_id_turn no_state m) (λ xs o. read (include_ids p (x ∷ xs)) o)) else deep)
     else then_read (self i) (λ g o. read (include_spec p g) o)
 
 -- what a specification begins with
