@@ -2,3 +2,4 @@ mod SourceExamples
 pub mod SpecSound
 pub mod SigSound
 pub mod StrSound
+mod SourceSound

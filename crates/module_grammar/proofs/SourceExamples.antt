@@ -63,10 +63,13 @@ reads-signature : read_source 4 none
     ∷ reserved 7 res.Sharing ∷ reserved 8 res.TypeWord ∷ alpha 9 x ∷ reserved 10 res.Equals ∷ alpha 11 x ∷ reserved 12 res.End
     ∷ reserved 13 res.Where ∷ reserved 14 res.TypeWord ∷ alpha 15 x ∷ reserved 16 res.Equals ∷ alpha 17 x
     ∷ reserved 18 res.And ∷ reserved 19 res.TypeWord ∷ alpha 20 x ∷ reserved 21 res.Equals ∷ alpha 22 x ∷ [])
-    ≡ read (signature_top 0 (record { sigid = at 1 A; sigexp = where_type
-    (sig_end 3 (spec (include_ids 4 (at 5 A ∷ at 6 B ∷ [])) (spec (sharing_spec 7 (long_at 9 x ∷ long_at 11 x ∷ [])) no_specs)))
-    (record { place = 14; tyvars = []; tycon = long_at 15 x; ty = con_ty 17 no_tys (long_at 17 x) }
-    ∷ record { place = 19; tyvars = []; tycon = long_at 20 x; ty = con_ty 22 no_tys (long_at 22 x) } ∷ []) } ∷ []) ∷ []) []
+    ≡ read (signature_top 0 (record {
+      sigid = at 1 A;
+      sigexp = where_type
+          (sig_end 3 (spec (include_ids 4 (at 5 A ∷ at 6 B ∷ [])) (spec (sharing_spec 7 (long_at 9 x ∷ long_at 11 x ∷ [])) no_specs)))
+          (record { place = 14; tyvars = []; tycon = long_at 15 x; ty = con_ty 17 no_tys (long_at 17 x) }
+          ∷ record { place = 19; tyvars = []; tycon = long_at 20 x; ty = con_ty 22 no_tys (long_at 22 x) } ∷ []);
+    } ∷ []) ∷ []) []
 unfolding many readers read_ty read_pats read_sig str_readers
 reads-signature = refl
 
@@ -76,8 +79,12 @@ reads-functor : read_source 3 none
     ∷ reserved 7 res.Struct ∷ reserved 8 res.End ∷ reserved 9 res.And ∷ alpha 10 B ∷ reserved 11 res.LeftParen ∷ alpha 12 B ∷ reserved 13 res.Colon
     ∷ alpha 14 A ∷ reserved 15 res.RightParen ∷ reserved 16 res.Equals ∷ alpha 17 B ∷ [])
     ≡ read (functor_top 0
-    (record { funid = at 1 A; parameter = spec_parameter 2 (spec (type_spec 3 (record { place = 4; tyvars = []; tycon = x } ∷ [])) no_specs);
-    result = no_sig; body = struct_end 7 no_str_decs }
+    (record {
+      funid = at 1 A;
+      parameter = spec_parameter 2 (spec (type_spec 3 (record { place = 4; tyvars = []; tycon = x } ∷ [])) no_specs);
+      result = no_sig;
+      body = struct_end 7 no_str_decs;
+    }
     ∷ record { funid = at 10 B; parameter = structure_parameter (at 12 B) (sig_id 14 A); result = no_sig; body = str_id (long_at 17 B) } ∷ []) ∷ []) []
 unfolding many readers read_ty read_pats read_sig str_readers
 reads-functor = refl

@@ -1,3 +1,4 @@
 pub mod Signatures
 pub mod Structures
 pub mod Sources
+pub mod Laws

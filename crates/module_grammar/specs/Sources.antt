@@ -9,6 +9,7 @@ use Rattle.sml_grammar.specs.Terminals.{first_as, after_word, on_some, then_take
 use Rattle.sml_grammar.specs.Expressions.{readers}
 use Rattle.module_tree.specs.ReadModules.{MaybeSig, StrExp, Parameter, structure_parameter, spec_parameter, FunBind, SigBind, Top, str_top, signature_top, functor_top, exp_top}
 use Rattle.module_tree.specs.Scope.{after_top}
+use Rattle.module_tree.specs.ModuleGrammar.{ends_in_semicolon}
 use Rattle.module_grammar.specs.Signatures.{as_module_id, id_then, read_sig, specs_from}
 use Rattle.module_grammar.specs.Structures.{StrDecsReader, maybe_sig, str_readers, str_dec_by, begins_str_dec}
 
@@ -65,12 +66,16 @@ pub record Standing : Type 0 where
 abbrev pub exp_by : ℕ → Fixity → List Terminal → Answer Top
 exp_by n f i = then_read ((readers n).exp f 0 i) (λ e m. word_then res.Semicolon (λ o. read (exp_top e) o) m)
 
+-- what follows this phrase
+abbrev pub after_one : Standing → Top → List Terminal → Answer (Turn (List Top) Standing)
+after_one s t o = read (more (λ ts. t ∷ ts) (record { fix = after_top s.fix t; fresh = ends_in_semicolon t })) o
+
 -- what begins no declaration is an expression, where one may stand
 abbrev pub top_turn_by : ℕ → Standing → List Terminal → Answer (Turn (List Top) Standing)
 top_turn_by n s i =
     if begins_top i
-    then then_read (top_by n s.fix i) (λ t o. read (more (λ ts. t ∷ ts) (record { fix = after_top s.fix t; fresh = false })) o)
-    else (if s.fresh then then_read (exp_by n s.fix i) (λ t o. read (more (λ ts. t ∷ ts) (record { fix = s.fix; fresh = true })) o) else bad)
+    then then_read (top_by n s.fix i) (after_one s)
+    else (if s.fresh then then_read (exp_by n s.fix i) (after_one s) else bad)
 
 abbrev pub top_turn : ℕ → Standing → List Terminal → Answer (Turn (List Top) Standing)
 top_turn n s [] = read (last []) []

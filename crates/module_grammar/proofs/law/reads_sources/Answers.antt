@@ -1,0 +1,5 @@
+use Rattle.module_grammar.proofs.SourceSound.{sound}
+use Rattle.module_grammar.proofs.law.reads_sources.Goals as goal
+
+pub returns : goal.returns
+returns c = record { sound = sound }

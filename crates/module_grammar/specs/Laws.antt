@@ -1,0 +1,16 @@
+-- What the reading function gives.
+use Rattle.std.specs.Prelude.{ℕ, ◌≡◌, ◌≤◌, List}
+use Rattle.sml_tree.specs.Terminal.{Terminal}
+use Rattle.sml_tree.specs.Fixity.{Fixity}
+use Rattle.module_tree.specs.ReadModules.{Top}
+use Rattle.module_tree.specs.ModuleDepth.{depth_tops}
+use Rattle.module_tree.specs.ModuleGrammar.{IsSource}
+use Rattle.sml_grammar.specs.Answer.{read}
+use Rattle.module_grammar.specs.Sources.{read_source}
+
+-- what all terminals of a source are, at most n deep
+abbrev pub IsTree : ℕ → Fixity → List Terminal → List Top → Type 0
+IsTree n f i ts = IsSource f i ts × (depth_tops ts ≤ n)
+
+abbrev pub Sound : Type 0
+Sound = (n : ℕ) (f : Fixity) (i : List Terminal) (ts : List Top) (o : List Terminal) → read_source n f i ≡ read ts o → IsTree n f i ts
