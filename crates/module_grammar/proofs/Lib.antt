@@ -2,4 +2,6 @@ mod SourceExamples
 pub mod SpecSound
 pub mod SigSound
 pub mod StrSound
-mod SourceSound
+pub mod SourceSound
+pub mod Shorter
+pub mod SpecComplete
