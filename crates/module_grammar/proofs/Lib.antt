@@ -5,3 +5,6 @@ pub mod StrSound
 pub mod SourceSound
 pub mod Shorter
 pub mod SpecComplete
+pub mod SigComplete
+pub mod StrComplete
+pub mod SourceComplete

@@ -47,7 +47,7 @@ module _ (n : ℕ) where
       let z : many (val_desc_turn n) k no_state m ≡ read vs o = vals-complete ds (omega arith) y c k (omega arith) in
       many-more (val_desc_turn n) k {put = λ ws. record { place = p; vid = x; ty = a } ∷ ws} (rw (g, h) refl) z
 
-tycon-tyvars : {t : Terminal} {q x : ℕ} → IsTycon t q x → (o : List Terminal) → read_tyvars (t ∷ o) ≡ read [] (t ∷ o)
+pub tycon-tyvars : {t : Terminal} {q x : ℕ} → IsTycon t q x → (o : List Terminal) → read_tyvars (t ∷ o) ≡ read [] (t ∷ o)
 tycon-tyvars (alpha_tycon p x) o = refl
 tycon-tyvars (symbol_tycon p x) o = refl
 

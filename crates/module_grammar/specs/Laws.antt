@@ -1,5 +1,5 @@
--- What the reading function gives.
-use Rattle.std.specs.Prelude.{ℕ, ◌≡◌, ◌≤◌, List}
+-- What the reading function gives, and that the grammar is not ambiguous.
+use Rattle.std.specs.Prelude.{ℕ, ◌≡◌, ◌≤◌, List, []}
 use Rattle.sml_tree.specs.Terminal.{Terminal}
 use Rattle.sml_tree.specs.Fixity.{Fixity}
 use Rattle.module_tree.specs.ReadModules.{Top}
@@ -14,3 +14,10 @@ IsTree n f i ts = IsSource f i ts × (depth_tops ts ≤ n)
 
 abbrev pub Sound : Type 0
 Sound = (n : ℕ) (f : Fixity) (i : List Terminal) (ts : List Top) (o : List Terminal) → read_source n f i ≡ read ts o → IsTree n f i ts
+
+abbrev pub Complete : Type 0
+Complete = (n : ℕ) (f : Fixity) (i : List Terminal) (ts : List Top) → IsTree n f i ts → read_source n f i ≡ read ts []
+
+-- no terminals are a source in two ways
+abbrev pub OneTree : Type 0
+OneTree = (f : Fixity) (i : List Terminal) (ts us : List Top) → IsSource f i ts → IsSource f i us → ts ≡ us

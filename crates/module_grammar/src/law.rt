@@ -1,8 +1,14 @@
 // The laws of the grammar of programs with modules, and of the function that reads it.
 
-ghost use Rattle.module_grammar.specs.Laws.{Sound};
+ghost use Rattle.module_grammar.specs.Laws.{Complete, OneTree, Sound};
 
-/// What the reading function gives of a source's tokens is a tree of them by the grammar, and not deeper than was asked.
+/// No tokens are a source in two ways.
+pub fn one_tree()
+    ensures { OneTree }
+{}
+
+/// The reading function gives exactly the trees of the grammar that aren't too deep.
 pub fn reads_sources()
     ensures sound { Sound }
+    ensures complete { Complete }
 {}

@@ -1,5 +1,6 @@
+use Rattle.module_grammar.proofs.SourceComplete.{complete}
 use Rattle.module_grammar.proofs.SourceSound.{sound}
 use Rattle.module_grammar.proofs.law.reads_sources.Goals as goal
 
 pub returns : goal.returns
-returns c = record { sound = sound }
+returns c = record { sound = sound; complete = complete }
