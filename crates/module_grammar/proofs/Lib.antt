@@ -8,3 +8,5 @@ pub mod SpecComplete
 pub mod SigComplete
 pub mod StrComplete
 pub mod SourceComplete
+pub mod SpecFar
+pub mod SigFar

@@ -191,14 +191,14 @@ sig-start-is (reserved p res.Sig ∷ o) = is_sig p
 sig-start-is (alpha p x ∷ o) = is_sig_id (id_at (module_id p x))
 sig-start-is _ = is_no_sig
 
-abbrev GoodSig : ℕ → List Terminal → SigExp → List Terminal → Type 0
+abbrev pub GoodSig : ℕ → List Terminal → SigExp → List Terminal → Type 0
 GoodSig n i g o = Within ReadsSig depth_sig n i g o
 
 sig-id : {i o : List Terminal} {x : Placed ℕ} → IdAt i x o → ReadsSig i (sig_id x.place x.it) o
 sig-id (id_at v) = of_sig_id v
 
 module _ (n : ℕ) where
-  atom-sound : (self : SigReader) → ((i : List Terminal) (y : Read SigExp) → self i ≡ ok y → GoodSig n i y.tree y.rest) → {i : List Terminal} {s : SigStart}
+  pub atom-sound : (self : SigReader) → ((i : List Terminal) (y : Read SigExp) → self i ≡ ok y → GoodSig n i y.tree y.rest) → {i : List Terminal} {s : SigStart}
       (y : Read SigExp) → SigStartIs i s → sig_atom n self s ≡ ok y → GoodSig (suc n) i y.tree y.rest
   atom-sound self sound y (is_sig {o} p) h =
       let t = then_ok (specs_from n self o) _ y h in

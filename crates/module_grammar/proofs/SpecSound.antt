@@ -154,7 +154,7 @@ exs-sound n i y h = cons-by n res.And ExDescs (λ i m o x t v d. ex-last v d) (�
 
 -- datatypes
 
-one-data : {i m o : List Terminal} {as_ : List Tyvar} {x p : ℕ} {cs : List ConDesc} → BeginsAt i p → Bound i as_ x m → ConDescs m cs o
+pub one-data : {i m o : List Terminal} {as_ : List Tyvar} {x p : ℕ} {cs : List ConDesc} → BeginsAt i p → Bound i as_ x m → ConDescs m cs o
     → OneDataDesc i (record { place = p; tyvars = as_; tycon = x; cons = cs }) o
 one-data b (bound r d c) cs = data_desc r b d c cs
 
@@ -202,7 +202,7 @@ tycons-sound k i y h = many-ok tycon_turn GoodTycons tycons-turn k no_state i y 
 
 -- what `where type` binds
 
-where-one : {i j m k l o : List Terminal} {as_ : List Tyvar} {c : Placed LongId} {a : Ty} → WordAt res.TypeWord i j → Tyvars j as_ m → Front IsLongTycon m c k
+pub where-one : {i j m k l o : List Terminal} {as_ : List Tyvar} {c : Placed LongId} {a : Ty} → WordAt res.TypeWord i j → Tyvars j as_ m → Front IsLongTycon m c k
     → WordAt res.Equals k l → ReadsTy l a o → OneWhere i (record { place = place_at i; tyvars = as_; tycon = c; ty = a }) o
 where-one (at_word p) d (front c) (at_word r) t = one_where p r d c t
 
