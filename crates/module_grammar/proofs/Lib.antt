@@ -10,3 +10,4 @@ pub mod StrComplete
 pub mod SourceComplete
 pub mod SpecFar
 pub mod SigFar
+pub mod StrFar

@@ -65,7 +65,7 @@ sealing-is _ k h = not_some h
 sealed-sig : {i m o : List Terminal} {k : Seal} {g : SigExp} → SealAt i k m → ReadsSig m g o → ReadsMaybeSig i (sealed k g) o
 sealed-sig (at_seal v) d = with_sig v d
 
-constrain : {f : Fixity} {j m l o : List Terminal} {s : StrExp} {k : Seal} {g : SigExp} → ReadsStr f j s m → SealAt m k l → ReadsSig l g o
+pub constrain : {f : Fixity} {j m l o : List Terminal} {s : StrExp} {k : Seal} {g : SigExp} → ReadsStr f j s m → SealAt m k l → ReadsSig l g o
     → ReadsStr f j (constrained s k g) o
 constrain d (at_seal v) g = of_constrained d v g
 
@@ -138,7 +138,7 @@ module _ (n : ℕ) (self : StrReaders) (sound : SoundsStr n self.str) (sound_dec
       let r : ReadsStrDecs f i ds (reserved q res.In ∷ k) = subst (λ (z : List Terminal). ReadsStrDecs f i ds z) e d.reads in
       given (GoodStr (reserved p res.Let ∷ i)) w.2 (record { reads = of_let_str p q a.0 r a.1; fits = omega (arith, d.fits, g.fits) })
 
-  atom-sound : {i : List Terminal} {s : StrStart} (y : Read StrExp) → StrStartIs i s → str_atom self f s ≡ ok y → GoodStr i y.tree y.rest
+  pub atom-sound : {i : List Terminal} {s : StrStart} (y : Read StrExp) → StrStartIs i s → str_atom self f s ≡ ok y → GoodStr i y.tree y.rest
   atom-sound y (is_struct {o} p) h =
       let t = then_ok (self.decs f o) _ y h in
       let g = sound_decs f o t.0 t.1 in
@@ -181,7 +181,7 @@ module _ (n : ℕ) (self : StrReaders) (sound : SoundsStr n self.str) (sound_dec
 
 -- Declarations of structures.
 
-bind-one : {f : Fixity} {i m k o : List Terminal} {x : Placed ℕ} {g : MaybeSig} {s : StrExp} (p : ℕ) → IdAt i x m → ReadsMaybeSig m g (reserved p res.Equals ∷ k)
+pub bind-one : {f : Fixity} {i m k o : List Terminal} {x : Placed ℕ} {g : MaybeSig} {s : StrExp} (p : ℕ) → IdAt i x m → ReadsMaybeSig m g (reserved p res.Equals ∷ k)
     → ReadsStr f k s o → ReadsStrBind f i (str_bind x g s) o
 bind-one p (id_at v) d s = of_str_bind p v d s
 
