@@ -11,3 +11,5 @@ pub mod SourceComplete
 pub mod SpecFar
 pub mod SigFar
 pub mod StrFar
+pub mod SourceFar
+pub mod Paths

@@ -74,7 +74,7 @@ module _ (n : ℕ) where
       (at-front w.1 (λ z. GoodParameter p (alpha q x ∷ z) (structure_parameter (record { place = q; it = x }) t.0.tree) t.0.rest)
       (λ r. record { reads = of_structure_parameter r (module_id q x) g.reads; fits = g.fits }))
 
-  parameter-sound : (p : ℕ) (i : List Terminal) (y : Read Parameter) → read_parameter n p i ≡ ok y → GoodParameter p i y.tree y.rest
+  pub parameter-sound : (p : ℕ) (i : List Terminal) (y : Read Parameter) → read_parameter n p i ≡ ok y → GoodParameter p i y.tree y.rest
   parameter-sound p (alpha q x ∷ i) y h = structure-sound p q x i y h
   parameter-sound p i y h = spec-sound p i y h
 
@@ -109,7 +109,7 @@ module _ (n : ℕ) where
         let a = at-path w.1 in
         rest-sound p x i t.0.tree t.0.rest v d a.0 w.0 a.1 y w.2
 
-    one-sound : (x : Placed ℕ) (i : List Terminal) {j : List Terminal} → IdAt j x i → (y : Read FunBind) → one_fun_bind n f x i ≡ ok y
+    pub one-sound : (x : Placed ℕ) (i : List Terminal) {j : List Terminal} → IdAt j x i → (y : Read FunBind) → one_fun_bind n f x i ≡ ok y
         → Within (OneFunBind f) depth_fun n j y.tree y.rest
     one-sound x (reserved p res.LeftParen ∷ i) v y h = bracket-sound p x i v y h
     one-sound x i v y h = bad_ok h
@@ -147,7 +147,7 @@ module _ (n : ℕ) where
         let g = many-ok (fun_bind_turn n f) GoodFuns fun-turn (suc (length i)) no_state i t.0 t.1 in
         given (GoodTop fresh (reserved p res.Functor ∷ i)) t.2 (record { reads = of_functor p g.reads; fits = g.fits })
 
-    inner-sound : (m : ℕ) (g : Fixity) (i : List Terminal) (y : Read StrDecs) → inner_decs m g i ≡ ok y
+    pub inner-sound : (m : ℕ) (g : Fixity) (i : List Terminal) (y : Read StrDecs) → inner_decs m g i ≡ ok y
         → Within (ReadsStrDecs g) (λ ds. suc (depth_str_decs ds)) m i y.tree y.rest
     inner-sound zero g i y h = deep_ok h
     inner-sound (suc m) g i y h = let d = (str-readers-sound m).decs g i y h in record { reads = d.reads; fits = omega (arith, d.fits) }
@@ -159,12 +159,12 @@ module _ (n : ℕ) where
         let g = str-dec-sound n (str_readers n).str (str-readers-sound n).str (inner_decs n) (inner-sound n) f i t.0 t.1 in
         given (GoodTop fresh i) t.2 (record { reads = of_str_top g.reads; fits = g.fits })
 
-    top-sound : (i : List Terminal) (y : Read Top) → top_by n f i ≡ ok y → (fresh : Bool) → GoodTop fresh i y.tree y.rest
+    pub top-sound : (i : List Terminal) (y : Read Top) → top_by n f i ≡ ok y → (fresh : Bool) → GoodTop fresh i y.tree y.rest
     top-sound (reserved p res.Signature ∷ i) y h fresh = signatures-sound p i y h fresh
     top-sound (reserved p res.Functor ∷ i) y h fresh = functors-sound p i y h fresh
     top-sound i y h fresh = declaration-sound i y h fresh
 
-    exp-top-sound : (i : List Terminal) (y : Read Top) → exp_by n f i ≡ ok y → GoodTop true i y.tree y.rest
+    pub exp-top-sound : (i : List Terminal) (y : Read Top) → exp_by n f i ≡ ok y → GoodTop true i y.tree y.rest
     exp-top-sound i y h =
         let t = then_ok ((readers n).exp f 0 i) _ y h in
         let g = exp-sound n f 0 i t.0 (omega arith) t.1 in

@@ -168,11 +168,11 @@ id-start o (long_strid p qs x) e = refl
 
 -- Declarations of the core, as declarations of structures.
 
-abbrev lift_decs : Decs → StrDecs
+abbrev pub lift_decs : Decs → StrDecs
 lift_decs no_decs = no_str_decs
 lift_decs (dec d ds) = str_dec (core_dec d) (lift_decs ds)
 
-lift-reads : {f : Fixity} {i o : List Terminal} {ds : Decs} → Declares f i ds o → ReadsStrDecs f i (lift_decs ds) o
+pub lift-reads : {f : Fixity} {i o : List Terminal} {ds : Decs} → Declares f i ds o → ReadsStrDecs f i (lift_decs ds) o
 lift-reads nothing_more = no_more_decs
 lift-reads (of_semicolon p d) = dec_semicolon p (lift-reads d)
 lift-reads (of_dec d ds) = of_str_dec (of_core_dec d) (lift-reads ds)
@@ -189,7 +189,7 @@ lift-depth : (ds : Decs) → depth_str_decs (lift_decs ds) ≡ depth_decs ds
 lift-depth no_decs = refl
 lift-depth (dec d ds) = ap (λ z. max (depth_dec d) z) (lift-depth ds)
 
-lift-added : (ds : Decs) → added_decs (lift_decs ds) ≡ added ds
+pub lift-added : (ds : Decs) → added_decs (lift_decs ds) ≡ added ds
 lift-added no_decs = refl
 lift-added (dec d ds) = let h = lift-added ds in rw h refl
 

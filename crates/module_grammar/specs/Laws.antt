@@ -1,11 +1,12 @@
 -- What the reading function gives, and that the grammar is not ambiguous.
-use Rattle.std.specs.Prelude.{ℕ, ◌≡◌, ◌≤◌, List, []}
+use Rattle.std.specs.Prelude.{ℕ, suc, ◌≡◌, ◌≤◌, ◌<◌, Bool, true, List, []}
 use Rattle.sml_tree.specs.Terminal.{Terminal}
 use Rattle.sml_tree.specs.Fixity.{Fixity}
 use Rattle.module_tree.specs.ReadModules.{Top}
 use Rattle.module_tree.specs.ModuleDepth.{depth_tops}
 use Rattle.module_tree.specs.ModuleGrammar.{IsSource}
-use Rattle.sml_grammar.specs.Answer.{read}
+use Rattle.sml_grammar.specs.Answer.{deep, read}
+use Rattle.module_grammar.specs.PartialModules.{OpensTops}
 use Rattle.module_grammar.specs.Sources.{read_source}
 
 -- what all terminals of a source are, at most n deep
@@ -21,3 +22,11 @@ Complete = (n : ℕ) (f : Fixity) (i : List Terminal) (ts : List Top) → IsTree
 -- no terminals are a source in two ways
 abbrev pub OneTree : Type 0
 OneTree = (f : Fixity) (i : List Terminal) (ts us : List Top) → IsSource f i ts → IsSource f i us → ts ≡ us
+
+-- too deep: a partial tree that is n + 1 deep reads a front of the terminals
+abbrev pub DeepSound : Type 0
+DeepSound = (n : ℕ) (f : Fixity) (i : List Terminal) → read_source n f i ≡ deep → OpensTops f true i (suc n)
+
+-- a tree has a partial one of each depth up to its own
+abbrev pub Cut : Type 0
+Cut = (f : Fixity) (i : List Terminal) (ts : List Top) (d : ℕ) → IsSource f i ts → 0 < d → d ≤ depth_tops ts → OpensTops f true i d
