@@ -1,21 +1,20 @@
 -- A tree of depth d has a partial one of each depth up to d.
-use Rattle.std.proofs.Common.{◌≡◌, ℕ, zero, suc, ◌≤◌, ◌<◌, List, [], ◌∷◌, ◌++◌, Option, Bool, true, false, inl, inr, refl, sym, ap, subst, max, arith}
+use Rattle.std.proofs.Common.{◌≡◌, ℕ, zero, suc, ◌≤◌, ◌<◌, List, [], ◌∷◌, ◌++◌, Bool, inl, inr, refl, sym, ap, subst, arith}
 use Rattle.mlc_base.specs.declared.token.Reserved.TheVariants as res
-use Rattle.sml_tree.specs.Terminal.{LongId, Terminal, reserved, IsVid, IsLongStrid, short_strid}
+use Rattle.sml_tree.specs.Terminal.{Terminal, reserved, IsVid, short_strid}
 use Rattle.sml_tree.specs.Fixity.{Fixity}
-use Rattle.sml_tree.specs.ReadTree.{Placed, Ty, Decs, Dec}
-use Rattle.sml_tree.specs.Depth.{depth_some, depth_ty, depth_dec}
+use Rattle.sml_tree.specs.ReadTree.{Placed}
+use Rattle.sml_tree.specs.Depth.{depth_some, depth_ty}
 use Rattle.sml_tree.specs.Levels.{after}
-use Rattle.sml_tree.specs.Grammar.{MaybeOf, Declares, Declare}
 use Rattle.sml_grammar.specs.Partial.{OpensDecs, past_empty, in_dec, past_dec, OpensDec, in_val, in_fun, in_type, in_datatype, in_withtype, in_exception, begun_local, in_local, in_local_body}
-use Rattle.sml_grammar.proofs.Answers.{le_or, le_max}
+use Rattle.sml_grammar.proofs.Answers.{le_or}
 use Rattle.sml_grammar.proofs.BindOf.{OpensOf, in_of, of-opens}
 use Rattle.sml_grammar.proofs.CompFacts as facts
 use Rattle.sml_grammar.proofs.CompPaths as core
 use Rattle.module_tree.specs.ReadModules.{ConDesc, DataDesc, ValDesc, WhereType, SigExp, Specs, Spec, StrDescs, MaybeSig, StrExp, StrDecs, StrDec, StrBinds, StrBind, Parameter, FunBind, SigBind, Top}
 use Rattle.module_tree.specs.Scope.{after_decs}
 use Rattle.module_tree.specs.ModuleDepth.{depth_con_descs, depth_data_descs, depth_val_descs, depth_where_types, depth_sig, depth_specs, depth_spec, depth_str_descs, depth_maybe_sig, depth_str, depth_str_decs, depth_str_dec, depth_str_binds, depth_str_bind, depth_parameter, depth_fun_binds, depth_sig_binds, depth_top, depth_tops}
-use Rattle.module_tree.specs.ModuleGrammar.{IsModuleId, module_id, ValDescs, last_val, more_vals, ConDescs, last_con, more_cons, OneDataDesc, data_desc, DataDescs, last_data, more_data, ExDescs, last_ex, more_exs, OneWhere, one_where, WhereTypes, last_where, more_wheres, ReadsSig, of_sig, of_sig_id, of_where, ReadsSpecs, no_more_specs, spec_semicolon, of_spec, ReadsSpec, of_val_spec, of_type_spec, of_abbreviation_spec, of_eqtype_spec, of_datatype_spec, of_replication_spec, of_exception_spec, of_structure_spec, of_include, of_include_ids, of_sharing, ReadsStrDescs, of_last_desc, of_desc_and, ReadsMaybeSig, without_sig, with_sig, ReadsStr, of_struct, of_str_id, of_constrained, of_applied, of_applied_to_decs, of_let_str, ReadsStrDecs, no_more_decs, dec_semicolon, of_str_dec, ReadsStrDec, of_core_dec, of_structure, of_local_str, ReadsStrBinds, of_last_str, of_str_and, ReadsStrBind, of_str_bind, SigBinds, last_sig_bind, more_sig_binds, ReadsParameter, of_structure_parameter, of_spec_parameter, OneFunBind, fun_bind, FunBinds, last_fun_bind, more_fun_binds, ReadsTop, of_str_top, of_signature, of_functor, of_exp_top, ReadsTops, no_more_tops, top_semicolon, of_top}
+use Rattle.module_tree.specs.ModuleGrammar.{IsModuleId, module_id, ValDescs, last_val, more_vals, ConDescs, last_con, more_cons, data_desc, DataDescs, last_data, more_data, ExDescs, last_ex, more_exs, one_where, WhereTypes, last_where, more_wheres, ReadsSig, of_sig, of_sig_id, of_where, ReadsSpecs, no_more_specs, spec_semicolon, of_spec, ReadsSpec, of_val_spec, of_type_spec, of_abbreviation_spec, of_eqtype_spec, of_datatype_spec, of_replication_spec, of_exception_spec, of_structure_spec, of_include, of_include_ids, of_sharing, ReadsStrDescs, of_last_desc, of_desc_and, ReadsMaybeSig, without_sig, with_sig, ReadsStr, of_struct, of_str_id, of_constrained, of_applied, of_applied_to_decs, of_let_str, ReadsStrDecs, no_more_decs, dec_semicolon, of_str_dec, ReadsStrDec, of_core_dec, of_structure, of_local_str, ReadsStrBinds, of_last_str, of_str_and, ReadsStrBind, of_str_bind, SigBinds, last_sig_bind, more_sig_binds, ReadsParameter, of_structure_parameter, of_spec_parameter, OneFunBind, fun_bind, FunBinds, last_fun_bind, more_fun_binds, ReadsTop, of_str_top, of_signature, of_functor, of_exp_top, ReadsTops, no_more_tops, top_semicolon, of_top}
 use Rattle.module_grammar.specs.PartialSignatures.{with_sig_word, with_sig_id, OpensVals, in_val_desc, past_val_desc, OpensConDescs, in_con_desc, past_con_desc, OpensDataDescs, in_data_desc, past_data_desc, OpensExDescs, in_ex_desc, past_ex_desc, OpensWheres, in_where, past_where, OpensSig, begun_sig, in_sig, extended, in_wheres, OpensSpecs, past_no_spec, in_spec, past_spec, OpensSpec, in_vals, in_abbreviations, in_data, in_exceptions, in_structures, in_include, OpensStrDescs, in_str_desc, past_str_desc}
 use Rattle.module_grammar.specs.PartialModules.{with_struct, with_let, with_str_id, OpensStr, begun_str, in_struct, signed, in_signature, in_argument, in_argument_decs, in_let, in_let_body, OpensStrDecs, past_no_dec, in_str_dec, past_str_dec, OpensStrDec, in_core_dec, begun_local_str, in_local_str, in_local_str_body, in_structure, OpensStrBinds, in_str_sig, in_str_body, past_str_bind, OpensSigBinds, in_sig_bind, past_sig_bind, OpensParameter, in_structure_parameter, in_spec_parameter, OpensFunBinds, in_parameter, in_result, in_fun_body, past_fun_bind, OpensTop, in_declaration, in_signatures, in_functors, in_expression, OpensTops, past_no_top, in_top, past_top}
 use Rattle.module_grammar.proofs.StrComplete.{lift_decs, lift-reads, lift-added}

@@ -1,5 +1,5 @@
 -- What is read is shorter than what it is read from, so that the loops' counts are enough.
-use Rattle.std.proofs.Common.{ℕ, suc, ◌≤◌, ◌<◌, List, ◌∷◌, length, Bool, arith}
+use Rattle.std.proofs.Common.{ℕ, ◌≤◌, ◌<◌, List, length, Bool, arith}
 use Rattle.sml_tree.specs.Terminal.{LongId, Terminal}
 use Rattle.sml_tree.specs.Fixity.{Fixity}
 use Rattle.sml_tree.specs.ReadTree.{Placed}

@@ -1,14 +1,13 @@
 -- Signatures and specifications that are in the grammar, and not too deep, are read.
-use Rattle.std.proofs.Common.{◌≡◌, ℕ, zero, suc, ◌≤◌, ◌<◌, List, [], ◌∷◌, length, Option, Some, None, Bool, true, false, refl, ap, ◌∙◌, arith, nat_le}
+use Rattle.std.proofs.Common.{◌≡◌, ℕ, zero, suc, ◌≤◌, ◌<◌, List, ◌∷◌, length, Some, None, true, false, refl, ◌∙◌, arith}
 use Rattle.std.proofs.lemmas.Bool.{le-leb}
 use Rattle.mlc_base.specs.declared.token.Reserved.TheVariants as res
-use Rattle.sml_tree.specs.Terminal.{LongId, Terminal, reserved, alpha, IsVid, alpha_vid, symbol_vid, star_vid, IsTycon, alpha_tycon, symbol_tycon, IsLongTycon}
+use Rattle.sml_tree.specs.Terminal.{Terminal, reserved, alpha, IsVid, alpha_vid, symbol_vid, star_vid, IsTycon}
 use Rattle.sml_tree.specs.declared.ident.Tyvar.{Tyvar}
 use Rattle.sml_tree.specs.ReadTree.{Placed, TypeBind}
 use Rattle.sml_tree.specs.Grammar.{Tyvars, no_tyvars, one_tyvar, tyvars_in_brackets, TypeBinds, last_type_bind, more_type_binds, OneTypeBind, type_bind}
 use Rattle.sml_grammar.specs.Answer.{read, many, whole}
 use Rattle.sml_grammar.specs.Terminals.{first_as, after_word, no_state}
-use Rattle.sml_grammar.specs.Types.{ty_could_go_on}
 use Rattle.sml_grammar.specs.Bindings.{read_tyvars, read_type_binds}
 use Rattle.sml_grammar.specs.Expressions.{replicated}
 use Rattle.sml_grammar.proofs.Answers.{many-last, many-more, many-pass}
@@ -19,9 +18,9 @@ use Rattle.sml_grammar.proofs.BindTyvars.{tyvars-complete}
 use Rattle.module_tree.specs.ReadModules.{TypeDesc, ConDesc, DataDesc, WhereType, SigExp, sig_end, sig_id, where_type, Specs, spec, Spec, StrDescs, desc_and}
 use Rattle.module_tree.specs.ModuleDepth.{depth_sig, depth_specs, depth_spec, depth_str_descs}
 use Rattle.module_tree.specs.ModuleGrammar.{module_id, TypeDescs, last_type, more_types, type_desc, ConDescs, last_con, more_cons, DataDescs, last_data, more_data, OneDataDesc, data_desc, SigIds, last_sig_id, more_sig_ids, ReadsSig, of_sig, of_sig_id, of_where, ReadsSpecs, no_more_specs, spec_semicolon, of_spec, ReadsSpec, of_val_spec, of_type_spec, of_abbreviation_spec, of_eqtype_spec, of_datatype_spec, of_replication_spec, of_exception_spec, of_structure_spec, of_include, of_include_ids, of_sharing, ReadsStrDescs, of_last_desc, of_desc_and}
-use Rattle.module_grammar.specs.Signatures.{as_module_id, val_desc_turn, type_desc_turn, con_desc_turn, read_con_descs, data_desc_turn, binds_type, tycon_turn, and_type, where_turn, SigReader, str_desc_turn, sig_id_turn, two_ids, spec_start, is_spec_start, spec_by, spec_turn, specs_from, sig_start_of, sig_atom, where_suffix, sig_from, read_sig}
+use Rattle.module_grammar.specs.Signatures.{as_module_id, val_desc_turn, type_desc_turn, read_con_descs, data_desc_turn, binds_type, tycon_turn, and_type, where_turn, SigReader, str_desc_turn, sig_id_turn, two_ids, spec_start, is_spec_start, spec_by, spec_turn, specs_from, where_suffix, sig_from, read_sig}
 use Rattle.module_grammar.proofs.Shorter.{sig-shorter, spec-shorter, wheres-shorter}
-use Rattle.module_grammar.proofs.SpecComplete.{SpecStops, tycon-tyvars, vals-complete, types-complete, cons-complete, exs-complete, data-complete, tycons-complete, WhereStops, wheres-complete, ids-complete}
+use Rattle.module_grammar.proofs.SpecComplete.{SpecStops, tycon-tyvars, vals-complete, types-complete, exs-complete, data-complete, tycons-complete, WhereStops, wheres-complete, ids-complete}
 
 -- what a signature could go on with
 pub record SigStops (o : List Terminal) : Type 0 where

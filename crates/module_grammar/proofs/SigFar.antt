@@ -1,24 +1,23 @@
 -- Where signatures and specifications are too deep, a partial one is there.
-use Rattle.std.proofs.Common.{◌≡◌, ℕ, zero, suc, ◌≤◌, ◌<◌, List, [], ◌∷◌, length, Option, Some, None, Bool, true, false, inl, inr, refl, sym, subst, arith, nat_le}
+use Rattle.std.proofs.Common.{◌≡◌, ℕ, zero, suc, ◌<◌, List, ◌∷◌, length, true, false, inl, inr, sym, subst, arith, nat_le}
 use Rattle.std.proofs.lemmas.Bool.{leb-true, leb-false}
 use Rattle.mlc_base.specs.declared.token.Reserved.TheVariants as res
-use Rattle.sml_tree.specs.Terminal.{Terminal, reserved, alpha}
+use Rattle.sml_tree.specs.Terminal.{Terminal, reserved}
 use Rattle.sml_tree.specs.ReadTree.{Placed}
-use Rattle.sml_grammar.specs.Answer.{Answer, Read, ok, deep, Turn, many, whole, deep_if}
+use Rattle.sml_grammar.specs.Answer.{Read, ok, deep, Turn, whole}
 use Rattle.sml_grammar.specs.Terminals.{first_as, as_tycon, as_long_tycon, after_word, NoState, no_state}
 use Rattle.sml_grammar.specs.Bindings.{read_tyvars, read_type_binds}
 use Rattle.sml_grammar.specs.Expressions.{replicated}
 use Rattle.sml_grammar.proofs.Words.{WordAt, at_word, word-at}
 use Rattle.sml_grammar.proofs.Answers.{chosen, then_ok, then_deep, then_taken-ok, then_taken-deep, word_then-ok, word_then-deep, on_some-split, on_taken-split, separated-deep, not_deep, bad_deep, deep_ok, not_true, if-deep, FarTurn, many-reach}
-use Rattle.sml_grammar.proofs.Terminals.{Front}
 use Rattle.sml_grammar.proofs.BindTyvars.{tyvars-never-deep}
 use Rattle.sml_grammar.proofs.ExpBelow.{Within}
-use Rattle.sml_grammar.proofs.ExpGiven.{below, far_below}
+use Rattle.sml_grammar.proofs.ExpGiven.{far_below}
 use Rattle.sml_grammar.proofs.ExpTurns.{at-head, at-front, given}
 use Rattle.module_tree.specs.ReadModules.{SigExp, Specs, Spec, StrDescs, desc_and, last_desc}
 use Rattle.module_tree.specs.ModuleDepth.{depth_sig}
-use Rattle.module_tree.specs.ModuleGrammar.{IsModuleId, module_id, ReadsSig, of_where}
-use Rattle.module_grammar.specs.Signatures.{as_module_id, val_desc_turn, type_desc_turn, read_con_descs, data_desc_turn, binds_type, type_form, datatype_form, tycon_turn, sharing_form, where_turn, SigReader, str_desc_turn, sig_id_turn, two_ids, include_form, SpecStart, spec_start, is_spec_start, spec_by, spec_turn, specs_from, SigStart, sig_start_of, begins_sig, sig_atom, where_suffix, sig_from, read_sig}
+use Rattle.module_tree.specs.ModuleGrammar.{ReadsSig, of_where}
+use Rattle.module_grammar.specs.Signatures.{as_module_id, val_desc_turn, type_desc_turn, read_con_descs, data_desc_turn, binds_type, type_form, datatype_form, tycon_turn, sharing_form, where_turn, SigReader, str_desc_turn, sig_id_turn, two_ids, include_form, SpecStart, spec_start, is_spec_start, spec_by, spec_turn, specs_from, SigStart, sig_start_of, begins_sig, sig_atom, where_suffix, read_sig}
 use Rattle.module_grammar.specs.PartialSignatures.{BeginsSig, with_sig_word, with_sig_id, OpensSig, begun_sig, in_sig, extended, in_wheres, OpensSpecs, past_no_spec, in_spec, past_spec, OpensSpec, in_vals, in_abbreviations, in_data, in_exceptions, in_structures, in_include, OpensStrDescs, in_str_desc, past_str_desc}
 use Rattle.module_grammar.proofs.SpecSound.{IdAt, id_at, id-is, wheres-sound}
 use Rattle.module_grammar.proofs.SigSound.{SpecStartIs, is_val, is_type, is_eqtype, is_datatype, is_exception, is_structure, is_include, is_sharing, is_no_spec, spec-start-is, spec-sound, SigStartIs, is_sig, is_sig_id, is_no_sig, sig-start-is, GoodSig, atom-sound, sig-sound}

@@ -1,14 +1,12 @@
 -- Signatures and specifications that are read are in the grammar.
-use Rattle.std.proofs.Common.{◌≡◌, ℕ, zero, suc, ◌≤◌, List, [], ◌∷◌, length, Option, Some, None, Bool, true, false, inl, inr, refl, subst, arith, nat_le}
+use Rattle.std.proofs.Common.{◌≡◌, ℕ, zero, suc, List, ◌∷◌, length, inl, inr, arith, nat_le}
 use Rattle.std.proofs.lemmas.Bool.{leb-true}
 use Rattle.mlc_base.specs.declared.token.Reserved.TheVariants as res
-use Rattle.sml_tree.specs.Terminal.{LongId, Terminal, reserved, alpha, IsTycon, IsLongTycon}
-use Rattle.sml_tree.specs.declared.ident.Tyvar.{Tyvar}
+use Rattle.sml_tree.specs.Terminal.{LongId, Terminal, reserved, alpha, IsLongTycon}
 use Rattle.sml_tree.specs.ReadTree.{Placed}
-use Rattle.sml_tree.specs.Depth.{depth_type_binds}
-use Rattle.sml_grammar.specs.Answer.{Answer, Read, ok, read, Turn, many, whole, deep_if}
-use Rattle.sml_grammar.specs.Terminals.{Taken, first_as, as_tycon, as_long_tycon, after_word, NoState, no_state}
-use Rattle.sml_grammar.specs.Bindings.{read_tyvars, read_type_binds}
+use Rattle.sml_grammar.specs.Answer.{Read, ok, Turn, whole}
+use Rattle.sml_grammar.specs.Terminals.{first_as, as_long_tycon, after_word, NoState, no_state}
+use Rattle.sml_grammar.specs.Bindings.{read_type_binds}
 use Rattle.sml_grammar.specs.Expressions.{replicated}
 use Rattle.sml_grammar.proofs.Words.{WordAt, at_word, word-at}
 use Rattle.sml_grammar.proofs.Answers.{chosen, then_ok, then_taken-ok, word_then-ok, on_some-split, on_taken-split, bad_ok, deep_ok, deep_if-ok, GoodTurn, many-ok}
@@ -17,11 +15,11 @@ use Rattle.sml_grammar.proofs.ExpBelow.{Within}
 use Rattle.sml_grammar.proofs.ExpGiven.{below}
 use Rattle.sml_grammar.proofs.ExpTurns.{at-head, at-front, given, sep-good}
 use Rattle.sml_grammar.proofs.ExpSoundDecs.{Replicated, replicated_at, replicated-is}
-use Rattle.module_tree.specs.ReadModules.{SigExp, sig_end, sig_id, where_type, Specs, Spec, replication_spec, sharing_spec, StrDescs, last_desc, desc_and, include_ids, include_spec}
+use Rattle.module_tree.specs.ReadModules.{SigExp, sig_id, Specs, Spec, replication_spec, sharing_spec, StrDescs, last_desc, desc_and, include_ids}
 use Rattle.module_tree.specs.ModuleDepth.{depth_sig, depth_specs, depth_spec, depth_str_descs}
-use Rattle.module_tree.specs.ModuleGrammar.{module_id, SigIds, last_sig_id, more_sig_ids, LongTycons, ReadsSig, of_sig, of_sig_id, of_where, ReadsSpecs, no_more_specs, spec_semicolon, of_spec, ReadsSpec, of_val_spec, of_type_spec, of_abbreviation_spec, of_eqtype_spec, of_datatype_spec, of_replication_spec, of_exception_spec, of_structure_spec, of_include, of_include_ids, of_sharing, ReadsStrDescs, of_last_desc, of_desc_and}
-use Rattle.module_grammar.specs.Signatures.{as_module_id, id_then, val_desc_turn, type_desc_turn, read_con_descs, data_desc_turn, binds_type, type_form, datatype_form, tycon_turn, sharing_form, where_turn, SigReader, str_desc_turn, sig_id_turn, two_ids, include_form, SpecStart, val_start, type_start, eqtype_start, datatype_start, exception_start, structure_start, include_start, sharing_start, no_spec, spec_start, is_spec_start, spec_by, spec_turn, specs_from, SigStart, sig_start, sig_id_start, no_sig_start, sig_id_if, sig_start_of, begins_sig, sig_atom, where_suffix, sig_from, read_sig}
-use Rattle.module_grammar.proofs.SpecSound.{IdAt, id_at, id-is, vals-sound, types-sound, cons-sound, exs-sound, data-sound, tycons-sound, wheres-sound, ids-sound}
+use Rattle.module_tree.specs.ModuleGrammar.{module_id, SigIds, LongTycons, ReadsSig, of_sig, of_sig_id, of_where, ReadsSpecs, no_more_specs, spec_semicolon, of_spec, ReadsSpec, of_val_spec, of_type_spec, of_abbreviation_spec, of_eqtype_spec, of_datatype_spec, of_replication_spec, of_exception_spec, of_structure_spec, of_include, of_include_ids, of_sharing, ReadsStrDescs, of_last_desc, of_desc_and}
+use Rattle.module_grammar.specs.Signatures.{as_module_id, val_desc_turn, type_desc_turn, read_con_descs, data_desc_turn, binds_type, type_form, datatype_form, tycon_turn, sharing_form, where_turn, SigReader, str_desc_turn, sig_id_turn, two_ids, include_form, SpecStart, val_start, type_start, eqtype_start, datatype_start, exception_start, structure_start, include_start, sharing_start, no_spec, spec_start, is_spec_start, spec_by, spec_turn, specs_from, SigStart, sig_start, sig_id_start, no_sig_start, sig_start_of, begins_sig, sig_atom, where_suffix, read_sig}
+use Rattle.module_grammar.proofs.SpecSound.{IdAt, id_at, id-is, vals-sound, types-sound, exs-sound, data-sound, tycons-sound, wheres-sound, ids-sound}
 
 -- what a specification begins with
 

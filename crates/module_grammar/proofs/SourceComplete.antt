@@ -1,10 +1,10 @@
 -- Sources that are in the grammar, and not too deep, are read; so no text has two trees.
-use Rattle.std.proofs.Common.{◌≡◌, ℕ, zero, suc, ◌≤◌, ◌<◌, List, [], ◌∷◌, length, Option, Some, None, Bool, true, false, refl, sym, ap, ◌∙◌, arith, max}
+use Rattle.std.proofs.Common.{◌≡◌, ℕ, zero, suc, ◌≤◌, ◌<◌, List, [], ◌∷◌, length, Some, None, Bool, true, false, refl, sym, ◌∙◌, arith, max}
 use Rattle.mlc_base.specs.declared.token.Reserved.TheVariants as res
-use Rattle.sml_tree.specs.Terminal.{Terminal, reserved, alpha}
+use Rattle.sml_tree.specs.Terminal.{Terminal, reserved}
 use Rattle.sml_tree.specs.Fixity.{Fixity}
-use Rattle.sml_tree.specs.ReadTree.{Placed, Exp, Dec}
-use Rattle.sml_tree.specs.Grammar.{Declare, of_val, of_fun, of_type, of_datatype, of_withtype, of_replication, of_exception, of_local, of_open, of_infix, of_infixr, of_nonfix, Reads}
+use Rattle.sml_tree.specs.ReadTree.{Dec}
+use Rattle.sml_tree.specs.Grammar.{Declare, of_val, of_fun, of_type, of_datatype, of_withtype, of_replication, of_exception, of_local, of_open, of_infix, of_infixr, of_nonfix}
 use Rattle.sml_grammar.specs.Answer.{Answer, Turn, read, then_read, many, whole}
 use Rattle.sml_grammar.specs.Terminals.{after_word, no_state}
 use Rattle.sml_grammar.specs.Expressions.{begins, readers}
@@ -12,19 +12,18 @@ use Rattle.sml_grammar.proofs.Answers.{not_true, not_false, many-last, many-more
 use Rattle.sml_grammar.proofs.CompQuiet.{plain-word, reads-begins}
 use Rattle.sml_grammar.proofs.CompLists.{plain-exp}
 use Rattle.sml_grammar.proofs.CompMain.{exp-complete}
-use Rattle.sml_grammar.proofs.CompShapes.{shorter}
-use Rattle.module_tree.specs.ReadModules.{SigExp, Specs, MaybeSig, StrExp, StrDecs, StrDec, Parameter, structure_parameter, spec_parameter, FunBind, SigBind, Top, str_top, signature_top, functor_top, exp_top}
+use Rattle.module_tree.specs.ReadModules.{Specs, StrDecs, StrDec, Parameter, spec_parameter, FunBind, SigBind, Top, str_top}
 use Rattle.module_tree.specs.Scope.{after_top}
 use Rattle.module_tree.specs.ModuleDepth.{depth_str_decs, depth_parameter, depth_fun_binds, depth_sig_binds, depth_top, depth_tops}
-use Rattle.module_tree.specs.ModuleGrammar.{module_id, ReadsSig, ReadsSpecs, no_more_specs, spec_semicolon, of_spec, ReadsSpec, of_val_spec, of_type_spec, of_abbreviation_spec, of_eqtype_spec, of_datatype_spec, of_replication_spec, of_exception_spec, of_structure_spec, of_include, of_include_ids, of_sharing, ReadsStrDecs, ReadsStrDec, of_core_dec, of_structure, of_local_str, SigBinds, last_sig_bind, more_sig_binds, ReadsParameter, of_structure_parameter, of_spec_parameter, OneFunBind, fun_bind, FunBinds, last_fun_bind, more_fun_binds, ReadsTop, of_str_top, of_signature, of_functor, of_exp_top, ends_in_semicolon, ReadsTops, no_more_tops, top_semicolon, of_top}
+use Rattle.module_tree.specs.ModuleGrammar.{module_id, ReadsSpecs, no_more_specs, spec_semicolon, of_spec, of_val_spec, of_type_spec, of_abbreviation_spec, of_eqtype_spec, of_datatype_spec, of_replication_spec, of_exception_spec, of_structure_spec, of_include, of_include_ids, of_sharing, ReadsStrDecs, ReadsStrDec, of_core_dec, of_structure, of_local_str, SigBinds, last_sig_bind, more_sig_binds, ReadsParameter, of_structure_parameter, of_spec_parameter, fun_bind, FunBinds, last_fun_bind, more_fun_binds, ReadsTop, of_str_top, of_signature, of_functor, of_exp_top, ends_in_semicolon, ReadsTops, no_more_tops, top_semicolon, of_top}
 use Rattle.module_grammar.specs.Laws as laws
 use Rattle.module_grammar.specs.Laws.{IsTree}
 use Rattle.module_grammar.specs.Signatures.{and_type, read_sig, specs_from}
-use Rattle.module_grammar.specs.Structures.{maybe_sig, str_readers, str_dec_by}
-use Rattle.module_grammar.specs.Sources.{sig_bind_turn, read_parameter, fun_bind_rest, one_fun_bind, fun_bind_turn, inner_decs, Standing, exp_by, after_one, top_turn, read_source}
+use Rattle.module_grammar.specs.Structures.{str_readers, str_dec_by}
+use Rattle.module_grammar.specs.Sources.{sig_bind_turn, read_parameter, fun_bind_turn, inner_decs, Standing, exp_by, after_one, top_turn}
 use Rattle.module_grammar.proofs.Shorter.{sig-shorter, fun-bind-shorter, top-shorter}
 use Rattle.module_grammar.proofs.SigComplete.{SigStops, bracket-stops, specs-whole, sig-complete}
-use Rattle.module_grammar.proofs.StrComplete.{StrStops, calm, DecStops, calm-stops, dec-begins, DecsEnd, maybe-sig-complete, str-dec-complete, readers-complete}
+use Rattle.module_grammar.proofs.StrComplete.{StrStops, calm, calm-stops, dec-begins, DecsEnd, maybe-sig-complete, str-dec-complete, readers-complete}
 
 -- signatures
 

@@ -1,14 +1,14 @@
 -- Texts that are read, and texts that aren't.
-use Rattle.std.proofs.Common.{◌≡◌, ℕ, pos, List, [], ◌∷◌, Option, None, Some, true, refl}
+use Rattle.std.proofs.Common.{◌≡◌, ℕ, pos, [], ◌∷◌, true, refl}
 use Rattle.mlc_base.specs.declared.token.Reserved.TheVariants as res
 use Rattle.sml_tree.specs.Fixity.{Fixity}
-use Rattle.sml_tree.specs.Terminal.{Terminal, reserved, number, alpha, int, LongId}
+use Rattle.sml_tree.specs.Terminal.{reserved, number, alpha, int, LongId}
 use Rattle.sml_tree.specs.ReadTree.{Placed, con_ty, no_tys, constant_exp, local_dec, open_dec, no_decs, dec}
 use Rattle.sml_grammar.specs.Answer.{bad, deep, read, many}
 use Rattle.sml_grammar.specs.Types.{read_ty}
 use Rattle.sml_grammar.specs.Patterns.{read_pats}
 use Rattle.sml_grammar.specs.Expressions.{readers}
-use Rattle.module_tree.specs.ReadModules.{transparent, opaque, sig_end, sig_id, where_type, no_specs, spec, val_spec, type_spec, abbreviation_spec, include_spec, include_ids, sharing_spec, no_sig, sealed, struct_end, str_id, constrained, applied, applied_to_decs, no_str_decs, str_dec, core_dec, structure_dec, local_str, last_str, str_bind, structure_parameter, spec_parameter, signature_top, functor_top, str_top, exp_top}
+use Rattle.module_tree.specs.ReadModules.{transparent, opaque, sig_end, sig_id, where_type, no_specs, spec, type_spec, include_ids, sharing_spec, no_sig, sealed, struct_end, str_id, constrained, applied_to_decs, no_str_decs, str_dec, core_dec, structure_dec, local_str, last_str, str_bind, structure_parameter, spec_parameter, signature_top, functor_top, str_top, exp_top}
 use Rattle.module_grammar.specs.Signatures.{read_sig}
 use Rattle.module_grammar.specs.Structures.{str_readers}
 use Rattle.module_grammar.specs.Sources.{read_source}

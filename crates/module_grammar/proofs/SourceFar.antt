@@ -1,29 +1,26 @@
 -- Where a source is too deep, a partial one is there.
-use Rattle.std.proofs.Common.{◌≡◌, ℕ, zero, suc, ◌≤◌, List, [], ◌∷◌, length, Option, Some, None, Bool, true, false, inl, inr, refl, sym, subst, arith}
+use Rattle.std.proofs.Common.{◌≡◌, ℕ, zero, suc, List, [], ◌∷◌, length, Bool, true, inl, inr, refl, sym, subst, arith}
 use Rattle.mlc_base.specs.declared.token.Reserved.TheVariants as res
 use Rattle.sml_tree.specs.Terminal.{Terminal, reserved, alpha}
 use Rattle.sml_tree.specs.Fixity.{Fixity}
 use Rattle.sml_tree.specs.ReadTree.{Placed}
-use Rattle.sml_grammar.specs.Answer.{Answer, Read, ok, deep, read, then_read, Turn, many, whole}
+use Rattle.sml_grammar.specs.Answer.{Read, ok, deep, read, then_read, Turn, whole}
 use Rattle.sml_grammar.specs.Terminals.{first_as, after_word, word_then, NoState, no_state}
 use Rattle.sml_grammar.specs.Expressions.{readers}
-use Rattle.sml_grammar.specs.Partial.{Opens}
 use Rattle.sml_grammar.proofs.Words.{WordAt, at_word, word-at}
 use Rattle.sml_grammar.proofs.Answers.{chosen, then_ok, then_deep, then_taken-ok, then_taken-deep, word_then-ok, word_then-deep, on_some-split, separated-deep, not_deep, bad_deep, bad_ok, FarTurn, many-reach}
-use Rattle.sml_grammar.proofs.ExpBelow.{Within}
 use Rattle.sml_grammar.proofs.ExpGiven.{below, far_below}
 use Rattle.sml_grammar.proofs.ExpFar.{readers-far}
 use Rattle.sml_grammar.proofs.ExpTurns.{at-head, at-front, given}
-use Rattle.module_tree.specs.ReadModules.{Seal, SigExp, MaybeSig, StrDecs, Parameter, structure_parameter, spec_parameter, FunBind, SigBind, Top, str_top, signature_top, functor_top}
-use Rattle.module_tree.specs.Scope.{after_decs, after_top}
-use Rattle.module_tree.specs.ModuleDepth.{depth_str_decs}
-use Rattle.module_tree.specs.ModuleGrammar.{module_id, ReadsSig, ReadsMaybeSig, ReadsStrDecs, ReadsParameter, OneFunBind, ReadsTop, ends_in_semicolon}
+use Rattle.module_tree.specs.ReadModules.{Seal, SigExp, MaybeSig, Parameter, structure_parameter, spec_parameter, FunBind, SigBind, Top, str_top, signature_top, functor_top}
+use Rattle.module_tree.specs.Scope.{after_decs}
+use Rattle.module_tree.specs.ModuleGrammar.{module_id, ReadsSig, ReadsMaybeSig, ReadsParameter, OneFunBind, ReadsTop}
 use Rattle.module_grammar.specs.Laws as laws
 use Rattle.module_grammar.specs.Signatures.{as_module_id, read_sig, specs_from}
 use Rattle.module_grammar.specs.Structures.{maybe_sig, str_readers, str_dec_by}
-use Rattle.module_grammar.specs.Sources.{sig_bind_turn, read_parameter, fun_bind_rest, one_fun_bind, fun_bind_turn, inner_decs, begins_top, top_by, Standing, exp_by, after_one, top_turn_by, top_turn, read_source}
+use Rattle.module_grammar.specs.Sources.{sig_bind_turn, read_parameter, fun_bind_rest, one_fun_bind, fun_bind_turn, inner_decs, begins_top, top_by, Standing, exp_by, after_one, top_turn_by, top_turn}
 use Rattle.module_grammar.specs.PartialSignatures.{OpensSig}
-use Rattle.module_grammar.specs.PartialModules.{OpensStr, OpensStrDec, begun_local_str, in_local_str, in_local_str_body, OpensSigBinds, in_sig_bind, past_sig_bind, OpensParameter, in_structure_parameter, in_spec_parameter, OpensFunBinds, in_parameter, in_result, in_fun_body, past_fun_bind, OpensTop, in_declaration, in_signatures, in_functors, in_expression, OpensTops, past_no_top, in_top, past_top}
+use Rattle.module_grammar.specs.PartialModules.{OpensStr, begun_local_str, in_local_str, in_local_str_body, OpensSigBinds, in_sig_bind, past_sig_bind, OpensParameter, in_structure_parameter, in_spec_parameter, OpensFunBinds, in_parameter, in_result, in_fun_body, past_fun_bind, OpensTop, in_declaration, in_signatures, in_functors, in_expression, OpensTops, past_no_top, in_top, past_top}
 use Rattle.module_grammar.proofs.SpecSound.{IdAt, id_at, id-is}
 use Rattle.module_grammar.proofs.SigSound.{sig-sound}
 use Rattle.module_grammar.proofs.SpecFar.{sep-far}

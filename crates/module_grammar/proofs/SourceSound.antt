@@ -1,30 +1,29 @@
 -- Sources that are read are in the grammar.
-use Rattle.std.proofs.Common.{◌≡◌, ℕ, zero, suc, ◌≤◌, List, [], ◌∷◌, length, Option, Some, None, Bool, true, false, inl, inr, refl, sym, subst, arith, if◌then◌else◌}
+use Rattle.std.proofs.Common.{◌≡◌, ℕ, zero, suc, ◌≤◌, List, [], ◌∷◌, length, Bool, true, inl, inr, refl, sym, subst, arith}
 use Rattle.mlc_base.specs.declared.token.Reserved.TheVariants as res
 use Rattle.sml_tree.specs.Terminal.{Terminal, reserved, alpha}
 use Rattle.sml_tree.specs.Fixity.{Fixity}
-use Rattle.sml_tree.specs.ReadTree.{Placed, Exp}
+use Rattle.sml_tree.specs.ReadTree.{Placed}
 use Rattle.sml_tree.specs.Grammar.{Reads}
-use Rattle.sml_grammar.specs.Answer.{Read, ok, read, Turn, many, whole, then_read}
+use Rattle.sml_grammar.specs.Answer.{Read, ok, read, Turn, whole, then_read}
 use Rattle.sml_grammar.specs.Terminals.{first_as, after_word, word_then, NoState, no_state}
 use Rattle.sml_grammar.specs.Expressions.{readers}
 use Rattle.sml_grammar.proofs.Words.{WordAt, at_word, word-at}
-use Rattle.sml_grammar.proofs.Answers.{chosen, got, then_ok, then_taken-ok, word_then-ok, on_some-split, bad_ok, deep_ok, at-path, GoodTurn, many-ok}
+use Rattle.sml_grammar.proofs.Answers.{chosen, then_ok, then_taken-ok, word_then-ok, on_some-split, bad_ok, deep_ok, at-path, GoodTurn, many-ok}
 use Rattle.sml_grammar.proofs.ExpBelow.{Within}
 use Rattle.sml_grammar.proofs.ExpReaders.{exp-sound}
 use Rattle.sml_grammar.proofs.ExpTurns.{at-head, at-front, given, sep-good}
-use Rattle.module_tree.specs.ReadModules.{SigExp, MaybeSig, StrExp, StrDecs, Parameter, structure_parameter, spec_parameter, FunBind, SigBind, Top, str_top, signature_top, functor_top, exp_top}
-use Rattle.module_tree.specs.Scope.{after_top}
+use Rattle.module_tree.specs.ReadModules.{SigExp, MaybeSig, StrExp, StrDecs, Parameter, structure_parameter, spec_parameter, FunBind, SigBind, Top, str_top, signature_top, functor_top}
 use Rattle.module_tree.specs.ModuleDepth.{depth_str_decs, depth_parameter, depth_fun_binds, depth_sig_binds, depth_top, depth_tops}
-use Rattle.module_tree.specs.ModuleGrammar.{module_id, ReadsSig, ReadsSpecs, ReadsMaybeSig, ReadsStr, ReadsStrDecs, SigBinds, last_sig_bind, more_sig_binds, ReadsParameter, of_structure_parameter, of_spec_parameter, OneFunBind, fun_bind, FunBinds, last_fun_bind, more_fun_binds, ReadsTop, of_str_top, of_signature, of_functor, of_exp_top, ends_in_semicolon, ReadsTops, no_more_tops, top_semicolon, of_top}
+use Rattle.module_tree.specs.ModuleGrammar.{module_id, ReadsSig, ReadsMaybeSig, ReadsStr, ReadsStrDecs, SigBinds, last_sig_bind, more_sig_binds, ReadsParameter, of_structure_parameter, of_spec_parameter, OneFunBind, fun_bind, FunBinds, last_fun_bind, more_fun_binds, ReadsTop, of_str_top, of_signature, of_functor, of_exp_top, ReadsTops, no_more_tops, top_semicolon, of_top}
 use Rattle.module_grammar.specs.Laws as laws
 use Rattle.module_grammar.specs.Laws.{IsTree}
 use Rattle.module_grammar.specs.Signatures.{as_module_id, read_sig, specs_from}
 use Rattle.module_grammar.specs.Structures.{maybe_sig, str_readers, str_dec_by}
-use Rattle.module_grammar.specs.Sources.{sig_bind_turn, read_parameter, fun_bind_rest, one_fun_bind, fun_bind_turn, inner_decs, begins_top, top_by, Standing, exp_by, after_one, top_turn_by, top_turn, read_source}
+use Rattle.module_grammar.specs.Sources.{sig_bind_turn, read_parameter, fun_bind_rest, one_fun_bind, fun_bind_turn, inner_decs, begins_top, top_by, Standing, exp_by, after_one, top_turn_by, top_turn}
 use Rattle.module_grammar.proofs.SpecSound.{IdAt, id_at, id-is}
 use Rattle.module_grammar.proofs.SigSound.{specs-sound, sig-sound}
-use Rattle.module_grammar.proofs.StrSound.{maybe-sig-sound, SoundsStrDecs, str-dec-sound, str-readers-sound}
+use Rattle.module_grammar.proofs.StrSound.{maybe-sig-sound, str-dec-sound, str-readers-sound}
 
 -- signatures
 

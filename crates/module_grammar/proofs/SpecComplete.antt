@@ -1,26 +1,24 @@
 -- Lists of specifications that are in the grammar, and not too deep, are read.
-use Rattle.std.proofs.Common.{◌≡◌, ℕ, zero, suc, ◌≤◌, ◌<◌, List, [], ◌∷◌, length, Option, Some, None, Bool, true, false, refl, ap, ◌∙◌, arith}
+use Rattle.std.proofs.Common.{◌≡◌, ℕ, zero, suc, ◌≤◌, ◌<◌, List, [], ◌∷◌, length, Some, None, false, refl, ◌∙◌, arith}
 use Rattle.mlc_base.specs.declared.token.Reserved.TheVariants as res
-use Rattle.sml_tree.specs.Terminal.{LongId, Terminal, reserved, IsVid, IsTycon, alpha_tycon, symbol_tycon, IsLongTycon, short_tycon, long_alpha_tycon, long_symbol_tycon}
-use Rattle.sml_tree.specs.declared.ident.Tyvar.{Tyvar}
-use Rattle.sml_tree.specs.ReadTree.{Placed, Ty}
-use Rattle.sml_tree.specs.Grammar.{ReadsTy, MaybeOf, Tyvars}
-use Rattle.sml_grammar.specs.Answer.{read, many, whole}
-use Rattle.sml_grammar.specs.Terminals.{first_as, as_vid, as_tycon, as_long_tycon, after_word, NoState, no_state}
-use Rattle.sml_grammar.specs.Types.{read_ty, maybe_ty, ty_could_go_on}
+use Rattle.sml_tree.specs.Terminal.{LongId, Terminal, reserved, IsTycon, alpha_tycon, symbol_tycon, IsLongTycon, short_tycon, long_alpha_tycon, long_symbol_tycon}
+use Rattle.sml_tree.specs.ReadTree.{Placed}
+use Rattle.sml_grammar.specs.Answer.{read, many}
+use Rattle.sml_grammar.specs.Terminals.{first_as, after_word, no_state}
+use Rattle.sml_grammar.specs.Types.{read_ty, ty_could_go_on}
 use Rattle.sml_grammar.specs.Bindings.{read_tyvars, put_more}
 use Rattle.sml_grammar.proofs.Answers.{many-last, many-more}
 use Rattle.sml_grammar.proofs.Terminals.{vid-found, tycon-found, long_tycon-found}
-use Rattle.sml_grammar.proofs.BindTyvars.{tyvars-complete, begins-place, Bound, bound, bound-step}
+use Rattle.sml_grammar.proofs.BindTyvars.{tyvars-complete, begins-place, bound, bound-step}
 use Rattle.sml_grammar.proofs.BindOf.{of-read}
 use Rattle.sml_grammar.proofs.CompFacts.{ty-complete}
 use Rattle.sml_grammar.proofs.TypeShapes.{ty-shorter}
 use Rattle.sml_grammar.proofs.MaybeTypes.{of-shorter}
 use Rattle.module_tree.specs.ReadModules.{TypeDesc, ConDesc, DataDesc, ValDesc, WhereType}
 use Rattle.module_tree.specs.ModuleDepth.{depth_con_descs, depth_data_descs, depth_val_descs, depth_where_types}
-use Rattle.module_tree.specs.ModuleGrammar.{IsModuleId, module_id, ValDescs, last_val, more_vals, OneTypeDesc, type_desc, TypeDescs, last_type, more_types, ConDescs, last_con, more_cons, OneDataDesc, data_desc, DataDescs, last_data, more_data, ExDescs, last_ex, more_exs, OneWhere, one_where, WhereTypes, last_where, more_wheres, SigIds, last_sig_id, more_sig_ids, LongTycons, last_tycon, more_tycons}
+use Rattle.module_tree.specs.ModuleGrammar.{module_id, ValDescs, last_val, more_vals, type_desc, TypeDescs, last_type, more_types, ConDescs, last_con, more_cons, data_desc, DataDescs, last_data, more_data, ExDescs, last_ex, more_exs, one_where, WhereTypes, last_where, more_wheres, SigIds, last_sig_id, more_sig_ids, LongTycons, last_tycon, more_tycons}
 use Rattle.module_grammar.specs.Signatures.{as_module_id, val_desc_turn, type_desc_turn, con_desc_turn, read_con_descs, data_desc_turn, tycon_turn, and_type, where_turn, sig_id_turn}
-use Rattle.module_grammar.proofs.Shorter.{type-shorter, cons-shorter, exs-shorter, one-data-shorter, where-shorter, ids-shorter, tycons-shorter}
+use Rattle.module_grammar.proofs.Shorter.{type-shorter, one-data-shorter, where-shorter}
 
 -- What specifications could go on with.
 pub record SpecStops (o : List Terminal) : Type 0 where

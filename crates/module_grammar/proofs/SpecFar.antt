@@ -1,8 +1,8 @@
 -- Where lists of specifications are too deep, a partial one is there.
-use Rattle.std.proofs.Common.{◌≡◌, ℕ, suc, ◌≤◌, List, [], ◌∷◌, length, Option, Some, None, inl, inr, refl, subst, arith}
+use Rattle.std.proofs.Common.{◌≡◌, ℕ, suc, List, [], ◌∷◌, length, Option, inl, inr, subst}
 use Rattle.mlc_base.specs.declared.token.Reserved.{Reserved}
 use Rattle.mlc_base.specs.declared.token.Reserved.TheVariants as res
-use Rattle.sml_tree.specs.Terminal.{LongId, Terminal, reserved, IsVid, IsTycon, IsLongTycon}
+use Rattle.sml_tree.specs.Terminal.{LongId, Terminal, IsVid, IsLongTycon}
 use Rattle.sml_tree.specs.declared.ident.Tyvar.{Tyvar}
 use Rattle.sml_tree.specs.ReadTree.{Placed, Ty}
 use Rattle.sml_tree.specs.Grammar.{ReadsTy, MaybeOf, Tyvars}
@@ -12,15 +12,14 @@ use Rattle.sml_grammar.specs.Types.{read_ty, maybe_ty}
 use Rattle.sml_grammar.specs.Bindings.{read_tyvars, put_more}
 use Rattle.sml_grammar.specs.PartialTypes.{OpensTy}
 use Rattle.sml_grammar.proofs.Words.{WordAt, at_word, word-at}
-use Rattle.sml_grammar.proofs.Answers.{then_ok, then_deep, then_taken-ok, then_taken-deep, word_then-ok, word_then-deep, separated-ok, separated-deep, not_deep, FarTurn, many-reach, many-far}
-use Rattle.sml_grammar.proofs.Terminals.{Front, front, vid-is, tycon-is, long_tycon-is}
+use Rattle.sml_grammar.proofs.Answers.{then_ok, then_deep, then_taken-ok, then_taken-deep, word_then-ok, word_then-deep, separated-ok, separated-deep, FarTurn, many-reach, many-far}
+use Rattle.sml_grammar.proofs.Terminals.{Front, front, vid-is, long_tycon-is}
 use Rattle.sml_grammar.proofs.BindTyvars.{tyvars-sound, tyvars-never-deep, Bound, bound, bound-begins, bound-ok, bound-deep}
 use Rattle.sml_grammar.proofs.BindOf.{OpensOf, in_of, of-far}
 use Rattle.sml_grammar.proofs.MaybeTypes.{of-sound}
 use Rattle.sml_grammar.proofs.ExpGiven.{below, far_below}
-use Rattle.sml_grammar.proofs.ExpTurns.{at-head, given}
-use Rattle.module_tree.specs.ReadModules.{TypeDesc, ConDesc, DataDesc, ValDesc, WhereType}
-use Rattle.module_tree.specs.ModuleGrammar.{OneDataDesc, ConDescs, OneWhere}
+use Rattle.module_tree.specs.ReadModules.{ConDesc, DataDesc, ValDesc, WhereType}
+use Rattle.module_tree.specs.ModuleGrammar.{OneDataDesc, OneWhere}
 use Rattle.module_grammar.specs.Signatures.{as_module_id, val_desc_turn, type_desc_turn, con_desc_turn, read_con_descs, data_desc_turn, tycon_turn, and_type, where_turn, sig_id_turn}
 use Rattle.module_grammar.specs.PartialSignatures.{OpensVals, in_val_desc, past_val_desc, OpensConDescs, in_con_desc, past_con_desc, OpensDataDescs, in_data_desc, past_data_desc, OpensExDescs, in_ex_desc, past_ex_desc, OpensWheres, in_where, past_where}
 use Rattle.module_grammar.proofs.SpecSound.{cons-sound, one-data, where-one, AndType, and_type_at, and-type-is}

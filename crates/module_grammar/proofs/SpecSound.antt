@@ -1,25 +1,23 @@
 -- Lists of specifications that are read are in the grammar.
-use Rattle.std.proofs.Common.{◌≡◌, ℕ, suc, ◌≤◌, List, [], ◌∷◌, length, Option, Some, None, inl, inr, refl, sym, subst, arith}
+use Rattle.std.proofs.Common.{◌≡◌, ℕ, suc, List, [], ◌∷◌, length, Option, Some, None, inl, inr, refl, sym, subst, arith}
 use Rattle.mlc_base.specs.declared.token.Reserved.{Reserved}
 use Rattle.mlc_base.specs.declared.token.Reserved.TheVariants as res
 use Rattle.sml_tree.specs.Terminal.{LongId, Terminal, reserved, alpha, IsVid, IsTycon, alpha_tycon, symbol_tycon, IsLongTycon}
 use Rattle.sml_tree.specs.declared.ident.Tyvar.{Tyvar}
 use Rattle.sml_tree.specs.ReadTree.{Placed, Ty}
 use Rattle.sml_tree.specs.Grammar.{ReadsTy, MaybeOf, Tyvars, no_tyvars, one_tyvar, tyvars_in_brackets, BeginsAt, at_tyvar, at_bracket, at_tycon}
-use Rattle.sml_tree.specs.Depth.{depth_ty, depth_some}
 use Rattle.sml_grammar.specs.Answer.{Read, ok, Turn, many}
 use Rattle.sml_grammar.specs.Terminals.{Taken, taken, place_of, place_at, first_as, as_vid, as_tycon, as_long_tycon, after_word, separated, NoState, no_state}
 use Rattle.sml_grammar.specs.Types.{read_ty, maybe_ty}
-use Rattle.sml_grammar.specs.Bindings.{read_tyvars, bound_tycon, put_more}
+use Rattle.sml_grammar.specs.Bindings.{read_tyvars, put_more}
 use Rattle.sml_grammar.proofs.Words.{WordAt, at_word, word-at}
 use Rattle.sml_grammar.proofs.Answers.{got_some, not_some, then_ok, then_taken-ok, word_then-ok, on_some-split, separated-ok, GoodTurn, many-ok}
 use Rattle.sml_grammar.proofs.Terminals.{Holds, holds, nothing, Front, front, front-is, vid-is, tycon-is, long_tycon-is}
 use Rattle.sml_grammar.proofs.BindTyvars.{tyvars-sound, Bound, bound, bound-begins, bound-ok}
-use Rattle.sml_grammar.proofs.TypeSound.{ty-sound}
 use Rattle.sml_grammar.proofs.MaybeTypes.{of-sound}
 use Rattle.sml_grammar.proofs.ExpBelow.{Within}
 use Rattle.sml_grammar.proofs.ExpGiven.{below}
-use Rattle.sml_grammar.proofs.ExpTurns.{at-head, given, sep-good}
+use Rattle.sml_grammar.proofs.ExpTurns.{sep-good}
 use Rattle.module_tree.specs.ReadModules.{TypeDesc, ConDesc, DataDesc, ValDesc, WhereType}
 use Rattle.module_tree.specs.ModuleDepth.{depth_con_descs, depth_data_descs, depth_val_descs, depth_where_types}
 use Rattle.module_tree.specs.ModuleGrammar.{IsModuleId, module_id, ValDescs, last_val, more_vals, OneTypeDesc, type_desc, TypeDescs, last_type, more_types, ConDescs, last_con, more_cons, OneDataDesc, data_desc, DataDescs, last_data, more_data, ExDescs, last_ex, more_exs, OneWhere, one_where, WhereTypes, last_where, more_wheres, SigIds, last_sig_id, more_sig_ids, LongTycons, last_tycon, more_tycons}

@@ -1,37 +1,36 @@
 -- Structures and their declarations that are in the grammar, and not too deep, are read.
-use Rattle.std.proofs.Common.{◌≡◌, ℕ, zero, suc, ◌≤◌, ◌<◌, List, [], ◌∷◌, ◌++◌, length, Option, Some, None, Bool, true, false, ◌&&◌, refl, sym, ap, ◌∙◌, subst, arith, nat_le, max}
+use Rattle.std.proofs.Common.{◌≡◌, ℕ, zero, suc, ◌≤◌, ◌<◌, List, [], ◌∷◌, ◌++◌, length, Some, None, Bool, true, false, refl, sym, ap, ◌∙◌, arith, max}
 use Rattle.std.proofs.lemmas.Bool.{le-leb}
 use Rattle.mlc_base.specs.declared.token.Reserved.TheVariants as res
-use Rattle.sml_tree.specs.Terminal.{LongId, Terminal, reserved, alpha, IsLongStrid, short_strid, long_strid}
+use Rattle.sml_tree.specs.Terminal.{LongId, Terminal, reserved, IsLongStrid, short_strid, long_strid}
 use Rattle.sml_tree.specs.Fixity.{Fixity}
-use Rattle.sml_tree.specs.ReadTree.{Placed, Decs, no_decs, dec, Dec}
+use Rattle.sml_tree.specs.ReadTree.{Decs, no_decs, dec, Dec}
 use Rattle.sml_tree.specs.Depth.{depth_decs, depth_dec}
 use Rattle.sml_tree.specs.Levels.{added, after, could_go_on, begins_bar}
 use Rattle.sml_tree.specs.Grammar.{Declares, nothing_more, of_semicolon, of_dec, Declare, of_val, of_fun, of_type, of_datatype, of_withtype, of_replication, of_exception, of_local, of_open, of_infix, of_infixr, of_nonfix}
-use Rattle.sml_grammar.specs.Answer.{bad, deep, deep_if, read, many, whole}
+use Rattle.sml_grammar.specs.Answer.{deep, deep_if, read, many}
 use Rattle.sml_grammar.specs.Terminals.{first_as, as_vid, as_long_strid, after_word, no_state}
 use Rattle.sml_grammar.specs.Types.{ty_could_go_on}
 use Rattle.sml_grammar.specs.Bindings.{read_tyvars, read_type_binds, read_data_binds, read_ex_binds, read_strids, read_vids}
-use Rattle.sml_grammar.specs.Expressions.{readers, begins_atom, read_binds, read_funs, infix_directive, dec_start, is_dec_start}
-use Rattle.sml_grammar.proofs.Answers.{not_true, not_false, not_some, many-last, many-more, many-pass}
-use Rattle.sml_grammar.proofs.Terminals.{tycon-found, long_tycon-found, long_strid-found}
+use Rattle.sml_grammar.specs.Expressions.{readers, begins_atom, read_binds, read_funs, infix_directive}
+use Rattle.sml_grammar.proofs.Answers.{not_true, not_some, many-last, many-more, many-pass}
+use Rattle.sml_grammar.proofs.Terminals.{tycon-found, long_tycon-found}
 use Rattle.sml_grammar.proofs.BindStops.{BindStops}
 use Rattle.sml_grammar.proofs.BindTypes as type_binds
 use Rattle.sml_grammar.proofs.BindDatatypes as data_binds
 use Rattle.sml_grammar.proofs.BindExceptions as ex_binds
 use Rattle.sml_grammar.proofs.CompFacts as facts
-use Rattle.sml_grammar.proofs.CompQuiet.{Plain, Quiet}
+use Rattle.sml_grammar.proofs.CompQuiet.{Quiet}
 use Rattle.sml_grammar.proofs.CompHeads.{binds-tyvars, funs-tyvars, data-not_replicated}
 use Rattle.sml_grammar.proofs.CompDecs.{binds-complete, funs-complete}
 use Rattle.sml_grammar.proofs.CompMain.{exp-complete}
-use Rattle.module_tree.specs.ReadModules.{Seal, SigExp, MaybeSig, no_sig, sealed, StrExp, struct_end, str_id, constrained, applied, applied_to_decs, let_str, StrDecs, no_str_decs, str_dec, StrDec, core_dec, structure_dec, local_str, StrBinds, last_str, str_and, StrBind, str_bind}
+use Rattle.module_tree.specs.ReadModules.{Seal, SigExp, MaybeSig, StrExp, struct_end, str_id, constrained, applied, applied_to_decs, let_str, StrDecs, no_str_decs, str_dec, StrDec, core_dec, StrBinds, str_and, str_bind}
 use Rattle.module_tree.specs.Scope.{are_core_decs, added_decs, after_decs, after_str_dec}
-use Rattle.module_tree.specs.ModuleDepth.{depth_sig, depth_maybe_sig, depth_str, depth_str_decs, depth_str_dec, depth_str_binds, depth_str_bind}
-use Rattle.module_tree.specs.ModuleGrammar.{module_id, ReadsSig, IsSeal, is_colon, is_opaque, ReadsMaybeSig, without_sig, with_sig, ReadsStr, of_struct, of_str_id, of_constrained, of_applied, of_applied_to_decs, of_let_str, ReadsStrDecs, no_more_decs, dec_semicolon, of_str_dec, ReadsStrDec, of_core_dec, of_structure, of_local_str, ReadsStrBinds, of_last_str, of_str_and, ReadsStrBind, of_str_bind}
+use Rattle.module_tree.specs.ModuleDepth.{depth_maybe_sig, depth_str, depth_str_decs, depth_str_dec, depth_str_binds}
+use Rattle.module_tree.specs.ModuleGrammar.{module_id, IsSeal, is_colon, is_opaque, ReadsMaybeSig, without_sig, with_sig, ReadsStr, of_struct, of_str_id, of_constrained, of_applied, of_applied_to_decs, of_let_str, ReadsStrDecs, no_more_decs, dec_semicolon, of_str_dec, ReadsStrDec, of_core_dec, of_structure, of_local_str, ReadsStrBinds, of_last_str, of_str_and, of_str_bind}
 use Rattle.module_grammar.specs.Signatures.{and_type, read_sig}
 use Rattle.module_grammar.specs.Structures.{core_decs, sealing, maybe_sig, StrReader, StrDecsReader, StrReaders, str_id_start, str_start, begins_str, seal_suffix, str_from, str_bind_turn, read_str_binds, str_dec_by, begins_str_dec, str_dec_turn, str_decs_from, str_readers}
-use Rattle.module_grammar.proofs.Shorter.{sig-shorter, str-shorter, str-bind-shorter, str-dec-shorter}
-use Rattle.module_grammar.proofs.SpecComplete.{WhereStops}
+use Rattle.module_grammar.proofs.Shorter.{sig-shorter, str-bind-shorter, str-dec-shorter}
 use Rattle.module_grammar.proofs.SigComplete.{SigStops, sig-complete}
 
 -- what a structure could go on with

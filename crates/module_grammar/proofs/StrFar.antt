@@ -1,19 +1,19 @@
 -- Where structures and their declarations are too deep, a partial one is there.
-use Rattle.std.proofs.Common.{◌≡◌, ℕ, zero, suc, ◌≤◌, ◌<◌, List, [], ◌∷◌, length, Option, Some, None, Bool, true, false, inl, inr, refl, sym, subst, arith, nat_le}
+use Rattle.std.proofs.Common.{◌≡◌, ℕ, zero, suc, ◌≤◌, ◌<◌, List, ◌∷◌, length, true, false, inl, inr, refl, arith, nat_le}
 use Rattle.std.proofs.lemmas.Bool.{leb-true, leb-false}
 use Rattle.mlc_base.specs.declared.token.Reserved.TheVariants as res
-use Rattle.sml_tree.specs.Terminal.{LongId, Terminal, reserved, alpha, IsLongStrid, short_strid}
+use Rattle.sml_tree.specs.Terminal.{Terminal, reserved, alpha, short_strid}
 use Rattle.sml_tree.specs.Fixity.{Fixity}
 use Rattle.sml_tree.specs.ReadTree.{Placed, DataBind, Dec}
 use Rattle.sml_tree.specs.Grammar.{DataBinds}
-use Rattle.sml_grammar.specs.Answer.{Answer, Read, ok, bad, deep, read, then_read, Turn, many, whole, deep_if}
+use Rattle.sml_grammar.specs.Answer.{Read, ok, bad, deep, read, then_read, Turn, deep_if}
 use Rattle.sml_grammar.specs.Terminals.{first_as, as_long_tycon, after_word, NoState, no_state}
 use Rattle.sml_grammar.specs.Bindings.{read_tyvars, read_type_binds, read_data_binds, read_ex_binds, read_strids, read_vids}
-use Rattle.sml_grammar.specs.Expressions.{readers, read_binds, read_funs, DecStart, dec_start, infix_directive, withtype_rest, replicated, datatype_form, dec_by}
+use Rattle.sml_grammar.specs.Expressions.{readers, read_binds, read_funs, DecStart, infix_directive, withtype_rest, replicated, datatype_form, dec_by}
 use Rattle.sml_grammar.specs.Partial.{OpensDec, in_val, in_fun, in_type, in_datatype, in_withtype, in_exception}
 use Rattle.sml_grammar.proofs.Words.{WordAt, at_word, word-at}
-use Rattle.sml_grammar.proofs.Answers.{chosen, then_ok, then_deep, then_taken-ok, then_taken-deep, word_then-ok, word_then-deep, on_some-split, on_taken-split, separated-deep, not_deep, not_true, bad_deep, bad_ok, deep_ok, deep_if-ok, if-deep, FarTurn, many-reach}
-use Rattle.sml_grammar.proofs.Terminals.{Front, front}
+use Rattle.sml_grammar.proofs.Answers.{chosen, then_ok, then_deep, then_taken-ok, then_taken-deep, word_then-ok, word_then-deep, on_some-split, on_taken-split, separated-deep, not_deep, not_true, bad_deep, deep_ok, deep_if-ok, if-deep, FarTurn, many-reach}
+use Rattle.sml_grammar.proofs.Terminals.{front}
 use Rattle.sml_grammar.proofs.BindTyvars.{tyvars-here}
 use Rattle.sml_grammar.proofs.BindNames.{precedence-sound}
 use Rattle.sml_grammar.proofs.ExpLevels.{DecStartIs, is_val, is_fun, is_type, is_datatype, is_exception, is_local, is_open, is_infix_dec, is_infixr_dec, is_nonfix_dec, is_no_dec, dec-start-is}
@@ -23,19 +23,19 @@ use Rattle.sml_grammar.proofs.ExpReaders.{exp-sound}
 use Rattle.sml_grammar.proofs.ExpFar.{readers-far}
 use Rattle.sml_grammar.proofs.ExpFarBinds.{binds-far, funs-far}
 use Rattle.sml_grammar.proofs.ExpTurns.{at-head, at-front, given}
-use Rattle.module_tree.specs.ReadModules.{Seal, SigExp, MaybeSig, StrExp, StrDecs, StrDec, structure_dec, core_dec, StrBinds, str_and, last_str, StrBind, str_bind}
-use Rattle.module_tree.specs.Scope.{after_decs, after_str_dec}
+use Rattle.module_tree.specs.ReadModules.{Seal, MaybeSig, StrExp, StrDecs, StrDec, structure_dec, core_dec, StrBinds, str_and, last_str, StrBind, str_bind}
+use Rattle.module_tree.specs.Scope.{after_decs}
 use Rattle.module_tree.specs.ModuleDepth.{depth_str, depth_str_decs}
-use Rattle.module_tree.specs.ModuleGrammar.{IsModuleId, module_id, ReadsSig, IsSeal, is_colon, is_opaque, ReadsMaybeSig, ReadsStr, ReadsStrDecs, ReadsStrBind}
+use Rattle.module_tree.specs.ModuleGrammar.{module_id, ReadsMaybeSig, ReadsStr, ReadsStrDecs, ReadsStrBind}
 use Rattle.module_grammar.specs.Signatures.{as_module_id, read_sig}
-use Rattle.module_grammar.specs.Structures.{Sealing, sealing, maybe_sig, StrReader, StrDecsReader, StrReaders, StrStart, str_start, begins_str, let_rest, argument, str_atom, seal_suffix, str_from, str_bind_turn, read_str_binds, local_rest, core_dec_by, str_dec_by, begins_str_dec, str_dec_turn, str_decs_from, str_readers}
+use Rattle.module_grammar.specs.Structures.{sealing, maybe_sig, StrReader, StrDecsReader, StrReaders, StrStart, str_start, begins_str, let_rest, argument, str_atom, seal_suffix, str_from, str_bind_turn, read_str_binds, local_rest, core_dec_by, str_dec_by, begins_str_dec, str_dec_turn, str_decs_from, str_readers}
 use Rattle.module_grammar.specs.PartialSignatures.{OpensSig}
 use Rattle.module_grammar.specs.PartialModules.{BeginsStr, with_struct, with_let, with_str_id, begins_local, OpensStr, begun_str, in_struct, signed, in_signature, in_argument, in_argument_decs, in_let, in_let_body, OpensStrDecs, past_no_dec, in_str_dec, past_str_dec, OpensStrDec, in_core_dec, begun_local_str, in_local_str, in_local_str_body, in_structure, OpensStrBinds, in_str_sig, in_str_body, past_str_bind}
 use Rattle.module_grammar.proofs.SpecSound.{IdAt, id_at, id-is}
 use Rattle.module_grammar.proofs.SigSound.{sig-sound}
 use Rattle.module_grammar.proofs.SigFar.{sig-far}
 use Rattle.module_grammar.proofs.SpecFar.{sep-far}
-use Rattle.module_grammar.proofs.StrSound.{SealAt, at_seal, sealing-is, constrain, maybe-sig-sound, StrStartIs, is_struct, is_let, is_functor, is_str_id, is_no_str, str-start-is, SoundsStr, SoundsStrDecs, atom-sound, bind-one, str-dec-sound, SoundStrReaders, str-readers-sound, str-from-sound}
+use Rattle.module_grammar.proofs.StrSound.{SealAt, at_seal, sealing-is, constrain, maybe-sig-sound, StrStartIs, is_struct, is_let, is_functor, is_str_id, is_no_str, str-start-is, SoundsStr, SoundsStrDecs, atom-sound, bind-one, str-dec-sound, str-readers-sound, str-from-sound}
 
 abbrev pub FarsStr : ℕ → StrReader → Type 0
 FarsStr n str = (f : Fixity) (i : List Terminal) → str f i ≡ deep → OpensStr f i (suc n)

@@ -1,18 +1,17 @@
 -- Structures and their declarations that are read are in the grammar.
-use Rattle.std.proofs.Common.{◌≡◌, ℕ, zero, suc, ◌≤◌, List, [], ◌∷◌, ◌++◌, length, Option, Some, None, Bool, true, false, ◌&&◌, inl, inr, refl, sym, ap, subst, arith, nat_le, max, if◌then◌else◌}
+use Rattle.std.proofs.Common.{◌≡◌, ℕ, zero, suc, ◌≤◌, List, ◌∷◌, ◌++◌, length, Some, Bool, true, false, ◌&&◌, inl, inr, refl, sym, ap, subst, arith, nat_le, max, if◌then◌else◌}
 use Rattle.std.proofs.lemmas.Bool.{leb-true}
 use Rattle.mlc_base.specs.declared.token.Reserved.TheVariants as res
-use Rattle.sml_tree.specs.declared.fixity.Directive.{Directive}
 use Rattle.sml_tree.specs.Terminal.{LongId, Terminal, reserved, alpha, long_alpha, IsLongStrid, short_strid, long_strid}
 use Rattle.sml_tree.specs.Fixity.{Fixity}
-use Rattle.sml_tree.specs.ReadTree.{Placed, Decs, Dec, local_dec}
+use Rattle.sml_tree.specs.ReadTree.{Placed, local_dec}
 use Rattle.sml_tree.specs.Depth.{depth_decs, depth_dec}
 use Rattle.sml_tree.specs.Levels.{added, after}
-use Rattle.sml_tree.specs.Grammar.{Declares, nothing_more, of_semicolon, of_dec, Declare, of_local}
-use Rattle.sml_grammar.specs.Answer.{Answer, Read, ok, bad, deep, read, Turn, many, whole, deep_if, then_read}
-use Rattle.sml_grammar.specs.Terminals.{Taken, first_as, after_word, NoState, no_state}
-use Rattle.sml_grammar.specs.Expressions.{readers, DecStart, dec_start, is_dec_start, dec_by}
-use Rattle.sml_grammar.proofs.Words.{WordAt, at_word, word-at}
+use Rattle.sml_tree.specs.Grammar.{Declares, nothing_more, of_semicolon, of_dec, of_local}
+use Rattle.sml_grammar.specs.Answer.{Read, ok, bad, deep, read, Turn, deep_if, then_read}
+use Rattle.sml_grammar.specs.Terminals.{first_as, after_word, NoState, no_state}
+use Rattle.sml_grammar.specs.Expressions.{readers, DecStart, dec_by}
+use Rattle.sml_grammar.proofs.Words.{word-at}
 use Rattle.sml_grammar.proofs.Answers.{chosen, got_some, not_some, not_true, then_ok, then_taken-ok, word_then-ok, on_some-split, bad_ok, deep_ok, deep_if-ok, at-path, GoodTurn, many-ok}
 use Rattle.sml_grammar.proofs.Terminals.{Front, front}
 use Rattle.sml_grammar.proofs.ExpBelow.{Within}
@@ -22,12 +21,12 @@ use Rattle.sml_grammar.proofs.ExpReaders.{exp-sound}
 use Rattle.sml_grammar.proofs.ExpSoundBinds.{and-split}
 use Rattle.sml_grammar.proofs.ExpSoundDecs.{dec-sound}
 use Rattle.sml_grammar.proofs.ExpTurns.{at-head, at-front, given, sep-good}
-use Rattle.module_tree.specs.ReadModules.{Seal, SigExp, MaybeSig, sealed, StrExp, struct_end, str_id, constrained, StrDecs, no_str_decs, str_dec, StrDec, core_dec, structure_dec, local_str, StrBinds, last_str, str_and, StrBind, str_bind, applied, applied_to_decs, let_str}
-use Rattle.module_tree.specs.Scope.{are_core_decs, added_decs, after_decs, after_str_dec}
-use Rattle.module_tree.specs.ModuleDepth.{depth_sig, depth_maybe_sig, depth_str, depth_str_decs, depth_str_dec, depth_str_binds, depth_str_bind}
+use Rattle.module_tree.specs.ReadModules.{Seal, SigExp, MaybeSig, sealed, StrExp, str_id, constrained, StrDecs, no_str_decs, str_dec, StrDec, core_dec, structure_dec, local_str, StrBinds, last_str, str_and, str_bind}
+use Rattle.module_tree.specs.Scope.{are_core_decs, added_decs, after_decs}
+use Rattle.module_tree.specs.ModuleDepth.{depth_maybe_sig, depth_str, depth_str_decs, depth_str_dec, depth_str_binds}
 use Rattle.module_tree.specs.ModuleGrammar.{module_id, ReadsSig, IsSeal, is_colon, is_opaque, ReadsMaybeSig, without_sig, with_sig, ReadsStr, of_struct, of_str_id, of_constrained, of_applied, of_applied_to_decs, of_let_str, ReadsStrDecs, no_more_decs, dec_semicolon, of_str_dec, ReadsStrDec, of_core_dec, of_structure, of_local_str, ReadsStrBinds, of_last_str, of_str_and, ReadsStrBind, of_str_bind}
 use Rattle.module_grammar.specs.Signatures.{as_module_id, read_sig}
-use Rattle.module_grammar.specs.Structures.{core_decs, local_of, Sealing, sealing, maybe_sig, StrReader, StrDecsReader, StrReaders, StrStart, struct_start, let_start, functor_start, str_id_start, no_str_start, str_start, begins_str, let_rest, argument, str_atom, seal_suffix, str_from, str_bind_turn, read_str_binds, local_rest, core_dec_by, str_dec_by, begins_str_dec, str_dec_turn, str_decs_from, str_readers}
+use Rattle.module_grammar.specs.Structures.{core_decs, Sealing, sealing, maybe_sig, StrReader, StrDecsReader, StrReaders, StrStart, struct_start, let_start, functor_start, str_id_start, no_str_start, str_start, begins_str, let_rest, argument, str_atom, seal_suffix, str_from, str_bind_turn, read_str_binds, local_rest, core_dec_by, str_dec_by, begins_str_dec, str_dec_turn, str_decs_from, str_readers}
 use Rattle.module_grammar.proofs.SpecSound.{IdAt, id_at, id-is}
 use Rattle.module_grammar.proofs.SigSound.{sig-sound}
 

@@ -1,5 +1,5 @@
 -- What the reading function gives, and that the grammar is not ambiguous.
-use Rattle.std.specs.Prelude.{ℕ, suc, ◌≡◌, ◌≤◌, ◌<◌, Bool, true, List, []}
+use Rattle.std.specs.Prelude.{ℕ, suc, ◌≡◌, ◌≤◌, ◌<◌, true, List, []}
 use Rattle.sml_tree.specs.Terminal.{Terminal}
 use Rattle.sml_tree.specs.Fixity.{Fixity}
 use Rattle.module_tree.specs.ReadModules.{Top}

@@ -1,11 +1,11 @@
 -- How signatures and specifications are read. `read_sig n` reads a signature that is at most n deep.
-use Rattle.std.specs.Prelude.{ℕ, zero, suc, List, [], ◌∷◌, Option, Some, None, Bool, true, false, ◌||◌, nat_le, if◌then◌else◌}
+use Rattle.std.specs.Prelude.{ℕ, zero, suc, List, [], ◌∷◌, Option, Some, None, Bool, true, false, nat_le, if◌then◌else◌}
 use Rattle.mlc_base.specs.declared.token.Reserved.{Reserved}
 use Rattle.mlc_base.specs.declared.token.Reserved.TheVariants as res
 use Rattle.sml_tree.specs.Terminal.{LongId, Terminal, reserved, alpha}
 use Rattle.sml_tree.specs.ReadTree.{Placed}
 use Rattle.sml_grammar.specs.Answer.{Answer, bad, deep, read, then_read, deep_if, Turn, last, more, whole}
-use Rattle.sml_grammar.specs.Terminals.{Taken, taken, place_at, first_as, as_vid, as_tycon, as_long_tycon, after_word, on_some, on_taken, then_taken, word_then, separated, NoState, no_state}
+use Rattle.sml_grammar.specs.Terminals.{Taken, place_at, first_as, as_vid, as_tycon, as_long_tycon, after_word, on_some, on_taken, then_taken, word_then, separated, NoState, no_state}
 use Rattle.sml_grammar.specs.Types.{read_ty, maybe_ty}
 use Rattle.sml_grammar.specs.Bindings.{read_tyvars, bound_tycon, read_type_binds, put_more}
 use Rattle.sml_grammar.specs.Expressions.{replicated}

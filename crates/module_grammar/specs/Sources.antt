@@ -1,5 +1,5 @@
 -- How a source is read: declarations of structures, signatures and functors, and expressions.
-use Rattle.std.specs.Prelude.{ℕ, zero, suc, List, [], ◌∷◌, Option, Some, None, Bool, true, false, if◌then◌else◌}
+use Rattle.std.specs.Prelude.{ℕ, zero, suc, List, [], ◌∷◌, Bool, true, if◌then◌else◌}
 use Rattle.mlc_base.specs.declared.token.Reserved.TheVariants as res
 use Rattle.sml_tree.specs.Terminal.{Terminal, reserved, alpha}
 use Rattle.sml_tree.specs.Fixity.{Fixity}
@@ -7,7 +7,7 @@ use Rattle.sml_tree.specs.ReadTree.{Placed}
 use Rattle.sml_grammar.specs.Answer.{Answer, bad, deep, read, then_read, Turn, last, more, whole}
 use Rattle.sml_grammar.specs.Terminals.{first_as, after_word, on_some, then_taken, word_then, separated, NoState, no_state}
 use Rattle.sml_grammar.specs.Expressions.{readers}
-use Rattle.module_tree.specs.ReadModules.{MaybeSig, StrExp, Parameter, structure_parameter, spec_parameter, FunBind, SigBind, Top, str_top, signature_top, functor_top, exp_top}
+use Rattle.module_tree.specs.ReadModules.{Parameter, structure_parameter, spec_parameter, FunBind, SigBind, Top, str_top, signature_top, functor_top, exp_top}
 use Rattle.module_tree.specs.Scope.{after_top}
 use Rattle.module_tree.specs.ModuleGrammar.{ends_in_semicolon}
 use Rattle.module_grammar.specs.Signatures.{as_module_id, id_then, read_sig, specs_from}

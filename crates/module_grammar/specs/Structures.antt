@@ -1,14 +1,14 @@
 -- How structures and their declarations are read. `(str_readers n).str f` reads a structure expression that is at most n deep, and
 -- `(str_readers n).decs f` declarations.
-use Rattle.std.specs.Prelude.{ℕ, zero, suc, List, [], ◌∷◌, Option, Some, None, Bool, true, false, ◌&&◌, nat_le, if◌then◌else◌}
+use Rattle.std.specs.Prelude.{ℕ, zero, suc, List, ◌∷◌, Option, Some, None, Bool, true, false, ◌&&◌, nat_le, if◌then◌else◌}
 use Rattle.mlc_base.specs.declared.token.Reserved.TheVariants as res
 use Rattle.sml_tree.specs.Terminal.{LongId, Terminal, reserved, alpha}
 use Rattle.sml_tree.specs.Fixity.{Fixity}
-use Rattle.sml_tree.specs.ReadTree.{Placed, Decs, no_decs, dec, Dec, local_dec}
+use Rattle.sml_tree.specs.ReadTree.{Placed, Decs, no_decs, dec, local_dec}
 use Rattle.sml_grammar.specs.Answer.{Answer, bad, deep, read, then_read, deep_if, Turn, last, more, whole}
-use Rattle.sml_grammar.specs.Terminals.{Taken, first_as, as_long_strid, after_word, on_some, on_taken, then_taken, word_then, separated, NoState, no_state}
-use Rattle.sml_grammar.specs.Expressions.{DecsReader, readers, DecStart, local_start, dec_start, is_dec_start, dec_by}
-use Rattle.module_tree.specs.ReadModules.{Seal, transparent, opaque, MaybeSig, no_sig, sealed, StrExp, struct_end, str_id, constrained, applied, applied_to_decs, let_str, StrDecs, no_str_decs, str_dec, StrDec, core_dec, structure_dec, local_str, StrBinds, last_str, str_and, StrBind, str_bind}
+use Rattle.sml_grammar.specs.Terminals.{Taken, first_as, as_long_strid, after_word, on_some, then_taken, word_then, separated, NoState, no_state}
+use Rattle.sml_grammar.specs.Expressions.{readers, DecStart, local_start, dec_start, is_dec_start, dec_by}
+use Rattle.module_tree.specs.ReadModules.{Seal, transparent, opaque, MaybeSig, no_sig, sealed, StrExp, struct_end, str_id, constrained, applied, applied_to_decs, let_str, StrDecs, no_str_decs, str_dec, StrDec, core_dec, structure_dec, local_str, StrBinds, last_str, str_and, str_bind}
 use Rattle.module_tree.specs.Scope.{are_core_decs, after_decs, after_str_dec}
 use Rattle.module_tree.specs.ModuleDepth.{depth_str}
 use Rattle.module_grammar.specs.Signatures.{as_module_id, read_sig}

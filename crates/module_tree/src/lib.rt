@@ -1,3 +1,2 @@
 // The trees and the grammar of programs with modules.
 #![tactic(auto)]
-
