@@ -5,3 +5,4 @@ pub mod Rows
 pub mod MoreRows
 pub mod LastRows
 pub mod IntRows
+mod Examples

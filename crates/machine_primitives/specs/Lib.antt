@@ -1,3 +1,4 @@
 pub mod RowLaws
 pub mod RowCode
 pub mod Laws
+pub mod Table
