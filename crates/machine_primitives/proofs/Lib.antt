@@ -6,3 +6,4 @@ pub mod MoreRows
 pub mod LastRows
 pub mod IntRows
 mod Examples
+mod Quotients
