@@ -7,3 +7,6 @@ pub mod LastRows
 pub mod IntRows
 mod Examples
 mod Quotients
+mod Window
+mod Divisions
+mod TextOrders

@@ -85,8 +85,8 @@ rounded_down_fits law a d fits some apart =
     let l = law a d (apart_zero d some) in quotient_fits a d (floor_div a d) (floor_mod a d) fits some apart l.whole (floored_small law a d some)
 
 -- The least integer by -1 is Overflow.
-least_down : int_result (floor_div (int_of (2 ^ 31)) (int_of (2 ^ 32 - 1))) ≡ raised Overflow
+pub least_down : int_result (floor_div (int_of (2 ^ 31)) (int_of (2 ^ 32 - 1))) ≡ raised Overflow
 least_down = refl
 
-least_towards_zero : int_result (int_div (int_of (2 ^ 31)) (int_of (2 ^ 32 - 1))) ≡ raised Overflow
+pub least_towards_zero : int_result (int_div (int_of (2 ^ 31)) (int_of (2 ^ 32 - 1))) ≡ raised Overflow
 least_towards_zero = refl
