@@ -10,3 +10,4 @@ mod Quotients
 mod Window
 mod Divisions
 mod TextOrders
+mod MoreTexts

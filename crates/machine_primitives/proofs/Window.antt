@@ -1,14 +1,15 @@
 -- Single instructions on the words behind the front of a frame, and the memory that they may change.
-use Rattle.std.proofs.Common.{◌≡◌, ℕ, ◌+◌, ◌<◌, ◌≤◌, List, ◌∷◌, ◌++◌, length, take, drop, Some, true, false, ◌&&◌, sym, ap, ◌∙◌, subst, arith, append_assoc, length-append}
+use Rattle.std.proofs.Common.{◌≡◌, ℕ, suc, ◌+◌, ◌-◌, ◌%◌, ◌<◌, ◌≤◌, ◌^◌, List, [], ◌∷◌, ◌++◌, length, take, drop, Some, true, false, ◌&&◌, sym, ap, ◌∙◌, subst, arith, append_assoc, append-nil, length-append}
 use Rattle.std.specs.Prelude.{slice_get, slice_set, nat_lt, nat_le, ◌==◌}
 use Rattle.std.specs.Cmp.Lexicographic.{slice_cmp}
 use Rattle.std.specs.Ordering.{nat_cmp}
 use Rattle.std.proofs.lemmas.Bool.{lt-ltb, le-ltb, lt-leb, le-leb, and_from, or_right}
 use Rattle.std.proofs.lemmas.List.{take_at, drop_at}
+use Rattle.std.proofs.Math.Nat.{add-mod_right, mod-eq_of_lt}
 use Rattle.ir_code.specs.declared.instr.Instr.{Instr}
-use Rattle.ir_code.specs.declared.instr.Instr.TheVariants.{Li, Mov, Jmp, Brz, Alloc, AllocVar, Ld, St, Copy, SCmp}
+use Rattle.ir_code.specs.declared.instr.Instr.TheVariants.{Li, Mov, Jmp, Brz, Alloc, AllocVar, Ld, St, Copy, WAdd, WSub, SCmp, IText}
 use Rattle.ir_code.specs.declared.halt.Halt.TheVariants.{NoHeap, NoStack}
-use Rattle.ir_code.specs.Words.{order_code, write_at}
+use Rattle.ir_code.specs.Words.{order_code, word_sum, word_difference, int_text, write_at}
 use Rattle.ir_code.specs.Machine.{State, StepResult, Goes, Halts, act, check, on_slot, with_word, with_slot, grow, may_copy, next, put}
 use Rattle.ir_code.specs.Laws.{ControlLaws, MemoryLaws, ArithmeticLaws, NextLaws, Total}
 use Rattle.first_values.specs.Values.{Value}
@@ -47,6 +48,11 @@ copied mem don junk1 junk2 part free y e l =
     ∙ ap (λ z. pre ++ (part ++ drop (y + length part) z)) whole1
     ∙ ap (λ z. pre ++ (part ++ z)) back
     ∙ sym end
+
+-- what the machine goes on with after it read the operand of ITEXT
+abbrev written : State → ℕ → ℕ → StepResult
+written s x v = check (nat_le (s.limit + 1 + length (int_text v)) (length s.memory)) NoHeap s
+    (Goes (next (record (put s x s.limit) { memory = write_at s.memory s.limit (length (int_text v) ∷ int_text v); limit = s.limit + 1 + length (int_text v) })))
 
 module _ (C : ControlLaws) (M : MemoryLaws) (A : ArithmeticLaws) (N : NextLaws) (code : List Instr) (f : Frame) (front : List ℕ) where
   -- the words ws stand behind the front
@@ -96,6 +102,21 @@ module _ (C : ControlLaws) (M : MemoryLaws) (A : ArithmeticLaws) (N : NextLaws) 
     scmp lay y z v w t u e h show i j has =
         step_to code N (SCmp x y z) has (steps.does_scmp C M A f pc (front ++ ws) mem free lay x y z v w t u (room ws k x here lt) e h show i j ∙ puts (order_code (slice_cmp nat_cmp t u)))
 
+    -- a sum that is a word
+    pub add : (y z v w : ℕ) → slice_get (front ++ ws) y ≡ Some v → slice_get (front ++ ws) z ≡ Some w → v + w < 2 ^ 32 → slice_get code pc ≡ Some (WAdd x y z)
+        → Leads code (at pc ws mem free) (at (pc + 1) (slice_set ws k (v + w)) mem free)
+    add y z v w e h small has =
+        subst (λ n. Leads code (at pc ws mem free) (at (pc + 1) (slice_set ws k n) mem free)) (mod-eq_of_lt small) (two WAdd word_sum A.wadd y z v w e h has)
+
+    -- a difference of a word and one that is no greater
+    pub less : (y z v w : ℕ) → slice_get (front ++ ws) y ≡ Some v → slice_get (front ++ ws) z ≡ Some w → w ≤ v → v < 2 ^ 32 → slice_get code pc ≡ Some (WSub x y z)
+        → Leads code (at pc ws mem free) (at (pc + 1) (slice_set ws k (v - w)) mem free)
+    less y z v w e h le small has =
+        let n : v + (2 ^ 32 - w) ≡ v - w + 2 ^ 32 = omega arith in
+        let lt : v - w < 2 ^ 32 = omega arith in
+        let is : word_difference v w ≡ v - w = ap (λ n. n % 2 ^ 32) n ∙ add-mod_right (v - w) (2 ^ 32) ∙ mod-eq_of_lt lt in
+        subst (λ n. Leads code (at pc ws mem free) (at (pc + 1) (slice_set ws k n) mem free)) is (two WSub word_difference A.wsub y z v w e h has)
+
     -- new words, where there are so many
     pub alloc : (n : ℕ) (new free' : List ℕ) → free ≡ new ++ free' → length new ≡ n → slice_get code pc ≡ Some (Alloc x n)
         → Leads code (at pc ws mem free) (at (pc + 1) (slice_set ws k (length mem)) (mem ++ new) free')
@@ -130,6 +151,43 @@ module _ (C : ControlLaws) (M : MemoryLaws) (A : ArithmeticLaws) (N : NextLaws) 
         (ap (λ b. check b NoStack s (with_slot s y (λ v. grow s x v))) there
         ∙ ap (λ o. with_word o s (λ v. grow s x v)) (steps.holds C M A f pc (front ++ ws) mem free y n g)
         ∙ ap (λ b. check b NoHeap s (Goes (next (record (put s x (length mem)) { limit = length mem + n })))) none)
+
+    pub does_itext : (y v : ℕ) (t new free' : List ℕ) → int_text v ≡ t → slice_get (front ++ ws) y ≡ Some v → free ≡ new ++ free' → length new ≡ suc (length t)
+        → act (at pc ws mem free) (IText x y) ≡ Goes (at (pc + 1) (slice_set ws k (length mem)) (mem ++ (length t ∷ t)) free')
+    does_itext y v t new free' is g e l =
+        let s = at pc ws mem free in
+        let words = length t ∷ t in
+        let same : length (int_text v) ≡ length t = ap length is in
+        let enough : length mem + 1 + length (int_text v) ≤ length (mem ++ free) = omega (arith, same, length-append mem free, ap length e, length-append new free') in
+        let stack = f.lower ++ slice_set (front ++ ws) x (length mem) in
+        let size : length mem + 1 + length t ≡ length (mem ++ words) = omega (arith, length-append mem words) in
+        let memory : write_at (mem ++ free) (length mem) words ≡ (mem ++ words) ++ free' =
+        ap (λ z. write_at (mem ++ z) (length mem) words) e ∙ ap (λ z. write_at z (length mem) words) (sym (append_assoc mem new free'))
+        ∙ ap (λ z. write_at ((mem ++ z) ++ free') (length mem) words) (sym (append-nil new)) ∙ copied mem [] new [] words free' (length mem) (omega arith) l
+        ∙ ap (λ z. (mem ++ z) ++ free') (append-nil words) in
+        M.itext s x y v (steps.has C M A f pc (front ++ ws) mem free x (room ws k x here lt)) (steps.holds C M A f pc (front ++ ws) mem free y v g) enough
+        ∙ ap (λ z. Goes (record s { pc = pc + 1; stack = z; memory = write_at (mem ++ free) (length mem) (length (int_text v) ∷ int_text v); limit = length mem + 1 + length (int_text v) })) (set_right f.lower (front ++ ws) x (length mem))
+        ∙ ap (λ t. Goes (record s { pc = pc + 1; stack = stack; memory = write_at (mem ++ free) (length mem) (length t ∷ t); limit = length mem + 1 + length t })) is
+        ∙ ap (λ z. Goes (record s { pc = pc + 1; stack = stack; memory = write_at (mem ++ free) (length mem) words; limit = z })) size
+        ∙ ap (λ z. Goes (record s { pc = pc + 1; stack = stack; memory = z; limit = length (mem ++ words) })) memory
+        ∙ ap (λ z. Goes (inside f (pc + 1) z (mem ++ words) free')) (placed ws k x (length mem) here)
+
+    -- an integer in decimal, where there is room
+    abbrev pub itext : (y v : ℕ) (t new free' : List ℕ) → int_text v ≡ t → slice_get (front ++ ws) y ≡ Some v → free ≡ new ++ free' → length new ≡ suc (length t) → slice_get code pc ≡ Some (IText x y)
+        → Leads code (at pc ws mem free) (at (pc + 1) (slice_set ws k (length mem)) (mem ++ (length t ∷ t)) free')
+    itext y v t new free' is g e l has = step_to code N (IText x y) has (does_itext y v t new free' is g e l)
+
+    pub no_itext : (y v : ℕ) (t : List ℕ) → int_text v ≡ t → slice_get (front ++ ws) y ≡ Some v → length free < suc (length t) → slice_get code pc ≡ Some (IText x y) → RunsOut code (at pc ws mem free)
+    no_itext y v t is g short has =
+        let s = at pc ws mem free in
+        let t' = int_text v in
+        let same : length (int_text v) ≡ length t = ap length is in
+        let none : nat_le (length mem + 1 + length (int_text v)) (length (mem ++ free)) ≡ false = lt-leb _ _ (omega (arith, same, length-append mem free)) in
+        let there : nat_lt (length f.lower + x) (length (f.lower ++ (front ++ ws))) ≡ true = lt-ltb _ _ (steps.has C M A f pc (front ++ ws) mem free x (room ws k x here lt)) in
+        cut code N NoHeap s (IText x y) has
+        (ap (λ b. check b NoStack s (with_slot s y (written s x))) there
+        ∙ ap (λ o. with_word o s (written s x)) (steps.holds C M A f pc (front ++ ws) mem free y v g)
+        ∙ ap (λ b. check b NoHeap s (Goes (next (record (put s x (length mem)) { memory = write_at (mem ++ free) (length mem) (length (int_text v) ∷ int_text v); limit = length mem + 1 + length (int_text v) })))) none)
 
   module _ (pc : ℕ) (ws mem free : List ℕ) where
     abbrev pub jmp : (target : ℕ) → slice_get code pc ≡ Some (Jmp target) → Leads code (at pc ws mem free) (at target ws mem free)
