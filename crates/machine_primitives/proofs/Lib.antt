@@ -11,3 +11,6 @@ mod Window
 mod Divisions
 mod TextOrders
 mod MoreTexts
+mod TextRows
+mod TextParts
+mod TextJoins
