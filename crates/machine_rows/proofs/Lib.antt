@@ -1,0 +1,2 @@
+mod AllRows
+mod Bounds
