@@ -1,13 +1,13 @@
 -- Divisions and absolute values of integers.
-use Rattle.std.proofs.Common.{◌≡◌, ℕ, zero, suc, ◌+◌, ◌-◌, ◌/◌, ◌%◌, ◌<◌, ◌≤◌, ◌^◌, List, [], ◌∷◌, ◌++◌, length, Option, Some, None, Bool, true, false, ◌&&◌, ◌||◌, refl, sym, ap, ◌∙◌, subst, ⊎_elim, arith}
-use Rattle.std.specs.Prelude.{ℤ, pos, negsuc, neg_ℤ, int_div, int_rem, int_lt, unsigned_abs, slice_get, nat_lt, ◌==◌, if◌then◌else◌, FitsSigned}
+use Rattle.std.proofs.Common.{◌≡◌, ℕ, zero, suc, ◌+◌, ◌-◌, ◌/◌, ◌%◌, ◌<◌, ◌^◌, List, [], ◌∷◌, ◌++◌, length, Option, Some, None, Bool, true, false, ◌&&◌, ◌||◌, refl, sym, ap, ◌∙◌, subst, arith}
+use Rattle.std.specs.Prelude.{ℤ, pos, negsuc, neg_ℤ, int_div, int_lt, unsigned_abs, ◌==◌, if◌then◌else◌, FitsSigned}
 use Rattle.std.specs.Int.{w32, cast_unsigned}
-use Rattle.std.proofs.lemmas.Bool.{eqb-true, eq-eqb, ne_eqb}
+use Rattle.std.proofs.lemmas.Bool.{eqb-true}
 use Rattle.std.proofs.lemmas.Int.{fits_signed_from_abs}
 use Rattle.word_arithmetic.specs.Arithmetic.{floor_div, floor_mod}
 use Rattle.word_arithmetic.specs.Laws.{DivisionIsFloored}
 use Rattle.ir_code.specs.declared.instr.Instr.{Instr}
-use Rattle.ir_code.specs.declared.instr.Instr.TheVariants.{Li, Mov, Brz, Jmp, IDiv, IMod, IQuot, ILt}
+use Rattle.ir_code.specs.declared.instr.Instr.TheVariants.{Li, IDiv, IMod, IQuot, ILt}
 use Rattle.ir_code.specs.declared.halt.Halt.TheVariants.{NoStack}
 use Rattle.ir_code.specs.Words.{int_of, word_of, one_if, int_less, undivided}
 use Rattle.ir_code.specs.Laws.{ControlLaws, MemoryLaws, ArithmeticLaws, NextLaws, Partial}
@@ -15,7 +15,6 @@ use Rattle.mlc_prims.specs.LitOf.{Literal, int, int_in}
 use Rattle.mlc_prims.specs.PrimOf.{Gives, made, raised, int_result}
 use Rattle.mlc_prims.specs.Table.{one, two, numbers, unless_zero, unless_none}
 use Rattle.mlc_prims.specs.LitOf.{word}
-use Rattle.mlc_prims.specs.declared.basis.BasisPrimitive.{BasisPrimitive}
 use Rattle.mlc_prims.specs.declared.basis.BasisPrimitive.TheVariants.{Divide, Modulo, Quotient, Absolute}
 use Rattle.mlc_prims.specs.declared.prim.PrimExn.TheVariants.{Overflow, Div}
 use Rattle.first_values.specs.Operations.{ints, row_at}
@@ -24,11 +23,10 @@ use Rattle.machine_routines.specs.Runs.{HasAt, Frame, inside, Leads}
 use Rattle.machine_routines.proofs.Leads.{trans, cut}
 use Rattle.machine_code.specs.Rows.{Packets, HoldAll, Comes, given, way_on}
 use Rattle.machine_code.specs.Rows as rows
-use Rattle.machine_primitives.specs.RowLaws.{RowIsRight}
-use Rattle.machine_primitives.specs.RowCode.{raising, divided, magnitude}
+use Rattle.machine_primitives.specs.RowCode.{divided, magnitude}
 use Rattle.machine_primitives.specs.Laws.{DivisionsAreRight}
-use Rattle.machine_primitives.proofs.Orders.{int_of-word, fits_of_word, fits_word_of, word_of_int, exact_some, exact_none}
-use Rattle.machine_primitives.proofs.Shapes.{short, does_li, raising_comes, same_comes}
+use Rattle.machine_primitives.proofs.Orders.{int_of-word, fits_of_word, fits_word_of, word_of_int, exact_some}
+use Rattle.machine_primitives.proofs.Shapes.{short, raising_comes, same_comes}
 use Rattle.machine_primitives.proofs.Window.{old, young, lacks, li, mov, brz, brz_zero, comes_after, at}
 use Rattle.machine_primitives.proofs.Window as window
 use Rattle.machine_primitives.proofs.Rows.{Two, both, at_kind, Ints, int_numbers}

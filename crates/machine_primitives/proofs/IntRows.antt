@@ -8,7 +8,7 @@ use Rattle.std.proofs.lemmas.Int.{rem_below, fits_signed_from_abs, ints}
 use Rattle.ir_code.specs.declared.instr.Instr.{Instr}
 use Rattle.ir_code.specs.declared.instr.Instr.TheVariants.{Li, Jmp, Sub as SubRow, IRem}
 use Rattle.ir_code.specs.declared.halt.Halt.TheVariants.{NoStack}
-use Rattle.ir_code.specs.Words.{int_of, word_of, int_difference, int_remainder}
+use Rattle.ir_code.specs.Words.{int_of, word_of, int_difference}
 use Rattle.ir_code.specs.Machine.{Goes}
 use Rattle.ir_code.specs.Laws.{ControlLaws, MemoryLaws, ArithmeticLaws, NextLaws, Partial}
 use Rattle.mlc_prims.specs.LitOf.{Literal, int, int_in, word_in}

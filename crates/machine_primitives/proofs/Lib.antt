@@ -5,7 +5,6 @@ pub mod Rows
 pub mod MoreRows
 pub mod LastRows
 pub mod IntRows
-mod Examples
 mod Quotients
 mod Window
 mod Divisions

@@ -1,8 +1,7 @@
 -- Bytes of texts in a layout of the memory, and new texts at its end.
-use Rattle.std.proofs.Common.{◌≡◌, ℕ, zero, suc, ◌+◌, ◌-◌, ◌%◌, ◌<◌, ◌≤◌, ◌^◌, List, [], ◌∷◌, ◌++◌, length, map, take, drop, Option, Some, None, Bool, true, false, ◌&&◌, refl, sym, ap, ◌∙◌, subst, arith, append_assoc, length-append}
+use Rattle.std.proofs.Common.{◌≡◌, ℕ, zero, suc, ◌+◌, ◌%◌, ◌<◌, ◌≤◌, ◌^◌, List, [], ◌∷◌, ◌++◌, length, map, take, drop, Some, Bool, true, false, ◌&&◌, refl, sym, ap, ◌∙◌, subst, arith, append_assoc, length-append}
 use Rattle.std.specs.Prelude.{ℤ, pos, negsuc, slice_get, slice_index_or, nat_lt, unsigned_abs}
 use Rattle.std.specs.Fmt.{decimal}
-use Rattle.std.specs.List.{list_all}
 use Rattle.std.proofs.lemmas.Bool.{lt-ltb, ltb-true, and_from}
 use Rattle.std.proofs.lemmas.List.Folds.{list_all-append}
 use Rattle.std.proofs.lemmas.Fmt.{decimal_by_steps}
@@ -10,7 +9,7 @@ use Rattle.word_arithmetic.specs.Arithmetic.{signed_text}
 use Rattle.ir_code.specs.Machine.{State, all_bytes}
 use Rattle.mlc_prims.specs.LitOf.{string}
 use Rattle.first_values.specs.Values.{literal}
-use Rattle.machine_routines.specs.Layout.{Word, stays, BytesAt, TextAt, Shows, Is}
+use Rattle.machine_routines.specs.Layout.{Word, stays, BytesAt, TextAt, Shows}
 use Rattle.machine_routines.specs.Runs.{Frame, inside, Leads}
 use Rattle.machine_routines.proofs.Seams.{get_here, get_within}
 use Rattle.machine_routines.proofs.LayoutLemmas.{BytesIn, bytes_in, bytes_end}
@@ -93,15 +92,15 @@ bytes_at_end pre [] = tt
 bytes_at_end pre (c ∷ t) = (
   get_here pre (map stays t) (stays c),
   (let n : length (pre ++ stays c ∷ []) ≡ length pre + 1 = omega (arith, length-append pre (stays c ∷ [])) in
-  subst (λ k. BytesAt (pre ++ stays c ∷ map stays t) t k) n (subst (λ l. BytesAt l t (length (pre ++ stays c ∷ []))) (append_assoc pre (stays c ∷ []) (map stays t)) (bytes_at_end (pre ++ stays c ∷ []) t))),
+      subst (λ k. BytesAt (pre ++ stays c ∷ map stays t) t k) n (subst (λ l. BytesAt l t (length (pre ++ stays c ∷ []))) (append_assoc pre (stays c ∷ []) (map stays t)) (bytes_at_end (pre ++ stays c ∷ []) t))),
 )
 
 text_at_end : (lay : List Word) (t : List ℕ) (x : ℕ) → length lay ≡ x → all_bytes t ≡ true → TextAt (lay ++ map stays (length t ∷ t)) t x
 text_at_end lay t x e h = subst (λ k. TextAt (lay ++ map stays (length t ∷ t)) t k) e (
   get_here lay (map stays t) (stays (length t)),
   (let n : length (lay ++ stays (length t) ∷ []) ≡ length lay + 1 = omega (arith, length-append lay (stays (length t) ∷ [])) in
-  subst (λ k. BytesAt (lay ++ stays (length t) ∷ map stays t) t k) n
-  (subst (λ l. BytesAt l t (length (lay ++ stays (length t) ∷ []))) (append_assoc lay (stays (length t) ∷ []) (map stays t)) (bytes_at_end (lay ++ stays (length t) ∷ []) t))),
+      subst (λ k. BytesAt (lay ++ stays (length t) ∷ map stays t) t k) n
+      (subst (λ l. BytesAt l t (length (lay ++ stays (length t) ∷ []))) (append_assoc lay (stays (length t) ∷ []) (map stays t)) (bytes_at_end (lay ++ stays (length t) ∷ []) t))),
   h,
 )
 

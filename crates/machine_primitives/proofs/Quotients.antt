@@ -1,15 +1,15 @@
 -- Quotients of integers: rounded down, and towards zero.
-use Rattle.std.proofs.Common.{◌≡◌, ◌≢◌, ℕ, zero, suc, ◌+◌, ◌-◌, ◌*◌, ◌<◌, ◌≤◌, ◌^◌, List, [], ◌∷◌, ◌++◌, length, Option, Some, None, Bool, true, false, ◌&&◌, ◌||◌, refl, sym, ap, ◌∙◌, subst, ⊎_elim, arith}
-use Rattle.std.specs.Prelude.{ℤ, pos, negsuc, neg_ℤ, ◌+ℤ◌, ◌*ℤ◌, ◌<ℤ◌, ◌≤ℤ◌, int_div, int_rem, unsigned_abs, slice_get, nat_lt, ◌==◌, if◌then◌else◌, FitsSigned}
-use Rattle.std.specs.Int.{w32, cast_unsigned}
-use Rattle.std.proofs.lemmas.Bool.{eqb-true, eq-eqb, ne_eqb, ltb-true, cases_lt, cases_Bool}
+use Rattle.std.proofs.Common.{◌≡◌, ◌≢◌, ℕ, zero, suc, ◌+◌, ◌-◌, ◌*◌, ◌<◌, ◌≤◌, ◌^◌, refl, sym, ap, ◌∙◌, subst, ⊎_elim, arith}
+use Rattle.std.specs.Prelude.{ℤ, pos, negsuc, ◌+ℤ◌, ◌*ℤ◌, ◌<ℤ◌, ◌≤ℤ◌, int_div, int_rem, unsigned_abs, FitsSigned}
+use Rattle.std.specs.Int.{w32}
+use Rattle.std.proofs.lemmas.Bool.{cases_lt}
 use Rattle.std.proofs.lemmas.Nat.{mul-le}
-use Rattle.std.proofs.lemmas.Int.{quot-rem, rem_below, unsigned_abs-mul, fits_signed_from_abs, ints}
-use Rattle.ir_code.specs.Words.{int_of, word_of, undivided}
-use Rattle.mlc_prims.specs.PrimOf.{Gives, made, raised, int_result}
+use Rattle.std.proofs.lemmas.Int.{quot-rem, rem_below, unsigned_abs-mul, ints}
+use Rattle.ir_code.specs.Words.{int_of}
+use Rattle.mlc_prims.specs.PrimOf.{raised, int_result}
 use Rattle.mlc_prims.specs.declared.prim.PrimExn.TheVariants.{Overflow}
 use Rattle.word_arithmetic.specs.Arithmetic.{floor_div, floor_mod}
-use Rattle.word_arithmetic.specs.Laws.{IsFloored, DivisionIsFloored}
+use Rattle.word_arithmetic.specs.Laws.{DivisionIsFloored}
 
 -- a sum is no greater than both together
 near : (p r a : ℤ) → p +ℤ r ≡ a → unsigned_abs p ≤ unsigned_abs a + unsigned_abs r

@@ -1,6 +1,6 @@
 -- Two texts as one.
-use Rattle.std.proofs.Common.{◌≡◌, ℕ, suc, ◌+◌, ◌-◌, ◌<◌, ◌≤◌, ◌^◌, List, [], ◌∷◌, ◌++◌, length, Some, true, false, refl, sym, ap, ◌∙◌, subst, ⊎_elim, arith, length-append}
-use Rattle.std.specs.Prelude.{slice_get, nat_le, if◌then◌else◌}
+use Rattle.std.proofs.Common.{◌≡◌, ℕ, ◌+◌, ◌<◌, ◌≤◌, ◌^◌, List, [], ◌∷◌, ◌++◌, length, Some, refl, sym, ap, ◌∙◌, subst, ⊎_elim, arith, length-append}
+use Rattle.std.specs.Prelude.{slice_get, if◌then◌else◌}
 use Rattle.std.proofs.lemmas.Bool.{cases_lt, lt-ltb, le-ltb, lt-leb, le-leb}
 use Rattle.ir_code.specs.declared.instr.Instr.{Instr}
 use Rattle.ir_code.specs.declared.instr.Instr.TheVariants.{Li, Ld, St, Copy, WAdd, ULt}
@@ -9,18 +9,15 @@ use Rattle.ir_code.specs.Words.{one_if, word_less}
 use Rattle.ir_code.specs.Laws.{ControlLaws, MemoryLaws, ArithmeticLaws, NextLaws}
 use Rattle.mlc_prims.specs.LitOf.{string}
 use Rattle.mlc_prims.specs.PrimOf.{Gives, made, raised, joined, max_size}
-use Rattle.mlc_prims.specs.declared.basis.BasisPrimitive.TheVariants.{Concat}
 use Rattle.mlc_prims.specs.declared.prim.PrimExn.TheVariants.{Size}
 use Rattle.first_values.specs.Values.{literal}
-use Rattle.first_values.specs.Operations.{texts}
-use Rattle.machine_routines.specs.Layout.{Word, TextAt, Is}
+use Rattle.machine_routines.specs.Layout.{Word, Is}
 use Rattle.machine_routines.specs.Runs.{HasAt, Frame, inside, Leads}
 use Rattle.machine_routines.proofs.Seams.{get_left, cut_at}
 use Rattle.machine_routines.proofs.LayoutLemmas.{BytesIn}
 use Rattle.machine_routines.proofs.Leads.{trans, cut, out_after}
 use Rattle.machine_code.specs.Rows.{Packets, Ready, Comes, given, way_on}
 use Rattle.machine_code.specs.Rows as rows
-use Rattle.machine_primitives.specs.RowLaws.{RowIsRight}
 use Rattle.machine_primitives.specs.RowCode.{join_of}
 use Rattle.machine_primitives.specs.Laws.{TextsAreRight}
 use Rattle.machine_primitives.proofs.Shapes.{same_comes}
@@ -149,12 +146,14 @@ module _ (C : ControlLaws) (M : MemoryLaws) (A : ArithmeticLaws) (N : NextLaws) 
           let w6 = k ∷ (S + T) ∷ told ∷ S ∷ rest in
           let w7 = k ∷ (S + T) ∷ 1 ∷ S ∷ rest in
           let one : word_less (S + T) (2 ^ 28) ≡ 1 = ap one_if (lt-ltb (S + T) (2 ^ 28) lt) in
-          let p = pc + 1 + 1 + 1 + 1 + 1 + 1 in
-          (trans code start
-          (trans code (brz C M A N code f front p w6 mem free (length front + 2) other told (young C M A N code f front w6 2 (length front + 2) told refl refl) (omega arith) has.1.1.1.1.1.1.0)
-          (trans code (li C M A N code f front (p + 1) 2 (length front + 2) w6 mem free refl (omega arith) 1 has.1.1.1.1.1.1.1.0)
-          (add C M A N code f front (p + 1 + 1) 2 (length front + 2) w7 mem free refl (omega arith) (length front + 1) (length front + 2) (S + T) 1
-          (young C M A N code f front w7 1 (length front + 1) (S + T) refl refl) (young C M A N code f front w7 2 (length front + 2) 1 refl refl) (omega arith) has.1.1.1.1.1.1.1.1.0))), omega arith)
+          let p = pc + 1 + 1 + 1 + 1 + 1 + 1 in (
+            trans code start
+                (trans code (brz C M A N code f front p w6 mem free (length front + 2) other told (young C M A N code f front w6 2 (length front + 2) told refl refl) (omega arith) has.1.1.1.1.1.1.0)
+                (trans code (li C M A N code f front (p + 1) 2 (length front + 2) w6 mem free refl (omega arith) 1 has.1.1.1.1.1.1.1.0)
+                (add C M A N code f front (p + 1 + 1) 2 (length front + 2) w7 mem free refl (omega arith) (length front + 1) (length front + 2) (S + T) 1
+                (young C M A N code f front w7 1 (length front + 1) (S + T) refl refl) (young C M A N code f front w7 2 (length front + 2) 1 refl refl) (omega arith) has.1.1.1.1.1.1.1.1.0))),
+            omega arith,
+          )
 
       small_sum : length w.0 + length w.1 < 2 ^ 28 → Comes code f lay front mem (given q) (way_on q (pc + 20) other) (inside f pc (front ++ a ∷ b ∷ c ∷ d ∷ rest) mem free)
       small_sum lt = ⊎_elim short enough (cases_lt (length free) (length w.0 + length w.1 + 1))

@@ -1,6 +1,6 @@
 -- Comparisons of texts, as values and as tests.
-use Rattle.std.proofs.Common.{◌≡◌, ℕ, suc, ◌+◌, ◌<◌, ◌≤◌, List, [], ◌∷◌, ◌++◌, length, Option, Some, None, Bool, true, false, ◌⊎◌, inl, inr, refl, sym, ap, ◌∙◌, subst, arith}
-use Rattle.std.specs.Prelude.{slice_get, slice_set, nat_lt, not, option_map, if◌then◌else◌}
+use Rattle.std.proofs.Common.{◌≡◌, ℕ, ◌+◌, ◌<◌, List, [], ◌∷◌, ◌++◌, length, Some, Bool, true, false, ◌⊎◌, inl, inr, refl, sym, ap, ◌∙◌, subst, arith}
+use Rattle.std.specs.Prelude.{slice_get, slice_set, not, option_map, if◌then◌else◌}
 use Rattle.std.specs.Cmp.Lexicographic.{slice_cmp}
 use Rattle.std.specs.Ordering.{nat_cmp, is_lt, is_le, is_eq, is_gt, is_ge, ordering_reverse}
 use Rattle.std.specs.declared.cmp.Ordering.{Ordering}
@@ -9,7 +9,7 @@ use Rattle.std.specs.Str.{bytes_eq}
 use Rattle.std.proofs.lemmas.Cmp.{nat_list_cmp_total}
 use Rattle.std.proofs.lemmas.Map.Text.{is_eq-slice_cmp}
 use Rattle.ir_code.specs.declared.instr.Instr.{Instr}
-use Rattle.ir_code.specs.declared.instr.Instr.TheVariants.{Li, Brz, Jmp, Eq, ULt, SCmp}
+use Rattle.ir_code.specs.declared.instr.Instr.TheVariants.{Li, Eq, ULt, SCmp}
 use Rattle.ir_code.specs.declared.halt.Halt.TheVariants.{NoStack}
 use Rattle.ir_code.specs.Words.{one_if, order_code, same_word, word_less}
 use Rattle.ir_code.specs.Machine.{State, StepResult, Halts, check}
@@ -23,7 +23,7 @@ use Rattle.first_values.specs.Values.{truth_value}
 use Rattle.first_values.specs.Operations.{texts, row_at}
 use Rattle.machine_routines.specs.Layout.{Word, TextAt, Shows, Is}
 use Rattle.machine_routines.specs.Runs.{HasAt, Frame, inside, Leads}
-use Rattle.machine_routines.proofs.Leads.{trans, step_to, cut}
+use Rattle.machine_routines.proofs.Leads.{trans, cut}
 use Rattle.machine_code.specs.Rows.{Packets, HoldAll, no_operand, an_operand, Ready, Comes, Passes, passes, given, way_on}
 use Rattle.machine_code.specs.Rows as rows
 use Rattle.machine_primitives.specs.RowLaws.{RowIsRight, TestIsRight}
@@ -118,7 +118,6 @@ abbrev Tells : ℕ → Bool → Bool → Type 0
 Tells n zero b = ((n ≡ 0) × (b ≡ zero)) ⊎ ((0 < n) × (b ≡ not zero))
 
 module _ (C : ControlLaws) (M : MemoryLaws) (A : ArithmeticLaws) (N : NextLaws) where
-
   -- what a comparison of texts gives
   abbrev Compares : (ℕ → ℕ → ℕ → Instr) → (Ordering → Ordering) → Type 0
   Compares row h = (code : List Instr) (f : Frame) (front : List ℕ) (pc k x : ℕ) (ws mem free : List ℕ) → x ≡ length front + k → k < length ws

@@ -1,6 +1,6 @@
 -- Parts of texts, and two texts as one.
-use Rattle.std.proofs.Common.{◌≡◌, ℕ, zero, suc, ◌+◌, ◌-◌, ◌<◌, ◌≤◌, ◌^◌, List, [], ◌∷◌, ◌++◌, length, take, drop, Option, Some, None, Bool, true, false, refl, sym, ap, ◌∙◌, subst, ⊎_elim, arith, append-nil, length-append}
-use Rattle.std.specs.Prelude.{ℤ, pos, negsuc, slice_get, nat_le, if◌then◌else◌}
+use Rattle.std.proofs.Common.{◌≡◌, ℕ, ◌+◌, ◌-◌, ◌<◌, ◌≤◌, ◌^◌, List, [], ◌∷◌, ◌++◌, length, take, drop, Some, None, refl, sym, ap, ◌∙◌, subst, ⊎_elim, arith, append-nil}
+use Rattle.std.specs.Prelude.{ℤ, pos, negsuc, slice_get, if◌then◌else◌}
 use Rattle.std.proofs.lemmas.Bool.{cases_lt, lt-ltb, le-ltb, lt-leb, le-leb}
 use Rattle.ir_code.specs.declared.instr.Instr.{Instr}
 use Rattle.ir_code.specs.declared.instr.Instr.TheVariants.{Ld, St, Copy, WAdd, ULt}
@@ -8,29 +8,28 @@ use Rattle.ir_code.specs.declared.halt.Halt.TheVariants.{NoStack}
 use Rattle.ir_code.specs.Words.{word_of, one_if, word_less}
 use Rattle.ir_code.specs.Laws.{ControlLaws, MemoryLaws, ArithmeticLaws, NextLaws}
 use Rattle.mlc_prims.specs.LitOf.{Literal, int, string, string_in}
-use Rattle.mlc_prims.specs.PrimOf.{Gives, made, raised, joined, max_size}
+use Rattle.mlc_prims.specs.PrimOf.{Gives, made, raised, joined}
 use Rattle.mlc_prims.specs.Table.{two, string_part, or_subscript, bytes_from}
 use Rattle.mlc_prims.specs.declared.basis.BasisPrimitive.TheVariants.{PartOf, Concat}
-use Rattle.mlc_prims.specs.declared.prim.PrimExn.TheVariants.{Subscript, Size}
+use Rattle.mlc_prims.specs.declared.prim.PrimExn.TheVariants.{Subscript}
 use Rattle.first_values.specs.Values.{literal}
 use Rattle.first_values.specs.Operations.{texts, row_at}
 use Rattle.machine_routines.specs.Layout.{Word, TextAt, Is}
 use Rattle.machine_routines.specs.Runs.{HasAt, Frame, inside, Leads}
-use Rattle.machine_routines.proofs.Seams.{get_left, cut_at}
+use Rattle.machine_routines.proofs.Seams.{cut_at}
 use Rattle.machine_routines.proofs.LayoutLemmas.{BytesIn}
 use Rattle.machine_routines.proofs.Leads.{trans, cut, out_after}
 use Rattle.machine_code.specs.Rows.{Packets, HoldAll, no_operand, an_operand, Ready, Comes, given, way_on}
 use Rattle.machine_code.specs.Rows as rows
 use Rattle.machine_primitives.specs.RowLaws.{RowIsRight}
-use Rattle.machine_primitives.specs.RowCode.{part_of, join_of}
-use Rattle.machine_primitives.specs.Laws.{TextsAreRight}
+use Rattle.machine_primitives.specs.RowCode.{part_of}
 use Rattle.machine_primitives.proofs.Orders.{word_of_int}
 use Rattle.machine_primitives.proofs.Shapes.{same_comes}
 use Rattle.machine_primitives.proofs.Window.{at, old, young, lacks, li, ld, brz, brz_zero, add, less, alloc_var, no_alloc_var, st, copy, comes_after}
 use Rattle.machine_primitives.proofs.Window as window
-use Rattle.machine_primitives.proofs.MoreTexts.{text_in, bytes_taken, bytes_dropped, bytes_joined, bytes_part, part_length, new_text}
+use Rattle.machine_primitives.proofs.MoreTexts.{text_in, bytes_taken, bytes_dropped, bytes_part, part_length, new_text}
 use Rattle.machine_primitives.proofs.Rows.{Two, both, at_kind}
-use Rattle.machine_primitives.proofs.TextRows.{word_small, char_at, string_of, text_of}
+use Rattle.machine_primitives.proofs.TextRows.{word_small}
 
 -- Three operands.
 data Three (front : List ℕ) (P : ℕ → ℕ → ℕ → Type 0) : List ℕ → Type 0 where
@@ -214,12 +213,14 @@ module _ (C : ControlLaws) (M : MemoryLaws) (A : ArithmeticLaws) (N : NextLaws) 
               let one : word_less n (L + 1 - i) ≡ 1 = ap one_if (lt-ltb n (L + 1 - i) more) in
               let w8 = k ∷ told ∷ (L + 1 - i) ∷ rest in
               let w9 = k ∷ 1 ∷ (L + 1 - i) ∷ rest in
-              let p = pc + 1 + 1 + 1 + 1 + 1 + 1 + 1 + 1 in
-              (trans code (middle lt)
-              (trans code (brz C M A N code f front p w8 mem free (length front + 1) other told (young C M A N code f front w8 1 (length front + 1) told refl refl) (omega arith) has.1.1.1.1.1.1.1.1.0)
-              (trans code (li C M A N code f front (p + 1) 1 (length front + 1) w8 mem free refl (omega arith) 1 has.1.1.1.1.1.1.1.1.1.0)
-              (add C M A N code f front (p + 1 + 1) 2 (length front + 2) w9 mem free refl (omega arith) z (length front + 1) n 1
-              (old C M A N code f front w9 z n e'') (young C M A N code f front w9 1 (length front + 1) 1 refl refl) (omega arith) has.1.1.1.1.1.1.1.1.1.1.0))), omega arith)
+              let p = pc + 1 + 1 + 1 + 1 + 1 + 1 + 1 + 1 in (
+                trans code (middle lt)
+                    (trans code (brz C M A N code f front p w8 mem free (length front + 1) other told (young C M A N code f front w8 1 (length front + 1) told refl refl) (omega arith) has.1.1.1.1.1.1.1.1.0)
+                    (trans code (li C M A N code f front (p + 1) 1 (length front + 1) w8 mem free refl (omega arith) 1 has.1.1.1.1.1.1.1.1.1.0)
+                    (add C M A N code f front (p + 1 + 1) 2 (length front + 2) w9 mem free refl (omega arith) z (length front + 1) n 1
+                    (old C M A N code f front w9 z n e'') (young C M A N code f front w9 1 (length front + 1) 1 refl refl) (omega arith) has.1.1.1.1.1.1.1.1.1.1.0))),
+                omega arith,
+              )
 
           room_for : i < length w.0 + 1 → n < length w.0 + 1 - i → Comes code f lay front mem (given q) (way_on q (pc + 17) other) (inside f pc (front ++ a ∷ b ∷ c ∷ rest) mem free)
           room_for lt more = ⊎_elim short enough (cases_lt (length free) (n + 1))

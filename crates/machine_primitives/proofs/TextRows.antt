@@ -1,5 +1,5 @@
 -- The character of a text at a place, and texts of a character and of an integer.
-use Rattle.std.proofs.Common.{◌≡◌, ℕ, zero, suc, ◌+◌, ◌<◌, ◌≤◌, ◌^◌, List, [], ◌∷◌, ◌++◌, length, Option, Some, None, Bool, true, false, ◌&&◌, ◌⊎◌, inl, inr, refl, sym, ap, ◌∙◌, subst, ⊎_elim, arith, length-append}
+use Rattle.std.proofs.Common.{◌≡◌, ℕ, suc, ◌+◌, ◌<◌, ◌≤◌, ◌^◌, List, [], ◌∷◌, ◌++◌, length, Some, None, true, refl, sym, ap, ◌∙◌, subst, ⊎_elim, arith}
 use Rattle.std.specs.Prelude.{ℤ, pos, negsuc, slice_get, slice_index_or, nat_lt, unsigned_abs, if◌then◌else◌, FitsSigned}
 use Rattle.std.specs.Int.{w32}
 use Rattle.std.proofs.lemmas.Bool.{cases_lt, lt-ltb, le-ltb, and_from}
@@ -7,8 +7,7 @@ use Rattle.word_arithmetic.specs.Arithmetic.{signed_text}
 use Rattle.ir_code.specs.declared.instr.Instr.{Instr}
 use Rattle.ir_code.specs.declared.instr.Instr.TheVariants.{Li, Ld, ULt, IText}
 use Rattle.ir_code.specs.declared.halt.Halt.TheVariants.{NoStack}
-use Rattle.ir_code.specs.Words.{int_of, int_text, word_of, one_if, word_less}
-use Rattle.ir_code.specs.Machine.{all_bytes}
+use Rattle.ir_code.specs.Words.{int_text, word_of, one_if, word_less}
 use Rattle.ir_code.specs.Laws.{ControlLaws, MemoryLaws, ArithmeticLaws, NextLaws}
 use Rattle.mlc_prims.specs.LitOf.{Literal, int, char, string, char_in, int_in}
 use Rattle.mlc_prims.specs.PrimOf.{Gives, made, raised}

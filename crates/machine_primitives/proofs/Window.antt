@@ -14,7 +14,7 @@ use Rattle.ir_code.specs.Machine.{State, StepResult, Goes, Halts, act, check, on
 use Rattle.ir_code.specs.Laws.{ControlLaws, MemoryLaws, ArithmeticLaws, NextLaws, Total}
 use Rattle.first_values.specs.Values.{Value}
 use Rattle.machine_routines.specs.Layout.{Word, TextAt, Shows}
-use Rattle.machine_routines.specs.Runs.{Frame, inside, Leads, CutBy, RunsOut, NoRoom}
+use Rattle.machine_routines.specs.Runs.{Frame, inside, Leads, RunsOut}
 use Rattle.machine_routines.proofs.Seams.{get_left, get_right, set_right}
 use Rattle.machine_routines.proofs.LayoutLemmas.{BytesIn, take_bytes, bytes_more, bytes_end}
 use Rattle.machine_routines.proofs.Leads.{trans, step_to, cut, out_after}

@@ -1,4 +1,3 @@
 pub mod RowLaws
 pub mod RowCode
 pub mod Laws
-pub mod Table

@@ -14,7 +14,7 @@ use Rattle.first_values.specs.Operations.{Operands, ints, words, chars, texts, i
 use Rattle.machine_code.specs.Rows.{AreRight}
 use Rattle.machine_primitives.specs.RowLaws.{RowIsRight, TestIsRight}
 use Rattle.machine_primitives.specs.Laws.{SumsAreRight, WordQuotientsAreRight, IntRowsAreRight, DivisionsAreRight, BitsAreRight, ConversionsAreRight, TruthsAreRight, LimitsAreRight, SizesAreRight, ContrariesAreRight, ComparisonsAreRight, TextOrdersAreRight, TextsAreRight}
-use Rattle.machine_primitives.specs.Table.{int_row, word_row, char_row, text_row, int_test, word_test, text_test, no_row, no_test, rows}
+use Rattle.machine_rows.specs.Table.{int_row, word_row, char_row, text_row, int_test, word_test, text_test, no_row, no_test, rows}
 
 -- Primitives that take no such operands.
 

@@ -13,7 +13,7 @@ use Rattle.machine_code.specs.Code.{Places, is_size, plain_size, test_size, call
 use Rattle.machine_code.specs.Image.{funs_code, widest, placed, tags_end, set_code, set_size, sets_code, most_code, funs_at, sets_at, fun_at, places_of}
 use Rattle.machine_code.specs.Sizes.{sets_nodes}
 use Rattle.machine_code.proofs.Sizes.{code_length}
-use Rattle.machine_primitives.specs.Table.{int_row, word_row, char_row, text_row, int_test, word_test, text_test, rows}
+use Rattle.machine_rows.specs.Table.{int_row, word_row, char_row, text_row, int_test, word_test, text_test, rows}
 use Rattle.machine_rows.specs.Law.{RowsAreShort, ImagesAreShort}
 
 int_row_short : (p : BasisPrimitive) → (int_row p).size ≤ 20

@@ -1,2 +1,4 @@
 mod AllRows
 mod Bounds
+mod Examples
+mod RowExamples

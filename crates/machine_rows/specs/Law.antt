@@ -13,7 +13,7 @@ use Rattle.same_runs.specs.SameRuns.{SameRuns}
 use Rattle.machine_code.specs.Image.{text_of, constants_of, code_of, image_of}
 use Rattle.machine_code.specs.Law.{IsFit}
 use Rattle.machine_code.specs.Sizes.{sets_nodes}
-use Rattle.machine_primitives.specs.Table.{rows}
+use Rattle.machine_rows.specs.Table.{rows}
 
 -- whatever the heap and the stack
 abbrev pub ImagesAreRight : Type 0

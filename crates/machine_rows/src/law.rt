@@ -1,7 +1,7 @@
 // That images do what their programs do, and how long they are, as contracts.
 
 ghost use Rattle.machine_code.specs.Rows.{AreRight};
-ghost use Rattle.machine_primitives.specs.Table.{rows};
+ghost use Rattle.machine_rows.specs.Table.{rows};
 ghost use Rattle.machine_rows.specs.Law.{ImagesAreRight, ImagesAreShort, RowsAreShort};
 
 /// The code of every primitive does what its row of the table says.

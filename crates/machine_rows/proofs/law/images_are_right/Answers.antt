@@ -1,4 +1,4 @@
-use Rattle.machine_primitives.specs.Table.{rows}
+use Rattle.machine_rows.specs.Table.{rows}
 use Rattle.machine_rows.proofs.law.images_are_right.Goals as goal
 
 pub returns : goal.returns

@@ -9,7 +9,7 @@ use Rattle.mlc_prims.specs.declared.prim.PrimExn.TheVariants.{Overflow, Div, Sub
 use Rattle.mlc_prims.specs.declared.basis.BasisPrimitive.{BasisPrimitive}
 use Rattle.mlc_prims.specs.declared.basis.BasisPrimitive.TheVariants.{Add, Divide, Modulo, Absolute, Less, LessEqual, Greater, GreaterEqual, Equals, Quotient, Remainder, ToInt, ToIntSigned, CharOf, TextOf, SizeOf, CharAt, PartOf, Concat, StringOf}
 use Rattle.first_values.specs.Operations.{Operands, ints, words, chars, texts}
-use Rattle.machine_primitives.specs.Table.{rows}
+use Rattle.machine_rows.specs.Table.{rows}
 
 abbrev packets : PrimExn → ℕ
 packets Overflow = 1001
