@@ -8,9 +8,9 @@ use Rattle.std.proofs.lemmas.Int.{rem_below, fits_signed_from_abs, ints}
 use Rattle.ir_code.specs.declared.instr.Instr.{Instr}
 use Rattle.ir_code.specs.declared.instr.Instr.TheVariants.{Li, Jmp, Sub as SubRow, IRem}
 use Rattle.ir_code.specs.declared.halt.Halt.TheVariants.{NoStack}
-use Rattle.ir_code.specs.Words.{int_of, word_of, int_difference, int_remainder}
+use Rattle.ir_code.specs.Words.{int_of, word_of, int_difference}
 use Rattle.ir_code.specs.Machine.{Goes}
-use Rattle.ir_code.specs.Laws.{ControlLaws, MemoryLaws, ArithmeticLaws, NextLaws}
+use Rattle.ir_code.specs.Laws.{ControlLaws, MemoryLaws, ArithmeticLaws, NextLaws, Partial}
 use Rattle.mlc_prims.specs.LitOf.{Literal, int, int_in, word_in}
 use Rattle.mlc_prims.specs.PrimOf.{Gives, made, raised, int_result}
 use Rattle.mlc_prims.specs.Table.{one, two, unless_zero, wrapped}
@@ -33,7 +33,7 @@ use Rattle.machine_primitives.proofs.Rows.{Two, both, at_kind, Ints}
 use Rattle.machine_primitives.proofs.MoreRows.{One, alone}
 
 module _ (lay : List Word) (front : List ℕ) where
-  int_pairs : (G : ℤ → ℤ → Gives) (g : Gives) {xs : List ℕ} {ls : List Literal} → HoldAll lay front xs ls → at_kind int_operands (two int_in G) ls ≡ Some g
+  pub int_pairs : (G : ℤ → ℤ → Gives) (g : Gives) {xs : List ℕ} {ls : List Literal} → HoldAll lay front xs ls → at_kind int_operands (two int_in G) ls ≡ Some g
       → Two front (Ints lay front (λ a b. G a b ≡ g)) xs
   int_pairs G g (an_operand x (int a) m e i (an_operand y (int b) n e' i' no_operand)) r = both x y m n e e' (a, b, i, i', (let s : G a b ≡ g = cc in s))
   int_pairs G g (an_operand x (int a) m e i (an_operand y l n e' i' no_operand)) r = absurd (cc)
@@ -52,7 +52,7 @@ ints_negate : (ls : List Literal) → row_at int_operands Negate ls ≡ at_kind 
 ints_negate [] = refl
 ints_negate (l ∷ ls) = refl
 
-abs_within : (b : ℤ) (n : ℕ) → word_of b ≡ Some n → unsigned_abs b ≤ 2 ^ 31
+pub abs_within : (b : ℤ) (n : ℕ) → word_of b ≡ Some n → unsigned_abs b ≤ 2 ^ 31
 abs_within (pos k) n w = by (nat_lt k (2 ^ 31)) refl w
   where
     by : (c : Bool) → nat_lt k (2 ^ 31) ≡ c → (if c then Some k else None) ≡ Some n → k ≤ 2 ^ 31
@@ -65,7 +65,7 @@ abs_within (negsuc k) n w = by (nat_lt k (2 ^ 31)) refl w
     by false g e = absurd (cc)
 
 -- a divisor other than 0
-not_zero : (b : ℤ) (n : ℕ) (g : Gives) → word_of b ≡ Some n → (n == 0) ≡ false → (unless_zero b g ≡ g) × (0 < unsigned_abs b)
+pub not_zero : (b : ℤ) (n : ℕ) (g : Gives) → word_of b ≡ Some n → (n == 0) ≡ false → (unless_zero b g ≡ g) × (0 < unsigned_abs b)
 not_zero (pos zero) n g w e = let s : 0 ≡ n = (let q = word_of_int (pos 0) n w in sym q.0) in let c : (n == 0) ≡ true = ap (λ z. z == 0) (sym s) in absurd (cc)
 not_zero (pos (suc k)) n g w e = (ap (λ c. if c then raised Div else g) (ne_eqb (suc k) 0 (λ h. omega arith)), omega arith)
 not_zero (negsuc k) n g w e = (refl, omega arith)
@@ -77,33 +77,37 @@ rem_word a b n w some =
     ap (λ c. if c then Some (cast_unsigned w32 (int_rem a b)) else None) (fits_word_of (int_rem a b) (fits_signed_from_abs w32 (int_rem a b) (omega arith)))
 
 module _ (C : ControlLaws) (M : MemoryLaws) (A : ArithmeticLaws) (N : NextLaws) where
-  rem_ways : (lay : List Word) (m n k : ℕ) (q : Gives) (pc other : ℕ) (a b : ℤ) → word_of a ≡ Some m → word_of b ≡ Some n → Is lay (given (raised Div)) k → unless_zero b (made (int (int_rem a b))) ≡ q
+  -- a remainder, of either kind of division, or Div
+  rest_ways : (D : ℤ → ℤ → ℤ) → ((a b : ℤ) (n : ℕ) → word_of b ≡ Some n → 0 < unsigned_abs b → word_of (D a b) ≡ Some (cast_unsigned w32 (D a b)))
+      → (lay : List Word) (m n k : ℕ) (q : Gives) (pc other : ℕ) (a b : ℤ) → word_of a ≡ Some m → word_of b ≡ Some n → Is lay (given (raised Div)) k → unless_zero b (made (int (D a b))) ≡ q
       → (c : Bool) → (n == 0) ≡ c
-      → ((r : ℕ) → (if c then None else Some (cast_unsigned w32 (int_rem (int_of m) (int_of n)))) ≡ Some r → Is lay (given q) r × (way_on q (pc + 3) other ≡ pc + 3))
-      × ((if c then None else Some (cast_unsigned w32 (int_rem (int_of m) (int_of n)))) ≡ None → Is lay (given q) k × (way_on q (pc + 3) other ≡ other))
-  rem_ways lay m n k q pc other a b wa wb is s true e =
+      → ((r : ℕ) → (if c then None else Some (cast_unsigned w32 (D (int_of m) (int_of n)))) ≡ Some r → Is lay (given q) r × (way_on q (pc + 3) other ≡ pc + 3))
+      × ((if c then None else Some (cast_unsigned w32 (D (int_of m) (int_of n)))) ≡ None → Is lay (given q) k × (way_on q (pc + 3) other ≡ other))
+  rest_ways D word lay m n k q pc other a b wa wb is s true e =
       let zero_n : n ≡ 0 = eqb-true n 0 e in
       let b_is : b ≡ pos 0 = sym (int_of-word b n wb) ∙ ap int_of zero_n in
-      let q_is : raised Div ≡ q = sym (ap (λ z. unless_zero z (made (int (int_rem a b)))) b_is) ∙ s in
+      let q_is : raised Div ≡ q = sym (ap (λ z. unless_zero z (made (int (D a b)))) b_is) ∙ s in
       ((λ r h. absurd (cc)), (λ h. subst (λ q. Is lay (given q) k × (way_on q (pc + 3) other ≡ other)) q_is (is, refl)))
-  rem_ways lay m n k q pc other a b wa wb is s false e =
-      let z = not_zero b n (made (int (int_rem a b))) wb e in
-      let same : int_rem (int_of m) (int_of n) ≡ int_rem a b = ap (λ z. int_rem z (int_of n)) (int_of-word a m wa) ∙ ap (λ z. int_rem a z) (int_of-word b n wb) in (
-        (λ r h. let g : cast_unsigned w32 (int_rem (int_of m) (int_of n)) ≡ r = cc in
+  rest_ways D word lay m n k q pc other a b wa wb is s false e =
+      let z = not_zero b n (made (int (D a b))) wb e in
+      let same : D (int_of m) (int_of n) ≡ D a b = ap (λ z. D z (int_of n)) (int_of-word a m wa) ∙ ap (λ z. D a z) (int_of-word b n wb) in (
+        (λ r h. let g : cast_unsigned w32 (D (int_of m) (int_of n)) ≡ r = cc in
             subst (λ q. Is lay (given q) r × (way_on q (pc + 3) other ≡ pc + 3)) (sym z.0 ∙ s)
-            (rem_word a b n wb z.1 ∙ ap Some (ap (cast_unsigned w32) (sym same) ∙ g), refl)),
+            (word a b n wb z.1 ∙ ap Some (ap (cast_unsigned w32) (sym same) ∙ g), refl)),
         (λ h. absurd (cc)),
       )
 
-  remainder_by : (code : List Instr) (f : Frame) (lay : List Word) (front above mem free : List ℕ) (q : Gives) (packets : Packets) → Is lay (given (raised Div)) (packets Div) → (pc other : ℕ) {xs : List ℕ}
-      → Two front (Ints lay front (λ a b. unless_zero b (made (int (int_rem a b))) ≡ q)) xs → HasAt code pc (raising Div IRem packets pc (length front) other xs)
+  pub rest_by : (D : ℤ → ℤ → ℤ) → ((a b : ℤ) (n : ℕ) → word_of b ≡ Some n → 0 < unsigned_abs b → word_of (D a b) ≡ Some (cast_unsigned w32 (D a b)))
+      → (row : ℕ → ℕ → ℕ → Instr) → Partial row (λ m n. if n == 0 then None else Some (cast_unsigned w32 (D (int_of m) (int_of n))))
+      → (code : List Instr) (f : Frame) (lay : List Word) (front above mem free : List ℕ) (q : Gives) (packets : Packets) → Is lay (given (raised Div)) (packets Div) → (pc other : ℕ) {xs : List ℕ}
+      → Two front (Ints lay front (λ a b. unless_zero b (made (int (D a b))) ≡ q)) xs → HasAt code pc (raising Div row packets pc (length front) other xs)
       → Comes code f lay front mem (given q) (way_on q (pc + 3) other) (inside f pc (front ++ above) mem free)
-  remainder_by code f lay front above mem free q packets are pc other (both x y m n e e' w) has =
-      let c = rem_ways lay m n (packets Div) q pc other w.0 w.1 w.2 w.3 are w.4 (n == 0) refl in
-      raising_comes C M A N code f lay front mem free IRem int_remainder A.irem (given q) x y m n (packets Div) pc (way_on q (pc + 3) other) other above e e' has c.0 c.1
+  rest_by D word row law code f lay front above mem free q packets are pc other (both x y m n e e' w) has =
+      let c = rest_ways D word lay m n (packets Div) q pc other w.0 w.1 w.2 w.3 are w.4 (n == 0) refl in
+      raising_comes C M A N code f lay front mem free row (λ m n. if n == 0 then None else Some (cast_unsigned w32 (D (int_of m) (int_of n)))) law (given q) x y m n (packets Div) pc (way_on q (pc + 3) other) other above e e' has c.0 c.1
 
   -- A row that may have no result, of a word and the operand.
-  negated_by : (code : List Instr) (f : Frame) (lay : List Word) (front above mem free : List ℕ) (q : Gives) (packets : Packets) → Is lay (given (raised Overflow)) (packets Overflow) → (pc other : ℕ) {xs : List ℕ}
+  pub negated_by : (code : List Instr) (f : Frame) (lay : List Word) (front above mem free : List ℕ) (q : Gives) (packets : Packets) → Is lay (given (raised Overflow)) (packets Overflow) → (pc other : ℕ) {xs : List ℕ}
       → One front (λ m. (a : ℤ) × (word_of a ≡ Some m) × (int_result (neg_ℤ a) ≡ q)) xs → HasAt code pc (negated packets pc (length front) other xs)
       → Comes code f lay front mem (given q) (way_on q (pc + 4) other) (inside f pc (front ++ above) mem free)
   negated_by code f lay front [] mem free q packets are pc other (alone x m e w) has =
@@ -162,7 +166,7 @@ module _ (C : ControlLaws) (M : MemoryLaws) (A : ArithmeticLaws) (N : NextLaws) 
     remainder = record {
       long = λ packets pc d other xs. refl;
       does = λ code f lay front above mem free ready xs ls q h r packets are pc other has.
-          remainder_by code f lay front above mem free q packets (are Div) pc other (int_pairs lay front (λ a b. unless_zero b (made (int (int_rem a b)))) q h (sym (ints_remainder ls) ∙ r)) has;
+          rest_by int_rem rem_word IRem A.irem code f lay front above mem free q packets (are Div) pc other (int_pairs lay front (λ a b. unless_zero b (made (int (int_rem a b)))) q h (sym (ints_remainder ls) ∙ r)) has;
     };
     negate = record {
       long = λ packets pc d other xs. refl;

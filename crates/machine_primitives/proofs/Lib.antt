@@ -5,3 +5,11 @@ pub mod Rows
 pub mod MoreRows
 pub mod LastRows
 pub mod IntRows
+mod Quotients
+mod Window
+mod Divisions
+mod TextOrders
+mod MoreTexts
+mod TextRows
+mod TextParts
+mod TextJoins

@@ -63,7 +63,7 @@ module _ (lay : List Word) (front : List ℕ) where
   int_alone G g (an_operand x (int a) m e i no_operand) r = alone x m e (a, i, (let s : G a ≡ g = cc in s))
   int_alone G g h r = absurd (cc)
 
-  char_alone : (G : ℕ → Gives) (g : Gives) {xs : List ℕ} {ls : List Literal} → HoldAll lay front xs ls → at_kind chars (one char_in G) ls ≡ Some g
+  pub char_alone : (G : ℕ → Gives) (g : Gives) {xs : List ℕ} {ls : List Literal} → HoldAll lay front xs ls → at_kind chars (one char_in G) ls ≡ Some g
       → One front (λ m. (m < 256) × (G m ≡ g)) xs
   char_alone G g (an_operand x (char a) m e i no_operand) r =
       let s : G a ≡ g = cc in let p = i.1 in let m_is = i.0 in

@@ -72,6 +72,14 @@ fits_signed : (z : ℤ) → fits_word z ≡ true → FitsSigned w32 z
 fits_signed (pos n) e = record { sfits = ltb-true n (2 ^ 31) e }
 fits_signed (negsuc n) e = record { sfits = ltb-true n (2 ^ 31) e }
 
+-- an integer that has a word
+pub fits_of_word : (z : ℤ) (x : ℕ) → word_of z ≡ Some x → FitsSigned w32 z
+fits_of_word z x e = by (fits_word z) refl e
+  where
+    by : (b : Bool) → fits_word z ≡ b → (if b then Some (cast_unsigned w32 z) else None) ≡ Some x → FitsSigned w32 z
+    by true f g = fits_signed z f
+    by false f g = absurd (cc)
+
 pub int_of-word : (z : ℤ) (x : ℕ) → word_of z ≡ Some x → int_of x ≡ z
 int_of-word z x e = by (fits_word z) refl e
   where

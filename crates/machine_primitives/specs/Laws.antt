@@ -1,11 +1,11 @@
 -- Which primitives the code is right for.
 use Rattle.std.specs.Prelude.{◌-◌, ◌^◌}
-use Rattle.ir_code.specs.declared.instr.Instr.TheVariants.{Add as AddRow, Sub as SubRow, Mul as MulRow, WAdd, WSub, WMul, WDiv, WMod, IRem, And, Or, Xor, Shl, Shr, Sar, ILt, ULt, Eq}
-use Rattle.mlc_prims.specs.declared.basis.BasisPrimitive.TheVariants.{Add, Subtract, Multiply, Divide, Modulo, Remainder, Negate, BitsAnd, BitsOr, BitsXor, BitsNot, ShiftLeft, ShiftRight, ShiftSigned, Less, LessEqual, Greater, GreaterEqual, Equals, FromInt, ToInt, ToIntSigned, CharCode, CharOf, SizeOf}
+use Rattle.ir_code.specs.declared.instr.Instr.TheVariants.{Add as AddRow, Sub as SubRow, Mul as MulRow, WAdd, WSub, WMul, WDiv, WMod, IDiv, IMod, IQuot, IRem, And, Or, Xor, Shl, Shr, Sar, ILt, ULt, Eq, SCmp}
+use Rattle.mlc_prims.specs.declared.basis.BasisPrimitive.TheVariants.{Add, Subtract, Multiply, Divide, Modulo, Quotient, Remainder, Negate, Absolute, BitsAnd, BitsOr, BitsXor, BitsNot, ShiftLeft, ShiftRight, ShiftSigned, Less, LessEqual, Greater, GreaterEqual, Equals, FromInt, ToInt, ToIntSigned, CharCode, CharOf, TextOf, SizeOf, CharAt, PartOf, Concat, StringOf}
 use Rattle.mlc_prims.specs.declared.prim.PrimExn.TheVariants.{Overflow, Div, Chr}
 use Rattle.first_values.specs.Operations.{ints, words, chars, texts}
 use Rattle.machine_primitives.specs.RowLaws.{RowIsRight, TestIsRight}
-use Rattle.machine_primitives.specs.RowCode.{total, raising, negated, moved, from_word, limited, loaded, contrary, holds, swapped, fails}
+use Rattle.machine_primitives.specs.RowCode.{total, raising, divided, negated, magnitude, moved, from_word, limited, loaded, contrary, holds, swapped, fails, against, are_same, byte_of, part_of, join_of, text_of_one, text_of_int}
 
 -- sums, differences and products: of integers exact, or Overflow; of words modulo 2^32
 pub record SumsAreRight : Type 0 where
@@ -25,6 +25,14 @@ pub record WordQuotientsAreRight : Type 0 where
 pub record IntRowsAreRight : Type 0 where
   pub remainder : RowIsRight ints Remainder 3 (raising Div IRem)
   pub negate : RowIsRight ints Negate 4 negated
+
+-- quotients of integers rounded down and towards zero, or Div where the divisor is 0, or Overflow where there is none; what is left by the first; absolute values,
+-- or Overflow
+pub record DivisionsAreRight : Type 0 where
+  pub divide : RowIsRight ints Divide 5 (divided IDiv)
+  pub modulo : RowIsRight ints Modulo 3 (raising Div IMod)
+  pub quotient : RowIsRight ints Quotient 5 (divided IQuot)
+  pub absolute : RowIsRight ints Absolute 8 magnitude
 
 -- bits, shifts, and a word's negative and complement
 pub record BitsAreRight : Type 0 where
@@ -90,3 +98,24 @@ pub record ComparisonsAreRight : Type 0 where
   pub char_less_equal : TestIsRight chars LessEqual 3 (fails (swapped ULt))
   pub char_greater_equal : TestIsRight chars GreaterEqual 3 (fails ULt)
   pub char_equals : TestIsRight chars Equals 2 (holds Eq)
+
+-- texts by their bytes, with a prefix less: as values, and as tests
+pub record TextOrdersAreRight : Type 0 where
+  pub less : RowIsRight texts Less 3 (against 0 SCmp Eq)
+  pub less_equal : RowIsRight texts LessEqual 3 (against 0 (swapped SCmp) (swapped ULt))
+  pub greater : RowIsRight texts Greater 3 (against 0 (swapped SCmp) Eq)
+  pub greater_equal : RowIsRight texts GreaterEqual 3 (against 0 SCmp (swapped ULt))
+  pub equals : RowIsRight texts Equals 3 (against 1 SCmp Eq)
+  pub is_less : TestIsRight texts Less 3 (fails SCmp)
+  pub is_less_equal : TestIsRight texts LessEqual 2 (holds (swapped SCmp))
+  pub is_greater : TestIsRight texts Greater 3 (fails (swapped SCmp))
+  pub is_greater_equal : TestIsRight texts GreaterEqual 2 (holds SCmp)
+  pub are_equal : TestIsRight texts Equals 4 are_same
+
+-- the character at a place and a part from a place on, or Subscript; two texts as one, or Size; a text of one character, and an integer's
+pub record TextsAreRight : Type 0 where
+  pub char_at : RowIsRight texts CharAt 6 byte_of
+  pub part : RowIsRight texts PartOf 17 part_of
+  pub concat : RowIsRight texts Concat 20 join_of
+  pub string_of : RowIsRight chars StringOf 4 text_of_one
+  pub text_of : RowIsRight ints TextOf 1 text_of_int

@@ -1,6 +1,6 @@
 // Which primitives the code is right for, as contracts.
 
-ghost use Rattle.machine_primitives.specs.Laws.{SumsAreRight, WordQuotientsAreRight, IntRowsAreRight, BitsAreRight, ConversionsAreRight, TruthsAreRight, LimitsAreRight, SizesAreRight, ContrariesAreRight, ComparisonsAreRight};
+ghost use Rattle.machine_primitives.specs.Laws.{SumsAreRight, WordQuotientsAreRight, IntRowsAreRight, DivisionsAreRight, BitsAreRight, ConversionsAreRight, TruthsAreRight, LimitsAreRight, SizesAreRight, ContrariesAreRight, ComparisonsAreRight, TextOrdersAreRight, TextsAreRight};
 
 /// Sums, differences and products of integers, which may overflow, and of words.
 pub fn sums()
@@ -95,6 +95,37 @@ pub fn contraries()
 /// Remainders and negatives of integers.
 pub fn int_rows()
     ensures { IntRowsAreRight }
+{
+    ir_code::law::begins();
+    ir_code::law::control();
+    ir_code::law::memory();
+    ir_code::law::arithmetic();
+}
+
+/// Quotients of integers, what is left, and absolute values.
+pub fn divisions()
+    ensures { DivisionsAreRight }
+{
+    word_arithmetic::law::division_is_floored();
+    ir_code::law::begins();
+    ir_code::law::control();
+    ir_code::law::memory();
+    ir_code::law::arithmetic();
+}
+
+/// Comparisons of texts, as values and as tests.
+pub fn text_orders()
+    ensures { TextOrdersAreRight }
+{
+    ir_code::law::begins();
+    ir_code::law::control();
+    ir_code::law::memory();
+    ir_code::law::arithmetic();
+}
+
+/// Characters, parts and concatenations of texts, and texts of characters and of integers.
+pub fn text_rows()
+    ensures { TextsAreRight }
 {
     ir_code::law::begins();
     ir_code::law::control();

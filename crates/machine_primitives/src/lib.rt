@@ -1,4 +1,4 @@
-// The code of the primitives of the initial basis, and that it does what their table says: sums, quotients of words, and comparisons so far. Definitions, and laws.
+// The code of the primitives of the initial basis, and that it does what their table says. Definitions, and laws.
 #![tactic(auto)]
 
 pub mod law;

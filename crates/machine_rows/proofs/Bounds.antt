@@ -1,0 +1,394 @@
+-- Code is at most ten instructions a node.
+use Rattle.std.proofs.Common.{◌≡◌, ℕ, zero, suc, ◌+◌, ◌*◌, ◌≤◌, List, [], ◌∷◌, ◌++◌, length, Bool, true, false, refl, ap, arith, length-append}
+use Rattle.mlc_prims.specs.declared.basis.BasisPrimitive.{BasisPrimitive}
+use Rattle.mlc_prims.specs.declared.basis.BasisPrimitive.TheVariants.{Add, Subtract, Multiply, Divide, Modulo, Negate, Absolute, Less, LessEqual, Greater, GreaterEqual, Equals, Assign, Quotient, Remainder, BitsAnd, BitsOr, BitsXor, BitsNot, ShiftLeft, ShiftRight, ShiftSigned, ToInt, ToIntSigned, FromInt, CharCode, CharOf, TextOf, SizeOf, CharAt, PartOf, Concat, StringOf, Print}
+use Rattle.first_values.specs.Values.{Piece, one as a_value, run as a_run}
+use Rattle.first_values.specs.Operations.{Member, Constant, an_int, a_word, a_char, a_text, a_truth, Plain, same, constant, field, refer, content, assign, exception, initial, pack, argument, compute, equal, print, Test, is, is_of, holds, Callee, known, one_of, Operands, ints, words, chars, texts}
+use Rattle.ir_ssa.specs.Tree.{Body, Bodies, Fun, plain, make, attempt, turn, call, label, again, guard, goto, jump, branch, switch, tail, ret, raise, last, arm}
+use Rattle.ir_ssa.specs.Size.{nodes, nodes_bodies, nodes_funs}
+use Rattle.machine_routines.specs.EqualCode.{equal_code}
+use Rattle.machine_routines.specs.Sizes.{EqualIsShort, FindIsShort}
+use Rattle.machine_code.specs.Rows.{AreRight}
+use Rattle.machine_code.specs.Code.{Places, is_size, plain_size, test_size, callee_count, is_dense, count, table_size, test_arm_size, leaves_at, one_if_true, pieces_size, size, arms_size, with_params, code_at}
+use Rattle.machine_code.specs.Image.{funs_code, widest, placed, tags_end, set_code, set_size, sets_code, most_code, funs_at, sets_at, fun_at, places_of}
+use Rattle.machine_code.specs.Sizes.{sets_nodes}
+use Rattle.machine_code.proofs.Sizes.{code_length}
+use Rattle.machine_rows.specs.Table.{int_row, word_row, char_row, text_row, int_test, word_test, text_test, rows}
+use Rattle.machine_rows.specs.Law.{RowsAreShort, ImagesAreShort}
+
+int_row_short : (p : BasisPrimitive) → (int_row p).size ≤ 20
+int_row_short Add = omega arith
+int_row_short Subtract = omega arith
+int_row_short Multiply = omega arith
+int_row_short Divide = omega arith
+int_row_short Modulo = omega arith
+int_row_short Negate = omega arith
+int_row_short Absolute = omega arith
+int_row_short Less = omega arith
+int_row_short LessEqual = omega arith
+int_row_short Greater = omega arith
+int_row_short GreaterEqual = omega arith
+int_row_short Equals = omega arith
+int_row_short Assign = omega arith
+int_row_short Quotient = omega arith
+int_row_short Remainder = omega arith
+int_row_short BitsAnd = omega arith
+int_row_short BitsOr = omega arith
+int_row_short BitsXor = omega arith
+int_row_short BitsNot = omega arith
+int_row_short ShiftLeft = omega arith
+int_row_short ShiftRight = omega arith
+int_row_short ShiftSigned = omega arith
+int_row_short ToInt = omega arith
+int_row_short ToIntSigned = omega arith
+int_row_short FromInt = omega arith
+int_row_short CharCode = omega arith
+int_row_short CharOf = omega arith
+int_row_short TextOf = omega arith
+int_row_short SizeOf = omega arith
+int_row_short CharAt = omega arith
+int_row_short PartOf = omega arith
+int_row_short Concat = omega arith
+int_row_short StringOf = omega arith
+int_row_short Print = omega arith
+
+word_row_short : (p : BasisPrimitive) → (word_row p).size ≤ 20
+word_row_short Add = omega arith
+word_row_short Subtract = omega arith
+word_row_short Multiply = omega arith
+word_row_short Divide = omega arith
+word_row_short Modulo = omega arith
+word_row_short Negate = omega arith
+word_row_short Absolute = omega arith
+word_row_short Less = omega arith
+word_row_short LessEqual = omega arith
+word_row_short Greater = omega arith
+word_row_short GreaterEqual = omega arith
+word_row_short Equals = omega arith
+word_row_short Assign = omega arith
+word_row_short Quotient = omega arith
+word_row_short Remainder = omega arith
+word_row_short BitsAnd = omega arith
+word_row_short BitsOr = omega arith
+word_row_short BitsXor = omega arith
+word_row_short BitsNot = omega arith
+word_row_short ShiftLeft = omega arith
+word_row_short ShiftRight = omega arith
+word_row_short ShiftSigned = omega arith
+word_row_short ToInt = omega arith
+word_row_short ToIntSigned = omega arith
+word_row_short FromInt = omega arith
+word_row_short CharCode = omega arith
+word_row_short CharOf = omega arith
+word_row_short TextOf = omega arith
+word_row_short SizeOf = omega arith
+word_row_short CharAt = omega arith
+word_row_short PartOf = omega arith
+word_row_short Concat = omega arith
+word_row_short StringOf = omega arith
+word_row_short Print = omega arith
+
+char_row_short : (p : BasisPrimitive) → (char_row p).size ≤ 20
+char_row_short Add = omega arith
+char_row_short Subtract = omega arith
+char_row_short Multiply = omega arith
+char_row_short Divide = omega arith
+char_row_short Modulo = omega arith
+char_row_short Negate = omega arith
+char_row_short Absolute = omega arith
+char_row_short Less = omega arith
+char_row_short LessEqual = omega arith
+char_row_short Greater = omega arith
+char_row_short GreaterEqual = omega arith
+char_row_short Equals = omega arith
+char_row_short Assign = omega arith
+char_row_short Quotient = omega arith
+char_row_short Remainder = omega arith
+char_row_short BitsAnd = omega arith
+char_row_short BitsOr = omega arith
+char_row_short BitsXor = omega arith
+char_row_short BitsNot = omega arith
+char_row_short ShiftLeft = omega arith
+char_row_short ShiftRight = omega arith
+char_row_short ShiftSigned = omega arith
+char_row_short ToInt = omega arith
+char_row_short ToIntSigned = omega arith
+char_row_short FromInt = omega arith
+char_row_short CharCode = omega arith
+char_row_short CharOf = omega arith
+char_row_short TextOf = omega arith
+char_row_short SizeOf = omega arith
+char_row_short CharAt = omega arith
+char_row_short PartOf = omega arith
+char_row_short Concat = omega arith
+char_row_short StringOf = omega arith
+char_row_short Print = omega arith
+
+text_row_short : (p : BasisPrimitive) → (text_row p).size ≤ 20
+text_row_short Add = omega arith
+text_row_short Subtract = omega arith
+text_row_short Multiply = omega arith
+text_row_short Divide = omega arith
+text_row_short Modulo = omega arith
+text_row_short Negate = omega arith
+text_row_short Absolute = omega arith
+text_row_short Less = omega arith
+text_row_short LessEqual = omega arith
+text_row_short Greater = omega arith
+text_row_short GreaterEqual = omega arith
+text_row_short Equals = omega arith
+text_row_short Assign = omega arith
+text_row_short Quotient = omega arith
+text_row_short Remainder = omega arith
+text_row_short BitsAnd = omega arith
+text_row_short BitsOr = omega arith
+text_row_short BitsXor = omega arith
+text_row_short BitsNot = omega arith
+text_row_short ShiftLeft = omega arith
+text_row_short ShiftRight = omega arith
+text_row_short ShiftSigned = omega arith
+text_row_short ToInt = omega arith
+text_row_short ToIntSigned = omega arith
+text_row_short FromInt = omega arith
+text_row_short CharCode = omega arith
+text_row_short CharOf = omega arith
+text_row_short TextOf = omega arith
+text_row_short SizeOf = omega arith
+text_row_short CharAt = omega arith
+text_row_short PartOf = omega arith
+text_row_short Concat = omega arith
+text_row_short StringOf = omega arith
+text_row_short Print = omega arith
+
+int_test_short : (p : BasisPrimitive) → (int_test p).size ≤ 4
+int_test_short Add = omega arith
+int_test_short Subtract = omega arith
+int_test_short Multiply = omega arith
+int_test_short Divide = omega arith
+int_test_short Modulo = omega arith
+int_test_short Negate = omega arith
+int_test_short Absolute = omega arith
+int_test_short Less = omega arith
+int_test_short LessEqual = omega arith
+int_test_short Greater = omega arith
+int_test_short GreaterEqual = omega arith
+int_test_short Equals = omega arith
+int_test_short Assign = omega arith
+int_test_short Quotient = omega arith
+int_test_short Remainder = omega arith
+int_test_short BitsAnd = omega arith
+int_test_short BitsOr = omega arith
+int_test_short BitsXor = omega arith
+int_test_short BitsNot = omega arith
+int_test_short ShiftLeft = omega arith
+int_test_short ShiftRight = omega arith
+int_test_short ShiftSigned = omega arith
+int_test_short ToInt = omega arith
+int_test_short ToIntSigned = omega arith
+int_test_short FromInt = omega arith
+int_test_short CharCode = omega arith
+int_test_short CharOf = omega arith
+int_test_short TextOf = omega arith
+int_test_short SizeOf = omega arith
+int_test_short CharAt = omega arith
+int_test_short PartOf = omega arith
+int_test_short Concat = omega arith
+int_test_short StringOf = omega arith
+int_test_short Print = omega arith
+
+word_test_short : (p : BasisPrimitive) → (word_test p).size ≤ 4
+word_test_short Add = omega arith
+word_test_short Subtract = omega arith
+word_test_short Multiply = omega arith
+word_test_short Divide = omega arith
+word_test_short Modulo = omega arith
+word_test_short Negate = omega arith
+word_test_short Absolute = omega arith
+word_test_short Less = omega arith
+word_test_short LessEqual = omega arith
+word_test_short Greater = omega arith
+word_test_short GreaterEqual = omega arith
+word_test_short Equals = omega arith
+word_test_short Assign = omega arith
+word_test_short Quotient = omega arith
+word_test_short Remainder = omega arith
+word_test_short BitsAnd = omega arith
+word_test_short BitsOr = omega arith
+word_test_short BitsXor = omega arith
+word_test_short BitsNot = omega arith
+word_test_short ShiftLeft = omega arith
+word_test_short ShiftRight = omega arith
+word_test_short ShiftSigned = omega arith
+word_test_short ToInt = omega arith
+word_test_short ToIntSigned = omega arith
+word_test_short FromInt = omega arith
+word_test_short CharCode = omega arith
+word_test_short CharOf = omega arith
+word_test_short TextOf = omega arith
+word_test_short SizeOf = omega arith
+word_test_short CharAt = omega arith
+word_test_short PartOf = omega arith
+word_test_short Concat = omega arith
+word_test_short StringOf = omega arith
+word_test_short Print = omega arith
+
+text_test_short : (p : BasisPrimitive) → (text_test p).size ≤ 4
+text_test_short Add = omega arith
+text_test_short Subtract = omega arith
+text_test_short Multiply = omega arith
+text_test_short Divide = omega arith
+text_test_short Modulo = omega arith
+text_test_short Negate = omega arith
+text_test_short Absolute = omega arith
+text_test_short Less = omega arith
+text_test_short LessEqual = omega arith
+text_test_short Greater = omega arith
+text_test_short GreaterEqual = omega arith
+text_test_short Equals = omega arith
+text_test_short Assign = omega arith
+text_test_short Quotient = omega arith
+text_test_short Remainder = omega arith
+text_test_short BitsAnd = omega arith
+text_test_short BitsOr = omega arith
+text_test_short BitsXor = omega arith
+text_test_short BitsNot = omega arith
+text_test_short ShiftLeft = omega arith
+text_test_short ShiftRight = omega arith
+text_test_short ShiftSigned = omega arith
+text_test_short ToInt = omega arith
+text_test_short ToIntSigned = omega arith
+text_test_short FromInt = omega arith
+text_test_short CharCode = omega arith
+text_test_short CharOf = omega arith
+text_test_short TextOf = omega arith
+text_test_short SizeOf = omega arith
+text_test_short CharAt = omega arith
+text_test_short PartOf = omega arith
+text_test_short Concat = omega arith
+text_test_short StringOf = omega arith
+text_test_short Print = omega arith
+
+pub rows_short : RowsAreShort
+rows_short ints p = (int_row_short p, int_test_short p)
+rows_short words p = (word_row_short p, word_test_short p)
+rows_short chars p = (char_row_short p, word_test_short p)
+rows_short texts p = (text_row_short p, text_test_short p)
+
+row_short : (k : Operands) (p : BasisPrimitive) → rows.size k p ≤ 20
+row_short k p = let s = rows_short k p in s.0
+
+one_at_most : (b : Bool) → one_if_true b ≤ 1
+one_at_most true = omega arith
+one_at_most false = omega arith
+
+is_short : (c : Constant) → is_size c ≤ 5
+is_short (an_int z) = omega arith
+is_short (a_word n) = omega arith
+is_short (a_char n) = omega arith
+is_short (a_text i) = omega arith
+is_short (a_truth b) = omega arith
+
+callee_short : (c : Callee) (n : ℕ) → callee_count c n ≤ 1 + n
+callee_short (known f) n = omega arith
+callee_short (one_of s x) n = omega arith
+
+pieces_short : (ps : List Piece) → pieces_size ps ≤ 6 * length ps
+pieces_short [] = omega arith
+pieces_short (a_value x ∷ ps) = omega (arith, pieces_short ps)
+pieces_short (a_run x from zero ∷ ps) = omega (arith, pieces_short ps)
+pieces_short (a_run x from (suc n) ∷ ps) = omega (arith, pieces_short ps)
+
+table_short : (dense : Bool) (n : ℕ) → table_size dense n ≤ 3 + n
+table_short true n = omega arith
+table_short false n = omega arith
+
+arm_short : (dense : Bool) → test_arm_size dense ≤ 3
+arm_short true = omega arith
+arm_short false = omega arith
+
+plain_short : (p : Plain) → plain_size rows p ≤ 20
+plain_short same = omega arith
+plain_short (constant k) = omega arith
+plain_short (field k) = omega arith
+plain_short refer = omega arith
+plain_short content = omega arith
+plain_short assign = omega arith
+plain_short (exception k) = omega arith
+plain_short (initial k) = omega arith
+plain_short pack = omega arith
+plain_short argument = omega arith
+plain_short (compute k p) = row_short k p
+plain_short (equal k) = omega arith
+plain_short print = omega arith
+
+test_short : (q : Test) → test_size rows q ≤ 5
+test_short (is c) = is_short c
+test_short is_of = omega arith
+test_short (holds k p) = let s = rows_short k p in let le = s.1 in omega arith
+
+mutual
+  size_short : (ps : List Bool) (b : Body) → size rows ps b ≤ 10 * nodes b
+  size_short ps (plain p xs x b) = omega (arith, plain_short p, size_short ps b)
+  size_short ps (make t qs x b) = omega (arith, pieces_short qs, size_short ps b)
+  size_short ps (attempt k p xs x a b) = omega (arith, row_short k p, size_short ps a, size_short ps b)
+  size_short ps (turn p b) = omega (arith, size_short ps b)
+  size_short ps (call p c xs x b) = omega (arith, callee_short c (length xs), size_short ps b)
+  size_short ps (label params a b) = omega (arith, size_short ps a, size_short (false ∷ ps) b)
+  size_short ps (again params a b) = omega (arith, size_short (false ∷ ps) a, size_short (false ∷ ps) b)
+  size_short ps (guard l a y h) = omega (arith, size_short (true ∷ []) a, size_short ps h)
+  size_short ps (goto l xs) = omega (arith, one_at_most (leaves_at ps l))
+  size_short ps (jump p l xs) = omega (arith, one_at_most (leaves_at ps l))
+  size_short ps (branch q xs a b) = omega (arith, test_short q, size_short ps a, size_short ps b)
+  size_short ps (switch x bs) = omega (arith, table_short (is_dense 0 bs) (count bs), arms_short (is_dense 0 bs) ps bs)
+  size_short ps (tail p c xs) = omega (arith, callee_short c (length xs))
+  size_short ps (ret x) = omega arith
+  size_short ps (raise x) = omega arith
+
+  arms_short : (dense : Bool) (ps : List Bool) (bs : Bodies) → count bs + arms_size rows dense ps bs ≤ 10 * nodes_bodies bs
+  arms_short dense ps (last b) = omega (arith, size_short ps b)
+  arms_short dense ps (arm i b bs) = omega (arith, arm_short dense, size_short ps b, arms_short dense ps bs)
+
+funs_short : (at : Places) → AreRight at.rows → ((ps : List Bool) (b : Body) → size at.rows ps b ≤ 10 * nodes b) → (pc : ℕ) (funs : List Fun) → length (funs_code at pc funs) ≤ 10 * nodes_funs funs
+funs_short at right short pc [] = omega arith
+funs_short at right short pc (g ∷ funs) =
+    let c = code_at at pc (length g.params) (with_params g.params 0 []) [] g.body in
+    omega (
+      arith,
+      length-append c (funs_code at (pc + size at.rows [] g.body) funs),
+      code_length at right g.body pc (length g.params) (with_params g.params 0 []) [],
+      short [] g.body,
+      funs_short at right short (pc + size at.rows [] g.body) funs,
+    )
+
+placed_length : (places : ℕ → ℕ) (set : List Member) → length (placed places set) ≡ length set
+placed_length places [] = refl
+placed_length places (m ∷ ms) = ap suc (placed_length places ms)
+
+sets_short : FindIsShort → (funs : List Fun) (places : ℕ → ℕ) (pc : ℕ) (sets : List (List Member)) → length (sets_code funs places pc sets) ≤ 4 * sets_nodes sets
+sets_short short funs places pc [] = omega arith
+sets_short short funs places pc (s ∷ sets) =
+    let set = placed places s in
+    let k = widest funs s in
+    omega (
+      arith,
+      length-append (set_code pc k set) (sets_code funs places (pc + set_size set) sets),
+      short set (pc + 2) (k + 2) (k + 3) 0 (tags_end set),
+      placed_length places s,
+      sets_short short funs places (pc + set_size set) sets,
+    )
+
+pub code_short : AreRight rows → EqualIsShort → FindIsShort → ImagesAreShort
+code_short right equal_short find_short written p =
+    let T = p.tables in
+    let at = places_of rows written p in
+    let equals = equal_code T.types 2 most_code in
+    let funs = funs_code at (funs_at rows written p) p.funs in
+    let sets = sets_code p.funs (fun_at rows written p) (sets_at rows written p) T.sets in
+    omega (
+      arith,
+      length-append equals (funs ++ sets),
+      length-append funs sets,
+      equal_short T.types 2 most_code,
+      funs_short at right size_short (funs_at rows written p) p.funs,
+      sets_short find_short p.funs (fun_at rows written p) (sets_at rows written p) T.sets,
+    )

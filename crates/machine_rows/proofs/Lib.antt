@@ -1,0 +1,4 @@
+mod AllRows
+mod Bounds
+mod Examples
+mod RowExamples
