@@ -149,9 +149,9 @@ mod tests {
     use mlc_prims::basis::BasisPrimitive;
 
     #[test]
-    fn sizes() {
-        assert_eq!(row_size(Operands::Ints, BasisPrimitive::Divide), 5);
-        assert_eq!(row_size(Operands::Chars, BasisPrimitive::Divide), 0);
-        assert_eq!(test_size(Operands::Texts, BasisPrimitive::Equals), 4);
+    fn sizes(rt: HostRuntime) {
+        assert_eq!(rt; row_size(Operands::Ints, BasisPrimitive::Divide), 5);
+        assert_eq!(rt; row_size(Operands::Chars, BasisPrimitive::Divide), 0);
+        assert_eq!(rt; test_size(Operands::Texts, BasisPrimitive::Equals), 4);
     }
 }
