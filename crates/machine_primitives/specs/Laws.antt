@@ -26,8 +26,8 @@ pub record IntRowsAreRight : Type 0 where
   pub remainder : RowIsRight ints Remainder 3 (raising Div IRem)
   pub negate : RowIsRight ints Negate 4 negated
 
--- quotients of integers rounded down and towards zero, or Div where the divisor is 0, or Overflow where there is none; what is left by the first; absolute values,
--- or Overflow
+-- quotients of integers rounded down and towards zero, or Div where the divisor is 0, or Overflow where there is none; what is left by the first; absolute
+-- values, or Overflow
 pub record DivisionsAreRight : Type 0 where
   pub divide : RowIsRight ints Divide 5 (divided IDiv)
   pub modulo : RowIsRight ints Modulo 3 (raising Div IMod)
