@@ -1,0 +1,5 @@
+pub mod Rise
+pub mod Transfer
+pub mod Fitting
+pub mod Positions
+pub mod Whole

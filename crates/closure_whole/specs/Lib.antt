@@ -1,0 +1,4 @@
+pub mod Rising
+pub mod Constants
+pub mod Converted
+pub mod Laws
