@@ -2,4 +2,6 @@ pub mod Rise
 pub mod Transfer
 pub mod Fitting
 pub mod Positions
+pub mod Fresh
+pub mod Held
 pub mod Whole

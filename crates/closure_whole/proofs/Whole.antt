@@ -1,5 +1,5 @@
 -- All together: the sets solve, the table of captures is right, functions are numbered in the order of their codes, and the program fits.
-use Rattle.std.proofs.Common.{refl}
+use Rattle.std.proofs.Common.{[], refl, ◌∙◌}
 use Rattle.ir_mono.specs.Mono.{Program}
 use Rattle.ir_mono.specs.WellFormed.{IsWellFormed}
 use Rattle.flow_sets.specs.ByType.{bound, by_type, type_at}
@@ -8,9 +8,14 @@ use Rattle.flow_sets.proofs.Known.{once-known, by-type-solves}
 use Rattle.closure_convert.specs.Capture.{table_of}
 use Rattle.closure_convert.proofs.Numbered.{captures-are-right}
 use Rattle.closure_meaning.proofs.Run.{conversion-same}
-use Rattle.closure_whole.specs.Rising.{rising}
+use Rattle.eta_expand.proofs.Formed.{expanded-well-formed, expanded-explicit}
+use Rattle.eta_expand.proofs.Keeps.{expanded-same}
+use Rattle.closure_whole.specs.Rising.{above, rising}
+use Rattle.closure_whole.specs.Whole.{explicit}
+use Rattle.closure_whole.proofs.Fresh.{fresh}
+use Rattle.closure_whole.proofs.Held.{held}
 use Rattle.closure_whole.specs.Converted.{numbering}
-use Rattle.closure_whole.specs.Laws.{RisingSolve, ConvertedSame}
+use Rattle.closure_whole.specs.Laws.{RisingSolve, ConvertedSame, WithoutFunctionsSame}
 use Rattle.closure_whole.proofs.Rise.{rises, falls}
 use Rattle.closure_whole.proofs.Transfer.{SameSets, solves-too}
 use Rattle.closure_whole.proofs.Positions.{places-are}
@@ -34,3 +39,11 @@ converted-same strings p w x h m =
       closed = captures-are-right p w;
       numbered = places-are p.types p.body w.once;
     }) m
+
+pub explicit-well-formed : (p : Program) → IsWellFormed p → IsWellFormed (explicit p)
+explicit-well-formed p w = expanded-well-formed (above (bound p.types p.body)) p w (λ k l. fresh p.types k p.body l)
+
+pub without-functions-same : WithoutFunctionsSame
+without-functions-same strings p w h m =
+    converted-same strings (explicit p) (explicit-well-formed p w) (expanded-explicit (above (bound p.types p.body)) p w) (held strings p.types [] (above (bound p.types p.body)) p.body h) m
+    ∙ expanded-same (above (bound p.types p.body)) p w (λ k l. fresh p.types k p.body l) m

@@ -9,6 +9,7 @@ use Rattle.flow_sets.specs.Flow.{SolvesProgram}
 use Rattle.closure_whole.specs.Rising.{rising}
 use Rattle.closure_whole.specs.Constants.{AreHeld}
 use Rattle.closure_whole.specs.Converted.{converted}
+use Rattle.closure_whole.specs.Whole.{without_functions}
 
 -- all functions of each type, in rising order, are a solution
 abbrev pub RisingSolve : Type 0
@@ -19,3 +20,8 @@ abbrev pub ConvertedSame : Type 0
 ConvertedSame =
     (strings : List (List ℕ)) (p : Program) → IsWellFormed p → IsExplicit p.types [] p.body → AreHeld strings p.body → (m : ℕ)
     → first.meaning (converted strings p) m ≡ mono.meaning p m
+
+-- one outcome, of any well formed program, beside a table of its strings
+abbrev pub WithoutFunctionsSame : Type 0
+WithoutFunctionsSame =
+    (strings : List (List ℕ)) (p : Program) → IsWellFormed p → AreHeld strings p.body → (m : ℕ) → first.meaning (without_functions strings p) m ≡ mono.meaning p m
