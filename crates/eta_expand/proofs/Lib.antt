@@ -8,3 +8,4 @@ pub mod Fuel
 pub mod Related
 pub mod Refined
 pub mod Keeps
+pub mod Examples
