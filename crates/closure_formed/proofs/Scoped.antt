@@ -165,8 +165,8 @@ module _ (types : List table.Row) (n : Numbering) (flow : Flow) (captures : Tabl
   ready-scoped : (s : Scope) {xs : List ℕ} {ps : List Piece} {zs : List ℕ} {e : out.Exp} → Makes s ps zs → Holds s xs → ((ys : List ℕ) → More xs ys → PiecesIn ys (piece_list ps) → Scoped ys e) → Scoped xs (ready s ps e)
   ready-scoped s {xs = xs} makes_none h rest = rest xs (same xs) tt
   ready-scoped s {xs = xs} {e = e} (makes_one y {ps = ps} r p) h rest = by (is_in y s.locals) refl
-    (λ i. ready-scoped s p h (λ ys k q. rest ys k (k.are (var y) i, q)))
-    (ready-scoped s p (more-holds (one-more (var y) (same xs)) h) (λ ys k q. rest ys (after (var y) k) (k.are (var y) (here (var y) xs), q)))
+      (λ i. ready-scoped s p h (λ ys k q. rest ys k (k.are (var y) i, q)))
+      (ready-scoped s p (more-holds (one-more (var y) (same xs)) h) (λ ys k q. rest ys (after (var y) k) (k.are (var y) (here (var y) xs), q)))
     where
       by : (b : Bool) → is_in y s.locals ≡ b → (IsIn xs (var y) → Scoped xs (ready s ps e)) → Scoped (var y ∷ xs) (ready s ps e) → Scoped xs (if b then ready s ps e else out.let_in (var y) (access s y) (ready s ps e))
       by true q g k = g (h.locals y q)

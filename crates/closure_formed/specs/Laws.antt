@@ -12,8 +12,8 @@ use Rattle.closure_formed.specs.Tables.{AreRows, AreBytes}
 -- of a program with no function by itself
 abbrev pub ConvertedWellFormed : Type 0
 ConvertedWellFormed =
-    (strings : List (List ℕ)) (p : Program) → mono.IsWellFormed p → IsExplicit p.types [] p.body → AreHeld strings p.body → AreRows p.types → AreBytes strings
-    → first.IsWellFormed (converted strings p)
+    (strings : List (List ℕ)) (p : Program) → mono.IsWellFormed p → IsExplicit p.types [] p.body → AreHeld strings p.body
+    → AreRows p.types → AreBytes strings → first.IsWellFormed (converted strings p)
 
 -- of any program
 abbrev pub WithoutFunctionsWellFormed : Type 0

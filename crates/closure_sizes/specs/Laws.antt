@@ -21,4 +21,5 @@ ConversionIsSmall =
 abbrev pub CapturesAreUses : Type 0
 CapturesAreUses =
     (types : List table.Row) (s : Scope) → AreDistinct (visible s)
-    → ((f : Fun (mono types)) → length (wanted types s f) ≤ fun_uses types f) × ((fs : Funs (mono types)) → length (wanted_all types s fs) ≤ funs_uses types fs)
+    → ((f : Fun (mono types)) → length (wanted types s f) ≤ fun_uses types f)
+    × ((fs : Funs (mono types)) → length (wanted_all types s fs) ≤ funs_uses types fs)

@@ -5,3 +5,4 @@ pub mod Positions
 pub mod Fresh
 pub mod Held
 pub mod Whole
+pub mod Examples

@@ -24,4 +24,5 @@ ConvertedSame =
 -- one outcome, of any well formed program, beside a table of its strings
 abbrev pub WithoutFunctionsSame : Type 0
 WithoutFunctionsSame =
-    (strings : List (List ℕ)) (p : Program) → IsWellFormed p → AreHeld strings p.body → (m : ℕ) → first.meaning (without_functions strings p) m ≡ mono.meaning p m
+    (strings : List (List ℕ)) (p : Program) → IsWellFormed p → AreHeld strings p.body → (m : ℕ)
+    → first.meaning (without_functions strings p) m ≡ mono.meaning p m

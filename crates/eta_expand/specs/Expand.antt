@@ -1,5 +1,5 @@
--- What is a function by itself (a constructor or an exception that takes an argument, `ref`, a primitive) becomes a `fn` where it stands as a value. New variables
--- have the numbers from n on.
+-- What is a function by itself (a constructor or an exception that takes an argument, `ref`, a primitive) becomes a `fn` where it stands as a value. New
+-- variables have the numbers from n on.
 use Rattle.std.specs.Prelude.{◌≡◌, ℕ, suc, ◌+◌, ◌≤◌, Bool, true, false, List, [], ◌∷◌, length, Option, Some, None, nat_eq}
 use Rattle.std.specs.Map.{lookup}
 use Rattle.mlc_base.specs.declared.label.Label.TheVariants.{Number}
@@ -199,7 +199,8 @@ module _ (types : List table.Row) where
     expand_op N n t (make_record u row) = make_record u row
     expand_op N n t (select u l a) = select u l a
     expand_op N n t (prim_alone p u) =
-        fn (performing (is_single (prim_type p).arguments) n p u (takes_at (node_at types t)) (gives_at (node_at types t)) (parts_at (node_at types (takes_at (node_at types t)))))
+        fn (performing (is_single (prim_type p).arguments) n p u (takes_at (node_at types t)) (gives_at (node_at types t))
+        (parts_at (node_at types (takes_at (node_at types t)))))
     expand_op N n t (prim m p u as_) = prim m p u as_
     expand_op N n t (app place f a) = app place f a
     expand_op N n t (fn f) = fn (expand_fun N n f)
