@@ -1,0 +1,4 @@
+// How large the conversion of functions to cells is.
+#![tactic(auto)]
+
+pub mod law;

@@ -1,0 +1,26 @@
+-- Whole ways of programs by computation: a constructor, a primitive and an exception that are called as functions.
+use Rattle.std.proofs.Common.{◌≡◌, ℕ, List, [], ◌∷◌, refl}
+use Rattle.mlc_base.specs.Outcome.{ended, uncaught, Outcome}
+use Rattle.ir_first.specs.Meaning as first
+use Rattle.eta_expand.proofs.Examples.{at, E, of_body, constructs, joins, raises}
+use Rattle.closure_whole.specs.Constants.{AreHeld}
+use Rattle.closure_whole.specs.Whole.{without_functions}
+
+abbrev strings : List (List ℕ)
+strings = (104 ∷ []) ∷ (105 ∷ []) ∷ []
+
+abbrev does : E → ℕ → Outcome
+does e m = first.meaning (without_functions strings (of_body e)) m
+
+constructs-one : does constructs 1 ≡ record { output = []; end = ended; turns = at 7 ∷ [] }
+constructs-one = refl
+
+joins-two : does joins 2 ≡ record { output = 104 ∷ 105 ∷ []; end = ended; turns = at 7 ∷ at 8 ∷ [] }
+joins-two = refl
+
+raises-it : does raises 1 ≡ record { output = []; end = uncaught 77; turns = at 7 ∷ [] }
+raises-it = refl
+
+-- the constants of the second are held by the table
+joins-held : AreHeld strings joins
+joins-held = (tt, ((0, refl), ((1, refl), (tt, (tt, (tt, (tt, tt)))))))

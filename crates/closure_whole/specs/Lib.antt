@@ -1,0 +1,5 @@
+pub mod Rising
+pub mod Constants
+pub mod Converted
+pub mod Whole
+pub mod Laws

@@ -1,0 +1,11 @@
+pub mod Known
+pub mod Typed
+pub mod Explicit
+pub mod Local
+pub mod Once
+pub mod Formed
+pub mod Fuel
+pub mod Related
+pub mod Refined
+pub mod Keeps
+pub mod Examples
