@@ -239,7 +239,8 @@ pub fn push_performed(
     fields: &[Field],
     steps: &mut Vec<Step>,
 ) -> Result<usize, NoMemory>
-    ensures { IfOk result (λ a. (w v : State) (ss us : List Row) (f d : Reading → Source) → ((R : Reading) → way (f R) (d R) ≡ by_performing primitive (known_type at R))
+    ensures { IfOk result (λ a. (w v : State) (ss us : List Row) (f d : Reading → Source)
+        → ((R : Reading) → way (f R) (d R) ≡ by_performing primitive (known_type at R))
         → Weighs w v ss us f → MakesTuple v work.old us steps.old.items d fields.now → Makes w work.new ss steps.new.items (applied place u f d) a) }
 {
     let arguments = values(alloc, fields)?;
