@@ -1,0 +1,15 @@
+use Rattle.std.proofs.Common.{map, refl, ap}
+use Rattle.ir_plain.specs.Tree.{prim_alone}
+use Rattle.match_compile.specs.Compile.{scoped, used_at}
+use Rattle.match_types.proofs.Seeing.{sees-before}
+use Rattle.exp_steps.proofs.Leaves.{alone, earlier}
+use Rattle.exp_steps.proofs.atoms.push_primitive.Goals as goal
+
+pub returns : goal.returns
+returns c =
+    let q = c.in_ok-ty.ensures in
+    let p = c.in_ok-a.ensures in
+    earlier q.keeps q.next
+    (alone p.keeps p.is p.next
+    (p.puts (λ v. prim_alone c.args.primitive (scoped v.scope (used_at (map v.source.type c.args.types.now)))) (λ v s. ap (prim_alone c.args.primitive) (q.is v (sees-before _ _ v p.keeps s))))
+    (λ R m. refl) (λ v m rest. refl))

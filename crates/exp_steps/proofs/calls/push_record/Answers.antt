@@ -1,0 +1,21 @@
+use Rattle.std.proofs.Common.{ap}
+use Rattle.ir_plain.specs.Tree.{make_record}
+use Rattle.plain_tree.specs.TreeOf.{row_of}
+use Rattle.match_compile.specs.Compile.{scoped}
+use Rattle.match_types.specs.Views.{reading}
+use Rattle.match_types.proofs.Seeing.{sees-before}
+use Rattle.exp_steps.proofs.Building.{record-makes, pushed-after}
+use Rattle.exp_steps.proofs.calls.push_record.Goals as goal
+
+pub returns : goal.returns
+returns c = λ w ss fs makes.
+    let q = c.in_ok-ty.ensures in
+    let p = c.in_ok-a.ensures in
+    record-makes c.args.fields.items makes
+    (pushed-after q.keeps q.next (record {
+      keeps = p.keeps;
+      is = p.is;
+      next = p.next;
+      puts = p.puts (λ v. make_record (scoped v.scope (v.source.type c.args.u)) (row_of (reading v) c.args.fields.items))
+          (λ v s. ap (λ k. make_record k (row_of (reading v) c.args.fields.items)) (q.is v (sees-before _ _ v p.keeps s)));
+    }))

@@ -1,0 +1,4 @@
+pub mod Ways
+pub mod Making
+pub mod Made
+pub mod Joining

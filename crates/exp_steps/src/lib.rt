@@ -1,0 +1,9 @@
+// The steps of single expressions, behind those of their parts.
+#![tactic(auto)]
+
+pub mod atoms;
+pub mod calls;
+pub mod joins;
+pub mod operations;
+pub mod types;
+pub mod ways;
