@@ -66,12 +66,12 @@ impl Constructors {
         Ok(true)
     }
 
-    /// The argument's type of the constructor that was the i-th to come, if there is one.
-    pub fn argument_at(&self, i: usize) -> Option<Option<usize>>
-        ensures { option_map (λ e. e.1) (slice_get (reverse self.now) i) ≡ result }
+    /// The number of the constructor that was the i-th to come, if there is one.
+    pub fn number_at(&self, i: usize) -> Option<usize>
+        ensures { option_map (λ e. e.0) (slice_get (reverse self.now) i) ≡ result }
     {
         match self.entries.get_index(i) {
-            Some((_, argument)) => Some(*argument),
+            Some((number, _)) => Some(*number),
             None => None,
         }
     }

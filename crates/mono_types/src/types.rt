@@ -1,5 +1,6 @@
 // The table of closed types.
-ghost use Rattle.std.specs.Prelude.{◌≡◌, ◌<◌, [], length, OnOk, OnErr, IfOk};
+ghost use Rattle.std.specs.Prelude.{◌≡◌, ◌<◌, [], length, slice_get, option_copied, OnOk, OnErr, IfOk};
+ghost use Rattle.std.specs.Option.{option_map};
 ghost use Rattle.ty_core.specs.TypesOf.{head_of};
 ghost use Rattle.ir_mono.specs.Types.{node, node_at, constructor_at, admits};
 ghost use Rattle.mono_types.specs.Rows.{seen, AreOnce, IsPlaced, IsEntered};
@@ -85,6 +86,17 @@ impl Types {
         }
         let row = &self.rows[n];
         row.constructors.get(number)
+    }
+
+    /// The constructors of a type, if there is one of its number.
+    pub fn constructors(&self, n: usize) -> Option<&Constructors>
+        ensures { option_copied result ≡ option_map (λ r. r.constructors) (slice_get self.now n) }
+    {
+        if n >= self.rows.len() {
+            return None;
+        }
+        let row = &self.rows[n];
+        Some(&row.constructors)
     }
 
     /// Whether two values of a type can be compared.

@@ -63,7 +63,7 @@ fn allows(types: &Types, mark: Mark, n: usize) -> bool
 }
 
 /// Whether a type is that of unit.
-fn is_unit(types: &Types, n: usize) -> bool
+pub fn is_unit(types: &Types, n: usize) -> bool
     ensures { result ≡ is_unit types.now n }
 {
     match record_parts(types, n) {
