@@ -100,7 +100,6 @@ headed-sound h f (node g ps) e = let a = and_parts (same_symbol g h) (f ps) e in
 pub headed-since : (h : Symbol) (f : List ℕ → Bool) (ps : List ℕ) → f ps ≡ true → headed h f (node h ps) ≡ true
 headed-since h f ps p = and_from (same_symbol h h) (f ps) (same-symbol h) p
 
-
 pub record IsNameNode (f : TyName → Bool) (k : Node) : Type 0 where
   pub named : TyName
   pub is : k ≡ node (name named) []

@@ -72,7 +72,6 @@ name-lt n a true d e = (d, sym (some-is e))
 name-lt n a false d e = absurd (cc)
 
 module _ (types : List table.Row) (exn : ℕ) where
-
   name-typed : (G : Sorts) (y : Exception (mono types)) (a : Option ℕ) → name_argument types exn G y ≡ Some a → NameTyped types G y a
   name-typed G (fixed n) a e = let p = name-lt n a (nat_lt n 7) refl e in subst (NameTyped types G (fixed n)) (sym p.1) (fixed_typed p.0)
   name-typed G (held x) a e = held_typed (argument-is G x a e)

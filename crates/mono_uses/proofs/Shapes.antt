@@ -63,9 +63,9 @@ module _ (types : List Row) (u : ℕ) where
   pub unit-stands : (n : ℕ) → is_unit types n ≡ stands types u n unit_type
   unit-stands n = same-answer (is_unit types n) (stands types u n unit_type)
       (λ e.
-          let r = record-sound types n (λ ls ps. nat_eq (length ls) 0 && nat_eq (length ps) 0) e in
-          let b = and_parts (nat_eq (length r.names) 0) _ r.so in
-          stands-since types u n unit_type (stands_con (r.is ∙ ap₂ (λ ls ps. Some (node (labels ls) ps)) (no-length r.names b.0) (no-length r.parts b.1)) stand_none))
+      let r = record-sound types n (λ ls ps. nat_eq (length ls) 0 && nat_eq (length ps) 0) e in
+      let b = and_parts (nat_eq (length r.names) 0) _ r.so in
+      stands-since types u n unit_type (stands_con (r.is ∙ ap₂ (λ ls ps. Some (node (labels ls) ps)) (no-length r.names b.0) (no-length r.parts b.1)) stand_none))
       (λ e. record-since types n (λ ls ps. nat_eq (length ls) 0 && nat_eq (length ps) 0) [] [] (unit-is n (stands-sound types u n unit_type e)) refl)
 
   -- lists of shapes

@@ -43,13 +43,21 @@ pub fn part_at(labels: &[Label], parts: &[usize], label: &Label) -> Option<usize
 fn two_labels(labels: &[Label]) -> Option<(Label, Label)>
     ensures { result ≡ two_of labels.now }
 {
-    if labels.len() == 2 { Some((labels[0], labels[1])) } else { None }
+    if labels.len() == 2 {
+        Some((labels[0], labels[1]))
+    } else {
+        None
+    }
 }
 
 fn three_labels(labels: &[Label]) -> Option<(Label, Label, Label)>
     ensures { result ≡ three_of labels.now }
 {
-    if labels.len() == 3 { Some((labels[0], labels[1], labels[2])) } else { None }
+    if labels.len() == 3 {
+        Some((labels[0], labels[1], labels[2]))
+    } else {
+        None
+    }
 }
 
 /// Whether labels are those of a pair.

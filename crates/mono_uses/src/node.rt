@@ -41,7 +41,11 @@ pub fn type_name(types: &Types, n: usize) -> Option<TyName>
 fn single(name: TyName, parts: &[usize]) -> Option<(TyName, usize)>
     ensures { result ≡ single_in name parts.now }
 {
-    if parts.len() == 1 { Some((name, parts[0])) } else { None }
+    if parts.len() == 1 {
+        Some((name, parts[0]))
+    } else {
+        None
+    }
 }
 
 fn applied_of(head: &Head, parts: &[usize]) -> Option<(TyName, usize)>
@@ -68,7 +72,11 @@ pub fn applied(types: &Types, n: usize) -> Option<(TyName, usize)>
 fn two(parts: &[usize]) -> Option<(usize, usize)>
     ensures { result ≡ two_in parts.now }
 {
-    if parts.len() == 2 { Some((parts[0], parts[1])) } else { None }
+    if parts.len() == 2 {
+        Some((parts[0], parts[1]))
+    } else {
+        None
+    }
 }
 
 fn function_of(head: &Head, parts: &[usize]) -> Option<(usize, usize)>

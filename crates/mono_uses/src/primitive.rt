@@ -93,13 +93,21 @@ fn one(ns: &[usize]) -> Option<usize>
 fn two(ns: &[usize]) -> Option<(usize, usize)>
     ensures { result ≡ two_of ns.now }
 {
-    if ns.len() == 2 { Some((ns[0], ns[1])) } else { None }
+    if ns.len() == 2 {
+        Some((ns[0], ns[1]))
+    } else {
+        None
+    }
 }
 
 fn three(ns: &[usize]) -> Option<(usize, usize, usize)>
     ensures { result ≡ three_of ns.now }
 {
-    if ns.len() == 3 { Some((ns[0], ns[1], ns[2])) } else { None }
+    if ns.len() == 3 {
+        Some((ns[0], ns[1], ns[2]))
+    } else {
+        None
+    }
 }
 
 fn is_one(types: &Types, u: usize, ns: &[usize], a: Shape) -> bool
