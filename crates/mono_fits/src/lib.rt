@@ -1,0 +1,4 @@
+// What a checker of simple types asks, as decisions, and that these are the typing. Definitions, and laws of them.
+#![tactic(auto)]
+
+pub mod law;

@@ -1,0 +1,8 @@
+use Rattle.std.proofs.Common.{◌∙◌, sym, ap, option_and_then}
+use Rattle.mono_fits.specs.Fits.{type_in}
+use Rattle.mono_operations.specs.Reads.{sort_in}
+use Rattle.mono_operations.proofs.Scopes.{found-then}
+use Rattle.mono_operations.proofs.atom.atom_type.Goals as goal
+
+pub returns : goal.returns
+returns c = c.found_type.ensures ∙ ap (option_and_then (λ k. type_in (sort_in k))) c.find_local.ensures ∙ sym (found-then type_in c.args.scope.now.0 c.args.atom)
