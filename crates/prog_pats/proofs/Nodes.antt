@@ -1,6 +1,5 @@
 -- What is asked of each kind of pattern.
-use Rattle.std.proofs.Common.{◌≡◌, ℕ, Bool, true, List, Option, None, Vec, Box, Global, refl, sym, ap, ◌∙◌}
-use Rattle.ty_core.specs.Types.{Typ}
+use Rattle.std.proofs.Common.{◌≡◌, ℕ, Bool, true, None, Vec, Box, Global, sym, ap, ◌∙◌}
 use Rattle.ty_table.specs.TypeAt.{type_at}
 use Rattle.ir_poly.specs.Prog as tree
 use Rattle.ir_tables.specs.declared.tables.Tables.{Tables}

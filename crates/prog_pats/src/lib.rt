@@ -2,6 +2,7 @@
 #![tactic(auto)]
 
 pub mod exceptions;
+pub mod fields;
 pub mod heads;
 pub mod pats;
 pub mod records;

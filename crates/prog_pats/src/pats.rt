@@ -1,9 +1,11 @@
 // Patterns.
-ghost use Rattle.std.specs.Prelude.{◌≡◌, drop, IfOk};
+ghost use Rattle.std.specs.Prelude.{◌≡◌, true, drop, IfOk};
+ghost use Rattle.ty_table.specs.TypeAt.{type_at};
 ghost use Rattle.prog_known.specs.Lists.{hold, all_hold};
 ghost use Rattle.prog_parts.specs.Patterns.{outer_type, next_type, next_part, size_if};
-ghost use Rattle.prog_pats.specs.Fits.{pat_fits, before_fits, record_fits, field_fits, operand_fits, chain_fits};
+ghost use Rattle.prog_pats.specs.Fits.{is_ordered, pat_fits, before_fits, record_fits, field_fits, operand_fits, chain_fits};
 
+use crate::fields::has_order;
 use crate::heads::{check_exception, check_head, check_joint};
 use crate::records::{has_size, is_known, is_part};
 use ir_tables::tables::Tables;
@@ -110,7 +112,8 @@ fn check_record(
 ) -> Result<bool, NoMemory>
     ensures { IfOk result (λ so. so ≡ record_fits tables.now environment.now further fields.now ty) }
 {
-    let right = check_fields(alloc, tables, environment, fields, ty)?;
+    let ordered = has_order(&tables.types, ty);
+    let right = check_fields(alloc, tables, environment, fields, ty, ordered)?;
     let wanted = wanted_size(further, fields);
     let sized = has_size(&tables.types, wanted, ty);
     Ok(both(right, sized))
@@ -123,14 +126,25 @@ fn check_field(
     environment: &Environment,
     field: &PatField,
     ty: usize,
+    ordered: bool,
 ) -> Result<bool, NoMemory>
+    requires { ordered ≡ true → is_ordered (type_at tables.now.types ty) ≡ true }
     ensures { IfOk result (λ so. so ≡ field_fits tables.now environment.now ty field.now) }
 {
-    let there = is_part(alloc, tables, environment, ty, field.label, field.ty)?;
+    let there = is_part(
+        alloc,
+        tables,
+        environment,
+        ty,
+        ordered,
+        field.label,
+        field.ty,
+    )?;
     let inner = check_pat(alloc, tables, environment, &field.pat, field.ty)?;
     Ok(both(there, inner))
 }
 
+/// Fields of a record, whose labels ascend where that is said.
 #[cycle(pats)]
 fn check_fields(
     alloc: Global,
@@ -138,13 +152,15 @@ fn check_fields(
     environment: &Environment,
     fields: &[PatField],
     ty: usize,
+    ordered: bool,
 ) -> Result<bool, NoMemory>
+    requires { ordered ≡ true → is_ordered (type_at tables.now.types ty) ≡ true }
     ensures { IfOk result (λ so. so ≡ all_hold (field_fits tables.now environment.now ty) fields.now) }
 {
     let mut so_far = true;
     for i in 0..fields.len() {
         let field = &fields[i];
-        let one = check_field(alloc, tables, environment, field, ty)?;
+        let one = check_field(alloc, tables, environment, field, ty, ordered)?;
         so_far = both(so_far, one);
     }
     Ok(so_far)

@@ -1,5 +1,5 @@
 // Parts of records.
-ghost use Rattle.std.specs.Prelude.{◌≡◌, Some, IfOk};
+ghost use Rattle.std.specs.Prelude.{◌≡◌, true, Some, IfOk};
 ghost use Rattle.std.specs.Map.{lookup};
 ghost use Rattle.ty_table.specs.TypeAt.{type_at};
 ghost use Rattle.ir_values.specs.Values.{same_label};
@@ -7,12 +7,13 @@ ghost use Rattle.ir_poly.specs.TestsChecked.{is_size};
 ghost use Rattle.prog_check.specs.Same.{same_option};
 ghost use Rattle.prog_check.specs.Deciding.{row_in, on_row};
 ghost use Rattle.prog_parts.specs.Patterns.{has_size};
-ghost use Rattle.prog_pats.specs.Fits.{is_over as over_scope, part_fits, pair_fits};
+ghost use Rattle.prog_pats.specs.Fits.{is_over as over_scope, is_ordered, part_fits, pair_fits};
 
+use crate::fields::field_of;
 use ir_known::ask::same_type;
 use ir_known::walk::is_over;
 use ir_tables::tables::Tables;
-use ir_uses::record::{field, record_size};
+use ir_uses::record::record_size;
 use mlc_base::label::Label;
 use mlc_base::memory::NoMemory;
 use prog_known::answers::both;
@@ -21,11 +22,12 @@ use prog_tree::tree::Pair;
 use std::alloc::Global;
 use ty_table::types::Types;
 
-/// Whether a record has a part of this type.
-fn has_part(types: &Types, row: usize, label: Label, ty: usize) -> bool
+/// Whether a record, whose labels ascend where that is said, has a part of this type.
+fn has_part(types: &Types, row: usize, ordered: bool, label: Label, ty: usize) -> bool
+    requires { ordered ≡ true → is_ordered (type_at types.now row) ≡ true }
     ensures { result ≡ on_row (row_in (type_at types.now row)) (λ r. same_option (lookup (same_label label) r) (Some (type_at types.now ty))) }
 {
-    match field(types, row, label) {
+    match field_of(types, row, ordered, label) {
         Some(found) => same_type(types, found, ty),
         None => false,
     }
@@ -44,19 +46,21 @@ pub fn is_known(
     Ok(known)
 }
 
-/// Whether a record has a part of this type, which is over the parameters in scope.
+/// Whether a record, whose labels ascend where that is said, has a part of this type, which is over the parameters in scope.
 pub fn is_part(
     alloc: Global,
     tables: &Tables,
     environment: &Environment,
     row: usize,
+    ordered: bool,
     label: Label,
     ty: usize,
 ) -> Result<bool, NoMemory>
+    requires { ordered ≡ true → is_ordered (type_at tables.now.types row) ≡ true }
     ensures { IfOk result (λ so. so ≡ part_fits tables.now environment.now row label ty) }
 {
     let known = is_known(alloc, tables, environment, ty)?;
-    let there = has_part(&tables.types, row, label, ty);
+    let there = has_part(&tables.types, row, ordered, label, ty);
     Ok(both(there, known))
 }
 
@@ -93,6 +97,7 @@ pub fn is_pair(
         tables,
         environment,
         pair.ty,
+        false,
         Label::Number(1),
         pair.left,
     )?;
@@ -101,6 +106,7 @@ pub fn is_pair(
         tables,
         environment,
         pair.ty,
+        false,
         Label::Number(2),
         pair.right,
     )?;

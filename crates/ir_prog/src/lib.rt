@@ -1,0 +1,5 @@
+// Programs with source matches.
+#![tactic(auto)]
+
+pub mod form;
+pub mod program;
