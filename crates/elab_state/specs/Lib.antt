@@ -1,0 +1,6 @@
+pub mod Namings
+pub mod Props
+pub mod Readings
+pub mod States
+pub mod Generic
+pub mod Steps
