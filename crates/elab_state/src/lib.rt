@@ -2,4 +2,5 @@
 #![tactic(auto)]
 
 pub mod naming;
+pub mod start;
 pub mod state;

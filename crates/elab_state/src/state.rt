@@ -1,17 +1,14 @@
 // The state of elaboration.
-ghost use Rattle.std.specs.Prelude.{◌≡◌, ◌<◌, ◌++◌, ◌∷◌, length, Some, slice_get, IfOk, OnOk, OnErr};
-ghost use Rattle.elab_state.specs.Namings.{AreNamings, IsAmong};
+ghost use Rattle.std.specs.Prelude.{length};
+ghost use Rattle.elab_state.specs.Namings.{AreNamings};
 ghost use Rattle.elab_state.specs.Readings.{AreWritten, AreHeldRows};
-ghost use Rattle.elab_state.specs.States.{types_in};
 ghost use Rattle.elab_state.specs.Props.{AreNamings-prop, AreWritten-prop, AreHeldRows-prop};
 
 use crate::naming::{Naming, Written};
 use ir_tables::tables::Tables;
-use mlc_base::memory::NoMemory;
-use std::alloc::Global;
 use ty_solve::solver::Solver;
 
-/// What variables stand for; types that the tree writes, by number, and the namings that are in force in it; the program's tables, and its next variable.
+/// What variables stand for; the types that the tree writes, by number, and the namings that are in force in it; the program's tables and its next variable.
 #[derive(Drop)]
 pub struct State {
     pub solver: Solver,
