@@ -1,14 +1,11 @@
 -- States that grow from one another, and steps one after the other.
-use Rattle.std.proofs.Common.{◌≡◌, ◌<◌, ◌≤◌, ℕ, List, [], ◌∷◌, ◌++◌, length, true, refl, sym, ap, subst, ◌∙◌, arith}
-use Rattle.ty_table.specs.TypeAt.{type_at}
+use Rattle.std.proofs.Common.{◌≡◌, ◌<◌, ◌≤◌, ℕ, refl, sym, ap, subst, ◌∙◌, arith}
 use Rattle.ty_solve.specs.Limits.{NoFurther}
-use Rattle.ty_solve.specs.Substitution.{is_below, is_in}
 use Rattle.ty_solve.specs.declared.limit.Limit.{Limit}
-use Rattle.ty_solve.proofs.Holding.{type-stays}
-use Rattle.ty_solve.proofs.Look.{below-more}
-use Rattle.ty_instance.proofs.Going.{stays-on, whole, longer}
-use Rattle.elab_state.specs.States.{types_in, made, limit_in, IsType}
-use Rattle.elab_state.specs.Steps.{Grows, Extends}
+use Rattle.ty_instance.proofs.Going.{stays-on, whole}
+use Rattle.elab_state.specs.States.{types_in, made, limit_in}
+use Rattle.ir_tables.specs.Tables.{initial_of, parameters_of, strings_of}
+use Rattle.elab_state.specs.Steps.{Begins, Grows, Narrows, Extends}
 use Rattle.elab_state.specs.declared.state.State.{State}
 
 pub grows-itself : (S : State) → Grows S S
@@ -67,4 +64,24 @@ extends-outside l m S T le h = record {
   variables = h.variables;
   limits = λ v i j. h.limits v i (omega arith);
   next = h.next;
+}
+
+-- a step that changes the solver alone
+pub extends-by : (l : ℕ) (S T : State) → T.written ≡ S.written → T.namings ≡ S.namings → T.tables ≡ S.tables → T.next ≡ S.next → Begins (types_in S) (types_in T) → Narrows S T
+    → made S ≤ made T → ((v : ℕ) → v < made S → NoFurther (limit_in T v) (limit_in S v)) → Extends l S T
+extends-by l S T w n t x types narrows variables limits = record {
+  grows = record {
+    types = types;
+    written = subst (λ u. Begins S.written.items u.items) (sym w) (whole _);
+    namings = subst (λ u. Begins S.namings.items u.items) (sym n) (whole _);
+    table_types = subst (λ u. Begins S.tables.types u.types) (sym t) (whole _);
+    constructors = subst (λ u. Begins S.tables.constructors u.constructors) (sym t) (whole _);
+    parameters = subst (λ u. Begins (parameters_of S.tables) (parameters_of u)) (sym t) (whole _);
+    strings = subst (λ u. Begins (strings_of S.tables) (strings_of u)) (sym t) (whole _);
+    exceptions = ap initial_of t;
+  };
+  narrows = narrows;
+  variables = variables;
+  limits = λ v h k. limits v h;
+  next = omega arith;
 }

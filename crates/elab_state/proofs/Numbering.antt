@@ -1,11 +1,12 @@
 -- Numbers of type names as namings are added.
 use Rattle.std.proofs.Common.{◌≡◌, ◌<◌, ◌≤◌, ◌+◌, ℕ, zero, suc, List, [], ◌∷◌, ◌++◌, length, drop, get_or, nat_eq, nat_lt, Bool, true, false, if◌then◌else◌, Option, Some, None, refl, sym, ap, subst, ◌∙◌, arith}
-use Rattle.std.proofs.lemmas.Bool.{eqb-true, ltb-true}
-use Rattle.std.proofs.lemmas.List.{append_assoc, length-append}
+use Rattle.std.proofs.lemmas.Bool.{eqb-true, eq-eqb, ltb-true}
+use Rattle.std.specs.Prelude.{slice_get}
+use Rattle.std.proofs.lemmas.List.{append_assoc, append-nil, length-append}
 use Rattle.std.proofs.Math.Seq.{get_or-append_seam}
 use Rattle.ty_basis.specs.Types.{name_count}
 use Rattle.ty_instance.proofs.Going.{stays-on, whole}
-use Rattle.elab_state.specs.Namings.{numbers_at, numbers_of, numbers_after, number_in, IsNext, AreNext, AreNamings, IsAmong}
+use Rattle.elab_state.specs.Namings.{numbers_at, numbers_of, numbers_after, number_in, IsAbove, ComesBefore, IsNext, AreNext, AreNamings, IsAmong}
 use Rattle.elab_typed.specs.Numbers.{KeepsInitial, AgreeBelow}
 use Rattle.elab_state.specs.Steps.{Begins}
 use Rattle.elab_state.specs.declared.naming.Naming.{Naming}
@@ -88,8 +89,30 @@ keeps-initial rs o h = at-keeps (numbers_after [] rs) o (after-keep [] [] rs (λ
 -- one more row
 
 next-append : (qs rs : List Naming) (r : Naming) → AreNext qs rs → IsNext (qs ++ rs) r → AreNext qs (rs ++ r ∷ [])
-next-append qs [] r h n = (subst (λ l. IsNext l r) (Rattle.std.proofs.lemmas.List.append-nil qs) n, tt)
+next-append qs [] r h n = (subst (λ l. IsNext l r) (append-nil qs) n, tt)
 next-append qs (q ∷ rs) r h n = (h.0, next-append (qs ++ q ∷ []) rs r h.1 (subst (λ l. IsNext l r) (sym (append_assoc qs (q ∷ []) rs)) n))
 
-pub namings-push : (rs new : List Naming) (r : Naming) → new ≡ rs ++ r ∷ [] → AreNamings rs → IsNext rs r → AreNamings new
-namings-push rs new r e h n = subst AreNamings (sym e) (next-append [] rs r h n)
+pub namings-push : (b : Bool) (rs new : List Naming) (r : Naming) → new ≡ (if b then rs ++ r ∷ [] else rs) → AreNamings rs → IsNext rs r → AreNamings new
+namings-push true rs new r e h n = subst AreNamings (sym e) (next-append [] rs r h n)
+namings-push false rs new r e h n = subst AreNamings (sym e) h
+
+-- what the new row says
+module _ (rs new : List Naming) (r : Naming) (k : ℕ) (is : new ≡ rs ++ r ∷ []) (at : k ≡ length rs) where
+  abbrev row-is : (P : List Naming → ℕ → Type 0) → P (rs ++ r ∷ []) (length rs) → P new k
+  row-is P h = subst (λ j. P new j) (sym at) (subst (λ l. P l (length rs)) (sym is) h)
+
+  pub row-last : ComesBefore new (Some k) (r.stamp + 1)
+  row-last = row-is (λ l j. ComesBefore l (Some j) (r.stamp + 1)) (subst (IsAbove (r.stamp + 1)) (sym (slice_get_last rs)) (let a : r.stamp < r.stamp + 1 = omega arith in a))
+    where
+      slice_get_last : (l : List Naming) → slice_get (l ++ r ∷ []) (length l) ≡ Some r
+      slice_get_last [] = refl
+      slice_get_last (x ∷ l) = slice_get_last l
+
+  pub row-named : number_in new (Some k) r.stamp ≡ r.number
+  row-named = row-is (λ l j. number_in l (Some j) r.stamp ≡ r.number) (new-number rs r r.stamp ∙ ap (λ b. if b then r.number else number_in rs r.before r.stamp) (eq-eqb r.stamp r.stamp refl))
+
+  pub row-agrees : AgreeBelow r.stamp (number_in rs r.before) (number_in new (Some k))
+  row-agrees = row-is (λ l j. AgreeBelow r.stamp (number_in rs r.before) (number_in l (Some j))) (new-agrees rs r)
+
+  pub row-keeps : AreNamings rs → IsNext rs r → KeepsInitial (number_in new (Some k))
+  row-keeps h n = row-is (λ l j. KeepsInitial (number_in l (Some j))) (keeps-initial (rs ++ r ∷ []) (Some (length rs)) (next-append [] rs r h n))

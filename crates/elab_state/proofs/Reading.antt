@@ -1,7 +1,6 @@
 -- What is written reads the same while a state grows.
 use Rattle.std.proofs.Common.{◌≡◌, ◌<◌, ◌≤◌, ◌&&◌, ℕ, zero, suc, Bool, true, false, nat_eq, if◌then◌else◌, List, [], ◌∷◌, ◌++◌, map, length, get_or, Option, Some, None, refl, sym, ap, ap₂, subst, ◌∙◌, arith}
 use Rattle.std.specs.Prelude.{slice_get, option_map}
-use Rattle.std.proofs.lemmas.Option.{slice_get_within}
 use Rattle.std.proofs.lemmas.List.{length-append}
 use mathlib.Core.Path.{fun_ext}
 use Rattle.ty_core.specs.Types.{Typ}
@@ -10,7 +9,6 @@ use Rattle.ty_core.specs.declared.scheme.Quantified.{Quantified}
 use Rattle.ty_table.specs.TypeAt.{type_at}
 use Rattle.ty_solve.specs.Substitution.{sub}
 use Rattle.ty_solve.proofs.Holding.{type-stays}
-use Rattle.ty_instance.proofs.Going.{longer}
 use Rattle.ir_poly.specs.Types as clean
 use Rattle.ir_tables.specs.Rows.{constructor_at, constructors_at}
 use Rattle.ir_tables.specs.Tables.{parameters_at}
@@ -47,8 +45,23 @@ written-append : (n k : ℕ) (ws : List Written) (w : Written) → AreWritten n 
 written-append n k [] w h i j = ((i, j), tt)
 written-append n k (v ∷ ws) w h i j = (h.0, written-append n k ws w h.1 i j)
 
-pub written-push : (n k : ℕ) (ws new : List Written) (w : Written) → new ≡ ws ++ w ∷ [] → AreWritten n k ws → w.ty < n → IsAmong k w.naming → AreWritten n k new
-written-push n k ws new w e h i j = subst (AreWritten n k) (sym e) (written-append n k ws w h i j)
+pub written-push : (b : Bool) (n k : ℕ) (ws new : List Written) (w : Written) → new ≡ (if b then ws ++ w ∷ [] else ws) → AreWritten n k ws → w.ty < n → IsAmong k w.naming
+    → AreWritten n k new
+written-push true n k ws new w e h i j = subst (AreWritten n k) (sym e) (written-append n k ws w h i j)
+written-push false n k ws new w e h i j = subst (AreWritten n k) (sym e) h
+
+-- more namings
+pub written-named : (n : ℕ) (ws : List Written) (rs new : List Naming) (b : Bool) (r : Naming) → new ≡ (if b then rs ++ r ∷ [] else rs) → AreWritten n (length rs) ws → AreWritten n (length new) ws
+written-named n ws rs new true r e h = written-more n n (length rs) (length new) ws (omega arith) (let a = ap length e in let c = length-append rs (r ∷ []) in omega arith) h
+written-named n ws rs new false r e h = written-more n n (length rs) (length new) ws (omega arith) (let a = ap length e in omega arith) h
+
+-- what was written last reads so in every list with more behind it
+pub written-last : (ws new vs : List Written) (k : ℕ) (w : Written) → new ≡ ws ++ w ∷ [] → k ≡ length ws → Begins new vs → slice_get vs k ≡ Some w
+written-last ws new vs k w e n h = begins-get new vs k w h (subst (λ j. slice_get new j ≡ Some w) (sym n) (subst (λ l. slice_get l (length ws) ≡ Some w) (sym e) (last ws)))
+  where
+    last : (l : List Written) → slice_get (l ++ w ∷ []) (length l) ≡ Some w
+    last [] = refl
+    last (x ∷ l) = last l
 
 -- constructors that are found are found still
 

@@ -1,16 +1,24 @@
 -- Generic solutions of what is said of fewer variables, and of what unify leaves.
-use Rattle.std.proofs.Common.{◌≡◌, ◌<◌, ◌≤◌, ◌+◌, ◌-◌, ◌&&◌, ℕ, zero, suc, Bool, true, false, nat_lt, if◌then◌else◌, List, [], refl, sym, ap, ap₂, subst, ◌∙◌, arith}
+use Rattle.std.proofs.Common.{◌≡◌, ◌<◌, ◌≤◌, ◌+◌, ◌-◌, ℕ, zero, suc, Bool, true, false, nat_lt, if◌then◌else◌, List, [], ◌∷◌, ◌++◌, length, refl, sym, ap, ap₂, subst, ◌∙◌, arith}
 use Rattle.std.proofs.lemmas.Bool.{ltb-true, ltb-false, lt-ltb, and_parts, and_from}
 use Rattle.ty_core.specs.Types.{Typ, Typs, var, con, none, more, labels}
 use Rattle.ty_core.specs.declared.mark.Mark.{Mark}
 use Rattle.ty_core.specs.declared.scheme.Quantified.{Quantified}
 use Rattle.ty_solve.specs.Rows.{Extends}
-use Rattle.ty_solve.specs.Substitution.{Entry, free, bound, row, Meets, Solves, sub, subs, is_below, are_below, is_open}
+use Rattle.ty_solve.specs.Substitution.{Entry, free, bound, row, Meets, Solves, sub, subs, is_below, are_below}
 use Rattle.ty_solve.specs.Limits.{Over, IsOver, NoFurther, Fall, AskTheSame}
 use Rattle.ty_solve.specs.Solve.{IsMostGeneral}
 use Rattle.ty_solve.specs.Weight.{BelowAt, AreBelow}
 use Rattle.ty_solve.specs.declared.limit.Limit.{Limit}
 use Rattle.ir_poly.specs.Types.{in_scope, over, all_over}
+use Rattle.std.proofs.lemmas.List.{length-append}
+use Rattle.ty_table.specs.TypeAt.{type_at}
+use Rattle.ty_solve.specs.Limits.{limit_at}
+use Rattle.ty_solve.specs.SlotsOf.{seen, look, entries}
+use Rattle.ty_solve.specs.declared.subst.Slot.{Slot}
+use Rattle.ty_solve.specs.declared.subst.Slot.TheVariants.{Open}
+use Rattle.ty_solve.proofs.Look.{look-grow-here, look-grow-other}
+use Rattle.ty_solve.proofs.Slots.{entries-length, entries-snoc, seen-past}
 use Rattle.elab_state.specs.States.{dead_level}
 use Rattle.elab_state.specs.Generic.{Generic}
 
@@ -130,3 +138,62 @@ module _ (n : ℕ) (s u : ℕ → Entry) (b c : ℕ → Limit) (qs : List Quanti
         };
         equal = sym (only-sub n g x x_below) ∙ old.1 ∙ only-sub n g y y_below;
       }
+
+-- one more variable of a solver, in plain lists
+module _ (ts us : List Typ) (os ps : List Slot) (k : Mark) (ls ms : List Limit) (limit : Limit) (same : us ≡ ts) (slots : ps ≡ os ++ Open k ∷ []) (limits : ms ≡ ls ++ limit ∷ [])
+    (each : length ls ≡ length os) where
+  more-slots : (v : ℕ) → v < length os → seen us ps v ≡ seen ts os v
+  more-slots v h = ap (λ l. seen l ps v) same ∙ ap (λ l. seen ts l v) slots ∙ ap (λ l. look l v) (entries-snoc ts os (Open k))
+      ∙ look-grow-other (entries ts os) (free k) v (λ e. let n = entries-length ts os in omega arith)
+
+  last-said : seen us ps (length os) ≡ free k
+  last-said = ap (λ l. seen l ps (length os)) same ∙ ap (λ l. seen ts l (length os)) slots ∙ ap (λ l. look l (length os)) (entries-snoc ts os (Open k))
+      ∙ ap (look (entries ts os ++ free k ∷ [])) (sym (entries-length ts os)) ∙ look-grow-here (entries ts os) (free k)
+
+  limit-first : (l : List Limit) (v : ℕ) → v < length l → limit_at (l ++ limit ∷ []) v ≡ limit_at l v
+  limit-first [] v h = absurd (omega arith)
+  limit-first (x ∷ l) zero h = refl
+  limit-first (x ∷ l) (suc v) h = limit-first l v (omega arith)
+
+  limit-last : (l : List Limit) → limit_at (l ++ limit ∷ []) (length l) ≡ limit
+  limit-last [] = refl
+  limit-last (x ∷ l) = limit-last l
+
+  pub more-limits : (v : ℕ) → v < length os → limit_at ms v ≡ limit_at ls v
+  more-limits v h = ap (λ l. limit_at l v) limits ∙ limit-first ls v (omega arith)
+
+  last-limit : limit_at ms (length os) ≡ limit
+  last-limit = ap (limit_at ms) (sym each) ∙ ap (λ l. limit_at l (length ls)) limits ∙ limit-last ls
+
+  pub said-at : (v : ℕ) → v ≡ length os → seen us ps v ≡ free k
+  said-at v e = ap (seen us ps) e ∙ last-said
+
+  pub limit-at : (v : ℕ) → v ≡ length os → limit_at ms v ≡ limit
+  limit-at v e = ap (limit_at ms) e ∙ last-limit
+
+  pub more-variables : length ps ≡ length os + 1
+  more-variables = let a = ap length slots in let b = length-append os (Open k ∷ []) in omega arith
+
+  pub generic-less : (qs : List Quantified) (D : ℕ → List Quantified) (g : ℕ → Typ) → Generic (length ps) (seen us ps) (limit_at ms) qs D g → Generic (length os) (seen ts os) (limit_at ls) qs D g
+  generic-less qs D g = generic-fewer (length os) (length ps) (seen ts os) (seen us ps) (limit_at ls) (limit_at ms) qs D g (let a = more-variables in omega arith) more-slots (seen-past ts os) more-limits
+
+  pub falls-less : (v : ℕ) → v < length os → NoFurther (limit_at ms v) (limit_at ls v)
+  falls-less v h = subst (λ x. NoFurther x (limit_at ls v)) (sym (more-limits v h)) (omega arith, omega arith)
+
+-- unify of a solver, in plain lists
+module _ (ts us : List Typ) (os ps : List Slot) (ls ms : List Limit) (x y : ℕ) (same : us ≡ ts) (len : length ps ≡ length os)
+    (os_below : AreBelow (length os) (seen ts os)) (ps_below : AreBelow (length ps) (seen us ps)) (x_below : is_below (length os) (type_at ts x) ≡ true)
+    (y_below : is_below (length os) (type_at ts y) ≡ true) (general : IsMostGeneral (seen ts os) (seen us ps) (type_at ts x) (type_at ts y))
+    (limits : AskTheSame (seen us ps) (limit_at ls) (limit_at ms)) (fall : Fall (limit_at ls) (limit_at ms)) (qs : List Quantified) (D : ℕ → List Quantified) (g : ℕ → Typ)
+    (h : Generic (length ps) (seen us ps) (limit_at ms) qs D g) where
+  unified : Unified (length os) (seen ts os) (limit_at ls) qs D g (type_at ts x) (type_at ts y)
+  unified =
+      generic-unified (length os) (seen ts os) (seen us ps) (limit_at ls) (limit_at ms) qs D g (type_at ts x) (type_at ts y) os_below (seen-past ts os)
+      (subst (λ n. AreBelow n (seen us ps)) len ps_below) (λ v i. seen-past us ps v (omega arith)) x_below y_below general limits fall
+      (subst (λ n. Generic n (seen us ps) (limit_at ms) qs D g) len h)
+
+  pub unified-before : Generic (length os) (seen ts os) (limit_at ls) qs D g
+  unified-before = unified.before
+
+  pub unified-equal : sub g (type_at us x) ≡ sub g (type_at us y)
+  unified-equal = subst (λ l. sub g (type_at l x) ≡ sub g (type_at l y)) (sym same) unified.equal
