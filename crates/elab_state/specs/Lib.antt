@@ -4,3 +4,4 @@ pub mod Readings
 pub mod States
 pub mod Generic
 pub mod Steps
+pub mod Laws

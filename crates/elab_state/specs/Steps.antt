@@ -1,5 +1,5 @@
--- What a step of the elaborator leaves of a state. What it says of a phrase it says in every state that extends the one after it; so nothing is said again of a
--- phrase when the next one is elaborated.
+-- What a step of the elaborator leaves of a state. What it says of a phrase it says of the lists of every state that grows from the one after it; so nothing is
+-- said again of a phrase when the next one is elaborated.
 use Rattle.std.specs.Prelude.{◌≡◌, ℕ, ◌<◌, ◌≤◌, List, length, take}
 use Rattle.ty_core.specs.Types.{Typ}
 use Rattle.ty_core.specs.declared.scheme.Quantified.{Quantified}
@@ -13,7 +13,7 @@ use Rattle.elab_state.specs.declared.state.State.{State}
 abbrev pub Begins : {A : Type 0} → List A → List A → Type 0
 Begins old new = take (length old) new ≡ old
 
--- what there was stays, under its number
+-- types, what is written, and what the program has stay under their numbers
 pub record Grows (old new : State) : Type 0 where
   pub types : Begins (types_in old) (types_in new)
   pub written : Begins old.written.items new.written.items
@@ -23,19 +23,20 @@ pub record Grows (old new : State) : Type 0 where
   pub parameters : Begins (parameters_of old.tables) (parameters_of new.tables)
   pub strings : Begins (strings_of old.tables) (strings_of new.tables)
   pub exceptions : initial_of new.tables ≡ initial_of old.tables
-  pub variables : made old ≤ made new
-  -- limits only fall
-  pub limits : (v : ℕ) → v < made old → NoFurther (limit_in new v) (limit_in old v)
-  pub next : old.next ≤ new.next
 
 -- each generic solution after was one before
 abbrev pub Narrows : State → State → Type 0
 Narrows old new = (D : ℕ → List Quantified) (g : ℕ → Typ) → IsGeneric new D g → IsGeneric old D g
 
-pub record Extends (old new : State) : Type 0 where
+-- a step inside l `val` declarations
+pub record Extends (l : ℕ) (old new : State) : Type 0 where
   pub grows : Grows old new
   pub narrows : Narrows old new
+  pub variables : made old ≤ made new
+  -- limits of variables that are in use here only fall
+  pub limits : (v : ℕ) → v < made old → (limit_in old v).level ≤ l → NoFurther (limit_in new v) (limit_in old v)
+  pub next : old.next ≤ new.next
 
--- for each generic solution of each later state
+-- for each generic solution of the state, as each state says it that grows from this one
 abbrev pub Always : State → (State → (ℕ → List Quantified) → (ℕ → Typ) → Type 0) → Type 0
-Always S P = (later : State) → Extends S later → (D : ℕ → List Quantified) (g : ℕ → Typ) → IsGeneric later D g → P later D g
+Always S P = (later : State) → Grows S later → (D : ℕ → List Quantified) (g : ℕ → Typ) → IsGeneric S D g → P later D g

@@ -1,4 +1,4 @@
-use Rattle.std.proofs.Common.{◌≡◌, [], sym, subst}
+use Rattle.std.proofs.Common.{sym, subst}
 use Rattle.elab_state.specs.Namings.{AreNamings}
 use Rattle.elab_state.specs.Readings.{AreWritten}
 use Rattle.elab_state.proofs.Rows.{no-rows}
