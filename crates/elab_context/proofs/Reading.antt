@@ -82,9 +82,10 @@ stands S T C W A ty r i c d t is s =
 known-later : (S T : State) → Grows S T → (xs : List (ℕ × ℕ)) → AllByRecursion (λ b. b.1 < length (types_in S)) xs
     → AllByRecursion (λ b. is_below (made S) (type_at (types_in S) b.1) ≡ true) xs → AllByRecursion (λ b. is_below (made T) (type_at (types_in T) b.1) ≡ true) xs
 known-later S T g [] h k = tt
-known-later S T g (x ∷ xs) h k =
-    (subst (λ t. is_below (made T) t ≡ true) (sym (type-stays (types_in S) (types_in T) x.1 g.types h.0)) (below-up (made S) (made T) g.variables (type_at (types_in S) x.1) k.0),
-    known-later S T g xs h.1 k.1)
+known-later S T g (x ∷ xs) h k = (
+  subst (λ t. is_below (made T) t ≡ true) (sym (type-stays (types_in S) (types_in T) x.1 g.types h.0)) (below-up (made S) (made T) g.variables (type_at (types_in S) x.1) k.0),
+  known-later S T g xs h.1 k.1,
+)
 
 among-later : {A : Type 0} (xs ys : List A) (o : Option ℕ) → length xs ≤ length ys → IsAmong (length xs) o → IsAmong (length ys) o
 among-later xs ys None le h = tt

@@ -10,8 +10,7 @@ use elab_types::refused::Refused;
 use elab_types::scope::TypeScope;
 use mlc_base::place::Place;
 use scoped_map::scoped::Scoped;
-use sml_tree::ident::LongVid;
-use sml_tree::ident::Vid;
+use sml_tree::ident::{LongVid, Vid};
 use ty_solve::limit::Limit;
 use vid_scope::vids::VidScope;
 

@@ -171,7 +171,7 @@ unified_grows S T a b h = record {
 pub unified_equal : (S T : State) (a b : ℕ) → Unified S T a b → HasType S a → HasType S b → Always T (λ W. type_of W a ≡ type_of W b)
 unified_equal S T a b h i j W c =
     let at : (k : ℕ) → k < length (types_in S) → type_of W k ≡ sub W.value (type_at (types_in S) k)
-        = λ k lt. ap (sub W.value) (c.types k (subst (λ l. k < length l) (sym h.types) lt) ∙ ap (λ l. type_at l k) h.types) in
+    = λ k lt. ap (sub W.value) (c.types k (subst (λ l. k < length l) (sym h.types) lt) ∙ ap (λ l. type_at l k) h.types) in
     at a i.held ∙ ((h.general W.admits W.value).0 c.solves).1 ∙ sym (at b j.held)
 
 -- a type written

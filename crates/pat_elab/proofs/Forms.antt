@@ -1,30 +1,28 @@
 -- Patterns made of parts.
-use Rattle.std.proofs.Common.{◌≡◌, ◌<◌, ◌≤◌, ◌+◌, ℕ, suc, Bool, true, false, List, [], ◌∷◌, ◌++◌, Box, Global, map, Option, Some, None, refl, sym, ap, ap₂, subst, ◌∙◌, arith}
-use Rattle.std.specs.Prelude.{⊤}
+use Rattle.std.proofs.Common.{◌≡◌, ℕ, suc, true, List, [], ◌∷◌, ◌++◌, Box, Global, Option, refl, sym, ap, subst, ◌∙◌, arith}
 use Rattle.std.proofs.lemmas.List.{append_assoc}
 use Rattle.std.specs.List.{AllByRecursion}
 use Rattle.mlc_base.specs.declared.place.Place.{Place}
-use Rattle.ty_core.specs.Types.{Typ}
 use Rattle.sml_tree.specs.Derived.{short}
 use Rattle.sml_tree.specs.BareTree as bare
 use Rattle.sml_tree.specs.declared.ident.Vid.{Vid}
 use Rattle.core_rules.specs.Choices.{no_choice}
 use Rattle.ir_poly.specs.Prog as prog
 use Rattle.ir_poly.specs.Types.{over}
-use Rattle.core_elab.specs.Scopes.{Scope, empty, scoped, typed_by, inside, plus_scope, variable}
+use Rattle.core_elab.specs.Scopes.{Scope, empty, scoped, plus_scope, variable}
 use Rattle.prog_tree.specs.TreeOf.{pat_of}
 use Rattle.prog_tree.specs.declared.tree.Pat.{Pat}
 use Rattle.prog_tree.specs.declared.tree.Pat.TheVariants as tree
 use Rattle.elab_typed.specs.Contexts.{Around}
-use Rattle.elab_typed.specs.Elaborates.{PatElab, variable_elab, typed_elab, as_elab, StandsIf, Binds}
+use Rattle.elab_typed.specs.Elaborates.{PatElab, variable_elab, typed_elab, as_elab, StandsIf}
 use Rattle.elab_steps.specs.Growing.{HasType, Grows, Always}
 use Rattle.elab_state.specs.declared.state.State.{State}
 use Rattle.elab_steps.specs.World.{World, type_of, Comes}
 use Rattle.elab_steps.proofs.Growing.{grows_on, type_later, comes_before}
-use Rattle.elab_context.specs.Telling.{Tells, IsContext}
+use Rattle.elab_context.specs.Telling.{Tells}
 use Rattle.elab_context.specs.declared.context.Context.{Context}
 use Rattle.pat_elab.proofs.Trees.{pat_of-Variable, pat_of-As}
-use Rattle.pat_elab.specs.Elaborated.{bound_of, scope_of, scope_onto, Elaborates, IsBound, IsAnnotated, IsPat}
+use Rattle.pat_elab.specs.Elaborated.{bound_of, scope_of, scope_onto, IsBound, IsAnnotated, IsPat}
 use Rattle.pat_elab.specs.declared.bound.BoundVariable.{BoundVariable}
 use Rattle.pat_elab.specs.declared.bound.TypedPat.{TypedPat}
 
@@ -114,9 +112,9 @@ as_is S M N P T C place x ty a before mid after b inner r boxed h i n g same e q
           let bi = h.binds W cm A t in
           let k : suc b.number ≡ M.next = let z = h.next in omega (arith, z) in
           let elab : PatElab W.table A (suc b.number) a (pat_of W.reading inner.pat) (type_of W b.ty) (bound_of W i.added) d.choices (scope_of i.added) T.next
-              = subst (λ s. PatElab W.table A s a (pat_of W.reading inner.pat) (type_of W b.ty) (bound_of W i.added) d.choices (scope_of i.added) T.next) (sym k)
-              (subst (λ u. PatElab W.table A M.next a (pat_of W.reading inner.pat) u (bound_of W i.added) d.choices (scope_of i.added) T.next) (sym w)
-              (subst (PatElab W.table A M.next a (pat_of W.reading inner.pat) (type_of W inner.ty) (bound_of W i.added) d.choices (scope_of i.added)) (sym (e ∙ n.next)) d.elab)) in
+          = subst (λ s. PatElab W.table A s a (pat_of W.reading inner.pat) (type_of W b.ty) (bound_of W i.added) d.choices (scope_of i.added) T.next) (sym k)
+          (subst (λ u. PatElab W.table A M.next a (pat_of W.reading inner.pat) u (bound_of W i.added) d.choices (scope_of i.added) T.next) (sym w)
+          (subst (PatElab W.table A M.next a (pat_of W.reading inner.pat) (type_of W inner.ty) (bound_of W i.added) d.choices (scope_of i.added)) (sym (e ∙ n.next)) d.elab)) in
           record {
             choices = d.choices;
             elab =

@@ -1,18 +1,17 @@
 -- Patterns with no parts.
-use Rattle.std.proofs.Common.{◌≡◌, ◌<◌, ◌≤◌, ◌+◌, ℕ, suc, Bool, true, false, List, [], ◌∷◌, ◌++◌, Option, Some, None, refl, sym, ap, ap₂, subst, ◌∙◌, arith}
-use Rattle.std.specs.Prelude.{option_map, Vec}
+use Rattle.std.proofs.Common.{◌≡◌, ◌≤◌, ◌+◌, ℕ, Bool, true, false, List, [], ◌∷◌, ◌++◌, Option, Some, None, refl, sym, ap, subst, ◌∙◌, arith}
+use Rattle.std.specs.Prelude.{option_map}
 use Rattle.mlc_base.specs.declared.place.Place.{Place}
 use Rattle.ty_core.specs.Types.{Typ, var}
-use Rattle.ty_solve.specs.declared.limit.Limit.{Limit}
 use Rattle.std.proofs.lemmas.Bool.{lt-ltb}
-use Rattle.sml_tree.specs.Terminal.{LongVid, Constant, int, word, char, string}
+use Rattle.sml_tree.specs.Terminal.{Constant, int, word, char, string}
 use Rattle.sml_tree.specs.Derived.{short}
-use Rattle.sml_tree.specs.BareTree.{wild_pat, constant_pat, vid_pat}
+use Rattle.sml_tree.specs.BareTree.{wild_pat, constant_pat}
 use Rattle.sml_tree.specs.declared.ident.Vid.{Vid}
-use Rattle.core_rules.specs.Objects.{Over, value_in, Value}
+use Rattle.core_rules.specs.Objects.{Over}
 use Rattle.core_rules.specs.Restrictions.{is_kept}
 use Rattle.core_rules.specs.Choices.{no_choice}
-use Rattle.core_rules.specs.Typing.{constant_type, is_matched, is_matched_in}
+use Rattle.core_rules.specs.Typing.{constant_type, is_matched_in}
 use Rattle.core_rules.specs.Match.{constant_of as literal_of}
 use Rattle.ir_tables.specs.Tables.{literal_at}
 use Rattle.ir_tables.specs.declared.tables.Constant.{Constant as ProgramConstant}
@@ -20,14 +19,13 @@ use Rattle.ir_poly.specs.Prog as prog
 use Rattle.ir_poly.specs.Types.{over}
 use Rattle.core_elab.specs.Scopes.{Denotes, denotes_in, is_free_in}
 use Rattle.prog_tree.specs.TreeOf.{pat_of}
-use Rattle.prog_tree.specs.declared.tree.Pat.{Pat}
 use Rattle.prog_tree.specs.declared.tree.Pat.TheVariants as tree
-use Rattle.elab_typed.specs.Contexts.{Kept, value_under, kept_in, Around, generic}
-use Rattle.elab_typed.specs.Elaborates.{PatElab, wild_elab, variable_elab, constant_elab, Binds}
+use Rattle.elab_typed.specs.Contexts.{value_under, Around}
+use Rattle.elab_typed.specs.Elaborates.{PatElab, wild_elab, constant_elab, Binds}
 use Rattle.elab_typed.proofs.Under.{at-under}
 use Rattle.elab_steps.specs.Growing.{HasType, Grows, Always, IsWithin}
 use Rattle.elab_state.specs.declared.state.State.{State}
-use Rattle.elab_steps.specs.World.{World, type_of, Comes}
+use Rattle.elab_steps.specs.World.{World, type_of}
 use Rattle.elab_steps.proofs.Growing.{grows_on, type_later, comes_before}
 use Rattle.elab_context.specs.Entries.{entry_in, limit_of, is_free}
 use Rattle.elab_context.specs.Telling.{Tells, IsContext, kept_of, denotes_of}
@@ -35,7 +33,7 @@ use Rattle.elab_context.specs.declared.context.Context.{Context}
 use Rattle.elab_context.specs.declared.entry.Entry.{Entry}
 use Rattle.elab_context.specs.declared.entry.Entry.TheVariants.{Constructor, Reference, Initial, Primitive, Raised, Single, Own, General}
 use Rattle.pat_elab.proofs.Trees.{pat_of-Any, pat_of-Constant}
-use Rattle.pat_elab.specs.Elaborated.{bound_of, scope_of, Elaborates, IsBound, IsPat}
+use Rattle.pat_elab.specs.Elaborated.{IsBound, IsPat}
 use Rattle.pat_elab.specs.declared.bound.BoundVariable.{BoundVariable}
 use Rattle.pat_elab.specs.declared.bound.TypedPat.{TypedPat}
 
