@@ -1,5 +1,5 @@
 -- What rows and schemes of the code stand for.
-use Rattle.std.specs.Prelude.{List, [], ◌∷◌, map, Option, Some, None}
+use Rattle.std.specs.Prelude.{ℕ, List, [], ◌∷◌, map, Option, Some, None}
 use Rattle.ty_core.specs.Types.{Typ, var}
 use Rattle.ty_core.specs.declared.mark.Mark.{Mark}
 use Rattle.ty_core.specs.declared.mark.Mark.TheVariants.{Any}
@@ -22,6 +22,9 @@ scheme_of ts s = record { marks = marks_of s.mark; body = type_at ts s.body }
 
 abbrev pub schemes_of : List Typ → List Scheme → List Schema
 schemes_of ts = map (scheme_of ts)
+
+abbrev pub bodies_of : List Scheme → List ℕ
+bodies_of = map (λ s. s.body)
 
 -- the mark and the body of a row
 abbrev pub row_mark : Row → Option Mark

@@ -1,7 +1,8 @@
 // Schemes of the initial basis.
 ghost use Rattle.std.specs.Prelude.{◌≡◌, ◌<◌, length, slice_get, take, IfOk, Some};
+ghost use Rattle.ty_table.specs.TypeAt.{AllBelow};
 ghost use Rattle.core_rules.specs.Initial.{entries, hidden, integers};
-ghost use Rattle.initial_types.specs.Schemes.{row_body, row_mark, row_schemes, schemes_in, schemes_of};
+ghost use Rattle.initial_types.specs.Schemes.{bodies_of, row_body, row_mark, row_schemes, schemes_in, schemes_of};
 
 use crate::row::{Row, Scheme};
 use crate::shapes::{applied, function, pair, primitive_in, shape_in};
@@ -83,6 +84,7 @@ fn mark_in(row: Row) -> Option<Mark>
 
 /// The schemes of rows.
 fn schemes(alloc: Global, types: &mut Types, rows: &[Row]) -> Result<Vec<Scheme>, NoMemory>
+    ensures held { IfOk result (λ made. AllBelow (length types.new) (bodies_of made.items)) }
     ensures are { IfOk result (λ made. schemes_of types.new made.items ≡ row_schemes rows.now) }
     ensures earlier_stay { take (length types.old) types.new ≡ types.old }
 {
@@ -156,6 +158,7 @@ const INTEGERS: [Row; 3] = [
 
 /// The schemes of the initial basis' values, in their order.
 pub fn initial_schemes(alloc: Global, types: &mut Types) -> Result<Vec<Scheme>, NoMemory>
+    ensures held { IfOk result (λ made. AllBelow (length types.new) (bodies_of made.items)) }
     ensures are { IfOk result (λ made. schemes_of types.new made.items ≡ schemes_in entries) }
     ensures earlier_stay { take (length types.old) types.new ≡ types.old }
 {
@@ -164,6 +167,7 @@ pub fn initial_schemes(alloc: Global, types: &mut Types) -> Result<Vec<Scheme>, 
 
 /// The schemes of the members of `Prim`.
 pub fn hidden_schemes(alloc: Global, types: &mut Types) -> Result<Vec<Scheme>, NoMemory>
+    ensures held { IfOk result (λ made. AllBelow (length types.new) (bodies_of made.items)) }
     ensures are { IfOk result (λ made. schemes_of types.new made.items ≡ schemes_in hidden) }
     ensures earlier_stay { take (length types.old) types.new ≡ types.old }
 {
@@ -172,6 +176,7 @@ pub fn hidden_schemes(alloc: Global, types: &mut Types) -> Result<Vec<Scheme>, N
 
 /// The schemes of the members of `Int`.
 pub fn integer_schemes(alloc: Global, types: &mut Types) -> Result<Vec<Scheme>, NoMemory>
+    ensures held { IfOk result (λ made. AllBelow (length types.new) (bodies_of made.items)) }
     ensures are { IfOk result (λ made. schemes_of types.new made.items ≡ schemes_in integers) }
     ensures earlier_stay { take (length types.old) types.new ≡ types.old }
 {
