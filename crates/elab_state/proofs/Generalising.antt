@@ -1,11 +1,11 @@
 -- Generic solutions where a `val` declaration ends.
-use Rattle.std.proofs.Common.{◌≡◌, ◌<◌, ◌≤◌, ◌⊎◌, inl, inr, ◌||◌, ◌&&◌, ◌+◌, not, ℕ, zero, suc, Bool, true, false, nat_eq, nat_lt, if◌then◌else◌, List, [], ◌∷◌, ◌++◌, refl, sym, ap, subst, ◌∙◌, arith}
+use Rattle.std.proofs.Common.{◌≡◌, ◌<◌, ◌≤◌, ◌⊎◌, inl, inr, ◌||◌, ◌&&◌, not, ℕ, zero, suc, Bool, true, false, nat_eq, nat_lt, if◌then◌else◌, List, [], ◌∷◌, ◌++◌, refl, sym, ap, subst, ◌∙◌, arith}
 use Rattle.std.proofs.lemmas.Bool.{ltb-true, ltb-false, lt-ltb, and_parts, and_from}
 use Rattle.ty_core.specs.Types.{Typ, Typs, var, con, none, more}
 use Rattle.ty_core.specs.declared.scheme.Quantified.{Quantified}
 use Rattle.ty_solve.specs.Limits.{NoFurther, Limited, AllLimited, LimitedAt, AreLimited, Over}
-use Rattle.ty_solve.specs.Substitution.{Entry, free, bound, row, Meets, is_in, are_in, is_below, is_open, sub}
-use Rattle.ty_solve.specs.Weight.{weight, weights, Weighs, WeighsAt, IsAcyclic, AreBelow, BelowAt}
+use Rattle.ty_solve.specs.Substitution.{Entry, free, bound, row, Meets, is_in, are_in, is_open}
+use Rattle.ty_solve.specs.Weight.{weight, weights, WeighsAt, IsAcyclic, AreBelow, BelowAt}
 use Rattle.ty_solve.specs.declared.limit.Limit.{Limit}
 use Rattle.ir_poly.specs.Types.{in_scope, admits_in, is_equality, is_declarable, are_new, over}
 use Rattle.elab_state.specs.States.{dead_level}
@@ -100,8 +100,9 @@ mutual
   all-lighter : (w : ℕ → ℕ) (x : ℕ) (ts : Typs) → are_in x ts ≡ true → w x < suc (weights w ts)
   all-lighter w x none i = cc
   all-lighter w x (more t ts) i = elim (either (is_in x t) (are_in x ts) i) [
-      inl j ↦ (let l = lighter w x t j in omega arith)
-    | inr j ↦ (let l = all-lighter w x ts j in omega arith) ]
+    | inl j ↦ (let l = lighter w x t j in omega arith)
+    | inr j ↦ (let l = all-lighter w x ts j in omega arith)
+  ]
 
 module _ (n : ℕ) (s : ℕ → Entry) (b c : ℕ → Limit) (ps qs : List Quantified) (l : ℕ) (D : ℕ → List Quantified) (g : ℕ → Typ)
     (G : Generalises n s b c ps qs l) (limited : AreLimited b s) (acyclic : IsAcyclic s) (below : AreBelow n s) (h : Generic n s c (ps ++ qs) D g) where

@@ -1,5 +1,5 @@
 -- Where a `val` declaration inside l others ends: its variables are done with, and the open ones of them are generalised.
-use Rattle.std.specs.Prelude.{◌≡◌, ◌⊎◌, ℕ, suc, ◌<◌, ◌≤◌, Bool, true, nat_lt, List, [], ◌++◌, if◌then◌else◌}
+use Rattle.std.specs.Prelude.{◌≡◌, ◌⊎◌, ℕ, suc, ◌<◌, ◌≤◌, true, nat_lt, List, [], ◌++◌, if◌then◌else◌}
 use Rattle.ty_core.specs.Types.{Typ}
 use Rattle.ty_core.specs.declared.scheme.Quantified.{Quantified}
 use Rattle.ty_solve.specs.Substitution.{Entry, is_open}
