@@ -92,7 +92,7 @@ over-only n b g h v = by (nat_lt v n) refl
 
 -- types over the parameters of a level are so at deeper ones
 mutual
-  over-more : (ps qs : List Quantified) → ((v : ℕ) → in_scope ps v ≡ true → in_scope qs v ≡ true) → (t : Typ) → over ps t ≡ true → over qs t ≡ true
+  pub over-more : (ps qs : List Quantified) → ((v : ℕ) → in_scope ps v ≡ true → in_scope qs v ≡ true) → (t : Typ) → over ps t ≡ true → over qs t ≡ true
   over-more ps qs h (var v) o = h v o
   over-more ps qs h (con c ts) o = all-over-more ps qs h ts o
 

@@ -18,7 +18,7 @@ use Rattle.elab_state.specs.declared.state.State.{State}
 use Rattle.elab_state.proofs.Extending.{grows-on}
 use Rattle.elab_state.proofs.Solving.{over-deeper}
 
-either : (a b : Bool) → (a || b) ≡ true → (a ≡ true) ⊎ (b ≡ true)
+pub either : (a b : Bool) → (a || b) ≡ true → (a ≡ true) ⊎ (b ≡ true)
 either true b h = inl refl
 either false b h = inr h
 

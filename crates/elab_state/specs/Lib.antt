@@ -4,4 +4,5 @@ pub mod Readings
 pub mod States
 pub mod Generic
 pub mod Steps
+pub mod Generalising
 pub mod Laws

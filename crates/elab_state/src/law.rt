@@ -1,5 +1,6 @@
 // Laws of states, as contracts.
 
+ghost use Rattle.elab_state.specs.Generalising.{ValsGeneralise};
 ghost use Rattle.elab_state.specs.Laws.{StepsCompose, TablesStay, TypesStay, ValuesAreOver, ValuesStay};
 
 /// Steps one after the other are a step.
@@ -25,4 +26,9 @@ pub fn values_stay()
 /// Constructors and lists of parameters stay under their numbers.
 pub fn tables_stay()
     ensures { TablesStay }
+{}
+
+/// Where a `val` declaration ends, a generic solution after is one before, inside, with the declaration's parameters in scope.
+pub fn vals_generalise()
+    ensures { ValsGeneralise }
 {}

@@ -10,9 +10,9 @@ returns-clause-extends c =
     let s = c.args.self.now.solver in
     let e = c.in_ok-variable.ensures in
     λ l. extends-by l c.args.self.now _ refl refl refl refl (subst (Begins s.subst.types) (sym e.types) (whole s.subst.types))
-        (λ D g h. generic-less _ _ _ _ _ _ _ _ e.types e.marked e.limited s.each_has_one _ D g h)
-        (let n = more-variables _ _ _ _ _ _ _ _ e.types e.marked e.limited s.each_has_one in omega arith)
-        (falls-less _ _ _ _ _ _ _ _ e.types e.marked e.limited s.each_has_one)
+    (λ D g h. generic-less _ _ _ _ _ _ _ _ e.types e.marked e.limited s.each_has_one _ D g h)
+    (let n = more-variables _ _ _ _ _ _ _ _ e.types e.marked e.limited s.each_has_one in omega arith)
+    (falls-less _ _ _ _ _ _ _ _ e.types e.marked e.limited s.each_has_one)
 
 pub returns-clause-says : goal.returns-clause-says
 returns-clause-says c =
