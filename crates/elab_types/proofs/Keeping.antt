@@ -2,6 +2,7 @@
 use Rattle.std.proofs.Common.{◌≡◌, ℕ, zero, suc, ◌+◌, ◌<◌, ◌≤◌, List, [], ◌∷◌, ◌++◌, map, length, take, get_or, nat_eq, Option, Some, None, Ok, Err, IfErr, Result, refl, sym, ap, subst, ◌∙◌, arith}
 use Rattle.std.specs.Prelude.{option_map}
 use Rattle.std.specs.Option.{option_zip}
+use Rattle.std.specs.List.{AllByRecursion}
 use Rattle.std.specs.Result.{IsErrAnd}
 use Rattle.std.specs.Map.{lookup}
 use Rattle.ty_core.specs.Types.{Typ}
@@ -18,24 +19,39 @@ use Rattle.elab_types.specs.declared.scope.TypeEntry.{TypeEntry}
 use Rattle.elab_types.specs.declared.scope.TypeScope.{TypeScope}
 use Rattle.elab_types.specs.declared.refused.Refused.{Refused}
 use Rattle.elab_types.specs.declared.refused.Refused.TheVariants.{Unbound, Mistyped, Broken, Large, Memory}
+use Rattle.elab_types.proofs.Holding.{tyvar-held, body-held, body-closed}
 use Rattle.elab_types.proofs.Lists.{next-map-at}
 
 pub entry-held : (ts : List Typ) (s : TypeScope) → Holds ts s → (qs : List ℕ) (x : ℕ) (e : TypeEntry) → entry_of s qs x ≡ Some e → e.body < length ts
-entry-held ts s h [] x e q = h.bodies x e q
+entry-held ts s h [] x e q = body-held ts s h x e q
 entry-held ts s h (n ∷ qs) x e q = cc
 
 pub entry-closed : (ts : List Typ) (s : TypeScope) → Holds ts s → (qs : List ℕ) (x : ℕ) (e : TypeEntry) → entry_of s qs x ≡ Some e → top (type_at ts e.body) ≤ e.arity
-entry-closed ts s h [] x e q = h.closed x e q
+entry-closed ts s h [] x e q = body-closed ts s h x e q
 entry-closed ts s h (n ∷ qs) x e q = cc
 
 within : (k m n : ℕ) → k < m → m ≤ n → k < n
 within k m n p q = omega arith
 
+module _ (old T : List Typ) (e : take (length old) T ≡ old) where
+  tyvars-later : (xs : List (ℕ × ℕ)) → AllByRecursion (λ b. b.1 < length old) xs → AllByRecursion (λ b. b.1 < length T) xs
+  tyvars-later [] h = tt
+  tyvars-later (x ∷ xs) h = (within x.1 (length old) (length T) h.0 (longer old T e), tyvars-later xs h.1)
+
+  bodies-later : (xs : List (ℕ × TypeEntry)) → AllByRecursion (λ b. b.1.body < length old) xs → AllByRecursion (λ b. b.1.body < length T) xs
+  bodies-later [] h = tt
+  bodies-later (x ∷ xs) h = (within x.1.body (length old) (length T) h.0 (longer old T e), bodies-later xs h.1)
+
+  closed-later : (xs : List (ℕ × TypeEntry)) → AllByRecursion (λ b. b.1.body < length old) xs → AllByRecursion (λ b. top (type_at old b.1.body) ≤ b.1.arity) xs
+      → AllByRecursion (λ b. top (type_at T b.1.body) ≤ b.1.arity) xs
+  closed-later [] h k = tt
+  closed-later (x ∷ xs) h k = (subst (λ t. top t ≤ x.1.arity) (sym (type-stays old T x.1.body e h.0)) k.0, closed-later xs h.1 k.1)
+
 pub holds_later : (old T : List Typ) (s : TypeScope) → take (length old) T ≡ old → Holds old s → Holds T s
 holds_later old T s e h = record {
-  tyvars = λ a k q. within k (length old) (length T) (h.tyvars a k q) (longer old T e);
-  bodies = λ x n q. within n.body (length old) (length T) (h.bodies x n q) (longer old T e);
-  closed = λ x n q. subst (λ t. top t ≤ n.arity) (sym (type-stays old T n.body e (h.bodies x n q))) (h.closed x n q);
+  tyvars = tyvars-later old T e s.tyvars h.tyvars;
+  bodies = bodies-later old T e s.types h.bodies;
+  closed = closed-later old T e s.types h.bodies h.closed;
 }
 
 abbrev function_from : ℕ → Typ → TypeFunction
@@ -43,7 +59,7 @@ function_from n t = record { arity = n; body = t }
 
 pub reads-later : (old T : List Typ) (s : TypeScope) (f : ℕ → Typ) (c : Context) → take (length old) T ≡ old → Holds old s → Reads old s f c → Reads T s f c
 reads-later old T s f c e h r = record {
-  tyvars = λ a. r.tyvars a ∙ tyvar (lookup (nat_eq a) s.tyvars) (λ k q. h.tyvars a k q);
+  tyvars = λ a. r.tyvars a ∙ tyvar (lookup (nat_eq a) s.tyvars) (λ k q. tyvar-held old s h a k q);
   types = λ qs x. r.types qs x ∙ entry (entry_of s qs x) (λ n q. entry-held old s h qs x n q);
 }
   where

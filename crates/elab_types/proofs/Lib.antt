@@ -5,3 +5,4 @@ pub mod Making
 pub mod Parts
 pub mod Wholes
 pub mod Holding
+pub mod Knowing

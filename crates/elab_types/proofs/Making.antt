@@ -38,13 +38,14 @@ use Rattle.elab_types.specs.declared.refused.Refused.{Refused}
 use Rattle.elab_types.specs.Annotations.{IsRefusal, IsTypeOf, Each, AreTypesOf, each_type, labels_at, tys_at, types_behind, applied_at}
 use Rattle.elab_types.specs.declared.scope.TypeEntry.{TypeEntry}
 use Rattle.elab_types.specs.declared.scope.TypeScope.{TypeScope}
+use Rattle.elab_types.proofs.Holding.{tyvar-held}
 use Rattle.elab_types.proofs.Keeping.{entry-closed, holds_later, reads-later, zip-none, Collected, refused-in, typed-as}
 use Rattle.elab_types.proofs.Trees.{ty_of-Record, ty_of-Con, ty_of-Product, ty_of-Arrow}
 
 -- type variables
 
 pub var-is : (old : List Typ) (s : TypeScope) (p : Place) (a : Tyvar) (k : ℕ) → Holds old s → lookup (nat_eq a.name) s.tyvars ≡ Some k → IsTypeOf old old s (bare.var p a) k
-var-is old s p a k h e = record { held = h.tyvars a.name k e; is = λ f c r. r.tyvars a.name ∙ ap (option_map (λ k. replace f (type_at old k))) e }
+var-is old s p a k h e = record { held = tyvar-held old s h a.name k e; is = λ f c r. r.tyvars a.name ∙ ap (option_map (λ k. replace f (type_at old k))) e }
 
 pub var-none : (old : List Typ) (s : TypeScope) (p : Place) (a : Tyvar) → lookup (nat_eq a.name) s.tyvars ≡ None → (f : ℕ → Typ) (c : Context) → Reads old s f c → type_of c (bare.var p a) ≡ None
 var-none old s p a e f c r = r.tyvars a.name ∙ ap (option_map (λ k. replace f (type_at old k))) e

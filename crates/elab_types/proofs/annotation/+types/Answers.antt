@@ -1,12 +1,13 @@
 use Rattle.std.proofs.Common.{◌++◌, ◌∷◌, [], map, sym, ap, ◌∙◌, get_or, take}
+use Rattle.sml_tree.specs.BareTree as bare
 use Rattle.sml_tree.specs.TreeOf.{ty_of, ty_field_of, ty_part_of}
 use Rattle.core_rules.specs.Elaborated.{type_of}
 use Rattle.elab_types.specs.Annotations.{each_type, tys_at, labels_at, types_behind, IsRefusal}
 use Rattle.elab_types.proofs.Lists.{next-map-at}
-use Rattle.elab_types.proofs.Keeping.{holds_later, loop-more, loop-refused, passes}
-use Rattle.elab_types.proofs.Trees.{field-label, field-ty, part-ty}
+use Rattle.elab_types.proofs.Keeping.{holds_later, loop-more, loop-refused, passes, typed-as}
+use Rattle.elab_types.proofs.Trees.{ty_of-Var, field-label, field-ty, part-ty}
 use Rattle.elab_types.proofs.Parts.{parts-end, labels-end, product-held}
-use Rattle.elab_types.proofs.Making.{record-refused, arguments-refused, con-refused, product-refused, first-refused, rest-refused, record-ok, con-ok, product-ok, arrow-ok}
+use Rattle.elab_types.proofs.Making.{var-is, record-refused, arguments-refused, con-refused, product-refused, first-refused, rest-refused, record-ok, con-ok, product-ok, arrow-ok}
 use Rattle.elab_types.proofs.annotation.+types.Goals as goal
 
 pub numbers_of-returns-in_err-number-clause-refused : goal.numbers_of-returns-in_err-number-clause-refused
@@ -96,3 +97,9 @@ pub number_of-returns-in_ok-function_types-in-Arrow-clause-is : goal.number_of-r
 number_of-returns-in_ok-function_types-in-Arrow-clause-is t c =
     arrow-ok c.args.types.now c.number_of.new.types c.results_of.new.types c.function_types.new.types c.args.scope.now c.args.ty.now c.in-Arrow.field-0 c.in-Arrow.first c.deref-in-Arrow.result.now c.in-Arrow.parts c.deref-in-Arrow-2.result.now c.in_ok-first-in-Arrow.first c.in_ok-rest-in-Arrow.rest.items c.deref-in-Arrow-3.result.now c.in_ok-function_types-in-Arrow.field-0
     c.in-Arrow.is c.deref-in-Arrow.ensures c.deref-in-Arrow-2.ensures.value c.requires c.in_ok-first-in-Arrow.ensures.is c.number_of.ensures.earlier_stay c.results_of.ensures.earlier_stay c.in_ok-rest-in-Arrow.ensures.are c.deref-in-Arrow-3.ensures.value c.in_ok-function_types-in-Arrow.ensures.is
+
+pub number_of-returns-in_ok-variable_at-in-Var-clause-is : goal.number_of-returns-in_ok-variable_at-in-Var-clause-is
+number_of-returns-in_ok-variable_at-in-Var-clause-is t c =
+    let k = c.in_ok-variable_at-in-Var.field-0 in
+    typed-as c.args.types.now c.args.types.now c.args.scope.now (ty_of c.args.ty.now) (bare.var c.in-Var.place c.in-Var.tyvar) k (ap ty_of c.in-Var.is ∙ ty_of-Var c.in-Var.place c.in-Var.tyvar)
+    (var-is c.args.types.now c.args.scope.now c.in-Var.place c.in-Var.tyvar k c.requires c.in_ok-variable_at-in-Var.ensures.is)

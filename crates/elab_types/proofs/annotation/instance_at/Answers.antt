@@ -1,5 +1,6 @@
 use Rattle.std.proofs.Common.{sym, ◌∙◌}
 use Rattle.std.proofs.lemmas.Option.{slice_get_within}
+use Rattle.elab_types.proofs.Keeping.{entry-held}
 use Rattle.elab_types.proofs.Making.{wrong-count, applied-is}
 use Rattle.elab_types.proofs.annotation.instance_at.Goals as goal
 
@@ -14,3 +15,7 @@ returns-clause-is c =
 
 pub returns-clause-held : goal.returns-clause-held
 returns-clause-held c = slice_get_within c.instantiate.new.types c.in_ok-instantiate.field-0 _ c.in_ok-instantiate.ensures.is
+
+pub instantiate-requires-clause-body : goal.instantiate-requires-clause-body
+instantiate-requires-clause-body c =
+    entry-held c.args.types.now c.args.scope.now c.requires.held c.args.name.now.qualifiers.items c.args.name.now.id c.in-Some.entry (sym c.find.ensures ∙ c.in-Some.is)

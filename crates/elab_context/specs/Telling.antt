@@ -1,0 +1,96 @@
+-- What a context of the code tells of what is around a phrase, in a world.
+use Rattle.std.specs.Prelude.{◌≡◌, ◌<◌, ◌≤◌, ℕ, Bool, true, false, List, [], ◌∷◌, length, Option, Some, None, option_map, nat_eq, slice_get, ⊤}
+use Rattle.std.specs.Map.{lookup}
+use Rattle.ty_core.specs.Types.{Typ, var}
+use Rattle.ty_core.specs.Statics.{TypeFunction}
+use Rattle.ty_core.specs.declared.env.Status.TheVariants as status
+use Rattle.sml_tree.specs.Terminal.{LongVid}
+use Rattle.sml_tree.specs.declared.ident.Vid.{Vid}
+use Rattle.core_rules.specs.Objects.{at, Scheme, Over}
+use Rattle.core_rules.specs.Elaborated.{type_in}
+use Rattle.ir_poly.specs.Prog.{fixed, held}
+use Rattle.ir_poly.specs.Types.{over}
+use Rattle.ir_poly.specs.TestsChecked.{Known, of_type, own, exception as exception_known}
+use Rattle.ir_poly.specs.TestsChecked as checked
+use Rattle.core_elab.specs.Scopes.{Denotes, variable, constructor, reference, exception, primitive, long_denotes_in}
+use Rattle.elab_typed.specs.Numbers.{type_as}
+use Rattle.elab_typed.specs.Contexts.{Kept, given, general, single, raised, kept_in, Around, generic}
+use Rattle.elab_types.specs.declared.scope.TypeEntry.{TypeEntry}
+use Rattle.elab_types.specs.Reading.{entry_of as type_entry_of, AreKnown, Holds}
+use Rattle.elab_state.specs.Namings.{IsAmong}
+use Rattle.elab_state.specs.States.{types_in, made, dead_level}
+use Rattle.elab_state.specs.declared.state.State.{State}
+use Rattle.elab_steps.specs.World.{World, type_of}
+use Rattle.elab_context.specs.Entries.{entry_in}
+use Rattle.elab_context.specs.declared.context.Context.{Context}
+use Rattle.elab_context.specs.declared.entry.Entry.{Entry}
+use Rattle.elab_context.specs.declared.entry.Entry.TheVariants.{Constructor, Reference, Initial, Primitive, Raised, Single, Own, General}
+use Rattle.elab_context.specs.declared.entry.Scheme as code
+
+-- the scheme of a number, in a world
+abbrev pub scheme_of : World → Option code.Scheme → Scheme
+scheme_of W None = record { marks = []; body = var 0 }
+scheme_of W (Some s) = record { marks = s.marks.items; body = W.raw s.body }
+
+abbrev pub scheme_at : Context → World → ℕ → Scheme
+scheme_at C W k = scheme_of W (slice_get C.schemes.items k)
+
+-- what is kept of an identifier
+abbrev pub kept_of : Context → World → Entry → Kept
+kept_of C W (Constructor s n y) = given (record { scheme = scheme_at C W s; status = status.Constructor })
+kept_of C W (Reference s) = given (record { scheme = scheme_at C W s; status = status.Constructor })
+kept_of C W (Initial s n) = given (record { scheme = scheme_at C W s; status = status.Exception })
+kept_of C W (Primitive s q n) = given (record { scheme = scheme_at C W s; status = status.Primitive n })
+kept_of C W (Raised n a) = raised (option_map (type_of W) a)
+kept_of C W (Single t n) = single (type_of W t)
+kept_of C W (Own t n) = single (type_of W t)
+kept_of C W (General l t n o) = general (W.reading.parameters l) (type_of W t)
+
+-- what it denotes
+abbrev pub denotes_of : Entry → Denotes
+denotes_of (Constructor s n y) = constructor n
+denotes_of (Reference s) = reference
+denotes_of (Initial s n) = exception (fixed n)
+denotes_of (Primitive s q n) = primitive q
+denotes_of (Raised n a) = exception (held n)
+denotes_of (Single t n) = variable n
+denotes_of (Own t n) = variable n
+denotes_of (General l t n o) = variable n
+
+-- what is known of its variable, if it has one
+abbrev pub known_of : World → Around → Entry → Option (ℕ × Known)
+known_of W A (Constructor s n y) = None
+known_of W A (Reference s) = None
+known_of W A (Initial s n) = None
+known_of W A (Primitive s q n) = None
+known_of W A (Raised n a) = Some (n, exception_known (option_map (λ k. type_as A.number (type_of W k)) a))
+known_of W A (Single t n) = Some (n, of_type (type_as A.number (type_of W t)))
+known_of W A (Own t n) = Some (n, own (type_as A.number (type_of W t)))
+known_of W A (General l t n true) = Some (n, checked.general (W.reading.parameters l) var (type_as A.number (type_of W t)))
+known_of W A (General l t n false) = Some (n, of_type (type_as A.number (type_of W t)))
+
+abbrev pub function_of : World → TypeEntry → TypeFunction
+function_of W e = record { arity = e.arity; body = W.raw e.body }
+
+pub record Tells (C : Context) (W : World) (A : Around) : Type 0 where
+  pub names : A.names ≡ C.names
+  pub number : A.number ≡ W.naming C.naming
+  pub parameters : A.parameters ≡ W.parameters C.level
+  pub values : (x : LongVid) → kept_in A.env x ≡ option_map (kept_of C W) (entry_in C x.qualifiers x.vid)
+  pub denotes : (x : LongVid) → long_denotes_in A.scope x ≡ option_map denotes_of (entry_in C x.qualifiers x.vid)
+  pub known : (x : LongVid) (e : Entry) (n : ℕ) (k : Known) → entry_in C x.qualifiers x.vid ≡ Some e → known_of W A e ≡ Some (n, k)
+      → checked.at A.known n ≡ Some k
+  pub tyvars : (a : ℕ) → at nat_eq A.tyvars a ≡ option_map (type_of W) (lookup (nat_eq a) C.types.tyvars)
+  pub types : (qs : List ℕ) (x : ℕ) → option_map (λ y. y.function) (type_in (generic A).env qs x) ≡ option_map (function_of W) (type_entry_of C.types qs x)
+
+-- where the context tells of something, the identifier isn't bound in it
+abbrev pub IsUnboundIn : Context → LongVid → Type 0
+IsUnboundIn C x = (W : World) (A : Around) → Tells C W A → kept_in A.env x ≡ None
+
+-- what a state has of a context: new variables may be made in it, and annotations read
+pub record IsContext (S : State) (C : Context) : Type 0 where
+  pub wide : 4 ≤ C.names
+  pub deep : C.level < dead_level
+  pub naming : IsAmong (length S.namings.items) C.naming
+  pub holds : Holds (types_in S) C.types
+  pub known : AreKnown (made S) (types_in S) C.types

@@ -1,0 +1,78 @@
+// What is in scope.
+ghost use Rattle.std.specs.Prelude.{◌≡◌, Some, None, IfOk, IfErr};
+ghost use Rattle.sml_tree.specs.TreeOf.{long_vid_of};
+ghost use Rattle.elab_types.specs.declared.refused.Refused.TheVariants.{Unbound};
+ghost use Rattle.elab_context.specs.Entries.{entry_in, limit_of, member_in};
+ghost use Rattle.elab_context.specs.Telling.{IsUnboundIn};
+
+use crate::entry::{Entry, Scheme};
+use elab_types::refused::Refused;
+use elab_types::scope::TypeScope;
+use mlc_base::place::Place;
+use scoped_map::scoped::Scoped;
+use sml_tree::ident::{LongVid, Vid};
+use ty_solve::limit::Limit;
+use vid_scope::vids::VidScope;
+
+/// Identifiers of values, those in structures, type constructors and type variables; how deep the `val` declaration is, how many type names there are, and the
+/// naming that is in force.
+#[derive(Drop)]
+pub struct Context {
+    pub values: VidScope<Entry>,
+    pub structures: Scoped<usize>,
+    pub members: Vec<VidScope<Entry>>,
+    pub types: TypeScope,
+    pub schemes: Vec<Scheme>,
+    pub level: usize,
+    pub names: usize,
+    pub naming: Option<usize>,
+}
+
+impl Context {
+    /// How far new variables of types may reach.
+    pub fn limit(&self) -> Limit
+        ensures { result ≡ limit_of self.now }
+    {
+        Limit {
+            names: self.names,
+            level: self.level,
+        }
+    }
+
+    /// What a structure has.
+    fn member(&self, number: usize, vid: Vid) -> Option<Entry>
+        ensures { result ≡ member_in self.now.members.items number vid }
+    {
+        if number < self.members.len() {
+            self.members[number].find(vid)
+        } else {
+            None
+        }
+    }
+
+    /// What a long identifier is.
+    pub fn find(&self, long: &LongVid) -> Option<Entry>
+        ensures { result ≡ entry_in self.now long.now.qualifiers.items long.now.vid }
+    {
+        match long.qualifiers.len() {
+            0 => self.values.find(long.vid),
+            1 => {
+                let structure = self.structures.find(long.qualifiers[0].number() as usize)?;
+                self.member(structure, long.vid)
+            }
+            _ => None,
+        }
+    }
+
+    /// What a long identifier is that has to be bound.
+    pub fn value_at(&self, place: Place, long: &LongVid) -> Result<Entry, Refused>
+        ensures is { IfOk result (λ e. entry_in self.now long.now.qualifiers.items long.now.vid ≡ Some e) }
+        ensures place { IfErr result (λ e. e ≡ Unbound place) }
+        ensures unbound { IfErr result (λ _. IsUnboundIn self.now (long_vid_of long.now)) }
+    {
+        match self.find(long) {
+            Some(entry) => Ok(entry),
+            None => Err(Refused::Unbound(place)),
+        }
+    }
+}

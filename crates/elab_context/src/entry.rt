@@ -1,0 +1,70 @@
+// What is kept of identifiers.
+ghost use Rattle.std.specs.Prelude.{◌≡◌};
+ghost use Rattle.core_rules.specs.Restrictions.{is_kept as is_kept_vid};
+ghost use Rattle.elab_context.specs.Entries.{is_free as is_free_entry};
+
+use mlc_base::words;
+use mlc_prims::basis::BasisPrimitive;
+use sml_tree::ident::Vid;
+use ty_core::mark::Mark;
+use ty_core::name::TyName;
+
+/// A closed scheme: its parameters are the first variables of its body.
+#[derive(Drop)]
+pub struct Scheme {
+    pub marks: Vec<Mark>,
+    pub body: usize,
+}
+
+/// What an identifier is, and what it is in the program. Schemes, types and lists of parameters are numbers.
+#[derive(Clone, Copy)]
+pub enum Entry {
+    /// A constructor: its scheme, the number of its identifier, and its datatype.
+    Constructor(usize, usize, TyName),
+    /// `ref`, with its scheme.
+    Reference(usize),
+    /// An exception of the initial basis: its scheme and its number.
+    Initial(usize, usize),
+    /// A primitive: its scheme, and its number among all.
+    Primitive(usize, BasisPrimitive, u32),
+    /// An exception of a declaration: its variable, and the type of its argument.
+    Raised(usize, Option<usize>),
+    /// A variable of one type.
+    Single(usize, usize),
+    /// A function inside its own group.
+    Own(usize, usize),
+    /// A variable of a declaration with a list of parameters: the list, its type, the variable, and whether the program's variable is over the list.
+    General(usize, usize, usize, bool),
+}
+
+/// Whether a pattern binds an identifier, and doesn't match it.
+pub fn is_free(entry: Option<Entry>) -> bool
+    ensures { result ≡ is_free_entry entry }
+{
+    match entry {
+        None => true,
+        Some(Entry::Primitive(_, _, _)) => true,
+        Some(Entry::Single(_, _)) => true,
+        Some(Entry::Own(_, _)) => true,
+        Some(Entry::General(_, _, _, _)) => true,
+        Some(_) => false,
+    }
+}
+
+/// Whether an identifier is never bound.
+pub fn is_kept(vid: Vid) -> bool
+    ensures { result ≡ is_kept_vid vid }
+{
+    match vid {
+        Vid::Named(name) => {
+            let number = name.number();
+            number == words::TRUE
+                || number == words::FALSE
+                || number == words::NIL
+                || number == words::CONS
+                || number == words::REF
+        }
+        Vid::Equals => true,
+        Vid::Fresh(_) => false,
+    }
+}

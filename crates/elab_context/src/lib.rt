@@ -1,0 +1,5 @@
+// What is in scope while declarations are elaborated.
+#![tactic(auto)]
+
+pub mod context;
+pub mod entry;

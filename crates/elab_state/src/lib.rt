@@ -1,0 +1,11 @@
+// The state of elaboration: what variables stand for, the types that the tree writes, and the program's tables.
+#![tactic(auto)]
+
+pub mod law;
+pub mod naming;
+pub mod start;
+pub mod state;
+#[cfg(test)]
+mod tests;
+pub mod variables;
+pub mod write;

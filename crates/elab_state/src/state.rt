@@ -1,0 +1,22 @@
+// The state of elaboration.
+ghost use Rattle.std.specs.Prelude.{length};
+ghost use Rattle.elab_state.specs.Namings.{AreNamings};
+ghost use Rattle.elab_state.specs.Readings.{AreWritten, AreHeldRows};
+ghost use Rattle.elab_state.specs.Props.{AreNamings-prop, AreWritten-prop, AreHeldRows-prop};
+
+use crate::naming::{Naming, Written};
+use ir_tables::tables::Tables;
+use ty_solve::solver::Solver;
+
+/// What variables stand for; the types that the tree writes, by number, and the namings that are in force in it; the program's tables and its next variable.
+#[derive(Drop)]
+pub struct State {
+    pub solver: Solver,
+    pub written: Vec<Written>,
+    pub namings: Vec<Naming>,
+    pub tables: Tables,
+    pub next: usize,
+    pub ghost held: { AreWritten (length solver.subst.types) (length namings.items) written.items } by { AreWritten-prop (length solver.subst.types) (length namings.items) written.items },
+    pub ghost ordered: { AreNamings namings.items } by { AreNamings-prop namings.items },
+    pub ghost rows: { AreHeldRows (length tables.types) tables.constructors } by { AreHeldRows-prop (length tables.types) tables.constructors },
+}

@@ -1,0 +1,21 @@
+use Rattle.std.proofs.Common.{refl}
+use Rattle.elab_steps.proofs.Changing.{unified_grows, unified_equal}
+use Rattle.elab_steps.proofs.step.unify.Goals as goal
+
+pub returns-in-Ok-clause-grows : goal.returns-in-Ok-clause-grows
+returns-in-Ok-clause-grows c = unified_grows c.args.state.now _ c.args.a c.args.b (record {
+  stays = record { written = refl; namings = refl; tables = refl; next = refl };
+  types = c.in-Ok.ensures.types;
+  count = c.in-Ok.ensures.same_length;
+  general = c.in-Ok.ensures.general;
+  fall = c.in-Ok.ensures.fall;
+})
+
+pub returns-in-Ok-clause-equal : goal.returns-in-Ok-clause-equal
+returns-in-Ok-clause-equal c = unified_equal c.args.state.now _ c.args.a c.args.b (record {
+  stays = record { written = refl; namings = refl; tables = refl; next = refl };
+  types = c.in-Ok.ensures.types;
+  count = c.in-Ok.ensures.same_length;
+  general = c.in-Ok.ensures.general;
+  fall = c.in-Ok.ensures.fall;
+}) c.requires.a c.requires.b

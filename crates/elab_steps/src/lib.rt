@@ -1,0 +1,7 @@
+// Steps of the elaborator on its state.
+#![tactic(auto)]
+
+pub mod annotate;
+pub mod step;
+#[cfg(test)]
+mod tests;

@@ -1,0 +1,4 @@
+// Worlds in which what a state of the elaborator says comes true.
+#![tactic(auto)]
+
+pub mod law;

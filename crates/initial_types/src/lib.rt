@@ -1,0 +1,8 @@
+// The types of the initial basis as numbers of a table.
+#![tactic(auto)]
+
+pub mod row;
+pub mod schemes;
+pub mod shapes;
+#[cfg(test)]
+mod tests;
