@@ -27,3 +27,9 @@ pub record Generic (n : ℕ) (s : ℕ → Entry) (b : ℕ → Limit) (qs : List 
 
 abbrev pub IsGeneric : State → (ℕ → List Quantified) → (ℕ → Typ) → Type 0
 IsGeneric S = Generic (made S) (said_in S) (limit_in S) (general_in S)
+
+-- a generic solution of a state, with the parameters in scope
+pub record GenericSolution (S : State) : Type 0 where
+  pub parameters : ℕ → List Quantified
+  pub values : ℕ → Typ
+  pub generic : IsGeneric S parameters values

@@ -1,12 +1,13 @@
 -- What the definitions are for.
-use Rattle.std.specs.Prelude.{◌≡◌, ℕ, ◌<◌, ◌≤◌, true, List, Some, length}
+use Rattle.std.specs.Prelude.{◌≡◌, ℕ, ◌<◌, ◌≤◌, true, List, [], Some, length}
 use Rattle.ty_core.specs.Types.{Typ}
 use Rattle.ty_core.specs.declared.name.TyName.{TyName}
 use Rattle.ty_core.specs.declared.scheme.Quantified.{Quantified}
+use Rattle.ty_solve.specs.Limits.{IsSolvableOver}
 use Rattle.ir_poly.specs.Types.{Constructor, find, over}
 use Rattle.ir_tables.specs.Tables.{parameters_of}
-use Rattle.elab_state.specs.States.{table_in, reading_in, value_in, dead_level, IsType}
-use Rattle.elab_state.specs.Generic.{IsGeneric}
+use Rattle.elab_state.specs.States.{said_in, limit_in, general_in, table_in, reading_in, value_in, dead_level, IsType}
+use Rattle.elab_state.specs.Generic.{IsGeneric, GenericSolution}
 use Rattle.elab_state.specs.Steps.{Grows, Extends}
 use Rattle.elab_state.specs.declared.state.State.{State}
 
@@ -30,3 +31,7 @@ ValuesStay = (l k : ℕ) (S T : State) (g : ℕ → Typ) → Grows S T → IsTyp
 abbrev pub TablesStay : Type 0
 TablesStay = (S T : State) → Grows S T → ((y : TyName) (c : ℕ) (row : Constructor) → find (table_in S) y c ≡ Some row → find (table_in T) y c ≡ Some row)
     × ((g h : ℕ → Typ) (k : ℕ) → k < length (parameters_of S.tables) → (reading_in T g).parameters k ≡ (reading_in S h).parameters k)
+
+-- where nothing was generalised, what can be solved within its limits has a generic solution
+abbrev pub SolvablesAreGeneric : Type 0
+SolvablesAreGeneric = (S : State) → general_in S ≡ [] → IsSolvableOver (said_in S) (limit_in S) → GenericSolution S

@@ -1,7 +1,7 @@
 // Laws of states, as contracts.
 
 ghost use Rattle.elab_state.specs.Generalising.{ValsGeneralise};
-ghost use Rattle.elab_state.specs.Laws.{StepsCompose, TablesStay, TypesStay, ValuesAreOver, ValuesStay};
+ghost use Rattle.elab_state.specs.Laws.{SolvablesAreGeneric, StepsCompose, TablesStay, TypesStay, ValuesAreOver, ValuesStay};
 
 /// Steps one after the other are a step.
 pub fn steps_compose()
@@ -31,4 +31,9 @@ pub fn tables_stay()
 /// Where a `val` declaration ends, a generic solution after is one before, inside, with the declaration's parameters in scope.
 pub fn vals_generalise()
     ensures { ValsGeneralise }
+{}
+
+/// Where nothing was generalised, what can be solved within its limits has a generic solution.
+pub fn solvables_are_generic()
+    ensures { SolvablesAreGeneric }
 {}
