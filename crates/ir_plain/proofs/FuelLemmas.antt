@@ -122,7 +122,7 @@ module _ {F : Kind} (j : ℕ) (c c' : Apply F) (calls : SameCalls j c c') where
   fails w h = both_stop _ w
 
   mutual
-    eval-within : (e : Exp F) (env : Scope F) (w : World (V F)) → w.left ≤ j → (other other' : Go F) → SameGo other other' → Within j (eval c e env w other) (eval c' e env w other')
+    pub eval-within : (e : Exp F) (env : Scope F) (w : World (V F)) → w.left ≤ j → (other other' : Go F) → SameGo other other' → Within j (eval c e env w other) (eval c' e env w other')
     eval-within (ret a) env w h other other' k = found-within (look_up a env) w _ _ (λ v. both_give v w h)
     eval-within (let_in x ps t o e) env w h other other' k = then-within _ _ (op-within o env w h) (λ v w l. eval-within e (bind x v env) w l other other' k)
     eval-within (exception_in x i t e) env w h other other' k = eval-within e _ (record w { exceptions = w.exceptions ++ i ∷ [] }) h other other' k
@@ -174,7 +174,7 @@ after-turn : {V : Type 0} (n j : ℕ) (place : Place) (w : World V) (go go' : Wo
 after-turn zero j place w go go' h k = both_stop _ w
 after-turn (suc n) j place w go go' h k = wider j (suc j) (omega arith) (k (record w { left = n; taken = w.taken ++ place ∷ [] }) (omega (arith, h)))
 
-enter-within : {F : Kind} (j : ℕ) (go go' : Bodies F) → ((f : Fun F) (env : Scope F) (v : V F) (w : World (V F)) → w.left ≤ j → Within j (go f env v w) (go' f env v w)) → SameCalls (suc j) (enter go) (enter go')
+pub enter-within : {F : Kind} (j : ℕ) (go go' : Bodies F) → ((f : Fun F) (env : Scope F) (v : V F) (w : World (V F)) → w.left ≤ j → Within j (go f env v w) (go' f env v w)) → SameCalls (suc j) (enter go) (enter go')
 enter-within {F} j go go' h place (con g c) v w l = after-turn w.left j place w _ _ l (λ w k. both_give _ w k)
 enter-within {F} j go go' h place (exn g c) v w l = after-turn w.left j place w _ _ l (λ w k. both_give _ w k)
 enter-within {F} j go go' h place (ref g) v w l = after-turn w.left j place w _ _ l (λ w k. reference-within F.tags j g v w k)

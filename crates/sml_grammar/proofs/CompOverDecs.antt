@@ -48,7 +48,7 @@ module _ (n : ℕ) where
   maybe-or {s} d = elim (le_or (depth_some s) n) [ inl q ↦ inl (maybe-complete n d q refl refl) | inr q ↦ inr (maybe-over d q) ]
 
 module _ (n : ℕ) (self : Reader) (complete : CompleteExp n self) (over : OverExp n self) where
-  binds-over : {f : Fixity} {i : List Terminal} {d : ℕ} → OpensBinds f i d → n < d → (k : ℕ) → length i < k → many (bind_turn n self f) k no_state i ≡ deep
+  pub binds-over : {f : Fixity} {i : List Terminal} {d : ℕ} → OpensBinds f i d → n < d → (k : ℕ) → length i < k → many (bind_turn n self f) k no_state i ≡ deep
   binds-over o lt zero le = absurd (omega arith)
   binds-over {f} (past_rec {i} p o) lt (suc k) le = many-deep (bind_turn n self f) k {put = rec_binds} refl (binds-over o lt k (omega arith))
   binds-over {f} (in_bind_pat {i} o) lt (suc k) le =
@@ -106,10 +106,10 @@ module _ (n : ℕ) (self : Reader) (complete : CompleteExp n self) (over : OverE
         | inr g ↦ many-stop (clause_turn n self f) k (rw g refl)
       ]
 
-  clauses-deep : {f : Fixity} {v : Vid} {c : ℕ} {i : List Terminal} {d : ℕ} → OpensClauses f v c i d → n < d → read_clauses n self f i ≡ deep
+  pub clauses-deep : {f : Fixity} {v : Vid} {c : ℕ} {i : List Terminal} {d : ℕ} → OpensClauses f v c i d → n < d → read_clauses n self f i ≡ deep
   clauses-deep {v} {c} {i} o lt = clauses-over None o (agree-none v c) lt (suc (length i)) (omega arith)
 
-  funs-over : {f : Fixity} {i : List Terminal} {d : ℕ} → OpensFuns f i d → n < d → (k : ℕ) → length i < k → many (fun_turn n self f) k no_state i ≡ deep
+  pub funs-over : {f : Fixity} {i : List Terminal} {d : ℕ} → OpensFuns f i d → n < d → (k : ℕ) → length i < k → many (fun_turn n self f) k no_state i ≡ deep
   funs-over o lt zero le = absurd (omega arith)
   funs-over {f} (in_clauses {i} v c o) lt (suc k) le = let h : read_clauses n self f i ≡ deep = clauses-deep o lt in many-stop (fun_turn n self f) k (rw h refl)
   funs-over {f} (past_clauses {i} {m} {cs} v c p dc o) lt (suc k) le =
@@ -135,7 +135,7 @@ module _ (n : ℕ) (self : Reader) (complete : CompleteExp n self) (over : OverE
           ]
         ]
 
-    dec-over : {f : Fixity} {i : List Terminal} {d : ℕ} → OpensDec f i d → n < d → dec_by n self inner f (dec_start i) ≡ deep
+    pub dec-over : {f : Fixity} {i : List Terminal} {d : ℕ} → OpensDec f i d → n < d → dec_by n self inner f (dec_start i) ≡ deep
     dec-over {f} (in_val {i} {m} p s o) lt = let h = facts.tyvars-found s in let g : read_binds n self f m ≡ deep = binds-over o lt (suc (length m)) (omega arith) in rw (h, g) refl
     dec-over {f} (in_fun {i} {m} p s o) lt = let h = facts.tyvars-found s in let g : read_funs n self f m ≡ deep = funs-over o lt (suc (length m)) (omega arith) in rw (h, g) refl
     dec-over (in_type {i} p o) lt = let g : read_type_binds n i ≡ deep = facts.type_binds-over n o lt in rw g refl
