@@ -123,7 +123,7 @@ pub record WhereStops (o : List Terminal) : Type 0 where
   pub ty : ty_could_go_on 0 o ≡ false
   pub and_ : and_type (after_word res.And o) ≡ None
 
-long-tyvars : {t : Terminal} {q : ℕ} {c : LongId} → IsLongTycon t q c → (o : List Terminal) → read_tyvars (t ∷ o) ≡ read [] (t ∷ o)
+pub long-tyvars : {t : Terminal} {q : ℕ} {c : LongId} → IsLongTycon t q c → (o : List Terminal) → read_tyvars (t ∷ o) ≡ read [] (t ∷ o)
 long-tyvars (short_tycon (alpha_tycon p x)) o = refl
 long-tyvars (short_tycon (symbol_tycon p x)) o = refl
 long-tyvars (long_alpha_tycon p qs x) o = refl
