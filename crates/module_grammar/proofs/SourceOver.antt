@@ -125,10 +125,10 @@ module _ (n : ℕ) where
           | inl u ↦ elim (maybe-sig-or n r gd) [
             | inl v ↦ elim (str-or n (str_readers n).str (readers-complete n).str (readers-over n).str sd
                 (record { sig = record { wheres = record { ty = refl; and_ = e }; none = refl }; none = refl; bracket = refl })) [
-              | inl h ↦ many-deep (fun_bind_turn n f) k {put = λ xs. record { funid = record { place = t; it = x }; parameter = a; result = g; body = s } ∷ xs}
-                  (rw (u, v, h) refl) (fun-turns o lt k (omega arith))
-              | inr h ↦ many-stop (fun_bind_turn n f) k (rw (u, v, h) refl)
-            ]
+                  | inl h ↦ many-deep (fun_bind_turn n f) k {put = λ xs. record { funid = record { place = t; it = x }; parameter = a; result = g; body = s } ∷ xs}
+                      (rw (u, v, h) refl) (fun-turns o lt k (omega arith))
+                  | inr h ↦ many-stop (fun_bind_turn n f) k (rw (u, v, h) refl)
+                ]
             | inr v ↦ many-stop (fun_bind_turn n f) k (rw (u, v) refl)
           ]
           | inr u ↦ many-stop (fun_bind_turn n f) k (rw u refl)
