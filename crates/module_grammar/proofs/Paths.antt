@@ -51,11 +51,11 @@ data-opens (more_data p (data_desc {cs = ds} r b d v cs) more) k pos le =
     ]
 
 pub wheres-opens : {i o : List Terminal} {ws : List WhereType} → WhereTypes i ws o → (k : ℕ) → 0 < k → k ≤ depth_where_types ws → OpensWheres i k
-wheres-opens (last_where (one_where p r d c t)) k pos le = in_where p r d c (facts.ty-opens t k pos (omega arith))
-wheres-opens (more_wheres q (one_where {a} p r d c t) ws) k pos le =
+wheres-opens (last_where (one_where p r d s c t)) k pos le = in_where p r d c (facts.ty-opens t k pos (omega arith))
+wheres-opens (more_wheres q (one_where {a} p r d s c t) ws) k pos le =
     elim (le_or k (depth_ty a)) [
       | inl h ↦ in_where p r d c (facts.ty-opens t k pos h)
-      | inr h ↦ past_where q (one_where p r d c t) (wheres-opens ws k pos (omega arith))
+      | inr h ↦ past_where q (one_where p r d s c t) (wheres-opens ws k pos (omega arith))
     ]
 
 -- Signatures.

@@ -3,7 +3,7 @@ use Rattle.std.proofs.Common.{◌≡◌, ℕ, zero, suc, ◌≤◌, ◌<◌, Lis
 use Rattle.mlc_base.specs.declared.token.Reserved.TheVariants as res
 use Rattle.sml_tree.specs.Terminal.{Terminal, reserved}
 use Rattle.sml_tree.specs.Fixity.{Fixity}
-use Rattle.sml_grammar.specs.Answer.{deep, read, then_read, many, whole}
+use Rattle.sml_grammar.specs.Answer.{Answer, ok, bad, deep, read, then_read, many, whole}
 use Rattle.sml_grammar.specs.Terminals.{no_state}
 use Rattle.sml_grammar.specs.Expressions.{readers}
 use Rattle.sml_grammar.specs.Partial.{OpensDec, in_val, in_fun, in_type, in_datatype, in_withtype, in_exception, begun_local, in_local, in_local_body}
@@ -11,10 +11,11 @@ use Rattle.sml_grammar.proofs.Answers.{le_or, many-deep, many-stop, not_false}
 use Rattle.sml_grammar.proofs.CompBegins.{opens-begins}
 use Rattle.sml_grammar.proofs.CompDeep.{all-over}
 use Rattle.sml_grammar.proofs.CompOverLists.{ReadOrDeep}
-use Rattle.module_tree.specs.ReadModules.{spec_parameter, Parameter}
+use Rattle.module_tree.specs.ReadModules.{spec_parameter, Parameter, Top}
 use Rattle.module_tree.specs.ModuleDepth.{depth_parameter, depth_top, depth_tops}
 use Rattle.module_tree.specs.ModuleGrammar.{module_id, of_val_spec, of_type_spec, of_abbreviation_spec, of_eqtype_spec, of_datatype_spec, of_replication_spec, of_exception_spec, of_structure_spec, of_include, of_include_ids, of_sharing, ReadsParameter, fun_bind}
 use Rattle.module_grammar.specs.Laws as laws
+use Rattle.module_grammar.specs.Laws.{IsTree, Outcome, is_source, is_too_deep, is_wrong}
 use Rattle.module_grammar.specs.Signatures.{and_type, read_sig, specs_from}
 use Rattle.module_grammar.specs.Structures.{maybe_sig, str_readers, str_dec_by}
 use Rattle.module_grammar.specs.Sources.{sig_bind_turn, read_parameter, fun_bind_turn, inner_decs, Standing, top_turn, read_source}
@@ -25,6 +26,8 @@ use Rattle.module_grammar.proofs.SigComplete.{sig-complete}
 use Rattle.module_grammar.proofs.SigOver.{sig-or, specs-over, sig-over}
 use Rattle.module_grammar.proofs.StrComplete.{calm, readers-complete}
 use Rattle.module_grammar.proofs.StrOver.{opens_dec-begins, maybe-sig-over, maybe-sig-or, str-or, str-dec-over, readers-over}
+use Rattle.module_grammar.proofs.SourceSound.{sound}
+use Rattle.module_grammar.proofs.SourceFar.{deep-sound}
 use Rattle.module_grammar.proofs.SourceComplete.{parameter-complete, dec_then, exp-turn, inner-complete, one-top, top-calm, complete}
 use Rattle.module_grammar.proofs.Paths.{parameter-opens, top-opens, tops-opens}
 
@@ -196,3 +199,15 @@ bad-sound n f i ts h d =
       | inl p ↦ let c : read_source n f i ≡ read ts [] = complete n f i ts (d, p) in absurd (cc)
       | inr p ↦ let c : read_source n f i ≡ deep = deep-complete n f i (tops-opens d (suc n) (omega arith) (omega arith)) in absurd (cc)
     ]
+
+-- by the answer of the reading function
+pub one-outcome : laws.OneOutcome
+one-outcome n f i = (settled (read_source n f i) refl, apart)
+  where
+    settled : (a : Answer (List Top)) → read_source n f i ≡ a → Outcome n f i
+    settled (ok r) e = is_source r.tree (sound n f i r.tree r.rest e)
+    settled deep e = is_too_deep (deep-sound n f i e)
+    settled bad e = is_wrong (λ ts d. bad-sound n f i ts e d) (λ o. let c = deep-complete n f i o in absurd (cc))
+
+    apart : (ts : List Top) → IsTree n f i ts → OpensTops f true i (suc n) → ⊥
+    apart ts t o = let a = complete n f i ts t in let b = deep-complete n f i o in absurd (cc)

@@ -11,7 +11,7 @@ use Rattle.sml_grammar.specs.Types.{read_ty, maybe_ty, ty_could_go_on}
 use Rattle.sml_grammar.specs.Bindings.{read_tyvars}
 use Rattle.sml_grammar.proofs.Answers.{le_or, many-deep, many-stop}
 use Rattle.sml_grammar.proofs.Terminals.{vid-found, long_tycon-found}
-use Rattle.sml_grammar.proofs.BindTyvars.{tyvars-complete, begins-place, bound, bound-step}
+use Rattle.sml_grammar.proofs.BindTyvars.{tyvars-complete, begins-place, place-found, bound, bound-step}
 use Rattle.sml_grammar.proofs.BindOf.{of-read, of-over, of-opens}
 use Rattle.sml_grammar.proofs.CompFacts as facts
 use Rattle.sml_grammar.proofs.CompOverLists.{ReadOrDeep}
@@ -29,7 +29,7 @@ use Rattle.module_grammar.proofs.Paths.{cons-opens}
 -- a list of `where type` begins with `type`
 opens_wheres-begin : {i : List Terminal} {d : ℕ} → OpensWheres i d → and_type (Some i) ≡ Some i
 opens_wheres-begin (in_where p r d c o) = refl
-opens_wheres-begin (past_where q (one_where p r d c t) o) = refl
+opens_wheres-begin (past_where q (one_where p r d s c t) o) = refl
 
 module _ (n : ℕ) where
   -- a whole type is read, or it is too deep
@@ -113,13 +113,14 @@ module _ (n : ℕ) where
       let h = long_tycon-found v (reserved r res.Equals ∷ m) in
       let u : read_ty n 0 m ≡ deep = facts.ty-over n o lt in
       many-stop (where_turn n) k (rw (g, h, u) refl)
-  wheres-over (past_where x (one_where {i} {m} {t} {as_} {q} {c} {a} p r d v y) o) lt (suc k) le =
+  wheres-over (past_where x (one_where {i} {m} {t} {as_} {q} {u = w} {c} {a} p r d b v y) o) lt (suc k) le =
       let g : read_tyvars i ≡ read as_ (t ∷ reserved r res.Equals ∷ m) = tyvars-complete d (long-tyvars v (reserved r res.Equals ∷ m)) in
       let h = long_tycon-found v (reserved r res.Equals ∷ m) in
+      let at = place-found b in
       let e = opens_wheres-begin o in
-      let s = where-shorter (one_where p r d v y) in
+      let s = where-shorter (one_where p r d b v y) in
       elim (ty-or y refl) [
-        | inl u ↦ many-deep (where_turn n) k {put = λ es. record { place = p; tyvars = as_; tycon = record { place = q; it = c }; ty = a } ∷ es}
-            (rw (g, h, u, e) refl) (wheres-over o lt k (omega arith))
+        | inl u ↦ many-deep (where_turn n) k {put = λ es. record { place = p; tyvars_place = w; tyvars = as_; tycon = record { place = q; it = c }; ty = a } ∷ es}
+            (rw (g, h, at, u, e) refl) (wheres-over o lt k (omega arith))
         | inr u ↦ many-stop (where_turn n) k (rw (g, h, u) refl)
       ]

@@ -34,6 +34,17 @@ DeepComplete = (n : ℕ) (f : Fixity) (i : List Terminal) → OpensTops f true i
 abbrev pub BadSound : Type 0
 BadSound = (n : ℕ) (f : Fixity) (i : List Terminal) (ts : List Top) → read_source n f i ≡ bad → IsSource f i ts → ⊥
 
+-- what terminals are, at a limit of n: a source that isn't deeper, too deep, or neither of these: a syntax error
+pub data Outcome (n : ℕ) (f : Fixity) (i : List Terminal) : Type 0 where
+  is_source : (ts : List Top) → IsTree n f i ts → Outcome n f i
+  is_too_deep : OpensTops f true i (suc n) → Outcome n f i
+  is_wrong : ((ts : List Top) → IsSource f i ts → ⊥) → (OpensTops f true i (suc n) → ⊥) → Outcome n f i
+
+-- they are one of the three, and never both a source that isn't deeper and too deep
+abbrev pub OneOutcome : Type 0
+OneOutcome = (n : ℕ) (f : Fixity) (i : List Terminal)
+    → Outcome n f i × ((ts : List Top) → IsTree n f i ts → OpensTops f true i (suc n) → ⊥)
+
 -- a tree has a partial one of each depth up to its own
 abbrev pub Cut : Type 0
 Cut = (f : Fixity) (i : List Terminal) (ts : List Top) (d : ℕ) → IsSource f i ts → 0 < d → d ≤ depth_tops ts → OpensTops f true i d
