@@ -1,12 +1,12 @@
 -- Derived forms of modules and what they stand for, by computation.
-use Rattle.std.proofs.Common.{◌≡◌, ℕ, ◌+◌, pos, List, [], ◌∷◌, None, Some, refl, true}
+use Rattle.std.proofs.Common.{◌≡◌, ℕ, ◌+◌, pos, [], ◌∷◌, None, refl}
 use Rattle.mlc_base.specs.declared.place.Place.{Place}
 use Rattle.sml_tree.specs.Terminal.{int, LongId}
 use Rattle.sml_tree.specs.declared.ident.Vid.TheVariants.{Named}
 use Rattle.sml_tree.specs.BareTree as core
 use Rattle.sml_tree.specs.ReadTree.{Placed, Ty, con_ty, no_tys, TypeBind, constant_exp, open_dec, fixity_dec}
 use Rattle.module_tree.specs.BareModules as bare
-use Rattle.module_tree.specs.ReadModules.{transparent, opaque, sig_end, sig_id, where_type, WhereType, Specs, no_specs, spec, Spec, type_spec, abbreviation_spec, include_ids, no_sig, sealed, StrExp, str_id, applied_to_decs, no_str_decs, str_dec, StrDec, core_dec, structure_dec, local_str, last_str, str_bind, spec_parameter, functor_top, str_top, exp_top}
+use Rattle.module_tree.specs.ReadModules.{transparent, opaque, sig_end, sig_id, where_type, WhereType, no_specs, spec, Spec, type_spec, abbreviation_spec, include_ids, no_sig, sealed, str_id, applied_to_decs, no_str_decs, str_dec, StrDec, core_dec, structure_dec, local_str, last_str, str_bind, spec_parameter, functor_top, str_top, exp_top}
 use Rattle.module_tree.specs.ModuleBare.{bare_specs, bare_sig, bare_str, bare_str_dec, bare_top}
 
 abbrev file : ℕ
