@@ -31,11 +31,7 @@ pub fn named_signature(id: IdAt) -> SigExp
 }
 
 /// `sigexp where type .. and type ..`
-pub fn with_types(
-    alloc: Global,
-    sig: SigExp,
-    wheres: Vec<WhereType>,
-) -> Result<SigExp, NoMemory>
+pub fn with_types(alloc: Global, sig: SigExp, wheres: Vec<WhereType>) -> Result<SigExp, NoMemory>
     ensures { IfOk result (λ g. sig_of g ≡ where_onto (sig_of sig) wheres.items) }
 {
     let (wheres, sig) = with(wheres, boxed(alloc, sig))?;
