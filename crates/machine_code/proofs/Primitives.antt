@@ -41,6 +41,7 @@ pub record Stands (code : List Instr) (first_lay : List Word) (text_of : ℕ →
   pub most : ℕ
   pub few : length code ≤ most
   pub compares : HasAt code start (equal_code T.types start most)
+  pub same_types : at.types ≡ T.types
   pub types : (t : ℕ) → at.type_at t ≡ place T.types start most (offset_of T.types t)
 
 -- operands, where all are constants

@@ -36,20 +36,23 @@ text_of texts i = get_or texts i []
 
 -- Functions.
 
-module _ (rows : Rows) where
+module _ (rows : Rows) (types : List Shape) where
+  abbrev pub fun_size : Fun → ℕ
+  fun_size g = size rows types (length g.params) (with_params g.params 0 []) [] g.body
+
   abbrev pub funs_size : List Fun → ℕ
   funs_size [] = 0
-  funs_size (g ∷ funs) = size rows [] g.body + funs_size funs
+  funs_size (g ∷ funs) = fun_size g + funs_size funs
 
   abbrev pub fun_place : ℕ → List Fun → ℕ → ℕ
   fun_place pc [] i = pc
   fun_place pc (g ∷ funs) zero = pc
-  fun_place pc (g ∷ funs) (suc i) = fun_place (pc + size rows [] g.body) funs i
+  fun_place pc (g ∷ funs) (suc i) = fun_place (pc + fun_size g) funs i
 
 abbrev pub funs_code : Places → ℕ → List Fun → List Instr
 funs_code at pc [] = []
 funs_code at pc (g ∷ funs) =
-    code_at at pc (length g.params) (with_params g.params 0 []) [] g.body ++ funs_code at (pc + size at.rows [] g.body) funs
+    code_at at pc (length g.params) (with_params g.params 0 []) [] g.body ++ funs_code at (pc + fun_size at.rows at.types g) funs
 
 -- Calls of one of a set: for each set a routine, which is entered as the function is.
 
@@ -129,14 +132,15 @@ module _ (rows : Rows) (texts : List (List ℕ)) (p : Program) where
   funs_at = 10 + shapes_size p.tables.types p.tables.types
 
   abbrev pub sets_at : ℕ
-  sets_at = funs_at + funs_size rows p.funs
+  sets_at = funs_at + funs_size rows p.tables.types p.funs
 
   abbrev pub fun_at : ℕ → ℕ
-  fun_at = fun_place rows funs_at p.funs
+  fun_at = fun_place rows p.tables.types funs_at p.funs
 
   abbrev pub places_of : Places
   places_of = record {
     rows = rows;
+    types = p.tables.types;
     text_at = text_place 2 p.tables.strings;
     name_at = text_place names_at texts;
     initial_at = λ n. initial_at + n;
