@@ -1,9 +1,9 @@
 -- The code of a body does what the body does.
 use Rattle.std.proofs.Common.{◌≡◌, ℕ, zero, suc, ◌+◌, ◌<◌, ◌≤◌, ◌^◌, List, [], ◌∷◌, ◌++◌, length, map, Option, Some, None, Bool, true, false, inl, refl, sym, ap, ◌∙◌, subst, ⊎_elim, arith, append_assoc, append-nil, length-append, get_or}
 use Rattle.std.specs.Prelude.{slice_get, nat_eq, option_map, option_and_then, if◌then◌else◌}
-use Rattle.std.proofs.lemmas.Bool.{cases_lt}
+use Rattle.std.proofs.lemmas.Bool.{cases_lt, ltb-true}
 use Rattle.ir_code.specs.declared.instr.Instr.{Instr}
-use Rattle.ir_code.specs.declared.instr.Instr.TheVariants.{Li, Mov, Jmp, Brz, Call as CallRow, Ret, Acc, PushHandler, Eq}
+use Rattle.ir_code.specs.declared.instr.Instr.TheVariants.{Li, Mov, Jmp, Brz, Call as CallRow, Ret, Acc, PushHandler, Eq, Alloc, St}
 use Rattle.ir_code.specs.declared.halt.Halt.TheVariants.{NoStack}
 use Rattle.ir_code.specs.Words.{one_if, same_word}
 use Rattle.ir_code.specs.Machine.{State, Goes, act}
@@ -15,7 +15,7 @@ use Rattle.mlc_base.proofs.MoreTurnsLaws.{prefix-refl as prefix_refl, prefix-tra
 use Rattle.mlc_prims.specs.LitOf.{Literal}
 use Rattle.mlc_prims.specs.PrimOf.{Gives, made, raised}
 use Rattle.mlc_prims.specs.declared.basis.BasisPrimitive.{BasisPrimitive}
-use Rattle.first_values.specs.Values.{Value, literal, cell, reference, name, packet, Values, Run, Env, unit, bind, look_up, look_all, bind_all, values_of, value_of, tag_of, gather, Piece}
+use Rattle.first_values.specs.Values.{Value, literal, cell, reference, name, packet, Values, no_values, Run, Env, unit, bind, look_up, look_all, bind_all, values_of, value_of, tag_of, gather, Piece}
 use Rattle.first_values.specs.Operations.{Tables, Operands, Plain, Test, Callee, known, one_of, Called, literals, row_at, attempted, either_way, perform, decide, called, of_closure, member_at, raised_from}
 use Rattle.ir_ssa.specs.Tree.{Body, Bodies, plain, make, attempt, turn, call, label, again, guard, goto, jump, branch, switch, tail, ret, raise, last, arm}
 use Rattle.ir_ssa.specs.Meaning.{Onward, Handler, Calls, throw, then_go, go_to, may_turn, must_turn, spin, eval, eval_arm}
@@ -25,8 +25,8 @@ use Rattle.machine_routines.specs.Runs.{HasAt, Leads}
 use Rattle.machine_routines.proofs.Seams.{has_front, has_back, get_left, get_here, get_right}
 use Rattle.machine_routines.proofs.Leads.{step_to}
 use Rattle.machine_code.specs.Agrees.{AreAll, Begins}
-use Rattle.machine_code.specs.Rows.{HoldAll, given, way_on}
-use Rattle.machine_code.specs.Code.{slot, Scope, depth_in, depths_in, with_params, Spot, no_spot, block_at, or_this, left_by, args_of, plain_size, test_size, callee_count, count, arms_end, rise, Choice, by_table, by_search, by_tests, choice_of, choice_size, test_arm_size, move_size, pieces_size, pieces_count, pieces_code, size, push_code, move_code, leave_code, goto_code, choice_code, test_arm_code, test_code, Places, callee_at, plain_code, body_size, block_place, guard_size, targets, last_at, code_at, arms_at}
+use Rattle.machine_code.specs.Rows.{HoldAll, given, way_on, late_code, later}
+use Rattle.machine_code.specs.Code.{slot, Scope, depth_in, depths_in, with_params, Spot, no_spot, block_at, or_this, left_by, args_of, plain_size, test_size, callee_count, count, arms_end, rise, Choice, by_table, by_search, by_tests, choice_of, choice_size, test_arm_size, move_size, pieces_size, pieces_count, pieces_code, is_shared, make_size, make_code, size, push_code, move_code, leave_code, goto_code, choice_code, test_arm_code, test_code, Places, callee_at, plain_code, body_size, block_place, guard_size, targets, last_at, code_at, arms_at}
 use Rattle.machine_code.proofs.RoutineLaws.{RoutineLaws}
 use Rattle.machine_code.proofs.Grows.{Grows, AllGrow, HandlersGrow, CallsGrow, KeepsOn, fail_grows, then_grows, to_grows, choose_grows, way_grows, spin_grows, eval_grows, arm_grows}
 use Rattle.machine_code.proofs.Kept.{begins_refl, begins_trans, begins_more, shown, agrees_length, grown_by, are_at_end}
@@ -34,11 +34,11 @@ use Rattle.machine_code.proofs.Sim.{no_stack, Call, state_at, back_to, Fits, Sim
 use Rattle.machine_code.proofs.Slots.{Pushes, push_li, push_ld, push_acc, short, does_eq_here, does_call, short_call, called as frame_of_call, does_push_handler, short_handler, does_jmp, does_brz, does_brz_zero, does_ret}
 use Rattle.machine_code.proofs.Vars.{Scoped, scoped_kept, bound, Found, lost, found, look, Args, args_are, args_read, Reads, reads_more, FoundAll, all_lost, all_found, look_every, Bound, unbound, all_bound, bind_params}
 use Rattle.machine_code.proofs.Pieces.{push_sim, copy_sim, move_sim, tagged_sim, push_length, move_length}
-use Rattle.machine_code.proofs.Primitives.{Stands, FoundOperands, no_literals, are_literals, operands, low_of, primitive_sim}
+use Rattle.machine_code.proofs.Primitives.{Stands, FoundOperands, no_literals, are_literals, operands, low_of, zero_is, one_is, primitive_sim, when_raised}
 use Rattle.machine_code.proofs.Runs.{FoundPieces, pieces_lost, pieces_found, look_pieces, pieces_sim}
 use Rattle.machine_code.proofs.Ops.{op_does}
 use Rattle.machine_code.proofs.Tests.{test_follows}
-use Rattle.machine_code.proofs.Sizes.{Chosen, chosen, choice_length, targets_length, test_arm_length, test_length, left_exits, pieces_length, plain_length, args_count, code_length}
+use Rattle.machine_code.proofs.Sizes.{late_place, make_length, Chosen, chosen, choice_length, targets_length, test_arm_length, test_length, left_exits, plain_length, args_count, code_length}
 use Rattle.machine_code.proofs.Switches.{targets_below, targets_rise, table_there, search_there}
 use Rattle.machine_code.proofs.Here.{Leaves, IsLabel, no_labels, a_label, label_kept, labels_kept, LabelIn, has_label, lacks_label, label_in, hand_kept, throw_sim, Here, moved, top_sim, turn_sim, leave_sim}
 
@@ -101,8 +101,11 @@ module _ (C : ControlLaws) (M : MemoryLaws) (A : ArithmeticLaws) (N : RoutineLaw
 
     -- A cell of pieces.
 
-    follow_make : (t : ℕ) (qs : List Piece) (x : ℕ) (b : Body) → Follow b → Follow (make t qs x b)
-    follow_make t qs x b go most env scope ws ls ks hs pc acc d above mem free lay f hand w here has = by (gather qs env) (look_pieces lay ws qs here.vars)
+    -- .. in the heap
+    make_new : (t : ℕ) (qs : List Piece) (x : ℕ) (b : Body) → Follow b → (most : ℕ) (env : Env) (scope : Scope) (ws : List ℕ) (ls : List Spot) (ks : List Onward) (hs : List Handler) (pc acc d : ℕ) (above mem free : List ℕ) (lay : List Word) (f : Call) (hand : ℕ) (w : World Value) → HereAt most f hand env scope ws ls ks hs d lay mem w
+        → HasAt code pc (Alloc (slot d) (suc (pieces_count qs)) ∷ Li (slot (suc d)) t ∷ St (slot d) 0 (slot (suc d)) ∷ pieces_code d 1 scope qs) → HasAt code (pc + 3 + pieces_size qs) (code_at places (pc + 3 + pieces_size qs) (suc d) ((x, d) ∷ scope) ls b)
+        → S (state_at base f hand pc acc (ws ++ above) mem free) w f lay (means (make t qs x b) env ks hs w)
+    make_new t qs x b go most env scope ws ls ks hs pc acc d above mem free lay f hand w here has has_b = by (gather qs env) (look_pieces lay ws qs here.vars)
       where
         low : base ≤ length mem
         low = low_of text_of code first_lay T places stands lay mem w here.kept here.fits
@@ -119,15 +122,43 @@ module _ (C : ControlLaws) (M : MemoryLaws) (A : ArithmeticLaws) (N : RoutineLaw
             (λ junk rest free' l.
             let n3 : pc + 1 + 1 + 1 ≡ pc + 3 = omega arith in
             let q = pc + 3 + pieces_size qs in
-            let both = subst (λ z. HasAt code z (pieces_code d 1 scope qs ++ code_at places (pc + 3 + pieces_size qs) (suc d) ((x, d) ∷ scope) ls b)) n3 has.1.1.1 in
+            let filled = subst (λ z. HasAt code z (pieces_code d 1 scope qs)) n3 has.1.1.1 in
             let lay' = lay ++ map stays (t ∷ words) in
             let same : length mem ≡ length lay = agrees_length text_of here.fits in
             let first : slice_get lay' (length mem) ≡ Some (stays t) = subst (λ z. slice_get lay' z ≡ Some (stays t)) (sym same) (get_here lay (map stays words) (stays t)) in
             let is : Is lay' (cell t (values_of vs)) (length mem) = (first, are_at_end lay (lay ++ stays t ∷ []) lay' (length mem + 1) all (sym (append_assoc lay (stays t ∷ []) (map stays words))) (begins_more lay (map stays (t ∷ words))) (omega (arith, same, length-append lay (stays t ∷ [])))) in
-            pieces_sim C M A text_of code base f hand lay ws mem scope (λ y z e. shown text_of here.fits y z e) low (omega (arith, same)) d deep qs words (t ∷ rest) (t ∷ []) junk 1 (pc + 3) q acc free' (has_front code (pc + 3) (pieces_code d 1 scope qs) _ both) refl l pieces refl grow
+            pieces_sim C M A text_of code base f hand lay ws mem scope (λ y z e. shown text_of here.fits y z e) low (omega (arith, same)) d deep qs words (t ∷ rest) (t ∷ []) junk 1 (pc + 3) q acc free' filled refl l pieces refl grow
             (λ above'.
             wider text_of code base lay lay' (begins_more lay (map stays (t ∷ words)))
-            (bind_on b go x q here (has_back code (pc + 3) q (pieces_code d 1 scope qs) _ (omega (arith, pieces_length d 1 scope qs)) both) (cell t (values_of vs)) w (length mem) acc above' (mem ++ t ∷ words) free' lay' (begins_more lay (map stays (t ∷ words))) is (grown_by text_of lay mem (t ∷ words) w.store w.exceptions here.fits) here.few)))
+            (bind_on b go x q here has_b (cell t (values_of vs)) w (length mem) acc above' (mem ++ t ∷ words) free' lay' (begins_more lay (map stays (t ∷ words))) is (grown_by text_of lay mem (t ∷ words) w.store w.exceptions here.fits) here.few)))
+
+    shared_is : (t : ℕ) (qs : List Piece) → is_shared t qs ≡ true → (qs ≡ []) × (t < 2)
+    shared_is t [] e = (refl, ltb-true t 2 e)
+    shared_is t (q ∷ qs) e = absurd (cc)
+
+    -- the words 0 and 1
+    is_there : (t : ℕ) (lay : List Word) → t < 2 → Begins first_lay lay → slice_get lay t ≡ Some (stays t)
+    is_there zero lay lt k = zero_is text_of code first_lay T places stands lay k
+    is_there (suc zero) lay lt k = one_is text_of code first_lay T places stands lay k
+    is_there (suc (suc t)) lay lt k = absurd (omega arith)
+
+    follow_make : (t : ℕ) (qs : List Piece) (x : ℕ) (b : Body) → Follow b → Follow (make t qs x b)
+    follow_make t qs x b go most env scope ws ls ks hs pc acc d above mem free lay f hand w here has =
+        by (is_shared t qs) refl (has_front code pc (make_code d t scope qs) _ has) (has_back code pc (pc + make_size t qs) (make_code d t scope qs) _ (omega (arith, make_length d t scope qs)) has)
+      where
+        by : (c : Bool) → is_shared t qs ≡ c
+            → HasAt code pc (if c then Li (slot d) t ∷ [] else (Alloc (slot d) (suc (pieces_count qs)) ∷ Li (slot (suc d)) t ∷ St (slot d) 0 (slot (suc d)) ∷ pieces_code d 1 scope qs))
+            → HasAt code (pc + (if c then 1 else 3 + pieces_size qs)) (code_at places (pc + (if c then 1 else 3 + pieces_size qs)) (suc d) ((x, d) ∷ scope) ls b)
+            → S (state_at base f hand pc acc (ws ++ above) mem free) w f lay (or_fail (gather qs env) w (λ vs. means b (bind x (cell t (values_of vs)) env) ks hs w))
+        by true e has has_b =
+            let both = shared_is t qs e in
+            let v = cell t no_values in
+            subst (λ z. S (state_at base f hand pc acc (ws ++ above) mem free) w f lay (or_fail (gather z env) w (λ vs. means b (bind x (cell t (values_of vs)) env) ks hs w))) (sym both.0)
+            (push_sim C M A text_of code base f hand ws above d t pc acc mem free (push_li C M A base f hand pc acc mem free ws d here.deep t) has.0 here.deep (grows b (bind x v env) ks hs w here.grow here.handlers)
+            (λ rest. bind_on b go x (pc + 1) here has_b v w t acc rest mem free lay (begins_refl lay) (is_there t lay both.1 here.kept, tt) here.fits here.few))
+        by false e has has_b =
+            let n : pc + (3 + pieces_size qs) ≡ pc + 3 + pieces_size qs = omega arith in
+            make_new t qs x b go most env scope ws ls ks hs pc acc d above mem free lay f hand w here has (subst (λ z. HasAt code z (code_at places z (suc d) ((x, d) ∷ scope) ls b)) n has_b)
 
     -- Attempts.
 
@@ -149,25 +180,31 @@ module _ (C : ControlLaws) (M : MemoryLaws) (A : ArithmeticLaws) (N : RoutineLaw
         code_a : List Instr
         code_a = code_at places (pc + places.rows.size k p) (suc d) ((x, d) ∷ scope) ls a
 
-        has_both : HasAt code t (code_a ++ code_at places (pc + places.rows.size k p + body_size places (suc d) ((x, d) ∷ scope) ls a) (suc d) ((x, d) ∷ scope) ls b)
+        late : List Instr
+        late = late_code (places.rows.late k p) places.packet_at (slot d)
+
+        has_both : HasAt code t (code_a ++ (late_code (places.rows.late k p) places.packet_at (slot d) ++ code_at places (later (places.rows.late k p) (pc + places.rows.size k p + body_size places (suc d) ((x, d) ∷ scope) ls a)) (suc d) ((x, d) ∷ scope) ls b))
         has_both = has_back code pc t row _ (omega (arith, stands.right.long k p places.packet_at pc (slot d) (pc + places.rows.size k p + body_size places (suc d) ((x, d) ∷ scope) ls a) (map slot (depths_in xs scope)))) has
+
+        has_late : HasAt code q (late_code (places.rows.late k p) places.packet_at (slot d) ++ code_at places (later (places.rows.late k p) (pc + places.rows.size k p + body_size places (suc d) ((x, d) ∷ scope) ls a)) (suc d) ((x, d) ∷ scope) ls b)
+        has_late = has_back code t q code_a _ (omega (arith, code_length places stands.right a t (suc d) ((x, d) ∷ scope) ls)) has_both
 
         end_grows : (g : Gives) → Grows w (either_way g (λ v. means a (bind x v env) ks hs w) (λ v. means b (bind x v env) ks hs w))
         end_grows g = way_grows g w (λ v. means a (bind x v env) ks hs w) (λ v. means b (bind x v env) ks hs w) (λ v. grows a (bind x v env) ks hs w here.grow here.handlers) (λ v. grows b (bind x v env) ks hs w here.grow here.handlers)
 
         on : (g : Gives) (y acc' : ℕ) (above' mem' free' : List ℕ) (lay' : List Word) → Begins lay lay' → Is lay' (given g) y → Fits text_of lay' mem' w
-            → S (state_at base f hand (way_on g (pc + places.rows.size k p) (pc + places.rows.size k p + body_size places (suc d) ((x, d) ∷ scope) ls a)) acc' ((ws ++ y ∷ []) ++ above') mem' free') w f lay' (either_way g (λ v. means a (bind x v env) ks hs w) (λ v. means b (bind x v env) ks hs w))
+            → S (state_at base f hand (way_on g (pc + places.rows.size k p) (later (places.rows.late k p) (pc + places.rows.size k p + body_size places (suc d) ((x, d) ∷ scope) ls a))) acc' ((ws ++ y ∷ []) ++ above') mem' free') w f lay' (either_way g (λ v. means a (bind x v env) ks hs w) (λ v. means b (bind x v env) ks hs w))
         on (made l) y acc' above' mem' free' lay' k is fits =
             bind_on a go_a x t here (has_front code t code_a _ has_both) (value_of l) w y acc' above' mem' free' lay' k is fits here.few
-        on (raised e) y acc' above' mem' free' lay' k is fits =
-            bind_on b go_b x q here (has_back code t q code_a _ (omega (arith, code_length places stands.right a t (suc d) ((x, d) ∷ scope) ls)) has_both) (packet (raised_name e) unit) w y acc' above' mem' free' lay' k is fits here.few
+        on (raised e) y acc' above' mem' free' lay' begins is fits =
+            bind_on b go_b x (later (places.rows.late k p) q) here (has_back code q (later (places.rows.late k p) q) late _ (late_place (places.rows.late k p) places.packet_at (slot d) q) has_late) (packet (raised_name e) unit) w y acc' above' mem' free' lay' begins is fits here.few
 
         by_row : (os : List Literal) (o : Option Gives) → HoldAll lay (f.back ∷ f.frame ∷ ws) (map slot (depths_in xs scope)) os → row_at k p os ≡ o
             → S (state_at base f hand pc acc (ws ++ above) mem free) w f lay (or_fail o w (λ g. either_way g (λ v. means a (bind x v env) ks hs w) (λ v. means b (bind x v env) ks hs w)))
         by_row os None hold e = is_wrong w
         by_row os (Some g) hold e =
             primitive_sim text_of code first_lay T places stands f hand w lay mem ws d here.kept here.fits here.deep k p ds os g hold e pc q acc above free
-            (either_way g (λ v. means a (bind x v env) ks hs w) (λ v. means b (bind x v env) ks hs w)) (has_front code pc row _ has) (end_grows g) (on g)
+            (either_way g (λ v. means a (bind x v env) ks hs w) (λ v. means b (bind x v env) ks hs w)) (has_front code pc row _ has) (when_raised g (has_front code q late _ has_late)) (end_grows g) (on g)
 
         by_literals : (o : Option (List Literal)) → FoundOperands lay (f.back ∷ f.frame ∷ ws) (map slot (depths_in xs scope)) o
             → S (state_at base f hand pc acc (ws ++ above) mem free) w f lay (or_fail (option_and_then (row_at k p) o) w (λ g. either_way g (λ v. means a (bind x v env) ks hs w) (λ v. means b (bind x v env) ks hs w)))

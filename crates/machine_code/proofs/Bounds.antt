@@ -1,9 +1,10 @@
 -- The code is no more than so many instructions a node.
-use Rattle.std.proofs.Common.{◌≡◌, ℕ, zero, suc, ◌+◌, ◌*◌, ◌≤◌, List, [], ◌∷◌, ◌++◌, length, Bool, true, false, refl, ap, arith, length-append}
+use Rattle.std.proofs.Common.{◌≡◌, ℕ, zero, suc, ◌+◌, ◌*◌, ◌≤◌, List, [], ◌∷◌, ◌++◌, length, Option, Some, None, Bool, true, false, refl, ap, arith, length-append}
 use Rattle.std.specs.Prelude.{not, ◌&&◌, nat_eq, nat_lt, nat_le, get_or, if◌then◌else◌}
 use Rattle.std.proofs.lemmas.Bool.{leb-true}
 use Rattle.std.proofs.lemmas.List.{length-map}
 use Rattle.ir_code.specs.Words.{word_of, one_if}
+use Rattle.mlc_prims.specs.declared.prim.PrimExn.{PrimExn}
 use Rattle.first_values.specs.Equality.{Shape, opaque}
 use Rattle.first_values.specs.Values.{Piece, one as a_value, run as a_run}
 use Rattle.first_values.specs.Operations.{Member, Constant, an_int, a_word, a_char, a_text, a_truth, Plain, same, constant, field, refer, content, assign, exception, initial, pack, argument, compute, equal, print, Test, is, is_of, holds, Callee, known, one_of}
@@ -11,10 +12,10 @@ use Rattle.ir_ssa.specs.Tree.{Body, Bodies, Fun, plain, make, attempt, turn, cal
 use Rattle.ir_ssa.specs.Size.{nodes, nodes_bodies, nodes_funs}
 use Rattle.machine_routines.specs.EqualCode.{is_word, equal_code}
 use Rattle.machine_routines.specs.Sizes.{EqualIsShort, FindIsShort}
-use Rattle.machine_code.specs.Rows.{Rows, AreRight}
-use Rattle.machine_code.specs.Code.{Places, or_zero, Scope, depths_in, Exit, no_exit, exit_at, left, word_test_size, is_size, plain_size, test_size, callee_count, args_of, count, arms_end, rise, Choice, by_table, by_search, by_tests, choice_of, choice_size, test_arm_size, one_if_true, in_order, straight_size, move_size, goto_size, equal_size, pieces_size, size, arms_size, with_params, code_at}
-use Rattle.machine_code.specs.Image.{text_words, text_place, packet_words, funs_code, widest, placed, tags_end, set_code, set_size, sets_code, fun_size, most_code, names_at, initial_at, funs_at, sets_at, fun_at, places_of, first_names, first_packets}
-use Rattle.machine_code.specs.Sizes.{plain_rows, test_rows, body_rows, bodies_rows, funs_rows, sets_nodes, words_of, CodeIsShort, ConstantsAreShort}
+use Rattle.machine_code.specs.Rows.{Rows, late_size, AreRight}
+use Rattle.machine_code.specs.Code.{Places, or_zero, Scope, depths_in, Exit, no_exit, exit_at, left, word_test_size, is_size, plain_size, test_size, callee_count, args_of, count, arms_end, rise, Choice, by_table, by_search, by_tests, choice_of, choice_size, test_arm_size, one_if_true, in_order, straight_size, move_size, goto_size, equal_size, pieces_size, is_shared, make_size, size, arms_size, with_params, code_at}
+use Rattle.machine_code.specs.Image.{text_word, text_words, text_place, packet_words, funs_code, widest, placed, tags_end, set_code, set_size, sets_code, fun_size, most_code, names_at, initial_at, funs_at, sets_at, fun_at, places_of, first_names, first_packets}
+use Rattle.machine_code.specs.Sizes.{plain_rows, test_rows, body_rows, bodies_rows, funs_rows, sets_nodes, words_in, words_of, CodeIsShort, ConstantsAreShort}
 use Rattle.machine_code.proofs.Sizes.{code_length}
 use Rattle.machine_code.proofs.Vars.{depths_length}
 
@@ -32,6 +33,10 @@ is_bound (a_word n) = omega (arith, word_test_bound n)
 is_bound (a_char n) = omega (arith, word_test_bound n)
 is_bound (a_text i) = omega arith
 is_bound (a_truth b) = omega (arith, word_test_bound (one_if b))
+
+pub late_bound : (o : Option PrimExn) → late_size o ≤ 1
+late_bound None = omega arith
+late_bound (Some e) = omega arith
 
 pub equal_bound : (b : Bool) → equal_size b ≤ 5
 equal_bound true = omega arith
@@ -64,6 +69,13 @@ pieces_bound [] = omega arith
 pieces_bound (a_value x ∷ ps) = omega (arith, pieces_bound ps)
 pieces_bound (a_run x from zero ∷ ps) = omega (arith, pieces_bound ps)
 pieces_bound (a_run x from (suc n) ∷ ps) = omega (arith, pieces_bound ps)
+
+pub make_bound : (t : ℕ) (qs : List Piece) → make_size t qs ≤ 3 + 6 * length qs
+make_bound t qs = by (is_shared t qs)
+  where
+    by : (b : Bool) → (if b then 1 else 3 + pieces_size qs) ≤ 3 + 6 * length qs
+    by true = omega arith
+    by false = omega (arith, pieces_bound qs)
 
 -- before n arms
 abbrev pub tests_of : Choice → ℕ → ℕ
@@ -110,8 +122,8 @@ module _ (rows : Rows) (types : List Shape) where
   mutual
     pub size_bound : (d : ℕ) (scope : Scope) (es : List Exit) (b : Body) → size rows types d scope es b + 1 ≤ 6 * nodes b + body_rows rows b
     size_bound d scope es (plain p xs x b) = omega (arith, plain_bound p, size_bound (suc d) ((x, d) ∷ scope) es b)
-    size_bound d scope es (make t qs x b) = omega (arith, pieces_bound qs, size_bound (suc d) ((x, d) ∷ scope) es b)
-    size_bound d scope es (attempt k p xs x a b) = omega (arith, size_bound (suc d) ((x, d) ∷ scope) es a, size_bound (suc d) ((x, d) ∷ scope) es b)
+    size_bound d scope es (make t qs x b) = omega (arith, make_bound t qs, size_bound (suc d) ((x, d) ∷ scope) es b)
+    size_bound d scope es (attempt k p xs x a b) = omega (arith, late_bound (rows.late k p), size_bound (suc d) ((x, d) ∷ scope) es a, size_bound (suc d) ((x, d) ∷ scope) es b)
     size_bound d scope es (turn p b) = omega (arith, size_bound d scope es b)
     size_bound d scope es (call p c xs x b) = omega (arith, callee_bound c (length xs), size_bound (suc d) ((x, d) ∷ scope) es b)
     size_bound d scope es (label params a b) =
@@ -180,9 +192,13 @@ code_bound equal_short find_short rows right texts p =
       sets_bound find_short p.funs (fun_at rows texts p) (sets_at rows texts p) T.sets,
     )
 
+word_length : (t : List ℕ) → length (text_word t) ≡ words_in t
+word_length [] = refl
+word_length (c ∷ t) = omega arith
+
 text_length : (ts : List (List ℕ)) → length (text_words ts) ≡ words_of ts
 text_length [] = refl
-text_length (t ∷ ts) = omega (arith, length-append t (text_words ts), text_length ts)
+text_length (t ∷ ts) = omega (arith, length-append (text_word t) (text_words ts), word_length t, text_length ts)
 
 packets_length : (a n : ℕ) → length (packet_words a n) ≡ 2 * n
 packets_length a zero = refl

@@ -1,10 +1,10 @@
 -- Small programs and their images, by computation, with the code of three primitives.
-use Rattle.std.proofs.Common.{◌≡◌, ℕ, List, [], ◌∷◌, length, map, get_or, refl}
+use Rattle.std.proofs.Common.{◌≡◌, ℕ, List, [], ◌∷◌, length, map, Some, get_or, refl}
 use Rattle.std.specs.Prelude.{pos}
 use Rattle.mlc_base.specs.Outcome.{ended, uncaught}
 use Rattle.mlc_base.specs.declared.place.Place.{Place}
 use Rattle.ir_code.specs.declared.instr.Instr.{Instr}
-use Rattle.ir_code.specs.declared.instr.Instr.TheVariants.{Li, Mov, Jmp, Brz, Ret, Raise as RaiseRow, Add as AddRow, Sub as SubRow, ILt, Eq}
+use Rattle.ir_code.specs.declared.instr.Instr.TheVariants.{Li, Mov, Jmp, Brz, Alloc, St, Ret, Raise as RaiseRow, Add as AddRow, Sub as SubRow, ILt, Eq}
 use Rattle.ir_code.specs.Machine.{run}
 use Rattle.ir_code.specs.Run as machine
 use Rattle.mlc_prims.specs.declared.prim.PrimExn.TheVariants.{Overflow}
@@ -17,17 +17,18 @@ use Rattle.ir_ssa.specs.Tree.{Body, Bodies, Fun, Program, plain, make, attempt, 
 use Rattle.ir_ssa.specs.Meaning.{meaning}
 use Rattle.machine_code.specs.Rows.{Rows, Packets}
 use Rattle.machine_code.specs.Code.{by_table, by_search, by_tests, choice_of, move_code, Places, plain_code, code_at}
-use Rattle.machine_code.specs.Image.{places_of, code_of, constants_of, image_of}
+use Rattle.machine_code.specs.Image.{text_words, text_place, places_of, code_of, constants_of, image_of}
 
 -- sums and differences of integers, and the order of two
 abbrev row : Operands → BasisPrimitive → Packets → (pc d other : ℕ) → List ℕ → List Instr
-row k Subtract packets pc d other xs = Li d (packets Overflow) ∷ SubRow d (get_or xs 0 0) (get_or xs 1 0) ∷ Jmp other ∷ []
-row k p packets pc d other xs = Li d (packets Overflow) ∷ AddRow d (get_or xs 0 0) (get_or xs 1 0) ∷ Jmp other ∷ []
+row k Subtract packets pc d other xs = SubRow d (get_or xs 0 0) (get_or xs 1 0) ∷ Jmp other ∷ []
+row k p packets pc d other xs = AddRow d (get_or xs 0 0) (get_or xs 1 0) ∷ Jmp other ∷ []
 
 abbrev three : Rows
 three = record {
-  size = λ k p. 3;
+  size = λ k p. 2;
   code = row;
+  late = λ k p. Some Overflow;
   test_size = λ k p. 2;
   test_code = λ k p pc d other xs. ILt d (get_or xs 0 0) (get_or xs 1 0) ∷ Brz d other ∷ [];
 }
@@ -175,7 +176,7 @@ swapping_size = refl
 swapping_constants : length (constants_of three written (swapping 2)) ≡ 45
 swapping_constants = refl
 
--- go (n, a) is go (n - 1, a + n) up to 0: the code of a turn, ten instructions
+-- go (n, a) is go (n - 1, a + n) up to 0: the code of a turn, eight instructions
 abbrev summing : Body
 summing =
     branch (is (an_int (pos 0))) (1 ∷ []) (ret 2)
@@ -186,9 +187,9 @@ places = places_of three written (program [] [] [])
 
 turn_of_sums : code_at places 100 2 ((2, 1) ∷ (1, 0) ∷ []) [] summing
     ≡ Brz 2 102 ∷ Jmp 103 ∷ Ret 3 ∷ Li 4 1
-    ∷ Li 5 (places.packet_at Overflow) ∷ SubRow 5 2 4 ∷ Jmp 114
-    ∷ Li 6 (places.packet_at Overflow) ∷ AddRow 6 3 2 ∷ Jmp 113
-    ∷ Mov 2 5 ∷ Mov 3 6 ∷ Jmp (places.fun_at 1) ∷ RaiseRow 6 ∷ RaiseRow 5 ∷ []
+    ∷ SubRow 5 2 4 ∷ Jmp 113 ∷ AddRow 6 3 2 ∷ Jmp 111
+    ∷ Mov 2 5 ∷ Mov 3 6 ∷ Jmp (places.fun_at 1)
+    ∷ Li 6 (places.packet_at Overflow) ∷ RaiseRow 6 ∷ Li 5 (places.packet_at Overflow) ∷ RaiseRow 5 ∷ []
 turn_of_sums = refl
 
 -- a swap goes behind the frame and down; a word that is at its place stays
@@ -249,3 +250,17 @@ few_runs = refl
 -- integers are compared by one instruction
 words_compared : plain_code (places_of three written (program (numbers ∷ []) [] [])) 100 5 (equal 0) (1 ∷ 3 ∷ []) ≡ Eq 7 3 5 ∷ []
 words_compared = refl
+
+-- a cell that the constants have, and one that they haven't
+shared_cell : code_at places 100 2 [] [] (make 1 [] 5 (ret 5)) ≡ Li 4 1 ∷ Ret 4 ∷ []
+shared_cell = refl
+
+new_cell : code_at places 100 2 [] [] (make 2 [] 5 (ret 5)) ≡ Alloc 4 1 ∷ Li 5 2 ∷ St 4 0 5 ∷ Ret 4 ∷ []
+new_cell = refl
+
+-- an empty text takes no word
+empty_texts : text_words ((65 ∷ []) ∷ [] ∷ (66 ∷ 67 ∷ []) ∷ []) ≡ 1 ∷ 65 ∷ 2 ∷ 66 ∷ 67 ∷ []
+empty_texts = refl
+
+empty_places : map (text_place 2 ((65 ∷ []) ∷ [] ∷ (66 ∷ 67 ∷ []) ∷ [])) (0 ∷ 1 ∷ 2 ∷ 3 ∷ []) ≡ 2 ∷ 0 ∷ 4 ∷ 0 ∷ []
+empty_places = refl

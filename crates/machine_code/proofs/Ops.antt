@@ -101,7 +101,7 @@ module _ (C : ControlLaws) (M : MemoryLaws) (A : ArithmeticLaws) (N : RoutineLaw
         by_row ls (Some (raised x)) hold e = is_wrong w
         by_row ls (Some (made l)) hold e =
             primitive_sim text_of code first_lay T places stands f hand w lay mem ws d kept fits deep c p xs ls (made l) hold e pc (pc + places.rows.size c p) acc above free
-            (k (value_of l) w) has (k_grows (value_of l) w)
+            (k (value_of l) w) has tt (k_grows (value_of l) w)
             (λ y acc' above' mem' free' lay' b is fits'. go (value_of l) w y acc' above' mem' free' lay' b is fits' refl)
 
         by : (o : Option (List Literal)) → FoundOperands lay (f.back ∷ f.frame ∷ ws) (map slot xs) o
@@ -338,6 +338,7 @@ module _ (C : ControlLaws) (M : MemoryLaws) (A : ArithmeticLaws) (N : RoutineLaw
             room (a ∷ b ∷ []) = no_room (ws ++ a ∷ b ∷ []) (omega (arith, deep, length-append ws (a ∷ b ∷ [])))
             room (a ∷ b ∷ c ∷ []) = no_room (ws ++ a ∷ b ∷ c ∷ []) (omega (arith, deep, length-append ws (a ∷ b ∷ c ∷ [])))
             room (a ∷ b ∷ c ∷ c' ∷ rest) = subst (λ z. S (at_state pc acc z mem free) w lay (k (truth_value q) w)) (append_assoc ws (a ∷ b ∷ c ∷ c' ∷ []) rest) (with_frame q g a b c c' rest)
+
     op_equal : (t : ℕ) → Op (equal t)
     op_equal t _ _ _ no_args pc acc above free has go = is_wrong w
     op_equal t _ _ _ (an_arg x v y e i no_args) pc acc above free has go = is_wrong w

@@ -2,15 +2,16 @@
 use Rattle.std.proofs.Common.{◌≡◌, ℕ, zero, suc, ◌+◌, ◌-◌, ◌*◌, ◌/◌, ◌<◌, ◌≤◌, List, [], ◌∷◌, ◌++◌, length, map, take, drop, Option, Some, None, Bool, true, false, ◌&&◌, refl, sym, ap, ◌∙◌, subst, arith, length-append, take-append-drop, length-drop, length-take, get_or}
 use Rattle.std.specs.Prelude.{nat_lt, nat_le, if◌then◌else◌}
 use Rattle.std.proofs.lemmas.Bool.{ltb-true}
-use Rattle.ir_code.specs.declared.instr.Instr.TheVariants.{Jmp, Call as CallRow, Acc}
+use Rattle.ir_code.specs.declared.instr.Instr.TheVariants.{Li, Alloc, St, Jmp, Call as CallRow, Acc}
+use Rattle.mlc_prims.specs.declared.prim.PrimExn.{PrimExn}
 use Rattle.first_values.specs.Values.{Piece, one as a_value, run as a_run}
 use Rattle.first_values.specs.Equality.{opaque}
 use Rattle.first_values.specs.Operations.{Constant, an_int, a_word, a_char, a_text, a_truth, Plain, same, constant, field, refer, content, assign, exception, initial, pack, argument, compute, equal, print, Test, is, is_of, holds, Callee, known, one_of}
 use Rattle.ir_ssa.specs.Tree.{Body, Bodies, plain, make, attempt, turn, call, label, again, guard, goto, jump, branch, switch, tail, ret, raise, last, arm}
 use Rattle.machine_routines.specs.EqualCode.{is_word}
 use Rattle.machine_routines.specs.FindCode.{Target, Search, only, exactly, node, search_size, search_code, half, joined, search_of, jumps}
-use Rattle.machine_code.specs.Rows.{AreRight}
-use Rattle.machine_code.specs.Code.{slot, Scope, depth_in, depths_in, with_params, Spot, no_spot, or_this, left_by, block_at, no_exit, left, is_some, exit_of, exits_of, args_of, word_test_size, is_size, plain_size, test_size, callee_count, count, arms_end, rise, Choice, by_table, by_search, by_tests, choice_of, choice_size, test_arm_size, one_if_true, goto_size, equal_size, pieces_size, pieces_code, size, arms_size, push_code, move_code, leave_code, goto_code, choice_code, word_test_code, is_code, test_code, equal_call, test_arm_code, Places, callee_at, plain_code, body_size, block_place, guard_size, targets, last_at, code_at, arms_at}
+use Rattle.machine_code.specs.Rows.{Packets, late_code, late_size, later, AreRight}
+use Rattle.machine_code.specs.Code.{slot, Scope, depth_in, depths_in, with_params, Spot, no_spot, or_this, left_by, block_at, no_exit, left, is_some, exit_of, exits_of, args_of, word_test_size, is_size, plain_size, test_size, callee_count, count, arms_end, rise, Choice, by_table, by_search, by_tests, choice_of, choice_size, test_arm_size, one_if_true, goto_size, equal_size, pieces_size, pieces_count, pieces_code, is_shared, make_size, make_code, size, arms_size, push_code, move_code, leave_code, goto_code, choice_code, word_test_code, is_code, test_code, equal_call, test_arm_code, Places, callee_at, plain_code, body_size, block_place, guard_size, targets, last_at, code_at, arms_at}
 use Rattle.machine_code.proofs.Vars.{depths_length}
 use Rattle.machine_code.proofs.Pieces.{push_length, move_length}
 
@@ -106,11 +107,27 @@ goto_length d s xs =
     let moves = move_code d s.depth xs in
     omega (arith, leave_length s.leaves, length-append (leave_code s.leaves) (moves ++ (Jmp s.place ∷ [])), length-append moves (Jmp s.place ∷ []), move_length d s.depth xs)
 
+late_length : (o : Option PrimExn) (packets : Packets) (d : ℕ) → length (late_code o packets d) ≡ late_size o
+late_length None packets d = refl
+late_length (Some e) packets d = refl
+
+pub late_place : (o : Option PrimExn) (packets : Packets) (d q : ℕ) → q + length (late_code o packets d) ≡ later o q
+late_place None packets d q = omega arith
+late_place (Some e) packets d q = omega arith
+
 pub pieces_length : (d i : ℕ) (scope : Scope) (ps : List Piece) → length (pieces_code d i scope ps) ≡ pieces_size ps
 pieces_length d i scope [] = refl
 pieces_length d i scope (a_value x ∷ ps) = omega (arith, pieces_length d (suc i) scope ps)
 pieces_length d i scope (a_run x from zero ∷ ps) = pieces_length d i scope ps
 pieces_length d i scope (a_run x from (suc n) ∷ ps) = omega (arith, pieces_length d (i + suc n) scope ps)
+
+pub make_length : (d t : ℕ) (scope : Scope) (qs : List Piece) → length (make_code d t scope qs) ≡ make_size t qs
+make_length d t scope qs = by (is_shared t qs)
+  where
+    by : (b : Bool) → length (if b then Li (slot d) t ∷ [] else (Alloc (slot d) (suc (pieces_count qs)) ∷ Li (slot (suc d)) t ∷ St (slot d) 0 (slot (suc d)) ∷ pieces_code d 1 scope qs))
+        ≡ (if b then 1 else 3 + pieces_size qs)
+    by true = refl
+    by false = omega (arith, pieces_length d 1 scope qs)
 
 module _ (at : Places) (right : AreRight at.rows) where
   word_test_length : (pc d n x q : ℕ) → length (word_test_code at pc d n x q) ≡ word_test_size n
@@ -163,21 +180,25 @@ module _ (at : Places) (right : AreRight at.rows) where
         let ds = depths_in xs scope in
         omega (arith, length-append (plain_code at pc d p ds) (code_at at q (suc d) ((x, d) ∷ scope) ls b), plain_length pc d p ds, code_length b q (suc d) ((x, d) ∷ scope) ls)
     code_length (make t qs x b) pc d scope ls =
-        let q = pc + 3 + pieces_size qs in
-        omega (arith, length-append (pieces_code d 1 scope qs) (code_at at q (suc d) ((x, d) ∷ scope) ls b), pieces_length d 1 scope qs, code_length b q (suc d) ((x, d) ∷ scope) ls)
+        let q = pc + make_size t qs in
+        omega (arith, length-append (make_code d t scope qs) (code_at at q (suc d) ((x, d) ∷ scope) ls b), make_length d t scope qs, code_length b q (suc d) ((x, d) ∷ scope) ls)
     code_length (attempt k p xs x a b) pc d scope ls =
         let t = pc + at.rows.size k p in
         let q = pc + at.rows.size k p + body_size at (suc d) ((x, d) ∷ scope) ls a in
+        let late = at.rows.late k p in
         let ca = code_at at t (suc d) ((x, d) ∷ scope) ls a in
-        let cb = code_at at q (suc d) ((x, d) ∷ scope) ls b in
+        let cl = late_code late at.packet_at (slot d) in
+        let cb = code_at at (later late q) (suc d) ((x, d) ∷ scope) ls b in
         let row = at.rows.code k p at.packet_at pc (slot d) q (map slot (depths_in xs scope)) in
         omega (
           arith,
           right.long k p at.packet_at pc (slot d) q (map slot (depths_in xs scope)),
-          length-append row (ca ++ cb),
-          length-append ca cb,
+          length-append row (ca ++ (cl ++ cb)),
+          length-append ca (cl ++ cb),
+          length-append cl cb,
+          late_length late at.packet_at (slot d),
           code_length a t (suc d) ((x, d) ∷ scope) ls,
-          code_length b q (suc d) ((x, d) ∷ scope) ls,
+          code_length b (later late q) (suc d) ((x, d) ∷ scope) ls,
         )
     code_length (turn p b) pc d scope ls = omega (arith, code_length b (pc + 1) d scope ls)
     code_length (call p c xs x b) pc d scope ls =

@@ -104,6 +104,6 @@ module _ (C : ControlLaws) (M : MemoryLaws) (A : ArithmeticLaws) (N : RoutineLaw
       let m1 : Leads code (at (pc + 1) acc (ws ++ a ∷ 0 ∷ above)) (at (pc + 2) acc (ws ++ t ∷ 0 ∷ above)) =
       subst (λ z. Leads code (at (pc + 1) acc (ws ++ a ∷ 0 ∷ above)) (at z acc (ws ++ t ∷ 0 ∷ above))) n2 (subst (λ l. Leads code (at (pc + 1) acc (ws ++ a ∷ 0 ∷ above)) (at (pc + 1 + 1) acc l)) s2 l1) in
       let c = search_goes C M A N.next code (frame acc) (f.back ∷ f.frame ∷ ws) above mem free t (slot d) (ap slot deep) p s (pc + 2) 0
-          (subst (λ z. HasAt code z (search_code (pc + 2) (slot d) (slot (suc d)) p s)) n2 has.1.1) in
+      (subst (λ z. HasAt code z (search_code (pc + 2) (slot d) (slot (suc d)) p s)) n2 has.1.1) in
       let found : finds t s p ≡ or_place (member_at t set) p = searches true p t 0 (length set) set (omega arith) rises in
       (c.word, subst (λ z. Leads code (at pc acc (ws ++ a ∷ b ∷ above)) (at z acc (ws ++ t ∷ c.word ∷ above))) found (trans code m0 (trans code m1 c.leads)))

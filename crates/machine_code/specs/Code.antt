@@ -10,7 +10,7 @@ use Rattle.first_values.specs.Operations.{Constant, an_int, a_word, a_char, a_te
 use Rattle.ir_ssa.specs.Tree.{Body, Bodies, plain, make, attempt, turn, call, label, again, guard, goto, jump, branch, switch, tail, ret, raise, last, arm}
 use Rattle.machine_routines.specs.EqualCode.{is_word}
 use Rattle.machine_routines.specs.FindCode.{Target, table_code, search_of, search_code}
-use Rattle.machine_code.specs.Rows.{Rows}
+use Rattle.machine_code.specs.Rows.{Rows, late_code, late_size, later}
 
 -- the slot at this depth of a frame, after where to return to and whose frame
 abbrev pub slot : ℕ → ℕ
@@ -180,6 +180,14 @@ pieces_size (a_value x ∷ ps) = 1 + pieces_size ps
 pieces_size (a_run x from zero ∷ ps) = pieces_size ps
 pieces_size (a_run x from (suc n) ∷ ps) = 6 + pieces_size ps
 
+-- whether a cell is one of the first words of the memory, 0 and 1: those are cells of these tags with no parts
+abbrev pub is_shared : ℕ → List Piece → Bool
+is_shared t [] = nat_lt t 2
+is_shared t (q ∷ qs) = false
+
+abbrev pub make_size : ℕ → List Piece → ℕ
+make_size t qs = if is_shared t qs then 1 else 3 + pieces_size qs
+
 -- how many words they are
 abbrev pub pieces_count : List Piece → ℕ
 pieces_count [] = 0
@@ -210,9 +218,10 @@ module _ (rows : Rows) (types : List Shape) where
   -- with d words of the frame in use
   abbrev mutual
     pub size : ℕ → Scope → List Exit → Body → ℕ
-    size d scope es (make t qs x b) = 3 + (pieces_size qs + size (suc d) ((x, d) ∷ scope) es b)
+    size d scope es (make t qs x b) = make_size t qs + size (suc d) ((x, d) ∷ scope) es b
     size d scope es (plain p xs x b) = plain_size p + size (suc d) ((x, d) ∷ scope) es b
-    size d scope es (attempt k p xs x a b) = rows.size k p + (size (suc d) ((x, d) ∷ scope) es a + size (suc d) ((x, d) ∷ scope) es b)
+    size d scope es (attempt k p xs x a b) =
+        rows.size k p + (size (suc d) ((x, d) ∷ scope) es a + (late_size (rows.late k p) + size (suc d) ((x, d) ∷ scope) es b))
     size d scope es (turn p b) = 1 + size d scope es b
     size d scope es (call p c xs x b) = callee_count c (length xs) + (2 + size (suc d) ((x, d) ∷ scope) es b)
     size d scope es (label params a b) = size d scope (exit_at d ∷ es) b + size (d + length params) (with_params params d scope) es a
@@ -265,6 +274,12 @@ pieces_code d i scope (a_run x from (suc n) ∷ ps) =
     Li (slot (suc d)) i ∷ WAdd (slot (suc d)) (slot d) (slot (suc d))
     ∷ Li (slot (d + 2)) (suc from) ∷ WAdd (slot (d + 2)) (slot (depth_in x scope)) (slot (d + 2))
     ∷ Li (slot (d + 3)) (suc n) ∷ Copy (slot (suc d)) (slot (d + 2)) (slot (d + 3)) ∷ pieces_code d (i + suc n) scope ps
+
+-- a cell in slot d
+abbrev pub make_code : ℕ → ℕ → Scope → List Piece → List Instr
+make_code d t scope qs =
+    if is_shared t qs then Li (slot d) t ∷ []
+    else (Alloc (slot d) (suc (pieces_count qs)) ∷ Li (slot (suc d)) t ∷ St (slot d) 0 (slot (suc d)) ∷ pieces_code d 1 scope qs)
 
 abbrev pub leave_code : Option ℕ → List Instr
 leave_code None = []
@@ -332,7 +347,8 @@ module _ (at : Places) where
   -- whether two words at depths are the same, or by the routine whether two values of a type are
   abbrev pub equal_call : Bool → ℕ → ℕ → ℕ → ℕ → List Instr
   equal_call true d t x y = Eq (slot d) (slot x) (slot y) ∷ []
-  equal_call false d t x y = Li (slot (d + 4)) 0 ∷ Mov (slot (d + 5)) (slot x) ∷ Mov (slot (d + 6)) (slot y) ∷ CallRow (at.type_at t) (slot d) ∷ Acc (slot d) ∷ []
+  equal_call false d t x y =
+      Li (slot (d + 4)) 0 ∷ Mov (slot (d + 5)) (slot x) ∷ Mov (slot (d + 6)) (slot y) ∷ CallRow (at.type_at t) (slot d) ∷ Acc (slot d) ∷ []
 
   -- an operation on words at these depths, at the place pc; its result goes to slot d
   abbrev pub plain_code : ℕ → ℕ → Plain → List ℕ → List Instr
@@ -375,13 +391,12 @@ module _ (at : Places) where
     pub code_at : ℕ → ℕ → Scope → List Spot → Body → List Instr
     code_at pc d scope ls (plain p xs x b) =
         plain_code pc d p (depths_in xs scope) ++ code_at (pc + plain_size at.rows at.types p) (suc d) ((x, d) ∷ scope) ls b
-    code_at pc d scope ls (make t qs x b) =
-        Alloc (slot d) (suc (pieces_count qs)) ∷ Li (slot (suc d)) t ∷ St (slot d) 0 (slot (suc d))
-        ∷ (pieces_code d 1 scope qs ++ code_at (pc + 3 + pieces_size qs) (suc d) ((x, d) ∷ scope) ls b)
+    code_at pc d scope ls (make t qs x b) = make_code d t scope qs ++ code_at (pc + make_size t qs) (suc d) ((x, d) ∷ scope) ls b
     code_at pc d scope ls (attempt k p xs x a b) =
         at.rows.code k p at.packet_at pc (slot d) (pc + at.rows.size k p + body_size (suc d) ((x, d) ∷ scope) ls a) (map slot (depths_in xs scope))
         ++ (code_at (pc + at.rows.size k p) (suc d) ((x, d) ∷ scope) ls a
-        ++ code_at (pc + at.rows.size k p + body_size (suc d) ((x, d) ∷ scope) ls a) (suc d) ((x, d) ∷ scope) ls b)
+        ++ (late_code (at.rows.late k p) at.packet_at (slot d)
+        ++ code_at (later (at.rows.late k p) (pc + at.rows.size k p + body_size (suc d) ((x, d) ∷ scope) ls a)) (suc d) ((x, d) ∷ scope) ls b))
     code_at pc d scope ls (turn p b) = Jmp (pc + 1) ∷ code_at (pc + 1) d scope ls b
     code_at pc d scope ls (call p c xs x b) =
         push_code (suc (suc d)) (args_of c scope xs)

@@ -15,15 +15,23 @@ use Rattle.machine_code.specs.Code.{Places, size, with_params, code_at}
 -- Constants: the words 0 and 1, which are unit and the truth values; strings; what identifiers of exceptions are written as; the names of the first exceptions;
 -- and a packet of each.
 
+-- a text's words: none for the empty text, which the word 0 is
+abbrev pub text_word : List ℕ → List ℕ
+text_word [] = []
+text_word (c ∷ t) = suc (length t) ∷ c ∷ t
+
 abbrev pub text_words : List (List ℕ) → List ℕ
 text_words [] = []
-text_words (t ∷ ts) = length t ∷ (t ++ text_words ts)
+text_words (t ∷ ts) = text_word t ++ text_words ts
 
--- the word 0 is also the empty text
+abbrev pub place_of : ℕ → List ℕ → ℕ
+place_of x [] = 0
+place_of x (c ∷ t) = x
+
 abbrev pub text_place : ℕ → List (List ℕ) → ℕ → ℕ
 text_place x [] i = 0
-text_place x (t ∷ ts) zero = x
-text_place x (t ∷ ts) (suc i) = text_place (x + 1 + length t) ts i
+text_place x (t ∷ ts) zero = place_of x t
+text_place x (t ∷ ts) (suc i) = text_place (x + length (text_word t)) ts i
 
 -- packets of so many names, from the address a on, with unit
 abbrev pub packet_words : ℕ → ℕ → List ℕ

@@ -1,10 +1,10 @@
 -- Code is at most ten instructions a node.
-use Rattle.std.proofs.Common.{◌≡◌, ℕ, zero, suc, ◌+◌, ◌*◌, ◌≤◌, List, [], ◌∷◌, ◌++◌, length, Bool, true, false, refl, ap, arith, length-append}
+use Rattle.std.proofs.Common.{◌≡◌, ℕ, suc, ◌+◌, ◌*◌, ◌≤◌, List, [], ◌∷◌, ◌++◌, length, refl, ap, arith, length-append}
 use Rattle.mlc_prims.specs.declared.basis.BasisPrimitive.{BasisPrimitive}
 use Rattle.mlc_prims.specs.declared.basis.BasisPrimitive.TheVariants.{Add, Subtract, Multiply, Divide, Modulo, Negate, Absolute, Less, LessEqual, Greater, GreaterEqual, Equals, Assign, Quotient, Remainder, BitsAnd, BitsOr, BitsXor, BitsNot, ShiftLeft, ShiftRight, ShiftSigned, ToInt, ToIntSigned, FromInt, CharCode, CharOf, TextOf, SizeOf, CharAt, PartOf, Concat, StringOf, Print}
 use Rattle.std.specs.Prelude.{get_or}
 use Rattle.first_values.specs.Equality.{Shape, opaque}
-use Rattle.first_values.specs.Operations.{Member, Constant, an_int, a_word, a_char, a_text, a_truth, Plain, same, constant, field, refer, content, assign, exception, initial, pack, argument, compute, equal, print, Test, is, is_of, holds, Callee, known, one_of, Operands, ints, words, chars, texts}
+use Rattle.first_values.specs.Operations.{Member, Plain, same, constant, field, refer, content, assign, exception, initial, pack, argument, compute, equal, print, Test, is, is_of, holds, Operands, ints, words, chars, texts}
 use Rattle.ir_ssa.specs.Tree.{Body, Bodies, Fun, plain, make, attempt, turn, call, label, again, guard, goto, jump, branch, switch, tail, ret, raise, last, arm}
 use Rattle.ir_ssa.specs.Size.{nodes, nodes_bodies, nodes_funs}
 use Rattle.machine_routines.specs.EqualCode.{is_word, equal_code}
@@ -13,7 +13,7 @@ use Rattle.machine_code.specs.Rows.{AreRight}
 use Rattle.machine_code.specs.Code.{Places, Scope, Exit, no_exit, exit_at, left, plain_size, test_size, count, Choice, choice_of, size, arms_size, with_params, code_at}
 use Rattle.machine_code.specs.Image.{funs_code, widest, placed, tags_end, set_code, set_size, sets_code, fun_size, most_code, funs_at, sets_at, fun_at, places_of}
 use Rattle.machine_code.specs.Sizes.{sets_nodes}
-use Rattle.machine_code.proofs.Bounds.{is_bound, callee_bound, pieces_bound, equal_bound, goto_bound, args_bound, tests_of, one_more_test, choice_bound}
+use Rattle.machine_code.proofs.Bounds.{is_bound, callee_bound, make_bound, late_bound, equal_bound, goto_bound, args_bound, tests_of, one_more_test, choice_bound}
 use Rattle.machine_code.proofs.Sizes.{code_length}
 use Rattle.machine_rows.specs.Table.{int_row, word_row, char_row, text_row, int_test, word_test, text_test, rows}
 use Rattle.machine_rows.specs.Law.{RowsAreShort, ImagesAreShort}
@@ -303,9 +303,9 @@ module _ (types : List Shape) where
   mutual
     size_short : (d : ℕ) (scope : Scope) (es : List Exit) (b : Body) → size rows types d scope es b + 1 ≤ 10 * nodes b
     size_short d scope es (plain p xs x b) = omega (arith, plain_short types p, size_short (suc d) ((x, d) ∷ scope) es b)
-    size_short d scope es (make t qs x b) = omega (arith, pieces_bound qs, size_short (suc d) ((x, d) ∷ scope) es b)
+    size_short d scope es (make t qs x b) = omega (arith, make_bound t qs, size_short (suc d) ((x, d) ∷ scope) es b)
     size_short d scope es (attempt k p xs x a b) =
-        omega (arith, row_short k p, size_short (suc d) ((x, d) ∷ scope) es a, size_short (suc d) ((x, d) ∷ scope) es b)
+        omega (arith, row_short k p, late_bound (rows.late k p), size_short (suc d) ((x, d) ∷ scope) es a, size_short (suc d) ((x, d) ∷ scope) es b)
     size_short d scope es (turn p b) = omega (arith, size_short d scope es b)
     size_short d scope es (call p c xs x b) = omega (arith, callee_bound c (length xs), size_short (suc d) ((x, d) ∷ scope) es b)
     size_short d scope es (label params a b) =
