@@ -5,7 +5,7 @@ use Rattle.ir_code.specs.declared.instr.Instr.TheVariants.{Add, Sub, Mul, IDiv, 
 use Rattle.mlc_prims.specs.declared.prim.PrimExn.{PrimExn}
 use Rattle.mlc_prims.specs.declared.prim.PrimExn.TheVariants.{Overflow, Div, Subscript, Size, Chr}
 use Rattle.machine_primitives.specs.RowLaws.{Code, TestCode}
-use Rattle.machine_primitives.specs.RowCode.{total, raising, negated, moved, from_word, limited, loaded, contrary, holds, swapped, fails, divided, magnitude, against, are_same, byte_of, part_of, join_of, text_of_one, text_of_int}
+use Rattle.machine_primitives.specs.RowCode.{total, partial, negated, moved, from_word, limited, loaded, contrary, holds, swapped, fails, divided, magnitude, against, are_same, byte_of, part_of, join_of, text_of_one, text_of_int}
 use Rattle.emit_rows.specs.declared.shape.Operation.{Operation}
 use Rattle.emit_rows.specs.declared.shape.Operation.TheVariants as operation
 use Rattle.emit_rows.specs.declared.shape.Shape.{Shape}
@@ -44,7 +44,7 @@ operation_of operation.SwappedSCmp = swapped SCmp
 abbrev pub code_of : Shape → Code
 code_of shape.Nothing = λ packets pc d other xs. []
 code_of (shape.Total o) = total (operation_of o)
-code_of (shape.Raising e o) = raising e (operation_of o)
+code_of (shape.Partial o) = partial (operation_of o)
 code_of shape.Moved = moved
 code_of (shape.FromWord v o) = from_word v (operation_of o)
 code_of shape.Negated = negated

@@ -81,7 +81,8 @@ fn operand(slots: &[u32], number: usize) -> u32
     }
 }
 
-fn packet(packets: Packets, exception: PrimExn) -> u32
+/// The address of the packet of an exception.
+pub fn packet(packets: Packets, exception: PrimExn) -> u32
     ensures { result ≡ packet_in packets exception }
 {
     match exception {
@@ -159,12 +160,7 @@ fn push_shape(
             apply(operation, d, x, y),
             apply(test, d, d, d + 1),
         ),
-        Shape::Raising(exception, operation) => push_three(
-            out,
-            li(d, packet(packets, exception)),
-            apply(operation, d, x, y),
-            jmp(spot.other),
-        ),
+        Shape::Partial(operation) => { push_two(out, apply(operation, d, x, y), jmp(spot.other)) }
         Shape::Negated => push_negated(out, packets, spot, x),
         Shape::Limited(exception, limit) => push_limited(
             out,

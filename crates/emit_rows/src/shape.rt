@@ -38,7 +38,7 @@ pub enum Operation {
 pub enum Shape {
     Nothing,
     Total(Operation),
-    Raising(PrimExn, Operation),
+    Partial(Operation),
     Moved,
     FromWord(u32, Operation),
     Negated,
