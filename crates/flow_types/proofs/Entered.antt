@@ -1,11 +1,10 @@
 -- What is kept of variables, and the sets made of it.
-use Rattle.std.proofs.Common.{◌≡◌, ℕ, zero, suc, ◌+◌, ◌<◌, ◌≤◌, Bool, true, false, List, [], ◌∷◌, ◌++◌, map, take, drop, length, Option, Some, None, nat_eq, nat_lt, if◌then◌else◌, get_or, slice_get, slice_set, slice_index_or, Vec, refl, sym, ap, ap₂, subst, ◌∙◌, arith}
+use Rattle.std.proofs.Common.{◌≡◌, ℕ, zero, suc, ◌+◌, ◌<◌, ◌≤◌, Bool, true, false, List, [], ◌∷◌, ◌++◌, map, drop, length, Option, Some, None, nat_eq, nat_lt, if◌then◌else◌, get_or, slice_set, slice_index_or, Vec, refl, sym, ap, ap₂, subst, ◌∙◌, arith}
 use Rattle.std.specs.Option.{option_map}
 use Rattle.std.specs.Global.{Global}
 use Rattle.std.proofs.lemmas.Bool.{ltb-true, ltb-false, eqb-true, eqb-false, eq-eqb}
-use Rattle.std.proofs.lemmas.List.{append-nil, take_more, drop_more}
+use Rattle.std.proofs.lemmas.List.{append-nil, drop_more}
 use Rattle.ir_mono.specs.Types as table
-use Rattle.ir_mono.specs.Types.{node_at}
 use Rattle.flow_sets.specs.ByType as kinds
 use Rattle.flow_sets.specs.ByType.{bound, bound_in, is_of, type_of}
 use Rattle.closure_whole.specs.Rising.{is_function, functions_from, larger, above, rising_from}

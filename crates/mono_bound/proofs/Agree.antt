@@ -1,7 +1,6 @@
 -- What is found along the code's tree is what its clean tree binds.
-use Rattle.std.proofs.Common.{◌≡◌, ℕ, List, [], ◌∷◌, ◌++◌, map, Option, refl, sym, ap, ◌∙◌, subst}
+use Rattle.std.proofs.Common.{◌≡◌, ℕ, List, [], ◌∷◌, ◌++◌, map, refl, sym, ap, ◌∙◌, subst}
 use Rattle.std.proofs.lemmas.List.{append-nil}
-use Rattle.ir_plain.specs.Tree as t
 use Rattle.ir_mono.specs.Types as table
 use Rattle.ir_mono.specs.Types.{node_at}
 use Rattle.ir_mono.specs.Mono.{mono, Mono}
@@ -21,7 +20,7 @@ use Rattle.plain_tree.specs.TreeOf as tree
 use Rattle.flow_sets.specs.ByType as by
 use Rattle.flow_sets.specs.ByType.{gives, bound, bound_case, bound_arms, bound_op, bound_fun, bound_funs}
 use Rattle.mono_bound.specs.declared.bound.Bound.{Bound}
-use Rattle.mono_bound.specs.Bound.{bound_of, case_bound, Around, fronts, backs, joined, parameters_bound, B, exp_bound, step_bound, arm_bound, function_bound, node_exp, node_step, node_arm, node_function}
+use Rattle.mono_bound.specs.Bound.{bound_of, case_bound, Around, fronts, backs, joined, parameters_bound, exp_bound, step_bound, arm_bound, function_bound, node_exp, node_step, node_arm, node_function}
 use Rattle.mono_bound.specs.Reads.{reading, BoundIsBound}
 use Rattle.mono_bound.proofs.Next.{assoc}
 

@@ -1,6 +1,6 @@
 -- What a program binds, in the order of `flow_sets`, along the code's tree: steps in a row first, then what comes of them, and then the other arms of their
 -- tests, those of the last test first.
-use Rattle.std.specs.Prelude.{ℕ, List, [], ◌∷◌, ◌++◌, map, length}
+use Rattle.std.specs.Prelude.{ℕ, List, [], ◌∷◌, ◌++◌, length}
 use Rattle.ty_core.specs.Types.{arrow}
 use Rattle.ir_mono.specs.Types as table
 use Rattle.ir_mono.specs.Types.{Node, node, node_at}

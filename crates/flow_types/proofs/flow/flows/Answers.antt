@@ -1,4 +1,4 @@
-use Rattle.std.proofs.Common.{◌≡◌, ◌++◌, length, ap, sym, ◌∙◌}
+use Rattle.std.proofs.Common.{◌++◌, ap, ◌∙◌}
 use Rattle.mono_bound.specs.Bound.{exp_bound}
 use Rattle.flow_types.specs.Kinds.{empty_sets, sets_in}
 use Rattle.flow_types.proofs.Entered.{has-rising}

@@ -1,4 +1,4 @@
-use Rattle.std.proofs.Common.{◌≡◌, ◌≤◌, length, ap, sym, ◌∙◌, arith}
+use Rattle.std.proofs.Common.{ap, ◌∙◌, arith}
 use Rattle.flow_types.specs.Kinds.{empty_sets}
 use Rattle.flow_types.proofs.Entered.{empty-next, longer}
 use Rattle.flow_types.proofs.sets.none_yet.Goals as goal

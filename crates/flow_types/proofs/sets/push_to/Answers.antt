@@ -1,4 +1,4 @@
-use Rattle.std.proofs.Common.{◌≡◌, ◌∷◌, [], ◌++◌, Vec, ℕ, ap, ◌∙◌, arith}
+use Rattle.std.proofs.Common.{◌∷◌, [], ◌++◌, Vec, ℕ, ap, ◌∙◌, arith}
 use Rattle.std.specs.Global.{Global}
 use Rattle.flow_types.proofs.Entered.{pushed-put, pushed-past}
 use Rattle.flow_types.proofs.sets.push_to.Goals as goal
