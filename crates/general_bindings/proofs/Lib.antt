@@ -1,0 +1,4 @@
+pub mod Rows
+pub mod Placing
+pub mod Splitting
+pub mod Recording

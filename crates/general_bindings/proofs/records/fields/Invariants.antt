@@ -1,0 +1,6 @@
+use Rattle.std.proofs.Common.{◌≡◌, take}
+use Rattle.general_bindings.specs.General.{fields_from}
+use Rattle.general_bindings.proofs.records.fields.Given as goal
+
+abbrev pub invariant-loop-i : goal.invariant-loop-i
+invariant-loop-i l = l.made.items ≡ fields_from 1 (take l.i l.spots)
