@@ -1,0 +1,8 @@
+pub mod Lists
+pub mod Names
+pub mod Openings
+pub mod Groups
+pub mod Rolls
+pub mod Steps
+pub mod Exps
+pub mod Ends

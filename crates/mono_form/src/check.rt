@@ -1,0 +1,79 @@
+// Whether a program of simple types is well formed.
+ghost use Rattle.std.specs.Prelude.{◌≡◌, ◌↔◌, ℕ, true, length, IsTrue, IfOk};
+ghost use Rattle.ir_mono.specs.Types.{IsExn};
+ghost use Rattle.mono_tree.specs.Programs.{initial_of};
+ghost use Rattle.mono_form.specs.Programs.{IsTyped, IsWellFormed, NeverWrong};
+
+use crate::program::Program;
+use ir_known::scope::Scope;
+use mlc_base::memory::NoMemory;
+use mlc_base::pass::{Check, Form};
+use mono_check::infer::exp_type;
+use mono_table::table::is_table;
+use mono_uses::ask::is_exn;
+use std::alloc::Global;
+
+/// How many exceptions the initial basis has.
+const INITIAL_COUNT: usize = 7;
+
+/// Whether the basis' exceptions are named, and the type of exceptions has its number.
+fn has_basis(program: &Program) -> bool
+    ensures { IsTrue result ↔ ((length (initial_of program.now.tables) ≡ 7) × IsExn program.now.tables.types program.now.tables.exn) }
+{
+    if program.tables.initial.len() != INITIAL_COUNT {
+        return false;
+    }
+    is_exn(&program.tables.types, program.tables.exn)
+}
+
+/// Whether the body has a type, where nothing is in scope.
+fn is_typed(alloc: Global, program: &Program) -> Result<bool, NoMemory>
+    ensures { IfOk result (λ yes. IsTrue yes ↔ IsTyped program.now) }
+{
+    let mut scope = Scope::new(alloc);
+    let found = exp_type(&program.body, alloc, &program.tables, &mut scope)?;
+    match found {
+        Some(_) => Ok(true),
+        None => Ok(false),
+    }
+}
+
+/// Whether a program is well formed. One that is goes wrong at no number of turns.
+pub fn is_well_formed(alloc: Global, program: &Program) -> Result<bool, NoMemory>
+    ensures is { IfOk result (λ yes. IsTrue yes ↔ IsWellFormed program.now) }
+    ensures sound { IfOk result (λ yes. yes ≡ true → NeverWrong program.now) }
+{
+    if !has_basis(program) {
+        return Ok(false);
+    }
+    if !is_table(&program.tables.types) {
+        return Ok(false);
+    }
+    let once = program.binds_once(alloc)?;
+    if !once {
+        return Ok(false);
+    }
+    let yes = is_typed(alloc, program)?;
+    Ok(yes)
+}
+
+impl Form for Program {
+    ghost use Rattle.mono_form.specs.Programs as programs;
+    ghost use Rattle.mono_form.specs.Programs.{IsWellFormed};
+
+    ghost meaning = { programs.meaning };
+
+    ghost is_well_formed = { IsWellFormed };
+
+    ghost exceptions = { programs.exceptions };
+
+    ghost expansion = { λ p. p.expansion };
+
+    fn check(&self, alloc: Global) -> Check {
+        match is_well_formed(alloc, self) {
+            Ok(true) => Check::Yes,
+            Ok(false) => Check::No,
+            Err(_) => Check::Memory,
+        }
+    }
+}

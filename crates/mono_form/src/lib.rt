@@ -1,0 +1,5 @@
+// Programs of simple types, and the checker of them.
+#![tactic(auto)]
+
+pub mod check;
+pub mod program;
