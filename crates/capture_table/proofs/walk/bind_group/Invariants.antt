@@ -1,0 +1,11 @@
+use Rattle.std.proofs.Common.{◌≡◌, ◌≤◌, length, drop}
+use Rattle.closure_convert.specs.Scope.{names}
+use Rattle.capture_scope.specs.Seen.{members_of}
+use Rattle.capture_table.specs.Told.{more}
+use Rattle.capture_table.proofs.walk.bind_group.Given as goal
+
+abbrev pub invariant-loop-left : goal.invariant-loop-left
+invariant-loop-left l = record { within : l.left ≤ length l.members; bound : l.scope ≡ more (names (members_of (drop l.left l.members))) l.fn.scope }
+
+abbrev pub decreases-loop-left : goal.decreases-loop-left
+decreases-loop-left l = l.left

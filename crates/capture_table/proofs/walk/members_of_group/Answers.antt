@@ -1,0 +1,7 @@
+use Rattle.capture_table.proofs.Walking.{members-next}
+use Rattle.capture_table.proofs.walk.members_of_group.Goals as goal
+
+pub loop-i-preserved : goal.loop-i-preserved
+loop-i-preserved c =
+    members-next c.args.functions.now c.loop-i.i c.index-functions-i.result c.index-functions-i.result c.deref.result.now c.number_of-number.result c.loop-i.members.items c.push.new.self.items c.loop-i-test.true c.index-functions-i.is
+    c.deref.ensures.value c.number_of-number.ensures c.in_ok-push.ensures.items c.loop-i.invariant

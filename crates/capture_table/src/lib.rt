@@ -1,0 +1,6 @@
+// What the functions of a program with simple types capture, and of which pieces their closures are made.
+#![tactic(auto)]
+
+pub mod table;
+mod uses;
+mod walk;

@@ -1,0 +1,111 @@
+// The table of captures.
+ghost use Rattle.std.specs.Prelude.{◌≡◌, [], ℕ, List, slice_get, IfOk};
+ghost use Rattle.closure_convert.specs.Scope.{index_of, top};
+ghost use Rattle.closure_convert.specs.Capture.{entry_of, captured_in, pieces_in, tabulate};
+ghost use Rattle.capture_scope.specs.Found.{pieces_of};
+ghost use Rattle.mono_bound.specs.Reads.{mono_of};
+ghost use Rattle.capture_table.specs.Tables.{Row, numbers_of, entries_are, IsIndex};
+
+use crate::walk::{Entry, walk};
+use capture_scope::piece::Piece;
+use capture_scope::scope::{Scope, ScopeFault};
+use indexmap::IndexMap;
+use mlc_base::memory::NoMemory;
+use plain_tree::tree::Exp;
+use std::alloc::Global;
+use std::marker::Model;
+
+/// What each function captures, and the pieces of its closure, in the order of their codes; found by number, where the first of each number counts.
+#[derive(Drop)]
+pub struct Captures {
+    entries: Vec<Entry>,
+    places: IndexMap<usize, usize>,
+}
+
+impl Model for Captures {
+    ghost use Rattle.std.specs.Prelude.{List};
+    ghost use Rattle.closure_convert.specs.Capture.{Entry as Clean};
+    ghost use Rattle.capture_table.specs.Tables.{entries_are, IsIndex};
+
+    ghost Value = { List Clean };
+
+    ghost view = { λ c. entries_are c.entries.items };
+
+    ghost invariant = { λ c. IsIndex (entries_are c.entries.items) c.places.entries };
+}
+
+impl Captures {
+    /// What a function captures, in order.
+    pub fn captured(&self, function: usize) -> &[usize]
+        ensures { result.now ≡ captured_in (entry_of function self.now) }
+    {
+        match self.places.get(&function) {
+            Some(place) => captured_at(&self.entries, *place),
+            None => &[],
+        }
+    }
+
+    /// The pieces of a function's closure.
+    pub fn pieces(&self, function: usize) -> &[Piece]
+        ensures { pieces_of result.now ≡ pieces_in (entry_of function self.now) }
+    {
+        match self.places.get(&function) {
+            Some(place) => pieces_at(&self.entries, *place),
+            None => &[],
+        }
+    }
+
+    /// The place of a function among the codes; the count of them, where there is no such function.
+    pub fn place(&self, function: usize) -> usize
+        ensures { result ≡ index_of function (numbers_of self.now) }
+    {
+        match self.places.get(&function) {
+            Some(place) => *place,
+            None => self.entries.len(),
+        }
+    }
+}
+
+fn captured_at(entries: &[Entry], place: usize) -> &[usize]
+    ensures { result.now ≡ captured_in (slice_get (entries_are entries.now) place) }
+{
+    if place < entries.len() {
+        entries[place].captured.as_slice()
+    } else {
+        &[]
+    }
+}
+
+fn pieces_at(entries: &[Entry], place: usize) -> &[Piece]
+    ensures { pieces_of result.now ≡ pieces_in (slice_get (entries_are entries.now) place) }
+{
+    if place < entries.len() {
+        entries[place].pieces.as_slice()
+    } else {
+        &[]
+    }
+}
+
+/// The places of entries by number, where the first of each number counts.
+fn find_places(alloc: Global, entries: &[Entry]) -> Result<IndexMap<usize, usize>, NoMemory>
+    ensures { IfOk result (λ places. IsIndex (entries_are entries.now) places.entries) }
+{
+    let mut places = IndexMap::new(alloc);
+    let mut left = entries.len();
+    while left > 0 {
+        left -= 1;
+        let _ = places.insert(entries[left].number, left)?;
+    }
+    Ok(places)
+}
+
+/// What the functions of a program capture, in the order of binding. None for want of memory, or where a variable is bound that is visible already.
+pub fn find_captures(alloc: Global, body: &Exp) -> Result<Captures, ScopeFault>
+    ensures { IfOk result (λ made. (types : List Row) (strings : List (List ℕ)) → made ≡ tabulate types top (mono_of types strings body.now) []) }
+{
+    let mut scope = Scope::new(alloc);
+    let mut entries = Vec::new(alloc);
+    walk(alloc, &mut scope, body, &mut entries)?;
+    let places = find_places(alloc, &entries)?;
+    Ok(Captures { entries, places })
+}
