@@ -22,7 +22,7 @@ use Rattle.ir_poly.specs.Prog.{held}
 use Rattle.ir_poly.specs.Prog as prog
 use Rattle.ir_poly.specs.ProgMeaning.{run}
 use Rattle.core_elab.specs.Scopes.{Scope, initial_scope}
-use Rattle.core_elab.specs.Resolves.{use_variable, use_own, use_constructor, use_exception, use_primitive, alone_constructor, alone_exception, wild_to, variable_to, alone_to, fields_to, as_to, no_pats_to, pat_field_to, variable_parameter, head_variable, no_exns_to, new_exn_to, same_exn_to, no_cons_to, a_con_to, no_datatypes_to, a_datatype_to, called_vid, called_app, constant_exp_to, vid_to, built_exp_to, fields_exp_to, app_to, chain_to, handle_to, raise_to, no_fields_to, field_to, put_here, only_to, and_to, no_rules_to, rule_to, by_rules_to, last_to, more_to, DecsTo, no_decs_to, dec_to, val_to, datatype_to, replicate_to, exception_to, local_to, open_to, no_binds_to, bind_to, no_funs_to, fun_to, no_heads_to, heads_to}
+use Rattle.core_elab.specs.Resolves.{use_variable, use_own, use_constructor, use_exception, use_primitive, alone_constructor, alone_exception, wild_to, variable_to, alone_to, fields_to, as_to, no_pats_to, pat_field_to, variable_parameter, head_variable, no_exns_to, new_exn_to, same_exn_to, no_cons_to, a_con_to, no_datatypes_to, a_datatype_to, called_vid, called_app, constant_exp_to, vid_to, built_exp_to, fields_exp_to, app_to, chain_to, handle_to, raise_to, no_fields_to, field_to, only_to, and_to, no_rules_to, rule_to, by_rules_to, last_to, more_to, DecsTo, no_decs_to, dec_to, val_to, datatype_to, replicate_to, exception_to, local_to, open_to, no_binds_to, bind_to, no_funs_to, fun_to, no_heads_to, heads_to}
 use Rattle.core_elab.specs.Laws.{initial_identifiers}
 
 abbrev at : ℕ → Place
@@ -143,8 +143,8 @@ resolves = (
       (dec_to (val_to p p [] no_heads_to no_funs_to (bind_to p p false t
       (as_to p (Named 212) 4 le refl (fields_to p true (pat_field_to (Number 1) t (variable_to p (Named 207) 5 le refl) no_pats_to)))
       (fields_exp_to p t (field_to (Number 1) (app_to (at 3) t (called_vid _ _) (vid_to p refl (use_primitive Quotient [] t))
-      (fields_exp_to p t (field_to (Number 1) (constant_exp_to p _ t) (field_to (Number 2) (constant_exp_to p _ t) no_fields_to put_here) put_here)))
-      (field_to (Number 2) (vid_to p refl (use_variable 3 [] t)) no_fields_to put_here) put_here)) no_binds_to))
+      (fields_exp_to p t (field_to (Number 1) (constant_exp_to p _ t) (field_to (Number 2) (constant_exp_to p _ t) no_fields_to))))
+      (field_to (Number 2) (vid_to p refl (use_variable 3 [] t)) no_fields_to))) no_binds_to))
       (dec_to (val_to p p [] (heads_to p p _ t _ no_heads_to (head_variable p (short (Named 209)) 6 le))
       (fun_to p p _ _ t (more_to p p 7 t le (variable_parameter p (Named 210) refl)
       (last_to p 8 t le (variable_parameter p (Named 211) refl) (vid_to p refl (use_variable 7 [] t)))) no_funs_to) no_binds_to)

@@ -7,7 +7,7 @@ use Rattle.mlc_base.specs.Agreement.{none}
 use Rattle.sml_tree.specs.Terminal as term
 use Rattle.sml_tree.specs.BareTree.{LongIdAt}
 use Rattle.sml_tree.specs.BareTree as bare
-use Rattle.core_rules.specs.Values.{built, Value, literal, field, exn, Env, plus, Found, tycon}
+use Rattle.core_rules.specs.Values.{built, Value, literal, Fields, exn, Env, plus, Found, tycon}
 use Rattle.core_rules.specs.Match.{constant_of, Matching}
 use Rattle.core_rules.specs.Eval.{recursive, with_recursive, Apply, on_match, opened, long_tycon_in, eval, eval_fields, eval_rules, eval_decs, eval_dec, eval_binds, enter, apply, match_packet}
 use Rattle.core_rules.specs.Meaning.{packet_identifier, begin, meaning_in}
@@ -17,10 +17,10 @@ use Rattle.ir_values.specs.Match.{after_match}
 use Rattle.ir_values.specs.Primitives as call
 use Rattle.ir_poly.specs.Prog.{fixed, held, Fun}
 use Rattle.ir_poly.specs.Prog as prog
-use Rattle.ir_poly.specs.ProgMeaning.{V, Code, Scope as Bound, Fits, only_name, members, run_fun, body, identifier_of}
+use Rattle.ir_poly.specs.ProgMeaning.{V, Code, Scope as Bound, Fits, Parts, sorted_parts, only_name, members, run_fun, body, identifier_of}
 use Rattle.ir_poly.specs.ProgMeaning as run
 use Rattle.core_elab.specs.Scopes.{Denotes, Scope, plus_scope}
-use Rattle.core_elab.specs.Resolves.{UseTo, use_variable, use_own, use_constructor, use_reference, use_exception, use_primitive, IsCalled, called_constant, called_vid, called_built, called_fields, called_let, called_app, called_typed, called_handle, called_raise, ExpTo, constant_exp_to, vid_to, built_exp_to, fields_exp_to, ordered_to, HeldTo, none_held_to, held_to, let_to, case_to, app_to, chain_to, typed_exp_to, handle_to, raise_to, fn_to, counted_to, FieldsTo, no_fields_to, field_to, ChainTo, only_to, and_to, or_to, RulesTo, no_rules_to, rule_to, FunTo, by_rules_to, last_to, more_to, DecsTo, no_decs_to, dec_to, counted_decs_to, DecTo, val_to, type_to, datatype_to, replicate_to, exception_to, local_to, open_to, sequence_to, counted_dec_to, BindsTo, no_binds_to, bind_to}
+use Rattle.core_elab.specs.Resolves.{UseTo, use_variable, use_own, use_constructor, use_reference, use_exception, use_primitive, IsCalled, called_constant, called_vid, called_built, called_fields, called_let, called_app, called_typed, called_handle, called_raise, ExpTo, constant_exp_to, vid_to, built_exp_to, fields_exp_to, let_to, case_to, app_to, chain_to, typed_exp_to, handle_to, raise_to, fn_to, counted_to, FieldsTo, no_fields_to, field_to, ChainTo, only_to, and_to, or_to, RulesTo, no_rules_to, rule_to, FunTo, by_rules_to, last_to, more_to, DecsTo, no_decs_to, dec_to, counted_decs_to, DecTo, val_to, type_to, datatype_to, replicate_to, exception_to, local_to, open_to, sequence_to, counted_dec_to, BindsTo, no_binds_to, bind_to}
 use Rattle.core_elab.specs.Laws.{initial_identifiers}
 use Rattle.core_elab.proofs.Agreeing.{Agree, both_give, both_raise, both_stop, then_do-agree, or_handle-agree, take_turn-agree, new_reference-agree, outcome_of-agree}
 use Rattle.core_elab.proofs.Related.{Rel, rel_literal, rel_record, rel_con, rel_con_of, rel_ref, rel_address, rel_exn, rel_exn_of, rel_primitive, rel_alone, rel_one_of, RelFields, rel_no_fields, rel_field, known_variable, known_constructor, known_reference, known_fixed, known_held, known_primitive, Covers, covers_tycon, covers-more, covers-plus, Stored, in_cell, Anew, same-trans, anew-nothing, anew-closed, anew-scope, anew-then, anew-hide}
@@ -29,8 +29,7 @@ use Rattle.core_elab.proofs.Matching.{Fitting, both_bind, both_fail, both_misfit
 use Rattle.core_elab.proofs.Performing.{Alike, Ends, arguments-rel, perform-rel, raised-rel}
 use Rattle.core_elab.proofs.Declared.{recursive-rel, are-fns, parameter-rel, datatypes-covers, types-covers, map-left, exns-rel, joined-is}
 use Rattle.core_elab.proofs.Chains.{and-rel, or-rel}
-use Rattle.core_elab.proofs.Still.{Made, none_labelled, put-among, put-labelled, put-eval, exp-still, fields-still}
-use Rattle.core_elab.proofs.Fields.{Held, held-none, held-more, held-record, then_gives-right}
+use Rattle.core_elab.proofs.Fields.{put-among}
 
 -- Uses
 
@@ -60,6 +59,10 @@ on-match-rel : {A B : Type 0} (S : A → B → Type 0) {k j : ℕ} {r : Scope} {
 on-match-rel S w u go go' other other' (both_bind a) s h g = h _ _ a
 on-match-rel S w u go go' other other' both_fail s h g = g
 on-match-rel S w u go go' other other' both_misfit s h g = both_stop _ s
+
+-- values of fields as they are written, where a record has them
+abbrev RelSorted : Fields → Parts → Type 0
+RelSorted vs zs = RelFields vs (sorted_parts zs)
 
 abbrev pub Calls : Apply → run.Apply → Type 0
 Calls call call' =
@@ -96,11 +99,8 @@ module _ (call : Apply) (call' : run.Apply) (calls : Calls call call') where
     exp-rel (constant_exp_to p l ty) w u c q = both_give (constant-rel l) q
     exp-rel (vid_to p {x = x} i h) w u c q = use-rel call' w u h (known-of x i c) q
     exp-rel (built_exp_to p b y ts ty) w u c q = both_give (rel_con (built b) refl) q
-    exp-rel (fields_exp_to p ty {gs = gs} fs) w u c q =
-        then_do-agree Rel Stored Rel (Made gs) _ _ (fields-rel fs w u c q) (λ f g w u h q. both_give (rel_record h.0) q)
-    exp-rel (ordered_to {k = k} p ty ty' {gs = gs} fs) {t = t} w u c q =
-        then_do-agree Rel Stored Rel (Held call' k t gs) _ _ (then_gives-right (Held call' k t gs) (held-rel fs w u c q t))
-        (λ vs t' w u h q. held-record call' ty' w u h q)
+    exp-rel (fields_exp_to p ty fs) w u c q =
+        then_do-agree Rel Stored Rel RelSorted _ _ (fields-rel fs w u c q) (λ f g w u h q. both_give (rel_record h) q)
     exp-rel (let_to {k = k} p ty {r = r} {j = j} ds b) {t = t} w u c q =
         then_do-agree Rel Stored Rel (Anew k j t r) _ _ (decs-rel ds w u c q) (λ d z w u a q. exp-rel b w u (anew-scope c a) q)
     exp-rel (case_to p p' place ty rs a) w u c q =
@@ -117,23 +117,14 @@ module _ (call : Apply) (call' : run.Apply) (calls : Calls call call') where
     exp-rel (fn_to p ty f) w u c q = both_give (rel_alone c f) q
     exp-rel (counted_to n ty b) w u c q = exp-rel b w u c q
 
+    -- in the order written; in that of the labels the record has them
     fields-rel : {s : Scope} {k : ℕ} {fs : bare.ExpFields} {gs : prog.Fields} → FieldsTo s k fs gs → {e : Env} {t : Bound} (w : World Value) (u : World V)
-        → Covers k t s e → Alike w u → Agree Rel Stored (Made gs) (eval_fields call e fs w) (run.eval_fields call' gs t u)
-    fields-rel no_fields_to w u c q = both_give (rel_no_fields, none_labelled) q
-    fields-rel (field_to l {e = b} {fs = fs} {e' = b'} {gs = gs} {hs = hs} x xs p) {e = e} {t = t} w u c q =
-        subst (Agree Rel Stored (Made hs) (eval_fields call e (bare.exp_field l b fs) w)) (sym (put-eval call' p (exp-still call' x c) (fields-still call' xs c) u))
-        (then_do-agree Rel Stored (Made hs) Rel _ _ (exp-rel x w u c q) (λ v z w u h q.
-        then_do-agree Rel Stored (Made hs) (Made gs) _ _ (fields-rel xs w u c q) (λ f g w u hs q.
-        both_give (rel_field l h hs.0 (put-among p z hs.1), put-labelled p z hs.1) q)))
-
-    -- each field is bound; then the record is made of the variables
-    held-rel : {s : Scope} {h k : ℕ} {fs : bare.ExpFields} {bs : prog.Binds} {gs : prog.Fields} → HeldTo s h k fs bs gs → {e : Env} {t : Bound}
-        (w : World Value) (u : World V) → Covers h t s e → Alike w u → (bound : Bound)
-        → Agree Rel Stored (Held call' k bound gs) (eval_fields call e fs w) (run.eval_binds call' bs t bound u)
-    held-rel (none_held_to {k = k}) w u c q bound = both_give (held-none call' k bound) q
-    held-rel {k = k} (held_to place l n ty ty' {hs = hs} le b fs p) w u c q bound =
-        then_do-agree Rel Stored (Held call' k bound hs) Rel _ _ (exp-rel b w u c q) (λ v z w u h q.
-        map-left (field l v) (λ vs bound' m. held-more call' l n ty' le h p m) (held-rel fs w u c q (made.bind n z bound)))
+        → Covers k t s e → Alike w u → Agree Rel Stored RelSorted (eval_fields call e fs w) (run.eval_fields call' gs t u)
+    fields-rel no_fields_to w u c q = both_give rel_no_fields q
+    fields-rel (field_to l x xs) w u c q =
+        then_do-agree Rel Stored RelSorted Rel _ _ (exp-rel x w u c q) (λ v z w u h q.
+        then_do-agree Rel Stored RelSorted RelSorted _ _ (fields-rel xs w u c q) (λ f g w u hs q.
+        both_give (rel_field l h hs (put-among l z (sorted_parts g))) q))
 
     chain-rel : {s : Scope} {k : ℕ} {b : Bool} {x : bare.Exp} {y : prog.Chain} → ChainTo s k b x y → {e : Env} {t : Bound} (w : World Value) (u : World V)
         → Covers k t s e → Alike w u → Ends (eval call e x w) (run.eval_chain call' b y t u)

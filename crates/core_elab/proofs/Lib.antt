@@ -11,4 +11,3 @@ pub mod Initial
 mod Example
 mod Ordered
 mod Fields
-mod Still

@@ -1,6 +1,6 @@
 -- A program resolves declarations, under a scope. k is above all variables in scope: what a pattern or a declaration binds has a number from k on, and the
 -- next number is told. What is inside an expression is out of scope after it. No type is looked at.
-use Rattle.std.specs.Prelude.{◌≡◌, ℕ, suc, ◌≤◌, Bool, true, false, ◌&&◌, ◌||◌, List, [], ◌∷◌, Option, Some}
+use Rattle.std.specs.Prelude.{◌≡◌, ℕ, suc, ◌≤◌, Bool, true, false, List, [], ◌∷◌, Option, Some}
 use Rattle.mlc_base.specs.declared.label.Label.{Label}
 use Rattle.mlc_base.specs.declared.place.Place.{Place}
 use Rattle.mlc_prims.specs.declared.basis.BasisPrimitive.{BasisPrimitive}
@@ -17,7 +17,6 @@ use Rattle.sml_tree.specs.BareTree as bare
 use Rattle.core_rules.specs.Values.{declared}
 use Rattle.core_rules.specs.Match.{constant_of}
 use Rattle.core_rules.specs.Eval.{identifier}
-use Rattle.ir_values.specs.Values.{same_label}
 use Rattle.ir_poly.specs.Prog.{Exc, fixed, held}
 use Rattle.ir_poly.specs.Prog as prog
 use Rattle.core_elab.specs.Scopes.{Denotes, variable, constructor, reference, exception, primitive, Scope, empty, scoped, typed_by, plus_scope, denotes_in, long_denotes_in, long_typed_in, opened_scope, is_free_in, con_number, built_number, types_scope}
@@ -122,31 +121,6 @@ joined (prog.val_dec qs bs fs ds) es = prog.val_dec qs bs fs (joined ds es)
 joined (prog.exception_dec x i t ds) es = prog.exception_dec x i t (joined ds es)
 joined (prog.counted_dec n ds) es = prog.counted_dec n (joined ds es)
 
--- expressions that take no turn and do nothing
-abbrev mutual
-  pub is_still : prog.Exp → Bool
-  is_still (prog.constant_exp l t) = true
-  is_still (prog.variable_exp n ts t) = true
-  is_still (prog.own_exp n t) = true
-  is_still (prog.con_exp c y ts t) = true
-  is_still (prog.ref_exp a t) = true
-  is_still (prog.exn_exp x t) = true
-  is_still (prog.prim_exp q ts t) = true
-  is_still (prog.fields_exp t fs) = are_still fs
-  is_still (prog.fn_exp t f) = true
-  is_still (prog.counted_exp n t e) = is_still e
-  is_still e = false
-
-  pub are_still : prog.Fields → Bool
-  are_still prog.no_fields = true
-  are_still (prog.a_field l e fs) = is_still e && are_still fs
-
--- A field put among others, past those of other labels. Of two that change places one is still, so what they do stays in order.
-pub data PutAmong (l : Label) (e : prog.Exp) : prog.Fields → prog.Fields → Type 0 where
-  put_here : {gs : prog.Fields} → PutAmong l e gs (prog.a_field l e gs)
-  put_past : (k : Label) (d : prog.Exp) {gs hs : prog.Fields} → same_label l k ≡ false → (is_still e || is_still d) ≡ true → PutAmong l e gs hs
-      → PutAmong l e (prog.a_field k d gs) (prog.a_field k d hs)
-
 mutual
   pub data ExpTo : Scope → ℕ → bare.Exp → prog.Exp → Type 0 where
     constant_exp_to : {s : Scope} {k : ℕ} (p : Place) (c : Constant) (t : Typ) → ExpTo s k (bare.constant_exp p c) (prog.constant_exp (constant_of c) t)
@@ -156,9 +130,6 @@ mutual
         → ExpTo s k (bare.built_exp p b) (prog.con_exp (built_number b) y ts t)
     fields_exp_to : {s : Scope} {k : ℕ} (p : Place) (t : Typ) {fs : bare.ExpFields} {gs : prog.Fields} → FieldsTo s k fs gs
         → ExpTo s k (bare.fields_exp p fs) (prog.fields_exp t gs)
-    -- fields whose order matters are bound first, as they are written; then the record is made of the variables
-    ordered_to : {s : Scope} {k : ℕ} (p : Place) (t u : Typ) {fs : bare.ExpFields} {bs : prog.Binds} {gs : prog.Fields} → HeldTo s k k fs bs gs
-        → ExpTo s k (bare.fields_exp p fs) (prog.let_exp t (prog.val_dec [] bs prog.no_funs prog.no_decs) (prog.fields_exp u gs))
     let_to : {s : Scope} {k : ℕ} (p : Place) (t : Typ) {ds : bare.Decs} {e : bare.Exp} {ds' : prog.Decs} {e' : prog.Exp} {r : Scope} {j : ℕ}
         → DecsTo s k ds ds' r j → ExpTo (plus_scope s r) j e e' → ExpTo s k (bare.let_in p ds e) (prog.let_exp t ds' e')
     case_to : {s : Scope} {k : ℕ} (p q place : Place) (t : Typ) {rs : bare.Rules} {a : bare.Exp} {rs' : prog.Rules} {a' : prog.Exp}
@@ -173,18 +144,11 @@ mutual
     fn_to : {s : Scope} {k : ℕ} (p : Place) (t : Typ) {rs : bare.Rules} {f : prog.Fun} → FunTo s k rs f → ExpTo s k (bare.fn p rs) (prog.fn_exp t f)
     counted_to : {s : Scope} {k : ℕ} (n : ℕ) (t : Typ) {e : bare.Exp} {e' : prog.Exp} → ExpTo s k e e' → ExpTo s k e (prog.counted_exp n t e')
 
+  -- fields as they are written
   pub data FieldsTo : Scope → ℕ → bare.ExpFields → prog.Fields → Type 0 where
     no_fields_to : {s : Scope} {k : ℕ} → FieldsTo s k bare.no_exp_fields prog.no_fields
-    field_to : {s : Scope} {k : ℕ} (l : Label) {e : bare.Exp} {fs : bare.ExpFields} {e' : prog.Exp} {gs hs : prog.Fields} → ExpTo s k e e'
-        → FieldsTo s k fs gs → PutAmong l e' gs hs → FieldsTo s k (bare.exp_field l e fs) hs
-
-  -- fields as bindings, in the order written, and as the fields of a record of their variables; expressions from the first number on, variables from the
-  -- second on
-  pub data HeldTo : Scope → ℕ → ℕ → bare.ExpFields → prog.Binds → prog.Fields → Type 0 where
-    none_held_to : {s : Scope} {h k : ℕ} → HeldTo s h k bare.no_exp_fields prog.no_binds prog.no_fields
-    held_to : {s : Scope} {h k : ℕ} (place : Place) (l : Label) (n : ℕ) (t u : Typ) {e : bare.Exp} {fs : bare.ExpFields} {e' : prog.Exp} {bs : prog.Binds}
-        {gs hs : prog.Fields} → k ≤ n → ExpTo s h e e' → HeldTo s h (suc n) fs bs gs → PutAmong l (prog.variable_exp n [] u) gs hs
-        → HeldTo s h k (bare.exp_field l e fs) (prog.a_bind place false (prog.variable_pat n) t e' bs) hs
+    field_to : {s : Scope} {k : ℕ} (l : Label) {e : bare.Exp} {fs : bare.ExpFields} {e' : prog.Exp} {gs : prog.Fields} → ExpTo s k e e'
+        → FieldsTo s k fs gs → FieldsTo s k (bare.exp_field l e fs) (prog.a_field l e' gs)
 
   -- operands of andalso (true) and orelse (false)
   pub data ChainTo : Scope → ℕ → Bool → bare.Exp → prog.Chain → Type 0 where

@@ -96,25 +96,25 @@ IsB (Word w) = Holds (nat_eq w word_b)
 
 put-rest : (t : Typ) (s : Row) → labels_in (put_field (a, t) s) ≡ a ∷ b ∷ [] → (labels_in s ≡ b ∷ []) × (put_field (a, t) s ≡ (a, t) ∷ s)
 put-rest t [] e = absurd (subst Two (sym e) tt)
-put-rest t (g ∷ []) e = by (label_before a g.0) refl e
+put-rest t (g ∷ []) e = by (label_before g.0 a) refl e
   where
-    by : (c : Bool) → label_before a g.0 ≡ c → labels_in (if c then (a, t) ∷ g ∷ [] else g ∷ (a, t) ∷ []) ≡ a ∷ b ∷ [] → (labels_in (g ∷ []) ≡ b ∷ []) × ((if label_before a g.0 then (a, t) ∷ g ∷ [] else g ∷ (a, t) ∷ []) ≡ (a, t) ∷ g ∷ [])
-    by true h e = (ap (λ l. l ∷ []) (ap (nth 1) e), ap (λ c. if c then (a, t) ∷ g ∷ [] else g ∷ (a, t) ∷ []) h)
-    by false h e = absurd (subst IsB (sym (ap (nth 1) e)) tt)
-put-rest t (g ∷ g' ∷ s) e = absurd (by (label_before a g.0) e)
+    by : (c : Bool) → label_before g.0 a ≡ c → labels_in (if c then g ∷ (a, t) ∷ [] else (a, t) ∷ g ∷ []) ≡ a ∷ b ∷ [] → (labels_in (g ∷ []) ≡ b ∷ []) × ((if label_before g.0 a then g ∷ (a, t) ∷ [] else (a, t) ∷ g ∷ []) ≡ (a, t) ∷ g ∷ [])
+    by true h e = absurd (subst IsB (sym (ap (nth 1) e)) tt)
+    by false h e = (ap (λ l. l ∷ []) (ap (nth 1) e), ap (λ c. if c then g ∷ (a, t) ∷ [] else (a, t) ∷ g ∷ []) h)
+put-rest t (g ∷ g' ∷ s) e = absurd (by (label_before g.0 a) e)
   where
-    last : (s : Row) (c : Bool) → Two (labels_in (g ∷ (if c then (a, t) ∷ g' ∷ s else g' ∷ put_field (a, t) s))) → ⊥
-    last s true h = h
-    last [] false h = h
-    last (k ∷ s) false h = more-left (label_before a k.0) h
+    last : (s : Row) (c : Bool) → Two (labels_in (g ∷ (if c then g' ∷ put_field (a, t) s else (a, t) ∷ g' ∷ s))) → ⊥
+    last s false h = h
+    last [] true h = h
+    last (k ∷ s) true h = more-left (label_before k.0 a) h
       where
-        more-left : (c : Bool) → Two (labels_in (g ∷ g' ∷ (if c then (a, t) ∷ k ∷ s else k ∷ put_field (a, t) s))) → ⊥
+        more-left : (c : Bool) → Two (labels_in (g ∷ g' ∷ (if c then k ∷ put_field (a, t) s else (a, t) ∷ k ∷ s))) → ⊥
         more-left true h = h
         more-left false h = h
 
-    by : (c : Bool) → labels_in (if c then (a, t) ∷ g ∷ g' ∷ s else g ∷ put_field (a, t) (g' ∷ s)) ≡ a ∷ b ∷ [] → ⊥
-    by true e = subst Two (sym e) tt
-    by false e = last s (label_before a g'.0) (subst Two (sym e) tt)
+    by : (c : Bool) → labels_in (if c then g ∷ put_field (a, t) (g' ∷ s) else (a, t) ∷ g ∷ g' ∷ s) ≡ a ∷ b ∷ [] → ⊥
+    by false e = subst Two (sym e) tt
+    by true e = last s (label_before g'.0 a) (subst Two (sym e) tt)
 
 -- The selector
 

@@ -12,16 +12,15 @@ use Rattle.ty_core.specs.Statics.{TypeFunction, replace}
 use Rattle.ty_core.specs.declared.mark.Mark.{Mark}
 use Rattle.ty_core.specs.declared.env.Status.{Status}
 use Rattle.ty_basis.specs.Types.{Row}
-use Rattle.core_rules.specs.Words.{same_vid, label_before}
+use Rattle.label_rows.specs.Order.{put_by, sorted_by}
+use Rattle.core_rules.specs.Words.{same_vid}
 
 -- the fields in the order of their labels, which is the same however they were written
 abbrev pub put_field : Label × Typ → Row → Row
-put_field f [] = f ∷ []
-put_field f (g ∷ gs) = if label_before f.0 g.0 then f ∷ g ∷ gs else g ∷ put_field f gs
+put_field = put_by (λ f. f.0)
 
 abbrev pub sorted : Row → Row
-sorted [] = []
-sorted (f ∷ fs) = put_field f (sorted fs)
+sorted = sorted_by (λ f. f.0)
 
 -- Schemes [4.5]: in the body the variables below the number of marks are the parameters, and the free variable v is written as v and that number.
 pub record Scheme : Type 0 where

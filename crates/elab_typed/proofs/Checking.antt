@@ -1,10 +1,9 @@
 -- What declarations elaborate to is well typed.
-use Rattle.std.proofs.Common.{◌≡◌, ℕ, ◌+◌, ◌<◌, suc, Bool, true, false, if◌then◌else◌, eqb-true, eq-eqb, List, [], ◌∷◌, ◌++◌, map, length, nat_eq, nat_lt, Option, Some, None, refl, sym, ap, subst, ◌∙◌, arith}
+use Rattle.std.proofs.Common.{◌≡◌, ℕ, ◌+◌, Bool, true, List, ◌++◌, nat_lt, Option, Some, None, refl, sym, ap, subst, ◌∙◌, arith}
 use Rattle.std.specs.Prelude.{option_map}
 use Rattle.std.proofs.lemmas.Bool.{lt-ltb, ltb-true}
-use Rattle.mlc_base.specs.declared.label.Label.{Label}
-use Rattle.ty_core.specs.Types.{Typ, con, name, typs_of}
-use Rattle.ty_basis.specs.Types.{Row, labels_in, int_name, word_name, char_name, string_name, bool_name, exn_name, exn_type, function_type, row_type}
+use Rattle.ty_core.specs.Types.{Typ}
+use Rattle.ty_basis.specs.Types.{Row, labels_in, int_name, word_name, char_name, string_name, bool_name, exn_name, function_type, row_type}
 use Rattle.sml_tree.specs.Terminal as term
 use Rattle.sml_tree.specs.BareTree.{ExBind}
 use Rattle.sml_tree.specs.BareTree as bare
@@ -19,13 +18,13 @@ use Rattle.ty_core.specs.declared.scheme.Quantified.{Quantified}
 use Rattle.ir_values.specs.Values.{same_label}
 use Rattle.ir_poly.specs.Prog as prog
 use Rattle.ir_poly.specs.Types.{ascend, over, Constructor}
-use Rattle.ir_poly.specs.TestsChecked.{HasLiteral, has_int, has_word, has_char, has_string, Known, of_type, Knowns, at, value_type}
-use Rattle.ir_poly.specs.ProgChecked.{ExcChecked, PatChecked, any_checked, variable_checked, constant_checked, con_checked, con_of_checked, ref_of_checked, exn_checked, exn_of_checked, fields_checked, as_checked, PatsChecked, no_pats_checked, a_pat_checked, Checked, c_constant, c_variable, c_variable_one, c_own, c_con, c_ref, c_exn, c_prim, c_fields, c_let, c_app, c_case, c_handle, c_raise, c_fn, c_counted, c_chain, ChainChecked, c_only, c_link, binds_onto, FieldsChecked, c_no_fields, c_field, RulesChecked, c_no_rules, c_rule, FunChecked, c_last, c_by_rules, c_more, DecsChecked, c_no_decs, c_val, c_exception, c_exception_alone, c_counted_dec, BindsChecked, c_no_binds, c_general, c_plain, FunsChecked, c_no_funs, c_fun}
+use Rattle.ir_poly.specs.TestsChecked.{HasLiteral, has_int, has_word, has_char, has_string, Knowns, value_type}
+use Rattle.ir_poly.specs.ProgChecked.{PatChecked, any_checked, variable_checked, constant_checked, con_checked, con_of_checked, ref_of_checked, exn_checked, exn_of_checked, fields_checked, as_checked, PatsChecked, no_pats_checked, a_pat_checked, Checked, c_constant, c_variable, c_variable_one, c_own, c_con, c_ref, c_exn, c_prim, c_fields, c_let, c_app, c_case, c_handle, c_raise, c_fn, c_counted, c_chain, ChainChecked, c_only, c_link, FieldsChecked, c_no_fields, c_field, RulesChecked, c_no_rules, c_rule, FunChecked, c_last, c_by_rules, c_more, DecsChecked, c_no_decs, c_val, c_exception, c_exception_alone, c_counted_dec, BindsChecked, c_no_binds, c_general, c_plain, FunsChecked, c_no_funs, c_fun}
 use Rattle.elab_typed.specs.Numbers.{type_as, row_as, KeepsInitial, AgreeBelow}
-use Rattle.elab_typed.specs.Contexts.{Kept, KeptValues, KeptEnv, Around, after}
+use Rattle.elab_typed.specs.Contexts.{Kept, KeptValues, KeptEnv, Around}
 use Rattle.elab_typed.specs.Instances.{as_typed, UseElab, use_general, use_plain, use_single, use_own, use_constructor, use_reference, use_exception, use_given_exception, use_primitive, AloneElab, alone_constructor, alone_exception, alone_given_exception, BeforeElab, before_constructor, before_reference, before_exception}
-use Rattle.elab_typed.specs.Elaborates.{PatElab, wild_elab, constant_elab, variable_elab, alone_elab, built_elab, fields_elab, open_elab, con_elab, built_con_elab, typed_elab, as_elab, PatsElab, no_pats_elab, a_pat_elab, PutElab, put_here, put_past, ExnsElab, no_exns_elab, new_exn_elab, same_exn_elab, ExpElab, ordered_elab, chain_elab, HeldElab, none_held_elab, held_elab, ChainElab, only_elab, and_elab, or_elab, constant_exp_elab, vid_elab, built_exp_elab, record_elab, let_elab, case_elab, app_elab, typed_exp_elab, handle_elab, raise_elab, fn_elab, counted_elab, FieldsElab, no_fields_elab, a_field_elab, RulesElab, no_rules_elab, a_rule_elab, FunElab, by_rules_elab, last_elab, more_elab, DecsElab, no_decs_elab, a_dec_elab, counted_decs_elab, DecElab, val_elab, type_elab, datatype_elab, replicate_elab, exception_elab, local_elab, open_dec_elab, sequence_elab, counted_dec_elab, BindsElab, no_binds_elab, general_elab, plain_elab, FunsElab, no_funs_elab, a_fun_elab}
-use Rattle.elab_typed.proofs.Names.{of_name-kept, ref-kept, labels-as, row_type-as, part-as, over-as, args-over, instance-as, are-allowed-as, type-agrees}
+use Rattle.elab_typed.specs.Elaborates.{PatElab, wild_elab, constant_elab, variable_elab, alone_elab, built_elab, fields_elab, open_elab, con_elab, built_con_elab, typed_elab, as_elab, PatsElab, no_pats_elab, a_pat_elab, ExnsElab, no_exns_elab, new_exn_elab, same_exn_elab, ExpElab, chain_elab, ChainElab, only_elab, and_elab, or_elab, constant_exp_elab, vid_elab, built_exp_elab, record_elab, let_elab, case_elab, app_elab, typed_exp_elab, handle_elab, raise_elab, fn_elab, counted_elab, FieldsElab, no_fields_elab, a_field_elab, RulesElab, no_rules_elab, a_rule_elab, FunElab, by_rules_elab, last_elab, more_elab, DecsElab, no_decs_elab, a_dec_elab, counted_decs_elab, DecElab, val_elab, type_elab, datatype_elab, replicate_elab, exception_elab, local_elab, open_dec_elab, sequence_elab, counted_dec_elab, BindsElab, no_binds_elab, general_elab, plain_elab, FunsElab, no_funs_elab, a_fun_elab}
+use Rattle.elab_typed.proofs.Names.{of_name-kept, ref-kept, sorted-as, labels-as, row_type-as, part-as, args-over, instance-as, are-allowed-as, type-agrees}
 
 -- Numbers
 
@@ -78,23 +77,6 @@ literal-checked (term.string s) i = subst (HasLiteral (constant_of (term.string 
 value-as : {n : ℕ → ℕ} (a : Option Typ) → KeepsInitial n → type_as n (exception_type a) ≡ value_type (option_map (type_as n) a)
 value-as None i = of_name-kept exn_name i refl
 value-as {n} (Some a) i = ap (function_type (type_as n a)) (of_name-kept exn_name i refl)
-
--- what is bound for the fields of a record, from k on
-record HeldChecked (table : List Constructor) (D : List Quantified) (K : Knowns) (number : ℕ → ℕ) (k : ℕ) (bs : prog.Binds) (gs : prog.Fields) (q : Row)
-    (G : Knowns) : Type 0 where
-  binds : BindsChecked table [] D K bs
-  fields : FieldsChecked table D (binds_onto [] bs G) gs (row_as number q)
-  below : (m : ℕ) → m < k → at (binds_onto [] bs G) m ≡ at G m
-
-found-first : (n : ℕ) (x : Known) (G : Knowns) → at ((n, x) ∷ G) n ≡ Some x
-found-first n x G = ap (λ b. if b then Some x else at G n) (eq-eqb n n refl)
-
-past-first : (n : ℕ) (x : Known) (G : Knowns) (m : ℕ) → m < n → at ((n, x) ∷ G) m ≡ at G m
-past-first n x G m l = go (nat_eq m n) refl
-  where
-    go : (b : Bool) → nat_eq m n ≡ b → (if b then Some x else at G m) ≡ at G m
-    go true e = absurd (omega (arith, l, eqb-true m n e))
-    go false e = refl
 
 moved : (P : List Quantified → Knowns → Type 0) {D E : List Quantified} {G H : Knowns} → D ≡ E → G ≡ H → P D G → P E H
 moved P {D} {E} {G} {H} e g x = subst (λ F. P F H) e (subst (P D) g x)
@@ -149,14 +131,6 @@ module _ {table : List Constructor} where
     pats-checked {A} {whole} (a_pat_elab l {t = t} e o a fs) i =
         a_pat_checked (part-as A.number (same_label l) whole t e) o (pat-checked a i) (pats-checked fs i)
 
-  -- Fields that are put among others
-  put-checked : {D : List Quantified} {G : Knowns} (n : ℕ → ℕ) {l : Label} {e : prog.Exp} {t : Typ} {gs hs : prog.Fields} {q q' : Row} {w : Row}
-      → PutElab l e t gs q hs q' → Checked table D G e (type_as n t) → FieldsChecked table D G gs w → w ≡ row_as n q → FieldsChecked table D G hs (row_as n q')
-  put-checked {D} {G} n {gs = gs} put_here h fs i = c_field h (subst (λ r. FieldsChecked table D G gs r) i fs)
-  put-checked {D} {G} n (put_past k d u m s p) h (c_field {t = v} {r = r} g fs) i =
-      c_field (subst (λ x. Checked table D G d x) (ap (λ (w : Row). elim w [ [] ↦ v | x ∷ xs ↦ x.1 ]) i) g)
-      (put-checked n p h fs (ap (λ (w : Row). elim w [ [] ↦ r | x ∷ xs ↦ xs ]) i))
-
   -- Declarations one after the other
   joined-checked : {D : List Quantified} {G H K : Knowns} {ds es : prog.Decs} → DecsChecked table D G ds H → DecsChecked table D H es K
       → DecsChecked table D G (joined ds es) K
@@ -180,11 +154,8 @@ module _ {table : List Constructor} where
     exp-checked (vid_elab p h d u) i = use-checked u i
     exp-checked (built_exp_elab p b ts y us g h) i = c_con h.row h.found h.same h.over h.is
     exp-checked {A} (record_elab p {r = r} fs o) i =
-        c_fields (fields-checked fs i) (row_type-as A.number (sorted r)) (ap ascend (labels-as A.number (sorted r)) ∙ o)
-    exp-checked {A} (ordered_elab p {bs = bs} {gs = gs} {r = r} fs o) i =
-        let m = held-checked fs i A.known in
-        c_let (binds_onto [] bs A.known) (c_val refl m.binds c_no_funs c_no_decs)
-        (c_fields m.fields (row_type-as A.number (sorted r)) (ap ascend (labels-as A.number (sorted r)) ∙ o))
+        c_fields (fields-checked fs i) (row_type-as A.number (sorted r) ∙ ap row_type (sorted-as A.number r))
+        (ap (λ q. ascend (labels_in q)) (sym (sorted-as A.number r)) ∙ ap ascend (labels-as A.number (sorted r)) ∙ o)
     exp-checked (chain_elab b x) i = c_chain (chain-checked x i) (of_name-kept bool_name i refl)
     exp-checked {A} (let_elab p {e' = e'} {G = G} {t = t} ds e o) i =
         let n = decs-numbered ds in
@@ -198,23 +169,10 @@ module _ {table : List Constructor} where
     exp-checked (fn_elab p f) i = c_fn (fun-checked f i)
     exp-checked (counted_elab n e) i = c_counted (exp-checked e i)
 
-    fields-checked : {A : Around} {k : ℕ} {fs : bare.ExpFields} {gs : prog.Fields} {r q : Row} {c : Choices} → FieldsElab table A k fs gs r q c
-        → KeepsInitial A.number → FieldsChecked table A.parameters A.known gs (row_as A.number q)
+    fields-checked : {A : Around} {k : ℕ} {fs : bare.ExpFields} {gs : prog.Fields} {r : Row} {c : Choices} → FieldsElab table A k fs gs r c
+        → KeepsInitial A.number → FieldsChecked table A.parameters A.known gs (row_as A.number r)
     fields-checked no_fields_elab i = c_no_fields
-    fields-checked {A} (a_field_elab l e fs p) i = put-checked A.number p (exp-checked e i) (fields-checked fs i) refl
-
-    held-checked : {A : Around} {h k : ℕ} {fs : bare.ExpFields} {bs : prog.Binds} {gs : prog.Fields} {r q : Row} {c : Choices}
-        → HeldElab table A h k fs bs gs r q c → KeepsInitial A.number → (G : Knowns) → HeldChecked table A.parameters A.known A.number k bs gs q G
-    held-checked none_held_elab i G = record { binds = c_no_binds; fields = c_no_fields; below = λ m l. refl }
-    held-checked {A} {h} {k} (held_elab place l n {bs = bs} {gs = gs} {hs = hs} {t = t} {q = q} {q' = q'} le e o fs p) i G =
-        let m = held-checked fs i ((n, of_type (as_typed A t)) ∷ G) in
-        let here : at (binds_onto [] bs ((n, of_type (as_typed A t)) ∷ G)) n ≡ Some (of_type (as_typed A t)) =
-        m.below n (omega arith) ∙ found-first n (of_type (as_typed A t)) G in
-        record {
-          binds = c_plain o variable_checked (exp-checked e i) m.binds;
-          fields = put-checked A.number p (c_variable_one here) m.fields refl;
-          below = λ j l. m.below j (omega (arith, le)) ∙ past-first n (of_type (as_typed A t)) G j (omega (arith, le));
-        }
+    fields-checked (a_field_elab l e fs) i = c_field (exp-checked e i) (fields-checked fs i)
 
     chain-checked : {A : Around} {k : ℕ} {b : Bool} {e : bare.Exp} {x : prog.Chain} {c : Choices} → ChainElab table A k b e x c → KeepsInitial A.number
         → ChainChecked table A.parameters A.known x

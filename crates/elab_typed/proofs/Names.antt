@@ -1,8 +1,6 @@
 -- Types with the program's numbers of type names.
-use Rattle.std.proofs.Common.{◌≡◌, ℕ, zero, suc, Bool, true, false, ◌&&◌, List, [], ◌∷◌, ◌++◌, map, length, Option, Some, None, nat_eq, nat_lt, if◌then◌else◌, refl, sym, ap, subst, ◌∙◌}
-use Rattle.std.specs.Prelude.{option_map}
+use Rattle.std.proofs.Common.{◌≡◌, ℕ, Bool, true, false, ◌&&◌, List, [], ◌∷◌, map, Option, Some, nat_eq, nat_lt, if◌then◌else◌, refl, sym, ap, ◌∙◌}
 use Rattle.std.specs.Map.{lookup}
-use Rattle.std.proofs.lemmas.Bool.{lt-ltb}
 use Rattle.mlc_base.specs.declared.label.Label.{Label}
 use Rattle.ty_core.specs.Types.{Symbol, arrow, labels, name, Typ, var, con, Typs, none, more, typs_of, admits, all_admit, attribute, allowed}
 use Rattle.ty_core.specs.Marks.{Allows}
@@ -11,10 +9,11 @@ use Rattle.ty_core.specs.declared.name.TyName.{TyName}
 use Rattle.ty_core.specs.declared.mark.Mark.{Mark}
 use Rattle.ty_core.specs.declared.mark.Mark.TheVariants.{Any, Equality, Class}
 use Rattle.ty_core.specs.declared.scheme.Quantified.{Quantified}
-use Rattle.ty_basis.specs.Types.{Row, int_name, word_name, char_name, string_name, exn_name, bool_name, ref_name, of_name, labels_in, row_type}
-use Rattle.core_rules.specs.Objects.{Over, AllOver, SymbolOver}
+use Rattle.ty_basis.specs.Types.{Row, ref_name, of_name, labels_in, row_type}
+use Rattle.label_rows.proofs.Mapped.{sorted-map}
+use Rattle.core_rules.specs.Objects.{sorted, Over, AllOver, SymbolOver}
 use Rattle.core_rules.specs.Typing.{all_general}
-use Rattle.ir_poly.specs.Types.{in_scope, over, all_over, changed, AreAllowed}
+use Rattle.ir_poly.specs.Types.{over, all_over, changed, AreAllowed}
 use Rattle.elab_typed.specs.Numbers.{name_as, symbol_as, type_as, types_as, row_as, KeepsInitial, AgreeBelow}
 
 -- a name of the initial basis is itself
@@ -28,6 +27,9 @@ pub ref-kept : {n : ℕ → ℕ} (t : Typ) → KeepsInitial n → type_as n (con
 ref-kept {n} t i = ap (λ y. con (name y) (more (type_as n t) none)) (name-kept ref_name i refl)
 
 -- Rows
+
+pub sorted-as : (n : ℕ → ℕ) (r : Row) → row_as n (sorted r) ≡ sorted (row_as n r)
+sorted-as n = sorted-map (λ f. f.0) (λ f. f.0) (λ f. (f.0, type_as n f.1)) (λ f. refl)
 
 pub labels-as : (n : ℕ → ℕ) (r : Row) → labels_in (row_as n r) ≡ labels_in r
 labels-as n [] = refl

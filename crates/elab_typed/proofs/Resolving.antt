@@ -1,5 +1,5 @@
 -- What declarations elaborate to resolves them.
-use Rattle.std.proofs.Common.{◌≡◌, ℕ, Bool, List}
+use Rattle.std.proofs.Common.{ℕ, Bool, List}
 use Rattle.ty_core.specs.Types.{Typ}
 use Rattle.sml_tree.specs.BareTree.{ExBind}
 use Rattle.sml_tree.specs.BareTree as bare
@@ -9,22 +9,17 @@ use Rattle.ty_basis.specs.Types.{Row}
 use Rattle.ir_poly.specs.Prog as prog
 use Rattle.ir_poly.specs.Types.{Constructor}
 use Rattle.ir_poly.specs.TestsChecked.{Knowns}
-use Rattle.mlc_base.specs.declared.label.Label.{Label}
-use Rattle.core_elab.specs.Scopes.{Denotes, Scope, plus_scope}
+use Rattle.core_elab.specs.Scopes.{Denotes, Scope}
 use Rattle.core_elab.specs.Resolves as to
-use Rattle.core_elab.specs.Resolves.{UseTo, AloneTo, BeforeTo, PatTo, PatFieldsTo, ParameterTo, PutAmong, ExnsTo, ExpTo, FieldsTo, HeldTo, ChainTo, RulesTo, FunTo, DecsTo, DecTo, BindsTo, FunsTo}
+use Rattle.core_elab.specs.Resolves.{UseTo, AloneTo, BeforeTo, PatTo, PatFieldsTo, ParameterTo, ExnsTo, ExpTo, FieldsTo, ChainTo, RulesTo, FunTo, DecsTo, DecTo, BindsTo, FunsTo}
 use Rattle.elab_typed.specs.Contexts.{Kept, KeptValues, KeptEnv, Around}
 use Rattle.elab_typed.specs.Instances.{UseElab, use_general, use_plain, use_single, use_own, use_constructor, use_reference, use_exception, use_given_exception, use_primitive, AloneElab, alone_constructor, alone_exception, alone_given_exception, BeforeElab, before_constructor, before_reference, before_exception}
-use Rattle.elab_typed.specs.Elaborates.{PatElab, wild_elab, constant_elab, variable_elab, alone_elab, built_elab, fields_elab, open_elab, con_elab, built_con_elab, typed_elab, as_elab, PatsElab, no_pats_elab, a_pat_elab, ParameterElab, any_elab, named_elab, annotated_elab, PutElab, put_here, put_past, ExnsElab, no_exns_elab, new_exn_elab, same_exn_elab, ExpElab, ordered_elab, chain_elab, HeldElab, none_held_elab, held_elab, ChainElab, only_elab, and_elab, or_elab, constant_exp_elab, vid_elab, built_exp_elab, record_elab, let_elab, case_elab, app_elab, typed_exp_elab, handle_elab, raise_elab, fn_elab, counted_elab, FieldsElab, no_fields_elab, a_field_elab, RulesElab, no_rules_elab, a_rule_elab, FunElab, by_rules_elab, last_elab, more_elab, DecsElab, no_decs_elab, a_dec_elab, counted_decs_elab, DecElab, val_elab, type_elab, datatype_elab, replicate_elab, exception_elab, local_elab, open_dec_elab, sequence_elab, counted_dec_elab, BindsElab, no_binds_elab, general_elab, plain_elab, FunsElab, no_funs_elab, a_fun_elab}
+use Rattle.elab_typed.specs.Elaborates.{PatElab, wild_elab, constant_elab, variable_elab, alone_elab, built_elab, fields_elab, open_elab, con_elab, built_con_elab, typed_elab, as_elab, PatsElab, no_pats_elab, a_pat_elab, ParameterElab, any_elab, named_elab, annotated_elab, ExnsElab, no_exns_elab, new_exn_elab, same_exn_elab, ExpElab, chain_elab, ChainElab, only_elab, and_elab, or_elab, constant_exp_elab, vid_elab, built_exp_elab, record_elab, let_elab, case_elab, app_elab, typed_exp_elab, handle_elab, raise_elab, fn_elab, counted_elab, FieldsElab, no_fields_elab, a_field_elab, RulesElab, no_rules_elab, a_rule_elab, FunElab, by_rules_elab, last_elab, more_elab, DecsElab, no_decs_elab, a_dec_elab, counted_decs_elab, DecElab, val_elab, type_elab, datatype_elab, replicate_elab, exception_elab, local_elab, open_dec_elab, sequence_elab, counted_dec_elab, BindsElab, no_binds_elab, general_elab, plain_elab, FunsElab, no_funs_elab, a_fun_elab}
 
 parameter-to : {A : Around} {n : ℕ} {a : bare.Pat} {t : Typ} {vs : Bound} {r : Scope} → ParameterElab A n a t vs r → ParameterTo A.scope n a r
 parameter-to (any_elab p o) = to.any_parameter p
 parameter-to (named_elab p x b) = to.variable_parameter p x b.free
 parameter-to (annotated_elab p a h) = to.typed_parameter p (parameter-to a)
-
-put-to : {l : Label} {e : prog.Exp} {t : Typ} {gs hs : prog.Fields} {q q' : Row} → PutElab l e t gs q hs q' → PutAmong l e gs hs
-put-to put_here = to.put_here
-put-to (put_past k d u n s p) = to.put_past k d n s (put-to p)
 
 exns-to : {A : Around} {G G' : Knowns} {k j : ℕ} {bs : List ExBind} {ds : prog.Decs} {vs : KeptValues} {r : Scope}
     → ExnsElab A G k bs ds vs r j G' → ExnsTo A.scope k bs ds r j
@@ -80,7 +75,6 @@ module _ {table : List Constructor} where
     exp-to (vid_elab p i d u) = to.vid_to p d (use-to u)
     exp-to (built_exp_elab p b ts y us g h) = to.built_exp_to p b y us _
     exp-to (record_elab p fs o) = to.fields_exp_to p _ (fields-to fs)
-    exp-to (ordered_elab p fs o) = to.ordered_to p _ _ (held-to fs)
     exp-to (chain_elab b x) = to.chain_to b _ (chain-to x)
     exp-to (let_elab p ds e o) = to.let_to p _ (decs-to ds) (exp-to e)
     exp-to (case_elab p q place rs a o) = to.case_to p q place _ (rules-to rs) (exp-to a)
@@ -91,15 +85,10 @@ module _ {table : List Constructor} where
     exp-to (fn_elab p f) = to.fn_to p _ (fun-to f)
     exp-to (counted_elab n e) = to.counted_to n _ (exp-to e)
 
-    fields-to : {A : Around} {k : ℕ} {fs : bare.ExpFields} {gs : prog.Fields} {r q : Row} {c : Choices} → FieldsElab table A k fs gs r q c
+    fields-to : {A : Around} {k : ℕ} {fs : bare.ExpFields} {gs : prog.Fields} {r : Row} {c : Choices} → FieldsElab table A k fs gs r c
         → FieldsTo A.scope k fs gs
     fields-to no_fields_elab = to.no_fields_to
-    fields-to (a_field_elab l e fs p) = to.field_to l (exp-to e) (fields-to fs) (put-to p)
-
-    held-to : {A : Around} {h k : ℕ} {fs : bare.ExpFields} {bs : prog.Binds} {gs : prog.Fields} {r q : Row} {c : Choices}
-        → HeldElab table A h k fs bs gs r q c → HeldTo A.scope h k fs bs gs
-    held-to none_held_elab = to.none_held_to
-    held-to (held_elab place l n le e o fs p) = to.held_to place l n _ _ le (exp-to e) (held-to fs) (put-to p)
+    fields-to (a_field_elab l e fs) = to.field_to l (exp-to e) (fields-to fs)
 
     chain-to : {A : Around} {k : ℕ} {b : Bool} {e : bare.Exp} {x : prog.Chain} {c : Choices} → ChainElab table A k b e x c → ChainTo A.scope k b e x
     chain-to (only_elab b e) = to.only_to b (exp-to e)

@@ -1,10 +1,10 @@
 -- What elaborates has a typing, whatever the parameters in scope stand for.
-use Rattle.std.proofs.Common.{◌≡◌, ℕ, zero, suc, ◌+◌, ◌<◌, Bool, true, false, if◌then◌else◌, List, [], ◌∷◌, ◌++◌, map, length, Option, Some, None, refl, sym, ap, subst, ◌∙◌}
+use Rattle.std.proofs.Common.{◌≡◌, ℕ, ◌+◌, ◌<◌, Bool, true, false, if◌then◌else◌, List, [], ◌∷◌, ◌++◌, map, length, Option, Some, None, refl, sym, ap, subst, ◌∙◌}
 use Rattle.std.specs.Prelude.{option_map, option_and_then}
 use Rattle.std.specs.Option.{option_zip}
 use Rattle.std.proofs.lemmas.List.{length-map}
 use Rattle.mlc_base.specs.declared.place.Place.{Place}
-use Rattle.ty_core.specs.Types.{Typ, var, con, name, no_variable}
+use Rattle.ty_core.specs.Types.{Typ, var, no_variable}
 use Rattle.ty_core.specs.Statics.{replace}
 use Rattle.ty_core.specs.declared.env.Status.TheVariants.{Exception}
 use Rattle.ty_core.specs.declared.mark.Mark.{Mark}
@@ -12,14 +12,13 @@ use Rattle.ty_core.specs.declared.scheme.Quantified.{Quantified}
 use Rattle.ty_basis.specs.Types.{Row, labels_in, bool_type, exn_type, function_type, row_type}
 use Rattle.sml_tree.specs.Terminal as term
 use Rattle.sml_tree.specs.declared.ident.Tyvar.{Tyvar}
-use Rattle.sml_tree.specs.declared.ident.Vid.{Vid}
 use Rattle.sml_tree.specs.BareTree.{Ty, ExBind, new_exn, same_exn}
 use Rattle.sml_tree.specs.BareTree as bare
 use Rattle.core_rules.specs.Words.{same_label, same_vid}
 use Rattle.core_rules.specs.Restrictions.{distinct}
-use Rattle.core_rules.specs.Objects.{sorted, monomorphic, env, no_structures, AllAllowed, Value, Values, values_env, Env, no_env, plus, long_value_in, Context, with_env, Over}
-use Rattle.core_rules.specs.Choices.{Choices, no_choice, both, further, settled}
-use Rattle.core_rules.specs.Elaborated.{behind_of, exceptions_of, exception_type, is_exception, if_exception, type_of, all_constructors, datatypes_env}
+use Rattle.core_rules.specs.Objects.{sorted, monomorphic, env, no_structures, AllAllowed, long_value_in, Context, Over}
+use Rattle.core_rules.specs.Choices.{Choices, no_choice, both, further}
+use Rattle.core_rules.specs.Elaborated.{exceptions_of, exception_type, is_exception, if_exception, all_constructors}
 use Rattle.core_rules.specs.Eval.{all_fns}
 use Rattle.core_rules.specs.Initial.{built_scheme}
 use Rattle.sml_tree.specs.declared.ident.BuiltIn.{BuiltIn}
@@ -31,14 +30,14 @@ use Rattle.ir_poly.specs.Prog as prog
 use Rattle.ir_poly.specs.Types.{are_new, Constructor}
 use Rattle.ir_poly.specs.TestsChecked.{Knowns}
 use Rattle.ir_poly.proofs.ReplaceLemmas.{row_read, row_type-read}
-use Rattle.elab_typed.specs.Contexts.{Kept, given, general, single, raised, value_under, KeptValues, KeptEnv, values_under, env_under, kept_values, given_values, plus_kept, kept_in, Around, context_under, generic, IsOver, generals, with_bound, after}
+use Rattle.elab_typed.specs.Contexts.{Kept, given, general, single, raised, value_under, KeptValues, KeptEnv, values_under, env_under, kept_values, kept_in, Around, context_under, generic, IsOver, generals, with_bound, after}
 use Rattle.elab_typed.specs.Instances.{AloneElab, alone_constructor, alone_exception, alone_given_exception, BeforeElab, before_constructor, before_reference, before_exception}
-use Rattle.elab_typed.specs.Elaborates.{Stands, StandsIf, PatElab, wild_elab, constant_elab, variable_elab, alone_elab, built_elab, fields_elab, open_elab, con_elab, built_con_elab, typed_elab, as_elab, PatsElab, no_pats_elab, a_pat_elab, ParameterElab, any_elab, named_elab, annotated_elab, HeadElab, head_wild, head_variable, head_typed, head_as, ExnsElab, no_exns_elab, new_exn_elab, same_exn_elab, inner, without, ExpElab, ordered_elab, chain_elab, HeldElab, none_held_elab, held_elab, ChainElab, only_elab, and_elab, or_elab, constant_exp_elab, vid_elab, built_exp_elab, record_elab, let_elab, case_elab, app_elab, typed_exp_elab, handle_elab, raise_elab, fn_elab, counted_elab, FieldsElab, no_fields_elab, a_field_elab, RulesElab, no_rules_elab, a_rule_elab, FunElab, by_rules_elab, last_elab, more_elab, DecsElab, no_decs_elab, a_dec_elab, counted_decs_elab, DecElab, val_elab, type_elab, datatype_elab, replicate_elab, exception_elab, local_elab, open_dec_elab, sequence_elab, counted_dec_elab, BindsElab, no_binds_elab, general_elab, plain_elab, FunsElab, no_funs_elab, a_fun_elab}
+use Rattle.elab_typed.specs.Elaborates.{StandsIf, PatElab, wild_elab, constant_elab, variable_elab, alone_elab, built_elab, fields_elab, open_elab, con_elab, built_con_elab, typed_elab, as_elab, PatsElab, no_pats_elab, a_pat_elab, ParameterElab, any_elab, named_elab, annotated_elab, HeadElab, head_wild, head_variable, head_typed, head_as, ExnsElab, no_exns_elab, new_exn_elab, same_exn_elab, inner, without, ExpElab, chain_elab, ChainElab, only_elab, and_elab, or_elab, constant_exp_elab, vid_elab, built_exp_elab, record_elab, let_elab, case_elab, app_elab, typed_exp_elab, handle_elab, raise_elab, fn_elab, counted_elab, FieldsElab, no_fields_elab, a_field_elab, RulesElab, no_rules_elab, a_rule_elab, FunElab, by_rules_elab, last_elab, more_elab, DecsElab, no_decs_elab, a_dec_elab, counted_decs_elab, DecElab, val_elab, type_elab, datatype_elab, replicate_elab, exception_elab, local_elab, open_dec_elab, sequence_elab, counted_dec_elab, BindsElab, no_binds_elab, general_elab, plain_elab, FunsElab, no_funs_elab, a_fun_elab}
 use Rattle.elab_typed.specs.Laws.{Fits}
 use Rattle.elab_typed.proofs.Under.{bound_under, plus-under, with-bound-under, with-nothing, after-under, long-under, matched-under, non-expansive-under, replicated-under, opened-under, given-under, kept-env-under, sorted-under, append-row, labels-under, bound-in-under, bound-append, over-under, over-more}
 use Rattle.elab_typed.proofs.Closed.{types-bound-under, datatypes-under}
-use Rattle.elab_typed.proofs.Instancing.{given-instance, single-instance, raised-instance, raised-is, use-typed}
-use Rattle.elab_typed.proofs.Vals.{at_types, outside, inner-fits, without-fits, marks-same, scoping-under, closing, put-closing, closing-in, closing-append, closing-together, closed-under, bound-none}
+use Rattle.elab_typed.proofs.Instancing.{given-instance, single-instance, raised-instance, use-typed}
+use Rattle.elab_typed.proofs.Vals.{at_types, inner-fits, without-fits, marks-same, scoping-under, closing, put-closing, closing-in, closing-append, closing-together, closed-under, bound-none}
 
 constant-same : (s : ℕ → Typ) (c : term.Constant) → constant_type c ≡ replace s (constant_type c)
 constant-same s (term.int z) = refl
@@ -225,7 +224,6 @@ module _ {table : List Constructor} where
     exp-typed {A} (vid_elab p {x = x} h d u) s f = vid_has p (found s A x h) (use-typed f u)
     exp-typed (built_exp_elab p b ts y us g h) s f = built_exp_has p (given-instance f g)
     exp-typed (record_elab p {r = r} fs o) s f = record_has p (fields-typed fs s f) (row-sorted s r)
-    exp-typed (ordered_elab p {r = r} fs o) s f = record_has p (held-typed fs s f) (row-sorted s r)
     exp-typed (chain_elab b x) s f = chain-typed x s f
     exp-typed {A} (let_elab p {e = e} {made = made} {number = number} {d = d} {r = r} {G = G} {t = t} {b = b} ds x o) s f =
         let_has p (decs-typed ds s f)
@@ -239,15 +237,10 @@ module _ {table : List Constructor} where
     exp-typed (fn_elab p x) s f = fn_has p (fun-typed x s f)
     exp-typed (counted_elab n e) s f = exp-typed e s f
 
-    fields-typed : {A : Around} {k : ℕ} {fs : bare.ExpFields} {gs : prog.Fields} {r q : Row} {c : Choices} → FieldsElab table A k fs gs r q c
+    fields-typed : {A : Around} {k : ℕ} {fs : bare.ExpFields} {gs : prog.Fields} {r : Row} {c : Choices} → FieldsElab table A k fs gs r c
         → (s : ℕ → Typ) → Fits A s → HaveTypes no_variable (context_under s A) fs (row_read s r) c
     fields-typed no_fields_elab s f = no_exp_field_has
-    fields-typed (a_field_elab l e fs p) s f = exp_field_has l (exp-typed e s f) (fields-typed fs s f)
-
-    held-typed : {A : Around} {h k : ℕ} {fs : bare.ExpFields} {bs : prog.Binds} {gs : prog.Fields} {r q : Row} {c : Choices}
-        → HeldElab table A h k fs bs gs r q c → (s : ℕ → Typ) → Fits A s → HaveTypes no_variable (context_under s A) fs (row_read s r) c
-    held-typed none_held_elab s f = no_exp_field_has
-    held-typed (held_elab place l n le e o fs p) s f = exp_field_has l (exp-typed e s f) (held-typed fs s f)
+    fields-typed (a_field_elab l e fs) s f = exp_field_has l (exp-typed e s f) (fields-typed fs s f)
 
     chain-typed : {A : Around} {k : ℕ} {b : Bool} {e : bare.Exp} {x : prog.Chain} {c : Choices} → ChainElab table A k b e x c → (s : ℕ → Typ) → Fits A s
         → HasType no_variable (context_under s A) e bool_type c

@@ -1,8 +1,7 @@
 -- Contexts with types for the parameters in scope: what is kept together is together in the rules.
-use Rattle.std.proofs.Common.{◌≡◌, ℕ, zero, suc, ◌+◌, Bool, true, false, not, ◌&&◌, List, [], ◌∷◌, ◌++◌, map, length, Option, Some, None, nat_eq, nat_lt, if◌then◌else◌, refl, sym, ap, subst, ◌∙◌, append-nil, arith}
+use Rattle.std.proofs.Common.{◌≡◌, ℕ, ◌+◌, Bool, true, false, not, ◌&&◌, List, [], ◌∷◌, ◌++◌, map, Option, Some, None, nat_eq, if◌then◌else◌, refl, sym, ap, ◌∙◌, append-nil, arith}
 use Rattle.std.specs.Prelude.{filter, unwrap_or, is_some, option_map, option_and_then}
 use Rattle.std.proofs.lemmas.Bool.{lt-ltb, ltb-true}
-use Rattle.mlc_base.specs.declared.label.Label.{Label}
 use Rattle.sml_tree.specs.Terminal.{LongVid}
 use Rattle.sml_tree.specs.declared.ident.Vid.{Vid}
 use Rattle.sml_tree.specs.BareTree.{LongIdAt, Exp, ExpFields}
@@ -11,10 +10,11 @@ use Rattle.ty_core.specs.Types.{Typ, Symbol, var, con, Typs, none, more}
 use Rattle.ty_core.specs.Statics.{replace, replace_all}
 use Rattle.ty_core.specs.declared.env.Status.TheVariants.{Variable}
 use Rattle.ty_basis.specs.Types.{Row, labels_in}
-use Rattle.core_rules.specs.Words.{same_vid, label_before}
+use Rattle.label_rows.proofs.Mapped.{sorted-map}
+use Rattle.core_rules.specs.Words.{same_vid}
 use Rattle.core_rules.specs.Objects as static
-use Rattle.core_rules.specs.Objects.{put_field, sorted, Map, at, joined, Value, Values, TypeStructure, Env, env, Structures, no_structures, structure, structures_of, structure_map, values_env, plus, value_in, long_value_in, Context, with_env, monomorphic, Over, AllOver, SymbolOver}
-use Rattle.core_rules.specs.Elaborated.{exception_type, replicated, opened}
+use Rattle.core_rules.specs.Objects.{sorted, Map, at, joined, Value, Values, TypeStructure, Env, env, Structures, no_structures, structure, structures_of, structure_map, values_env, plus, value_in, long_value_in, Context, with_env, monomorphic, Over, AllOver, SymbolOver}
+use Rattle.core_rules.specs.Elaborated.{replicated, opened}
 use Rattle.core_rules.specs.Typing.{Bound, bound_in, is_matched, is_matched_in, gives_reference, is_conexp_in, is_conexp, is_non_expansive, all_non_expansive}
 use Rattle.core_rules.specs.Typing as rules
 use Rattle.ir_poly.specs.TestsChecked.{Knowns}
@@ -202,19 +202,8 @@ kept-env-under s (env vs ts ss) = ap (λ us. env us ts ss) (given-under s vs)
 
 -- Rows
 
-put-field-under : (s : ℕ → Typ) (f : Label × Typ) (r : Row) → row_read s (put_field f r) ≡ put_field (f.0, replace s f.1) (row_read s r)
-put-field-under s f [] = refl
-put-field-under s f (g ∷ r) = go (label_before f.0 g.0) (put-field-under s f r)
-  where
-    go : (b : Bool) → row_read s (put_field f r) ≡ put_field (f.0, replace s f.1) (row_read s r)
-        → row_read s (if b then f ∷ g ∷ r else g ∷ put_field f r)
-        ≡ (if b then (f.0, replace s f.1) ∷ (g.0, replace s g.1) ∷ row_read s r else (g.0, replace s g.1) ∷ put_field (f.0, replace s f.1) (row_read s r))
-    go true h = refl
-    go false h = ap (λ q. (g.0, replace s g.1) ∷ q) h
-
 pub sorted-under : (s : ℕ → Typ) (r : Row) → row_read s (sorted r) ≡ sorted (row_read s r)
-sorted-under s [] = refl
-sorted-under s (f ∷ r) = put-field-under s f (sorted r) ∙ ap (put_field (f.0, replace s f.1)) (sorted-under s r)
+sorted-under s = sorted-map (λ f. f.0) (λ f. f.0) (λ f. (f.0, replace s f.1)) (λ f. refl)
 
 pub append-row : (s : ℕ → Typ) (r q : Row) → row_read s (r ++ q) ≡ row_read s r ++ row_read s q
 append-row s [] q = refl

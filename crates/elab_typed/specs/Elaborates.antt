@@ -1,11 +1,11 @@
 -- What a phrase elaborates to: a program that resolves it, with the types of a typing that is generic: parameters stand for themselves. Each rule has what the
 -- rules of the source ask [Definition 4.10], what the program's types need, and what identifiers denote; k is above all variables in scope.
-use Rattle.std.specs.Prelude.{◌≡◌, ℕ, suc, ◌+◌, ◌≤◌, Bool, true, false, List, [], ◌∷◌, ◌++◌, map, length, nat_eq, Option, Some, None, option_map, ⊤, ◌||◌}
+use Rattle.std.specs.Prelude.{◌≡◌, ℕ, suc, ◌+◌, ◌≤◌, Bool, true, false, List, [], ◌∷◌, ◌++◌, map, length, nat_eq, Option, Some, None, option_map, ⊤}
 use Rattle.std.specs.List.{list_all}
 use Rattle.std.specs.Map.{lookup}
 use Rattle.mlc_base.specs.declared.label.Label.{Label}
 use Rattle.mlc_base.specs.declared.place.Place.{Place}
-use Rattle.ty_core.specs.Types.{Typ, Typs, var, con, name, typs_of}
+use Rattle.ty_core.specs.Types.{Typ, Typs, var, con, name}
 use Rattle.ty_core.specs.Statics.{replace}
 use Rattle.ty_core.specs.declared.name.TyName.{TyName}
 use Rattle.ty_core.specs.declared.mark.Mark.{Mark}
@@ -20,7 +20,7 @@ use Rattle.sml_tree.specs.declared.ident.BuiltIn.{BuiltIn}
 use Rattle.sml_tree.specs.BareTree.{Ty, LongIdAt, TypeBind, DataBind, ExBind, new_exn, same_exn}
 use Rattle.sml_tree.specs.BareTree as bare
 use Rattle.core_rules.specs.Words.{same_label as same_source_label}
-use Rattle.core_rules.specs.Objects.{sorted, Map, Scheme, Value, Values, TypeStructure, Env, env, no_structures, value_in, Over}
+use Rattle.core_rules.specs.Objects.{sorted, Map, Value, TypeStructure, Env, no_structures, value_in, Over}
 use Rattle.core_rules.specs.Restrictions.{distinct, is_kept}
 use Rattle.core_rules.specs.Match.{constant_of}
 use Rattle.core_rules.specs.Eval.{identifier}
@@ -35,8 +35,8 @@ use Rattle.ir_poly.specs.Types.{ascend, over, are_new, Constructor as ConRow}
 use Rattle.ir_poly.specs.TestsChecked.{of_type, own, exception as exception_known, Knowns, declared, HasConstructor}
 use Rattle.ir_poly.specs.ProgChecked.{pat_onto, funs_onto, binds_onto}
 use Rattle.core_elab.specs.Scopes.{Denotes, variable, exception, Scope, empty, scoped, typed_by, plus_scope, denotes_in, long_denotes_in, long_typed_in, opened_scope, is_free_in, built_number, types_scope}
-use Rattle.core_elab.specs.Resolves.{is_still, HeadsTo, DatatypesTo, IsCalled, joined}
-use Rattle.elab_typed.specs.Numbers.{type_as, row_as, KeepsInitial, AgreeBelow}
+use Rattle.core_elab.specs.Resolves.{HeadsTo, DatatypesTo, IsCalled, joined}
+use Rattle.elab_typed.specs.Numbers.{row_as, KeepsInitial, AgreeBelow}
 use Rattle.elab_typed.specs.Contexts.{Kept, given, general, single, raised, KeptValues, KeptEnv, kept_values, given_values, kept_env, plus_kept, kept_in, Around, context_under, generic, IsOver, singles, generals, with_bound, after}
 use Rattle.elab_typed.specs.Instances.{as_typed, IsGivenAt, ConHas, UseElab, AloneElab, BeforeElab}
 
@@ -73,12 +73,6 @@ pub data HeadElab (A : Around) : bare.Pat → Typ → Bound → Type 0 where
   head_typed : (p : Place) {a : bare.Pat} {ty : Ty} {t : Typ} {vs : Bound} → HeadElab A a t vs → Stands A ty t → HeadElab A (bare.typed_pat p a ty) t vs
   head_as : (p : Place) (x : Vid) {ty : Option Ty} {a : bare.Pat} {t : Typ} {vs : Bound} → is_matched_in (value_in (generic A).env x) ≡ false
       → is_kept x ≡ false → StandsIf A ty t → HeadElab A a t vs → HeadElab A (bare.as_pat p x ty a) t ((x, t) ∷ vs)
-
--- a field put among others, with its type: past those of other labels, of which one is still
-pub data PutElab (l : Label) (e : prog.Exp) (t : Typ) : prog.Fields → Row → prog.Fields → Row → Type 0 where
-  put_here : {gs : prog.Fields} {q : Row} → PutElab l e t gs q (prog.a_field l e gs) ((l, t) ∷ q)
-  put_past : (k : Label) (d : prog.Exp) (u : Typ) {gs hs : prog.Fields} {q q' : Row} → same_label l k ≡ false → (is_still e || is_still d) ≡ true
-      → PutElab l e t gs q hs q' → PutElab l e t (prog.a_field k d gs) ((k, u) ∷ q) (prog.a_field k d hs) ((k, u) ∷ q')
 
 -- inside a `val` declaration: with the type variables that are scoped there, and its parameters
 abbrev pub scoped_as : List Tyvar → List Quantified → Map ℕ Typ
@@ -162,14 +156,9 @@ module _ (table : List ConRow) where
       built_exp_elab : {A : Around} {k : ℕ} (p : Place) (b : BuiltIn) (ts : List Typ) (y : TyName) (us : List Typ) {t : Typ} {c : Choices}
           → IsGivenAt A (built_value b) ts t c → ConHas table A (built_number b) y us (as_typed A t)
           → ExpElab A k (bare.built_exp p b) (prog.con_exp (built_number b) y us (as_typed A t)) t c
-      record_elab : {A : Around} {k : ℕ} (p : Place) {fs : bare.ExpFields} {gs : prog.Fields} {r : Row} {c : Choices} → FieldsElab A k fs gs r (sorted r) c
+      record_elab : {A : Around} {k : ℕ} (p : Place) {fs : bare.ExpFields} {gs : prog.Fields} {r : Row} {c : Choices} → FieldsElab A k fs gs r c
           → ascend (labels_in (sorted r)) ≡ true
           → ExpElab A k (bare.fields_exp p fs) (prog.fields_exp (as_typed A (row_type (sorted r))) gs) (row_type (sorted r)) c
-      -- fields whose order matters are bound first, as they are written; then the record is made of the variables
-      ordered_elab : {A : Around} {k : ℕ} (p : Place) {fs : bare.ExpFields} {bs : prog.Binds} {gs : prog.Fields} {r : Row} {c : Choices}
-          → HeldElab A k k fs bs gs r (sorted r) c → ascend (labels_in (sorted r)) ≡ true
-          → ExpElab A k (bare.fields_exp p fs) (prog.let_exp (as_typed A (row_type (sorted r))) (prog.val_dec [] bs prog.no_funs prog.no_decs)
-          (prog.fields_exp (as_typed A (row_type (sorted r))) gs)) (row_type (sorted r)) c
       let_elab : {A : Around} {k : ℕ} (p : Place) {ds : bare.Decs} {e : bare.Exp} {ds' : prog.Decs} {e' : prog.Exp} {made : ℕ} {number : ℕ → ℕ} {d : KeptEnv}
           {r : Scope} {G : Knowns} {t : Typ} {c b : Choices} {j : ℕ} → DecsElab A k ds ds' made number d r G c j
           → ExpElab (after A made number d r G) j e e' t b → Over A.names t
@@ -192,20 +181,12 @@ module _ (table : List ConRow) where
       counted_elab : {A : Around} {k : ℕ} (n : ℕ) {e : bare.Exp} {e' : prog.Exp} {t : Typ} {c : Choices} → ExpElab A k e e' t c
           → ExpElab A k e (prog.counted_exp n (as_typed A t) e') t c
 
-    -- fields as they were written, with their row, and with the one of the record
-    pub data FieldsElab : Around → ℕ → bare.ExpFields → prog.Fields → Row → Row → Choices → Type 0 where
-      no_fields_elab : {A : Around} {k : ℕ} → FieldsElab A k bare.no_exp_fields prog.no_fields [] [] no_choice
-      a_field_elab : {A : Around} {k : ℕ} (l : Label) {e : bare.Exp} {fs : bare.ExpFields} {e' : prog.Exp} {gs hs : prog.Fields} {t : Typ} {r q q' : Row}
-          {c d : Choices} → ExpElab A k e e' t c → FieldsElab A k fs gs r q d → PutElab l e' t gs q hs q'
-          → FieldsElab A k (bare.exp_field l e fs) hs ((l, t) ∷ r) q' (both c d)
-
-    -- fields as bindings, in the order written, and as the fields of a record of their variables
-    pub data HeldElab : Around → ℕ → ℕ → bare.ExpFields → prog.Binds → prog.Fields → Row → Row → Choices → Type 0 where
-      none_held_elab : {A : Around} {h k : ℕ} → HeldElab A h k bare.no_exp_fields prog.no_binds prog.no_fields [] [] no_choice
-      held_elab : {A : Around} {h k : ℕ} (place : Place) (l : Label) (n : ℕ) {e : bare.Exp} {fs : bare.ExpFields} {e' : prog.Exp} {bs : prog.Binds}
-          {gs hs : prog.Fields} {t : Typ} {r q q' : Row} {c d : Choices} → k ≤ n → ExpElab A h e e' t c → over A.parameters (as_typed A t) ≡ true
-          → HeldElab A h (suc n) fs bs gs r q d → PutElab l (prog.variable_exp n [] (as_typed A t)) t gs q hs q'
-          → HeldElab A h k (bare.exp_field l e fs) (prog.a_bind place false (prog.variable_pat n) (as_typed A t) e' bs) hs ((l, t) ∷ r) q' (both c d)
+    -- fields as they are written, with their row
+    pub data FieldsElab : Around → ℕ → bare.ExpFields → prog.Fields → Row → Choices → Type 0 where
+      no_fields_elab : {A : Around} {k : ℕ} → FieldsElab A k bare.no_exp_fields prog.no_fields [] no_choice
+      a_field_elab : {A : Around} {k : ℕ} (l : Label) {e : bare.Exp} {fs : bare.ExpFields} {e' : prog.Exp} {gs : prog.Fields} {t : Typ} {r : Row}
+          {c d : Choices} → ExpElab A k e e' t c → FieldsElab A k fs gs r d
+          → FieldsElab A k (bare.exp_field l e fs) (prog.a_field l e' gs) ((l, t) ∷ r) (both c d)
 
     -- operands of andalso (true) and orelse (false), with the choices of the derived form
     pub data ChainElab : Around → ℕ → Bool → bare.Exp → prog.Chain → Choices → Type 0 where

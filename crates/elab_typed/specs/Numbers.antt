@@ -1,5 +1,5 @@
 -- Type names of the source by their numbers in the program: the source gives numbers back at the end of a `let`, the program never.
-use Rattle.std.specs.Prelude.{◌≡◌, ℕ, true, nat_lt, List, [], ◌∷◌, Option, option_map, map}
+use Rattle.std.specs.Prelude.{◌≡◌, ℕ, true, nat_lt, List, map}
 use Rattle.mlc_base.specs.declared.label.Label.{Label}
 use Rattle.ty_core.specs.Types.{Symbol, arrow, labels, name, Typ, var, con, Typs, none, more}
 use Rattle.ty_core.specs.declared.name.TyName.{TyName}
@@ -24,8 +24,7 @@ module _ (number : ℕ → ℕ) where
     types_as (more t ts) = more (type_as t) (types_as ts)
 
   abbrev pub row_as : List (Label × Typ) → List (Label × Typ)
-  row_as [] = []
-  row_as (f ∷ fs) = (f.0, type_as f.1) ∷ row_as fs
+  row_as = map (λ f. (f.0, type_as f.1))
 
 -- the names of the initial basis have the same numbers
 abbrev pub KeepsInitial : (ℕ → ℕ) → Type 0

@@ -8,7 +8,7 @@ use Rattle.std.proofs.lemmas.Bool.{eqb-true}
 use Rattle.ty_instance.specs.Images.{image_at}
 use Rattle.std.proofs.lemmas.Option.{slice_get_within, get_or_from_slice_get}
 use Rattle.mlc_base.specs.declared.label.Label.{Label}
-use Rattle.mlc_base.specs.declared.label.Label.TheVariants.{Number, Word}
+use Rattle.mlc_base.specs.declared.label.Label.TheVariants.{Number}
 use Rattle.mlc_base.specs.declared.place.Place.{Place}
 use Rattle.ty_core.specs.Types.{Typ, var, con, Typs, none, more, typs_of, labels}
 use Rattle.ty_core.specs.Statics.{TypeFunction, apply, argument, count, replace, replace_all}
@@ -26,11 +26,11 @@ use Rattle.sml_tree.specs.declared.tree.TyField.{TyField}
 use Rattle.sml_tree.specs.declared.tree.TyPart.{TyPart}
 use Rattle.sml_tree.specs.Derived.{tys_of, TyAt, numbered_tys, product, arrows}
 use Rattle.sml_tree.specs.TreeOf.{ty_of, long_id_of, ty_fields_of, ty_field_of, ty_part_of}
-use Rattle.core_rules.specs.Words as words
 use Rattle.core_rules.specs.Objects as static
 use Rattle.core_rules.specs.Objects.{Context, TypeStructure}
 use Rattle.core_rules.specs.Elaborated.{type_of, types_of, row_of, type_in}
-use Rattle.label_rows.specs.Sorting.{label_before, put_field, sorted}
+use Rattle.label_rows.specs.Sorting.{sorted}
+use Rattle.label_rows.proofs.Mapped.{sorted-map}
 use Rattle.label_rows.specs.declared.sort.Field.{Field}
 use Rattle.elab_types.specs.Building.{labels_of, parts_of, numbered_from, functions}
 use Rattle.elab_types.specs.Reading.{entry_of, function_in, Reads, Holds}
@@ -148,28 +148,9 @@ arguments-none c p q x tys e = ap (option_and_then (λ us. option_and_then (λ s
 abbrev typed : (ℕ → Typ) → List Typ → Field → Label × Typ
 typed f ts d = (d.label, replace f (type_at ts d.part))
 
-before-same : (l k : Label) → words.label_before l k ≡ label_before l k
-before-same (Number m) (Number n) = refl
-before-same (Number m) (Word y) = refl
-before-same (Word x) (Number n) = refl
-before-same (Word x) (Word y) = refl
-
 module _ (f : ℕ → Typ) (ts : List Typ) where
-  put-typed : (d : Field) (ds : List Field) → static.put_field (typed f ts d) (map (typed f ts) ds) ≡ map (typed f ts) (put_field d ds)
-  put-typed d [] = refl
-  put-typed d (e ∷ ds) =
-      ap (λ b. cond b (typed f ts d ∷ typed f ts e ∷ map (typed f ts) ds) (typed f ts e ∷ static.put_field (typed f ts d) (map (typed f ts) ds))) (before-same d.label e.label)
-      ∙ by (label_before d.label e.label) (put-typed d ds)
-    where
-      by : (b : Bool) → static.put_field (typed f ts d) (map (typed f ts) ds) ≡ map (typed f ts) (put_field d ds)
-          → cond b (typed f ts d ∷ typed f ts e ∷ map (typed f ts) ds) (typed f ts e ∷ static.put_field (typed f ts d) (map (typed f ts) ds))
-          ≡ map (typed f ts) (cond b (d ∷ e ∷ ds) (e ∷ put_field d ds))
-      by true h = refl
-      by false h = ap (λ l. typed f ts e ∷ l) h
-
   sorted-typed : (ds : List Field) → static.sorted (map (typed f ts) ds) ≡ map (typed f ts) (sorted ds)
-  sorted-typed [] = refl
-  sorted-typed (d ∷ ds) = ap (static.put_field (typed f ts d)) (sorted-typed ds) ∙ put-typed d (sorted ds)
+  sorted-typed ds = sym (sorted-map (λ d. d.label) (λ p. p.0) (typed f ts) (λ d. refl) ds)
 
   labels-typed : (ds : List Field) → map (λ r. r.0) (map (typed f ts) ds) ≡ labels_of ds
   labels-typed [] = refl

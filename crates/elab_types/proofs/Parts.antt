@@ -31,11 +31,11 @@ numbered-next xs i n d lt e q =
 -- sorting keeps what is below
 put-below : (n : ℕ) (d : Field) (ds : List Field) → d.part < n → AllBelow n (parts_of ds) → AllBelow n (parts_of (put_field d ds))
 put-below n d [] lt h = (lt, tt)
-put-below n d (e ∷ ds) lt h = by (label_before d.label e.label) (put-below n d ds lt h.1)
+put-below n d (e ∷ ds) lt h = by (label_before e.label d.label) (put-below n d ds lt h.1)
   where
-    by : (b : Bool) → AllBelow n (parts_of (put_field d ds)) → AllBelow n (parts_of (cond b (d ∷ e ∷ ds) (e ∷ put_field d ds)))
-    by true r = (lt, h)
-    by false r = (h.0, r)
+    by : (b : Bool) → AllBelow n (parts_of (put_field d ds)) → AllBelow n (parts_of (cond b (e ∷ put_field d ds) (d ∷ e ∷ ds)))
+    by true r = (h.0, r)
+    by false r = (lt, h)
 
 pub sorted-below : (n : ℕ) (ds : List Field) → AllBelow n (parts_of ds) → AllBelow n (parts_of (sorted ds))
 sorted-below n [] h = tt

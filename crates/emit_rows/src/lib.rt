@@ -1,4 +1,8 @@
-// The code of primitives, computed: so far how many instructions each has.
+// The code of primitives, computed: how many instructions each has, and which.
 #![tactic(auto)]
 
+pub mod push;
+pub mod row;
+pub mod rows;
+pub mod shape;
 pub mod sizes;

@@ -6,6 +6,7 @@ ghost use Rattle.machine_rows.specs.Table.{rows, int_row, word_row, char_row, te
 
 use first_tables::operation::Operands;
 use mlc_prims::basis::BasisPrimitive;
+use mlc_prims::prim::PrimExn;
 
 /// The size of a primitive's code at these operands.
 pub fn row_size(operands: Operands, primitive: BasisPrimitive) -> u32
@@ -16,6 +17,26 @@ pub fn row_size(operands: Operands, primitive: BasisPrimitive) -> u32
         Operands::Words => word_size(primitive),
         Operands::Chars => char_size(primitive),
         Operands::Texts => text_size(primitive),
+    }
+}
+
+/// The exception whose packet is put into its slot only where the primitive goes on with it.
+pub fn late_exception(operands: Operands, primitive: BasisPrimitive) -> Option<PrimExn>
+    ensures { result ≡ rows.late (operands_of operands) primitive }
+{
+    match operands {
+        Operands::Ints => match primitive {
+            BasisPrimitive::Add | BasisPrimitive::Subtract | BasisPrimitive::Multiply => {
+                Some(PrimExn::Overflow)
+            }
+            BasisPrimitive::Modulo | BasisPrimitive::Remainder => Some(PrimExn::Div),
+            _ => None,
+        },
+        Operands::Words => match primitive {
+            BasisPrimitive::Divide | BasisPrimitive::Modulo => Some(PrimExn::Div),
+            _ => None,
+        },
+        Operands::Chars | Operands::Texts => None,
     }
 }
 
@@ -43,9 +64,8 @@ fn int_size(primitive: BasisPrimitive) -> u32
         | BasisPrimitive::Subtract
         | BasisPrimitive::Multiply
         | BasisPrimitive::Modulo
-        | BasisPrimitive::Remainder
-        | BasisPrimitive::LessEqual
-        | BasisPrimitive::GreaterEqual => 3,
+        | BasisPrimitive::Remainder => 2,
+        BasisPrimitive::LessEqual | BasisPrimitive::GreaterEqual => 3,
         BasisPrimitive::Negate => 4,
         BasisPrimitive::Divide | BasisPrimitive::Quotient | BasisPrimitive::CharOf => 5,
         BasisPrimitive::Absolute => 8,
@@ -70,11 +90,11 @@ fn word_size(primitive: BasisPrimitive) -> u32
         | BasisPrimitive::ShiftRight
         | BasisPrimitive::ShiftSigned
         | BasisPrimitive::ToIntSigned => 1,
-        BasisPrimitive::Negate | BasisPrimitive::BitsNot => 2,
-        BasisPrimitive::Divide
-        | BasisPrimitive::Modulo
-        | BasisPrimitive::LessEqual
-        | BasisPrimitive::GreaterEqual => 3,
+        BasisPrimitive::Negate
+        | BasisPrimitive::BitsNot
+        | BasisPrimitive::Divide
+        | BasisPrimitive::Modulo => 2,
+        BasisPrimitive::LessEqual | BasisPrimitive::GreaterEqual => 3,
         BasisPrimitive::ToInt => 5,
         _ => 0,
     }

@@ -3,11 +3,12 @@ use Rattle.std.proofs.Common.{◌≡◌, ℕ, suc, List, Option, Some, refl, sym
 use Rattle.mlc_base.specs.declared.place.Place.{Place}
 use Rattle.mlc_prims.specs.declared.basis.BasisPrimitive.{BasisPrimitive}
 use Rattle.ty_core.specs.Types.{Typ}
+use Rattle.label_rows.specs.Order.{sorted_by}
 use Rattle.ir_plain.specs.Tree as te
 use Rattle.ir_poly.specs.Prog as t
 use Rattle.ir_poly.specs.Tests.{Tests, poly}
 use Rattle.match_compile.specs.Compile as clean
-use Rattle.match_compile.specs.Compile.{making, making_all, making_tuple, value_at, past_fields, past_tuple, past_built, tuple_atoms, field_row, weighed, beginning, building, put, scoped, along, Way, by_building, by_performing}
+use Rattle.match_compile.specs.Compile.{making, making_all, making_tuple, value_at, past_fields, past_tuple, past_built, tuple_atoms, sorted_row, weighed, beginning, building, put, scoped, along, Way, by_building, by_performing}
 use Rattle.plain_tree.specs.TreeOf as plain
 use Rattle.plain_tree.specs.declared.tree.Field.{Field}
 use Rattle.plain_tree.specs.declared.tree.Step.{Step}
@@ -26,6 +27,7 @@ use Rattle.exp_steps.specs.declared.ways.Built.TheVariants as builts
 use Rattle.prog_tree.specs.declared.tree.Exception.{Exception}
 use Rattle.match_steps.specs.Steps.{Puts}
 use Rattle.match_steps.specs.Made.{naming}
+use Rattle.exp_steps.proofs.Ordered.{row-sorted}
 
 -- after what makes neither steps nor numbers
 pub pushed-after : {w0 w1 w2 : Work} {b a : List Step} {u : ValueType} {g : View → te.Op poly} {n : ℕ} → Keeps w0 w1 → w1.next ≡ w0.next → Pushed w1 w2 b a u g n → Pushed w0 w2 b a u g n
@@ -36,18 +38,19 @@ pushed-after {w0 = w0} {w1 = w1} {w2 = w2} {u = u} {g = g} k same p = record {
   puts = puts-as (putting u w0.next g) (λ v sees rest. ap (λ i. putting u i g v rest) same) p.puts;
 }
 
--- a record of fields whose values were made
-pub record-makes : {w w0 w1 : Work} {s b a : List Step} {u n : ℕ} {fs : Reading → t.Fields} (made : List Field) → MakesAll w w0 s b fs made
-    → Pushed w0 w1 b a (Source u) (λ o. te.make_record (scoped o.scope (o.source.type u)) (plain.row_of (reading o) made)) n → Makes w w1 s a (recorded u fs) n
-record-makes {w = w} {w0 = w0} {w1 = w1} {s = s} {b = b} {a = a} {u = u} {n = n} {fs = fs} made p q = record {
+-- a record of fields whose values were made, in the order of their labels
+pub record-makes : {w w0 w1 : Work} {s b a : List Step} {u n : ℕ} {fs : Reading → t.Fields} (made ordered : List Field) → ordered ≡ sorted_by (λ f. f.label) made → MakesAll w w0 s b fs made
+    → Pushed w0 w1 b a (Source u) (λ o. te.make_record (scoped o.scope (o.source.type u)) (plain.row_of (reading o) ordered)) n → Makes w w1 s a (recorded u fs) n
+record-makes {w = w} {w0 = w0} {w1 = w1} {s = s} {b = b} {a = a} {u = u} {n = n} {fs = fs} made ordered order p q = record {
   keeps = keeps-on w w0 w1 p.keeps q.keeps;
   is = λ o sees. sym (p.next o (sees-before w0 w1 o q.keeps sees)) ∙ sym q.is;
   next = q.next ∙ ap suc (sym q.is);
   puts = puts-as (λ o rest. making o.scope o.names (t.fields_exp (o.source.type u) (fs o.source)) w.next rest)
       (λ o sees rest.
       ap₂ (λ i r. making_all o.scope o.names (fs o.source) w.next (put o.scope i (o.source.type u) (te.make_record (scoped o.scope (o.source.type u)) r) rest))
-      (p.next o (sees-before w0 w1 o q.keeps sees)) (p.row o (sees-before w0 w1 o q.keeps sees)))
-      (two-puts w0 w1 s b a (λ o rest. making_all o.scope o.names (fs o.source) w.next rest) (putting (Source u) w0.next (λ o. te.make_record (scoped o.scope (o.source.type u)) (plain.row_of (reading o) made))) q.keeps p.puts q.puts);
+      (p.next o (sees-before w0 w1 o q.keeps sees))
+      (ap (plain.row_of (reading o)) order ∙ row-sorted (reading o) made ∙ ap sorted_row (p.row o (sees-before w0 w1 o q.keeps sees))))
+      (two-puts w0 w1 s b a (λ o rest. making_all o.scope o.names (fs o.source) w.next rest) (putting (Source u) w0.next (λ o. te.make_record (scoped o.scope (o.source.type u)) (plain.row_of (reading o) ordered))) q.keeps p.puts q.puts);
 }
 
 pub along-built : {A : Type 0} (w : Way) (x : A) (g : clean.Built → A) (h : BasisPrimitive → Typ → A) (b : clean.Built) → w ≡ by_building b → along w x g h ≡ g b

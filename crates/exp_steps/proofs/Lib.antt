@@ -1,3 +1,4 @@
+pub mod Ordered
 pub mod Leaves
 pub mod Nodes
 pub mod Fields

@@ -2,3 +2,4 @@ pub mod Ways
 pub mod Making
 pub mod Made
 pub mod Joining
+pub mod Rows

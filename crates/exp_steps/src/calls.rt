@@ -15,6 +15,7 @@ ghost use Rattle.exp_steps.specs.Made.{raised, applied, recorded};
 ghost use Rattle.exp_steps.specs.Ways.{built_of, type_or_unit as known_type};
 
 use crate::operations::push_operation;
+use crate::records::in_order;
 use crate::ways::{Built, push_weights};
 use match_steps::steps::push_name;
 use match_types::types::scoped_type;
@@ -69,7 +70,7 @@ pub fn push_call(
     Ok(a)
 }
 
-/// A record of fields whose values were made.
+/// A record of fields whose values were made, in the order of their labels.
 pub fn push_record(
     alloc: Global,
     work: &mut Work,
@@ -80,8 +81,12 @@ pub fn push_record(
     ensures { IfOk result (λ a. (w : State) (ss : List Row) (fs : Reading → Fields) → MakesAll w work.old ss steps.old.items fs fields.items
         → Makes w work.new ss steps.new.items (recorded u fs) a) }
 {
+    let ordered = in_order(alloc, &fields)?;
     let ty = scoped_type(alloc, work, ValueType::Source(u))?;
-    let operation = Operation::Record { ty, fields };
+    let operation = Operation::Record {
+        ty,
+        fields: ordered,
+    };
     let a = push_operation(alloc, work, ValueType::Source(u), operation, steps)?;
     Ok(a)
 }

@@ -5,5 +5,6 @@ pub mod atoms;
 pub mod calls;
 pub mod joins;
 pub mod operations;
+pub mod records;
 pub mod types;
 pub mod ways;

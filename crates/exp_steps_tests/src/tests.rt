@@ -3,15 +3,17 @@
 use exp_steps::atoms::{push_atom, push_used};
 use exp_steps::calls::{push_call, push_performed, push_raise, push_unit};
 use exp_steps::joins::{Opening, close};
+use exp_steps::records::in_order;
 use exp_steps::ways::Built;
 use ir_known::stack::Stack;
 use ir_tables::tables::{Constant, Tables};
 use match_names::names::Names;
 use match_types::work::Work;
+use mlc_base::label::Label;
 use mlc_base::memory::NoMemory;
 use mlc_base::place::Place;
 use mlc_prims::basis::BasisPrimitive;
-use plain_tree::tree::Step;
+use plain_tree::tree::{Field, Step};
 use prog_tree::tree::{Atom, Exception, Join, Used};
 use std::alloc::Global;
 use std::test::Fail;
@@ -138,6 +140,31 @@ fn a_primitive_takes_its_operands(rt: HostRuntime) -> Result<(), Fail> {
     let made = counted(rt.alloc(), Wanted::Joined(opening))?;
     assert_eq!(rt; made.steps, 1);
     assert_eq!(rt; made.value, 2);
+    Ok(())
+}
+
+/// The values of the fields 3, 1 and 2, as a record has them.
+fn ordered(alloc: Global) -> Result<Vec<usize>, NoMemory> {
+    let fields = [field(3, 7), field(1, 8), field(2, 9)];
+    let made = in_order(alloc, &fields)?;
+    let mut atoms = Vec::new(alloc);
+    for field in &made {
+        atoms.push(field.atom)?;
+    }
+    Ok(atoms)
+}
+
+fn field(label: u32, atom: usize) -> Field {
+    Field {
+        label: Label::Number(label),
+        atom,
+    }
+}
+
+#[test]
+fn a_record_has_its_fields_in_order(rt: HostRuntime) -> Result<(), Fail> {
+    let atoms = ordered(rt.alloc())?;
+    assert_eq!(rt; atoms.as_slice(), [8, 9, 7].as_slice());
     Ok(())
 }
 

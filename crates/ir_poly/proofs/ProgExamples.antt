@@ -1,6 +1,7 @@
 -- A small program for each construct with source matches, with its outcome at several numbers of turns, by computation. Types are ignored, and unit's stands everywhere.
 use Rattle.std.proofs.Common.{◌≡◌, ℕ, true, false, List, [], ◌∷◌, Some, None, pos, refl}
 use Rattle.mlc_base.specs.Outcome.{End, ended, uncaught, going, wrong, Outcome}
+use Rattle.mlc_base.specs.Run.{World, gives}
 use Rattle.mlc_base.specs.declared.label.Label.TheVariants.{Number}
 use Rattle.mlc_base.specs.declared.place.Place.{Place}
 use Rattle.mlc_prims.specs.LitOf.{int, string}
@@ -8,9 +9,10 @@ use Rattle.mlc_prims.specs.declared.basis.BasisPrimitive.TheVariants.{Divide, Eq
 use Rattle.ty_core.specs.Types.{Typ, con, none, labels}
 use Rattle.ty_core.specs.declared.name.TyName.{TyName}
 use Rattle.ty_core.specs.declared.name.Equality.TheVariants.{Always}
-use Rattle.ir_values.specs.Values.{true_number, false_number}
+use Rattle.ir_values.specs.Values.{literal, record_of, field, empty, true_number, false_number}
+use Rattle.ir_values.specs.Values as values
 use Rattle.ir_poly.specs.Prog.{fixed, held, Pat, any_pat, variable_pat, constant_pat, con_pat, con_of_pat, ref_of_pat, exn_pat, exn_of_pat, fields_pat, as_pat, no_pats, a_pat, Exp, constant_exp, variable_exp, own_exp, con_exp, ref_exp, exn_exp, prim_exp, fields_exp, let_exp, app_exp, case_exp, chain_exp, handle_exp, raise_exp, fn_exp, counted_exp, no_fields, a_field, only, link, Rules, no_rules, a_rule, last, by_rules, more, Decs, no_decs, val_dec, exception_dec, counted_dec, no_binds, a_bind, no_funs, a_fun}
-use Rattle.ir_poly.specs.ProgMeaning.{run}
+use Rattle.ir_poly.specs.ProgMeaning.{V, Apply, eval, run}
 use Rattle.ir_poly.specs.ProgWeight.{decs_weight}
 
 abbrev t : Typ
@@ -77,6 +79,29 @@ order = refl
 -- fields as they are written
 field-order : does (just (pair (say 1 97) (say 2 98))) 2 ≡ outcome (97 ∷ 98 ∷ []) ended (at 1 ∷ at 2 ∷ [])
 field-order = refl
+
+-- also where they aren't written in the order of their labels
+abbrev reversed : Exp
+reversed = fields_exp t (a_field (Number 2) (say 1 98) (a_field (Number 1) (say 2 97) no_fields))
+
+written-order : does (just reversed) 2 ≡ outcome (98 ∷ 97 ∷ []) ended (at 1 ∷ at 2 ∷ [])
+written-order = refl
+
+-- and then the record has them in that order
+abbrev seven-and-three : Exp
+seven-and-three = fields_exp t (a_field (Number 2) (number 7) (a_field (Number 1) (number 3) no_fields))
+
+label-order : (call : Apply) (w : World V) → eval call seven-and-three empty w
+    ≡ gives (record_of tt (field (Number 1) (literal (int (pos 3))) (field (Number 2) (literal (int (pos 7))) values.no_fields))) w
+label-order call w = refl
+
+-- of two with the same label the first is found
+abbrev twice : Exp
+twice = fields_exp t (a_field (Number 1) (number 3) (a_field (Number 1) (number 7) no_fields))
+
+first-of-two : (call : Apply) (w : World V) → eval call twice empty w
+    ≡ gives (record_of tt (field (Number 1) (literal (int (pos 3))) (field (Number 1) (literal (int (pos 7))) values.no_fields))) w
+first-of-two call w = refl
 
 -- a primitive of a tuple, one alone, and what it raises
 divides : does (just (app 1 (prim_exp Divide [] t) (pair (number 1) (number 0)))) 1 ≡ outcome [] (uncaught 93) (at 1 ∷ [])

@@ -9,10 +9,10 @@ use Rattle.ir_poly.specs.Prog.{Exc, Pat, PatFields, Exp, type_of, Fields, Chain,
 use Rattle.ir_poly.specs.ProgMeaning.{size_of}
 use Rattle.ir_poly.specs.ProgChecked.{pat_onto, pats_onto, each_onto, funs_onto, binds_onto, ExcChecked, fixed_checked, held_checked, PatChecked, any_checked, variable_checked, constant_checked, con_checked, con_of_checked, ref_of_checked, exn_checked, exn_of_checked, fields_checked, as_checked, PatsChecked, no_pats_checked, a_pat_checked, Checked, c_constant, c_variable, c_variable_one, c_own, c_con, c_ref, c_exn, c_prim, c_fields, c_let, c_app, c_case, c_chain, c_handle, c_raise, c_fn, c_counted, FieldsChecked, c_no_fields, c_field, ChainChecked, c_only, c_link, RulesChecked, c_no_rules, c_rule, FunChecked, c_last, c_by_rules, c_more, DecsChecked, c_no_decs, c_val, c_exception, c_exception_alone, c_counted_dec, BindsChecked, c_no_binds, c_general, c_plain, FunsChecked, c_no_funs, c_fun}
 use Rattle.ir_poly.specs.ProgTyped.{type_at, binds_at, PatTyped, any_typed, variable_typed, constant_typed, con_typed, con_of_typed, ref_of_typed, exn_typed, exn_of_typed, fields_typed, as_typed, PatsTyped, no_pats_typed, a_pat_typed, Typed, t_constant, t_variable, t_variable_one, t_own, t_con, t_ref, t_exn, t_prim, t_fields, t_let, t_app, t_case, t_chain, t_handle, t_raise, t_fn, t_counted, FieldsTyped, t_no_fields, t_field, ChainTyped, t_only, t_link, RulesTyped, t_no_rules, t_rule, FunTyped, t_last, t_by_rules, t_more, DecsTyped, t_no_decs, t_val, t_exception, t_counted_dec, BindsTyped, t_no_binds, t_general, t_plain, FunsTyped, t_no_funs, t_fun}
-use Rattle.ir_poly.specs.Types.{ascend, over, are_new, changed, Constructor, argument_at, prim_type, arguments_at}
+use Rattle.ir_poly.specs.Types.{row_type, labels_in, ascend, sorted, over, are_new, changed, Constructor, argument_at, prim_type, arguments_at}
 use Rattle.ir_poly.specs.TestsChecked.{Known, of_type, own, Knowns, declared, bound, is_size}
 use Rattle.ir_poly.specs.TestsTyped.{option_read, own_at}
-use Rattle.ir_poly.proofs.ReplaceLemmas.{replace-agree, Fits, allows-read, are-allowed-read, typs_of-read, row_read, row_type-read, labels-read, length-read, part-read, argument-read, arguments-read, result-read, tuple-read, changed-outside, changed-fits}
+use Rattle.ir_poly.proofs.ReplaceLemmas.{replace-agree, Fits, allows-read, are-allowed-read, typs_of-read, row_read, sorted-read, row_type-read, labels-read, length-read, part-read, argument-read, arguments-read, result-read, tuple-read, changed-outside, changed-fits}
 use Rattle.ir_poly.proofs.TypedLemmas.{KnownRead, read_type, read_own, read_exception, Reads, reads_more, read-at, own-found, general-found, type-at, exception-at, literal-read, value-read, alone-read, constructor-read, under, declared-read}
 
 exc-read : (D : List Quantified) (s : ℕ → Typ) {G H : Knowns} {x : Exc} {a : Option Typ} → ExcChecked G x a → Reads D s G H → ExcChecked H x (option_read s a)
@@ -90,7 +90,9 @@ module _ {table : List Constructor} where
     typed-read (c_exn {a = a} x h) s f rs = t_exn (exc-read _ s x rs) (ap (replace s) h ∙ value-read s a) refl
     typed-read (c_prim {D = D} {p = p} {u = u} o al e) s f rs =
         t_prim (allows-read (prim_type p).mark D s f u al) (ap (replace s) e ∙ rw (tuple-read s (arguments_at p u), arguments-read s p u, result-read s p u) refl) refl
-    typed-read (c_fields {r = r} fs h a) s f rs = t_fields (fields-read fs s f rs) (ap (replace s) h ∙ row_type-read s r) (ap ascend (labels-read s r) ∙ a) refl
+    typed-read (c_fields {r = r} fs h a) s f rs =
+        t_fields (fields-read fs s f rs) (ap (replace s) h ∙ row_type-read s (sorted r) ∙ ap row_type (sorted-read s r))
+        (ap (λ q. ascend (labels_in q)) (sym (sorted-read s r)) ∙ ap ascend (labels-read s (sorted r)) ∙ a) refl
     typed-read (c_let G' ds e) s f rs = let k = decs-read ds s f rs in t_let k.0 k.1 (typed-read e s f k.2) refl
     typed-read (c_app g a h) s f rs = t_app (typed-read g s f rs) (typed-read a s f rs) (ap (replace s) h) refl
     typed-read (c_case e o rules) s f rs = t_case (typed-read e s f rs) (rules-read rules o s f rs) refl

@@ -13,7 +13,8 @@ use Rattle.ty_core.specs.declared.mark.Mark.TheVariants.{Any, Equality, Class}
 use Rattle.ty_core.specs.declared.name.Equality as Eq
 use Rattle.ty_core.specs.declared.name.Equality.TheVariants.{Always, ByArguments, Never}
 use Rattle.ty_core.specs.declared.scheme.Quantified.{Quantified}
-use Rattle.ir_poly.specs.Types.{row_type, in_scope, is_equality, is_declarable, admits_in, over, all_over, are_new, changed, AreAllowed, nth_type, argument_at, put, prim_type, arguments_at, result_at, numbered, tuple_type}
+use Rattle.label_rows.proofs.Mapped.{sorted-map}
+use Rattle.ir_poly.specs.Types.{row_type, sorted, in_scope, is_equality, is_declarable, admits_in, over, all_over, are_new, changed, AreAllowed, nth_type, argument_at, put, prim_type, arguments_at, result_at, numbered, tuple_type}
 use Rattle.ir_poly.specs.TestsTyped.{option_read}
 
 pub left-true : (a b : Bool) → (a && b) ≡ true → a ≡ true
@@ -102,8 +103,10 @@ typs_of-read s [] = refl
 typs_of-read s (t ∷ ts) = ap (more (replace s t)) (typs_of-read s ts)
 
 abbrev pub row_read : (ℕ → Typ) → List (Label × Typ) → List (Label × Typ)
-row_read s [] = []
-row_read s (f ∷ r) = (f.0, replace s f.1) ∷ row_read s r
+row_read s = map (λ f. (f.0, replace s f.1))
+
+pub sorted-read : (s : ℕ → Typ) (r : List (Label × Typ)) → row_read s (sorted r) ≡ sorted (row_read s r)
+sorted-read s = sorted-map (λ f. f.0) (λ f. f.0) (λ f. (f.0, replace s f.1)) (λ f. refl)
 
 pub labels-read : (s : ℕ → Typ) (r : List (Label × Typ)) → map (λ f. f.0) (row_read s r) ≡ map (λ f. f.0) r
 labels-read s [] = refl

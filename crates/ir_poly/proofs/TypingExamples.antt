@@ -88,7 +88,7 @@ heads = case_exp (at 1) integer (app_exp (at 0) integers (con_exp cons_number li
 heads-are-typed : Checked table [] [] heads integer
 heads-are-typed =
     c_case (c_app (c_con {c = cons_number} {ts = integer ∷ []} (constructor_of list_name cons_number (Some (pair_type (var 0) (con (name list_name) (more (var 0) none))))) refl refl refl refl)
-    (c_fields (c_field (c_constant (has_int (pos 3))) (c_field (c_con {c = nil_number} {ts = integer ∷ []} (constructor_of list_name nil_number None) refl refl refl refl) c_no_fields)) refl refl) refl) refl
+    (c_fields {r = (Number 1, integer) ∷ (Number 2, integers) ∷ []} (c_field (c_constant (has_int (pos 3))) (c_field (c_con {c = nil_number} {ts = integer ∷ []} (constructor_of list_name nil_number None) refl refl refl refl) c_no_fields)) refl refl) refl) refl
     (c_rule (con_of_checked {c = cons_number} (record { datatype = list_name; arguments = integer ∷ []; row = constructor_of list_name cons_number (Some (pair_type (var 0) (con (name list_name) (more (var 0) none)))); found = refl; same = refl; type = refl; argument = refl }) refl
     (fields_checked {further = false} ((Number 1, integer) ∷ (Number 2, integers) ∷ []) refl
     (a_pat_checked {l = Number 1} {a = integer} refl refl (variable_checked {x = 1}) (a_pat_checked {l = Number 2} {a = integers} refl refl any_checked no_pats_checked)) refl))
@@ -111,12 +111,36 @@ abbrev compares : Exp
 compares = let_exp truth (val [] false 1 integer (app_exp (at 0) integer (prim_exp Add (integer ∷ []) (to (pair_type integer integer) integer)) (fields_exp (pair_type integer integer) (a_field (Number 1) three (a_field (Number 2) three no_fields)))) no_decs)
     (chain_exp true truth (link (app_exp (at 1) truth (prim_exp Equals (integer ∷ []) (to (pair_type integer integer) truth)) (fields_exp (pair_type integer integer) (a_field (Number 1) (variable_exp 1 [] integer) (a_field (Number 2) three no_fields)))) (only (con_exp true_number bool_name [] truth))))
 
+abbrev integers-two : List (Label × Typ)
+integers-two = (Number 1, integer) ∷ (Number 2, integer) ∷ []
+
 compares-is-typed : Checked table [] [] compares truth
 compares-is-typed =
     c_let ((1, of_type integer) ∷ []) (c_val refl (c_plain refl variable_checked (c_app (c_prim refl (record { number = 0; is = refl; held = refl }) refl)
-    (c_fields (c_field (c_constant (has_int (pos 3))) (c_field (c_constant (has_int (pos 3))) c_no_fields)) refl refl) refl) c_no_binds) c_no_funs c_no_decs)
-    (c_chain (c_link (c_app (c_prim refl refl refl) (c_fields (c_field (c_variable_one refl) (c_field (c_constant (has_int (pos 3))) c_no_fields)) refl refl) refl) refl
+    (c_fields {r = integers-two} (c_field (c_constant (has_int (pos 3))) (c_field (c_constant (has_int (pos 3))) c_no_fields)) refl refl) refl) c_no_binds) c_no_funs c_no_decs)
+    (c_chain (c_link (c_app (c_prim refl refl refl) (c_fields {r = integers-two} (c_field (c_variable_one refl) (c_field (c_constant (has_int (pos 3))) c_no_fields)) refl refl) refl) refl
     (c_only (c_con (constructor_of bool_name true_number None) refl refl refl refl) refl)) refl)
+
+-- val r = {2 = [fn x => x], 1 = [fn x => x]}, generalised: constructions in another order than that of the labels
+abbrev identities : Typ
+identities = con (name list_name) (more (to a a) none)
+
+abbrev one-identity : Exp
+one-identity = app_exp (at 0) identities (con_exp cons_number list_name (to a a ∷ []) (to (pair_type (to a a) identities) identities))
+    (fields_exp (pair_type (to a a) identities) (a_field (Number 1) identity (a_field (Number 2) (con_exp nil_number list_name (to a a ∷ []) identities) no_fields)))
+
+abbrev two-lists : Decs
+two-lists = val (q ∷ []) true 1 (pair_type identities identities)
+    (fields_exp (pair_type identities identities) (a_field (Number 2) one-identity (a_field (Number 1) one-identity no_fields))) no_decs
+
+one-identity-is-typed : Checked table (q ∷ []) [] one-identity identities
+one-identity-is-typed =
+    c_app (c_con {c = cons_number} {ts = to a a ∷ []} (constructor_of list_name cons_number (Some (pair_type (var 0) (con (name list_name) (more (var 0) none))))) refl refl refl refl)
+    (c_fields {r = (Number 1, to a a) ∷ (Number 2, identities) ∷ []} (c_field (c_fn (c_last refl (c_variable_one refl) refl)) (c_field (c_con {c = nil_number} {ts = to a a ∷ []} (constructor_of list_name nil_number None) refl refl refl refl) c_no_fields)) refl refl) refl
+
+two-lists-are-typed : DecsChecked table [] [] two-lists ((1, general (q ∷ []) var (pair_type identities identities)) ∷ [])
+two-lists-are-typed =
+    c_val refl (c_general refl refl variable_checked (c_fields {r = (Number 2, identities) ∷ (Number 1, identities) ∷ []} (c_field one-identity-is-typed (c_field one-identity-is-typed c_no_fields)) refl refl) c_no_binds) c_no_funs c_no_decs
 
 -- Refused, at any type
 

@@ -48,6 +48,7 @@ mutual
     exn_exp : Exc → Typ → Exp
     -- a primitive at the types of its parameters
     prim_exp : BasisPrimitive → List Typ → Typ → Exp
+    -- the fields as they are written
     fields_exp : Typ → Fields → Exp
     let_exp : Typ → Decs → Exp → Exp
     -- an application takes a turn

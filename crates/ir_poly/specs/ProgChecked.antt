@@ -15,7 +15,7 @@ use Rattle.ty_core.specs.declared.scheme.Quantified.{Quantified}
 use Rattle.ir_values.specs.Values.{same_label}
 use Rattle.ir_poly.specs.Prog.{Exc, fixed, held, Pat, any_pat, variable_pat, constant_pat, con_pat, con_of_pat, ref_of_pat, exn_pat, exn_of_pat, fields_pat, as_pat, PatFields, no_pats, a_pat, Exp, constant_exp, variable_exp, own_exp, con_exp, ref_exp, exn_exp, prim_exp, fields_exp, let_exp, app_exp, case_exp, chain_exp, handle_exp, raise_exp, fn_exp, counted_exp, Fields, no_fields, a_field, Chain, only, link, Rules, no_rules, a_rule, Fun, last, by_rules, more, Decs, no_decs, val_dec, exception_dec, counted_dec, Binds, no_binds, a_bind, Funs, no_funs, a_fun, is_value}
 use Rattle.ir_poly.specs.ProgMeaning.{size_of}
-use Rattle.ir_poly.specs.Types.{of_name, bool_name, function_type, ref_type, row_type, labels_in, ascend, admits_in, over, all_over, are_new, changed, AreAllowed, Constructor, find, argument_at, prim_type, arguments_at, result_at, tuple_type}
+use Rattle.ir_poly.specs.Types.{of_name, bool_name, function_type, ref_type, row_type, labels_in, ascend, sorted, admits_in, over, all_over, are_new, changed, AreAllowed, Constructor, find, argument_at, prim_type, arguments_at, result_at, tuple_type}
 use Rattle.ir_poly.specs.TestsChecked.{Known, of_type, general, own, exception, Knowns, at, exn_type, HasLiteral, value_type, alone_type, declared, is_size, HasConstructor}
 
 -- the variables of a pattern that is matched with a value of the type, in front of what is known
@@ -100,8 +100,8 @@ module _ (table : List Constructor) where
       -- a primitive at the type that its parameter stands for; one without a parameter at any
       c_prim : {D : List Quantified} {G : Knowns} {p : BasisPrimitive} {u t : Typ} → over D u ≡ true → Allows (prim_type p).mark (admits_in D) u
           → t ≡ function_type (tuple_type (arguments_at p u)) (result_at p u) → Checked D G (prim_exp p (u ∷ []) t) t
-      c_fields : {D : List Quantified} {G : Knowns} {fs : Fields} {r : List (Label × Typ)} {t : Typ} → FieldsChecked D G fs r → t ≡ row_type r
-          → ascend (labels_in r) ≡ true → Checked D G (fields_exp t fs) t
+      c_fields : {D : List Quantified} {G : Knowns} {fs : Fields} {r : List (Label × Typ)} {t : Typ} → FieldsChecked D G fs r → t ≡ row_type (sorted r)
+          → ascend (labels_in (sorted r)) ≡ true → Checked D G (fields_exp t fs) t
       c_let : {D : List Quantified} {G : Knowns} (G' : Knowns) {ds : Decs} {e : Exp} {t : Typ} → DecsChecked D G ds G' → Checked D G' e t
           → Checked D G (let_exp t ds e) t
       c_app : {D : List Quantified} {G : Knowns} {place : Place} {f a : Exp} {u v t : Typ} → Checked D G f u → Checked D G a v → u ≡ function_type v t
@@ -116,6 +116,7 @@ module _ (table : List Constructor) where
       c_fn : {D : List Quantified} {G : Knowns} {f : Fun} {t : Typ} → FunChecked D G f t → Checked D G (fn_exp t f) t
       c_counted : {D : List Quantified} {G : Knowns} {n : ℕ} {e : Exp} {t : Typ} → Checked D G e t → Checked D G (counted_exp n t e) t
 
+    -- fields and their types, as they are written
     pub data FieldsChecked : List Quantified → Knowns → Fields → List (Label × Typ) → Type 0 where
       c_no_fields : {D : List Quantified} {G : Knowns} → FieldsChecked D G no_fields []
       c_field : {D : List Quantified} {G : Knowns} {l : Label} {e : Exp} {fs : Fields} {t : Typ} {r : List (Label × Typ)} → Checked D G e t

@@ -1,9 +1,11 @@
 -- What a program with source matches does. [Definition 6.7] Types and weights are ignored. A phrase is evaluated left to right in an environment; calls go
 -- through `apply`, which takes the turns. Where no case applies the run goes wrong.
-use Rattle.std.specs.Prelude.{ℕ, zero, suc, Bool, true, false, not, List, [], ◌∷◌, Option, Some, None, nat_eq, option_and_then, slice_get, ⊤}
+use Rattle.std.specs.Prelude.{ℕ, zero, suc, Bool, true, false, not, List, [], ◌∷◌, Option, Some, None, nat_eq, if◌then◌else◌, option_and_then, slice_get, ⊤}
 use Rattle.mlc_base.specs.Outcome.{Outcome}
 use Rattle.mlc_base.specs.Run.{World, Answer, gives, raises, stops, out_of_turns, start, then_do, or_handle, or_fail, new_exception, outcome_of}
+use Rattle.mlc_base.specs.declared.label.Label.{Label}
 use Rattle.mlc_base.specs.declared.place.Place.{Place}
+use Rattle.label_rows.specs.Order.{label_before}
 use Rattle.ir_values.specs.Tags.{untagged}
 use Rattle.ir_values.specs.Values.{Value, record_of, con, exn, ref, primitive, closure, no_fields, field, Env, empty, bind, look_by, field_in, packet_name, value_of, truth_number}
 use Rattle.ir_values.specs.Values as values
@@ -85,6 +87,16 @@ on_operand b v w go =
     after_match (against_con untagged tt (truth_number b) v (matches empty)) w (λ e w. go)
     (λ w. after_match (against_con untagged tt (truth_number (not b)) v (matches empty)) w (λ e w. gives v w) (λ w. raises (packet untagged match_name) w))
 
+-- A record has its fields in the order of their labels, however they are written; of two with the same label the one that is written first stays first.
+module _ {B C T : Type 0} where
+  abbrev pub put_part : Label → Value B C T → values.Fields B C T → values.Fields B C T
+  put_part l v no_fields = field l v no_fields
+  put_part l v (field k z fs) = if label_before k l then field k z (put_part l v fs) else field l v (field k z fs)
+
+  abbrev pub sorted_parts : values.Fields B C T → values.Fields B C T
+  sorted_parts no_fields = no_fields
+  sorted_parts (field l v fs) = put_part l v (sorted_parts fs)
+
 abbrev mutual
   pub eval : Apply → Exp → Scope → World V → Answer V V
   eval call (constant_exp l t) env w = gives (value_of untagged l) w
@@ -94,7 +106,7 @@ abbrev mutual
   eval call (ref_exp a t) env w = gives (ref tt) w
   eval call (exn_exp x t) env w = or_fail (exception_in x env) w (λ v. gives v w)
   eval call (prim_exp p ts t) env w = gives (primitive tt p) w
-  eval call (fields_exp t fs) env w = then_do (eval_fields call fs env w) (λ vs w. gives (record_of tt vs) w)
+  eval call (fields_exp t fs) env w = then_do (eval_fields call fs env w) (λ vs w. gives (record_of tt (sorted_parts vs)) w)
   eval call (let_exp t ds e) env w = then_do (eval_decs call ds env w) (λ env' w. eval call e env' w)
   eval call (app_exp place t f a) env w = then_do (eval call f env w) (λ g w. then_do (eval call a env w) (λ v w. call place g v w))
   eval call (case_exp place t e rs) env w = then_do (eval call e env w) (λ v w. eval_rules call rs v env w (packet untagged match_name))
@@ -104,6 +116,7 @@ abbrev mutual
   eval call (fn_exp t f) env w = gives (closure (alone f) env) w
   eval call (counted_exp n t e) env w = eval call e env w
 
+  -- one after the other, as they are written
   pub eval_fields : Apply → Fields → Scope → World V → Answer V Parts
   eval_fields call tree.no_fields env w = gives no_fields w
   eval_fields call (a_field l e fs) env w = then_do (eval call e env w) (λ v w. then_do (eval_fields call fs env w) (λ vs w. gives (field l v vs) w))

@@ -15,7 +15,7 @@ use Rattle.ir_values.specs.Values.{same_label}
 use Rattle.ir_poly.specs.Prog.{Exc, Pat, any_pat, variable_pat, constant_pat, con_pat, con_of_pat, ref_of_pat, exn_pat, exn_of_pat, fields_pat, as_pat, PatFields, no_pats, a_pat, Exp, constant_exp, variable_exp, own_exp, con_exp, ref_exp, exn_exp, prim_exp, fields_exp, let_exp, app_exp, case_exp, chain_exp, handle_exp, raise_exp, fn_exp, counted_exp, Fields, no_fields, a_field, Chain, only, link, Rules, no_rules, a_rule, Fun, last, by_rules, more, Decs, no_decs, val_dec, exception_dec, counted_dec, Binds, no_binds, a_bind, Funs, no_funs, a_fun, is_value}
 use Rattle.ir_poly.specs.ProgMeaning.{size_of}
 use Rattle.ir_poly.specs.ProgChecked.{pat_onto, funs_onto, parameters_if, ExcChecked}
-use Rattle.ir_poly.specs.Types.{of_name, bool_name, function_type, ref_type, row_type, labels_in, ascend, changed, AreAllowed, Constructor, find, argument_at, prim_type, arguments_at, result_at, tuple_type}
+use Rattle.ir_poly.specs.Types.{of_name, bool_name, function_type, ref_type, row_type, labels_in, ascend, sorted, changed, AreAllowed, Constructor, find, argument_at, prim_type, arguments_at, result_at, tuple_type}
 use Rattle.ir_poly.specs.TestsChecked.{Known, of_type, general, own, exception, Knowns, at, exn_type, HasLiteral, value_type, alone_type, bound, is_size, HasConstructor}
 use Rattle.ir_poly.specs.TestsTyped.{option_read, own_at}
 
@@ -70,8 +70,8 @@ module _ (table : List Constructor) where
       t_prim : {s : ℕ → Typ} {G : Knowns} {p : BasisPrimitive} {b t u : Typ} → Allows (prim_type p).mark no_variable (replace s b)
           → u ≡ function_type (tuple_type (arguments_at p (replace s b))) (result_at p (replace s b)) → u ≡ replace s t
           → Typed s G (prim_exp p (b ∷ []) t) u
-      t_fields : {s : ℕ → Typ} {G : Knowns} {fs : Fields} {r : List (Label × Typ)} {t u : Typ} → FieldsTyped s G fs r → u ≡ row_type r
-          → ascend (labels_in r) ≡ true → u ≡ replace s t
+      t_fields : {s : ℕ → Typ} {G : Knowns} {fs : Fields} {r : List (Label × Typ)} {t u : Typ} → FieldsTyped s G fs r → u ≡ row_type (sorted r)
+          → ascend (labels_in (sorted r)) ≡ true → u ≡ replace s t
           → Typed s G (fields_exp t fs) u
       t_let : {s : ℕ → Typ} {G : Knowns} (G' : Knowns) {ds : Decs} {e : Exp} {t u : Typ} → DecsTyped s G ds G' → Typed s G' e u → u ≡ replace s t
           → Typed s G (let_exp t ds e) u

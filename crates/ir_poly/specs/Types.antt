@@ -2,7 +2,6 @@
 -- [Definition 4.2 to 4.5] Type names and the types of primitives are those of the initial basis.
 use Rattle.std.specs.Prelude.{◌≡◌, ℕ, zero, suc, Bool, true, false, not, ◌&&◌, ◌||◌, List, [], ◌∷◌, map, Option, Some, None, nat_eq, nat_lt, if◌then◌else◌, ⊤}
 use Rattle.mlc_base.specs.declared.label.Label.{Label}
-use Rattle.mlc_base.specs.declared.label.Label.TheVariants.{Number, Word}
 use Rattle.mlc_prims.specs.declared.basis.BasisPrimitive.{BasisPrimitive}
 use Rattle.ty_core.specs.Types.{Typ, var, con, Typs, none, more, admits}
 use Rattle.ty_core.specs.Marks.{Allows}
@@ -13,6 +12,8 @@ use Rattle.ty_core.specs.declared.name.TyName.{TyName}
 use Rattle.ty_core.specs.declared.name.Equality.TheVariants.{Always, ByArguments}
 use Rattle.ty_core.specs.declared.scheme.Quantified.{Quantified}
 use Rattle.ir_values.specs.Values.{true_number, false_number, nil_number, cons_number}
+use Rattle.label_rows.specs.Order.{sorted_by}
+pub use Rattle.label_rows.specs.Order.{label_before}
 pub use Rattle.ty_basis.specs.Types.{int_name, word_name, char_name, string_name, ref_name, exn_name, bool_name, list_name, of_name, function_type, ref_type, list_type, row_type, labels_in, unit_type, pair_type, name_count}
 pub use Rattle.ty_basis.specs.Primitives.{PrimType, prim_type, numbered, tuple_type}
 
@@ -55,16 +56,14 @@ are_new (q ∷ qs) scope = is_declarable q.mark && (not (in_scope scope q.variab
 
 -- Labels of a record: numbers by value, then words by their numbers, and none twice.
 
-abbrev pub label_before : Label → Label → Bool
-label_before (Number m) (Number n) = nat_lt m n
-label_before (Number m) (Word x) = true
-label_before (Word x) (Number n) = false
-label_before (Word x) (Word y) = nat_lt x y
-
 abbrev pub ascend : List Label → Bool
 ascend [] = true
 ascend (l ∷ []) = true
 ascend (l ∷ k ∷ ls) = label_before l k && ascend (k ∷ ls)
+
+-- the row of a record type, of fields in any order
+abbrev pub sorted : List (Label × Typ) → List (Label × Typ)
+sorted = sorted_by (λ f. f.0)
 
 -- s changed at parameters: these types are put for them
 abbrev pub changed : List Quantified → List Typ → (ℕ → Typ) → ℕ → Typ

@@ -1,9 +1,9 @@
 -- The code of a body does what the body does.
-use Rattle.std.proofs.Common.{◌≡◌, ℕ, zero, suc, ◌+◌, ◌<◌, ◌≤◌, ◌^◌, List, [], ◌∷◌, ◌++◌, length, map, Option, Some, None, Bool, true, false, ◌&&◌, inl, refl, sym, ap, ◌∙◌, subst, ⊎_elim, arith, append_assoc, append-nil, length-append, get_or}
-use Rattle.std.specs.Prelude.{slice_get, min, nat_eq, option_map, option_and_then, if◌then◌else◌}
-use Rattle.std.proofs.lemmas.Bool.{cases_lt, eqb-true, eq-eqb, ne_eqb}
+use Rattle.std.proofs.Common.{◌≡◌, ℕ, zero, suc, ◌+◌, ◌<◌, ◌≤◌, ◌^◌, List, [], ◌∷◌, ◌++◌, length, map, Option, Some, None, Bool, true, false, inl, refl, sym, ap, ◌∙◌, subst, ⊎_elim, arith, append_assoc, append-nil, length-append, get_or}
+use Rattle.std.specs.Prelude.{slice_get, nat_eq, option_map, option_and_then, if◌then◌else◌}
+use Rattle.std.proofs.lemmas.Bool.{cases_lt, ltb-true}
 use Rattle.ir_code.specs.declared.instr.Instr.{Instr}
-use Rattle.ir_code.specs.declared.instr.Instr.TheVariants.{Li, Mov, Jmp, Brz, Switch, Call as CallRow, Ret, Acc, PushHandler, Ld, Eq}
+use Rattle.ir_code.specs.declared.instr.Instr.TheVariants.{Li, Mov, Jmp, Brz, Call as CallRow, Ret, Acc, PushHandler, Eq, Alloc, St}
 use Rattle.ir_code.specs.declared.halt.Halt.TheVariants.{NoStack}
 use Rattle.ir_code.specs.Words.{one_if, same_word}
 use Rattle.ir_code.specs.Machine.{State, Goes, act}
@@ -15,31 +15,31 @@ use Rattle.mlc_base.proofs.MoreTurnsLaws.{prefix-refl as prefix_refl, prefix-tra
 use Rattle.mlc_prims.specs.LitOf.{Literal}
 use Rattle.mlc_prims.specs.PrimOf.{Gives, made, raised}
 use Rattle.mlc_prims.specs.declared.basis.BasisPrimitive.{BasisPrimitive}
-use Rattle.first_values.specs.Values.{Value, literal, cell, reference, name, packet, Values, Run, Env, unit, bind, look_up, look_all, bind_all, values_of, value_of, tag_of, gather, Piece}
+use Rattle.first_values.specs.Values.{Value, literal, cell, reference, name, packet, Values, no_values, Run, Env, unit, bind, look_up, look_all, bind_all, values_of, value_of, tag_of, gather, Piece}
 use Rattle.first_values.specs.Operations.{Tables, Operands, Plain, Test, Callee, known, one_of, Called, literals, row_at, attempted, either_way, perform, decide, called, of_closure, member_at, raised_from}
 use Rattle.ir_ssa.specs.Tree.{Body, Bodies, plain, make, attempt, turn, call, label, again, guard, goto, jump, branch, switch, tail, ret, raise, last, arm}
 use Rattle.ir_ssa.specs.Meaning.{Onward, Handler, Calls, throw, then_go, go_to, may_turn, must_turn, spin, eval, eval_arm}
 use Rattle.machine_routines.specs.Layout.{Word, stays, Is}
+use Rattle.machine_routines.specs.FindCode.{or_place, member_at as target_at}
 use Rattle.machine_routines.specs.Runs.{HasAt, Leads}
 use Rattle.machine_routines.proofs.Seams.{has_front, has_back, get_left, get_here, get_right}
 use Rattle.machine_routines.proofs.Leads.{step_to}
-use Rattle.machine_routines.proofs.Steps as steps
-use Rattle.same_runs.specs.SameRuns.{IsPrefix}
 use Rattle.machine_code.specs.Agrees.{AreAll, Begins}
-use Rattle.machine_code.specs.Rows.{HoldAll, given, way_on}
-use Rattle.machine_code.specs.Code.{slot, Scope, depth_in, depths_in, with_params, Spot, no_spot, or_this, left_by, plain_size, test_size, callee_count, is_dense, count, table_size, pieces_size, pieces_count, pieces_code, size, push_code, down_code, leave_code, goto_code, test_code, arm_table, switch_code, leaves_of, Places, callee_at, plain_code, args_of, code_at, arms_at}
+use Rattle.machine_code.specs.Rows.{HoldAll, given, way_on, late_code, later}
+use Rattle.machine_code.specs.Code.{slot, Scope, depth_in, depths_in, with_params, Spot, no_spot, block_at, or_this, left_by, args_of, plain_size, test_size, callee_count, count, arms_end, rise, Choice, by_table, by_search, by_tests, choice_of, choice_size, test_arm_size, move_size, pieces_size, pieces_count, pieces_code, is_shared, make_size, make_code, size, push_code, move_code, leave_code, goto_code, choice_code, test_arm_code, test_code, Places, callee_at, plain_code, body_size, block_place, guard_size, targets, last_at, code_at, arms_at}
 use Rattle.machine_code.proofs.RoutineLaws.{RoutineLaws}
 use Rattle.machine_code.proofs.Grows.{Grows, AllGrow, HandlersGrow, CallsGrow, KeepsOn, fail_grows, then_grows, to_grows, choose_grows, way_grows, spin_grows, eval_grows, arm_grows}
 use Rattle.machine_code.proofs.Kept.{begins_refl, begins_trans, begins_more, shown, agrees_length, grown_by, are_at_end}
 use Rattle.machine_code.proofs.Sim.{no_stack, Call, state_at, back_to, Fits, Sim, Raises, returns, is_wrong, huge_here, before, wider, then_sim, one, some, cut}
-use Rattle.machine_code.proofs.Slots.{Pushes, push_li, push_ld, push_acc, short, does_eq_here, does_call, short_call, called as frame_of_call, does_push_handler, short_handler, does_jmp, does_brz, does_brz_zero, does_ret, whole}
-use Rattle.machine_code.proofs.Vars.{Scoped, scoped_kept, bound, Found, lost, found, look, Args, args_are, args_read, args_length, Reads, reads_more, FoundAll, all_lost, all_found, look_every, Bound, unbound, all_bound, bind_params}
-use Rattle.machine_code.proofs.Pieces.{push_sim, copy_sim, down_sim, tagged_sim, push_length, down_length}
-use Rattle.machine_code.proofs.Primitives.{Stands, FoundOperands, no_literals, are_literals, operands, low_of, primitive_sim}
+use Rattle.machine_code.proofs.Slots.{Pushes, push_li, push_ld, push_acc, short, does_eq_here, does_call, short_call, called as frame_of_call, does_push_handler, short_handler, does_jmp, does_brz, does_brz_zero, does_ret}
+use Rattle.machine_code.proofs.Vars.{Scoped, scoped_kept, bound, Found, lost, found, look, Args, args_are, args_read, Reads, reads_more, FoundAll, all_lost, all_found, look_every, Bound, unbound, all_bound, bind_params}
+use Rattle.machine_code.proofs.Pieces.{push_sim, copy_sim, move_sim, tagged_sim, push_length, move_length}
+use Rattle.machine_code.proofs.Primitives.{Stands, FoundOperands, no_literals, are_literals, operands, low_of, zero_is, one_is, primitive_sim, when_raised}
 use Rattle.machine_code.proofs.Runs.{FoundPieces, pieces_lost, pieces_found, look_pieces, pieces_sim}
 use Rattle.machine_code.proofs.Ops.{op_does}
 use Rattle.machine_code.proofs.Tests.{test_follows}
-use Rattle.machine_code.proofs.Sizes.{test_length, table_length, left_leaves, pieces_length, plain_length, args_count, code_length}
+use Rattle.machine_code.proofs.Sizes.{late_place, make_length, Chosen, chosen, choice_length, targets_length, test_arm_length, test_length, left_exits, plain_length, args_count, code_length}
+use Rattle.machine_code.proofs.Switches.{targets_below, targets_rise, table_there, search_there}
 use Rattle.machine_code.proofs.Here.{Leaves, IsLabel, no_labels, a_label, label_kept, labels_kept, LabelIn, has_label, lacks_label, label_in, hand_kept, throw_sim, Here, moved, top_sim, turn_sim, leave_sim}
 
 module _ (C : ControlLaws) (M : MemoryLaws) (A : ArithmeticLaws) (N : RoutineLaws) (text_of : ℕ → List ℕ) (code : List Instr) (first_lay : List Word) (T : Tables) (places : Places) (stands : Stands code first_lay text_of T places) (fuel : ℕ) (calls : Calls) (calls_grow : CallsGrow calls) where
@@ -88,7 +88,7 @@ module _ (C : ControlLaws) (M : MemoryLaws) (A : ArithmeticLaws) (N : RoutineLaw
         ds = depths_in xs scope
 
         q : ℕ
-        q = pc + plain_size places.rows p
+        q = pc + plain_size places.rows places.types p
 
         has_b : HasAt code q (code_at places q (suc d) ((x, d) ∷ scope) ls b)
         has_b = has_back code pc q (plain_code places pc d p ds) _ (omega (arith, plain_length places stands.right pc d p ds)) has
@@ -101,8 +101,11 @@ module _ (C : ControlLaws) (M : MemoryLaws) (A : ArithmeticLaws) (N : RoutineLaw
 
     -- A cell of pieces.
 
-    follow_make : (t : ℕ) (qs : List Piece) (x : ℕ) (b : Body) → Follow b → Follow (make t qs x b)
-    follow_make t qs x b go most env scope ws ls ks hs pc acc d above mem free lay f hand w here has = by (gather qs env) (look_pieces lay ws qs here.vars)
+    -- .. in the heap
+    make_new : (t : ℕ) (qs : List Piece) (x : ℕ) (b : Body) → Follow b → (most : ℕ) (env : Env) (scope : Scope) (ws : List ℕ) (ls : List Spot) (ks : List Onward) (hs : List Handler) (pc acc d : ℕ) (above mem free : List ℕ) (lay : List Word) (f : Call) (hand : ℕ) (w : World Value) → HereAt most f hand env scope ws ls ks hs d lay mem w
+        → HasAt code pc (Alloc (slot d) (suc (pieces_count qs)) ∷ Li (slot (suc d)) t ∷ St (slot d) 0 (slot (suc d)) ∷ pieces_code d 1 scope qs) → HasAt code (pc + 3 + pieces_size qs) (code_at places (pc + 3 + pieces_size qs) (suc d) ((x, d) ∷ scope) ls b)
+        → S (state_at base f hand pc acc (ws ++ above) mem free) w f lay (means (make t qs x b) env ks hs w)
+    make_new t qs x b go most env scope ws ls ks hs pc acc d above mem free lay f hand w here has has_b = by (gather qs env) (look_pieces lay ws qs here.vars)
       where
         low : base ≤ length mem
         low = low_of text_of code first_lay T places stands lay mem w here.kept here.fits
@@ -119,15 +122,43 @@ module _ (C : ControlLaws) (M : MemoryLaws) (A : ArithmeticLaws) (N : RoutineLaw
             (λ junk rest free' l.
             let n3 : pc + 1 + 1 + 1 ≡ pc + 3 = omega arith in
             let q = pc + 3 + pieces_size qs in
-            let both = subst (λ z. HasAt code z (pieces_code d 1 scope qs ++ code_at places (pc + 3 + pieces_size qs) (suc d) ((x, d) ∷ scope) ls b)) n3 has.1.1.1 in
+            let filled = subst (λ z. HasAt code z (pieces_code d 1 scope qs)) n3 has.1.1.1 in
             let lay' = lay ++ map stays (t ∷ words) in
             let same : length mem ≡ length lay = agrees_length text_of here.fits in
             let first : slice_get lay' (length mem) ≡ Some (stays t) = subst (λ z. slice_get lay' z ≡ Some (stays t)) (sym same) (get_here lay (map stays words) (stays t)) in
             let is : Is lay' (cell t (values_of vs)) (length mem) = (first, are_at_end lay (lay ++ stays t ∷ []) lay' (length mem + 1) all (sym (append_assoc lay (stays t ∷ []) (map stays words))) (begins_more lay (map stays (t ∷ words))) (omega (arith, same, length-append lay (stays t ∷ [])))) in
-            pieces_sim C M A text_of code base f hand lay ws mem scope (λ y z e. shown text_of here.fits y z e) low (omega (arith, same)) d deep qs words (t ∷ rest) (t ∷ []) junk 1 (pc + 3) q acc free' (has_front code (pc + 3) (pieces_code d 1 scope qs) _ both) refl l pieces refl grow
+            pieces_sim C M A text_of code base f hand lay ws mem scope (λ y z e. shown text_of here.fits y z e) low (omega (arith, same)) d deep qs words (t ∷ rest) (t ∷ []) junk 1 (pc + 3) q acc free' filled refl l pieces refl grow
             (λ above'.
             wider text_of code base lay lay' (begins_more lay (map stays (t ∷ words)))
-            (bind_on b go x q here (has_back code (pc + 3) q (pieces_code d 1 scope qs) _ (omega (arith, pieces_length d 1 scope qs)) both) (cell t (values_of vs)) w (length mem) acc above' (mem ++ t ∷ words) free' lay' (begins_more lay (map stays (t ∷ words))) is (grown_by text_of lay mem (t ∷ words) w.store w.exceptions here.fits) here.few)))
+            (bind_on b go x q here has_b (cell t (values_of vs)) w (length mem) acc above' (mem ++ t ∷ words) free' lay' (begins_more lay (map stays (t ∷ words))) is (grown_by text_of lay mem (t ∷ words) w.store w.exceptions here.fits) here.few)))
+
+    shared_is : (t : ℕ) (qs : List Piece) → is_shared t qs ≡ true → (qs ≡ []) × (t < 2)
+    shared_is t [] e = (refl, ltb-true t 2 e)
+    shared_is t (q ∷ qs) e = absurd (cc)
+
+    -- the words 0 and 1
+    is_there : (t : ℕ) (lay : List Word) → t < 2 → Begins first_lay lay → slice_get lay t ≡ Some (stays t)
+    is_there zero lay lt k = zero_is text_of code first_lay T places stands lay k
+    is_there (suc zero) lay lt k = one_is text_of code first_lay T places stands lay k
+    is_there (suc (suc t)) lay lt k = absurd (omega arith)
+
+    follow_make : (t : ℕ) (qs : List Piece) (x : ℕ) (b : Body) → Follow b → Follow (make t qs x b)
+    follow_make t qs x b go most env scope ws ls ks hs pc acc d above mem free lay f hand w here has =
+        by (is_shared t qs) refl (has_front code pc (make_code d t scope qs) _ has) (has_back code pc (pc + make_size t qs) (make_code d t scope qs) _ (omega (arith, make_length d t scope qs)) has)
+      where
+        by : (c : Bool) → is_shared t qs ≡ c
+            → HasAt code pc (if c then Li (slot d) t ∷ [] else (Alloc (slot d) (suc (pieces_count qs)) ∷ Li (slot (suc d)) t ∷ St (slot d) 0 (slot (suc d)) ∷ pieces_code d 1 scope qs))
+            → HasAt code (pc + (if c then 1 else 3 + pieces_size qs)) (code_at places (pc + (if c then 1 else 3 + pieces_size qs)) (suc d) ((x, d) ∷ scope) ls b)
+            → S (state_at base f hand pc acc (ws ++ above) mem free) w f lay (or_fail (gather qs env) w (λ vs. means b (bind x (cell t (values_of vs)) env) ks hs w))
+        by true e has has_b =
+            let both = shared_is t qs e in
+            let v = cell t no_values in
+            subst (λ z. S (state_at base f hand pc acc (ws ++ above) mem free) w f lay (or_fail (gather z env) w (λ vs. means b (bind x (cell t (values_of vs)) env) ks hs w))) (sym both.0)
+            (push_sim C M A text_of code base f hand ws above d t pc acc mem free (push_li C M A base f hand pc acc mem free ws d here.deep t) has.0 here.deep (grows b (bind x v env) ks hs w here.grow here.handlers)
+            (λ rest. bind_on b go x (pc + 1) here has_b v w t acc rest mem free lay (begins_refl lay) (is_there t lay both.1 here.kept, tt) here.fits here.few))
+        by false e has has_b =
+            let n : pc + (3 + pieces_size qs) ≡ pc + 3 + pieces_size qs = omega arith in
+            make_new t qs x b go most env scope ws ls ks hs pc acc d above mem free lay f hand w here has (subst (λ z. HasAt code z (code_at places z (suc d) ((x, d) ∷ scope) ls b)) n has_b)
 
     -- Attempts.
 
@@ -141,33 +172,39 @@ module _ (C : ControlLaws) (M : MemoryLaws) (A : ArithmeticLaws) (N : RoutineLaw
         t = pc + places.rows.size k p
 
         q : ℕ
-        q = pc + places.rows.size k p + size places.rows (leaves_of ls) a
+        q = pc + places.rows.size k p + body_size places (suc d) ((x, d) ∷ scope) ls a
 
         row : List Instr
-        row = places.rows.code k p places.packet_at pc (slot d) (pc + places.rows.size k p + size places.rows (leaves_of ls) a) (map slot (depths_in xs scope))
+        row = places.rows.code k p places.packet_at pc (slot d) (pc + places.rows.size k p + body_size places (suc d) ((x, d) ∷ scope) ls a) (map slot (depths_in xs scope))
 
         code_a : List Instr
         code_a = code_at places (pc + places.rows.size k p) (suc d) ((x, d) ∷ scope) ls a
 
-        has_both : HasAt code t (code_a ++ code_at places (pc + places.rows.size k p + size places.rows (leaves_of ls) a) (suc d) ((x, d) ∷ scope) ls b)
-        has_both = has_back code pc t row _ (omega (arith, stands.right.long k p places.packet_at pc (slot d) (pc + places.rows.size k p + size places.rows (leaves_of ls) a) (map slot (depths_in xs scope)))) has
+        late : List Instr
+        late = late_code (places.rows.late k p) places.packet_at (slot d)
+
+        has_both : HasAt code t (code_a ++ (late_code (places.rows.late k p) places.packet_at (slot d) ++ code_at places (later (places.rows.late k p) (pc + places.rows.size k p + body_size places (suc d) ((x, d) ∷ scope) ls a)) (suc d) ((x, d) ∷ scope) ls b))
+        has_both = has_back code pc t row _ (omega (arith, stands.right.long k p places.packet_at pc (slot d) (pc + places.rows.size k p + body_size places (suc d) ((x, d) ∷ scope) ls a) (map slot (depths_in xs scope)))) has
+
+        has_late : HasAt code q (late_code (places.rows.late k p) places.packet_at (slot d) ++ code_at places (later (places.rows.late k p) (pc + places.rows.size k p + body_size places (suc d) ((x, d) ∷ scope) ls a)) (suc d) ((x, d) ∷ scope) ls b)
+        has_late = has_back code t q code_a _ (omega (arith, code_length places stands.right a t (suc d) ((x, d) ∷ scope) ls)) has_both
 
         end_grows : (g : Gives) → Grows w (either_way g (λ v. means a (bind x v env) ks hs w) (λ v. means b (bind x v env) ks hs w))
         end_grows g = way_grows g w (λ v. means a (bind x v env) ks hs w) (λ v. means b (bind x v env) ks hs w) (λ v. grows a (bind x v env) ks hs w here.grow here.handlers) (λ v. grows b (bind x v env) ks hs w here.grow here.handlers)
 
         on : (g : Gives) (y acc' : ℕ) (above' mem' free' : List ℕ) (lay' : List Word) → Begins lay lay' → Is lay' (given g) y → Fits text_of lay' mem' w
-            → S (state_at base f hand (way_on g (pc + places.rows.size k p) (pc + places.rows.size k p + size places.rows (leaves_of ls) a)) acc' ((ws ++ y ∷ []) ++ above') mem' free') w f lay' (either_way g (λ v. means a (bind x v env) ks hs w) (λ v. means b (bind x v env) ks hs w))
+            → S (state_at base f hand (way_on g (pc + places.rows.size k p) (later (places.rows.late k p) (pc + places.rows.size k p + body_size places (suc d) ((x, d) ∷ scope) ls a))) acc' ((ws ++ y ∷ []) ++ above') mem' free') w f lay' (either_way g (λ v. means a (bind x v env) ks hs w) (λ v. means b (bind x v env) ks hs w))
         on (made l) y acc' above' mem' free' lay' k is fits =
             bind_on a go_a x t here (has_front code t code_a _ has_both) (value_of l) w y acc' above' mem' free' lay' k is fits here.few
-        on (raised e) y acc' above' mem' free' lay' k is fits =
-            bind_on b go_b x q here (has_back code t q code_a _ (omega (arith, code_length places stands.right a t (suc d) ((x, d) ∷ scope) ls)) has_both) (packet (raised_name e) unit) w y acc' above' mem' free' lay' k is fits here.few
+        on (raised e) y acc' above' mem' free' lay' begins is fits =
+            bind_on b go_b x (later (places.rows.late k p) q) here (has_back code q (later (places.rows.late k p) q) late _ (late_place (places.rows.late k p) places.packet_at (slot d) q) has_late) (packet (raised_name e) unit) w y acc' above' mem' free' lay' begins is fits here.few
 
         by_row : (os : List Literal) (o : Option Gives) → HoldAll lay (f.back ∷ f.frame ∷ ws) (map slot (depths_in xs scope)) os → row_at k p os ≡ o
             → S (state_at base f hand pc acc (ws ++ above) mem free) w f lay (or_fail o w (λ g. either_way g (λ v. means a (bind x v env) ks hs w) (λ v. means b (bind x v env) ks hs w)))
         by_row os None hold e = is_wrong w
         by_row os (Some g) hold e =
             primitive_sim text_of code first_lay T places stands f hand w lay mem ws d here.kept here.fits here.deep k p ds os g hold e pc q acc above free
-            (either_way g (λ v. means a (bind x v env) ks hs w) (λ v. means b (bind x v env) ks hs w)) (has_front code pc row _ has) (end_grows g) (on g)
+            (either_way g (λ v. means a (bind x v env) ks hs w) (λ v. means b (bind x v env) ks hs w)) (has_front code pc row _ has) (when_raised g (has_front code q late _ has_late)) (end_grows g) (on g)
 
         by_literals : (o : Option (List Literal)) → FoundOperands lay (f.back ∷ f.frame ∷ ws) (map slot (depths_in xs scope)) o
             → S (state_at base f hand pc acc (ws ++ above) mem free) w f lay (or_fail (option_and_then (row_at k p) o) w (λ g. either_way g (λ v. means a (bind x v env) ks hs w) (λ v. means b (bind x v env) ks hs w)))
@@ -218,25 +255,25 @@ module _ (C : ControlLaws) (M : MemoryLaws) (A : ArithmeticLaws) (N : RoutineLaw
         ds = depths_in xs scope
 
         at_a : ℕ
-        at_a = pc + test_size places.rows q
+        at_a = pc + test_size places.rows places.types q
 
         at_b : ℕ
-        at_b = pc + test_size places.rows q + size places.rows (leaves_of ls) a
+        at_b = pc + test_size places.rows places.types q + body_size places d scope ls a
 
         code_a : List Instr
-        code_a = code_at places (pc + test_size places.rows q) d scope ls a
+        code_a = code_at places (pc + test_size places.rows places.types q) d scope ls a
 
         test : List Instr
-        test = test_code places pc d q (depths_in xs scope) (pc + test_size places.rows q + size places.rows (leaves_of ls) a)
+        test = test_code places pc d q (depths_in xs scope) (pc + test_size places.rows places.types q + body_size places d scope ls a)
 
-        has_both : HasAt code at_a (code_a ++ code_at places (pc + test_size places.rows q + size places.rows (leaves_of ls) a) d scope ls b)
-        has_both = has_back code pc at_a test _ (omega (arith, test_length places stands.right pc d q (depths_in xs scope) (pc + test_size places.rows q + size places.rows (leaves_of ls) a))) has
+        has_both : HasAt code at_a (code_a ++ code_at places (pc + test_size places.rows places.types q + body_size places d scope ls a) d scope ls b)
+        has_both = has_back code pc at_a test _ (omega (arith, test_length places stands.right pc d q (depths_in xs scope) (pc + test_size places.rows places.types q + body_size places d scope ls a))) has
 
         chosen : (c : Bool) (acc' : ℕ) (above' : List ℕ)
-            → S (state_at base f hand (if c then pc + test_size places.rows q else pc + test_size places.rows q + size places.rows (leaves_of ls) a) acc' (ws ++ above') mem free) w f lay (choose c (means a env ks hs w) (means b env ks hs w))
+            → S (state_at base f hand (if c then pc + test_size places.rows places.types q else pc + test_size places.rows places.types q + body_size places d scope ls a) acc' (ws ++ above') mem free) w f lay (choose c (means a env ks hs w) (means b env ks hs w))
         chosen true acc' above' = go_a most env scope ws ls ks hs at_a acc' d above' mem free lay f hand w here (has_front code at_a code_a _ has_both)
         chosen false acc' above' =
-            go_b most env scope ws ls ks hs at_b acc' d above' mem free lay f hand w here (has_back code at_a at_b code_a _ (omega (arith, code_length places stands.right a (pc + test_size places.rows q) d scope ls)) has_both)
+            go_b most env scope ws ls ks hs at_b acc' d above' mem free lay f hand w here (has_back code at_a at_b code_a _ (omega (arith, code_length places stands.right a (pc + test_size places.rows places.types q) d scope ls)) has_both)
 
         by : (o : Option (List Value)) → FoundAll lay ws (depths_in xs scope) o → S (state_at base f hand pc acc (ws ++ above) mem free) w f lay (or_fail o w (λ vs. or_fail (decide T q vs) w (λ c. choose c (means a env ks hs w) (means b env ks hs w))))
         by o all_lost = is_wrong w
@@ -249,11 +286,11 @@ module _ (C : ControlLaws) (M : MemoryLaws) (A : ArithmeticLaws) (N : RoutineLaw
 
     -- from the arms on, with the tag behind the words of the frame
     abbrev pub FollowTests : Bodies → Type 0
-    FollowTests bs = (t most : ℕ) (env : Env) (scope : Scope) (ws : List ℕ) (ls : List Spot) (ks : List Onward) (hs : List Handler) (pc acc d : ℕ) (above mem free : List ℕ) (lay : List Word) (f : Call) (hand : ℕ) (w : World Value) → HereAt most f hand env scope ws ls ks hs d lay mem w → HasAt code pc (arms_at places pc d scope ls false bs) → S (state_at base f hand pc acc ((ws ++ t ∷ []) ++ above) mem free) w f lay (eval_arm T calls fuel t bs env ks hs w)
+    FollowTests bs = (t most : ℕ) (env : Env) (scope : Scope) (ws : List ℕ) (ls : List Spot) (ks : List Onward) (hs : List Handler) (pc acc d : ℕ) (above mem free : List ℕ) (lay : List Word) (f : Call) (hand : ℕ) (w : World Value) → HereAt most f hand env scope ws ls ks hs d lay mem w → HasAt code pc (arms_at places pc d scope ls by_tests bs) → S (state_at base f hand pc acc ((ws ++ t ∷ []) ++ above) mem free) w f lay (eval_arm T calls fuel t bs env ks hs w)
 
-    -- from the jump in the table on, where the arms are for the tags from i on
-    abbrev pub FollowTable : Bodies → Type 0
-    FollowTable bs = (i j t pt q most : ℕ) (env : Env) (scope : Scope) (ws : List ℕ) (ls : List Spot) (ks : List Onward) (hs : List Handler) (acc d : ℕ) (above mem free : List ℕ) (lay : List Word) (f : Call) (hand : ℕ) (w : World Value) → is_dense i bs ≡ true → i + j ≡ t → HereAt most f hand env scope ws ls ks hs d lay mem w → HasAt code pt (arm_table places.rows (leaves_of ls) q bs) → HasAt code q (arms_at places q d scope ls true bs) → S (state_at base f hand (pt + min j (count bs)) acc (ws ++ above) mem free) w f lay (eval_arm T calls fuel t bs env ks hs w)
+    -- from the place of the tag's arm on, where nothing stands between the arms
+    abbrev pub FollowPlaces : Bodies → Type 0
+    FollowPlaces bs = (how : Choice) (t q most : ℕ) (env : Env) (scope : Scope) (ws : List ℕ) (ls : List Spot) (ks : List Onward) (hs : List Handler) (acc d : ℕ) (above mem free : List ℕ) (lay : List Word) (f : Call) (hand : ℕ) (w : World Value) → test_arm_size how ≡ 0 → HereAt most f hand env scope ws ls ks hs d lay mem w → HasAt code q (arms_at places q d scope ls how bs) → S (state_at base f hand (or_place (target_at t (targets places q d scope ls bs)) (last_at places q d scope ls bs)) acc (ws ++ above) mem free) w f lay (eval_arm T calls fuel t bs env ks hs w)
 
     arm_meaning_grows : (t : ℕ) (bs : Bodies) (env : Env) (ks : List Onward) (hs : List Handler) (w : World Value) → AllGrow ks → HandlersGrow hs → Grows w (eval_arm T calls fuel t bs env ks hs w)
     arm_meaning_grows t bs env ks hs w h g = arm_grows T calls fuel calls_grow t bs env ks hs w h g
@@ -277,7 +314,7 @@ module _ (C : ControlLaws) (M : MemoryLaws) (A : ArithmeticLaws) (N : RoutineLaw
         at_d = subst (λ n. slice_get (ws ++ t ∷ []) n ≡ Some t) here.deep (get_here ws [] t)
 
         next : ℕ
-        next = pc + 3 + size places.rows (leaves_of ls) b
+        next = pc + 3 + body_size places d scope ls b
 
         code_b : List Instr
         code_b = code_at places (pc + 3) d scope ls b
@@ -286,13 +323,13 @@ module _ (C : ControlLaws) (M : MemoryLaws) (A : ArithmeticLaws) (N : RoutineLaw
         n2 = omega arith
 
         has_test : slice_get code (pc + 2) ≡ Some (Brz (slot (suc d)) next)
-        has_test = subst (λ n. slice_get code n ≡ Some (Brz (slot (suc d)) (pc + 3 + size places.rows (leaves_of ls) b))) n2 has.1.1.0
+        has_test = subst (λ n. slice_get code n ≡ Some (Brz (slot (suc d)) (pc + 3 + body_size places d scope ls b))) n2 has.1.1.0
 
         n3 : pc + 1 + 1 + 1 ≡ pc + 3
         n3 = omega arith
 
-        has_rest : HasAt code (pc + 3) (code_b ++ arms_at places next d scope ls false bs)
-        has_rest = subst (λ n. HasAt code n (code_at places (pc + 3) d scope ls b ++ arms_at places (pc + 3 + size places.rows (leaves_of ls) b) d scope ls false bs)) n3 has.1.1.1
+        has_rest : HasAt code (pc + 3) (code_b ++ arms_at places next d scope ls by_tests bs)
+        has_rest = subst (λ n. HasAt code n (code_at places (pc + 3) d scope ls b ++ arms_at places (pc + 3 + body_size places d scope ls b) d scope ls by_tests bs)) n3 has.1.1.1
 
         there : (rest : List ℕ) (x : ℕ) → slice_get (((ws ++ t ∷ []) ++ x ∷ []) ++ rest) (suc d) ≡ Some x
         there rest x = get_left ((ws ++ t ∷ []) ++ x ∷ []) rest (suc d) x (subst (λ n. slice_get ((ws ++ t ∷ []) ++ x ∷ []) n ≡ Some x) deep' (get_here (ws ++ t ∷ []) [] x))
@@ -316,62 +353,88 @@ module _ (C : ControlLaws) (M : MemoryLaws) (A : ArithmeticLaws) (N : RoutineLaw
             (subst (λ z. S (state_at base f hand next acc ((ws ++ t ∷ []) ++ x ∷ rest) mem free) w f lay (choose z (means b env ks hs w) (eval_arm T calls fuel t bs env ks hs w))) (sym e)
             (goes t most env scope ws ls ks hs next acc d (x ∷ rest) mem free lay f hand w here (has_back code (pc + 3) next code_b _ (omega (arith, code_length places stands.right b (pc + 3) d scope ls)) has_rest))))
 
-    jump_to_arm : (b : Body) → Follow b → (pt q p : ℕ) (most : ℕ) (env : Env) (scope : Scope) (ws : List ℕ) (ls : List Spot) (ks : List Onward) (hs : List Handler) (acc d : ℕ) (above mem free : List ℕ) (lay : List Word) (f : Call) (hand : ℕ) (w : World Value) → HereAt most f hand env scope ws ls ks hs d lay mem w → p ≡ pt → slice_get code pt ≡ Some (Jmp q) → HasAt code q (code_at places q d scope ls b) → S (state_at base f hand p acc (ws ++ above) mem free) w f lay (means b env ks hs w)
-    jump_to_arm b go pt q p most env scope ws ls ks hs acc d above mem free lay f hand w here e jumps has =
-        subst (λ z. S (state_at base f hand z acc (ws ++ above) mem free) w f lay (means b env ks hs w)) (sym e)
-        (before text_of code base (one text_of code base w w (Jmp q) jumps (does_jmp C M A base f hand pt acc mem free (ws ++ above) q) refl refl)
-        (go most env scope ws ls ks hs q acc d above mem free lay f hand w here has))
+    places_last : (b : Body) → Follow b → FollowPlaces (last b)
+    places_last b go how t q most env scope ws ls ks hs acc d above mem free lay f hand w none here has = go most env scope ws ls ks hs q acc d above mem free lay f hand w here has
 
-    table_last : (b : Body) → Follow b → FollowTable (last b)
-    table_last b go i j t pt q most env scope ws ls ks hs acc d above mem free lay f hand w dense e here jumps has =
-        jump_to_arm b go pt q (pt + min j 0) most env scope ws ls ks hs acc d above mem free lay f hand w here (omega arith) jumps.0 has
-
-    dense_parts : (x y : Bool) → (x && y) ≡ true → (x ≡ true) × (y ≡ true)
-    dense_parts true y e = (refl, e)
-    dense_parts false y e = absurd (cc)
-
-    table_arm : (i' : ℕ) (b : Body) (bs : Bodies) → Follow b → FollowTable bs → FollowTable (arm i' b bs)
-    table_arm i' b bs go goes i zero t pt q most env scope ws ls ks hs acc d above mem free lay f hand w dense e here jumps has =
-        let both = dense_parts (nat_eq i' i) (is_dense (suc i) bs) dense in
-        let yes : nat_eq t i' ≡ true = eq-eqb t i' (omega (arith, eqb-true i' i both.0)) in
-        let place_is : q + 0 ≡ q = omega arith in
-        subst (λ z. S (state_at base f hand (pt + min 0 (suc (count bs))) acc (ws ++ above) mem free) w f lay (choose z (means b env ks hs w) (eval_arm T calls fuel t bs env ks hs w))) (sym yes)
-        (jump_to_arm b go pt q (pt + min 0 (suc (count bs))) most env scope ws ls ks hs acc d above mem free lay f hand w here (omega arith) jumps.0
-        (subst (λ z. HasAt code q (code_at places z d scope ls b)) place_is (has_front code q (code_at places (q + 0) d scope ls b) _ has)))
-    table_arm i' b bs go goes i (suc j) t pt q most env scope ws ls ks hs acc d above mem free lay f hand w dense e here jumps has =
-        let both = dense_parts (nat_eq i' i) (is_dense (suc i) bs) dense in
-        let other : nat_eq t i' ≡ false = ne_eqb t i' (λ g. let h = eqb-true i' i both.0 in omega arith) in
-        let n : pt + 1 + min j (count bs) ≡ pt + min (suc j) (suc (count bs)) = omega arith in
-        let place_is : q + 0 + size places.rows (leaves_of ls) b ≡ q + size places.rows (leaves_of ls) b = omega arith in
-        let rest = has_back code q (q + 0 + size places.rows (leaves_of ls) b) (code_at places (q + 0) d scope ls b) (arms_at places (q + 0 + size places.rows (leaves_of ls) b) d scope ls true bs) (omega (arith, code_length places stands.right b (q + 0) d scope ls)) has in
-        subst (λ z. S (state_at base f hand (pt + min (suc j) (suc (count bs))) acc (ws ++ above) mem free) w f lay (choose z (means b env ks hs w) (eval_arm T calls fuel t bs env ks hs w))) (sym other)
-        (subst (λ z. S (state_at base f hand z acc (ws ++ above) mem free) w f lay (eval_arm T calls fuel t bs env ks hs w)) n
-        (goes (suc i) j t (pt + 1) (q + size places.rows (leaves_of ls) b) most env scope ws ls ks hs acc d above mem free lay f hand w both.1 (omega arith) here jumps.1
-        (subst (λ z. HasAt code z (arms_at places z d scope ls true bs)) place_is rest)))
-
-    follow_switch : (x : ℕ) (bs : Bodies) → FollowTests bs → FollowTable bs → Follow (switch x bs)
-    follow_switch x bs chain table most env scope ws ls ks hs pc acc d above mem free lay f hand w here has = by (look_up x env) (look lay ws x here.vars)
+    places_arm : (i : ℕ) (b : Body) (bs : Bodies) → Follow b → FollowPlaces bs → FollowPlaces (arm i b bs)
+    places_arm i b bs go goes how t q most env scope ws ls ks hs acc d above mem free lay f hand w none here has = by (nat_eq t i)
       where
-        ps : List Bool
-        ps = leaves_of ls
+        next : ℕ
+        next = q + body_size places d scope ls b
 
-        tagged : (t p : ℕ) (dense : Bool) → is_dense 0 bs ≡ dense → slice_get ws (depth_in x scope) ≡ Some p → slice_get lay p ≡ Some (stays t) → slice_get code pc ≡ Some (Ld (slot d) (slot (depth_in x scope)) 0) → HasAt code (pc + 1) (switch_code places.rows d (leaves_of ls) dense (pc + table_size dense (count bs)) bs ++ arms_at places (pc + table_size dense (count bs)) d scope ls dense bs) → S (state_at base f hand pc acc (ws ++ above) mem free) w f lay (eval_arm T calls fuel t bs env ks hs w)
-        tagged t p dense is e tag first rest_has =
-            let zero_more : p ≡ p + 0 = omega arith in
-            push_sim C M A text_of code base f hand ws above d t pc acc mem free (push_ld C M A base f hand pc acc mem free ws d here.deep (depth_in x scope) 0 p t e (subst (λ z. slice_get mem z ≡ Some t) zero_more (shown text_of here.fits p t tag))) first here.deep
-            (arm_meaning_grows t bs env ks hs w here.grow here.handlers)
-            (λ rest. goes t dense is rest rest_has)
+        code_b : List Instr
+        code_b = code_at places (q + test_arm_size how) d scope ls b
+
+        has_arm : HasAt code (q + test_arm_size how) (code_b ++ arms_at places (q + test_arm_size how + body_size places d scope ls b) d scope ls how bs)
+        has_arm = has_back code q (q + test_arm_size how) (test_arm_code how d i (q + test_arm_size how + body_size places d scope ls b)) _ (omega (arith, test_arm_length how d i (q + test_arm_size how + body_size places d scope ls b))) has
+
+        here_is : q + test_arm_size how ≡ q
+        here_is = omega arith
+
+        next_is : q + test_arm_size how + body_size places d scope ls b ≡ q + body_size places d scope ls b
+        next_is = omega arith
+
+        has_b : HasAt code q (code_at places q d scope ls b)
+        has_b = subst (λ z. HasAt code z (code_at places z d scope ls b)) here_is (has_front code (q + test_arm_size how) code_b _ has_arm)
+
+        has_rest : HasAt code (q + body_size places d scope ls b) (arms_at places (q + body_size places d scope ls b) d scope ls how bs)
+        has_rest = subst (λ z. HasAt code z (arms_at places z d scope ls how bs)) next_is
+            (has_back code (q + test_arm_size how) (q + test_arm_size how + body_size places d scope ls b) code_b _ (omega (arith, code_length places stands.right b (q + test_arm_size how) d scope ls)) has_arm)
+
+        by : (c : Bool) → S (state_at base f hand (or_place (if c then Some q else target_at t (targets places (q + body_size places d scope ls b) d scope ls bs)) (last_at places (q + body_size places d scope ls b) d scope ls bs)) acc (ws ++ above) mem free) w f lay (choose c (means b env ks hs w) (eval_arm T calls fuel t bs env ks hs w))
+        by true = go most env scope ws ls ks hs q acc d above mem free lay f hand w here has_b
+        by false = goes how t next most env scope ws ls ks hs acc d above mem free lay f hand w none here has_rest
+
+    follow_switch : (x : ℕ) (bs : Bodies) → FollowTests bs → FollowPlaces bs → Follow (switch x bs)
+    follow_switch x bs chain arms most env scope ws ls ks hs pc acc d above mem free lay f hand w here has = by (look_up x env) (look lay ws x here.vars)
+      where
+        r_grows : (t : ℕ) → Grows w (eval_arm T calls fuel t bs env ks hs w)
+        r_grows t = arm_meaning_grows t bs env ks hs w here.grow here.handlers
+
+        tagged : (t p q : ℕ) (how : Choice) → choice_of bs ≡ how → pc + choice_size how bs ≡ q → slice_get ws (depth_in x scope) ≡ Some p → slice_get lay p ≡ Some (stays t)
+            → HasAt code pc (choice_code pc d (depth_in x scope) how (arms_end bs) (targets places q d scope ls bs) (last_at places q d scope ls bs)) → HasAt code q (arms_at places q d scope ls how bs)
+            → S (state_at base f hand pc acc (ws ++ above) mem free) w f lay (eval_arm T calls fuel t bs env ks hs w)
+        tagged t p q how is end e tag first rest =
+            goes how is end first rest
           where
-            goes : (t : ℕ) (dense : Bool) → is_dense 0 bs ≡ dense → (rest : List ℕ) → HasAt code (pc + 1) (switch_code places.rows d (leaves_of ls) dense (pc + table_size dense (count bs)) bs ++ arms_at places (pc + table_size dense (count bs)) d scope ls dense bs) → S (state_at base f hand (pc + 1) acc ((ws ++ t ∷ []) ++ rest) mem free) w f lay (eval_arm T calls fuel t bs env ks hs w)
-            goes t false is rest h = chain t most env scope ws ls ks hs (pc + 1) acc d rest mem free lay f hand w here h
-            goes t true is rest h =
-                let q = pc + (3 + count bs) in
-                let words = (ws ++ t ∷ []) ++ rest in
-                let at_d : slice_get words d ≡ Some t = get_left (ws ++ t ∷ []) rest d t (subst (λ z. slice_get (ws ++ t ∷ []) z ≡ Some t) here.deep (get_here ws [] t)) in
-                before text_of code base (one text_of code base w w (Switch (slot d) (count bs)) h.0 (steps.does_switch C M A (record { lower = f.lower; handler = hand; acc = acc; base = base }) (pc + 1) (whole C M A base f hand (pc + 1) acc mem free words) mem free (slot d) (count bs) t at_d) refl refl)
-                (subst (λ z. S (state_at base f hand (pc + 1 + 1 + min t (count bs)) acc z mem free) w f lay (eval_arm T calls fuel t bs env ks hs w)) (sym (append_assoc ws (t ∷ []) rest))
-                (table 0 t t (pc + 1 + 1) q most env scope ws ls ks hs acc d (t ∷ rest) mem free lay f hand w is (omega arith) here (has_front code (pc + 1 + 1) (arm_table places.rows (leaves_of ls) q bs) _ h.1)
-                (has_back code (pc + 1 + 1) q (arm_table places.rows (leaves_of ls) q bs) _ (omega (arith, table_length places.rows (leaves_of ls) q bs)) h.1)))
+            loaded : slice_get mem (p + 0) ≡ Some t
+            loaded = let zero_more : p ≡ p + 0 = omega arith in subst (λ z. slice_get mem z ≡ Some t) zero_more (shown text_of here.fits p t tag)
+
+            in_arm : (how : Choice) → test_arm_size how ≡ 0 → HasAt code q (arms_at places q d scope ls how bs) → (z acc' : ℕ) (above' : List ℕ) → z ≡ or_place (target_at t (targets places q d scope ls bs)) (last_at places q d scope ls bs)
+                → S (state_at base f hand z acc' (ws ++ above') mem free) w f lay (eval_arm T calls fuel t bs env ks hs w)
+            in_arm how none rest z acc' above' at_z =
+                subst (λ n. S (state_at base f hand n acc' (ws ++ above') mem free) w f lay (eval_arm T calls fuel t bs env ks hs w)) (sym at_z)
+                (arms how t q most env scope ws ls ks hs acc' d above' mem free lay f hand w none here rest)
+
+            goes : (how : Choice) → choice_of bs ≡ how → pc + choice_size how bs ≡ q
+                → HasAt code pc (choice_code pc d (depth_in x scope) how (arms_end bs) (targets places q d scope ls bs) (last_at places q d scope ls bs)) → HasAt code q (arms_at places q d scope ls how bs)
+                → S (state_at base f hand pc acc (ws ++ above) mem free) w f lay (eval_arm T calls fuel t bs env ks hs w)
+            goes by_tests is end first rest =
+                push_sim C M A text_of code base f hand ws above d t pc acc mem free (push_ld C M A base f hand pc acc mem free ws d here.deep (depth_in x scope) 0 p t e loaded) first.0 here.deep (r_grows t)
+                (λ above'. subst (λ z. S (state_at base f hand z acc ((ws ++ t ∷ []) ++ above') mem free) w f lay (eval_arm T calls fuel t bs env ks hs w)) (sym end)
+                (chain t most env scope ws ls ks hs q acc d above' mem free lay f hand w here rest))
+            goes by_table is end first rest =
+                push_sim C M A text_of code base f hand ws above d t pc acc mem free (push_ld C M A base f hand pc acc mem free ws d here.deep (depth_in x scope) 0 p t e loaded) first.0 here.deep (r_grows t)
+                (λ above'.
+                let c = table_there C M A N base code f hand ws above' mem free d t here.deep (last_at places q d scope ls bs) (targets places q d scope ls bs) (arms_end bs) (pc + 1) acc (targets_below places q d scope ls bs) first.1 in
+                before text_of code base (some text_of code base w c)
+                (subst (λ l. S (state_at base f hand (or_place (target_at t (targets places q d scope ls bs)) (last_at places q d scope ls bs)) acc l mem free) w f lay (eval_arm T calls fuel t bs env ks hs w)) (sym (append_assoc ws (t ∷ []) above'))
+                (in_arm by_table refl rest (or_place (target_at t (targets places q d scope ls bs)) (last_at places q d scope ls bs)) acc (t ∷ above') refl)))
+            goes by_search is end first rest = searched above
+              where
+                known : (4 < count bs) × (rise 0 bs ≡ true)
+                known = subst (λ z. Chosen z bs) is (chosen bs)
+
+                no_room : (rest : List ℕ) → length rest ≤ suc d → S (state_at base f hand pc acc rest mem free) w f lay (eval_arm T calls fuel t bs env ks hs w)
+                no_room rest le = cut text_of code base (Li (slot (suc d)) 0) NoStack (eval_arm T calls fuel t bs env ks hs w) no_stack first.0 (short C M A base f hand pc acc mem free rest (suc d) _ le) (r_grows t)
+
+                searched : (above : List ℕ) → S (state_at base f hand pc acc (ws ++ above) mem free) w f lay (eval_arm T calls fuel t bs env ks hs w)
+                searched [] = no_room (ws ++ []) (let n = here.deep in omega (arith, length-append ws []))
+                searched (a ∷ []) = no_room (ws ++ a ∷ []) (let n = here.deep in omega (arith, length-append ws (a ∷ [])))
+                searched (a ∷ b ∷ above') =
+                    let c = search_there C M A N base code f hand ws above' mem free d t here.deep (last_at places q d scope ls bs) (targets places q d scope ls bs) pc acc a b (depth_in x scope) p e loaded (targets_rise places 0 q d scope ls bs known.1) first in
+                    before text_of code base (some text_of code base w c.1)
+                    (in_arm by_search refl rest (or_place (target_at t (targets places q d scope ls bs)) (last_at places q d scope ls bs)) acc (t ∷ c.0 ∷ above') refl)
 
         by : (o : Option Value) → Found lay ws (depth_in x scope) o → S (state_at base f hand pc acc (ws ++ above) mem free) w f lay (or_fail (tag_of o) w (λ t. eval_arm T calls fuel t bs env ks hs w))
         by o lost = is_wrong w
@@ -379,7 +442,13 @@ module _ (C : ControlLaws) (M : MemoryLaws) (A : ArithmeticLaws) (N : RoutineLaw
         by o (found (reference j) p e is) = is_wrong w
         by o (found (name j) p e is) = is_wrong w
         by o (found (packet j v) p e is) = is_wrong w
-        by o (found (cell t vs) p e is) = tagged t p (is_dense 0 bs) refl e is.0 has.0 has.1
+        by o (found (cell t vs) p e is) =
+            let q = pc + choice_size (choice_of bs) bs in
+            let set = targets places q d scope ls bs in
+            let z = last_at places q d scope ls bs in
+            let head = choice_code pc d (depth_in x scope) (choice_of bs) (arms_end bs) set z in
+            tagged t p q (choice_of bs) refl refl e is.0 (has_front code pc head _ has)
+            (has_back code pc q head _ (omega (arith, choice_length pc d (depth_in x scope) (choice_of bs) bs set z (chosen bs) (targets_length places stands.right q d scope ls bs))) has)
 
     -- Calls.
 
@@ -389,7 +458,7 @@ module _ (C : ControlLaws) (M : MemoryLaws) (A : ArithmeticLaws) (N : RoutineLaw
       a_callee : (g : Called) (words : List ℕ) → Reads ws ds words
           → ((p : Place) (f : Call) (acc : ℕ) (above free : List ℕ) (s : State) → (a : Leads code s (state_at base f f.hand (callee_at places c) acc (words ++ above) mem free)) → 0 < a.steps → S s w f lay (calls p g.function g.arguments w)) → CalleeIn c lay ws ds mem w (Some g)
 
-    callee_in : (c : Callee) (lay : List Word) (ws xs mem : List ℕ) (w : World Value) {scope : Scope} {env : Env} {vs : List Value} {ys : List ℕ} → Begins first_lay lay → Fits text_of lay mem w → w.left ≤ fuel → Scoped lay ws scope env → Args lay ws (depths_in xs scope) vs ys → CalleeIn c lay ws (args_of places c scope xs) mem w (called T c env vs)
+    callee_in : (c : Callee) (lay : List Word) (ws xs mem : List ℕ) (w : World Value) {scope : Scope} {env : Env} {vs : List Value} {ys : List ℕ} → Begins first_lay lay → Fits text_of lay mem w → w.left ≤ fuel → Scoped lay ws scope env → Args lay ws (depths_in xs scope) vs ys → CalleeIn c lay ws (args_of c scope xs) mem w (called T c env vs)
     callee_in (known fn) lay ws xs mem w {vs = vs} {ys = ys} kept fits few vars args =
         a_callee (record { function = fn; arguments = vs }) ys (args_read args) (λ p f acc above free s a pos. funs_follow p fn vs ys w f acc above mem free lay s kept (args_are args) fits few a pos)
     callee_in (one_of set x) lay ws xs mem w {scope} {env} {vs} {ys} kept fits few vars args = by (look_up x env) (look lay ws x vars)
@@ -410,40 +479,21 @@ module _ (C : ControlLaws) (M : MemoryLaws) (A : ArithmeticLaws) (N : RoutineLaw
         top_sim C M A N text_of code first_lay {hand = hand} most ws hs (or_fail (look_all xs env) w (λ vs. or_fail (called T c env vs) w (λ g. calls p g.function g.arguments w))) here.hand_ok (λ same. by same (look_all xs env) (look_every lay ws xs here.vars))
       where
         ds : List ℕ
-        ds = args_of places c scope xs
+        ds = args_of c scope xs
 
-        n : ℕ
-        n = callee_count c (length xs)
+        q : ℕ
+        q = pc + move_size 0 (args_of c scope xs)
 
-        count_is : length (args_of places c scope xs) ≡ callee_count c (length xs)
-        count_is = args_count places stands.right c scope xs
+        has_jump : slice_get code (pc + move_size 0 (args_of c scope xs)) ≡ Some (Jmp (callee_at places c))
+        has_jump = (has_back code pc q (move_code d 0 ds) _ (omega (arith, move_length d 0 ds)) has).0
 
-        down : List Instr
-        down = down_code 0 d n
-
-        has_down : HasAt code (pc + n) (down ++ (Jmp (callee_at places c) ∷ []))
-        has_down = has_back code pc (pc + n) (push_code d ds) _ (omega (arith, push_length d ds, count_is)) has
-
-        has_jump : slice_get code (pc + n + n) ≡ Some (Jmp (callee_at places c))
-        has_jump = (has_back code (pc + n) (pc + n + n) down _ (omega (arith, down_length 0 d n)) has_down).0
-
-        reads_length : (xs ys : List ℕ) → Reads ws xs ys → length ys ≡ length xs
-        reads_length [] [] h = refl
-        reads_length [] (y ∷ ys) h = absurd h
-        reads_length (x ∷ xs) [] h = absurd h
-        reads_length (x ∷ xs) (y ∷ ys) h = ap suc (reads_length xs ys h.1)
-
-        on : hand ≡ f.hand → (o : Option Called) → CalleeIn c lay ws (args_of places c scope xs) mem w o → S (state_at base f hand pc acc (ws ++ above) mem free) w f lay (or_fail o w (λ g. calls p g.function g.arguments w))
+        on : hand ≡ f.hand → (o : Option Called) → CalleeIn c lay ws (args_of c scope xs) mem w o → S (state_at base f hand pc acc (ws ++ above) mem free) w f lay (or_fail o w (λ g. calls p g.function g.arguments w))
         on same o no_callee = is_wrong w
         on same o (a_callee g words reads goes) =
-            let m : length words ≡ n = reads_length ds words reads ∙ count_is in
-            copy_sim C M A text_of code base f hand ds words ws above d pc (pc + n) acc mem free (has_front code pc (push_code d ds) _ has) here.deep reads (omega (arith, count_is)) (calls_grow p g.function g.arguments w)
+            move_sim C M A text_of code base f hand ds words [] ws above d 0 pc q acc mem free (has_front code pc (move_code d 0 ds) _ has) refl (let e = here.deep in omega arith) reads refl (calls_grow p g.function g.arguments w)
             (λ rest.
-            subst (λ z. S (state_at base f hand (pc + n) acc z mem free) w f lay (calls p g.function g.arguments w)) (sym (append_assoc ws words rest))
-            (down_sim C M A text_of code base f hand words [] ws rest 0 d (pc + n) (pc + n + n) acc mem free (subst (λ z. HasAt code (pc + n) (down_code 0 d z)) (sym m) (has_front code (pc + n) down _ has_down)) refl (let e = here.deep in omega arith) (omega arith)
-            (λ rest'.
-            goes p f acc rest' free (state_at base f hand (pc + n + n) acc (words ++ rest') mem free)
-            (step_to code N.next (Jmp (callee_at places c)) has_jump (does_jmp C M A base f hand (pc + n + n) acc mem free (words ++ rest') (callee_at places c) ∙ ap (λ z. Goes (state_at base f z (callee_at places c) acc (words ++ rest') mem free)) same)) (omega arith))))
+            goes p f acc rest free (state_at base f hand q acc (words ++ rest) mem free)
+            (step_to code N.next (Jmp (callee_at places c)) has_jump (does_jmp C M A base f hand q acc mem free (words ++ rest) (callee_at places c) ∙ ap (λ z. Goes (state_at base f z (callee_at places c) acc (words ++ rest) mem free)) same)) (omega arith))
 
         by : hand ≡ f.hand → (o : Option (List Value)) → FoundAll lay ws (depths_in xs scope) o → S (state_at base f hand pc acc (ws ++ above) mem free) w f lay (or_fail o w (λ vs. or_fail (called T c env vs) w (λ g. calls p g.function g.arguments w)))
         by same o all_lost = is_wrong w
@@ -453,12 +503,12 @@ module _ (C : ControlLaws) (M : MemoryLaws) (A : ArithmeticLaws) (N : RoutineLaw
     follow_call p c xs x b go_b most env scope ws ls ks hs pc acc d above mem free lay f hand w here has = by (look_all xs env) (look_every lay ws xs here.vars)
       where
         ds : List ℕ
-        ds = args_of places c scope xs
+        ds = args_of c scope xs
 
         q : ℕ
         q = pc + callee_count c (length xs)
 
-        count_is : length (args_of places c scope xs) ≡ callee_count c (length xs)
+        count_is : length (args_of c scope xs) ≡ callee_count c (length xs)
         count_is = args_count places stands.right c scope xs
 
         onward : Value → World Value → Run Value
@@ -500,7 +550,7 @@ module _ (C : ControlLaws) (M : MemoryLaws) (A : ArithmeticLaws) (N : RoutineLaw
             throw_sim C M A N text_of code first_lay most f hand lay' ws hs v u word r.slot s r.above mem' r.free (hand_kept C M A N text_of code first_lay most most f hand lay lay' ws ws hs (omega arith) k (prefix_refl ws) here.hand_ok) is fits (let h = here.few in omega arith)
             r.instruction r.packet r.hand r.base_is r.limit r.memory (r.stack ∙ append_assoc f.lower (f.back ∷ f.frame ∷ ws) r.above)
 
-        on : (above : List ℕ) (o : Option Called) → CalleeIn c lay ws (args_of places c scope xs) mem w o → S (state_at base f hand pc acc (ws ++ above) mem free) w f lay (or_fail o w (λ g. then_go hs (calls p g.function g.arguments w) (λ v u. means b (bind x v env) ks hs u)))
+        on : (above : List ℕ) (o : Option Called) → CalleeIn c lay ws (args_of c scope xs) mem w o → S (state_at base f hand pc acc (ws ++ above) mem free) w f lay (or_fail o w (λ g. then_go hs (calls p g.function g.arguments w) (λ v u. means b (bind x v env) ks hs u)))
         on above o no_callee = is_wrong w
         on [] o (a_callee g words reads goes) = no_frame ds (ws ++ []) (Acc (slot d) ∷ tail_code) _ (let e = here.deep in omega (arith, length-append ws [])) has (r_grows g)
         on (a ∷ []) o (a_callee g words reads goes) = no_frame ds (ws ++ a ∷ []) (Acc (slot d) ∷ tail_code) _ (let e = here.deep in omega (arith, length-append ws (a ∷ []))) has (r_grows g)
@@ -550,51 +600,41 @@ module _ (C : ControlLaws) (M : MemoryLaws) (A : ArithmeticLaws) (N : RoutineLaw
         ds : List ℕ
         ds = depths_in xs scope
 
-        n : ℕ
-        n = length (depths_in xs scope)
-
-        spot : Spot
-        spot = get_or ls l no_spot
-
         to : ℕ
         to = (get_or ls l no_spot).place
 
         leave : List Instr
         leave = leave_code (get_or ls l no_spot).leaves
 
-        down : List Instr
-        down = down_code (get_or ls l no_spot).depth d (length (depths_in xs scope))
+        moves : List Instr
+        moves = move_code d (get_or ls l no_spot).depth (depths_in xs scope)
 
         q : ℕ
-        q = pc + n + length leave
+        q = pc + length leave
 
-        has_leave : HasAt code (pc + n) (leave ++ (down ++ (Jmp to ∷ [])))
-        has_leave = has_back code pc (pc + n) (push_code d ds) _ (omega (arith, push_length d ds)) has
+        q' : ℕ
+        q' = q + move_size (get_or ls l no_spot).depth ds
 
-        has_down : HasAt code q (down ++ (Jmp to ∷ []))
-        has_down = has_back code (pc + n) q leave _ refl has_leave
+        has_moves : HasAt code q (moves ++ (Jmp to ∷ []))
+        has_moves = has_back code pc q leave _ refl has
 
-        has_jump : slice_get code (q + n) ≡ Some (Jmp to)
-        has_jump = (has_back code q (q + n) down _ (omega (arith, down_length (get_or ls l no_spot).depth d (length (depths_in xs scope)))) has_down).0
-
-        split : (pre : List ℕ) → IsPrefix pre ws → (words rest : List ℕ) → (mid : List ℕ) × (ws ++ (words ++ rest) ≡ pre ++ (mid ++ (words ++ rest))) × (length ws ≡ length pre + length mid)
-        split pre h words rest = (h.0, ap (λ z. z ++ (words ++ rest)) h.1 ∙ append_assoc pre h.0 (words ++ rest), ap length h.1 ∙ length-append pre h.0)
+        has_jump : slice_get code q' ≡ Some (Jmp to)
+        has_jump = (has_back code q q' moves _ (omega (arith, move_length d (get_or ls l no_spot).depth (depths_in xs scope))) has_moves).0
 
         at_label : (vs : List Value) (words : List ℕ) → Args lay ws (depths_in xs scope) vs words → LabelIn C M A N text_of code first_lay most f hand lay ws (get_or ls l no_spot) (go_to ks l) → S (state_at base f hand pc acc (ws ++ above) mem free) w f lay (go_to ks l by_turn vs w)
         at_label vs words args (lacks_label e h) = subst (λ z. S (state_at base f hand pc acc (ws ++ above) mem free) w f lay z) (sym (h by_turn vs w)) (is_wrong w)
         at_label vs words args (has_label h) =
-            let m : length words ≡ n = args_length args in
             let r = go_to ks l by_turn vs w in
-            copy_sim C M A text_of code base f hand ds words ws above d pc (pc + n) acc mem free (has_front code pc (push_code d ds) _ has) here.deep (args_read args) refl (to_grows ks l here.grow by_turn vs w)
-            (λ rest.
-            subst (λ z. S (state_at base f hand (pc + n) acc z mem free) w f lay r) (sym (append_assoc ws words rest))
-            (leave_sim C M A N text_of code first_lay f hand h.old ws (words ++ rest) mem free (get_or ls l no_spot).leaves (pc + n) q acc h.leaves (has_front code (pc + n) leave _ has_leave) refl
-            (let c = split h.pre h.here words rest in
-            subst (λ z. S (state_at base f h.old q acc z mem free) w f lay r) (sym c.1)
-            (down_sim C M A text_of code base f h.old words h.pre c.0 rest (get_or ls l no_spot).depth d q (q + n) acc mem free (subst (λ z. HasAt code q (down_code (get_or ls l no_spot).depth d z)) (sym m) (has_front code q down _ has_down)) h.deep (let e = here.deep in let e' = h.deep in omega (arith, c.2)) (omega arith)
+            let spot = get_or ls l no_spot in
+            let mid = h.here.0 in
+            let whole : ws ≡ h.pre ++ mid = h.here.1 in
+            leave_sim C M A N text_of code first_lay f hand h.old ws above mem free spot.leaves pc q acc h.leaves (has_front code pc leave _ has) refl
+            (subst (λ z. S (state_at base f h.old q acc (z ++ above) mem free) w f lay r) (sym whole)
+            (move_sim C M A text_of code base f h.old ds words h.pre mid above d spot.depth q q' acc mem free (has_front code q moves _ has_moves) h.deep
+            (let e = here.deep in let e' = h.deep in omega (arith, ap length whole, length-append h.pre mid)) (subst (λ z. Reads z ds words) whole (args_read args)) refl (to_grows ks l here.grow by_turn vs w)
             (λ rest'.
-            h.goes by_turn vs words w acc rest' mem free lay (state_at base f h.old (q + n) acc ((h.pre ++ words) ++ rest') mem free) (begins_refl lay) (args_are args) here.fits here.few
-            (step_to code N.next (Jmp to) has_jump (does_jmp C M A base f h.old (q + n) acc mem free ((h.pre ++ words) ++ rest') to)) (omega arith))))))
+            h.goes by_turn vs words w acc rest' mem free lay (state_at base f h.old q' acc ((h.pre ++ words) ++ rest') mem free) (begins_refl lay) (args_are args) here.fits here.few
+            (step_to code N.next (Jmp to) has_jump (does_jmp C M A base f h.old q' acc mem free ((h.pre ++ words) ++ rest') to)) (omega arith))))
 
         by : (o : Option (List Value)) → FoundAll lay ws (depths_in xs scope) o → S (state_at base f hand pc acc (ws ++ above) mem free) w f lay (or_fail o w (λ vs. go_to ks l by_turn vs w))
         by o all_lost = is_wrong w
@@ -627,10 +667,10 @@ module _ (C : ControlLaws) (M : MemoryLaws) (A : ArithmeticLaws) (N : RoutineLaw
         (has_front code pc (code_at places pc d scope (spot ∷ ls) b) _ has)
       where
         place : ℕ
-        place = pc + size places.rows (false ∷ leaves_of ls) b
+        place = block_place places pc d scope ls b
 
         spot : Spot
-        spot = record { place = place; depth = d; leaves = None }
+        spot = block_at place d
 
         k : Onward
         k by_turn vs u = or_fail (bind_all params vs env) u (λ inner. may_turn by_turn u (eval T calls fuel a inner ks hs))
@@ -671,10 +711,10 @@ module _ (C : ControlLaws) (M : MemoryLaws) (A : ArithmeticLaws) (N : RoutineLaw
         (has_front code pc (code_at places pc d scope (spot ∷ ls) b) _ has)
       where
         place : ℕ
-        place = pc + size places.rows (false ∷ leaves_of ls) b
+        place = block_place places pc d scope ls b
 
         spot : Spot
-        spot = record { place = place; depth = d; leaves = None }
+        spot = block_at place d
 
         once : Onward → Env → World Value → Run Value
         once k inner u = eval T calls fuel a inner (k ∷ ks) hs u
@@ -750,7 +790,7 @@ module _ (C : ControlLaws) (M : MemoryLaws) (A : ArithmeticLaws) (N : RoutineLaw
         hand' = fp + slot d
 
         at_h : ℕ
-        at_h = pc + 1 + size places.rows (true ∷ []) a
+        at_h = pc + 1 + guard_size places d scope ls l a
 
         spot : Spot
         spot = get_or ls l no_spot
@@ -768,10 +808,10 @@ module _ (C : ControlLaws) (M : MemoryLaws) (A : ArithmeticLaws) (N : RoutineLaw
         code_a = code_at places (pc + 1) (d + 3) scope (left_by d (get_or ls l no_spot) ∷ []) a
 
         code_h : List Instr
-        code_h = code_at places (pc + 2 + size places.rows (true ∷ []) a) (suc d) ((y, d) ∷ scope) ls h
+        code_h = code_at places (pc + 2 + guard_size places d scope ls l a) (suc d) ((y, d) ∷ scope) ls h
 
-        a_length : length code_a ≡ size places.rows (true ∷ []) a
-        a_length = code_length places stands.right a (pc + 1) (d + 3) scope (left_by d (get_or ls l no_spot) ∷ []) ∙ ap (λ z. size places.rows z a) (left_leaves d (get_or ls l no_spot))
+        a_length : length code_a ≡ guard_size places d scope ls l a
+        a_length = code_length places stands.right a (pc + 1) (d + 3) scope (left_by d (get_or ls l no_spot) ∷ []) ∙ ap (λ z. size places.rows places.types (d + 3) scope z a) (left_exits d ls l)
 
         has_h : HasAt code at_h (Acc (slot d) ∷ code_h)
         has_h = has_back code (pc + 1) at_h code_a _ (omega (arith, a_length)) has.1
@@ -804,10 +844,10 @@ module _ (C : ControlLaws) (M : MemoryLaws) (A : ArithmeticLaws) (N : RoutineLaw
 
         caught : (p : Value) (u : World Value) (word c : ℕ) (above' mem' free' : List ℕ) (lay' : List Word) → Begins lay lay' → Is lay' p word → Fits text_of lay' mem' u → u.left ≤ most → S (state_at base f hand at_h word (ws ++ c ∷ above') mem' free') u f lay' (catch p u)
         caught p u word c above' mem' free' lay' k is fits few =
-            let q : at_h + 1 ≡ pc + 2 + size places.rows (true ∷ []) a = omega arith in
+            let q : at_h + 1 ≡ pc + 2 + guard_size places d scope ls l a = omega arith in
             push_sim C M A text_of code base f hand ws (c ∷ above') d word at_h word mem' free' (push_acc C M A base f hand at_h word mem' free' ws d here.deep) has_h.0 here.deep (grows h (bind y p env) ks hs u here.grow here.handlers)
             (λ rest. subst (λ z. S (state_at base f hand z word ((ws ++ word ∷ []) ++ rest) mem' free') u f lay' (catch p u)) (sym q)
-            (bind_on h go_h y (pc + 2 + size places.rows (true ∷ []) a) here (subst (λ z. HasAt code z code_h) q has_h.1) p u word word rest mem' free' lay' k is fits few))
+            (bind_on h go_h y (pc + 2 + guard_size places d scope ls l a) here (subst (λ z. HasAt code z code_h) q has_h.1) p u word word rest mem' free' lay' k is fits few))
 
         here' : (fp + slot d + 1 < 2 ^ 32) → HereAt most f hand' env scope ws' (left_by d spot ∷ []) (go_to ks l ∷ []) (catch ∷ hs) (d + 3) lay mem w
         here' small = record {
@@ -861,6 +901,6 @@ module _ (C : ControlLaws) (M : MemoryLaws) (A : ArithmeticLaws) (N : RoutineLaw
       body_follows (ret x) = follow_ret x
       body_follows (raise x) = follow_raise x
 
-      arms_follow : (bs : Bodies) → FollowTests bs × FollowTable bs
-      arms_follow (last b) = (tests_last b (body_follows b), table_last b (body_follows b))
-      arms_follow (arm i b bs) = (tests_arm i b bs (body_follows b) (arms_follow bs).0, table_arm i b bs (body_follows b) (arms_follow bs).1)
+      arms_follow : (bs : Bodies) → FollowTests bs × FollowPlaces bs
+      arms_follow (last b) = (tests_last b (body_follows b), places_last b (body_follows b))
+      arms_follow (arm i b bs) = (tests_arm i b bs (body_follows b) (arms_follow bs).0, places_arm i b bs (body_follows b) (arms_follow bs).1)

@@ -15,7 +15,7 @@ use Rattle.machine_routines.proofs.Seams.{get_right, get_here}
 use Rattle.machine_routines.proofs.LayoutLemmas.{BytesIn}
 use Rattle.machine_code.specs.Agrees.{Agrees, nothing, a_name, Begins}
 use Rattle.machine_code.specs.Rows.{Rows}
-use Rattle.machine_code.specs.Image.{text_words, text_place, packet_words, text_of, names_at, initial_at, packets_at, first_texts, first_names, first_packets, constants_of}
+use Rattle.machine_code.specs.Image.{text_word, place_of, text_words, text_place, packet_words, text_of, names_at, initial_at, packets_at, first_texts, first_names, first_packets, constants_of}
 use Rattle.machine_code.proofs.Kept.{text_kept, NoReferences, agrees_append, words_agree}
 
 map_get : (xs : List ℕ) (i y : ℕ) → slice_get xs i ≡ Some y → slice_get (map stays xs) i ≡ Some (stays y)
@@ -47,34 +47,33 @@ pub all_bytes_of : (ts : List (List ℕ)) → AllByRecursion (AllByRecursion (λ
 all_bytes_of [] h = tt
 all_bytes_of (t ∷ ts) h = (bytes_of t h.0, all_bytes_of ts h.1)
 
-texts_there : (ts : List (List ℕ)) (pre : List ℕ) (x i : ℕ) (t : List ℕ) → length pre ≡ x → AreBytes ts → slice_get ts i ≡ Some t
-    → TextAt (map stays (pre ++ text_words ts)) t (text_place x ts i)
-texts_there [] pre x i t n b e = absurd (cc)
-texts_there (u ∷ ts) pre x zero t n b e =
-    let same : u ≡ t = cc in
-    let m = pre ++ (length u ∷ (u ++ text_words ts)) in
-    subst (λ z. TextAt (map stays m) z x) same (
-      map_get m x (length u) (subst (λ k. slice_get m k ≡ Some (length u)) n (get_here pre (u ++ text_words ts) (length u))),
-      bytes_stay m u (x + 1) (subst (λ z. BytesIn z u (x + 1)) (append_assoc pre (length u ∷ []) (u ++ text_words ts))
-          (bytes_there (pre ++ length u ∷ []) u (text_words ts) (x + 1) (omega (arith, n, length-append pre (length u ∷ []))))),
-      b.0,
+-- a text's words, or the word 0
+word_there : (pre post : List ℕ) (x : ℕ) (u : List ℕ) → length pre ≡ x → all_bytes u ≡ true → TextAt (map stays (pre ++ (text_word u ++ post))) [] 0
+    → TextAt (map stays (pre ++ (text_word u ++ post))) u (place_of x u)
+word_there pre post x [] n b z = z
+word_there pre post x (c ∷ u) n b z =
+    let t = c ∷ u in
+    let m = pre ++ (length t ∷ (t ++ post)) in (
+      map_get m x (length t) (subst (λ k. slice_get m k ≡ Some (length t)) n (get_here pre (t ++ post) (length t))),
+      bytes_stay m t (x + 1) (subst (λ z. BytesIn z t (x + 1)) (append_assoc pre (length t ∷ []) (t ++ post))
+          (bytes_there (pre ++ length t ∷ []) t post (x + 1) (omega (arith, n, length-append pre (length t ∷ []))))),
+      b,
     )
-texts_there (u ∷ ts) pre x (suc i) t n b e =
-    let front = length u ∷ u in
-    let whole : (pre ++ front) ++ text_words ts ≡ pre ++ (length u ∷ (u ++ text_words ts)) = append_assoc pre front (text_words ts) in
-    subst (λ z. TextAt (map stays z) t (text_place (x + 1 + length u) ts i)) whole
-    (texts_there ts (pre ++ front) (x + 1 + length u) i t (omega (arith, n, length-append pre front)) b.1 e)
 
--- .. of any number, where the word 0 is the empty text
 any_there : (ts : List (List ℕ)) (pre : List ℕ) (x i : ℕ) → length pre ≡ x → AreBytes ts → TextAt (map stays (pre ++ text_words ts)) [] 0
     → TextAt (map stays (pre ++ text_words ts)) (get_or ts i []) (text_place x ts i)
 any_there [] pre x i n b z = z
-any_there (u ∷ ts) pre x zero n b z = texts_there (u ∷ ts) pre x zero u n b refl
+any_there (u ∷ ts) pre x zero n b z = word_there pre (text_words ts) x u n b.0 z
 any_there (u ∷ ts) pre x (suc i) n b z =
-    let front = length u ∷ u in
-    let whole : (pre ++ front) ++ text_words ts ≡ pre ++ (length u ∷ (u ++ text_words ts)) = append_assoc pre front (text_words ts) in
-    subst (λ m. TextAt (map stays m) (get_or ts i []) (text_place (x + 1 + length u) ts i)) whole
-    (any_there ts (pre ++ front) (x + 1 + length u) i (omega (arith, n, length-append pre front)) b.1 (subst (λ m. TextAt (map stays m) [] 0) (sym whole) z))
+    let front = text_word u in
+    let whole : (pre ++ front) ++ text_words ts ≡ pre ++ (front ++ text_words ts) = append_assoc pre front (text_words ts) in
+    subst (λ m. TextAt (map stays m) (get_or ts i []) (text_place (x + length front) ts i)) whole
+    (any_there ts (pre ++ front) (x + length front) i (omega (arith, n, length-append pre front)) b.1 (subst (λ m. TextAt (map stays m) [] 0) (sym whole) z))
+
+get_or_some : (ts : List (List ℕ)) (i : ℕ) (t : List ℕ) → slice_get ts i ≡ Some t → get_or ts i [] ≡ t
+get_or_some [] i t e = absurd (cc)
+get_or_some (u ∷ ts) zero t e = cc
+get_or_some (u ∷ ts) (suc i) t e = get_or_some ts i t e
 
 -- Names.
 
@@ -149,7 +148,8 @@ module _ (rows : Rows) (texts : List (List ℕ)) (p : Program) (strings_are : Ar
       let b : Begins (map stays front) (map stays (first_texts rows texts p)) = record { rest = map stays (text_words texts); is = map-append stays front (text_words texts) } in
       text_kept (map stays (first_texts rows texts p)) first_lay t (text_place 2 p.tables.strings i) after_texts
       (text_kept (map stays front) (map stays (first_texts rows texts p)) t (text_place 2 p.tables.strings i) b
-      (texts_there p.tables.strings (0 ∷ 1 ∷ []) 2 i t refl strings_are e))
+      (subst (λ z. TextAt (map stays front) z (text_place 2 p.tables.strings i)) (get_or_some p.tables.strings i t e)
+      (any_there p.tables.strings (0 ∷ 1 ∷ []) 2 i refl strings_are (refl, tt, refl))))
 
   pub names_stand : (i : ℕ) → TextAt first_lay (text_of texts i) (text_place (names_at rows texts p) texts i)
   names_stand i =

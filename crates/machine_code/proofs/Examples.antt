@@ -1,10 +1,10 @@
 -- Small programs and their images, by computation, with the code of three primitives.
-use Rattle.std.proofs.Common.{◌≡◌, ℕ, List, [], ◌∷◌, length, get_or, refl}
+use Rattle.std.proofs.Common.{◌≡◌, ℕ, List, [], ◌∷◌, length, map, Some, get_or, refl}
 use Rattle.std.specs.Prelude.{pos}
 use Rattle.mlc_base.specs.Outcome.{ended, uncaught}
 use Rattle.mlc_base.specs.declared.place.Place.{Place}
 use Rattle.ir_code.specs.declared.instr.Instr.{Instr}
-use Rattle.ir_code.specs.declared.instr.Instr.TheVariants.{Li, Jmp, Brz, Add as AddRow, Sub as SubRow, ILt}
+use Rattle.ir_code.specs.declared.instr.Instr.TheVariants.{Li, Mov, Jmp, Brz, Alloc, St, Ret, Raise as RaiseRow, Add as AddRow, Sub as SubRow, ILt, Eq}
 use Rattle.ir_code.specs.Machine.{run}
 use Rattle.ir_code.specs.Run as machine
 use Rattle.mlc_prims.specs.declared.prim.PrimExn.TheVariants.{Overflow}
@@ -13,20 +13,22 @@ use Rattle.mlc_prims.specs.declared.basis.BasisPrimitive.TheVariants.{Add, Subtr
 use Rattle.first_values.specs.Values.{one as a_value, run as a_run}
 use Rattle.first_values.specs.Equality.{Shape, numbers, texts, cells}
 use Rattle.first_values.specs.Operations.{Member, Operands, an_int, a_text, ints, constant, field, exception, initial, pack, argument, equal, print, is, is_of, holds, known, one_of}
-use Rattle.ir_ssa.specs.Tree.{Body, Fun, Program, plain, make, attempt, turn, call, label, again, guard, goto, jump, branch, switch, tail, ret, raise, last, arm}
+use Rattle.ir_ssa.specs.Tree.{Body, Bodies, Fun, Program, plain, make, attempt, turn, call, label, again, guard, goto, jump, branch, switch, tail, ret, raise, last, arm}
 use Rattle.ir_ssa.specs.Meaning.{meaning}
 use Rattle.machine_code.specs.Rows.{Rows, Packets}
-use Rattle.machine_code.specs.Image.{code_of, constants_of, image_of}
+use Rattle.machine_code.specs.Code.{by_table, by_search, by_tests, choice_of, move_code, Places, plain_code, code_at}
+use Rattle.machine_code.specs.Image.{text_words, text_place, places_of, code_of, constants_of, image_of}
 
 -- sums and differences of integers, and the order of two
 abbrev row : Operands → BasisPrimitive → Packets → (pc d other : ℕ) → List ℕ → List Instr
-row k Subtract packets pc d other xs = Li d (packets Overflow) ∷ SubRow d (get_or xs 0 0) (get_or xs 1 0) ∷ Jmp other ∷ []
-row k p packets pc d other xs = Li d (packets Overflow) ∷ AddRow d (get_or xs 0 0) (get_or xs 1 0) ∷ Jmp other ∷ []
+row k Subtract packets pc d other xs = SubRow d (get_or xs 0 0) (get_or xs 1 0) ∷ Jmp other ∷ []
+row k p packets pc d other xs = AddRow d (get_or xs 0 0) (get_or xs 1 0) ∷ Jmp other ∷ []
 
 abbrev three : Rows
 three = record {
-  size = λ k p. 3;
+  size = λ k p. 2;
   code = row;
+  late = λ k p. Some Overflow;
   test_size = λ k p. 2;
   test_code = λ k p pc d other xs. ILt d (get_or xs 0 0) (get_or xs 1 0) ∷ Brz d other ∷ [];
 }
@@ -168,8 +170,97 @@ unfolding run
 swapped_twice = refl
 
 -- how many instructions, and constants
-swapping_size : length (code_of three written (swapping 2)) ≡ 38
+swapping_size : length (code_of three written (swapping 2)) ≡ 31
 swapping_size = refl
 
 swapping_constants : length (constants_of three written (swapping 2)) ≡ 45
 swapping_constants = refl
+
+-- go (n, a) is go (n - 1, a + n) up to 0: the code of a turn, eight instructions
+abbrev summing : Body
+summing =
+    branch (is (an_int (pos 0))) (1 ∷ []) (ret 2)
+    (plain (constant (an_int (pos 1))) [] 3 (attempt ints Subtract (1 ∷ 3 ∷ []) 4 (attempt ints Add (2 ∷ 1 ∷ []) 5 (tail here (known 1) (4 ∷ 5 ∷ [])) (raise 5)) (raise 4)))
+
+abbrev places : Places
+places = places_of three written (program [] [] [])
+
+turn_of_sums : code_at places 100 2 ((2, 1) ∷ (1, 0) ∷ []) [] summing
+    ≡ Brz 2 102 ∷ Jmp 103 ∷ Ret 3 ∷ Li 4 1
+    ∷ SubRow 5 2 4 ∷ Jmp 113 ∷ AddRow 6 3 2 ∷ Jmp 111
+    ∷ Mov 2 5 ∷ Mov 3 6 ∷ Jmp (places.fun_at 1)
+    ∷ Li 6 (places.packet_at Overflow) ∷ RaiseRow 6 ∷ Li 5 (places.packet_at Overflow) ∷ RaiseRow 5 ∷ []
+turn_of_sums = refl
+
+-- a swap goes behind the frame and down; a word that is at its place stays
+swap_moves : move_code 2 0 (1 ∷ 0 ∷ []) ≡ Mov 4 3 ∷ Mov 5 2 ∷ Mov 2 4 ∷ Mov 3 5 ∷ []
+swap_moves = refl
+
+straight_moves : move_code 4 0 (3 ∷ 1 ∷ 0 ∷ []) ≡ Mov 6 5 ∷ Mov 7 3 ∷ Mov 8 2 ∷ Mov 2 6 ∷ Mov 3 7 ∷ Mov 4 8 ∷ []
+straight_moves = refl
+
+kept_moves : move_code 4 0 (0 ∷ 3 ∷ 2 ∷ []) ≡ Mov 3 5 ∷ []
+kept_moves = refl
+
+-- what a switch over the cell with the tag t prints
+abbrev choosing : Bodies → ℕ → Program
+choosing bs t = program [] [] (main (make t [] 1 (label (20 ∷ []) (plain print (20 ∷ []) 21 (ret 21)) (switch 1 bs))) ∷ [])
+
+abbrev prints : ℕ → Body
+prints i = plain (constant (a_text i)) [] 2 (goto 0 (2 ∷ []))
+
+abbrev twice : Body
+twice = plain (constant (a_text 0)) [] 2 (plain print (2 ∷ []) 3 (goto 0 (2 ∷ [])))
+
+abbrev choices : Bodies → List ℕ → List (List ℕ)
+choices bs ts = map (λ t. (runs (choosing bs t) 1 9 60).output) ts
+
+-- in any order, with a tag that no arm has
+abbrev filled : Bodies
+filled = arm 2 (prints 0) (arm 0 (prints 1) (last twice))
+
+filled_chosen : choice_of filled ≡ by_table
+filled_chosen = refl
+
+filled_runs : choices filled (0 ∷ 1 ∷ 2 ∷ 3 ∷ []) ≡ (66 ∷ 67 ∷ []) ∷ (65 ∷ 65 ∷ []) ∷ (65 ∷ []) ∷ (65 ∷ 65 ∷ []) ∷ []
+unfolding run
+filled_runs = refl
+
+abbrev sparse : Bodies
+sparse = arm 3 (prints 0) (arm 10 (prints 1) (arm 20 (prints 0) (arm 30 (prints 1) (arm 40 (prints 0) (last twice)))))
+
+sparse_chosen : choice_of sparse ≡ by_search
+sparse_chosen = refl
+
+sparse_runs : choices sparse (0 ∷ 3 ∷ 10 ∷ 15 ∷ 20 ∷ 30 ∷ 40 ∷ 41 ∷ [])
+    ≡ (65 ∷ 65 ∷ []) ∷ (65 ∷ []) ∷ (66 ∷ 67 ∷ []) ∷ (65 ∷ 65 ∷ []) ∷ (65 ∷ []) ∷ (66 ∷ 67 ∷ []) ∷ (65 ∷ []) ∷ (65 ∷ 65 ∷ []) ∷ []
+unfolding run
+sparse_runs = refl
+
+abbrev few : Bodies
+few = arm 9 (prints 0) (arm 4 (prints 1) (last twice))
+
+few_chosen : choice_of few ≡ by_tests
+few_chosen = refl
+
+few_runs : choices few (4 ∷ 9 ∷ 0 ∷ []) ≡ (66 ∷ 67 ∷ []) ∷ (65 ∷ []) ∷ (65 ∷ 65 ∷ []) ∷ []
+unfolding run
+few_runs = refl
+
+-- integers are compared by one instruction
+words_compared : plain_code (places_of three written (program (numbers ∷ []) [] [])) 100 5 (equal 0) (1 ∷ 3 ∷ []) ≡ Eq 7 3 5 ∷ []
+words_compared = refl
+
+-- a cell that the constants have, and one that they haven't
+shared_cell : code_at places 100 2 [] [] (make 1 [] 5 (ret 5)) ≡ Li 4 1 ∷ Ret 4 ∷ []
+shared_cell = refl
+
+new_cell : code_at places 100 2 [] [] (make 2 [] 5 (ret 5)) ≡ Alloc 4 1 ∷ Li 5 2 ∷ St 4 0 5 ∷ Ret 4 ∷ []
+new_cell = refl
+
+-- an empty text takes no word
+empty_texts : text_words ((65 ∷ []) ∷ [] ∷ (66 ∷ 67 ∷ []) ∷ []) ≡ 1 ∷ 65 ∷ 2 ∷ 66 ∷ 67 ∷ []
+empty_texts = refl
+
+empty_places : map (text_place 2 ((65 ∷ []) ∷ [] ∷ (66 ∷ 67 ∷ []) ∷ [])) (0 ∷ 1 ∷ 2 ∷ 3 ∷ []) ≡ 2 ∷ 0 ∷ 4 ∷ 0 ∷ []
+empty_places = refl

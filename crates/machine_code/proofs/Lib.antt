@@ -11,8 +11,9 @@ pub mod Sizes
 pub mod Runs
 pub mod Tests
 pub mod Here
-pub mod Bodies
 pub mod Sets
+pub mod Switches
+pub mod Bodies
 pub mod Constants
 pub mod Right
 pub mod Bounds

@@ -1,10 +1,10 @@
 -- The code of each operation does what the operation does, and then what comes after it.
 use Rattle.std.proofs.Common.{◌≡◌, ℕ, suc, ◌+◌, ◌<◌, ◌≤◌, List, [], ◌∷◌, ◌++◌, length, map, Option, Some, None, Bool, true, false, refl, sym, ap, ◌∙◌, subst, arith, append_assoc, append-nil, length-append, get_or}
-use Rattle.std.specs.Prelude.{slice_get, slice_set, nat_lt, option_and_then, if◌then◌else◌}
+use Rattle.std.specs.Prelude.{slice_get, slice_set, nat_eq, nat_lt, option_and_then, if◌then◌else◌}
 use Rattle.ir_code.specs.declared.instr.Instr.{Instr}
-use Rattle.ir_code.specs.declared.instr.Instr.TheVariants.{Li, Ld, St, Call as CallRow, Acc, Print as PrintRow}
+use Rattle.ir_code.specs.declared.instr.Instr.TheVariants.{Li, Ld, St, Eq, Call as CallRow, Acc, Print as PrintRow}
 use Rattle.ir_code.specs.declared.halt.Halt.TheVariants.{NoHeap, NoStack}
-use Rattle.ir_code.specs.Words.{one_if}
+use Rattle.ir_code.specs.Words.{one_if, same_word}
 use Rattle.ir_code.specs.Machine.{State}
 use Rattle.ir_code.specs.Laws.{ControlLaws, MemoryLaws, ArithmeticLaws}
 use Rattle.mlc_base.specs.Run.{World, gives, fail, or_fail, writes}
@@ -16,17 +16,19 @@ use Rattle.first_values.specs.Equality.{opaque, equal_at}
 use Rattle.first_values.specs.Operations.{Tables, Operands, Constant, Plain, same, constant, field, refer, content, assign, exception, initial, pack, argument, compute, equal, print, literal_at, literals, row_at, made_in, perform}
 use Rattle.ir_ssa.specs.Meaning.{Handler, then_go}
 use Rattle.machine_routines.specs.Layout.{Word, stays, changes, names, is_reference, is_name, nth_at, TextAt, Is, Shows}
+use Rattle.machine_routines.specs.EqualCode.{is_word}
 use Rattle.machine_routines.specs.Runs.{HasAt}
 use Rattle.machine_routines.specs.EqualLaw.{Answers, returns, exhausts}
+use Rattle.machine_routines.proofs.Compares.{word_equal}
 use Rattle.machine_routines.proofs.Seams.{get_left, get_right, get_here, get_within}
 use Rattle.machine_code.specs.Agrees.{Agrees, nothing, a_reference, a_name, Begins}
 use Rattle.machine_code.specs.Rows.{HoldAll}
-use Rattle.machine_code.specs.Code.{slot, plain_size, Places, plain_code, constant_word}
+use Rattle.machine_code.specs.Code.{slot, equal_size, plain_size, Places, equal_call, plain_code, constant_word}
 use Rattle.machine_code.proofs.RoutineLaws.{RoutineLaws}
 use Rattle.machine_code.proofs.Kept.{begins_refl, begins_trans, begins_more, is_kept, text_kept, nth_kept, FoundAt, no_part, at_part, look_at, agrees_kept, agrees_append, agrees_length, grown_by, shown, reference_word, reference_set, reference_new, name_new, nth_within, reference_low}
 use Rattle.machine_code.proofs.Grows.{Grows, HandlersGrow, perform_grows, then_grows}
 use Rattle.machine_code.proofs.Sim.{no_heap, no_stack, Call, state_at, Fits, Sim, is_wrong, before, wider, one as one_step, one_print, some as some_steps, cut, cut_by}
-use Rattle.machine_code.proofs.Slots.{push_li, push_mov, push_ld, push_acc, short, does_call, does_print, does_set}
+use Rattle.machine_code.proofs.Slots.{push_li, push_eq, push_mov, push_ld, push_acc, short, does_call, does_print, does_set}
 use Rattle.machine_code.proofs.Vars.{Args, no_args, an_arg}
 use Rattle.machine_code.proofs.Pieces.{push_sim, fill_sim, alloc_sim, tagged_sim}
 use Rattle.machine_code.proofs.Primitives.{Stands, FoundOperands, no_literals, are_literals, operands, low_of, zero_is, truth_is, constant_is, primitive_sim}
@@ -47,7 +49,7 @@ module _ (C : ControlLaws) (M : MemoryLaws) (A : ArithmeticLaws) (N : RoutineLaw
     Onto q = (v : Value) (u : World Value) (y acc : ℕ) (above m free : List ℕ) (lay' : List Word) → Begins lay lay' → Is lay' v y → Fits text_of lay' m u → u.left ≡ w.left → S (at_state q acc ((ws ++ y ∷ []) ++ above) m free) u lay' (k v u)
 
     abbrev pub Op : Plain → Type 0
-    Op p = (xs : List ℕ) (vs : List Value) (ys : List ℕ) → Args lay ws xs vs ys → (pc acc : ℕ) (above free : List ℕ) → HasAt code pc (plain_code places pc d p xs) → Onto (pc + plain_size places.rows p) → S (at_state pc acc (ws ++ above) mem free) w lay (then_go hs (perform T p vs w) k)
+    Op p = (xs : List ℕ) (vs : List Value) (ys : List ℕ) → Args lay ws xs vs ys → (pc acc : ℕ) (above free : List ℕ) → HasAt code pc (plain_code places pc d p xs) → Onto (pc + plain_size places.rows places.types p) → S (at_state pc acc (ws ++ above) mem free) w lay (then_go hs (perform T p vs w) k)
 
     low : base ≤ length mem
     low = low_of text_of code first_lay T places stands lay mem w kept fits
@@ -99,7 +101,7 @@ module _ (C : ControlLaws) (M : MemoryLaws) (A : ArithmeticLaws) (N : RoutineLaw
         by_row ls (Some (raised x)) hold e = is_wrong w
         by_row ls (Some (made l)) hold e =
             primitive_sim text_of code first_lay T places stands f hand w lay mem ws d kept fits deep c p xs ls (made l) hold e pc (pc + places.rows.size c p) acc above free
-            (k (value_of l) w) has (k_grows (value_of l) w)
+            (k (value_of l) w) has tt (k_grows (value_of l) w)
             (λ y acc' above' mem' free' lay' b is fits'. go (value_of l) w y acc' above' mem' free' lay' b is fits' refl)
 
         by : (o : Option (List Literal)) → FoundOperands lay (f.back ∷ f.frame ∷ ws) (map slot xs) o
@@ -265,11 +267,26 @@ module _ (C : ControlLaws) (M : MemoryLaws) (A : ArithmeticLaws) (N : RoutineLaw
         (λ above'. wider text_of code base lay lay' b
         (go (truth_value q) w (one_if q) (one_if q) above' mem' free' lay' b (truth_is text_of code first_lay T places stands lay' q (begins_trans first_lay lay lay' kept b)) (grown_by text_of lay mem new w.store w.exceptions fits) refl))))
 
-    -- a comparison: the routine is called with its two values
-    op_equal : (t : ℕ) → Op (equal t)
-    op_equal t _ _ _ no_args pc acc above free has go = is_wrong w
-    op_equal t _ _ _ (an_arg x v y e i no_args) pc acc above free has go = is_wrong w
-    op_equal t _ _ _ (an_arg x v y e i (an_arg x' v' y' e' i' no_args)) pc acc above free has go = by (equal_at T.types (get_or T.types t opaque) v v') refl
+    abbrev answer : Option Bool → Run Value
+    answer o = then_go hs (or_fail o w (λ q. gives (truth_value q) w)) k
+
+    -- a comparison of two words
+    by_words : (t x x' : ℕ) (v v' : Value) (y y' : ℕ) → is_word (get_or T.types t opaque) ≡ true → slice_get ws x ≡ Some y → Is lay v y → slice_get ws x' ≡ Some y' → Is lay v' y' → (pc acc : ℕ) (above free : List ℕ)
+        → slice_get code pc ≡ Some (Eq (slot d) (slot x) (slot x')) → Onto (pc + 1) → S (at_state pc acc (ws ++ above) mem free) w lay (answer (equal_at T.types (get_or T.types t opaque) v v'))
+    by_words t x x' v v' y y' words e i e' i' pc acc above free has go = by (equal_at T.types (get_or T.types t opaque) v v') refl
+      where
+        by : (o : Option Bool) → equal_at T.types (get_or T.types t opaque) v v' ≡ o → S (at_state pc acc (ws ++ above) mem free) w lay (then_go hs (or_fail o w (λ q. gives (truth_value q) w)) k)
+        by None g = is_wrong w
+        by (Some q) g =
+            let same : nat_eq y y' ≡ q = word_equal T.types lay (get_or T.types t opaque) v v' y y' q words i i' g in
+            push_sim C M A text_of code base f hand ws above d (same_word y y') pc acc mem free (push_eq C M A base f hand pc acc mem free ws d deep x x' y y' e e') has deep (k_grows (truth_value q) w)
+            (λ rest. go (truth_value q) w (same_word y y') acc rest mem free lay (begins_refl lay)
+            (subst (λ z. Is lay (truth_value q) (one_if z)) (sym same) (truth_is text_of code first_lay T places stands lay q kept)) fits refl)
+
+    -- .. of other values: the routine is called
+    by_routine : (t x x' : ℕ) (v v' : Value) (y y' : ℕ) → slice_get ws x ≡ Some y → Is lay v y → slice_get ws x' ≡ Some y' → Is lay v' y' → (pc acc : ℕ) (above free : List ℕ)
+        → HasAt code pc (equal_call places false d t x x') → Onto (pc + 5) → S (at_state pc acc (ws ++ above) mem free) w lay (answer (equal_at T.types (get_or T.types t opaque) v v'))
+    by_routine t x x' v v' y y' e i e' i' pc acc above free has go = by (equal_at T.types (get_or T.types t opaque) v v') refl
       where
         routine : ℕ
         routine = places.type_at t
@@ -321,6 +338,17 @@ module _ (C : ControlLaws) (M : MemoryLaws) (A : ArithmeticLaws) (N : RoutineLaw
             room (a ∷ b ∷ []) = no_room (ws ++ a ∷ b ∷ []) (omega (arith, deep, length-append ws (a ∷ b ∷ [])))
             room (a ∷ b ∷ c ∷ []) = no_room (ws ++ a ∷ b ∷ c ∷ []) (omega (arith, deep, length-append ws (a ∷ b ∷ c ∷ [])))
             room (a ∷ b ∷ c ∷ c' ∷ rest) = subst (λ z. S (at_state pc acc z mem free) w lay (k (truth_value q) w)) (append_assoc ws (a ∷ b ∷ c ∷ c' ∷ []) rest) (with_frame q g a b c c' rest)
+
+    op_equal : (t : ℕ) → Op (equal t)
+    op_equal t _ _ _ no_args pc acc above free has go = is_wrong w
+    op_equal t _ _ _ (an_arg x v y e i no_args) pc acc above free has go = is_wrong w
+    op_equal t _ _ _ (an_arg x v y e i (an_arg x' v' y' e' i' no_args)) pc acc above free has go = by (is_word (get_or places.types t opaque)) refl has go
+      where
+        by : (b : Bool) → is_word (get_or places.types t opaque) ≡ b → HasAt code pc (equal_call places b d t x x') → Onto (pc + equal_size b)
+            → S (at_state pc acc (ws ++ above) mem free) w lay (then_go hs (or_fail (equal_at T.types (get_or T.types t opaque) v v') w (λ q. gives (truth_value q) w)) k)
+        by true words has go =
+            by_words t x x' v v' y y' (subst (λ z. is_word (get_or z t opaque) ≡ true) stands.same_types words) e i e' i' pc acc above free has.0 go
+        by false words has go = by_routine t x x' v v' y y' e i e' i' pc acc above free has go
     op_equal t _ _ _ (an_arg x v y e i (an_arg x' v' y' e' i' (an_arg x'' v'' y'' e'' i'' args))) pc acc above free has go = is_wrong w
 
     pub op_does : (p : Plain) → Op p

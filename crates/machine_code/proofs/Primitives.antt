@@ -9,7 +9,7 @@ use Rattle.ir_code.specs.Words.{fits_word, word_of, one_if}
 use Rattle.ir_values.specs.Primitives.{raised_name}
 use Rattle.mlc_base.specs.Run.{World}
 use Rattle.mlc_prims.specs.LitOf.{Literal, int, word, char, string, truth}
-use Rattle.mlc_prims.specs.PrimOf.{Gives, made, fits_int}
+use Rattle.mlc_prims.specs.PrimOf.{Gives, made, raised, fits_int}
 use Rattle.mlc_prims.specs.declared.basis.BasisPrimitive.{BasisPrimitive}
 use Rattle.mlc_prims.specs.declared.prim.PrimExn.{PrimExn}
 use Rattle.first_values.specs.Values.{Value, literal, packet, unit, truth_value, value_of, Run}
@@ -19,7 +19,7 @@ use Rattle.machine_routines.specs.Runs.{HasAt, Frame}
 use Rattle.machine_routines.specs.EqualCode.{offset_of, place, equal_code}
 use Rattle.machine_routines.proofs.Seams.{get_left}
 use Rattle.machine_code.specs.Agrees.{Begins}
-use Rattle.machine_code.specs.Rows.{HoldAll, no_operand, an_operand, Ready, Comes, comes, lacks_heap, lacks_stack, Passes, passes, given, way_on, AreRight}
+use Rattle.machine_code.specs.Rows.{HoldAll, no_operand, an_operand, Ready, Comes, comes, lacks_heap, lacks_stack, Passes, passes, given, way_on, Packets, late_code, later, WhenRaised, WithLate, AreRight}
 use Rattle.machine_code.specs.Rows as rows
 use Rattle.machine_code.specs.Code.{slot, or_zero, Places, constant_word}
 use Rattle.machine_code.proofs.Kept.{begins_more, is_kept, text_kept, NoReferences, agrees_length, grown_by, shown}
@@ -41,7 +41,17 @@ pub record Stands (code : List Instr) (first_lay : List Word) (text_of : ℕ →
   pub most : ℕ
   pub few : length code ≤ most
   pub compares : HasAt code start (equal_code T.types start most)
+  pub same_types : at.types ≡ T.types
   pub types : (t : ℕ) → at.type_at t ≡ place T.types start most (offset_of T.types t)
+
+use_late : (o : Option PrimExn) (g : Gives) (code : List Instr) (other : ℕ) (packets : Packets) (d : ℕ) {X : Type 0} → WhenRaised g (HasAt code other (late_code o packets d))
+    → WithLate o g code other packets d X → X
+use_late None g code other packets d h x = x
+use_late (Some e) g code other packets d h x = x h
+
+pub when_raised : (g : Gives) {X : Type 0} → X → WhenRaised g X
+when_raised (made l) x = tt
+when_raised (raised e) x = x
 
 -- operands, where all are constants
 pub data FoundOperands (lay : List Word) (front xs : List ℕ) : Option (List Literal) → Type 0 where
@@ -76,7 +86,7 @@ module _ (text_of : ℕ → List ℕ) (code : List Instr) (first_lay : List Word
   pub zero_is : (l : List Word) → Begins first_lay l → slice_get l 0 ≡ Some (stays 0)
   zero_is l b = subst (λ z. slice_get z 0 ≡ Some (stays 0)) (sym b.is) (get_left first_lay b.rest 0 (stays 0) stands.zero_there)
 
-  one_is : (l : List Word) → Begins first_lay l → slice_get l 1 ≡ Some (stays 1)
+  pub one_is : (l : List Word) → Begins first_lay l → slice_get l 1 ≡ Some (stays 1)
   one_is l b = subst (λ z. slice_get z 1 ≡ Some (stays 1)) (sym b.is) (get_left first_lay b.rest 1 (stays 1) stands.one_there)
 
   pub truth_is : (l : List Word) (q : Bool) → Begins first_lay l → Is l (truth_value q) (one_if q)
@@ -130,19 +140,22 @@ module _ (text_of : ℕ → List ℕ) (code : List Instr) (first_lay : List Word
 
     -- a primitive, and what comes after it with its value or with its packet
     pub primitive_sim : (k : Operands) (p : BasisPrimitive) (xs : List ℕ) (ls : List Literal) (g : Gives) → HoldAll lay front (map slot xs) ls → row_at k p ls ≡ Some g
-        → (pc other acc : ℕ) (above free : List ℕ) (r : Run Value) → HasAt code pc (places.rows.code k p places.packet_at pc (slot d) other (map slot xs)) → Grows w r
+        → (pc other acc : ℕ) (above free : List ℕ) (r : Run Value) → HasAt code pc (places.rows.code k p places.packet_at pc (slot d) other (map slot xs))
+        → WhenRaised g (HasAt code other (late_code (places.rows.late k p) places.packet_at (slot d))) → Grows w r
         → ((y acc' : ℕ) (above' mem' free' : List ℕ) (lay' : List Word) → Begins lay lay' → Is lay' (given g) y → Fits text_of lay' mem' w
-        → Sim text_of code base (state_at base f hand (way_on g (pc + places.rows.size k p) other) acc' ((ws ++ y ∷ []) ++ above') mem' free') w f lay' r)
+        → Sim text_of code base (state_at base f hand (way_on g (pc + places.rows.size k p) (later (places.rows.late k p) other)) acc' ((ws ++ y ∷ []) ++ above') mem' free') w f lay' r)
         → Sim text_of code base (state_at base f hand pc acc (ws ++ above) mem free) w f lay r
-    primitive_sim k p xs ls g hold row pc other acc above free r has grow go =
+    primitive_sim k p xs ls g hold row pc other acc above free r has late grow go =
         ⊎_elim
-        (λ lt. on (stands.right.does code (frame acc) lay front above mem free (ready acc free lt) k p (map slot xs) ls g hold row places.packet_at
+        (λ lt. on (use_late (places.rows.late k p) g code other places.packet_at (slot (length ws))
+        (subst (λ n. WhenRaised g (HasAt code other (late_code (places.rows.late k p) places.packet_at (slot n)))) (sym deep) late)
+        (stands.right.does code (frame acc) lay front above mem free (ready acc free lt) k p (map slot xs) ls g hold row places.packet_at
         (λ e. is_kept first_lay lay (packet (raised_name e) unit) (places.packet_at e) kept (stands.packets e)) pc other
-        (subst (λ n. HasAt code pc (places.rows.code k p places.packet_at pc (slot n) other (map slot xs))) (sym deep) has)))
+        (subst (λ n. HasAt code pc (places.rows.code k p places.packet_at pc (slot n) other (map slot xs))) (sym deep) has))))
         (λ le. huge_here text_of code base r (inr le))
         (cases_lt (length (mem ++ free)) (2 ^ 31))
       where
-        on : Comes code (frame acc) lay front mem (given g) (way_on g (pc + places.rows.size k p) other) (state_at base f hand pc acc (ws ++ above) mem free)
+        on : Comes code (frame acc) lay front mem (given g) (way_on g (pc + places.rows.size k p) (later (places.rows.late k p) other)) (state_at base f hand pc acc (ws ++ above) mem free)
             → Sim text_of code base (state_at base f hand pc acc (ws ++ above) mem free) w f lay r
         on (comes y acc' above' new free' is a pos) =
             let lay' = lay ++ map stays new in

@@ -33,8 +33,8 @@ use Rattle.same_runs.specs.Follows.{Follows, has_ended, is_going}
 use Rattle.same_runs.specs.Follows as follows
 use Rattle.machine_code.specs.Agrees.{AreAll, more}
 use Rattle.machine_code.specs.Rows.{Rows, AreRight}
-use Rattle.machine_code.specs.Code.{Places, size, with_params, code_at}
-use Rattle.machine_code.specs.Image.{text_of, funs_size, fun_place, funs_code, params_of, widest, placed, set_way, set_code, set_size, sets_code, set_place, shapes_size, funs_at, sets_at, fun_at, most_code, constants_of, places_of, code_of, image_of}
+use Rattle.machine_code.specs.Code.{Places, with_params, code_at}
+use Rattle.machine_code.specs.Image.{text_of, fun_size, funs_size, fun_place, funs_code, params_of, widest, placed, set_way, set_code, set_size, sets_code, set_place, shapes_size, funs_at, sets_at, fun_at, most_code, constants_of, places_of, code_of, image_of}
 use Rattle.machine_code.specs.Law.{IsFit}
 use Rattle.machine_code.proofs.RoutineLaws.{RoutineLaws}
 use Rattle.machine_code.proofs.Grows.{out_of, apply_grows}
@@ -50,19 +50,19 @@ use Rattle.machine_code.proofs.Constants.{AreBytes, all_bytes_of, first_lay, tex
 
 -- Functions and sets stand at their places.
 
-funs_length : (at : Places) (right : AreRight at.rows) (pc : ℕ) (funs : List Fun) → length (funs_code at pc funs) ≡ funs_size at.rows funs
+funs_length : (at : Places) (right : AreRight at.rows) (pc : ℕ) (funs : List Fun) → length (funs_code at pc funs) ≡ funs_size at.rows at.types funs
 funs_length at right pc [] = refl
 funs_length at right pc (g ∷ funs) =
     let c = code_at at pc (length g.params) (with_params g.params 0 []) [] g.body in
-    omega (arith, length-append c (funs_code at (pc + size at.rows [] g.body) funs), code_length at right g.body pc (length g.params) (with_params g.params 0 []) [], funs_length at right (pc + size at.rows [] g.body) funs)
+    omega (arith, length-append c (funs_code at (pc + fun_size at.rows at.types g) funs), code_length at right g.body pc (length g.params) (with_params g.params 0 []) [], funs_length at right (pc + fun_size at.rows at.types g) funs)
 
-funs_stand : (code : List Instr) (at : Places) (right : AreRight at.rows) (pc : ℕ) (funs : List Fun) (i : ℕ) (g : Fun) → HasAt code pc (funs_code at pc funs) → slice_get funs i ≡ Some g → HasAt code (fun_place at.rows pc funs i) (code_at at (fun_place at.rows pc funs i) (length g.params) (with_params g.params 0 []) [] g.body)
+funs_stand : (code : List Instr) (at : Places) (right : AreRight at.rows) (pc : ℕ) (funs : List Fun) (i : ℕ) (g : Fun) → HasAt code pc (funs_code at pc funs) → slice_get funs i ≡ Some g → HasAt code (fun_place at.rows at.types pc funs i) (code_at at (fun_place at.rows at.types pc funs i) (length g.params) (with_params g.params 0 []) [] g.body)
 funs_stand code at right pc [] i g has e = absurd (cc)
 funs_stand code at right pc (f ∷ funs) zero g has e =
     let same : f ≡ g = cc in
     subst (λ h. HasAt code pc (code_at at pc (length h.params) (with_params h.params 0 []) [] h.body)) same (has_front code pc (code_at at pc (length f.params) (with_params f.params 0 []) [] f.body) _ has)
 funs_stand code at right pc (f ∷ funs) (suc i) g has e =
-    funs_stand code at right (pc + size at.rows [] f.body) funs i g (has_back code pc (pc + size at.rows [] f.body) (code_at at pc (length f.params) (with_params f.params 0 []) [] f.body) _ (omega (arith, code_length at right f.body pc (length f.params) (with_params f.params 0 []) [])) has) e
+    funs_stand code at right (pc + fun_size at.rows at.types f) funs i g (has_back code pc (pc + fun_size at.rows at.types f) (code_at at pc (length f.params) (with_params f.params 0 []) [] f.body) _ (omega (arith, code_length at right f.body pc (length f.params) (with_params f.params 0 []) [])) has) e
 
 jumps_length : (set : List Target) (p i n : ℕ) → length (jumps set p i n) ≡ n
 jumps_length set p i zero = refl
@@ -172,6 +172,7 @@ module _ (C : ControlLaws) (M : MemoryLaws) (A : ArithmeticLaws) (N : RoutineLaw
     most = most_code;
     few = fit.fits;
     compares = has_front code 2 (equal_code T.types 2 most_code) _ code_there;
+    same_types = refl;
     types = λ t. refl;
   }
 

@@ -34,7 +34,7 @@ rise_at [] i h = tt
 rise_at (s ∷ sets) zero h = h.0
 rise_at (s ∷ sets) (suc i) h = rise_at sets i h.1
 
-below_more : (n n' : ℕ) (set : List Target) → n ≤ n' → Below n set → Below n' set
+pub below_more : (n n' : ℕ) (set : List Target) → n ≤ n' → Below n set → Below n' set
 below_more n n' [] le h = tt
 below_more n n' (m ∷ ms) le h = (let a = h.0 in omega arith, below_more n n' ms le h.1)
 

@@ -84,6 +84,12 @@ module _ (C : ControlLaws) (M : MemoryLaws) (A : ArithmeticLaws) (base : ℕ) (f
       some = λ a rest. steps.does_two C M A F pc (whole (ws ++ a ∷ rest)) mem free ULt word_less A.ult (slot d) (slot x) (slot y) v w (room ws rest a d deep) (whole_get ws (a ∷ rest) x v e) (whole_get ws (a ∷ rest) y w g) ∙ pushed ws rest a d (word_less v w) deep;
     }
 
+    pub push_eq : (x y v w : ℕ) → slice_get ws x ≡ Some v → slice_get ws y ≡ Some w → Pushes ws d (Eq (slot d) (slot x) (slot y)) (same_word v w)
+    push_eq x y v w e g = record {
+      none = λ rest le. short rest d _ le;
+      some = λ a rest. steps.does_two C M A F pc (whole (ws ++ a ∷ rest)) mem free Eq same_word A.eq (slot d) (slot x) (slot y) v w (room ws rest a d deep) (whole_get ws (a ∷ rest) x v e) (whole_get ws (a ∷ rest) y w g) ∙ pushed ws rest a d (same_word v w) deep;
+    }
+
     pub push_acc : Pushes ws d (Acc (slot d)) acc
     push_acc = record {
       none = λ rest le. short rest d _ le;

@@ -1,12 +1,12 @@
 -- The code of each test goes on behind itself where the test holds, and else at another place.
-use Rattle.std.proofs.Common.{◌≡◌, ℕ, suc, ◌+◌, ◌^◌, List, [], ◌∷◌, ◌++◌, length, map, Option, Some, None, Bool, true, false, ◌⊎◌, inl, inr, refl, sym, ap, ◌∙◌, subst, arith, append_assoc, length-append}
+use Rattle.std.proofs.Common.{◌≡◌, ℕ, zero, suc, ◌+◌, ◌^◌, List, [], ◌∷◌, ◌++◌, length, map, Option, Some, None, Bool, true, false, ◌⊎◌, inl, inr, refl, sym, ap, ◌∙◌, subst, arith, append_assoc, length-append}
 use Rattle.std.specs.Prelude.{slice_get, nat_eq, option_map, option_and_then, if◌then◌else◌}
 use Rattle.std.specs.Str.{bytes_eq}
 use Rattle.std.specs.Cmp.Lexicographic.{slice_cmp}
 use Rattle.std.specs.Ordering.{nat_cmp}
-use Rattle.std.proofs.lemmas.Bool.{cases_Bool, eqb-true, eq-eqb}
+use Rattle.std.proofs.lemmas.Bool.{cases_Bool, eqb-true, eq-eqb, ne_eqb}
 use Rattle.ir_code.specs.declared.instr.Instr.{Instr}
-use Rattle.ir_code.specs.declared.instr.Instr.TheVariants.{Li, Brz, Ld, Eq, SCmp}
+use Rattle.ir_code.specs.declared.instr.Instr.TheVariants.{Li, Jmp, Brz, Ld, Eq, SCmp}
 use Rattle.ir_code.specs.Words.{one_if, same_word, order_code}
 use Rattle.ir_code.specs.Machine.{State, Goes, act}
 use Rattle.ir_code.specs.Laws.{ControlLaws, MemoryLaws, ArithmeticLaws}
@@ -21,14 +21,15 @@ use Rattle.first_values.specs.Operations.{Operands, Tables, Constant, an_int, a_
 use Rattle.machine_routines.specs.Layout.{Word, is_name, nth_at, IsLiteral, TextAt, Is}
 use Rattle.machine_routines.specs.Runs.{HasAt}
 use Rattle.machine_routines.proofs.LayoutLemmas.{nth_apart, texts_compare}
+use Rattle.machine_routines.proofs.Seams.{get_left}
 use Rattle.machine_routines.proofs.Compares.{numbers_equal}
 use Rattle.machine_code.specs.Agrees.{Begins}
 use Rattle.machine_code.specs.Rows.{HoldAll}
-use Rattle.machine_code.specs.Code.{slot, test_size, Places, constant_word, test_code}
+use Rattle.machine_code.specs.Code.{slot, word_test_size, test_size, Places, constant_word, word_test_code, test_code}
 use Rattle.machine_code.proofs.Kept.{shown}
 use Rattle.machine_code.proofs.Grows.{Grows}
 use Rattle.machine_code.proofs.Sim.{Call, state_at, Fits, Sim, is_wrong, before, one as one_step}
-use Rattle.machine_code.proofs.Slots.{Pushes, push_li, push_ld, does_eq_there, does_scmp_there, does_eq_next, does_brz, does_brz_zero, here_get}
+use Rattle.machine_code.proofs.Slots.{Pushes, push_li, push_ld, does_eq_there, does_scmp_there, does_eq_next, does_jmp, does_brz, does_brz_zero, here_get}
 use Rattle.machine_code.proofs.Vars.{Args, no_args, an_arg}
 use Rattle.machine_code.proofs.Pieces.{push_sim}
 use Rattle.machine_code.proofs.Primitives.{Stands, FoundOperands, no_literals, are_literals, operands, constant_is, test_sim}
@@ -59,7 +60,7 @@ module _ (C : ControlLaws) (M : MemoryLaws) (A : ArithmeticLaws) (text_of : ℕ 
 
     abbrev pub Follows : Test → Type 0
     Follows q = (xs : List ℕ) (vs : List Value) (ys : List ℕ) → Args lay ws xs vs ys → (pc other acc : ℕ) (above free : List ℕ) → HasAt code pc (test_code places pc d q xs other)
-        → Onward (pc + test_size places.rows q) other free → S (at_state pc acc (ws ++ above) free) (or_fail (decide T q vs) w r)
+        → Onward (pc + test_size places.rows places.types q) other free → S (at_state pc acc (ws ++ above) free) (or_fail (decide T q vs) w r)
 
     -- by the word 1 or 0 behind the words of the frame
     by_word : (c : Bool) (y pc q other acc : ℕ) (rest free : List ℕ) → y ≡ one_if c → slice_get code pc ≡ Some (Brz (slot d) other) → pc + 1 ≡ q → Onward q other free
@@ -94,17 +95,34 @@ module _ (C : ControlLaws) (M : MemoryLaws) (A : ArithmeticLaws) (text_of : ℕ 
         e' same has refl go
     follow_is_of _ _ _ args pc other acc above free has go = is_wrong w
 
+    -- whether a word is another; of 0 at once
+    word_tested : (v x y : ℕ) (c : Bool) (pc q other acc : ℕ) (above free : List ℕ) → slice_get ws x ≡ Some y → nat_eq v y ≡ c
+        → HasAt code pc (word_test_code places pc d v x other) → pc + word_test_size v ≡ q → Onward q other free → S (at_state pc acc (ws ++ above) free) (r c)
+    word_tested zero x zero c pc q other acc above free e same has n go =
+        let yes : true ≡ c = same in
+        subst (λ z. S (at_state pc acc (ws ++ above) free) (r z)) yes
+        (before text_of code base (one_step text_of code base w w (Brz (slot x) (pc + 2)) has.0 (does_brz_zero C M A base f hand pc acc mem free (ws ++ above) x (pc + 2) (get_left ws above x 0 e)) refl refl)
+        (subst (λ z. S (at_state z acc (ws ++ above) free) (r true)) (sym n) (go true acc above)))
+    word_tested zero x (suc y) c pc q other acc above free e same has n go =
+        let no : false ≡ c = sym (ne_eqb 0 (suc y) (λ z. omega arith)) ∙ same in
+        subst (λ z. S (at_state pc acc (ws ++ above) free) (r z)) no
+        (before text_of code base (one_step text_of code base w w (Brz (slot x) (pc + 2)) has.0 (does_brz C M A base f hand pc acc mem free (ws ++ above) x (pc + 2) (suc y) (get_left ws above x (suc y) e) (omega arith)) refl refl)
+        (before text_of code base (one_step text_of code base w w (Jmp other) has.1.0 (does_jmp C M A base f hand (pc + 1) acc mem free (ws ++ above) other) refl refl)
+        (go false acc above)))
+    word_tested (suc v) x y c pc q other acc above free e same has n go =
+        compared (Li (slot d) (suc v)) (suc v) x y c pc q other acc above free (push_li C M A base f hand pc acc mem free ws d deep (suc v)) e same has n go
+
     -- a constant that is a word
     word_is : (k l : Literal) (v x y pc q other acc : ℕ) (above free : List ℕ) → is_text k ≡ false → Is lay (value_of k) v → IsLiteral lay l y → slice_get ws x ≡ Some y
-        → HasAt code pc (Li (slot d) v ∷ Eq (slot d) (slot d) (slot x) ∷ Brz (slot d) other ∷ []) → pc + 3 ≡ q → Onward q other free
+        → HasAt code pc (word_test_code places pc d v x other) → pc + word_test_size v ≡ q → Onward q other free
         → (o : Option Bool) → literal_eq k l ≡ o → S (at_state pc acc (ws ++ above) free) (or_fail o w r)
     word_is k l v x y pc q other acc above free t i j e has n go None g = is_wrong w
     word_is (int z) l v x y pc q other acc above free t i j e has n go (Some c) g =
-        compared (Li (slot d) v) v x y c pc q other acc above free (push_li C M A base f hand pc acc mem free ws d deep v) e (numbers_equal lay (int z) l v y c i j g) has n go
+        word_tested v x y c pc q other acc above free e (numbers_equal lay (int z) l v y c i j g) has n go
     word_is (word m) l v x y pc q other acc above free t i j e has n go (Some c) g =
-        compared (Li (slot d) v) v x y c pc q other acc above free (push_li C M A base f hand pc acc mem free ws d deep v) e (numbers_equal lay (word m) l v y c i j g) has n go
+        word_tested v x y c pc q other acc above free e (numbers_equal lay (word m) l v y c i j g) has n go
     word_is (char m) l v x y pc q other acc above free t i j e has n go (Some c) g =
-        compared (Li (slot d) v) v x y c pc q other acc above free (push_li C M A base f hand pc acc mem free ws d deep v) e (numbers_equal lay (char m) l v y c i j g) has n go
+        word_tested v x y c pc q other acc above free e (numbers_equal lay (char m) l v y c i j g) has n go
     word_is (string s) l v x y pc q other acc above free t i j e has n go (Some c) g = absurd (cc)
     word_is (truth b) (truth b') v x y pc q other acc above free t i j e has n go (Some c) g = absurd j
     word_is (truth b) l v x y pc q other acc above free t i j e has n go (Some c) g = absurd (cc)
@@ -145,11 +163,11 @@ module _ (C : ControlLaws) (M : MemoryLaws) (A : ArithmeticLaws) (text_of : ℕ 
       where
         -- where the constant is a word
         found : (c : Constant) (o : Option Literal) → literal_at T c ≡ o → ((k : Literal) → o ≡ Some k → is_text k ≡ false)
-            → HasAt code pc (Li (slot d) (constant_word places c) ∷ Eq (slot d) (slot d) (slot x) ∷ Brz (slot d) other ∷ []) → Onward (pc + 3) other free
+            → HasAt code pc (word_test_code places pc d (constant_word places c) x other) → Onward (pc + word_test_size (constant_word places c)) other free
             → S (at_state pc acc (ws ++ above) free) (or_fail (option_and_then (λ k. literal_eq k l) o) w r)
         found c None g t has go = is_wrong w
         found c (Some k) g t has go =
-            word_is k l (constant_word places c) x y pc (pc + 3) other acc above free (t k refl) (constant_is text_of code first_lay T places stands lay kept c k g) i e has refl go (literal_eq k l) refl
+            word_is k l (constant_word places c) x y pc (pc + word_test_size (constant_word places c)) other acc above free (t k refl) (constant_is text_of code first_lay T places stands lay kept c k g) i e has refl go (literal_eq k l) refl
 
         found_text : (n : ℕ) (o : Option (List ℕ)) → slice_get T.strings n ≡ o → HasAt code pc (test_code places pc d (is (a_text n)) (x ∷ []) other) → Onward (pc + 5) other free
             → S (at_state pc acc (ws ++ above) free) (or_fail (option_and_then (λ k. literal_eq k l) (option_map string o)) w r)
@@ -161,7 +179,7 @@ module _ (C : ControlLaws) (M : MemoryLaws) (A : ArithmeticLaws) (text_of : ℕ 
         no_text make t None k h = absurd (cc)
         no_text make t (Some a) k h = let s : make a ≡ k = cc in subst (λ z. is_text z ≡ false) s (t a)
 
-        by : (c : Constant) → HasAt code pc (test_code places pc d (is c) (x ∷ []) other) → Onward (pc + test_size places.rows (is c)) other free
+        by : (c : Constant) → HasAt code pc (test_code places pc d (is c) (x ∷ []) other) → Onward (pc + test_size places.rows places.types (is c)) other free
             → S (at_state pc acc (ws ++ above) free) (or_fail (decide T (is c) (literal l ∷ [])) w r)
         by (an_int z) has go = found (an_int z) (option_map int (fitting z)) refl (no_text int (λ a. refl) (fitting z)) has go
         by (a_word n) has go = found (a_word n) (literal_at T (a_word n)) refl (no_text word (λ a. refl) (below (2 ^ 32) n)) has go

@@ -61,6 +61,12 @@ reads_more ws extra [] (y ∷ ys) h = absurd h
 reads_more ws extra (x ∷ xs) [] h = absurd h
 reads_more ws extra (x ∷ xs) (y ∷ ys) h = (get_left ws extra x y h.0, reads_more ws extra xs ys h.1)
 
+pub reads_length : (ws xs ys : List ℕ) → Reads ws xs ys → length ys ≡ length xs
+reads_length ws [] [] h = refl
+reads_length ws [] (y ∷ ys) h = absurd h
+reads_length ws (x ∷ xs) [] h = absurd h
+reads_length ws (x ∷ xs) (y ∷ ys) h = ap suc (reads_length ws xs ys h.1)
+
 pub args_are : {lay : List Word} {ws ds : List ℕ} {vs : List Value} {ys : List ℕ} → Args lay ws ds vs ys → AreAll lay vs ys
 args_are no_args = none
 args_are (an_arg d v y e i h) = more v y i (args_are h)

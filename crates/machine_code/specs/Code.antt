@@ -1,13 +1,16 @@
 -- The instructions of a program.
-use Rattle.std.specs.Prelude.{ℕ, zero, suc, ◌+◌, List, [], ◌∷◌, ◌++◌, length, map, Option, Some, None, Bool, true, false, ◌&&◌, nat_eq, if◌then◌else◌, get_or}
+use Rattle.std.specs.Prelude.{ℕ, zero, suc, ◌+◌, ◌-◌, ◌*◌, max, List, [], ◌∷◌, ◌++◌, length, map, Option, Some, None, Bool, true, false, not, ◌&&◌, ◌||◌, nat_eq, nat_lt, nat_le, if◌then◌else◌, get_or}
 use Rattle.ir_code.specs.declared.instr.Instr.{Instr}
-use Rattle.ir_code.specs.declared.instr.Instr.TheVariants.{Li, Mov, Jmp, Brz, Switch, Call as CallRow, Ret, Acc, PushHandler, PopHandler, Raise as RaiseRow, Alloc, Ld, St, WAdd, Copy, Eq, SCmp, Print as PrintRow}
+use Rattle.ir_code.specs.declared.instr.Instr.TheVariants.{Li, Mov, Jmp, Brz, Call as CallRow, Ret, Acc, PushHandler, PopHandler, Raise as RaiseRow, Alloc, Ld, St, WAdd, Copy, Eq, SCmp, Print as PrintRow}
 use Rattle.ir_code.specs.Words.{word_of, one_if}
 use Rattle.mlc_prims.specs.declared.prim.PrimExn.{PrimExn}
+use Rattle.first_values.specs.Equality.{Shape, opaque}
 use Rattle.first_values.specs.Values.{Piece, one as a_value, run as a_run}
 use Rattle.first_values.specs.Operations.{Constant, an_int, a_word, a_char, a_text, a_truth, Plain, same, constant, field, refer, content, assign, exception, initial, pack, argument, compute, equal, print, Test, is, is_of, holds, Callee, known, one_of}
 use Rattle.ir_ssa.specs.Tree.{Body, Bodies, plain, make, attempt, turn, call, label, again, guard, goto, jump, branch, switch, tail, ret, raise, last, arm}
-use Rattle.machine_code.specs.Rows.{Rows}
+use Rattle.machine_routines.specs.EqualCode.{is_word}
+use Rattle.machine_routines.specs.FindCode.{Target, table_code, search_of, search_code}
+use Rattle.machine_code.specs.Rows.{Rows, late_code, late_size, later}
 
 -- the slot at this depth of a frame, after where to return to and whose frame
 abbrev pub slot : ℕ → ℕ
@@ -47,6 +50,36 @@ or_this (Some a) d = Some a
 abbrev pub left_by : ℕ → Spot → Spot
 left_by d s = record s { leaves = or_this s.leaves d }
 
+-- a label, where its place is not yet known
+pub record Exit : Type 0 where
+  pub depth : ℕ
+  pub leaves : Bool
+
+abbrev pub no_exit : Exit
+no_exit = record { depth = 0; leaves = false }
+
+-- of a block at this depth, outside its handlers or inside
+abbrev pub exit_at : ℕ → Exit
+exit_at d = record { depth = d; leaves = false }
+
+abbrev pub left : Exit → Exit
+left e = record e { leaves = true }
+
+abbrev pub is_some : Option ℕ → Bool
+is_some None = false
+is_some (Some a) = true
+
+-- the spot of a block at this place and depth
+abbrev pub block_at : ℕ → ℕ → Spot
+block_at place d = record { place = place; depth = d; leaves = None }
+
+abbrev pub exit_of : Spot → Exit
+exit_of s = record { depth = s.depth; leaves = is_some s.leaves }
+
+abbrev pub exits_of : List Spot → List Exit
+exits_of [] = []
+exits_of (s ∷ ls) = exit_of s ∷ exits_of ls
+
 -- Sizes.
 
 abbrev pub arg : ℕ → List ℕ → ℕ
@@ -56,47 +89,90 @@ abbrev pub or_zero : Option ℕ → ℕ
 or_zero None = 0
 or_zero (Some x) = x
 
+-- a test for a word
+abbrev pub word_test_size : ℕ → ℕ
+word_test_size zero = 2
+word_test_size (suc n) = 3
+
 abbrev pub is_size : Constant → ℕ
-is_size (an_int z) = 3
-is_size (a_word n) = 3
-is_size (a_char n) = 3
+is_size (an_int z) = word_test_size (or_zero (word_of z))
+is_size (a_word n) = word_test_size n
+is_size (a_char n) = word_test_size n
 is_size (a_text i) = 5
-is_size (a_truth b) = 3
+is_size (a_truth b) = word_test_size (one_if b)
 
 abbrev pub callee_count : Callee → ℕ → ℕ
 callee_count (known f) n = n
 callee_count (one_of s x) n = suc n
 
-abbrev pub one_if_some : Option ℕ → ℕ
-one_if_some None = 0
-one_if_some (Some a) = 1
-
--- whether the arms are for the tags from t on, in order
-abbrev pub is_dense : ℕ → Bodies → Bool
-is_dense t (last b) = true
-is_dense t (arm i b bs) = nat_eq i t && is_dense (suc t) bs
+-- the arguments of a call: that of one of a set begins with the closure
+abbrev pub args_of : Callee → Scope → List ℕ → List ℕ
+args_of (known f) scope xs = depths_in xs scope
+args_of (one_of s x) scope xs = depth_in x scope ∷ depths_in xs scope
 
 abbrev pub count : Bodies → ℕ
 count (last b) = 0
 count (arm i b bs) = suc (count bs)
 
--- before the arms: the tag, and a jump table where they are dense
-abbrev pub table_size : Bool → ℕ → ℕ
-table_size true n = 3 + n
-table_size false n = 1
+-- all tags of arms are below this
+abbrev pub arms_end : Bodies → ℕ
+arms_end (last b) = 0
+arms_end (arm i b bs) = max (suc i) (arms_end bs)
 
--- before an arm: a test, where they are not
-abbrev pub test_arm_size : Bool → ℕ
-test_arm_size true = 0
-test_arm_size false = 3
+-- whether the tags of arms rise, from this one on
+abbrev pub rise : ℕ → Bodies → Bool
+rise t (last b) = true
+rise t (arm i b bs) = nat_le t i && rise (suc i) bs
 
--- whether each label leaves a handler
-abbrev pub leaves_at : List Bool → ℕ → Bool
-leaves_at ps l = get_or ps l false
+-- how a switch finds its arm
+pub data Choice : Type 0 where
+  by_table : Choice
+  by_search : Choice
+  by_tests : Choice
+
+-- a jump table where the arms are at least half of the tags below the greatest; else a search, where they are many and rise; else each arm tests
+abbrev pub choice_of : Bodies → Choice
+choice_of bs = if nat_le (arms_end bs) (2 * count bs) then by_table else (if nat_lt 4 (count bs) && rise 0 bs then by_search else by_tests)
+
+-- before the arms
+abbrev pub choice_size : Choice → Bodies → ℕ
+choice_size by_table bs = 3 + arms_end bs
+choice_size by_search bs = 7 * count bs - 1
+choice_size by_tests bs = 1
+
+-- before an arm
+abbrev pub test_arm_size : Choice → ℕ
+test_arm_size by_table = 0
+test_arm_size by_search = 0
+test_arm_size by_tests = 3
 
 abbrev pub one_if_true : Bool → ℕ
 one_if_true false = 0
 one_if_true true = 1
+
+-- Words at these depths are to go to the slots from t on, all at once.
+
+-- whether each word is still there when those before it have gone to their slots, of which the next is k
+abbrev pub in_order : ℕ → ℕ → List ℕ → Bool
+in_order t k [] = true
+in_order t k (x ∷ xs) = (nat_lt x t || nat_le k x) && in_order t (suc k) xs
+
+-- one after the other; a word that is in its slot stays there
+abbrev pub straight_size : ℕ → List ℕ → ℕ
+straight_size t [] = 0
+straight_size t (x ∷ xs) = one_if_true (not (nat_eq x t)) + straight_size (suc t) xs
+
+-- else first all behind the frame, and then down
+abbrev pub move_size : ℕ → List ℕ → ℕ
+move_size t xs = if in_order t t xs then straight_size t xs else length xs + length xs
+
+abbrev pub goto_size : Exit → List ℕ → ℕ
+goto_size e xs = one_if_true e.leaves + (move_size e.depth xs + 1)
+
+-- of two values: one instruction where they are words, else a call of the routine
+abbrev pub equal_size : Bool → ℕ
+equal_size true = 1
+equal_size false = 5
 
 abbrev pub pieces_size : List Piece → ℕ
 pieces_size [] = 0
@@ -104,13 +180,21 @@ pieces_size (a_value x ∷ ps) = 1 + pieces_size ps
 pieces_size (a_run x from zero ∷ ps) = pieces_size ps
 pieces_size (a_run x from (suc n) ∷ ps) = 6 + pieces_size ps
 
+-- whether a cell is one of the first words of the memory, 0 and 1: those are cells of these tags with no parts
+abbrev pub is_shared : ℕ → List Piece → Bool
+is_shared t [] = nat_lt t 2
+is_shared t (q ∷ qs) = false
+
+abbrev pub make_size : ℕ → List Piece → ℕ
+make_size t qs = if is_shared t qs then 1 else 3 + pieces_size qs
+
 -- how many words they are
 abbrev pub pieces_count : List Piece → ℕ
 pieces_count [] = 0
 pieces_count (a_value x ∷ ps) = 1 + pieces_count ps
 pieces_count (a_run x from n ∷ ps) = n + pieces_count ps
 
-module _ (rows : Rows) where
+module _ (rows : Rows) (types : List Shape) where
   abbrev pub plain_size : Plain → ℕ
   plain_size same = 1
   plain_size (constant c) = 1
@@ -123,7 +207,7 @@ module _ (rows : Rows) where
   plain_size pack = 3
   plain_size argument = 1
   plain_size (compute k p) = rows.size k p
-  plain_size (equal t) = 5
+  plain_size (equal t) = equal_size (is_word (get_or types t opaque))
   plain_size print = 2
 
   abbrev pub test_size : Test → ℕ
@@ -131,27 +215,30 @@ module _ (rows : Rows) where
   test_size is_of = 3
   test_size (holds k p) = rows.test_size k p
 
+  -- with d words of the frame in use
   abbrev mutual
-    pub size : List Bool → Body → ℕ
-    size ps (make t qs x b) = 3 + (pieces_size qs + size ps b)
-    size ps (plain p xs x b) = plain_size p + size ps b
-    size ps (attempt k p xs x a b) = rows.size k p + (size ps a + size ps b)
-    size ps (turn p b) = 1 + size ps b
-    size ps (call p c xs x b) = callee_count c (length xs) + (2 + size ps b)
-    size ps (label params a b) = size (false ∷ ps) b + size ps a
-    size ps (again params a b) = size (false ∷ ps) b + size (false ∷ ps) a
-    size ps (guard l a y h) = 1 + (size (true ∷ []) a + (1 + size ps h))
-    size ps (goto l xs) = length xs + (one_if_true (leaves_at ps l) + (length xs + 1))
-    size ps (jump p l xs) = length xs + (one_if_true (leaves_at ps l) + (length xs + 1))
-    size ps (branch q xs a b) = test_size q + (size ps a + size ps b)
-    size ps (switch x bs) = table_size (is_dense 0 bs) (count bs) + arms_size (is_dense 0 bs) ps bs
-    size ps (tail p c xs) = callee_count c (length xs) + (callee_count c (length xs) + 1)
-    size ps (ret x) = 1
-    size ps (raise x) = 1
+    pub size : ℕ → Scope → List Exit → Body → ℕ
+    size d scope es (make t qs x b) = make_size t qs + size (suc d) ((x, d) ∷ scope) es b
+    size d scope es (plain p xs x b) = plain_size p + size (suc d) ((x, d) ∷ scope) es b
+    size d scope es (attempt k p xs x a b) =
+        rows.size k p + (size (suc d) ((x, d) ∷ scope) es a + (late_size (rows.late k p) + size (suc d) ((x, d) ∷ scope) es b))
+    size d scope es (turn p b) = 1 + size d scope es b
+    size d scope es (call p c xs x b) = callee_count c (length xs) + (2 + size (suc d) ((x, d) ∷ scope) es b)
+    size d scope es (label params a b) = size d scope (exit_at d ∷ es) b + size (d + length params) (with_params params d scope) es a
+    size d scope es (again params a b) =
+        size d scope (exit_at d ∷ es) b + size (d + length params) (with_params params d scope) (exit_at d ∷ es) a
+    size d scope es (guard l a y h) = 1 + (size (d + 3) scope (left (get_or es l no_exit) ∷ []) a + (1 + size (suc d) ((y, d) ∷ scope) es h))
+    size d scope es (goto l xs) = goto_size (get_or es l no_exit) (depths_in xs scope)
+    size d scope es (jump p l xs) = goto_size (get_or es l no_exit) (depths_in xs scope)
+    size d scope es (branch q xs a b) = test_size q + (size d scope es a + size d scope es b)
+    size d scope es (switch x bs) = choice_size (choice_of bs) bs + arms_size (choice_of bs) d scope es bs
+    size d scope es (tail p c xs) = move_size 0 (args_of c scope xs) + 1
+    size d scope es (ret x) = 1
+    size d scope es (raise x) = 1
 
-    pub arms_size : Bool → List Bool → Bodies → ℕ
-    arms_size dense ps (last b) = size ps b
-    arms_size dense ps (arm i b bs) = test_arm_size dense + size ps b + arms_size dense ps bs
+    pub arms_size : Choice → ℕ → Scope → List Exit → Bodies → ℕ
+    arms_size how d scope es (last b) = size d scope es b
+    arms_size how d scope es (arm i b bs) = test_arm_size how + size d scope es b + arms_size how d scope es bs
 
 -- Code.
 
@@ -164,6 +251,14 @@ push_code d (x ∷ xs) = Mov (slot d) (slot x) ∷ push_code (suc d) xs
 abbrev pub down_code : ℕ → ℕ → ℕ → List Instr
 down_code t d zero = []
 down_code t d (suc n) = Mov (slot t) (slot d) ∷ down_code (suc t) (suc d) n
+
+abbrev pub straight_code : ℕ → List ℕ → List Instr
+straight_code t [] = []
+straight_code t (x ∷ xs) = if nat_eq x t then straight_code (suc t) xs else Mov (slot t) (slot x) ∷ straight_code (suc t) xs
+
+-- words at these depths to the slots from t on, with d words of the frame in use
+abbrev pub move_code : ℕ → ℕ → List ℕ → List Instr
+move_code d t xs = if in_order t t xs then straight_code t xs else push_code d xs ++ down_code t d (length xs)
 
 -- words at these depths into the cell in slot d, from its word i on
 abbrev pub fill_code : ℕ → ℕ → List ℕ → List Instr
@@ -180,36 +275,38 @@ pieces_code d i scope (a_run x from (suc n) ∷ ps) =
     ∷ Li (slot (d + 2)) (suc from) ∷ WAdd (slot (d + 2)) (slot (depth_in x scope)) (slot (d + 2))
     ∷ Li (slot (d + 3)) (suc n) ∷ Copy (slot (suc d)) (slot (d + 2)) (slot (d + 3)) ∷ pieces_code d (i + suc n) scope ps
 
+-- a cell in slot d
+abbrev pub make_code : ℕ → ℕ → Scope → List Piece → List Instr
+make_code d t scope qs =
+    if is_shared t qs then Li (slot d) t ∷ []
+    else (Alloc (slot d) (suc (pieces_count qs)) ∷ Li (slot (suc d)) t ∷ St (slot d) 0 (slot (suc d)) ∷ pieces_code d 1 scope qs)
+
 abbrev pub leave_code : Option ℕ → List Instr
 leave_code None = []
 leave_code (Some a) = PopHandler (slot a) ∷ []
 
 -- to a label, with these arguments
 abbrev pub goto_code : ℕ → Spot → List ℕ → List Instr
-goto_code d s xs = push_code d xs ++ (leave_code s.leaves ++ (down_code s.depth d (length xs) ++ (Jmp s.place ∷ [])))
-
--- a jump to each arm
-abbrev pub arm_table : Rows → List Bool → ℕ → Bodies → List Instr
-arm_table rows ps q (last b) = Jmp q ∷ []
-arm_table rows ps q (arm i b bs) = Jmp q ∷ arm_table rows ps (q + size rows ps b) bs
+goto_code d s xs = leave_code s.leaves ++ (move_code d s.depth xs ++ (Jmp s.place ∷ []))
 
 -- on to the next arm unless the tag in slot d is this
-abbrev pub test_arm_code : Bool → ℕ → ℕ → ℕ → List Instr
-test_arm_code true d i q = []
-test_arm_code false d i q = Li (slot (suc d)) i ∷ Eq (slot (suc d)) (slot d) (slot (suc d)) ∷ Brz (slot (suc d)) q ∷ []
+abbrev pub test_arm_code : Choice → ℕ → ℕ → ℕ → List Instr
+test_arm_code by_table d i q = []
+test_arm_code by_search d i q = []
+test_arm_code by_tests d i q = Li (slot (suc d)) i ∷ Eq (slot (suc d)) (slot d) (slot (suc d)) ∷ Brz (slot (suc d)) q ∷ []
 
-abbrev pub leaves_of : List Spot → List Bool
-leaves_of [] = []
-leaves_of (s ∷ ls) = (elim s.leaves as (λ _. Bool) [ None ↦ false | Some a ↦ true ]) ∷ leaves_of ls
+-- to the arm of the tag of the cell at depth x, by the arms' places and that of the last
+abbrev pub choice_code : ℕ → ℕ → ℕ → Choice → ℕ → List Target → ℕ → List Instr
+choice_code pc d x by_table n set p = Ld (slot d) (slot x) 0 ∷ table_code set (slot d) p n
+choice_code pc d x by_search n set p =
+    Li (slot (suc d)) 0 ∷ Ld (slot d) (slot x) 0 ∷ search_code (pc + 2) (slot d) (slot (suc d)) p (search_of true p (length set) set)
+choice_code pc d x by_tests n set p = Ld (slot d) (slot x) 0 ∷ []
 
--- the jump table
-abbrev pub switch_code : Rows → ℕ → List Bool → Bool → ℕ → Bodies → List Instr
-switch_code rows d ps false q bs = []
-switch_code rows d ps true q bs = Switch (slot d) (count bs) ∷ arm_table rows ps q bs
-
--- the code of primitives, and where strings, names of identifiers, the first exceptions' names, packets, functions, calls of sets and comparisons stand
+-- the code of primitives, how types are compared, and where strings, names of identifiers, the first exceptions' names, packets, functions, calls of sets and
+-- comparisons stand
 pub record Places : Type 0 where
   pub rows : Rows
+  pub types : List Shape
   pub text_at : ℕ → ℕ
   pub name_at : ℕ → ℕ
   pub initial_at : ℕ → ℕ
@@ -231,16 +328,27 @@ module _ (at : Places) where
   constant_word (a_text i) = at.text_at i
   constant_word (a_truth b) = one_if b
 
-  abbrev pub is_code : ℕ → Constant → ℕ → ℕ → List Instr
-  is_code d (a_text i) x q =
+  -- whether the word at depth x is this; nothing is loaded for 0
+  abbrev pub word_test_code : ℕ → ℕ → ℕ → ℕ → ℕ → List Instr
+  word_test_code pc d zero x q = Brz (slot x) (pc + 2) ∷ Jmp q ∷ []
+  word_test_code pc d (suc n) x q = Li (slot d) (suc n) ∷ Eq (slot d) (slot d) (slot x) ∷ Brz (slot d) q ∷ []
+
+  abbrev pub is_code : ℕ → ℕ → Constant → ℕ → ℕ → List Instr
+  is_code pc d (a_text i) x q =
       Li (slot d) (at.text_at i) ∷ SCmp (slot d) (slot d) (slot x) ∷ Li (slot (suc d)) 1 ∷ Eq (slot d) (slot d) (slot (suc d)) ∷ Brz (slot d) q ∷ []
-  is_code d c x q = Li (slot d) (constant_word c) ∷ Eq (slot d) (slot d) (slot x) ∷ Brz (slot d) q ∷ []
+  is_code pc d c x q = word_test_code pc d (constant_word c) x q
 
   -- a test of words at these depths, at the place pc; where it fails it goes on at q
   abbrev pub test_code : ℕ → ℕ → Test → List ℕ → ℕ → List Instr
-  test_code pc d (is c) xs q = is_code d c (arg 0 xs) q
+  test_code pc d (is c) xs q = is_code pc d c (arg 0 xs) q
   test_code pc d is_of xs q = Ld (slot d) (slot (arg 0 xs)) 0 ∷ Eq (slot d) (slot d) (slot (arg 1 xs)) ∷ Brz (slot d) q ∷ []
   test_code pc d (holds k p) xs q = at.rows.test_code k p pc (slot d) q (map slot xs)
+
+  -- whether two words at depths are the same, or by the routine whether two values of a type are
+  abbrev pub equal_call : Bool → ℕ → ℕ → ℕ → ℕ → List Instr
+  equal_call true d t x y = Eq (slot d) (slot x) (slot y) ∷ []
+  equal_call false d t x y =
+      Li (slot (d + 4)) 0 ∷ Mov (slot (d + 5)) (slot x) ∷ Mov (slot (d + 6)) (slot y) ∷ CallRow (at.type_at t) (slot d) ∷ Acc (slot d) ∷ []
 
   -- an operation on words at these depths, at the place pc; its result goes to slot d
   abbrev pub plain_code : ℕ → ℕ → Plain → List ℕ → List Instr
@@ -255,59 +363,69 @@ module _ (at : Places) where
   plain_code pc d pack xs = Alloc (slot d) 2 ∷ St (slot d) 0 (slot (arg 0 xs)) ∷ St (slot d) 1 (slot (arg 1 xs)) ∷ []
   plain_code pc d argument xs = Ld (slot d) (slot (arg 0 xs)) 1 ∷ []
   plain_code pc d (compute k p) xs = at.rows.code k p at.packet_at pc (slot d) (pc + at.rows.size k p) (map slot xs)
-  plain_code pc d (equal t) xs =
-      Li (slot (d + 4)) 0 ∷ Mov (slot (d + 5)) (slot (arg 0 xs)) ∷ Mov (slot (d + 6)) (slot (arg 1 xs))
-      ∷ CallRow (at.type_at t) (slot d) ∷ Acc (slot d) ∷ []
+  plain_code pc d (equal t) xs = equal_call (is_word (get_or at.types t opaque)) d t (arg 0 xs) (arg 1 xs)
   plain_code pc d print xs = PrintRow (slot (arg 0 xs)) ∷ Li (slot d) 0 ∷ []
 
-  -- the arguments of a call: that of one of a set begins with the closure
-  abbrev pub args_of : Callee → Scope → List ℕ → List ℕ
-  args_of (known f) scope xs = depths_in xs scope
-  args_of (one_of s x) scope xs = depth_in x scope ∷ depths_in xs scope
+  abbrev pub body_size : ℕ → Scope → List Spot → Body → ℕ
+  body_size d scope ls b = size at.rows at.types d scope (exits_of ls) b
+
+  -- a block stands behind the body that goes to it
+  abbrev pub block_place : ℕ → ℕ → Scope → List Spot → Body → ℕ
+  block_place pc d scope ls b = pc + size at.rows at.types d scope (exit_at d ∷ exits_of ls) b
+
+  -- the body under a handler
+  abbrev pub guard_size : ℕ → Scope → List Spot → ℕ → Body → ℕ
+  guard_size d scope ls l a = size at.rows at.types (d + 3) scope (left (get_or (exits_of ls) l no_exit) ∷ []) a
+
+  -- the tags of arms and their places, of which the first is q; and the place of the last body
+  abbrev pub targets : ℕ → ℕ → Scope → List Spot → Bodies → List Target
+  targets q d scope ls (last b) = []
+  targets q d scope ls (arm i b bs) = record { tag = i; place = q } ∷ targets (q + body_size d scope ls b) d scope ls bs
+
+  abbrev pub last_at : ℕ → ℕ → Scope → List Spot → Bodies → ℕ
+  last_at q d scope ls (last b) = q
+  last_at q d scope ls (arm i b bs) = last_at (q + body_size d scope ls b) d scope ls bs
 
   -- at the place pc, with d words of the frame in use
   abbrev mutual
     pub code_at : ℕ → ℕ → Scope → List Spot → Body → List Instr
     code_at pc d scope ls (plain p xs x b) =
-        plain_code pc d p (depths_in xs scope) ++ code_at (pc + plain_size at.rows p) (suc d) ((x, d) ∷ scope) ls b
-    code_at pc d scope ls (make t qs x b) =
-        Alloc (slot d) (suc (pieces_count qs)) ∷ Li (slot (suc d)) t ∷ St (slot d) 0 (slot (suc d))
-        ∷ (pieces_code d 1 scope qs ++ code_at (pc + 3 + pieces_size qs) (suc d) ((x, d) ∷ scope) ls b)
+        plain_code pc d p (depths_in xs scope) ++ code_at (pc + plain_size at.rows at.types p) (suc d) ((x, d) ∷ scope) ls b
+    code_at pc d scope ls (make t qs x b) = make_code d t scope qs ++ code_at (pc + make_size t qs) (suc d) ((x, d) ∷ scope) ls b
     code_at pc d scope ls (attempt k p xs x a b) =
-        at.rows.code k p at.packet_at pc (slot d) (pc + at.rows.size k p + size at.rows (leaves_of ls) a) (map slot (depths_in xs scope))
+        at.rows.code k p at.packet_at pc (slot d) (pc + at.rows.size k p + body_size (suc d) ((x, d) ∷ scope) ls a) (map slot (depths_in xs scope))
         ++ (code_at (pc + at.rows.size k p) (suc d) ((x, d) ∷ scope) ls a
-        ++ code_at (pc + at.rows.size k p + size at.rows (leaves_of ls) a) (suc d) ((x, d) ∷ scope) ls b)
+        ++ (late_code (at.rows.late k p) at.packet_at (slot d)
+        ++ code_at (later (at.rows.late k p) (pc + at.rows.size k p + body_size (suc d) ((x, d) ∷ scope) ls a)) (suc d) ((x, d) ∷ scope) ls b))
     code_at pc d scope ls (turn p b) = Jmp (pc + 1) ∷ code_at (pc + 1) d scope ls b
     code_at pc d scope ls (call p c xs x b) =
         push_code (suc (suc d)) (args_of c scope xs)
         ++ (CallRow (callee_at c) (slot d) ∷ Acc (slot d) ∷ code_at (pc + callee_count c (length xs) + 2) (suc d) ((x, d) ∷ scope) ls b)
     code_at pc d scope ls (label params a b) =
-        code_at pc d scope (record { place = pc + size at.rows (false ∷ leaves_of ls) b; depth = d; leaves = None } ∷ ls) b
-        ++ code_at (pc + size at.rows (false ∷ leaves_of ls) b) (d + length params) (with_params params d scope) ls a
+        code_at pc d scope (block_at (block_place pc d scope ls b) d ∷ ls) b
+        ++ code_at (block_place pc d scope ls b) (d + length params) (with_params params d scope) ls a
     code_at pc d scope ls (again params a b) =
-        code_at pc d scope (record { place = pc + size at.rows (false ∷ leaves_of ls) b; depth = d; leaves = None } ∷ ls) b
-        ++ code_at (pc + size at.rows (false ∷ leaves_of ls) b) (d + length params) (with_params params d scope)
-        (record { place = pc + size at.rows (false ∷ leaves_of ls) b; depth = d; leaves = None } ∷ ls) a
+        code_at pc d scope (block_at (block_place pc d scope ls b) d ∷ ls) b
+        ++ code_at (block_place pc d scope ls b) (d + length params) (with_params params d scope) (block_at (block_place pc d scope ls b) d ∷ ls) a
     code_at pc d scope ls (guard l a y h) =
-        PushHandler (slot d) (pc + 1 + size at.rows (true ∷ []) a)
+        PushHandler (slot d) (pc + 1 + guard_size d scope ls l a)
         ∷ (code_at (pc + 1) (d + 3) scope (left_by d (get_or ls l no_spot) ∷ []) a
-        ++ (Acc (slot d) ∷ code_at (pc + 2 + size at.rows (true ∷ []) a) (suc d) ((y, d) ∷ scope) ls h))
+        ++ (Acc (slot d) ∷ code_at (pc + 2 + guard_size d scope ls l a) (suc d) ((y, d) ∷ scope) ls h))
     code_at pc d scope ls (goto l xs) = goto_code d (get_or ls l no_spot) (depths_in xs scope)
     code_at pc d scope ls (jump p l xs) = goto_code d (get_or ls l no_spot) (depths_in xs scope)
     code_at pc d scope ls (branch q xs a b) =
-        test_code pc d q (depths_in xs scope) (pc + test_size at.rows q + size at.rows (leaves_of ls) a)
-        ++ (code_at (pc + test_size at.rows q) d scope ls a ++ code_at (pc + test_size at.rows q + size at.rows (leaves_of ls) a) d scope ls b)
+        test_code pc d q (depths_in xs scope) (pc + test_size at.rows at.types q + body_size d scope ls a)
+        ++ (code_at (pc + test_size at.rows at.types q) d scope ls a ++ code_at (pc + test_size at.rows at.types q + body_size d scope ls a) d scope ls b)
     code_at pc d scope ls (switch x bs) =
-        Ld (slot d) (slot (depth_in x scope)) 0
-        ∷ (switch_code at.rows d (leaves_of ls) (is_dense 0 bs) (pc + table_size (is_dense 0 bs) (count bs)) bs
-        ++ arms_at (pc + table_size (is_dense 0 bs) (count bs)) d scope ls (is_dense 0 bs) bs)
-    code_at pc d scope ls (tail p c xs) =
-        push_code d (args_of c scope xs) ++ (down_code 0 d (callee_count c (length xs)) ++ (Jmp (callee_at c) ∷ []))
+        choice_code pc d (depth_in x scope) (choice_of bs) (arms_end bs) (targets (pc + choice_size (choice_of bs) bs) d scope ls bs)
+        (last_at (pc + choice_size (choice_of bs) bs) d scope ls bs)
+        ++ arms_at (pc + choice_size (choice_of bs) bs) d scope ls (choice_of bs) bs
+    code_at pc d scope ls (tail p c xs) = move_code d 0 (args_of c scope xs) ++ (Jmp (callee_at c) ∷ [])
     code_at pc d scope ls (ret x) = Ret (slot (depth_in x scope)) ∷ []
     code_at pc d scope ls (raise x) = RaiseRow (slot (depth_in x scope)) ∷ []
 
-    pub arms_at : ℕ → ℕ → Scope → List Spot → Bool → Bodies → List Instr
-    arms_at pc d scope ls dense (last b) = code_at pc d scope ls b
-    arms_at pc d scope ls dense (arm i b bs) =
-        test_arm_code dense d i (pc + test_arm_size dense + size at.rows (leaves_of ls) b)
-        ++ (code_at (pc + test_arm_size dense) d scope ls b ++ arms_at (pc + test_arm_size dense + size at.rows (leaves_of ls) b) d scope ls dense bs)
+    pub arms_at : ℕ → ℕ → Scope → List Spot → Choice → Bodies → List Instr
+    arms_at pc d scope ls how (last b) = code_at pc d scope ls b
+    arms_at pc d scope ls how (arm i b bs) =
+        test_arm_code how d i (pc + test_arm_size how + body_size d scope ls b)
+        ++ (code_at (pc + test_arm_size how) d scope ls b ++ arms_at (pc + test_arm_size how + body_size d scope ls b) d scope ls how bs)

@@ -15,15 +15,23 @@ use Rattle.machine_code.specs.Code.{Places, size, with_params, code_at}
 -- Constants: the words 0 and 1, which are unit and the truth values; strings; what identifiers of exceptions are written as; the names of the first exceptions;
 -- and a packet of each.
 
+-- a text's words: none for the empty text, which the word 0 is
+abbrev pub text_word : List ℕ → List ℕ
+text_word [] = []
+text_word (c ∷ t) = suc (length t) ∷ c ∷ t
+
 abbrev pub text_words : List (List ℕ) → List ℕ
 text_words [] = []
-text_words (t ∷ ts) = length t ∷ (t ++ text_words ts)
+text_words (t ∷ ts) = text_word t ++ text_words ts
 
--- the word 0 is also the empty text
+abbrev pub place_of : ℕ → List ℕ → ℕ
+place_of x [] = 0
+place_of x (c ∷ t) = x
+
 abbrev pub text_place : ℕ → List (List ℕ) → ℕ → ℕ
 text_place x [] i = 0
-text_place x (t ∷ ts) zero = x
-text_place x (t ∷ ts) (suc i) = text_place (x + 1 + length t) ts i
+text_place x (t ∷ ts) zero = place_of x t
+text_place x (t ∷ ts) (suc i) = text_place (x + length (text_word t)) ts i
 
 -- packets of so many names, from the address a on, with unit
 abbrev pub packet_words : ℕ → ℕ → List ℕ
@@ -36,20 +44,23 @@ text_of texts i = get_or texts i []
 
 -- Functions.
 
-module _ (rows : Rows) where
+module _ (rows : Rows) (types : List Shape) where
+  abbrev pub fun_size : Fun → ℕ
+  fun_size g = size rows types (length g.params) (with_params g.params 0 []) [] g.body
+
   abbrev pub funs_size : List Fun → ℕ
   funs_size [] = 0
-  funs_size (g ∷ funs) = size rows [] g.body + funs_size funs
+  funs_size (g ∷ funs) = fun_size g + funs_size funs
 
   abbrev pub fun_place : ℕ → List Fun → ℕ → ℕ
   fun_place pc [] i = pc
   fun_place pc (g ∷ funs) zero = pc
-  fun_place pc (g ∷ funs) (suc i) = fun_place (pc + size rows [] g.body) funs i
+  fun_place pc (g ∷ funs) (suc i) = fun_place (pc + fun_size g) funs i
 
 abbrev pub funs_code : Places → ℕ → List Fun → List Instr
 funs_code at pc [] = []
 funs_code at pc (g ∷ funs) =
-    code_at at pc (length g.params) (with_params g.params 0 []) [] g.body ++ funs_code at (pc + size at.rows [] g.body) funs
+    code_at at pc (length g.params) (with_params g.params 0 []) [] g.body ++ funs_code at (pc + fun_size at.rows at.types g) funs
 
 -- Calls of one of a set: for each set a routine, which is entered as the function is.
 
@@ -129,14 +140,15 @@ module _ (rows : Rows) (texts : List (List ℕ)) (p : Program) where
   funs_at = 10 + shapes_size p.tables.types p.tables.types
 
   abbrev pub sets_at : ℕ
-  sets_at = funs_at + funs_size rows p.funs
+  sets_at = funs_at + funs_size rows p.tables.types p.funs
 
   abbrev pub fun_at : ℕ → ℕ
-  fun_at = fun_place rows funs_at p.funs
+  fun_at = fun_place rows p.tables.types funs_at p.funs
 
   abbrev pub places_of : Places
   places_of = record {
     rows = rows;
+    types = p.tables.types;
     text_at = text_place 2 p.tables.strings;
     name_at = text_place names_at texts;
     initial_at = λ n. initial_at + n;

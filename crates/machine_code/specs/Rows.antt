@@ -1,6 +1,7 @@
 -- The code of the primitives, as that of programs takes it: how long it is, and what it does. Another crate gives it.
-use Rattle.std.specs.Prelude.{◌≡◌, ℕ, ◌+◌, ◌^◌, ◌<◌, ◌≤◌, List, [], ◌∷◌, ◌++◌, length, map, Some, Bool, if◌then◌else◌, slice_get}
+use Rattle.std.specs.Prelude.{◌≡◌, ℕ, suc, ◌+◌, ◌^◌, ◌<◌, ◌≤◌, List, [], ◌∷◌, ◌++◌, length, map, Option, Some, None, Bool, if◌then◌else◌, slice_get}
 use Rattle.ir_code.specs.declared.instr.Instr.{Instr}
+use Rattle.ir_code.specs.declared.instr.Instr.TheVariants.{Li}
 use Rattle.ir_code.specs.Words.{one_if}
 use Rattle.ir_code.specs.Machine.{State}
 use Rattle.ir_values.specs.Primitives.{raised_name}
@@ -22,9 +23,25 @@ pub record Rows : Type 0 where
   pub size : Operands → BasisPrimitive → ℕ
   -- at the place pc: it goes on behind its code with the value in slot d, or at another place with the packet that it raises in slot d
   pub code : Operands → BasisPrimitive → Packets → (pc d other : ℕ) → List ℕ → List Instr
+  -- of one whose code leaves the slot as it is where it raises: the only exception that it may raise, whose packet is put there at the other place
+  pub late : Operands → BasisPrimitive → Option PrimExn
   pub test_size : Operands → BasisPrimitive → ℕ
   -- of one that gives a truth value: it goes on behind its code, or at another place where that is false
   pub test_code : Operands → BasisPrimitive → (pc d other : ℕ) → List ℕ → List Instr
+
+-- the code at the other place
+abbrev pub late_code : Option PrimExn → Packets → ℕ → List Instr
+late_code None packets d = []
+late_code (Some e) packets d = Li d (packets e) ∷ []
+
+abbrev pub late_size : Option PrimExn → ℕ
+late_size None = 0
+late_size (Some e) = 1
+
+-- behind it
+abbrev pub later : Option PrimExn → ℕ → ℕ
+later None other = other
+later (Some e) other = suc other
 
 -- words in slots of a frame, which stand for operands
 pub data HoldAll (lay : List Word) (front : List ℕ) : List ℕ → List Literal → Type 0 where
@@ -63,6 +80,15 @@ abbrev pub way_on : Gives → ℕ → ℕ → ℕ
 way_on (made l) behind other = behind
 way_on (raised e) behind other = other
 
+abbrev pub WhenRaised : Gives → Type 0 → Type 0
+WhenRaised (made l) A = Unit {0}
+WhenRaised (raised e) A = A
+
+-- .. where the code at the other place stands, if there is some and something is raised
+abbrev pub WithLate : Option PrimExn → Gives → List Instr → ℕ → Packets → ℕ → Type 0 → Type 0
+WithLate None g code other packets d A = A
+WithLate (Some e) g code other packets d A = WhenRaised g (HasAt code other (late_code (Some e) packets d)) → A
+
 -- the code does what the table says
 pub record AreRight (rows : Rows) : Type 0 where
   pub long : (k : Operands) (p : BasisPrimitive) (packets : Packets) (pc d other : ℕ) (xs : List ℕ)
@@ -73,7 +99,8 @@ pub record AreRight (rows : Rows) : Type 0 where
       → (k : Operands) (p : BasisPrimitive) (xs : List ℕ) (ls : List Literal) (g : Gives) → HoldAll lay front xs ls → row_at k p ls ≡ Some g
       → (packets : Packets) → ((e : PrimExn) → Is lay (packet (raised_name e) unit) (packets e))
       → (pc other : ℕ) → HasAt code pc (rows.code k p packets pc (length front) other xs)
-      → Comes code f lay front mem (given g) (way_on g (pc + rows.size k p) other) (inside f pc (front ++ above) mem free)
+      → WithLate (rows.late k p) g code other packets (length front)
+      (Comes code f lay front mem (given g) (way_on g (pc + rows.size k p) (later (rows.late k p) other)) (inside f pc (front ++ above) mem free))
   pub tests : (code : List Instr) (f : Frame) (lay : List Word) (front above mem free : List ℕ) → Ready f lay mem free
       → (k : Operands) (p : BasisPrimitive) (xs : List ℕ) (ls : List Literal) (b : Bool) → HoldAll lay front xs ls
       → row_at k p ls ≡ Some (made (truth b))

@@ -67,10 +67,14 @@ CodeIsShort =
     → length (code_of rows texts p)
     ≤ 10 + 6 * nodes_funs p.funs + funs_rows rows p.funs + 11 * shapes_nodes p.tables.types + 4 * sets_nodes p.tables.sets
 
--- a text takes a word and one for each byte
+-- a text takes a word and one for each byte, the empty text none
+abbrev pub words_in : List ℕ → ℕ
+words_in [] = 0
+words_in (c ∷ t) = 2 + length t
+
 abbrev pub words_of : List (List ℕ) → ℕ
 words_of [] = 0
-words_of (t ∷ ts) = 1 + length t + words_of ts
+words_of (t ∷ ts) = words_in t + words_of ts
 
 -- each string and each text of an identifier is there once
 abbrev pub ConstantsAreShort : Type 0

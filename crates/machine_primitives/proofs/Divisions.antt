@@ -9,7 +9,7 @@ use Rattle.word_arithmetic.specs.Laws.{DivisionIsFloored}
 use Rattle.ir_code.specs.declared.instr.Instr.{Instr}
 use Rattle.ir_code.specs.declared.instr.Instr.TheVariants.{Li, IDiv, IMod, IQuot, ILt}
 use Rattle.ir_code.specs.declared.halt.Halt.TheVariants.{NoStack}
-use Rattle.ir_code.specs.Words.{int_of, word_of, one_if, int_less, undivided}
+use Rattle.ir_code.specs.Words.{int_of, word_of, one_if, int_less, undivided, int_floor_remainder}
 use Rattle.ir_code.specs.Laws.{ControlLaws, MemoryLaws, ArithmeticLaws, NextLaws, Partial}
 use Rattle.mlc_prims.specs.LitOf.{Literal, int, int_in}
 use Rattle.mlc_prims.specs.PrimOf.{Gives, made, raised, int_result}
@@ -26,7 +26,7 @@ use Rattle.machine_code.specs.Rows as rows
 use Rattle.machine_primitives.specs.RowCode.{divided, magnitude}
 use Rattle.machine_primitives.specs.Laws.{DivisionsAreRight}
 use Rattle.machine_primitives.proofs.Orders.{int_of-word, fits_of_word, fits_word_of, word_of_int, exact_some}
-use Rattle.machine_primitives.proofs.Shapes.{short, raising_comes, same_comes}
+use Rattle.machine_primitives.proofs.Shapes.{partial_short, short, raising_comes, same_comes}
 use Rattle.machine_primitives.proofs.Window.{old, young, lacks, li, mov, brz, brz_zero, comes_after, at}
 use Rattle.machine_primitives.proofs.Window as window
 use Rattle.machine_primitives.proofs.Rows.{Two, both, at_kind, Ints, int_numbers}
@@ -197,9 +197,9 @@ module _ (C : ControlLaws) (M : MemoryLaws) (A : ArithmeticLaws) (N : NextLaws) 
     };
     modulo = record {
       long = λ packets pc d other xs. refl;
-      does = λ code f lay front above mem free ready xs ls q h r packets are pc other has.
-          rest_by C M A N floor_mod (mod_word floored) IMod A.imod code f lay front above mem free q packets (are Div) pc other
-          (int_numbers lay front (λ a b. unless_zero b (made (int (floor_mod a b)))) (λ a b. unless_none b (made (word (a % b)))) q h (sym (ints_modulo ls) ∙ r)) has;
+      does = λ code f lay front above mem free ready xs ls q h r packets are pc other has late.
+          rest_by C M A N floor_mod (mod_word floored) IMod A.imod (λ s d l r e. partial_short int_floor_remainder s d l r e) code f lay front above mem free q packets (are Div) pc other
+          (int_numbers lay front (λ a b. unless_zero b (made (int (floor_mod a b)))) (λ a b. unless_none b (made (word (a % b)))) q h (sym (ints_modulo ls) ∙ r)) has late;
     };
     absolute = record {
       long = λ packets pc d other xs. refl;

@@ -8,7 +8,7 @@ use Rattle.std.proofs.lemmas.Int.{rem_below, fits_signed_from_abs, ints}
 use Rattle.ir_code.specs.declared.instr.Instr.{Instr}
 use Rattle.ir_code.specs.declared.instr.Instr.TheVariants.{Li, Jmp, Sub as SubRow, IRem}
 use Rattle.ir_code.specs.declared.halt.Halt.TheVariants.{NoStack}
-use Rattle.ir_code.specs.Words.{int_of, word_of, int_difference}
+use Rattle.ir_code.specs.Words.{int_of, word_of, int_difference, int_remainder}
 use Rattle.ir_code.specs.Machine.{Goes}
 use Rattle.ir_code.specs.Laws.{ControlLaws, MemoryLaws, ArithmeticLaws, NextLaws, Partial}
 use Rattle.mlc_prims.specs.LitOf.{Literal, int, int_in, word_in}
@@ -22,12 +22,12 @@ use Rattle.machine_routines.specs.Runs.{HasAt, Frame, inside, Leads}
 use Rattle.machine_routines.proofs.Seams.{set_right, set_here}
 use Rattle.machine_routines.proofs.Leads.{trans, step_to, cut, out_after}
 use Rattle.machine_routines.proofs.Steps as steps
-use Rattle.machine_code.specs.Rows.{Packets, HoldAll, no_operand, an_operand, Comes, given, way_on}
+use Rattle.machine_code.specs.Rows.{Packets, HoldAll, no_operand, an_operand, Comes, given, way_on, WhenRaised}
 use Rattle.machine_code.specs.Rows as rows
-use Rattle.machine_primitives.specs.RowCode.{raising, negated}
+use Rattle.machine_primitives.specs.RowCode.{partial, negated}
 use Rattle.machine_primitives.specs.Laws.{IntRowsAreRight}
 use Rattle.machine_primitives.proofs.Orders.{int_of-word, exact_some, exact_none, word_of_int, fits_word_of}
-use Rattle.machine_primitives.proofs.Shapes.{short, there, does_li, same_comes, raising_comes}
+use Rattle.machine_primitives.proofs.Shapes.{Short, at_raised, partial_short, short, there, does_li, same_comes, late_comes}
 use Rattle.machine_primitives.proofs.MoreShapes.{short2, second, does_li2}
 use Rattle.machine_primitives.proofs.Rows.{Two, both, at_kind, Ints}
 use Rattle.machine_primitives.proofs.MoreRows.{One, alone}
@@ -81,30 +81,39 @@ module _ (C : ControlLaws) (M : MemoryLaws) (A : ArithmeticLaws) (N : NextLaws) 
   rest_ways : (D : ℤ → ℤ → ℤ) → ((a b : ℤ) (n : ℕ) → word_of b ≡ Some n → 0 < unsigned_abs b → word_of (D a b) ≡ Some (cast_unsigned w32 (D a b)))
       → (lay : List Word) (m n k : ℕ) (q : Gives) (pc other : ℕ) (a b : ℤ) → word_of a ≡ Some m → word_of b ≡ Some n → Is lay (given (raised Div)) k → unless_zero b (made (int (D a b))) ≡ q
       → (c : Bool) → (n == 0) ≡ c
-      → ((r : ℕ) → (if c then None else Some (cast_unsigned w32 (D (int_of m) (int_of n)))) ≡ Some r → Is lay (given q) r × (way_on q (pc + 3) other ≡ pc + 3))
-      × ((if c then None else Some (cast_unsigned w32 (D (int_of m) (int_of n)))) ≡ None → Is lay (given q) k × (way_on q (pc + 3) other ≡ other))
+      → ((r : ℕ) → (if c then None else Some (cast_unsigned w32 (D (int_of m) (int_of n)))) ≡ Some r → Is lay (given q) r × (way_on q (pc + 2) other ≡ pc + 2))
+      × ((if c then None else Some (cast_unsigned w32 (D (int_of m) (int_of n)))) ≡ None → Is lay (given q) k × (way_on q (pc + 2) other ≡ other))
   rest_ways D word lay m n k q pc other a b wa wb is s true e =
       let zero_n : n ≡ 0 = eqb-true n 0 e in
       let b_is : b ≡ pos 0 = sym (int_of-word b n wb) ∙ ap int_of zero_n in
       let q_is : raised Div ≡ q = sym (ap (λ z. unless_zero z (made (int (D a b)))) b_is) ∙ s in
-      ((λ r h. absurd (cc)), (λ h. subst (λ q. Is lay (given q) k × (way_on q (pc + 3) other ≡ other)) q_is (is, refl)))
+      ((λ r h. absurd (cc)), (λ h. subst (λ q. Is lay (given q) k × (way_on q (pc + 2) other ≡ other)) q_is (is, refl)))
   rest_ways D word lay m n k q pc other a b wa wb is s false e =
       let z = not_zero b n (made (int (D a b))) wb e in
       let same : D (int_of m) (int_of n) ≡ D a b = ap (λ z. D z (int_of n)) (int_of-word a m wa) ∙ ap (λ z. D a z) (int_of-word b n wb) in (
         (λ r h. let g : cast_unsigned w32 (D (int_of m) (int_of n)) ≡ r = cc in
-            subst (λ q. Is lay (given q) r × (way_on q (pc + 3) other ≡ pc + 3)) (sym z.0 ∙ s)
+            subst (λ q. Is lay (given q) r × (way_on q (pc + 2) other ≡ pc + 2)) (sym z.0 ∙ s)
             (word a b n wb z.1 ∙ ap Some (ap (cast_unsigned w32) (sym same) ∙ g), refl)),
         (λ h. absurd (cc)),
       )
 
+  rest_raises : (m n : ℕ) (q : Gives) (a b : ℤ) (D : ℤ → ℤ → ℤ) → word_of b ≡ Some n → unless_zero b (made (int (D a b))) ≡ q → (c : Bool) → (n == 0) ≡ c
+      → (if c then None else Some (cast_unsigned w32 (D (int_of m) (int_of n)))) ≡ None → raised Div ≡ q
+  rest_raises m n q a b D wb s true e h =
+      let b_is : b ≡ pos 0 = sym (int_of-word b n wb) ∙ ap int_of (eqb-true n 0 e) in
+      sym (ap (λ z. unless_zero z (made (int (D a b)))) b_is) ∙ s
+  rest_raises m n q a b D wb s false e h = absurd (cc)
+
   pub rest_by : (D : ℤ → ℤ → ℤ) → ((a b : ℤ) (n : ℕ) → word_of b ≡ Some n → 0 < unsigned_abs b → word_of (D a b) ≡ Some (cast_unsigned w32 (D a b)))
-      → (row : ℕ → ℕ → ℕ → Instr) → Partial row (λ m n. if n == 0 then None else Some (cast_unsigned w32 (D (int_of m) (int_of n))))
+      → (row : ℕ → ℕ → ℕ → Instr) → Partial row (λ m n. if n == 0 then None else Some (cast_unsigned w32 (D (int_of m) (int_of n)))) → Short row
       → (code : List Instr) (f : Frame) (lay : List Word) (front above mem free : List ℕ) (q : Gives) (packets : Packets) → Is lay (given (raised Div)) (packets Div) → (pc other : ℕ) {xs : List ℕ}
-      → Two front (Ints lay front (λ a b. unless_zero b (made (int (D a b))) ≡ q)) xs → HasAt code pc (raising Div row packets pc (length front) other xs)
-      → Comes code f lay front mem (given q) (way_on q (pc + 3) other) (inside f pc (front ++ above) mem free)
-  rest_by D word row law code f lay front above mem free q packets are pc other (both x y m n e e' w) has =
-      let c = rest_ways D word lay m n (packets Div) q pc other w.0 w.1 w.2 w.3 are w.4 (n == 0) refl in
-      raising_comes C M A N code f lay front mem free row (λ m n. if n == 0 then None else Some (cast_unsigned w32 (D (int_of m) (int_of n)))) law (given q) x y m n (packets Div) pc (way_on q (pc + 3) other) other above e e' has c.0 c.1
+      → Two front (Ints lay front (λ a b. unless_zero b (made (int (D a b))) ≡ q)) xs → HasAt code pc (partial row packets pc (length front) other xs)
+      → WhenRaised q (HasAt code other (Li (length front) (packets Div) ∷ []))
+      → Comes code f lay front mem (given q) (way_on q (pc + 2) (suc other)) (inside f pc (front ++ above) mem free)
+  rest_by D word row law brief code f lay front above mem free q packets are pc other (both x y m n e e' w) has late =
+      let c = rest_ways D word lay m n (packets Div) q pc (suc other) w.0 w.1 w.2 w.3 are w.4 (n == 0) refl in
+      late_comes C M A N code f lay front mem free row (λ m n. if n == 0 then None else Some (cast_unsigned w32 (D (int_of m) (int_of n)))) law brief (given q) x y m n (packets Div) pc (way_on q (pc + 2) (suc other)) other above e e' has
+      (λ h. at_raised Div q (rest_raises m n q w.0 w.1 D w.3 w.4 (n == 0) refl h) late) c.0 c.1
 
   -- A row that may have no result, of a word and the operand.
   pub negated_by : (code : List Instr) (f : Frame) (lay : List Word) (front above mem free : List ℕ) (q : Gives) (packets : Packets) → Is lay (given (raised Overflow)) (packets Overflow) → (pc other : ℕ) {xs : List ℕ}
@@ -165,8 +174,8 @@ module _ (C : ControlLaws) (M : MemoryLaws) (A : ArithmeticLaws) (N : NextLaws) 
   int_rows = record {
     remainder = record {
       long = λ packets pc d other xs. refl;
-      does = λ code f lay front above mem free ready xs ls q h r packets are pc other has.
-          rest_by int_rem rem_word IRem A.irem code f lay front above mem free q packets (are Div) pc other (int_pairs lay front (λ a b. unless_zero b (made (int (int_rem a b)))) q h (sym (ints_remainder ls) ∙ r)) has;
+      does = λ code f lay front above mem free ready xs ls q h r packets are pc other has late.
+          rest_by int_rem rem_word IRem A.irem (λ s d l r e. partial_short int_remainder s d l r e) code f lay front above mem free q packets (are Div) pc other (int_pairs lay front (λ a b. unless_zero b (made (int (int_rem a b)))) q h (sym (ints_remainder ls) ∙ r)) has late;
     };
     negate = record {
       long = λ packets pc d other xs. refl;

@@ -1,15 +1,15 @@
 -- Sums, quotients of words, and comparisons: the code of each does what its row of the table says.
-use Rattle.std.proofs.Common.{◌≡◌, ℕ, ◌+◌, ◌*◌, ◌/◌, ◌%◌, ◌-◌, ◌<◌, ◌≤◌, ◌^◌, List, [], ◌∷◌, ◌++◌, length, Option, Some, None, Bool, true, false, refl, sym, ap, ◌∙◌, subst, arith}
+use Rattle.std.proofs.Common.{◌≡◌, ℕ, suc, ◌+◌, ◌*◌, ◌/◌, ◌%◌, ◌-◌, ◌<◌, ◌≤◌, ◌^◌, List, [], ◌∷◌, ◌++◌, length, Option, Some, None, Bool, true, false, refl, sym, ap, ◌∙◌, subst, arith}
 use Rattle.std.specs.Prelude.{ℤ, ◌+ℤ◌, ◌-ℤ◌, ◌*ℤ◌, int_lt, slice_get, nat_lt, nat_eq, not, option_map, ◌==◌, if◌then◌else◌}
 use Rattle.std.specs.Ordering.{int_cmp, nat_cmp, is_lt, is_le, is_gt, is_ge}
 use Rattle.std.specs.declared.cmp.Ordering.{Ordering}
 use Rattle.std.proofs.Math.Nat.{mod-lt, mod-le, div-le_self}
 use Rattle.word_arithmetic.specs.Arithmetic.{word_for, floor_div, floor_mod}
 use Rattle.ir_code.specs.declared.instr.Instr.{Instr}
-use Rattle.ir_code.specs.declared.instr.Instr.TheVariants.{Add as AddRow, Sub as SubRow, Mul as MulRow, WAdd, WSub, WMul, WDiv, WMod, ILt, ULt, Eq}
+use Rattle.ir_code.specs.declared.instr.Instr.TheVariants.{Li, Add as AddRow, Sub as SubRow, Mul as MulRow, WAdd, WSub, WMul, WDiv, WMod, ILt, ULt, Eq}
 use Rattle.ir_code.specs.Machine.{State, Goes, Halts, check, with_slot, next, put, total_step}
 use Rattle.ir_code.specs.declared.halt.Halt.TheVariants.{NoStack}
-use Rattle.ir_code.specs.Words.{int_of, word_of, one_if, int_sum, int_difference, int_product, word_sum, word_difference, word_product, int_less, word_less, same_word}
+use Rattle.ir_code.specs.Words.{int_of, word_of, one_if, int_sum, int_difference, int_product, word_sum, word_difference, word_product, word_quotient, word_remainder, int_less, word_less, same_word}
 use Rattle.ir_code.specs.Laws.{ControlLaws, MemoryLaws, ArithmeticLaws, NextLaws, Total, Partial}
 use Rattle.mlc_prims.specs.LitOf.{Literal, int, word, char, truth}
 use Rattle.mlc_prims.specs.PrimOf.{Gives, made, raised, int_result}
@@ -22,12 +22,12 @@ use Rattle.first_values.specs.Values.{literal}
 use Rattle.machine_routines.specs.Layout.{Word, Is}
 use Rattle.machine_routines.specs.Runs.{HasAt, Frame, inside}
 use Rattle.machine_routines.proofs.Compares.{numbers_equal}
-use Rattle.machine_code.specs.Rows.{Packets, HoldAll, no_operand, an_operand, Comes, Passes, given, way_on}
-use Rattle.machine_primitives.specs.RowLaws.{RowIsRight, TestIsRight}
-use Rattle.machine_primitives.specs.RowCode.{total, raising, holds, swapped, fails}
+use Rattle.machine_code.specs.Rows.{Packets, HoldAll, no_operand, an_operand, Comes, Passes, given, way_on, WhenRaised}
+use Rattle.machine_primitives.specs.RowLaws.{LateIsRight, RowIsRight, TestIsRight}
+use Rattle.machine_primitives.specs.RowCode.{total, partial, holds, swapped, fails}
 use Rattle.machine_primitives.specs.Laws.{SumsAreRight, WordQuotientsAreRight, ComparisonsAreRight}
 use Rattle.machine_primitives.proofs.Orders.{ge_not_lt, le_not_gt, int_lt_is, int_gt_is, nat_lt_is, nat_gt_is, int_of-word, exact_some, exact_none}
-use Rattle.machine_primitives.proofs.Shapes.{Short, total_comes, raising_comes, holds_passes, fails_passes}
+use Rattle.machine_primitives.proofs.Shapes.{Short, at_raised, partial_short, total_comes, late_comes, holds_passes, fails_passes}
 
 -- Two operands, of which something is known.
 pub data Two (front : List ℕ) (P : ℕ → ℕ → Type 0) : List ℕ → Type 0 where
@@ -105,30 +105,32 @@ word_below n = mod-lt n (omega arith)
 module _ (C : ControlLaws) (M : MemoryLaws) (A : ArithmeticLaws) (N : NextLaws) where
   -- Integers, exact or Overflow.
   pub int_ways : (lay : List Word) (z : ℤ) (q : Gives) → int_result z ≡ q → (k : ℕ) → Is lay (given (raised Overflow)) k → (pc other : ℕ) (o : Option ℕ) → word_of z ≡ o
-      → ((r : ℕ) → o ≡ Some r → Is lay (given q) r × (way_on q (pc + 3) other ≡ pc + 3)) × (o ≡ None → Is lay (given q) k × (way_on q (pc + 3) other ≡ other))
+      → ((r : ℕ) → o ≡ Some r → Is lay (given q) r × (way_on q (pc + 2) other ≡ pc + 2)) × (o ≡ None → Is lay (given q) k × (way_on q (pc + 2) other ≡ other))
   int_ways lay z q e k is pc other o w = (
-    (λ r h. subst (λ q. Is lay (given q) r × (way_on q (pc + 3) other ≡ pc + 3)) (sym (exact_some z r (w ∙ h)) ∙ e) (w ∙ h, refl)),
-    (λ h. subst (λ q. Is lay (given q) k × (way_on q (pc + 3) other ≡ other)) (sym (exact_none z (w ∙ h)) ∙ e) (is, refl)),
+    (λ r h. subst (λ q. Is lay (given q) r × (way_on q (pc + 2) other ≡ pc + 2)) (sym (exact_some z r (w ∙ h)) ∙ e) (w ∙ h, refl)),
+    (λ h. subst (λ q. Is lay (given q) k × (way_on q (pc + 2) other ≡ other)) (sym (exact_none z (w ∙ h)) ∙ e) (is, refl)),
   )
 
   -- a sum, a difference or a product of integers
-  pub exact_row : (p : BasisPrimitive) (F : ℤ → ℤ → ℤ) (G : ℕ → ℕ → Gives) (row : ℕ → ℕ → ℕ → Instr) (g : ℕ → ℕ → Option ℕ) → Partial row g
+  pub exact_row : (p : BasisPrimitive) (F : ℤ → ℤ → ℤ) (G : ℕ → ℕ → Gives) (row : ℕ → ℕ → ℕ → Instr) (g : ℕ → ℕ → Option ℕ) → Partial row g → Short row
       → ((m n : ℕ) → g m n ≡ word_of (F (int_of m) (int_of n))) → ((ls : List Literal) → row_at ints p ls ≡ at_kind ints (numbers (λ a b. int_result (F a b)) G) ls)
-      → RowIsRight ints p 3 (raising Overflow row)
-  exact_row p F G row g law same table = record {
+      → LateIsRight (Some Overflow) ints p 2 (partial row)
+  exact_row p F G row g law brief same table = record {
     long = λ packets pc d other xs. refl;
-    does = λ code f lay front above mem free ready xs ls q h r packets are pc other has.
-        by code f lay front above mem free q packets (are Overflow) pc other (int_numbers lay front (λ a b. int_result (F a b)) G q h (sym (table ls) ∙ r)) has;
+    does = λ code f lay front above mem free ready xs ls q h r packets are pc other has late.
+        by code f lay front above mem free q packets (are Overflow) pc other (int_numbers lay front (λ a b. int_result (F a b)) G q h (sym (table ls) ∙ r)) has late;
   }
     where
       by : (code : List Instr) (f : Frame) (lay : List Word) (front above mem free : List ℕ) (q : Gives) (packets : Packets) → Is lay (given (raised Overflow)) (packets Overflow) → (pc other : ℕ) {xs : List ℕ}
-          → Two front (Ints lay front (λ a b. int_result (F a b) ≡ q)) xs → HasAt code pc (raising Overflow row packets pc (length front) other xs)
-          → Comes code f lay front mem (given q) (way_on q (pc + 3) other) (inside f pc (front ++ above) mem free)
-      by code f lay front above mem free q packets are pc other (both x y m n e e' w) has =
+          → Two front (Ints lay front (λ a b. int_result (F a b) ≡ q)) xs → HasAt code pc (partial row packets pc (length front) other xs)
+          → WhenRaised q (HasAt code other (Li (length front) (packets Overflow) ∷ []))
+          → Comes code f lay front mem (given q) (way_on q (pc + 2) (suc other)) (inside f pc (front ++ above) mem free)
+      by code f lay front above mem free q packets are pc other (both x y m n e e' w) has late =
           let sum : word_of (F w.0 w.1) ≡ g m n =
           ap (λ z. word_of (F z w.1)) (sym (int_of-word w.0 m w.2)) ∙ ap (λ z. word_of (F (int_of m) z)) (sym (int_of-word w.1 n w.3)) ∙ sym (same m n) in
-          let ways = int_ways lay (F w.0 w.1) q w.4 (packets Overflow) are pc other (g m n) sum in
-          raising_comes C M A N code f lay front mem free row g law (given q) x y m n (packets Overflow) pc (way_on q (pc + 3) other) other above e e' has ways.0 ways.1
+          let ways = int_ways lay (F w.0 w.1) q w.4 (packets Overflow) are pc (suc other) (g m n) sum in
+          late_comes C M A N code f lay front mem free row g law brief (given q) x y m n (packets Overflow) pc (way_on q (pc + 2) (suc other)) other above e e' has
+          (λ h. at_raised Overflow q (sym (exact_none (F w.0 w.1) (sum ∙ h)) ∙ w.4) late) ways.0 ways.1
 
   -- .. of words
   pub wrapped_row : (p : BasisPrimitive) (F : ℤ → ℤ → Gives) (G : ℕ → ℕ → ℕ) (row : ℕ → ℕ → ℕ → Instr) → Total row (λ m n. word_for (G m n)) → Short row
@@ -147,31 +149,37 @@ module _ (C : ControlLaws) (M : MemoryLaws) (A : ArithmeticLaws) (N : NextLaws) 
           (total_comes C M A N code f lay front mem free row (λ m n. word_for (G m n)) law short (literal (word (word_for (G m n)))) x y m n pc above e e' (refl, word_below (G m n)) has)
 
   -- a quotient or a remainder of words
-  pub divided_row : (p : BasisPrimitive) (F : ℤ → ℤ → Gives) (D : ℕ → ℕ → ℕ) (row : ℕ → ℕ → ℕ → Instr) → Partial row (λ m n. if n == 0 then None else Some (D m n)) → ((m n : ℕ) → D m n ≤ m)
-      → ((ls : List Literal) → row_at words p ls ≡ at_kind words (numbers F (λ a b. unless_none b (made (word (D a b))))) ls) → RowIsRight words p 3 (raising Div row)
-  divided_row p F D row law less table = record {
+  pub divided_row : (p : BasisPrimitive) (F : ℤ → ℤ → Gives) (D : ℕ → ℕ → ℕ) (row : ℕ → ℕ → ℕ → Instr) → Partial row (λ m n. if n == 0 then None else Some (D m n)) → Short row → ((m n : ℕ) → D m n ≤ m)
+      → ((ls : List Literal) → row_at words p ls ≡ at_kind words (numbers F (λ a b. unless_none b (made (word (D a b))))) ls) → LateIsRight (Some Div) words p 2 (partial row)
+  divided_row p F D row law brief less table = record {
     long = λ packets pc d other xs. refl;
-    does = λ code f lay front above mem free ready xs ls q h r packets are pc other has.
-        by code f lay front above mem free q packets (are Div) pc other (word_numbers lay front F (λ a b. unless_none b (made (word (D a b)))) q h (sym (table ls) ∙ r)) has;
+    does = λ code f lay front above mem free ready xs ls q h r packets are pc other has late.
+        by code f lay front above mem free q packets (are Div) pc other (word_numbers lay front F (λ a b. unless_none b (made (word (D a b)))) q h (sym (table ls) ∙ r)) has late;
   }
     where
       ways : (lay : List Word) (m n k : ℕ) (q : Gives) (pc other : ℕ) → m < 2 ^ 32 → Is lay (given (raised Div)) k → (b : Bool) → (n == 0) ≡ b → (if b then raised Div else made (word (D m n))) ≡ q
-          → ((r : ℕ) → (if b then None else Some (D m n)) ≡ Some r → Is lay (given q) r × (way_on q (pc + 3) other ≡ pc + 3)) × ((if b then None else Some (D m n)) ≡ None → Is lay (given q) k × (way_on q (pc + 3) other ≡ other))
+          → ((r : ℕ) → (if b then None else Some (D m n)) ≡ Some r → Is lay (given q) r × (way_on q (pc + 2) other ≡ pc + 2)) × ((if b then None else Some (D m n)) ≡ None → Is lay (given q) k × (way_on q (pc + 2) other ≡ other))
       ways lay m n k q pc other lt is true e s = (
         (λ r h. absurd (cc)),
-        (λ h. subst (λ q. Is lay (given q) k × (way_on q (pc + 3) other ≡ other)) s (is, refl)),
+        (λ h. subst (λ q. Is lay (given q) k × (way_on q (pc + 2) other ≡ other)) s (is, refl)),
       )
       ways lay m n k q pc other lt is false e s = (
-        (λ r h. let g : D m n ≡ r = cc in let l = less m n in subst (λ q. Is lay (given q) r × (way_on q (pc + 3) other ≡ pc + 3)) s ((sym g, omega arith), refl)),
+        (λ r h. let g : D m n ≡ r = cc in let l = less m n in subst (λ q. Is lay (given q) r × (way_on q (pc + 2) other ≡ pc + 2)) s ((sym g, omega arith), refl)),
         (λ h. absurd (cc)),
       )
 
+      raises : (m n : ℕ) (q : Gives) (b : Bool) → (if b then raised Div else made (word (D m n))) ≡ q → (if b then None else Some (D m n)) ≡ None → raised Div ≡ q
+      raises m n q true s h = s
+      raises m n q false s h = absurd (cc)
+
       by : (code : List Instr) (f : Frame) (lay : List Word) (front above mem free : List ℕ) (q : Gives) (packets : Packets) → Is lay (given (raised Div)) (packets Div) → (pc other : ℕ) {xs : List ℕ}
-          → Two front (Words lay front (λ a b. unless_none b (made (word (D a b))) ≡ q)) xs → HasAt code pc (raising Div row packets pc (length front) other xs)
-          → Comes code f lay front mem (given q) (way_on q (pc + 3) other) (inside f pc (front ++ above) mem free)
-      by code f lay front above mem free q packets are pc other (both x y m n e e' w) has =
-          let c = ways lay m n (packets Div) q pc other w.0 are (n == 0) refl w.2 in
-          raising_comes C M A N code f lay front mem free row (λ m n. if n == 0 then None else Some (D m n)) law (given q) x y m n (packets Div) pc (way_on q (pc + 3) other) other above e e' has c.0 c.1
+          → Two front (Words lay front (λ a b. unless_none b (made (word (D a b))) ≡ q)) xs → HasAt code pc (partial row packets pc (length front) other xs)
+          → WhenRaised q (HasAt code other (Li (length front) (packets Div) ∷ []))
+          → Comes code f lay front mem (given q) (way_on q (pc + 2) (suc other)) (inside f pc (front ++ above) mem free)
+      by code f lay front above mem free q packets are pc other (both x y m n e e' w) has late =
+          let c = ways lay m n (packets Div) q pc (suc other) w.0 are (n == 0) refl w.2 in
+          late_comes C M A N code f lay front mem free row (λ m n. if n == 0 then None else Some (D m n)) law brief (given q) x y m n (packets Div) pc (way_on q (pc + 2) (suc other)) other above e e' has
+          (λ h. at_raised Div q (raises m n q (n == 0) w.2 h) late) c.0 c.1
 
   -- A test, by what its row gives.
   pub holds_row : (k : Operands) (p : BasisPrimitive) (row : ℕ → ℕ → ℕ → Instr) (g : ℕ → ℕ → ℕ) → Total row g → Short row
@@ -323,9 +331,9 @@ total_short g s dst left right e = ap (λ b. check b NoStack s (with_slot s left
 module _ (C : ControlLaws) (M : MemoryLaws) (A : ArithmeticLaws) (N : NextLaws) where
   pub sums : SumsAreRight
   sums = record {
-    int_add = exact_row C M A N Add (λ a b. a +ℤ b) (λ a b. wrapped (a + b)) AddRow int_sum A.add (λ m n. refl) ints_add;
-    int_subtract = exact_row C M A N Subtract (λ a b. a -ℤ b) (λ a b. wrapped (a + (2 ^ 32 - b))) SubRow int_difference A.sub (λ m n. refl) ints_subtract;
-    int_multiply = exact_row C M A N Multiply (λ a b. a *ℤ b) (λ a b. wrapped (a * b)) MulRow int_product A.mul (λ m n. refl) ints_multiply;
+    int_add = exact_row C M A N Add (λ a b. a +ℤ b) (λ a b. wrapped (a + b)) AddRow int_sum A.add (λ s d l r e. partial_short int_sum s d l r e) (λ m n. refl) ints_add;
+    int_subtract = exact_row C M A N Subtract (λ a b. a -ℤ b) (λ a b. wrapped (a + (2 ^ 32 - b))) SubRow int_difference A.sub (λ s d l r e. partial_short int_difference s d l r e) (λ m n. refl) ints_subtract;
+    int_multiply = exact_row C M A N Multiply (λ a b. a *ℤ b) (λ a b. wrapped (a * b)) MulRow int_product A.mul (λ s d l r e. partial_short int_product s d l r e) (λ m n. refl) ints_multiply;
     word_add = wrapped_row C M A N Add (λ a b. int_result (a +ℤ b)) (λ a b. a + b) WAdd A.wadd (λ s d l r e. total_short word_sum s d l r e) words_add;
     word_subtract = wrapped_row C M A N Subtract (λ a b. int_result (a -ℤ b)) (λ a b. a + (2 ^ 32 - b)) WSub A.wsub (λ s d l r e. total_short word_difference s d l r e) words_subtract;
     word_multiply = wrapped_row C M A N Multiply (λ a b. int_result (a *ℤ b)) (λ a b. a * b) WMul A.wmul (λ s d l r e. total_short word_product s d l r e) words_multiply;
@@ -333,8 +341,8 @@ module _ (C : ControlLaws) (M : MemoryLaws) (A : ArithmeticLaws) (N : NextLaws) 
 
   pub word_quotients : WordQuotientsAreRight
   word_quotients = record {
-    divide = divided_row C M A N Divide (λ a b. unless_zero b (int_result (floor_div a b))) (λ a b. a / b) WDiv A.wdiv (λ m n. div-le_self m n) words_divide;
-    modulo = divided_row C M A N Modulo (λ a b. unless_zero b (made (int (floor_mod a b)))) (λ a b. a % b) WMod A.wmod (λ m n. mod-le m n) words_modulo;
+    divide = divided_row C M A N Divide (λ a b. unless_zero b (int_result (floor_div a b))) (λ a b. a / b) WDiv A.wdiv (λ s d l r e. partial_short word_quotient s d l r e) (λ m n. div-le_self m n) words_divide;
+    modulo = divided_row C M A N Modulo (λ a b. unless_zero b (made (int (floor_mod a b)))) (λ a b. a % b) WMod A.wmod (λ s d l r e. partial_short word_remainder s d l r e) (λ m n. mod-le m n) words_modulo;
   }
 
   abbrev pub int_more : ℕ → ℕ → ℕ

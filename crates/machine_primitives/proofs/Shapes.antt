@@ -1,25 +1,36 @@
 -- What short pieces of code do behind the front of a frame.
-use Rattle.std.proofs.Common.{◌≡◌, ℕ, ◌+◌, ◌<◌, List, [], ◌∷◌, ◌++◌, length, Option, Some, None, Bool, true, false, refl, sym, ap, ◌∙◌, subst, arith, append_assoc, append-nil, length-append}
+use Rattle.std.proofs.Common.{◌≡◌, ℕ, suc, ◌+◌, ◌<◌, List, [], ◌∷◌, ◌++◌, length, Option, Some, None, Bool, true, false, refl, sym, ap, ◌∙◌, subst, arith, append_assoc, append-nil, length-append}
 use Rattle.std.specs.Prelude.{slice_get, slice_set, nat_lt, not, if◌then◌else◌}
 use Rattle.std.proofs.lemmas.Bool.{le-ltb}
 use Rattle.ir_code.specs.declared.instr.Instr.{Instr}
 use Rattle.ir_code.specs.declared.instr.Instr.TheVariants.{Li, Mov, Jmp, Brz}
 use Rattle.ir_code.specs.declared.halt.Halt.TheVariants.{NoStack}
 use Rattle.ir_code.specs.Words.{one_if}
-use Rattle.ir_code.specs.Machine.{State, StepResult, Goes, Halts, act, check, on_slot}
+use Rattle.ir_code.specs.Machine.{State, StepResult, Goes, Halts, act, check, on_slot, with_slot, partial_step, result_step}
 use Rattle.ir_code.specs.Laws.{ControlLaws, MemoryLaws, ArithmeticLaws, NextLaws, Total, Partial}
+use Rattle.mlc_prims.specs.PrimOf.{Gives, made, raised}
+use Rattle.mlc_prims.specs.declared.prim.PrimExn.{PrimExn}
 use Rattle.first_values.specs.Values.{Value}
 use Rattle.machine_routines.specs.Layout.{Word, Is}
 use Rattle.machine_routines.specs.Runs.{HasAt, Frame, inside, Leads}
 use Rattle.machine_routines.proofs.Seams.{get_left, get_here, set_here, set_right}
 use Rattle.machine_routines.proofs.Leads.{trans, step_to, cut}
 use Rattle.machine_routines.proofs.Steps as steps
-use Rattle.machine_code.specs.Rows.{Comes, comes, Passes, passes}
+use Rattle.machine_code.specs.Rows.{Comes, comes, Passes, passes, WhenRaised}
 use Rattle.machine_code.specs.Rows as rows
 
 -- a row that wants its slot
 abbrev pub Short : (ℕ → ℕ → ℕ → Instr) → Type 0
 Short row = (s : State) (dst left right : ℕ) → nat_lt (s.fp + dst) (length s.stack) ≡ false → act s (row dst left right) ≡ Halts NoStack s
+
+-- what is known where something is raised
+pub at_raised : (x : PrimExn) (q : Gives) {X : Type 0} → raised x ≡ q → WhenRaised q X → X
+at_raised x (raised y) e h = h
+at_raised x (made l) e h = absurd (cc)
+
+-- a row that may have no result wants its slot first
+pub partial_short : (g : ℕ → ℕ → Option ℕ) (s : State) (dst left right : ℕ) → nat_lt (s.fp + dst) (length s.stack) ≡ false → partial_step g s dst left right ≡ Halts NoStack s
+partial_short g s dst left right e = ap (λ b. check b NoStack s (with_slot s left (λ x. with_slot s right (λ y. result_step s dst (g x y))))) e
 
 module _ (C : ControlLaws) (M : MemoryLaws) (A : ArithmeticLaws) (N : NextLaws) (code : List Instr) (f : Frame) (lay : List Word) (front mem free : List ℕ) where
   abbrev at : ℕ → List ℕ → State
@@ -121,6 +132,38 @@ module _ (C : ControlLaws) (M : MemoryLaws) (A : ArithmeticLaws) (N : NextLaws) 
           (law2 ∙ ap (λ z. Goes (record (at (pc + 1) (k ∷ above)) { pc = pc + 1 + 2; stack = z })) set ∙ ap (λ z. Goes (at z (r ∷ above))) n3) in
           let w = some r q in
           subst (λ z. Comes code f lay front mem v z (at pc (a ∷ above))) (sym w.1) (same_comes v r (pc + 3) (at pc (a ∷ above)) above w.0 (trans code s1 s2) (omega arith))
+
+  -- .. or where the packet comes there.
+  pub late_comes : (row : ℕ → ℕ → ℕ → Instr) (g : ℕ → ℕ → Option ℕ) → Partial row g → Short row → (v : Value) (x y m n k pc place other : ℕ) (above : List ℕ) → slice_get front x ≡ Some m
+      → slice_get front y ≡ Some n → HasAt code pc (row (length front) x y ∷ Jmp other ∷ []) → (g m n ≡ None → HasAt code other (Li (length front) k ∷ []))
+      → ((r : ℕ) → g m n ≡ Some r → Is lay v r × (place ≡ pc + 2)) → (g m n ≡ None → Is lay v k × (place ≡ suc other)) → Comes code f lay front mem v place (at pc above)
+  late_comes row g law brief v x y m n k pc place other [] e h has late some none =
+      rows.Comes.lacks_stack (cut code N NoStack (at pc []) (row (length front) x y) has.0 (brief (at pc []) (length front) x y past))
+  late_comes row g law brief v x y m n k pc place other (a ∷ above) e h has late some none = by (g m n) refl
+    where
+      has_slot : length f.lower + length front < length (f.lower ++ (front ++ a ∷ above))
+      has_slot = omega (arith, length-append f.lower (front ++ a ∷ above), length-append front (a ∷ above))
+
+      by : (o : Option ℕ) → g m n ≡ o → Comes code f lay front mem v place (at pc (a ∷ above))
+      by None q =
+          let law2 = law.none (at pc (a ∷ above)) (length front) x y m n has_slot
+          (steps.holds C M A f pc (front ++ a ∷ above) mem free x m (there x m (a ∷ above) e)) (steps.holds C M A f pc (front ++ a ∷ above) mem free y n (there y n (a ∷ above) h)) q in
+          let s1 : Leads code (at pc (a ∷ above)) (at (pc + 1) (a ∷ above)) = step_to code N (row (length front) x y) has.0 law2 in
+          let s2 : Leads code (at (pc + 1) (a ∷ above)) (at other (a ∷ above)) = step_to code N (Jmp other) has.1.0 (C.jmp (at (pc + 1) (a ∷ above)) other) in
+          let n1 : other + 1 ≡ suc other = omega arith in
+          let s3 : Leads code (at other (a ∷ above)) (at (suc other) (k ∷ above)) =
+          step_to code N (Li (length front) k) (late q).0 (does_li other k a above ∙ ap (λ z. Goes (at z (k ∷ above))) n1) in
+          let w = none q in
+          subst (λ z. Comes code f lay front mem v z (at pc (a ∷ above))) (sym w.1) (same_comes v k (suc other) (at pc (a ∷ above)) above w.0 (trans code s1 (trans code s2 s3)) (omega arith))
+      by (Some r) q =
+          let law2 = law.some (at pc (a ∷ above)) (length front) x y m n r has_slot
+          (steps.holds C M A f pc (front ++ a ∷ above) mem free x m (there x m (a ∷ above) e)) (steps.holds C M A f pc (front ++ a ∷ above) mem free y n (there y n (a ∷ above) h)) q in
+          let set : slice_set (f.lower ++ (front ++ a ∷ above)) (length f.lower + length front) r ≡ f.lower ++ (front ++ r ∷ above) =
+          set_right f.lower (front ++ a ∷ above) (length front) r ∙ ap (λ z. f.lower ++ z) (set_here front above a r) in
+          let s1 : Leads code (at pc (a ∷ above)) (at (pc + 2) (r ∷ above)) =
+          step_to code N (row (length front) x y) has.0 (law2 ∙ ap (λ z. Goes (record (at pc (a ∷ above)) { pc = pc + 2; stack = z })) set) in
+          let w = some r q in
+          subst (λ z. Comes code f lay front mem v z (at pc (a ∷ above))) (sym w.1) (same_comes v r (pc + 2) (at pc (a ∷ above)) above w.0 s1 (omega arith))
 
   -- A test by a row that gives 1 or 0.
   test_steps : (row : ℕ → ℕ → ℕ → Instr) (g : ℕ → ℕ → ℕ) → Total row g → (b : Bool) (x y m n target pc a : ℕ) (above : List ℕ) → slice_get front x ≡ Some m

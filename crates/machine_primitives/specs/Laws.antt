@@ -1,36 +1,36 @@
 -- Which primitives the code is right for.
-use Rattle.std.specs.Prelude.{◌-◌, ◌^◌}
+use Rattle.std.specs.Prelude.{◌-◌, ◌^◌, Some}
 use Rattle.ir_code.specs.declared.instr.Instr.TheVariants.{Add as AddRow, Sub as SubRow, Mul as MulRow, WAdd, WSub, WMul, WDiv, WMod, IDiv, IMod, IQuot, IRem, And, Or, Xor, Shl, Shr, Sar, ILt, ULt, Eq, SCmp}
 use Rattle.mlc_prims.specs.declared.basis.BasisPrimitive.TheVariants.{Add, Subtract, Multiply, Divide, Modulo, Quotient, Remainder, Negate, Absolute, BitsAnd, BitsOr, BitsXor, BitsNot, ShiftLeft, ShiftRight, ShiftSigned, Less, LessEqual, Greater, GreaterEqual, Equals, FromInt, ToInt, ToIntSigned, CharCode, CharOf, TextOf, SizeOf, CharAt, PartOf, Concat, StringOf}
 use Rattle.mlc_prims.specs.declared.prim.PrimExn.TheVariants.{Overflow, Div, Chr}
 use Rattle.first_values.specs.Operations.{ints, words, chars, texts}
-use Rattle.machine_primitives.specs.RowLaws.{RowIsRight, TestIsRight}
-use Rattle.machine_primitives.specs.RowCode.{total, raising, divided, negated, magnitude, moved, from_word, limited, loaded, contrary, holds, swapped, fails, against, are_same, byte_of, part_of, join_of, text_of_one, text_of_int}
+use Rattle.machine_primitives.specs.RowLaws.{LateIsRight, RowIsRight, TestIsRight}
+use Rattle.machine_primitives.specs.RowCode.{total, partial, divided, negated, magnitude, moved, from_word, limited, loaded, contrary, holds, swapped, fails, against, are_same, byte_of, part_of, join_of, text_of_one, text_of_int}
 
 -- sums, differences and products: of integers exact, or Overflow; of words modulo 2^32
 pub record SumsAreRight : Type 0 where
-  pub int_add : RowIsRight ints Add 3 (raising Overflow AddRow)
-  pub int_subtract : RowIsRight ints Subtract 3 (raising Overflow SubRow)
-  pub int_multiply : RowIsRight ints Multiply 3 (raising Overflow MulRow)
+  pub int_add : LateIsRight (Some Overflow) ints Add 2 (partial AddRow)
+  pub int_subtract : LateIsRight (Some Overflow) ints Subtract 2 (partial SubRow)
+  pub int_multiply : LateIsRight (Some Overflow) ints Multiply 2 (partial MulRow)
   pub word_add : RowIsRight words Add 1 (total WAdd)
   pub word_subtract : RowIsRight words Subtract 1 (total WSub)
   pub word_multiply : RowIsRight words Multiply 1 (total WMul)
 
 -- quotients and remainders of words, or Div
 pub record WordQuotientsAreRight : Type 0 where
-  pub divide : RowIsRight words Divide 3 (raising Div WDiv)
-  pub modulo : RowIsRight words Modulo 3 (raising Div WMod)
+  pub divide : LateIsRight (Some Div) words Divide 2 (partial WDiv)
+  pub modulo : LateIsRight (Some Div) words Modulo 2 (partial WMod)
 
 -- the remainder of integers with the sign of the dividend, or Div; the negative of an integer, or Overflow
 pub record IntRowsAreRight : Type 0 where
-  pub remainder : RowIsRight ints Remainder 3 (raising Div IRem)
+  pub remainder : LateIsRight (Some Div) ints Remainder 2 (partial IRem)
   pub negate : RowIsRight ints Negate 4 negated
 
 -- quotients of integers rounded down and towards zero, or Div where the divisor is 0, or Overflow where there is none; what is left by the first; absolute
 -- values, or Overflow
 pub record DivisionsAreRight : Type 0 where
   pub divide : RowIsRight ints Divide 5 (divided IDiv)
-  pub modulo : RowIsRight ints Modulo 3 (raising Div IMod)
+  pub modulo : LateIsRight (Some Div) ints Modulo 2 (partial IMod)
   pub quotient : RowIsRight ints Quotient 5 (divided IQuot)
   pub absolute : RowIsRight ints Absolute 8 magnitude
 

@@ -13,9 +13,9 @@ arg i xs = get_or xs i 0
 abbrev pub total : (ℕ → ℕ → ℕ → Instr) → Code
 total row packets pc d other xs = row d (arg 0 xs) (arg 1 xs) ∷ []
 
--- one that may have none: the packet is in the slot already
-abbrev pub raising : PrimExn → (ℕ → ℕ → ℕ → Instr) → Code
-raising e row packets pc d other xs = Li d (packets e) ∷ row d (arg 0 xs) (arg 1 xs) ∷ Jmp other ∷ []
+-- one that may have none
+abbrev pub partial : (ℕ → ℕ → ℕ → Instr) → Code
+partial row packets pc d other xs = row d (arg 0 xs) (arg 1 xs) ∷ Jmp other ∷ []
 
 -- the word itself
 abbrev pub moved : Code

@@ -1,5 +1,5 @@
 -- That the code of one primitive, at one kind of operands, does what the table says: the rows of AreRight, one by one.
-use Rattle.std.specs.Prelude.{◌≡◌, ℕ, ◌+◌, List, ◌++◌, length, Some, Bool, if◌then◌else◌}
+use Rattle.std.specs.Prelude.{◌≡◌, ℕ, ◌+◌, List, ◌++◌, length, Option, Some, None, Bool, if◌then◌else◌}
 use Rattle.ir_code.specs.declared.instr.Instr.{Instr}
 use Rattle.ir_values.specs.Primitives.{raised_name}
 use Rattle.mlc_prims.specs.LitOf.{Literal, truth}
@@ -10,7 +10,7 @@ use Rattle.first_values.specs.Values.{packet, unit}
 use Rattle.first_values.specs.Operations.{Operands, row_at}
 use Rattle.machine_routines.specs.Layout.{Word, Is}
 use Rattle.machine_routines.specs.Runs.{HasAt, Frame, inside}
-use Rattle.machine_code.specs.Rows.{Packets, HoldAll, Ready, Comes, Passes, given, way_on}
+use Rattle.machine_code.specs.Rows.{Packets, HoldAll, Ready, Comes, Passes, given, way_on, later, WithLate}
 
 -- the code of a primitive at a place, with its result to a slot and the place to go on with a packet, of operands in slots
 abbrev pub Code : Type 0
@@ -20,13 +20,18 @@ Code = Packets → (pc d other : ℕ) → List ℕ → List Instr
 abbrev pub TestCode : Type 0
 TestCode = (pc d other : ℕ) → List ℕ → List Instr
 
-pub record RowIsRight (k : Operands) (p : BasisPrimitive) (size : ℕ) (row : Code) : Type 0 where
+-- perhaps with an exception whose packet comes into the slot at the other place only
+pub record LateIsRight (late : Option PrimExn) (k : Operands) (p : BasisPrimitive) (size : ℕ) (row : Code) : Type 0 where
   pub long : (packets : Packets) (pc d other : ℕ) (xs : List ℕ) → length (row packets pc d other xs) ≡ size
   pub does : (code : List Instr) (f : Frame) (lay : List Word) (front above mem free : List ℕ) → Ready f lay mem free
       → (xs : List ℕ) (ls : List Literal) (g : Gives) → HoldAll lay front xs ls → row_at k p ls ≡ Some g
       → (packets : Packets) → ((e : PrimExn) → Is lay (packet (raised_name e) unit) (packets e))
       → (pc other : ℕ) → HasAt code pc (row packets pc (length front) other xs)
-      → Comes code f lay front mem (given g) (way_on g (pc + size) other) (inside f pc (front ++ above) mem free)
+      → WithLate late g code other packets (length front)
+      (Comes code f lay front mem (given g) (way_on g (pc + size) (later late other)) (inside f pc (front ++ above) mem free))
+
+abbrev pub RowIsRight : Operands → BasisPrimitive → ℕ → Code → Type 0
+RowIsRight k p size row = LateIsRight None k p size row
 
 pub record TestIsRight (k : Operands) (p : BasisPrimitive) (size : ℕ) (row : TestCode) : Type 0 where
   pub long : (pc d other : ℕ) (xs : List ℕ) → length (row pc d other xs) ≡ size

@@ -73,7 +73,7 @@ numbers_equal lay c (truth b) x y q i j e = absurd j
 numbers_equal lay c d x y q i j e = absurd (cc)
 
 -- words are compared as the values are
-word_equal : (shapes : List Shape) (lay : List Word) (sh : Shape) (v u : Value) (x y : ℕ) (q : Bool) → is_word sh ≡ true → Is lay v x → Is lay u y
+pub word_equal : (shapes : List Shape) (lay : List Word) (sh : Shape) (v u : Value) (x y : ℕ) (q : Bool) → is_word sh ≡ true → Is lay v x → Is lay u y
     → equal_at shapes sh v u ≡ Some q → nat_eq x y ≡ q
 word_equal shapes lay numbers (literal c) (literal d) x y q w i j e = numbers_equal lay c d x y q i j e
 word_equal shapes lay references (reference m) (reference n) x y q w i j e =

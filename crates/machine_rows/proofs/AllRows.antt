@@ -12,7 +12,7 @@ use Rattle.mlc_prims.specs.declared.basis.BasisPrimitive.TheVariants.{Add, Subtr
 use Rattle.mlc_prims.specs.declared.prim.PrimExn.TheVariants.{Div, Chr, Size}
 use Rattle.first_values.specs.Operations.{Operands, ints, words, chars, texts, is_at, row_at}
 use Rattle.machine_code.specs.Rows.{AreRight}
-use Rattle.machine_primitives.specs.RowLaws.{RowIsRight, TestIsRight}
+use Rattle.machine_primitives.specs.RowLaws.{LateIsRight, RowIsRight, TestIsRight}
 use Rattle.machine_primitives.specs.Laws.{SumsAreRight, WordQuotientsAreRight, IntRowsAreRight, DivisionsAreRight, BitsAreRight, ConversionsAreRight, TruthsAreRight, LimitsAreRight, SizesAreRight, ContrariesAreRight, ComparisonsAreRight, TextOrdersAreRight, TextsAreRight}
 use Rattle.machine_rows.specs.Table.{int_row, word_row, char_row, text_row, int_test, word_test, text_test, no_row, no_test, rows}
 
@@ -267,7 +267,7 @@ pub record AllRows : Type 0 where
   pub text_rows : TextsAreRight
 
 module _ (S : AllRows) where
-  int_right : (p : BasisPrimitive) → RowIsRight ints p (int_row p).size (int_row p).code
+  int_right : (p : BasisPrimitive) → LateIsRight (int_row p).late ints p (int_row p).size (int_row p).code
   int_right Add = S.sums.int_add
   int_right Subtract = S.sums.int_subtract
   int_right Multiply = S.sums.int_multiply
@@ -303,7 +303,7 @@ module _ (S : AllRows) where
   int_right StringOf = absent_int StringOf (λ z ls. one_none char_in _ (int z) ls refl)
   int_right Print = absent_int Print (λ z ls. refl)
 
-  word_right : (p : BasisPrimitive) → RowIsRight words p (word_row p).size (word_row p).code
+  word_right : (p : BasisPrimitive) → LateIsRight (word_row p).late words p (word_row p).size (word_row p).code
   word_right Add = S.sums.word_add
   word_right Subtract = S.sums.word_subtract
   word_right Multiply = S.sums.word_multiply
@@ -339,7 +339,7 @@ module _ (S : AllRows) where
   word_right StringOf = absent_word StringOf (λ n ls. one_none char_in _ (word n) ls refl)
   word_right Print = absent_word Print (λ n ls. refl)
 
-  char_right : (p : BasisPrimitive) → RowIsRight chars p (char_row p).size (char_row p).code
+  char_right : (p : BasisPrimitive) → LateIsRight (char_row p).late chars p (char_row p).size (char_row p).code
   char_right Add = absent_char Add (λ n ls. numbers_none _ _ (char n) ls refl refl)
   char_right Subtract = absent_char Subtract (λ n ls. numbers_none _ _ (char n) ls refl refl)
   char_right Multiply = absent_char Multiply (λ n ls. numbers_none _ _ (char n) ls refl refl)
@@ -375,7 +375,7 @@ module _ (S : AllRows) where
   char_right StringOf = S.text_rows.string_of
   char_right Print = absent_char Print (λ n ls. refl)
 
-  text_right : (p : BasisPrimitive) → RowIsRight texts p (text_row p).size (text_row p).code
+  text_right : (p : BasisPrimitive) → LateIsRight (text_row p).late texts p (text_row p).size (text_row p).code
   text_right Add = absent_text Add (λ s ls. numbers_none _ _ (string s) ls refl refl)
   text_right Subtract = absent_text Subtract (λ s ls. numbers_none _ _ (string s) ls refl refl)
   text_right Multiply = absent_text Multiply (λ s ls. numbers_none _ _ (string s) ls refl refl)
@@ -555,7 +555,7 @@ module _ (S : AllRows) where
   text_decided StringOf = absent_test texts StringOf (other_row StringOf refl)
   text_decided Print = absent_test texts Print (other_row Print refl)
 
-  row_right : (k : Operands) (p : BasisPrimitive) → RowIsRight k p (rows.size k p) (rows.code k p)
+  row_right : (k : Operands) (p : BasisPrimitive) → LateIsRight (rows.late k p) k p (rows.size k p) (rows.code k p)
   row_right ints p = int_right p
   row_right words p = word_right p
   row_right chars p = char_right p

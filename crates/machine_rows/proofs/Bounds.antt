@@ -1,17 +1,19 @@
 -- Code is at most ten instructions a node.
-use Rattle.std.proofs.Common.{◌≡◌, ℕ, zero, suc, ◌+◌, ◌*◌, ◌≤◌, List, [], ◌∷◌, ◌++◌, length, Bool, true, false, refl, ap, arith, length-append}
+use Rattle.std.proofs.Common.{◌≡◌, ℕ, suc, ◌+◌, ◌*◌, ◌≤◌, List, [], ◌∷◌, ◌++◌, length, refl, ap, arith, length-append}
 use Rattle.mlc_prims.specs.declared.basis.BasisPrimitive.{BasisPrimitive}
 use Rattle.mlc_prims.specs.declared.basis.BasisPrimitive.TheVariants.{Add, Subtract, Multiply, Divide, Modulo, Negate, Absolute, Less, LessEqual, Greater, GreaterEqual, Equals, Assign, Quotient, Remainder, BitsAnd, BitsOr, BitsXor, BitsNot, ShiftLeft, ShiftRight, ShiftSigned, ToInt, ToIntSigned, FromInt, CharCode, CharOf, TextOf, SizeOf, CharAt, PartOf, Concat, StringOf, Print}
-use Rattle.first_values.specs.Values.{Piece, one as a_value, run as a_run}
-use Rattle.first_values.specs.Operations.{Member, Constant, an_int, a_word, a_char, a_text, a_truth, Plain, same, constant, field, refer, content, assign, exception, initial, pack, argument, compute, equal, print, Test, is, is_of, holds, Callee, known, one_of, Operands, ints, words, chars, texts}
+use Rattle.std.specs.Prelude.{get_or}
+use Rattle.first_values.specs.Equality.{Shape, opaque}
+use Rattle.first_values.specs.Operations.{Member, Plain, same, constant, field, refer, content, assign, exception, initial, pack, argument, compute, equal, print, Test, is, is_of, holds, Operands, ints, words, chars, texts}
 use Rattle.ir_ssa.specs.Tree.{Body, Bodies, Fun, plain, make, attempt, turn, call, label, again, guard, goto, jump, branch, switch, tail, ret, raise, last, arm}
 use Rattle.ir_ssa.specs.Size.{nodes, nodes_bodies, nodes_funs}
-use Rattle.machine_routines.specs.EqualCode.{equal_code}
+use Rattle.machine_routines.specs.EqualCode.{is_word, equal_code}
 use Rattle.machine_routines.specs.Sizes.{EqualIsShort, FindIsShort}
 use Rattle.machine_code.specs.Rows.{AreRight}
-use Rattle.machine_code.specs.Code.{Places, is_size, plain_size, test_size, callee_count, is_dense, count, table_size, test_arm_size, leaves_at, one_if_true, pieces_size, size, arms_size, with_params, code_at}
-use Rattle.machine_code.specs.Image.{funs_code, widest, placed, tags_end, set_code, set_size, sets_code, most_code, funs_at, sets_at, fun_at, places_of}
+use Rattle.machine_code.specs.Code.{Places, Scope, Exit, no_exit, exit_at, left, plain_size, test_size, count, Choice, choice_of, size, arms_size, with_params, code_at}
+use Rattle.machine_code.specs.Image.{funs_code, widest, placed, tags_end, set_code, set_size, sets_code, fun_size, most_code, funs_at, sets_at, fun_at, places_of}
 use Rattle.machine_code.specs.Sizes.{sets_nodes}
+use Rattle.machine_code.proofs.Bounds.{is_bound, callee_bound, make_bound, late_bound, equal_bound, goto_bound, args_bound, tests_of, one_more_test, choice_bound}
 use Rattle.machine_code.proofs.Sizes.{code_length}
 use Rattle.machine_rows.specs.Table.{int_row, word_row, char_row, text_row, int_test, word_test, text_test, rows}
 use Rattle.machine_rows.specs.Law.{RowsAreShort, ImagesAreShort}
@@ -277,87 +279,65 @@ rows_short texts p = (text_row_short p, text_test_short p)
 row_short : (k : Operands) (p : BasisPrimitive) → rows.size k p ≤ 20
 row_short k p = let s = rows_short k p in s.0
 
-one_at_most : (b : Bool) → one_if_true b ≤ 1
-one_at_most true = omega arith
-one_at_most false = omega arith
+plain_short : (types : List Shape) (p : Plain) → plain_size rows types p ≤ 20
+plain_short types same = omega arith
+plain_short types (constant k) = omega arith
+plain_short types (field k) = omega arith
+plain_short types refer = omega arith
+plain_short types content = omega arith
+plain_short types assign = omega arith
+plain_short types (exception k) = omega arith
+plain_short types (initial k) = omega arith
+plain_short types pack = omega arith
+plain_short types argument = omega arith
+plain_short types (compute k p) = row_short k p
+plain_short types (equal k) = omega (arith, equal_bound (is_word (get_or types k opaque)))
+plain_short types print = omega arith
 
-is_short : (c : Constant) → is_size c ≤ 5
-is_short (an_int z) = omega arith
-is_short (a_word n) = omega arith
-is_short (a_char n) = omega arith
-is_short (a_text i) = omega arith
-is_short (a_truth b) = omega arith
+test_short : (types : List Shape) (q : Test) → test_size rows types q ≤ 5
+test_short types (is c) = is_bound c
+test_short types is_of = omega arith
+test_short types (holds k p) = let s = rows_short k p in let le = s.1 in omega arith
 
-callee_short : (c : Callee) (n : ℕ) → callee_count c n ≤ 1 + n
-callee_short (known f) n = omega arith
-callee_short (one_of s x) n = omega arith
+module _ (types : List Shape) where
+  mutual
+    size_short : (d : ℕ) (scope : Scope) (es : List Exit) (b : Body) → size rows types d scope es b + 1 ≤ 10 * nodes b
+    size_short d scope es (plain p xs x b) = omega (arith, plain_short types p, size_short (suc d) ((x, d) ∷ scope) es b)
+    size_short d scope es (make t qs x b) = omega (arith, make_bound t qs, size_short (suc d) ((x, d) ∷ scope) es b)
+    size_short d scope es (attempt k p xs x a b) =
+        omega (arith, row_short k p, late_bound (rows.late k p), size_short (suc d) ((x, d) ∷ scope) es a, size_short (suc d) ((x, d) ∷ scope) es b)
+    size_short d scope es (turn p b) = omega (arith, size_short d scope es b)
+    size_short d scope es (call p c xs x b) = omega (arith, callee_bound c (length xs), size_short (suc d) ((x, d) ∷ scope) es b)
+    size_short d scope es (label params a b) =
+        omega (arith, size_short (d + length params) (with_params params d scope) es a, size_short d scope (exit_at d ∷ es) b)
+    size_short d scope es (again params a b) =
+        omega (arith, size_short (d + length params) (with_params params d scope) (exit_at d ∷ es) a, size_short d scope (exit_at d ∷ es) b)
+    size_short d scope es (guard l a y h) =
+        omega (arith, size_short (d + 3) scope (left (get_or es l no_exit) ∷ []) a, size_short (suc d) ((y, d) ∷ scope) es h)
+    size_short d scope es (goto l xs) = omega (arith, goto_bound (get_or es l no_exit) xs scope)
+    size_short d scope es (jump p l xs) = omega (arith, goto_bound (get_or es l no_exit) xs scope)
+    size_short d scope es (branch q xs a b) = omega (arith, test_short types q, size_short d scope es a, size_short d scope es b)
+    size_short d scope es (switch x bs) = omega (arith, choice_bound bs, arms_short (choice_of bs) d scope es bs)
+    size_short d scope es (tail p c xs) = omega (arith, args_bound c scope xs)
+    size_short d scope es (ret x) = omega arith
+    size_short d scope es (raise x) = omega arith
 
-pieces_short : (ps : List Piece) → pieces_size ps ≤ 6 * length ps
-pieces_short [] = omega arith
-pieces_short (a_value x ∷ ps) = omega (arith, pieces_short ps)
-pieces_short (a_run x from zero ∷ ps) = omega (arith, pieces_short ps)
-pieces_short (a_run x from (suc n) ∷ ps) = omega (arith, pieces_short ps)
+    arms_short : (how : Choice) (d : ℕ) (scope : Scope) (es : List Exit) (bs : Bodies)
+        → arms_size rows types how d scope es bs + 7 * count bs + 1 ≤ tests_of how (count bs) + 10 * nodes_bodies bs
+    arms_short how d scope es (last b) = omega (arith, size_short d scope es b)
+    arms_short how d scope es (arm i b bs) = omega (arith, one_more_test how (count bs), size_short d scope es b, arms_short how d scope es bs)
 
-table_short : (dense : Bool) (n : ℕ) → table_size dense n ≤ 3 + n
-table_short true n = omega arith
-table_short false n = omega arith
-
-arm_short : (dense : Bool) → test_arm_size dense ≤ 3
-arm_short true = omega arith
-arm_short false = omega arith
-
-plain_short : (p : Plain) → plain_size rows p ≤ 20
-plain_short same = omega arith
-plain_short (constant k) = omega arith
-plain_short (field k) = omega arith
-plain_short refer = omega arith
-plain_short content = omega arith
-plain_short assign = omega arith
-plain_short (exception k) = omega arith
-plain_short (initial k) = omega arith
-plain_short pack = omega arith
-plain_short argument = omega arith
-plain_short (compute k p) = row_short k p
-plain_short (equal k) = omega arith
-plain_short print = omega arith
-
-test_short : (q : Test) → test_size rows q ≤ 5
-test_short (is c) = is_short c
-test_short is_of = omega arith
-test_short (holds k p) = let s = rows_short k p in let le = s.1 in omega arith
-
-mutual
-  size_short : (ps : List Bool) (b : Body) → size rows ps b ≤ 10 * nodes b
-  size_short ps (plain p xs x b) = omega (arith, plain_short p, size_short ps b)
-  size_short ps (make t qs x b) = omega (arith, pieces_short qs, size_short ps b)
-  size_short ps (attempt k p xs x a b) = omega (arith, row_short k p, size_short ps a, size_short ps b)
-  size_short ps (turn p b) = omega (arith, size_short ps b)
-  size_short ps (call p c xs x b) = omega (arith, callee_short c (length xs), size_short ps b)
-  size_short ps (label params a b) = omega (arith, size_short ps a, size_short (false ∷ ps) b)
-  size_short ps (again params a b) = omega (arith, size_short (false ∷ ps) a, size_short (false ∷ ps) b)
-  size_short ps (guard l a y h) = omega (arith, size_short (true ∷ []) a, size_short ps h)
-  size_short ps (goto l xs) = omega (arith, one_at_most (leaves_at ps l))
-  size_short ps (jump p l xs) = omega (arith, one_at_most (leaves_at ps l))
-  size_short ps (branch q xs a b) = omega (arith, test_short q, size_short ps a, size_short ps b)
-  size_short ps (switch x bs) = omega (arith, table_short (is_dense 0 bs) (count bs), arms_short (is_dense 0 bs) ps bs)
-  size_short ps (tail p c xs) = omega (arith, callee_short c (length xs))
-  size_short ps (ret x) = omega arith
-  size_short ps (raise x) = omega arith
-
-  arms_short : (dense : Bool) (ps : List Bool) (bs : Bodies) → count bs + arms_size rows dense ps bs ≤ 10 * nodes_bodies bs
-  arms_short dense ps (last b) = omega (arith, size_short ps b)
-  arms_short dense ps (arm i b bs) = omega (arith, arm_short dense, size_short ps b, arms_short dense ps bs)
-
-funs_short : (at : Places) → AreRight at.rows → ((ps : List Bool) (b : Body) → size at.rows ps b ≤ 10 * nodes b) → (pc : ℕ) (funs : List Fun) → length (funs_code at pc funs) ≤ 10 * nodes_funs funs
+funs_short : (at : Places) → AreRight at.rows → ((d : ℕ) (scope : Scope) (es : List Exit) (b : Body) → size at.rows at.types d scope es b + 1 ≤ 10 * nodes b) → (pc : ℕ) (funs : List Fun) → length (funs_code at pc funs) ≤ 10 * nodes_funs funs
 funs_short at right short pc [] = omega arith
 funs_short at right short pc (g ∷ funs) =
     let c = code_at at pc (length g.params) (with_params g.params 0 []) [] g.body in
+    let n = fun_size at.rows at.types g in
     omega (
       arith,
-      length-append c (funs_code at (pc + size at.rows [] g.body) funs),
+      length-append c (funs_code at (pc + n) funs),
       code_length at right g.body pc (length g.params) (with_params g.params 0 []) [],
-      short [] g.body,
-      funs_short at right short (pc + size at.rows [] g.body) funs,
+      short (length g.params) (with_params g.params 0 []) [] g.body,
+      funs_short at right short (pc + n) funs,
     )
 
 placed_length : (places : ℕ → ℕ) (set : List Member) → length (placed places set) ≡ length set
@@ -389,6 +369,6 @@ code_short right equal_short find_short written p =
       length-append equals (funs ++ sets),
       length-append funs sets,
       equal_short T.types 2 most_code,
-      funs_short at right size_short (funs_at rows written p) p.funs,
+      funs_short at right (size_short T.types) (funs_at rows written p) p.funs,
       sets_short find_short p.funs (fun_at rows written p) (sets_at rows written p) T.sets,
     )

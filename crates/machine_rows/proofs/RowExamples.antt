@@ -3,7 +3,9 @@ use Rattle.std.proofs.Common.{◌≡◌, ℕ, ◌+◌, ◌-◌, ◌^◌, List, [
 use Rattle.std.specs.Prelude.{replicate, slice_index, drop, take}
 use Rattle.std.specs.Fmt.{digits}
 use Rattle.ir_code.specs.declared.instr.Instr.{Instr}
+use Rattle.ir_code.specs.declared.instr.Instr.TheVariants.{End}
 use Rattle.ir_code.specs.Machine.{State, run}
+use Rattle.machine_code.specs.Rows.{late_code}
 use Rattle.mlc_prims.specs.declared.prim.PrimExn.{PrimExn}
 use Rattle.mlc_prims.specs.declared.prim.PrimExn.TheVariants.{Overflow, Div, Subscript, Size}
 use Rattle.mlc_prims.specs.declared.basis.BasisPrimitive.{BasisPrimitive}
@@ -35,12 +37,16 @@ abbrev slots : List ℕ → ℕ → List ℕ
 slots [] i = []
 slots (x ∷ xs) i = i ∷ slots xs (i + 1)
 
+-- the code at the other place, 100, stands there
+abbrev with_late : Operands → BasisPrimitive → ℕ → List Instr → List Instr
+with_late k p d code = take 100 (code ++ replicate 100 End) ++ late_code (rows.late k p) packets d
+
 -- where it comes to, of 100 for another place; and what is in the slot then
 abbrev ends : List Instr → List ℕ → ℕ × ℕ
 ends code xs = let s = (run code 30 (begins xs) []).state in (s.pc, slice_index s.stack (length xs))
 
 abbrev gives : Operands → BasisPrimitive → List ℕ → ℕ × ℕ
-gives k p xs = ends (rows.code k p packets 0 (length xs) 100 (slots xs 0)) xs
+gives k p xs = ends (with_late k p (length xs) (rows.code k p packets 0 (length xs) 100 (slots xs 0))) xs
 
 -- the new words of the memory
 abbrev makes : Operands → BasisPrimitive → List ℕ → List ℕ
@@ -57,17 +63,17 @@ least = 2 ^ 31
 abbrev less : ℕ → ℕ
 less n = 2 ^ 32 - n
 
-sums : (gives ints Add (less 7 ∷ 2 ∷ []) ≡ (3, less 5)) × (gives ints Add ((least - 1) ∷ 1 ∷ []) ≡ (100, 1001)) × (gives words Add (less 1 ∷ 2 ∷ []) ≡ (1, 1))
+sums : (gives ints Add (less 7 ∷ 2 ∷ []) ≡ (2, less 5)) × (gives ints Add ((least - 1) ∷ 1 ∷ []) ≡ (101, 1001)) × (gives words Add (less 1 ∷ 2 ∷ []) ≡ (1, 1))
 unfolding run
 sums = (refl, refl, refl)
 
-quotients : (gives ints Divide (less 7 ∷ 2 ∷ []) ≡ (5, less 4)) × (gives ints Quotient (less 7 ∷ 2 ∷ []) ≡ (5, less 3)) × (gives ints Modulo (less 7 ∷ 2 ∷ []) ≡ (3, 1)) × (gives ints Remainder (less 7 ∷ 2 ∷ []) ≡ (3, less 1))
+quotients : (gives ints Divide (less 7 ∷ 2 ∷ []) ≡ (5, less 4)) × (gives ints Quotient (less 7 ∷ 2 ∷ []) ≡ (5, less 3)) × (gives ints Modulo (less 7 ∷ 2 ∷ []) ≡ (2, 1)) × (gives ints Remainder (less 7 ∷ 2 ∷ []) ≡ (2, less 1))
 unfolding run
 quotients = (refl, refl, refl, refl)
 
-no_quotients : (gives ints Divide (7 ∷ 0 ∷ []) ≡ (100, 1002)) × (gives ints Divide (least ∷ less 1 ∷ []) ≡ (100, 1001)) × (gives ints Quotient (least ∷ 0 ∷ []) ≡ (100, 1002)) × (gives ints Modulo (least ∷ less 1 ∷ []) ≡ (3, 0))
+no_quotients : (gives ints Divide (7 ∷ 0 ∷ []) ≡ (100, 1002)) × (gives ints Divide (least ∷ less 1 ∷ []) ≡ (100, 1001)) × (gives ints Quotient (least ∷ 0 ∷ []) ≡ (100, 1002)) × (gives ints Modulo (least ∷ less 1 ∷ []) ≡ (2, 0)) × (gives ints Remainder (7 ∷ 0 ∷ []) ≡ (101, 1002)) × (gives words Divide (7 ∷ 0 ∷ []) ≡ (101, 1002))
 unfolding run
-no_quotients = (refl, refl, refl, refl)
+no_quotients = (refl, refl, refl, refl, refl, refl)
 
 absolutes : (gives ints Absolute (less 7 ∷ []) ≡ (8, 7)) × (gives ints Absolute (7 ∷ []) ≡ (8, 7)) × (gives ints Absolute (least ∷ []) ≡ (100, 1001)) × (gives ints Absolute (0 ∷ []) ≡ (8, 0))
 unfolding run

@@ -1,17 +1,19 @@
 -- The code of every primitive at every kind of operands.
-use Rattle.std.specs.Prelude.{ℕ, ◌^◌, ◌-◌, []}
+use Rattle.std.specs.Prelude.{ℕ, ◌^◌, ◌-◌, [], Option, Some, None}
 use Rattle.ir_code.specs.declared.instr.Instr.TheVariants.{Add as AddRow, Sub as SubRow, Mul as MulRow, IDiv, IMod, IQuot, IRem, WAdd, WSub, WMul, WDiv, WMod, And, Or, Xor, Shl, Shr, Sar, ILt, ULt, Eq, SCmp}
 use Rattle.mlc_prims.specs.declared.basis.BasisPrimitive.{BasisPrimitive}
 use Rattle.mlc_prims.specs.declared.basis.BasisPrimitive.TheVariants.{Add, Subtract, Multiply, Divide, Modulo, Negate, Absolute, Less, LessEqual, Greater, GreaterEqual, Equals, Quotient, Remainder, BitsAnd, BitsOr, BitsXor, BitsNot, ShiftLeft, ShiftRight, ShiftSigned, ToInt, ToIntSigned, FromInt, CharCode, CharOf, TextOf, SizeOf, CharAt, PartOf, Concat, StringOf}
+use Rattle.mlc_prims.specs.declared.prim.PrimExn.{PrimExn}
 use Rattle.mlc_prims.specs.declared.prim.PrimExn.TheVariants.{Overflow, Div, Chr}
 use Rattle.first_values.specs.Operations.{Operands, ints, words, chars, texts}
 use Rattle.machine_code.specs.Rows.{Rows}
 use Rattle.machine_primitives.specs.RowLaws.{Code, TestCode}
-use Rattle.machine_primitives.specs.RowCode.{total, raising, negated, moved, from_word, limited, loaded, contrary, holds, swapped, fails, divided, magnitude, against, are_same, byte_of, part_of, join_of, text_of_one, text_of_int}
+use Rattle.machine_primitives.specs.RowCode.{total, partial, negated, moved, from_word, limited, loaded, contrary, holds, swapped, fails, divided, magnitude, against, are_same, byte_of, part_of, join_of, text_of_one, text_of_int}
 
 -- code, and how many instructions it has
 pub record Row : Type 0 where
   pub size : ℕ
+  pub late : Option PrimExn
   pub code : Code
 
 pub record TestRow : Type 0 where
@@ -19,7 +21,11 @@ pub record TestRow : Type 0 where
   pub code : TestCode
 
 abbrev pub row : ℕ → Code → Row
-row n code = record { size = n; code = code }
+row n code = record { size = n; late = None; code = code }
+
+-- one whose packet comes into its slot where it raises
+abbrev pub late_row : ℕ → PrimExn → Code → Row
+late_row n e code = record { size = n; late = Some e; code = code }
 
 abbrev pub test : ℕ → TestCode → TestRow
 test n code = record { size = n; code = code }
@@ -32,13 +38,13 @@ abbrev pub no_test : TestRow
 no_test = test 0 (λ pc d other xs. [])
 
 abbrev pub int_row : BasisPrimitive → Row
-int_row Add = row 3 (raising Overflow AddRow)
-int_row Subtract = row 3 (raising Overflow SubRow)
-int_row Multiply = row 3 (raising Overflow MulRow)
+int_row Add = late_row 2 Overflow (partial AddRow)
+int_row Subtract = late_row 2 Overflow (partial SubRow)
+int_row Multiply = late_row 2 Overflow (partial MulRow)
 int_row Divide = row 5 (divided IDiv)
-int_row Modulo = row 3 (raising Div IMod)
+int_row Modulo = late_row 2 Div (partial IMod)
 int_row Quotient = row 5 (divided IQuot)
-int_row Remainder = row 3 (raising Div IRem)
+int_row Remainder = late_row 2 Div (partial IRem)
 int_row Negate = row 4 negated
 int_row Absolute = row 8 magnitude
 int_row Less = row 1 (total ILt)
@@ -55,8 +61,8 @@ abbrev pub word_row : BasisPrimitive → Row
 word_row Add = row 1 (total WAdd)
 word_row Subtract = row 1 (total WSub)
 word_row Multiply = row 1 (total WMul)
-word_row Divide = row 3 (raising Div WDiv)
-word_row Modulo = row 3 (raising Div WMod)
+word_row Divide = late_row 2 Div (partial WDiv)
+word_row Modulo = late_row 2 Div (partial WMod)
 word_row Negate = row 2 (from_word 0 WSub)
 word_row Less = row 1 (total ULt)
 word_row LessEqual = row 3 (contrary (swapped ULt))
@@ -140,6 +146,7 @@ abbrev pub rows : Rows
 rows = record {
   size = λ k p. (row_at k p).size;
   code = λ k p. (row_at k p).code;
+  late = λ k p. (row_at k p).late;
   test_size = λ k p. (test_at k p).size;
   test_code = λ k p. (test_at k p).code;
 }

@@ -89,6 +89,12 @@ one-direct : compile (just (case (number 1) (a_rule (variable_pat 5) (name 5) no
     ≡ te.first (put [] 1 t (te.const (int (pos 1))) (put [] 2 t (te.use_of (atom 1)) (put [] 3 t (te.make_record t te.no_row) (te.ret (atom 3))))) (otherwise [] 4 t 0 (initial 1))
 one-direct = refl
 
+-- a record's fields have their values in the order written, and stand in it in the order of labels
+one-record : compile (just (fields_exp t (a_field (Number 2) (number 7) (a_field (Number 1) (number 3) no_fields))))
+    ≡ te.first (put [] 1 t (te.const (int (pos 7))) (put [] 2 t (te.const (int (pos 3))) (put [] 3 t (te.make_record t (te.a_row (Number 1) (atom 2) (te.a_row (Number 2) (atom 1) te.no_row)))
+    (put [] 4 t (te.make_record t te.no_row) (te.ret (atom 4)))))) (otherwise [] 5 t 0 (initial 1))
+one-record = refl
+
 -- Order of evaluation
 
 -- operator, operand, and then the call
@@ -234,7 +240,7 @@ two_at_two =
 two-are-typed : DecsChecked (initial_constructors ++ []) [] [] two_at_two ((2, general (q ∷ []) var (to a)) ∷ (1, general (q ∷ []) var (to a)) ∷ [])
 two-are-typed =
     c_val refl (c_general refl refl (fields_checked ((Number 1, to a) ∷ (Number 2, to a) ∷ []) refl (a_pat_checked refl refl variable_checked (a_pat_checked refl refl variable_checked no_pats_checked)) refl)
-    (c_fields (c_field (c_fn (c_last refl (c_variable_one refl) refl)) (c_field (c_fn (c_last refl (c_variable_one refl) refl)) c_no_fields)) refl refl) c_no_binds) c_no_funs
+    (c_fields {r = (Number 1, to a) ∷ (Number 2, to a) ∷ []} (c_field (c_fn (c_last refl (c_variable_one refl) refl)) (c_field (c_fn (c_last refl (c_variable_one refl) refl)) c_no_fields)) refl refl) c_no_binds) c_no_funs
     (c_val refl (c_plain refl any_checked (c_app (c_variable {qs = q ∷ []} refl (tt, tt) refl refl) (c_constant (has_int (pos 3))) refl)
     (c_plain refl any_checked (c_app (c_variable {qs = q ∷ []} refl (tt, tt) refl refl) (c_constant (has_string (97 ∷ []))) refl)
     (c_plain refl any_checked (c_app (c_variable {qs = q ∷ []} refl (tt, tt) refl refl) (c_constant (has_int (pos 3))) refl) c_no_binds))) c_no_funs c_no_decs)

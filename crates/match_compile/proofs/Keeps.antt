@@ -1,5 +1,5 @@
 -- The compiled program does what the program does.
-use Rattle.std.proofs.Common.{◌≡◌, ℕ, zero, suc, ◌<◌, ◌≤◌, Bool, true, false, not, ◌&&◌, List, [], ◌∷◌, ◌++◌, Option, Some, None, slice_get, option_and_then, refl, sym, ap, subst, ◌∙◌, arith, if◌then◌else◌}
+use Rattle.std.proofs.Common.{◌≡◌, ℕ, zero, suc, ◌<◌, ◌≤◌, Bool, true, false, not, ◌&&◌, List, [], ◌∷◌, ◌++◌, Option, Some, None, slice_get, option_and_then, nat_lt, refl, sym, ap, ap₂, subst, ◌∙◌, arith, if◌then◌else◌}
 use Rattle.std.specs.Prelude.{⊤}
 use Rattle.std.proofs.lemmas.Bool.{eqb-true, eq-eqb}
 use Rattle.mlc_base.specs.declared.label.Label.{Label}
@@ -13,6 +13,7 @@ use Rattle.mlc_prims.specs.LitOf.{Literal, int, word, char, string, truth}
 use Rattle.mlc_prims.specs.declared.basis.BasisPrimitive.{BasisPrimitive}
 use Rattle.ty_core.specs.Types.{Typ}
 use Rattle.ty_core.specs.declared.scheme.Quantified.{Quantified}
+use Rattle.label_rows.specs.Order.{label_before}
 use Rattle.ir_values.specs.Tags.{untagged}
 use Rattle.ir_values.specs.Values.{record_of, con, con_of, exn, exn_of, ref, primitive, closure, no_fields, field, empty, bind, same_label, field_in, count, packet_name, value_of, truth_number}
 use Rattle.ir_values.specs.Values as values
@@ -29,10 +30,11 @@ use Rattle.ir_poly.specs.ProgChecked.{parameters_if}
 use Rattle.ir_poly.specs.Tests.{Use, inst, poly, Tests}
 use Rattle.ir_poly.specs.Types.{unit_type}
 use Rattle.match_compile.specs.Compile as pass
-use Rattle.match_compile.specs.Compile.{Names, no_names, named, each_named, funs_named, past_group, scoped, all_scoped, bool_type, exception_type, atom, put, excepted, Otherwise, again, initial, otherwise, Spots, no_spots, spot, spots, spots_named, past_pat, tests, Shape, plain, alone, recorded, general_shape, shape_over, shape, record_type, together, split, past_shape, shape_spots, shaped, grouped, Built, a_con, a_ref, an_exn, Way, by_call, by_building, by_performing, used_at, are_numbered, is_tuple, arity, performed, way, weighed, past_built, beginning, building, along, fits_all, is_direct, value_at, value_of_rule, past_tuple, past_fields, past_chain, past_rules, past_fun, past_decs, past_binds, past_funs, unclassed, binds_spots, val_named, decs_named, field_row, field_atoms, tuple_atoms, making, making_rule, making_tuple, making_all, links, rules, function, bindings, decs, compile}
+use Rattle.match_compile.specs.Compile.{Names, no_names, named, each_named, funs_named, past_group, scoped, all_scoped, bool_type, exception_type, atom, put, excepted, Otherwise, again, initial, otherwise, Spots, no_spots, spot, spots, spots_named, past_pat, tests, Shape, plain, alone, recorded, general_shape, shape_over, shape, record_type, together, split, past_shape, shape_spots, shaped, grouped, Built, a_con, a_ref, an_exn, Way, by_call, by_building, by_performing, used_at, are_numbered, is_tuple, arity, performed, way, weighed, past_built, beginning, building, along, fits_all, is_direct, value_at, value_of_rule, past_tuple, past_fields, past_chain, past_rules, past_fun, past_decs, past_binds, past_funs, unclassed, binds_spots, val_named, decs_named, field_row, sorted_row, field_atoms, tuple_atoms, making, making_rule, making_tuple, making_all, links, rules, function, bindings, decs, compile}
 use Rattle.match_compile.proofs.Numbers.{le-trans, le-suc, le-refl, le-less, less-of, different, pat-up, group-up, shape-up, up, tuple-up, fields-up, rules-up, fun-up, binds-up, funs-up}
 use Rattle.match_compile.proofs.Related.{same_alone, same_one_of, Same, same_literal, same_record, same_con, same_con_of, same_exn, same_exn_of, same_ref, same_primitive, same_closure, SameParts, no_same, a_same, SameEnv, same_empty, same_bind, kind-of, by-kind, look_up-same, here, Holds, holds-refl, holds-trans, holds-bind, same-up, Bound, bound_none, bound_one, bound-more, bound-onto, members-same, members-held, Worlds, Ends}
 use Rattle.match_compile.proofs.Matched.{BothNames, both_named, not_named, exception-same, Recorded, recorded_as, found, con-tested, tests-same, split-same, together-same}
+use Rattle.match_compile.proofs.Sorted.{sorted-same, sorted-found}
 use Rattle.match_compile.proofs.Packets.{IsPacket, is_packet, Packs, CallPacks, eval-packs, apply-packs}
 
 abbrev W : Type 0
@@ -110,7 +112,7 @@ performed-is : (x : Bool) (p q : BasisPrimitive) (u v : Typ) → performed x p u
 performed-is true p q u v e = (refl, cc)
 performed-is false p q u v e = absurd (cc)
 
-right-true : (a b : Bool) → (a && b) ≡ true → b ≡ true
+pub right-true : (a b : Bool) → (a && b) ≡ true → b ≡ true
 right-true true b e = e
 right-true false b e = absurd (cc)
 
@@ -187,7 +189,7 @@ parts-deeper : (l n j : ℕ) (v : src.V) (r : src.Parts) → j < l → parts l n
 parts-deeper l zero j v r lt = refl
 parts-deeper l (suc n) j v r lt = rw (different l j (λ e. omega (arith, e, lt)), parts-deeper (suc l) n j v r (omega (arith, lt))) refl
 
-label-is : (l : ℕ) (m : Label) → same_label (Number l) m ≡ true → Number l ≡ m
+pub label-is : (l : ℕ) (m : Label) → same_label (Number l) m ≡ true → Number l ≡ m
 label-is l (Number n) e = ap Number (eqb-true l n e)
 label-is l (Word x) e = absurd (cc)
 
@@ -204,6 +206,26 @@ count-numbered l zero none_labelled e = refl
 count-numbered l zero (one_labelled m h) e = absurd (cc)
 count-numbered l (suc k) none_labelled e = absurd (cc)
 count-numbered l (suc k) (one_labelled m h) e = ap suc (count-numbered (suc l) k h (right-true (same_label (Number l) m) _ e))
+
+-- and they stand in their places
+
+pub less-not : (l : ℕ) → nat_lt (suc l) l ≡ false
+less-not l = grind (arith)
+
+first-stays : (l k : ℕ) (m : Label) (v : src.V) {fs : tree.Fields} {r : src.Parts} → Labelled fs r → Number l ≡ m → are_numbered (suc l) k fs ≡ true → src.put_part m v r ≡ field m v r
+first-stays l k m v none_labelled p e = refl
+first-stays l zero m v (one_labelled j h) p e = absurd (cc)
+first-stays l (suc k) m v (one_labelled j {v = z} {fs = fs} {r = r} h) p e =
+    let q = label-is (suc l) j (left-true _ (are_numbered (suc (suc l)) k fs) e) in
+    ap (λ b. if b then field j z (src.put_part m v r) else field m v (field j z r)) (ap₂ label_before (sym q) (sym p) ∙ less-not l)
+
+numbered-sorted : (l k : ℕ) {fs : tree.Fields} {r : src.Parts} → Labelled fs r → are_numbered l k fs ≡ true → src.sorted_parts r ≡ r
+numbered-sorted l zero none_labelled e = refl
+numbered-sorted l zero (one_labelled m h) e = absurd (cc)
+numbered-sorted l (suc k) none_labelled e = absurd (cc)
+numbered-sorted l (suc k) (one_labelled m {v = v} {fs = fs} h) e =
+    let d = right-true (same_label (Number l) m) _ e in
+    ap (src.put_part m v) (numbered-sorted (suc l) k h d) ∙ first-stays l k m v h (label-is l m (left-true _ (are_numbered (suc l) k fs) e)) d
 
 arguments-are : (k : ℕ) {fs : tree.Fields} {r : src.Parts} → Labelled fs r → are_numbered 1 k fs ≡ true → arguments (record_of tt r) ≡ values_in r
 arguments-are k {r = r} h e = ap (λ o. elim o [ None ↦ record_of tt r ∷ [] | Some vs ↦ vs ]) (ap (λ j. parts 1 j r) (count-numbered 1 k h e) ∙ parts-found 1 k h e)
@@ -475,8 +497,9 @@ module _ (call : src.Apply) (call' : tgt.Apply poly) (calls : (place : Place) (g
 
   tuple-of : (fs : tree.Fields) → AllSame fs → (t : Typ) → TupleSame (fields_exp t fs)
   tuple-of fs all t k e K D N n env ρ w u go rest other h s f =
-      part-row fs all K D N n env ρ w u (λ r w'. gives (record_of tt r) w') go rest other h s (λ r r' w1 u1 ρ1 l q s1 k1 e1.
-      f (record_of tt r) (values_in r') w1 u1 ρ1 (subst (λ vs. AllRelated Same vs (values_in r')) (sym (arguments-are k l e)) (values-same q)) s1 k1 (atoms-found fs n ρ1 r' e1))
+      part-row fs all K D N n env ρ w u (λ r w'. gives (record_of tt (src.sorted_parts r)) w') go rest other h s (λ r r' w1 u1 ρ1 l q s1 k1 e1.
+      f (record_of tt (src.sorted_parts r)) (values_in r') w1 u1 ρ1
+      (subst (λ vs. AllRelated Same vs (values_in r')) (sym (ap (λ x. arguments (record_of tt x)) (numbered-sorted 1 k l e) ∙ arguments-are k l e)) (values-same q)) s1 k1 (atoms-found fs n ρ1 r' e1))
 
   -- an operand of a chain in the variable i
   abbrev operand_arms : Bool → ℕ → Tests → te.Arms poly
@@ -546,9 +569,10 @@ module _ (call : src.Apply) (call' : tgt.Apply poly) (calls : (place : Place) (g
     making-same (exn_exp x t) K D N n env ρ w u go rest other h s f = exn-made (Rel K) D n t ρ w u go rest other s f (exception-same x h)
     making-same (prim_exp p ts t) K D N n env ρ w u go rest other h s f = stands (Rel K) n n ρ go rest other (le-refl n) (both_give (same_primitive tt p) s) f
     making-same (fields_exp t fs) K D N n env ρ w u go rest other h s f =
-        let i = past_fields fs n in let o = te.make_record (scoped D t) (field_row fs n) in
-        part-row fs (all-same fs) K D N n env ρ w u (λ r w'. gives (record_of tt r) w') go (put D i t o rest) other h s (λ r r' w1 u1 ρ1 l q s1 k1 e1.
-        does (Rel K) D i i t o ρ1 u1 (gives (record_of tt r) w1) (gives (record_of tt r') u1) go rest other (le-refl i) (op-record (scoped D t) (field_row fs n) ρ1 u1 r' e1) (both_give (same_record tt q) s1) (more (Rel K) n i ρ go rest other (fields-up fs n) ρ1 k1 i f))
+        let i = past_fields fs n in let o = te.make_record (scoped D t) (sorted_row (field_row fs n)) in
+        part-row fs (all-same fs) K D N n env ρ w u (λ r w'. gives (record_of tt (src.sorted_parts r)) w') go (put D i t o rest) other h s (λ r r' w1 u1 ρ1 l q s1 k1 e1.
+        does (Rel K) D i i t o ρ1 u1 (gives (record_of tt (src.sorted_parts r)) w1) (gives (record_of tt (src.sorted_parts r')) u1) go rest other (le-refl i)
+        (op-record (scoped D t) (sorted_row (field_row fs n)) ρ1 u1 (src.sorted_parts r') (sorted-found (field_row fs n) ρ1 r' e1)) (both_give (same_record tt (sorted-same q)) s1) (more (Rel K) n i ρ go rest other (fields-up fs n) ρ1 k1 i f))
     making-same (let_exp t ds e) K D N n env ρ w u go rest other h s f =
         let i = past_decs ds n in let j = value_at e i in
         stands (Rel K) n (suc (suc j)) ρ go rest other (up (let_exp t ds e) n)

@@ -1,5 +1,6 @@
 pub mod Numbers
 pub mod Related
+pub mod Sorted
 pub mod Matched
 pub mod Packets
 pub mod Keeps

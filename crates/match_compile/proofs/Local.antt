@@ -12,6 +12,7 @@ use Rattle.ir_plain.specs.Scoped.{IsAmong, among_here, among_there, group_onto, 
 use Rattle.ir_poly.specs.Prog.{Exc, fixed, held, Pat, any_pat, variable_pat, constant_pat, con_pat, con_of_pat, ref_of_pat, exn_pat, exn_of_pat, fields_pat, as_pat, PatFields, no_pats, a_pat, Exp, constant_exp, variable_exp, own_exp, con_exp, ref_exp, exn_exp, prim_exp, fields_exp, let_exp, app_exp, case_exp, chain_exp, handle_exp, raise_exp, fn_exp, counted_exp, Fields, no_fields, a_field, Chain, only, link, Rules, no_rules, a_rule, Fun, last, by_rules, more, Decs, no_decs, val_dec, exception_dec, counted_dec, Binds, no_binds, a_bind, Funs, no_funs, a_fun, type_of}
 use Rattle.ir_poly.specs.Tests.{Use, poly, Tests}
 use Rattle.ir_poly.specs.Types.{unit_type}
+use Rattle.match_compile.proofs.Sorted.{sorted-scoped}
 use Rattle.match_compile.specs.Compile.{unclassed, Names, no_names, named, funs_named, past_group, bool_type, exception_type, atom, put, excepted, Otherwise, again, initial, otherwise, Spots, no_spots, spot, spots, field_spots, spots_named, past_pat, tests, field_tests, Shape, plain, alone, recorded, shape, record_type, spots_row, together, split, past_shape, shaped, grouped, Built, a_con, a_ref, an_exn, Way, by_call, by_building, by_performing, way, weighed, past_built, beginning, building, along, is_direct, value_at, value_of_rule, past_tuple, past_fields, past_chain, past_rules, past_fun, past_decs, past_binds, past_funs, val_named, decs_named, field_row, field_atoms, tuple_atoms, making, making_rule, making_tuple, making_all, links, rules, function, functions, bindings, decs, compile}
 
 abbrev Among : Use → List ℕ → Type 0
@@ -182,7 +183,7 @@ mutual
   making-local D N (ref_exp u t) n f = put-local D n t ref_alone_scoped f
   making-local D N (exn_exp x t) n {ls = ls} f = name_scoped (reaches N x ls) (put-local D (suc n) t (use_scoped tt) (λ lz gz az. f lz (further (one n ls) gz) az))
   making-local D N (prim_exp p ts t) n f = put-local D n t prim_alone_scoped f
-  making-local D N (fields_exp t fs) n f = all-local D N fs n (λ ls1 g1 r1 a1. put-local D (past_fields fs n) t (make_record_scoped r1) (λ lz gz az. f lz (further g1 gz) az))
+  making-local D N (fields_exp t fs) n f = all-local D N fs n (λ ls1 g1 r1 a1. put-local D (past_fields fs n) t (make_record_scoped (sorted-scoped r1)) (λ lz gz az. f lz (further g1 gz) az))
   making-local D N (let_exp t ds e) n f =
       let i = past_decs ds n in let j = value_at e i in
       put-local D (suc (suc j)) t (block_scoped (first_scoped (decs-local D N ds n (λ ls1 g1. making-local D (decs_named ds n N) e i (λ ls2 g2 h2. ret_scoped h2))) (initial-local D (suc j) t n bind_name))) f

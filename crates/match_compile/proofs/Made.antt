@@ -11,7 +11,7 @@ use Rattle.ir_poly.specs.Prog.{Pat, any_pat, variable_pat, constant_pat, con_pat
 use Rattle.ir_poly.specs.Tests.{poly, Tests}
 use Rattle.ir_poly.specs.Types.{unit_type}
 use Rattle.match_compile.specs.Exceptions.{made, fields_made, chain_made, rules_made, fun_made, decs_made, binds_made, funs_made, tests_made, op_made, te_fun_made, te_funs_made}
-use Rattle.match_compile.specs.Compile.{unclassed, Names, no_names, named, funs_named, past_group, scoped, bool_type, exception_type, atom, put, Otherwise, again, initial, otherwise, Spots, no_spots, spot, spots, spots_named, past_pat, tests, field_tests, Shape, plain, alone, recorded, shape, record_type, together, split, past_shape, shaped, grouped, Built, a_con, a_ref, an_exn, Way, by_call, by_building, by_performing, way, weighed, past_built, beginning, building, along, is_direct, value_at, past_tuple, past_fields, past_chain, past_rules, past_decs, past_binds, past_fun, past_funs, val_named, decs_named, field_row, tuple_atoms, is_tuple, arity, making, making_rule, making_tuple, making_all, links, rules, function, functions, bindings, decs, compile}
+use Rattle.match_compile.specs.Compile.{unclassed, Names, no_names, named, funs_named, past_group, scoped, bool_type, exception_type, atom, put, Otherwise, again, initial, otherwise, Spots, no_spots, spot, spots, spots_named, past_pat, tests, field_tests, Shape, plain, alone, recorded, shape, record_type, together, split, past_shape, shaped, grouped, Built, a_con, a_ref, an_exn, Way, by_call, by_building, by_performing, way, weighed, past_built, beginning, building, along, is_direct, value_at, past_tuple, past_fields, past_chain, past_rules, past_decs, past_binds, past_fun, past_funs, val_named, decs_named, field_row, sorted_row, tuple_atoms, is_tuple, arity, making, making_rule, making_tuple, making_all, links, rules, function, functions, bindings, decs, compile}
 use Rattle.match_compile.proofs.Keeps.{performed-tuple}
 use Rattle.match_compile.proofs.Weights.{NotCalled, not-called}
 
@@ -102,7 +102,7 @@ mutual
   making-made D N (ref_exp u t) n rest us = refl
   making-made D N (exn_exp x t) n rest us = refl
   making-made D N (prim_exp p ts t) n rest us = refl
-  making-made D N (fields_exp t fs) n rest us = fields-made D N fs n (put D (past_fields fs n) t (te.make_record (scoped D t) (field_row fs n)) rest) us
+  making-made D N (fields_exp t fs) n rest us = fields-made D N fs n (put D (past_fields fs n) t (te.make_record (scoped D t) (sorted_row (field_row fs n))) rest) us
   making-made D N (let_exp t ds e) n rest us =
       let i = past_decs ds n in let j = value_at e i in let M = decs_named ds n N in let vs = X (otherwise D (suc j) t n (initial bind_name)) (X rest us) in
       decs-made D N ds n (making D M e i (te.ret (atom j))) vs ∙ ap (decs_made ds) (making-made D M e i (te.ret (atom j)) vs ∙ ap (made e) (otherwise-made D (suc j) t n (initial bind_name) (X rest us)))

@@ -12,7 +12,7 @@ use Rattle.ir_plain.specs.Tree as te
 use Rattle.ir_poly.specs.Prog.{Pat, any_pat, variable_pat, constant_pat, con_pat, con_of_pat, ref_of_pat, exn_pat, exn_of_pat, fields_pat, as_pat, PatFields, no_pats, a_pat, Exp, constant_exp, variable_exp, own_exp, con_exp, ref_exp, exn_exp, prim_exp, fields_exp, let_exp, app_exp, case_exp, chain_exp, handle_exp, raise_exp, fn_exp, counted_exp, Fields, no_fields, a_field, Chain, only, link, Rules, no_rules, a_rule, Fun, last, by_rules, more, Decs, no_decs, val_dec, exception_dec, counted_dec, Binds, no_binds, a_bind, Funs, no_funs, a_fun, type_of}
 use Rattle.ir_poly.specs.Tests.{poly, Tests}
 use Rattle.ir_poly.specs.Types.{unit_type}
-use Rattle.match_compile.specs.Compile.{Names, no_names, named, funs_named, past_group, scoped, bool_type, exception_type, atom, put, Otherwise, again, initial, otherwise, Spots, no_spots, spot, spots, spots_named, past_pat, past_pats, tests, field_tests, Shape, plain, alone, recorded, shape, record_type, together, split, past_split, past_shape, shaped, grouped, Built, a_con, a_ref, an_exn, Way, by_call, by_building, by_performing, way, weighed, past_built, beginning, building, along, is_direct, value_at, value_of_rule, past_tuple, past_fields, past_chain, past_rules, past_fun, past_decs, past_binds, past_funs, unclassed, val_named, decs_named, field_row, tuple_atoms, making, making_rule, making_tuple, making_all, links, rules, function, functions, bindings, decs, compile}
+use Rattle.match_compile.specs.Compile.{Names, no_names, named, funs_named, past_group, scoped, bool_type, exception_type, atom, put, Otherwise, again, initial, otherwise, Spots, no_spots, spot, spots, spots_named, past_pat, past_pats, tests, field_tests, Shape, plain, alone, recorded, shape, record_type, together, split, past_split, past_shape, shaped, grouped, Built, a_con, a_ref, an_exn, Way, by_call, by_building, by_performing, way, weighed, past_built, beginning, building, along, is_direct, value_at, value_of_rule, past_tuple, past_fields, past_chain, past_rules, past_fun, past_decs, past_binds, past_funs, unclassed, val_named, decs_named, field_row, sorted_row, tuple_atoms, making, making_rule, making_tuple, making_all, links, rules, function, functions, bindings, decs, compile}
 use Rattle.match_compile.proofs.Numbers.{different}
 
 -- how many of the numbers below n are k
@@ -114,7 +114,7 @@ module _ (k : ℕ) where
     making-once D N (ref_exp u t) n rest = omega arith
     making-once D N (exn_exp x t) n rest = omega arith
     making-once D N (prim_exp p ts t) n rest = omega arith
-    making-once D N (fields_exp t fs) n rest = let h = fields-once D N fs n (put D (past_fields fs n) t (te.make_record (scoped D t) (field_row fs n)) rest) in omega (arith, h)
+    making-once D N (fields_exp t fs) n rest = let h = fields-once D N fs n (put D (past_fields fs n) t (te.make_record (scoped D t) (sorted_row (field_row fs n))) rest) in omega (arith, h)
     making-once D N (let_exp t ds e) n rest =
         let i = past_decs ds n in let j = value_at e i in let M = decs_named ds n N in
         let h = decs-once D N ds n (making D M e i (te.ret (atom j))) in

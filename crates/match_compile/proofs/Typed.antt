@@ -1,26 +1,29 @@
 -- The compiled program is well typed where the program is.
-use Rattle.std.proofs.Common.{if◌then◌else◌, ◌≡◌, ℕ, suc, ◌<◌, ◌≤◌, Bool, true, false, not, List, [], ◌∷◌, ◌++◌, map, Option, Some, None, nat_lt, refl, sym, ap, subst, ◌∙◌, arith}
+use Rattle.std.proofs.Common.{if◌then◌else◌, ◌≡◌, ℕ, zero, suc, ◌<◌, ◌≤◌, Bool, true, false, not, List, [], ◌∷◌, ◌++◌, map, Option, Some, None, nat_lt, refl, sym, ap, ap₂, subst, ◌∙◌, arith}
 use Rattle.mlc_base.specs.declared.label.Label.{Label}
+use Rattle.mlc_base.specs.declared.label.Label.TheVariants.{Number}
 use Rattle.mlc_base.specs.declared.place.Place.{Place}
 use Rattle.mlc_prims.specs.declared.basis.BasisPrimitive.{BasisPrimitive}
 use Rattle.ty_core.specs.Types.{Typ, con, name, typs_of}
 use Rattle.ty_core.specs.Marks.{Allows}
 use Rattle.ty_core.specs.declared.scheme.Quantified.{Quantified}
-use Rattle.ir_values.specs.Values.{truth_number}
+use Rattle.label_rows.specs.Order.{label_before, put_by}
+use Rattle.ir_values.specs.Values.{same_label, truth_number}
 use Rattle.ir_values.specs.Primitives.{match_name, bind_name}
 use Rattle.ir_plain.specs.Tree as te
 use Rattle.ir_poly.specs.Prog.{Exc, Pat, any_pat, variable_pat, constant_pat, con_pat, con_of_pat, ref_of_pat, exn_pat, exn_of_pat, fields_pat, as_pat, Exp, constant_exp, variable_exp, own_exp, con_exp, ref_exp, exn_exp, prim_exp, fields_exp, let_exp, app_exp, case_exp, chain_exp, handle_exp, raise_exp, fn_exp, counted_exp, Fields, Chain, Rules, Fun, Decs, Binds, Funs, type_of, is_value}
 use Rattle.ir_poly.specs.ProgChecked as pr
 use Rattle.ir_poly.specs.ProgChecked.{ExcChecked, pat_onto, funs_onto, binds_onto}
 use Rattle.ir_poly.specs.Tests.{Tests}
-use Rattle.ir_poly.specs.Types.{function_type, ref_type, row_type, ascend, unit_type, admits_in, over, are_new, Constructor, argument_at, prim_type, arguments_at, result_at, numbered, tuple_type, put}
+use Rattle.ir_poly.specs.Types.{function_type, ref_type, row_type, labels_in, ascend, sorted, unit_type, admits_in, over, are_new, Constructor, argument_at, prim_type, arguments_at, result_at, numbered, tuple_type, put}
 use Rattle.ir_poly.specs.TestsChecked.{Known, of_type, own, exception, Knowns, exn_type, HasConstructor, value_type, alone_type, declared, AtomChecked, AtomsChecked, no_atoms_checked, an_atom_checked, RowChecked, no_row_checked, a_row_checked, con_checked, Checked, c_ret, c_let, c_exception, c_exception_alone, c_name, c_switch, c_first, c_counted, c_no_arms, c_arm, OpChecked, c_use, c_use_one, c_use_own, c_use_exception, c_const, c_con_alone, c_construct, c_ref_alone, c_refer, c_pack, c_make_record, c_prim_alone, c_prim, c_app, c_fn, c_block, c_handle, c_raise, c_raise_initial, FunChecked, c_last, c_more, FunsChecked, c_no_funs, c_fun}
 use Rattle.ir_poly.proofs.SaidLemmas.{said}
-use Rattle.ir_poly.proofs.ReplaceLemmas.{left-true, both-true, row_read, row_type-read, labels-read, arguments-read, result-read, tuple-read}
+use Rattle.ir_poly.proofs.ReplaceLemmas.{left-true, both-true, row_read, sorted-read, row_type-read, labels-read, arguments-read, result-read, tuple-read}
 use Rattle.match_compile.specs.Compile as pass
-use Rattle.match_compile.specs.Compile.{Names, no_names, named, funs_named, past_group, scoped, all_scoped, option_scoped, standing, unclassed, bool_type, exception_type, atom, excepted, Otherwise, again, initial, otherwise, otherwise_op, Spots, no_spots, spot, spots, spots_named, past_pat, tests, Shape, plain, alone, recorded, general_shape, shape, record_type, together, past_shape, shape_spots, shaped, grouped, Built, a_con, a_ref, an_exn, Way, by_call, by_building, by_performing, used_at, is_tuple, arity, performed, way, weighed, past_built, beginning, building, along, fits_all, is_direct, value_at, value_of_rule, past_tuple, past_fields, past_chain, past_rules, past_fun, past_decs, past_binds, past_funs, binds_spots, val_named, decs_named, field_row, field_atoms, tuple_atoms, making, making_rule, making_tuple, making_all, links, rules, function, functions, bindings, decs, compile}
+use Rattle.match_compile.specs.Compile.{are_numbered, Names, no_names, named, funs_named, past_group, scoped, all_scoped, option_scoped, standing, unclassed, bool_type, exception_type, atom, excepted, Otherwise, again, initial, otherwise, otherwise_op, Spots, no_spots, spot, spots, spots_named, past_pat, tests, Shape, plain, alone, recorded, general_shape, shape, record_type, together, past_shape, shape_spots, shaped, grouped, Built, a_con, a_ref, an_exn, Way, by_call, by_building, by_performing, used_at, is_tuple, arity, performed, way, weighed, past_built, beginning, building, along, fits_all, is_direct, value_at, value_of_rule, past_tuple, past_fields, past_chain, past_rules, past_fun, past_decs, past_binds, past_funs, binds_spots, val_named, decs_named, field_row, field_atoms, tuple_atoms, making, making_rule, making_tuple, making_all, links, rules, function, functions, bindings, decs, compile}
 use Rattle.match_compile.proofs.Numbers.{le-trans, le-suc, le-refl, le-less, less-of, pat-up, shape-up, group-up, up, tuple-up, fields-up, chain-up, fun-up, rules-up, binds-up, funs-up}
-use Rattle.match_compile.proofs.Keeps.{performed-not-built, performed-tuple, sole}
+use Rattle.match_compile.proofs.Sorted.{sorted-checked}
+use Rattle.match_compile.proofs.Keeps.{performed-not-built, performed-tuple, right-true, label-is, less-not, sole}
 use Rattle.match_compile.proofs.Values.{tests-value, value-made}
 use Rattle.match_compile.proofs.TypeLemmas.{scoped-over, scoped-all-over, Within, within-none, within-more, within-less, new-within, allows-scoped, are-allowed-scoped, instance-scoped, allowed-unclassed, literal-scoped, value-scoped, alone-scoped, constructor-scoped, tuple-many}
 use Rattle.match_compile.proofs.TypedLemmas.{SameKnowns, Holds, holds-refl, holds-trans, holds-bind, here, knowns-up, knowns-bind, knowns-one, knowns-more, knowns-less, KnownAs, as_own, as_exception, declared-known, type-found, own-found, exception-found, general-found, atom-holds, atom-here, may-general, name-typed, put-typed, otherwise-typed, Places, places_none, places_one, tests-typed, Bound, bound_none, bound_one, bound-more, bound-onto, bound-places, Along, along_none, together-typed, record-split, AllOver, none_over, one_over, group-holds, group-known, grouped-typed}
@@ -205,6 +208,22 @@ module _ (table : List Constructor) (truths : (b : Bool) → HasConstructor tabl
   ways-typed (by_building b) f a place d w cf e g mf ma mt m n H rest z s k = builds-typed b f a place (built-as a b cf d) e g ma m n H rest z s k
   ways-typed (by_performing p q) f a place d w cf e g mf ma mt m n H rest z s k = performs-typed p q f a place w (performed-as a p q cf d) e (mt (arity p) (performed-tuple f a p q d)) m n H rest z s k
 
+  -- the fields of a tuple that is written stand in their places
+  first-row : {S : List Quantified} {G : Knowns} (l k : ℕ) (m : Label) (t : Typ) {fs : Fields} {r : List (Label × Typ)} → pr.FieldsChecked table S G fs r → Number l ≡ m → are_numbered (suc l) k fs ≡ true → put_by (λ f. f.0) (m, t) r ≡ (m, t) ∷ r
+  first-row l k m t pr.c_no_fields p e = refl
+  first-row l zero m t (pr.c_field h hs) p e = absurd (cc)
+  first-row l (suc k) m t (pr.c_field {l = j} {fs = fs} {t = u} {r = r} h hs) p e =
+      let q = label-is (suc l) j (left-true _ (are_numbered (suc (suc l)) k fs) e) in
+      ap (λ b. if b then (j, u) ∷ put_by (λ f. f.0) (m, t) r else (m, t) ∷ (j, u) ∷ r) (ap₂ label_before (sym q) (sym p) ∙ less-not l)
+
+  numbered-row : {S : List Quantified} {G : Knowns} (l k : ℕ) {fs : Fields} {r : List (Label × Typ)} → pr.FieldsChecked table S G fs r → are_numbered l k fs ≡ true → sorted r ≡ r
+  numbered-row l zero pr.c_no_fields e = refl
+  numbered-row l zero (pr.c_field h hs) e = absurd (cc)
+  numbered-row l (suc k) pr.c_no_fields e = absurd (cc)
+  numbered-row l (suc k) (pr.c_field {l = m} {fs = fs} {t = t} h hs) e =
+      let d = right-true (same_label (Number l) m) _ e in
+      ap (put_by (λ f. f.0) (m, t)) (numbered-row (suc l) k hs d) ∙ first-row l k m t hs (label-is l m (left-true _ (are_numbered (suc l) k fs) e)) d
+
   -- a binding that is generalised
   general-typed : (y : Shape) (qs S D : List Quantified) (N : Names) {G : Knowns} (p : Pat) (t : Typ) (e : Exp) → general_shape p ≡ y → ((x : ℕ) → y ≡ alone x → p ≡ variable_pat x) → are_new qs S ≡ true → Within D S → is_value e ≡ true → over (qs ++ S) t ≡ true → pr.PatChecked table (qs ++ S) G p t → MakingTyped (qs ++ S) (unclassed qs ++ D) N G e t
       → (n : ℕ) {H G0 G1 : Knowns} {us : Spots} (plainly next : Tests) {u : Typ} → SameKnowns n S D N G H → Bound table n S D H G0 us G1
@@ -270,7 +289,9 @@ module _ (table : List Constructor) (truths : (b : Bool) → HasConstructor tabl
         put-typed table D n n t (le-refl n) (c_prim_alone (allows-scoped (prim_type p).mark D S w u al) (ap (scoped D) d ∙ rw (tuple-read (standing D) (arguments_at p u), arguments-read (standing D) p u, result-read (standing D) p u) refl)) f
     making-typed {D = D} (pr.c_fields {fs = fs} {r = r} {t = t} h d a) w N m n H rest z s f =
         let i = past_fields fs n in
-        fields-typed h w N m n H _ z s (λ H1 h1 w1 a1. put-typed table D i i t (le-refl i) (c_make_record w1 (ap (scoped D) d ∙ row_type-read (standing D) r) (ap ascend (labels-read (standing D) r) ∙ a)) (more-follows D n i i H H1 t (fields-up fs n) h1 f))
+        fields-typed h w N m n H _ z s (λ H1 h1 w1 a1. put-typed table D i i t (le-refl i) (c_make_record (sorted-checked w1)
+        (ap (scoped D) d ∙ row_type-read (standing D) (sorted r) ∙ ap row_type (sorted-read (standing D) r))
+        (ap (λ q. ascend (labels_in q)) (sym (sorted-read (standing D) r)) ∙ ap ascend (labels-read (standing D) (sorted r)) ∙ a)) (more-follows D n i i H H1 t (fields-up fs n) h1 f))
     making-typed {D = D} (pr.c_let G' {ds = ds} {e = e} {t = t} h k) w N m n H rest z s f =
         let i = past_decs ds n in let j = value_at e i in
         put-typed table D n (suc (suc j)) t (up (let_exp t ds e) n)
@@ -306,7 +327,7 @@ module _ (table : List Constructor) (truths : (b : Bool) → HasConstructor tabl
     rule-typed (pr.c_rule c l (pr.c_rule b k ks)) d w o N m n j H rest z s a lt f = absurd (cc)
 
     tuple-typed : {S D : List Quantified} {G : Knowns} {e : Exp} {a : Typ} (k : ℕ) → pr.Checked table S G e a → is_tuple k e ≡ true → Within D S → (N : Names) → TupleTyped S D N G e a
-    tuple-typed k (pr.c_fields {r = r} h d o) e w N m n H rest z s f = fields-typed h w N m n H rest z s (λ H1 h1 w1 a1. f H1 h1 r d a1)
+    tuple-typed k (pr.c_fields {r = r} h d o) e w N m n H rest z s f = fields-typed h w N m n H rest z s (λ H1 h1 w1 a1. f H1 h1 r (d ∙ ap row_type (numbered-row 1 k h e)) a1)
     tuple-typed k (pr.c_counted h) e w N m n H rest z s f = c_counted (tuple-typed k h e w N m n H rest z s f)
     tuple-typed k (pr.c_constant h) e w N m n H rest z s f = absurd (cc)
     tuple-typed k (pr.c_variable h al o d) e w N m n H rest z s f = absurd (cc)

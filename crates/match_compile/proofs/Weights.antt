@@ -13,7 +13,7 @@ use Rattle.ir_poly.specs.Prog.{Pat, any_pat, variable_pat, constant_pat, con_pat
 use Rattle.ir_poly.specs.ProgWeight.{weight, fields_weight, chain_weight, rules_weight, fun_weight, decs_weight, binds_weight, funs_weight}
 use Rattle.ir_poly.specs.Tests.{poly, Tests}
 use Rattle.ir_poly.specs.Types.{unit_type}
-use Rattle.match_compile.specs.Compile.{Names, no_names, named, funs_named, past_group, scoped, bool_type, exception_type, atom, put, Otherwise, again, initial, otherwise, Spots, no_spots, spot, spots, spots_named, past_pat, tests, field_tests, Shape, plain, alone, recorded, shape, record_type, together, split, past_shape, shaped, grouped, Built, a_con, a_ref, an_exn, Way, by_call, by_building, by_performing, way, weighed, past_built, beginning, building, along, is_direct, value_at, past_tuple, past_fields, past_chain, past_rules, past_fun, past_decs, past_binds, past_funs, unclassed, val_named, decs_named, field_row, tuple_atoms, is_tuple, arity, making, making_rule, making_tuple, making_all, links, rules, function, functions, bindings, decs, compile}
+use Rattle.match_compile.specs.Compile.{Names, no_names, named, funs_named, past_group, scoped, bool_type, exception_type, atom, put, Otherwise, again, initial, otherwise, Spots, no_spots, spot, spots, spots_named, past_pat, tests, field_tests, Shape, plain, alone, recorded, shape, record_type, together, split, past_shape, shaped, grouped, Built, a_con, a_ref, an_exn, Way, by_call, by_building, by_performing, way, weighed, past_built, beginning, building, along, is_direct, value_at, past_tuple, past_fields, past_chain, past_rules, past_fun, past_decs, past_binds, past_funs, unclassed, val_named, decs_named, field_row, sorted_row, tuple_atoms, is_tuple, arity, making, making_rule, making_tuple, making_all, links, rules, function, functions, bindings, decs, compile}
 use Rattle.match_compile.proofs.Keeps.{performed-tuple}
 
 abbrev W : Tests → ℕ
@@ -116,7 +116,7 @@ mutual
   making-weight D N (ref_exp u t) n rest = omega arith
   making-weight D N (exn_exp x t) n rest = omega arith
   making-weight D N (prim_exp p ts t) n rest = omega arith
-  making-weight D N (fields_exp t fs) n rest = let h = fields-weight D N fs n (put D (past_fields fs n) t (te.make_record (scoped D t) (field_row fs n)) rest) in omega (arith, h)
+  making-weight D N (fields_exp t fs) n rest = let h = fields-weight D N fs n (put D (past_fields fs n) t (te.make_record (scoped D t) (sorted_row (field_row fs n))) rest) in omega (arith, h)
   making-weight D N (let_exp t ds e) n rest =
       let i = past_decs ds n in let j = value_at e i in let M = decs_named ds n N in
       let h = decs-weight D N ds n (making D M e i (te.ret (atom j))) in

@@ -10,6 +10,7 @@ use Rattle.ty_core.specs.Statics.{replace}
 use Rattle.ty_core.specs.declared.mark.Mark.{Mark}
 use Rattle.ty_core.specs.declared.mark.Mark.TheVariants.{Any, Equality, Class}
 use Rattle.ty_core.specs.declared.scheme.Quantified.{Quantified}
+use Rattle.label_rows.specs.Order.{label_before}
 use Rattle.ir_values.specs.Values.{same_label, truth_number}
 use Rattle.ir_values.specs.Primitives.{match_name, bind_name}
 use Rattle.ir_plain.specs.Tree as te
@@ -436,6 +437,15 @@ abbrev pub field_atoms : Fields → (n : ℕ) → te.Atoms poly
 field_atoms no_fields n = no_atoms
 field_atoms (a_field l e fs) n = an_atom (atom (value_at e n)) (field_atoms fs (suc (value_at e n)))
 
+-- in the order of labels, as a record has its fields
+abbrev pub put_atom : Label → Use → te.Row poly → te.Row poly
+put_atom l a no_row = a_row l a no_row
+put_atom l a (a_row k b row) = if label_before k l then a_row k b (put_atom l a row) else a_row l a (a_row k b row)
+
+abbrev pub sorted_row : te.Row poly → te.Row poly
+sorted_row no_row = no_row
+sorted_row (a_row l a row) = put_atom l a (sorted_row row)
+
 abbrev pub tuple_atoms : Exp → (n : ℕ) → te.Atoms poly
 tuple_atoms (fields_exp t fs) n = field_atoms fs n
 tuple_atoms (counted_exp k t e) n = tuple_atoms e n
@@ -452,7 +462,8 @@ abbrev mutual
   making D N (ref_exp u t) n rest = put D n t (ref_alone (scoped D u)) rest
   making D N (exn_exp x t) n rest = name_in n (excepted N x) (put D (suc n) t (use_of (atom n)) rest)
   making D N (prim_exp p ts t) n rest = put D n t (prim_alone p (scoped D (used_at ts))) rest
-  making D N (fields_exp t fs) n rest = making_all D N fs n (put D (past_fields fs n) t (make_record (scoped D t) (field_row fs n)) rest)
+  -- the fields in the order written
+  making D N (fields_exp t fs) n rest = making_all D N fs n (put D (past_fields fs n) t (make_record (scoped D t) (sorted_row (field_row fs n))) rest)
   making D N (let_exp t ds e) n rest =
       let i = past_decs ds n in let j = value_at e i in
       put D (suc (suc j)) t (block (first (decs D N ds n (making D (decs_named ds n N) e i (ret (atom j)))) (otherwise D (suc j) t n (initial bind_name)))) rest

@@ -26,7 +26,8 @@ use Rattle.mlc_driver.specs.Checked.{Project, IsChecked, Passes, Stops, by_form,
 use Rattle.mlc_driver.specs.Code.{AllFit, image_of, size_of}
 use Rattle.mlc_driver.specs.CodeLaws.{ImageIsRight, ImageIsSmall, IsRight}
 use Rattle.mlc_driver.specs.Fault.{IfFault}
-use Rattle.mlc_driver.specs.Same.{Same, SameRuns, SameResult, IsOver, IsExhausted}
+use Rattle.same_runs.specs.SameRuns.{SameRuns, SameResult, IsOver, IsExhausted}
+use Rattle.mlc_driver.specs.Same.{Same}
 use Rattle.mlc_driver.specs.Statics.{Taped, nothing_known}
 use Rattle.mlc_driver.specs.Tape.{Op, tape_meaning}
 use Rattle.mlc_driver.proofs.Checks.{taped-types}

@@ -14,7 +14,7 @@ use Rattle.ir_code.specs.Run.{result_of, ended, uncaught}
 use Rattle.mlc_prims.specs.LitOf.{int, string}
 use Rattle.sml_rules.specs.Laws.{IsPrefix}
 use Rattle.sml_rules.specs.Values.{Value, literal, record_of, primitive, packet, no_fields, field, unit_value}
-use Rattle.mlc_driver.specs.Same.{IsExhausted, of_stack}
+use Rattle.same_runs.specs.SameRuns.{IsExhausted, of_stack}
 use Rattle.mlc_driver.specs.Tape.{Op, number, text, unit, slot, apply, keep, forget, forget_unit, Values, do_all}
 use Rattle.mlc_driver.specs.Code.{AllFit, Spot, basis_constants, code_from, spot_after, op_keeps, keeps_in}
 use Rattle.mlc_driver.proofs.MachineSeams.{HasAt, get_within, get_set_same, get_set_other}

@@ -20,7 +20,7 @@ use Rattle.mlc_prims.specs.declared.prim.Primitive.TheVariants.{Add, Sub, Mul, C
 use Rattle.sml_rules.specs.Laws.{IsPrefix}
 use Rattle.sml_rules.specs.Values.{Value, literal, record_of, primitive, packet, no_fields, field, unit_value}
 use Rattle.sml_rules.specs.Eval.{literal_in, literals_in, two_literals, giving, perform}
-use Rattle.mlc_driver.specs.Same.{IsExhausted, of_heap}
+use Rattle.same_runs.specs.SameRuns.{IsExhausted, of_heap}
 use Rattle.mlc_driver.specs.Tape.{Op, apply, Values, result_for, do_all}
 use Rattle.mlc_driver.specs.Code.{Spot, basis_constants, raising_code, number_code, cat_code, code_from, spot_after}
 use Rattle.mlc_driver.proofs.MachineSeams.{HasAt, has_front, has_back, get_within, get_set_same, get_set_other}

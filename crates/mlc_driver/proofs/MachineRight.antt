@@ -17,7 +17,7 @@ use Rattle.sml_rules.specs.Basis.{text_in, basis_exceptions, IsTable}
 use Rattle.sml_rules.specs.Laws.{IsPrefix}
 use Rattle.sml_rules.specs.Values.{Value}
 use Rattle.sml_rules.specs.Meaning.{packet_identifier, begin}
-use Rattle.mlc_driver.specs.Same.{SameEnd, both_ended, both_uncaught}
+use Rattle.same_runs.specs.SameRuns.{SameEnd, both_ended, both_uncaught}
 use Rattle.mlc_driver.specs.Tape.{Op, number, text, unit, slot, apply, keep, forget, forget_unit, Values, no_values, do_all, tape_meaning}
 use Rattle.mlc_driver.specs.Code.{AllFit, Spot, string_words, basis_constants, text_constants, raising_code, code_from, spot_after, keeps_in, first_spot, image_of, size_of}
 use Rattle.mlc_driver.specs.CodeLaws.{ImageIsRight}

@@ -6,8 +6,8 @@ use Rattle.mlc_base.specs.Outcome as source
 use Rattle.ir_code.specs.Run.{RunResult}
 use Rattle.ir_code.specs.Run as machine
 use Rattle.sml_rules.specs.Laws.{IsPrefix, GrowsTo}
-use Rattle.mlc_driver.specs.Same.{SameEnd, both_ended, both_uncaught, IsOver, HasEnded, IsExhausted, of_heap, of_stack, SameResult, SameRuns}
-use Rattle.mlc_driver.specs.Same as same
+use Rattle.same_runs.specs.SameRuns.{SameEnd, both_ended, both_uncaught, IsOver, HasEnded, IsExhausted, of_heap, of_stack, SameResult, SameRuns}
+use Rattle.same_runs.specs.SameRuns as same
 use Rattle.mlc_base.proofs.MoreTurnsLaws.{prefix-refl, prefix-trans}
 
 -- how the machine stands when it has stopped

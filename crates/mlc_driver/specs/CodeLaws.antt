@@ -6,7 +6,7 @@ use Rattle.ir_code.specs.Run.{run_of}
 use Rattle.sml_rules.specs.Basis.{IsTable, text_in}
 use Rattle.sml_rules.specs.Laws.{GrowsTo}
 use Rattle.sml_rules.specs.Phrases.{Phrase, nodes_in}
-use Rattle.mlc_driver.specs.Same.{SameRuns}
+use Rattle.same_runs.specs.SameRuns.{SameRuns}
 use Rattle.mlc_driver.specs.Statics.{Statics, Taped}
 use Rattle.mlc_driver.specs.Tape.{Op, tape_meaning}
 use Rattle.mlc_driver.specs.Code.{AllFit, image_of, size_of}

@@ -1,4 +1,5 @@
 mod SourceExamples
+mod NoSource
 pub mod SpecSound
 pub mod SigSound
 pub mod StrSound
@@ -13,3 +14,7 @@ pub mod SigFar
 pub mod StrFar
 pub mod SourceFar
 pub mod Paths
+pub mod SpecOver
+pub mod SigOver
+pub mod StrOver
+pub mod SourceOver

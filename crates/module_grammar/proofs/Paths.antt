@@ -50,12 +50,12 @@ data-opens (more_data p (data_desc {cs = ds} r b d v cs) more) k pos le =
       | inr h ↦ past_data_desc p (data_desc r b d v cs) (data-opens more k pos (omega arith))
     ]
 
-wheres-opens : {i o : List Terminal} {ws : List WhereType} → WhereTypes i ws o → (k : ℕ) → 0 < k → k ≤ depth_where_types ws → OpensWheres i k
-wheres-opens (last_where (one_where p r d c t)) k pos le = in_where p r d c (facts.ty-opens t k pos (omega arith))
-wheres-opens (more_wheres q (one_where {a} p r d c t) ws) k pos le =
+pub wheres-opens : {i o : List Terminal} {ws : List WhereType} → WhereTypes i ws o → (k : ℕ) → 0 < k → k ≤ depth_where_types ws → OpensWheres i k
+wheres-opens (last_where (one_where p r d s c t)) k pos le = in_where p r d c (facts.ty-opens t k pos (omega arith))
+wheres-opens (more_wheres q (one_where {a} p r d s c t) ws) k pos le =
     elim (le_or k (depth_ty a)) [
       | inl h ↦ in_where p r d c (facts.ty-opens t k pos h)
-      | inr h ↦ past_where q (one_where p r d c t) (wheres-opens ws k pos (omega arith))
+      | inr h ↦ past_where q (one_where p r d s c t) (wheres-opens ws k pos (omega arith))
     ]
 
 -- Signatures.
@@ -175,7 +175,7 @@ sig-binds-opens (last_sig_bind p v d) k pos le = in_sig_bind p v (sig-opens d k 
 sig-binds-opens (more_sig_binds {g} p q v d ds) k pos le =
     elim (le_or k (depth_sig g)) [ inl h ↦ in_sig_bind p v (sig-opens d k pos h) | inr h ↦ past_sig_bind p q v d (sig-binds-opens ds k pos (omega arith)) ]
 
-parameter-opens : {b : ℕ} {i o : List Terminal} {a : Parameter} → ReadsParameter b i a o → (k : ℕ) → 0 < k → k ≤ depth_parameter a → OpensParameter i k
+pub parameter-opens : {b : ℕ} {i o : List Terminal} {a : Parameter} → ReadsParameter b i a o → (k : ℕ) → 0 < k → k ≤ depth_parameter a → OpensParameter i k
 parameter-opens (of_structure_parameter p v d) k pos le = in_structure_parameter p v (sig-opens d k pos le)
 parameter-opens (of_spec_parameter d) k pos le = in_spec_parameter (specs-opens d k pos le)
 

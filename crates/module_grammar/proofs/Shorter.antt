@@ -38,7 +38,7 @@ data-shorter (last_data d) = one-data-shorter d
 data-shorter (more_data p d ds) = let h = one-data-shorter d in let k = data-shorter ds in omega arith
 
 pub where-shorter : {i o : List Terminal} {w : WhereType} → OneWhere i w o → length o < length i
-where-shorter (one_where p r d c t) = let h = tyvars-shorter d in let k = ty-shorter t in omega arith
+where-shorter (one_where p r d s c t) = let h = tyvars-shorter d in let k = ty-shorter t in omega arith
 
 pub wheres-shorter : {i o : List Terminal} {ws : List WhereType} → WhereTypes i ws o → length o < length i
 wheres-shorter (last_where w) = where-shorter w

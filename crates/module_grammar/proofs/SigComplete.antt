@@ -53,7 +53,7 @@ types-bind (more_types {m} r (type_desc {i} {t} {as_} b d v) ds) e =
     let h = tycon-found v (reserved r res.And ∷ m) in
     (reserved r res.And ∷ m, rw (g, h) refl)
 
-one-binds : {i o : List Terminal} {b : TypeBind} → OneTypeBind i b o → (m : List Terminal) × (binds_type i ≡ read true m)
+pub one-binds : {i o : List Terminal} {b : TypeBind} → OneTypeBind i b o → (m : List Terminal) × (binds_type i ≡ read true m)
 one-binds (type_bind {i} {m} {t} {as_} r b d v a) =
     let g : read_tyvars i ≡ read as_ (t ∷ reserved r res.Equals ∷ m) = tyvars-complete d (tycon-tyvars v (reserved r res.Equals ∷ m)) in
     let h = tycon-found v (reserved r res.Equals ∷ m) in
@@ -65,7 +65,7 @@ binds-bind (more_type_binds p b bs) = one-binds b
 
 -- a datatype that is specified isn't replicated
 
-vid-no_datatype : {t : Terminal} {p x : ℕ} → IsVid t p x → (o : List Terminal) → after_word res.Datatype (t ∷ o) ≡ None
+pub vid-no_datatype : {t : Terminal} {p x : ℕ} → IsVid t p x → (o : List Terminal) → after_word res.Datatype (t ∷ o) ≡ None
 vid-no_datatype (alpha_vid p x) o = refl
 vid-no_datatype (symbol_vid p x) o = refl
 vid-no_datatype (star_vid p x) o = refl
@@ -74,14 +74,14 @@ cons-no_datatype : {i o : List Terminal} {cs : List ConDesc} → ConDescs i cs o
 cons-no_datatype (last_con {m} v d) = vid-no_datatype v m
 cons-no_datatype (more_cons {m} q v d cs) = vid-no_datatype v m
 
-one-not_replicated : {i o : List Terminal} {d : DataDesc} → OneDataDesc i d o → replicated i ≡ None
-one-not_replicated (data_desc {m} r b d v cs) = go d v (cons-no_datatype cs)
-  where
-    go : {i : List Terminal} {t : Terminal} {ys : List Tyvar} {q x : ℕ} → Tyvars i ys (t ∷ reserved r res.Equals ∷ m) → IsTycon t q x
-        → after_word res.Datatype m ≡ None → replicated i ≡ None
-    go no_tyvars v e = let h = tycon-found v (reserved r res.Equals ∷ m) in rw (h, e) refl
-    go (one_tyvar p a) v e = refl
-    go (tyvars_in_brackets p d) v e = refl
+pub bound-not_replicated : {i m : List Terminal} {t : Terminal} {ys : List Tyvar} {q x : ℕ} (r : ℕ) → Tyvars i ys (t ∷ reserved r res.Equals ∷ m) → IsTycon t q x
+    → after_word res.Datatype m ≡ None → replicated i ≡ None
+bound-not_replicated {m} r no_tyvars v e = let h = tycon-found v (reserved r res.Equals ∷ m) in rw (h, e) refl
+bound-not_replicated r (one_tyvar p a) v e = refl
+bound-not_replicated r (tyvars_in_brackets p d) v e = refl
+
+pub one-not_replicated : {i o : List Terminal} {d : DataDesc} → OneDataDesc i d o → replicated i ≡ None
+one-not_replicated (data_desc r b d v cs) = bound-not_replicated r d v (cons-no_datatype cs)
 
 not-replicated : {i o : List Terminal} {ds : List DataDesc} → DataDescs i ds o → replicated i ≡ None
 not-replicated (last_data d) = one-not_replicated d
@@ -89,7 +89,7 @@ not-replicated (more_data p d ds) = one-not_replicated d
 
 -- whether identifiers follow `include`
 
-sig-two_ids : {i o : List Terminal} {g : SigExp} → ReadsSig i g o → first_as as_module_id o ≡ None → two_ids i ≡ false
+pub sig-two_ids : {i o : List Terminal} {g : SigExp} → ReadsSig i g o → first_as as_module_id o ≡ None → two_ids i ≡ false
 sig-two_ids (of_sig p q ss) e = refl
 sig-two_ids (of_sig_id (module_id p x)) e = rw e refl
 sig-two_ids (of_where p g ws) e = sig-two_ids g refl
@@ -100,7 +100,7 @@ ids-two p x (more_sig_ids (module_id q y) d) = refl
 
 -- what a specification begins with
 
-spec-begins : {i o : List Terminal} {s : Spec} → ReadsSpec i s o → (after_word res.Semicolon i ≡ None) × (is_spec_start (spec_start i) ≡ true)
+pub spec-begins : {i o : List Terminal} {s : Spec} → ReadsSpec i s o → (after_word res.Semicolon i ≡ None) × (is_spec_start (spec_start i) ≡ true)
 spec-begins (of_val_spec p d) = (refl, refl)
 spec-begins (of_type_spec p d) = (refl, refl)
 spec-begins (of_abbreviation_spec p d) = (refl, refl)
@@ -113,7 +113,7 @@ spec-begins (of_include p g) = (refl, refl)
 spec-begins (of_include_ids p v xs) = (refl, refl)
 spec-begins (of_sharing p q r v cs) = (refl, refl)
 
-spec-stops : {i o : List Terminal} {s : Spec} → ReadsSpec i s o → SpecStops i
+pub spec-stops : {i o : List Terminal} {s : Spec} → ReadsSpec i s o → SpecStops i
 spec-stops (of_val_spec p d) = record { ty = refl; and_ = refl; bar = refl; of_ = refl; equals = refl; where_ = refl; ids = refl }
 spec-stops (of_type_spec p d) = record { ty = refl; and_ = refl; bar = refl; of_ = refl; equals = refl; where_ = refl; ids = refl }
 spec-stops (of_abbreviation_spec p d) = record { ty = refl; and_ = refl; bar = refl; of_ = refl; equals = refl; where_ = refl; ids = refl }
@@ -159,7 +159,7 @@ module _ (n : ℕ) (self : SigReader) (complete : CompleteSig n self) where
       let z : many (str_desc_turn self) k no_state m ≡ read ds o = descs-complete more (omega arith) st k (omega arith) in
       many-more (str_desc_turn self) k {put = desc_and (record { place = q; it = x }) g} (rw h refl) z
 
-  spec-complete : {i o : List Terminal} {s : Spec} → ReadsSpec i s o → depth_spec s ≤ n → SpecStops o → spec_by n self (spec_start i) ≡ read s o
+  pub spec-complete : {i o : List Terminal} {s : Spec} → ReadsSpec i s o → depth_spec s ≤ n → SpecStops o → spec_by n self (spec_start i) ≡ read s o
   spec-complete (of_val_spec {i} {o} {vs} p d) le st =
       let h : whole (val_desc_turn n) no_state i ≡ read vs o = vals-complete n d le st.ty st.and_ (suc (length i)) (omega arith) in rw h refl
   spec-complete (of_type_spec {i} {o} {ts} p d) le st =
@@ -219,10 +219,10 @@ module _ (n : ℕ) (self : SigReader) (complete : CompleteSig n self) where
   specs-whole {i} d le en = specs-complete d le en (suc (length i)) (omega arith)
 
   -- The loop over `where type` comes to each signature that the terminals begin with.
-  record Reached (i : List Terminal) (g : SigExp) (m : List Terminal) : Type 0 where
-    k : ℕ
-    left : length m < k
-    is : sig_from n self i ≡ many (where_suffix n) k g m
+  pub record Reached (i : List Terminal) (g : SigExp) (m : List Terminal) : Type 0 where
+    pub k : ℕ
+    pub left : length m < k
+    pub is : sig_from n self i ≡ many (where_suffix n) k g m
 
   where-step : {i m o : List Terminal} {g : SigExp} {ws : List WhereType} (p : ℕ) → Reached i g (reserved p res.Where ∷ m) → depth_sig g ≤ n
       → whole (where_turn n) no_state m ≡ read ws o → length o < length m → Reached i (where_type g ws) o
@@ -234,7 +234,7 @@ module _ (n : ℕ) (self : SigReader) (complete : CompleteSig n self) where
           let c = le-leb (depth_sig g) n le in
           record { k = k; left = omega (arith, s); is = e ∙ many-pass (where_suffix n) k (rw (c, h) refl) }
 
-  reaches : {i m : List Terminal} {g : SigExp} → ReadsSig i g m → depth_sig g ≤ suc n → WhereStops m → Reached i g m
+  pub reaches : {i m : List Terminal} {g : SigExp} → ReadsSig i g m → depth_sig g ≤ suc n → WhereStops m → Reached i g m
   reaches (of_sig {i} {o} {ss} p q d) le st =
       let h : specs_from n self i ≡ read ss (reserved q res.End ∷ o) = specs-whole d (omega arith) (word-stops q o) in
       record { k = suc (length o); left = omega arith; is = rw h refl }

@@ -68,7 +68,7 @@ module _ (n : ℕ) where
   spec-parameter p q (of_spec (of_include_ids r v xs) ds) = refl
   spec-parameter p q (of_spec (of_sharing r s t v cs) ds) = refl
 
-  parameter-complete : (p q : ℕ) {i o : List Terminal} {a : Parameter} → ReadsParameter p i a (reserved q res.RightParen ∷ o) → depth_parameter a ≤ n
+  pub parameter-complete : (p q : ℕ) {i o : List Terminal} {a : Parameter} → ReadsParameter p i a (reserved q res.RightParen ∷ o) → depth_parameter a ≤ n
       → read_parameter n p i ≡ read a (reserved q res.RightParen ∷ o)
   parameter-complete p q {o} (of_structure_parameter {i} {g} r (module_id s x) d) le =
       let h : read_sig n i ≡ read g (reserved q res.RightParen ∷ o) =
@@ -100,7 +100,7 @@ module _ (n : ℕ) where
 
   -- what a turn at a source's top does
 
-  abbrev dec_then : Standing → List Terminal → Answer (Turn (List Top) Standing)
+  abbrev pub dec_then : Standing → List Terminal → Answer (Turn (List Top) Standing)
   dec_then s i = then_read (then_read (str_dec_by n (str_readers n).str (inner_decs n) s.fix i) (λ d o. read (str_top d) o)) (after_one s)
 
   core-turn : (s : Standing) {f : Fixity} {i o : List Terminal} {d : Dec} → Declare f i d o → top_turn n s i ≡ dec_then s i
@@ -122,7 +122,7 @@ module _ (n : ℕ) where
   dec-turn s (of_structure p b) = refl
   dec-turn s (of_local_str p q r d e m) = refl
 
-  exp-turn : (f : Fixity) (i : List Terminal) → begins f 0 i ≡ true
+  pub exp-turn : (f : Fixity) (i : List Terminal) → begins f 0 i ≡ true
       → top_turn n (record { fix = f; fresh = true }) i ≡ then_read (exp_by n f i) (after_one (record { fix = f; fresh = true }))
   exp-turn f [] h = not_true h
   exp-turn f (reserved p res.Semicolon ∷ r) h = not_true h
@@ -141,7 +141,7 @@ module _ (n : ℕ) where
   exp-turn f (reserved p res.Nonfix ∷ r) h = not_true h
   exp-turn f _ h = refl
 
-  inner-complete : (f : Fixity) (i : List Terminal) (ds : StrDecs) (o : List Terminal) → ReadsStrDecs f i ds o → depth_str_decs ds < n → DecsEnd o
+  pub inner-complete : (f : Fixity) (i : List Terminal) (ds : StrDecs) (o : List Terminal) → ReadsStrDecs f i ds o → depth_str_decs ds < n → DecsEnd o
       → inner_decs n f i ≡ read ds o
   inner-complete f i ds o d lt en = go n lt
     where
@@ -150,7 +150,7 @@ module _ (n : ℕ) where
       go (suc m) lt = (readers-complete m).decs f i ds o d (omega arith) en
 
   -- one phrase, before a `;`, another declaration or the end
-  one-top : {f : Fixity} {fresh : Bool} {i m : List Terminal} {t : Top} → ReadsTop f fresh i t m → depth_top t ≤ n → (ends_in_semicolon t ≡ false → calm m ≡ true)
+  pub one-top : {f : Fixity} {fresh : Bool} {i m : List Terminal} {t : Top} → ReadsTop f fresh i t m → depth_top t ≤ n → (ends_in_semicolon t ≡ false → calm m ≡ true)
       → top_turn n (record { fix = f; fresh = fresh }) i ≡ after_one (record { fix = f; fresh = fresh }) t m
   one-top {f} {fresh} (of_str_top {i} {o} {d} dd) le c =
       let h : str_dec_by n (str_readers n).str (inner_decs n) f i ≡ read d o =
@@ -169,7 +169,7 @@ module _ (n : ℕ) where
       plain-exp n (readers n).exp (exp-complete n) f i e (reserved p res.Semicolon ∷ o) d le (plain-word f p res.Semicolon o refl) in
       exp-turn f i (reads-begins 0 d (omega arith)) ∙ rw h refl
 
-  top-calm : {f : Fixity} {fresh : Bool} {i o : List Terminal} {t : Top} → ReadsTop f fresh i t o → fresh ≡ false → calm i ≡ true
+  pub top-calm : {f : Fixity} {fresh : Bool} {i o : List Terminal} {t : Top} → ReadsTop f fresh i t o → fresh ≡ false → calm i ≡ true
   top-calm (of_str_top d) e = (dec-begins d).calm
   top-calm (of_signature p d) e = refl
   top-calm (of_functor p d) e = refl

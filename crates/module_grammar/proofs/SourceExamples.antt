@@ -67,8 +67,8 @@ reads-signature : read_source 4 none
       sigid = at 1 A;
       sigexp = where_type
           (sig_end 3 (spec (include_ids 4 (at 5 A ∷ at 6 B ∷ [])) (spec (sharing_spec 7 (long_at 9 x ∷ long_at 11 x ∷ [])) no_specs)))
-          (record { place = 14; tyvars = []; tycon = long_at 15 x; ty = con_ty 17 no_tys (long_at 17 x) }
-          ∷ record { place = 19; tyvars = []; tycon = long_at 20 x; ty = con_ty 22 no_tys (long_at 22 x) } ∷ []);
+          (record { place = 14; tyvars_place = 14; tyvars = []; tycon = long_at 15 x; ty = con_ty 17 no_tys (long_at 17 x) }
+          ∷ record { place = 19; tyvars_place = 19; tyvars = []; tycon = long_at 20 x; ty = con_ty 22 no_tys (long_at 22 x) } ∷ []);
     } ∷ []) ∷ []) []
 unfolding many readers read_ty read_pats read_sig str_readers
 reads-signature = refl

@@ -9,7 +9,7 @@ use Rattle.sml_grammar.specs.Types.{read_ty, ty_could_go_on}
 use Rattle.sml_grammar.specs.Bindings.{read_tyvars, put_more}
 use Rattle.sml_grammar.proofs.Answers.{many-last, many-more}
 use Rattle.sml_grammar.proofs.Terminals.{vid-found, tycon-found, long_tycon-found}
-use Rattle.sml_grammar.proofs.BindTyvars.{tyvars-complete, begins-place, bound, bound-step}
+use Rattle.sml_grammar.proofs.BindTyvars.{tyvars-complete, begins-place, place-found, bound, bound-step}
 use Rattle.sml_grammar.proofs.BindOf.{of-read}
 use Rattle.sml_grammar.proofs.CompFacts.{ty-complete}
 use Rattle.sml_grammar.proofs.TypeShapes.{ty-shorter}
@@ -123,7 +123,7 @@ pub record WhereStops (o : List Terminal) : Type 0 where
   pub ty : ty_could_go_on 0 o ≡ false
   pub and_ : and_type (after_word res.And o) ≡ None
 
-long-tyvars : {t : Terminal} {q : ℕ} {c : LongId} → IsLongTycon t q c → (o : List Terminal) → read_tyvars (t ∷ o) ≡ read [] (t ∷ o)
+pub long-tyvars : {t : Terminal} {q : ℕ} {c : LongId} → IsLongTycon t q c → (o : List Terminal) → read_tyvars (t ∷ o) ≡ read [] (t ∷ o)
 long-tyvars (short_tycon (alpha_tycon p x)) o = refl
 long-tyvars (short_tycon (symbol_tycon p x)) o = refl
 long-tyvars (long_alpha_tycon p qs x) o = refl
@@ -131,27 +131,29 @@ long-tyvars (long_symbol_tycon p qs x) o = refl
 
 -- a list of them begins with `type`
 wheres-begin : {i o : List Terminal} {ws : List WhereType} → WhereTypes i ws o → and_type (Some i) ≡ Some i
-wheres-begin (last_where (one_where p r d c t)) = refl
-wheres-begin (more_wheres q (one_where p r d c t) ws) = refl
+wheres-begin (last_where (one_where p r d s c t)) = refl
+wheres-begin (more_wheres q (one_where p r d s c t) ws) = refl
 
 module _ (n : ℕ) where
   pub wheres-complete : {i o : List Terminal} {ws : List WhereType} → WhereTypes i ws o → depth_where_types ws ≤ n → WhereStops o → (k : ℕ) → length i < k
       → many (where_turn n) k no_state i ≡ read ws o
   wheres-complete d le st zero lt = absurd (omega arith)
-  wheres-complete (last_where (one_where {i} {m} {o} {t} {as_} {q} {c} {a} p r d v y)) le st (suc k) lt =
+  wheres-complete (last_where (one_where {i} {m} {o} {t} {as_} {q} {u = w} {c} {a} p r d b v y)) le st (suc k) lt =
       let g : read_tyvars i ≡ read as_ (t ∷ reserved r res.Equals ∷ m) = tyvars-complete d (long-tyvars v (reserved r res.Equals ∷ m)) in
       let h = long_tycon-found v (reserved r res.Equals ∷ m) in
+      let at = place-found b in
       let u : read_ty n 0 m ≡ read a o = ty-complete n y (omega arith) st.ty in
       let e = st.and_ in
-      many-last (where_turn n) k (rw (g, h, u, e) refl)
-  wheres-complete (more_wheres {m = j} {o} {ws} x (one_where {i} {m} {t} {as_} {q} {c} {a} p r d v y) more) le st (suc k) lt =
+      many-last (where_turn n) k (rw (g, h, at, u, e) refl)
+  wheres-complete (more_wheres {m = j} {o} {ws} x (one_where {i} {m} {t} {as_} {q} {u = w} {c} {a} p r d b v y) more) le st (suc k) lt =
       let g : read_tyvars i ≡ read as_ (t ∷ reserved r res.Equals ∷ m) = tyvars-complete d (long-tyvars v (reserved r res.Equals ∷ m)) in
       let h = long_tycon-found v (reserved r res.Equals ∷ m) in
+      let at = place-found b in
       let u : read_ty n 0 m ≡ read a (reserved x res.And ∷ j) = ty-complete n y (omega arith) refl in
       let e = wheres-begin more in
-      let s = where-shorter (one_where p r d v y) in
+      let s = where-shorter (one_where p r d b v y) in
       let z : many (where_turn n) k no_state j ≡ read ws o = wheres-complete more (omega arith) st k (omega arith) in
-      many-more (where_turn n) k {put = λ es. record { place = p; tyvars = as_; tycon = record { place = q; it = c }; ty = a } ∷ es} (rw (g, h, u, e) refl) z
+      many-more (where_turn n) k {put = λ es. record { place = p; tyvars_place = w; tyvars = as_; tycon = record { place = q; it = c }; ty = a } ∷ es} (rw (g, h, at, u, e) refl) z
 
 ids-begin : {i o : List Terminal} {xs : List (Placed ℕ)} → SigIds i xs o → put_more (first_as as_module_id i) i ≡ Some i
 ids-begin (last_sig_id (module_id p x)) = refl

@@ -9,11 +9,11 @@ use Rattle.sml_tree.specs.Grammar.{ReadsTy, MaybeOf, Tyvars, no_tyvars, one_tyva
 use Rattle.sml_grammar.specs.Answer.{Read, ok, Turn, many}
 use Rattle.sml_grammar.specs.Terminals.{Taken, taken, place_of, place_at, first_as, as_vid, as_tycon, as_long_tycon, after_word, separated, NoState, no_state}
 use Rattle.sml_grammar.specs.Types.{read_ty, maybe_ty}
-use Rattle.sml_grammar.specs.Bindings.{read_tyvars, put_more}
+use Rattle.sml_grammar.specs.Bindings.{read_tyvars, tyvars_place, put_more}
 use Rattle.sml_grammar.proofs.Words.{WordAt, at_word, word-at}
 use Rattle.sml_grammar.proofs.Answers.{got_some, not_some, then_ok, then_taken-ok, word_then-ok, on_some-split, separated-ok, GoodTurn, many-ok}
 use Rattle.sml_grammar.proofs.Terminals.{Holds, holds, nothing, Front, front, front-is, vid-is, tycon-is, long_tycon-is}
-use Rattle.sml_grammar.proofs.BindTyvars.{tyvars-sound, Bound, bound, bound-begins, bound-ok}
+use Rattle.sml_grammar.proofs.BindTyvars.{tyvars-sound, place-is, Bound, bound, bound-begins, bound-ok}
 use Rattle.sml_grammar.proofs.MaybeTypes.{of-sound}
 use Rattle.sml_grammar.proofs.ExpBelow.{Within}
 use Rattle.sml_grammar.proofs.ExpGiven.{below}
@@ -201,8 +201,8 @@ tycons-sound k i y h = many-ok tycon_turn GoodTycons tycons-turn k no_state i y 
 -- what `where type` binds
 
 pub where-one : {i j m k l o : List Terminal} {as_ : List Tyvar} {c : Placed LongId} {a : Ty} → WordAt res.TypeWord i j → Tyvars j as_ m → Front IsLongTycon m c k
-    → WordAt res.Equals k l → ReadsTy l a o → OneWhere i (record { place = place_at i; tyvars = as_; tycon = c; ty = a }) o
-where-one (at_word p) d (front c) (at_word r) t = one_where p r d c t
+    → WordAt res.Equals k l → ReadsTy l a o → OneWhere i (record { place = place_at i; tyvars_place = tyvars_place (place_at i) j as_; tyvars = as_; tycon = c; ty = a }) o
+where-one (at_word p) d (front c) (at_word r) t = one_where p r d (place-is p d) c t
 
 -- `and` before `type`
 pub data AndType : List Terminal → List Terminal → Type 0 where
@@ -229,8 +229,8 @@ module _ (n : ℕ) where
   abbrev GoodWheres : NoState → List Terminal → List WhereType → List Terminal → Type 0
   GoodWheres s i ws o = Within WhereTypes depth_where_types n i ws o
 
-  abbrev where_of : List Terminal → List Tyvar → Placed LongId → Ty → WhereType
-  where_of i as_ c a = record { place = place_at i; tyvars = as_; tycon = c; ty = a }
+  abbrev where_of : List Terminal → List Terminal → List Tyvar → Placed LongId → Ty → WhereType
+  where_of i j as_ c a = record { place = place_at i; tyvars_place = tyvars_place (place_at i) j as_; tyvars = as_; tycon = c; ty = a }
 
   where-turn : (s : NoState) (i : List Terminal) (y : Read (Turn (List WhereType) NoState)) → where_turn n s i ≡ ok y → GoodTurn GoodWheres s i y.tree y.rest
   where-turn s i y h =
@@ -243,7 +243,7 @@ module _ (n : ℕ) where
       let u = then_ok (read_ty n 0 x.0) _ y x.2 in
       let g = (below n).tys x.0 u.0 u.1 in
       let one = where-one w.1 d v x.1 g.reads in
-      elim (separated-ok (and_type (after_word res.And u.0.rest)) (λ ws. where_of i t.0.tree c.0 u.0.tree ∷ ws) (where_of i t.0.tree c.0 u.0.tree ∷ []) s u.0.rest u.2) [
+      elim (separated-ok (and_type (after_word res.And u.0.rest)) (λ ws. where_of i w.0 t.0.tree c.0 u.0.tree ∷ ws) (where_of i w.0 t.0.tree c.0 u.0.tree ∷ []) s u.0.rest u.2) [
         | inl q ↦ subst (λ (z : Read (Turn (List WhereType) NoState)). GoodTurn GoodWheres s i z.tree z.rest) q.1
             (record { reads = last_where one; fits = omega (arith, g.fits) })
         | inr q ↦ subst (λ (z : Read (Turn (List WhereType) NoState)). GoodTurn GoodWheres s i z.tree z.rest) q.2

@@ -139,18 +139,18 @@ decs-calm (dec_semicolon p d) h = refl
 decs-calm (of_str_dec d ds) h = (dec-begins d).calm
 
 -- declarations before a bracket are no structure
-decs-no_str : {f : Fixity} {i o : List Terminal} {ds : StrDecs} (q : ℕ) → ReadsStrDecs f i ds (reserved q res.RightParen ∷ o) → begins_str (str_start i) ≡ false
+pub decs-no_str : {f : Fixity} {i o : List Terminal} {ds : StrDecs} (q : ℕ) → ReadsStrDecs f i ds (reserved q res.RightParen ∷ o) → begins_str (str_start i) ≡ false
 decs-no_str q no_more_decs = refl
 decs-no_str q (dec_semicolon p d) = refl
 decs-no_str q (of_str_dec d ds) = (dec-begins d).str
 
-id-begins : {t : Terminal} {p : ℕ} {c : LongId} (o : List Terminal) → IsLongStrid t p c → begins_str (str_start (t ∷ o)) ≡ true
+pub id-begins : {t : Terminal} {p : ℕ} {c : LongId} (o : List Terminal) → IsLongStrid t p c → begins_str (str_start (t ∷ o)) ≡ true
 id-begins [] (short_strid p x) = refl
 id-begins (reserved q res.LeftParen ∷ o) (short_strid p x) = refl
 id-begins _ (short_strid p x) = refl
 id-begins o (long_strid p qs x) = refl
 
-str-begins : {f : Fixity} {i o : List Terminal} {s : StrExp} → ReadsStr f i s o → begins_str (str_start i) ≡ true
+pub str-begins : {f : Fixity} {i o : List Terminal} {s : StrExp} → ReadsStr f i s o → begins_str (str_start i) ≡ true
 str-begins (of_struct p q d) = refl
 str-begins (of_str_id {o} v) = id-begins o v
 str-begins (of_constrained d v g) = str-begins d
@@ -194,15 +194,15 @@ lift-added (dec d ds) = let h = lift-added ds in rw h refl
 
 -- Signs and signatures.
 
-seal-found : {t : Terminal} {k : Seal} → IsSeal t k → (o : List Terminal) → sealing (t ∷ o) ≡ Some (record { seal = k; rest = o })
+pub seal-found : {t : Terminal} {k : Seal} → IsSeal t k → (o : List Terminal) → sealing (t ∷ o) ≡ Some (record { seal = k; rest = o })
 seal-found (is_colon p) o = refl
 seal-found (is_opaque p) o = refl
 
-seal-stops : {t : Terminal} {k : Seal} → IsSeal t k → (o : List Terminal) → SigStops (t ∷ o)
+pub seal-stops : {t : Terminal} {k : Seal} → IsSeal t k → (o : List Terminal) → SigStops (t ∷ o)
 seal-stops (is_colon p) o = record { wheres = record { ty = refl; and_ = refl }; none = refl }
 seal-stops (is_opaque p) o = record { wheres = record { ty = refl; and_ = refl }; none = refl }
 
-seal-bracket : {t : Terminal} {k : Seal} → IsSeal t k → (o : List Terminal) → after_word res.LeftParen (t ∷ o) ≡ None
+pub seal-bracket : {t : Terminal} {k : Seal} → IsSeal t k → (o : List Terminal) → after_word res.LeftParen (t ∷ o) ≡ None
 seal-bracket (is_colon p) o = refl
 seal-bracket (is_opaque p) o = refl
 
@@ -230,19 +230,19 @@ CompleteStrDecs n decs =
 end-word : (p : ℕ) (o : List Terminal) → DecsEnd (reserved p res.End ∷ o)
 end-word p o = record { calm = refl; none = refl; semicolon = refl }
 
-in-word : (p : ℕ) (o : List Terminal) → DecsEnd (reserved p res.In ∷ o)
+pub in-word : (p : ℕ) (o : List Terminal) → DecsEnd (reserved p res.In ∷ o)
 in-word p o = record { calm = refl; none = refl; semicolon = refl }
 
-bracket-word : (p : ℕ) (o : List Terminal) → DecsEnd (reserved p res.RightParen ∷ o)
+pub bracket-word : (p : ℕ) (o : List Terminal) → DecsEnd (reserved p res.RightParen ∷ o)
 bracket-word p o = record { calm = refl; none = refl; semicolon = refl }
 
 -- Structure expressions.
 module _ (n : ℕ) (self : StrReaders) (complete : CompleteStr n self.str) (complete_decs : CompleteStrDecs n self.decs) where
   -- The loop over signatures comes to each structure that the terminals begin with.
-  record Reached (f : Fixity) (i : List Terminal) (s : StrExp) (m : List Terminal) : Type 0 where
-    k : ℕ
-    left : length m < k
-    is : str_from self n f i ≡ many (seal_suffix n) k s m
+  pub record Reached (f : Fixity) (i : List Terminal) (s : StrExp) (m : List Terminal) : Type 0 where
+    pub k : ℕ
+    pub left : length m < k
+    pub is : str_from self n f i ≡ many (seal_suffix n) k s m
 
   seal-step : {f : Fixity} {i m o : List Terminal} {t : Terminal} {s : StrExp} {k : Seal} {g : SigExp} → IsSeal t k → Reached f i s (t ∷ m) → depth_str s ≤ n
       → read_sig n m ≡ read g o → length o < length m → Reached f i (constrained s k g) o
@@ -255,7 +255,7 @@ module _ (n : ℕ) (self : StrReaders) (complete : CompleteStr n self.str) (comp
           let b = seal-found v m in
           record { k = j; left = omega (arith, l); is = e ∙ many-pass (seal_suffix n) j (rw (b, c, h) refl) }
 
-  reaches : {f : Fixity} {i m : List Terminal} {s : StrExp} → ReadsStr f i s m → depth_str s ≤ suc n → SigStops m → after_word res.LeftParen m ≡ None → Reached f i s m
+  pub reaches : {f : Fixity} {i m : List Terminal} {s : StrExp} → ReadsStr f i s m → depth_str s ≤ suc n → SigStops m → after_word res.LeftParen m ≡ None → Reached f i s m
   reaches {f} (of_struct {i} {o} {ds} p q d) le st b =
       let h : self.decs f i ≡ read ds (reserved q res.End ∷ o) = complete_decs f i ds (reserved q res.End ∷ o) d (omega arith) (end-word q o) in
       record { k = suc (length o); left = omega arith; is = rw h refl }

@@ -7,7 +7,7 @@ use Rattle.sml_tree.specs.ReadTree.{Placed}
 use Rattle.sml_grammar.specs.Answer.{Answer, bad, deep, read, then_read, deep_if, Turn, last, more, whole}
 use Rattle.sml_grammar.specs.Terminals.{Taken, place_at, first_as, as_vid, as_tycon, as_long_tycon, after_word, on_some, on_taken, then_taken, word_then, separated, NoState, no_state}
 use Rattle.sml_grammar.specs.Types.{read_ty, maybe_ty}
-use Rattle.sml_grammar.specs.Bindings.{read_tyvars, bound_tycon, read_type_binds, put_more}
+use Rattle.sml_grammar.specs.Bindings.{read_tyvars, tyvars_place, bound_tycon, read_type_binds, put_more}
 use Rattle.sml_grammar.specs.Expressions.{replicated}
 use Rattle.module_tree.specs.ReadModules.{TypeDesc, ConDesc, DataDesc, ValDesc, WhereType, SigExp, sig_end, sig_id, where_type, Specs, no_specs, spec, Spec, val_spec, type_spec, abbreviation_spec, eqtype_spec, datatype_spec, replication_spec, exception_spec, structure_spec, include_spec, include_ids, sharing_spec, StrDescs, last_desc, desc_and}
 use Rattle.module_tree.specs.ModuleDepth.{depth_sig}
@@ -84,8 +84,8 @@ abbrev pub where_turn : ℕ → NoState → List Terminal → Answer (Turn (List
 where_turn n s i =
     word_then res.TypeWord (λ j. then_read (read_tyvars j) (λ as_ m. then_taken (first_as as_long_tycon m) (λ c k. word_then res.Equals (λ l.
     then_read (read_ty n 0 l) (λ a o.
-    separated (and_type (after_word res.And o)) (λ ws. record { place = place_at i; tyvars = as_; tycon = c; ty = a } ∷ ws)
-    (record { place = place_at i; tyvars = as_; tycon = c; ty = a } ∷ []) s o)) k))) i
+    separated (and_type (after_word res.And o)) (λ ws. record { place = place_at i; tyvars_place = tyvars_place (place_at i) j as_; tyvars = as_; tycon = c; ty = a } ∷ ws)
+    (record { place = place_at i; tyvars_place = tyvars_place (place_at i) j as_; tyvars = as_; tycon = c; ty = a } ∷ []) s o)) k))) i
 
 abbrev pub SigReader : Type 0
 SigReader = List Terminal → Answer SigExp

@@ -36,8 +36,8 @@ mutual
   pub data SigExp : Type 0 where
     sig_end : Place → Specs → SigExp
     sig_id : IdAt → SigExp
-    -- sigexp where type tyvarseq longtycon = ty, and the place of `type`
-    where_type : SigExp → Place → List Tyvar → LongIdAt → Ty → SigExp
+    -- sigexp where type tyvarseq longtycon = ty: the place of `type`, and that of the type variables, which is the same where there are none
+    where_type : SigExp → Place → Place → List Tyvar → LongIdAt → Ty → SigExp
 
   pub data Specs : Type 0 where
     no_specs : Specs

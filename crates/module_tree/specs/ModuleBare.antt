@@ -25,14 +25,14 @@ bare_data_desc f d = record { place = at f d.place; tyvars = d.tyvars; tycon = d
 -- where type a and type b: where type a where type b
 abbrev pub where_all : ℕ → bare.SigExp → List WhereType → bare.SigExp
 where_all f g [] = g
-where_all f g (w ∷ ws) = where_all f (bare.where_type g (at f w.place) w.tyvars (bare_long f w.tycon) (bare_ty f w.ty)) ws
+where_all f g (w ∷ ws) = where_all f (bare.where_type g (at f w.place) (at f w.tyvars_place) w.tyvars (bare_long f w.tycon) (bare_ty f w.ty)) ws
 
 -- type tyvarseq tycon = ty: include sig type tyvarseq tycon end where type tyvarseq tycon = ty
 abbrev pub abbreviated : ℕ → TypeBind → bare.Spec
 abbreviated f b = bare.include_spec (at f b.place) (bare.where_type
     (bare.sig_end (at f b.place)
     (bare.spec (bare.type_spec (at f b.place) (record { place = at f b.place; tyvars = b.tyvars; tycon = b.tycon } ∷ [])) bare.no_specs))
-    (at f b.place) b.tyvars (record { place = at f b.place; long = record { qualifiers = []; id = b.tycon } }) (bare_ty f b.ty))
+    (at f b.place) (at f b.place) b.tyvars (record { place = at f b.place; long = record { qualifiers = []; id = b.tycon } }) (bare_ty f b.ty))
 
 -- type .. and ..: type .. type ..
 abbrev pub abbreviated_all : ℕ → List TypeBind → bare.Specs → bare.Specs

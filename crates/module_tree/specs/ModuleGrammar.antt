@@ -6,7 +6,7 @@ use Rattle.sml_tree.specs.Terminal.{LongId, Terminal, reserved, alpha, IsVid, Is
 use Rattle.sml_tree.specs.declared.ident.Tyvar.{Tyvar}
 use Rattle.sml_tree.specs.Fixity.{Fixity}
 use Rattle.sml_tree.specs.ReadTree.{Placed, Ty, TypeBind, Exp, Dec}
-use Rattle.sml_tree.specs.Grammar.{ReadsTy, BeginsAt, Tyvars, TypeBinds, MaybeOf, Reads, Declare}
+use Rattle.sml_tree.specs.Grammar.{ReadsTy, BeginsAt, TyvarsPlace, Tyvars, TypeBinds, MaybeOf, Reads, Declare}
 use Rattle.module_tree.specs.ReadModules.{TypeDesc, ConDesc, DataDesc, ValDesc, WhereType, Seal, transparent, opaque, SigExp, sig_end, sig_id, where_type, Specs, no_specs, spec, Spec, val_spec, type_spec, abbreviation_spec, eqtype_spec, datatype_spec, replication_spec, exception_spec, structure_spec, include_spec, include_ids, sharing_spec, StrDescs, last_desc, desc_and, MaybeSig, no_sig, sealed, StrExp, struct_end, str_id, constrained, applied, applied_to_decs, let_str, StrDecs, no_str_decs, str_dec, StrDec, core_dec, structure_dec, local_str, StrBinds, last_str, str_and, StrBind, str_bind, Parameter, structure_parameter, spec_parameter, FunBind, SigBind, Top, str_top, signature_top, functor_top, exp_top}
 use Rattle.module_tree.specs.Scope.{are_core_decs, after_decs, after_str_dec, after_top}
 
@@ -58,9 +58,9 @@ pub data ExDescs : List Terminal → List ConDesc → List Terminal → Type 0 w
 
 -- type tyvarseq longtycon = ty [and type ..], after `where`
 pub data OneWhere : List Terminal → WhereType → List Terminal → Type 0 where
-  one_where : {i m o : List Terminal} {t : Terminal} {as_ : List Tyvar} {q : ℕ} {c : LongId} {a : Ty} (p r : ℕ)
-      → Tyvars i as_ (t ∷ reserved r res.Equals ∷ m) → IsLongTycon t q c → ReadsTy m a o
-      → OneWhere (reserved p res.TypeWord ∷ i) (record { place = p; tyvars = as_; tycon = record { place = q; it = c }; ty = a }) o
+  one_where : {i m o : List Terminal} {t : Terminal} {as_ : List Tyvar} {q u : ℕ} {c : LongId} {a : Ty} (p r : ℕ)
+      → Tyvars i as_ (t ∷ reserved r res.Equals ∷ m) → TyvarsPlace p i as_ u → IsLongTycon t q c → ReadsTy m a o
+      → OneWhere (reserved p res.TypeWord ∷ i) (record { place = p; tyvars_place = u; tyvars = as_; tycon = record { place = q; it = c }; ty = a }) o
 
 pub data WhereTypes : List Terminal → List WhereType → List Terminal → Type 0 where
   last_where : {i o : List Terminal} {w : WhereType} → OneWhere i w o → WhereTypes i (w ∷ []) o

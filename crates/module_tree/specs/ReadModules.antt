@@ -29,9 +29,10 @@ pub record ValDesc : Type 0 where
   pub vid : ℕ
   pub ty : Ty
 
--- tyvarseq longtycon = ty, after `where type`; the first place is that of `type`
+-- tyvarseq longtycon = ty, after `where type`: the place of `type`, and that of the type variables, which is the same where there are none
 pub record WhereType : Type 0 where
   pub place : ℕ
+  pub tyvars_place : ℕ
   pub tyvars : List Tyvar
   pub tycon : Placed LongId
   pub ty : Ty

@@ -7,7 +7,7 @@ use Rattle.ty_core.specs.declared.scheme.Quantified.{Quantified}
 use Rattle.ir_poly.specs.Prog.{Pat, PatFields, Exp, type_of, Fields, Chain, Rules, Fun, Decs, Binds, Funs, fields_pat}
 use Rattle.ir_poly.specs.ProgMeaning.{size_of}
 use Rattle.ir_poly.specs.ProgChecked.{PatChecked, any_checked, variable_checked, constant_checked, con_checked, con_of_checked, ref_of_checked, exn_checked, exn_of_checked, fields_checked, as_checked, PatsChecked, no_pats_checked, a_pat_checked, Checked, c_constant, c_variable, c_variable_one, c_own, c_con, c_ref, c_exn, c_prim, c_fields, c_let, c_app, c_case, c_chain, c_handle, c_raise, c_fn, c_counted, FieldsChecked, c_no_fields, c_field, ChainChecked, c_only, c_link, RulesChecked, c_no_rules, c_rule, FunChecked, c_last, c_by_rules, c_more, DecsChecked, c_no_decs, c_val, c_exception, c_exception_alone, c_counted_dec, BindsChecked, c_no_binds, c_general, c_plain, FunsChecked, c_no_funs, c_fun}
-use Rattle.ir_poly.specs.Types.{Constructor, function_type, row_type, labels_in, ascend, over, admits_in, prim_type}
+use Rattle.ir_poly.specs.Types.{Constructor, function_type, row_type, labels_in, ascend, sorted, over, admits_in, prim_type}
 use Rattle.ir_poly.specs.TestsChecked.{Knowns, is_size}
 use Rattle.prog_check.specs.Deciding.{row_in}
 use Rattle.prog_check.specs.Checking.{decs_onto, row_of, fun_type, check_pat, check_pats, check_exp, check_fields, check_chain, check_rules, check_fun, check_decs, check_binds, check_funs}
@@ -84,7 +84,7 @@ module _ {table : List Constructor} where
     exp-complete (c_ref o h) = and_from _ _ o (same-since h)
     exp-complete (c_exn x h) = rw (exc-complete x) (same-since h)
     exp-complete (c_prim {D = D} {p = p} {u = u} o al e) = and_from _ _ o (and_from _ _ (allows-complete (prim_type p).mark (admits_in D) u al) (same-since e))
-    exp-complete (c_fields fs h a) = and_from _ _ (fields-complete fs) (and_from _ _ (subst (λ r. ascend (labels_in r) ≡ true) (row-said fs) a) (same-since (h ∙ ap row_type (row-said fs))))
+    exp-complete (c_fields fs h a) = and_from _ _ (fields-complete fs) (and_from _ _ (subst (λ r. ascend (labels_in (sorted r)) ≡ true) (row-said fs) a) (same-since (h ∙ ap (λ r. row_type (sorted r)) (row-said fs))))
     exp-complete {D = D} (c_let G' {ds = ds} {e = e} d h) = and_from _ _ (decs-complete d) (and_from _ _ (subst (λ H. check_exp table D H e ≡ true) (decs-after d) (exp-complete h)) (same-since (sym (said h))))
     exp-complete (c_app {t = t} f a h) = and_from _ _ (exp-complete f) (and_from _ _ (exp-complete a) (same-since (sym (said f) ∙ (h ∙ ap (λ v. function_type v t) (said a)))))
     exp-complete {D = D} {G = G} (c_case {rs = rules} {t = t} e o rs) =

@@ -213,6 +213,10 @@ record-written-otherwise = refl
 label-twice : exp (fields_exp (row_type ((Number 1, integer) ∷ (Number 1, integer) ∷ [])) (a_field (Number 1) three (a_field (Number 1) three no_fields))) ≡ false
 label-twice = refl
 
+-- a record's fields may be written in any order; its type has them in the order of labels
+written-in-another-order : exp (fields_exp (pair_type text integer) (a_field (Number 2) three (a_field (Number 1) word no_fields))) ≡ true
+written-in-another-order = refl
+
 labels-descend : exp (fields_exp (row_type ((Number 2, integer) ∷ (Number 1, integer) ∷ [])) (a_field (Number 2) three (a_field (Number 1) three no_fields))) ≡ false
 labels-descend = refl
 

@@ -8,7 +8,7 @@ use Rattle.ir_values.specs.Values.{same_label}
 use Rattle.ir_poly.specs.Prog.{Pat, any_pat, variable_pat, constant_pat, con_pat, con_of_pat, ref_of_pat, exn_pat, exn_of_pat, fields_pat, as_pat, PatFields, no_pats, a_pat, Exp, constant_exp, variable_exp, own_exp, con_exp, ref_exp, exn_exp, prim_exp, fields_exp, let_exp, app_exp, case_exp, chain_exp, handle_exp, raise_exp, fn_exp, counted_exp, Fields, no_fields, a_field, Chain, only, link, Rules, no_rules, a_rule, Fun, last, by_rules, more, Decs, no_decs, val_dec, exception_dec, counted_dec, Binds, no_binds, a_bind, Funs, no_funs, a_fun, type_of, is_value}
 use Rattle.ir_poly.specs.ProgMeaning.{size_of}
 use Rattle.ir_poly.specs.ProgChecked.{pat_onto, funs_onto, binds_onto}
-use Rattle.ir_poly.specs.Types.{of_name, bool_name, function_type, ref_type, row_type, labels_in, ascend, over, are_new, Constructor, find}
+use Rattle.ir_poly.specs.Types.{of_name, bool_name, function_type, ref_type, row_type, labels_in, ascend, sorted, over, are_new, Constructor, find}
 use Rattle.ir_poly.specs.TestsChecked.{of_type, own, exception, Knowns, at, exn_type, declared, is_size}
 use Rattle.prog_check.specs.Same.{same_type, same_option}
 use Rattle.prog_check.specs.Deciding.{is_literal, row_in, on_row, argument_of, takes, exc_argument, is_use, is_own, is_con, is_exception, is_prim}
@@ -20,7 +20,7 @@ decs_onto (val_dec qs bs fs ds) G = decs_onto ds (binds_onto qs bs (funs_onto (d
 decs_onto (exception_dec x identifier a ds) G = decs_onto ds ((x, exception a) ∷ G)
 decs_onto (counted_dec n ds) G = decs_onto ds G
 
--- the labels and types of a record's fields
+-- the labels and types of a record's fields, as they are written
 abbrev pub row_of : Fields → List (Label × Typ)
 row_of no_fields = []
 row_of (a_field l e fs) = (l, type_of e) ∷ row_of fs
@@ -62,7 +62,8 @@ module _ (table : List Constructor) where
     check_exp D G (ref_exp a t) = over D a && same_type t (function_type a (ref_type a))
     check_exp D G (exn_exp x t) = is_exception t (exc_argument G x)
     check_exp D G (prim_exp p ts t) = is_prim D p ts t
-    check_exp D G (fields_exp t fs) = check_fields D G fs && (ascend (labels_in (row_of fs)) && same_type t (row_type (row_of fs)))
+    check_exp D G (fields_exp t fs) =
+        check_fields D G fs && (ascend (labels_in (sorted (row_of fs))) && same_type t (row_type (sorted (row_of fs))))
     check_exp D G (let_exp t ds e) = check_decs D G ds && (check_exp D (decs_onto ds G) e && same_type (type_of e) t)
     check_exp D G (app_exp place t f a) = check_exp D G f && (check_exp D G a && same_type (type_of f) (function_type (type_of a) t))
     check_exp D G (case_exp place t e rs) = check_exp D G e && (over D (type_of e) && check_rules D G rs (type_of e) t)

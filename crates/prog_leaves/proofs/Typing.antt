@@ -3,10 +3,14 @@ use Rattle.std.proofs.Common.{◌≡◌, ℕ, suc, ◌+◌, ◌<◌, ◌≤◌, 
 use Rattle.std.proofs.lemmas.Bool.{eqb-true}
 use Rattle.mlc_base.specs.declared.label.Label.{Label}
 use Rattle.mlc_base.specs.declared.place.Place.{Place}
+use Rattle.label_rows.specs.Order.{sorted_by}
+use Rattle.label_rows.specs.Sorting.{sorted as fields_sorted}
+use Rattle.label_rows.specs.declared.sort.Field.{Field}
+use Rattle.label_rows.proofs.Mapped.{sorted-map}
 use Rattle.ty_core.specs.Types.{Typ, var, con, Typs, none, more}
 use Rattle.ty_table.specs.TypeAt.{type_at}
 use Rattle.ir_poly.specs.Prog as tree
-use Rattle.ir_poly.specs.Types.{function_type}
+use Rattle.ir_poly.specs.Types.{function_type, sorted}
 use Rattle.ir_tables.specs.declared.tables.Tables.{Tables}
 use Rattle.ir_uses.specs.Fields.{field_types}
 use Rattle.prog_check.specs.Same.{same_type}
@@ -25,8 +29,20 @@ use Rattle.prog_tree.proofs.ExpOf.{function_of-Named, function_of-ByRules}
 use Rattle.prog_parts.specs.Expressions.{type_in, right_type}
 use Rattle.prog_parts.proofs.Truths.{as-same, not-same}
 use Rattle.prog_leaves.specs.Right.{is_function_type, is_last, has_type}
+use Rattle.prog_leaves.specs.Rows.{field_of, pair_of}
 use Rattle.prog_leaves.specs.Functions as curried
 use Rattle.prog_leaves.specs.Functions.{curried_is}
+
+-- Pairs that are sorted as fields
+
+back : (row : List (Label × ℕ)) → map pair_of (map field_of row) ≡ row
+back [] = refl
+back (p ∷ row) = ap (λ l. p ∷ l) (back row)
+
+pub pairs-in-order : (row : List (Label × ℕ)) (fields ordered : List Field) (made : List (Label × ℕ)) → made ≡ map pair_of ordered → ordered ≡ fields_sorted fields
+    → fields ≡ map field_of row → made ≡ sorted_by (λ f. f.0) row
+pairs-in-order row fields ordered made e h k =
+    e ∙ ap (map pair_of) (h ∙ ap fields_sorted k) ∙ sorted-map (λ d. d.label) (λ f. f.0) pair_of (λ d. refl) (map field_of row) ∙ ap (sorted_by (λ f. f.0)) (back row)
 
 -- Functions
 
@@ -124,6 +140,12 @@ module _ (t : Tables) where
 
   pub gathering-ends : (fs : List (Label × Exp)) (row : List (Label × ℕ)) (i : ℕ) → length fs ≤ i → Gathering fs row i → field_types t.types row ≡ map part fs
   gathering-ends fs row i le g = sym (append-nil (field_types t.types row)) ∙ ap (λ l. field_types t.types row ++ map part l) (sym (drop-all fs i le)) ∙ g.is
+
+  -- in the order of labels
+  pub row-in-order : (fs : List (Label × Exp)) (written row : List (Label × ℕ)) → row ≡ sorted_by (λ f. f.0) written → field_types t.types written ≡ map part fs
+      → field_types t.types row ≡ sorted (map part fs)
+  row-in-order fs written row e h =
+      ap (field_types t.types) e ∙ sorted-map (λ f. f.0) (λ f. f.0) (λ f. (f.0, type_at t.types f.1)) (λ f. refl) written ∙ ap sorted h
 
   -- Operators
 

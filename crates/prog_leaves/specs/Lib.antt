@@ -1,3 +1,4 @@
 pub mod Functions
 pub mod Places
 pub mod Right
+pub mod Rows

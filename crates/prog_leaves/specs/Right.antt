@@ -8,7 +8,7 @@ use Rattle.ty_core.specs.Types.{Typ}
 use Rattle.ty_table.specs.TypeAt.{type_at}
 use Rattle.ir_poly.specs.Prog.{is_value}
 use Rattle.ir_poly.specs.ProgChecked.{funs_onto, binds_onto}
-use Rattle.ir_poly.specs.Types.{of_name, bool_name, function_type, row_type, labels_in, ascend, over, are_new}
+use Rattle.ir_poly.specs.Types.{of_name, bool_name, function_type, row_type, labels_in, ascend, sorted, over, are_new}
 use Rattle.ir_poly.specs.TestsChecked.{Knowns, of_type, own, exception, exn_type, declared}
 use Rattle.ir_tables.specs.declared.tables.Tables.{Tables}
 use Rattle.ir_tables.specs.Tables.{parameters_of, parameters_at}
@@ -65,7 +65,7 @@ joined t u w j =
 -- the type of a record: its labels ascend, and the type is that of these fields
 unfoldable pub is_row : Tables → List (Label × Exp) → ℕ → Bool
 is_row t fs a =
-    let row = map (λ f. (f.0, type_in t f.1)) fs in
+    let row = sorted (map (λ f. (f.0, type_in t f.1)) fs) in
     ascend (labels_in row) && same_type (type_at t.types a) (row_type row)
 
 unfoldable pub is_function_type : Tables → Function → ℕ → Bool

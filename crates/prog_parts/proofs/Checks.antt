@@ -10,7 +10,7 @@ use Rattle.ty_table.specs.TypeAt.{type_at}
 use Rattle.ir_poly.specs.Prog as tree
 use Rattle.ir_poly.specs.Prog.{type_of, is_value}
 use Rattle.ir_poly.specs.ProgChecked.{pat_onto, funs_onto, binds_onto}
-use Rattle.ir_poly.specs.Types.{of_name, bool_name, function_type, row_type, labels_in, ascend, over, are_new}
+use Rattle.ir_poly.specs.Types.{of_name, bool_name, function_type, row_type, labels_in, ascend, sorted, over, are_new}
 use Rattle.ir_poly.specs.TestsChecked.{Knowns, of_type, own, declared}
 use Rattle.ir_tables.specs.declared.tables.Tables.{Tables}
 use Rattle.ir_tables.specs.Tables.{parameters_of, parameters_at}
@@ -127,12 +127,14 @@ module _ (t : Tables) (D : List Quantified) (G : Knowns) where
   pub record-holds : (a : ℕ) (fs : Vec (Label × Exp) Global)
       → exp_holds t D G (exps.Record a fs)
       ≡ (all_hold (field_holds t D G) fs.items
-      && (ascend (labels_in (map (λ f. (f.0, type_in t f.1)) fs.items)) && same_type (type_at t.types a) (row_type (map (λ f. (f.0, type_in t f.1)) fs.items))))
+      && (ascend (labels_in (sorted (map (λ f. (f.0, type_in t f.1)) fs.items)))
+      && same_type (type_at t.types a) (row_type (sorted (map (λ f. (f.0, type_in t f.1)) fs.items)))))
   record-holds a fs =
       ap checks (tree_of-Record (reading t) a fs)
-      ∙ ap (λ b. b && (ascend (labels_in (row_of (record_of (map (field_of (reading t)) fs.items)))) && same_type (type_at t.types a) (row_type (row_of (record_of (map (field_of (reading t)) fs.items))))))
+      ∙ ap (λ b. b && (ascend (labels_in (sorted (row_of (record_of (map (field_of (reading t)) fs.items)))))
+      && same_type (type_at t.types a) (row_type (sorted (row_of (record_of (map (field_of (reading t)) fs.items)))))))
       (fields-hold fs.items)
-      ∙ ap (λ r. all_hold (field_holds t D G) fs.items && (ascend (labels_in r) && same_type (type_at t.types a) (row_type r))) (rows fs.items)
+      ∙ ap (λ r. all_hold (field_holds t D G) fs.items && (ascend (labels_in (sorted r)) && same_type (type_at t.types a) (row_type (sorted r)))) (rows fs.items)
 
   -- Applications
 

@@ -8,7 +8,7 @@ use Rattle.ty_core.specs.declared.scheme.Quantified.{Quantified}
 use Rattle.ty_table.specs.TypeAt.{type_at}
 use Rattle.ir_poly.specs.Prog as tree
 use Rattle.ir_poly.specs.ProgChecked.{funs_onto}
-use Rattle.ir_poly.specs.Types.{of_name, bool_name, row_type, labels_in, ascend, over, are_new}
+use Rattle.ir_poly.specs.Types.{of_name, bool_name, row_type, labels_in, ascend, sorted, over, are_new}
 use Rattle.ir_poly.specs.TestsChecked.{Knowns, own}
 use Rattle.ir_tables.specs.declared.tables.Tables.{Tables}
 use Rattle.ir_tables.specs.Tables.{parameters_of, parameters_at}
@@ -56,14 +56,14 @@ ChainsDecide =
     (t : Tables) (D : List Quantified) (G : Knowns) (s : Side) (p : Box Pat Global) (js : Vec PatPart Global) (u : ℕ)
     → pat_holds t D G (patterns.Chain s p js) u ≡ (pat_holds t D G p.value (first_type u js.items) && hold (part_holds t D G s) (next_part s) u js.items)
 
--- each field, the order of the labels, and the type of the record
+-- each field, the labels, of which none is there twice, and the type of the record, in the order of its labels
 abbrev pub RecordsDecide : Type 0
 RecordsDecide =
     (t : Tables) (D : List Quantified) (G : Knowns) (a : ℕ) (fs : Vec (Label × Exp) Global)
     → exp_holds t D G (exps.Record a fs)
     ≡ (all_hold (field_holds t D G) fs.items
-    && (ascend (labels_in (map (λ f. (f.0, type_in t f.1)) fs.items))
-    && same_type (type_at t.types a) (row_type (map (λ f. (f.0, type_in t f.1)) fs.items))))
+    && (ascend (labels_in (sorted (map (λ f. (f.0, type_in t f.1)) fs.items)))
+    && same_type (type_at t.types a) (row_type (sorted (map (λ f. (f.0, type_in t f.1)) fs.items)))))
 
 -- the function, and each argument
 abbrev pub ApplicationsDecide : Type 0

@@ -1,4 +1,5 @@
-use Rattle.std.proofs.Common.{ap}
+use Rattle.std.proofs.Common.{ap, ◌∙◌}
+use Rattle.label_rows.specs.Order.{sorted_by}
 use Rattle.ir_plain.specs.Tree.{make_record}
 use Rattle.plain_tree.specs.TreeOf.{row_of}
 use Rattle.match_compile.specs.Compile.{scoped}
@@ -11,11 +12,11 @@ pub returns : goal.returns
 returns c = λ w ss fs makes.
     let q = c.in_ok-ty.ensures in
     let p = c.in_ok-a.ensures in
-    record-makes c.args.fields.items makes
+    record-makes c.args.fields.items c.in_ok-ordered.ordered.items (c.in_ok-ordered.ensures ∙ ap (sorted_by (λ f. f.label)) c.deref.ensures.value) makes
     (pushed-after q.keeps q.next (record {
       keeps = p.keeps;
       is = p.is;
       next = p.next;
-      puts = p.puts (λ v. make_record (scoped v.scope (v.source.type c.args.u)) (row_of (reading v) c.args.fields.items))
-          (λ v s. ap (λ k. make_record k (row_of (reading v) c.args.fields.items)) (q.is v (sees-before _ _ v p.keeps s)));
+      puts = p.puts (λ v. make_record (scoped v.scope (v.source.type c.args.u)) (row_of (reading v) c.in_ok-ordered.ordered.items))
+          (λ v s. ap (λ k. make_record k (row_of (reading v) c.in_ok-ordered.ordered.items)) (q.is v (sees-before _ _ v p.keeps s)));
     }))

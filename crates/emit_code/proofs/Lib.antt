@@ -1,0 +1,3 @@
+mod Choices
+mod Downwards
+mod Slots

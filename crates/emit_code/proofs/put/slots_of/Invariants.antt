@@ -1,0 +1,6 @@
+use Rattle.std.proofs.Common.{◌≡◌, ◌++◌, drop, map}
+use Rattle.machine_code.specs.Code.{depths_in, slot}
+use Rattle.emit_code.proofs.put.slots_of.Given as goal
+
+abbrev pub invariant-loop-variable : goal.invariant-loop-variable
+invariant-loop-variable l = l.all.items ++ map slot (depths_in (drop l.variable-index l.variables) l.slots) ≡ map slot (depths_in l.variables l.slots)

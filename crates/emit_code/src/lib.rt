@@ -1,0 +1,12 @@
+// The code of operations, tests, cells, moves and choices, computed.
+#![tactic(auto)]
+
+pub mod cell;
+pub mod choice;
+pub mod fault;
+pub mod moves;
+pub mod places;
+pub mod plain;
+pub mod put;
+#[cfg(test)]
+mod tests;

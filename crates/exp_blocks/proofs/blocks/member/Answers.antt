@@ -1,0 +1,6 @@
+use Rattle.match_types.specs.Views.{reading}
+use Rattle.exp_steps.proofs.Nodes.{function_of-parts}
+use Rattle.exp_blocks.proofs.blocks.member.Goals as goal
+
+pub returns : goal.returns
+returns c = λ v. function_of-parts (reading v) _

@@ -1,0 +1,5 @@
+// Tests that stand by themselves, functions, and what they bring into scope.
+#![tactic(auto)]
+
+pub mod blocks;
+pub mod scopes;

@@ -1,0 +1,2 @@
+// The rules of modules, as definitions: syntactic restrictions so far.
+#![tactic(auto)]
