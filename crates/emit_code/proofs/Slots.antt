@@ -1,8 +1,8 @@
 -- The depths of variables and of operands.
-use Rattle.std.proofs.Common.{◌≡◌, refl, ℕ, zero, suc, ◌≤◌, ◌<◌, List, [], ◌∷◌, length, Bool, true, false, Option, Some, None, sym, ap, ◌∙◌, arith, get_or}
-use Rattle.std.specs.Prelude.{nat_eq, slice_get, unwrap_or, if◌then◌else◌}
+use Rattle.std.proofs.Common.{◌≡◌, refl, ℕ, zero, suc, ◌≤◌, ◌<◌, List, [], ◌∷◌, length, Bool, true, false, Option, Some, None, ap, ◌∙◌, arith, get_or}
+use Rattle.std.specs.Prelude.{nat_eq, if◌then◌else◌}
 use Rattle.std.specs.Map.{lookup}
-use Rattle.machine_code.specs.Code.{Scope, depth_in, depths_in, slot}
+use Rattle.machine_code.specs.Code.{Scope, depth_in, depths_in}
 
 -- with the value or 0
 abbrev or_none : Option ℕ → ℕ

@@ -1,5 +1,5 @@
 -- What the places that the code has stand for.
-use Rattle.std.specs.Prelude.{ℕ, ◌+◌, get_or}
+use Rattle.std.specs.Prelude.{◌+◌, get_or}
 use Rattle.first_tables.specs.TablesOf.{tables_of}
 use Rattle.first_tables.specs.declared.tables.Tables.{Tables}
 use Rattle.machine_code.specs.Code as code
