@@ -1,0 +1,4 @@
+// Exceptions that copies make.
+#![tactic(auto)]
+
+pub mod law;
