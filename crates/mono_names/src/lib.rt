@@ -1,0 +1,5 @@
+// Lists of types, and copies of bindings at them, each once and by number.
+#![tactic(auto)]
+
+pub mod copies;
+pub mod lists;
