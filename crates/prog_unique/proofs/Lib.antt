@@ -1,0 +1,2 @@
+pub mod UniqueLemmas
+pub mod Examples
