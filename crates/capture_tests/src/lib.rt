@@ -1,0 +1,5 @@
+// Tests of scopes, and of the table of captures.
+#![tactic(auto)]
+
+#[cfg(test)]
+mod tests;
