@@ -1,0 +1,6 @@
+// The constants of an image, computed.
+#![tactic(auto)]
+
+pub mod constants;
+#[cfg(test)]
+mod tests;

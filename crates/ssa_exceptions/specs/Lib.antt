@@ -1,0 +1,2 @@
+pub mod Uncaught
+pub mod Texts
