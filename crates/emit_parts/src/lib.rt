@@ -4,3 +4,5 @@
 pub mod parts;
 pub mod pass;
 pub mod search;
+#[cfg(test)]
+mod tests;
