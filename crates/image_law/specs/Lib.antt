@@ -1,0 +1,2 @@
+pub mod ImageOf
+pub mod Assembled
