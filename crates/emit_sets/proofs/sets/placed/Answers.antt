@@ -1,4 +1,4 @@
-use Rattle.std.proofs.Common.{◌≡◌, ℕ, ◌+◌, ◌∷◌, ◌++◌, map, drop, ap, ◌∙◌, sym, get_or}
+use Rattle.std.proofs.Common.{ℕ, ◌+◌, ◌++◌, map, drop, ap, ◌∙◌, sym, get_or}
 use Rattle.std.proofs.lemmas.List.{drop_more}
 use Rattle.first_tables.specs.TablesOf.{member_of}
 use Rattle.first_tables.specs.declared.tables.Member.{Member}

@@ -1,4 +1,4 @@
-use Rattle.std.proofs.Common.{◌≡◌, ◌+◌, ◌++◌, length, map, sym, ap, ◌∙◌, subst, OnOk, get_or, arith}
+use Rattle.std.proofs.Common.{◌≡◌, ◌+◌, ◌++◌, length, map, sym, ap, ◌∙◌, subst, OnOk, get_or}
 use Rattle.first_tables.specs.TablesOf.{member_of}
 use Rattle.ssa_tree.specs.TreeOf.{fun_of}
 use Rattle.machine_code.specs.Image.{widest, placed, set_code, tags_end}

@@ -1,4 +1,4 @@
-use Rattle.std.proofs.Common.{◌≡◌, length, map, drop, get_or}
+use Rattle.std.proofs.Common.{map, drop, get_or}
 use Rattle.first_tables.specs.TablesOf.{set_of}
 use Rattle.ssa_tree.specs.TreeOf.{fun_of}
 use Rattle.emit_sets.proofs.Routines.{SetsSoFar}
