@@ -13,6 +13,8 @@ pub enum EmitFault {
     TooLong,
     /// A number that the code names is no word.
     NoWord,
+    /// A label is not where the places say.
+    Unsettled,
     Memory,
 }
 

@@ -1,0 +1,8 @@
+// The parts of a walk over bodies: labels, the scopes of variables, calls, tests and choices.
+#![tactic(auto)]
+
+pub mod parts;
+pub mod pass;
+pub mod search;
+#[cfg(test)]
+mod tests;
