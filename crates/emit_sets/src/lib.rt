@@ -1,0 +1,4 @@
+// The routines of sets of closures, computed.
+#![tactic(auto)]
+
+pub mod sets;
