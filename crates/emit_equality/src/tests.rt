@@ -17,7 +17,12 @@ fn routine(alloc: Global) -> Result<(u32, u32, u32, usize), EmitFault> {
     let mut code: Vec<Instr> = Vec::new(alloc);
     put_two(&mut code, Instr::End, Instr::End)?;
     push_equality(&mut code, &shapes, &places, end)?;
-    Ok((places[0], places[1], end, code.len()))
+    Ok((place_at(&places, 0), place_at(&places, 1), end, code.len()))
+}
+
+/// The place of a type, 0 where there is none.
+fn place_at(places: &[u32], ty: usize) -> u32 {
+    if ty < places.len() { places[ty] } else { 0 }
 }
 
 // A head of 8, 3 for integers; a list has 6, a jump a tag, 1 for nil, and 4, 3 and 1 for cons.
