@@ -1,6 +1,6 @@
 // Labels and the scopes of variables.
 
-ghost use Rattle.std.specs.Prelude.{◌≡◌, suc, true, ◌+◌, ◌-◌, ◌∷◌, drop, length, IfOk, OnOk, get_or};
+ghost use Rattle.std.specs.Prelude.{◌≡◌, suc, true, ◌+◌, ◌-◌, [], ◌∷◌, ◌++◌, drop, length, IfOk, OnOk, get_or};
 ghost use Rattle.machine_code.specs.Code.{no_spot, with_params};
 ghost use Rattle.emit_parts.specs.Labels.{label_in, spot_of, spots_of};
 
@@ -18,8 +18,11 @@ pub struct Spot {
     pub leaves: Option<u32>,
 }
 
-/// A label whose place comes later: its number.
-pub fn reserve(found: &mut Vec<u32>) -> Result<usize, EmitFault> {
+/// A label whose place comes later: its number, the next.
+pub fn reserve(found: &mut Vec<u32>) -> Result<usize, EmitFault>
+    ensures number { IfOk result (λ number. number ≡ length found.old.items) }
+    ensures found { OnOk result (found.new.items ≡ found.old.items ++ 0 ∷ []) }
+{
     let number = found.len();
     found.push(0)?;
     Ok(number)

@@ -436,7 +436,7 @@ const GIVEN: [Given; 5] = [
     },
 ];
 
-/// What the checker says of a program that raises an exception, over such tables.
+/// What the checker says of a program that gives an integer, over such tables.
 fn over_tables(alloc: Global, given: Given) -> Result<Check, NoMemory> {
     let mut tables = make_tables(alloc, given.initial)?;
     if let Some(datatype) = given.datatype {
