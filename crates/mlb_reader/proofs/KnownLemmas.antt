@@ -19,8 +19,8 @@ use Rattle.sml_tree.specs.Fixity.{Fixity}
 use Rattle.sml_tree.specs.TreeOf.{dec_of, decs_of}
 use Rattle.sml_tree.specs.declared.tree.Dec.{Dec}
 use Rattle.sml_parser.specs.Core.{IsCore}
-use Rattle.sml_phrases.specs.Left.{left}
-use Rattle.sml_phrases.specs.declared.source.Source.{Source}
+use Rattle.phrase_base.specs.Left.{left}
+use Rattle.phrase_base.specs.declared.source.Source.{Source}
 use Rattle.sml_rules.specs.Basis.{IsTable}
 use Rattle.sml_rules.specs.Phrases.{Phrase, brings_basis, decs_phrases, parts_phrases}
 use Rattle.sml_rules.specs.Project.{Part, source, standard_basis}

@@ -12,8 +12,8 @@ use Rattle.sml_tree.specs.Terminal.{terminals}
 use Rattle.sml_tree.specs.TreeOf.{dec_of, decs_of}
 use Rattle.sml_tree.specs.declared.tree.Dec.{Dec}
 use Rattle.sml_parser.specs.Core.{Cause, IsCore, IsStop, Shallow}
-use Rattle.sml_phrases.specs.Left.{left}
-use Rattle.sml_phrases.specs.declared.source.Source.{Source}
+use Rattle.phrase_base.specs.Left.{left}
+use Rattle.phrase_base.specs.declared.source.Source.{Source}
 use Rattle.mlb_reader.specs.Broken.{IsBad, no_tokens, no_tree}
 use Rattle.mlb_reader.specs.Project.{HasTokens, IsSource}
 

@@ -15,7 +15,7 @@ use mlc_base::refused::Refused;
 use mlc_base::words;
 use sml_lexer::lex::lex;
 use sml_parser::read::read_core;
-use sml_phrases::source::Source;
+use phrase_base::source::Source;
 use sml_tree::fixity::Fixities;
 use sml_tree::tree::Dec;
 use std::alloc::Global;

@@ -9,9 +9,9 @@ use Rattle.sml_tree.specs.declared.tree.Dec.{Dec}
 use Rattle.sml_grammar.specs.Answer.{Read, Answer, ok, read, then_read}
 use Rattle.sml_grammar.specs.Expressions.{readers, at_end, read_all}
 use Rattle.sml_grammar.specs.Laws.{Sound}
-use Rattle.sml_phrases.specs.declared.source.Source.{Source}
+use Rattle.phrase_base.specs.declared.source.Source.{Source}
 use Rattle.sml_parser.specs.Core.{IsCore}
-use Rattle.sml_phrases.specs.Left.{left}
+use Rattle.phrase_base.specs.Left.{left}
 use Rattle.sml_phrases.specs.ExpressionsRead.{IsDecs}
 use Rattle.sml_phrases.proofs.ExpLemmas.{decs_all}
 

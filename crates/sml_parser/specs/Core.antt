@@ -14,8 +14,8 @@ use Rattle.sml_tree.specs.Bare.{bare_decs}
 use Rattle.sml_tree.specs.TreeOf.{dec_of, decs_of}
 use Rattle.sml_tree.specs.declared.tree.Dec.{Dec}
 use Rattle.sml_grammar.specs.Partial.{OpensDecs}
-use Rattle.sml_phrases.specs.declared.source.Source.{Source}
-use Rattle.sml_phrases.specs.Left.{left}
+use Rattle.phrase_base.specs.declared.source.Source.{Source}
+use Rattle.phrase_base.specs.Left.{left}
 
 -- a tree of all the terminals that is at most 400 deep
 pub record Shallow (f : Fixity) (i : List Terminal) (tree : Decs) : Type 0 where

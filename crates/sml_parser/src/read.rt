@@ -3,7 +3,7 @@
 ghost use Rattle.std.specs.Prelude.{◌≡◌, None, IfOk};
 ghost use Rattle.sml_lexer.specs.Lexes.{IfFault};
 ghost use Rattle.sml_parser.specs.Core.{IsCore, Cause, IsStop};
-ghost use Rattle.sml_phrases.specs.Left.{left};
+ghost use Rattle.phrase_base.specs.Left.{left};
 
 use mlc_base::code::Code;
 use mlc_base::fault::Fault;
@@ -12,8 +12,8 @@ use mlc_base::refused::Refused;
 use mlc_base::token::{Token, Tokens};
 use sml_grammar::law;
 use sml_phrases::declarations::read_decs;
-use sml_phrases::source::Source;
-use sml_phrases::stop::Stop;
+use phrase_base::source::Source;
+use phrase_base::stop::Stop;
 use sml_tree::fixity::Fixities;
 use sml_tree::tree::Dec;
 use std::alloc::Global;

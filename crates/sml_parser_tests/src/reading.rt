@@ -7,7 +7,7 @@ use mlc_base::names::Names;
 use mlc_base::refused::Refused;
 use sml_lexer::lex::lex;
 use sml_parser::read::{Core, read_core};
-use sml_phrases::source::Source;
+use phrase_base::source::Source;
 use sml_tree::fixity::Fixities;
 use std::alloc::Global;
 

@@ -12,7 +12,7 @@ use Rattle.sml_grammar.specs.Terminals.{Taken, first_as, as_tycon, after_word, o
 use Rattle.sml_grammar.specs.Types.{read_ty, maybe_ty}
 use Rattle.sml_grammar.specs.Bindings.{read_tyvars, bound_tycon, type_bind_turn, con_turn, data_bind_turn, ex_bind_turn, ex_bind_rest, read_cons, precedence_then, as_digit}
 use Rattle.sml_phrases.specs.BindingsRead.{read_type_bind, read_con, read_data_bind, read_ex_bind}
-use Rattle.sml_phrases.proofs.Elements.{Turns}
+use Rattle.phrase_base.proofs.Elements.{Turns}
 
 pub then-then : {A B C : Type 0} (x : Answer A) (f : A → B) (g : B → List Terminal → Answer C) → then_read x (λ a o. g (f a) o) ≡ then_read (then_read x (λ a o. read (f a) o)) g
 then-then (ok r) f g = refl

@@ -18,15 +18,15 @@ use Rattle.sml_tree.specs.declared.tree.ExBind.{ExBind}
 use Rattle.sml_grammar.specs.Answer.{Read, Answer, ok, bad, read, Turn, last, more, whole}
 use Rattle.sml_grammar.specs.Terminals.{taken, first_as, as_tyvar, after_word, NoState, no_state}
 use Rattle.sml_grammar.specs.Bindings.{tyvar_turn, type_bind_turn, read_type_binds, con_turn, read_cons, data_bind_turn, read_data_binds, ex_bind_turn, read_ex_binds}
-use Rattle.sml_phrases.specs.declared.source.Source.{Source}
-use Rattle.sml_phrases.specs.declared.stop.Stop.{Stop}
-use Rattle.sml_phrases.specs.declared.stop.Stop.TheVariants as stop
-use Rattle.sml_phrases.specs.Gives.{Fails, Gave}
-use Rattle.sml_phrases.specs.Left.{left}
+use Rattle.phrase_base.specs.declared.source.Source.{Source}
+use Rattle.phrase_base.specs.declared.stop.Stop.{Stop}
+use Rattle.phrase_base.specs.declared.stop.Stop.TheVariants as stop
+use Rattle.phrase_base.specs.Gives.{Fails, Gave}
+use Rattle.phrase_base.specs.Left.{left}
 use Rattle.sml_phrases.specs.BindingsRead.{IsTyvars, IsTypeBind, read_type_bind, IsTypeBinds, IsCon, read_con, IsCons, IsDataBind, read_data_bind, IsDataBinds, IsExBind, read_ex_bind, depth_ex_bind, IsExBinds}
 use Rattle.sml_phrases.proofs.BindForms.{type-turns, con-turns, data-turns, ex-turns}
-use Rattle.sml_phrases.proofs.TypeForms.{word-shorter, first-shorter}
-use Rattle.sml_phrases.proofs.Elements.{Elements, elements-start, elements-more, elements-last, elements-fail, parted-more, parted-last, parted-fail}
+use Rattle.phrase_base.proofs.Shorter.{word-shorter, first-shorter}
+use Rattle.phrase_base.proofs.Elements.{Elements, elements-start, elements-more, elements-last, elements-fail, parted-more, parted-last, parted-fail}
 
 -- what was read is one element longer, and less is left
 pub record Further {X A V : Type 0} (step : NoState → List Terminal → Answer (Turn (List A) NoState)) (of : X → V) (view : A → V) (deps : List A → ℕ) (n : ℕ) (i m : List Terminal) (all : List X) (d : ℕ) (total : Answer (List A)) : Type 0 where

@@ -18,14 +18,14 @@ use Rattle.sml_grammar.specs.Answer.{Read, Answer, ok, bad, read, then_read, Tur
 use Rattle.sml_grammar.specs.Terminals.{NoState, no_state, after_word, separated, word_then, place_at, tail}
 use Rattle.sml_grammar.specs.Patterns.{read_pat}
 use Rattle.sml_grammar.specs.Expressions.{readers, bind_turn, read_binds}
-use Rattle.sml_phrases.specs.declared.source.Source.{Source}
-use Rattle.sml_phrases.specs.declared.stop.Stop.{Stop}
-use Rattle.sml_phrases.specs.Gives.{Fails, Gave}
-use Rattle.sml_phrases.specs.Left.{left}
+use Rattle.phrase_base.specs.declared.source.Source.{Source}
+use Rattle.phrase_base.specs.declared.stop.Stop.{Stop}
+use Rattle.phrase_base.specs.Gives.{Fails, Gave}
+use Rattle.phrase_base.specs.Left.{left}
 use Rattle.sml_phrases.specs.PatternsRead.{IsPat}
 use Rattle.sml_phrases.specs.ExpressionsRead.{IsExp}
 use Rattle.sml_phrases.specs.DeclarationsRead.{IsBinds, plain_list, bind_list, recursive_list}
-use Rattle.sml_phrases.proofs.Loop.{fails-then, Going, going-start, going-more, going-last, going-fails}
+use Rattle.phrase_base.proofs.Loop.{fails-then, Going, going-start, going-more, going-last, going-fails}
 
 -- what the bindings that are still read are, before `rec` and after it
 abbrev pub plain_from : ℕ → Bool → Binds → List RuleOf

@@ -18,13 +18,13 @@ use Rattle.sml_tree.specs.declared.tree.ExBind.TheVariants.{New, Same}
 use Rattle.sml_grammar.specs.Terminals.{taken, after_word, binds_vid, names_vid}
 use Rattle.sml_grammar.specs.Types.{maybe_ty}
 use Rattle.sml_grammar.proofs.Vids.{binds-is, binds-shorter, names-is, names-shorter}
-use Rattle.sml_phrases.specs.declared.source.Source.{Source}
-use Rattle.sml_phrases.specs.Gives.{Gave}
-use Rattle.sml_phrases.specs.Left.{left}
+use Rattle.phrase_base.specs.declared.source.Source.{Source}
+use Rattle.phrase_base.specs.Gives.{Gave}
+use Rattle.phrase_base.specs.Left.{left}
 use Rattle.sml_phrases.specs.VidPlace.{vid_place}
 use Rattle.sml_phrases.specs.TypesRead.{IsMaybeTy}
 use Rattle.sml_phrases.specs.BindingsRead.{IsExBind, read_ex_bind}
-use Rattle.sml_phrases.proofs.TypeForms.{word-shorter}
+use Rattle.phrase_base.proofs.Shorter.{word-shorter}
 
 module _ (s : Source) (n : ℕ) (f : Fixity) (i m : List Terminal) (p : Place) (v : Vid) where
   pub ex-same : (k : List Terminal) (q : Place) (x : LongVid) (o : List Token) → binds_vid f i ≡ taken (record { place = vid_place i; it = v }) m → after_word res.Equals m ≡ Some k →

@@ -27,13 +27,13 @@ use Rattle.sml_grammar.specs.Patterns.{read_head}
 use Rattle.sml_grammar.specs.Expressions.{Shape, shape_of, agrees, readers, clause_turn, clause_rest, clause_body, read_clauses}
 use Rattle.sml_phrases.specs.declared.headings.Shape as headings
 use Rattle.sml_phrases.specs.declared.headings.Heading as code
-use Rattle.sml_phrases.specs.declared.source.Source.{Source}
-use Rattle.sml_phrases.specs.declared.stop.Stop.{Stop}
-use Rattle.sml_phrases.specs.Gives.{Fails, Gave}
-use Rattle.sml_phrases.specs.Left.{left}
+use Rattle.phrase_base.specs.declared.source.Source.{Source}
+use Rattle.phrase_base.specs.declared.stop.Stop.{Stop}
+use Rattle.phrase_base.specs.Gives.{Fails, Gave}
+use Rattle.phrase_base.specs.Left.{left}
 use Rattle.sml_phrases.specs.ExpressionsRead.{IsExp}
 use Rattle.sml_phrases.specs.DeclarationsRead.{HeadingRead, read_heading, shape_from, IsHeading, IsFunction}
-use Rattle.sml_phrases.proofs.Loop.{fails-then, Going, going-start, going-more, going-last, going-fails}
+use Rattle.phrase_base.proofs.Loop.{fails-then, Going, going-start, going-more, going-last, going-fails}
 
 -- Shapes.
 

@@ -6,13 +6,13 @@ use Rattle.sml_tree.specs.Terminal.{Terminal}
 use Rattle.sml_grammar.specs.Answer.{Answer, bad, read, then_read, Turn, last, more, whole}
 use Rattle.mlc_base.specs.declared.token.Reserved.{Reserved}
 use Rattle.sml_grammar.specs.Terminals.{after_word, word_then, on_some}
-use Rattle.sml_phrases.specs.declared.source.Source.{Source}
-use Rattle.sml_phrases.specs.declared.stop.Stop.{Stop}
-use Rattle.sml_phrases.specs.Left.{left}
-use Rattle.sml_phrases.specs.Gives.{Fails, Gave}
+use Rattle.phrase_base.specs.declared.source.Source.{Source}
+use Rattle.phrase_base.specs.declared.stop.Stop.{Stop}
+use Rattle.phrase_base.specs.Left.{left}
+use Rattle.phrase_base.specs.Gives.{Fails, Gave}
 use Rattle.sml_phrases.specs.ExpressionsRead.{IsList}
 use Rattle.sml_phrases.proofs.ExpLemmas.{after-shorter}
-use Rattle.sml_phrases.proofs.Loop.{Going, going-start, going-more, going-last, going-fails}
+use Rattle.phrase_base.proofs.Loop.{Going, going-start, going-more, going-last, going-fails}
 
 module _ {B S C : Type 0} (list : B → List C) (depth_of : B → ℕ) (step : S → List Terminal → Answer (Turn B S)) where
   -- what was read so far, the deepest of which is d deep, stands before what the loop still reads

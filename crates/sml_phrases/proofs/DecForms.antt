@@ -23,16 +23,16 @@ use Rattle.sml_grammar.specs.Answer.{Read, Answer, ok, bad, deep, read, then_rea
 use Rattle.sml_grammar.specs.Terminals.{Taken, after_word, first_as, on_taken, place_at, tail, word_at, word_then}
 use Rattle.sml_grammar.specs.Bindings.{read_tyvars, tyvars_place, precedence_then, as_digit}
 use Rattle.sml_grammar.specs.Expressions.{Reader, DecsReader, readers, read_binds, read_funs, DecStart, infix_start, infixr_start, dec_start, dec_by, directive, infix_directive, local_rest}
-use Rattle.sml_phrases.specs.declared.source.Source.{Source}
-use Rattle.sml_phrases.specs.declared.stop.Stop.{Stop}
-use Rattle.sml_phrases.specs.declared.got.Got.{Got}
-use Rattle.sml_phrases.specs.Gives.{Fails, Gave, Gives}
-use Rattle.sml_phrases.specs.Left.{left}
+use Rattle.phrase_base.specs.declared.source.Source.{Source}
+use Rattle.phrase_base.specs.declared.stop.Stop.{Stop}
+use Rattle.phrase_base.specs.declared.got.Got.{Got}
+use Rattle.phrase_base.specs.Gives.{Fails, Gave, Gives}
+use Rattle.phrase_base.specs.Left.{left}
 use Rattle.sml_phrases.specs.BindingsRead.{IsTyvars}
 use Rattle.sml_phrases.specs.ExpressionsRead.{IsDecs, IsList}
 use Rattle.sml_phrases.specs.DeclarationsRead.{IsDec, IsBinds, simple_by, word_start, inner_decs, local_by, plain_list, bind_list, recursive_list}
 use Rattle.sml_phrases.proofs.ExpLemmas.{decs_all}
-use Rattle.sml_phrases.proofs.Loop.{fails-then}
+use Rattle.phrase_base.proofs.Loop.{fails-then}
 
 word-start : (w : Reserved) (p : ℕ) (o : List Terminal) → dec_start (reserved p w ∷ o) ≡ word_start (Some w) p o
 word-start res.Abstype p o = refl

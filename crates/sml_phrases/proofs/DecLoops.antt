@@ -18,14 +18,14 @@ use Rattle.sml_tree.specs.declared.tree.Function.{Function}
 use Rattle.sml_grammar.specs.Answer.{Read, Answer, ok, read, then_read, last, more}
 use Rattle.sml_grammar.specs.Terminals.{no_state, after_word, separated}
 use Rattle.sml_grammar.specs.Expressions.{readers, decs_from, dec_turn, dec_by, dec_start, is_dec_start, fun_turn, read_clauses, read_funs}
-use Rattle.sml_phrases.specs.declared.source.Source.{Source}
-use Rattle.sml_phrases.specs.declared.stop.Stop.{Stop}
-use Rattle.sml_phrases.specs.Gives.{Fails, Gave}
-use Rattle.sml_phrases.specs.Left.{left}
+use Rattle.phrase_base.specs.declared.source.Source.{Source}
+use Rattle.phrase_base.specs.declared.stop.Stop.{Stop}
+use Rattle.phrase_base.specs.Gives.{Fails, Gave}
+use Rattle.phrase_base.specs.Left.{left}
 use Rattle.sml_phrases.specs.ExpressionsRead.{IsDecs, IsList, dec_list}
 use Rattle.sml_phrases.specs.DeclarationsRead.{IsDec, IsFunction, inner_decs, item_of, bare_item, function_from}
-use Rattle.sml_phrases.proofs.Loop.{fails-then, Going, going-start, going-more, going-last, going-fails}
-use Rattle.sml_phrases.proofs.Listing.{Listing, listing-start, listing-more, listing-last, listing-fails, listing-at}
+use Rattle.phrase_base.proofs.Loop.{fails-then, Going, going-start, going-more, going-last, going-fails}
+use Rattle.phrase_base.proofs.Listing.{Listing, listing-start, listing-more, listing-last, listing-fails, listing-at}
 
 pub decs-are : (n : ℕ) (f : Fixity) (i : List Terminal) → (readers n).decs f i ≡ decs_from n (readers n).exp (inner_decs n) f i
 unfolding readers

@@ -19,17 +19,17 @@ use Rattle.sml_tree.specs.Depth.{depth_exps}
 use Rattle.sml_grammar.specs.Answer.{Read, ok, read, then_read}
 use Rattle.sml_grammar.specs.Terminals.{Taken, names_vid, after_word, place_at, tail}
 use Rattle.sml_grammar.specs.Expressions.{Readers, readers, vid_if, equals_unless, atom_start, atom_by, brace_start, paren_start, bracket_start, let_start, let_exp}
-use Rattle.sml_phrases.specs.declared.source.Source.{Source}
-use Rattle.sml_phrases.specs.declared.stop.Stop.{Stop}
-use Rattle.sml_phrases.specs.declared.got.Got.{Got}
-use Rattle.sml_phrases.specs.Gives.{Gives}
-use Rattle.sml_phrases.specs.Left.{left}
+use Rattle.phrase_base.specs.declared.source.Source.{Source}
+use Rattle.phrase_base.specs.declared.stop.Stop.{Stop}
+use Rattle.phrase_base.specs.declared.got.Got.{Got}
+use Rattle.phrase_base.specs.Gives.{Gives}
+use Rattle.phrase_base.specs.Left.{left}
 use Rattle.sml_phrases.specs.ExpressionsRead.{IsAtom, IsList, IsDecs, leaf_by, closed_exps}
 use Rattle.std.specs.List.{remove}
 use Rattle.std.proofs.lemmas.List.{length-map}
 use Rattle.sml_phrases.proofs.ExpForms.{let-body}
 use Rattle.sml_phrases.proofs.ExpLemmas.{decs_all, tail-short, after-shorter}
-use Rattle.sml_phrases.proofs.Loop.{fails-by}
+use Rattle.phrase_base.proofs.Loop.{fails-by}
 use Rattle.sml_phrases.proofs.ExpSteps.{atom-one}
 use Rattle.sml_grammar.proofs.Answers.{at-path}
 use Rattle.sml_grammar.proofs.Words.{word-at}

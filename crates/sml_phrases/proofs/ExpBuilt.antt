@@ -14,8 +14,8 @@ use Rattle.sml_tree.specs.Depth.{depth_exps, depth_exp_fields, depth_rules}
 use Rattle.sml_grammar.specs.Answer.{Read}
 use Rattle.sml_grammar.specs.Terminals.{place_at, tail}
 use Rattle.sml_grammar.specs.Expressions.{applied}
-use Rattle.sml_phrases.specs.declared.source.Source.{Source}
-use Rattle.sml_phrases.specs.Left.{left}
+use Rattle.phrase_base.specs.declared.source.Source.{Source}
+use Rattle.phrase_base.specs.Left.{left}
 use Rattle.sml_phrases.specs.ExpressionsRead.{IsExp, IsAtom, IsList, field_list, rule_list}
 use Rattle.sml_phrases.proofs.ExpLemmas.{fields_all, rules_all, tail-short}
 use Rattle.sml_phrases.proofs.ExpForms.{applied-bare, applied-depth, applied-place, applied-level}

@@ -16,8 +16,8 @@ use Rattle.sml_tree.specs.Depth.{depth, depth_parts, depth_rules}
 use Rattle.sml_tree.specs.Levels.{joint_level, joint_right}
 use Rattle.sml_grammar.specs.Answer.{Read, ok, read, then_read}
 use Rattle.sml_grammar.specs.Expressions.{Reader, whole_parts, read_match}
-use Rattle.sml_phrases.specs.declared.source.Source.{Source}
-use Rattle.sml_phrases.specs.Gives.{Gave}
+use Rattle.phrase_base.specs.declared.source.Source.{Source}
+use Rattle.phrase_base.specs.Gives.{Gave}
 use Rattle.sml_phrases.specs.Ties.{joint_from}
 use Rattle.sml_phrases.specs.ExpressionsRead.{IsLarger, IsList, rule_list}
 use Rattle.sml_phrases.proofs.ExpLemmas.{rules_all}

@@ -20,12 +20,12 @@ use Rattle.sml_grammar.specs.Answer.{Read, Answer, ok, read, then_read, more, wh
 use Rattle.sml_grammar.specs.Terminals.{taken, first_as, as_label, after_word, word_then, separated, no_state, place_at, tail}
 use Rattle.sml_grammar.specs.Expressions.{Reader, AtomReader, begins_atom, row_turn, atoms_turn, part_turn, part_next, next_of, rule_turn, read_match}
 use Rattle.sml_grammar.specs.Patterns.{read_pat}
-use Rattle.sml_phrases.specs.declared.source.Source.{Source}
-use Rattle.sml_phrases.specs.declared.stop.Stop.{Stop}
-use Rattle.sml_phrases.specs.declared.stop.Stop.TheVariants as stop
-use Rattle.sml_phrases.specs.Gives.{Gave, Fails}
-use Rattle.sml_phrases.proofs.Loop.{fails-then, fails-by}
-use Rattle.sml_phrases.specs.Left.{left}
+use Rattle.phrase_base.specs.declared.source.Source.{Source}
+use Rattle.phrase_base.specs.declared.stop.Stop.{Stop}
+use Rattle.phrase_base.specs.declared.stop.Stop.TheVariants as stop
+use Rattle.phrase_base.specs.Gives.{Gave, Fails}
+use Rattle.phrase_base.proofs.Loop.{fails-then, fails-by}
+use Rattle.phrase_base.specs.Left.{left}
 use Rattle.sml_phrases.specs.Ties.{joint_from, PartGoes, PartEnds, PartFails}
 use Rattle.sml_phrases.specs.PatternsRead.{IsPat}
 use Rattle.sml_phrases.specs.ExpressionsRead.{IsExp, IsList, exps_turn, closed_exps, closed_rows, field_list, rule_list}

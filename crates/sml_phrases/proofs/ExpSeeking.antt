@@ -8,15 +8,15 @@ use Rattle.sml_tree.specs.declared.tree.Exp.{Exp}
 use Rattle.sml_grammar.specs.Answer.{Read, Answer, ok, bad, deep, read, then_read, whole, more}
 use Rattle.sml_grammar.specs.Terminals.{place_at}
 use Rattle.sml_grammar.specs.Expressions.{Reader, next_of, nothing, suffix_turn}
-use Rattle.sml_phrases.specs.declared.source.Source.{Source}
-use Rattle.sml_phrases.specs.declared.stop.Stop.{Stop}
-use Rattle.sml_phrases.specs.declared.stop.Stop.TheVariants as stop
+use Rattle.phrase_base.specs.declared.source.Source.{Source}
+use Rattle.phrase_base.specs.declared.stop.Stop.{Stop}
+use Rattle.phrase_base.specs.declared.stop.Stop.TheVariants as stop
 use Rattle.sml_phrases.specs.declared.ties.Tie.{Tie}
-use Rattle.sml_phrases.specs.Gives.{Fails, Gave}
-use Rattle.sml_phrases.specs.Left.{left}
+use Rattle.phrase_base.specs.Gives.{Fails, Gave}
+use Rattle.phrase_base.specs.Left.{left}
 use Rattle.sml_phrases.specs.Ties.{next_from, tie_level, tie_least, tie_rest}
 use Rattle.sml_phrases.specs.ExpressionsRead.{IsExp, IsAtom, IsLarger}
-use Rattle.sml_phrases.proofs.Loop.{Going, going-start, going-more, going-last, going-fails, fails-then, fails-by}
+use Rattle.phrase_base.proofs.Loop.{Going, going-start, going-more, going-last, going-fails, fails-then, fails-by}
 use Rattle.sml_phrases.proofs.ExpSteps.{Seeking, suffix-none, suffix-low, suffix-bad, suffix-deep, suffix-goes, after-ok}
 
 module _ (self : Reader) (n : ℕ) (f : Fixity) (l : ℕ) (s : Source) where

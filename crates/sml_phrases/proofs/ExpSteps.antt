@@ -16,11 +16,11 @@ use Rattle.sml_grammar.specs.Answer.{Read, Answer, ok, bad, deep, deep_if, read,
 use Rattle.sml_grammar.specs.Terminals.{taken, first_as, as_label, after_word, on_some, word_then, separated, NoState, no_state, place_at}
 use Rattle.sml_grammar.specs.Expressions.{Reader, AtomReader, Readers, readers, exp_from, atom_by, atom_start, begins, begins_atom, row_turn, atoms_turn, next_of, nothing, rule_turn, suffix_turn, is_keyword, start_of, keyword_form, application}
 use Rattle.sml_grammar.specs.Patterns.{read_pat, label_if}
-use Rattle.sml_phrases.specs.declared.source.Source.{Source}
+use Rattle.phrase_base.specs.declared.source.Source.{Source}
 use Rattle.sml_phrases.specs.declared.ties.Tie.{Tie}
 use Rattle.sml_phrases.specs.declared.ties.Tie.TheVariants as tie
 use Rattle.sml_phrases.specs.Ties.{next_from, tie_level, tie_least, tie_rest}
-use Rattle.sml_phrases.proofs.Loop.{Going}
+use Rattle.phrase_base.proofs.Loop.{Going}
 use Rattle.sml_phrases.proofs.ExpLemmas.{word-in}
 
 pub sep-more : {B S : Type 0} {x : Option (List Terminal)} {m : List Terminal} (put : B → B) (end : B) (s : S) (o : List Terminal) → x ≡ Some m → separated x put end s o ≡ read (more put s) m

@@ -15,9 +15,9 @@ use Rattle.sml_tree.specs.declared.tree.Pat.{Pat}
 use Rattle.sml_grammar.specs.Answer.{Read, ok}
 use Rattle.sml_grammar.specs.Terminals.{place_at, after_word, infix_vid, taken}
 use Rattle.sml_grammar.specs.Patterns.{read_atpat, Bracketed, bracketed}
-use Rattle.sml_phrases.specs.declared.source.Source.{Source}
+use Rattle.phrase_base.specs.declared.source.Source.{Source}
 use Rattle.sml_phrases.specs.declared.heads.Pair.{Pair}
-use Rattle.sml_phrases.specs.Left.{left}
+use Rattle.phrase_base.specs.Left.{left}
 use Rattle.sml_phrases.specs.HeadsRead.{IsPair}
 use Rattle.sml_phrases.proofs.HeadForms.{again-some, none-close}
 

@@ -19,16 +19,16 @@ use Rattle.sml_tree.specs.declared.tree.Pat.{Pat}
 use Rattle.sml_grammar.specs.Answer.{Read, Answer, ok, deep, read, then_read}
 use Rattle.sml_grammar.specs.Terminals.{place_at, taken, infix_vid, binds_vid}
 use Rattle.sml_grammar.specs.Patterns.{read_atpat, read_atpats, short_at, infix_rest, prefix_rest, bracket_rest, Bracketed, bracketed, pat_head, vid_head, read_head}
-use Rattle.sml_phrases.specs.declared.source.Source.{Source}
-use Rattle.sml_phrases.specs.declared.stop.Stop.{Stop}
+use Rattle.phrase_base.specs.declared.source.Source.{Source}
+use Rattle.phrase_base.specs.declared.stop.Stop.{Stop}
 use Rattle.sml_phrases.specs.declared.heads.Pair.{Pair}
 use Rattle.sml_phrases.specs.declared.heads.Head as code
-use Rattle.sml_phrases.specs.declared.got.Got.{Got}
-use Rattle.sml_phrases.specs.Gives.{Fails, Gives}
-use Rattle.sml_phrases.specs.Left.{left}
+use Rattle.phrase_base.specs.declared.got.Got.{Got}
+use Rattle.phrase_base.specs.Gives.{Fails, Gives}
+use Rattle.phrase_base.specs.Left.{left}
 use Rattle.sml_phrases.specs.PatternsRead.{IsPatAt, IsPats}
 use Rattle.sml_phrases.specs.HeadsRead.{IsHead, IsPair}
-use Rattle.sml_phrases.proofs.Loop.{fails-then, fails-by}
+use Rattle.phrase_base.proofs.Loop.{fails-then, fails-by}
 use Rattle.sml_phrases.proofs.TypeForms.{Said, gives-by}
 
 pats-count : (f : ℕ) (as_ : Pats) → length (pat_list f as_) ≡ count_pats as_

@@ -14,15 +14,15 @@ use Rattle.sml_grammar.specs.Patterns.{read_head}
 use Rattle.sml_grammar.specs.Expressions.{Shape, agrees}
 use Rattle.sml_phrases.specs.declared.headings.Shape as headings
 use Rattle.sml_phrases.specs.declared.headings.Heading as code
-use Rattle.sml_phrases.specs.declared.source.Source.{Source}
-use Rattle.sml_phrases.specs.declared.stop.Stop.{Stop}
-use Rattle.sml_phrases.specs.Gives.{Fails, Gave}
-use Rattle.sml_phrases.specs.Left.{left}
+use Rattle.phrase_base.specs.declared.source.Source.{Source}
+use Rattle.phrase_base.specs.declared.stop.Stop.{Stop}
+use Rattle.phrase_base.specs.Gives.{Fails, Gave}
+use Rattle.phrase_base.specs.Left.{left}
 use Rattle.sml_phrases.specs.TypesRead.{IsMaybeTy}
 use Rattle.sml_phrases.specs.HeadsRead.{IsHead}
 use Rattle.sml_phrases.specs.declared.heads.Head as heads
 use Rattle.sml_phrases.specs.DeclarationsRead.{HeadingRead, read_heading, shape_from, IsHeading}
-use Rattle.sml_phrases.proofs.Loop.{fails-then}
+use Rattle.phrase_base.proofs.Loop.{fails-then}
 
 module _ (n : ℕ) (f : Fixity) (s : Option Shape) (i : List Terminal) (h : Read Head) (by : read_head n f i ≡ ok h) where
   pub heading-disagrees : agrees s h.tree ≡ false → read_heading n f s i ≡ bad

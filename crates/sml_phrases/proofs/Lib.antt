@@ -1,7 +1,6 @@
 pub mod BindForms
 pub mod BindLists
 pub mod BindParts
-pub mod Elements
 pub mod BindLoops
 pub mod ClauseLoops
 pub mod DecForms
@@ -10,8 +9,6 @@ pub mod HeadingForms
 pub mod HeadForms
 pub mod HeadPairs
 pub mod HeadReads
-pub mod Listing
-pub mod Loop
 pub mod PatForms
 pub mod PatLists
 pub mod PatParts
@@ -32,4 +29,3 @@ pub mod TypeForms
 pub mod TypeLists
 pub mod VidForms
 pub mod VidShorter
-pub mod Words

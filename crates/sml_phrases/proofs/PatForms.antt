@@ -21,17 +21,18 @@ use Rattle.sml_grammar.specs.Answer.{Read, Answer, ok, bad, deep, deep_if, read,
 use Rattle.sml_grammar.specs.Terminals.{no_state, short, word_then, place_at, first_as, as_constant, after_word, taken, names_vid, binds_vid, infix_vid}
 use Rattle.sml_grammar.specs.Types.{read_ty}
 use Rattle.sml_grammar.specs.Patterns.{pat_first, typed_form, paren_pat_in, pat_commas_turn, PatReader, PatReaders, read_pats, begins_pat, at_pat, pat_start, pat_form, plain_form, short_at, vid_form, vid_if, pat_suffix, pat_suffix_turn, whole_pat_parts}
-use Rattle.sml_phrases.specs.declared.got.Got.{Got}
-use Rattle.sml_phrases.specs.declared.source.Source.{Source}
-use Rattle.sml_phrases.specs.declared.stop.Stop.{Stop}
-use Rattle.sml_phrases.specs.declared.stop.Stop.TheVariants as stop
+use Rattle.phrase_base.specs.declared.got.Got.{Got}
+use Rattle.phrase_base.specs.declared.source.Source.{Source}
+use Rattle.phrase_base.specs.declared.stop.Stop.{Stop}
+use Rattle.phrase_base.specs.declared.stop.Stop.TheVariants as stop
 use Rattle.sml_phrases.specs.declared.patterns.Suffix.{Suffix}
 use Rattle.sml_phrases.specs.declared.patterns.Suffix.TheVariants.{Colon, Joint}
-use Rattle.sml_phrases.specs.Gives.{Fails, Gives}
-use Rattle.sml_phrases.specs.Left.{left}
+use Rattle.phrase_base.specs.Gives.{Fails, Gives}
+use Rattle.phrase_base.specs.Left.{left}
 use Rattle.sml_phrases.specs.PatternsRead.{IsPat, IsPatAt, plain_pat_start, Suffixed, suffix_level, suffix_least, suffix_read}
-use Rattle.sml_phrases.proofs.Loop.{fails-then, fails-by, Going, going-start, going-more, going-last, going-fails}
-use Rattle.sml_phrases.proofs.TypeForms.{Said, gives-by, word-shorter}
+use Rattle.phrase_base.proofs.Loop.{fails-then, fails-by, Going, going-start, going-more, going-last, going-fails}
+use Rattle.sml_phrases.proofs.TypeForms.{Said, gives-by}
+use Rattle.phrase_base.proofs.Shorter.{word-shorter}
 use Rattle.sml_phrases.proofs.VidShorter.{names-shorter}
 
 -- A pattern of depth 0, and of a greater one.

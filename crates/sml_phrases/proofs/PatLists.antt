@@ -16,13 +16,13 @@ use Rattle.sml_tree.specs.declared.tree.PatField.{PatField}
 use Rattle.sml_grammar.specs.Answer.{Read, Answer, ok, read, then_read, last, more, whole}
 use Rattle.sml_grammar.specs.Terminals.{no_state, after_word, separated}
 use Rattle.sml_grammar.specs.Patterns.{PatRowRead, read_pats, read_atpat, pat_commas_turn, atpats_turn, pat_row_turn, field, put_field, only_field, only_dots, begins_pat}
-use Rattle.sml_phrases.specs.declared.source.Source.{Source}
-use Rattle.sml_phrases.specs.declared.stop.Stop.{Stop}
-use Rattle.sml_phrases.specs.Gives.{Fails}
-use Rattle.sml_phrases.specs.Left.{left}
+use Rattle.phrase_base.specs.declared.source.Source.{Source}
+use Rattle.phrase_base.specs.declared.stop.Stop.{Stop}
+use Rattle.phrase_base.specs.Gives.{Fails}
+use Rattle.phrase_base.specs.Left.{left}
 use Rattle.sml_phrases.specs.PatternsRead.{IsPat, IsPatAt, IsPats, IsPatField, IsPatRow, field_of}
-use Rattle.sml_phrases.proofs.Loop.{fails-then, fails-by}
-use Rattle.sml_phrases.proofs.Listing.{Listing, Listed, listing-start, listing-more, listing-last, listing-fails, listing-at, Marking, Marked, marking-start, marking-more, marking-last, same-tree}
+use Rattle.phrase_base.proofs.Loop.{fails-then, fails-by}
+use Rattle.phrase_base.proofs.Listing.{Listing, Listed, listing-start, listing-more, listing-last, listing-fails, listing-at, Marking, Marked, marking-start, marking-more, marking-last, same-tree}
 use Rattle.sml_phrases.proofs.TypeForms.{Said}
 
 -- Patterns with commas between them.

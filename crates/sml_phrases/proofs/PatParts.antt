@@ -22,14 +22,14 @@ use Rattle.sml_tree.specs.declared.tree.PatPart.{PatPart}
 use Rattle.sml_grammar.specs.Answer.{Read, Answer, ok, bad, deep, read, then_read, Turn, last, more, many, after_turn}
 use Rattle.sml_grammar.specs.Terminals.{place_at, Taken, taken, infix_vid}
 use Rattle.sml_grammar.specs.Patterns.{PatReader, read_pats, pat_part_turn, pat_part_next, whole_pat_parts, same}
-use Rattle.sml_phrases.specs.declared.source.Source.{Source}
-use Rattle.sml_phrases.specs.declared.stop.Stop.{Stop}
-use Rattle.sml_phrases.specs.declared.stop.Stop.TheVariants as stop
-use Rattle.sml_phrases.specs.Gives.{Fails}
-use Rattle.sml_phrases.specs.Left.{left}
+use Rattle.phrase_base.specs.declared.source.Source.{Source}
+use Rattle.phrase_base.specs.declared.stop.Stop.{Stop}
+use Rattle.phrase_base.specs.declared.stop.Stop.TheVariants as stop
+use Rattle.phrase_base.specs.Gives.{Fails}
+use Rattle.phrase_base.specs.Left.{left}
 use Rattle.sml_phrases.specs.PatternsRead.{IsPat, IsPatParts}
-use Rattle.sml_phrases.proofs.Loop.{fails-then}
-use Rattle.sml_phrases.proofs.Listing.{Listing, listing-start, listing-more, listing-last, listing-fails, listing-at}
+use Rattle.phrase_base.proofs.Loop.{fails-then}
+use Rattle.phrase_base.proofs.Listing.{Listing, listing-start, listing-more, listing-last, listing-fails, listing-at}
 use Rattle.sml_phrases.proofs.Rolls.{pat_part-of}
 use Rattle.sml_phrases.proofs.TypeForms.{Said}
 

@@ -6,9 +6,9 @@ use Rattle.sml_tree.specs.ReadTree.{Placed}
 use Rattle.sml_grammar.specs.Answer.{Answer, bad, read, Turn, last, more, whole}
 use Rattle.sml_grammar.specs.Terminals.{Taken, taken, first_as, then_taken, separated, NoState, no_state}
 use Rattle.sml_grammar.specs.Bindings.{put_more}
-use Rattle.sml_phrases.specs.declared.stop.Stop.TheVariants as stop
-use Rattle.sml_phrases.proofs.Loop.{Going, going-start, going-more, going-last, going-fails}
-use Rattle.sml_phrases.proofs.TypeForms.{first-shorter}
+use Rattle.phrase_base.specs.declared.stop.Stop.TheVariants as stop
+use Rattle.phrase_base.proofs.Loop.{Going, going-start, going-more, going-last, going-fails}
+use Rattle.phrase_base.proofs.Shorter.{first-shorter}
 
 abbrev pub run_turn : {B E : Type 0} → (Terminal → Option B) → (Placed B → E) → NoState → List Terminal → Answer (Turn (List E) NoState)
 run_turn g elem s i = then_taken (first_as g i) (λ x o. separated (put_more (first_as g o) o) (λ xs. elem x ∷ xs) (elem x ∷ []) s o)

@@ -20,16 +20,17 @@ use Rattle.mlc_base.specs.declared.place.Place.{Place}
 use Rattle.sml_grammar.specs.Answer.{Read, Answer, ok, bad, deep, deep_if, read, then_read, last, more, whole}
 use Rattle.sml_grammar.specs.Terminals.{no_state, place_at, place_of, first_as, placed_if, as_long_tycon, after_word, after_star, word_of, is_word, star_of, Taken, taken, then_taken, word_then}
 use Rattle.sml_grammar.specs.Types.{TyReader, brace_start, paren_start, begins_ty, ty_start, read_ty, ty_from, ty_atom, arguments, postfix_turn, product_rest, arrow_rest, ty_commas_turn}
-use Rattle.sml_phrases.specs.declared.source.Source.{Source}
-use Rattle.sml_phrases.specs.declared.stop.Stop.{Stop}
-use Rattle.sml_phrases.specs.declared.stop.Stop.TheVariants as stop
-use Rattle.sml_phrases.specs.declared.got.Got.{Got}
+use Rattle.phrase_base.specs.declared.source.Source.{Source}
+use Rattle.phrase_base.specs.declared.stop.Stop.{Stop}
+use Rattle.phrase_base.specs.declared.stop.Stop.TheVariants as stop
+use Rattle.phrase_base.specs.declared.got.Got.{Got}
 use Rattle.sml_phrases.specs.declared.types.Separator.{Separator}
 use Rattle.sml_phrases.specs.declared.types.Separator.TheVariants.{Comma, Star}
-use Rattle.sml_phrases.specs.Gives.{Fails, Gives}
-use Rattle.sml_phrases.specs.Left.{left}
+use Rattle.phrase_base.specs.Gives.{Fails, Gives}
+use Rattle.phrase_base.specs.Left.{left}
 use Rattle.sml_phrases.specs.TypesRead.{IsTy, IsTys, plain_start, separator_turn, after_separator}
-use Rattle.sml_phrases.proofs.Loop.{fails-then, fails-by, Going, going-start, going-more, going-last, going-fails}
+use Rattle.phrase_base.proofs.Shorter.{first-shorter, word-shorter, star-shorter}
+use Rattle.phrase_base.proofs.Loop.{fails-then, fails-by, Going, going-start, going-more, going-last, going-fails}
 
 -- the answer has what is said of it
 pub record Said {A : Type 0} (P : Read A → Type 0) (a : Answer A) : Type 0 where
@@ -39,38 +40,6 @@ pub record Said {A : Type 0} (P : Read A → Type 0) (a : Answer A) : Type 0 whe
 
 pub gives-by : {X A : Type 0} (Is : X → Read A → Type 0) (r : Result X Stop) (a b : Answer A) → a ≡ b → Gives Is r b → Gives Is r a
 gives-by {X} {A} Is r a b p h = subst (λ (z : Answer A). Gives Is r z) (sym p) h
-
-rest_of : {B : Type 0} → Option (Taken B) → List Terminal
-rest_of (Some x) = x.rest
-rest_of None = []
-
-same-rest : {B : Type 0} {x y : B} {m o : List Terminal} → taken x m ≡ taken y o → m ≡ o
-unfolding rest_of
-same-rest h = ap rest_of h
-
-pub first-shorter : {B : Type 0} (g : Terminal → Option B) (i : List Terminal) (x : Placed B) (o : List Terminal) → first_as g i ≡ taken x o → length o < length i
-first-shorter g [] x o h = absurd (cc)
-first-shorter {B} g (t ∷ m) x o h = go (g t) h
-  where
-    go : (v : Option B) → placed_if (place_of t) v m ≡ taken x o → length o < suc (length m)
-    go (Some b) e = let q : m ≡ o = same-rest e in let r = ap length q in omega arith
-    go None e = absurd (cc)
-
-pub word-shorter : (w : Reserved) (i o : List Terminal) → after_word w i ≡ Some o → length o < length i
-word-shorter w [] o h = absurd (cc)
-word-shorter w (t ∷ m) o h = go (is_word w (word_of t)) h
-  where
-    go : (b : Bool) → (if b then Some m else None) ≡ Some o → length o < suc (length m)
-    go true e = let q : m ≡ o = cc in let r = ap length q in omega arith
-    go false e = absurd (cc)
-
-pub star-shorter : (i o : List Terminal) → after_star i ≡ Some o → length o < length i
-star-shorter [] o h = absurd (cc)
-star-shorter (t ∷ m) o h = go (star_of t) h
-  where
-    go : (b : Bool) → (if b then Some m else None) ≡ Some o → length o < suc (length m)
-    go true e = let q : m ≡ o = cc in let r = ap length q in omega arith
-    go false e = absurd (cc)
 
 -- What a type begins with.
 

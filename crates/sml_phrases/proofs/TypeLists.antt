@@ -18,15 +18,15 @@ use Rattle.sml_tree.specs.declared.tree.TyField.{TyField}
 use Rattle.sml_grammar.specs.Answer.{Read, Answer, ok, bad, read, then_read, last, more}
 use Rattle.sml_grammar.specs.Terminals.{no_state, place_at, first_as, as_label, after_word, taken, separated}
 use Rattle.sml_grammar.specs.Types.{read_ty, ty_field_turn, arrow_turn}
-use Rattle.sml_phrases.specs.declared.source.Source.{Source}
-use Rattle.sml_phrases.specs.declared.stop.Stop.{Stop}
-use Rattle.sml_phrases.specs.declared.stop.Stop.TheVariants as stop
+use Rattle.phrase_base.specs.declared.source.Source.{Source}
+use Rattle.phrase_base.specs.declared.stop.Stop.{Stop}
+use Rattle.phrase_base.specs.declared.stop.Stop.TheVariants as stop
 use Rattle.sml_phrases.specs.declared.types.Separator.{Separator}
-use Rattle.sml_phrases.specs.Gives.{Fails, Gave}
-use Rattle.sml_phrases.specs.Left.{left}
+use Rattle.phrase_base.specs.Gives.{Fails, Gave}
+use Rattle.phrase_base.specs.Left.{left}
 use Rattle.sml_phrases.specs.TypesRead.{IsTy, IsTys, IsTyParts, IsTyFields, separator_level, after_separator, separator_turn}
-use Rattle.sml_phrases.proofs.Loop.{fails-then, fails-by}
-use Rattle.sml_phrases.proofs.Listing.{Listing, listing-more, listing-last, listing-fails}
+use Rattle.phrase_base.proofs.Loop.{fails-then, fails-by}
+use Rattle.phrase_base.proofs.Listing.{Listing, listing-more, listing-last, listing-fails}
 
 abbrev pub TysGoing : Source → ℕ → Separator → List Terminal → List Ty → ℕ → List Ty → ℕ → Answer Tys → Type 0
 TysGoing s n x i front d0 all d total = Listing (separator_turn x (read_ty n)) no_state i (ty_list s.file) depth_tys n (map ty_of front) d0 (map ty_of all) d total

@@ -8,7 +8,7 @@ use Rattle.sml_tree.specs.declared.fixity.Infix.{Infix}
 use Rattle.sml_tree.specs.declared.ident.Vid.{Vid}
 use Rattle.sml_tree.specs.declared.ident.Vid.TheVariants.{Named}
 use Rattle.sml_grammar.specs.Terminals.{Taken, taken, first_as, as_any_vid, as_any_long, as_qualified, as_vid, long_named_if, named_if, after_word, binds_vid, names_vid, plain_vid, plain_from, plain_if, infix_vid, infix_from, infix_if}
-use Rattle.sml_phrases.proofs.TypeForms.{first-shorter, word-shorter}
+use Rattle.phrase_base.proofs.Shorter.{first-shorter, word-shorter}
 use Rattle.sml_phrases.proofs.VidForms.{binds-op, binds-plain, names-op, names-plain}
 
 rest_of : {B : Type 0} → Option (Taken B) → List Terminal

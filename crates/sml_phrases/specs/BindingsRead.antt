@@ -19,8 +19,8 @@ use Rattle.sml_grammar.specs.Answer.{Read, Answer, read, then_read}
 use Rattle.sml_grammar.specs.Terminals.{place_at, after_word, then_taken, binds_vid}
 use Rattle.sml_grammar.specs.Types.{read_ty, maybe_ty}
 use Rattle.sml_grammar.specs.Bindings.{bound_tycon, read_cons, ex_bind_rest}
-use Rattle.sml_phrases.specs.declared.source.Source.{Source}
-use Rattle.sml_phrases.specs.Left.{left}
+use Rattle.phrase_base.specs.declared.source.Source.{Source}
+use Rattle.phrase_base.specs.Left.{left}
 
 -- type variables: none, or some
 pub record IsTyvars (s : Source) (i : List Terminal) (tyvars : List Tyvar) (d : ℕ) (o : List Token) (got : Read (List Tyvar)) : Type 0 where

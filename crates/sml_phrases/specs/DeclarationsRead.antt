@@ -24,8 +24,8 @@ use Rattle.sml_grammar.specs.Bindings.{read_type_binds, read_ex_binds, read_stri
 use Rattle.sml_grammar.specs.Expressions.{DecsReader, Shape, agrees, readers, DecStart, val_start, fun_start, type_start, datatype_start, exception_start, local_start, open_start, infix_start, infixr_start, nonfix_start, no_dec, directive, infix_directive, datatype_form, local_rest}
 use Rattle.sml_phrases.specs.declared.headings.Shape as headings
 use Rattle.sml_phrases.specs.declared.headings.Heading as Heading
-use Rattle.sml_phrases.specs.declared.source.Source.{Source}
-use Rattle.sml_phrases.specs.Left.{left}
+use Rattle.phrase_base.specs.declared.source.Source.{Source}
+use Rattle.phrase_base.specs.Left.{left}
 
 -- the reader of the declarations in a `local`, where phrases are at most n deep
 abbrev pub inner_decs : ℕ → DecsReader

@@ -19,8 +19,8 @@ use Rattle.sml_tree.specs.declared.tree.Exp.{Exp}
 use Rattle.sml_grammar.specs.Answer.{Read, Answer, bad, read, then_read, Turn, whole}
 use Rattle.sml_grammar.specs.Terminals.{NoState, no_state, Taken, taken, on_some, after_word, word_then, place_at, separated, short, names_vid}
 use Rattle.sml_grammar.specs.Expressions.{Reader, AtomStart, constant_start, vid_start, hash_start, brace_start, paren_start, bracket_start, let_start, no_atom, hash_exp, row_turn}
-use Rattle.sml_phrases.specs.declared.source.Source.{Source}
-use Rattle.sml_phrases.specs.Left.{left}
+use Rattle.phrase_base.specs.declared.source.Source.{Source}
+use Rattle.phrase_base.specs.Left.{left}
 
 -- an expression that begins at i, at most n deep
 pub record IsExp (s : Source) (n : ℕ) (i : List Terminal) (e : Exp) (d : ℕ) (o : List Token) (got : Read read.Exp) : Type 0 where

@@ -10,10 +10,10 @@ use Rattle.sml_tree.specs.TreeOf.{pat_of}
 use Rattle.sml_grammar.specs.Answer.{Read, Answer, ok}
 use Rattle.sml_grammar.specs.Terminals.{place_at}
 use Rattle.sml_grammar.specs.Patterns.{Bracketed}
-use Rattle.sml_phrases.specs.declared.source.Source.{Source}
+use Rattle.phrase_base.specs.declared.source.Source.{Source}
 use Rattle.sml_phrases.specs.declared.heads.Head.{Head}
 use Rattle.sml_phrases.specs.declared.heads.Pair.{Pair}
-use Rattle.sml_phrases.specs.Left.{left}
+use Rattle.phrase_base.specs.Left.{left}
 
 -- a head that begins at i, whose patterns are at most n deep
 pub record IsHead (s : Source) (n : ℕ) (i : List Terminal) (head : Head) (d : ℕ) (o : List Token) (got : Read read.Head) : Type 0 where

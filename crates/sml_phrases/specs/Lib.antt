@@ -1,9 +1,7 @@
 pub mod BindingsRead
 pub mod DeclarationsRead
 pub mod ExpressionsRead
-pub mod Gives
 pub mod HeadsRead
-pub mod Left
 pub mod PatternsRead
 pub mod Ties
 pub mod TypesRead

@@ -23,10 +23,10 @@ use Rattle.sml_grammar.specs.Answer as answer
 use Rattle.sml_grammar.specs.Terminals.{place_at, taken, after_word, infix_vid, names_vid}
 use Rattle.sml_grammar.specs.Patterns.{PatReader, PatRowRead, PatStart, wild_start, constant_start, vid_if, whole_pat_parts}
 use Rattle.sml_grammar.specs.Types.{read_ty}
-use Rattle.sml_phrases.specs.declared.source.Source.{Source}
+use Rattle.phrase_base.specs.declared.source.Source.{Source}
 use Rattle.sml_phrases.specs.declared.patterns.Suffix.{Suffix}
 use Rattle.sml_phrases.specs.declared.patterns.Suffix.TheVariants.{Colon, Joint}
-use Rattle.sml_phrases.specs.Left.{left}
+use Rattle.phrase_base.specs.Left.{left}
 
 -- a pattern that begins at i, at most n deep
 pub record IsPat (s : Source) (n : ℕ) (i : List Terminal) (pat : Pat) (d : ℕ) (o : List Token) (got : Read read.Pat) : Type 0 where

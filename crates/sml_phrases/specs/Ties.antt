@@ -11,8 +11,8 @@ use Rattle.sml_tree.specs.declared.tree.Joint.TheVariants.{AndAlso, OrElse, Infi
 use Rattle.sml_grammar.specs.Answer.{Answer, read, then_read, last, more}
 use Rattle.sml_grammar.specs.Types.{read_ty}
 use Rattle.sml_grammar.specs.Expressions.{Reader, Next, joint, mark, handler, next_of, part_next, whole_parts, read_match}
-use Rattle.sml_phrases.specs.Gives.{Fails}
-use Rattle.sml_phrases.specs.declared.stop.Stop.{Stop}
+use Rattle.phrase_base.specs.Gives.{Fails}
+use Rattle.phrase_base.specs.declared.stop.Stop.{Stop}
 use Rattle.sml_phrases.specs.declared.ties.Tie.{Tie}
 use Rattle.sml_phrases.specs.declared.ties.Tie.TheVariants as tie
 

@@ -14,10 +14,10 @@ use Rattle.mlc_base.specs.declared.token.Token.{Token}
 use Rattle.sml_grammar.specs.Answer.{Read, Answer, then_read, Turn}
 use Rattle.sml_grammar.specs.Terminals.{place_at, NoState, first_as, as_long_tycon, after_word, after_star, separated}
 use Rattle.sml_grammar.specs.Types.{TyReader, TyStart, var_start, con_if}
-use Rattle.sml_phrases.specs.declared.source.Source.{Source}
+use Rattle.phrase_base.specs.declared.source.Source.{Source}
 use Rattle.sml_phrases.specs.declared.types.Separator.{Separator}
 use Rattle.sml_phrases.specs.declared.types.Separator.TheVariants.{Comma, Star}
-use Rattle.sml_phrases.specs.Left.{left}
+use Rattle.phrase_base.specs.Left.{left}
 
 -- a type that begins at i, at most n deep
 pub record IsTy (s : Source) (n : ℕ) (i : List Terminal) (ty : Ty) (d : ℕ) (o : List Token) (got : Read read.Ty) : Type 0 where

@@ -10,25 +10,25 @@ ghost use Rattle.sml_tree.specs.TreeOf.{exp_of, part_of, rule_of, exp_field_of};
 ghost use Rattle.sml_grammar.specs.Answer.{Answer, whole, then_read};
 ghost use Rattle.sml_grammar.specs.Terminals.{no_state, place_at, tail, word_then};
 ghost use Rattle.sml_grammar.specs.Expressions.{readers, start_of, keyword_form, if_rest, application, atoms_turn, begins_atom, brace_exp, paren_in, bracket_exp, let_exp, read_match, whole_parts, case_rest};
-ghost use Rattle.sml_phrases.specs.Gives.{Gives};
-ghost use Rattle.sml_phrases.specs.Left.{left};
+ghost use Rattle.phrase_base.specs.Gives.{Gives};
+ghost use Rattle.phrase_base.specs.Left.{left};
 ghost use Rattle.sml_phrases.specs.ExpressionsRead.{IsExp, IsAtom, IsLarger, IsList, closed_exps, closed_rows, field_list, rule_list};
 ghost use Rattle.sml_phrases.specs.Ties.{joint_from, tie_level, tie_rest, FromFile};
 
 use crate::atoms::{begins_atom, is_keyword, leaf_atom, no_atom_room, no_room};
 use crate::declarations::read_decs;
-use crate::got::{Got, pushed};
+use phrase_base::got::{Got, pushed};
 use crate::nodes::{
     applied, chain, field, handler, lambda, list, part, raised, record_of, rule, tuple_from,
     tuple_of, typed,
 };
 use crate::patterns::read_pat;
-use crate::source::Source;
-use crate::stop::Stop;
+use phrase_base::source::Source;
+use phrase_base::stop::Stop;
 use crate::ties::{
     Tie, high_enough, joint_level, joint_right, next_joint, tie_at, tie_least, tie_level,
 };
-use crate::tokens::{after_word, label_at, past, place_at, room, tail, word_at};
+use phrase_base::tokens::{after_word, label_at, past, place_at, room, tail, word_at};
 use crate::types::read_ty;
 use mlc_base::make::with;
 use mlc_base::place::Place;

@@ -18,17 +18,17 @@ ghost use Rattle.sml_grammar.specs.Answer.{Read, then_read, whole};
 ghost use Rattle.sml_grammar.specs.Terminals.{NoState, no_state, place_at, after_word, binds_vid, infix_vid, taken, word_then};
 ghost use Rattle.sml_grammar.specs.Answer as answer;
 ghost use Rattle.sml_grammar.specs.Patterns.{PatReader, read_pats, begins_pat, at_pat, pat_start, brace_pat, bracket_pat, paren_pat_rest, paren_pat_in, pat_commas_turn, pat_row_turn, field, punned_field, pun, label_equals, pat_first, plain_form, vid_form, typed_form, typed_or_as, pat_suffix, pat_form, whole_pat_parts, atpats_turn};
-ghost use Rattle.sml_phrases.specs.Gives.{Gives};
-ghost use Rattle.sml_phrases.specs.Left.{left};
+ghost use Rattle.phrase_base.specs.Gives.{Gives};
+ghost use Rattle.phrase_base.specs.Left.{left};
 ghost use Rattle.sml_phrases.specs.VidPlace.{vid_place};
-ghost use Rattle.sml_phrases.specs.declared.stop.Stop.TheVariants.{Memory};
+ghost use Rattle.phrase_base.specs.declared.stop.Stop.TheVariants.{Memory};
 ghost use Rattle.sml_phrases.specs.PatternsRead.{IsPat, IsPatAt, IsPats, IsPatParts, IsPatField, IsPatRow, plain_pat_start, Suffixed, suffix_level, suffix_least, suffix_read, begins_other, begins_named};
 
-use crate::got::{Got, pushed};
-use crate::source::Source;
-use crate::stop::Stop;
+use phrase_base::got::{Got, pushed};
+use phrase_base::source::Source;
+use phrase_base::stop::Stop;
 use crate::ties::high_enough;
-use crate::tokens::{after_word, label_at, past, place_at, room};
+use phrase_base::tokens::{after_word, label_at, past, place_at, room};
 use crate::types::{maybe_ty, read_ty};
 use crate::vids::{
     binds_vid, constant_at, infix_level, infix_vid, joint_at, names_vid, plain_vid, vid_level,

@@ -5,18 +5,18 @@ ghost use Rattle.sml_tree.specs.Bare.{at};
 ghost use Rattle.sml_grammar.specs.Terminals.{place_at, taken};
 ghost use Rattle.sml_grammar.specs.Bindings.{precedence_then};
 ghost use Rattle.sml_grammar.specs.Expressions.{dec_start, is_dec_start, replicated, datatype_form, directive, infix_directive};
-ghost use Rattle.sml_phrases.specs.Gives.{Gives};
-ghost use Rattle.sml_phrases.specs.Left.{left};
+ghost use Rattle.phrase_base.specs.Gives.{Gives};
+ghost use Rattle.phrase_base.specs.Left.{left};
 ghost use Rattle.sml_phrases.specs.DeclarationsRead.{IsDec, simple_by};
 
 use crate::bindings::{
     read_data_binds, read_ex_binds, read_precedence, read_strids, read_type_binds, read_vids,
 };
-use crate::got::Got;
+use phrase_base::got::Got;
 use crate::nodes::{abbreviations, datatypes, exceptions, opened, replicated, withtype};
-use crate::source::Source;
-use crate::stop::Stop;
-use crate::tokens::{after_word, long_tycon_at, place_at, tail, tycon_at, word_at};
+use phrase_base::source::Source;
+use phrase_base::stop::Stop;
+use phrase_base::tokens::{after_word, long_tycon_at, place_at, tail, tycon_at, word_at};
 use mlc_base::make::with;
 use mlc_base::names::Name;
 use mlc_base::place::Place;

@@ -6,12 +6,12 @@ ghost use Rattle.sml_tree.specs.Levels.{joint_level, joint_right};
 ghost use Rattle.sml_tree.specs.Bare.{joint_of};
 ghost use Rattle.sml_grammar.specs.Expressions.{next_of, nothing};
 ghost use Rattle.sml_grammar.specs.Terminals.{tail};
-ghost use Rattle.sml_phrases.specs.Left.{left};
-ghost use Rattle.sml_phrases.specs.declared.stop.Stop.TheVariants.{Bad};
+ghost use Rattle.phrase_base.specs.Left.{left};
+ghost use Rattle.phrase_base.specs.declared.stop.Stop.TheVariants.{Bad};
 ghost use Rattle.sml_phrases.specs.Ties.{joint_from, next_from, FromFile, tie_level, tie_least, PartEnds, PartGoes, PartFails};
 
-use crate::source::Source;
-use crate::stop::Stop;
+use phrase_base::source::Source;
+use phrase_base::stop::Stop;
 use mlc_base::place::Place;
 use mlc_base::token::{Reserved, Token, TokenKind};
 use sml_tree::fixity::Fixities;

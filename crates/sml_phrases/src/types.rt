@@ -12,14 +12,14 @@ ghost use Rattle.sml_tree.specs.Derived.{tys_of};
 ghost use Rattle.sml_grammar.specs.Answer.{Read, then_read, whole};
 ghost use Rattle.sml_grammar.specs.Terminals.{NoState, no_state, place_at, after_word};
 ghost use Rattle.sml_grammar.specs.Types.{TyReader, read_ty, maybe_ty, begins_ty, ty_atom, ty_start, brace_ty, paren_rest, arguments, postfix_turn, product_rest, arrow_rest, ty_field_turn, arrow_turn};
-ghost use Rattle.sml_phrases.specs.Gives.{Gives};
-ghost use Rattle.sml_phrases.specs.Left.{left};
+ghost use Rattle.phrase_base.specs.Gives.{Gives};
+ghost use Rattle.phrase_base.specs.Left.{left};
 ghost use Rattle.sml_phrases.specs.TypesRead.{IsTy, IsTys, IsTyParts, IsTyFields, IsMaybeTy, plain_start, separator_level, after_separator, separator_turn};
 
-use crate::got::{Got, pushed};
-use crate::source::Source;
-use crate::stop::Stop;
-use crate::tokens::{
+use phrase_base::got::{Got, pushed};
+use phrase_base::source::Source;
+use phrase_base::stop::Stop;
+use phrase_base::tokens::{
     after_star, after_word, label_at, long_tycon_at, past, place_at, room, tyvar_at,
 };
 use mlc_base::make::{boxed, one, with};

@@ -8,13 +8,13 @@ ghost use Rattle.sml_tree.specs.Levels.{infix_level, vid_level, vid_right};
 ghost use Rattle.sml_tree.specs.TreeOf.{constant_of, long_vid_of};
 ghost use Rattle.sml_grammar.specs.Terminals.{place_at, first_as, as_constant, as_any_vid, as_any_long, as_qualified, plain_vid, infix_vid, binds_vid, names_vid, taken};
 ghost use Rattle.sml_grammar.specs.Bindings.{as_digit};
-ghost use Rattle.sml_phrases.specs.Left.{left};
+ghost use Rattle.phrase_base.specs.Left.{left};
 ghost use Rattle.sml_phrases.specs.VidPlace.{vid_place};
-ghost use Rattle.sml_phrases.specs.declared.stop.Stop.TheVariants.{Memory};
+ghost use Rattle.phrase_base.specs.declared.stop.Stop.TheVariants.{Memory};
 
-use crate::source::Source;
-use crate::stop::Stop;
-use crate::tokens::{after_word, place_at, vid_at};
+use phrase_base::source::Source;
+use phrase_base::stop::Stop;
+use phrase_base::tokens::{after_word, place_at, vid_at};
 use mlc_base::names::Name;
 use mlc_base::place::Place;
 use mlc_base::token::{Reserved, Token, TokenKind};

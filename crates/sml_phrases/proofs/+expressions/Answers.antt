@@ -5,10 +5,10 @@ use Rattle.sml_tree.specs.Terminal.{Terminal}
 use Rattle.sml_grammar.specs.Answer.{ok, whole, then_read, read, bad}
 use Rattle.sml_grammar.specs.Terminals.{place_at, tail, word_at, word_then, no_state, after_word, on_some}
 use Rattle.sml_grammar.specs.Expressions.{readers, dec_by, dec_start, suffix_turn, application, atom_by, atoms_turn, applied, apply_to, atom_start, begins_atom, case_rest, read_match, row_turn, rule_turn, part_turn}
-use Rattle.sml_phrases.specs.Gives.{Fails}
-use Rattle.sml_phrases.specs.Left.{left}
+use Rattle.phrase_base.specs.Gives.{Fails}
+use Rattle.phrase_base.specs.Left.{left}
 use Rattle.sml_phrases.specs.DeclarationsRead.{inner_decs, local_by, simple_by}
-use Rattle.sml_phrases.proofs.TypeForms.{word-shorter}
+use Rattle.phrase_base.proofs.Shorter.{word-shorter}
 use Rattle.sml_phrases.proofs.DecForms.{dec-by, dec-wider, IsOther, simple-is, local-at, tail-less, tail-shorter, val-done, fun-done, local-done}
 use Rattle.sml_phrases.proofs.DecLoops.{decs-start, decs-pass, decs-fails, decs-more, decs-last, funs-start, funs-fails, funs-more, funs-last}
 use Rattle.sml_phrases.proofs.BindLoops.{binds-start, binds-rec, binds-fails-pat, binds-fails-exp, binds-more, binds-last}
@@ -17,7 +17,7 @@ use Rattle.sml_phrases.proofs.+expressions.Goals as goal
 use Rattle.sml_phrases.proofs.+expressions.Goals.{declarations::read_dec-in_default-via-in-Some+in_default, declarations::read_dec-in_default-via-in_default}
 use Rattle.sml_tree.specs.Bare.{at, exp_list, operands}
 use Rattle.sml_tree.specs.TreeOf.{exp_of, exp_field_of, rule_of, part_of, pat_of, function_of}
-use Rattle.sml_phrases.proofs.Loop.{fails-then, fails-by, fails-bad, fails-deep}
+use Rattle.phrase_base.proofs.Loop.{fails-then, fails-by, fails-bad, fails-deep}
 use Rattle.sml_phrases.proofs.ExpSteps.{after-ok, exp-one, exp-zero, atom-one, atom-next, atom-zero, keyword-low, keyword-goes, exp-goes}
 use Rattle.sml_phrases.proofs.ExpSeeking.{seek-start, seek-none, seek-low, seek-bad, seek-deep, seek-fails, seek-more}
 use Rattle.sml_phrases.proofs.ExpForms.{apply-alone, apply-deep, apply-goes, brace-rows, at-fn, at-while, if-as, while-as, paren-tuple, paren-sequence}

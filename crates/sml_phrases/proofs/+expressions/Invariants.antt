@@ -1,6 +1,6 @@
 use Rattle.std.proofs.Common.{◌≤◌, ◌+◌, ◌*◌, length, ◌≡◌, ◌<◌, ◌-◌, map, true}
 use Rattle.sml_grammar.specs.Expressions.{readers, read_binds, read_clauses, read_funs, atoms_turn, begins_atom, row_turn, rule_turn, part_turn, read_match, whole_parts}
-use Rattle.sml_phrases.specs.Left.{left}
+use Rattle.phrase_base.specs.Left.{left}
 use Rattle.sml_phrases.proofs.DecLoops.{DecsGoing, FunsGoing}
 use Rattle.sml_phrases.proofs.ClauseLoops.{ClausesGoing}
 use Rattle.sml_phrases.proofs.BindLoops.{BindsGoing}

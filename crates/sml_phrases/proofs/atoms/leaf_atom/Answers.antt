@@ -5,7 +5,7 @@ use Rattle.sml_tree.specs.ReadTree as read
 use Rattle.sml_tree.specs.ReadTree.{Placed}
 use Rattle.sml_tree.specs.TreeOf.{long_vid_of}
 use Rattle.sml_grammar.specs.Terminals.{place_at}
-use Rattle.sml_phrases.specs.Left.{left}
+use Rattle.phrase_base.specs.Left.{left}
 use Rattle.sml_phrases.specs.VidPlace.{vid_place}
 use Rattle.sml_phrases.proofs.ExpLemmas.{leaf-vid, vid-shorter}
 use Rattle.sml_phrases.proofs.atoms.leaf_atom.Goals as goal

@@ -2,7 +2,7 @@ use Rattle.std.proofs.Common.{arith}
 use Rattle.sml_grammar.specs.Answer.{whole}
 use Rattle.sml_grammar.specs.Bindings.{tyvar_turn}
 use Rattle.sml_grammar.specs.Terminals.{place_at, no_state}
-use Rattle.sml_phrases.specs.Left.{left}
+use Rattle.phrase_base.specs.Left.{left}
 use Rattle.sml_phrases.proofs.BindLists.{tyvars-start, tyvars-none, tyvars-open, tyvars-more, tyvars-last}
 use Rattle.sml_phrases.proofs.bindings.bracketed_tyvars.Goals as goal
 

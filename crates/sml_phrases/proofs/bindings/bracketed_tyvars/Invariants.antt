@@ -2,7 +2,7 @@ use Rattle.std.proofs.Common.{◌≤◌, length}
 use Rattle.sml_grammar.specs.Answer.{whole}
 use Rattle.sml_grammar.specs.Terminals.{no_state}
 use Rattle.sml_grammar.specs.Bindings.{tyvar_turn}
-use Rattle.sml_phrases.specs.Left.{left}
+use Rattle.phrase_base.specs.Left.{left}
 use Rattle.sml_phrases.proofs.BindLists.{TyvarsGoing}
 use Rattle.sml_phrases.proofs.bindings.bracketed_tyvars.Given as goal
 

@@ -1,5 +1,5 @@
 use Rattle.std.proofs.lemmas.Option.{MatchOption-at_some}
-use Rattle.sml_phrases.specs.Left.{left}
+use Rattle.phrase_base.specs.Left.{left}
 use Rattle.sml_phrases.proofs.BindParts.{ex-same, ex-new}
 use Rattle.sml_phrases.proofs.bindings.ex_bind.Goals as goal
 

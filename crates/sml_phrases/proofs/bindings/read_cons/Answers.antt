@@ -1,7 +1,7 @@
 use Rattle.std.proofs.Common.{arith}
 use Rattle.std.proofs.lemmas.Result.{err_from_is_err_and}
 use Rattle.sml_grammar.specs.Bindings.{read_cons}
-use Rattle.sml_phrases.specs.Left.{left}
+use Rattle.phrase_base.specs.Left.{left}
 use Rattle.sml_phrases.proofs.BindLists.{cons-start, cons-fail, cons-more, cons-last}
 use Rattle.sml_phrases.proofs.bindings.read_cons.Goals as goal
 

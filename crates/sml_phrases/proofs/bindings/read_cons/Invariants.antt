@@ -1,6 +1,6 @@
 use Rattle.std.proofs.Common.{◌≤◌, length}
 use Rattle.sml_grammar.specs.Bindings.{read_cons}
-use Rattle.sml_phrases.specs.Left.{left}
+use Rattle.phrase_base.specs.Left.{left}
 use Rattle.sml_phrases.proofs.BindLists.{ConsGoing}
 use Rattle.sml_phrases.proofs.bindings.read_cons.Given as goal
 

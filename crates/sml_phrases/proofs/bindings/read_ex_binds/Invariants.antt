@@ -1,6 +1,6 @@
 use Rattle.std.proofs.Common.{◌≤◌, length}
 use Rattle.sml_grammar.specs.Bindings.{read_ex_binds}
-use Rattle.sml_phrases.specs.Left.{left}
+use Rattle.phrase_base.specs.Left.{left}
 use Rattle.sml_phrases.proofs.BindLists.{ExnsGoing}
 use Rattle.sml_phrases.proofs.bindings.read_ex_binds.Given as goal
 

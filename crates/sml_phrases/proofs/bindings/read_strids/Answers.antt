@@ -4,7 +4,7 @@ use Rattle.sml_tree.specs.Bare.{bare_long}
 use Rattle.sml_tree.specs.TreeOf.{long_id_of, long_id_at_of}
 use Rattle.sml_tree.specs.declared.tree.LongIdAt as code
 use Rattle.sml_grammar.specs.Terminals.{as_long_strid, place_at}
-use Rattle.sml_phrases.specs.Left.{left}
+use Rattle.phrase_base.specs.Left.{left}
 use Rattle.sml_phrases.proofs.Runs.{run-begins, run-more, run-short}
 use Rattle.sml_phrases.proofs.bindings.read_strids.Goals as goal
 

@@ -3,7 +3,7 @@ use Rattle.sml_tree.specs.Bare.{bare_long}
 use Rattle.sml_tree.specs.TreeOf.{long_id_at_of}
 use Rattle.sml_grammar.specs.Terminals.{as_long_strid}
 use Rattle.sml_grammar.specs.Bindings.{read_strids}
-use Rattle.sml_phrases.specs.Left.{left}
+use Rattle.phrase_base.specs.Left.{left}
 use Rattle.sml_phrases.proofs.Runs.{Run}
 use Rattle.sml_phrases.proofs.bindings.read_strids.Given as goal
 

@@ -1,6 +1,6 @@
 use Rattle.std.proofs.Common.{◌≤◌, length}
 use Rattle.sml_grammar.specs.Bindings.{read_type_binds}
-use Rattle.sml_phrases.specs.Left.{left}
+use Rattle.phrase_base.specs.Left.{left}
 use Rattle.sml_phrases.proofs.BindLists.{TypesGoing}
 use Rattle.sml_phrases.proofs.bindings.read_type_binds.Given as goal
 

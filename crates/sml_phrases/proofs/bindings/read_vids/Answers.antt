@@ -1,6 +1,6 @@
 use Rattle.std.proofs.Common.{length, refl, arith}
 use Rattle.sml_grammar.specs.Terminals.{as_vid, place_at}
-use Rattle.sml_phrases.specs.Left.{left}
+use Rattle.phrase_base.specs.Left.{left}
 use Rattle.sml_phrases.proofs.Runs.{run-begins, run-more, run-short}
 use Rattle.sml_phrases.proofs.bindings.read_vids.Goals as goal
 

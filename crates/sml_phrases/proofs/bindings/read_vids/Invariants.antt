@@ -1,7 +1,7 @@
 use Rattle.std.proofs.Common.{◌≤◌, ◌+◌, length}
 use Rattle.sml_grammar.specs.Terminals.{as_vid}
 use Rattle.sml_grammar.specs.Bindings.{read_vids}
-use Rattle.sml_phrases.specs.Left.{left}
+use Rattle.phrase_base.specs.Left.{left}
 use Rattle.sml_phrases.proofs.Runs.{Run}
 use Rattle.sml_phrases.proofs.bindings.read_vids.Given as goal
 

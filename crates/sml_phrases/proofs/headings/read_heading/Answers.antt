@@ -6,10 +6,10 @@ use Rattle.sml_tree.specs.declared.tree.Pat.{Pat}
 use Rattle.sml_grammar.specs.Answer.{ok}
 use Rattle.sml_grammar.specs.Terminals.{after_word}
 use Rattle.sml_grammar.specs.Types.{maybe_ty}
-use Rattle.sml_phrases.specs.Gives.{Fails}
-use Rattle.sml_phrases.specs.Left.{left}
+use Rattle.phrase_base.specs.Gives.{Fails}
+use Rattle.phrase_base.specs.Left.{left}
 use Rattle.sml_phrases.specs.DeclarationsRead.{shape_from}
-use Rattle.sml_phrases.proofs.Loop.{fails-bad}
+use Rattle.phrase_base.proofs.Loop.{fails-bad}
 use Rattle.sml_phrases.proofs.HeadingForms.{heading-disagrees, heading-fails, heading-done}
 use Rattle.sml_phrases.proofs.headings.read_heading.Goals as goal
 

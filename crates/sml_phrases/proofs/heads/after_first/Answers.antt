@@ -2,7 +2,7 @@ use Rattle.std.proofs.Common.{◌≡◌, ℕ, List, subst, None}
 use Rattle.sml_tree.specs.Terminal.{Terminal}
 use Rattle.sml_tree.specs.ReadTree.{Placed}
 use Rattle.sml_grammar.specs.Terminals.{place_at, infix_vid, taken}
-use Rattle.sml_phrases.specs.Left.{left}
+use Rattle.phrase_base.specs.Left.{left}
 use Rattle.sml_phrases.proofs.HeadForms.{none-infix, none-right}
 use Rattle.sml_phrases.proofs.HeadPairs.{pair-from}
 use Rattle.sml_phrases.proofs.heads.after_first.Goals as goal

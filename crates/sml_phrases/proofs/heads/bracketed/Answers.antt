@@ -1,5 +1,5 @@
 use Rattle.std.proofs.Common.{arith}
-use Rattle.sml_phrases.specs.Left.{left}
+use Rattle.phrase_base.specs.Left.{left}
 use Rattle.sml_phrases.proofs.HeadForms.{none-two, none-paren, none-left}
 use Rattle.sml_phrases.proofs.heads.bracketed.Goals as goal
 

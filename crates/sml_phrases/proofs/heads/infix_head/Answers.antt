@@ -2,9 +2,9 @@ use Rattle.std.proofs.Common.{refl}
 use Rattle.std.proofs.lemmas.Result.{err_from_is_err_and}
 use Rattle.sml_tree.specs.declared.ident.Vid.TheVariants.{Named}
 use Rattle.sml_grammar.specs.Patterns.{read_atpat}
-use Rattle.sml_phrases.specs.Left.{left}
+use Rattle.phrase_base.specs.Left.{left}
 use Rattle.sml_phrases.proofs.HeadReads.{infix-said}
-use Rattle.sml_phrases.proofs.Loop.{fails-then}
+use Rattle.phrase_base.proofs.Loop.{fails-then}
 use Rattle.sml_phrases.proofs.heads.infix_head.Goals as goal
 
 pub returns : goal.returns

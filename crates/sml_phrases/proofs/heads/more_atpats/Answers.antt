@@ -6,8 +6,8 @@ use Rattle.sml_tree.specs.Depth.{depth_pats}
 use Rattle.sml_tree.specs.TreeOf.{pat_of}
 use Rattle.sml_grammar.specs.Terminals.{no_state}
 use Rattle.sml_grammar.specs.Patterns.{atpats_turn}
-use Rattle.sml_phrases.specs.Left.{left}
-use Rattle.sml_phrases.proofs.Listing.{listing-start}
+use Rattle.phrase_base.specs.Left.{left}
+use Rattle.phrase_base.proofs.Listing.{listing-start}
 use Rattle.sml_phrases.proofs.PatLists.{atpats-more, atpats-last, atpats-fails}
 use Rattle.sml_phrases.proofs.heads.more_atpats.Goals as goal
 

@@ -2,7 +2,7 @@ use Rattle.std.proofs.Common.{◌≤◌, length}
 use Rattle.sml_grammar.specs.Answer.{whole}
 use Rattle.sml_grammar.specs.Terminals.{no_state}
 use Rattle.sml_grammar.specs.Patterns.{atpats_turn}
-use Rattle.sml_phrases.specs.Left.{left}
+use Rattle.phrase_base.specs.Left.{left}
 use Rattle.sml_phrases.proofs.PatLists.{AtPatsGoing}
 use Rattle.sml_phrases.proofs.heads.more_atpats.Given as goal
 

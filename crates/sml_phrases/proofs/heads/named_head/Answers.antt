@@ -4,7 +4,7 @@ use Rattle.sml_tree.specs.BareTree as tree
 use Rattle.sml_tree.specs.ReadTree.{Placed, vid_pat}
 use Rattle.sml_grammar.specs.Terminals.{place_at, short}
 use Rattle.sml_grammar.specs.Patterns.{vid_head, infix_rest, prefix_rest, short_at}
-use Rattle.sml_phrases.specs.Left.{left}
+use Rattle.phrase_base.specs.Left.{left}
 use Rattle.sml_tree.specs.declared.ident.Vid.{Vid}
 use Rattle.sml_phrases.proofs.Rolls.{pat_of-Vid}
 use Rattle.sml_phrases.proofs.VidShorter.{infix-shorter}

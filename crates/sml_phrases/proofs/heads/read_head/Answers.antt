@@ -4,7 +4,7 @@ use Rattle.sml_tree.specs.Terminal.{Terminal}
 use Rattle.sml_tree.specs.ReadTree.{Placed}
 use Rattle.sml_grammar.specs.Terminals.{place_at}
 use Rattle.sml_grammar.specs.Patterns.{read_head, vid_head, infix_rest, bracket_rest}
-use Rattle.sml_phrases.specs.Left.{left}
+use Rattle.phrase_base.specs.Left.{left}
 use Rattle.sml_phrases.specs.VidPlace.{vid_place}
 use Rattle.sml_tree.specs.declared.ident.Vid.{Vid}
 use Rattle.sml_phrases.specs.HeadsRead.{IsPair}

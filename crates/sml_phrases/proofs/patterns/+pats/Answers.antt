@@ -11,17 +11,17 @@ use Rattle.sml_tree.specs.TreeOf.{pat_of, ty_of, long_vid_of}
 use Rattle.sml_grammar.specs.Answer.{Read, ok, then_read, read, whole}
 use Rattle.sml_grammar.specs.Terminals.{place_at, no_state, word_then}
 use Rattle.sml_grammar.specs.Patterns.{read_pats, at_pat, pat_start, plain_form, vid_form, short_at, typed_form, pat_suffix, paren_pat_in, pat_commas_turn}
-use Rattle.sml_phrases.specs.Gives.{Fails}
-use Rattle.sml_phrases.specs.Left.{left}
+use Rattle.phrase_base.specs.Gives.{Fails}
+use Rattle.phrase_base.specs.Left.{left}
 use Rattle.sml_phrases.specs.VidPlace.{vid_place}
 use Rattle.sml_tree.specs.ReadTree.{Placed}
 use Rattle.sml_tree.specs.Terminal.{LongVid}
 use Rattle.sml_tree.specs.declared.ident.Vid.{Vid}
 use Rattle.sml_phrases.specs.PatternsRead.{IsPatAt}
-use Rattle.sml_phrases.proofs.Loop.{fails-bad, fails-deep}
-use Rattle.sml_phrases.proofs.Listing.{listing-start}
+use Rattle.phrase_base.proofs.Loop.{fails-bad, fails-deep}
+use Rattle.phrase_base.proofs.Listing.{listing-start}
 use Rattle.sml_phrases.proofs.Rolls.{pat_of-Vid}
-use Rattle.sml_phrases.proofs.TypeForms.{word-shorter}
+use Rattle.phrase_base.proofs.Shorter.{word-shorter}
 use Rattle.sml_phrases.proofs.VidShorter.{infix-shorter}
 use Rattle.sml_phrases.proofs.PatForms.{pat-zero, atpat-zero, high-gives, vid-gives, none-gives, atpat-one, pat-gives, atpat-gives, pat-plain-start, plain-pat-gives, Seeking, seeking-none, seeking-low, seeking-bad, seeking-deep, seeking-fails, seeking-more, pat-by, patat-by, vid-as, typed-as, typed-else, typed-is, plain-first, paren-comma-pat, con-said}
 use Rattle.sml_phrases.proofs.PatLists.{pats-more, pats-last, pats-fails, row-start, row-dots, row-fails, row-more, row-last}

@@ -8,7 +8,7 @@ use Rattle.sml_tree.specs.declared.ident.Vid.TheVariants.{Named}
 use Rattle.sml_grammar.specs.Answer.{Read, whole}
 use Rattle.sml_grammar.specs.Terminals.{no_state, place_at}
 use Rattle.sml_grammar.specs.Patterns.{read_pats, pat_commas_turn, pat_row_turn, pat_suffix, whole_pat_parts}
-use Rattle.sml_phrases.specs.Left.{left}
+use Rattle.phrase_base.specs.Left.{left}
 use Rattle.sml_phrases.specs.PatternsRead.{IsPatAt}
 use Rattle.sml_phrases.proofs.PatForms.{Seeking}
 use Rattle.sml_phrases.proofs.PatLists.{PatsGoing, RowGoing}

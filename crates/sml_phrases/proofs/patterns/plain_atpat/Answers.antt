@@ -2,7 +2,7 @@ use Rattle.std.proofs.Common.{ap, ◌∙◌}
 use Rattle.sml_tree.specs.BareTree as tree
 use Rattle.sml_tree.specs.TreeOf.{long_vid_of}
 use Rattle.mlc_base.specs.declared.place.Place.{Place}
-use Rattle.sml_phrases.specs.Left.{left}
+use Rattle.phrase_base.specs.Left.{left}
 use Rattle.sml_phrases.specs.VidPlace.{vid_place}
 use Rattle.sml_phrases.proofs.PatForms.{wild-said, vid-said}
 use Rattle.sml_phrases.proofs.Rolls.{pat_of-Wild, pat_of-Vid}

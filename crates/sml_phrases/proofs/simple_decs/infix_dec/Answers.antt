@@ -1,7 +1,7 @@
 use Rattle.std.proofs.Common.{refl}
 use Rattle.sml_grammar.specs.Bindings.{precedence_then}
 use Rattle.sml_grammar.specs.Expressions.{infix_directive}
-use Rattle.sml_phrases.specs.Left.{left}
+use Rattle.phrase_base.specs.Left.{left}
 use Rattle.sml_phrases.proofs.DecForms.{dec-by, dec-wider, precedence-is}
 use Rattle.sml_phrases.proofs.simple_decs.infix_dec.Goals as goal
 

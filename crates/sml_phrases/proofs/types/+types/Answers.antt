@@ -12,14 +12,15 @@ use Rattle.sml_tree.specs.declared.tree.TyField.{TyField}
 use Rattle.sml_grammar.specs.Answer.{Read, ok}
 use Rattle.sml_grammar.specs.Terminals.{as_label, no_state}
 use Rattle.sml_grammar.specs.Types.{read_ty, arrow_rest, arrow_turn, ty_field_turn}
-use Rattle.sml_phrases.specs.declared.got.Got.{Got}
-use Rattle.sml_phrases.specs.Gives.{Gives}
-use Rattle.sml_phrases.specs.Left.{left}
+use Rattle.phrase_base.specs.declared.got.Got.{Got}
+use Rattle.phrase_base.specs.Gives.{Gives}
+use Rattle.phrase_base.specs.Left.{left}
 use Rattle.sml_phrases.specs.TypesRead.{IsTy, separator_turn}
-use Rattle.sml_phrases.proofs.Loop.{fails-bad}
-use Rattle.sml_phrases.proofs.Listing.{listing-start, listing-at}
+use Rattle.phrase_base.proofs.Loop.{fails-bad}
+use Rattle.phrase_base.proofs.Listing.{listing-start, listing-at}
 use Rattle.sml_phrases.proofs.Rolls.{ty_field-of, ty_part-of}
-use Rattle.sml_phrases.proofs.TypeForms.{gives-by, word-shorter, separator-shorter, first-shorter, plain-start, read-zero, atom-fails, applied-fails, product-fails, after-product, arguments-done, con-of, plain-gives}
+use Rattle.sml_phrases.proofs.TypeForms.{gives-by, separator-shorter, plain-start, read-zero, atom-fails, applied-fails, product-fails, after-product, arguments-done, con-of, plain-gives}
+use Rattle.phrase_base.proofs.Shorter.{word-shorter, first-shorter}
 use Rattle.sml_phrases.proofs.TypeLists.{ty_field_list, tys-more, tys-last, tys-fails, parts-more, parts-last, parts-fails, fields-more, fields-last, fields-fail, fields-no_label, fields-no_colon, is_tys-at, is_parts-at, is_fields-at}
 use Rattle.sml_phrases.proofs.types.+types.Goals as goal
 

@@ -2,7 +2,7 @@ use Rattle.std.proofs.Common.{◌≤◌, ◌+◌, ◌*◌, length, [], ◌∷◌
 use Rattle.sml_grammar.specs.Answer.{whole}
 use Rattle.sml_grammar.specs.Terminals.{no_state}
 use Rattle.sml_grammar.specs.Types.{read_ty, arrow_turn, ty_field_turn}
-use Rattle.sml_phrases.specs.Left.{left}
+use Rattle.phrase_base.specs.Left.{left}
 use Rattle.sml_phrases.specs.TypesRead.{separator_turn}
 use Rattle.sml_phrases.proofs.TypeLists.{TysGoing, PartsGoing, FieldsGoing}
 use Rattle.sml_phrases.proofs.types.+types.Given as goal

@@ -1,6 +1,6 @@
 use Rattle.std.proofs.Common.{refl, ◌∙◌}
 use Rattle.std.proofs.lemmas.Result.{err_from_is_err_and}
-use Rattle.sml_phrases.proofs.Loop.{fails-deep}
+use Rattle.phrase_base.proofs.Loop.{fails-deep}
 use Rattle.sml_phrases.proofs.TypeForms.{applying-last, applying-deep, applying-more}
 use Rattle.sml_phrases.proofs.types.applied_ty.Goals as goal
 

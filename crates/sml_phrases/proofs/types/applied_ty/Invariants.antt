@@ -5,7 +5,7 @@ use Rattle.sml_tree.specs.Bare.{at}
 use Rattle.sml_grammar.specs.Answer.{Read, whole}
 use Rattle.sml_grammar.specs.Terminals.{place_at}
 use Rattle.sml_grammar.specs.Types.{postfix_turn}
-use Rattle.sml_phrases.specs.Left.{left}
+use Rattle.phrase_base.specs.Left.{left}
 use Rattle.sml_phrases.specs.TypesRead.{IsTy}
 use Rattle.sml_phrases.proofs.TypeForms.{Applying}
 use Rattle.sml_phrases.proofs.types.applied_ty.Given as goal

@@ -1,4 +1,4 @@
-use Rattle.sml_phrases.specs.Left.{left}
+use Rattle.phrase_base.specs.Left.{left}
 use Rattle.sml_phrases.proofs.VidForms.{long-short, long-qualified, long-none}
 use Rattle.sml_phrases.proofs.vids.any_long.Goals as goal
 

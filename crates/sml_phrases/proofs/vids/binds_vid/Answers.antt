@@ -1,4 +1,4 @@
-use Rattle.sml_phrases.specs.Left.{left}
+use Rattle.phrase_base.specs.Left.{left}
 use Rattle.sml_phrases.proofs.VidForms.{binds-op, place-op}
 use Rattle.sml_phrases.proofs.vids.binds_vid.Goals as goal
 

@@ -1,4 +1,4 @@
-use Rattle.sml_phrases.specs.Left.{left}
+use Rattle.phrase_base.specs.Left.{left}
 use Rattle.sml_phrases.proofs.VidForms.{names-op, place-op}
 use Rattle.sml_phrases.proofs.vids.names_vid.Goals as goal
 

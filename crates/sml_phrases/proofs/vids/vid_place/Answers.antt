@@ -1,6 +1,6 @@
 use Rattle.std.proofs.Common.{sym, ap, ◌∙◌}
 use Rattle.sml_tree.specs.Bare.{at}
-use Rattle.sml_phrases.specs.Left.{left}
+use Rattle.phrase_base.specs.Left.{left}
 use Rattle.sml_phrases.proofs.VidForms.{place-op, place-plain}
 use Rattle.sml_phrases.proofs.vids.vid_place.Goals as goal
 

@@ -2,9 +2,9 @@
 use Rattle.std.proofs.Common.{◌≡◌, ℕ, zero, suc, ◌<◌, List, length, refl, sym, ap, ◌∙◌, subst, arith}
 use Rattle.sml_tree.specs.Terminal.{Terminal}
 use Rattle.sml_grammar.specs.Answer.{Answer, ok, bad, deep, read, then_read, Turn, last, more, after_turn, many, whole}
-use Rattle.sml_phrases.specs.declared.stop.Stop.{Stop}
-use Rattle.sml_phrases.specs.declared.stop.Stop.TheVariants as stop
-use Rattle.sml_phrases.specs.Gives.{Fails}
+use Rattle.phrase_base.specs.declared.stop.Stop.{Stop}
+use Rattle.phrase_base.specs.declared.stop.Stop.TheVariants as stop
+use Rattle.phrase_base.specs.Gives.{Fails}
 
 pub fails-then : {A B : Type 0} (e : Stop) (a : Answer A) (g : A → List Terminal → Answer B) → Fails e a → Fails e (then_read a g)
 fails-then stop.Memory a g h = tt

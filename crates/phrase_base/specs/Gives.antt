@@ -1,8 +1,8 @@
 -- What a function of the parser returned, against the answer of the reading function.
 use Rattle.std.specs.Prelude.{◌≡◌, Result, Ok, Err}
 use Rattle.sml_grammar.specs.Answer.{Read, Answer, ok, bad, deep}
-use Rattle.sml_phrases.specs.declared.stop.Stop.{Stop}
-use Rattle.sml_phrases.specs.declared.stop.Stop.TheVariants as stop
+use Rattle.phrase_base.specs.declared.stop.Stop.{Stop}
+use Rattle.phrase_base.specs.declared.stop.Stop.TheVariants as stop
 
 -- a failure is the answer's, unless memory ran out
 abbrev pub Fails : {A : Type 0} → Stop → Answer A → Type 0

@@ -2,9 +2,9 @@
 use Rattle.std.proofs.Common.{◌≡◌, ℕ, ◌<◌, ◌≤◌, List, [], ◌∷◌, ◌++◌, length, max, refl, sym, ap, ◌∙◌, subst, arith, append_assoc}
 use Rattle.sml_tree.specs.Terminal.{Terminal}
 use Rattle.sml_grammar.specs.Answer.{Answer, ok, bad, deep, read, Turn, last, more, whole}
-use Rattle.sml_phrases.specs.declared.stop.Stop.{Stop}
-use Rattle.sml_phrases.specs.Gives.{Fails}
-use Rattle.sml_phrases.proofs.Loop.{Going, going-start, going-more, going-last, going-fails}
+use Rattle.phrase_base.specs.declared.stop.Stop.{Stop}
+use Rattle.phrase_base.specs.Gives.{Fails}
+use Rattle.phrase_base.proofs.Loop.{Going, going-start, going-more, going-last, going-fails}
 
 -- the elements `done` were read, the deepest is d deep, and `start` with its depth d0 stood before what the loop reads
 pub record Listing {B S V : Type 0} (step : S → List Terminal → Answer (Turn B S)) (s : S) (i : List Terminal) (view : B → List V) (dep : B → ℕ) (n : ℕ) (start : List V) (d0 : ℕ) (done : List V) (d : ℕ) (total : Answer B) : Type 0 where

@@ -2,7 +2,7 @@
 use Rattle.std.specs.Prelude.{List}
 use Rattle.mlc_base.specs.declared.token.Token.{Token}
 use Rattle.sml_tree.specs.Terminal.{Terminal, terminals}
-use Rattle.sml_phrases.specs.declared.source.Source.{Source}
+use Rattle.phrase_base.specs.declared.source.Source.{Source}
 
 abbrev pub left : Source → List Token → List Terminal
 left s tokens = terminals s.star tokens

@@ -1,7 +1,7 @@
 // Why reading stops.
 
 ghost use Rattle.std.specs.Prelude.{◌≡◌};
-ghost use Rattle.sml_phrases.specs.declared.stop.Stop.TheVariants.{Memory};
+ghost use Rattle.phrase_base.specs.declared.stop.Stop.TheVariants.{Memory};
 
 use mlc_base::memory::NoMemory;
 use std::alloc::{AllocError, AllocFailed};

@@ -4,8 +4,8 @@ ghost use Rattle.std.specs.Prelude.{◌≡◌, ◌<◌, ◌≤◌, length, map, 
 ghost use Rattle.sml_tree.specs.Bare as bare;
 ghost use Rattle.sml_grammar.specs.Terminals.{after_word, after_star, place_at, word_at, tail, first_as, as_label, as_vid, as_tycon, as_tyvar, as_long_tycon, as_long_strid, taken};
 ghost use Rattle.sml_tree.specs.TreeOf.{long_id_of};
-ghost use Rattle.sml_phrases.specs.Left.{left};
-ghost use Rattle.sml_phrases.specs.declared.stop.Stop.TheVariants.{Memory, Bad, Deep};
+ghost use Rattle.phrase_base.specs.Left.{left};
+ghost use Rattle.phrase_base.specs.declared.stop.Stop.TheVariants.{Memory, Bad, Deep};
 
 use crate::source::Source;
 use crate::stop::Stop;

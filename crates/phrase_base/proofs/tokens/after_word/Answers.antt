@@ -1,7 +1,7 @@
 use Rattle.std.proofs.Common.{Some, ◌∙◌, sym, ap}
-use Rattle.sml_phrases.specs.Left.{left}
-use Rattle.sml_phrases.proofs.Words.{after_here, after_elsewhere}
-use Rattle.sml_phrases.proofs.tokens.after_word.Goals as goal
+use Rattle.phrase_base.specs.Left.{left}
+use Rattle.phrase_base.proofs.Words.{after_here, after_elsewhere}
+use Rattle.phrase_base.proofs.tokens.after_word.Goals as goal
 
 pub returns-then-eq : goal.returns-then-eq
 returns-then-eq c =

@@ -5,11 +5,11 @@ use Rattle.mlc_base.specs.declared.token.Reserved.{Reserved}
 use Rattle.sml_tree.specs.Terminal.{Terminal}
 use Rattle.sml_grammar.specs.Answer.{Read, Answer, ok, read, then_read, Turn, last, more, whole}
 use Rattle.sml_grammar.specs.Terminals.{after_word, separated, NoState, no_state}
-use Rattle.sml_phrases.specs.declared.stop.Stop.{Stop}
-use Rattle.sml_phrases.specs.Gives.{Fails}
-use Rattle.sml_phrases.proofs.Loop.{fails-then, fails-by}
-use Rattle.sml_phrases.proofs.TypeForms.{word-shorter}
-use Rattle.sml_phrases.proofs.Listing.{Listing, listing-start, listing-more, listing-last, listing-fails}
+use Rattle.phrase_base.specs.declared.stop.Stop.{Stop}
+use Rattle.phrase_base.specs.Gives.{Fails}
+use Rattle.phrase_base.proofs.Loop.{fails-then, fails-by}
+use Rattle.phrase_base.proofs.Shorter.{word-shorter}
+use Rattle.phrase_base.proofs.Listing.{Listing, listing-start, listing-more, listing-last, listing-fails}
 
 -- the elements `all` were read, the deepest is d deep
 abbrev pub Elements : {X A V : Type 0} → (NoState → List Terminal → Answer (Turn (List A) NoState)) → (X → V) → (A → V) → (List A → ℕ) → ℕ → List Terminal → List X → ℕ → Answer (List A) → Type 0

@@ -1,0 +1,3 @@
+pub mod DescsRead
+pub mod ListsRead
+pub mod FormsRead
