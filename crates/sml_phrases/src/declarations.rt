@@ -70,7 +70,7 @@ pub fn read_decs<'a>(
 
 /// A declaration, and what it does to the fixities in force.
 #[cycle(expressions)]
-fn read_dec<'a>(
+pub fn read_dec<'a>(
     alloc: Global,
     source: &Source,
     fix: &mut Fixities,

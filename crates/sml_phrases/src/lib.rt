@@ -4,10 +4,10 @@
 mod atoms;
 pub mod bindings;
 pub mod declarations;
-mod expressions;
+pub mod expressions;
 mod headings;
 mod heads;
-mod nodes;
+pub mod nodes;
 mod patterns;
 mod simple_decs;
 mod ties;
