@@ -5,9 +5,9 @@ ghost use Rattle.std.specs.Prelude.{◌<◌, ◌^◌, ◌+◌, length};
 use mlc_base::memory::NoMemory;
 use mlc_base::names::Names;
 use mlc_base::refused::Refused;
+use phrase_base::source::Source;
 use sml_lexer::lex::lex;
 use sml_parser::read::{Core, read_core};
-use phrase_base::source::Source;
 use sml_tree::fixity::Fixities;
 use std::alloc::Global;
 

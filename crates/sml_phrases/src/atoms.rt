@@ -12,14 +12,14 @@ ghost use Rattle.sml_phrases.specs.VidPlace.{vid_place};
 ghost use Rattle.sml_phrases.specs.ExpressionsRead.{IsAtom, leaf_by, atom_vid};
 ghost use Rattle.phrase_base.specs.declared.stop.Stop.TheVariants.{Memory};
 
-use phrase_base::got::Got;
 use crate::nodes::{constant, name};
-use phrase_base::source::Source;
-use phrase_base::stop::Stop;
 use crate::ties::is_infix;
-use phrase_base::tokens::{after_word, label_at, place_at};
 use crate::vids::{constant_at, names_vid, vid_place};
 use mlc_base::token::{Reserved, Token, TokenKind};
+use phrase_base::got::Got;
+use phrase_base::source::Source;
+use phrase_base::stop::Stop;
+use phrase_base::tokens::{after_word, label_at, place_at};
 use sml_tree::derive::selector;
 use sml_tree::fixity::Fixities;
 use sml_tree::ident::{LongVid, Vid};

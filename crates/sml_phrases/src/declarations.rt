@@ -16,18 +16,18 @@ ghost use Rattle.sml_phrases.specs.DeclarationsRead.{IsBinds, IsFunction, IsDec,
 
 use crate::bindings::{read_tyvars, tyvar_seq};
 use crate::expressions::read_after;
-use phrase_base::got::{Got, pushed};
 use crate::headings::{Shape, clause_from, read_heading};
 use crate::nodes::{bind, function, functions, local, val};
 use crate::patterns::read_pat;
 use crate::simple_decs::{begins_dec, simple_dec};
-use phrase_base::source::Source;
-use phrase_base::stop::Stop;
-use phrase_base::tokens::{after_word, past, place_at, tail, word_at};
 use mlc_base::make::with;
 use mlc_base::memory::NoMemory;
 use mlc_base::place::Place;
 use mlc_base::token::{Reserved, Token};
+use phrase_base::got::{Got, pushed};
+use phrase_base::source::Source;
+use phrase_base::stop::Stop;
+use phrase_base::tokens::{after_word, past, place_at, tail, word_at};
 use sml_tree::fixity::Fixities;
 use sml_tree::ident::Vid;
 use sml_tree::tree::{Bind, Clause, Dec, Function};

@@ -17,22 +17,22 @@ ghost use Rattle.sml_phrases.specs.Ties.{joint_from, tie_level, tie_rest, FromFi
 
 use crate::atoms::{begins_atom, is_keyword, leaf_atom, no_atom_room, no_room};
 use crate::declarations::read_decs;
-use phrase_base::got::{Got, pushed};
 use crate::nodes::{
     applied, chain, field, handler, lambda, list, part, raised, record_of, rule, tuple_from,
     tuple_of, typed,
 };
 use crate::patterns::read_pat;
-use phrase_base::source::Source;
-use phrase_base::stop::Stop;
 use crate::ties::{
     Tie, high_enough, joint_level, joint_right, next_joint, tie_at, tie_least, tie_level,
 };
-use phrase_base::tokens::{after_word, label_at, past, place_at, room, tail, word_at};
 use crate::types::read_ty;
 use mlc_base::make::with;
 use mlc_base::place::Place;
 use mlc_base::token::{Reserved, Token};
+use phrase_base::got::{Got, pushed};
+use phrase_base::source::Source;
+use phrase_base::stop::Stop;
+use phrase_base::tokens::{after_word, label_at, past, place_at, room, tail, word_at};
 use sml_tree::derive;
 use sml_tree::fixity::Fixities;
 use sml_tree::tree::{Exp, ExpField, Joint, Part, Rule};

@@ -24,11 +24,7 @@ ghost use Rattle.sml_phrases.specs.VidPlace.{vid_place};
 ghost use Rattle.phrase_base.specs.declared.stop.Stop.TheVariants.{Memory};
 ghost use Rattle.sml_phrases.specs.PatternsRead.{IsPat, IsPatAt, IsPats, IsPatParts, IsPatField, IsPatRow, plain_pat_start, Suffixed, suffix_level, suffix_least, suffix_read, begins_other, begins_named};
 
-use phrase_base::got::{Got, pushed};
-use phrase_base::source::Source;
-use phrase_base::stop::Stop;
 use crate::ties::high_enough;
-use phrase_base::tokens::{after_word, label_at, past, place_at, room};
 use crate::types::{maybe_ty, read_ty};
 use crate::vids::{
     binds_vid, constant_at, infix_level, infix_vid, joint_at, names_vid, plain_vid, vid_level,
@@ -40,6 +36,10 @@ use mlc_base::memory::NoMemory;
 use mlc_base::names::Name;
 use mlc_base::place::Place;
 use mlc_base::token::{Reserved, Token, TokenKind};
+use phrase_base::got::{Got, pushed};
+use phrase_base::source::Source;
+use phrase_base::stop::Stop;
+use phrase_base::tokens::{after_word, label_at, past, place_at, room};
 use sml_tree::fixity::{Fixities, Infix};
 use sml_tree::ident::{LongVid, Vid};
 use sml_tree::tree::{Pat, PatField, PatPart, Ty};

@@ -12,15 +12,15 @@ ghost use Rattle.sml_phrases.specs.DeclarationsRead.{IsDec, simple_by};
 use crate::bindings::{
     read_data_binds, read_ex_binds, read_precedence, read_strids, read_type_binds, read_vids,
 };
-use phrase_base::got::Got;
 use crate::nodes::{abbreviations, datatypes, exceptions, opened, replicated, withtype};
-use phrase_base::source::Source;
-use phrase_base::stop::Stop;
-use phrase_base::tokens::{after_word, long_tycon_at, place_at, tail, tycon_at, word_at};
 use mlc_base::make::with;
 use mlc_base::names::Name;
 use mlc_base::place::Place;
 use mlc_base::token::{Reserved, Token};
+use phrase_base::got::Got;
+use phrase_base::source::Source;
+use phrase_base::stop::Stop;
+use phrase_base::tokens::{after_word, long_tycon_at, place_at, tail, tycon_at, word_at};
 use sml_tree::fixity::{Fixities, Infix};
 use sml_tree::tree::{Dec, LongIdAt};
 use std::alloc::Global;

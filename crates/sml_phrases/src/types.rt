@@ -16,16 +16,16 @@ ghost use Rattle.phrase_base.specs.Gives.{Gives};
 ghost use Rattle.phrase_base.specs.Left.{left};
 ghost use Rattle.sml_phrases.specs.TypesRead.{IsTy, IsTys, IsTyParts, IsTyFields, IsMaybeTy, plain_start, separator_level, after_separator, separator_turn};
 
+use mlc_base::make::{boxed, one, with};
+use mlc_base::memory::NoMemory;
+use mlc_base::place::Place;
+use mlc_base::token::{Reserved, Token, TokenKind};
 use phrase_base::got::{Got, pushed};
 use phrase_base::source::Source;
 use phrase_base::stop::Stop;
 use phrase_base::tokens::{
     after_star, after_word, label_at, long_tycon_at, past, place_at, room, tyvar_at,
 };
-use mlc_base::make::{boxed, one, with};
-use mlc_base::memory::NoMemory;
-use mlc_base::place::Place;
-use mlc_base::token::{Reserved, Token, TokenKind};
 use sml_tree::ident::LongId;
 use sml_tree::tree::{Ty, TyField, TyPart};
 use std::alloc::Global;
