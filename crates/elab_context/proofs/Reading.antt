@@ -4,6 +4,7 @@ use Rattle.std.specs.Prelude.{option_map}
 use Rattle.std.specs.List.{AllByRecursion}
 use Rattle.std.specs.Map.{lookup}
 use Rattle.ty_core.specs.Types.{Typ, Typs, var, con, none, more}
+use Rattle.ty_core.specs.declared.mark.Mark.{Mark}
 use Rattle.ty_core.specs.Statics.{TypeFunction, replace, replace_all}
 use Rattle.ty_table.specs.TypeAt.{type_at}
 use Rattle.ty_solve.specs.Substitution.{sub, subs, is_below}
@@ -21,15 +22,19 @@ use Rattle.elab_types.specs.declared.scope.TypeEntry.{TypeEntry}
 use Rattle.elab_types.specs.declared.scope.TypeScope.{TypeScope}
 use Rattle.elab_types.proofs.Holding.{tyvar-held, body-held}
 use Rattle.elab_types.proofs.Keeping.{holds_later, entry-held}
+use Rattle.ir_tables.specs.Tables.{parameters_of}
 use Rattle.elab_state.specs.Namings.{IsAmong}
 use Rattle.elab_state.specs.States.{types_in, made}
 use Rattle.elab_steps.specs.Growing.{HasType, Begins, Grows}
+use Rattle.elab_steps.specs.Instances.{IsScheme}
 use Rattle.elab_state.specs.declared.state.State.{State}
 use Rattle.elab_steps.specs.World.{World, type_of, Comes}
-use Rattle.elab_steps.proofs.Growing.{below-up, comes_before}
+use Rattle.elab_steps.proofs.Growing.{below-up, comes_before, type_later}
 use Rattle.sml_tree.specs.Terminal.{LongVid}
 use Rattle.elab_context.specs.Entries.{entry_in}
-use Rattle.elab_context.specs.Telling.{Tells, IsContext, IsUnboundIn, function_of, kept_of}
+use Rattle.elab_context.specs.Telling.{Tells, IsContext, IsHeld, IsHeldIf, IsUnboundIn, function_of, kept_of}
+use Rattle.elab_context.specs.declared.entry.Entry.{Entry}
+use Rattle.elab_context.specs.declared.entry.Entry.TheVariants.{Constructor, Reference, Initial, Primitive, Raised, Single, Own, General}
 use Rattle.elab_context.specs.declared.context.Context.{Context}
 
 mutual
@@ -96,6 +101,28 @@ longer-list [] ys e = omega arith
 longer-list (x ∷ xs) [] e = cc
 longer-list (x ∷ xs) (y ∷ ys) e = let h : take (length xs) ys ≡ xs = cc in let k = longer-list xs ys h in omega (arith, k)
 
+scheme-later : (S T : State) (marks : List Mark) (body : ℕ) → Grows S T → IsScheme S marks body → IsScheme T marks body
+scheme-later S T marks body g s = record {
+  held = let le = longer (types_in S) (types_in T) g.types in let h = s.held in omega (arith, h, le);
+  closed = subst (λ t. is_below (length marks) t ≡ true) (sym (type-stays (types_in S) (types_in T) body g.types s.held)) s.closed;
+  inhabited = s.inhabited;
+}
+
+held-if-later : (S T : State) (o : Option ℕ) → Grows S T → IsHeldIf S o → IsHeldIf T o
+held-if-later S T None g h = tt
+held-if-later S T (Some t) g h = type_later S T t g h
+
+held-later : (S T : State) (C : Context) (e : Entry) → Grows S T → IsHeld S C e → IsHeld T C e
+held-later S T C (Constructor s n y) g h = h
+held-later S T C (Reference s) g h = h
+held-later S T C (Initial s n) g h = h
+held-later S T C (Primitive s q n) g h = h
+held-later S T C (Raised n a) g h = held-if-later S T a g h
+held-later S T C (Single t n) g h = type_later S T t g h
+held-later S T C (Own t n) g h = type_later S T t g h
+held-later S T C (General l t n o) g h =
+    (type_later S T t g h.0, let le = longer-list (parameters_of S.tables) (parameters_of T.tables) g.lists in let lt = h.1 in omega (arith, lt, le))
+
 pub context_later : (S T : State) (C : Context) → Grows S T → IsContext S C → IsContext T C
 context_later S T C g i = record {
   wide = i.wide;
@@ -103,6 +130,8 @@ context_later S T C g i = record {
   naming = among-later S.namings.items T.namings.items C.naming (longer-list S.namings.items T.namings.items g.namings) i.naming;
   holds = holds_later (types_in S) (types_in T) C.types g.types i.holds;
   known = known-later S T g C.types.tyvars i.holds.tyvars i.known;
+  schemes = λ k s e. scheme-later S T s.marks.items s.body g (i.schemes k s e);
+  entries = λ qs x e h. held-later S T C e g (i.entries qs x e h);
 }
 
 pub unbound_in : (C : Context) (x : LongVid) → entry_in C x.qualifiers x.vid ≡ None → IsUnboundIn C x

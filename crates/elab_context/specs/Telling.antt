@@ -1,25 +1,36 @@
 -- What a context of the code tells of what is around a phrase, in a world.
-use Rattle.std.specs.Prelude.{◌≡◌, ◌<◌, ◌≤◌, ℕ, Bool, true, false, List, [], ◌∷◌, length, Option, Some, None, option_map, nat_eq, slice_get, ⊤}
+use Rattle.std.specs.Prelude.{◌≡◌, ◌⊎◌, ◌<◌, ◌≤◌, ℕ, Bool, true, false, List, [], ◌∷◌, ◌++◌, map, length, Option, Some, None, option_map, nat_eq, nat_lt, slice_get, ⊤}
 use Rattle.std.specs.Map.{lookup}
-use Rattle.ty_core.specs.Types.{Typ, var}
-use Rattle.ty_core.specs.Statics.{TypeFunction}
+use Rattle.mlc_prims.specs.declared.basis.BasisPrimitive.{BasisPrimitive}
+use Rattle.ty_core.specs.Types.{Typ, var, con, name}
+use Rattle.ty_core.specs.Statics.{TypeFunction, replace, variables}
+use Rattle.ty_core.specs.declared.mark.Mark.TheVariants.{Any}
+use Rattle.ty_core.specs.declared.name.TyName.{TyName}
+use Rattle.ty_core.specs.declared.scheme.Quantified.{Quantified}
+use Rattle.ty_basis.specs.Types.{name_count, exn_type}
+use Rattle.ty_basis.specs.Primitives.{prim_type, primitive_type}
 use Rattle.ty_core.specs.declared.env.Status.TheVariants as status
 use Rattle.sml_tree.specs.Terminal.{LongVid}
 use Rattle.sml_tree.specs.declared.ident.Vid.{Vid}
-use Rattle.core_rules.specs.Objects.{at, Scheme, Over}
+use Rattle.core_rules.specs.Objects.{at, monomorphic, Scheme, Over}
 use Rattle.core_rules.specs.Elaborated.{type_in}
+use Rattle.core_rules.specs.Initial.{ref_row}
+use Rattle.core_rules.specs.Typing.{all_general}
 use Rattle.ir_poly.specs.Prog.{fixed, held}
-use Rattle.ir_poly.specs.Types.{over}
-use Rattle.ir_poly.specs.TestsChecked.{Known, of_type, own, exception as exception_known}
+use Rattle.ir_poly.specs.Types.{over, changed, find, constructor_of, initial_constructors, Constructor as ConRow}
+use Rattle.ir_poly.specs.TestsChecked.{Known, of_type, own, alone_type, exception as exception_known}
 use Rattle.ir_poly.specs.TestsChecked as checked
 use Rattle.core_elab.specs.Scopes.{Denotes, variable, constructor, reference, exception, primitive, long_denotes_in}
-use Rattle.elab_typed.specs.Numbers.{type_as}
+use Rattle.ir_tables.specs.Tables.{parameters_of}
+use Rattle.elab_typed.specs.Numbers.{name_as, type_as, KeepsInitial}
 use Rattle.elab_typed.specs.Contexts.{Kept, given, general, single, raised, kept_in, Around, generic}
 use Rattle.elab_types.specs.declared.scope.TypeEntry.{TypeEntry}
 use Rattle.elab_types.specs.Reading.{entry_of as type_entry_of, AreKnown, Holds}
 use Rattle.elab_state.specs.Namings.{IsAmong}
 use Rattle.elab_state.specs.States.{types_in, made, dead_level}
 use Rattle.elab_state.specs.declared.state.State.{State}
+use Rattle.elab_steps.specs.Growing.{HasType}
+use Rattle.elab_steps.specs.Instances.{IsScheme}
 use Rattle.elab_steps.specs.World.{World, type_of}
 use Rattle.elab_context.specs.Entries.{entry_in}
 use Rattle.elab_context.specs.declared.context.Context.{Context}
@@ -72,12 +83,57 @@ known_of W A (General l t n false) = Some (n, of_type (type_as A.number (type_of
 abbrev pub function_of : World → TypeEntry → TypeFunction
 function_of W e = record { arity = e.arity; body = W.raw e.body }
 
+-- a constructor: its scheme is the datatype at the parameters, or a function to it, and the program has it in a row
+pub record IsConstructor (C : Context) (W : World) (s n : ℕ) (y : TyName) : Type 0 where
+  pub argument : Option Typ
+  pub general : all_general (scheme_at C W s).marks ≡ true
+  pub body : (scheme_at C W s).body ≡ alone_type argument (con (name y) (variables 0 (length (scheme_at C W s).marks)))
+  pub names : Over C.names (scheme_at C W s).body
+  pub row : find W.table (name_as (W.naming C.naming) y) n
+      ≡ Some (constructor_of (name_as (W.naming C.naming) y) n (option_map (type_as (W.naming C.naming)) argument))
+
+-- a primitive: with its parameter, or without one
+pub record IsPrimitive (C : Context) (W : World) (s : ℕ) (q : BasisPrimitive) : Type 0 where
+  pub body : (scheme_at C W s).body ≡ primitive_type q
+  pub marks : ((scheme_at C W s).marks ≡ (prim_type q).mark ∷ []) ⊎ (((scheme_at C W s).marks ≡ []) × ((prim_type q).mark ≡ Any))
+
+-- a type over the type names and the parameters that are in use
+pub record IsInUse (A : Around) (t : Typ) : Type 0 where
+  pub names : Over A.names t
+  pub parameters : over A.parameters t ≡ true
+
+abbrev pub IsInUseIf : World → Around → Option ℕ → Type 0
+IsInUseIf W A None = ⊤
+IsInUseIf W A (Some k) = IsInUse A (type_of W k)
+
+-- a type over parameters of its own too, where it has any of them
+pub record IsGeneral (A : Around) (qs : List Quantified) (t : Typ) (has : Bool) : Type 0 where
+  pub marks : all_general (map (λ q. q.mark) qs) ≡ true
+  pub names : Over A.names t
+  pub body : over (qs ++ A.parameters) t ≡ true
+  pub none : has ≡ false → (ts : List Typ) → replace (changed qs ts var) t ≡ t
+
+-- what an identifier is has what the rules for it ask
+abbrev pub IsFit : Context → World → Around → Entry → Type 0
+IsFit C W A (Constructor s n y) = IsConstructor C W s n y
+IsFit C W A (Reference s) = scheme_at C W s ≡ ref_row.scheme
+IsFit C W A (Initial s n) = (scheme_at C W s ≡ monomorphic exn_type) × (nat_lt n 7 ≡ true)
+IsFit C W A (Primitive s q n) = IsPrimitive C W s q
+IsFit C W A (Raised n a) = IsInUseIf W A a
+IsFit C W A (Single t n) = IsInUse A (type_of W t)
+IsFit C W A (Own t n) = IsInUse A (type_of W t)
+IsFit C W A (General l t n o) = IsGeneral A (W.reading.parameters l) (type_of W t) o
+
 pub record Tells (C : Context) (W : World) (A : Around) : Type 0 where
   pub names : A.names ≡ C.names
   pub number : A.number ≡ W.naming C.naming
+  -- the names of the basis have their own numbers, and the table has its constructors
+  pub initial : KeepsInitial A.number
+  pub built : (y : TyName) (c : ℕ) (row : ConRow) → find initial_constructors y c ≡ Some row → find W.table y c ≡ Some row
   pub parameters : A.parameters ≡ W.parameters C.level
   pub values : (x : LongVid) → kept_in A.env x ≡ option_map (kept_of C W) (entry_in C x.qualifiers x.vid)
   pub denotes : (x : LongVid) → long_denotes_in A.scope x ≡ option_map denotes_of (entry_in C x.qualifiers x.vid)
+  pub fit : (x : LongVid) (e : Entry) → entry_in C x.qualifiers x.vid ≡ Some e → IsFit C W A e
   pub known : (x : LongVid) (e : Entry) (n : ℕ) (k : Known) → entry_in C x.qualifiers x.vid ≡ Some e → known_of W A e ≡ Some (n, k)
       → checked.at A.known n ≡ Some k
   pub tyvars : (a : ℕ) → at nat_eq A.tyvars a ≡ option_map (type_of W) (lookup (nat_eq a) C.types.tyvars)
@@ -87,10 +143,28 @@ pub record Tells (C : Context) (W : World) (A : Around) : Type 0 where
 abbrev pub IsUnboundIn : Context → LongVid → Type 0
 IsUnboundIn C x = (W : World) (A : Around) → Tells C W A → kept_in A.env x ≡ None
 
+-- the types of an identifier are the state's, and its scheme the context's
+abbrev pub IsHeldIf : State → Option ℕ → Type 0
+IsHeldIf S None = ⊤
+IsHeldIf S (Some t) = HasType S t
+
+abbrev pub IsHeld : State → Context → Entry → Type 0
+IsHeld S C (Constructor s n y) = s < length C.schemes.items
+IsHeld S C (Reference s) = s < length C.schemes.items
+IsHeld S C (Initial s n) = s < length C.schemes.items
+IsHeld S C (Primitive s q n) = s < length C.schemes.items
+IsHeld S C (Raised n a) = IsHeldIf S a
+IsHeld S C (Single t n) = HasType S t
+IsHeld S C (Own t n) = HasType S t
+IsHeld S C (General l t n o) = HasType S t × (l < length (parameters_of S.tables))
+
 -- what a state has of a context: new variables may be made in it, and annotations read
 pub record IsContext (S : State) (C : Context) : Type 0 where
-  pub wide : 4 ≤ C.names
+  -- the names of the basis are in use
+  pub wide : name_count ≤ C.names
   pub deep : C.level < dead_level
   pub naming : IsAmong (length S.namings.items) C.naming
   pub holds : Holds (types_in S) C.types
   pub known : AreKnown (made S) (types_in S) C.types
+  pub schemes : (k : ℕ) (s : code.Scheme) → slice_get C.schemes.items k ≡ Some s → IsScheme S s.marks.items s.body
+  pub entries : (qs : List ℕ) (x : Vid) (e : Entry) → entry_in C qs x ≡ Some e → IsHeld S C e

@@ -49,7 +49,7 @@ begins-more xs ys zs e = ap (take (length xs)) e ∙ go xs ys
     go [] ys = refl
     go (x ∷ xs) ys = ap (λ l. x ∷ l) (go xs ys)
 
-begins-same : {A : Type 0} (xs ys : List A) → ys ≡ xs → Begins xs ys
+pub begins-same : {A : Type 0} (xs ys : List A) → ys ≡ xs → Begins xs ys
 begins-same xs ys e = ap (take (length xs)) e ∙ whole xs
 
 -- one variable more
@@ -80,7 +80,7 @@ limit-last : (ls : List Limit) (l : Limit) → limit_at (ls ++ l ∷ []) (length
 limit-last [] l = refl
 limit-last (k ∷ ls) l = limit-last ls l
 
-same-limit : (a b : Limit) → a ≡ b → NoFurther a b
+pub same-limit : (a b : Limit) → a ≡ b → NoFurther a b
 same-limit a b e = subst (λ x. NoFurther x b) (sym e) (omega arith, omega arith)
 
 -- what is not of the solver stays
@@ -90,7 +90,7 @@ pub record Stays (S T : State) : Type 0 where
   pub tables : T.tables ≡ S.tables
   pub next : T.next ≡ S.next
 
-rows-same : (a b : Tables) → b ≡ a → (y : _) (c : ℕ) (row : Rattle.ir_poly.specs.Types.Constructor)
+pub rows-same : (a b : Tables) → b ≡ a → (y : _) (c : ℕ) (row : Rattle.ir_poly.specs.Types.Constructor)
     → Rattle.ir_poly.specs.Types.find (Rattle.ir_tables.specs.Tables.constructors_of a) y c ≡ Some row → Rattle.ir_poly.specs.Types.find (Rattle.ir_tables.specs.Tables.constructors_of b) y c ≡ Some row
 rows-same a b e y c row h = ap (λ t. Rattle.ir_poly.specs.Types.find (Rattle.ir_tables.specs.Tables.constructors_of t) y c) e ∙ h
 

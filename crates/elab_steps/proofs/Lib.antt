@@ -1,2 +1,4 @@
 pub mod Growing
 pub mod Changing
+pub mod Instancing
+pub mod Sorting

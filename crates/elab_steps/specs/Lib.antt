@@ -1,2 +1,4 @@
 pub mod World
 pub mod Growing
+pub mod Instances
+pub mod Rows

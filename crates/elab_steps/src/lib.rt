@@ -2,6 +2,8 @@
 #![tactic(auto)]
 
 pub mod annotate;
+pub mod instance;
+pub mod rows;
 pub mod step;
 #[cfg(test)]
 mod tests;

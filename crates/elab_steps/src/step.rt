@@ -8,7 +8,9 @@ ghost use Rattle.elab_typed.specs.Numbers.{type_as};
 ghost use Rattle.elab_state.specs.Namings.{IsAmong};
 ghost use Rattle.elab_state.specs.States.{types_in};
 ghost use Rattle.elab_steps.specs.Growing.{HasType, Always, AreTypes, Grows, IsWithin, types_of};
+ghost use Rattle.elab_steps.specs.Instances.{begins_as_function};
 ghost use Rattle.elab_steps.specs.World.{type_of};
+ghost use Rattle.ty_table.specs.TypeAt.{type_at};
 
 use elab_state::naming::Written;
 use elab_state::state::State;
@@ -20,6 +22,7 @@ use ty_core::mark::Mark;
 use ty_core::ty::Head;
 use ty_solve::limit::Limit;
 use ty_solve::refused::UnifyRefused;
+use ty_table::types::View;
 
 /// A new variable of types, as a type.
 pub fn fresh_type(
@@ -75,6 +78,19 @@ pub fn apply(
     ensures next { IfOk result (λ _. state.new.next ≡ state.old.next) }
 {
     state.solver.apply(alloc, head, parts)
+}
+
+/// Whether a type of the table is one of functions, as far as its first node.
+pub fn is_function(state: &State, ty: usize) -> bool
+    ensures { result ≡ begins_as_function (type_at (types_in state.now) ty) }
+{
+    match state.solver.subst.types.view(ty) {
+        View::Var(_) => false,
+        View::Apply(head, _) => match head {
+            Head::Function => true,
+            _ => false,
+        },
+    }
 }
 
 /// The number of a string that the program has.
