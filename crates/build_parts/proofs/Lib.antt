@@ -1,0 +1,17 @@
+pub mod Nodes
+pub mod Making
+pub mod Lists
+pub mod Loops
+pub mod Joins
+pub mod Rights
+pub mod Applying
+pub mod Regions
+pub mod Whole
+pub mod Ruling
+pub mod Functions
+pub mod Naming
+pub mod Grouping
+pub mod Generals
+pub mod Seen
+pub mod Tuples
+pub mod Choosing

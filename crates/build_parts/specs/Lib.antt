@@ -1,0 +1,5 @@
+pub mod Reading
+pub mod Going
+pub mod Heads
+pub mod Chains
+pub mod Declaring
