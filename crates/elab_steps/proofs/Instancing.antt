@@ -73,9 +73,10 @@ nth-value f n (suc k) (suc v) lt = let e : suc n + v ≡ n + suc v = omega arith
 values-over : (f : ℕ → Typ) (l n k : ℕ) → ((i : ℕ) → i < k → Over l (f (n + i))) → AllOver l (typs_of (values_from f n k))
 values-over f l n zero h = tt
 values-over f l n (suc k) h =
-    let e : n + 0 ≡ n = omega arith in
-    (subst (λ v. Over l (f v)) e (h 0 (omega arith)),
-    values-over f l (suc n) k (λ i lt. let s : n + suc i ≡ suc n + i = omega arith in subst (λ v. Over l (f v)) s (h (suc i) (omega arith))))
+    let e : n + 0 ≡ n = omega arith in (
+      subst (λ v. Over l (f v)) e (h 0 (omega arith)),
+      values-over f l (suc n) k (λ i lt. let s : n + suc i ≡ suc n + i = omega arith in subst (λ v. Over l (f v)) s (h (suc i) (omega arith))),
+    )
 
 values-parameters : (f : ℕ → Typ) (qs : _) (n k : ℕ) → ((i : ℕ) → i < k → over qs (f (n + i)) ≡ true) → all_over qs (typs_of (values_from f n k)) ≡ true
 values-parameters f qs n zero h = refl
@@ -87,9 +88,10 @@ values-parameters f qs n (suc k) h =
 allowed-each : (m : ℕ → Bool) (r : ℕ → Typ) (k : ℕ) (marks : List Mark) → ((i : ℕ) (a : Mark) → slice_get marks i ≡ Some a → Allows a m (r (k + i))) → AllAllowed m r k marks
 allowed-each m r k [] h = tt
 allowed-each m r k (a ∷ marks) h =
-    let e : k + 0 ≡ k = omega arith in
-    (subst (λ v. Allows a m (r v)) e (h 0 a refl),
-    allowed-each m r (suc k) marks (λ i b q. let s : k + suc i ≡ suc k + i = omega arith in subst (λ v. Allows b m (r v)) s (h (suc i) b q)))
+    let e : k + 0 ≡ k = omega arith in (
+      subst (λ v. Allows a m (r v)) e (h 0 a refl),
+      allowed-each m r (suc k) marks (λ i b q. let s : k + suc i ≡ suc k + i = omega arith in subst (λ v. Allows b m (r v)) s (h (suc i) b q)),
+    )
 
 -- the body at the new variables, and what these stand for
 module _ (f : ℕ → Typ) (n k : ℕ) where
