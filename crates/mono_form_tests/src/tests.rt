@@ -108,18 +108,11 @@ fn binding(variable: usize, ty: usize) -> Binding {
 }
 
 fn integer(variable: usize, ty: usize) -> Step {
-    Step::Let(
-        binding(variable, ty),
-        Operation::Constant(Constant::Int(1)),
-    )
+    Step::Let(binding(variable, ty), Operation::Constant(Constant::Int(1)))
 }
 
 /// Steps before an atom.
-fn ends(
-    alloc: Global,
-    steps: Result<Vec<Step>, NoMemory>,
-    atom: usize,
-) -> Result<Exp, NoMemory> {
+fn ends(alloc: Global, steps: Result<Vec<Step>, NoMemory>, atom: usize) -> Result<Exp, NoMemory> {
     let (steps, rest) = both(steps, boxed(alloc, Exp::Ret(atom)))?;
     Ok(Exp::Steps(steps, rest))
 }
