@@ -4,10 +4,10 @@ use Rattle.ty_core.specs.Types.{Typ}
 use Rattle.ty_core.specs.Statics.{replace}
 use Rattle.ir_plain.specs.Copies.{strip, strip_arms, strip_op}
 use Rattle.ir_plain.specs.Kind.{Kind}
-use Rattle.ir_plain.specs.Tree.{Exp, ret, let_in, exception_in, name_in, rec_in, switch, first, miss, counted, Arms, no_arms, arm, Op, use_of, const, con_alone, construct, ref_alone, refer, content, pack, make_record, select, prim_alone, prim, app, fn, block, handle, raise, raise_initial, Funs}
+use Rattle.ir_plain.specs.Tree.{Exp, ret, let_in, exception_in, name_in, rec_in, switch, first, miss, counted, Arms, no_arms, arm, Op, use_of, const, con_alone, construct, ref_alone, refer, content, pack, make_record, select, prim_alone, prim, app, fn, block, handle, raise, raise_initial}
 use Rattle.ir_plain.specs.Weight.{weight, arms_weight, op_weight}
 use Rattle.monomorphise.specs.Expansion.{compared, arms_compared, op_compared}
-use Rattle.monomorphise.specs.Monomorphise.{Name, copy_of, Named, others, more_lets, all_lets, all_groups}
+use Rattle.monomorphise.specs.Monomorphise.{copy_of, Named, others, more_lets}
 use Rattle.mono_strip.specs.Laws.{StripIsOnce, StrippedLets, StrippedGroups, StripWeighsNothing, StripComparesNothing}
 
 module _ {F : Kind} where

@@ -4,8 +4,8 @@ use Rattle.ty_core.specs.Types.{Typ}
 use Rattle.ty_core.specs.Statics.{replace}
 use Rattle.ir_plain.specs.Copies.{strip, strip_op}
 use Rattle.ir_plain.specs.Tree.{Exp, let_in, Op, Funs}
-use Rattle.ir_plain.specs.Weight.{weight, op_weight}
-use Rattle.monomorphise.specs.Expansion.{compared, op_compared}
+use Rattle.ir_plain.specs.Weight.{op_weight}
+use Rattle.monomorphise.specs.Expansion.{op_compared}
 use Rattle.monomorphise.specs.Monomorphise.{Name, copy_of, Named, others, more_lets, all_lets, all_groups}
 
 -- what takes no turns stays as it is
