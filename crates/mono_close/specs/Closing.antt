@@ -93,7 +93,8 @@ pub data Opened (ts : List Typ) (k : ℕ) (old new : List Step) : Option ℕ →
 
 -- the numbers of k's parts, if it has any, are those of a table of n types
 abbrev pub CanBuild : List Typ → (ℕ → Option ℕ) → (n k : ℕ) → Type 0
-CanBuild ts known n k = (h : Symbol) (parts : List ℕ) → type_at ts k ≡ con h (types_at ts parts) → AllBelow (length ts) parts → AllBelow n (map (number_in known) parts)
+CanBuild ts known n k = (h : Symbol) (parts : List ℕ) → type_at ts k ≡ con h (types_at ts parts) → AllBelow (length ts) parts
+    → AllBelow n (map (number_in known) parts)
 
 -- the second table has the types of the first one at their numbers
 abbrev pub Longer : List Typ → List Typ → Type 0

@@ -148,7 +148,8 @@ fn build(
     k: usize,
 ) -> Result<usize, NoMemory>
     requires { CanBuild sources.now (get nat_eq known.now) (length closed.old) k }
-    ensures is { IfOk result (λ n. (h : Symbol) (parts : List ℕ) → type_at sources.now k ≡ con h (types_at sources.now parts) → AllBelow (length sources.now) parts
+    ensures is { IfOk result (λ n. (h : Symbol) (parts : List ℕ) → type_at sources.now k ≡ con h (types_at sources.now parts)
+        → AllBelow (length sources.now) parts
         → slice_get closed.new n ≡ Some (con h (types_at closed.old (map (number_in (get nat_eq known.now)) parts)))) }
     ensures earlier_stay { take (length closed.old) closed.new ≡ closed.old }
 {

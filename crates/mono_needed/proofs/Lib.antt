@@ -1,0 +1,4 @@
+pub mod Counts
+pub mod Gather
+pub mod Chain
+pub mod Arguments

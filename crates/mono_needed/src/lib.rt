@@ -1,0 +1,7 @@
+// The types that equality needs, counted.
+#![tactic(auto)]
+
+pub mod chains;
+pub mod count;
+pub mod law;
+mod open;

@@ -1,0 +1,4 @@
+// Copies that take no turns.
+#![tactic(auto)]
+
+pub mod law;
