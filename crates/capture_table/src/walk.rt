@@ -66,7 +66,8 @@ fn capture_next(
     ensures table { IfOk result (λ made. entry_is made
         ≡ entry number (cut (scope_of before.now.captured.items (members_of group.now) before.now.number) (used_in (scope_of before.now.captured.items (members_of group.now) before.now.number) uses.now))
         (used_in (scope_of before.now.captured.items (members_of group.now) before.now.number) uses.now)) }
-    ensures twice { IfErr result (λ fault. fault ≡ BoundTwice → Repeats ((before.now.captured.items ++ names (members_of group.now)) ++ before.now.number ∷ [])) }
+    ensures twice { IfErr result (λ fault. fault ≡ BoundTwice
+        → Repeats ((before.now.captured.items ++ names (members_of group.now)) ++ before.now.number ∷ [])) }
 {
     let scope = Scope::enter(alloc, &before.captured, group, before.number)?;
     capture(alloc, &scope, uses, number)
@@ -501,7 +502,8 @@ fn walk_functions(
     ensures table { IfOk result (λ _. (es : Entries) → entries_are found.old.items
         ++ functions_table (map function_told functions.now) (pieces_of entry.now.pieces.items) entry.now.captured.items (members_of group.now) es
         ≡ entries_are found.new.items ++ es) }
-    ensures twice { IfErr result (λ fault. fault ≡ BoundTwice → Repeats ((entry.now.captured.items ++ names (members_of group.now)) ++ joined (map inner_binders functions.now))) }
+    ensures twice { IfErr result (λ fault. fault ≡ BoundTwice
+        → Repeats ((entry.now.captured.items ++ names (members_of group.now)) ++ joined (map inner_binders functions.now))) }
 {
     for i in 0..functions.len() {
         let function = &functions[i];
@@ -521,7 +523,8 @@ fn walk_member(
     ensures table { IfOk result (λ _. (es : Entries) → entries_are found.old.items
         ++ (function_told function.now).table (pieces_of entry.now.pieces.items) entry.now.captured.items (members_of group.now) es
         ≡ entries_are found.new.items ++ es) }
-    ensures twice { IfErr result (λ fault. fault ≡ BoundTwice → Repeats ((entry.now.captured.items ++ names (members_of group.now)) ++ inner_binders function.now)) }
+    ensures twice { IfErr result (λ fault. fault ≡ BoundTwice
+        → Repeats ((entry.now.captured.items ++ names (members_of group.now)) ++ inner_binders function.now)) }
 {
     let mut uses = Vec::new(alloc);
     push_uses(&function.body, &mut uses)?;
@@ -554,7 +557,8 @@ fn walk_function(
     ensures table { IfOk result (λ _. (es : Entries) → entries_are found.old.items
         ++ function_table uses.now parameters.now last (exp_told body.now).table (pieces_of first.pieces.items) first.captured.items (members_of group.now) es
         ≡ entries_are found.new.items ++ es) }
-    ensures twice { IfErr result (λ fault. fault ≡ BoundTwice → Repeats ((first.captured.items ++ names (members_of group.now)) ++ (variables_of parameters.now ++ last.variable ∷ binders_of body.now))) }
+    ensures twice { IfErr result (λ fault. fault ≡ BoundTwice
+        → Repeats ((first.captured.items ++ names (members_of group.now)) ++ (variables_of parameters.now ++ last.variable ∷ binders_of body.now))) }
 {
     if parameters.is_empty() {
         return walk_body(alloc, first, group, last, body, found);
@@ -582,7 +586,8 @@ fn walk_body(
     ensures table { IfOk result (λ _. (es : Entries) → entries_are found.old.items
         ++ function_table [] [] last (exp_told body.now).table (pieces_of entry.pieces.items) entry.captured.items (members_of group.now) es
         ≡ entries_are found.new.items ++ es) }
-    ensures twice { IfErr result (λ fault. fault ≡ BoundTwice → Repeats ((entry.captured.items ++ names (members_of group.now)) ++ last.variable ∷ binders_of body.now)) }
+    ensures twice { IfErr result (λ fault. fault ≡ BoundTwice
+        → Repeats ((entry.captured.items ++ names (members_of group.now)) ++ last.variable ∷ binders_of body.now)) }
 {
     let mut scope = Scope::enter(alloc, &entry.captured, group, last.variable)?;
     found.push(entry)?;

@@ -38,7 +38,8 @@ impl Flow {
 pub fn flows(alloc: Global, types: &Types, body: &Exp) -> Result<Flow, NoMemory>
     ensures rising { IfOk result (λ flow. (strings : List (List ℕ)) → IsRising flow types.now (mono_of types.now strings body.now)) }
     ensures solves { IfOk result (λ flow. (strings : List (List ℕ)) (initial : List ℕ) (expansion : ℕ)
-        → IsWellFormed (program_with initial types.now expansion (mono_of types.now strings body.now)) → IsSolution flow types.now (mono_of types.now strings body.now)) }
+        → IsWellFormed (program_with initial types.now expansion (mono_of types.now strings body.now))
+        → IsSolution flow types.now (mono_of types.now strings body.now)) }
 {
     bound_is_bound();
     rising_sets_solve();
