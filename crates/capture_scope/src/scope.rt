@@ -1,13 +1,14 @@
 // What the body of a function finds.
-ghost use Rattle.std.specs.Prelude.{◌≡◌, ◌∷◌, ◌++◌, [], length, IfOk, OnErr};
+ghost use Rattle.std.specs.Prelude.{◌≡◌, ◌∷◌, ◌++◌, [], length, IfOk, IfErr, OnErr};
 ghost use Rattle.flow_sets.specs.Member.{is_in};
 ghost use Rattle.closure_convert.specs.Scope.{names, add, top};
 ghost use Rattle.closure_convert.specs.Closed.{scope_of};
 ghost use Rattle.closure_convert.specs.Capture.{visible, kept, cut};
-ghost use Rattle.capture_scope.specs.declared.scope.ScopeFault.TheVariants.{Memory};
+ghost use Rattle.capture_scope.specs.declared.scope.ScopeFault.TheVariants.{Memory, BoundTwice};
 ghost use Rattle.capture_scope.specs.Seen.{members_of};
 ghost use Rattle.capture_scope.specs.Found.{pieces_of, pieces_back, found_in, found_of, member_found, with_piece, left_to};
 ghost use Rattle.capture_scope.specs.Picked.{picked, AtPlaces};
+ghost use Rattle.capture_scope.specs.Repeats.{Repeats};
 
 use crate::piece::{Piece, push_alone, push_place};
 use indexmap::IndexSet;
@@ -87,6 +88,7 @@ impl Model for Scope {
 fn see(seen: &mut IndexSet<usize>, variable: usize) -> Result<(), ScopeFault>
     ensures ok { IfOk result (λ _. seen.new.keys ≡ seen.old.keys ++ variable ∷ []) }
     ensures err { OnErr result (seen.new.keys ≡ seen.old.keys) }
+    ensures twice { IfErr result (λ fault. fault ≡ BoundTwice → Repeats (seen.old.keys ++ variable ∷ [])) }
 {
     match seen.insert(variable) {
         Ok(new) => if new {
@@ -99,7 +101,8 @@ fn see(seen: &mut IndexSet<usize>, variable: usize) -> Result<(), ScopeFault>
 }
 
 fn see_all(seen: &mut IndexSet<usize>, variables: &[usize]) -> Result<(), ScopeFault>
-    ensures { IfOk result (λ _. seen.new.keys ≡ seen.old.keys ++ variables.now) }
+    ensures ok { IfOk result (λ _. seen.new.keys ≡ seen.old.keys ++ variables.now) }
+    ensures twice { IfErr result (λ fault. fault ≡ BoundTwice → Repeats (seen.old.keys ++ variables.now)) }
 {
     for i in 0..variables.len() {
         see(seen, variables[i])?;
@@ -108,7 +111,8 @@ fn see_all(seen: &mut IndexSet<usize>, variables: &[usize]) -> Result<(), ScopeF
 }
 
 fn see_names(seen: &mut IndexSet<usize>, group: &[Member]) -> Result<(), ScopeFault>
-    ensures { IfOk result (λ _. seen.new.keys ≡ seen.old.keys ++ names (members_of group.now)) }
+    ensures ok { IfOk result (λ _. seen.new.keys ≡ seen.old.keys ++ names (members_of group.now)) }
+    ensures twice { IfErr result (λ fault. fault ≡ BoundTwice → Repeats (seen.old.keys ++ names (members_of group.now))) }
 {
     for i in 0..group.len() {
         see(seen, group[i].name)?;
@@ -148,7 +152,8 @@ impl Scope {
         group: &[Member],
         parameter: usize,
     ) -> Result<Scope, ScopeFault>
-        ensures { IfOk result (λ scope. scope ≡ scope_of captured.now (members_of group.now) parameter) }
+        ensures ok { IfOk result (λ scope. scope ≡ scope_of captured.now (members_of group.now) parameter) }
+        ensures twice { IfErr result (λ fault. fault ≡ BoundTwice → Repeats ((captured.now ++ names (members_of group.now)) ++ parameter ∷ [])) }
     {
         let mut seen = IndexSet::new(alloc);
         see_all(&mut seen, captured)?;
@@ -171,7 +176,8 @@ impl Scope {
 
     /// Binds a variable.
     pub fn add(&mut self, variable: usize) -> Result<(), ScopeFault>
-        ensures { IfOk result (λ _. self.new ≡ add variable self.old) }
+        ensures ok { IfOk result (λ _. self.new ≡ add variable self.old) }
+        ensures twice { IfErr result (λ fault. fault ≡ BoundTwice → Repeats (visible self.old ++ variable ∷ [])) }
     {
         see(&mut self.seen, variable)?;
         Ok(())

@@ -179,7 +179,7 @@ module _ (uses : List ℕ) (last : Parameter) (T : Scope → Entries → Entries
 
 -- A group's functions
 
-member-told : (f : Function) → (function_told f).member ≡ record { name = f.variable; number = first_parameter f.parameters.items f.last }
+pub member-told : (f : Function) → (function_told f).member ≡ record { name = f.variable; number = first_parameter f.parameters.items f.last }
 member-told f = ap (λ (r : FunctionTold). r.member) (fold_out-Function Told StepTold Told FunctionTold node_exp node_step node_arm node_function f)
 
 pub members-next : (fs : List Function) (i : ℕ) (f d : Function) (ps : List Parameter) (k : ℕ) (now new : List code.Member) → i < length fs → f ≡ get_or fs i d → ps ≡ f.parameters.items → k ≡ first_parameter ps f.last

@@ -1,9 +1,12 @@
 // The table of captures.
-ghost use Rattle.std.specs.Prelude.{◌≡◌, [], ℕ, List, slice_get, IfOk};
+ghost use Rattle.std.specs.Prelude.{◌≡◌, [], ℕ, List, slice_get, IfOk, IfErr};
 ghost use Rattle.closure_convert.specs.Scope.{index_of, top};
 ghost use Rattle.closure_convert.specs.Capture.{entry_of, captured_in, pieces_in, tabulate};
 ghost use Rattle.capture_scope.specs.Found.{pieces_of};
 ghost use Rattle.mono_bound.specs.Reads.{mono_of};
+ghost use Rattle.ir_plain.specs.Once.{IsOnce};
+ghost use Rattle.ir_mono.specs.Mono.{mono};
+ghost use Rattle.capture_scope.specs.declared.scope.ScopeFault.TheVariants.{BoundTwice};
 ghost use Rattle.capture_table.specs.Tables.{Row, numbers_of, entries_are, IsIndex};
 
 use crate::walk::{Entry, walk};
@@ -99,9 +102,12 @@ fn find_places(alloc: Global, entries: &[Entry]) -> Result<IndexMap<usize, usize
     Ok(places)
 }
 
-/// What the functions of a program capture, in the order of binding. None for want of memory, or where a variable is bound that is visible already.
+/// What the functions of a program capture, in the order of binding. Err for want of memory, or where a variable is bound that is visible already, as it is
+/// only where one is bound twice.
 pub fn find_captures(alloc: Global, body: &Exp) -> Result<Captures, ScopeFault>
-    ensures { IfOk result (λ made. (types : List Row) (strings : List (List ℕ)) → made ≡ tabulate types top (mono_of types strings body.now) []) }
+    ensures table { IfOk result (λ made. (types : List Row) (strings : List (List ℕ)) → made ≡ tabulate types top (mono_of types strings body.now) []) }
+    ensures twice { IfErr result (λ fault. fault ≡ BoundTwice → (types : List Row) (strings : List (List ℕ))
+        → IsOnce {F = mono types} (λ x. x) (mono_of types strings body.now) → ⊥) }
 {
     let mut scope = Scope::new(alloc);
     let mut entries = Vec::new(alloc);

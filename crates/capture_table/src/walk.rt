@@ -1,12 +1,16 @@
 // The walk along a program that finds what its functions capture.
-ghost use Rattle.std.specs.Prelude.{◌≡◌, ◌++◌, ◌∷◌, [], map, drop, slice_index_or, IfOk};
+ghost use Rattle.std.specs.Prelude.{◌≡◌, ◌≤◌, ◌+◌, ◌++◌, ◌∷◌, [], ℕ, map, drop, slice_index_or, IfOk, IfErr};
 ghost use Rattle.closure_convert.specs.Scope.{names, Scope as Clean};
 ghost use Rattle.closure_convert.specs.Closed.{scope_of};
 ghost use Rattle.closure_convert.specs.Capture.{visible, cut};
 ghost use Rattle.capture_scope.specs.Seen.{members_of};
 ghost use Rattle.capture_scope.specs.Found.{pieces_of};
+ghost use Rattle.capture_scope.specs.Repeats.{times_in, Repeats};
+ghost use Rattle.capture_scope.specs.declared.scope.ScopeFault.TheVariants.{Memory, BoundTwice};
+ghost use Rattle.plain_tree.specs.Sums.{joined, variables_of, binders_of, step_binders, arm_binders};
 ghost use Rattle.capture_table.specs.Told.{Entries, entry, used_in, more, case_binds, first_parameter, function_table, all_tables, steps_table, functions_table, functions_use, members_told, after, backs, marks, exp_told, step_told, arm_told, function_told};
 ghost use Rattle.capture_table.specs.Tables.{entry_is, entries_are};
+ghost use Rattle.capture_table.specs.Inner.{inner_binders};
 
 use crate::uses::{push_of_functions, push_uses};
 use capture_scope::piece::Piece;
@@ -25,7 +29,8 @@ pub struct Entry {
 
 /// What a function captures in a scope, that uses these variables.
 fn capture(alloc: Global, scope: &Scope, uses: &[usize], number: usize) -> Result<Entry, ScopeFault>
-    ensures { IfOk result (λ made. entry_is made ≡ entry number (cut scope.now (used_in scope.now uses.now)) (used_in scope.now uses.now)) }
+    ensures table { IfOk result (λ made. entry_is made ≡ entry number (cut scope.now (used_in scope.now uses.now)) (used_in scope.now uses.now)) }
+    ensures memory { IfErr result (λ fault. fault ≡ Memory) }
 {
     let captured = scope.wanted(alloc, uses)?;
     let pieces = scope.cut(alloc, &captured)?;
@@ -38,7 +43,8 @@ fn capture(alloc: Global, scope: &Scope, uses: &[usize], number: usize) -> Resul
 
 /// The same entry, of another number.
 fn same_as(alloc: Global, shared: &Entry, number: usize) -> Result<Entry, ScopeFault>
-    ensures { IfOk result (λ made. entry_is made ≡ entry number (pieces_of shared.now.pieces.items) shared.now.captured.items) }
+    ensures table { IfOk result (λ made. entry_is made ≡ entry number (pieces_of shared.now.pieces.items) shared.now.captured.items) }
+    ensures memory { IfErr result (λ fault. fault ≡ Memory) }
 {
     let captured = Vec::from_slice(alloc, &shared.captured)?;
     let pieces = Vec::from_slice(alloc, &shared.pieces)?;
@@ -57,9 +63,11 @@ fn capture_next(
     uses: &[usize],
     number: usize,
 ) -> Result<Entry, ScopeFault>
-    ensures { IfOk result (λ made. entry_is made
+    ensures table { IfOk result (λ made. entry_is made
         ≡ entry number (cut (scope_of before.now.captured.items (members_of group.now) before.now.number) (used_in (scope_of before.now.captured.items (members_of group.now) before.now.number) uses.now))
         (used_in (scope_of before.now.captured.items (members_of group.now) before.now.number) uses.now)) }
+    ensures twice { IfErr result (λ fault. fault ≡ BoundTwice
+        → Repeats ((before.now.captured.items ++ names (members_of group.now)) ++ before.now.number ∷ [])) }
 {
     let scope = Scope::enter(alloc, &before.captured, group, before.number)?;
     capture(alloc, &scope, uses, number)
@@ -86,6 +94,17 @@ fn number_at(parameters: &[Parameter], given: usize, last: Parameter) -> usize
     }
 }
 
+/// All parameters but the first.
+fn rest_of(parameters: &[Parameter]) -> &[Parameter]
+    ensures { result.now ≡ drop 1 parameters.now }
+{
+    if parameters.is_empty() {
+        parameters
+    } else {
+        &parameters[1..]
+    }
+}
+
 /// The entries of a function alone, but for the innermost, which is the result.
 fn push_curried(
     alloc: Global,
@@ -100,6 +119,9 @@ fn push_curried(
     ensures table { IfOk result (λ made. (T : Clean → Entries → Entries) (es : Entries)
         → entries_are found.old.items ++ function_table uses.now parameters.now last T (pieces_of first.pieces.items) first.captured.items [] es
         ≡ entries_are found.new.items ++ function_table uses.now [] last T (pieces_of made.pieces.items) made.captured.items [] es) }
+    ensures within { IfOk result (λ made. (k : ℕ)
+        → times_in k made.captured.items ≤ times_in k first.captured.items + times_in k (variables_of parameters.now)) }
+    ensures twice { IfErr result (λ fault. fault ≡ BoundTwice → Repeats (first.captured.items ++ variables_of parameters.now)) }
 {
     let mut entry = first;
     for i in 0..parameters.len() {
@@ -113,7 +135,8 @@ fn push_curried(
 
 /// What a case binds.
 fn bind_case(scope: &mut Scope, case: Case) -> Result<(), ScopeFault>
-    ensures { IfOk result (λ _. scope.new ≡ more (case_binds case) scope.old) }
+    ensures scope { IfOk result (λ _. scope.new ≡ more (case_binds case) scope.old) }
+    ensures twice { IfErr result (λ fault. fault ≡ BoundTwice → Repeats (visible scope.old ++ case_binds case)) }
 {
     match case {
         Case::ConstructorOf {
@@ -149,7 +172,8 @@ fn members_of_group(alloc: Global, functions: &[Function]) -> Result<Vec<Member>
 
 /// The functions of a group come into scope after it, the first last.
 fn bind_group(scope: &mut Scope, members: &[Member]) -> Result<(), ScopeFault>
-    ensures { IfOk result (λ _. scope.new ≡ more (names (members_of members.now)) scope.old) }
+    ensures scope { IfOk result (λ _. scope.new ≡ more (names (members_of members.now)) scope.old) }
+    ensures twice { IfErr result (λ fault. fault ≡ BoundTwice → Repeats (visible scope.old ++ names (members_of members.now))) }
 {
     let mut left = members.len();
     while left > 0 {
@@ -169,6 +193,7 @@ pub fn walk(
 ) -> Result<(), ScopeFault>
     ensures table { IfOk result (λ _. (es : Entries) → entries_are found.old.items ++ (exp_told e.now).table scope.old es ≡ entries_are found.new.items ++ es) }
     ensures scope { IfOk result (λ _. scope.new ≡ scope.old) }
+    ensures twice { IfErr result (λ fault. fault ≡ BoundTwice → Repeats (visible scope.old ++ binders_of e.now)) }
 {
     match e {
         Exp::Steps(steps, rest) => {
@@ -185,7 +210,8 @@ pub fn walk(
         } => walk_arms(alloc, scope, arms, found),
         Exp::First(attempts, last) => {
             walk_all(alloc, scope, attempts, found)?;
-            walk(alloc, scope, last, found)
+            walk(alloc, scope, last, found)?;
+            Ok(())
         }
         Exp::Miss => Ok(()),
     }
@@ -205,6 +231,7 @@ fn walk_steps(
         → entries_are found.old.items ++ steps_table (map step_told steps.now) T scope.old es ≡ entries_are found.new.items ++ T scope.new (backs (map step_told steps.now) scope.old es)) }
     ensures scope { IfOk result (λ _. scope.new ≡ after (map step_told steps.now) scope.old) }
     ensures seen { IfOk result (λ _. seen.new.items ≡ seen.old.items ++ marks (map step_told steps.now) scope.old) }
+    ensures twice { IfErr result (λ fault. fault ≡ BoundTwice → Repeats (visible scope.old ++ joined (map step_binders steps.now))) }
 {
     for i in 0..steps.len() {
         let step = &steps[i];
@@ -217,7 +244,8 @@ fn walk_steps(
 
 /// What a step binds comes into scope.
 fn bind_step(alloc: Global, scope: &mut Scope, step: &Step) -> Result<(), ScopeFault>
-    ensures { IfOk result (λ _. scope.new ≡ more (step_told step.now).binds scope.old) }
+    ensures scope { IfOk result (λ _. scope.new ≡ more (step_told step.now).binds scope.old) }
+    ensures twice { IfErr result (λ fault. fault ≡ BoundTwice → Repeats (visible scope.old ++ (step_told step.now).binds)) }
 {
     match step {
         Step::Let(binding, _) => scope.add(binding.variable),
@@ -264,6 +292,7 @@ fn walk_step(
 ) -> Result<(), ScopeFault>
     ensures table { IfOk result (λ _. (es : Entries) → entries_are found.old.items ++ (step_told step.now).front scope.old es ≡ entries_are found.new.items ++ es) }
     ensures scope { IfOk result (λ _. scope.new ≡ scope.old) }
+    ensures twice { IfErr result (λ fault. fault ≡ BoundTwice → Repeats (visible scope.old ++ step_binders step.now)) }
 {
     match step {
         Step::Let(_, _) => Ok(()),
@@ -330,6 +359,8 @@ fn walk_others(
     ensures table { IfOk result (λ _. (s : Clean) (es : Entries) → scope.old ≡ after (map step_told steps.now) s → seen.now ≡ marks (map step_told steps.now) s
         → entries_are found.old.items ++ backs (map step_told steps.now) s es ≡ entries_are found.new.items ++ es) }
     ensures scope { IfOk result (λ _. (s : Clean) → scope.old ≡ after (map step_told steps.now) s → seen.now ≡ marks (map step_told steps.now) s → scope.new ≡ s) }
+    ensures twice { IfErr result (λ fault. fault ≡ BoundTwice → (s : Clean) → scope.old ≡ after (map step_told steps.now) s → seen.now ≡ marks (map step_told steps.now) s
+        → Repeats (visible s ++ joined (map step_binders steps.now))) }
 {
     let mut left = steps.len();
     while left > 0 {
@@ -352,6 +383,7 @@ fn walk_back(
 ) -> Result<(), ScopeFault>
     ensures table { IfOk result (λ _. (es : Entries) → entries_are found.old.items ++ (step_told step.now).back scope.old es ≡ entries_are found.new.items ++ es) }
     ensures scope { IfOk result (λ _. scope.new ≡ scope.old) }
+    ensures twice { IfErr result (λ fault. fault ≡ BoundTwice → Repeats (visible scope.old ++ step_binders step.now)) }
 {
     match step {
         Step::Test {
@@ -395,6 +427,7 @@ fn walk_handler(
 ) -> Result<(), ScopeFault>
     ensures table { IfOk result (λ _. (es : Entries) → entries_are found.old.items ++ (exp_told handler.now).table (more (packet ∷ []) scope.old) es ≡ entries_are found.new.items ++ es) }
     ensures scope { IfOk result (λ _. scope.new ≡ scope.old) }
+    ensures twice { IfErr result (λ fault. fault ≡ BoundTwice → Repeats (visible scope.old ++ packet ∷ binders_of handler.now)) }
 {
     let len = scope.len();
     scope.add(packet)?;
@@ -412,6 +445,7 @@ fn walk_all(
 ) -> Result<(), ScopeFault>
     ensures table { IfOk result (λ _. (es : Entries) → entries_are found.old.items ++ all_tables (map exp_told attempts.now) scope.old es ≡ entries_are found.new.items ++ es) }
     ensures scope { IfOk result (λ _. scope.new ≡ scope.old) }
+    ensures twice { IfErr result (λ fault. fault ≡ BoundTwice → Repeats (visible scope.old ++ joined (map binders_of attempts.now))) }
 {
     for i in 0..attempts.len() {
         let attempt = &attempts[i];
@@ -429,6 +463,7 @@ fn walk_arms(
 ) -> Result<(), ScopeFault>
     ensures table { IfOk result (λ _. (es : Entries) → entries_are found.old.items ++ all_tables (map arm_told arms.now) scope.old es ≡ entries_are found.new.items ++ es) }
     ensures scope { IfOk result (λ _. scope.new ≡ scope.old) }
+    ensures twice { IfErr result (λ fault. fault ≡ BoundTwice → Repeats (visible scope.old ++ joined (map arm_binders arms.now))) }
 {
     for i in 0..arms.len() {
         let arm = &arms[i];
@@ -446,6 +481,7 @@ fn walk_arm(
 ) -> Result<(), ScopeFault>
     ensures table { IfOk result (λ _. (es : Entries) → entries_are found.old.items ++ (arm_told arm.now).table scope.old es ≡ entries_are found.new.items ++ es) }
     ensures scope { IfOk result (λ _. scope.new ≡ scope.old) }
+    ensures twice { IfErr result (λ fault. fault ≡ BoundTwice → Repeats (visible scope.old ++ arm_binders arm.now)) }
 {
     let len = scope.len();
     bind_case(scope, arm.case)?;
@@ -463,9 +499,11 @@ fn walk_functions(
     functions: &[Function],
     found: &mut Vec<Entry>,
 ) -> Result<(), ScopeFault>
-    ensures { IfOk result (λ _. (es : Entries) → entries_are found.old.items
+    ensures table { IfOk result (λ _. (es : Entries) → entries_are found.old.items
         ++ functions_table (map function_told functions.now) (pieces_of entry.now.pieces.items) entry.now.captured.items (members_of group.now) es
         ≡ entries_are found.new.items ++ es) }
+    ensures twice { IfErr result (λ fault. fault ≡ BoundTwice
+        → Repeats ((entry.now.captured.items ++ names (members_of group.now)) ++ joined (map inner_binders functions.now))) }
 {
     for i in 0..functions.len() {
         let function = &functions[i];
@@ -482,9 +520,11 @@ fn walk_member(
     function: &Function,
     found: &mut Vec<Entry>,
 ) -> Result<(), ScopeFault>
-    ensures { IfOk result (λ _. (es : Entries) → entries_are found.old.items
+    ensures table { IfOk result (λ _. (es : Entries) → entries_are found.old.items
         ++ (function_told function.now).table (pieces_of entry.now.pieces.items) entry.now.captured.items (members_of group.now) es
         ≡ entries_are found.new.items ++ es) }
+    ensures twice { IfErr result (λ fault. fault ≡ BoundTwice
+        → Repeats ((entry.now.captured.items ++ names (members_of group.now)) ++ inner_binders function.now)) }
 {
     let mut uses = Vec::new(alloc);
     push_uses(&function.body, &mut uses)?;
@@ -514,23 +554,22 @@ fn walk_function(
     found: &mut Vec<Entry>,
 ) -> Result<(), ScopeFault>
     requires { first.number ≡ first_parameter parameters.now last }
-    ensures { IfOk result (λ _. (es : Entries) → entries_are found.old.items
+    ensures table { IfOk result (λ _. (es : Entries) → entries_are found.old.items
         ++ function_table uses.now parameters.now last (exp_told body.now).table (pieces_of first.pieces.items) first.captured.items (members_of group.now) es
         ≡ entries_are found.new.items ++ es) }
+    ensures twice { IfErr result (λ fault. fault ≡ BoundTwice
+        → Repeats ((first.captured.items ++ names (members_of group.now)) ++ (variables_of parameters.now ++ last.variable ∷ binders_of body.now))) }
 {
     if parameters.is_empty() {
         return walk_body(alloc, first, group, last, body, found);
     }
-    let inner = capture_next(
-        alloc,
-        &first,
-        group,
-        uses,
-        number_of(&parameters[1..], last),
-    )?;
+    let rest = rest_of(parameters);
+    let number = number_of(rest, last);
+    let inner = capture_next(alloc, &first, group, uses, number)?;
     found.push(first)?;
-    let innermost = push_curried(alloc, inner, &parameters[1..], last, uses, found)?;
-    walk_body(alloc, innermost, &[], last, body, found)
+    let innermost = push_curried(alloc, inner, rest, last, uses, found)?;
+    walk_body(alloc, innermost, &[], last, body, found)?;
+    Ok(())
 }
 
 /// The entry of a function of one parameter, and those of its body.
@@ -544,9 +583,11 @@ fn walk_body(
     found: &mut Vec<Entry>,
 ) -> Result<(), ScopeFault>
     requires { entry.number ≡ last.variable }
-    ensures { IfOk result (λ _. (es : Entries) → entries_are found.old.items
+    ensures table { IfOk result (λ _. (es : Entries) → entries_are found.old.items
         ++ function_table [] [] last (exp_told body.now).table (pieces_of entry.pieces.items) entry.captured.items (members_of group.now) es
         ≡ entries_are found.new.items ++ es) }
+    ensures twice { IfErr result (λ fault. fault ≡ BoundTwice
+        → Repeats ((entry.captured.items ++ names (members_of group.now)) ++ last.variable ∷ binders_of body.now)) }
 {
     let mut scope = Scope::enter(alloc, &entry.captured, group, last.variable)?;
     found.push(entry)?;

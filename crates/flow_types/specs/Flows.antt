@@ -3,7 +3,7 @@ use Rattle.std.specs.Prelude.{◌≡◌, ℕ, List, length, slice_index_or}
 use Rattle.ir_mono.specs.Types as table
 use Rattle.ir_mono.specs.Mono.{Mono, Program}
 use Rattle.flow_sets.specs.Flow as clean
-use Rattle.flow_sets.specs.Flow.{variable}
+use Rattle.flow_sets.specs.Flow.{variable, SolvesProgram}
 use Rattle.closure_whole.specs.Rising.{rising}
 use Rattle.flow_types.specs.Kinds.{items_of}
 use Rattle.flow_types.specs.declared.flow.Flow.{Flow}
@@ -20,3 +20,9 @@ program_with initial types expansion e = record { initial = initial; types = typ
 -- the code has the sets of a program of these types with this body: all functions of each type, in rising order
 abbrev pub IsRising : Flow → (types : List table.Row) → Mono types → Type 0
 IsRising flow types e = (initial : List ℕ) (expansion : ℕ) → Has flow (rising (program_with initial types expansion e))
+
+-- the code has the sets of a solution
+pub record IsSolution (flow : Flow) (types : List table.Row) (e : Mono types) : Type 0 where
+  pub whole : clean.Flow
+  pub has : Has flow whole
+  pub solves : SolvesProgram types whole e

@@ -1,10 +1,12 @@
 // The sets of a program.
 ghost use Rattle.std.specs.Prelude.{◌≡◌, ℕ, List, IfOk, slice_index_or, length};
+ghost use Rattle.ir_mono.specs.WellFormed.{IsWellFormed};
 ghost use Rattle.mono_bound.specs.Reads.{mono_of};
-ghost use Rattle.flow_types.specs.Flows.{IsRising};
+ghost use Rattle.flow_types.specs.Flows.{IsRising, IsSolution, program_with};
 
 use crate::kinds::find_kinds;
 use crate::sets::{numbers_of, sets_of};
+use closure_whole::law::rising_sets_solve;
 use mlc_base::memory::NoMemory;
 use mono_bound::bound::push_bound;
 use mono_bound::law::bound_is_bound;
@@ -32,12 +34,15 @@ impl Flow {
     }
 }
 
-/// The sets of a program of these types: those by type, in rising order, which solve where the program is well formed (`rising_sets_solve` of
-/// `closure_whole`). None only for want of memory.
+/// The sets of a program of these types: those by type, in rising order, which are a solution where the program is well formed. Err only for want of memory.
 pub fn flows(alloc: Global, types: &Types, body: &Exp) -> Result<Flow, NoMemory>
-    ensures { IfOk result (λ flow. (strings : List (List ℕ)) → IsRising flow types.now (mono_of types.now strings body.now)) }
+    ensures rising { IfOk result (λ flow. (strings : List (List ℕ)) → IsRising flow types.now (mono_of types.now strings body.now)) }
+    ensures solves { IfOk result (λ flow. (strings : List (List ℕ)) (initial : List ℕ) (expansion : ℕ)
+        → IsWellFormed (program_with initial types.now expansion (mono_of types.now strings body.now))
+        → IsSolution flow types.now (mono_of types.now strings body.now)) }
 {
     bound_is_bound();
+    rising_sets_solve();
     let mut found = Vec::new(alloc);
     push_bound(types, body, &mut found)?;
     let kinds = find_kinds(alloc, &found)?;

@@ -4,3 +4,5 @@
 pub mod flow;
 mod kinds;
 mod sets;
+#[cfg(test)]
+mod tests;

@@ -1,10 +1,20 @@
-use Rattle.std.proofs.Common.{◌≡◌, ◌+◌, ◌-◌, ◌<◌, ◌∙◌, ◌++◌, ◌∷◌, [], map, take, length, ap, sym, refl, rules, arith}
+use Rattle.std.proofs.Common.{◌≡◌, ◌+◌, ◌-◌, ◌<◌, ◌∙◌, ◌++◌, ◌∷◌, [], map, take, length, get_or, ap, sym, refl, subst, rules, arith}
 use Rattle.closure_convert.specs.Scope.{Scope}
 use Rattle.capture_scope.specs.Seen.{members_of}
 use Rattle.capture_scope.specs.Found.{pieces_of}
-use Rattle.capture_table.specs.Told.{more, case_binds, backs, after, marks, exp_told, step_told, arm_told, function_told}
-use Rattle.capture_table.specs.Tables.{entries_are}
+use Rattle.closure_convert.specs.Capture as clean
+use Rattle.capture_scope.specs.Repeats.{Repeats}
+use Rattle.capture_table.specs.Told.{more, case_binds, backs, after, marks, members_told, first_parameter, exp_told, step_told, arm_told, function_told}
+use Rattle.capture_table.specs.Tables.{entry_is, entries_are}
+use Rattle.capture_table.proofs.Growing.{map-last}
+use Rattle.capture_table.proofs.Curried.{curried-parts, curried-told}
 use Rattle.capture_table.proofs.Walking.{left-is, body-told, marked-long, all-next, all-done, functions-next, functions-done, steps-next, after-next, marks-next, steps-done, after-done, marks-done, back-scope, back-next}
+use Rattle.plain_tree.specs.Sums.{joined, variables_of, binders_of, step_binders, arm_binders}
+use Rattle.closure_convert.specs.Scope.{names}
+use Rattle.closure_convert.specs.Capture.{visible}
+use Rattle.capture_scope.proofs.Repeating.{twice-passed, twice-kept, fault-passed, fault-kept}
+use Rattle.capture_table.specs.Inner.{inner_binders}
+use Rattle.capture_table.proofs.Twice.{first-twice, inner-twice, innermost-twice, step-fn-twice, step-group-twice, handled-twice, handler-twice, block-twice, others-twice, last-twice, steps-twice, rest-twice, switch-twice, attempts-twice, front-twice, bound-twice, part-at, part-twice, step-twice, binds-twice, arm-binds, body-twice, entered-twice}
 use Rattle.capture_table.proofs.walk.+walk.Goals as goal
 
 pub walk_all-loop-i-preserved : goal.walk_all-loop-i-preserved
@@ -24,11 +34,11 @@ walk_arms-loop-i-preserved t c = record {
 pub walk_functions-loop-i-preserved : goal.walk_functions-loop-i-preserved
 walk_functions-loop-i-preserved t c =
     functions-next function_told c.args.functions.now c.loop-i.i (pieces_of c.args.entry.now.pieces.items) c.args.entry.now.captured.items (members_of c.args.group.now) (entries_are c.args.found.now.items) (entries_are c.loop-i.found.items)
-    c.index-functions-i.result c.index-functions-i.result (entries_are c.walk_member.new.found.items) c.loop-i-test.true c.index-functions-i.is c.in_ok-walk_member.ensures c.loop-i.invariant
+    c.index-functions-i.result c.index-functions-i.result (entries_are c.walk_member.new.found.items) c.loop-i-test.true c.index-functions-i.is c.in_ok-walk_member.ensures.table c.loop-i.invariant
 
 pub walk_steps-loop-i-preserved : goal.walk_steps-loop-i-preserved
 walk_steps-loop-i-preserved t c =
-    let b = c.in_ok-bind_step.ensures ∙ ap (more (step_told c.index-steps-i.result).binds) c.in_ok-walk_step.ensures.scope in
+    let b = c.in_ok-bind_step.ensures.scope ∙ ap (more (step_told c.index-steps-i.result).binds) c.in_ok-walk_step.ensures.scope in
     record {
       table = steps-next step_told c.args.steps.now c.loop-i.i c.index-steps-i.result c.index-steps-i.result c.args.scope.now c.loop-i.scope (entries_are c.args.found.now.items) (entries_are c.loop-i.found.items) (entries_are c.walk_step.new.found.items)
           c.loop-i-test.true c.index-steps-i.is c.loop-i.invariant.scope c.bind_step.new.scope b c.in_ok-walk_step.ensures.table c.loop-i.invariant.table;
@@ -76,18 +86,186 @@ walk_all-returns-clause-table t c = all-done exp_told c.args.attempts.now c.loop
 pub walk_arms-returns-clause-table : goal.walk_arms-returns-clause-table
 walk_arms-returns-clause-table t c = all-done arm_told c.args.arms.now c.loop-i.i c.args.scope.now (entries_are c.args.found.now.items) (entries_are c.loop-i.found.items) c.loop-i-test.false c.loop-i.invariant.table
 
-pub walk_functions-returns : goal.walk_functions-returns
-walk_functions-returns t c =
+pub walk_functions-returns-clause-table : goal.walk_functions-returns-clause-table
+walk_functions-returns-clause-table t c =
     functions-done function_told c.args.functions.now c.loop-i.i (pieces_of c.args.entry.now.pieces.items) c.args.entry.now.captured.items (members_of c.args.group.now) (entries_are c.args.found.now.items) (entries_are c.loop-i.found.items)
     c.loop-i-test.false c.loop-i.invariant
 
 pub walk_handler-returns-clause-scope : goal.walk_handler-returns-clause-scope
-walk_handler-returns-clause-scope t c = left-is (c.args.packet ∷ []) c.args.scope.now c.walk.new.scope c.leave_to.new.self c.len-len.result c.len-len.ensures (c.in_ok-walk.ensures.scope ∙ c.in_ok-add.ensures) c.leave_to.ensures
+walk_handler-returns-clause-scope t c = left-is (c.args.packet ∷ []) c.args.scope.now c.walk.new.scope c.leave_to.new.self c.len-len.result c.len-len.ensures (c.in_ok-walk.ensures.scope ∙ c.in_ok-add.ensures.ok) c.leave_to.ensures
 
 pub walk_arm-returns-clause-scope : goal.walk_arm-returns-clause-scope
-walk_arm-returns-clause-scope t c = left-is (case_binds c.args.arm.now.case) c.args.scope.now c.walk.new.scope c.leave_to.new.self c.len-len.result c.len-len.ensures (c.in_ok-walk.ensures.scope ∙ c.in_ok-bind_case.ensures) c.leave_to.ensures
+walk_arm-returns-clause-scope t c = left-is (case_binds c.args.arm.now.case) c.args.scope.now c.walk.new.scope c.leave_to.new.self c.len-len.result c.len-len.ensures (c.in_ok-walk.ensures.scope ∙ c.in_ok-bind_case.ensures.scope) c.leave_to.ensures
 
-pub walk_body-returns : goal.walk_body-returns
-walk_body-returns t c =
+pub walk_body-returns-clause-table : goal.walk_body-returns-clause-table
+walk_body-returns-clause-table t c =
     body-told (exp_told c.args.body.now).table c.args.found.now.items c.push.new.self.items c.walk.new.found.items c.args.entry c.args.last.variable c.deref.result.now c.in_ok-scope.scope (members_of c.args.group.now) c.requires c.deref.ensures.value
-    c.in_ok-scope.ensures c.in_ok-push.ensures.items c.in_ok-walk.ensures.table
+    c.in_ok-scope.ensures.ok c.in_ok-push.ensures.items c.in_ok-walk.ensures.table
+
+-- Where the walk stops for a variable that is bound twice
+
+pub walk_steps-returns-in_err-walk_step-clause-twice : goal.walk_steps-returns-in_err-walk_step-clause-twice
+walk_steps-returns-in_err-walk_step-clause-twice t c =
+    twice-passed c.from_residual-in_err-walk_step.result c.in_err-walk_step.field-0.0 c.from_residual-in_err-walk_step.ensures.1 _ _
+    (step-twice c.args.steps.now c.loop-i.i c.index-steps-i.result c.index-steps-i.result c.args.scope.now c.loop-i.scope c.loop-i-test.true c.index-steps-i.is c.loop-i.invariant.scope) c.in_err-walk_step.ensures.twice
+
+pub walk_steps-returns-in_err-bind_step-clause-twice : goal.walk_steps-returns-in_err-bind_step-clause-twice
+walk_steps-returns-in_err-bind_step-clause-twice t c =
+    twice-passed c.from_residual-in_err-bind_step.result c.in_err-bind_step.field-0.0 c.from_residual-in_err-bind_step.ensures.1 _ _
+    (λ r. step-twice c.args.steps.now c.loop-i.i c.index-steps-i.result c.index-steps-i.result c.args.scope.now c.walk_step.new.scope c.loop-i-test.true c.index-steps-i.is (c.in_ok-walk_step.ensures.scope ∙ c.loop-i.invariant.scope)
+    (binds-twice c.walk_step.new.scope c.index-steps-i.result r)) c.in_err-bind_step.ensures.twice
+
+pub walk_others-returns-in_err-walk_back-clause-twice : goal.walk_others-returns-in_err-walk_back-clause-twice
+walk_others-returns-in_err-walk_back-clause-twice t c =
+    let w = c.loop-left.invariant.within in
+    let q = c.loop-left-test.true in
+    let m : c.loop-left.left ≡ (c.loop-left.left - 1) + 1 = omega (arith, q) in
+    let lt : c.loop-left.left - 1 < length c.args.steps.now = omega (arith, w, q) in
+    fault-passed c.from_residual.result c.in_err-walk_back.field-0.0 c.from_residual.ensures.1 _ _
+    (λ v s p r. step-twice c.args.steps.now (c.loop-left.left - 1) c.index-steps-left.result c.index-steps-left.result s c.leave_to.new.self lt c.index-steps-left.is
+    (back-scope step_told c.args.steps.now c.loop-left.left (c.loop-left.left - 1) c.mark_at-mark.result 0 c.index-steps-left.result c.index-steps-left.result s c.loop-left.scope c.leave_to.new.self c.args.seen.now m lt c.index-steps-left.is c.mark_at-mark.ensures r
+    (c.loop-left.invariant.scope s p r) c.leave_to.ensures) v) c.in_err-walk_back.ensures.twice
+
+pub walk_all-returns-in_err-walk-clause-twice : goal.walk_all-returns-in_err-walk-clause-twice
+walk_all-returns-in_err-walk-clause-twice t c =
+    twice-passed c.from_residual.result c.in_err-walk.field-0.0 c.from_residual.ensures.1 _ _
+    (part-at binders_of c.args.scope.now c.loop-i.scope c.args.attempts.now c.loop-i.i c.index-attempts-i.result c.index-attempts-i.result c.loop-i-test.true c.index-attempts-i.is c.loop-i.invariant.scope) c.in_err-walk.ensures.twice
+
+pub walk_arms-returns-in_err-walk_arm-clause-twice : goal.walk_arms-returns-in_err-walk_arm-clause-twice
+walk_arms-returns-in_err-walk_arm-clause-twice t c =
+    twice-passed c.from_residual.result c.in_err-walk_arm.field-0.0 c.from_residual.ensures.1 _ _
+    (part-at arm_binders c.args.scope.now c.loop-i.scope c.args.arms.now c.loop-i.i c.index-arms-i.result c.index-arms-i.result c.loop-i-test.true c.index-arms-i.is c.loop-i.invariant.scope) c.in_err-walk_arm.ensures.twice
+
+pub walk_arm-returns-in_err-bind_case-clause-twice : goal.walk_arm-returns-in_err-bind_case-clause-twice
+walk_arm-returns-in_err-bind_case-clause-twice t c =
+    twice-passed c.from_residual.result c.in_err-bind_case.field-0.0 c.from_residual.ensures.1 _ _
+    (front-twice (visible c.args.scope.now) (case_binds c.args.arm.now.case) (binders_of c.args.arm.now.body) (arm_binders c.args.arm.now) (arm-binds c.args.arm.now)) c.in_err-bind_case.ensures.twice
+
+pub walk_arm-returns-in_err-walk-clause-twice : goal.walk_arm-returns-in_err-walk-clause-twice
+walk_arm-returns-in_err-walk-clause-twice t c =
+    twice-passed c.from_residual-in_err-walk.result c.in_err-walk.field-0.0 c.from_residual-in_err-walk.ensures.1 _ _
+    (bound-twice (case_binds c.args.arm.now.case) (binders_of c.args.arm.now.body) (arm_binders c.args.arm.now) c.args.scope.now c.bind_case.new.scope c.in_ok-bind_case.ensures.scope (arm-binds c.args.arm.now)) c.in_err-walk.ensures.twice
+
+pub walk_handler-returns-in_err-add-clause-twice : goal.walk_handler-returns-in_err-add-clause-twice
+walk_handler-returns-in_err-add-clause-twice t c =
+    twice-passed c.from_residual.result c.in_err-add.field-0.0 c.from_residual.ensures.1 _ _
+    (front-twice (visible c.args.scope.now) (c.args.packet ∷ []) (binders_of c.args.handler.now) (c.args.packet ∷ binders_of c.args.handler.now) refl) c.in_err-add.ensures.twice
+
+pub walk_handler-returns-in_err-walk-clause-twice : goal.walk_handler-returns-in_err-walk-clause-twice
+walk_handler-returns-in_err-walk-clause-twice t c =
+    twice-passed c.from_residual-in_err-walk.result c.in_err-walk.field-0.0 c.from_residual-in_err-walk.ensures.1 _ _
+    (bound-twice (c.args.packet ∷ []) (binders_of c.args.handler.now) (c.args.packet ∷ binders_of c.args.handler.now) c.args.scope.now c.add.new.self c.in_ok-add.ensures.ok refl) c.in_err-walk.ensures.twice
+
+pub walk_functions-returns-in_err-walk_member-clause-twice : goal.walk_functions-returns-in_err-walk_member-clause-twice
+walk_functions-returns-in_err-walk_member-clause-twice t c =
+    twice-passed c.from_residual.result c.in_err-walk_member.field-0.0 c.from_residual.ensures.1 _ _
+    (part-twice inner_binders (c.args.entry.now.captured.items ++ names (members_of c.args.group.now)) c.args.functions.now c.loop-i.i c.index-functions-i.result c.index-functions-i.result c.loop-i-test.true c.index-functions-i.is) c.in_err-walk_member.ensures.twice
+
+pub walk_body-returns-in_err-scope-clause-twice : goal.walk_body-returns-in_err-scope-clause-twice
+walk_body-returns-in_err-scope-clause-twice t c =
+    twice-passed c.from_residual.result c.in_err-scope.field-0.0 c.from_residual.ensures.1 _ _
+    (entered-twice c.args.entry.captured.items c.deref.result.now (members_of c.args.group.now) c.args.last.variable (binders_of c.args.body.now) c.deref.ensures.value) c.in_err-scope.ensures.twice
+
+pub walk_body-returns-in_err-walk-clause-twice : goal.walk_body-returns-in_err-walk-clause-twice
+walk_body-returns-in_err-walk-clause-twice t c =
+    twice-passed c.from_residual-in_err-walk.result c.in_err-walk.field-0.0 c.from_residual-in_err-walk.ensures.1 _ _
+    (body-twice c.args.entry.captured.items c.deref.result.now (members_of c.args.group.now) c.args.last.variable (binders_of c.args.body.now) c.in_ok-scope.scope c.deref.ensures.value c.in_ok-scope.ensures.ok) c.in_err-walk.ensures.twice
+
+pub walk-returns-in_err-walk_steps-in-Steps-clause-twice : goal.walk-returns-in_err-walk_steps-in-Steps-clause-twice
+walk-returns-in_err-walk_steps-in-Steps-clause-twice t c =
+    twice-passed c.from_residual.result c.in_err-walk_steps-in-Steps.field-0.0 c.from_residual.ensures.1 _ _
+    (steps-twice (visible c.args.scope.now) c.args.e.now c.in-Steps.steps c.in-Steps.rest c.deref.result.now c.in-Steps.is c.deref.ensures.value) c.in_err-walk_steps-in-Steps.ensures.twice
+
+pub walk-returns-in_err-walk-in-Steps-clause-twice : goal.walk-returns-in_err-walk-in-Steps-clause-twice
+walk-returns-in_err-walk-in-Steps-clause-twice t c =
+    twice-passed c.from_residual-in_err-walk-in-Steps.result c.in_err-walk-in-Steps.field-0.0 c.from_residual-in_err-walk-in-Steps.ensures.1 _ _
+    (rest-twice c.args.scope.now c.walk_steps.new.scope c.args.e.now c.deref-in-Steps.result.now c.in-Steps.steps c.in-Steps.rest c.deref.result.now c.in-Steps.is c.deref.ensures.value c.deref-in-Steps.ensures c.in_ok-walk_steps-in-Steps.ensures.scope) c.in_err-walk-in-Steps.ensures.twice
+
+pub walk-returns-in_ok-walk-in-Steps-clause-twice : goal.walk-returns-in_ok-walk-in-Steps-clause-twice
+walk-returns-in_ok-walk-in-Steps-clause-twice t c =
+    let same = c.deref.ensures.value ∙ sym c.deref-in-Steps-2.ensures.value in
+    fault-kept c.walk_others.result _ _
+    (λ h. steps-twice (visible c.args.scope.now) c.args.e.now c.in-Steps.steps c.in-Steps.rest c.deref-in-Steps-2.result.now c.in-Steps.is c.deref-in-Steps-2.ensures.value
+    (h c.args.scope.now (c.in_ok-walk-in-Steps.ensures.scope ∙ c.in_ok-walk_steps-in-Steps.ensures.scope ∙ ap (λ l. after (map step_told l) c.args.scope.now) same)
+    (c.deref-in-Steps-3.ensures.value ∙ c.in_ok-walk_steps-in-Steps.ensures.seen ∙ ap (λ l. l ++ marks (map step_told c.deref.result.now) c.args.scope.now) c.new-seen.ensures.items ∙ ap (λ l. marks (map step_told l) c.args.scope.now) same)))
+    c.walk_others.ensures.twice
+
+pub walk-returns-in-Switch-clause-twice : goal.walk-returns-in-Switch-clause-twice
+walk-returns-in-Switch-clause-twice t c =
+    twice-kept c.walk_arms.result _ _ (switch-twice (visible c.args.scope.now) c.args.e.now _ _ c.in-Switch.arms c.deref-in-Switch.result.now c.in-Switch.is c.deref-in-Switch.ensures.value) c.walk_arms.ensures.twice
+
+pub walk-returns-in_err-walk_all-in-First-clause-twice : goal.walk-returns-in_err-walk_all-in-First-clause-twice
+walk-returns-in_err-walk_all-in-First-clause-twice t c =
+    twice-passed c.from_residual-in_err-walk_all-in-First.result c.in_err-walk_all-in-First.field-0.0 c.from_residual-in_err-walk_all-in-First.ensures.1 _ _
+    (attempts-twice (visible c.args.scope.now) c.args.e.now c.in-First.attempts c.in-First.last c.deref-in-First.result.now c.in-First.is c.deref-in-First.ensures.value) c.in_err-walk_all-in-First.ensures.twice
+
+pub walk-returns-in_err-walk-in-First-clause-twice : goal.walk-returns-in_err-walk-in-First-clause-twice
+walk-returns-in_err-walk-in-First-clause-twice t c =
+    twice-passed c.from_residual-in_err-walk-in-First.result c.in_err-walk-in-First.field-0.0 c.from_residual-in_err-walk-in-First.ensures.1 _ _
+    (λ r. last-twice (visible c.args.scope.now) c.args.e.now c.in-First.attempts c.in-First.last c.deref-in-First-2.result.now c.in-First.is c.deref-in-First-2.ensures
+    (subst (λ z. Repeats (visible z ++ binders_of c.deref-in-First-2.result.now)) c.in_ok-walk_all-in-First.ensures.scope r)) c.in_err-walk-in-First.ensures.twice
+
+pub walk_back-returns-in-Test-clause-twice : goal.walk_back-returns-in-Test-clause-twice
+walk_back-returns-in-Test-clause-twice t c =
+    twice-kept c.walk_arms.result _ _ (others-twice c.args.scope.now c.args.step.now c.in-Test.atom c.in-Test.ty c.in-Test.case c.in-Test.others c.deref.result.now c.in-Test.is c.deref.ensures.value) c.walk_arms.ensures.twice
+
+pub walk_step-returns-in-Block-clause-twice : goal.walk_step-returns-in-Block-clause-twice
+walk_step-returns-in-Block-clause-twice t c =
+    twice-kept c.walk.result _ _ (block-twice c.args.scope.now c.args.step.now c.in-Block.field-0 c.in-Block.body c.deref-in-Block.result.now c.in-Block.is c.deref-in-Block.ensures) c.walk.ensures.twice
+
+pub walk_step-returns-in_err-walk-in-Handle-clause-twice : goal.walk_step-returns-in_err-walk-in-Handle-clause-twice
+walk_step-returns-in_err-walk-in-Handle-clause-twice t c =
+    twice-passed c.from_residual-in_err-walk-in-Handle.result c.in_err-walk-in-Handle.field-0.0 c.from_residual-in_err-walk-in-Handle.ensures.1 _ _
+    (handled-twice c.args.scope.now c.args.step.now c.in-Handle.binding c.in-Handle.body c.in-Handle.packet c.in-Handle.handler c.deref-in-Handle.result.now c.in-Handle.is c.deref-in-Handle.ensures) c.in_err-walk-in-Handle.ensures.twice
+
+pub walk_step-returns-in_ok-walk-in-Handle-clause-twice : goal.walk_step-returns-in_ok-walk-in-Handle-clause-twice
+walk_step-returns-in_ok-walk-in-Handle-clause-twice t c =
+    twice-kept c.walk_handler.result _ _
+    (handler-twice c.args.scope.now c.args.step.now c.in-Handle.binding c.in-Handle.body c.in-Handle.packet c.in-Handle.handler c.deref-in-Handle-2.result.now c.walk-in-Handle.new.scope c.in-Handle.is c.deref-in-Handle-2.ensures
+    c.in_ok-walk-in-Handle.ensures.scope) c.walk_handler.ensures.twice
+
+pub walk_step-returns-in_ok-entry-in-Fn-clause-twice : goal.walk_step-returns-in_ok-entry-in-Fn-clause-twice
+walk_step-returns-in_ok-entry-in-Fn-clause-twice t c =
+    twice-kept c.walk_function.result _ _
+    (step-fn-twice c.args.scope.now c.args.step.now _ c.in_ok-entry-in-Fn.entry.captured.items c.in-Fn.binding c.in-Fn.parameters c.in-Fn.last c.in-Fn.body c.deref-in-Fn-3.result.now c.deref-in-Fn-4.result.now c.in-Fn.is
+    c.deref-in-Fn-3.ensures.value c.deref-in-Fn-4.ensures (ap (λ (v : clean.Entry). v.captured) c.in_ok-entry-in-Fn.ensures.table)) c.walk_function.ensures.twice
+
+pub walk_step-returns-in_ok-entry-in-Group-clause-twice : goal.walk_step-returns-in_ok-entry-in-Group-clause-twice
+walk_step-returns-in_ok-entry-in-Group-clause-twice t c =
+    twice-kept c.walk_functions.result _ _
+    (step-group-twice c.args.scope.now c.args.step.now _ c.in_ok-entry-in-Group.entry.captured.items (members_of c.deref-in-Group-4.result.now) c.in-Group.field-0 c.in-Group.functions c.deref-in-Group-5.result.now c.in-Group.is
+    c.deref-in-Group-5.ensures.value (ap (λ (v : clean.Entry). v.captured) c.in_ok-entry-in-Group.ensures.table)
+    (ap members_of c.deref-in-Group-4.ensures.value ∙ c.in_ok-group-in-Group.ensures ∙ ap (λ l. members_told (map function_told l)) (c.deref-in-Group-2.ensures.value ∙ sym c.deref-in-Group-5.ensures.value))) c.walk_functions.ensures.twice
+
+pub walk_function-returns-in_err-inner-clause-twice : goal.walk_function-returns-in_err-inner-clause-twice
+walk_function-returns-in_err-inner-clause-twice t c =
+    let vs = c.args.first.captured.items ++ names (members_of c.args.group.now) in
+    let zs = c.args.last.variable ∷ binders_of c.args.body.now in
+    let a = curried-parts c.args.parameters.now c.rest_of-rest.result.now c.args.last c.is_empty.result c.is_empty.ensures c.if-is_empty.false c.rest_of-rest.ensures in
+    twice-passed c.from_residual.result c.in_err-inner.field-0.0 c.from_residual.ensures.1 _ _
+    (λ r. subst (λ l. Repeats (vs ++ (variables_of l ++ zs))) (sym a)
+    (first-twice vs (get_or c.args.parameters.now 0 c.args.last) c.args.last c.rest_of-rest.result.now zs c.args.first.number (c.requires ∙ ap (λ l. first_parameter l c.args.last) a) r)) c.in_err-inner.ensures.twice
+
+pub walk_function-returns-in_err-innermost-clause-twice : goal.walk_function-returns-in_err-innermost-clause-twice
+walk_function-returns-in_err-innermost-clause-twice t c =
+    let a = curried-parts c.args.parameters.now c.rest_of-rest.result.now c.args.last c.is_empty.result c.is_empty.ensures c.if-is_empty.false c.rest_of-rest.ensures in
+    twice-passed c.from_residual-in_err-innermost.result c.in_err-innermost.field-0.0 c.from_residual-in_err-innermost.ensures.1 _ _
+    (inner-twice [] c.args.first.captured.items (members_of c.args.group.now) (get_or c.args.parameters.now 0 c.args.last) c.args.last c.rest_of-rest.result.now c.args.parameters.now c.args.first.number c.args.uses.now (binders_of c.args.body.now)
+    c.in_ok-inner.inner.captured.items a (c.requires ∙ ap (λ l. first_parameter l c.args.last) a) (ap (λ (v : clean.Entry). v.captured) c.in_ok-inner.ensures.table)) c.in_err-innermost.ensures.twice
+
+pub walk_function-returns-in_err-walk_body-clause-twice : goal.walk_function-returns-in_err-walk_body-clause-twice
+walk_function-returns-in_err-walk_body-clause-twice t c =
+    let a = curried-parts c.args.parameters.now c.rest_of-rest.result.now c.args.last c.is_empty.result c.is_empty.ensures c.if-is_empty.false c.rest_of-rest.ensures in
+    twice-passed c.from_residual-in_err-walk_body.result c.in_err-walk_body.field-0.0 c.from_residual-in_err-walk_body.ensures.1 _ _
+    (innermost-twice [] c.args.first.captured.items (members_of c.args.group.now) (get_or c.args.parameters.now 0 c.args.last) c.args.last c.rest_of-rest.result.now c.args.parameters.now c.args.first.number c.args.uses.now (binders_of c.args.body.now)
+    c.in_ok-inner.inner.captured.items a (c.requires ∙ ap (λ l. first_parameter l c.args.last) a) (ap (λ (v : clean.Entry). v.captured) c.in_ok-inner.ensures.table) c.in_ok-innermost.innermost.captured.items c.in_ok-innermost.ensures.within)
+    c.in_err-walk_body.ensures.twice
+
+pub walk_function-returns-clause-table : goal.walk_function-returns-clause-table
+walk_function-returns-clause-table t c = λ es.
+    let a = curried-parts c.args.parameters.now c.rest_of-rest.result.now c.args.last c.is_empty.result c.is_empty.ensures c.if-is_empty.false c.rest_of-rest.ensures in
+    curried-told c.args.uses.now c.args.last (exp_told c.args.body.now).table c.args.parameters.now c.rest_of-rest.result.now (get_or c.args.parameters.now 0 c.args.last) a c.args.first.number (c.requires ∙ ap (λ l. first_parameter l c.args.last) a)
+    (pieces_of c.args.first.pieces.items) (pieces_of c.in_ok-inner.inner.pieces.items) c.args.first.captured.items c.in_ok-inner.inner.captured.items (members_of c.args.group.now)
+    (ap (λ (v : clean.Entry). v.captured) c.in_ok-inner.ensures.table) (ap (λ (v : clean.Entry). v.pieces) c.in_ok-inner.ensures.table)
+    (entries_are c.args.found.now.items) (entries_are c.push.new.self.items) _ (ap entries_are c.in_ok-push.ensures.items ∙ map-last entry_is c.args.found.now.items c.args.first) es
+    (c.in_ok-innermost.ensures.table (exp_told c.args.body.now).table es ∙ c.in_ok-walk_body.ensures.table es)
