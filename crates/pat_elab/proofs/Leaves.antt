@@ -145,7 +145,7 @@ constant_is S M T C place k d bs r i g h w m g' l n e = record {
   gives = λ W c A t.
       let is = w W (comes_before M T W g' c) in
       let lit = l W c in
-      let wide : 4 ≤ A.names = subst (λ n. 4 ≤ n) (sym t.names) i.wide in
+      let le = i.wide in let same = t.names in let wide : 4 ≤ A.names = omega (arith, le, same) in
       record {
         choices = no_choice;
         elab =
