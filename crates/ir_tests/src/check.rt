@@ -12,6 +12,7 @@ use ir_known::stack::Stack;
 use ir_uses::table::is_table;
 use mlc_base::memory::NoMemory;
 use mlc_base::pass::{Check, Form};
+use record_order::facts::Facts;
 use std::alloc::Global;
 use tests_check::infer::exp_type;
 use ty_core::mark::Mark;
@@ -35,13 +36,14 @@ fn is_typed(alloc: Global, program: &Program) -> Result<bool, NoMemory>
     requires { type_at program.now.tables.types program.now.exn ≡ exn_type }
     ensures { IfOk result (λ yes. IsTrue yes ↔ IsTyped program.now) }
 {
+    let facts = Facts::find(alloc, &program.tables.types, program.exn)?;
     let mut marks: Stack<Mark> = Stack::new(alloc);
     let mut scope = Scope::new(alloc);
     let found = exp_type(
         &program.body,
         alloc,
         &program.tables,
-        program.exn,
+        &facts,
         &mut marks,
         &mut scope,
     )?;

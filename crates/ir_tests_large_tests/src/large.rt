@@ -66,7 +66,7 @@ fn blocks_in_blocks(rt: HostRuntime) -> Result<(), Fail> {
     Ok(())
 }
 
-const WIDTH: usize = 10_000;
+const WIDTH: usize = 100_000;
 
 /// A type of records of integers, with the labels 1, 2, ..
 fn put_wide(alloc: Global, types: &mut Types) -> Result<usize, NoMemory> {
@@ -93,7 +93,7 @@ fn record(alloc: Global, ty: usize) -> Result<Operation, NoMemory> {
 
 /// The fields of the record 2, so many, numbered from 3 on.
 fn put_fields(alloc: Global, text: &mut Text, ty: usize, count: usize) -> Result<(), NoMemory>
-    requires { count < 2 ^ 16 }
+    requires { count < 2 ^ 32 }
 {
     for i in 0..count {
         text.put(
@@ -106,7 +106,7 @@ fn put_fields(alloc: Global, text: &mut Text, ty: usize, count: usize) -> Result
 
 /// What the checker says of a record of which so many fields are taken.
 fn taken(alloc: Global, count: usize) -> Result<Check, NoMemory>
-    requires { count < 2 ^ 16 }
+    requires { count < 2 ^ 32 }
 {
     let mut tables = make_tables(alloc, 7)?;
     let ty = put_wide(alloc, &mut tables.types)?;

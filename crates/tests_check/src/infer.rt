@@ -3,6 +3,7 @@ ghost use Rattle.std.specs.Prelude.{◌≡◌, ℕ, Some, None, IfOk};
 ghost use Rattle.ty_table.specs.TypeAt.{type_at};
 ghost use Rattle.ir_poly.specs.TestsChecked.{exn_type};
 ghost use Rattle.ir_known.specs.Knows.{marks_of};
+ghost use Rattle.record_order.specs.Order.{AreOrders};
 ghost use Rattle.tests_check.specs.Walk.{HasType, HasNone};
 
 use crate::atom::atom_type;
@@ -12,6 +13,7 @@ use ir_known::stack::Stack;
 use ir_tables::tables::Tables;
 use mlc_base::memory::NoMemory;
 use plain_tree::tree::Exp;
+use record_order::facts::Facts;
 use std::alloc::Global;
 use ty_core::mark::Mark;
 
@@ -20,11 +22,12 @@ pub fn exp_type(
     e: &Exp,
     alloc: Global,
     tables: &Tables,
-    exn: usize,
+    facts: &Facts,
     marks: &mut Stack<Mark>,
     scope: &mut Scope,
 ) -> Result<Option<usize>, NoMemory>
-    requires { type_at tables.now.types exn ≡ exn_type }
+    requires exn { type_at tables.now.types facts.now.exn ≡ exn_type }
+    requires orders { AreOrders tables.now.types facts.now.orders }
     ensures some { IfOk result (λ found. (k : ℕ) → found ≡ Some k → HasType tables.now (marks_of marks.old) scope.old e.now k) }
     ensures none { IfOk result (λ found. found ≡ None → HasNone tables.now (marks_of marks.old) scope.old e.now) }
     ensures marks { IfOk result (λ found. (k : ℕ) → found ≡ Some k → marks_of marks.new ≡ marks_of marks.old) }
@@ -33,11 +36,11 @@ pub fn exp_type(
     match e {
         Exp::Steps(steps, rest) => {
             let place = scope.mark();
-            let brings = steps_bring(steps, alloc, tables, exn, marks, scope, false, 0)?;
+            let brings = steps_bring(steps, alloc, tables, facts, marks, scope, false, 0)?;
             if !brings {
                 return Ok(None);
             }
-            let found = exp_type(rest, alloc, tables, exn, marks, scope)?;
+            let found = exp_type(rest, alloc, tables, facts, marks, scope)?;
             scope.restore(place);
             Ok(found)
         }
@@ -48,12 +51,12 @@ pub fn exp_type(
             arms: _,
         } => Ok(None),
         Exp::First(attempts, last) => {
-            let found = exp_type(last, alloc, tables, exn, marks, scope)?;
+            let found = exp_type(last, alloc, tables, facts, marks, scope)?;
             let ty = match found {
                 Some(given) => given,
                 None => return Ok(None),
             };
-            let yes = attempts_fit(attempts, alloc, tables, exn, marks, scope, ty)?;
+            let yes = attempts_fit(attempts, alloc, tables, facts, marks, scope, ty)?;
             if !yes {
                 return Ok(None);
             }

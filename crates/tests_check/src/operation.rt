@@ -11,6 +11,7 @@ ghost use Rattle.ir_poly.specs.TestsChecked.{exn_type, HasConstructor};
 ghost use Rattle.ir_known.specs.Knows.{marks_of};
 ghost use Rattle.ir_uses.specs.Fields.{HasField};
 ghost use Rattle.plain_tree.specs.TreeOf.{atoms_of, operation_of, row_of};
+ghost use Rattle.record_order.specs.Order.{AreOrders};
 ghost use Rattle.tests_check.specs.Fits.{AtomFits, AtomsFit, ExceptionFits, OpFits, RowFits};
 ghost use Rattle.tests_check.specs.Reads.{reading};
 ghost use Rattle.tests_check.specs.Walk.{all, local, table_of};
@@ -24,12 +25,14 @@ use ir_uses::constructor::{has_constructor, is_alone};
 use ir_uses::exception::{is_exception, is_initial};
 use ir_uses::literal::has_literal;
 use ir_uses::primitive::{admits_type, gives, is_primitive_value, takes};
-use ir_uses::record::{do_ascend, is_record, is_selected};
+use ir_uses::record::{do_ascend, is_record};
 use ir_uses::using::use_fits;
 use mlc_base::label::Label;
 use mlc_base::memory::NoMemory;
 use mlc_prims::basis::BasisPrimitive;
 use plain_tree::tree::{Field, Operation};
+use record_order::facts::Facts;
+use record_order::orders::Orders;
 use std::alloc::Global;
 use ty_core::mark::Mark;
 use ty_table::types::Types;
@@ -196,14 +199,23 @@ fn makes(
 }
 
 /// Whether a field of an atom that is a record is of a type.
-fn selects(tables: &Tables, scope: &Scope, of: usize, label: Label, atom: usize, ty: usize) -> bool
+fn selects(
+    tables: &Tables,
+    orders: &Orders,
+    scope: &Scope,
+    of: usize,
+    label: Label,
+    atom: usize,
+    ty: usize,
+) -> bool
+    requires { AreOrders tables.now.types orders.now }
     ensures { IsTrue result ↔ (AtomFits (local tables.now scope.now) (inst atom []) (type_at tables.now.types of)
         × HasField label (type_at tables.now.types of) (type_at tables.now.types ty)) }
 {
     if !is_atom(tables, scope, atom, of) {
         return false;
     }
-    is_selected(&tables.types, of, label, ty)
+    orders.is_selected(&tables.types, of, label, ty)
 }
 
 /// Whether a primitive takes these atoms at a type.
@@ -270,13 +282,14 @@ fn applies(tables: &Tables, scope: &Scope, function: usize, argument: usize, ty:
 pub fn is_operation(
     alloc: Global,
     tables: &Tables,
-    exn: usize,
+    facts: &Facts,
     marks: &Stack<Mark>,
     scope: &Scope,
     operation: &Operation,
     ty: usize,
 ) -> Result<bool, NoMemory>
-    requires { type_at tables.now.types exn ≡ exn_type }
+    requires exn { type_at tables.now.types facts.now.exn ≡ exn_type }
+    requires orders { AreOrders tables.now.types facts.now.orders }
     ensures { IfOk result (λ yes. IsTrue yes ↔ OpFits (table_of tables.now) (marks_of marks.now) (all tables.now scope.now) (local tables.now scope.now)
         (operation_of (reading tables.now) operation.now) (type_at tables.now.types ty)) }
 {
@@ -316,7 +329,7 @@ pub fn is_operation(
             ty: of,
             exception,
             argument,
-        } => Ok(packs(tables, exn, scope, *of, *exception, *argument, ty)),
+        } => Ok(packs(tables, facts.exn, scope, *of, *exception, *argument, ty)),
         Operation::Record { ty: of, fields } => {
             let yes = makes(alloc, tables, scope, *of, fields, ty)?;
             Ok(yes)
@@ -325,7 +338,7 @@ pub fn is_operation(
             ty: of,
             label,
             record,
-        } => Ok(selects(tables, scope, *of, *label, *record, ty)),
+        } => Ok(selects(tables, &facts.orders, scope, *of, *label, *record, ty)),
         Operation::Primitive(primitive, of) => {
             let yes = is_primitive_value(alloc, types, marks, *primitive, *of, ty)?;
             Ok(yes)
@@ -344,7 +357,7 @@ pub fn is_operation(
             function,
             argument,
         } => Ok(applies(tables, scope, *function, *argument, ty)),
-        Operation::Raise(packet) => Ok(is_atom(tables, scope, *packet, exn)),
+        Operation::Raise(packet) => Ok(is_atom(tables, scope, *packet, facts.exn)),
         Operation::RaiseInitial(number) => Ok(is_initial(*number)),
     }
 }

@@ -6,6 +6,7 @@ ghost use Rattle.ty_table.specs.TypeAt.{type_at};
 ghost use Rattle.ir_poly.specs.TestsChecked.{at, exception, exn_type, NameChecked};
 ghost use Rattle.ir_known.specs.Knows.{marks_of};
 ghost use Rattle.plain_tree.specs.TreeOf.{operation_of, exception_of};
+ghost use Rattle.record_order.specs.Order.{AreOrders};
 ghost use Rattle.tests_check.specs.Fits.{ArgumentFits};
 ghost use Rattle.tests_check.specs.Reads.{reading};
 ghost use Rattle.tests_check.specs.Walk.{IsLet, IsName, Holds, Declares, all};
@@ -21,6 +22,7 @@ use ir_uses::exception::is_initial;
 use ir_uses::using::is_option_over;
 use mlc_base::memory::NoMemory;
 use plain_tree::tree::{Binding, Exception, Operation};
+use record_order::facts::Facts;
 use std::alloc::Global;
 use ty_core::mark::Mark;
 
@@ -28,13 +30,14 @@ use ty_core::mark::Mark;
 pub fn operation_brings(
     alloc: Global,
     tables: &Tables,
-    exn: usize,
+    facts: &Facts,
     marks: &mut Stack<Mark>,
     scope: &mut Scope,
     binding: Binding,
     operation: &Operation,
 ) -> Result<bool, NoMemory>
-    requires { type_at tables.now.types exn ≡ exn_type }
+    requires exn { type_at tables.now.types facts.now.exn ≡ exn_type }
+    requires orders { AreOrders tables.now.types facts.now.orders }
     ensures yes { IfOk result (λ yes. yes ≡ true → IsLet tables.now (marks_of marks.old) scope.old binding (operation_of (reading tables.now) operation.now)) }
     ensures no { IfOk result (λ yes. yes ≡ false
         → IsLet tables.now (marks_of marks.old) scope.old binding (operation_of (reading tables.now) operation.now) → ⊥) }
@@ -49,7 +52,7 @@ pub fn operation_brings(
     if !yes {
         return Ok(false);
     }
-    let yes = is_operation(alloc, tables, exn, marks, scope, operation, binding.ty)?;
+    let yes = is_operation(alloc, tables, facts, marks, scope, operation, binding.ty)?;
     if !yes {
         return Ok(false);
     }

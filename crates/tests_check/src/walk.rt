@@ -4,6 +4,7 @@ ghost use Rattle.ty_table.specs.TypeAt.{type_at};
 ghost use Rattle.ir_poly.specs.TestsChecked.{exn_type};
 ghost use Rattle.ir_known.specs.Knows.{marks_of};
 ghost use Rattle.plain_tree.specs.TreeOf.{put, step_of, funs_of, function_of};
+ghost use Rattle.record_order.specs.Order.{AreOrders};
 ghost use Rattle.tests_check.specs.Reads.{reading};
 ghost use Rattle.tests_check.specs.Walk.{IsExp, IsArm, IsFunction, IsLet, IsGroup, Declares, Gathers, known_as, steps_before, function_made, block_made, Each, Brings, Refuses};
 
@@ -20,6 +21,7 @@ use ir_known::walk::is_over;
 use ir_tables::tables::Tables;
 use mlc_base::memory::NoMemory;
 use plain_tree::tree::{Arm, Binding, Exp, Function, Parameter, Step};
+use record_order::facts::Facts;
 use std::alloc::Global;
 use ty_core::mark::Mark;
 
@@ -29,13 +31,14 @@ pub fn exp_fits(
     e: &Exp,
     alloc: Global,
     tables: &Tables,
-    exn: usize,
+    facts: &Facts,
     marks: &mut Stack<Mark>,
     scope: &mut Scope,
     misses: bool,
     ty: usize,
 ) -> Result<bool, NoMemory>
-    requires { type_at tables.now.types exn ≡ exn_type }
+    requires exn { type_at tables.now.types facts.now.exn ≡ exn_type }
+    requires orders { AreOrders tables.now.types facts.now.orders }
     ensures yes { IfOk result (λ yes. yes ≡ true → IsExp tables.now misses (marks_of marks.old) scope.old e.now ty) }
     ensures no { IfOk result (λ yes. yes ≡ false → IsExp tables.now misses (marks_of marks.old) scope.old e.now ty → ⊥) }
     ensures marks { IfOk result (λ yes. yes ≡ true → marks_of marks.new ≡ marks_of marks.old) }
@@ -44,11 +47,11 @@ pub fn exp_fits(
     match e {
         Exp::Steps(steps, rest) => {
             let place = scope.mark();
-            let brings = steps_bring(steps, alloc, tables, exn, marks, scope, misses, ty)?;
+            let brings = steps_bring(steps, alloc, tables, facts, marks, scope, misses, ty)?;
             if !brings {
                 return Ok(false);
             }
-            let ends = exp_fits(rest, alloc, tables, exn, marks, scope, misses, ty)?;
+            let ends = exp_fits(rest, alloc, tables, facts, marks, scope, misses, ty)?;
             scope.restore(place);
             Ok(ends)
         }
@@ -60,15 +63,15 @@ pub fn exp_fits(
             if !is_atom(tables, scope, *atom, *of) {
                 return Ok(false);
             }
-            let fit = arms_fit(arms, alloc, tables, exn, marks, scope, *of, ty)?;
+            let fit = arms_fit(arms, alloc, tables, facts, marks, scope, *of, ty)?;
             Ok(fit)
         }
         Exp::First(attempts, last) => {
-            let tried = attempts_fit(attempts, alloc, tables, exn, marks, scope, ty)?;
+            let tried = attempts_fit(attempts, alloc, tables, facts, marks, scope, ty)?;
             if !tried {
                 return Ok(false);
             }
-            let ends = exp_fits(last, alloc, tables, exn, marks, scope, misses, ty)?;
+            let ends = exp_fits(last, alloc, tables, facts, marks, scope, misses, ty)?;
             Ok(ends)
         }
         Exp::Miss => Ok(misses),
@@ -81,12 +84,13 @@ pub fn attempts_fit(
     attempts: &[Exp],
     alloc: Global,
     tables: &Tables,
-    exn: usize,
+    facts: &Facts,
     marks: &mut Stack<Mark>,
     scope: &mut Scope,
     ty: usize,
 ) -> Result<bool, NoMemory>
-    requires { type_at tables.now.types exn ≡ exn_type }
+    requires exn { type_at tables.now.types facts.now.exn ≡ exn_type }
+    requires orders { AreOrders tables.now.types facts.now.orders }
     ensures yes { IfOk result (λ yes. yes ≡ true → Each (λ e. IsExp tables.now true (marks_of marks.old) scope.old e ty) attempts.now) }
     ensures no { IfOk result (λ yes. yes ≡ false → Each (λ e. IsExp tables.now true (marks_of marks.old) scope.old e ty) attempts.now → ⊥) }
     ensures marks { IfOk result (λ yes. yes ≡ true → marks_of marks.new ≡ marks_of marks.old) }
@@ -94,7 +98,7 @@ pub fn attempts_fit(
 {
     for i in 0..attempts.len() {
         let attempt = &attempts[i];
-        let yes = exp_fits(attempt, alloc, tables, exn, marks, scope, true, ty)?;
+        let yes = exp_fits(attempt, alloc, tables, facts, marks, scope, true, ty)?;
         if !yes {
             return Ok(false);
         }
@@ -108,13 +112,14 @@ fn arms_fit(
     arms: &[Arm],
     alloc: Global,
     tables: &Tables,
-    exn: usize,
+    facts: &Facts,
     marks: &mut Stack<Mark>,
     scope: &mut Scope,
     of: usize,
     ty: usize,
 ) -> Result<bool, NoMemory>
-    requires { type_at tables.now.types exn ≡ exn_type }
+    requires exn { type_at tables.now.types facts.now.exn ≡ exn_type }
+    requires orders { AreOrders tables.now.types facts.now.orders }
     ensures yes { IfOk result (λ yes. yes ≡ true → Each (IsArm tables.now (marks_of marks.old) scope.old of ty) arms.now) }
     ensures no { IfOk result (λ yes. yes ≡ false → Each (IsArm tables.now (marks_of marks.old) scope.old of ty) arms.now → ⊥) }
     ensures marks { IfOk result (λ yes. yes ≡ true → marks_of marks.new ≡ marks_of marks.old) }
@@ -122,7 +127,7 @@ fn arms_fit(
 {
     for i in 0..arms.len() {
         let arm = &arms[i];
-        let yes = arm_fits(arm, alloc, tables, exn, marks, scope, of, ty)?;
+        let yes = arm_fits(arm, alloc, tables, facts, marks, scope, of, ty)?;
         if !yes {
             return Ok(false);
         }
@@ -136,24 +141,25 @@ fn arm_fits(
     arm: &Arm,
     alloc: Global,
     tables: &Tables,
-    exn: usize,
+    facts: &Facts,
     marks: &mut Stack<Mark>,
     scope: &mut Scope,
     of: usize,
     ty: usize,
 ) -> Result<bool, NoMemory>
-    requires { type_at tables.now.types exn ≡ exn_type }
+    requires exn { type_at tables.now.types facts.now.exn ≡ exn_type }
+    requires orders { AreOrders tables.now.types facts.now.orders }
     ensures yes { IfOk result (λ yes. yes ≡ true → IsArm tables.now (marks_of marks.old) scope.old of ty arm.now) }
     ensures no { IfOk result (λ yes. yes ≡ false → IsArm tables.now (marks_of marks.old) scope.old of ty arm.now → ⊥) }
     ensures marks { IfOk result (λ yes. yes ≡ true → marks_of marks.new ≡ marks_of marks.old) }
     ensures scope { IfOk result (λ yes. yes ≡ true → scope.new ≡ scope.old) }
 {
     let place = scope.mark();
-    let opens = bind_case(alloc, tables, exn, marks, scope, arm.case, of)?;
+    let opens = bind_case(alloc, tables, facts.exn, marks, scope, arm.case, of)?;
     if !opens {
         return Ok(false);
     }
-    let ends = exp_fits(&arm.body, alloc, tables, exn, marks, scope, true, ty)?;
+    let ends = exp_fits(&arm.body, alloc, tables, facts, marks, scope, true, ty)?;
     scope.restore(place);
     Ok(ends)
 }
@@ -164,20 +170,21 @@ pub fn steps_bring(
     steps: &[Step],
     alloc: Global,
     tables: &Tables,
-    exn: usize,
+    facts: &Facts,
     marks: &mut Stack<Mark>,
     scope: &mut Scope,
     misses: bool,
     ty: usize,
 ) -> Result<bool, NoMemory>
-    requires { type_at tables.now.types exn ≡ exn_type }
+    requires exn { type_at tables.now.types facts.now.exn ≡ exn_type }
+    requires orders { AreOrders tables.now.types facts.now.orders }
     ensures yes { IfOk result (λ yes. yes ≡ true → Brings tables.now misses (marks_of marks.old) ty scope.old scope.new (steps_before tables.now steps.now)) }
     ensures no { IfOk result (λ yes. yes ≡ false → Refuses tables.now misses (marks_of marks.old) ty scope.old (steps_before tables.now steps.now)) }
     ensures marks { IfOk result (λ yes. yes ≡ true → marks_of marks.new ≡ marks_of marks.old) }
 {
     for i in 0..steps.len() {
         let step = &steps[i];
-        let brings = step_brings(step, alloc, tables, exn, marks, scope, misses, ty)?;
+        let brings = step_brings(step, alloc, tables, facts, marks, scope, misses, ty)?;
         if !brings {
             return Ok(false);
         }
@@ -191,13 +198,14 @@ fn step_brings(
     step: &Step,
     alloc: Global,
     tables: &Tables,
-    exn: usize,
+    facts: &Facts,
     marks: &mut Stack<Mark>,
     scope: &mut Scope,
     misses: bool,
     ty: usize,
 ) -> Result<bool, NoMemory>
-    requires { type_at tables.now.types exn ≡ exn_type }
+    requires exn { type_at tables.now.types facts.now.exn ≡ exn_type }
+    requires orders { AreOrders tables.now.types facts.now.orders }
     ensures yes { IfOk result (λ yes. yes ≡ true
         → Brings tables.now misses (marks_of marks.old) ty scope.old scope.new (put (step_of (reading tables.now) step.now))) }
     ensures no { IfOk result (λ yes. yes ≡ false → Refuses tables.now misses (marks_of marks.old) ty scope.old (put (step_of (reading tables.now) step.now))) }
@@ -205,7 +213,7 @@ fn step_brings(
 {
     match step {
         Step::Let(binding, operation) => {
-            let yes = operation_brings(alloc, tables, exn, marks, scope, *binding, operation)?;
+            let yes = operation_brings(alloc, tables, facts, marks, scope, *binding, operation)?;
             Ok(yes)
         }
         Step::Fn {
@@ -215,12 +223,12 @@ fn step_brings(
             body,
         } => {
             let yes = fn_brings(
-                body, alloc, tables, exn, marks, scope, *binding, parameters, *last,
+                body, alloc, tables, facts, marks, scope, *binding, parameters, *last,
             )?;
             Ok(yes)
         }
         Step::Block(binding, body) => {
-            let yes = block_brings(body, alloc, tables, exn, marks, scope, *binding)?;
+            let yes = block_brings(body, alloc, tables, facts, marks, scope, *binding)?;
             Ok(yes)
         }
         Step::Handle {
@@ -238,15 +246,17 @@ fn step_brings(
             if !ready {
                 return Ok(false);
             }
-            let tried = exp_fits(body, alloc, tables, exn, marks, scope, false, binding.ty)?;
+            let tried = exp_fits(body, alloc, tables, facts, marks, scope, false, binding.ty)?;
             if !tried {
                 return Ok(false);
             }
-            let free = scope.bind(*packet, Known::OfType(exn))?;
+            let free = scope.bind(*packet, Known::OfType(facts.exn))?;
             if !free {
                 return Ok(false);
             }
-            let caught = exp_fits(handler, alloc, tables, exn, marks, scope, false, binding.ty)?;
+            let caught = exp_fits(
+                handler, alloc, tables, facts, marks, scope, false, binding.ty,
+            )?;
             if !caught {
                 return Ok(false);
             }
@@ -266,7 +276,7 @@ fn step_brings(
             Ok(yes)
         }
         Step::Group(parameters, functions) => {
-            let yes = group_brings(functions, alloc, tables, exn, marks, scope, *parameters)?;
+            let yes = group_brings(functions, alloc, tables, facts, marks, scope, *parameters)?;
             Ok(yes)
         }
         Step::Test {
@@ -281,11 +291,11 @@ fn step_brings(
             if !is_atom(tables, scope, *atom, *of) {
                 return Ok(false);
             }
-            let fit = arms_fit(others, alloc, tables, exn, marks, scope, *of, ty)?;
+            let fit = arms_fit(others, alloc, tables, facts, marks, scope, *of, ty)?;
             if !fit {
                 return Ok(false);
             }
-            let opens = bind_case(alloc, tables, exn, marks, scope, *case, *of)?;
+            let opens = bind_case(alloc, tables, facts.exn, marks, scope, *case, *of)?;
             Ok(opens)
         }
         Step::Counted(_) => Ok(true),
@@ -298,14 +308,15 @@ fn fn_brings(
     body: &Exp,
     alloc: Global,
     tables: &Tables,
-    exn: usize,
+    facts: &Facts,
     marks: &mut Stack<Mark>,
     scope: &mut Scope,
     binding: Binding,
     parameters: &[Parameter],
     last: Parameter,
 ) -> Result<bool, NoMemory>
-    requires { type_at tables.now.types exn ≡ exn_type }
+    requires exn { type_at tables.now.types facts.now.exn ≡ exn_type }
+    requires orders { AreOrders tables.now.types facts.now.orders }
     ensures yes { IfOk result (λ yes. yes ≡ true
         → IsLet tables.now (marks_of marks.old) scope.old binding (function_made tables.now parameters.now last body.now)) }
     ensures no { IfOk result (λ yes. yes ≡ false
@@ -324,7 +335,7 @@ fn fn_brings(
         Some(given) => given,
         None => return Ok(false),
     };
-    let fits = exp_fits(body, alloc, tables, exn, marks, scope, false, ty)?;
+    let fits = exp_fits(body, alloc, tables, facts, marks, scope, false, ty)?;
     if !fits {
         return Ok(false);
     }
@@ -338,12 +349,13 @@ fn block_brings(
     body: &Exp,
     alloc: Global,
     tables: &Tables,
-    exn: usize,
+    facts: &Facts,
     marks: &mut Stack<Mark>,
     scope: &mut Scope,
     binding: Binding,
 ) -> Result<bool, NoMemory>
-    requires { type_at tables.now.types exn ≡ exn_type }
+    requires exn { type_at tables.now.types facts.now.exn ≡ exn_type }
+    requires orders { AreOrders tables.now.types facts.now.orders }
     ensures yes { IfOk result (λ yes. yes ≡ true → IsLet tables.now (marks_of marks.old) scope.old binding (block_made tables.now body.now)) }
     ensures no { IfOk result (λ yes. yes ≡ false → IsLet tables.now (marks_of marks.old) scope.old binding (block_made tables.now body.now) → ⊥) }
     ensures bound { IfOk result (λ yes. yes ≡ true → Declares tables.now scope.old scope.new binding) }
@@ -358,7 +370,7 @@ fn block_brings(
     if !opens {
         return Ok(false);
     }
-    let fits = exp_fits(body, alloc, tables, exn, marks, scope, false, binding.ty)?;
+    let fits = exp_fits(body, alloc, tables, facts, marks, scope, false, binding.ty)?;
     if !fits {
         return Ok(false);
     }
@@ -372,12 +384,13 @@ fn group_brings(
     functions: &[Function],
     alloc: Global,
     tables: &Tables,
-    exn: usize,
+    facts: &Facts,
     marks: &mut Stack<Mark>,
     scope: &mut Scope,
     parameters: usize,
 ) -> Result<bool, NoMemory>
-    requires { type_at tables.now.types exn ≡ exn_type }
+    requires exn { type_at tables.now.types facts.now.exn ≡ exn_type }
+    requires orders { AreOrders tables.now.types facts.now.orders }
     ensures yes { IfOk result (λ yes. yes ≡ true → IsGroup tables.now (marks_of marks.old) scope.old parameters functions.now) }
     ensures no { IfOk result (λ yes. yes ≡ false → IsGroup tables.now (marks_of marks.old) scope.old parameters functions.now → ⊥) }
     ensures bound { IfOk result (λ yes. yes ≡ true
@@ -391,7 +404,7 @@ fn group_brings(
     if !opens {
         return Ok(false);
     }
-    let fit = functions_fit(functions, alloc, tables, exn, marks, scope)?;
+    let fit = functions_fit(functions, alloc, tables, facts, marks, scope)?;
     if !fit {
         return Ok(false);
     }
@@ -405,11 +418,12 @@ fn functions_fit(
     functions: &[Function],
     alloc: Global,
     tables: &Tables,
-    exn: usize,
+    facts: &Facts,
     marks: &mut Stack<Mark>,
     scope: &mut Scope,
 ) -> Result<bool, NoMemory>
-    requires { type_at tables.now.types exn ≡ exn_type }
+    requires exn { type_at tables.now.types facts.now.exn ≡ exn_type }
+    requires orders { AreOrders tables.now.types facts.now.orders }
     ensures yes { IfOk result (λ yes. yes ≡ true → Each (IsFunction tables.now (marks_of marks.old) scope.old) functions.now) }
     ensures no { IfOk result (λ yes. yes ≡ false → Each (IsFunction tables.now (marks_of marks.old) scope.old) functions.now → ⊥) }
     ensures marks { IfOk result (λ yes. yes ≡ true → marks_of marks.new ≡ marks_of marks.old) }
@@ -417,7 +431,7 @@ fn functions_fit(
 {
     for i in 0..functions.len() {
         let function = &functions[i];
-        let yes = function_fits(function, alloc, tables, exn, marks, scope)?;
+        let yes = function_fits(function, alloc, tables, facts, marks, scope)?;
         if !yes {
             return Ok(false);
         }
@@ -431,11 +445,12 @@ fn function_fits(
     function: &Function,
     alloc: Global,
     tables: &Tables,
-    exn: usize,
+    facts: &Facts,
     marks: &mut Stack<Mark>,
     scope: &mut Scope,
 ) -> Result<bool, NoMemory>
-    requires { type_at tables.now.types exn ≡ exn_type }
+    requires exn { type_at tables.now.types facts.now.exn ≡ exn_type }
+    requires orders { AreOrders tables.now.types facts.now.orders }
     ensures yes { IfOk result (λ yes. yes ≡ true → IsFunction tables.now (marks_of marks.old) scope.old function.now) }
     ensures no { IfOk result (λ yes. yes ≡ false → IsFunction tables.now (marks_of marks.old) scope.old function.now → ⊥) }
     ensures marks { IfOk result (λ yes. yes ≡ true → marks_of marks.new ≡ marks_of marks.old) }
@@ -459,7 +474,16 @@ fn function_fits(
         Some(given) => given,
         None => return Ok(false),
     };
-    let ends = exp_fits(&function.body, alloc, tables, exn, marks, scope, false, ty)?;
+    let ends = exp_fits(
+        &function.body,
+        alloc,
+        tables,
+        facts,
+        marks,
+        scope,
+        false,
+        ty,
+    )?;
     scope.restore(place);
     Ok(ends)
 }

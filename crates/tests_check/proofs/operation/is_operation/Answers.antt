@@ -48,7 +48,7 @@ returns-in_ok-yes-in-Perform c = perform-fits c.args.tables.now c.args.scope.now
     c.deref-in-Perform.result.now c.in_ok-yes-in-Perform.yes c.in-Perform.is c.deref-in-Perform.ensures.value c.in_ok-yes-in-Perform.ensures
 
 pub returns-in-Raise : goal.returns-in-Raise
-returns-in-Raise c = raise-fits c.args.tables.now c.args.scope.now (marks_of c.args.marks.now) c.args.ty c.args.operation.now c.in-Raise.packet c.args.exn c.is_atom.result c.in-Raise.is c.requires c.is_atom.ensures
+returns-in-Raise c = raise-fits c.args.tables.now c.args.scope.now (marks_of c.args.marks.now) c.args.ty c.args.operation.now c.in-Raise.packet c.args.facts.now.exn c.is_atom.result c.in-Raise.is c.requires.exn c.is_atom.ensures
 
 pub returns-in-RaiseInitial : goal.returns-in-RaiseInitial
 returns-in-RaiseInitial c = initial-fits c.args.tables.now c.args.scope.now (marks_of c.args.marks.now) c.args.ty c.args.operation.now c.in-RaiseInitial.number c.is_initial.result c.in-RaiseInitial.is c.is_initial.ensures

@@ -333,25 +333,25 @@ step_brings-returns-then-not-ready-clause-no t c = λ _. let-refuses c.args.tabl
 
 pub step_brings-returns-then-not-tried-clause-no : goal.step_brings-returns-then-not-tried-clause-no
 step_brings-returns-then-not-tried-clause-no t c = λ _. let-refuses c.args.tables.now c.args.misses (marks_of c.args.marks.now) c.args.ty c.args.scope.now c.args.scope.now c.in-Handle.binding (handle_made c.args.tables.now c.deref-in-Handle.result.now c.in-Handle.packet c.in-Handle.handler.value) (step_of (reading c.args.tables.now) c.args.step.now) (handle-is (reading c.args.tables.now) c.args.step.now c.in-Handle.binding c.in-Handle.body c.in-Handle.handler c.in-Handle.packet c.deref-in-Handle.result.now c.in-Handle.handler.value c.in-Handle.is c.deref-in-Handle.ensures refl)
-    (tried-misfits c.args.tables.now c.args.exn c.requires (marks_of c.args.marks.now) (marks_of c.open_binding.new.marks) c.args.scope.now c.in-Handle.binding c.in-Handle.packet c.deref-in-Handle.result.now c.in-Handle.handler.value (c.in_ok-ready-in-Handle.ensures.declared c.if-not-ready.false) (c.in_ok-tried-in-Handle.ensures.no c.if-not-tried.true))
+    (tried-misfits c.args.tables.now c.args.facts.now.exn c.requires.exn (marks_of c.args.marks.now) (marks_of c.open_binding.new.marks) c.args.scope.now c.in-Handle.binding c.in-Handle.packet c.deref-in-Handle.result.now c.in-Handle.handler.value (c.in_ok-ready-in-Handle.ensures.declared c.if-not-ready.false) (c.in_ok-tried-in-Handle.ensures.no c.if-not-tried.true))
 
 pub step_brings-returns-then-not-free-clause-no : goal.step_brings-returns-then-not-free-clause-no
 step_brings-returns-then-not-free-clause-no t c = λ _. let-refuses c.args.tables.now c.args.misses (marks_of c.args.marks.now) c.args.ty c.args.scope.now c.args.scope.now c.in-Handle.binding (handle_made c.args.tables.now c.deref-in-Handle.result.now c.in-Handle.packet c.in-Handle.handler.value) (step_of (reading c.args.tables.now) c.args.step.now) (handle-is (reading c.args.tables.now) c.args.step.now c.in-Handle.binding c.in-Handle.body c.in-Handle.handler c.in-Handle.packet c.deref-in-Handle.result.now c.in-Handle.handler.value c.in-Handle.is c.deref-in-Handle.ensures refl)
-    (packet-known c.args.tables.now c.args.exn c.requires (marks_of c.args.marks.now) c.args.scope.now c.exp_fits.new.scope c.in-Handle.binding c.in-Handle.packet c.deref-in-Handle.result.now c.in-Handle.handler.value (c.in_ok-tried-in-Handle.ensures.scope c.if-not-tried.false) (λ n. not-yes c.if-not-free.true ((none-known c.args.tables.now.types (parameters_of c.args.tables.now) (c.exp_fits.new.scope.0 ++ c.exp_fits.new.scope.1) c.in-Handle.packet c.in_ok-free-in-Handle.free c.in_ok-free-in-Handle.ensures.new).1 n)))
+    (packet-known c.args.tables.now c.args.facts.now.exn c.requires.exn (marks_of c.args.marks.now) c.args.scope.now c.exp_fits.new.scope c.in-Handle.binding c.in-Handle.packet c.deref-in-Handle.result.now c.in-Handle.handler.value (c.in_ok-tried-in-Handle.ensures.scope c.if-not-tried.false) (λ n. not-yes c.if-not-free.true ((none-known c.args.tables.now.types (parameters_of c.args.tables.now) (c.exp_fits.new.scope.0 ++ c.exp_fits.new.scope.1) c.in-Handle.packet c.in_ok-free-in-Handle.free c.in_ok-free-in-Handle.ensures.new).1 n)))
 
 pub step_brings-returns-then-not-caught-clause-no : goal.step_brings-returns-then-not-caught-clause-no
 step_brings-returns-then-not-caught-clause-no t c = λ _. let-refuses c.args.tables.now c.args.misses (marks_of c.args.marks.now) c.args.ty c.args.scope.now c.args.scope.now c.in-Handle.binding (handle_made c.args.tables.now c.deref-in-Handle.result.now c.in-Handle.packet c.deref-in-Handle-2.result.now) (step_of (reading c.args.tables.now) c.args.step.now) (handle-is (reading c.args.tables.now) c.args.step.now c.in-Handle.binding c.in-Handle.body c.in-Handle.handler c.in-Handle.packet c.deref-in-Handle.result.now c.deref-in-Handle-2.result.now c.in-Handle.is c.deref-in-Handle.ensures c.deref-in-Handle-2.ensures)
-    (handler-misfits c.args.tables.now c.args.exn c.requires (marks_of c.args.marks.now) (marks_of c.open_binding.new.marks) (marks_of c.exp_fits.new.marks) c.args.scope.now c.exp_fits.new.scope c.bind.new.self c.in-Handle.binding c.in-Handle.packet c.deref-in-Handle.result.now c.deref-in-Handle-2.result.now (c.in_ok-ready-in-Handle.ensures.declared c.if-not-ready.false) (c.in_ok-tried-in-Handle.ensures.marks c.if-not-tried.false) (c.in_ok-tried-in-Handle.ensures.scope c.if-not-tried.false) (c.in_ok-free-in-Handle.ensures.bound c.if-not-free.false) (c.in_ok-caught-in-Handle.ensures.no c.if-not-caught.true))
+    (handler-misfits c.args.tables.now c.args.facts.now.exn c.requires.exn (marks_of c.args.marks.now) (marks_of c.open_binding.new.marks) (marks_of c.exp_fits.new.marks) c.args.scope.now c.exp_fits.new.scope c.bind.new.self c.in-Handle.binding c.in-Handle.packet c.deref-in-Handle.result.now c.deref-in-Handle-2.result.now (c.in_ok-ready-in-Handle.ensures.declared c.if-not-ready.false) (c.in_ok-tried-in-Handle.ensures.marks c.if-not-tried.false) (c.in_ok-tried-in-Handle.ensures.scope c.if-not-tried.false) (c.in_ok-free-in-Handle.ensures.bound c.if-not-free.false) (c.in_ok-caught-in-Handle.ensures.no c.if-not-caught.true))
 
 pub step_brings-returns-in_ok-new-in-Handle-clause-yes : goal.step_brings-returns-in_ok-new-in-Handle-clause-yes
 step_brings-returns-in_ok-new-in-Handle-clause-yes t c = λ y. let-brings c.args.tables.now c.args.misses (marks_of c.args.marks.now) c.args.ty c.args.scope.now c.close_binding.new.scope c.in-Handle.binding (handle_made c.args.tables.now c.deref-in-Handle.result.now c.in-Handle.packet c.deref-in-Handle-2.result.now) (step_of (reading c.args.tables.now) c.args.step.now) (handle-is (reading c.args.tables.now) c.args.step.now c.in-Handle.binding c.in-Handle.body c.in-Handle.handler c.in-Handle.packet c.deref-in-Handle.result.now c.deref-in-Handle-2.result.now c.in-Handle.is c.deref-in-Handle.ensures c.deref-in-Handle-2.ensures)
-    (handle-fits c.args.tables.now c.args.exn c.requires (marks_of c.args.marks.now) (marks_of c.open_binding.new.marks) (marks_of c.exp_fits.new.marks) c.args.scope.now c.exp_fits.new.scope c.bind.new.self c.in-Handle.binding c.in-Handle.packet c.deref-in-Handle.result.now c.deref-in-Handle-2.result.now
+    (handle-fits c.args.tables.now c.args.facts.now.exn c.requires.exn (marks_of c.args.marks.now) (marks_of c.open_binding.new.marks) (marks_of c.exp_fits.new.marks) c.args.scope.now c.exp_fits.new.scope c.bind.new.self c.in-Handle.binding c.in-Handle.packet c.deref-in-Handle.result.now c.deref-in-Handle-2.result.now
     (c.handler_may.ensures (tree_of (reading c.args.tables.now) c.deref-in-Handle.result.now) (tree_of (reading c.args.tables.now) c.deref-in-Handle-2.result.now) c.in-Handle.packet ∙ c.if-not-handler_may.false) (c.in_ok-ready-in-Handle.ensures.yes c.if-not-ready.false) (c.in_ok-ready-in-Handle.ensures.declared c.if-not-ready.false) (c.in_ok-tried-in-Handle.ensures.marks c.if-not-tried.false) (c.in_ok-tried-in-Handle.ensures.scope c.if-not-tried.false) (c.in_ok-free-in-Handle.ensures.bound c.if-not-free.false) (c.in_ok-tried-in-Handle.ensures.yes c.if-not-tried.false)
-    ((none-known c.args.tables.now.types (parameters_of c.args.tables.now) (c.exp_fits.new.scope.0 ++ c.exp_fits.new.scope.1) c.in-Handle.packet c.in_ok-free-in-Handle.free c.in_ok-free-in-Handle.ensures.new).0 c.if-not-free.false) (c.in_ok-caught-in-Handle.ensures.yes c.if-not-caught.false) ((c.in_ok-new-in-Handle.ensures.new c.args.scope.now (since-packet c.args.scope.now c.exp_fits.new.scope c.bind.new.self c.exp_fits-in-Handle.new.scope c.in-Handle.packet c.args.exn c.mark-place.result (c.in_ok-tried-in-Handle.ensures.scope c.if-not-tried.false) (c.in_ok-free-in-Handle.ensures.bound c.if-not-free.false) (c.in_ok-caught-in-Handle.ensures.scope c.if-not-caught.false) c.mark-place.ensures.len c.mark-place.ensures.start)).0 y)) (c.in_ok-new-in-Handle.ensures.bound c.args.scope.now (since-packet c.args.scope.now c.exp_fits.new.scope c.bind.new.self c.exp_fits-in-Handle.new.scope c.in-Handle.packet c.args.exn c.mark-place.result (c.in_ok-tried-in-Handle.ensures.scope c.if-not-tried.false) (c.in_ok-free-in-Handle.ensures.bound c.if-not-free.false) (c.in_ok-caught-in-Handle.ensures.scope c.if-not-caught.false) c.mark-place.ensures.len c.mark-place.ensures.start) y)
+    ((none-known c.args.tables.now.types (parameters_of c.args.tables.now) (c.exp_fits.new.scope.0 ++ c.exp_fits.new.scope.1) c.in-Handle.packet c.in_ok-free-in-Handle.free c.in_ok-free-in-Handle.ensures.new).0 c.if-not-free.false) (c.in_ok-caught-in-Handle.ensures.yes c.if-not-caught.false) ((c.in_ok-new-in-Handle.ensures.new c.args.scope.now (since-packet c.args.scope.now c.exp_fits.new.scope c.bind.new.self c.exp_fits-in-Handle.new.scope c.in-Handle.packet c.args.facts.now.exn c.mark-place.result (c.in_ok-tried-in-Handle.ensures.scope c.if-not-tried.false) (c.in_ok-free-in-Handle.ensures.bound c.if-not-free.false) (c.in_ok-caught-in-Handle.ensures.scope c.if-not-caught.false) c.mark-place.ensures.len c.mark-place.ensures.start)).0 y)) (c.in_ok-new-in-Handle.ensures.bound c.args.scope.now (since-packet c.args.scope.now c.exp_fits.new.scope c.bind.new.self c.exp_fits-in-Handle.new.scope c.in-Handle.packet c.args.facts.now.exn c.mark-place.result (c.in_ok-tried-in-Handle.ensures.scope c.if-not-tried.false) (c.in_ok-free-in-Handle.ensures.bound c.if-not-free.false) (c.in_ok-caught-in-Handle.ensures.scope c.if-not-caught.false) c.mark-place.ensures.len c.mark-place.ensures.start) y)
 
 pub step_brings-returns-in_ok-new-in-Handle-clause-no : goal.step_brings-returns-in_ok-new-in-Handle-clause-no
 step_brings-returns-in_ok-new-in-Handle-clause-no t c = λ n. let-refuses c.args.tables.now c.args.misses (marks_of c.args.marks.now) c.args.ty c.args.scope.now c.args.scope.now c.in-Handle.binding (handle_made c.args.tables.now c.deref-in-Handle.result.now c.in-Handle.packet c.deref-in-Handle-2.result.now) (step_of (reading c.args.tables.now) c.args.step.now) (handle-is (reading c.args.tables.now) c.args.step.now c.in-Handle.binding c.in-Handle.body c.in-Handle.handler c.in-Handle.packet c.deref-in-Handle.result.now c.deref-in-Handle-2.result.now c.in-Handle.is c.deref-in-Handle.ensures c.deref-in-Handle-2.ensures)
-    (let-bound c.args.tables.now (marks_of c.args.marks.now) c.args.scope.now c.in-Handle.binding (handle_made c.args.tables.now c.deref-in-Handle.result.now c.in-Handle.packet c.deref-in-Handle-2.result.now) c.in_ok-new-in-Handle.new (c.in_ok-new-in-Handle.ensures.new c.args.scope.now (since-packet c.args.scope.now c.exp_fits.new.scope c.bind.new.self c.exp_fits-in-Handle.new.scope c.in-Handle.packet c.args.exn c.mark-place.result (c.in_ok-tried-in-Handle.ensures.scope c.if-not-tried.false) (c.in_ok-free-in-Handle.ensures.bound c.if-not-free.false) (c.in_ok-caught-in-Handle.ensures.scope c.if-not-caught.false) c.mark-place.ensures.len c.mark-place.ensures.start)) n)
+    (let-bound c.args.tables.now (marks_of c.args.marks.now) c.args.scope.now c.in-Handle.binding (handle_made c.args.tables.now c.deref-in-Handle.result.now c.in-Handle.packet c.deref-in-Handle-2.result.now) c.in_ok-new-in-Handle.new (c.in_ok-new-in-Handle.ensures.new c.args.scope.now (since-packet c.args.scope.now c.exp_fits.new.scope c.bind.new.self c.exp_fits-in-Handle.new.scope c.in-Handle.packet c.args.facts.now.exn c.mark-place.result (c.in_ok-tried-in-Handle.ensures.scope c.if-not-tried.false) (c.in_ok-free-in-Handle.ensures.bound c.if-not-free.false) (c.in_ok-caught-in-Handle.ensures.scope c.if-not-caught.false) c.mark-place.ensures.len c.mark-place.ensures.start)) n)
 
 pub step_brings-returns-in_ok-new-in-Handle-clause-marks : goal.step_brings-returns-in_ok-new-in-Handle-clause-marks
 step_brings-returns-in_ok-new-in-Handle-clause-marks t c = λ _. c.in_ok-new-in-Handle.ensures.left (parameters_at (parameters_of c.args.tables.now) c.in-Handle.binding.parameters) (marks_of c.args.marks.now) (c.in_ok-caught-in-Handle.ensures.marks c.if-not-caught.false ∙ c.in_ok-tried-in-Handle.ensures.marks c.if-not-tried.false ∙ c.in_ok-ready-in-Handle.ensures.declared c.if-not-ready.false) (marks-many c.args.marks.now (marks_of c.args.marks.now) c.len-len.result c.len-len.ensures refl)
