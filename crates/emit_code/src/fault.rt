@@ -9,9 +9,7 @@ use std::alloc::{AllocError, AllocFailed};
 /// Why there is no code.
 #[derive(Clone, Copy, PartialEq, Eq, Debug, Drop)]
 pub enum EmitFault {
-    /// There are more instructions than an image may have.
-    TooLong,
-    /// A number that the code names is no word.
+    /// A number or a place that the code names is no word.
     NoWord,
     /// A label is not where the places say.
     Unsettled,

@@ -14,10 +14,10 @@ ghost use Rattle.emit_code.specs.PlacesOf.{places_of};
 
 use crate::fault::EmitFault;
 use crate::places::{Places, are_words};
-use crate::put::{MOST, here, operand, put, slot_at, slots_of, sum, word};
+use crate::put::{here, operand, put, slot_at, slots_of, sum, word};
 use emit_rows::push::{Spot, packet, push_row, push_test};
 use emit_rows::row::{alloc as alloc_row, brz, equal, jmp, ld, li, mov, scmp, st};
-use emit_rows::sizes::{late_exception, row_size, test_size};
+use emit_rows::sizes::{late_exception, row_size};
 use first_tables::operation::{Constant, Operands, Plain, Test};
 use first_tables::tables::Tables;
 use ir_code::instr::Instr;
@@ -26,13 +26,11 @@ use mlc_prims::basis::BasisPrimitive;
 use scoped_map::scoped::Scoped;
 use std::alloc::Global;
 
-/// Behind this place there is room for a primitive.
-fn has_room(place: u32, size: u32) -> Result<(), EmitFault>
+/// Behind this place eight more are words.
+fn has_room(place: u32) -> Result<(), EmitFault>
     ensures { OnOk result (place + 8 < 2 ^ 32) }
 {
-    if place as usize + size as usize > MOST {
-        return Err(EmitFault::TooLong);
-    }
+    sum(place, 8)?;
     Ok(())
 }
 
@@ -61,7 +59,7 @@ pub fn emit_row(
         (map slot (depths_in operands.now slots.now))) }
 {
     let place = here(code)?;
-    has_room(place, row_size(kind, primitive))?;
+    has_room(place)?;
     let slot = free_slot(depth)?;
     let operands = slots_of(alloc, slots, operands)?;
     let spot = Spot { place, slot, other };
@@ -310,7 +308,7 @@ fn emit_holds(
         ++ rows.test_code (operands_of kind) primitive (length code.old.items) (slot depth) other (map slot (depths_in operands.now slots.now))) }
 {
     let place = here(code)?;
-    has_room(place, test_size(kind, primitive))?;
+    has_room(place)?;
     let slot = free_slot(depth)?;
     let operands = slots_of(alloc, slots, operands)?;
     let spot = Spot { place, slot, other };

@@ -8,16 +8,10 @@ use ir_code::instr::Instr;
 use scoped_map::scoped::Scoped;
 use std::alloc::Global;
 
-/// The most instructions that an image has.
-pub const MOST: usize = 33_554_432;
-
 /// An instruction behind the code so far.
 pub fn put(code: &mut Vec<Instr>, instr: Instr) -> Result<(), EmitFault>
     ensures { OnOk result (code.new.items ≡ code.old.items ++ instr ∷ []) }
 {
-    if code.len() >= MOST {
-        return Err(EmitFault::TooLong);
-    }
     code.push(instr)?;
     Ok(())
 }
@@ -28,7 +22,7 @@ pub fn here(code: &Vec<Instr>) -> Result<u32, EmitFault>
 {
     match u32::try_from(code.len()) {
         Ok(place) => Ok(place),
-        Err(_) => Err(EmitFault::TooLong),
+        Err(_) => Err(EmitFault::NoWord),
     }
 }
 

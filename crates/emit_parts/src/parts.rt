@@ -218,7 +218,7 @@ pub fn emit_choice(
     let (first, targets) = reserve_all(alloc, at, found, tags)?;
     let last = match first.checked_add(tags.len()) {
         Some(last) => last,
-        None => return Err(EmitFault::TooLong),
+        None => return Err(EmitFault::NoWord),
     };
     push_choice(
         alloc,

@@ -108,7 +108,7 @@ pub fn next_label(number: usize) -> Result<usize, EmitFault>
 {
     match number.checked_add(1) {
         Some(next) => Ok(next),
-        None => Err(EmitFault::TooLong),
+        None => Err(EmitFault::NoWord),
     }
 }
 

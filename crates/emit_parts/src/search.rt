@@ -32,9 +32,9 @@ fn search_size(count: usize, tests: bool) -> Result<u32, EmitFault>
     match count.checked_mul(share(tests)) {
         Some(size) => match u32::try_from(size - 3) {
             Ok(size) => Ok(size),
-            Err(_) => Err(EmitFault::TooLong),
+            Err(_) => Err(EmitFault::NoWord),
         },
-        None => Err(EmitFault::TooLong),
+        None => Err(EmitFault::NoWord),
     }
 }
 

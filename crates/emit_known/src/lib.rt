@@ -1,0 +1,6 @@
+// What is known of an image before its code: the texts of its exceptions, its constants, where they and the comparisons of types stand.
+#![tactic(auto)]
+
+pub mod exceptions;
+pub mod known;
+pub mod texts;

@@ -1,0 +1,4 @@
+// How many words an image has.
+#![tactic(auto)]
+
+pub mod law;
