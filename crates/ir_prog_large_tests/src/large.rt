@@ -117,7 +117,7 @@ fn taken(alloc: Global, count: u32) -> Made<Check> {
 
 #[test]
 fn each_field_alone(rt: HostRuntime) -> Result<(), Fail> {
-    assert_eq!(rt; taken(rt.alloc(), 100_000)?, Check::Yes);
+    assert_eq!(rt; taken(rt.alloc(), 10_000)?, Check::Yes);
     Ok(())
 }
 
