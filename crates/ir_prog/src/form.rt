@@ -18,6 +18,7 @@ use mlc_base::pass::{Check, Form};
 use prog_exps::exps::check_decs;
 use prog_known::answers::both;
 use prog_known::environment::Environment;
+use record_order::facts::Facts;
 use std::alloc::Global;
 use ty_core::name::TyName;
 
@@ -26,11 +27,12 @@ fn is_typed(alloc: Global, program: &Program) -> Result<bool, NoMemory>
     requires { type_at program.now.tables.types program.now.exn ≡ exn_type }
     ensures { IfOk result (λ so. so ≡ check_decs (table_in program.now.tables) [] [] (body_in program.now)) }
 {
+    let facts = Facts::find(alloc, &program.tables.types, program.exn)?;
     let mut environment = Environment::new(alloc);
     let so = check_decs(
         alloc,
         &program.tables,
-        program.exn,
+        &facts,
         &mut environment,
         &program.body,
     )?;

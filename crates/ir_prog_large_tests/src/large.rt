@@ -1,6 +1,6 @@
 // Large programs: what takes more than near linear time takes minutes here.
 
-use crate::make::{integers, labels, level, record, record_pat, three, val};
+use crate::make::{integers, labels, level, put_selections, record, record_pat, three, val};
 use ir_prog::program::Program;
 use ir_tables::tables::Tables;
 use mlc_base::label::Label;
@@ -99,6 +99,25 @@ fn wide(alloc: Global, count: u32) -> Made<Check> {
 #[test]
 fn a_wide_record(rt: HostRuntime) -> Result<(), Fail> {
     assert_eq!(rt; wide(rt.alloc(), 10_000)?, Check::Yes);
+    Ok(())
+}
+
+/// The variable of a record, above those of its fields.
+const RECORD: usize = 1_000_000;
+
+/// What the checker says of a record of so many fields, of which each is taken alone.
+fn taken(alloc: Global, count: u32) -> Made<Check> {
+    let mut tables = tables(alloc, 7)?;
+    let ty = row(alloc, &mut tables, labels(alloc, count)?)?;
+    let made = record(alloc, count, ty);
+    let mut body = bound(alloc, Ok(Pat::Variable(RECORD)), ty, made)?;
+    put_selections(alloc, &mut body, count, RECORD, ty)?;
+    Ok(said(alloc, Ok(tables), EXN, body))
+}
+
+#[test]
+fn each_field_alone(rt: HostRuntime) -> Result<(), Fail> {
+    assert_eq!(rt; taken(rt.alloc(), 10_000)?, Check::Yes);
     Ok(())
 }
 

@@ -3,8 +3,8 @@
 use ir_tables::tables::Constant;
 use mlc_base::label::Label;
 use mlc_base::make::{boxed, one};
-use prog_tree::tree::{Atom, Binding, Dec, Exp, Pat, PatField, Rule};
-use prog_words::make::{Made, PLACE, let_in};
+use prog_tree::tree::{Atom, Binding, Dec, Exp, Pat, PatField, Rule, Used};
+use prog_words::make::{Made, PLACE, add, let_in};
 use std::alloc::Global;
 use tests_given::given::{INT, NONE};
 
@@ -70,6 +70,40 @@ pub fn record_pat(alloc: Global, count: u32) -> Made<Pat> {
         })?;
     }
     Ok(Pat::Record(false, fields))
+}
+
+/// The field of this label as a variable of its number, of a record that may have further ones.
+fn field_alone(alloc: Global, label: u32) -> Made<Pat> {
+    let fields = one(
+        alloc,
+        PatField {
+            label: Label::Number(label),
+            ty: INT,
+            pat: Pat::Variable(label as usize),
+        },
+    )?;
+    Ok(Pat::Record(true, fields))
+}
+
+/// `val {label = variable, ...} = record`
+fn selection(alloc: Global, label: u32, record: usize, ty: usize) -> Made<Dec> {
+    let pat = field_alone(alloc, label)?;
+    let exp = Exp::Use(Used::Variable(record), Vec::new(alloc), ty);
+    val(alloc, pat, ty, exp)
+}
+
+/// Each field of a record, taken alone.
+pub fn put_selections(
+    alloc: Global,
+    body: &mut Vec<Dec>,
+    count: u32,
+    record: usize,
+    ty: usize,
+) -> Made<()> {
+    for i in 0..count {
+        add(body, selection(alloc, i, record, ty))?;
+    }
+    Ok(())
 }
 
 /// Its labels.

@@ -3,6 +3,7 @@
 ghost use Rattle.std.specs.Prelude.{◌≡◌, [], IfOk};
 ghost use Rattle.ty_table.specs.TypeAt.{type_at};
 ghost use Rattle.ir_poly.specs.TestsChecked.{exn_type};
+ghost use Rattle.record_order.specs.Order.{AreOrders};
 ghost use Rattle.prog_known.specs.Lists.{run, hold, all_hold};
 ghost use Rattle.prog_parts.specs.Expressions.{argument_next, join_next, dec_step};
 ghost use Rattle.prog_leaves.specs.Places.{Adds};
@@ -30,6 +31,7 @@ use prog_leaves::types::{
 use prog_pats::pats::check_pat;
 use prog_shapes::types::type_of;
 use prog_tree::tree::{Binding, Dec, Exp, Function, Join, Parameter, Rule, Side};
+use record_order::facts::Facts;
 use std::alloc::Global;
 
 /// Whether an expression has the type that it has written.
@@ -37,62 +39,63 @@ use std::alloc::Global;
 pub fn check_exp(
     alloc: Global,
     tables: &Tables,
-    exn: usize,
+    facts: &Facts,
     environment: &mut Environment,
     exp: &Exp,
 ) -> Result<bool, NoMemory>
-    requires { type_at tables.now.types exn ≡ exn_type }
+    requires exn { type_at tables.now.types facts.now.exn ≡ exn_type }
+    requires orders { AreOrders tables.now.types facts.now.orders }
     ensures right { IfOk result (λ so. so ≡ exp_right tables.now environment.old exp.now) }
     ensures kept { IfOk result (λ _. environment.new ≡ environment.old) }
 {
     match exp {
         Exp::Atom(atom, ty) => check_atom(alloc, tables, environment, *atom, *ty),
         Exp::Use(used, ts, ty) => check_use(alloc, tables, environment, *used, ts, *ty),
-        Exp::Record(ty, fields) => check_record(alloc, tables, exn, environment, *ty, fields),
+        Exp::Record(ty, fields) => check_record(alloc, tables, facts, environment, *ty, fields),
         Exp::Let(ty, declarations, body) => {
             let back = mark_place(environment);
-            let declared = check_decs(alloc, tables, exn, environment, declarations)?;
-            let right = check_typed(alloc, tables, exn, environment, body, *ty)?;
+            let declared = check_decs(alloc, tables, facts, environment, declarations)?;
+            let right = check_typed(alloc, tables, facts, environment, body, *ty)?;
             leave(environment, back);
             Ok(both(declared, right))
         }
         Exp::Apply(_, function, arguments) => {
-            let right = check_exp(alloc, tables, exn, environment, function)?;
+            let right = check_exp(alloc, tables, facts, environment, function)?;
             let of = type_of(function);
-            let applied = check_arguments(alloc, tables, exn, environment, of, arguments)?;
+            let applied = check_arguments(alloc, tables, facts, environment, of, arguments)?;
             Ok(both(right, applied))
         }
         Exp::Infix(side, first, joins) => {
-            let right = check_exp(alloc, tables, exn, environment, first)?;
+            let right = check_exp(alloc, tables, facts, environment, first)?;
             let left = type_of(first);
-            let joined = check_joins(alloc, tables, exn, environment, *side, left, joins)?;
+            let joined = check_joins(alloc, tables, facts, environment, *side, left, joins)?;
             Ok(both(right, joined))
         }
         Exp::Case(_, ty, of, rules) => {
-            let right = check_drop(alloc, tables, exn, environment, of)?;
-            let matched = check_rules(alloc, tables, exn, environment, rules, type_of(of), *ty)?;
+            let right = check_drop(alloc, tables, facts, environment, of)?;
+            let matched = check_rules(alloc, tables, facts, environment, rules, type_of(of), *ty)?;
             Ok(both(right, matched))
         }
         Exp::Sequence(_, ty, before, last) => {
-            let dropped = check_dropped(alloc, tables, exn, environment, before)?;
-            let given = check_exp(alloc, tables, exn, environment, last)?;
+            let dropped = check_dropped(alloc, tables, facts, environment, before)?;
+            let given = check_exp(alloc, tables, facts, environment, last)?;
             let typed = is_last(tables, before, last, *ty);
             Ok(both(dropped, both(given, typed)))
         }
         Exp::Test(_, ty, operands, last) => {
-            let before = check_operands(alloc, tables, exn, environment, operands)?;
-            let after = check_operand(alloc, tables, exn, environment, last)?;
+            let before = check_operands(alloc, tables, facts, environment, operands)?;
+            let after = check_operand(alloc, tables, facts, environment, last)?;
             let truth = is_bool(tables, *ty);
             Ok(both(both(before, after), truth))
         }
         Exp::Handle(ty, body, rules) => {
-            let right = check_typed(alloc, tables, exn, environment, body, *ty)?;
-            let handled = check_rules(alloc, tables, exn, environment, rules, exn, *ty)?;
+            let right = check_typed(alloc, tables, facts, environment, body, *ty)?;
+            let handled = check_rules(alloc, tables, facts, environment, rules, facts.exn, *ty)?;
             Ok(both(right, handled))
         }
-        Exp::Raise(_, packet) => check_raise(alloc, tables, exn, environment, packet),
-        Exp::Fn(ty, function) => check_fn(alloc, tables, exn, environment, *ty, function),
-        Exp::Counted(_, ty, body) => check_typed(alloc, tables, exn, environment, body, *ty),
+        Exp::Raise(_, packet) => check_raise(alloc, tables, facts, environment, packet),
+        Exp::Fn(ty, function) => check_fn(alloc, tables, facts, environment, *ty, function),
+        Exp::Counted(_, ty, body) => check_typed(alloc, tables, facts, environment, body, *ty),
     }
 }
 
@@ -101,16 +104,17 @@ pub fn check_exp(
 fn check_typed(
     alloc: Global,
     tables: &Tables,
-    exn: usize,
+    facts: &Facts,
     environment: &mut Environment,
     exp: &Exp,
     ty: usize,
 ) -> Result<bool, NoMemory>
-    requires { type_at tables.now.types exn ≡ exn_type }
+    requires exn { type_at tables.now.types facts.now.exn ≡ exn_type }
+    requires orders { AreOrders tables.now.types facts.now.orders }
     ensures right { IfOk result (λ so. so ≡ typed_right tables.now environment.old exp.now ty) }
     ensures kept { IfOk result (λ _. environment.new ≡ environment.old) }
 {
-    let right = check_exp(alloc, tables, exn, environment, exp)?;
+    let right = check_exp(alloc, tables, facts, environment, exp)?;
     let typed = has_type(tables, exp, ty);
     Ok(both(right, typed))
 }
@@ -120,15 +124,16 @@ fn check_typed(
 fn check_raise(
     alloc: Global,
     tables: &Tables,
-    exn: usize,
+    facts: &Facts,
     environment: &mut Environment,
     packet: &Exp,
 ) -> Result<bool, NoMemory>
-    requires { type_at tables.now.types exn ≡ exn_type }
+    requires exn { type_at tables.now.types facts.now.exn ≡ exn_type }
+    requires orders { AreOrders tables.now.types facts.now.orders }
     ensures right { IfOk result (λ so. so ≡ raise_right tables.now environment.old packet.now) }
     ensures kept { IfOk result (λ _. environment.new ≡ environment.old) }
 {
-    let right = check_typed(alloc, tables, exn, environment, packet, exn)?;
+    let right = check_typed(alloc, tables, facts, environment, packet, facts.exn)?;
     Ok(right)
 }
 
@@ -137,16 +142,17 @@ fn check_raise(
 fn check_record(
     alloc: Global,
     tables: &Tables,
-    exn: usize,
+    facts: &Facts,
     environment: &mut Environment,
     ty: usize,
     fields: &[(Label, Exp)],
 ) -> Result<bool, NoMemory>
-    requires { type_at tables.now.types exn ≡ exn_type }
+    requires exn { type_at tables.now.types facts.now.exn ≡ exn_type }
+    requires orders { AreOrders tables.now.types facts.now.orders }
     ensures right { IfOk result (λ so. so ≡ record_right tables.now environment.old ty fields.now) }
     ensures kept { IfOk result (λ _. environment.new ≡ environment.old) }
 {
-    let right = check_fields(alloc, tables, exn, environment, fields)?;
+    let right = check_fields(alloc, tables, facts, environment, fields)?;
     let row = is_row(alloc, tables, fields, ty)?;
     Ok(both(right, row))
 }
@@ -155,18 +161,19 @@ fn check_record(
 fn check_fields(
     alloc: Global,
     tables: &Tables,
-    exn: usize,
+    facts: &Facts,
     environment: &mut Environment,
     fields: &[(Label, Exp)],
 ) -> Result<bool, NoMemory>
-    requires { type_at tables.now.types exn ≡ exn_type }
+    requires exn { type_at tables.now.types facts.now.exn ≡ exn_type }
+    requires orders { AreOrders tables.now.types facts.now.orders }
     ensures right { IfOk result (λ so. so ≡ all_hold (field_right tables.now environment.old) fields.now) }
     ensures kept { IfOk result (λ _. environment.new ≡ environment.old) }
 {
     let mut so_far = true;
     for i in 0..fields.len() {
         let field = &fields[i];
-        let one = check_exp(alloc, tables, exn, environment, &field.1)?;
+        let one = check_exp(alloc, tables, facts, environment, &field.1)?;
         so_far = both(so_far, one);
     }
     Ok(so_far)
@@ -176,12 +183,13 @@ fn check_fields(
 fn check_arguments(
     alloc: Global,
     tables: &Tables,
-    exn: usize,
+    facts: &Facts,
     environment: &mut Environment,
     of: usize,
     arguments: &[(usize, Exp)],
 ) -> Result<bool, NoMemory>
-    requires { type_at tables.now.types exn ≡ exn_type }
+    requires exn { type_at tables.now.types facts.now.exn ≡ exn_type }
+    requires orders { AreOrders tables.now.types facts.now.orders }
     ensures right { IfOk result (λ so. so ≡ hold (argument_right tables.now environment.old)
         (argument_next tables.now) (type_at tables.now.types of) arguments.now) }
     ensures kept { IfOk result (λ _. environment.new ≡ environment.old) }
@@ -190,7 +198,7 @@ fn check_arguments(
     let mut now = of;
     for i in 0..arguments.len() {
         let argument = &arguments[i];
-        let right = check_exp(alloc, tables, exn, environment, &argument.1)?;
+        let right = check_exp(alloc, tables, facts, environment, &argument.1)?;
         let fits = applies(tables, now, argument);
         let one = both(right, fits);
         so_far = both(so_far, one);
@@ -203,13 +211,14 @@ fn check_arguments(
 fn check_joins(
     alloc: Global,
     tables: &Tables,
-    exn: usize,
+    facts: &Facts,
     environment: &mut Environment,
     side: Side,
     left: usize,
     joins: &[(Join, Exp, Exp)],
 ) -> Result<bool, NoMemory>
-    requires { type_at tables.now.types exn ≡ exn_type }
+    requires exn { type_at tables.now.types facts.now.exn ≡ exn_type }
+    requires orders { AreOrders tables.now.types facts.now.orders }
     ensures right { IfOk result (λ so. so ≡ hold (join_right tables.now environment.old side)
         (join_next tables.now side) (type_at tables.now.types left) joins.now) }
     ensures kept { IfOk result (λ _. environment.new ≡ environment.old) }
@@ -218,8 +227,8 @@ fn check_joins(
     let mut now = left;
     for i in 0..joins.len() {
         let join = &joins[i];
-        let operator = check_exp(alloc, tables, exn, environment, &join.1)?;
-        let operand = check_exp(alloc, tables, exn, environment, &join.2)?;
+        let operator = check_exp(alloc, tables, facts, environment, &join.1)?;
+        let operand = check_exp(alloc, tables, facts, environment, &join.2)?;
         let operands = both(operator, operand);
         let right = right_of(tables, side, join, joins, i + 1);
         let joined = is_joined(tables, now, right, join);
@@ -235,17 +244,18 @@ fn check_joins(
 fn check_rule(
     alloc: Global,
     tables: &Tables,
-    exn: usize,
+    facts: &Facts,
     environment: &mut Environment,
     rule: &Rule,
     of: usize,
     ty: usize,
 ) -> Result<bool, NoMemory>
-    requires { type_at tables.now.types exn ≡ exn_type }
+    requires exn { type_at tables.now.types facts.now.exn ≡ exn_type }
+    requires orders { AreOrders tables.now.types facts.now.orders }
     ensures right { IfOk result (λ so. so ≡ rule_right tables.now environment.old of ty rule.now) }
     ensures kept { IfOk result (λ _. environment.new ≡ environment.old) }
 {
-    let matched = check_pat(alloc, tables, environment, &rule.pat, of)?;
+    let matched = check_pat(alloc, tables, &facts.orders, environment, &rule.pat, of)?;
     let back = mark_place(environment);
     bind_pat(
         tables,
@@ -254,7 +264,7 @@ fn check_rule(
         &rule.pat,
         of,
     )?;
-    let right = check_typed(alloc, tables, exn, environment, &rule.exp, ty)?;
+    let right = check_typed(alloc, tables, facts, environment, &rule.exp, ty)?;
     leave(environment, back);
     Ok(both(matched, right))
 }
@@ -263,20 +273,21 @@ fn check_rule(
 fn check_rules(
     alloc: Global,
     tables: &Tables,
-    exn: usize,
+    facts: &Facts,
     environment: &mut Environment,
     rules: &[Rule],
     of: usize,
     ty: usize,
 ) -> Result<bool, NoMemory>
-    requires { type_at tables.now.types exn ≡ exn_type }
+    requires exn { type_at tables.now.types facts.now.exn ≡ exn_type }
+    requires orders { AreOrders tables.now.types facts.now.orders }
     ensures right { IfOk result (λ so. so ≡ all_hold (rule_right tables.now environment.old of ty) rules.now) }
     ensures kept { IfOk result (λ _. environment.new ≡ environment.old) }
 {
     let mut so_far = true;
     for i in 0..rules.len() {
         let rule = &rules[i];
-        let one = check_rule(alloc, tables, exn, environment, rule, of, ty)?;
+        let one = check_rule(alloc, tables, facts, environment, rule, of, ty)?;
         so_far = both(so_far, one);
     }
     Ok(so_far)
@@ -287,15 +298,16 @@ fn check_rules(
 fn check_drop(
     alloc: Global,
     tables: &Tables,
-    exn: usize,
+    facts: &Facts,
     environment: &mut Environment,
     exp: &Exp,
 ) -> Result<bool, NoMemory>
-    requires { type_at tables.now.types exn ≡ exn_type }
+    requires exn { type_at tables.now.types facts.now.exn ≡ exn_type }
+    requires orders { AreOrders tables.now.types facts.now.orders }
     ensures right { IfOk result (λ so. so ≡ dropped_right tables.now environment.old exp.now) }
     ensures kept { IfOk result (λ _. environment.new ≡ environment.old) }
 {
-    let right = check_exp(alloc, tables, exn, environment, exp)?;
+    let right = check_exp(alloc, tables, facts, environment, exp)?;
     let known = has_known(alloc, tables, environment, exp)?;
     Ok(both(right, known))
 }
@@ -304,18 +316,19 @@ fn check_drop(
 fn check_dropped(
     alloc: Global,
     tables: &Tables,
-    exn: usize,
+    facts: &Facts,
     environment: &mut Environment,
     exps: &[Exp],
 ) -> Result<bool, NoMemory>
-    requires { type_at tables.now.types exn ≡ exn_type }
+    requires exn { type_at tables.now.types facts.now.exn ≡ exn_type }
+    requires orders { AreOrders tables.now.types facts.now.orders }
     ensures right { IfOk result (λ so. so ≡ all_hold (dropped_right tables.now environment.old) exps.now) }
     ensures kept { IfOk result (λ _. environment.new ≡ environment.old) }
 {
     let mut so_far = true;
     for i in 0..exps.len() {
         let exp = &exps[i];
-        let one = check_drop(alloc, tables, exn, environment, exp)?;
+        let one = check_drop(alloc, tables, facts, environment, exp)?;
         so_far = both(so_far, one);
     }
     Ok(so_far)
@@ -326,15 +339,16 @@ fn check_dropped(
 fn check_operand(
     alloc: Global,
     tables: &Tables,
-    exn: usize,
+    facts: &Facts,
     environment: &mut Environment,
     exp: &Exp,
 ) -> Result<bool, NoMemory>
-    requires { type_at tables.now.types exn ≡ exn_type }
+    requires exn { type_at tables.now.types facts.now.exn ≡ exn_type }
+    requires orders { AreOrders tables.now.types facts.now.orders }
     ensures right { IfOk result (λ so. so ≡ operand_right tables.now environment.old exp.now) }
     ensures kept { IfOk result (λ _. environment.new ≡ environment.old) }
 {
-    let right = check_exp(alloc, tables, exn, environment, exp)?;
+    let right = check_exp(alloc, tables, facts, environment, exp)?;
     let test = is_test(tables, exp);
     Ok(both(right, test))
 }
@@ -343,18 +357,19 @@ fn check_operand(
 fn check_operands(
     alloc: Global,
     tables: &Tables,
-    exn: usize,
+    facts: &Facts,
     environment: &mut Environment,
     exps: &[Exp],
 ) -> Result<bool, NoMemory>
-    requires { type_at tables.now.types exn ≡ exn_type }
+    requires exn { type_at tables.now.types facts.now.exn ≡ exn_type }
+    requires orders { AreOrders tables.now.types facts.now.orders }
     ensures right { IfOk result (λ so. so ≡ all_hold (operand_right tables.now environment.old) exps.now) }
     ensures kept { IfOk result (λ _. environment.new ≡ environment.old) }
 {
     let mut so_far = true;
     for i in 0..exps.len() {
         let exp = &exps[i];
-        let one = check_operand(alloc, tables, exn, environment, exp)?;
+        let one = check_operand(alloc, tables, facts, environment, exp)?;
         so_far = both(so_far, one);
     }
     Ok(so_far)
@@ -365,16 +380,17 @@ fn check_operands(
 fn check_fn(
     alloc: Global,
     tables: &Tables,
-    exn: usize,
+    facts: &Facts,
     environment: &mut Environment,
     ty: usize,
     function: &Function,
 ) -> Result<bool, NoMemory>
-    requires { type_at tables.now.types exn ≡ exn_type }
+    requires exn { type_at tables.now.types facts.now.exn ≡ exn_type }
+    requires orders { AreOrders tables.now.types facts.now.orders }
     ensures right { IfOk result (λ so. so ≡ fn_right tables.now environment.old ty function.now) }
     ensures kept { IfOk result (λ _. environment.new ≡ environment.old) }
 {
-    let right = check_function(alloc, tables, exn, environment, function)?;
+    let right = check_function(alloc, tables, facts, environment, function)?;
     let typed = is_function_type(tables, function, ty);
     Ok(both(right, typed))
 }
@@ -383,23 +399,24 @@ fn check_fn(
 fn check_function(
     alloc: Global,
     tables: &Tables,
-    exn: usize,
+    facts: &Facts,
     environment: &mut Environment,
     function: &Function,
 ) -> Result<bool, NoMemory>
-    requires { type_at tables.now.types exn ≡ exn_type }
+    requires exn { type_at tables.now.types facts.now.exn ≡ exn_type }
+    requires orders { AreOrders tables.now.types facts.now.orders }
     ensures right { IfOk result (λ so. so ≡ function_right tables.now environment.old function.now) }
     ensures kept { IfOk result (λ _. environment.new ≡ environment.old) }
 {
     match function {
         Function::Named(parameters, last, body) => {
-            check_named(alloc, tables, exn, environment, parameters, *last, body)
+            check_named(alloc, tables, facts, environment, parameters, *last, body)
         }
         Function::ByRules(parameters, _, argument, given, rules) => {
             check_by_rules(
                 alloc,
                 tables,
-                exn,
+                facts,
                 environment,
                 parameters,
                 *argument,
@@ -415,20 +432,21 @@ fn check_function(
 fn check_named(
     alloc: Global,
     tables: &Tables,
-    exn: usize,
+    facts: &Facts,
     environment: &mut Environment,
     parameters: &[Parameter],
     last: Parameter,
     body: &Exp,
 ) -> Result<bool, NoMemory>
-    requires { type_at tables.now.types exn ≡ exn_type }
+    requires exn { type_at tables.now.types facts.now.exn ≡ exn_type }
+    requires orders { AreOrders tables.now.types facts.now.orders }
     ensures right { IfOk result (λ so. so ≡ named_right tables.now environment.old parameters.now last body.now) }
     ensures kept { IfOk result (λ _. environment.new ≡ environment.old) }
 {
     let back = mark_place(environment);
     let before = check_parameters(alloc, tables, environment, parameters)?;
     let known = check_parameter(alloc, tables, environment, last)?;
-    let right = check_exp(alloc, tables, exn, environment, body)?;
+    let right = check_exp(alloc, tables, facts, environment, body)?;
     leave(environment, back);
     Ok(both(before, both(known, right)))
 }
@@ -438,21 +456,22 @@ fn check_named(
 fn check_by_rules(
     alloc: Global,
     tables: &Tables,
-    exn: usize,
+    facts: &Facts,
     environment: &mut Environment,
     parameters: &[Parameter],
     argument: usize,
     given: usize,
     rules: &[Rule],
 ) -> Result<bool, NoMemory>
-    requires { type_at tables.now.types exn ≡ exn_type }
+    requires exn { type_at tables.now.types facts.now.exn ≡ exn_type }
+    requires orders { AreOrders tables.now.types facts.now.orders }
     ensures right { IfOk result (λ so. so ≡ by_rules_right tables.now environment.old parameters.now argument given rules.now) }
     ensures kept { IfOk result (λ _. environment.new ≡ environment.old) }
 {
     let back = mark_place(environment);
     let before = check_parameters(alloc, tables, environment, parameters)?;
     let known = is_known(alloc, tables, environment, argument)?;
-    let matched = check_rules(alloc, tables, exn, environment, rules, argument, given)?;
+    let matched = check_rules(alloc, tables, facts, environment, rules, argument, given)?;
     leave(environment, back);
     Ok(both(before, both(known, matched)))
 }
@@ -461,11 +480,12 @@ fn check_by_rules(
 fn check_members(
     alloc: Global,
     tables: &Tables,
-    exn: usize,
+    facts: &Facts,
     environment: &mut Environment,
     members: &[(Vec<usize>, usize, Function)],
 ) -> Result<bool, NoMemory>
-    requires { type_at tables.now.types exn ≡ exn_type }
+    requires exn { type_at tables.now.types facts.now.exn ≡ exn_type }
+    requires orders { AreOrders tables.now.types facts.now.orders }
     ensures right { IfOk result (λ so. so ≡ all_hold (member_right tables.now environment.old) members.now) }
     ensures kept { IfOk result (λ _. environment.new ≡ environment.old) }
 {
@@ -473,7 +493,7 @@ fn check_members(
     for i in 0..members.len() {
         let member = &members[i];
         let known = is_known(alloc, tables, environment, member.1)?;
-        let right = check_function(alloc, tables, exn, environment, &member.2)?;
+        let right = check_function(alloc, tables, facts, environment, &member.2)?;
         let typed = is_function_type(tables, &member.2, member.1);
         let made = both(right, typed);
         let one = both(known, made);
@@ -487,17 +507,18 @@ fn check_members(
 fn check_group(
     alloc: Global,
     tables: &Tables,
-    exn: usize,
+    facts: &Facts,
     environment: &mut Environment,
     members: &[(Vec<usize>, usize, Function)],
 ) -> Result<bool, NoMemory>
-    requires { type_at tables.now.types exn ≡ exn_type }
+    requires exn { type_at tables.now.types facts.now.exn ≡ exn_type }
+    requires orders { AreOrders tables.now.types facts.now.orders }
     ensures right { IfOk result (λ so. so ≡ group_right tables.now environment.old members.now) }
     ensures kept { IfOk result (λ _. environment.new ≡ environment.old) }
 {
     let back = mark_place(environment);
     bind_members(tables, &mut environment.variables, Manner::Own, members)?;
-    let right = check_members(alloc, tables, exn, environment, members)?;
+    let right = check_members(alloc, tables, facts, environment, members)?;
     leave(environment, back);
     Ok(right)
 }
@@ -506,19 +527,20 @@ fn check_group(
 fn check_inners(
     alloc: Global,
     tables: &Tables,
-    exn: usize,
+    facts: &Facts,
     environment: &mut Environment,
     binds: &[(Binding, Rule)],
 ) -> Result<bool, NoMemory>
-    requires { type_at tables.now.types exn ≡ exn_type }
+    requires exn { type_at tables.now.types facts.now.exn ≡ exn_type }
+    requires orders { AreOrders tables.now.types facts.now.orders }
     ensures right { IfOk result (λ so. so ≡ all_hold (inner_right tables.now environment.old) binds.now) }
     ensures kept { IfOk result (λ _. environment.new ≡ environment.old) }
 {
     let mut so_far = true;
     for i in 0..binds.len() {
         let bind = &binds[i];
-        let general = check_general(alloc, tables, environment, bind)?;
-        let right = check_typed(alloc, tables, exn, environment, &bind.1.exp, bind.0.ty)?;
+        let general = check_general(alloc, tables, &facts.orders, environment, bind)?;
+        let right = check_typed(alloc, tables, facts, environment, &bind.1.exp, bind.0.ty)?;
         let one = both(general, right);
         so_far = both(so_far, one);
     }
@@ -530,21 +552,22 @@ fn check_inners(
 fn check_dec(
     alloc: Global,
     tables: &Tables,
-    exn: usize,
+    facts: &Facts,
     environment: &mut Environment,
     declaration: &Dec,
 ) -> Result<bool, NoMemory>
-    requires { type_at tables.now.types exn ≡ exn_type }
+    requires exn { type_at tables.now.types facts.now.exn ≡ exn_type }
+    requires orders { AreOrders tables.now.types facts.now.orders }
     ensures right { IfOk result (λ so. so ≡ dec_right tables.now environment.old declaration.now) }
     ensures adds { IfOk result (λ _. Adds tables.now environment.old environment.new (dec_step tables.now declaration.now [])) }
 {
     match declaration {
         Dec::Val(parameters, binds, members) => {
-            let plain = check_plains(alloc, tables, environment, binds)?;
+            let plain = check_plains(alloc, tables, &facts.orders, environment, binds)?;
             let back = mark_place(environment);
             let new = declare(tables, environment, *parameters)?;
-            let inner = check_inners(alloc, tables, exn, environment, binds)?;
-            let group = check_group(alloc, tables, exn, environment, members)?;
+            let inner = check_inners(alloc, tables, facts, environment, binds)?;
+            let group = check_group(alloc, tables, facts, environment, members)?;
             leave(environment, back);
             bind_members(
                 tables,
@@ -567,18 +590,19 @@ fn check_dec(
 pub fn check_decs(
     alloc: Global,
     tables: &Tables,
-    exn: usize,
+    facts: &Facts,
     environment: &mut Environment,
     declarations: &[Dec],
 ) -> Result<bool, NoMemory>
-    requires { type_at tables.now.types exn ≡ exn_type }
+    requires exn { type_at tables.now.types facts.now.exn ≡ exn_type }
+    requires orders { AreOrders tables.now.types facts.now.orders }
     ensures right { IfOk result (λ so. so ≡ decs_right tables.now environment.old declarations.now) }
     ensures adds { IfOk result (λ _. Adds tables.now environment.old environment.new (run (dec_step tables.now) declarations.now)) }
 {
     let mut so_far = true;
     for i in 0..declarations.len() {
         let declaration = &declarations[i];
-        let one = check_dec(alloc, tables, exn, environment, declaration)?;
+        let one = check_dec(alloc, tables, facts, environment, declaration)?;
         so_far = both(so_far, one);
     }
     Ok(so_far)

@@ -1,5 +1,6 @@
 // Parameters, and the patterns of bindings.
 ghost use Rattle.std.specs.Prelude.{◌≡◌, [], IfOk};
+ghost use Rattle.record_order.specs.Order.{AreOrders};
 ghost use Rattle.prog_known.specs.Lists.{run, all_hold};
 ghost use Rattle.prog_parts.specs.Expressions.{parameter_onto};
 ghost use Rattle.prog_leaves.specs.Right.{is_known, has_known, parameter_right, bound_right, plain_right, general_right};
@@ -16,6 +17,7 @@ use prog_pats::records::is_known as is_in_scope;
 use prog_shapes::types::type_of;
 use prog_tree::tree::{Binding, Exp, Parameter, Rule};
 use prog_values::values::is_value;
+use record_order::orders::Orders;
 use std::alloc::Global;
 
 /// Whether a type is over the parameters in scope.
@@ -88,14 +90,16 @@ pub fn check_parameters(
 fn check_bound(
     alloc: Global,
     tables: &Tables,
+    orders: &Orders,
     environment: &Environment,
     bind: &(Binding, Rule),
 ) -> Result<bool, NoMemory>
+    requires { AreOrders tables.now.types orders.now }
     ensures { IfOk result (λ so. so ≡ bound_right tables.now environment.now bind.now) }
 {
     let binding = bind.0;
     let known = is_known(alloc, tables, environment, binding.ty)?;
-    let right = check_pat(alloc, tables, environment, &bind.1.pat, binding.ty)?;
+    let right = check_pat(alloc, tables, orders, environment, &bind.1.pat, binding.ty)?;
     Ok(both(known, right))
 }
 
@@ -103,15 +107,17 @@ fn check_bound(
 fn check_plain(
     alloc: Global,
     tables: &Tables,
+    orders: &Orders,
     environment: &Environment,
     bind: &(Binding, Rule),
 ) -> Result<bool, NoMemory>
+    requires { AreOrders tables.now.types orders.now }
     ensures { IfOk result (λ so. so ≡ plain_right tables.now environment.now bind.now) }
 {
     if bind.0.general {
         return Ok(true);
     }
-    let bound = check_bound(alloc, tables, environment, bind)?;
+    let bound = check_bound(alloc, tables, orders, environment, bind)?;
     Ok(bound)
 }
 
@@ -119,15 +125,17 @@ fn check_plain(
 pub fn check_plains(
     alloc: Global,
     tables: &Tables,
+    orders: &Orders,
     environment: &Environment,
     binds: &[(Binding, Rule)],
 ) -> Result<bool, NoMemory>
+    requires { AreOrders tables.now.types orders.now }
     ensures { IfOk result (λ so. so ≡ all_hold (plain_right tables.now environment.now) binds.now) }
 {
     let mut so_far = true;
     for i in 0..binds.len() {
         let bind = &binds[i];
-        let one = check_plain(alloc, tables, environment, bind)?;
+        let one = check_plain(alloc, tables, orders, environment, bind)?;
         so_far = both(so_far, one);
     }
     Ok(so_far)
@@ -137,15 +145,17 @@ pub fn check_plains(
 pub fn check_general(
     alloc: Global,
     tables: &Tables,
+    orders: &Orders,
     environment: &Environment,
     bind: &(Binding, Rule),
 ) -> Result<bool, NoMemory>
+    requires { AreOrders tables.now.types orders.now }
     ensures { IfOk result (λ so. so ≡ general_right tables.now environment.now bind.now) }
 {
     if !bind.0.general {
         return Ok(true);
     }
     let value = is_value(&bind.1.exp);
-    let bound = check_bound(alloc, tables, environment, bind)?;
+    let bound = check_bound(alloc, tables, orders, environment, bind)?;
     Ok(both(value, bound))
 }

@@ -3,9 +3,8 @@ use Rattle.std.specs.Prelude.{ℕ, Bool, ◌&&◌, List}
 use Rattle.mlc_base.specs.declared.label.Label.{Label}
 use Rattle.ty_core.specs.Types.{Typ}
 use Rattle.ty_table.specs.TypeAt.{type_at}
-use Rattle.ir_poly.specs.Types.{labels_in, ascend, over}
+use Rattle.ir_poly.specs.Types.{over}
 use Rattle.ir_tables.specs.declared.tables.Tables.{Tables}
-use Rattle.prog_check.specs.Deciding.{row_in, on_row}
 use Rattle.prog_known.specs.declared.environment.Environment.{Environment}
 use Rattle.prog_known.specs.Environments.{parameters_in, variables_in}
 use Rattle.prog_known.specs.Lists.{hold, all_hold}
@@ -18,10 +17,6 @@ use Rattle.prog_tree.specs.declared.tree.PatPart.{PatPart}
 use Rattle.prog_tree.specs.declared.tree.Side.{Side}
 use Rattle.prog_binds.specs.Chains.{first_type}
 use Rattle.prog_parts.specs.Patterns as parts
-
--- a record's labels ascend
-abbrev pub is_ordered : Typ → Bool
-is_ordered u = on_row (row_in u) (λ r. ascend (labels_in r))
 
 module _ (t : Tables) where
   abbrev pub type_in : ℕ → Typ

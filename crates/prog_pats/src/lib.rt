@@ -2,7 +2,6 @@
 #![tactic(auto)]
 
 pub mod exceptions;
-pub mod fields;
 pub mod heads;
 pub mod pats;
 pub mod records;

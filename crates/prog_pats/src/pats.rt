@@ -3,9 +3,9 @@ ghost use Rattle.std.specs.Prelude.{◌≡◌, true, drop, IfOk};
 ghost use Rattle.ty_table.specs.TypeAt.{type_at};
 ghost use Rattle.prog_known.specs.Lists.{hold, all_hold};
 ghost use Rattle.prog_parts.specs.Patterns.{outer_type, next_type, next_part, size_if};
-ghost use Rattle.prog_pats.specs.Fits.{is_ordered, pat_fits, before_fits, record_fits, field_fits, operand_fits, chain_fits};
+ghost use Rattle.record_order.specs.Order.{is_ordered, AreOrders};
+ghost use Rattle.prog_pats.specs.Fits.{pat_fits, before_fits, record_fits, field_fits, operand_fits, chain_fits};
 
-use crate::fields::has_order;
 use crate::heads::{check_exception, check_head, check_joint};
 use crate::records::{has_size, is_known, is_part};
 use ir_tables::tables::Tables;
@@ -16,6 +16,7 @@ use prog_binds::pats::{type_before, type_of_part};
 use prog_known::answers::both;
 use prog_known::environment::Environment;
 use prog_tree::tree::{Head, Pat, PatField, PatPart, Side};
+use record_order::orders::Orders;
 use std::alloc::Global;
 
 /// The type with which a part of a chain is matched.
@@ -50,10 +51,12 @@ fn wanted_size(further: bool, fields: &[PatField]) -> Option<usize>
 pub fn check_pat(
     alloc: Global,
     tables: &Tables,
+    orders: &Orders,
     environment: &Environment,
     pat: &Pat,
     ty: usize,
 ) -> Result<bool, NoMemory>
+    requires { AreOrders tables.now.types orders.now }
     ensures { IfOk result (λ so. so ≡ pat_fits tables.now environment.now pat.now ty) }
 {
     match pat {
@@ -66,16 +69,25 @@ pub fn check_pat(
         }
         Pat::Exception(exception) => Ok(check_exception(tables, environment, *exception, ty)),
         Pat::Before(head, argument, part) => {
-            check_before(alloc, tables, environment, *head, *argument, part, ty)
+            check_before(
+                alloc,
+                tables,
+                orders,
+                environment,
+                *head,
+                *argument,
+                part,
+                ty,
+            )
         }
         Pat::Record(further, fields) => {
-            check_record(alloc, tables, environment, *further, fields, ty)
+            check_record(alloc, tables, orders, environment, *further, fields, ty)
         }
-        Pat::As(_, part) => check_pat(alloc, tables, environment, part, ty),
+        Pat::As(_, part) => check_pat(alloc, tables, orders, environment, part, ty),
         Pat::Chain(side, first, parts) => {
             let start = type_before(parts, 0, ty);
-            let begins = check_pat(alloc, tables, environment, first, start)?;
-            let goes_on = check_parts(alloc, tables, environment, *side, parts, ty)?;
+            let begins = check_pat(alloc, tables, orders, environment, first, start)?;
+            let goes_on = check_parts(alloc, tables, orders, environment, *side, parts, ty)?;
             Ok(both(begins, goes_on))
         }
     }
@@ -86,17 +98,19 @@ pub fn check_pat(
 fn check_before(
     alloc: Global,
     tables: &Tables,
+    orders: &Orders,
     environment: &Environment,
     head: Head,
     argument: usize,
     part: &Pat,
     ty: usize,
 ) -> Result<bool, NoMemory>
+    requires { AreOrders tables.now.types orders.now }
     ensures { IfOk result (λ so. so ≡ before_fits tables.now environment.now head argument part.now ty) }
 {
     let fits = check_head(alloc, tables, environment, head, argument, ty)?;
     let known = is_known(alloc, tables, environment, argument)?;
-    let inner = check_pat(alloc, tables, environment, part, argument)?;
+    let inner = check_pat(alloc, tables, orders, environment, part, argument)?;
     Ok(both(fits, both(known, inner)))
 }
 
@@ -105,15 +119,17 @@ fn check_before(
 fn check_record(
     alloc: Global,
     tables: &Tables,
+    orders: &Orders,
     environment: &Environment,
     further: bool,
     fields: &[PatField],
     ty: usize,
 ) -> Result<bool, NoMemory>
+    requires { AreOrders tables.now.types orders.now }
     ensures { IfOk result (λ so. so ≡ record_fits tables.now environment.now further fields.now ty) }
 {
-    let ordered = has_order(&tables.types, ty);
-    let right = check_fields(alloc, tables, environment, fields, ty, ordered)?;
+    let ordered = orders.has(ty);
+    let right = check_fields(alloc, tables, orders, environment, fields, ty, ordered)?;
     let wanted = wanted_size(further, fields);
     let sized = has_size(&tables.types, wanted, ty);
     Ok(both(right, sized))
@@ -123,12 +139,14 @@ fn check_record(
 fn check_field(
     alloc: Global,
     tables: &Tables,
+    orders: &Orders,
     environment: &Environment,
     field: &PatField,
     ty: usize,
     ordered: bool,
 ) -> Result<bool, NoMemory>
-    requires { ordered ≡ true → is_ordered (type_at tables.now.types ty) ≡ true }
+    requires orders { AreOrders tables.now.types orders.now }
+    requires ordered { ordered ≡ true → is_ordered (type_at tables.now.types ty) ≡ true }
     ensures { IfOk result (λ so. so ≡ field_fits tables.now environment.now ty field.now) }
 {
     let there = is_part(
@@ -140,7 +158,7 @@ fn check_field(
         field.label,
         field.ty,
     )?;
-    let inner = check_pat(alloc, tables, environment, &field.pat, field.ty)?;
+    let inner = check_pat(alloc, tables, orders, environment, &field.pat, field.ty)?;
     Ok(both(there, inner))
 }
 
@@ -149,18 +167,20 @@ fn check_field(
 fn check_fields(
     alloc: Global,
     tables: &Tables,
+    orders: &Orders,
     environment: &Environment,
     fields: &[PatField],
     ty: usize,
     ordered: bool,
 ) -> Result<bool, NoMemory>
-    requires { ordered ≡ true → is_ordered (type_at tables.now.types ty) ≡ true }
+    requires orders { AreOrders tables.now.types orders.now }
+    requires ordered { ordered ≡ true → is_ordered (type_at tables.now.types ty) ≡ true }
     ensures { IfOk result (λ so. so ≡ all_hold (field_fits tables.now environment.now ty) fields.now) }
 {
     let mut so_far = true;
     for i in 0..fields.len() {
         let field = &fields[i];
-        let one = check_field(alloc, tables, environment, field, ty, ordered)?;
+        let one = check_field(alloc, tables, orders, environment, field, ty, ordered)?;
         so_far = both(so_far, one);
     }
     Ok(so_far)
@@ -171,15 +191,17 @@ fn check_fields(
 fn check_part(
     alloc: Global,
     tables: &Tables,
+    orders: &Orders,
     environment: &Environment,
     part: &PatPart,
     outer: usize,
     own: usize,
 ) -> Result<bool, NoMemory>
+    requires { AreOrders tables.now.types orders.now }
     ensures { IfOk result (λ so. so ≡ operand_fits tables.now environment.now part.now outer own) }
 {
     let fits = check_joint(alloc, tables, environment, part.head, part.pair, outer)?;
-    let inner = check_pat(alloc, tables, environment, &part.pat, own)?;
+    let inner = check_pat(alloc, tables, orders, environment, &part.pat, own)?;
     Ok(both(fits, inner))
 }
 
@@ -187,11 +209,13 @@ fn check_part(
 fn check_parts(
     alloc: Global,
     tables: &Tables,
+    orders: &Orders,
     environment: &Environment,
     side: Side,
     parts: &[PatPart],
     ty: usize,
 ) -> Result<bool, NoMemory>
+    requires { AreOrders tables.now.types orders.now }
     ensures { IfOk result (λ so. so ≡ hold (chain_fits tables.now environment.now side) (next_part side) ty parts.now) }
 {
     let mut so_far = true;
@@ -200,7 +224,7 @@ fn check_parts(
         let part = &parts[i];
         let outer = type_around(side, parts, i + 1, now);
         let own = type_of_part(side, parts, i + 1, part.pair.right);
-        let one = check_part(alloc, tables, environment, part, outer, own)?;
+        let one = check_part(alloc, tables, orders, environment, part, outer, own)?;
         so_far = both(so_far, one);
         now = type_on(side, now, part.pair.right);
     }

@@ -7,9 +7,9 @@ ghost use Rattle.ir_poly.specs.TestsChecked.{is_size};
 ghost use Rattle.prog_check.specs.Same.{same_option};
 ghost use Rattle.prog_check.specs.Deciding.{row_in, on_row};
 ghost use Rattle.prog_parts.specs.Patterns.{has_size};
-ghost use Rattle.prog_pats.specs.Fits.{is_over as over_scope, is_ordered, part_fits, pair_fits};
+ghost use Rattle.record_order.specs.Order.{is_ordered};
+ghost use Rattle.prog_pats.specs.Fits.{is_over as over_scope, part_fits, pair_fits};
 
-use crate::fields::field_of;
 use ir_known::ask::same_type;
 use ir_known::walk::is_over;
 use ir_tables::tables::Tables;
@@ -19,6 +19,7 @@ use mlc_base::memory::NoMemory;
 use prog_known::answers::both;
 use prog_known::environment::Environment;
 use prog_tree::tree::Pair;
+use record_order::fields::field_of;
 use std::alloc::Global;
 use ty_table::types::Types;
 

@@ -123,7 +123,7 @@ pub check_typed-returns-clause-right : goal.check_typed-returns-clause-right
 check_typed-returns-clause-right t c = two c.both.ensures c.in_ok-right.ensures.right c.has_type-typed.ensures
 
 pub check_raise-returns-clause-right : goal.check_raise-returns-clause-right
-check_raise-returns-clause-right t c = c.in_ok-right.ensures.right ∙ raise-made c.args.tables.now c.args.environment.now c.args.packet.now c.args.exn c.requires
+check_raise-returns-clause-right t c = c.in_ok-right.ensures.right ∙ raise-made c.args.tables.now c.args.environment.now c.args.packet.now c.args.facts.now.exn c.requires.exn
 
 pub check_record-returns-clause-right : goal.check_record-returns-clause-right
 check_record-returns-clause-right t c = two c.both.ensures c.in_ok-right.ensures.right c.in_ok-row.ensures
@@ -271,9 +271,9 @@ check_exp-returns-in_ok-after-in-Test-clause-kept t c = c.in_ok-after-in-Test.en
 
 pub check_exp-returns-in_ok-handled-in-Handle-clause-right : goal.check_exp-returns-in_ok-handled-in-Handle-clause-right
 check_exp-returns-in_ok-handled-in-Handle-clause-right t c = two c.both-in-Handle.ensures (c.in_ok-right-in-Handle.ensures.right ∙ ap (λ x. typed_right c.args.tables.now c.args.environment.now x c.in-Handle.ty) c.deref-in-Handle.ensures)
-    (c.in_ok-handled-in-Handle.ensures.right ∙ ap (λ e. all_hold (rule_right c.args.tables.now e c.args.exn c.in-Handle.ty) c.deref-in-Handle-2.result.now) c.in_ok-right-in-Handle.ensures.kept
-    ∙ ap (all_hold (rule_right c.args.tables.now c.args.environment.now c.args.exn c.in-Handle.ty)) c.deref-in-Handle-2.ensures.value)
-    ∙ handle-made c.args.tables.now c.args.environment.now c.in-Handle.ty c.in-Handle.body.value c.in-Handle.rules.items c.args.exn c.requires
+    (c.in_ok-handled-in-Handle.ensures.right ∙ ap (λ e. all_hold (rule_right c.args.tables.now e c.args.facts.now.exn c.in-Handle.ty) c.deref-in-Handle-2.result.now) c.in_ok-right-in-Handle.ensures.kept
+    ∙ ap (all_hold (rule_right c.args.tables.now c.args.environment.now c.args.facts.now.exn c.in-Handle.ty)) c.deref-in-Handle-2.ensures.value)
+    ∙ handle-made c.args.tables.now c.args.environment.now c.in-Handle.ty c.in-Handle.body.value c.in-Handle.rules.items c.args.facts.now.exn c.requires.exn
     ∙ sym (handle-right c.args.tables.now c.args.environment.now c.in-Handle.ty c.in-Handle.body c.in-Handle.rules)
     ∙ ap (exp_right c.args.tables.now c.args.environment.now) (sym c.in-Handle.is)
 

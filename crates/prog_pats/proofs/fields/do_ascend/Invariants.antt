@@ -1,6 +1,0 @@
-use Rattle.std.proofs.Common.{◌≡◌, true, take}
-use Rattle.ir_poly.specs.Types.{ascend}
-use Rattle.prog_pats.proofs.fields.do_ascend.Given as goal
-
-abbrev pub invariant-loop-i : goal.invariant-loop-i
-invariant-loop-i l = ascend (take l.i l.labels) ≡ true
