@@ -65,7 +65,9 @@ fn fits(alloc: Global, tables: &Tables, e: &Exp, misses: bool) -> Result<bool, N
     let facts = make_facts(alloc, tables)?;
     let mut marks: Stack<Mark> = Stack::new(alloc);
     let mut scope = make_scope(alloc)?;
-    exp_fits(e, alloc, tables, &facts, &mut marks, &mut scope, misses, INT)
+    exp_fits(
+        e, alloc, tables, &facts, &mut marks, &mut scope, misses, INT,
+    )
 }
 
 fn type_of(alloc: Global, tables: &Tables, e: &Exp) -> Result<Option<usize>, NoMemory>
