@@ -1,0 +1,4 @@
+// The code of a body in SSA form: a walk over its tree.
+#![tactic(auto)]
+
+pub mod body;
