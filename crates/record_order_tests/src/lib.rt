@@ -1,0 +1,5 @@
+// Tests of the order of record types.
+#![tactic(auto)]
+
+#[cfg(test)]
+mod orders;
