@@ -1,0 +1,2 @@
+pub mod CoreRead
+pub mod StrsRead
