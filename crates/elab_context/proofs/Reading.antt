@@ -116,7 +116,7 @@ held-later : (S T : State) (C : Context) (e : Entry) → Grows S T → IsHeld S 
 held-later S T C (Constructor s n y) g h = h
 held-later S T C (Reference s) g h = h
 held-later S T C (Initial s n) g h = h
-held-later S T C (Primitive s q n) g h = h
+held-later S T C (Primitive s q) g h = h
 held-later S T C (Raised n a) g h = held-if-later S T a g h
 held-later S T C (Single t n) g h = type_later S T t g h
 held-later S T C (Own t n) g h = type_later S T t g h

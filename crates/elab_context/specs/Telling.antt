@@ -51,7 +51,7 @@ abbrev pub kept_of : Context → World → Entry → Kept
 kept_of C W (Constructor s n y) = given (record { scheme = scheme_at C W s; status = status.Constructor })
 kept_of C W (Reference s) = given (record { scheme = scheme_at C W s; status = status.Constructor })
 kept_of C W (Initial s n) = given (record { scheme = scheme_at C W s; status = status.Exception })
-kept_of C W (Primitive s q n) = given (record { scheme = scheme_at C W s; status = status.Primitive n })
+kept_of C W (Primitive s q) = given (record { scheme = scheme_at C W s; status = status.Variable })
 kept_of C W (Raised n a) = raised (option_map (type_of W) a)
 kept_of C W (Single t n) = single (type_of W t)
 kept_of C W (Own t n) = single (type_of W t)
@@ -62,7 +62,7 @@ abbrev pub denotes_of : Entry → Denotes
 denotes_of (Constructor s n y) = constructor n
 denotes_of (Reference s) = reference
 denotes_of (Initial s n) = exception (fixed n)
-denotes_of (Primitive s q n) = primitive q
+denotes_of (Primitive s q) = primitive q
 denotes_of (Raised n a) = exception (held n)
 denotes_of (Single t n) = variable n
 denotes_of (Own t n) = variable n
@@ -73,7 +73,7 @@ abbrev pub known_of : World → Around → Entry → Option (ℕ × Known)
 known_of W A (Constructor s n y) = None
 known_of W A (Reference s) = None
 known_of W A (Initial s n) = None
-known_of W A (Primitive s q n) = None
+known_of W A (Primitive s q) = None
 known_of W A (Raised n a) = Some (n, exception_known (option_map (λ k. type_as A.number (type_of W k)) a))
 known_of W A (Single t n) = Some (n, of_type (type_as A.number (type_of W t)))
 known_of W A (Own t n) = Some (n, own (type_as A.number (type_of W t)))
@@ -118,7 +118,7 @@ abbrev pub IsFit : Context → World → Around → Entry → Type 0
 IsFit C W A (Constructor s n y) = IsConstructor C W s n y
 IsFit C W A (Reference s) = scheme_at C W s ≡ ref_row.scheme
 IsFit C W A (Initial s n) = (scheme_at C W s ≡ monomorphic exn_type) × (nat_lt n 7 ≡ true)
-IsFit C W A (Primitive s q n) = IsPrimitive C W s q
+IsFit C W A (Primitive s q) = IsPrimitive C W s q
 IsFit C W A (Raised n a) = IsInUseIf W A a
 IsFit C W A (Single t n) = IsInUse A (type_of W t)
 IsFit C W A (Own t n) = IsInUse A (type_of W t)
@@ -152,7 +152,7 @@ abbrev pub IsHeld : State → Context → Entry → Type 0
 IsHeld S C (Constructor s n y) = s < length C.schemes.items
 IsHeld S C (Reference s) = s < length C.schemes.items
 IsHeld S C (Initial s n) = s < length C.schemes.items
-IsHeld S C (Primitive s q n) = s < length C.schemes.items
+IsHeld S C (Primitive s q) = s < length C.schemes.items
 IsHeld S C (Raised n a) = IsHeldIf S a
 IsHeld S C (Single t n) = HasType S t
 IsHeld S C (Own t n) = HasType S t

@@ -25,8 +25,8 @@ pub enum Entry {
     Reference(usize),
     /// An exception of the initial basis: its scheme and its number.
     Initial(usize, usize),
-    /// A primitive: its scheme, and its number among all.
-    Primitive(usize, BasisPrimitive, u32),
+    /// A primitive, and its scheme.
+    Primitive(usize, BasisPrimitive),
     /// An exception of a declaration: its variable, and the type of its argument.
     Raised(usize, Option<usize>),
     /// A variable of one type.
@@ -43,7 +43,7 @@ pub fn is_free(entry: Option<Entry>) -> bool
 {
     match entry {
         None => true,
-        Some(Entry::Primitive(_, _, _)) => true,
+        Some(Entry::Primitive(_, _)) => true,
         Some(Entry::Single(_, _)) => true,
         Some(Entry::Own(_, _)) => true,
         Some(Entry::General(_, _, _, _)) => true,

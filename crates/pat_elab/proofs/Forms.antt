@@ -22,17 +22,17 @@ use Rattle.elab_steps.proofs.Growing.{grows_on, type_later, comes_before}
 use Rattle.elab_context.specs.Telling.{Tells}
 use Rattle.elab_context.specs.declared.context.Context.{Context}
 use Rattle.pat_elab.proofs.Trees.{pat_of-Variable, pat_of-As}
-use Rattle.pat_elab.specs.Elaborated.{bound_of, scope_of, scope_onto, IsBound, IsAnnotated, IsPat}
+use Rattle.pat_elab.specs.Elaborated.{bound_of, scope_of, scope_onto, IsBound, IsAnnotated, IsAnnotatedIf, IsPat}
 use Rattle.pat_elab.specs.declared.bound.BoundVariable.{BoundVariable}
 use Rattle.pat_elab.specs.declared.bound.TypedPat.{TypedPat}
 
 -- what is bound stays so
-all-later : (S T : State) → Grows S T → (bs : List BoundVariable) → AllByRecursion (λ b. HasType S b.ty) bs → AllByRecursion (λ b. HasType T b.ty) bs
+pub all-later : (S T : State) → Grows S T → (bs : List BoundVariable) → AllByRecursion (λ b. HasType S b.ty) bs → AllByRecursion (λ b. HasType T b.ty) bs
 all-later S T g [] h = tt
 all-later S T g (b ∷ bs) h = (type_later S T b.ty g h.0, all-later S T g bs h.1)
 
 -- scopes made one after the other
-onto-plus : (s : Scope) (bs : List BoundVariable) → scope_onto s bs ≡ plus_scope s (scope_of bs)
+pub onto-plus : (s : Scope) (bs : List BoundVariable) → scope_onto s bs ≡ plus_scope s (scope_of bs)
 onto-plus s bs = go s empty bs
   where
     go : (s r : Scope) (bs : List BoundVariable) → scope_onto (plus_scope s r) bs ≡ plus_scope s (scope_onto r bs)
@@ -84,12 +84,6 @@ typed_is S M T C place a ty before after r h n = record {
         parameters = e.parameters;
       };
 }
-
--- a type that may be written
-pub record IsAnnotatedIf (S : State) (C : Context) (ty : Option bare.Ty) (k : ℕ) (T : State) : Type 0 where
-  pub grows : Grows S T
-  pub next : T.next ≡ S.next
-  pub stands : (W : World) → Comes T W → (A : Around) → Tells C W A → StandsIf A ty (type_of W k)
 
 -- an identifier and a pattern for one value
 pub as_is : (S M N P T : State) (C : Context) (place : Place) (x : Vid) (ty : Option bare.Ty) (a : bare.Pat) (before mid after : List BoundVariable)

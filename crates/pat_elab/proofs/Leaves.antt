@@ -37,7 +37,7 @@ use Rattle.pat_elab.specs.Elaborated.{IsBound, IsPat}
 use Rattle.pat_elab.specs.declared.bound.BoundVariable.{BoundVariable}
 use Rattle.pat_elab.specs.declared.bound.TypedPat.{TypedPat}
 
-no-more : {A : Type 0} (xs : List A) → xs ≡ xs ++ []
+pub no-more : {A : Type 0} (xs : List A) → xs ≡ xs ++ []
 no-more [] = refl
 no-more (x ∷ xs) = ap (λ l. x ∷ l) (no-more xs)
 
@@ -75,7 +75,7 @@ free-unmatched C W None e = refl
 free-unmatched C W (Some (Constructor s n y)) e = cc
 free-unmatched C W (Some (Reference s)) e = cc
 free-unmatched C W (Some (Initial s n)) e = cc
-free-unmatched C W (Some (Primitive s q n)) e = refl
+free-unmatched C W (Some (Primitive s q)) e = refl
 free-unmatched C W (Some (Raised n a)) e = cc
 free-unmatched C W (Some (Single t n)) e = refl
 free-unmatched C W (Some (Own t n)) e = refl
@@ -86,7 +86,7 @@ free-denotes None e = refl
 free-denotes (Some (Constructor s n y)) e = cc
 free-denotes (Some (Reference s)) e = cc
 free-denotes (Some (Initial s n)) e = cc
-free-denotes (Some (Primitive s q n)) e = refl
+free-denotes (Some (Primitive s q)) e = refl
 free-denotes (Some (Raised n a)) e = cc
 free-denotes (Some (Single t n)) e = refl
 free-denotes (Some (Own t n)) e = refl

@@ -1,6 +1,6 @@
 -- What the elaborator says of a pattern: in every world in which what the state says afterwards comes true, it elaborates to the program's pattern, with its type
 -- and what it binds.
-use Rattle.std.specs.Prelude.{◌≡◌, ◌≤◌, ◌+◌, ℕ, true, List, [], ◌∷◌, ◌++◌, map}
+use Rattle.std.specs.Prelude.{◌≡◌, ◌≤◌, ◌+◌, ℕ, true, List, [], ◌∷◌, ◌++◌, map, Option}
 use Rattle.std.specs.List.{AllByRecursion}
 use Rattle.ty_core.specs.Types.{Typ}
 use Rattle.sml_tree.specs.BareTree as bare
@@ -13,8 +13,8 @@ use Rattle.ir_poly.specs.Types.{over}
 use Rattle.core_elab.specs.Scopes.{Scope, empty, scoped, variable}
 use Rattle.prog_tree.specs.TreeOf.{pat_of}
 use Rattle.elab_typed.specs.Contexts.{Around}
-use Rattle.elab_typed.specs.Elaborates.{PatElab, Binds, Stands}
-use Rattle.elab_steps.specs.Growing.{HasType, Grows}
+use Rattle.elab_typed.specs.Elaborates.{PatElab, Binds, Stands, StandsIf}
+use Rattle.elab_steps.specs.Growing.{HasType, Grows, Always}
 use Rattle.elab_state.specs.declared.state.State.{State}
 use Rattle.elab_steps.specs.World.{World, type_of, Comes}
 use Rattle.elab_context.specs.Telling.{Tells}
@@ -58,6 +58,17 @@ pub record IsAnnotated (S : State) (C : Context) (ty : bare.Ty) (k : ℕ) (T : S
   pub grows : Grows S T
   pub next : T.next ≡ S.next
   pub stands : (W : World) → Comes T W → (A : Around) → Tells C W A → Stands A ty (type_of W k)
+
+-- a type that may be written
+pub record IsAnnotatedIf (S : State) (C : Context) (ty : Option bare.Ty) (k : ℕ) (T : State) : Type 0 where
+  pub grows : Grows S T
+  pub next : T.next ≡ S.next
+  pub stands : (W : World) → Comes T W → (A : Around) → Tells C W A → StandsIf A ty (type_of W k)
+
+-- and two types are made one
+pub record IsNamed (S : State) (C : Context) (ty : Option bare.Ty) (k inner : ℕ) (T : State) : Type 0 where
+  pub annotated : IsAnnotatedIf S C ty k T
+  pub same : Always T (λ W. type_of W k ≡ type_of W inner)
 
 pub record IsPat (S : State) (C : Context) (a : bare.Pat) (T : State) (before after : List BoundVariable) (r : TypedPat) : Type 0 where
   pub added : List BoundVariable

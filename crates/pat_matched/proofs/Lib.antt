@@ -1,0 +1,3 @@
+pub mod Annotated
+pub mod Matching
+pub mod Listing

@@ -1,0 +1,3 @@
+pub mod FieldsDo
+pub mod Chains
+pub mod ListsDo
