@@ -1,0 +1,6 @@
+// What a source holds at its top, from tokens.
+#![tactic(auto)]
+
+pub mod functors;
+pub mod signatures;
+pub mod tops;
