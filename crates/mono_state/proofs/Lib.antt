@@ -1,0 +1,6 @@
+pub mod Growing
+pub mod Going
+pub mod Naming
+pub mod Noting
+pub mod Standing
+pub mod Listing
