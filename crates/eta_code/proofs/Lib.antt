@@ -1,0 +1,5 @@
+pub mod Wholes
+pub mod Building
+pub mod Stepping
+pub mod Nodes
+pub mod Walks
