@@ -41,7 +41,7 @@ module _ (qs : List Quantified) (m : ℕ → Bool) (same : (v : ℕ) → in_scop
     all-admit-in none e = refl
     all-admit-in (more t ts) e = let p = and_parts (over qs t) (all_over qs ts) e in ap₂ (λ a b. a && b) (admits-in t p.0) (all-admit-in ts p.1)
 
-  allows-in : (a : Mark) (t : Typ) → over qs t ≡ true → Allows a m t → Allows a (admits_in qs) t
+  pub allows-in : (a : Mark) (t : Typ) → over qs t ≡ true → Allows a m t → Allows a (admits_in qs) t
   allows-in Any t e h = tt
   allows-in Equality t e h = admits-in t e ∙ h
   allows-in (Class c) t e h = h
@@ -142,7 +142,7 @@ mutual
   replaces-same f g h (more t ts) = ap₂ more (replace-same f g h t) (replaces-same f g h ts)
 
 -- the argument at the images, in the program
-argument-as : (num : ℕ → ℕ) (us : List Typ) (o : Option Typ)
+pub argument-as : (num : ℕ → ℕ) (us : List Typ) (o : Option Typ)
     → argument_at (map (type_as num) us) (option_map (type_as num) o) ≡ option_map (λ a. type_as num (replace (nth_type us) a)) o
 argument-as num us None = refl
 argument-as num us (Some a) =

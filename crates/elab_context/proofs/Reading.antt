@@ -1,10 +1,12 @@
 -- Annotations read in a context that tells of what is around a phrase.
-use Rattle.std.proofs.Common.{◌≡◌, ◌<◌, ◌≤◌, ℕ, Bool, true, false, List, [], ◌∷◌, length, take, map, cond, Option, Some, None, nat_eq, refl, sym, ap, ap₂, subst, ◌∙◌, arith}
+use Rattle.std.proofs.Common.{◌≡◌, ◌<◌, ◌≤◌, ℕ, zero, suc, Bool, true, false, List, [], ◌∷◌, length, take, get_or, map, cond, Option, Some, None, nat_eq, refl, sym, ap, ap₂, subst, ◌∙◌, arith}
 use Rattle.std.specs.Prelude.{option_map}
 use Rattle.std.specs.List.{AllByRecursion}
 use Rattle.std.specs.Map.{lookup}
 use Rattle.ty_core.specs.Types.{Typ, Typs, var, con, none, more}
+use Rattle.ty_core.specs.Marks.{is_inhabited}
 use Rattle.ty_core.specs.declared.mark.Mark.{Mark}
+use Rattle.ty_core.specs.declared.scheme.Quantified.{Quantified}
 use Rattle.ty_core.specs.Statics.{TypeFunction, replace, replace_all}
 use Rattle.ty_table.specs.TypeAt.{type_at}
 use Rattle.ty_solve.specs.Substitution.{sub, subs, is_below}
@@ -32,7 +34,7 @@ use Rattle.elab_steps.specs.World.{World, type_of, Comes}
 use Rattle.elab_steps.proofs.Growing.{below-up, comes_before, type_later}
 use Rattle.sml_tree.specs.Terminal.{LongVid}
 use Rattle.elab_context.specs.Entries.{entry_in}
-use Rattle.elab_context.specs.Telling.{Tells, IsContext, IsHeld, IsHeldIf, IsUnboundIn, function_of, kept_of}
+use Rattle.elab_context.specs.Telling.{Tells, IsContext, IsHeld, IsHeldIf, HasList, IsUnboundIn, function_of, kept_of}
 use Rattle.elab_context.specs.declared.entry.Entry.{Entry}
 use Rattle.elab_context.specs.declared.entry.Entry.TheVariants.{Constructor, Reference, Initial, Primitive, Raised, Single, Own, General}
 use Rattle.elab_context.specs.declared.context.Context.{Context}
@@ -112,6 +114,20 @@ held-if-later : (S T : State) (o : Option ℕ) → Grows S T → IsHeldIf S o �
 held-if-later S T None g h = tt
 held-if-later S T (Some t) g h = type_later S T t g h
 
+same-list : {A : Type 0} (xs ys : List (List A)) (k : ℕ) → Begins xs ys → k < length xs → get_or ys k [] ≡ get_or xs k []
+same-list [] ys k e lt = absurd (omega arith)
+same-list (x ∷ xs) [] k e lt = cc
+same-list (x ∷ xs) (y ∷ ys) zero e lt = let h : y ≡ x = cc in h
+same-list (x ∷ xs) (y ∷ ys) (suc k) e lt = let h : take (length xs) ys ≡ xs = cc in same-list xs ys k h (omega arith)
+
+list-later : (S T : State) (l : ℕ) → Grows S T → HasList S l → HasList T l
+list-later S T l g h = record {
+  held = let le = longer-list (parameters_of S.tables) (parameters_of T.tables) g.lists in let lt = h.held in omega (arith, lt, le);
+  inhabited =
+      subst (AllByRecursion (λ (q : Quantified). is_inhabited q.mark ≡ true))
+      (sym (same-list (parameters_of S.tables) (parameters_of T.tables) l g.lists h.held)) h.inhabited;
+}
+
 held-later : (S T : State) (C : Context) (e : Entry) → Grows S T → IsHeld S C e → IsHeld T C e
 held-later S T C (Constructor s n y) g h = h
 held-later S T C (Reference s) g h = h
@@ -121,7 +137,7 @@ held-later S T C (Raised n a) g h = held-if-later S T a g h
 held-later S T C (Single t n) g h = type_later S T t g h
 held-later S T C (Own t n) g h = type_later S T t g h
 held-later S T C (General l t n o) g h =
-    (type_later S T t g h.0, let le = longer-list (parameters_of S.tables) (parameters_of T.tables) g.lists in let lt = h.1 in omega (arith, lt, le))
+    (type_later S T t g h.0, list-later S T l g h.1)
 
 pub context_later : (S T : State) (C : Context) → Grows S T → IsContext S C → IsContext T C
 context_later S T C g i = record {

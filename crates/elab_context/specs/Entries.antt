@@ -1,5 +1,5 @@
 -- What a context has, by identifier.
-use Rattle.std.specs.Prelude.{ℕ, Bool, true, false, List, [], ◌∷◌, Option, Some, None, option_and_then, nat_eq, slice_get}
+use Rattle.std.specs.Prelude.{ℕ, Bool, true, false, List, [], ◌∷◌, Option, Some, None, option_and_then, unwrap_or, nat_eq, slice_get}
 use Rattle.std.specs.Map.{lookup}
 use Rattle.sml_tree.specs.declared.ident.Vid.{Vid}
 use Rattle.ty_solve.specs.declared.limit.Limit.{Limit}
@@ -11,6 +11,10 @@ use Rattle.elab_context.specs.declared.entry.Entry.TheVariants.{Constructor, Ref
 
 abbrev pub limit_of : Context → Limit
 limit_of C = record { names = C.names; level = C.level }
+
+-- the number of a type name in the program, as the code finds it
+abbrev pub number_in : Context → ℕ → ℕ
+number_in C x = unwrap_or (lookup (nat_eq x) C.numbers) x
 
 -- what the structure of a number has
 abbrev pub member_in : List (VidScope Entry) → ℕ → Vid → Option Entry

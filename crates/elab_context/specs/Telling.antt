@@ -1,12 +1,15 @@
 -- What a context of the code tells of what is around a phrase, in a world.
 use Rattle.std.specs.Prelude.{◌≡◌, ◌⊎◌, ◌<◌, ◌≤◌, ℕ, Bool, true, false, List, [], ◌∷◌, ◌++◌, map, length, Option, Some, None, option_map, nat_eq, nat_lt, slice_get, ⊤}
+use Rattle.std.specs.List.{AllByRecursion}
 use Rattle.std.specs.Map.{lookup}
 use Rattle.mlc_prims.specs.declared.basis.BasisPrimitive.{BasisPrimitive}
 use Rattle.ty_core.specs.Types.{Typ, var, con, name}
+use Rattle.ty_core.specs.Marks.{is_inhabited}
 use Rattle.ty_core.specs.Statics.{TypeFunction, replace, variables}
 use Rattle.ty_core.specs.declared.mark.Mark.TheVariants.{Any}
 use Rattle.ty_core.specs.declared.name.TyName.{TyName}
 use Rattle.ty_core.specs.declared.scheme.Quantified.{Quantified}
+use Rattle.ty_solve.specs.Substitution.{sub}
 use Rattle.ty_basis.specs.Types.{name_count, exn_type}
 use Rattle.ty_basis.specs.Primitives.{prim_type, primitive_type}
 use Rattle.ty_core.specs.declared.env.Status.TheVariants as status
@@ -21,7 +24,7 @@ use Rattle.ir_poly.specs.Types.{over, changed, find, constructor_of, initial_con
 use Rattle.ir_poly.specs.TestsChecked.{Known, of_type, own, alone_type, exception as exception_known}
 use Rattle.ir_poly.specs.TestsChecked as checked
 use Rattle.core_elab.specs.Scopes.{Denotes, variable, constructor, reference, exception, primitive, long_denotes_in}
-use Rattle.ir_tables.specs.Tables.{parameters_of}
+use Rattle.ir_tables.specs.Tables.{parameters_of, parameters_at}
 use Rattle.elab_typed.specs.Numbers.{name_as, type_as, KeepsInitial}
 use Rattle.elab_typed.specs.Contexts.{Kept, given, general, single, raised, kept_in, Around, generic}
 use Rattle.elab_types.specs.declared.scope.TypeEntry.{TypeEntry}
@@ -32,7 +35,7 @@ use Rattle.elab_state.specs.declared.state.State.{State}
 use Rattle.elab_steps.specs.Growing.{HasType}
 use Rattle.elab_steps.specs.Instances.{IsScheme}
 use Rattle.elab_steps.specs.World.{World, type_of}
-use Rattle.elab_context.specs.Entries.{entry_in}
+use Rattle.elab_context.specs.Entries.{entry_in, number_in}
 use Rattle.elab_context.specs.declared.context.Context.{Context}
 use Rattle.elab_context.specs.declared.entry.Entry.{Entry}
 use Rattle.elab_context.specs.declared.entry.Entry.TheVariants.{Constructor, Reference, Initial, Primitive, Raised, Single, Own, General}
@@ -106,12 +109,14 @@ abbrev pub IsInUseIf : World → Around → Option ℕ → Type 0
 IsInUseIf W A None = ⊤
 IsInUseIf W A (Some k) = IsInUse A (type_of W k)
 
--- a type over parameters of its own too, where it has any of them
-pub record IsGeneral (A : Around) (qs : List Quantified) (t : Typ) (has : Bool) : Type 0 where
+-- a type over parameters of its own too, where it has any of them; they are variables of the table's type, and no other variable of it stands for a type
+-- that has one
+pub record IsGeneral (W : World) (A : Around) (qs : List Quantified) (k : ℕ) (has : Bool) : Type 0 where
   pub marks : all_general (map (λ q. q.mark) qs) ≡ true
-  pub names : Over A.names t
-  pub body : over (qs ++ A.parameters) t ≡ true
-  pub none : has ≡ false → (ts : List Typ) → replace (changed qs ts var) t ≡ t
+  pub names : Over A.names (type_of W k)
+  pub body : over (qs ++ A.parameters) (type_of W k) ≡ true
+  pub parts : (ts : List Typ) → sub (changed qs ts W.value) (W.raw k) ≡ replace (changed qs ts var) (type_of W k)
+  pub none : has ≡ false → (ts : List Typ) → replace (changed qs ts var) (type_of W k) ≡ type_of W k
 
 -- what an identifier is has what the rules for it ask
 abbrev pub IsFit : Context → World → Around → Entry → Type 0
@@ -122,11 +127,12 @@ IsFit C W A (Primitive s q) = IsPrimitive C W s q
 IsFit C W A (Raised n a) = IsInUseIf W A a
 IsFit C W A (Single t n) = IsInUse A (type_of W t)
 IsFit C W A (Own t n) = IsInUse A (type_of W t)
-IsFit C W A (General l t n o) = IsGeneral A (W.reading.parameters l) (type_of W t) o
+IsFit C W A (General l t n o) = IsGeneral W A (W.reading.parameters l) t o
 
 pub record Tells (C : Context) (W : World) (A : Around) : Type 0 where
   pub names : A.names ≡ C.names
   pub number : A.number ≡ W.naming C.naming
+  pub numbers : (x : ℕ) → W.naming C.naming x ≡ number_in C x
   -- the names of the basis have their own numbers, and the table has its constructors
   pub initial : KeepsInitial A.number
   pub built : (y : TyName) (c : ℕ) (row : ConRow) → find initial_constructors y c ≡ Some row → find W.table y c ≡ Some row
@@ -148,6 +154,11 @@ abbrev pub IsHeldIf : State → Option ℕ → Type 0
 IsHeldIf S None = ⊤
 IsHeldIf S (Some t) = HasType S t
 
+-- a list of parameters is the state's, and their marks allow types
+pub record HasList (S : State) (l : ℕ) : Type 0 where
+  pub held : l < length (parameters_of S.tables)
+  pub inhabited : AllByRecursion (λ q. is_inhabited q.mark ≡ true) (parameters_at (parameters_of S.tables) l)
+
 abbrev pub IsHeld : State → Context → Entry → Type 0
 IsHeld S C (Constructor s n y) = s < length C.schemes.items
 IsHeld S C (Reference s) = s < length C.schemes.items
@@ -156,7 +167,7 @@ IsHeld S C (Primitive s q) = s < length C.schemes.items
 IsHeld S C (Raised n a) = IsHeldIf S a
 IsHeld S C (Single t n) = HasType S t
 IsHeld S C (Own t n) = HasType S t
-IsHeld S C (General l t n o) = HasType S t × (l < length (parameters_of S.tables))
+IsHeld S C (General l t n o) = HasType S t × HasList S l
 
 -- what a state has of a context: new variables may be made in it, and annotations read
 pub record IsContext (S : State) (C : Context) : Type 0 where

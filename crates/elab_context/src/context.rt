@@ -2,7 +2,8 @@
 ghost use Rattle.std.specs.Prelude.{◌≡◌, Some, None, IfOk, IfErr};
 ghost use Rattle.sml_tree.specs.TreeOf.{long_vid_of};
 ghost use Rattle.elab_types.specs.declared.refused.Refused.TheVariants.{Unbound};
-ghost use Rattle.elab_context.specs.Entries.{entry_in, limit_of, member_in};
+ghost use Rattle.elab_typed.specs.Numbers.{name_as};
+ghost use Rattle.elab_context.specs.Entries.{entry_in, limit_of, member_in, number_in};
 ghost use Rattle.elab_context.specs.Telling.{IsUnboundIn};
 
 use crate::entry::{Entry, Scheme};
@@ -11,11 +12,12 @@ use elab_types::scope::TypeScope;
 use mlc_base::place::Place;
 use scoped_map::scoped::Scoped;
 use sml_tree::ident::{LongVid, Vid};
+use ty_core::name::TyName;
 use ty_solve::limit::Limit;
 use vid_scope::vids::VidScope;
 
 /// Identifiers of values, those in structures, type constructors and type variables; how deep the `val` declaration is, how many type names there are, and the
-/// naming that is in force.
+/// naming that is in force, with the program's numbers of the type names that it has.
 #[derive(Drop)]
 pub struct Context {
     pub values: VidScope<Entry>,
@@ -26,6 +28,7 @@ pub struct Context {
     pub level: usize,
     pub names: usize,
     pub naming: Option<usize>,
+    pub numbers: Scoped<u32>,
 }
 
 impl Context {
@@ -36,6 +39,20 @@ impl Context {
         Limit {
             names: self.names,
             level: self.level,
+        }
+    }
+
+    /// A type name with its number in the program.
+    pub fn program_name(&self, name: TyName) -> TyName
+        ensures { result ≡ name_as (number_in self.now) name }
+    {
+        match self.numbers.find(name.stamp as usize) {
+            Some(number) => TyName {
+                stamp: number,
+                arity: name.arity,
+                equality: name.equality,
+            },
+            None => name,
         }
     }
 

@@ -69,7 +69,7 @@ pub fn bind_variable(
 }
 
 /// The type of a constant.
-fn type_of_constant(
+pub fn type_of_constant(
     alloc: Global,
     state: &mut State,
     constant: &Constant,
@@ -89,7 +89,7 @@ fn type_of_constant(
 }
 
 /// The constant of the program.
-fn program_constant(
+pub fn program_constant(
     alloc: Global,
     state: &mut State,
     constant: &Constant,

@@ -1,0 +1,6 @@
+// Instances at types that are known.
+#![tactic(auto)]
+
+pub mod fresh;
+pub mod put;
+pub mod writing;

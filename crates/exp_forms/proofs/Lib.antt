@@ -1,0 +1,5 @@
+pub mod Joining
+pub mod Calling
+pub mod Recording
+pub mod Turns
+pub mod Leaves
