@@ -1,4 +1,4 @@
--- Constants, and `raise`.
+-- Constants, `raise`, and types that are written.
 use Rattle.std.proofs.Common.{◌≡◌, ◌<◌, ◌≤◌, ℕ, Bool, true, Box, Global, refl, sym, ap, ap₂, subst, ◌∙◌, arith}
 use Rattle.std.proofs.lemmas.Bool.{lt-ltb}
 use Rattle.mlc_base.specs.declared.place.Place.{Place}
@@ -20,7 +20,7 @@ use Rattle.prog_tree.specs.declared.tree.Exp.{Exp, Exp-F, fold-roll-Exp}
 use Rattle.prog_tree.specs.declared.tree.Exp.TheVariants as tree
 use Rattle.elab_typed.specs.Numbers.{type_as}
 use Rattle.elab_typed.specs.Contexts.{Around}
-use Rattle.elab_typed.specs.Elaborates.{ExpElab, constant_exp_elab, raise_elab}
+use Rattle.elab_typed.specs.Elaborates.{ExpElab, constant_exp_elab, raise_elab, typed_exp_elab}
 use Rattle.elab_typed.specs.Instances.{as_typed}
 use Rattle.elab_state.specs.declared.state.State.{State}
 use Rattle.elab_steps.specs.Growing.{HasType, Grows, Always, IsWithin}
@@ -29,6 +29,7 @@ use Rattle.elab_steps.proofs.Growing.{grows_on, type_later, comes_before}
 use Rattle.elab_context.specs.Entries.{limit_of}
 use Rattle.elab_context.specs.Telling.{Tells, IsContext}
 use Rattle.elab_context.specs.declared.context.Context.{Context}
+use Rattle.pat_elab.specs.Elaborated.{IsAnnotated}
 use Rattle.use_elab.specs.Elaborated.{ElaboratesExp, IsExp}
 use Rattle.use_elab.specs.declared.typed.TypedExp.{TypedExp}
 use Rattle.exp_forms.proofs.Calling.{new-names, new-parameters, written-as}
@@ -96,3 +97,14 @@ raise_is S N P U F T C place e packet r l exn ty written boxed i el h gp has gu 
             parameters = new-parameters N C W A l ty i t el wi;
           }));
     }
+
+-- with a type
+pub typed_is : (S M T : State) (C : Context) (place : Place) (e : bare.Exp) (ty : bare.Ty) (r : TypedExp) → IsExp S C e M r → IsAnnotated M C ty r.ty T
+    → IsExp S C (bare.typed place e ty) T r
+typed_is S M T C place e ty r h n = record {
+  grows = grows_on S M T h.grows n.grows;
+  is = type_later M T r.ty n.grows h.is;
+  gives = λ W c A t.
+      let d = h.gives W (comes_before M T W n.grows c) A t in
+      record { choices = d.choices; elab = λ j le. typed_exp_elab place (d.elab j le) (n.stands W c A t); names = d.names; parameters = d.parameters };
+}

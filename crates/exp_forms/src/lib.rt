@@ -1,6 +1,7 @@
 // Forms of expressions, each from its parts.
 #![tactic(auto)]
 
+pub mod annotated;
 pub mod call;
 pub mod fields;
 pub mod leaf;

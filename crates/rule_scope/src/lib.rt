@@ -1,0 +1,4 @@
+// The scope of a rule: what its pattern binds.
+#![tactic(auto)]
+
+pub mod bind;
