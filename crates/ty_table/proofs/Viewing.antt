@@ -1,6 +1,6 @@
 -- Nodes as they are seen.
 use Rattle.std.proofs.Common.{◌≡◌, ◌≢◌, ℕ, zero, suc, ◌+◌, ◌-◌, ◌<◌, List, [], ◌∷◌, length, get_or, take, drop, max, Bool, true, false, ◌&&◌, refl, sym, ap, ap₂, subst, ◌∙◌, arith}
-use Rattle.ty_core.specs.Types.{Symbol, Typ, var, con, nodes, all_nodes, admits, all_admit, no_variable}
+use Rattle.ty_core.specs.Types.{Symbol, Typ, con, nodes, all_nodes, admits, all_admit, no_variable}
 use Rattle.ty_table.specs.TypeAt.{type_at, types_at, AllBelow, top, tops}
 use Rattle.ty_table.specs.Nodes.{symbol_at, type_in, IsNode}
 use Rattle.ty_table.specs.Variables.{few_of, few_with, with_few}

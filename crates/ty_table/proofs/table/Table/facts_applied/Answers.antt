@@ -29,6 +29,6 @@ loop-part-preserved c = rw add-one (record {
       let q = c.max-top.ensures in
       let r = ap (λ f. f.top) c.facts-facts.ensures in
       let s = c.loop-part.invariant.top in omega arith;
-  few = c.with_few.ensures ∙ ap₂ with_few c.loop-part.invariant.few (ap (λ f. f.few) c.facts-facts.ensures)
+  few = c.with_few-few.ensures ∙ ap₂ with_few c.loop-part.invariant.few (ap (λ f. f.few) c.facts-facts.ensures)
       ∙ sym (next-few (types_of c.args.self.now) Empty c.args.parts.now c.loop-part.part-index c.loop-part-test.true);
 })
