@@ -1,5 +1,5 @@
 -- A type is over the parameters in scope where its few variables are.
-use Rattle.std.proofs.Common.{◌≡◌, ◌↔◌, ℕ, Bool, true, false, ◌&&◌, ◌||◌, if◌then◌else◌, List, Option, Some, None, nat_eq, IsTrue, refl, sym, ap, ap₂, ◌∙◌, subst}
+use Rattle.std.proofs.Common.{◌≡◌, ◌↔◌, ℕ, Bool, true, false, ◌&&◌, ◌||◌, if◌then◌else◌, List, Some, None, nat_eq, IsTrue, refl, sym, ap, ◌∙◌, subst}
 use Rattle.std.specs.Map.{lookup}
 use Rattle.std.proofs.lemmas.Bool.{eqb-true}
 use Rattle.ty_core.specs.Types.{Typ, var, con, Typs, none, more}
@@ -124,14 +124,14 @@ module _ (D : List Quantified) where
   few-joined f Many all e = no-some e
 
   mutual
-    pub few-right : (t : Typ) (yes : Bool) → few_over D (few_of t) ≡ Some yes → over D t ≡ yes
-    few-right (var v) yes e = some-is e
-    few-right (con h ts) yes e = let j = all-few-right ts Empty yes e in ap (λ x. x && all_over D ts) (some-is j.is) ∙ j.both
+    pub few-right : (t : Typ) (so : Bool) → few_over D (few_of t) ≡ Some so → over D t ≡ so
+    few-right (var v) so e = some-is e
+    few-right (con h ts) so e = let j = all-few-right ts Empty so e in ap (λ x. x && all_over D ts) (some-is j.is) ∙ j.both
 
-    all-few-right : (ts : Typs) (f : Few) (yes : Bool) → few_over D (few_with f ts) ≡ Some yes → Joined f (all_over D ts) yes
-    all-few-right none f yes e = alone f yes e
-    all-few-right (more t ts) f yes e =
-        let j = all-few-right ts (with_few f (few_of t)) yes e in
+    all-few-right : (ts : Typs) (f : Few) (so : Bool) → few_over D (few_with f ts) ≡ Some so → Joined f (all_over D ts) so
+    all-few-right none f so e = alone f so e
+    all-few-right (more t ts) f so e =
+        let j = all-few-right ts (with_few f (few_of t)) so e in
         let b = few-joined f (few_of t) j.first j.is in
         record {
           first = b.left;
@@ -139,7 +139,7 @@ module _ (D : List Quantified) where
           both = ap (λ x. b.left && (x && all_over D ts)) (few-right t b.right b.right_is) ∙ and-joined b.left b.right (all_over D ts) ∙ ap (λ x. x && all_over D ts) b.both ∙ j.both;
         }
 
-pub few-answers : (D : List Quantified) (t : Typ) (f : Few) (yes : Bool) → f ≡ few_of t → Some yes ≡ few_over D f → IsTrue yes ↔ (over D t ≡ true)
-few-answers D t f yes e i =
-    let o = few-right D t yes (ap (few_over D) (sym e) ∙ sym i) in
+pub few-answers : (D : List Quantified) (t : Typ) (f : Few) (so : Bool) → f ≡ few_of t → Some so ≡ few_over D f → IsTrue so ↔ (over D t ≡ true)
+few-answers D t f so e i =
+    let o = few-right D t so (ap (few_over D) (sym e) ∙ sym i) in
     ((λ y. o ∙ y), (λ y. sym o ∙ y))

@@ -1,5 +1,5 @@
 -- Few variables, asked by parameters in scope.
-use Rattle.std.specs.Prelude.{ℕ, Bool, true, ◌&&◌, List, Option, Some, None}
+use Rattle.std.specs.Prelude.{Bool, true, ◌&&◌, List, Option, Some, None}
 use Rattle.ty_core.specs.declared.scheme.Quantified.{Quantified}
 use Rattle.ty_table.specs.declared.variables.Few.{Few}
 use Rattle.ty_table.specs.declared.variables.Few.TheVariants.{Empty, One, Two, Three, Four, Many}
