@@ -1,4 +1,5 @@
 pub mod Once
 pub mod Knows
 pub mod Asked
+pub mod Few
 pub mod Images

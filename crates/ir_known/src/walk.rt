@@ -3,7 +3,8 @@ ghost use Rattle.std.specs.Prelude.{◌≡◌, ◌↔◌, true, false, IsTrue, I
 ghost use Rattle.ty_core.specs.Types.{var, admits};
 ghost use Rattle.ty_core.specs.TypesOf.{head_of};
 ghost use Rattle.ty_table.specs.TypeAt.{type_at};
-ghost use Rattle.ir_poly.specs.Types.{over, admits_in, is_equality};
+ghost use Rattle.ir_poly.specs.Types.{over, admits_in, in_scope, is_equality};
+ghost use Rattle.ir_known.specs.Few.{few_over};
 ghost use Rattle.ir_known.specs.Knows.{marks_of};
 ghost use Rattle.ir_known.specs.Asked.{every, Asked, Opens, rule_of, so_anyway};
 
@@ -15,6 +16,7 @@ use ty_core::mark::Mark;
 use ty_core::name::Equality;
 use ty_core::ty::{Head, equality_of};
 use ty_table::types::{Types, View};
+use ty_table::variables::Few;
 
 /// What is asked of a type: whether its variables are parameters in scope; whether it admits equality where those do that are marked so; or where all do.
 #[derive(Clone, Copy)]
@@ -120,7 +122,33 @@ fn ask(
     Ok(true)
 }
 
-/// Whether the variables of a type are parameters in scope.
+/// Whether a variable is a parameter in scope.
+fn is_in(scope: &Stack<Mark>, v: usize) -> bool
+    ensures { result ≡ in_scope (marks_of scope.now) v }
+{
+    match scope.get(v) {
+        Some(_) => true,
+        None => false,
+    }
+}
+
+/// Whether few variables are parameters in scope.
+fn few_over(scope: &Stack<Mark>, few: Few) -> Option<bool>
+    ensures { result ≡ few_over (marks_of scope.now) few }
+{
+    match few {
+        Few::Empty => Some(true),
+        Few::One(a) => Some(is_in(scope, a)),
+        Few::Two(a, b) => Some(is_in(scope, a) && is_in(scope, b)),
+        Few::Three(a, b, c) => Some(is_in(scope, a) && is_in(scope, b) && is_in(scope, c)),
+        Few::Four(a, b, c, d) => {
+            Some(is_in(scope, a) && is_in(scope, b) && is_in(scope, c) && is_in(scope, d))
+        }
+        Few::Many => None,
+    }
+}
+
+/// Whether the variables of a type are parameters in scope: a type that has many is looked through.
 pub fn is_over(
     alloc: Global,
     types: &Types,
@@ -129,11 +157,13 @@ pub fn is_over(
 ) -> Result<bool, NoMemory>
     ensures { IfOk result (λ yes. IsTrue yes ↔ (over (marks_of scope.now) (type_at types.now t) ≡ true)) }
 {
-    if types.top(t) == 0 {
-        return Ok(true);
+    match few_over(scope, types.few(t)) {
+        Some(yes) => Ok(yes),
+        None => {
+            let yes = ask(alloc, types, scope, Question::Over, t)?;
+            Ok(yes)
+        }
     }
-    let yes = ask(alloc, types, scope, Question::Over, t)?;
-    Ok(yes)
 }
 
 /// Whether a type admits equality where the parameters do that are marked so.

@@ -1,8 +1,10 @@
 -- Nodes as they are seen.
 use Rattle.std.proofs.Common.{◌≡◌, ◌≢◌, ℕ, zero, suc, ◌+◌, ◌-◌, ◌<◌, List, [], ◌∷◌, length, get_or, take, drop, max, Bool, true, false, ◌&&◌, refl, sym, ap, ap₂, subst, ◌∙◌, arith}
-use Rattle.ty_core.specs.Types.{Symbol, Typ, var, con, nodes, all_nodes, admits, all_admit, no_variable}
+use Rattle.ty_core.specs.Types.{Symbol, Typ, con, nodes, all_nodes, admits, all_admit, no_variable}
 use Rattle.ty_table.specs.TypeAt.{type_at, types_at, AllBelow, top, tops}
 use Rattle.ty_table.specs.Nodes.{symbol_at, type_in, IsNode}
+use Rattle.ty_table.specs.Variables.{few_of, few_with, with_few}
+use Rattle.ty_table.specs.declared.variables.Few.{Few}
 
 abbrev pub arguments : List ℕ → List ℕ
 arguments x = take (length x - 1) (drop 1 x)
@@ -45,6 +47,11 @@ pub next-tops : (ts : List Typ) (l : List ℕ) (i : ℕ) → i < length l → to
 next-tops ts [] i h = absurd (omega arith)
 next-tops ts (k ∷ l) zero h = omega arith
 next-tops ts (k ∷ l) (suc i) h = let e = next-tops ts l i (omega arith) in omega arith
+
+pub next-few : (ts : List Typ) (few : Few) (l : List ℕ) (i : ℕ) → i < length l → few_with few (types_at ts (take (suc i) l)) ≡ with_few (few_with few (types_at ts (take i l))) (few_of (type_at ts (get_or l i 0)))
+next-few ts few [] i h = absurd (omega arith)
+next-few ts few (k ∷ l) zero h = refl
+next-few ts few (k ∷ l) (suc i) h = next-few ts (with_few few (few_of (type_at ts k))) l i (omega arith)
 
 and_assoc : (a b c : Bool) → (a && (b && c)) ≡ ((a && b) && c)
 and_assoc true b c = refl

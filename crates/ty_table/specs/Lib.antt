@@ -1,3 +1,4 @@
 pub mod TypeAt
 pub mod Codes
+pub mod Variables
 pub mod Nodes

@@ -1,5 +1,7 @@
 // What is known of a type without looking through it.
 
+use crate::variables::Few;
+
 /// What is known of a type.
 #[derive(Clone, Copy)]
 pub struct Facts {
@@ -9,4 +11,6 @@ pub struct Facts {
     pub equality: bool,
     /// One more than its highest variable, or 0 where it has none.
     pub top: usize,
+    /// Its variables, if they are few.
+    pub few: Few,
 }

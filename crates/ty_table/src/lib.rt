@@ -5,3 +5,4 @@ mod code;
 mod facts;
 mod table;
 pub mod types;
+pub mod variables;

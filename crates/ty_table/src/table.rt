@@ -7,6 +7,7 @@ ghost use Rattle.ty_table.specs.Nodes.{types_of, symbol_at, type_in, facts_of, I
 
 use crate::code::head_code;
 use crate::facts::Facts;
+use crate::variables::{Few, with_few};
 use indexmap::IndexSet;
 use mlc_base::memory::NoMemory;
 use std::alloc::Global;
@@ -142,6 +143,7 @@ impl Table {
             size: 1,
             equality: false,
             top: v + 1,
+            few: Few::One(v),
         };
         self.intern(node, facts)
     }
@@ -164,11 +166,13 @@ impl Table {
         let mut size: u64 = 0;
         let mut equality = true;
         let mut top: usize = 0;
+        let mut few = Few::Empty;
         for part in parts {
             let facts = self.facts(*part);
             size = size.saturating_add(facts.size);
             equality = equality && facts.equality;
             top = top.max(facts.top);
+            few = with_few(few, facts.few);
         }
         let admits = match equality_of(self.head(s)) {
             Equality::Always => true,
@@ -179,6 +183,7 @@ impl Table {
             size: size.saturating_add(1),
             equality: admits,
             top,
+            few,
         }
     }
 

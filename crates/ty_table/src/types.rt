@@ -2,10 +2,12 @@
 ghost use Rattle.std.specs.Prelude.{◌≡◌, ◌≢◌, ◌<◌, ◌^◌, ◌-◌, [], min, length, slice_get, Some, take, IfOk, OnOk, OnErr, AllPairs};
 ghost use Rattle.ty_core.specs.Types.{var, con, nodes, admits, no_variable};
 ghost use Rattle.ty_core.specs.TypesOf.{head_of};
+ghost use Rattle.ty_table.specs.Variables.{few_of};
 ghost use Rattle.ty_table.specs.TypeAt.{type_at, types_at, top as top_of, with_parts, AllBelow, IsView, IsWith};
 
 use crate::facts::Facts;
 use crate::table::Table;
+use crate::variables::Few;
 use mlc_base::memory::NoMemory;
 use std::alloc::Global;
 use std::marker::Model;
@@ -74,6 +76,7 @@ impl Types {
         ensures size { result.size ≡ min (nodes (type_at self.now k)) (2 ^ 64 - 1) }
         ensures equality { result.equality ≡ admits no_variable (type_at self.now k) }
         ensures top { result.top ≡ top_of (type_at self.now k) }
+        ensures few { result.few ≡ few_of (type_at self.now k) }
     {
         if k < self.len() {
             self.table.facts(k)
@@ -82,6 +85,7 @@ impl Types {
                 size: 1,
                 equality: false,
                 top: 1,
+                few: Few::One(0),
             }
         }
     }
@@ -105,6 +109,13 @@ impl Types {
         ensures { result ≡ top_of (type_at self.now k) }
     {
         self.facts(k).top
+    }
+
+    /// A type's variables, if they are few.
+    pub fn few(&self, k: usize) -> Few
+        ensures { result ≡ few_of (type_at self.now k) }
+    {
+        self.facts(k).few
     }
 
     /// A variable.

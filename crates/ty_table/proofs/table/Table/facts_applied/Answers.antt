@@ -1,6 +1,8 @@
 use Rattle.std.proofs.Common.{add-one, ap, ap₂, ◌&&◌, sym, ◌∙◌, arith}
 use Rattle.ty_table.specs.Nodes.{types_of}
-use Rattle.ty_table.proofs.Viewing.{below-at, next-nodes, next-tops, next-admits, both-true, first-false}
+use Rattle.ty_table.specs.Variables.{with_few}
+use Rattle.ty_table.specs.declared.variables.Few.TheVariants.{Empty}
+use Rattle.ty_table.proofs.Viewing.{below-at, next-nodes, next-tops, next-admits, next-few, both-true, first-false}
 use Rattle.ty_table.proofs.table.Table.facts_applied.Goals as goal
 use Rattle.ty_table.proofs.table.Table.facts_applied.Goals.{then-equality, else-equality}
 
@@ -27,4 +29,6 @@ loop-part-preserved c = rw add-one (record {
       let q = c.max-top.ensures in
       let r = ap (λ f. f.top) c.facts-facts.ensures in
       let s = c.loop-part.invariant.top in omega arith;
+  few = c.with_few-few.ensures ∙ ap₂ with_few c.loop-part.invariant.few (ap (λ f. f.few) c.facts-facts.ensures)
+      ∙ sym (next-few (types_of c.args.self.now) Empty c.args.parts.now c.loop-part.part-index c.loop-part-test.true);
 })
