@@ -1,6 +1,6 @@
 -- Nodes as they are seen.
 use Rattle.std.proofs.Common.{◌≡◌, ◌≢◌, ℕ, zero, suc, ◌+◌, ◌-◌, ◌<◌, List, [], ◌∷◌, length, get_or, take, drop, max, Bool, true, false, ◌&&◌, refl, sym, ap, ap₂, subst, ◌∙◌, arith}
-use Rattle.ty_core.specs.Types.{Symbol, Typ, con, nodes, all_nodes, admits, all_admit, no_variable}
+use Rattle.ty_core.specs.Types.{Symbol, Typ, con, nodes, all_nodes, admits, all_admit}
 use Rattle.ty_table.specs.TypeAt.{type_at, types_at, AllBelow, top, tops}
 use Rattle.ty_table.specs.Nodes.{symbol_at, type_in, IsNode}
 use Rattle.ty_table.specs.Variables.{few_of, few_with, with_few}
@@ -61,15 +61,7 @@ and_true : (a : Bool) → (a && true) ≡ a
 and_true true = refl
 and_true false = refl
 
-pub next-admits : (ts : List Typ) (l : List ℕ) (i : ℕ) → i < length l → all_admit no_variable (types_at ts (take (suc i) l)) ≡ (all_admit no_variable (types_at ts (take i l)) && admits no_variable (type_at ts (get_or l i 0)))
-next-admits ts [] i h = absurd (omega arith)
-next-admits ts (k ∷ l) zero h = and_true (admits no_variable (type_at ts k))
-next-admits ts (k ∷ l) (suc i) h = ap (λ b. admits no_variable (type_at ts k) && b) (next-admits ts l i (omega arith)) ∙ and_assoc (admits no_variable (type_at ts k)) (all_admit no_variable (types_at ts (take i l))) (admits no_variable (type_at ts (get_or l i 0)))
-
-pub both-true : (a b r d : Bool) → a ≡ true → r ≡ b → (a && b) ≡ d → r ≡ d
-both-true true b r d e f g = f ∙ g
-both-true false b r d e f g = cc
-
-pub first-false : (a b r d : Bool) → a ≡ false → r ≡ false → (a && b) ≡ d → r ≡ d
-first-false true b r d e f g = cc
-first-false false b r d e f g = f ∙ g
+pub next-admits : (m : ℕ → Bool) (ts : List Typ) (l : List ℕ) (i : ℕ) → i < length l → all_admit m (types_at ts (take (suc i) l)) ≡ (all_admit m (types_at ts (take i l)) && admits m (type_at ts (get_or l i 0)))
+next-admits m ts [] i h = absurd (omega arith)
+next-admits m ts (k ∷ l) zero h = and_true (admits m (type_at ts k))
+next-admits m ts (k ∷ l) (suc i) h = ap (λ b. admits m (type_at ts k) && b) (next-admits m ts l i (omega arith)) ∙ and_assoc (admits m (type_at ts k)) (all_admit m (types_at ts (take i l))) (admits m (type_at ts (get_or l i 0)))

@@ -1,7 +1,7 @@
 -- How a table keeps its types.
 use Rattle.std.specs.Prelude.{◌≡◌, ◌≢◌, ◌<◌, ◌^◌, ◌-◌, min, ℕ, zero, suc, List, [], ◌∷◌, ◌++◌, map, length, slice_index_or, AllPairs, ⊤}
 use Rattle.ty_core.specs.Types.{Symbol, arrow, Typ, var, con, nodes, admits, no_variable}
-use Rattle.ty_table.specs.TypeAt.{types_at, AllBelow, top}
+use Rattle.ty_table.specs.TypeAt.{types_at, AllBelow, every_variable, top}
 use Rattle.ty_table.specs.Codes.{code_of}
 use Rattle.ty_table.specs.Variables.{few_of}
 use Rattle.ty_table.specs.declared.facts.Facts.{Facts}
@@ -40,7 +40,7 @@ InOrder m n [] = ⊤
 InOrder m n (x ∷ l) = IsNode m n x × InOrder m (suc n) l
 
 abbrev pub facts_of : Typ → Facts
-facts_of t = record { size = min (nodes t) (2 ^ 64 - 1); equality = admits no_variable t; top = top t; few = few_of t }
+facts_of t = record { size = min (nodes t) (2 ^ 64 - 1); equality = admits no_variable t; everywhere = admits every_variable t; top = top t; few = few_of t }
 
 -- each node has earlier parts, its facts are kept, and no symbol and no type is there twice
 pub record IsTable (t : Table) (codes : List (List ℕ)) (fs : List Facts) : Type 0 where

@@ -1,5 +1,5 @@
 -- The types that numbers stand for.
-use Rattle.std.specs.Prelude.{◌≡◌, ◌<◌, ℕ, suc, max, List, [], ◌∷◌, ◌++◌, map, length, slice_index_or, Contains, ⊤}
+use Rattle.std.specs.Prelude.{◌≡◌, ◌<◌, ℕ, suc, max, Bool, true, List, [], ◌∷◌, ◌++◌, map, length, slice_index_or, Contains, ⊤}
 use Rattle.ty_core.specs.Types.{Typ, var, con, Typs, none, more, typs_of}
 use Rattle.ty_core.specs.TypesOf.{head_of}
 use Rattle.ty_table.specs.declared.types.View.{View}
@@ -30,6 +30,10 @@ pub record IsWith (old : List Typ) (t : Typ) (new : List Typ) : Type 0 where
 abbrev pub with_parts : Typ → Typs → Typ
 with_parts (var v) us = var v
 with_parts (con h ts) us = con h us
+
+-- all variables admit equality
+abbrev pub every_variable : ℕ → Bool
+every_variable v = true
 
 -- one more than the highest variable of a type, or 0 where it has none
 abbrev mutual

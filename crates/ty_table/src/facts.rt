@@ -9,6 +9,8 @@ pub struct Facts {
     pub size: u64,
     /// Whether it admits equality whatever its variables stand for.
     pub equality: bool,
+    /// Whether it admits equality where all its variables do.
+    pub everywhere: bool,
     /// One more than its highest variable, or 0 where it has none.
     pub top: usize,
     /// Its variables, if they are few.

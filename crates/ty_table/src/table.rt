@@ -1,6 +1,6 @@
 // The nodes of types, as they are kept.
-ghost use Rattle.std.specs.Prelude.{◌≡◌, ◌≢◌, ◌<◌, ◌++◌, ◌∷◌, ◌^◌, ◌-◌, ℕ, List, [], length, suc, slice_get, Some, take, IfOk, OnOk, OnErr, AllPairs};
-ghost use Rattle.ty_core.specs.Types.{Symbol, var, con};
+ghost use Rattle.std.specs.Prelude.{◌≡◌, ◌≢◌, ◌<◌, ◌++◌, ◌∷◌, ◌^◌, ◌-◌, ℕ, List, [], length, suc, slice_get, ◌&&◌, Some, take, IfOk, OnOk, OnErr, AllPairs};
+ghost use Rattle.ty_core.specs.Types.{Symbol, var, con, attribute, allowed};
 ghost use Rattle.ty_core.specs.TypesOf.{head_of};
 ghost use Rattle.ty_table.specs.TypeAt.{type_at, types_at, AllBelow, IsWith};
 ghost use Rattle.ty_table.specs.Nodes.{types_of, symbol_at, type_in, facts_of, IsNode};
@@ -34,6 +34,24 @@ impl Model for Table {
     ghost view = { λ t. (map head_of t.heads.items, map (λ k. k.items) t.nodes.keys) };
 
     ghost invariant = { λ t. IsTable (map head_of t.heads.items, map (λ k. k.items) t.nodes.keys) (map (λ k. k.items) t.codes.keys) t.facts.items };
+}
+
+/// Whether both are so.
+fn both(left: bool, right: bool) -> bool
+    ensures { result ≡ (left && right) }
+{
+    left && right
+}
+
+/// Whether the types of a head admit equality, where all parts do or not.
+fn allows(head: &Head, all: bool) -> bool
+    ensures { result ≡ allowed (attribute (head_of head.now)) all }
+{
+    match equality_of(head) {
+        Equality::Always => true,
+        Equality::ByArguments => all,
+        Equality::Never => false,
+    }
 }
 
 impl Table {
@@ -142,6 +160,7 @@ impl Table {
         let facts = Facts {
             size: 1,
             equality: false,
+            everywhere: true,
             top: v + 1,
             few: Few::One(v),
         };
@@ -165,23 +184,22 @@ impl Table {
     {
         let mut size: u64 = 0;
         let mut equality = true;
+        let mut everywhere = true;
         let mut top: usize = 0;
         let mut few = Few::Empty;
         for part in parts {
             let facts = self.facts(*part);
             size = size.saturating_add(facts.size);
-            equality = equality && facts.equality;
+            equality = both(equality, facts.equality);
+            everywhere = both(everywhere, facts.everywhere);
             top = top.max(facts.top);
             few = with_few(few, facts.few);
         }
-        let admits = match equality_of(self.head(s)) {
-            Equality::Always => true,
-            Equality::ByArguments => equality,
-            Equality::Never => false,
-        };
+        let head = self.head(s);
         Facts {
             size: size.saturating_add(1),
-            equality: admits,
+            equality: allows(head, equality),
+            everywhere: allows(head, everywhere),
             top,
             few,
         }

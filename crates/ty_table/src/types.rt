@@ -3,7 +3,7 @@ ghost use Rattle.std.specs.Prelude.{◌≡◌, ◌≢◌, ◌<◌, ◌^◌, ◌-
 ghost use Rattle.ty_core.specs.Types.{var, con, nodes, admits, no_variable};
 ghost use Rattle.ty_core.specs.TypesOf.{head_of};
 ghost use Rattle.ty_table.specs.Variables.{few_of};
-ghost use Rattle.ty_table.specs.TypeAt.{type_at, types_at, top as top_of, with_parts, AllBelow, IsView, IsWith};
+ghost use Rattle.ty_table.specs.TypeAt.{type_at, types_at, every_variable, top as top_of, with_parts, AllBelow, IsView, IsWith};
 
 use crate::facts::Facts;
 use crate::table::Table;
@@ -75,6 +75,7 @@ impl Types {
     fn facts(&self, k: usize) -> Facts
         ensures size { result.size ≡ min (nodes (type_at self.now k)) (2 ^ 64 - 1) }
         ensures equality { result.equality ≡ admits no_variable (type_at self.now k) }
+        ensures everywhere { result.everywhere ≡ admits every_variable (type_at self.now k) }
         ensures top { result.top ≡ top_of (type_at self.now k) }
         ensures few { result.few ≡ few_of (type_at self.now k) }
     {
@@ -84,6 +85,7 @@ impl Types {
             Facts {
                 size: 1,
                 equality: false,
+                everywhere: true,
                 top: 1,
                 few: Few::One(0),
             }
@@ -102,6 +104,13 @@ impl Types {
         ensures { result ≡ admits no_variable (type_at self.now k) }
     {
         self.facts(k).equality
+    }
+
+    /// Whether a type admits equality where all its variables do.
+    pub fn admits_eq_everywhere(&self, k: usize) -> bool
+        ensures { result ≡ admits every_variable (type_at self.now k) }
+    {
+        self.facts(k).everywhere
     }
 
     /// One more than a type's highest variable, or 0 where it has none.
