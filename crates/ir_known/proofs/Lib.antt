@@ -4,4 +4,4 @@ pub mod Declaring
 pub mod Walks
 pub mod Opening
 pub mod Pairs
-pub mod FewOver
+pub mod FewSo

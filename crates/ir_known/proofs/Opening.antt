@@ -7,26 +7,26 @@ use Rattle.std.proofs.lemmas.Bool.{eqb-true}
 use Rattle.indexmap.specs.IndexSet.{insert_key}
 use Rattle.std.proofs.Common.{if◌then◌else◌}
 use mathlib.Core.Logic.{inl, inr}
-use Rattle.ty_core.specs.Types.{Symbol, Typ, var, con, Typs, none, more, nodes, all_nodes, admits, all_admit, allowed, attribute, no_variable}
+use Rattle.ty_core.specs.Types.{Symbol, Typ, var, con, Typs, none, more, nodes, all_nodes, admits, all_admit, allowed, attribute}
 use Rattle.ty_core.specs.declared.name.Equality.{Equality}
 use Rattle.ty_core.specs.declared.name.Equality.TheVariants.{Always, ByArguments, Never}
 use Rattle.ty_core.specs.declared.scheme.Quantified.{Quantified}
-use Rattle.ty_table.specs.TypeAt.{type_at, types_at, top, tops}
+use Rattle.ty_table.specs.TypeAt.{type_at, types_at}
 use Rattle.ir_poly.specs.Types.{over, all_over, admits_in, in_scope, is_equality}
 use Rattle.ir_known.specs.declared.walk.Question.{Question}
-use Rattle.ir_known.specs.declared.walk.Question.TheVariants.{Over, Admits, Everywhere}
-use Rattle.ir_known.specs.Asked.{every, Asked, rule_of, so_anyway, All, total, Opens}
+use Rattle.ir_known.specs.declared.walk.Question.TheVariants.{Over, Admits}
+use Rattle.ir_known.specs.Asked.{Asked, rule_of, so_in, All, total, Opens}
 use Rattle.std.specs.Map.{lookup}
 use Rattle.ty_core.specs.declared.mark.Mark.{Mark}
 use Rattle.ir_known.specs.Knows.{marks_of}
 use Rattle.ir_known.proofs.Walks.{Has, Walked, walk-passes, walk-fails, walk-ends}
 use Rattle.ir_known.proofs.Declaring.{outside-found, not-in-scope, nat_eq-turned}
 
-both-are : (a b : Bool) → (a && b) ≡ true → (a ≡ true) × (b ≡ true)
+pub both-are : (a b : Bool) → (a && b) ≡ true → (a ≡ true) × (b ≡ true)
 both-are true b e = (refl, e)
 both-are false b e = absurd (false≢true e)
 
-and-true : (a b : Bool) → a ≡ true → b ≡ true → (a && b) ≡ true
+pub and-true : (a b : Bool) → a ≡ true → b ≡ true → (a && b) ≡ true
 and-true true b p q = q
 and-true false b p q = absurd (false≢true p)
 
@@ -50,14 +50,6 @@ admit-all : (ts : List Typ) (D : List Quantified) (ks : List ℕ) → all_admit 
 admit-all ts D [] e = tt
 admit-all ts D (k ∷ ks) e = let b = both-are (admits (admits_in D) (type_at ts k)) (all_admit (admits_in D) (types_at ts ks)) e in (b.0, admit-all ts D ks b.1)
 
-all-admit-every : (ts : List Typ) (D : List Quantified) (ks : List ℕ) → All (λ k. Asked Everywhere D (type_at ts k)) ks → all_admit every (types_at ts ks) ≡ true
-all-admit-every ts D [] a = refl
-all-admit-every ts D (k ∷ ks) (p, a) = and-true (admits every (type_at ts k)) (all_admit every (types_at ts ks)) p (all-admit-every ts D ks a)
-
-every-admit-all : (ts : List Typ) (D : List Quantified) (ks : List ℕ) → all_admit every (types_at ts ks) ≡ true → All (λ k. Asked Everywhere D (type_at ts k)) ks
-every-admit-all ts D [] e = tt
-every-admit-all ts D (k ∷ ks) e = let b = both-are (admits every (type_at ts k)) (all_admit every (types_at ts ks)) e in (b.0, every-admit-all ts D ks b.1)
-
 pub nodes-positive : (t : Typ) → 0 < nodes t
 nodes-positive (var v) = omega arith
 nodes-positive (con h ts) = omega arith
@@ -68,17 +60,14 @@ opens-none ts P k old p = record { parts = []; is = sym (append-nil old); whole 
 pub always : (q : Question) (D : List Quantified) (h : Symbol) (us : Typs) → rule_of q h ≡ Always → Asked q D (con h us)
 always Over D h us e = absurd (cc)
 always Admits D h us e = ap (λ a. allowed a (all_admit (admits_in D) us)) e
-always Everywhere D h us e = ap (λ a. allowed a (all_admit every us)) e
 
 by-parts : (ts : List Typ) (q : Question) (D : List Quantified) (h : Symbol) (ks : List ℕ) → rule_of q h ≡ ByArguments → All (λ k. Asked q D (type_at ts k)) ks → Asked q D (con h (types_at ts ks))
 by-parts ts Over D h ks e a = all-over ts D ks a
 by-parts ts Admits D h ks e a = ap (λ r. allowed r (all_admit (admits_in D) (types_at ts ks))) e ∙ all-admit ts D ks a
-by-parts ts Everywhere D h ks e a = ap (λ r. allowed r (all_admit every (types_at ts ks))) e ∙ all-admit-every ts D ks a
 
 parts-by : (ts : List Typ) (q : Question) (D : List Quantified) (h : Symbol) (ks : List ℕ) → rule_of q h ≡ ByArguments → Asked q D (con h (types_at ts ks)) → All (λ k. Asked q D (type_at ts k)) ks
 parts-by ts Over D h ks e a = over-all ts D ks a
 parts-by ts Admits D h ks e a = admit-all ts D ks (sym (ap (λ r. allowed r (all_admit (admits_in D) (types_at ts ks))) e) ∙ a)
-parts-by ts Everywhere D h ks e a = every-admit-all ts D ks (sym (ap (λ r. allowed r (all_admit every (types_at ts ks))) e) ∙ a)
 
 pub opens-parts : (ts : List Typ) (q : Question) (D : List Quantified) (k : ℕ) (h : Symbol) (ks old new : List ℕ) → type_at ts k ≡ con h (types_at ts ks) → rule_of q h ≡ ByArguments → new ≡ old ++ ks → Opens ts (Asked q D) k old new
 opens-parts ts q D k h ks old new e r i = record {
@@ -112,19 +101,30 @@ none-admits (q ∷ rows) v e = ap (λ b. if b then is_equality q.1 else admits_i
     by true e rest = absurd (cc)
     by false e rest = rest e
 
-pub some-over : (rows : List (ℕ × Mark)) (v : ℕ) (m : Mark) (q : Question) → Some m ≡ lookup (nat_eq v) rows → q ≡ Over → IsTrue true ↔ Asked q (marks_of rows) (var v)
-some-over rows v m q e i = subst (λ q. IsTrue true ↔ Asked q (marks_of rows) (var v)) (sym i) ((λ _. so-over rows v m (sym e)), (λ _. refl))
+pub some-over : (rows : List (ℕ × Mark)) (v : ℕ) (m : Mark) (q : Question) → Some m ≡ lookup (nat_eq v) rows → q ≡ Over → true ≡ so_in q (marks_of rows) v
+some-over rows v m q e i = sym (ap (λ q. so_in q (marks_of rows) v) i ∙ so-over rows v m (sym e))
 
-pub some-admits : (rows : List (ℕ × Mark)) (v : ℕ) (m : Mark) (q : Question) (b : Bool) → Some m ≡ lookup (nat_eq v) rows → q ≡ Admits → b ≡ is_equality m → IsTrue b ↔ Asked q (marks_of rows) (var v)
-some-admits rows v m q b e i d = subst (λ q. IsTrue b ↔ Asked q (marks_of rows) (var v)) (sym i) ((λ y. so-admits rows v m (sym e) ∙ sym d ∙ y), (λ y. d ∙ sym (so-admits rows v m (sym e)) ∙ y))
+pub some-admits : (rows : List (ℕ × Mark)) (v : ℕ) (m : Mark) (q : Question) (b : Bool) → Some m ≡ lookup (nat_eq v) rows → q ≡ Admits → b ≡ is_equality m → b ≡ so_in q (marks_of rows) v
+some-admits rows v m q b e i d = d ∙ sym (ap (λ q. so_in q (marks_of rows) v) i ∙ so-admits rows v m (sym e))
 
-pub some-everywhere : (rows : List (ℕ × Mark)) (v : ℕ) (q : Question) → q ≡ Everywhere → IsTrue true ↔ Asked q (marks_of rows) (var v)
-some-everywhere rows v q i = subst (λ q. IsTrue true ↔ Asked q (marks_of rows) (var v)) (sym i) ((λ _. refl), (λ _. refl))
+pub none-so : (rows : List (ℕ × Mark)) (v : ℕ) (q : Question) → None ≡ lookup (nat_eq v) rows → false ≡ so_in q (marks_of rows) v
+none-so rows v Over e = sym (not-in-scope rows v (sym e))
+none-so rows v Admits e = sym (none-admits rows v (sym e))
 
-pub none-so : (rows : List (ℕ × Mark)) (v : ℕ) (q : Question) (b : Bool) → None ≡ lookup (nat_eq v) rows → b ≡ so_anyway q → IsTrue b ↔ Asked q (marks_of rows) (var v)
-none-so rows v Over b e d = ((λ f. absurd (let y : false ≡ true = sym d ∙ f in false≢true y)), (λ y. d ∙ sym (not-in-scope rows v (sym e)) ∙ y))
-none-so rows v Admits b e d = ((λ f. absurd (let y : false ≡ true = sym d ∙ f in false≢true y)), (λ y. d ∙ sym (none-admits rows v (sym e)) ∙ y))
-none-so rows v Everywhere b e d = ((λ _. refl), (λ _. d))
+asked-variable : (q : Question) (D : List Quantified) (v : ℕ) → so_in q D v ≡ true → Asked q D (var v)
+asked-variable Over D v e = e
+asked-variable Admits D v e = e
+
+variable-asked : (q : Question) (D : List Quantified) (v : ℕ) → Asked q D (var v) → so_in q D v ≡ true
+variable-asked Over D v e = e
+variable-asked Admits D v e = e
+
+-- a type that is a variable
+pub so-variable : (q : Question) (D : List Quantified) (v : ℕ) (t : Typ) (b : Bool) → t ≡ var v → b ≡ so_in q D v → b ≡ true → Asked q D t
+so-variable q D v t b e d y = subst (Asked q D) (sym e) (asked-variable q D v (sym d ∙ y))
+
+pub not-so-variable : (q : Question) (D : List Quantified) (v : ℕ) (t : Typ) (b : Bool) → t ≡ var v → b ≡ so_in q D v → b ≡ false → Asked q D t → ⊥
+not-so-variable q D v t b e d n a = false≢true (sym n ∙ d ∙ variable-asked q D v (subst (Asked q D) e a))
 
 -- a number that is put into a set
 pub noted-new : (ks ks' : List ℕ) (k : ℕ) (b : Bool) → b ≡ not (list_any (nat_eq k) ks) → ks' ≡ insert_key nat_eq ks k → b ≡ true → ks' ≡ ks ++ k ∷ []
@@ -151,28 +151,21 @@ passes-old P size t ks ks' old rest k b e w p q f = go (list_any (nat_eq k) ks) 
     go true i = subst (λ l. Walked P size t l rest) (sym (q ∙ ap (λ c. if c then ks else ks ++ k ∷ []) i)) (walk-passes P size t ks old rest k e w (held ks k i))
     go false i = absurd (false≢true (sym f ∙ p ∙ ap not i))
 
-mutual
-  pub ground-over : (D : List Quantified) (t : Typ) → top t ≡ 0 → over D t ≡ true
-  ground-over D (var v) e = absurd (omega arith)
-  ground-over D (con h ts) e = all-ground-over D ts e
-
-  all-ground-over : (D : List Quantified) (ts : Typs) → tops ts ≡ 0 → all_over D ts ≡ true
-  all-ground-over D none e = refl
-  all-ground-over D (more t ts) e = and-true (over D t) (all_over D ts) (ground-over D t (omega arith)) (all-ground-over D ts (omega arith))
-
-allowed-more : (r : Equality) (a b : Bool) → (a ≡ true → b ≡ true) → allowed r a ≡ true → allowed r b ≡ true
+pub allowed-more : (r : Equality) (a b : Bool) → (a ≡ true → b ≡ true) → allowed r a ≡ true → allowed r b ≡ true
 allowed-more Always a b f e = refl
 allowed-more ByArguments a b f e = f e
 allowed-more Never a b f e = e
 
-mutual
-  pub admits-more : (m : ℕ → Bool) (t : Typ) → admits no_variable t ≡ true → admits m t ≡ true
-  admits-more m (var v) e = absurd (false≢true e)
-  admits-more m (con h ts) e = allowed-more (attribute h) (all_admit no_variable ts) (all_admit m ts) (all-admit-more m ts) e
+-- more variables admit equality
+module _ (m n : ℕ → Bool) (more-so : (v : ℕ) → m v ≡ true → n v ≡ true) where
+  mutual
+    pub admits-more : (t : Typ) → admits m t ≡ true → admits n t ≡ true
+    admits-more (var v) e = more-so v e
+    admits-more (con h ts) e = allowed-more (attribute h) (all_admit m ts) (all_admit n ts) (all-admit-more ts) e
 
-  all-admit-more : (m : ℕ → Bool) (ts : Typs) → all_admit no_variable ts ≡ true → all_admit m ts ≡ true
-  all-admit-more m none e = refl
-  all-admit-more m (more t ts) e = let b = both-are (admits no_variable t) (all_admit no_variable ts) e in and-true (admits m t) (all_admit m ts) (admits-more m t b.0) (all-admit-more m ts b.1)
+    all-admit-more : (ts : Typs) → all_admit m ts ≡ true → all_admit n ts ≡ true
+    all-admit-more none e = refl
+    all-admit-more (more t ts) e = let b = both-are (admits m t) (all_admit m ts) e in and-true (admits n t) (all_admit n ts) (admits-more t b.0) (all-admit-more ts b.1)
 
 empty-list : {A : Type 0} (l : List A) → length l ≡ 0 → l ≡ []
 empty-list [] e = refl

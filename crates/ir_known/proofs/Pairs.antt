@@ -1,13 +1,13 @@
 -- Types side by side.
-use Rattle.std.proofs.Common.{◌≡◌, ◌≢◌, ◌↔◌, ℕ, zero, suc, ◌+◌, ◌<◌, Bool, true, false, not, ◌&&◌, ◌||◌, List, [], ◌∷◌, ◌++◌, take, zip, length, slice_index_or, IsTrue, nat_eq, if◌then◌else◌, refl, sym, ap, ◌∙◌, subst, arith}
+use Rattle.std.proofs.Common.{◌≡◌, ◌≢◌, ◌↔◌, ℕ, zero, suc, ◌+◌, ◌<◌, Bool, true, false, not, ◌&&◌, ◌||◌, List, [], ◌∷◌, ◌++◌, take, zip, length, slice_index_or, IsTrue, nat_eq, if◌then◌else◌, refl, sym, ap, ap₂, ◌∙◌, subst, arith}
 use Rattle.std.proofs.lemmas.Bool.{false≢true, eqb-true}
 use Rattle.std.proofs.lemmas.List.{append-nil}
 use Rattle.std.specs.List.{list_any}
 use Rattle.indexmap.specs.IndexSet.{insert_key}
 use mathlib.Core.Logic.{inl, inr}
-use Rattle.ty_core.specs.Types.{Symbol, Typ, var, con, Typs, more, nodes, all_nodes}
+use Rattle.ty_core.specs.Types.{Symbol, Typ, var, con, Typs, none, more, nodes, all_nodes}
 use Rattle.ty_core.specs.Statics.{replace, replace_all}
-use Rattle.ty_table.specs.TypeAt.{type_at, types_at}
+use Rattle.ty_table.specs.TypeAt.{type_at, types_at, top, tops}
 use Rattle.ir_known.specs.Asked.{All, total}
 use Rattle.ir_known.specs.Images.{Pair, IsImage, OpensImage}
 use Rattle.ir_known.proofs.Walks.{Has, Walked, walk-passes, walk-fails, walk-ends}
@@ -24,6 +24,16 @@ first-is e = cc
 
 rest-is : {t u : Typ} {ts us : Typs} → more t ts ≡ more u us → ts ≡ us
 rest-is e = cc
+
+-- a type without variables
+mutual
+  closed : (f : ℕ → Typ) (t : Typ) → top t ≡ 0 → replace f t ≡ t
+  closed f (var v) e = absurd (omega arith)
+  closed f (con h ts) e = ap (con h) (all-closed f ts e)
+
+  all-closed : (f : ℕ → Typ) (ts : Typs) → tops ts ≡ 0 → replace_all f ts ≡ ts
+  all-closed f none e = refl
+  all-closed f (more t ts) e = ap₂ more (closed f t (omega arith)) (all-closed f ts (omega arith))
 
 module _ (ts : List Typ) (f : ℕ → Typ) where
   together : (ks ls : List ℕ) → length ks ≡ length ls → All (IsImage ts f) (zip ks ls) → types_at ts ls ≡ replace_all f (types_at ts ks)
@@ -50,6 +60,12 @@ module _ (ts : List Typ) (f : ℕ → Typ) where
 
   pub pair-none : (p : Pair) (old : List Pair) → IsImage ts f p → OpensImage ts f p old old
   pair-none p old i = record { parts = []; is = sym (append-nil old); whole = λ a. i; back = λ a. tt; smaller = nodes-positive (type_at ts p.0) }
+
+  pub pair-closed : (p : Pair) (b : Bool) (old : List Pair) → top (type_at ts p.0) ≡ 0 → IsTrue b ↔ (type_at ts p.1 ≡ type_at ts p.0) → b ≡ true → OpensImage ts f p old old
+  pair-closed p b old e w y = pair-none p old (w.0 y ∙ sym (closed f (type_at ts p.0) e))
+
+  pub closed-apart : (p : Pair) (b : Bool) → top (type_at ts p.0) ≡ 0 → IsTrue b ↔ (type_at ts p.1 ≡ type_at ts p.0) → b ≡ false → IsImage ts f p → ⊥
+  closed-apart p b e w n r = false≢true (sym n ∙ w.1 (r ∙ closed f (type_at ts p.0) e))
 
   pub pair-variable : (p : Pair) (v : ℕ) (old : List Pair) → type_at ts p.0 ≡ var v → type_at ts p.1 ≡ f v → OpensImage ts f p old old
   pair-variable p v old e i = pair-none p old (i ∙ sym (ap (replace f) e))

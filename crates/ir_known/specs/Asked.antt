@@ -1,34 +1,27 @@
 -- What is asked of types, and on which parts the answer rests.
-use Rattle.std.specs.Prelude.{◌≡◌, ◌<◌, ℕ, ◌+◌, Bool, true, false, List, [], ◌∷◌, ◌++◌, ⊤}
+use Rattle.std.specs.Prelude.{◌≡◌, ◌<◌, ℕ, ◌+◌, Bool, true, List, [], ◌∷◌, ◌++◌, ⊤}
 use Rattle.ty_core.specs.Types.{Symbol, Typ, admits, attribute, nodes}
 use Rattle.ty_core.specs.declared.name.Equality.{Equality}
 use Rattle.ty_core.specs.declared.name.Equality.TheVariants.{ByArguments}
 use Rattle.ty_core.specs.declared.scheme.Quantified.{Quantified}
 use Rattle.ty_table.specs.TypeAt.{type_at}
-use Rattle.ir_poly.specs.Types.{over, admits_in}
+use Rattle.ir_poly.specs.Types.{over, in_scope, admits_in}
 use Rattle.ir_known.specs.declared.walk.Question.{Question}
-use Rattle.ir_known.specs.declared.walk.Question.TheVariants.{Over, Admits, Everywhere}
-
--- all variables admit equality
-abbrev pub every : ℕ → Bool
-every v = true
+use Rattle.ir_known.specs.declared.walk.Question.TheVariants.{Over, Admits}
 
 abbrev pub Asked : Question → List Quantified → Typ → Type 0
 Asked Over D t = over D t ≡ true
 Asked Admits D t = admits (admits_in D) t ≡ true
-Asked Everywhere D t = admits every t ≡ true
 
--- a variable is so that is no parameter in scope
-abbrev pub so_anyway : Question → Bool
-so_anyway Over = false
-so_anyway Admits = false
-so_anyway Everywhere = true
+-- whether a variable is so
+abbrev pub so_in : Question → List Quantified → ℕ → Bool
+so_in Over = in_scope
+so_in Admits = admits_in
 
 -- whether a symbol's types are so always, where all parts are, or never
 abbrev pub rule_of : Question → Symbol → Equality
 rule_of Over h = ByArguments
 rule_of Admits h = attribute h
-rule_of Everywhere h = attribute h
 
 module _ {A : Type 0} where
   abbrev pub All : (A → Type 0) → List A → Type 0

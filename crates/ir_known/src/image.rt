@@ -58,7 +58,7 @@ fn push_pairs(
     Ok(())
 }
 
-/// Puts the pairs on which the answer rests on those that are pending, or says no.
+/// Puts the pairs on which the answer rests on those that are pending, or says no. Of a type without variables nothing else is an image than the type itself.
 fn open_pair(
     types: &Types,
     images: &Stack<usize>,
@@ -70,6 +70,9 @@ fn open_pair(
     ensures no { IfOk result (λ yes. yes ≡ false → IsImage types.now (image_of types.now images.now rest) pair → ⊥) }
 {
     let (body, t) = pair;
+    if types.top(body) == 0 {
+        return Ok(same_type(types, t, body));
+    }
     match types.view(body) {
         View::Var(v) => Ok(stands(types, images, rest, v, t)),
         View::Apply(head, parts) => match types.view(t) {

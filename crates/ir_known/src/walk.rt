@@ -3,10 +3,10 @@ ghost use Rattle.std.specs.Prelude.{◌≡◌, ◌↔◌, true, false, IsTrue, I
 ghost use Rattle.ty_core.specs.Types.{var, admits};
 ghost use Rattle.ty_core.specs.TypesOf.{head_of};
 ghost use Rattle.ty_table.specs.TypeAt.{type_at};
-ghost use Rattle.ir_poly.specs.Types.{over, admits_in, in_scope, is_equality};
-ghost use Rattle.ir_known.specs.Few.{few_over};
+ghost use Rattle.ir_poly.specs.Types.{over, admits_in, is_equality};
+ghost use Rattle.ir_known.specs.Few.{few_so};
 ghost use Rattle.ir_known.specs.Knows.{marks_of};
-ghost use Rattle.ir_known.specs.Asked.{every, Asked, Opens, rule_of, so_anyway};
+ghost use Rattle.ir_known.specs.Asked.{Asked, Opens, rule_of, so_in};
 
 use crate::stack::Stack;
 use indexmap::IndexSet;
@@ -18,12 +18,11 @@ use ty_core::ty::{Head, equality_of};
 use ty_table::types::{Types, View};
 use ty_table::variables::Few;
 
-/// What is asked of a type: whether its variables are parameters in scope; whether it admits equality where those do that are marked so; or where all do.
+/// What is asked of a type: whether its variables are parameters in scope, or whether it admits equality where those do that are marked so.
 #[derive(Clone, Copy)]
 pub enum Question {
     Over,
     Admits,
-    Everywhere,
 }
 
 /// Whether a mark asks for equality.
@@ -39,26 +38,14 @@ fn is_equality_mark(mark: Mark) -> bool
 
 /// Whether a variable is so.
 fn is_so(scope: &Stack<Mark>, question: Question, v: usize) -> bool
-    ensures { IsTrue result ↔ Asked question (marks_of scope.now) (var v) }
+    ensures { result ≡ so_in question (marks_of scope.now) v }
 {
     match scope.get(v) {
         Some(mark) => match question {
             Question::Over => true,
             Question::Admits => is_equality_mark(mark),
-            Question::Everywhere => true,
         },
-        None => is_so_anyway(question),
-    }
-}
-
-/// Whether a variable is so that is no parameter in scope.
-fn is_so_anyway(question: Question) -> bool
-    ensures { result ≡ so_anyway question }
-{
-    match question {
-        Question::Over => false,
-        Question::Admits => false,
-        Question::Everywhere => true,
+        None => false,
     }
 }
 
@@ -69,7 +56,6 @@ fn rule(question: Question, head: &Head) -> Equality
     match question {
         Question::Over => Equality::ByArguments,
         Question::Admits => equality_of(head),
-        Question::Everywhere => equality_of(head),
     }
 }
 
@@ -122,28 +108,23 @@ fn ask(
     Ok(true)
 }
 
-/// Whether a variable is a parameter in scope.
-fn is_in(scope: &Stack<Mark>, v: usize) -> bool
-    ensures { result ≡ in_scope (marks_of scope.now) v }
-{
-    match scope.get(v) {
-        Some(_) => true,
-        None => false,
-    }
-}
-
-/// Whether few variables are parameters in scope.
-fn few_over(scope: &Stack<Mark>, few: Few) -> Option<bool>
-    ensures { result ≡ few_over (marks_of scope.now) few }
+/// Whether few variables are so.
+fn few_so(scope: &Stack<Mark>, question: Question, few: Few) -> Option<bool>
+    ensures { result ≡ few_so (so_in question (marks_of scope.now)) few }
 {
     match few {
         Few::Empty => Some(true),
-        Few::One(a) => Some(is_in(scope, a)),
-        Few::Two(a, b) => Some(is_in(scope, a) && is_in(scope, b)),
-        Few::Three(a, b, c) => Some(is_in(scope, a) && is_in(scope, b) && is_in(scope, c)),
-        Few::Four(a, b, c, d) => {
-            Some(is_in(scope, a) && is_in(scope, b) && is_in(scope, c) && is_in(scope, d))
-        }
+        Few::One(a) => Some(is_so(scope, question, a)),
+        Few::Two(a, b) => Some(is_so(scope, question, a) && is_so(scope, question, b)),
+        Few::Three(a, b, c) => Some(
+            is_so(scope, question, a) && is_so(scope, question, b) && is_so(scope, question, c),
+        ),
+        Few::Four(a, b, c, d) => Some(
+            is_so(scope, question, a)
+                && is_so(scope, question, b)
+                && is_so(scope, question, c)
+                && is_so(scope, question, d),
+        ),
         Few::Many => None,
     }
 }
@@ -157,7 +138,7 @@ pub fn is_over(
 ) -> Result<bool, NoMemory>
     ensures { IfOk result (λ yes. IsTrue yes ↔ (over (marks_of scope.now) (type_at types.now t) ≡ true)) }
 {
-    match few_over(scope, types.few(t)) {
+    match few_so(scope, Question::Over, types.few(t)) {
         Some(yes) => Ok(yes),
         None => {
             let yes = ask(alloc, types, scope, Question::Over, t)?;
@@ -166,7 +147,8 @@ pub fn is_over(
     }
 }
 
-/// Whether a type admits equality where the parameters do that are marked so.
+/// Whether a type admits equality where the parameters do that are marked so: it is looked through where it would if all did, and some of its variables isn't marked, or
+/// it has many.
 pub fn is_equality(
     alloc: Global,
     types: &Types,
@@ -178,18 +160,14 @@ pub fn is_equality(
     if types.admits_eq(t) {
         return Ok(true);
     }
-    let yes = ask(alloc, types, scope, Question::Admits, t)?;
-    Ok(yes)
-}
-
-/// Whether a type admits equality where all its variables do.
-pub fn admits_everywhere(alloc: Global, types: &Types, t: usize) -> Result<bool, NoMemory>
-    ensures { IfOk result (λ yes. IsTrue yes ↔ (admits every (type_at types.now t) ≡ true)) }
-{
-    if types.admits_eq(t) {
-        return Ok(true);
+    if !types.admits_eq_everywhere(t) {
+        return Ok(false);
     }
-    let scope = Stack::new(alloc);
-    let yes = ask(alloc, types, &scope, Question::Everywhere, t)?;
-    Ok(yes)
+    match few_so(scope, Question::Admits, types.few(t)) {
+        Some(true) => Ok(true),
+        Some(false) | None => {
+            let yes = ask(alloc, types, scope, Question::Admits, t)?;
+            Ok(yes)
+        }
+    }
 }

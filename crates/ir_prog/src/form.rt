@@ -47,12 +47,11 @@ fn are_seven(names: &[Name]) -> bool
 }
 
 /// Whether the tables have the basis' exceptions, and constructors that may stand there.
-fn has_tables(alloc: Global, program: &Program) -> Result<bool, NoMemory>
-    ensures { IfOk result (λ so. so ≡ (nat_eq (length (initial_of program.now.tables)) 7 && check_table (constructors_of program.now.tables))) }
+fn has_tables(program: &Program) -> bool
+    ensures { result ≡ (nat_eq (length (initial_of program.now.tables)) 7 && check_table (constructors_of program.now.tables)) }
 {
     let seven = are_seven(&program.tables.initial);
-    let table = is_table(alloc, &program.tables)?;
-    Ok(both(seven, table))
+    both(seven, is_table(&program.tables))
 }
 
 /// Whether a program is well formed, which carries the type of exceptions.
@@ -60,7 +59,7 @@ fn is_program(alloc: Global, program: &Program) -> Result<bool, NoMemory>
     requires { type_at program.now.tables.types program.now.exn ≡ exn_type }
     ensures { IfOk result (λ so. IsTrue so ↔ IsProg (prog_of program.now)) }
 {
-    let tables = has_tables(alloc, program)?;
+    let tables = has_tables(program);
     let typed = is_typed(alloc, program)?;
     let once = program.binds_once(alloc)?;
     Ok(both(tables, both(typed, once)))

@@ -60,8 +60,7 @@ pub fn is_well_formed(alloc: Global, program: &Program) -> Result<bool, NoMemory
     if !has_basis(program) {
         return Ok(false);
     }
-    let table = is_table(alloc, &program.tables)?;
-    if !table {
+    if !is_table(&program.tables) {
         return Ok(false);
     }
     let once = program.binds_once(alloc)?;

@@ -1,5 +1,5 @@
 // The table of a program's constructors.
-ghost use Rattle.std.specs.Prelude.{◌≡◌, ◌↔◌, ◌≤◌, IsTrue, IfOk};
+ghost use Rattle.std.specs.Prelude.{◌≡◌, ◌↔◌, ◌≤◌, IsTrue};
 ghost use Rattle.std.specs.List.{AllByRecursion};
 ghost use Rattle.std.specs.Option.{option_map};
 ghost use Rattle.ty_table.specs.TypeAt.{type_at, top};
@@ -8,11 +8,8 @@ ghost use Rattle.ir_tables.specs.Rows.{constructor_at, constructors_at};
 ghost use Rattle.ir_tables.specs.Tables.{constructors_of};
 ghost use Rattle.prog_check.specs.Program.{check_argument, check_constructor, check_datatype, check_table, respects};
 
-use ir_known::walk::admits_everywhere;
 use ir_tables::constructors::Constructor;
 use ir_tables::tables::Tables;
-use mlc_base::memory::NoMemory;
-use std::alloc::Global;
 use ty_core::name::{Equality, TyName};
 use ty_table::types::Types;
 
@@ -20,21 +17,13 @@ use ty_table::types::Types;
 const NAME_COUNT: u32 = 8;
 
 /// Whether a type admits equality where it has to, for its datatype to do so.
-fn has_equality(
-    alloc: Global,
-    types: &Types,
-    equality: Equality,
-    t: usize,
-) -> Result<bool, NoMemory>
-    ensures { IfOk result (λ yes. yes ≡ respects equality (type_at types.now t)) }
+fn has_equality(types: &Types, equality: Equality, t: usize) -> bool
+    ensures { result ≡ respects equality (type_at types.now t) }
 {
     match equality {
-        Equality::Always => Ok(true),
-        Equality::ByArguments => {
-            let yes = admits_everywhere(alloc, types, t)?;
-            Ok(yes)
-        }
-        Equality::Never => Ok(true),
+        Equality::Always => true,
+        Equality::ByArguments => types.admits_eq_everywhere(t),
+        Equality::Never => true,
     }
 }
 
@@ -60,55 +49,46 @@ fn is_declared(datatype: TyName) -> bool
 }
 
 /// Whether the argument of a constructor of the datatype has a type over its parameters, which admits equality where the datatype does.
-fn fits_datatype(
-    alloc: Global,
-    types: &Types,
-    datatype: TyName,
-    argument: Option<usize>,
-) -> Result<bool, NoMemory>
-    ensures { IfOk result (λ yes. yes ≡ check_argument datatype.arity datatype.equality (option_map (type_at types.now) argument)) }
+fn fits_datatype(types: &Types, datatype: TyName, argument: Option<usize>) -> bool
+    ensures { result ≡ check_argument datatype.arity datatype.equality (option_map (type_at types.now) argument) }
 {
     match argument {
         Some(t) => {
             if !is_below(types, t, datatype.arity) {
-                return Ok(false);
+                return false;
             }
-            let yes = has_equality(alloc, types, datatype.equality, t)?;
-            Ok(yes)
+            has_equality(types, datatype.equality, t)
         }
-        None => Ok(true),
+        None => true,
     }
 }
 
 /// Whether a constructor may stand in a program's table.
-fn is_row(alloc: Global, types: &Types, row: Constructor) -> Result<bool, NoMemory>
-    ensures { IfOk result (λ yes. yes ≡ check_constructor (constructor_at types.now row)) }
+fn is_row(types: &Types, row: Constructor) -> bool
+    ensures { result ≡ check_constructor (constructor_at types.now row) }
 {
     if !is_declared(row.datatype) {
-        return Ok(false);
+        return false;
     }
-    let yes = fits_datatype(alloc, types, row.datatype, row.argument)?;
-    Ok(yes)
+    fits_datatype(types, row.datatype, row.argument)
 }
 
 /// Whether constructors may stand in a program's table.
-fn are_constructors(alloc: Global, types: &Types, rows: &[Constructor]) -> Result<bool, NoMemory>
-    ensures { IfOk result (λ yes. yes ≡ check_table (constructors_at types.now rows.now)) }
+fn are_constructors(types: &Types, rows: &[Constructor]) -> bool
+    ensures { result ≡ check_table (constructors_at types.now rows.now) }
 {
     for i in 0..rows.len() {
-        let yes = is_row(alloc, types, rows[i])?;
-        if !yes {
-            return Ok(false);
+        if !is_row(types, rows[i]) {
+            return false;
         }
     }
-    Ok(true)
+    true
 }
 
 /// Whether the constructors of the tables may stand in a program's table.
-pub fn is_table(alloc: Global, tables: &Tables) -> Result<bool, NoMemory>
-    ensures fits { IfOk result (λ yes. IsTrue yes ↔ AllByRecursion IsConstructor (constructors_of tables.now)) }
-    ensures decided { IfOk result (λ yes. yes ≡ check_table (constructors_of tables.now)) }
+pub fn is_table(tables: &Tables) -> bool
+    ensures fits { IsTrue result ↔ AllByRecursion IsConstructor (constructors_of tables.now) }
+    ensures decided { result ≡ check_table (constructors_of tables.now) }
 {
-    let yes = are_constructors(alloc, &tables.types, tables.constructors.rows())?;
-    Ok(yes)
+    are_constructors(&tables.types, tables.constructors.rows())
 }

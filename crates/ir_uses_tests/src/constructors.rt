@@ -132,7 +132,7 @@ const DECLARED: [(TyName, Option<usize>, bool); 8] = [
 fn may_declare(alloc: Global, datatype: TyName, argument: Option<usize>) -> Result<bool, NoMemory> {
     let mut tables = make_tables(alloc, 7)?;
     put_constructor(&mut tables, datatype, 300, argument)?;
-    is_table(alloc, &tables)
+    Ok(is_table(&tables))
 }
 
 /// The first datatype of which something else is said.

@@ -5,7 +5,7 @@ use ir_known::known::Known;
 use ir_known::params::declare_all;
 use ir_known::scope::Scope;
 use ir_known::stack::Stack;
-use ir_known::walk::{admits_everywhere, is_equality, is_over};
+use ir_known::walk::{is_equality, is_over};
 use ir_tables::tables::Tables;
 use ir_uses::images::{for_parameters, in_order};
 use mlc_base::memory::NoMemory;
@@ -73,7 +73,7 @@ fn answer(
         Ask::Image(rest, image) => is_integers(alloc, tables, rest, ty, image),
         Ask::Over => is_over(alloc, &tables.types, scope, ty),
         Ask::Equality => is_equality(alloc, &tables.types, scope, ty),
-        Ask::Everywhere => admits_everywhere(alloc, &tables.types, ty),
+        Ask::Everywhere => Ok(tables.types.admits_eq_everywhere(ty)),
     }
 }
 

@@ -3,12 +3,15 @@ use Rattle.ty_core.specs.TypesOf.{head_of}
 use Rattle.ty_table.specs.TypeAt.{types_at}
 use Rattle.ir_known.specs.Knows.{marks_of}
 use Rattle.ir_known.specs.Asked.{Asked}
-use Rattle.ir_known.proofs.Opening.{opens-none, opens-parts, always}
+use Rattle.ir_known.proofs.Opening.{opens-none, opens-parts, always, so-variable, not-so-variable}
 use Rattle.ir_known.proofs.walk.open.Goals as goal
 
 pub returns-in-Var-clause-opens : goal.returns-in-Var-clause-opens
 returns-in-Var-clause-opens c = λ y. opens-none c.args.types.now (Asked c.args.question (marks_of c.args.scope.now)) c.args.k c.args.pending.now.items
-    (subst (Asked c.args.question (marks_of c.args.scope.now)) (sym c.in-Var.ensures) (c.is_so.ensures.0 y))
+    (so-variable c.args.question (marks_of c.args.scope.now) c.in-Var.v _ c.is_so.result c.in-Var.ensures c.is_so.ensures y)
+
+pub returns-in-Var-clause-no : goal.returns-in-Var-clause-no
+returns-in-Var-clause-no c = λ n a. not-so-variable c.args.question (marks_of c.args.scope.now) c.in-Var.v _ c.is_so.result c.in-Var.ensures c.is_so.ensures n a
 
 pub returns-in-Always-clause-opens : goal.returns-in-Always-clause-opens
 returns-in-Always-clause-opens c = λ _. opens-none c.args.types.now (Asked c.args.question (marks_of c.args.scope.now)) c.args.k c.args.pending.now.items

@@ -3,4 +3,4 @@ use Rattle.prog_parts.proofs.Truths.{two}
 use Rattle.ir_prog.proofs.form.has_tables.Goals as goal
 
 pub returns : goal.returns
-returns c = two c.both.ensures (c.are_seven-seven.ensures ∙ ap (λ l. nat_eq (length l) 7) c.deref.ensures.value) c.in_ok-table.ensures.decided
+returns c = two c.both.ensures (c.are_seven-seven.ensures ∙ ap (λ l. nat_eq (length l) 7) c.deref.ensures.value) c.is_table.ensures.decided

@@ -5,4 +5,4 @@ use Rattle.ir_prog.proofs.Formed.{formed}
 use Rattle.ir_prog.proofs.form.is_program.Goals as goal
 
 pub returns : goal.returns
-returns c = formed (prog_of c.args.program.now) c.both-2.result c.in_ok-tables.tables c.in_ok-typed.typed c.in_ok-once.once (two c.both-2.ensures refl c.both.ensures) c.in_ok-tables.ensures c.in_ok-typed.ensures c.in_ok-once.ensures
+returns c = formed (prog_of c.args.program.now) c.both-2.result c.has_tables-tables.result c.in_ok-typed.typed c.in_ok-once.once (two c.both-2.ensures refl c.both.ensures) c.has_tables-tables.ensures c.in_ok-typed.ensures c.in_ok-once.ensures

@@ -6,7 +6,7 @@ use Rattle.ir_uses.proofs.Tabling.{table-fits}
 use Rattle.ir_uses.proofs.table.is_table.Goals as goal
 
 pub returns-clause-fits : goal.returns-clause-fits
-returns-clause-fits c = table-fits (constructors_of c.args.tables.now) c.in_ok-yes.yes (c.in_ok-yes.ensures ∙ ap (λ ks. check_table (constructors_at c.args.tables.now.types ks)) c.rows.ensures)
+returns-clause-fits c = table-fits (constructors_of c.args.tables.now) c.are_constructors.result (c.are_constructors.ensures ∙ ap (λ ks. check_table (constructors_at c.args.tables.now.types ks)) c.rows.ensures)
 
 pub returns-clause-decided : goal.returns-clause-decided
-returns-clause-decided c = c.in_ok-yes.ensures ∙ ap (λ ks. check_table (constructors_at c.args.tables.now.types ks)) c.rows.ensures
+returns-clause-decided c = c.are_constructors.ensures ∙ ap (λ ks. check_table (constructors_at c.args.tables.now.types ks)) c.rows.ensures
