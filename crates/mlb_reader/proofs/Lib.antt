@@ -16,3 +16,4 @@ pub mod WithinRests
 pub mod WithinShapes
 pub mod WithinTerminals
 pub mod WithinTokens
+mod WithinTops

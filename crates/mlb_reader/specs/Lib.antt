@@ -1,6 +1,7 @@
 pub mod BasisOf
 pub mod Broken
 pub mod Counting
+pub mod Declared
 pub mod Laws
 pub mod Loading
 pub mod Mlb
@@ -11,4 +12,5 @@ pub mod Project
 pub mod Reading
 pub mod Refusals
 pub mod Segments
+pub mod Tops
 pub mod Within
