@@ -8,6 +8,7 @@ mod OneProject
 pub mod RefusalLemmas
 pub mod SegmentLemmas
 pub mod SourceLemmas
+mod TopLemmas
 pub mod Within
 pub mod WithinChains
 pub mod WithinExpressions

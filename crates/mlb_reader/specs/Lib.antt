@@ -1,7 +1,6 @@
 pub mod BasisOf
 pub mod Broken
 pub mod Counting
-pub mod Declared
 pub mod Laws
 pub mod Loading
 pub mod Mlb
@@ -12,5 +11,6 @@ pub mod Project
 pub mod Reading
 pub mod Refusals
 pub mod Segments
+pub mod Standing
 pub mod Tops
 pub mod Within

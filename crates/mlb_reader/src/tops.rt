@@ -4,7 +4,7 @@ ghost use Rattle.std.specs.Prelude.{◌≡◌, map, IfOk};
 ghost use Rattle.sml_tree.specs.BareTree.{Dec};
 ghost use Rattle.sml_tree.specs.TreeOf.{dec_of, decs_of};
 ghost use Rattle.module_code.specs.TreeOf.{top_of};
-ghost use Rattle.mlb_reader.specs.Declared.{IsDeclared};
+ghost use Rattle.mlb_reader.specs.Standing.{IsStanding};
 ghost use Rattle.mlb_reader.specs.PartOf.{part_of};
 ghost use Rattle.mlb_reader.specs.Tops.{core_before, first_other, part_from, part_of_tops};
 
@@ -18,7 +18,7 @@ use std::alloc::Global;
 
 /// A declaration of the core, or the place of another one.
 #[derive(Drop)]
-enum Declared<D> {
+enum Standing<D> {
     Core(D),
     Other(Place),
 }
@@ -31,28 +31,28 @@ struct Front<D> {
 }
 
 /// What stands at a top.
-fn declared<D: Drop>(top: Top<D>) -> Declared<D>
-    ensures { (of : D → Dec) → IsDeclared of result (top_of of top) }
+fn standing_at<D: Drop>(top: Top<D>) -> Standing<D>
+    ensures { (of : D → Dec) → IsStanding of result (top_of of top) }
 {
     match top {
-        Top::Dec(StrDec::Core(dec)) => Declared::Core(dec),
-        Top::Dec(StrDec::Structure(place, _)) => Declared::Other(place),
-        Top::Dec(StrDec::Local(place, _, _)) => Declared::Other(place),
-        Top::Signature(place, _) => Declared::Other(place),
-        Top::Functor(place, _) => Declared::Other(place),
+        Top::Dec(StrDec::Core(dec)) => Standing::Core(dec),
+        Top::Dec(StrDec::Structure(place, _)) => Standing::Other(place),
+        Top::Dec(StrDec::Local(place, _, _)) => Standing::Other(place),
+        Top::Signature(place, _) => Standing::Other(place),
+        Top::Functor(place, _) => Standing::Other(place),
     }
 }
 
 /// The declarations of the core before the first other one.
-fn front<D: Drop>(alloc: Global, tops: Vec<Top<D>>) -> Result<Front<D>, NoMemory>
+fn front_of<D: Drop>(alloc: Global, tops: Vec<Top<D>>) -> Result<Front<D>, NoMemory>
     ensures decs { IfOk result (λ front. (of : D → Dec) → core_before (map (top_of of) tops.items) ≡ decs_of (map of front.decs.items)) }
     ensures other { IfOk result (λ front. (of : D → Dec) → first_other (map (top_of of) tops.items) ≡ front.other) }
 {
     let mut decs = Vec::new(alloc);
     for top in tops {
-        match declared(top) {
-            Declared::Core(dec) => decs.push(dec)?,
-            Declared::Other(place) => {
+        match standing_at(top) {
+            Standing::Core(dec) => decs.push(dec)?,
+            Standing::Other(place) => {
                 let other = Some(place);
                 return Ok(Front { decs, other });
             }
@@ -75,6 +75,6 @@ fn part_from(front: Front<Dec>) -> Part
 pub fn part_of_tops(alloc: Global, tops: Vec<Top<Dec>>) -> Result<Part, NoMemory>
     ensures { IfOk result (λ part. part_of part ≡ part_of_tops (map (top_of dec_of) tops.items)) }
 {
-    let front = front(alloc, tops)?;
+    let front = front_of(alloc, tops)?;
     Ok(part_from(front))
 }

@@ -36,7 +36,7 @@ const EXPRESSIONS: [(&str, &str); 7] = [
     (";;print\"a\";print\"b\"; ; val () = print \"c\"", "abc"),
     ("\"a\" ^ \"b\" ; print it ; it ;", "ab"),
     ("val it = \"a\" val x = it ; print x ; print (x ^ x) ;", "aaa"),
-    ("infix 6 ++ val ++ = op ^ ; \"a\" ++ \"b\" ; print it ;", "ab"),
+    ("infix 6 ++ val op ++ = op ^ ; \"a\" ++ \"b\" ; print it ;", "ab"),
 ];
 
 #[test]
