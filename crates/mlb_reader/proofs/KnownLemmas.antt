@@ -1,6 +1,7 @@
 -- Names of phrases are held, and their places lie in files.
 use Rattle.std.proofs.Common.{◌≡◌, ℕ, ◌<◌, ◌≤◌, List, [], ◌∷◌, ◌++◌, length, map, take, drop, min, get_or, All, Some, None, refl, ap, subst, sym, ◌∙◌, arith, append_assoc}
 use Rattle.std.specs.Option.{ForSome}
+use Rattle.std.proofs.lemmas.Bool.{ltb-true}
 use Rattle.std.proofs.lemmas.List.{get_or_default, length-take, take-append-drop, take-append-le}
 use Rattle.std.proofs.lemmas.List.Elements.{All-append, All-cons, All-nil, All-same, All-weaker}
 use Rattle.mlc_base.specs.File.{File}
@@ -122,11 +123,12 @@ nothing-known s table e = record {
 pub standard-table : (names : List (List ℕ)) → names ≡ standard_words → IsTable names
 standard-table names is = subst IsTable (sym is) (record { apart = standard_words-apart; begins = refl })
 
--- and each of them has its number in every other one
+-- every table has a number for `it`
 pub it-held : (a b : List (List ℕ)) (it : ℕ) → it ≡ word_it → IsTable a → Keeps a b → it < length b
 it-held a b it named table keeps =
+    let first : word_it < length standard_words = ltb-true word_it (length standard_words) refl in
     let least : min (length standard_words) (length a) ≡ length standard_words = sym (length-take (length standard_words) a) ∙ ap length table.begins in
-    omega (arith, named, least, keeps_no_fewer a b keeps)
+    omega (arith, named, first, least, keeps_no_fewer a b keeps)
 
 pub table-stays : (a b : List (List ℕ)) → Keeps a b → IsTable a → IsTable b
 table-stays a b keeps table = record { apart = keeps.apart table.apart; begins = front-stays standard_words a b table.begins keeps }

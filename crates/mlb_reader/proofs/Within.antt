@@ -41,12 +41,12 @@ all-read file P N {it} {i = i} {tree = tree} d n g =
 pub part-holds : (count it file : ℕ) (f : Fixity) (i : List Terminal) (tree : List read.Top) → IsSource f i tree → it < count → All (TerminalHolds count) i → HoldsAll count (parts_phrases (part_of_tops (bare_tops it file tree) ∷ []))
 part-holds count it file f i tree d named h =
     let held : All (IsGood file (λ p. ⊤) (λ n. n < count)) i = λ k t lt. (tt, if-some (λ n. n < count) (terminal_name (get_or i k t)) (h k t lt)) in
-    let good = all-read file (λ p. ⊤) (λ n. n < count) d named held in
+    let good = all-read file (λ p. ⊤) (λ n. n < count) {it = it} d named held in
     λ k x lt. for-some (λ n. n < count) (phrase_name (get_or (parts_phrases (part_of_tops (bare_tops it file tree) ∷ [])) k x)) (good k x lt).1
 
 pub part-placed : (P : Place → Type 0) (it file : ℕ) (f : Fixity) (i : List Terminal) (tree : List read.Top) → IsSource f i tree → All (λ t. P (at file (terminal_place t))) i →
     AllPlacedIn P (parts_phrases (part_of_tops (bare_tops it file tree) ∷ []))
 part-placed P it file f i tree d h =
     let placed : All (IsGood file P (λ n. ⊤)) i = λ k t lt. (h k t lt, anything (terminal_name (get_or i k t))) in
-    let good = all-read file P (λ n. ⊤) {it} d tt placed in
+    let good = all-read file P (λ n. ⊤) {it = it} d tt placed in
     λ k x lt. for-some P (phrase_place (get_or (parts_phrases (part_of_tops (bare_tops it file tree) ∷ [])) k x)) (good k x lt).0

@@ -48,8 +48,8 @@ returns-in_err-number-clause-needed g c =
     read-fault-asked c.from_residual-in_err-number.result c.in_err-number.field-0.0 c.from_residual-in_err-number.ensures.1 _ (λ failed. NeedsAt files mlb s item (string_bytes failed))
     (λ failed h. needed-at mlb s item c.requires.may files (string_bytes failed) (h.0 ∙ path)) c.in_err-number.ensures.read_fault
 
-pub read_source-requires-small : goal.read_source-requires-small
-read_source-requires-small g c =
+pub read_source-requires-clause-small : goal.read_source-requires-clause-small
+read_source-requires-clause-small g c =
     let fetched = c.in_ok-number.ensures.fetched in
     let bytes = last-bytes c.args.files.now c.fetch.new.files fetched.file c.in_ok-number.number c.bytes-bytes.result.now fetched.added fetched.number_is c.bytes-bytes.ensures in
     omega (arith, ap length bytes, fetched.fits.small)
@@ -105,3 +105,6 @@ returns-clause-known g c =
     let parts : map part_of c.push.new.self.items ≡ s.parts ++ part ∷ [] = ap (map part_of) c.in_ok-push.ensures.items ∙ map-append part_of c.args.loading.now.parts.items _ in
     source-known c.read_source.new.names s c.read_source.ensures.kept (table-stays c.args.names.now c.read_source.new.names c.read_source.ensures.kept c.requires.known.table) c.requires.known new (grows-one s.reads new fetched.file fetched.added) c.read_source.new.fixities part fetched.file number (length c.bytes-bytes.result.now) _ fetched.added fetched.number_is (ap length bytes) fetched.fits.small c.in_ok-part.ensures.held c.in_ok-part.ensures.placed
     (ap (λ p. record { names = c.read_source.new.names; fixities = c.read_source.new.fixities; parts = p; reads = new }) parts)
+
+pub read_source-requires-clause-table : goal.read_source-requires-clause-table
+read_source-requires-clause-table g c = c.requires.known.table
