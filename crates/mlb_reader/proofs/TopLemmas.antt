@@ -8,7 +8,8 @@ use Rattle.module_tree.specs.BareModules as bare
 use Rattle.module_tree.specs.BareModules.{str_top, signature_top, functor_top, core_dec, structure_dec, local_str}
 use Rattle.module_code.specs.TreeOf.{top_of}
 use Rattle.module_code.specs.declared.sources.Top.{Top}
-use Rattle.mlb_reader.specs.Tops.{core_before, first_other}
+use Rattle.sml_rules.specs.Project.{Part}
+use Rattle.mlb_reader.specs.Tops.{core_before, first_other, part_from, part_of_tops}
 
 abbrev core_top : Dec → bare.Top
 core_top d = str_top (core_dec d)
@@ -46,6 +47,9 @@ other-there (str_top (structure_dec q bs)) ts p e = e
 other-there (str_top (local_str q ds es)) ts p e = e
 other-there (signature_top q bs) ts p e = e
 other-there (functor_top q bs) ts p e = e
+
+pub front-part : (ds : Decs) (other : Option Place) (ts : List bare.Top) (part : Part) → core_before ts ≡ ds → first_other ts ≡ other → part ≡ part_from ds other → part ≡ part_of_tops ts
+front-part ds other ts part d o e = e ∙ sym (ap (λ x. part_from x (first_other ts)) d ∙ ap (part_from ds) o)
 
 module _ {D : Type 0} (of : D → Dec) (tops : List (Top D)) (decs : List D) (are : map (top_of of) tops ≡ map core_top (map of decs)) where
   -- one more of them

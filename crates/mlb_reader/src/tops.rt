@@ -1,7 +1,7 @@
 // What stands at a source's top, for a project: its declarations of the core, up to the first other one.
 
 ghost use Rattle.std.specs.Prelude.{◌≡◌, map, IfOk};
-ghost use Rattle.sml_tree.specs.BareTree.{Dec};
+ghost use Rattle.sml_tree.specs.BareTree as bare;
 ghost use Rattle.sml_tree.specs.TreeOf.{dec_of, decs_of};
 ghost use Rattle.module_code.specs.TreeOf.{top_of};
 ghost use Rattle.mlb_reader.specs.Standing.{IsStanding};
@@ -32,7 +32,7 @@ struct Front<D> {
 
 /// What stands at a top.
 fn standing_at<D: Drop>(top: Top<D>) -> Standing<D>
-    ensures { (of : D → Dec) → IsStanding of result (top_of of top) }
+    ensures { (of : D → bare.Dec) → IsStanding of result (top_of of top) }
 {
     match top {
         Top::Dec(StrDec::Core(dec)) => Standing::Core(dec),
@@ -45,8 +45,8 @@ fn standing_at<D: Drop>(top: Top<D>) -> Standing<D>
 
 /// The declarations of the core before the first other one.
 fn front_of<D: Drop>(alloc: Global, tops: Vec<Top<D>>) -> Result<Front<D>, NoMemory>
-    ensures decs { IfOk result (λ front. (of : D → Dec) → core_before (map (top_of of) tops.items) ≡ decs_of (map of front.decs.items)) }
-    ensures other { IfOk result (λ front. (of : D → Dec) → first_other (map (top_of of) tops.items) ≡ front.other) }
+    ensures decs { IfOk result (λ front. (of : D → bare.Dec) → core_before (map (top_of of) tops.items) ≡ decs_of (map of front.decs.items)) }
+    ensures other { IfOk result (λ front. (of : D → bare.Dec) → first_other (map (top_of of) tops.items) ≡ front.other) }
 {
     let mut decs = Vec::new(alloc);
     for top in tops {

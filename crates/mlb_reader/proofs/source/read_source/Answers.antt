@@ -18,13 +18,13 @@ returns-in-Err-read_program-clause-byte c = fault-within _ (length c.args.bytes.
 pub returns-clause-source : goal.returns-clause-source
 returns-clause-source c =
     let has : HasTokens c.args.names.now c.args.bytes.now c.in-Ok.tokens c.lex.new.names = record { lexes = c.in-Ok.ensures.tokens; held = c.in-Ok.ensures.held; table = c.in-Ok.ensures.table } in
-    source-is c.args.names.now c.args.file c.args.bytes.now c.args.fixities.now c.in-Ok.tokens c.lex.new.names has c.standard-star.result c.standard-star.ensures c.standard-it.result c.in-Ok-read_program.program.tops.items c.in-Ok-read_program.program.fix _ c.standard-it.ensures c.in-Ok-read_program.ensures.read c.in_ok-part_of_tops.ensures
+    source-is c.args.names.now c.args.file c.args.bytes.now c.args.fixities.now c.in-Ok.tokens c.lex.new.names has c.standard-star.result c.standard-star.ensures c.standard-it.result c.in-Ok-read_program.program.tops.items c.in-Ok-read_program.program.fix _ c.standard-it.ensures c.in-Ok-read_program.ensures.read c.in_ok-part_of_tops-in-Ok-read_program.ensures
 
 pub returns-clause-held : goal.returns-clause-held
 returns-clause-held c =
-    source-holds c.standard-it.result (record { file = c.args.file; star = c.standard-star.result }) c.args.fixities.now c.in-Ok-read_program.program.fix c.in-Ok.tokens c.in-Ok-read_program.program.tops.items c.in-Ok-read_program.ensures.read _ c.in_ok-part_of_tops.ensures c.lex.new.names
+    source-holds c.standard-it.result (record { file = c.args.file; star = c.standard-star.result }) c.args.fixities.now c.in-Ok-read_program.program.fix c.in-Ok.tokens c.in-Ok-read_program.program.tops.items c.in-Ok-read_program.ensures.read _ c.in_ok-part_of_tops-in-Ok-read_program.ensures c.lex.new.names
     (it-held c.args.names.now c.lex.new.names c.standard-it.result c.standard-it.ensures c.requires.table c.lex.ensures.kept) c.in-Ok.ensures.held
 
 pub returns-clause-placed : goal.returns-clause-placed
 returns-clause-placed c =
-    source-placed c.standard-it.result (record { file = c.args.file; star = c.standard-star.result }) c.args.fixities.now c.in-Ok-read_program.program.fix c.in-Ok.tokens c.in-Ok-read_program.program.tops.items c.in-Ok-read_program.ensures.read _ c.in_ok-part_of_tops.ensures (length c.args.bytes.now) c.in-Ok.ensures.spans
+    source-placed c.standard-it.result (record { file = c.args.file; star = c.standard-star.result }) c.args.fixities.now c.in-Ok-read_program.program.fix c.in-Ok.tokens c.in-Ok-read_program.program.tops.items c.in-Ok-read_program.ensures.read _ c.in_ok-part_of_tops-in-Ok-read_program.ensures (length c.args.bytes.now) c.in-Ok.ensures.spans
