@@ -1,5 +1,5 @@
 -- The files at a path give one project: its tokens are one list, their names have one number each in the one table after them, and its terminals have one tree.
-use Rattle.std.proofs.Common.{◌≡◌, ◌≢◌, ℕ, zero, suc, ◌+◌, ◌<◌, Bool, true, false, not, if◌then◌else◌, List, [], ◌∷◌, ◌++◌, length, map, drop, Some, None, refl, sym, ap, subst, ◌∙◌, arith, All}
+use Rattle.std.proofs.Common.{◌≡◌, ℕ, zero, suc, ◌+◌, ◌<◌, true, false, not, if◌then◌else◌, List, [], ◌∷◌, ◌++◌, length, map, drop, Some, refl, sym, ap, subst, ◌∙◌, arith, All}
 use Rattle.std.specs.Prelude.{nat_eq}
 use Rattle.std.specs.FinMap.{get}
 use Rattle.std.specs.List.{flat_map}
@@ -8,7 +8,7 @@ use Rattle.std.proofs.lemmas.Bool.{false_from_ne_true}
 use Rattle.std.proofs.lemmas.Slice.Eq.{bytes_eq-Decides}
 use Rattle.std.proofs.Math.Seq.{drop-append_seam}
 use Rattle.mlc_base.specs.File.{File}
-use Rattle.mlc_base.specs.StandardWords.{standard_words, word_times, word_it}
+use Rattle.mlc_base.specs.StandardWords.{word_times, word_it}
 use Rattle.mlc_base.specs.declared.token.Token.{Token}
 use Rattle.mlc_base.specs.declared.token.TokenKind.{TokenKind}
 use Rattle.mlc_base.specs.declared.token.TokenKind.TheVariants as kind
@@ -25,10 +25,8 @@ use Rattle.sml_tree.specs.Terminal.{Terminal, reserved, number, constant, alpha,
 use Rattle.module_grammar.specs.Laws.{OneTree}
 use Rattle.sml_rules.specs.Project.{Part}
 use Rattle.mlb_reader.specs.Laws.{OneProject}
-use Rattle.mlb_reader.specs.Mlb.{Item, Reads, no_more, a_blank, a_path, IsPath, is_blank, is_parted, basis_path, has_variable}
-use Rattle.mlb_reader.specs.MlbOf.{BeginsPath}
-use Rattle.mlb_reader.specs.Path.{clean}
-use Rattle.mlb_reader.specs.Project.{IsSource, IsRead, Loaded, Loads, no_item, the_basis, a_source, with_basis, with_source, begun, HasMlb, ProjectOf}
+use Rattle.mlb_reader.specs.Mlb.{Item, Reads, no_more, a_blank, a_path, IsPath, is_parted, basis_path, has_variable}
+use Rattle.mlb_reader.specs.Project.{IsSource, Loaded, Loads, no_item, the_basis, a_source, with_basis, with_source, begun}
 use Rattle.mlb_reader.specs.Reading.{is_no_blank}
 use Rattle.mlb_reader.specs.Tops.{part_of_tops}
 use Rattle.mlb_reader.proofs.MlbLemmas.{after-blank, path-head, begins-is-front}

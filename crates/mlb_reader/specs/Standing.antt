@@ -2,7 +2,7 @@
 use Rattle.std.specs.Prelude.{◌≡◌, Some, [], ◌∷◌}
 use Rattle.sml_tree.specs.BareTree.{Dec}
 use Rattle.module_tree.specs.BareModules.{Top, str_top, core_dec}
-use Rattle.mlb_reader.specs.Tops.{core_before, first_other}
+use Rattle.mlb_reader.specs.Tops.{first_other}
 use Rattle.mlb_reader.specs.declared.tops.Standing.{Standing}
 use Rattle.mlb_reader.specs.declared.tops.Standing.TheVariants as code
 
