@@ -1,6 +1,7 @@
 -- Names of phrases are held, and their places lie in files.
 use Rattle.std.proofs.Common.{◌≡◌, ℕ, ◌<◌, ◌≤◌, List, [], ◌∷◌, ◌++◌, length, map, take, drop, min, get_or, All, Some, None, refl, ap, subst, sym, ◌∙◌, arith, append_assoc}
 use Rattle.std.specs.Option.{ForSome}
+use Rattle.std.proofs.lemmas.Bool.{ltb-true}
 use Rattle.std.proofs.lemmas.List.{get_or_default, length-take, take-append-drop, take-append-le}
 use Rattle.std.proofs.lemmas.List.Elements.{All-append, All-cons, All-nil, All-same, All-weaker}
 use Rattle.mlc_base.specs.File.{File}
@@ -9,28 +10,31 @@ use Rattle.mlc_base.specs.declared.place.Place.{Place}
 use Rattle.mlc_base.specs.declared.token.Token.{Token}
 use Rattle.mlc_base.specs.declared.token.TokenKind.{TokenKind}
 use Rattle.mlc_base.specs.declared.token.TokenKind.TheVariants as kind
-use Rattle.mlc_base.specs.StandardWords.{standard_words}
+use Rattle.mlc_base.specs.StandardWords.{standard_words, word_it}
 use Rattle.sml_lexer.specs.Lexeme.{HoldsNames}
 use Rattle.sml_lexer.specs.Lexes.{HoldsAllNames, Rises}
 use Rattle.sml_lexer.specs.NameTable.{Keeps}
 use Rattle.sml_lexer.proofs.NameLemmas.{keeps_no_fewer}
-use Rattle.sml_tree.specs.BareTree.{Decs}
 use Rattle.sml_tree.specs.Fixity.{Fixity}
-use Rattle.sml_tree.specs.TreeOf.{dec_of, decs_of}
+use Rattle.sml_tree.specs.TreeOf.{dec_of}
 use Rattle.sml_tree.specs.declared.tree.Dec.{Dec}
-use Rattle.sml_parser.specs.Core.{IsCore}
+use Rattle.sml_modparse.specs.Programs.{IsProgram}
+use Rattle.module_tree.specs.ModuleBare.{bare_tops}
+use Rattle.module_code.specs.TreeOf.{top_of}
+use Rattle.module_code.specs.declared.sources.Top.{Top}
 use Rattle.phrase_base.specs.Left.{left}
 use Rattle.phrase_base.specs.declared.source.Source.{Source}
 use Rattle.sml_rules.specs.Basis.{IsTable}
-use Rattle.sml_rules.specs.Phrases.{Phrase, brings_basis, decs_phrases, parts_phrases}
-use Rattle.sml_rules.specs.Project.{Part, source, standard_basis}
+use Rattle.sml_rules.specs.Phrases.{Phrase, brings_basis, foreign, decs_phrases, parts_phrases}
+use Rattle.sml_rules.specs.Project.{Part, standard_basis, source, cut}
 use Rattle.mlc_base.proofs.NamesLemmas.{standard_words-apart}
 use Rattle.mlb_reader.specs.Loading.{Grows, IsKnown, IsPlaceOf}
 use Rattle.mlb_reader.specs.Project.{Loaded, most_bytes}
+use Rattle.mlb_reader.specs.Tops.{part_of_tops}
 use Rattle.mlb_reader.specs.Within.{AllPlacedIn, HoldsAll, HoldsName, PlacedIn}
 use Rattle.mlb_reader.proofs.FileLemmas.{lies-grown, lies-last}
 use Rattle.mlb_reader.proofs.SourceLemmas.{token-within}
-use Rattle.mlb_reader.proofs.Within.{decs-hold, decs-placed}
+use Rattle.mlb_reader.proofs.Within.{part-holds, part-placed}
 use Rattle.mlb_reader.proofs.WithinTokens.{kind_name, terminals-hold, terminals-placed}
 
 -- One source.
@@ -54,17 +58,20 @@ kind-holds texts (kind.LongSymbol qs x) h = some-held (length texts) x h.1
 kind-holds texts (kind.TypeVar x) h = none-held (length texts)
 kind-holds texts (kind.EqTypeVar x) h = none-held (length texts)
 
-module _ (s : Source) (f f' : Fixity) (tokens : List Token) (decs : List Dec) (h : IsCore f s tokens decs f') where
-  pub source-holds : (texts : List (List ℕ)) → HoldsAllNames texts tokens → HoldsAll (length texts) (decs_phrases (decs_of (map dec_of decs)))
-  source-holds texts held =
-      let kinds = All-weaker (λ (t : Token). HoldsNames texts t.kind) (λ t. ForSome (kind_name t.kind) (λ n. n < length texts)) (λ t k. kind-holds texts t.kind k) tokens held in
-      subst (λ ds. HoldsAll (length texts) (decs_phrases ds)) (sym h.bare) (decs-hold (length texts) s.file f (left s tokens) h.tree h.is.reads (terminals-hold (length texts) s.star tokens kinds))
+module _ (it : ℕ) (s : Source) (f f' : Fixity) (tokens : List Token) (tops : List (Top Dec)) (h : IsProgram it f s tokens tops f') (part : Part) (same : part ≡ part_of_tops (map (top_of dec_of) tops)) where
+  part-is : part ≡ part_of_tops (bare_tops it s.file h.tree)
+  part-is = same ∙ ap part_of_tops h.bare
 
-  pub source-placed : (size : ℕ) → Rises 0 tokens size → AllPlacedIn (IsPlaceOf s.file size) (decs_phrases (decs_of (map dec_of decs)))
+  pub source-holds : (texts : List (List ℕ)) → it < length texts → HoldsAllNames texts tokens → HoldsAll (length texts) (parts_phrases (part ∷ []))
+  source-holds texts named held =
+      let kinds = All-weaker (λ (t : Token). HoldsNames texts t.kind) (λ t. ForSome (kind_name t.kind) (λ n. n < length texts)) (λ t k. kind-holds texts t.kind k) tokens held in
+      subst (λ p. HoldsAll (length texts) (parts_phrases (p ∷ []))) (sym part-is) (part-holds (length texts) it s.file f (left s tokens) h.tree h.is.0 named (terminals-hold (length texts) s.star tokens kinds))
+
+  pub source-placed : (size : ℕ) → Rises 0 tokens size → AllPlacedIn (IsPlaceOf s.file size) (parts_phrases (part ∷ []))
   source-placed size rises =
       let within : All (λ (t : Token). IsPlaceOf s.file size (record { file = s.file; byte = t.span.first })) tokens = λ k d lt. (refl, token-within 0 size tokens k (get_or tokens k d) rises lt (get_or_default tokens k d _ lt)) in
-      subst (λ ds. AllPlacedIn (IsPlaceOf s.file size) (decs_phrases ds)) (sym h.bare)
-      (decs-placed (IsPlaceOf s.file size) s.file f (left s tokens) h.tree h.is.reads (terminals-placed (λ p. IsPlaceOf s.file size (record { file = s.file; byte = p })) s.star tokens within))
+      subst (λ p. AllPlacedIn (IsPlaceOf s.file size) (parts_phrases (p ∷ []))) (sym part-is)
+      (part-placed (IsPlaceOf s.file size) it s.file f (left s tokens) h.tree h.is.0 (terminals-placed (λ p. IsPlaceOf s.file size (record { file = s.file; byte = p })) s.star tokens within))
 
 -- What was loaded.
 
@@ -72,6 +79,7 @@ phrases-append : (ps qs : List Part) → parts_phrases (ps ++ qs) ≡ parts_phra
 phrases-append [] qs = refl
 phrases-append (standard_basis ∷ ps) qs = ap (λ xs. brings_basis ∷ xs) (phrases-append ps qs)
 phrases-append (source ds ∷ ps) qs = ap (λ xs. decs_phrases ds ++ xs) (phrases-append ps qs) ∙ sym (append_assoc (decs_phrases ds) (parts_phrases ps) (parts_phrases qs))
+phrases-append (cut ds p ∷ ps) qs = ap (λ xs. decs_phrases ds ++ foreign p ∷ xs) (phrases-append ps qs) ∙ sym (append_assoc (decs_phrases ds) (foreign p ∷ parts_phrases ps) (parts_phrases qs))
 
 more-hold : (a b : ℕ) (xs : List Phrase) → a ≤ b → HoldsAll a xs → HoldsAll b xs
 more-hold a b xs le h = All-weaker (HoldsName a) (HoldsName b) (λ x k n e. omega (arith, k n e, le)) xs h
@@ -96,14 +104,11 @@ module _ (b : List (List ℕ)) (s : Loaded) (keeps : Keeps s.names b) (table : I
       let placed : AllPlacedIn (λ place. LiesIn place reads) (brings_basis ∷ []) = All-cons (PlacedIn (λ place. LiesIn place reads)) brings_basis [] (λ p k. absurd (let no : None ≡ Some p = k in cc)) (All-nil (PlacedIn (λ place. LiesIn place reads))) in
       subst IsKnown (sym same) (more-known fixities (standard_basis ∷ []) held placed)
 
-  pub source-known : (fixities : Fixity) (ds : Decs) (file : File) (number size : ℕ) (e : Loaded) → reads ≡ s.reads ++ file ∷ [] → number ≡ length s.reads → size ≡ length file.bytes → length file.bytes ≤ most_bytes →
-      HoldsAll (length b) (decs_phrases ds) → AllPlacedIn (IsPlaceOf number size) (decs_phrases ds) → e ≡ record { names = b; fixities = fixities; parts = s.parts ++ source ds ∷ []; reads = reads } → IsKnown e
-  source-known fixities ds file number size e added at sized small held placed same =
-      let nothing : List Phrase = [] in
-      let all_held = All-append (HoldsName (length b)) (decs_phrases ds) nothing held (All-nil (HoldsName (length b))) in
-      let lies = more-placed (IsPlaceOf number size) (λ place. LiesIn place reads) (decs_phrases ds) (λ place h. lies-last place s.reads reads file added (h.0 ∙ at) (omega (arith, h.1, sized)) small) placed in
-      let all_placed = All-append (PlacedIn (λ place. LiesIn place reads)) (decs_phrases ds) nothing lies (All-nil (PlacedIn (λ place. LiesIn place reads))) in
-      subst IsKnown (sym same) (more-known fixities (source ds ∷ []) all_held all_placed)
+  pub source-known : (fixities : Fixity) (part : Part) (file : File) (number size : ℕ) (e : Loaded) → reads ≡ s.reads ++ file ∷ [] → number ≡ length s.reads → size ≡ length file.bytes → length file.bytes ≤ most_bytes →
+      HoldsAll (length b) (parts_phrases (part ∷ [])) → AllPlacedIn (IsPlaceOf number size) (parts_phrases (part ∷ [])) → e ≡ record { names = b; fixities = fixities; parts = s.parts ++ part ∷ []; reads = reads } → IsKnown e
+  source-known fixities part file number size e added at sized small held placed same =
+      let lies = more-placed (IsPlaceOf number size) (λ place. LiesIn place reads) (parts_phrases (part ∷ [])) (λ place h. lies-last place s.reads reads file added (h.0 ∙ at) (omega (arith, h.1, sized)) small) placed in
+      subst IsKnown (sym same) (more-known fixities (part ∷ []) held lies)
 
 pub nothing-known : (s : Loaded) → IsTable s.names → s.parts ≡ [] → IsKnown s
 nothing-known s table e = record {
@@ -117,6 +122,13 @@ nothing-known s table e = record {
 -- the standard words by themselves are one
 pub standard-table : (names : List (List ℕ)) → names ≡ standard_words → IsTable names
 standard-table names is = subst IsTable (sym is) (record { apart = standard_words-apart; begins = refl })
+
+-- every table has a number for `it`
+pub it-held : (a b : List (List ℕ)) (it : ℕ) → it ≡ word_it → IsTable a → Keeps a b → it < length b
+it-held a b it named table keeps =
+    let first : word_it < length standard_words = ltb-true word_it (length standard_words) refl in
+    let least : min (length standard_words) (length a) ≡ length standard_words = sym (length-take (length standard_words) a) ∙ ap length table.begins in
+    omega (arith, named, first, least, keeps_no_fewer a b keeps)
 
 pub table-stays : (a b : List (List ℕ)) → Keeps a b → IsTable a → IsTable b
 table-stays a b keeps table = record { apart = keeps.apart table.apart; begins = front-stays standard_words a b table.begins keeps }

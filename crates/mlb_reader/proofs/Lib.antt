@@ -8,6 +8,7 @@ mod OneProject
 pub mod RefusalLemmas
 pub mod SegmentLemmas
 pub mod SourceLemmas
+mod TopLemmas
 pub mod Within
 pub mod WithinChains
 pub mod WithinExpressions
@@ -16,3 +17,4 @@ pub mod WithinRests
 pub mod WithinShapes
 pub mod WithinTerminals
 pub mod WithinTokens
+mod WithinTops

@@ -10,9 +10,8 @@ use Rattle.mlc_base.specs.declared.fault.Fault.{Fault}
 use Rattle.mlc_outside.specs.Files.{Files}
 use Rattle.mlc_outside.specs.Store.{HasFile}
 use Rattle.mlc_base.specs.StandardWords.{standard_words}
-use Rattle.sml_tree.specs.BareTree.{Decs}
 use Rattle.sml_tree.specs.Fixity.{Fixity}
-use Rattle.sml_rules.specs.Project.{Part, source}
+use Rattle.sml_rules.specs.Project.{Part}
 use Rattle.mlb_reader.specs.Broken.{IsBad, IsBroken, IsMissing, fault_at, large_mlb, no_mlb, variable, extension, too_many, too_large, bad_source}
 use Rattle.mlb_reader.specs.Loading.{BreaksAt, BreaksFirst, IsBegun, IsFetched, IsTooLarge, MissesAt, NeedsAt, path_fault}
 use Rattle.mlb_reader.specs.Mlb.{Item, basis_path, has_variable, is_source}
@@ -30,8 +29,8 @@ use Rattle.mlb_reader.proofs.MlbLemmas.{reads-words}
 pub loads-append : (files : Files) (mlb : List ℕ) (s m e : Loaded) (xs ys : List Item) → Loads files mlb s xs m → Loads files mlb m ys e → Loads files mlb s (xs ++ ys) e
 loads-append files mlb s m e xs ys (no_item t) k = k
 loads-append files mlb s m e xs ys (the_basis {item = item} {items = items} is h) k = the_basis is (loads-append files mlb (with_basis s) m e items ys h k)
-loads-append files mlb s m e xs ys (a_source {item = item} {items = items} file {ds = ds} {names = names} {f = f} r is h) k =
-    a_source file r is (loads-append files mlb (with_source file ds names f s) m e items ys h k)
+loads-append files mlb s m e xs ys (a_source {item = item} {items = items} file {part = part} {names = names} {f = f} r is h) k =
+    a_source file r is (loads-append files mlb (with_source file part names f s) m e items ys h k)
 
 -- One path.
 
@@ -69,12 +68,12 @@ module _ (mlb : List ℕ) (s : Loaded) (item : Item) where
         fits = h.fits;
       }
 
-      pub source-loaded : (files : Option Files) (h : IsFetched files (path_from mlb item.word) number counts s.reads new) (bytes : List ℕ) (ds : Decs) (names : List (List ℕ)) (f' : Fixity) (e : Loaded) → bytes ≡ h.file.bytes → IsSource s.names number s.fixities bytes ds names f' → e ≡ record { names = names; fixities = f'; parts = s.parts ++ source ds ∷ []; reads = new } → IfTold files (λ f. Loads f mlb s (item ∷ []) e)
-      source-loaded None h bytes ds names f' e are is same = tt
-      source-loaded (Some f) h bytes ds names f' e are is same =
-          let there : IsSource s.names (length s.reads) s.fixities h.file.bytes ds names f' = subst (λ b. IsSource s.names (length s.reads) s.fixities b ds names f') are (subst (λ n. IsSource s.names n s.fixities bytes ds names f') h.number_is is) in
-          let last : with_source h.file ds names f' s ≡ e = ap (λ r. record { names = names; fixities = f'; parts = s.parts ++ source ds ∷ []; reads = r }) (sym h.added) ∙ sym same in
-          subst (λ m. Loads f mlb s (item ∷ []) m) last (a_source h.file (is-read f mlb refl h) there (no_item (with_source h.file ds names f' s)))
+      pub source-loaded : (files : Option Files) (h : IsFetched files (path_from mlb item.word) number counts s.reads new) (bytes : List ℕ) (part : Part) (names : List (List ℕ)) (f' : Fixity) (e : Loaded) → bytes ≡ h.file.bytes → IsSource s.names number s.fixities bytes part names f' → e ≡ record { names = names; fixities = f'; parts = s.parts ++ part ∷ []; reads = new } → IfTold files (λ f. Loads f mlb s (item ∷ []) e)
+      source-loaded None h bytes part names f' e are is same = tt
+      source-loaded (Some f) h bytes part names f' e are is same =
+          let there : IsSource s.names (length s.reads) s.fixities h.file.bytes part names f' = subst (λ b. IsSource s.names (length s.reads) s.fixities b part names f') are (subst (λ n. IsSource s.names n s.fixities bytes part names f') h.number_is is) in
+          let last : with_source h.file part names f' s ≡ e = ap (λ r. record { names = names; fixities = f'; parts = s.parts ++ part ∷ []; reads = r }) (sym h.added) ∙ sym same in
+          subst (λ m. Loads f mlb s (item ∷ []) m) last (a_source h.file (is-read f mlb refl h) there (no_item (with_source h.file part names f' s)))
 
       pub bad-at : (files : Option Files) (h : IsFetched files (path_from mlb item.word) number counts s.reads new) (bytes : List ℕ) (fault : Fault) → bytes ≡ h.file.bytes → IsBad s.names number s.fixities bytes fault → BreaksAt files mlb s item fault new
       bad-at None h bytes fault are bad = tt

@@ -1,5 +1,5 @@
 -- The files at a path give one project: its tokens are one list, their names have one number each in the one table after them, and its terminals have one tree.
-use Rattle.std.proofs.Common.{◌≡◌, ◌≢◌, ℕ, zero, suc, ◌+◌, ◌<◌, Bool, true, false, not, if◌then◌else◌, List, [], ◌∷◌, ◌++◌, length, map, drop, Some, None, refl, sym, ap, subst, ◌∙◌, arith, All}
+use Rattle.std.proofs.Common.{◌≡◌, ℕ, zero, suc, ◌+◌, ◌<◌, true, false, not, if◌then◌else◌, List, [], ◌∷◌, ◌++◌, length, map, drop, Some, refl, sym, ap, subst, ◌∙◌, arith, All}
 use Rattle.std.specs.Prelude.{nat_eq}
 use Rattle.std.specs.FinMap.{get}
 use Rattle.std.specs.List.{flat_map}
@@ -8,7 +8,7 @@ use Rattle.std.proofs.lemmas.Bool.{false_from_ne_true}
 use Rattle.std.proofs.lemmas.Slice.Eq.{bytes_eq-Decides}
 use Rattle.std.proofs.Math.Seq.{drop-append_seam}
 use Rattle.mlc_base.specs.File.{File}
-use Rattle.mlc_base.specs.StandardWords.{standard_words, word_times}
+use Rattle.mlc_base.specs.StandardWords.{word_times, word_it}
 use Rattle.mlc_base.specs.declared.token.Token.{Token}
 use Rattle.mlc_base.specs.declared.token.TokenKind.{TokenKind}
 use Rattle.mlc_base.specs.declared.token.TokenKind.TheVariants as kind
@@ -17,19 +17,18 @@ use Rattle.mlc_outside.specs.Files.{Files}
 use Rattle.sml_lexer.specs.Lexeme.{Lexeme, lexeme_of, text_of, HoldsNames, words_in}
 use Rattle.sml_lexer.specs.Lexeme as lexeme
 use Rattle.sml_lexer.specs.Lexes.{Lexed, lexed_of, HoldsAllNames, OneReading, names_after}
-use Rattle.sml_tree.specs.BareTree.{Decs}
-use Rattle.sml_tree.specs.Bare.{bare_decs}
 use Rattle.sml_tree.specs.Fixity.{Fixity}
-use Rattle.sml_tree.specs.Grammar.{Declares}
-use Rattle.sml_tree.specs.Levels.{after}
+use Rattle.module_tree.specs.ModuleBare.{bare_tops}
+use Rattle.module_tree.specs.ModuleGrammar as modules
+use Rattle.module_tree.specs.Scope.{after_tops}
 use Rattle.sml_tree.specs.Terminal.{Terminal, reserved, number, constant, alpha, symbol, star, long_alpha, long_symbol, long_star, type_var, word, char, string, terminal_at, terminal_of, terminals}
-use Rattle.sml_grammar.specs.Laws.{OneTree}
+use Rattle.module_grammar.specs.Laws.{OneTree}
+use Rattle.sml_rules.specs.Project.{Part}
 use Rattle.mlb_reader.specs.Laws.{OneProject}
-use Rattle.mlb_reader.specs.Mlb.{Item, Reads, no_more, a_blank, a_path, IsPath, is_blank, is_parted, basis_path, has_variable}
-use Rattle.mlb_reader.specs.MlbOf.{BeginsPath}
-use Rattle.mlb_reader.specs.Path.{clean}
-use Rattle.mlb_reader.specs.Project.{IsSource, IsRead, Loaded, Loads, no_item, the_basis, a_source, with_basis, with_source, begun, HasMlb, ProjectOf}
+use Rattle.mlb_reader.specs.Mlb.{Item, Reads, no_more, a_blank, a_path, IsPath, is_parted, basis_path, has_variable}
+use Rattle.mlb_reader.specs.Project.{IsSource, Loaded, Loads, no_item, the_basis, a_source, with_basis, with_source, begun}
 use Rattle.mlb_reader.specs.Reading.{is_no_blank}
+use Rattle.mlb_reader.specs.Tops.{part_of_tops}
 use Rattle.mlb_reader.proofs.MlbLemmas.{after-blank, path-head, begins-is-front}
 
 -- A name by its text.
@@ -137,17 +136,17 @@ two-files a b e h = ap (λ z. record { path = z; bytes = a.bytes }) e ∙ ap (λ
 same-bytes : (files : Files) (a b : File) → a.path ≡ b.path → get files a.path ≡ Some a.bytes → get files b.path ≡ Some b.bytes → a ≡ b
 same-bytes files a b e h k = two-files a b e (let both : Some a.bytes ≡ Some b.bytes = sym h ∙ ap (get files) e ∙ k in cc)
 
-same-source : (s : Loaded) (a b : File) (ds es : Decs) (names names' : List (List ℕ)) (f g : Fixity) → a ≡ b → ds ≡ es → names ≡ names' → f ≡ g → with_source a ds names f s ≡ with_source b es names' g s
-same-source s a b ds es names names' f g ab de nn fg =
-    ap (λ z. with_source z ds names f s) ab ∙ ap (λ z. with_source b z names f s) de ∙ ap (λ z. with_source b es z f s) nn ∙ ap (λ z. with_source b es names' z s) fg
+same-source : (s : Loaded) (a b : File) (p q : Part) (names names' : List (List ℕ)) (f g : Fixity) → a ≡ b → p ≡ q → names ≡ names' → f ≡ g → with_source a p names f s ≡ with_source b q names' g s
+same-source s a b p q names names' f g ab pq nn fg =
+    ap (λ z. with_source z p names f s) ab ∙ ap (λ z. with_source b z names f s) pq ∙ ap (λ z. with_source b q z f s) nn ∙ ap (λ z. with_source b q names' z s) fg
 
 module _ (one_reading : OneReading) (one_tree : OneTree) where
   module _ (names : List (List ℕ)) (n : ℕ) (f : Fixity) (bytes : List ℕ) (apart : AreApart names) where
-    table-apart : {ds : Decs} {names' : List (List ℕ)} {f' : Fixity} → IsSource names n f bytes ds names' f' → AreApart names'
+    table-apart : {p : Part} {names' : List (List ℕ)} {f' : Fixity} → IsSource names n f bytes p names' f' → AreApart names'
     table-apart {names' = names'} a =
         subst AreApart (sym a.has_tokens.table) (with_texts-apart names (flat_map (λ token. words_in token.lexeme) (map (lexed_of names') a.tokens)) apart)
 
-    module _ {ds es : Decs} {names' names'' : List (List ℕ)} {f' f'' : Fixity} (a : IsSource names n f bytes ds names' f') (b : IsSource names n f bytes es names'' f'') where
+    module _ {p q : Part} {names' names'' : List (List ℕ)} {f' f'' : Fixity} (a : IsSource names n f bytes p names' f') (b : IsSource names n f bytes q names'' f'') where
       one-lexing : map (lexed_of names') a.tokens ≡ map (lexed_of names'') b.tokens
       one-lexing = one_reading bytes (map (lexed_of names') a.tokens) (map (lexed_of names'') b.tokens) a.has_tokens.lexes b.has_tokens.lexes
 
@@ -162,13 +161,13 @@ module _ (one_reading : OneReading) (one_tree : OneTree) where
           ∙ all-terminals names'' b.tokens (table-apart b) b.has_tokens.held
 
       same-tree : a.tree ≡ b.tree
-      same-tree = one_tree f (terminals word_times a.tokens) a.tree b.tree a.is.reads (subst (λ i. Declares f i b.tree []) (sym one-text) b.is.reads)
+      same-tree = one_tree f (terminals word_times a.tokens) a.tree b.tree a.is.0 (subst (λ i. modules.IsSource f i b.tree) (sym one-text) b.is.0)
 
-      same-decs : ds ≡ es
-      same-decs = a.bare ∙ ap (bare_decs n) same-tree ∙ sym b.bare
+      same-part : p ≡ q
+      same-part = a.bare ∙ ap (λ t. part_of_tops (bare_tops word_it n t)) same-tree ∙ sym b.bare
 
       same-fixities : f' ≡ f''
-      same-fixities = a.after ∙ ap (after f) same-tree ∙ sym b.after
+      same-fixities = a.after ∙ ap (after_tops f) same-tree ∙ sym b.after
 
   -- the path of the standard basis is no source's
   no-variable : (item : Item) → item.word ≡ basis_path → has_variable item.word ≡ false → ⊥
@@ -179,12 +178,12 @@ module _ (one_reading : OneReading) (one_tree : OneTree) where
   one-load files mlb s t t' items apart (the_basis {items = rest} e l) (the_basis e' l') = one-load files mlb (with_basis s) t t' rest apart l l'
   one-load files mlb s t t' items apart (the_basis {item = item} e l) (a_source file r is l') = absurd (no-variable item e r.may.no_variable)
   one-load files mlb s t t' items apart (a_source {item = item} file r is l) (the_basis e l') = absurd (no-variable item e r.may.no_variable)
-  one-load files mlb s t t' items apart (a_source {items = rest} file {ds = ds} {names = names} {f = f} r is l) (a_source file' {ds = es} {names = names'} {f = g} r' is' l') =
+  one-load files mlb s t t' items apart (a_source {items = rest} file {part = p} {names = names} {f = f} r is l) (a_source file' {part = q} {names = names'} {f = g} r' is' l') =
       let n = length s.reads in
       let same : file ≡ file' = same-bytes files file file' (r.path ∙ sym r'.path) r.has r'.has in
-      let is'' : IsSource s.names n s.fixities file.bytes es names' g = subst (λ z. IsSource s.names n s.fixities z.bytes es names' g) (sym same) is' in
-      let loaded = same-source s file file' ds es names names' f g same (same-decs s.names n s.fixities file.bytes apart is is'') (one-table s.names n s.fixities file.bytes apart is is'') (same-fixities s.names n s.fixities file.bytes apart is is'') in
-      one-load files mlb (with_source file ds names f s) t t' rest (table-apart s.names n s.fixities file.bytes apart is) l (subst (λ z. Loads files mlb z rest t') (sym loaded) l')
+      let is'' : IsSource s.names n s.fixities file.bytes q names' g = subst (λ z. IsSource s.names n s.fixities z.bytes q names' g) (sym same) is' in
+      let loaded = same-source s file file' p q names names' f g same (same-part s.names n s.fixities file.bytes apart is is'') (one-table s.names n s.fixities file.bytes apart is is'') (same-fixities s.names n s.fixities file.bytes apart is is'') in
+      one-load files mlb (with_source file p names f s) t t' rest (table-apart s.names n s.fixities file.bytes apart is) l (subst (λ z. Loads files mlb z rest t') (sym loaded) l')
 
   pub one-project : OneProject
   one-project files input names names' parts parts' reads reads' a b =

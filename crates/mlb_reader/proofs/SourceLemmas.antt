@@ -1,21 +1,28 @@
 -- Reading a source.
-use Rattle.std.proofs.Common.{◌≡◌, ℕ, zero, suc, ◌<◌, ◌≤◌, inl, inr, List, [], ◌∷◌, length, map, get_or, None, Err, ap, subst, arith}
+use Rattle.std.proofs.Common.{◌≡◌, ℕ, zero, suc, ◌<◌, ◌≤◌, inl, inr, List, [], ◌∷◌, length, map, get_or, None, Err, ap, subst, ◌∙◌, arith}
 use Rattle.mlc_base.specs.declared.fault.Fault.{Fault}
 use Rattle.mlc_base.specs.declared.refused.Refused.{Refused}
 use Rattle.mlc_base.specs.declared.refused.Refused.TheVariants as refusal
 use Rattle.mlc_base.specs.declared.place.Place.{Place}
-use Rattle.mlc_base.specs.StandardWords.{word_times}
+use Rattle.mlc_base.specs.StandardWords.{word_times, word_it}
 use Rattle.mlc_base.specs.declared.token.Token.{Token}
 use Rattle.sml_lexer.specs.Lexes.{IfFault, IsRefused, Lexed, Lexes, Rises}
 use Rattle.sml_tree.specs.Fixity.{Fixity}
 use Rattle.sml_tree.specs.Terminal.{terminals}
-use Rattle.sml_tree.specs.TreeOf.{dec_of, decs_of}
+use Rattle.sml_tree.specs.TreeOf.{dec_of}
 use Rattle.sml_tree.specs.declared.tree.Dec.{Dec}
-use Rattle.sml_parser.specs.Core.{Cause, IsCore, IsStop, Shallow}
+use Rattle.sml_parser.specs.Core.{IsStop}
+use Rattle.sml_modparse.specs.Programs.{Cause, IsProgram}
+use Rattle.module_tree.specs.ModuleBare.{bare_tops}
+use Rattle.module_grammar.specs.Laws.{IsTree}
+use Rattle.module_code.specs.TreeOf.{top_of}
+use Rattle.module_code.specs.declared.sources.Top.{Top}
+use Rattle.sml_rules.specs.Project.{Part}
 use Rattle.phrase_base.specs.Left.{left}
 use Rattle.phrase_base.specs.declared.source.Source.{Source}
 use Rattle.mlb_reader.specs.Broken.{IsBad, no_tokens, no_tree}
 use Rattle.mlb_reader.specs.Project.{HasTokens, IsSource}
+use Rattle.mlb_reader.specs.Tops.{part_of_tops}
 
 -- a fact of the fault, where there is one
 abbrev pub AtFault : Refused → (Fault → Type 0) → Type 0
@@ -33,13 +40,13 @@ module _ (names : List (List ℕ)) (file : ℕ) (bytes : List ℕ) (f : Fixity) 
         (subst (λ n. IsStop (record { file = file; star = word_times }) n tokens fault.place) at (subst (λ s. IsStop (record { file = file; star = s }) end tokens fault.place) is stop)) unnamed
     bad-tree refusal.Memory end at cause stop unnamed = tt
 
-    pub source-is : (decs : List Dec) (f' : Fixity) → IsCore f (record { file = file; star = star }) tokens decs f' → IsSource names file f bytes (decs_of (map dec_of decs)) names' f'
-    source-is decs f' h = record {
+    pub source-is : (it : ℕ) (tops : List (Top Dec)) (f' : Fixity) (part : Part) → it ≡ word_it → IsProgram it f (record { file = file; star = star }) tokens tops f' → part ≡ part_of_tops (map (top_of dec_of) tops) → IsSource names file f bytes part names' f'
+    source-is it tops f' part named h same = record {
       tokens = tokens;
       has_tokens = has;
       tree = h.tree;
-      is = subst (λ s. Shallow f (terminals s tokens) h.tree) is h.is;
-      bare = h.bare;
+      is = subst (λ s. IsTree 400 f (terminals s tokens) h.tree) is h.is;
+      bare = same ∙ ap part_of_tops h.bare ∙ ap (λ x. part_of_tops (bare_tops x file h.tree)) named;
       after = h.after;
     }
 

@@ -36,9 +36,9 @@ module _ (file : ℕ) (P : Place → Type 0) (N : ℕ → Type 0) where
     pub phrases : AllGoodPhrases file P N (decs_phrases (bare_decs file ds))
     pub rest : AllGood file P N o
 
-  record DecGood (d : Dec) (o : List Terminal) : Type 0 where
-    phrases : AllGoodPhrases file P N (dec_phrases (bare_dec file d))
-    rest : AllGood file P N o
+  pub record DecGood (d : Dec) (o : List Terminal) : Type 0 where
+    pub phrases : AllGoodPhrases file P N (dec_phrases (bare_dec file d))
+    pub rest : AllGood file P N o
 
   record BindsGood (bs : Binds) (o : List Terminal) : Type 0 where
     phrases : (p : Place) → P p → AllGoodPhrases file P N (bind_phrases p (plain_binds file bs))
@@ -87,7 +87,7 @@ module _ (file : ℕ) (P : Place → Type 0) (N : ℕ → Type 0) where
     atoms-good no_atoms g = (tt, g)
     atoms-good (more_atoms a as_) g = let h = atom-good a g in let k = atoms-good as_ h.rest in ((h.phrases, k.0), k.1)
 
-    exp-good : {f : Fixity} {i o : List Terminal} {e : Exp} → Reads f i e o → Good i → ExpGood e o
+    pub exp-good : {f : Fixity} {i o : List Terminal} {e : Exp} → Reads f i e o → AllGood file P N i → ExpGood e o
     exp-good (of_atom a) g = atom-good a g
     exp-good (of_app {e} {a} {es} b c cs) g =
         let h = atom-good b g in
@@ -114,7 +114,7 @@ module _ (file : ℕ) (P : Place → Type 0) (N : ℕ → Type 0) where
     match-rest (of_last_rule p a d) g = (exp-good d (pat-good file P N a g).rest.1).rest
     match-rest (of_rule p q a e d m) g = match-rest m (exp-good d (pat-good file P N a g).rest.1).rest.1
 
-    pub decs-read : {f : Fixity} {i o : List Terminal} {ds : Decs} → Declares f i ds o → AllGood file P N i → DecsGood ds o
+    decs-read : {f : Fixity} {i o : List Terminal} {ds : Decs} → Declares f i ds o → AllGood file P N i → DecsGood ds o
     decs-read nothing_more g = record { phrases = tt; rest = g }
     decs-read (of_semicolon p d) g = let h = decs-read d g.1 in record { phrases = h.phrases; rest = h.rest }
     decs-read (of_dec {d} {ds} a as_) g =
@@ -122,7 +122,7 @@ module _ (file : ℕ) (P : Place → Type 0) (N : ℕ → Type 0) where
         let k = decs-read as_ h.rest in
         record { phrases = decs-good file P N (is_directive d) (bare_dec file d) (bare_decs file ds) h.phrases k.phrases; rest = k.rest }
 
-    dec-read : {f : Fixity} {i o : List Terminal} {d : Dec} → Declare f i d o → Good i → DecGood d o
+    pub dec-read : {f : Fixity} {i o : List Terminal} {d : Dec} → Declare f i d o → AllGood file P N i → DecGood d o
     dec-read (of_val {as_} {bs} p vs at_ d) g =
         let h = binds-read d (tyvars-rest _ vs g.1) in
         record { phrases = val-good file P N (at file p) as_ (plain_binds file bs) (recursive_binds file bs) g.0.0 (h.phrases (at file p) g.0.0); rest = h.rest }

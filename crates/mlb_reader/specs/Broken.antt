@@ -12,7 +12,8 @@ use Rattle.sml_lexer.specs.Lexes as lexer
 use Rattle.sml_lexer.specs.Lexes.{Lexed, Lexes}
 use Rattle.sml_tree.specs.Fixity.{Fixity}
 use Rattle.sml_tree.specs.Terminal.{terminals}
-use Rattle.sml_parser.specs.Core.{Cause, IsStop}
+use Rattle.sml_parser.specs.Core.{IsStop}
+use Rattle.sml_modparse.specs.Programs.{Cause}
 use Rattle.mlb_reader.specs.Mlb.{Item, IsMlb, basis_path, has_variable, is_source}
 use Rattle.mlb_reader.specs.Path.{clean, path_from}
 use Rattle.mlb_reader.specs.Project.{Loaded, Fits, HasTokens, MayRead, IsRead, ComesTo, IsNeeded, most_reads}

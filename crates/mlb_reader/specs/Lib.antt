@@ -11,4 +11,6 @@ pub mod Project
 pub mod Reading
 pub mod Refusals
 pub mod Segments
+pub mod Standing
+pub mod Tops
 pub mod Within

@@ -9,6 +9,7 @@ use Rattle.mlb_reader.specs.declared.project.Project.{Project}
 abbrev pub part_of : Part → spec.Part
 part_of code.StandardBasis = spec.standard_basis
 part_of (code.Source decs) = spec.source (decs_of (map dec_of decs.items))
+part_of (code.Cut decs p) = spec.cut (decs_of (map dec_of decs.items)) p
 
 abbrev pub parts_of : Project → List spec.Part
 parts_of p = map part_of p.parts.items

@@ -4,19 +4,19 @@ use Rattle.std.specs.FinMap.{get}
 use Rattle.mlc_base.specs.File.{File}
 use Rattle.mlc_base.specs.declared.token.Token.{Token}
 use Rattle.mlc_outside.specs.Files.{Files}
-use Rattle.mlc_base.specs.StandardWords.{standard_words, word_times}
+use Rattle.mlc_base.specs.StandardWords.{standard_words, word_times, word_it}
 use Rattle.sml_lexer.specs.Lexes.{Lexes, lexed_of, HoldsAllNames, names_after}
 use Rattle.sml_tree.specs.Terminal.{terminals}
 use Rattle.sml_tree.specs.Fixity.{Fixity}
-use Rattle.sml_tree.specs.ReadTree as read
-use Rattle.sml_tree.specs.BareTree.{Decs}
-use Rattle.sml_tree.specs.Bare.{bare_decs}
-use Rattle.sml_tree.specs.Levels.{after}
-use Rattle.sml_parser.specs.Core.{Shallow}
+use Rattle.module_tree.specs.ReadModules as read
+use Rattle.module_tree.specs.ModuleBare.{bare_tops}
+use Rattle.module_tree.specs.Scope.{after_tops}
+use Rattle.module_grammar.specs.Laws.{IsTree}
 use Rattle.sml_rules.specs.Basis.{standard_fixities}
-use Rattle.sml_rules.specs.Project.{Part, standard_basis, source}
+use Rattle.sml_rules.specs.Project.{Part, standard_basis}
 use Rattle.mlb_reader.specs.Mlb.{Item, IsMlb, basis_path, has_variable, is_source}
 use Rattle.mlb_reader.specs.Path.{clean, path_from}
+use Rattle.mlb_reader.specs.Tops.{part_of_tops}
 
 -- limits: reads of files, the ML Basis file's among them; bytes of one file; bytes of all files together
 abbrev pub most_reads : ℕ
@@ -43,15 +43,15 @@ pub record HasTokens (names : List (List ℕ)) (bytes : List ℕ) (tokens : List
   pub held : HoldsAllNames names' tokens
   pub table : names' ≡ names_after names (map (lexed_of names') tokens)
 
--- a source of these bytes, the file of this number, is these declarations where it is read with the table `names` under the fixities f;
--- names' and f' hold after it
-pub record IsSource (names : List (List ℕ)) (file : ℕ) (f : Fixity) (bytes : List ℕ) (ds : Decs) (names' : List (List ℕ)) (f' : Fixity) : Type 0 where
+-- a source of these bytes, the file of this number, is this part where it is read with the table `names` under the fixities f: an expression at its top
+-- is bound to `it`, and its tree is at most 400 deep; names' and f' hold after it
+pub record IsSource (names : List (List ℕ)) (file : ℕ) (f : Fixity) (bytes : List ℕ) (part : Part) (names' : List (List ℕ)) (f' : Fixity) : Type 0 where
   pub tokens : List Token
   pub has_tokens : HasTokens names bytes tokens names'
-  pub tree : read.Decs
-  pub is : Shallow f (terminals word_times tokens) tree
-  pub bare : ds ≡ bare_decs file tree
-  pub after : f' ≡ after f tree
+  pub tree : List read.Top
+  pub is : IsTree 400 f (terminals word_times tokens) tree
+  pub bare : part ≡ part_of_tops (bare_tops word_it file tree)
+  pub after : f' ≡ after_tops f tree
 
 -- what was loaded: the table of names, the fixities in force, the parts, and the files that were read, in order
 pub record Loaded : Type 0 where
@@ -63,8 +63,8 @@ pub record Loaded : Type 0 where
 abbrev pub with_basis : Loaded → Loaded
 with_basis s = record s { fixities = standard_fixities ++ s.fixities; parts = s.parts ++ standard_basis ∷ [] }
 
-abbrev pub with_source : File → Decs → List (List ℕ) → Fixity → Loaded → Loaded
-with_source file ds names f s = record { names = names; fixities = f; parts = s.parts ++ source ds ∷ []; reads = s.reads ++ file ∷ [] }
+abbrev pub with_source : File → Part → List (List ℕ) → Fixity → Loaded → Loaded
+with_source file part names f s = record { names = names; fixities = f; parts = s.parts ++ part ∷ []; reads = s.reads ++ file ∷ [] }
 
 -- the path is a source's, and one more file may be read
 pub record MayRead (s : Loaded) (item : Item) : Type 0 where
@@ -84,8 +84,8 @@ pub data Loads (files : Files) (mlb : List ℕ) : Loaded → List Item → Loade
   no_item : (s : Loaded) → Loads files mlb s [] s
   the_basis : {s s' : Loaded} {item : Item} {items : List Item} → item.word ≡ basis_path → Loads files mlb (with_basis s) items s'
       → Loads files mlb s (item ∷ items) s'
-  a_source : {s s' : Loaded} {item : Item} {items : List Item} (file : File) {ds : Decs} {names : List (List ℕ)} {f : Fixity} → IsRead files mlb s item file
-      → IsSource s.names (length s.reads) s.fixities file.bytes ds names f → Loads files mlb (with_source file ds names f s) items s'
+  a_source : {s s' : Loaded} {item : Item} {items : List Item} (file : File) {part : Part} {names : List (List ℕ)} {f : Fixity} → IsRead files mlb s item file
+      → IsSource s.names (length s.reads) s.fixities file.bytes part names f → Loads files mlb (with_source file part names f s) items s'
       → Loads files mlb s (item ∷ items) s'
 
 -- before the first path: the ML Basis file was read, its basis is empty, and the table has the standard words

@@ -2,7 +2,7 @@
 
 ghost use Rattle.mlb_reader.specs.Laws.{OneProject};
 
-use sml_grammar::law::one_tree;
+use module_grammar::law::one_tree;
 use sml_lexer::lex::one_reading;
 
 /// The files at a path give one project, with one table of names.

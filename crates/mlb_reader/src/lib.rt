@@ -11,3 +11,4 @@ pub mod path;
 pub mod project;
 pub mod refused;
 mod source;
+mod tops;

@@ -242,8 +242,8 @@ fn load_source<S: Store>(
         &mut loading.counts,
     )?;
     let bytes = files.bytes(number);
-    let decs = read_source(alloc, names, number, bytes, &mut loading.fixities)?;
-    loading.parts.push(Part::Source(decs))?;
+    let part = read_source(alloc, names, number, bytes, &mut loading.fixities)?;
+    loading.parts.push(part)?;
     Ok(())
 }
 

@@ -14,7 +14,7 @@ use std::collections::BTreeMap;
 type Table = BTreeMap<String, Vec<u8>>;
 
 // The sources that the rows name, and a file that names a large one.
-const FILES: [(&str, &str); 10] = [
+const FILES: [(&str, &str); 14] = [
     ("one.sml", "val x = 1"),
     ("two.sig", "val y = x val z = y"),
     ("none.fun", ""),
@@ -25,6 +25,10 @@ const FILES: [(&str, &str); 10] = [
     ("token.sml", "val x =\n  1."),
     ("tree.sml", "val val"),
     ("large.mlb", "one.sml large.sml"),
+    ("top.sml", "1 ; val x = 2 ; x ;"),
+    ("cut.sml", "val x = 1 ;\n1 ; structure A = B val y = 2"),
+    ("inner.sml", "structure A = struct infix 5 ++ end"),
+    ("outer.sml", "local structure A = B in infix 5 ++ end"),
 ];
 
 /// Puts a file into a table.
@@ -52,13 +56,17 @@ fn store(alloc: Global, path: &str, bytes: Vec<u8>, fails: u64) -> Result<MemSto
     MemStore::new(alloc, table, fails)
 }
 
-/// Each part: `basis`, or how many declarations it has.
+/// Each part: `basis`, or how many declarations it has, and where others follow them.
 fn push_part(alloc: Global, text: &mut String, part: &Part) -> Result<(), NoMemory> {
     match part {
         Part::StandardBasis => text.push_str("basis ")?,
         Part::Source(decs) => {
             let count = format!(in alloc; "{} ", decs.len())?;
             text.push_str(count.as_str())?;
+        }
+        Part::Cut(decs, place) => {
+            let cut = format!(in alloc; "{}-{}.{} ", decs.len(), place.file, place.byte)?;
+            text.push_str(cut.as_str())?;
         }
     }
     Ok(())

@@ -44,7 +44,7 @@ fn rooted_words_name_themselves(rt: HostRuntime) -> Result<(), Fail> {
 }
 
 // An ML Basis file, and what loading it gives.
-const LOADED: [(&str, &str); 7] = [
+const LOADED: [(&str, &str); 10] = [
     ("", ""),
     (" \t\r\n", ""),
     (
@@ -58,10 +58,13 @@ const LOADED: [(&str, &str); 7] = [
     ("none.fun x/../dir/in.ML", "0 1 "),
     ("plusplus.sml infix.sml", "1 0 "),
     ("plus.sml $(SML_LIB)/basis/basis.mlb", "1 basis "),
+    ("top.sml one.sml", "3 1 "),
+    ("one.sml cut.sml one.sml", "1 2-2.16 1 "),
+    ("inner.sml plusplus.sml", "0-1.0 1 "),
 ];
 
 // An ML Basis file, and how it is refused.
-const BROKEN: [(&str, &str); 10] = [
+const BROKEN: [(&str, &str); 12] = [
     (
         "local one.sml in two.sig end",
         "p.mlb:1.1: E20 mlb syntax error",
@@ -82,7 +85,12 @@ const BROKEN: [(&str, &str); 10] = [
         "$(SML_LIB)/basis/basis.mlb plus.sml",
         "plus.sml:1.5: E11 syntax error",
     ),
+    (
+        "outer.sml plusplus.sml",
+        "plusplus.sml:1.5: E11 syntax error",
+    ),
     ("one.sml token.sml tree.sml", "token.sml:2.4: E10 no token"),
+    ("cut.sml token.sml", "token.sml:2.4: E10 no token"),
     (
         "one.sml tree.sml token.sml",
         "tree.sml:1.5: E11 syntax error",

@@ -10,7 +10,7 @@ use Rattle.sml_tree.specs.declared.ident.Vid.TheVariants.{Named, Equals, Fresh}
 use Rattle.sml_tree.specs.Terminal as term
 use Rattle.sml_tree.specs.Derived.{short}
 use Rattle.sml_tree.specs.BareTree.{Exp, constant_exp, vid_exp, built_exp, fields_exp, let_in, app, typed, handle, raise, fn, ExpFields, no_exp_fields, exp_field, Pat, wild_pat, constant_pat, vid_pat, built_pat, fields_pat, con_pat, built_con_pat, typed_pat, as_pat, PatFields, no_pat_fields, pat_field, Decs, no_decs, dec, Dec, val_dec, type_dec, datatype_dec, replicate_dec, exception_dec, local_dec, open_dec, sequence_dec, no_binds, bind}
-use Rattle.sml_rules.specs.Project.{Part, standard_basis, source}
+use Rattle.sml_rules.specs.Project.{Part, standard_basis, source, cut}
 use Rattle.sml_rules.specs.Values.{is_number}
 use Rattle.sml_rules.specs.Phrases.{Phrase, integer, text, identifier, nothing, applies, applies_pair, binds_any, binds, binds_nothing, declares, brings_basis, foreign, Shape, one, pair, phrases_in, FieldPhrases, record_shape, same_place, pair_phrases, applied_phrases, is_vid, is_made, unless_made, shape, field_phrases, exp_phrases, pat_phrase, dec_phrases, decs_phrases, parts_phrases, first_foreign}
 
@@ -239,3 +239,4 @@ native-parts [] n = native_end
 native-parts (standard_basis ∷ parts) n = native_basis (native-parts parts n)
 native-parts (source ds ∷ parts) n =
     native_source (native-decs ds (foreign-front (decs_phrases ds) (parts_phrases parts) n)) (native-parts parts (foreign-back (decs_phrases ds) (parts_phrases parts) n))
+native-parts (cut ds p ∷ parts) n = absurd (no-foreign p (parts_phrases parts) (foreign-back (decs_phrases ds) (foreign p ∷ parts_phrases parts) n))

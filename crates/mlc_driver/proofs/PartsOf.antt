@@ -3,7 +3,7 @@ use Rattle.std.proofs.Common.{◌≡◌, ℕ, ◌+◌, ◌<◌, ◌≤◌, List,
 use Rattle.std.proofs.lemmas.List.{append-nil, drop_all}
 use Rattle.std.specs.Prelude.{slice_index_or}
 use Rattle.sml_rules.specs.Phrases as rules
-use Rattle.sml_rules.specs.Phrases.{parts_phrases, decs_phrases, brings_basis}
+use Rattle.sml_rules.specs.Phrases.{parts_phrases, decs_phrases, brings_basis, foreign}
 use Rattle.sml_rules.specs.Project as spec
 use Rattle.mlb_reader.specs.PartOf.{part_of}
 use Rattle.mlb_reader.specs.declared.project.Part.{Part}
@@ -12,6 +12,7 @@ use Rattle.mlc_driver.proofs.Steps.{next-item}
 pub first-part : (p : spec.Part) (ps : List spec.Part) → parts_phrases (p ∷ ps) ≡ parts_phrases (p ∷ []) ++ parts_phrases ps
 first-part spec.standard_basis ps = refl
 first-part (spec.source ds) ps = ap (λ a. a ++ parts_phrases ps) (sym (append-nil (decs_phrases ds)))
+first-part (spec.cut ds p) ps = sym (append_assoc (decs_phrases ds) (foreign p ∷ []) (parts_phrases ps))
 
 -- one turn of the loop over parts
 pub parts-step : (w x y : List rules.Phrase) (l : List Part) (i : ℕ) (p : Part) → i < length l → p ≡ slice_index_or l i p → y ≡ x ++ parts_phrases (part_of p ∷ []) → x ++ parts_phrases (map part_of (drop i l)) ≡ w →

@@ -21,6 +21,11 @@ fn push_part(alloc: Global, out: &mut Vec<Phrase>, part: &Part) -> Result<(), No
             Ok(())
         }
         Part::Source(decs) => push_phrases(alloc, out, decs),
+        Part::Cut(decs, place) => {
+            push_phrases(alloc, out, decs)?;
+            out.push(Phrase::Foreign(*place))?;
+            Ok(())
+        }
     }
 }
 

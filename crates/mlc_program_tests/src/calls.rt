@@ -81,7 +81,7 @@ fn words_of(alloc: Global, text: &str) -> Result<Vec<String>, NoMemory> {
 }
 
 // The files that every store has beside the row's two: an old image, projects in folders, and sources.
-const FILES: [(&str, &str); 11] = [
+const FILES: [(&str, &str); 13] = [
     ("p.mlx", "old"),
     ("dir/q.mlb", "\n$(SML_LIB)/basis/basis.mlb\tsrc/q.sml\n"),
     ("dir/src/q.sml", "val () = print \"q\""),
@@ -102,6 +102,8 @@ const FILES: [(&str, &str); 11] = [
         "two_main.sml",
         "val () = print (greeting ^ \", \" ^ name ^ \"\\n\")\n",
     ),
+    ("token.sml", "val x = 1."),
+    ("module.sml", "val x = 1\nstructure A = B"),
 ];
 
 /// Puts a file.

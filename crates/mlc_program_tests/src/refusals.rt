@@ -1,6 +1,6 @@
 // Sources and ML Basis files that are refused.
 
-use crate::calls::{bad_mlb, bad_sml, check};
+use crate::calls::{REFUSED, Row, bad_mlb, bad_sml, check, check_all};
 use std::test::Fail;
 
 // Sources, and the lines that tell why they are refused.
@@ -75,5 +75,86 @@ fn other_mlb_files_are_refused(rt: HostRuntime) -> Result<(), Fail> {
     for (mlb, err) in MLB_FILES.iter() {
         check(&rt, rt.alloc(), &bad_mlb(mlb, err))?;
     }
+    Ok(())
+}
+
+// Sources with modules, of which none is compiled yet, and where the first phrase stands that isn't.
+const MODULES: [(&str, &str); 12] = [
+    ("structure A = struct end", "1.1"),
+    ("val x = 1 structure A = B", "1.11"),
+    ("fun f x = x structure A = B", "1.1"),
+    ("val x = 0w1 structure A = B", "1.9"),
+    ("val x = y structure A = B fun f x = x", "1.11"),
+    (
+        "val x = 1\nlocal structure S = T in val y = 2 end",
+        "2.1",
+    ),
+    ("local val x = 1 in val y = x end structure A = B", "1.1"),
+    ("signature S = sig end structure A = B", "1.1"),
+    ("functor F (X : S) = X", "1.1"),
+    ("print \"a\" ; functor F () = A", "1.13"),
+    ("; ; infix 5 ++\nsignature S = T", "2.1"),
+    ("structure A = B val x = 1 + \"a\"", "1.1"),
+];
+
+#[test]
+fn modules_are_not_compiled(rt: HostRuntime) -> Result<(), Fail> {
+    for (sml, place) in MODULES.iter() {
+        let err = format!(in rt.alloc(); "p.sml:{place}: E90 not compiled yet\n")?;
+        check(&rt, rt.alloc(), &bad_sml(sml, err.as_str()))?;
+    }
+    Ok(())
+}
+
+// Sources with modules or with expressions at their top that are refused otherwise.
+const MODULES_REFUSED: [(&str, &str); 10] = [
+    ("structure A = sig end", "p.sml:1.15: E11 syntax error\n"),
+    ("fun f x = x signature S =", "p.sml:1.26: E11 syntax error\n"),
+    (
+        "structure A = struct val end",
+        "p.sml:1.26: E11 syntax error\n",
+    ),
+    ("functor F X = X", "p.sml:1.11: E11 syntax error\n"),
+    ("structure A = B 1 ;", "p.sml:1.17: E11 syntax error\n"),
+    ("1 + 1", "p.sml:1.6: E11 syntax error\n"),
+    ("1 ; 2 val x = 3", "p.sml:1.7: E11 syntax error\n"),
+    ("1 ; x ;", "p.sml:1.5: E30 unbound identifier x\n"),
+    ("it ; 1 ;", "p.sml:1.1: E30 unbound identifier it\n"),
+    ("1 ; it ^ \"a\" ;", "p.sml:1.5: E31 no typing\n"),
+];
+
+#[test]
+fn modules_are_refused(rt: HostRuntime) -> Result<(), Fail> {
+    for (sml, err) in MODULES_REFUSED.iter() {
+        check(&rt, rt.alloc(), &bad_sml(sml, err))?;
+    }
+    Ok(())
+}
+
+// Projects of several sources: what can't be read comes before modules, and of modules the first are told.
+const PROJECTS: [Row; 3] = [
+    Row {
+        mlb: "$(SML_LIB)/basis/basis.mlb p.sml token.sml",
+        sml: "structure A = B",
+        err: "token.sml:1.10: E10 no token\n",
+        ..REFUSED
+    },
+    Row {
+        mlb: "$(SML_LIB)/basis/basis.mlb module.sml p.sml",
+        sml: "fun f x = x",
+        err: "module.sml:2.1: E90 not compiled yet\n",
+        ..REFUSED
+    },
+    Row {
+        mlb: "$(SML_LIB)/basis/basis.mlb p.sml module.sml",
+        sml: "val x = 1 + \"a\"",
+        err: "module.sml:2.1: E90 not compiled yet\n",
+        ..REFUSED
+    },
+];
+
+#[test]
+fn projects_with_modules_are_refused(rt: HostRuntime) -> Result<(), Fail> {
+    check_all(&rt, rt.alloc(), &PROJECTS)?;
     Ok(())
 }

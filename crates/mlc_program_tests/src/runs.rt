@@ -28,6 +28,25 @@ fn sources_run(rt: HostRuntime) -> Result<(), Fail> {
     Ok(())
 }
 
+// Sources with expressions at their top.
+const EXPRESSIONS: [(&str, &str); 7] = [
+    ("print \"a\" ;", "a"),
+    ("1 + 1 ; print \"x\" ;", "x"),
+    ("val x = 1 ; ; x + 1 ; val y = 2", ""),
+    (";;print\"a\";print\"b\"; ; val () = print \"c\"", "abc"),
+    ("\"a\" ^ \"b\" ; print it ; it ;", "ab"),
+    ("val it = \"a\" val x = it ; print x ; print (x ^ x) ;", "aaa"),
+    ("infix 6 ++ val op ++ = op ^ ; \"a\" ++ \"b\" ; print it ;", "ab"),
+];
+
+#[test]
+fn expressions_run(rt: HostRuntime) -> Result<(), Fail> {
+    for (sml, out) in EXPRESSIONS.iter() {
+        check(&rt, rt.alloc(), &good(sml, out))?;
+    }
+    Ok(())
+}
+
 const PROJECTS: [Row; 7] = [
     Row {
         words: "exec dir/q.mlb p.mlx 1024 256 +9",
@@ -80,7 +99,7 @@ fn the_largest_machine_runs(rt: HostRuntime) -> Result<(), Fail> {
 }
 
 // The programs of examples/ that are not in other rows.
-const EXAMPLES: [Row; 2] = [
+const EXAMPLES: [Row; 3] = [
     Row {
         sml: "val largest = 2147483647\n\
             val () = print \"the largest int is 2147483647\\n\"\n\
@@ -96,6 +115,13 @@ const EXAMPLES: [Row; 2] = [
             val greeting = \"hello, \" ^ \"again\"\n\
             val () = say (greeting ^ \"\\n\")\n",
         out: "hello, again\n",
+        ..NOTHING
+    },
+    Row {
+        sml: "print \"an expression may stand at a source's top\\n\";\n\
+            \"its value is \" ^ \"it\\n\";\n\
+            print it;\n",
+        out: "an expression may stand at a source's top\nits value is it\n",
         ..NOTHING
     },
 ];

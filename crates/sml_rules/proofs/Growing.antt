@@ -10,7 +10,7 @@ use Rattle.mlc_prims.specs.PrimOf.{Gives, made, raised, prim_of}
 use Rattle.mlc_prims.specs.declared.prim.Primitive.{Primitive}
 use Rattle.mlc_prims.specs.declared.prim.Primitive.TheVariants.{Add, Sub, Mul, Cat, Print}
 use Rattle.sml_tree.specs.BareTree.{Exp, constant_exp, vid_exp, built_exp, fields_exp, let_in, app, typed, handle, raise, fn, ExpFields, no_exp_fields, exp_field, Decs, no_decs, dec, Dec, val_dec, type_dec, datatype_dec, replicate_dec, exception_dec, local_dec, open_dec, sequence_dec, Binds, no_binds, bind}
-use Rattle.sml_rules.specs.Project.{Part, standard_basis, source}
+use Rattle.sml_rules.specs.Project.{Part, standard_basis, source, cut}
 use Rattle.sml_rules.specs.Laws.{MeaningGrows}
 use Rattle.sml_rules.specs.Meaning.{packet_identifier, begin}
 use Rattle.sml_rules.specs.Values.{Value, literal, record_of, primitive, packet, field, Env, nothing_bound, basis_bound}
@@ -91,6 +91,7 @@ parts-on : (env : Env) (parts : List Part) → On (λ w. eval_parts env parts w)
 parts-on env [] = gives-on env
 parts-on env (standard_basis ∷ parts) = parts-on (basis_bound env) parts
 parts-on env (source ds ∷ parts) = then_do-on (decs-on env ds) (λ env'. parts-on env' parts)
+parts-on env (cut ds p ∷ parts) = then_do-on (decs-on env ds) (λ env'. fail-on)
 
 -- what a packet's exception is doesn't turn on the turns that are left
 identifier-same : (p : Value) (w w' : World Value) → HasMoreTurns w w' → packet_identifier p w' ≡ packet_identifier p w

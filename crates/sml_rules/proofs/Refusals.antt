@@ -10,7 +10,7 @@ use Rattle.sml_tree.specs.Terminal.{int, string, word}
 use Rattle.sml_tree.specs.Derived.{short, tuple, tuple_pat}
 use Rattle.sml_tree.specs.BareTree.{Exp, constant_exp, vid_exp, app, Pat, wild_pat, vid_pat, Decs, no_decs, dec, Dec, val_dec, no_binds, bind}
 use Rattle.ty_core.specs.Types.{Typ, con, Symbol, name as named}
-use Rattle.sml_rules.specs.Project.{Part, standard_basis, source}
+use Rattle.sml_rules.specs.Project.{Part, standard_basis, source, cut}
 use Rattle.sml_rules.specs.Meaning.{meaning}
 use Rattle.sml_rules.specs.Phrases.{Phrase, identifier, binds, binds_nothing, integer, text, applies, applies_pair, declares, brings_basis}
 use Rattle.sml_rules.specs.Typing.{Context, nothing_typed, basis_typed, int_type, string_type, pair_type, function_type}
@@ -143,3 +143,15 @@ restricted = by_rule refl (record {
 -- val x = 0w1: not compiled yet, told at the constant
 foreign : IsRefused (with_basis (dec (val 0 (variable 4 x_name) (constant_exp (at 8) (word 1))) no_decs)) (record { code = NotCompiled; place = at 8; name = None })
 foreign = by_form refl
+
+-- val x = 1 structure A = B: not compiled yet, told at `structure`
+modules : IsRefused (standard_basis ∷ cut (dec (val 0 (variable 4 x_name) (number 8 1)) no_decs) (at 10) ∷ []) (record { code = NotCompiled; place = at 10; name = None })
+modules = by_form refl
+
+-- val x = 0w1 structure A = B: the constant comes before the structure
+constant_before_modules : IsRefused (standard_basis ∷ cut (dec (val 0 (variable 4 x_name) (constant_exp (at 8) (word 1))) no_decs) (at 12) ∷ []) (record { code = NotCompiled; place = at 8; name = None })
+constant_before_modules = by_form refl
+
+-- structure A = B, and a source that declares a number: of two foreign phrases the first is told
+modules_before_sources : IsRefused (cut no_decs (at 0) ∷ source (dec (val 20 (variable 24 x_name) (constant_exp (at 28) (word 1))) no_decs) ∷ []) (record { code = NotCompiled; place = at 0; name = None })
+modules_before_sources = by_form refl

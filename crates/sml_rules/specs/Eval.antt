@@ -12,7 +12,7 @@ use Rattle.sml_tree.specs.declared.ident.Vid.TheVariants.{Named, Equals, Fresh}
 use Rattle.sml_tree.specs.Terminal as term
 use Rattle.sml_tree.specs.BareTree.{Exp, constant_exp, vid_exp, built_exp, fields_exp, let_in, app, typed, handle, raise, fn, ExpFields, no_exp_fields, exp_field, Pat, wild_pat, constant_pat, vid_pat, built_pat, fields_pat, con_pat, built_con_pat, typed_pat, as_pat, PatFields, no_pat_fields, pat_field, Decs, no_decs, dec, Dec, val_dec, type_dec, datatype_dec, replicate_dec, exception_dec, local_dec, open_dec, sequence_dec, Binds, no_binds, bind}
 use Rattle.sml_rules.specs.Values.{Value, literal, record_of, primitive, packet, Fields, no_fields, field, unit_value, exn_number, field_at, Env, bound, basis_bound, value_of}
-use Rattle.sml_rules.specs.Project.{Part, standard_basis, source}
+use Rattle.sml_rules.specs.Project.{Part, standard_basis, source, cut}
 
 abbrev pub constant_value : term.Constant → Value
 constant_value (term.int z) = literal (int z)
@@ -167,3 +167,4 @@ abbrev pub eval_parts : Env → List Part → World Value → Answer Value Env
 eval_parts env [] w = gives env w
 eval_parts env (standard_basis ∷ parts) w = eval_parts (basis_bound env) parts w
 eval_parts env (source ds ∷ parts) w = then_do (eval_decs env ds w) (λ env w. eval_parts env parts w)
+eval_parts env (cut ds p ∷ parts) w = then_do (eval_decs env ds w) (λ env w. fail w)

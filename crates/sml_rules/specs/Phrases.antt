@@ -9,7 +9,7 @@ use Rattle.sml_tree.specs.declared.ident.Vid.{Vid}
 use Rattle.sml_tree.specs.declared.ident.Vid.TheVariants.{Named, Equals, Fresh}
 use Rattle.sml_tree.specs.Terminal as term
 use Rattle.sml_tree.specs.BareTree.{Exp, constant_exp, vid_exp, built_exp, fields_exp, let_in, app, typed, handle, raise, fn, ExpFields, no_exp_fields, exp_field, Pat, wild_pat, constant_pat, vid_pat, built_pat, fields_pat, con_pat, built_con_pat, typed_pat, as_pat, PatFields, no_pat_fields, pat_field, Decs, no_decs, dec, Dec, val_dec, type_dec, datatype_dec, replicate_dec, exception_dec, local_dec, open_dec, sequence_dec, Binds, no_binds, bind}
-use Rattle.sml_rules.specs.Project.{Part, standard_basis, source}
+use Rattle.sml_rules.specs.Project.{Part, standard_basis, source, cut}
 use Rattle.sml_rules.specs.Values.{is_number}
 
 pub data Phrase : Type 0 where
@@ -188,6 +188,7 @@ abbrev pub parts_phrases : List Part → List Phrase
 parts_phrases [] = []
 parts_phrases (standard_basis ∷ parts) = brings_basis ∷ parts_phrases parts
 parts_phrases (source ds ∷ parts) = decs_phrases ds ++ parts_phrases parts
+parts_phrases (cut ds p ∷ parts) = decs_phrases ds ++ foreign p ∷ parts_phrases parts
 
 -- the first foreign phrase
 abbrev pub first_foreign : List Phrase → Option Place

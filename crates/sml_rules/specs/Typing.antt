@@ -96,7 +96,7 @@ pub data DecsHaveType : Context → Decs → Context → Type 0 where
   no_dec_has : (c : Context) → DecsHaveType c no_decs c
   dec_has : {c c' c'' : Context} {d : Dec} {ds : Decs} → DecHasType c d c' → DecsHaveType c' ds c'' → DecsHaveType c (dec d ds) c''
 
--- the parts of a project, one after the other: each sees what those before it brought
+-- the parts of a project, one after the other: each sees what those before it brought. A source with modules has no typing yet.
 pub data PartsHaveType : Context → List Part → Context → Type 0 where
   no_part_has : (c : Context) → PartsHaveType c [] c
   basis_has : {c c' : Context} {parts : List Part} → PartsHaveType (basis_typed c) parts c' → PartsHaveType c (standard_basis ∷ parts) c'
