@@ -1,0 +1,6 @@
+// The image of a program in SSA form, computed.
+#![tactic(auto)]
+
+pub mod assemble;
+pub mod emit;
+pub mod refused;
