@@ -1,6 +1,6 @@
 // Runs of the images of programs.
 
-ghost use Rattle.std.specs.Prelude.{◌≡◌, ◌<◌, ◌≤◌, ◌^◌, length};
+ghost use Rattle.std.specs.Prelude.{◌≤◌, ◌^◌};
 
 use emit_known::exceptions::exceptions_of;
 use heap_vm::stop::Stop;
@@ -69,9 +69,8 @@ pub fn run(
 ) -> Result<(Stop, bool, bool), EmitRefused>
     requires heap { size.heap ≤ 2 ^ 28 }
     requires stack { size.stack ≤ 2 ^ 24 }
-    requires output { length output.now < 2 ^ 32 }
 {
-    let mut out = MemSink::new(alloc, ROOM + output.len(), Vec::new(alloc))?;
+    let mut out = MemSink::new(alloc, ROOM.saturating_add(output.len()), Vec::new(alloc))?;
     let mut err = MemSink::new(alloc, ROOM, Vec::new(alloc))?;
     let mut vm = machine(alloc, given, ops, size)?;
     let stop = vm.run(STEPS, &mut out);
@@ -90,7 +89,6 @@ pub fn ends_in(
 ) -> Result<(), EmitRefused>
     requires heap { size.heap ≤ 2 ^ 28 }
     requires stack { size.stack ≤ 2 ^ 24 }
-    requires output { length output.now < 2 ^ 32 }
 {
     let (stop, written, named) = run(alloc, given, ops, size, output.as_bytes(), "")?;
     assert_eq!(rt; stop, Stop::Ended);
@@ -106,7 +104,6 @@ pub fn ends(
     ops: &[Op],
     output: &str,
 ) -> Result<(), EmitRefused>
-    requires { length output.now < 2 ^ 32 }
 {
     ends_in(rt, alloc, given, ops, AMPLE, output)
 }
@@ -120,7 +117,6 @@ pub fn uncaught(
     output: &str,
     name: &str,
 ) -> Result<(), EmitRefused>
-    requires { length output.now < 2 ^ 32 }
 {
     let (stop, written, named) = run(alloc, given, ops, AMPLE, output.as_bytes(), name)?;
     assert_eq!(rt; stop, Stop::Uncaught);
@@ -129,42 +125,80 @@ pub fn uncaught(
     Ok(())
 }
 
-/// A program that ends so in a machine of this size, and in none of a word of heap or of stack less.
+/// The least machine in which a program ends so.
 #[derive(Clone, Copy)]
-pub struct Least(
-    pub &'static Given,
-    pub &'static [Op],
-    pub Size,
-    pub Stop,
-    pub &'static str,
-    pub &'static str,
-);
+pub struct Least {
+    pub size: Size,
+    pub end: Stop,
+    pub output: &'static str,
+    pub name: &'static str,
+}
 
 /// How a run ends in a machine of this size, whatever it writes.
-fn stop_in(alloc: Global, given: &Given, ops: &[Op], size: Size) -> Result<Stop, EmitRefused>
+fn stops(
+    rt: &impl Abort,
+    alloc: Global,
+    given: &Given,
+    ops: &[Op],
+    size: Size,
+    wanted: Stop,
+) -> Result<(), EmitRefused>
     requires heap { size.heap ≤ 2 ^ 28 }
     requires stack { size.stack ≤ 2 ^ 24 }
 {
     let (stop, _, _) = run(alloc, given, ops, size, b"", "")?;
-    Ok(stop)
+    assert_eq!(rt; stop, wanted);
+    Ok(())
 }
 
-pub fn is_least(rt: &impl Abort, alloc: Global, least: Least) -> Result<(), EmitRefused> {
-    let Least(given, ops, size, end, output, name) = least;
-    if size.heap > 1000 || size.stack > 1000 || output.len() > 1000 {
-        return Err(EmitRefused::TooLong);
+/// In a machine with a word of heap less there is no heap, and in one with a word of stack less no stack.
+fn needs(
+    rt: &impl Abort,
+    alloc: Global,
+    given: &Given,
+    ops: &[Op],
+    size: Size,
+) -> Result<(), EmitRefused>
+    requires heap { size.heap ≤ 2 ^ 28 }
+    requires stack { size.stack ≤ 2 ^ 24 }
+{
+    if size.heap > 0 {
+        let less = Size {
+            heap: size.heap - 1,
+            stack: size.stack,
+        };
+        stops(rt, alloc, given, ops, less, Stop::NoHeap)?;
     }
+    if size.stack > 0 {
+        let less = Size {
+            heap: size.heap,
+            stack: size.stack - 1,
+        };
+        stops(rt, alloc, given, ops, less, Stop::NoStack)?;
+    }
+    Ok(())
+}
+
+/// A program ends so in this machine, and in none with a word of heap or of stack less.
+pub fn is_least(
+    rt: &impl Abort,
+    alloc: Global,
+    given: &Given,
+    ops: &[Op],
+    least: Least,
+) -> Result<(), EmitRefused>
+    requires heap { least.size.heap ≤ 2 ^ 28 }
+    requires stack { least.size.stack ≤ 2 ^ 24 }
+{
+    let Least {
+        size,
+        end,
+        output,
+        name,
+    } = least;
     let (stop, written, named) = run(alloc, given, ops, size, output.as_bytes(), name)?;
     assert_eq!(rt; stop, end);
     assert!(rt; written);
     assert!(rt; named);
-    if size.heap > 0 {
-        let heap = size.heap - 1;
-        assert_eq!(rt; stop_in(alloc, given, ops, Size { heap, ..size })?, Stop::NoHeap);
-    }
-    if size.stack > 0 {
-        let stack = size.stack - 1;
-        assert_eq!(rt; stop_in(alloc, given, ops, Size { stack, ..size })?, Stop::NoStack);
-    }
-    Ok(())
+    needs(rt, alloc, given, ops, size)
 }
