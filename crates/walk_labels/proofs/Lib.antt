@@ -1,2 +1,5 @@
-pub mod Sizes
+pub mod Arms
 pub mod Labels
+pub mod Sizes
+pub mod Told
+pub mod Walks

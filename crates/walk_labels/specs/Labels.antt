@@ -1,8 +1,8 @@
 -- Where the labels of a body stand, in the order in which a walk meets them.
-use Rattle.std.specs.Prelude.{ℕ, zero, suc, ◌+◌, List, [], ◌∷◌, ◌++◌, length, get_or}
+use Rattle.std.specs.Prelude.{◌≡◌, ℕ, zero, suc, ◌+◌, ◌<◌, List, [], ◌∷◌, ◌++◌, length, get_or}
 use Rattle.first_values.specs.Equality.{Shape}
 use Rattle.ir_ssa.specs.Tree.{Body, Bodies, plain, make, attempt, turn, call, label, again, guard, goto, jump, branch, switch, tail, ret, raise, last, arm}
-use Rattle.ssa_tree.specs.TreeOf.{StepTree, plain_step, make_step, call_step, attempt_step, turn_step, label_step, again_step, when_step, unless_step, case_step}
+use Rattle.ssa_tree.specs.TreeOf.{StepTree, ArmTree, plain_step, make_step, call_step, attempt_step, turn_step, label_step, again_step, when_step, unless_step, case_step}
 use Rattle.machine_code.specs.Rows.{Rows, late_size, later}
 use Rattle.machine_code.specs.Code.{Scope, Exit, exit_at, left, no_exit, with_params, Choice, choice_of, choice_size, test_arm_size, callee_count, count, make_size, plain_size, test_size, size, arms_size}
 
@@ -53,6 +53,13 @@ cases i others = arm i (ret 0) others
 abbrev pub blank : ℕ → List ℕ
 blank zero = []
 blank (suc n) = 0 ∷ blank n
+
+-- the number of its label, if it has one that stands behind the rest, where n labels were met before
+abbrev pub number_of : ℕ → StepTree → ℕ
+number_of n (attempt_step k p xs x d) = n
+number_of n (when_step q xs d) = n
+number_of n (case_step x i others) = n
+number_of n g = 0
 
 module _ (rows : Rows) (types : List Shape) where
   abbrev pub size_of : Frame → Body → ℕ
@@ -163,13 +170,6 @@ module _ (rows : Rows) (types : List Shape) where
   ended q f (unless_step t xs d) = []
   ended q f (case_step x i others) = arms_labels (choice_of (cases i others)) q f others
 
-  -- the number of its label, if it has one that stands behind the rest, where n labels were met before
-  abbrev pub number_of : ℕ → StepTree → ℕ
-  number_of n (attempt_step k p xs x d) = n
-  number_of n (when_step q xs d) = n
-  number_of n (case_step x i others) = n
-  number_of n g = 0
-
   -- All steps of a body.
 
   abbrev pub head_sizes : Frame → List StepTree → ℕ
@@ -195,3 +195,21 @@ module _ (rows : Rows) (types : List Shape) where
   abbrev pub numbers_of : ℕ → ℕ → Frame → List StepTree → List ℕ
   numbers_of n pc f [] = []
   numbers_of n pc f (g ∷ gs) = number_of n g ∷ numbers_of (n + length (opened pc f g)) (pc + head_size f g) (entered f g) gs
+
+  -- Arms that stand one behind the other, without the last body.
+
+  abbrev pub arms_from : Choice → ℕ → Frame → List ArmTree → List ℕ
+  arms_from how q f [] = []
+  arms_from how q f (a ∷ as_) = q ∷ arms_from how (q + test_arm_size how + size_of f a.body) f as_
+
+  abbrev pub arms_within : Choice → ℕ → Frame → List ArmTree → List ℕ
+  arms_within how q f [] = []
+  arms_within how q f (a ∷ as_) = labels (q + test_arm_size how) f a.body ++ arms_within how (q + test_arm_size how + size_of f a.body) f as_
+
+  abbrev pub arms_long : Choice → Frame → List ArmTree → ℕ
+  arms_long how f [] = 0
+  arms_long how f (a ∷ as_) = test_arm_size how + size_of f a.body + arms_long how f as_
+
+-- from a number on labels have these places
+abbrev pub Told : List ℕ → ℕ → List ℕ → Type 0
+Told all n ls = (k : ℕ) → k < length ls → get_or all (n + k) 0 ≡ get_or ls k 0
