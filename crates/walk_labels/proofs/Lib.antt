@@ -3,3 +3,6 @@ pub mod Labels
 pub mod Sizes
 pub mod Told
 pub mod Walks
+pub mod Marks
+pub mod MarkSteps
+pub mod MarkCases
