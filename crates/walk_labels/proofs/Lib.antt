@@ -6,3 +6,4 @@ pub mod Walks
 pub mod Marks
 pub mod MarkSteps
 pub mod MarkCases
+pub mod Loops

@@ -13,7 +13,7 @@ use Rattle.emit_parts.specs.declared.pass.Spot.{Spot}
 use Rattle.emit_parts.specs.Labels.{label_in, spot_of, spots_of}
 use Rattle.emit_walk.specs.Marks.{frame_of, mark_of}
 use Rattle.emit_walk.specs.Walk.{Env, Kept, env_of, after_all}
-use Rattle.emit_walk.proofs.Loops.{heads-start, heads-marks, heads-numbers, heads-told, ends-start, ends-turn, ends-turn-told, ends-finish, arms-start, arms-turn, arms-finish}
+use Rattle.walk_labels.proofs.Loops.{heads-start, heads-marks, heads-numbers, heads-told, ends-start, ends-turn, ends-turn-told, ends-finish, arms-start, arms-turn, arms-finish}
 use Rattle.emit_walk.proofs.WalkMarks.{arm-test-long, steps-mark}
 use Rattle.emit_walk.proofs.Walking.{label-is, label-code, heads-step, heads-code, heads-scope, heads-begin, arms-end, ends-kept, ends-code-step, ends-stand-step}
 use Rattle.emit_walk.proofs.Parts.{unless-before}

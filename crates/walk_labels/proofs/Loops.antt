@@ -39,7 +39,9 @@ module _ (rows : Rows) (types : List Shape) where
 
   opened-both : (f : Frame) (pre : List StepTree) (rest : List StepTree) (pc : ℕ) → length (opened_all rows types pc f (pre ++ rest))
       ≡ length (opened_all rows types pc f pre) + length (opened_all rows types (pc + head_sizes rows types f pre) (entered_all f pre) rest)
-  opened-both f [] rest pc = ap (λ z. length (opened_all rows types z f rest)) (let e : pc ≡ pc + 0 = omega arith in e)
+  opened-both f [] rest pc =
+      let same = ap (λ z. length (opened_all rows types z f rest)) (let e : pc ≡ pc + 0 = omega arith in e) in
+      omega (arith, same)
   opened-both f (x ∷ pre) rest pc =
       let at = pc + head_size rows types f x in
       let same : at + head_sizes rows types (entered f x) pre ≡ pc + (head_size rows types f x + head_sizes rows types (entered f x) pre) = omega arith in
