@@ -52,9 +52,9 @@ fn first(count: usize) -> &'static [usize] {
     if count <= 3 { &FIRST[..count] } else { &FIRST }
 }
 
-/// What writes the result, which is in variable 9.
-fn show(ops: &mut Vec<Op>, shown: Shown) -> Result<(), NoMemory> {
-    let result = match shown {
+/// What makes an integer or a text of the result, which is in variable 9.
+fn shown_as(shown: Shown) -> Op {
+    match shown {
         Shown::Int => Op::Do(TEXT_OF, &[9], 10),
         Shown::Word => Op::Do(
             Action::Compute(Operands::Words, BasisPrimitive::ToIntSigned),
@@ -68,13 +68,47 @@ fn show(ops: &mut Vec<Op>, shown: Shown) -> Result<(), NoMemory> {
         ),
         Shown::Text => Op::Do(Action::Same, &[9], 10),
         Shown::Truth => Op::Call(Callee::Known(1), &[9], 10),
-    };
-    let text = match shown {
+    }
+}
+
+/// What makes a text of that.
+fn text_of(shown: Shown) -> Op {
+    match shown {
         Shown::Int | Shown::Text => Op::Do(Action::Same, &[10], 11),
         Shown::Word | Shown::Char | Shown::Truth => Op::Do(TEXT_OF, &[10], 11),
-    };
-    let print = Op::Do(Action::Print, &[11], 12);
-    ops.extend_from_slice(&[result, text, print, Op::Ret(12), Op::Fun(&[])])?;
+    }
+}
+
+static PRINTED: [Op; 3] = [Op::Do(Action::Print, &[11], 12), Op::Ret(12), Op::Fun(&[])];
+
+/// What writes the result.
+fn show(ops: &mut Vec<Op>, shown: Shown) -> Result<(), NoMemory> {
+    ops.push(shown_as(shown))?;
+    ops.push(text_of(shown))?;
+    ops.extend_from_slice(&PRINTED)?;
+    Ok(())
+}
+
+static RAISED: [Op; 2] = [Op::Begin, Op::Raise(9)];
+
+static WHERE_FALSE: [Op; 4] = [
+    Op::Begin,
+    Op::Begin,
+    Op::Do(Action::Is(Constant::Truth(false)), &[], 8),
+    Op::Goto(0, &[8]),
+];
+
+static WHERE_TRUE: [Op; 3] = [
+    Op::Do(Action::Is(Constant::Truth(true)), &[], 8),
+    Op::Goto(0, &[8]),
+    Op::Label(&[9]),
+];
+
+/// A test whose outcome is in variable 9.
+fn perform_test(ops: &mut Vec<Op>, when: Op) -> Result<(), NoMemory> {
+    ops.extend_from_slice(&WHERE_FALSE)?;
+    ops.push(when)?;
+    ops.extend_from_slice(&WHERE_TRUE)?;
     Ok(())
 }
 
@@ -82,24 +116,18 @@ fn show(ops: &mut Vec<Op>, shown: Shown) -> Result<(), NoMemory> {
 fn perform(ops: &mut Vec<Op>, edge: Edge, way: Way) -> Result<(), NoMemory> {
     let Edge(kind, primitive, constants, _) = edge;
     let operands = first(constants.len());
-    let attempt = Op::Attempt(kind, primitive, operands, 9);
-    let compute = Op::Do(Action::Compute(kind, primitive), operands, 9);
-    let when = Op::When(Test::Holds(kind, primitive), operands);
     match way {
-        Way::Attempt => ops.extend_from_slice(&[Op::Begin, Op::Raise(9), attempt])?,
-        Way::Compute => ops.push(compute)?,
-        Way::Test => ops.extend_from_slice(&[
-            Op::Begin,
-            Op::Begin,
-            Op::Do(Action::Is(Constant::Truth(false)), &[], 8),
-            Op::Goto(0, &[8]),
-            when,
-            Op::Do(Action::Is(Constant::Truth(true)), &[], 8),
-            Op::Goto(0, &[8]),
-            Op::Label(&[9]),
-        ])?,
+        Way::Attempt => {
+            ops.extend_from_slice(&RAISED)?;
+            ops.push(Op::Attempt(kind, primitive, operands, 9))?;
+            Ok(())
+        }
+        Way::Compute => {
+            ops.push(Op::Do(Action::Compute(kind, primitive), operands, 9))?;
+            Ok(())
+        }
+        Way::Test => perform_test(ops, Op::When(Test::Holds(kind, primitive), operands)),
     }
-    Ok(())
 }
 
 /// 1 for true and 0 for false.
