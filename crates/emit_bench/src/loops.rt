@@ -141,28 +141,40 @@ static EXCEPTION: [Op; 17] = [
     Op::Fun(&[0, 1]),
 ];
 
+static START_SUM: [Op; 2] = [
+    Op::Do(Action::Is(Constant::Int(0)), &[], 1),
+    Op::Call(Callee::Known(1), &[0, 1], 2),
+];
+
+static START_RECURSION: [Op; 1] = [Op::Call(Callee::Known(1), &[0], 2)];
+
+static START_REVERSAL: [Op; 3] = [
+    Op::Make(0, &[], 1),
+    Op::Call(Callee::Known(1), &[0, 1], 3),
+    Op::Call(Callee::Known(2), &[3, 1], 2),
+];
+
+static START_REFERENCE: [Op; 2] = [
+    Op::Do(Action::Refer, &[0], 1),
+    Op::Call(Callee::Known(1), &[0, 1], 2),
+];
+
+static START_EXCEPTION: [Op; 3] = [
+    Op::Do(Action::Initial(2), &[], 3),
+    Op::Do(Action::Pack, &[3, 0], 1),
+    Op::Call(Callee::Known(1), &[0, 1], 2),
+];
+
+static DONE: [Op; 2] = [Op::Ret(2), Op::Fun(&[])];
+
 /// What the program itself does: calls the loop with n in variable 0, and what else it takes.
 fn start(which: Loop) -> &'static [Op] {
     match which {
-        Loop::Sum => &[
-            Op::Do(Action::Is(Constant::Int(0)), &[], 1),
-            Op::Call(Callee::Known(1), &[0, 1], 2),
-        ],
-        Loop::Recursion => &[Op::Call(Callee::Known(1), &[0], 2)],
-        Loop::Reversal => &[
-            Op::Make(0, &[], 1),
-            Op::Call(Callee::Known(1), &[0, 1], 3),
-            Op::Call(Callee::Known(2), &[3, 1], 2),
-        ],
-        Loop::Reference => &[
-            Op::Do(Action::Refer, &[0], 1),
-            Op::Call(Callee::Known(1), &[0, 1], 2),
-        ],
-        Loop::Exception => &[
-            Op::Do(Action::Initial(2), &[], 3),
-            Op::Do(Action::Pack, &[3, 0], 1),
-            Op::Call(Callee::Known(1), &[0, 1], 2),
-        ],
+        Loop::Sum => &START_SUM,
+        Loop::Recursion => &START_RECURSION,
+        Loop::Reversal => &START_REVERSAL,
+        Loop::Reference => &START_REFERENCE,
+        Loop::Exception => &START_EXCEPTION,
     }
 }
 
@@ -176,32 +188,44 @@ fn body(which: Loop) -> &'static [Op] {
     }
 }
 
+/// What calls the loop, with so many turns.
+fn begin(alloc: Global, which: Loop, turns: i32) -> anyhow::Result<Vec<Op>> {
+    let mut ops = Vec::new(alloc);
+    ops.push(Op::Begin)?;
+    ops.push(Op::Do(Action::Is(Constant::Int(turns)), &[], 0))?;
+    ops.extend_from_slice(start(which))?;
+    Ok(ops)
+}
+
 fn words(alloc: Global, which: Loop, turns: u32) -> anyhow::Result<Vec<Op>> {
     let turns = match i32::try_from(turns) {
         Ok(turns) => turns,
         Err(_) => anyhow::bail!("too many turns"),
     };
-    let mut ops = Vec::new(alloc);
-    ops.extend_from_slice(&[Op::Begin, Op::Do(Action::Is(Constant::Int(turns)), &[], 0)])?;
-    ops.extend_from_slice(start(which))?;
-    ops.extend_from_slice(&[Op::Ret(2), Op::Fun(&[])])?;
+    let mut ops = begin(alloc, which, turns)?;
+    ops.extend_from_slice(&DONE)?;
     ops.extend_from_slice(body(which))?;
     Ok(ops)
+}
+
+static NOTHING: Given = Given {
+    strings: &[],
+    types: &[],
+    sets: &[],
+};
+
+fn program(alloc: Global, ops: &[Op]) -> anyhow::Result<Ssa> {
+    Ok(Ssa {
+        tables: tables(alloc, NOTHING)?,
+        funs: functions(alloc, ops)?,
+        expansion: 1,
+    })
 }
 
 /// The image of a loop of so many turns.
 pub fn emitted(alloc: Global, which: Loop, turns: u32) -> anyhow::Result<Image> {
     let ops = words(alloc, which, turns)?;
-    let nothing = Given {
-        strings: &[],
-        types: &[],
-        sets: &[],
-    };
-    let program = Ssa {
-        tables: tables(alloc, nothing)?,
-        funs: functions(alloc, &ops)?,
-        expansion: 1,
-    };
+    let program = program(alloc, &ops)?;
     let names = Names::new(alloc)?;
     let found = exceptions_of(alloc, &program.tables, &program.funs)?;
     if !are_standard(&found) {

@@ -24,10 +24,10 @@ fn measured(alloc: Global, which: Loop, turns: u32) -> anyhow::Result<(u64, u64)
     requires { 0 < turns }
 {
     let twice = turns.saturating_mul(2);
-    let few = steps(alloc, emitted(alloc, which, turns)?)?;
-    let many = steps(alloc, emitted(alloc, which, twice)?)?;
-    let hand_few = steps(alloc, by_hand(alloc, which, turns)?)?;
-    let hand_many = steps(alloc, by_hand(alloc, which, twice)?)?;
+    let few = steps(alloc, emitted(alloc, which, turns)?, turns)?;
+    let many = steps(alloc, emitted(alloc, which, twice)?, twice)?;
+    let hand_few = steps(alloc, by_hand(alloc, which, turns)?, turns)?;
+    let hand_many = steps(alloc, by_hand(alloc, which, twice)?, twice)?;
     Ok((a_turn(few, many, turns), a_turn(hand_few, hand_many, turns)))
 }
 

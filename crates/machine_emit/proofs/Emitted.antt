@@ -1,5 +1,5 @@
 -- An image of these constants and this code.
-use Rattle.std.proofs.Common.{◌≡◌, refl, ℕ, ◌+◌, ◌*◌, ◌^◌, ◌<◌, ◌≤◌, List, [], length, if◌then◌else◌, sym, ap, ◌∙◌, subst, Result, Ok, Err, IfOk, IfErr}
+use Rattle.std.proofs.Common.{◌≡◌, refl, ℕ, ◌+◌, ◌*◌, ◌^◌, ◌<◌, ◌≤◌, List, [], length, if◌then◌else◌, ap, ◌∙◌, Result, Ok, Err, IfOk, IfErr}
 use Rattle.ir_code.specs.declared.instr.Instr.{Instr}
 use Rattle.ir_code.specs.Program as machine
 use Rattle.ir_ssa.specs.Tree.{Program}

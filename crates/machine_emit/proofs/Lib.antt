@@ -1,2 +1,3 @@
 pub mod Emitted
 pub mod Whole
+pub mod Only

@@ -1,17 +1,16 @@
 -- The code of functions, one by one, and the whole.
-use Rattle.std.proofs.Common.{◌≡◌, refl, ℕ, zero, suc, ◌+◌, ◌<◌, List, [], ◌∷◌, ◌++◌, length, map, drop, sym, ap, ◌∙◌, subst, arith, append_assoc, append-nil, get_or, zero-add}
+use Rattle.std.proofs.Common.{◌≡◌, refl, ℕ, ◌+◌, List, [], ◌∷◌, ◌++◌, length, sym, ap, ◌∙◌, arith, append-nil, get_or, zero-add}
 use Rattle.std.proofs.Math.Path.{fun_ext}
 use Rattle.ir_code.specs.declared.instr.Instr.{Instr}
 use Rattle.ir_code.specs.declared.instr.Instr.TheVariants.{Call as CallRow, End}
-use Rattle.mlc_prims.specs.declared.prim.PrimExn.{PrimExn}
-use Rattle.ir_ssa.specs.Tree.{Body, Fun, Program}
+use Rattle.ir_ssa.specs.Tree.{Fun, Program}
 use Rattle.first_tables.specs.TablesOf.{tables_of}
 use Rattle.first_tables.specs.declared.tables.Tables.{Tables}
 use Rattle.machine_routines.specs.EqualCode.{equal_code}
 use Rattle.machine_code.specs.Rows.{AreRight}
 use Rattle.machine_code.specs.Code as code
 use Rattle.machine_code.specs.Code.{Scope, Spot, code_at, with_params}
-use Rattle.machine_code.specs.Image.{code_of, fun_at, fun_place, funs_code, funs_at, most_code, sets_at, sets_code, set_place, places_of as image_places}
+use Rattle.machine_code.specs.Image.{code_of, fun_at, fun_place, funs_code, most_code, sets_at, sets_code, set_place, places_of as image_places}
 use Rattle.machine_rows.specs.Table.{rows}
 use Rattle.image_law.specs.Assembled.{code_by, funs_from, sets_from}
 use Rattle.image_law.proofs.Assembling.{fun_code, FunsSoFar, funs-next, funs-done, assembled, before-funs, before-sets, same-places, code-is}
@@ -99,7 +98,7 @@ module _ (texts : List (List ℕ)) (tables : Tables) (funs : List Fun) (at : Pla
       λ i. ap (λ l. get_or l i at.funs_end) ef ∙ ap (get_or fs i) efe ∙ hf i in
       let sets-same : (i : ℕ) → get_or at.sets.items i at.sets_end ≡ set_place funs (fun_at rows texts program) (sets_at rows texts program) (tables_of tables).sets i =
       λ i. ap (λ l. get_or l i at.sets_end) es ∙ ap (get_or ss i) ese ∙ hs i
-          ∙ ap (λ f. set_place funs f (sets_at rows texts program) (tables_of tables).sets i) (fun_ext funs-same) in
+      ∙ ap (λ f. set_place funs f (sets_at rows texts program) (tables_of tables).sets i) (fun_ext funs-same) in
       h ∙ code-is rows texts program (places_of tables at)
       (same-places (places_of tables at) (image_places rows texts program) refl refl known.text_at known.name_at (λ i. ap (λ n. n + i) known.first_at) known.packet_at funs-same sets-same
       known.type_at)

@@ -126,14 +126,7 @@ pub fn assemble(
     rows_are_right();
     let mut pass = empty_pass(alloc);
     push_start(&mut pass.code, &program.tables, at)?;
-    let (funs, funs_end) = push_funs(
-        alloc,
-        &program.tables,
-        &program.funs,
-        at,
-        sure,
-        &mut pass,
-    )?;
+    let (funs, funs_end) = push_funs(alloc, &program.tables, &program.funs, at, sure, &mut pass)?;
     let (sets, sets_end) = push_sets(
         alloc,
         &mut pass.code,

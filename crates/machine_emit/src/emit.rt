@@ -41,11 +41,12 @@ fn finish(words: Vec<u32>, code: Vec<Instr>) -> Result<Image, EmitRefused>
 }
 
 /// The image of a program whose exceptions have names. It is exactly the one of the definition; a program's runs and its own are the same; and it is refused as
-/// too long only where it is.
+/// too long where it is, and only there.
 pub fn emit(alloc: Global, names: &Names, program: &Ssa) -> Result<Image, EmitRefused>
     requires { All (λ i. i < length names.now) (exceptions (program_of program.now)) }
     ensures image { IfOk result (λ image. IsImageOf names.now (program_of program.now) image) }
     ensures runs { IfOk result (λ image. Does names.now (program_of program.now) image) }
+    ensures short { IfOk result (λ image. ¬ IsTooLong names.now (program_of program.now)) }
     ensures too_long { IfErr result (λ refused. refused ≡ TooLong → IsTooLong names.now (program_of program.now)) }
     ensures large { IfErr result (λ refused. refused ≡ TooLong → 2 ^ 20 < parts names.now (program_of program.now)) }
 {

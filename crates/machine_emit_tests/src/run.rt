@@ -35,12 +35,7 @@ pub const AMPLE: Size = Size {
 };
 
 /// The image of a program, in a machine.
-fn machine(
-    alloc: Global,
-    given: &Given,
-    ops: &[Op],
-    size: Size,
-) -> Result<Vm, EmitRefused>
+fn machine(alloc: Global, given: &Given, ops: &[Op], size: Size) -> Result<Vm, EmitRefused>
     requires heap { size.heap ≤ 2 ^ 28 }
     requires stack { size.stack ≤ 2 ^ 24 }
 {
@@ -103,8 +98,7 @@ pub fn ends(
     given: &Given,
     ops: &[Op],
     output: &str,
-) -> Result<(), EmitRefused>
-{
+) -> Result<(), EmitRefused> {
     ends_in(rt, alloc, given, ops, AMPLE, output)
 }
 
@@ -116,8 +110,7 @@ pub fn uncaught(
     ops: &[Op],
     output: &str,
     name: &str,
-) -> Result<(), EmitRefused>
-{
+) -> Result<(), EmitRefused> {
     let (stop, written, named) = run(alloc, given, ops, AMPLE, output.as_bytes(), name)?;
     assert_eq!(rt; stop, Stop::Uncaught);
     assert!(rt; written);

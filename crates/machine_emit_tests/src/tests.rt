@@ -66,7 +66,14 @@ fn a_search_of_closures(rt: HostRuntime) -> Result<(), Fail> {
 
 #[test]
 fn texts_are_taken_apart(rt: HostRuntime) -> Result<(), Fail> {
-    uncaught(&rt, rt.alloc(), &of::WORDS, &of::TEXTS, "abcd4b", "Subscript")?;
+    uncaught(
+        &rt,
+        rt.alloc(),
+        &of::WORDS,
+        &of::TEXTS,
+        "abcd4b",
+        "Subscript",
+    )?;
     Ok(())
 }
 
@@ -120,7 +127,13 @@ fn a_switch_by_a_table(rt: HostRuntime) -> Result<(), Fail> {
 
 #[test]
 fn a_switch_by_a_search(rt: HostRuntime) -> Result<(), Fail> {
-    ends(&rt, rt.alloc(), &of::NOTHING, &of::SEARCH, "99110991201301409915099")?;
+    ends(
+        &rt,
+        rt.alloc(),
+        &of::NOTHING,
+        &of::SEARCH,
+        "99110991201301409915099",
+    )?;
     Ok(())
 }
 

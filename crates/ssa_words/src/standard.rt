@@ -8,8 +8,8 @@ use mlc_base::names::Name;
 pub fn are_standard(found: &[Name]) -> bool
     ensures { result ≡ true → All (λ i. i < 119) found.now }
 {
-    for name in found {
-        if name.number() >= 119 {
+    for i in 0..found.len() {
+        if found[i].number() >= 119 {
             return false;
         }
     }

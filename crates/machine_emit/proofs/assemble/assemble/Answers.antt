@@ -1,15 +1,51 @@
-use Rattle.std.proofs.Common.{◌≡◌, map, sym, ap, ◌∙◌, subst, get_or}
+use Rattle.std.proofs.Common.{◌≡◌, ◌++◌, length, map, ap, ◌∙◌, get_or}
+use Rattle.ssa_tree.specs.TreeOf.{fun_of}
+use Rattle.first_tables.specs.TablesOf.{set_of}
 use Rattle.ssa_form.specs.Programs.{program_of}
+use Rattle.machine_code.specs.Image.{fun_place, funs_code, sets_code, set_place}
+use Rattle.machine_rows.specs.Table.{rows}
 use Rattle.emit_code.specs.PlacesOf.{places_of}
 use Rattle.machine_emit.proofs.Whole.{whole-code, funs-stand, sets-stand}
 use Rattle.machine_emit.proofs.assemble.assemble.Goals as goal
 
--- first drafts: the names of steps are to be compared with those that the check prints
 pub returns-clause-code : goal.returns-clause-code
-returns-clause-code c = λ s places. ?
+returns-clause-code c = λ s places.
+    let program = c.args.program.now in
+    let at = places_of program.tables c.args.at.now in
+    let start = c.push_start.new.code.items in
+    let more = c.push_funs.new.pass.code.items in
+    let h1 = c.in_ok-push_start.ensures places in
+    let h2 : more ≡ start ++ funs_code at (length start) (program_of program).funs =
+    c.in_ok-funs.ensures.code s ∙ ap (λ l. start ++ funs_code at (length start) (map fun_of l)) c.deref.ensures.value in
+    whole-code at c.rows_are_right.ensures (program_of program) start more c.push_sets.new.code.items h1 h2
+    (c.in_ok-sets.ensures.code
+    ∙ ap (λ l. more ++ sets_code (map fun_of l) (λ f. get_or c.deref-2.result.now f c.args.at.now.funs_end) (length more) (map set_of c.deref-4.result.now)) c.deref-3.ensures.value
+    ∙ ap (λ l. more ++ sets_code (program_of program).funs (λ f. get_or l f c.args.at.now.funs_end) (length more) (map set_of c.deref-4.result.now)) c.deref-2.ensures.value
+    ∙ ap (λ l. more ++ sets_code (program_of program).funs at.fun_at (length more) (map set_of l)) c.deref-4.ensures.value)
 
 pub returns-clause-funs : goal.returns-clause-funs
-returns-clause-funs c = λ s places. ?
+returns-clause-funs c = λ s places.
+    let program = c.args.program.now in
+    let at = places_of program.tables c.args.at.now in
+    let start = c.push_start.new.code.items in
+    let more = c.push_funs.new.pass.code.items in
+    let h1 = c.in_ok-push_start.ensures places in
+    let h2 : more ≡ start ++ funs_code at (length start) (program_of program).funs =
+    c.in_ok-funs.ensures.code s ∙ ap (λ l. start ++ funs_code at (length start) (map fun_of l)) c.deref.ensures.value in
+    funs-stand at c.rows_are_right.ensures (program_of program) start more c.push_sets.new.code.items h1 h2 c.in_ok-funs.funs.items c.in_ok-funs.funs_end
+    (λ i. c.in_ok-funs.ensures.places s i ∙ ap (λ l. fun_place rows at.types (length start) (map fun_of l) i) c.deref.ensures.value)
 
 pub returns-clause-sets : goal.returns-clause-sets
-returns-clause-sets c = λ s places. ?
+returns-clause-sets c = λ s places.
+    let program = c.args.program.now in
+    let at = places_of program.tables c.args.at.now in
+    let start = c.push_start.new.code.items in
+    let more = c.push_funs.new.pass.code.items in
+    let h1 = c.in_ok-push_start.ensures places in
+    let h2 : more ≡ start ++ funs_code at (length start) (program_of program).funs =
+    c.in_ok-funs.ensures.code s ∙ ap (λ l. start ++ funs_code at (length start) (map fun_of l)) c.deref.ensures.value in
+    sets-stand at c.rows_are_right.ensures (program_of program) start more c.push_sets.new.code.items h1 h2 c.in_ok-sets.sets.items c.in_ok-sets.sets_end
+    (λ i. c.in_ok-sets.ensures.places i
+    ∙ ap (λ l. set_place (map fun_of l) (λ f. get_or c.deref-2.result.now f c.args.at.now.funs_end) (length more) (map set_of c.deref-4.result.now) i) c.deref-3.ensures.value
+    ∙ ap (λ l. set_place (program_of program).funs (λ f. get_or l f c.args.at.now.funs_end) (length more) (map set_of c.deref-4.result.now) i) c.deref-2.ensures.value
+    ∙ ap (λ l. set_place (program_of program).funs at.fun_at (length more) (map set_of l) i) c.deref-4.ensures.value)

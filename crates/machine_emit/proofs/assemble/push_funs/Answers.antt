@@ -1,4 +1,4 @@
-use Rattle.std.proofs.Common.{◌≡◌, refl, ◌+◌, [], ◌∷◌, ◌++◌, length, map, drop, sym, ap, ◌∙◌, subst, arith, append-nil, get_or}
+use Rattle.std.proofs.Common.{refl, ◌+◌, ◌∷◌, map, drop, sym, ap, ◌∙◌, subst, arith}
 use Rattle.std.proofs.lemmas.List.{drop_more, drop_all}
 use Rattle.ssa_tree.specs.TreeOf.{fun_of}
 use Rattle.emit_code.specs.PlacesOf.{places_of}
@@ -7,7 +7,11 @@ use Rattle.machine_emit.proofs.Whole.{Walked, first-walked, walked-next, walked-
 use Rattle.machine_emit.proofs.assemble.push_funs.Goals as goal
 
 pub loop-i-init : goal.loop-i-init
-loop-i-init c = λ right s. first-walked (places_of c.args.tables.now c.args.at.now) right (map fun_of c.args.funs.now) c.args.pass.now.code.items (env_of c.args.pass.now) c.args.pass.now.code.items c.requires refl
+loop-i-init c = λ right s.
+    subst (λ l. Walked (places_of c.args.tables.now c.args.at.now) right (map fun_of c.args.funs.now) c.args.pass.now.code.items (map fun_of c.args.funs.now) (env_of c.args.pass.now)
+    c.args.pass.now.code.items l) (sym c.new-found.ensures.items)
+    (first-walked (places_of c.args.tables.now c.args.at.now) right (map fun_of c.args.funs.now) c.args.pass.now.code.items (env_of c.args.pass.now) c.args.pass.now.code.items
+    c.requires refl)
 
 pub loop-i-preserved : goal.loop-i-preserved
 loop-i-preserved c = λ right s.
