@@ -6,3 +6,4 @@ pub mod Turns
 pub mod Whole
 pub mod Ends
 pub mod Sizes
+pub mod WalkMarks

@@ -19,6 +19,7 @@ use emit_code::fault::EmitFault;
 use emit_code::places::Places;
 use emit_code::put::{here, put};
 use emit_equality::equality::push_equality;
+use emit_parts::fault::WalkFault;
 use emit_sets::sets::push_sets;
 use emit_walk::body::{Pass, emit_fun};
 use first_tables::tables::Tables;
@@ -75,7 +76,7 @@ fn push_funs(
     at: &Places,
     sure: bool,
     pass: &mut Pass,
-) -> Result<(Vec<u32>, u32), EmitFault>
+) -> Result<(Vec<u32>, u32), WalkFault>
     requires { IsEmpty (env_of pass.old) }
     ensures code { OnOk result (sure ≡ true → pass.new.code.items ≡ pass.old.code.items
         ++ funs_code (places_of tables.now at.now) (length pass.old.code.items) (map fun_of funs.now)) }
@@ -112,7 +113,7 @@ pub fn assemble(
     program: &Ssa,
     at: &Places,
     sure: bool,
-) -> Result<Assembled, EmitFault>
+) -> Result<Assembled, WalkFault>
     ensures code { sure ≡ true → ArePlaces (tables_of program.now.tables).types at.now.types.items at.now.types_end →
         IfOk result (λ made. made.code.items ≡ code_by (places_of program.now.tables at.now) (program_of program.now)) }
     ensures funs { sure ≡ true → ArePlaces (tables_of program.now.tables).types at.now.types.items at.now.types_end →
@@ -160,7 +161,7 @@ fn are_settled(at: &Places, made: &Assembled) -> bool
 
 /// The code of a program, by where its constants and the comparisons of its types stand. A first walk finds the places of functions, routines and labels, and a
 /// second one has the code.
-pub fn settled_code(alloc: Global, program: &Ssa, known: Places) -> Result<Vec<Instr>, EmitFault>
+pub fn settled_code(alloc: Global, program: &Ssa, known: Places) -> Result<Vec<Instr>, WalkFault>
     ensures { (texts : List (List ℕ)) → KnowsConstants texts (program_of program.now) known →
         IfOk result (λ code. code.items ≡ code_of rows texts (program_of program.now)) }
 {
@@ -175,6 +176,6 @@ pub fn settled_code(alloc: Global, program: &Ssa, known: Places) -> Result<Vec<I
     if are_settled(&at, &made) {
         Ok(made.code)
     } else {
-        Err(EmitFault::Unsettled)
+        Err(WalkFault::Unsettled)
     }
 }

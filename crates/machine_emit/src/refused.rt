@@ -4,6 +4,7 @@ ghost use Rattle.std.specs.Prelude.{◌≡◌, ◌≢◌};
 ghost use Rattle.machine_emit.specs.declared.refused.EmitRefused.TheVariants.{Memory, TooLong};
 
 use emit_code::fault::EmitFault;
+use emit_parts::fault::WalkFault;
 use mlc_base::memory::NoMemory;
 
 #[derive(Clone, Copy, PartialEq, Eq, Debug, Drop)]
@@ -23,8 +24,19 @@ impl From<EmitFault> for EmitRefused {
     fn from(fault: EmitFault) -> EmitRefused {
         match fault {
             EmitFault::NoWord => EmitRefused::NoWord,
-            EmitFault::Unsettled => EmitRefused::Unsettled,
             EmitFault::Memory => EmitRefused::Memory,
+        }
+    }
+}
+
+impl From<WalkFault> for EmitRefused {
+    ghost from_gives = { λ _ refused. refused ≢ TooLong };
+
+    fn from(fault: WalkFault) -> EmitRefused {
+        match fault {
+            WalkFault::NoWord => EmitRefused::NoWord,
+            WalkFault::Unsettled => EmitRefused::Unsettled,
+            WalkFault::Memory => EmitRefused::Memory,
         }
     }
 }
