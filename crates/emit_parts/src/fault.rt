@@ -22,7 +22,6 @@ impl From<EmitFault> for WalkFault {
     fn from(fault: EmitFault) -> WalkFault {
         match fault {
             EmitFault::NoWord => WalkFault::NoWord,
-            EmitFault::Unsettled => WalkFault::Memory,
             EmitFault::Memory => WalkFault::Memory,
         }
     }

@@ -4,7 +4,6 @@ ghost use Rattle.std.specs.Prelude.{◌≡◌, ◌≢◌};
 ghost use Rattle.machine_emit.specs.declared.refused.EmitRefused.TheVariants.{Memory, TooLong};
 
 use emit_code::fault::EmitFault;
-use emit_parts::fault::WalkFault;
 use mlc_base::memory::NoMemory;
 
 #[derive(Clone, Copy, PartialEq, Eq, Debug, Drop)]
@@ -13,8 +12,6 @@ pub enum EmitRefused {
     TooLong,
     /// A number or a place that the code names is no word.
     NoWord,
-    /// The second walk would not put a label, a function or a routine where the first one found it.
-    Unsettled,
     Memory,
 }
 
@@ -25,18 +22,6 @@ impl From<EmitFault> for EmitRefused {
         match fault {
             EmitFault::NoWord => EmitRefused::NoWord,
             EmitFault::Memory => EmitRefused::Memory,
-        }
-    }
-}
-
-impl From<WalkFault> for EmitRefused {
-    ghost from_gives = { λ _ refused. refused ≢ TooLong };
-
-    fn from(fault: WalkFault) -> EmitRefused {
-        match fault {
-            WalkFault::NoWord => EmitRefused::NoWord,
-            WalkFault::Unsettled => EmitRefused::Unsettled,
-            WalkFault::Memory => EmitRefused::Memory,
         }
     }
 }

@@ -1,8 +1,8 @@
 // The least heap and stack that suffice, and a word less of each. A heap holds the texts of what is written and the cells that are made; a stack two words and the
 // variables of each frame, and what its operations use.
 
-use crate::programs as of;
 use crate::run::{Least, Size, is_least};
+use crate::{control, given, orders, switches, values};
 use heap_vm::stop::Stop;
 use std::test::Fail;
 
@@ -15,7 +15,7 @@ fn least_for_an_overflow(rt: HostRuntime) -> Result<(), Fail> {
         output: "",
         name: "Overflow",
     };
-    is_least(&rt, rt.alloc(), &of::NOTHING, &of::OVERFLOW, least)?;
+    is_least(&rt, rt.alloc(), &given::NOTHING, &control::OVERFLOW, least)?;
     Ok(())
 }
 
@@ -28,7 +28,7 @@ fn least_for_a_tail_call(rt: HostRuntime) -> Result<(), Fail> {
         output: "55",
         name: "",
     };
-    is_least(&rt, rt.alloc(), &of::NOTHING, &of::SUM, least)?;
+    is_least(&rt, rt.alloc(), &given::NOTHING, &control::SUM, least)?;
     Ok(())
 }
 
@@ -41,7 +41,7 @@ fn least_for_a_swap(rt: HostRuntime) -> Result<(), Fail> {
         output: "~4",
         name: "",
     };
-    is_least(&rt, rt.alloc(), &of::NOTHING, &of::SWAP, least)?;
+    is_least(&rt, rt.alloc(), &given::NOTHING, &control::SWAP, least)?;
     Ok(())
 }
 
@@ -54,7 +54,7 @@ fn least_for_a_loop(rt: HostRuntime) -> Result<(), Fail> {
         output: "543210",
         name: "",
     };
-    is_least(&rt, rt.alloc(), &of::NOTHING, &of::LOOP, least)?;
+    is_least(&rt, rt.alloc(), &given::NOTHING, &control::LOOP, least)?;
     Ok(())
 }
 
@@ -67,7 +67,7 @@ fn least_for_a_handler(rt: HostRuntime) -> Result<(), Fail> {
         output: "1",
         name: "",
     };
-    is_least(&rt, rt.alloc(), &of::NOTHING, &of::HANDLED, least)?;
+    is_least(&rt, rt.alloc(), &given::NOTHING, &control::HANDLED, least)?;
     Ok(())
 }
 
@@ -80,7 +80,7 @@ fn least_for_a_handler_that_is_restored(rt: HostRuntime) -> Result<(), Fail> {
         output: "9",
         name: "",
     };
-    is_least(&rt, rt.alloc(), &of::NOTHING, &of::RESTORED, least)?;
+    is_least(&rt, rt.alloc(), &given::NOTHING, &control::RESTORED, least)?;
     Ok(())
 }
 
@@ -93,7 +93,7 @@ fn least_for_a_handler_that_is_left(rt: HostRuntime) -> Result<(), Fail> {
         output: "",
         name: "Div",
     };
-    is_least(&rt, rt.alloc(), &of::NOTHING, &of::LEFT, least)?;
+    is_least(&rt, rt.alloc(), &given::NOTHING, &control::LEFT, least)?;
     Ok(())
 }
 
@@ -109,7 +109,7 @@ fn least_for_calls(rt: HostRuntime) -> Result<(), Fail> {
         output: "210",
         name: "",
     };
-    is_least(&rt, rt.alloc(), &of::NOTHING, &of::DEEP, least)?;
+    is_least(&rt, rt.alloc(), &given::NOTHING, &control::DEEP, least)?;
     Ok(())
 }
 
@@ -125,7 +125,13 @@ fn least_for_a_table_of_closures(rt: HostRuntime) -> Result<(), Fail> {
         output: "3822",
         name: "",
     };
-    is_least(&rt, rt.alloc(), &of::DENSE_SET, &of::DISPATCH, least)?;
+    is_least(
+        &rt,
+        rt.alloc(),
+        &given::DENSE_SET,
+        &control::DISPATCH,
+        least,
+    )?;
     Ok(())
 }
 
@@ -141,7 +147,7 @@ fn least_for_a_search_of_closures(rt: HostRuntime) -> Result<(), Fail> {
         output: "382238",
         name: "",
     };
-    is_least(&rt, rt.alloc(), &of::SPARSE_SET, &of::SPARSE, least)?;
+    is_least(&rt, rt.alloc(), &given::SPARSE_SET, &control::SPARSE, least)?;
     Ok(())
 }
 
@@ -157,7 +163,7 @@ fn least_for_lists(rt: HostRuntime) -> Result<(), Fail> {
         output: "10",
         name: "",
     };
-    is_least(&rt, rt.alloc(), &of::TYPES, &of::EQUAL, least)?;
+    is_least(&rt, rt.alloc(), &given::TYPES, &values::EQUAL, least)?;
     Ok(())
 }
 
@@ -173,7 +179,7 @@ fn least_for_pairs(rt: HostRuntime) -> Result<(), Fail> {
         output: "10",
         name: "",
     };
-    is_least(&rt, rt.alloc(), &of::TYPES, &of::PAIRS, least)?;
+    is_least(&rt, rt.alloc(), &given::TYPES, &values::PAIRS, least)?;
     Ok(())
 }
 
@@ -186,7 +192,7 @@ fn least_for_references(rt: HostRuntime) -> Result<(), Fail> {
         output: "210",
         name: "",
     };
-    is_least(&rt, rt.alloc(), &of::TYPES, &of::REFERENCES, least)?;
+    is_least(&rt, rt.alloc(), &given::TYPES, &values::REFERENCES, least)?;
     Ok(())
 }
 
@@ -202,7 +208,7 @@ fn least_for_a_switch_by_a_table(rt: HostRuntime) -> Result<(), Fail> {
         output: "1009910210399",
         name: "",
     };
-    is_least(&rt, rt.alloc(), &of::NOTHING, &of::TABLE, least)?;
+    is_least(&rt, rt.alloc(), &given::NOTHING, &switches::TABLE, least)?;
     Ok(())
 }
 
@@ -218,7 +224,7 @@ fn least_for_a_switch_by_a_search(rt: HostRuntime) -> Result<(), Fail> {
         output: "99110991201301409915099",
         name: "",
     };
-    is_least(&rt, rt.alloc(), &of::NOTHING, &of::SEARCH, least)?;
+    is_least(&rt, rt.alloc(), &given::NOTHING, &switches::SEARCH, least)?;
     Ok(())
 }
 
@@ -234,7 +240,7 @@ fn least_for_a_switch_by_tests(rt: HostRuntime) -> Result<(), Fail> {
         output: "991079915099",
         name: "",
     };
-    is_least(&rt, rt.alloc(), &of::NOTHING, &of::TESTS, least)?;
+    is_least(&rt, rt.alloc(), &given::NOTHING, &switches::TESTS, least)?;
     Ok(())
 }
 
@@ -250,7 +256,7 @@ fn least_for_cases(rt: HostRuntime) -> Result<(), Fail> {
         output: "131012",
         name: "",
     };
-    is_least(&rt, rt.alloc(), &of::NOTHING, &of::CASES, least)?;
+    is_least(&rt, rt.alloc(), &given::NOTHING, &switches::CASES, least)?;
     Ok(())
 }
 
@@ -266,7 +272,7 @@ fn least_for_runs(rt: HostRuntime) -> Result<(), Fail> {
         output: "6564",
         name: "",
     };
-    is_least(&rt, rt.alloc(), &of::NOTHING, &of::RUNS, least)?;
+    is_least(&rt, rt.alloc(), &given::NOTHING, &values::RUNS, least)?;
     Ok(())
 }
 
@@ -279,7 +285,7 @@ fn least_for_a_constant(rt: HostRuntime) -> Result<(), Fail> {
         output: "42",
         name: "",
     };
-    is_least(&rt, rt.alloc(), &of::NOTHING, &of::ONE, least)?;
+    is_least(&rt, rt.alloc(), &given::NOTHING, &control::ONE, least)?;
     Ok(())
 }
 
@@ -292,7 +298,7 @@ fn least_for_texts(rt: HostRuntime) -> Result<(), Fail> {
         output: "abcd4b",
         name: "Subscript",
     };
-    is_least(&rt, rt.alloc(), &of::WORDS, &of::TEXTS, least)?;
+    is_least(&rt, rt.alloc(), &given::WORDS, &values::TEXTS, least)?;
     Ok(())
 }
 
@@ -305,7 +311,7 @@ fn least_for_bytes(rt: HostRuntime) -> Result<(), Fail> {
         output: "b98",
         name: "Subscript",
     };
-    is_least(&rt, rt.alloc(), &of::WORDS, &of::BYTES, least)?;
+    is_least(&rt, rt.alloc(), &given::WORDS, &values::BYTES, least)?;
     Ok(())
 }
 
@@ -318,7 +324,7 @@ fn least_for_an_exception(rt: HostRuntime) -> Result<(), Fail> {
         output: "",
         name: "option",
     };
-    is_least(&rt, rt.alloc(), &of::NOTHING, &of::OWN, least)?;
+    is_least(&rt, rt.alloc(), &given::NOTHING, &values::OWN, least)?;
     Ok(())
 }
 
@@ -331,7 +337,7 @@ fn least_for_another_exception(rt: HostRuntime) -> Result<(), Fail> {
         output: "",
         name: "option",
     };
-    is_least(&rt, rt.alloc(), &of::NOTHING, &of::OTHER, least)?;
+    is_least(&rt, rt.alloc(), &given::NOTHING, &values::OTHER, least)?;
     Ok(())
 }
 
@@ -344,7 +350,7 @@ fn least_for_an_exception_that_is_caught(rt: HostRuntime) -> Result<(), Fail> {
         output: "5",
         name: "",
     };
-    is_least(&rt, rt.alloc(), &of::NOTHING, &of::CAUGHT, least)?;
+    is_least(&rt, rt.alloc(), &given::NOTHING, &values::CAUGHT, least)?;
     Ok(())
 }
 
@@ -360,7 +366,7 @@ fn least_for_orders(rt: HostRuntime) -> Result<(), Fail> {
         output: "1001110101",
         name: "",
     };
-    is_least(&rt, rt.alloc(), &of::WORDS, &of::ORDERS, least)?;
+    is_least(&rt, rt.alloc(), &given::WORDS, &orders::ORDERS, least)?;
     Ok(())
 }
 
@@ -376,6 +382,6 @@ fn least_for_orders_as_tests(rt: HostRuntime) -> Result<(), Fail> {
         output: "1001110101",
         name: "",
     };
-    is_least(&rt, rt.alloc(), &of::WORDS, &of::BRANCHES, least)?;
+    is_least(&rt, rt.alloc(), &given::WORDS, &orders::BRANCHES, least)?;
     Ok(())
 }
