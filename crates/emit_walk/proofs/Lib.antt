@@ -7,3 +7,4 @@ pub mod Whole
 pub mod Ends
 pub mod Sizes
 pub mod WalkMarks
+pub mod Nodes

@@ -6,4 +6,5 @@ pub mod Walks
 pub mod Marks
 pub mod MarkSteps
 pub mod MarkCases
+pub mod MarkBlocks
 pub mod Loops
