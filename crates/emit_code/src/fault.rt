@@ -11,6 +11,8 @@ use std::alloc::{AllocError, AllocFailed};
 pub enum EmitFault {
     /// A number or a place that the code names is no word.
     NoWord,
+    /// A label is not where the places say.
+    Unsettled,
     Memory,
 }
 

@@ -21,7 +21,8 @@ impl From<EmitFault> for WalkFault {
 
     fn from(fault: EmitFault) -> WalkFault {
         match fault {
-            EmitFault::NoWord => WalkFault::NoWord,
+            // Nothing in emit_code answers Unsettled.
+            EmitFault::NoWord | EmitFault::Unsettled => WalkFault::NoWord,
             EmitFault::Memory => WalkFault::Memory,
         }
     }

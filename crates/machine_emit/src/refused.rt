@@ -20,7 +20,8 @@ impl From<EmitFault> for EmitRefused {
 
     fn from(fault: EmitFault) -> EmitRefused {
         match fault {
-            EmitFault::NoWord => EmitRefused::NoWord,
+            // Nothing in emit_code answers Unsettled.
+            EmitFault::NoWord | EmitFault::Unsettled => EmitRefused::NoWord,
             EmitFault::Memory => EmitRefused::Memory,
         }
     }
