@@ -8,3 +8,5 @@ pub mod Ends
 pub mod Sizes
 pub mod WalkMarks
 pub mod Nodes
+pub mod Closing
+pub mod Opening

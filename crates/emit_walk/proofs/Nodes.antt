@@ -1,11 +1,13 @@
 -- How far a walk comes with a node, by what its parts append.
-use Rattle.std.proofs.Common.{◌≡◌, ◌≢◌, refl, ℕ, suc, ◌+◌, List, [], ◌∷◌, ◌++◌, length, map, Bool, true, Vec, Box, Global, Result, Ok, Err, OnOk, IfOk, IfErr, sym, ap, ◌∙◌, subst, arith, length-append, get_or}
+use Rattle.std.proofs.Common.{◌≡◌, ◌≢◌, refl, ℕ, suc, ◌+◌, ◌-◌, List, [], ◌∷◌, ◌++◌, length, map, drop, Option, Bool, true, Vec, Box, Global, Result, Ok, Err, OnOk, IfOk, IfErr, sym, ap, ◌∙◌, subst, arith, length-append, get_or}
 use Rattle.std.specs.Result.{IsErrAnd}
 use Rattle.std.proofs.lemmas.List.{length-map}
 use Rattle.std.proofs.Math.ListN.{set}
 use Rattle.ir_code.specs.declared.instr.Instr.{Instr}
 use Rattle.ir_code.specs.declared.instr.Instr.TheVariants.{Acc, Call as CallRow, Jmp}
 use Rattle.mlc_prims.specs.declared.basis.BasisPrimitive.{BasisPrimitive}
+use Rattle.mlc_prims.specs.declared.prim.PrimExn.{PrimExn}
+use Rattle.first_values.specs.Equality.{Shape}
 use Rattle.first_values.specs.Operations.{Callee, Operands, Piece, Plain, Test}
 use Rattle.ir_ssa.specs.Tree as s
 use Rattle.ssa_tree.specs.declared.tree.Arm.{Arm}
@@ -14,17 +16,19 @@ use Rattle.ssa_tree.specs.declared.tree.Body.TheVariants as body
 use Rattle.ssa_tree.specs.declared.tree.Step.{Step}
 use Rattle.ssa_tree.specs.declared.tree.Step.TheVariants as step
 use Rattle.ssa_tree.specs.TreeOf.{StepTree, ArmTree, arm_of, bodies_of, case_step, onto, step_of, tree_of}
-use Rattle.machine_code.specs.Rows.{AreRight, Packets}
+use Rattle.machine_code.specs.Rows.{AreRight, Packets, late_code, later}
 use Rattle.machine_code.specs.Code.{Choice, Places, Scope, Spot, args_of, callee_count, choice_of, choice_size, left, left_by, exits_of, no_exit, no_spot, make_code, make_size, move_code, move_size, plain_code, plain_size, push_code, slot, test_arm_code, test_arm_size, test_code, test_size, choice_code}
-use Rattle.machine_code.proofs.Sizes.{args_count, left_exits, make_length, plain_length, test_arm_length, test_length}
+use Rattle.machine_code.proofs.Sizes.{args_count, late_place, left_exits, make_length, plain_length, test_arm_length, test_length}
 use Rattle.machine_code.proofs.Pieces.{move_length, push_length}
+use Rattle.machine_rows.specs.Table.{rows}
 use Rattle.emit_code.specs.Tags.{choice_for, end_of}
 use Rattle.emit_parts.specs.Labels.{numbered, switch_code, tag_of}
 use Rattle.emit_parts.specs.declared.fault.WalkFault.{WalkFault}
 use Rattle.emit_parts.specs.declared.fault.WalkFault.TheVariants.{Unsettled}
-use Rattle.walk_labels.specs.Labels.{Frame, blank, cases, closed, ended, entered, number_of, opened, arm_places, arms_from, arms_labels, arms_within}
-use Rattle.walk_labels.specs.Marks.{Mark, Foretold, labels_at, past_arms, past_body, past_end, past_head}
-use Rattle.walk_labels.proofs.Marks.{err-then, ok-then}
+use Rattle.walk_labels.specs.Labels.{Frame, blank, blocked, cases, closed, ended, entered, number_of, opened, arm_places, arms_from, arms_labels, arms_within}
+use Rattle.walk_labels.specs.Marks.{Mark, Foretold, fun_labels, labels_at, past_arms, past_body, past_end, past_fun, past_head}
+use Rattle.walk_labels.proofs.Marks.{err-then, mark-is, ok-then}
+use Rattle.walk_labels.proofs.MarkSteps.{unblocked}
 use Rattle.walk_labels.proofs.MarkCases as mark
 use Rattle.emit_walk.proofs.Walking.{tags_in, tags-of, how-tags}
 use Rattle.emit_walk.proofs.Parts.{choice-grown}
@@ -43,6 +47,9 @@ tail-long d p ws old new h =
 
 pub make-long : (d t : ℕ) (scope : Scope) (qs : List Piece) (old new : List Instr) → new ≡ old ++ make_code d t scope qs → length new ≡ length old + make_size t qs
 make-long d t scope qs old new h = grown old new (make_code d t scope qs) (make_size t qs) h (make_length d t scope qs)
+
+pub late-long : (o : Option PrimExn) (packets : Packets) (d : ℕ) (old new : List Instr) → new ≡ old ++ late_code o packets d → length new ≡ later o (length old)
+late-long o packets d old new h = ap length h ∙ length-append old (late_code o packets d) ∙ late_place o packets d (length old)
 
 -- the frame under a handler
 pub under-frame : (f g : Frame) (l : ℕ) (spots : List Spot) (inside : List Spot) (outer kept : Spot) → f.exits ≡ exits_of spots → outer ≡ get_or spots l no_spot
@@ -279,3 +286,22 @@ module _ (at : Places) (right : AreRight at.rows) (label : ℕ → ℕ) where
         case-last sure all inside =
             mark.last-told at.rows at.types how rest_trees (tree_of end) inner_front back first m0 f first-at frame-at blanks-at number m2 met-at m3 kp kf kl sure all
             (inside-at sure all inside)
+
+-- A function: its parameters, its body, and its parameters leave their scope.
+module _ (types : List Shape) (ps : List ℕ) (b : s.Body) (m0 m1 : Mark) (hp : m1.place ≡ m0.place) (hf : m1.frame ≡ blocked ps m0.frame) (hl : m1.found ≡ m0.found) where
+  abbrev in_fun : Mark
+  in_fun = record { place = m0.place; frame = blocked ps m0.frame; found = m0.found }
+
+  at-fun : m1 ≡ in_fun
+  at-fun = mark-is m1 in_fun hp hf hl
+
+  pub fun-walked : (n : ℕ) (m2 m3 : Mark) → m2 ≡ past_body rows types b m1 → n ≡ length ps → m3.place ≡ m2.place → m3.frame.depth ≡ m2.frame.depth - n
+      → m3.frame.scope ≡ drop n m2.frame.scope → m3.frame.exits ≡ m2.frame.exits → m3.found ≡ m2.found → m3 ≡ past_fun rows types ps b m0
+  fun-walked n m2 m3 h2 hn kp kd ks ke kl =
+      let second : m2 ≡ past_body rows types b in_fun = h2 ∙ ap (past_body rows types b) at-fun in
+      mark-is m3 (past_fun rows types ps b m0) (kp ∙ ap (λ (z : Mark). z.place) second)
+      (unblocked m0.frame m2.frame m3.frame ps n (ap (λ (z : Mark). z.frame) second) hn kd ks ke)
+      (kl ∙ ap (λ (z : Mark). z.found) second)
+
+  pub fun-told : (sure : Bool) (all : List ℕ) → Foretold sure all (length m0.found) (fun_labels rows types ps b m0) → Foretold sure all (length m1.found) (labels_at rows types m1 b)
+  fun-told sure all told = subst (λ (z : Mark). Foretold sure all (length z.found) (labels_at rows types z b)) (sym at-fun) told
