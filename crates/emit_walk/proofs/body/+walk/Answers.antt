@@ -94,13 +94,13 @@ emit_body-emit_ends-requires t c =
 
 pub emit_body-returns-in_err-numbers-in-Steps-clause-told : goal.emit_body-returns-in_err-numbers-in-Steps-clause-told
 emit_body-returns-in_err-numbers-in-Steps-clause-told t c =
-    passed _ c.from_residual.result c.in_err-numbers-in-Steps.field-0 c.from_residual.ensures.1
+    passed _ c.from_residual.result c.in_err-numbers-in-Steps.field-0.0 c.from_residual.ensures.1
     (λ told. steps-heads (tables_of c.args.tables.now).types c.args.body.now c.in-Steps.steps c.in-Steps.rest c.deref.result.now (mark_of c.args.pass.now) c.in-Steps.is c.deref.ensures.value c.args.sure c.args.at.now.labels.items told
     c.in_err-numbers-in-Steps.ensures.told)
 
 pub emit_body-returns-in_err-emit_body-in-Steps-clause-told : goal.emit_body-returns-in_err-emit_body-in-Steps-clause-told
 emit_body-returns-in_err-emit_body-in-Steps-clause-told t c =
-    passed _ c.from_residual-in_err-emit_body-in-Steps.result c.in_err-emit_body-in-Steps.field-0 c.from_residual-in_err-emit_body-in-Steps.ensures.1
+    passed _ c.from_residual-in_err-emit_body-in-Steps.result c.in_err-emit_body-in-Steps.field-0.0 c.from_residual-in_err-emit_body-in-Steps.ensures.1
     (λ told. c.in_err-emit_body-in-Steps.ensures.told
     (steps-rest (tables_of c.args.tables.now).types c.args.body.now c.in-Steps.steps c.in-Steps.rest c.deref.result.now c.in-Steps.steps.items c.deref-in-Steps.result.now c.in_ok-numbers-in-Steps.numbers.items
     c.in_ok-numbers-in-Steps.numbers.items (mark_of c.args.pass.now) (mark_of c.emit_heads.new.pass) (mark_of c.args.pass.now) c.in-Steps.is c.deref.ensures.value refl c.deref-in-Steps.ensures refl
@@ -115,7 +115,7 @@ emit_body-returns-in_ok-emit_body-in-Steps-clause-told t c =
 
 pub emit_body-returns-in_err-emit_guarded-in-Guard-clause-told : goal.emit_body-returns-in_err-emit_guarded-in-Guard-clause-told
 emit_body-returns-in_err-emit_guarded-in-Guard-clause-told t c =
-    passed _ c.from_residual-in_err-emit_guarded-in-Guard.result c.in_err-emit_guarded-in-Guard.field-0 c.from_residual-in_err-emit_guarded-in-Guard.ensures.1
+    passed _ c.from_residual-in_err-emit_guarded-in-Guard.result c.in_err-emit_guarded-in-Guard.field-0.0 c.from_residual-in_err-emit_guarded-in-Guard.ensures.1
     (λ told. let m0 = (mark_of c.args.pass.now) in
     let a = tree_of c.deref-in-Guard.result.now in
     let m1 = past_guarded rows (tables_of c.args.tables.now).types c.in-Guard.label a m0 in
@@ -127,7 +127,7 @@ emit_body-returns-in_err-emit_guarded-in-Guard-clause-told t c =
 
 pub emit_body-returns-in_err-emit_body-in-Guard-clause-told : goal.emit_body-returns-in_err-emit_body-in-Guard-clause-told
 emit_body-returns-in_err-emit_body-in-Guard-clause-told t c =
-    passed _ c.from_residual-in_err-emit_body-in-Guard.result c.in_err-emit_body-in-Guard.field-0 c.from_residual-in_err-emit_body-in-Guard.ensures.1
+    passed _ c.from_residual-in_err-emit_body-in-Guard.result c.in_err-emit_body-in-Guard.field-0.0 c.from_residual-in_err-emit_body-in-Guard.ensures.1
     (λ told. let m2 : Mark = record { place = length c.put.new.code.items; frame = record { depth = c.bind.new.depth; scope = c.bind.new.slots; exits = exits_of (spots_of c.emit_guarded.new.pass.spots.items) };
     found = c.emit_guarded.new.pass.found.items } in
     c.in_err-emit_body-in-Guard.ensures.told (handler-told rows (tables_of c.args.tables.now).types (tree_of c.args.body.now) (tree_of c.deref-in-Guard.result.now) (tree_of c.deref-in-Guard-2.result.now) c.in-Guard.label c.in-Guard.packet (mark_of c.args.pass.now)
@@ -150,7 +150,7 @@ emit_body-returns-in_ok-emit_body-in-Guard-clause-walked t c =
 
 pub emit_body-returns-in_err-number-in-Switch-clause-told : goal.emit_body-returns-in_err-number-in-Switch-clause-told
 emit_body-returns-in_err-number-in-Switch-clause-told t c =
-    passed _ c.from_residual-in_err-number-in-Switch.result c.in_err-number-in-Switch.field-0 c.from_residual-in_err-number-in-Switch.ensures.1
+    passed _ c.from_residual-in_err-number-in-Switch.result c.in_err-number-in-Switch.field-0.0 c.from_residual-in_err-number-in-Switch.ensures.1
     (λ told. switch-asks (places_of c.args.tables.now c.args.at.now) c.rows_are_right.ensures (label_in c.args.at.now) c.args.body.now c.in-Switch.cell (depth_in c.in-Switch.cell c.args.pass.now.slots) c.args.pass.now.depth c.in_ok-first-in-Switch.first c.in-Switch.arms c.in-Switch.last
     c.deref-in-Switch.result.now c.deref-in-Switch-4.result.now c.in-Switch.last.value c.in_ok-tags-in-Switch.tags.items c.deref-in-Switch-2.result.now c.deref-in-Switch-3.result.now
     (choice_of c.in_ok-choose-in-Switch.field-0) (mark_of c.args.pass.now) (record { place = length c.emit_choice.new.code.items; frame = frame_of c.args.pass.now; found = c.emit_choice.new.found.items })
@@ -160,7 +160,7 @@ emit_body-returns-in_err-number-in-Switch-clause-told t c =
 
 pub emit_body-returns-in_err-settle-in-Switch-clause-told : goal.emit_body-returns-in_err-settle-in-Switch-clause-told
 emit_body-returns-in_err-settle-in-Switch-clause-told t c =
-    passed _ c.from_residual-in_err-settle-in-Switch.result c.in_err-settle-in-Switch.field-0 c.from_residual-in_err-settle-in-Switch.ensures.1
+    passed _ c.from_residual-in_err-settle-in-Switch.result c.in_err-settle-in-Switch.field-0.0 c.from_residual-in_err-settle-in-Switch.ensures.1
     (λ told. c.in_err-settle-in-Switch.ensures.told
     (switch-settles (places_of c.args.tables.now c.args.at.now) c.rows_are_right.ensures (label_in c.args.at.now) c.args.body.now c.in-Switch.cell (depth_in c.in-Switch.cell c.args.pass.now.slots) c.args.pass.now.depth c.in_ok-first-in-Switch.first c.in-Switch.arms c.in-Switch.last
     c.deref-in-Switch.result.now c.deref-in-Switch-4.result.now c.in-Switch.last.value c.in_ok-tags-in-Switch.tags.items c.deref-in-Switch-2.result.now c.deref-in-Switch-3.result.now
@@ -261,7 +261,7 @@ emit_heads-loop-i-preserved t c = record {
 
 pub emit_heads-returns-in_err-number-clause-told : goal.emit_heads-returns-in_err-number-clause-told
 emit_heads-returns-in_err-number-clause-told t c =
-    passed _ c.from_residual.result c.in_err-number.field-0 c.from_residual.ensures.1
+    passed _ c.from_residual.result c.in_err-number.field-0.0 c.from_residual.ensures.1
     (λ q told. heads-told rows (tables_of c.args.tables.now).types step_of c.args.steps.now c.loop-i.i c.index-steps-i.result c.loop-i-test.true c.index-steps-i.is c.args.sure
     c.args.at.now.labels.items q (mark_of c.args.pass.now) (mark_of c.loop-i.pass) c.loop-i.invariant.marks told c.in_err-number.ensures.told)
 
@@ -364,7 +364,7 @@ emit_head-returns-in_ok-put-in-Turn-clause-walked t c =
 
 pub emit_head-returns-in_err-emit_labelled-in-Label-clause-told : goal.emit_head-returns-in_err-emit_labelled-in-Label-clause-told
 emit_head-returns-in_err-emit_labelled-in-Label-clause-told t c =
-    passed _ c.from_residual-in_err-emit_labelled-in-Label.result c.in_err-emit_labelled-in-Label.field-0 c.from_residual-in_err-emit_labelled-in-Label.ensures.1
+    passed _ c.from_residual-in_err-emit_labelled-in-Label.result c.in_err-emit_labelled-in-Label.field-0.0 c.from_residual-in_err-emit_labelled-in-Label.ensures.1
     (λ q told. c.in_err-emit_labelled-in-Label.ensures.told
     (label-asks (tables_of c.args.tables.now).types c.args.step.now (mark_of c.args.pass.now) c.in-Label.params c.in-Label.body c.deref-in-Label.result.now c.in-Label.is c.deref-in-Label.ensures c.args.sure c.args.at.now.labels.items q told))
 
@@ -379,7 +379,7 @@ emit_head-returns-in_ok-bind_all-in-Label-clause-walked t c =
 
 pub emit_head-returns-in_err-spot-in-Again-clause-told : goal.emit_head-returns-in_err-spot-in-Again-clause-told
 emit_head-returns-in_err-spot-in-Again-clause-told t c =
-    passed _ c.from_residual-in_err-spot-in-Again.result c.in_err-spot-in-Again.field-0 c.from_residual-in_err-spot-in-Again.ensures.1
+    passed _ c.from_residual-in_err-spot-in-Again.result c.in_err-spot-in-Again.field-0.0 c.from_residual-in_err-spot-in-Again.ensures.1
     (λ q told. c.in_err-spot-in-Again.ensures.told
     (again-asks (tables_of c.args.tables.now).types c.args.step.now (mark_of c.args.pass.now) c.in-Again.params c.in-Again.body c.deref-in-Again.result.now c.in-Again.is c.deref-in-Again.ensures c.args.sure c.args.at.now.labels.items q told))
 
@@ -405,7 +405,7 @@ emit_head-returns-in_ok-emit_tested-in-When-clause-number t c =
 
 pub emit_head-returns-in_err-emit_body-in-Unless-clause-told : goal.emit_head-returns-in_err-emit_body-in-Unless-clause-told
 emit_head-returns-in_err-emit_body-in-Unless-clause-told t c =
-    passed _ c.from_residual-in_err-emit_body-in-Unless.result c.in_err-emit_body-in-Unless.field-0 c.from_residual-in_err-emit_body-in-Unless.ensures.1
+    passed _ c.from_residual-in_err-emit_body-in-Unless.result c.in_err-emit_body-in-Unless.field-0.0 c.from_residual-in_err-emit_body-in-Unless.ensures.1
     (λ q told. c.in_err-emit_body-in-Unless.ensures.told
     (unless-asks (tables_of c.args.tables.now).types c.args.step.now (mark_of c.args.pass.now) c.in-Unless.test c.in-Unless.operands c.in-Unless.body c.deref-in-Unless-2.result.now c.in_ok-number-in-Unless.number
     (record { place = length c.emit_tested-in-Unless.new.code.items; frame = frame_of c.args.pass.now; found = c.emit_tested-in-Unless.new.found.items }) c.in-Unless.is c.deref-in-Unless-2.ensures
@@ -413,7 +413,7 @@ emit_head-returns-in_err-emit_body-in-Unless-clause-told t c =
 
 pub emit_head-returns-in_err-settle-in-Unless-clause-told : goal.emit_head-returns-in_err-settle-in-Unless-clause-told
 emit_head-returns-in_err-settle-in-Unless-clause-told t c =
-    passed _ c.from_residual-in_err-settle-in-Unless.result c.in_err-settle-in-Unless.field-0 c.from_residual-in_err-settle-in-Unless.ensures.1
+    passed _ c.from_residual-in_err-settle-in-Unless.result c.in_err-settle-in-Unless.field-0.0 c.from_residual-in_err-settle-in-Unless.ensures.1
     (λ q told. c.in_err-settle-in-Unless.ensures.told
     (unless-settles (tables_of c.args.tables.now).types c.args.step.now (mark_of c.args.pass.now) c.in-Unless.test c.in-Unless.operands c.in-Unless.body c.deref-in-Unless-2.result.now c.in_ok-number-in-Unless.number
     (record { place = length c.emit_tested-in-Unless.new.code.items; frame = frame_of c.args.pass.now; found = c.emit_tested-in-Unless.new.found.items }) c.in-Unless.is c.deref-in-Unless-2.ensures
@@ -471,7 +471,7 @@ emit_guarded-returns-clause-code t c =
 
 pub emit_labelled-returns-in_err-emit_body-clause-told : goal.emit_labelled-returns-in_err-emit_body-clause-told
 emit_labelled-returns-in_err-emit_body-clause-told t c =
-    passed _ c.from_residual-in_err-emit_body.result c.in_err-emit_body.field-0 c.from_residual-in_err-emit_body.ensures.1
+    passed _ c.from_residual-in_err-emit_body.result c.in_err-emit_body.field-0.0 c.from_residual-in_err-emit_body.ensures.1
     (λ told. c.in_err-emit_body.ensures.told
     (labelled-told rows (tables_of c.args.tables.now).types (tree_of c.args.body.now) (mark_of c.args.pass.now) (record { place = length c.args.pass.now.code.items; frame = record { depth = c.args.pass.now.depth; scope = c.args.pass.now.slots; exits = exits_of (spots_of c.push_spot.new.spots.items) }; found = c.reserve.new.found.items }) refl
     (frame-is (record { depth = c.args.pass.now.depth; scope = c.args.pass.now.slots; exits = exits_of (spots_of c.push_spot.new.spots.items) }) (labelled (frame_of c.args.pass.now)) refl refl
@@ -480,7 +480,7 @@ emit_labelled-returns-in_err-emit_body-clause-told t c =
 
 pub emit_labelled-returns-in_err-settle-clause-told : goal.emit_labelled-returns-in_err-settle-clause-told
 emit_labelled-returns-in_err-settle-clause-told t c =
-    passed _ c.from_residual-in_err-settle.result c.in_err-settle.field-0 c.from_residual-in_err-settle.ensures.1
+    passed _ c.from_residual-in_err-settle.result c.in_err-settle.field-0.0 c.from_residual-in_err-settle.ensures.1
     (λ told. c.in_err-settle.ensures.told
     (λ s. ap (λ z. get_or c.args.at.now.labels.items z 0) c.in_ok-number.ensures.number ∙ labelled-settled rows (tables_of c.args.tables.now).types (tree_of c.args.body.now) (mark_of c.args.pass.now) (record { place = length c.args.pass.now.code.items; frame = record { depth = c.args.pass.now.depth; scope = c.args.pass.now.slots; exits = exits_of (spots_of c.push_spot.new.spots.items) }; found = c.reserve.new.found.items }) refl
     (frame-is (record { depth = c.args.pass.now.depth; scope = c.args.pass.now.slots; exits = exits_of (spots_of c.push_spot.new.spots.items) }) (labelled (frame_of c.args.pass.now)) refl refl
@@ -503,7 +503,7 @@ emit_labelled-returns-clause-walked t c =
 
 pub emit_guarded-returns-in_err-emit_body-clause-told : goal.emit_guarded-returns-in_err-emit_body-clause-told
 emit_guarded-returns-in_err-emit_body-clause-told t c =
-    passed _ c.from_residual-in_err-emit_body.result c.in_err-emit_body.field-0 c.from_residual-in_err-emit_body.ensures.1
+    passed _ c.from_residual-in_err-emit_body.result c.in_err-emit_body.field-0.0 c.from_residual-in_err-emit_body.ensures.1
     (λ told. c.in_err-emit_body.ensures.told
     (under-told rows (tables_of c.args.tables.now).types c.args.label (tree_of c.args.body.now) (mark_of c.args.pass.now) (record { place = length c.put.new.code.items; frame = record { depth = c.in_ok-inner.inner; scope = c.args.pass.now.slots; exits = exits_of (spots_of c.replace-outside.new.dest.items) };
     found = c.reserve.new.found.items })
@@ -592,7 +592,7 @@ emit_ends-returns-in_err-emit_end-clause-told t c =
     let k = left - 1 in
     let m : left ≡ k + 1 = omega (arith, q) in
     let lt : k < length c.args.steps.now = omega (arith, w, q) in
-    passed _ c.from_residual.result c.in_err-emit_end.field-0 c.from_residual.ensures.1
+    passed _ c.from_residual.result c.in_err-emit_end.field-0.0 c.from_residual.ensures.1
     (λ front back pc f hk hl hs told inside.
     let opened_ = opened_all rows (tables_of c.args.tables.now).types pc f (map step_of c.args.steps.now) in
     let long : length c.args.pass.now.found.items ≡ length front + (length opened_ + length back) =
@@ -666,13 +666,13 @@ emit_end-returns-in-Plain-clause-walked t c front back pc f hf hl hn =
 
 pub emit_end-returns-in_err-settle-in-Attempt-clause-told : goal.emit_end-returns-in_err-settle-in-Attempt-clause-told
 emit_end-returns-in_err-settle-in-Attempt-clause-told t c =
-    passed _ c.from_residual.result c.in_err-settle-in-Attempt.field-0 c.from_residual.ensures.1
+    passed _ c.from_residual.result c.in_err-settle-in-Attempt.field-0.0 c.from_residual.ensures.1
     (λ front back pc f hf hl hn told inside. c.in_err-settle-in-Attempt.ensures.told
     (attempt-settles (tables_of c.args.tables.now).types c.args.step.now front back pc f (mark_of c.args.pass.now) hf hl c.args.number hn c.in-Attempt.kind c.in-Attempt.primitive _ c.in-Attempt.variable c.in-Attempt.raised c.in-Attempt.raised.value c.in-Attempt.is refl c.args.sure c.args.at.now.labels.items told))
 
 pub emit_end-returns-in_err-emit_body-in-Attempt-clause-told : goal.emit_end-returns-in_err-emit_body-in-Attempt-clause-told
 emit_end-returns-in_err-emit_body-in-Attempt-clause-told t c =
-    passed _ c.from_residual-in_err-emit_body-in-Attempt.result c.in_err-emit_body-in-Attempt.field-0 c.from_residual-in_err-emit_body-in-Attempt.ensures.1
+    passed _ c.from_residual-in_err-emit_body-in-Attempt.result c.in_err-emit_body-in-Attempt.field-0.0 c.from_residual-in_err-emit_body-in-Attempt.ensures.1
     (λ front back pc f hf hl hn told inside. c.in_err-emit_body-in-Attempt.ensures.told
     (attempt-asks (tables_of c.args.tables.now).types c.args.step.now front back pc f (mark_of c.args.pass.now) hf hl c.args.number hn c.in-Attempt.kind c.in-Attempt.primitive _ c.in-Attempt.variable c.in-Attempt.raised c.deref.result.now c.in-Attempt.is c.deref.ensures (record { place = length c.emit_late.new.code.items; frame = frame_of c.args.pass.now; found = c.settle.new.found.items })
     (late-long (rows.late (operands_of c.in-Attempt.kind) c.in-Attempt.primitive) _ _ c.args.pass.now.code.items c.emit_late.new.code.items c.in_ok-emit_late-in-Attempt.ensures) refl
@@ -701,7 +701,7 @@ emit_end-returns-in-Again-clause-walked t c front back pc f hf hl hn =
 
 pub emit_end-returns-in_err-settle-in-When-clause-told : goal.emit_end-returns-in_err-settle-in-When-clause-told
 emit_end-returns-in_err-settle-in-When-clause-told t c =
-    passed _ c.from_residual-in_err-settle-in-When.result c.in_err-settle-in-When.field-0 c.from_residual-in_err-settle-in-When.ensures.1
+    passed _ c.from_residual-in_err-settle-in-When.result c.in_err-settle-in-When.field-0.0 c.from_residual-in_err-settle-in-When.ensures.1
     (λ front back pc f hf hl hn told inside. c.in_err-settle-in-When.ensures.told
     (when-settles (tables_of c.args.tables.now).types c.args.step.now front back pc f (mark_of c.args.pass.now) hf hl c.args.number hn c.in-When.test _ c.in-When.other c.in-When.other.value c.in-When.is refl c.args.sure c.args.at.now.labels.items told))
 
@@ -717,14 +717,14 @@ emit_end-returns-in_ok-settle-in-When-clause-told t c =
 
 pub emit_end-returns-in_err-end-in-Case-clause-told : goal.emit_end-returns-in_err-end-in-Case-clause-told
 emit_end-returns-in_err-end-in-Case-clause-told t c =
-    passed _ c.from_residual-in_err-end-in-Case.result c.in_err-end-in-Case.field-0 c.from_residual-in_err-end-in-Case.ensures.1
+    passed _ c.from_residual-in_err-end-in-Case.result c.in_err-end-in-Case.field-0.0 c.from_residual-in_err-end-in-Case.ensures.1
     (λ front back pc f hf hl hn told inside. case-asks (places_of c.args.tables.now c.args.at.now) c.rows_are_right.ensures (label_in c.args.at.now) c.args.step.now _ c.in-Case.tag c.args.number c.in_ok-first-in-Case.first pc c.in-Case.others c.in-Case.last c.deref-in-Case.result.now c.deref-in-Case-3.result.now c.in-Case.last.value
     c.in_ok-tags-in-Case.tags.items c.deref-in-Case-2.result.now (choice_of c.in_ok-how-in-Case.how) front back f (mark_of c.args.pass.now) c.in-Case.is c.deref-in-Case.ensures.value c.deref-in-Case-3.ensures.value refl
     c.in_ok-tags-in-Case.ensures c.deref-in-Case-2.ensures.value c.in_ok-how-in-Case.ensures c.in_ok-first-in-Case.ensures hf hl hn c.args.sure c.args.at.now.labels.items told inside c.in_err-end-in-Case.ensures.told)
 
 pub emit_end-returns-in_err-settle-in-Case-clause-told : goal.emit_end-returns-in_err-settle-in-Case-clause-told
 emit_end-returns-in_err-settle-in-Case-clause-told t c =
-    passed _ c.from_residual-in_err-settle-in-Case.result c.in_err-settle-in-Case.field-0 c.from_residual-in_err-settle-in-Case.ensures.1
+    passed _ c.from_residual-in_err-settle-in-Case.result c.in_err-settle-in-Case.field-0.0 c.from_residual-in_err-settle-in-Case.ensures.1
     (λ front back pc f hf hl hn told inside. c.in_err-settle-in-Case.ensures.told
     (case-settles (places_of c.args.tables.now c.args.at.now) c.rows_are_right.ensures (label_in c.args.at.now) c.args.step.now _ c.in-Case.tag c.args.number c.in_ok-first-in-Case.first pc c.in-Case.others c.in-Case.last c.deref-in-Case.result.now c.deref-in-Case-3.result.now c.in-Case.last.value
     c.in_ok-tags-in-Case.tags.items c.deref-in-Case-2.result.now (choice_of c.in_ok-how-in-Case.how) front back f (mark_of c.args.pass.now) c.in-Case.is c.deref-in-Case.ensures.value c.deref-in-Case-3.ensures.value refl
@@ -785,14 +785,14 @@ emit_arms-returns-clause-arms t c p =
 
 pub emit_arms-returns-in_err-settle-clause-told : goal.emit_arms-returns-in_err-settle-clause-told
 emit_arms-returns-in_err-settle-clause-told t c =
-    passed _ c.from_residual.result c.in_err-settle.field-0 c.from_residual.ensures.1
+    passed _ c.from_residual.result c.in_err-settle.field-0.0 c.from_residual.ensures.1
     (λ front back hn hl told inside. c.in_err-settle.ensures.told (arms-turn-told rows (tables_of c.args.tables.now).types arm_of c.args.arms.now c.loop-i.i c.index-arms-i.result c.loop-i-test.true c.index-arms-i.is (choice_of c.args.how) c.args.first c.loop-i.number
     (length c.args.pass.now.code.items) (frame_of c.args.pass.now) front back (mark_of c.loop-i.pass) (c.loop-i.invariant.met front back hn hl) c.args.sure c.args.at.now.labels.items (length c.args.pass.now.found.items) (ap length hl ∙ length-append front (blank (length c.args.arms.now) ++ back)
     ∙ ap (λ z. length front + z) (length-append (blank (length c.args.arms.now)) back ∙ ap (λ z. z + length back) (blank-length (length c.args.arms.now)))) told inside).0)
 
 pub emit_arms-returns-in_err-emit_body-clause-told : goal.emit_arms-returns-in_err-emit_body-clause-told
 emit_arms-returns-in_err-emit_body-clause-told t c =
-    passed _ c.from_residual-in_err-emit_body.result c.in_err-emit_body.field-0 c.from_residual-in_err-emit_body.ensures.1
+    passed _ c.from_residual-in_err-emit_body.result c.in_err-emit_body.field-0.0 c.from_residual-in_err-emit_body.ensures.1
     (λ front back hn hl told inside. c.in_err-emit_body.ensures.told
     (body-told rows (tables_of c.args.tables.now).types arm_of c.args.arms.now c.loop-i.i c.index-arms-i.result c.loop-i-test.true c.index-arms-i.is (choice_of c.args.how) c.args.first c.loop-i.number
     (length c.args.pass.now.code.items) (frame_of c.args.pass.now) front back (mark_of c.loop-i.pass) (c.loop-i.invariant.met front back hn hl) c.args.sure c.args.at.now.labels.items (tree_of c.index-arms-i.result.body) c.settle.new.found.items (length c.emit_arm_test.new.code.items)

@@ -20,7 +20,7 @@ returns-in_err-emit_body-clause-told c =
     let is : f ≡ blocked ps (frame_of c.args.pass.now) =
     frame-is f (blocked ps (frame_of c.args.pass.now)) (c.in_ok-bind_all.ensures.depth ∙ ap (λ l. c.args.pass.now.depth + length l) c.deref.ensures.value)
     (c.in_ok-bind_all.ensures.slots ∙ ap (λ l. with_params l c.args.pass.now.depth c.args.pass.now.slots) c.deref.ensures.value) refl in
-    passed _ c.from_residual-in_err-emit_body.result c.in_err-emit_body.field-0 c.from_residual-in_err-emit_body.ensures.1
+    passed _ c.from_residual-in_err-emit_body.result c.in_err-emit_body.field-0.0 c.from_residual-in_err-emit_body.ensures.1
     (λ told. c.in_err-emit_body.ensures.told
     (fun-told (tables_of c.args.tables.now).types ps (tree_of c.args.fun.now.body) (mark_of c.args.pass.now) m1 refl is refl c.args.sure c.args.at.now.labels.items told))
 
