@@ -8,7 +8,8 @@ use Rattle.ir_code.specs.declared.instr.Instr.TheVariants.{Acc, Call as CallRow,
 use Rattle.mlc_prims.specs.declared.basis.BasisPrimitive.{BasisPrimitive}
 use Rattle.mlc_prims.specs.declared.prim.PrimExn.{PrimExn}
 use Rattle.first_values.specs.Equality.{Shape}
-use Rattle.first_values.specs.Operations.{Callee, Operands, Piece, Plain, Test}
+use Rattle.first_values.specs.Operations.{Callee, Operands, Plain, Test}
+use Rattle.first_values.specs.Values.{Piece}
 use Rattle.ir_ssa.specs.Tree as s
 use Rattle.ssa_tree.specs.declared.tree.Arm.{Arm}
 use Rattle.ssa_tree.specs.declared.tree.Body.{Body}

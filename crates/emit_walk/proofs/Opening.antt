@@ -120,3 +120,29 @@ module _ (types : List Shape) (g : Step) (m0 : Mark) where
     unless-settles sure all p told m2 h2 s =
         ap (λ z. get_or all z 0) hn
         ∙ unless-settled rows types (step_of g) (test_of q) xs.items (tree_of d) m0 m1 unless-tree hp hf hl sure all p told m2 h2 s
+
+-- Steps that have no label behind the rest.
+module _ (n : ℕ) (g : Step) where
+  none : (h : StepTree) → step_of g ≡ h → number_of n h ≡ 0 → 0 ≡ number_of n (step_of g)
+  none h is z = sym z ∙ ap (number_of n) (sym is)
+
+  pub plain-numbered : (p : Plain) (xs : Vec ℕ Global) (x : ℕ) → g ≡ step.Plain p xs x → 0 ≡ number_of n (step_of g)
+  plain-numbered p xs x is = none (plain_step (plain_of p) xs.items x) (plain-at g p xs x xs.items is refl) refl
+
+  pub make-numbered : (t : ℕ) (ps : Vec Piece Global) (x : ℕ) → g ≡ step.Make t ps x → 0 ≡ number_of n (step_of g)
+  make-numbered t ps x is = none (make_step t (map piece_of ps.items) x) (make-at g t ps x ps.items is refl) refl
+
+  pub call-numbered : (p : Place) (c : Callee) (xs : Vec ℕ Global) (x : ℕ) → g ≡ step.Call p c xs x → 0 ≡ number_of n (step_of g)
+  call-numbered p c xs x is = none (call_step p (callee_of c) xs.items x) (call-at g p c xs x xs.items is refl) refl
+
+  pub turn-numbered : (p : Place) → g ≡ step.Turn p → 0 ≡ number_of n (step_of g)
+  turn-numbered p is = none (turn_step p) (turn-at g p is) refl
+
+  pub label-numbered : (xs : Vec ℕ Global) (b : Box Body Global) → g ≡ step.Label xs b → 0 ≡ number_of n (step_of g)
+  label-numbered xs b is = none (label_step xs.items (tree_of b.value)) (label-at g xs b xs.items b.value is refl refl) refl
+
+  pub again-numbered : (xs : Vec ℕ Global) (b : Box Body Global) → g ≡ step.Again xs b → 0 ≡ number_of n (step_of g)
+  again-numbered xs b is = none (again_step xs.items (tree_of b.value)) (again-at g xs b xs.items b.value is refl refl) refl
+
+  pub unless-numbered : (q : Test) (xs : Vec ℕ Global) (b : Box Body Global) → g ≡ step.Unless q xs b → 0 ≡ number_of n (step_of g)
+  unless-numbered q xs b is = none (unless_step (test_of q) xs.items (tree_of b.value)) (unless-at g q xs b xs.items b.value is refl refl) refl

@@ -22,7 +22,7 @@ use Rattle.walk_labels.proofs.MarkBlocks.{labelled-settled, labelled-told, under
 use Rattle.walk_labels.proofs.Loops.{heads-start, heads-marks, heads-numbers, heads-told, ends-start, ends-turn, ends-turn-told, ends-finish, arms-start, arms-turn as mark-turn, arms-turn-told, arms-finish, body-told}
 use Rattle.emit_walk.proofs.WalkMarks.{arm-test-long, goto-long, grown, steps-heads, steps-mark, steps-pass, steps-rest}
 use Rattle.emit_walk.proofs.Nodes.{call-long, case-asks, case-ends, case-last, case-marked, case-numbered, case-passes, case-settles, late-long, make-long, passed, plain-long, row-long, switch-asks, switch-marked, switch-passes, switch-settles, tail-long, test-long, under-frame}
-use Rattle.emit_walk.proofs.Opening.{again-asks, again-begins, attempt-begins, attempt-numbered, call-begins, label-asks, label-begins, make-begins, plain-begins, turn-begins, unless-asks, unless-begins, unless-settles, when-begins, when-numbered}
+use Rattle.emit_walk.proofs.Opening.{again-asks, again-begins, attempt-begins, attempt-numbered, call-begins, label-asks, label-begins, make-begins, again-numbered, call-numbered, label-numbered, make-numbered, plain-begins, plain-numbered, turn-begins, turn-numbered, unless-numbered, unless-asks, unless-begins, unless-settles, when-begins, when-numbered}
 use Rattle.emit_walk.proofs.Closing.{again-ends, attempt-asks, attempt-ends, attempt-settles, label-ends, plain-ends, turn-ends, when-asks, when-ends, when-settles}
 use Rattle.emit_walk.proofs.Walking.{label-is, label-code, heads-step, heads-code, heads-scope, heads-begin, arms-end, ends-kept, ends-code-step, ends-stand-step}
 use Rattle.emit_walk.proofs.Parts.{unless-before}
@@ -442,6 +442,34 @@ emit_head-returns-in-Case-clause-told t c =
     case-passes (places_of c.args.tables.now c.args.at.now) c.rows_are_right.ensures (label_in c.args.at.now) c.args.step.now c.in-Case.cell c.in-Case.tag c.args.pass.now.depth (depth_in c.in-Case.cell c.args.pass.now.slots) c.in-Case.others _ c.deref-in-Case.result.now (mark_of c.args.pass.now) c.args.pass.now.code.items c.in-Case.is
     c.deref-in-Case.ensures.value refl c.emit_case.result c.args.sure c.args.at.now.labels.items c.emit_case.ensures.told
 
+pub emit_head-returns-in_ok-bind-in-Plain-clause-number : goal.emit_head-returns-in_ok-bind-in-Plain-clause-number
+emit_head-returns-in_ok-bind-in-Plain-clause-number t c =
+    plain-numbered (length c.args.pass.now.found.items) c.args.step.now c.in-Plain.plain c.in-Plain.operands c.in-Plain.variable c.in-Plain.is
+
+pub emit_head-returns-in_ok-bind-in-Make-clause-number : goal.emit_head-returns-in_ok-bind-in-Make-clause-number
+emit_head-returns-in_ok-bind-in-Make-clause-number t c =
+    make-numbered (length c.args.pass.now.found.items) c.args.step.now c.in-Make.tag c.in-Make.pieces c.in-Make.variable c.in-Make.is
+
+pub emit_head-returns-in_ok-bind-in-Call-clause-number : goal.emit_head-returns-in_ok-bind-in-Call-clause-number
+emit_head-returns-in_ok-bind-in-Call-clause-number t c =
+    call-numbered (length c.args.pass.now.found.items) c.args.step.now _ c.in-Call.callee c.in-Call.operands c.in-Call.variable c.in-Call.is
+
+pub emit_head-returns-in_ok-put-in-Turn-clause-number : goal.emit_head-returns-in_ok-put-in-Turn-clause-number
+emit_head-returns-in_ok-put-in-Turn-clause-number t c =
+    turn-numbered (length c.args.pass.now.found.items) c.args.step.now _ c.in-Turn.is
+
+pub emit_head-returns-in_ok-bind_all-in-Label-clause-number : goal.emit_head-returns-in_ok-bind_all-in-Label-clause-number
+emit_head-returns-in_ok-bind_all-in-Label-clause-number t c =
+    label-numbered (length c.args.pass.now.found.items) c.args.step.now c.in-Label.params c.in-Label.body c.in-Label.is
+
+pub emit_head-returns-in_ok-push_spot-in-Again-clause-number : goal.emit_head-returns-in_ok-push_spot-in-Again-clause-number
+emit_head-returns-in_ok-push_spot-in-Again-clause-number t c =
+    again-numbered (length c.args.pass.now.found.items) c.args.step.now c.in-Again.params c.in-Again.body c.in-Again.is
+
+pub emit_head-returns-in_ok-settle-in-Unless-clause-number : goal.emit_head-returns-in_ok-settle-in-Unless-clause-number
+emit_head-returns-in_ok-settle-in-Unless-clause-number t c =
+    unless-numbered (length c.args.pass.now.found.items) c.args.step.now c.in-Unless.test c.in-Unless.operands c.in-Unless.body c.in-Unless.is
+
 -- Labels and guards.
 
 pub emit_labelled-returns-clause-code : goal.emit_labelled-returns-clause-code
@@ -514,8 +542,8 @@ emit_guarded-returns-in_err-emit_body-clause-told t c =
     (ap (λ (z : Vec Spot Global). spots_of z.items) c.replace-outside.ensures.after ∙ c.in_ok-inside.ensures)))
     c.in_ok-number.ensures.found c.args.sure c.args.at.now.labels.items told))
 
-pub emit_guarded-returns-in_ok-emit_body-clause-walked : goal.emit_guarded-returns-in_ok-emit_body-clause-walked
-emit_guarded-returns-in_ok-emit_body-clause-walked t c =
+pub emit_guarded-returns-clause-walked : goal.emit_guarded-returns-clause-walked
+emit_guarded-returns-clause-walked t c =
     let m2 = mark_of c.emit_body.new.pass in
     let h2 = c.in_ok-emit_body.ensures.walked in
     ok-then c.settle.result (λ h. under-walked rows (tables_of c.args.tables.now).types c.args.label (tree_of c.args.body.now) (mark_of c.args.pass.now) (record { place = length c.put.new.code.items; frame = record { depth = c.in_ok-inner.inner; scope = c.args.pass.now.slots; exits = exits_of (spots_of c.replace-outside.new.dest.items) };
@@ -529,8 +557,8 @@ emit_guarded-returns-in_ok-emit_body-clause-walked t c =
     (frame-is _ (frame_of c.args.pass.now) refl (ap (λ (z : Mark). z.frame.scope) h2) (ap (λ (z : Vec Spot Global). exits_of (spots_of z.items)) c.replace-outside.ensures.result))
     (h ∙ ap (λ z. set c.emit_body.new.pass.found.items z (length c.emit_body.new.pass.code.items)) c.in_ok-number.ensures.number)) c.settle.ensures.found
 
-pub emit_guarded-returns-in_ok-emit_body-clause-told : goal.emit_guarded-returns-in_ok-emit_body-clause-told
-emit_guarded-returns-in_ok-emit_body-clause-told t c =
+pub emit_guarded-returns-clause-told : goal.emit_guarded-returns-clause-told
+emit_guarded-returns-clause-told t c =
     err-then c.settle.result (λ e h told. h
     (λ s. ap (λ z. get_or c.args.at.now.labels.items z 0) c.in_ok-number.ensures.number ∙ under-settled rows (tables_of c.args.tables.now).types c.args.label (tree_of c.args.body.now) (mark_of c.args.pass.now) (record { place = length c.put.new.code.items; frame = record { depth = c.in_ok-inner.inner; scope = c.args.pass.now.slots; exits = exits_of (spots_of c.replace-outside.new.dest.items) };
     found = c.reserve.new.found.items })

@@ -7,12 +7,13 @@ use Rattle.machine_rows.specs.Table.{rows}
 use Rattle.image_law.specs.Assembled.{funs_from, sets_from}
 use Rattle.walk_labels.specs.Marks.{Foretold}
 use Rattle.emit_code.specs.PlacesOf.{places_of}
+use Rattle.emit_walk.proofs.Nodes.{passed}
 use Rattle.machine_emit.specs.Labels.{all_labels, funs_labels}
 use Rattle.machine_emit.proofs.Whole.{start-long, whole-code}
 use Rattle.machine_emit.proofs.assemble.assemble.Goals as goal
 
 pub returns-in_err-funs-clause-told : goal.returns-in_err-funs-clause-told
-returns-in_err-funs-clause-told c places told =
+returns-in_err-funs-clause-told c places =
     let program = c.args.program.now in
     let at = places_of program.tables c.args.at.now in
     let start = c.push_start.new.code.items in
@@ -20,7 +21,8 @@ returns-in_err-funs-clause-told c places told =
     (c.in_ok-push_start.ensures places) refl in
     let same : all_labels (program_of program) ≡ funs_labels rows at.types (length start) (map fun_of c.deref.result.now) =
     sym (ap (λ l. funs_labels rows at.types (length start) (map fun_of l)) c.deref.ensures.value ∙ ap (λ n. funs_labels rows at.types n (program_of program).funs) from) in
-    c.in_err-funs.ensures.told (subst (λ l. Foretold c.args.sure c.args.at.now.labels.items 0 l) same told)
+    passed _ c.from_residual-in_err-funs.result c.in_err-funs.field-0.0 c.from_residual-in_err-funs.ensures.1
+    (λ told. c.in_err-funs.ensures.told (subst (λ l. Foretold c.args.sure c.args.at.now.labels.items 0 l) same told))
 
 pub returns-clause-code : goal.returns-clause-code
 returns-clause-code c = λ s places.

@@ -8,6 +8,7 @@ use Rattle.emit_code.specs.PlacesOf.{places_of}
 use Rattle.walk_labels.proofs.Marks.{frame-is}
 use Rattle.emit_walk.specs.Marks.{frame_of, mark_of}
 use Rattle.emit_walk.specs.Walk.{env_of}
+use Rattle.emit_walk.proofs.Nodes.{passed}
 use Rattle.machine_emit.proofs.Funs.{Laid, no_frame, none-laid, laid-next, laid-told, all-places, all-long, all-labels}
 use Rattle.machine_emit.proofs.Whole.{Walked, first-walked, walked-next, walked-code}
 use Rattle.machine_emit.proofs.assemble.push_funs.Goals as goal
@@ -49,7 +50,7 @@ loop-i-preserved c =
     }
 
 pub returns-in_err-emit_fun-clause-told : goal.returns-in_err-emit_fun-clause-told
-returns-in_err-emit_fun-clause-told c told =
+returns-in_err-emit_fun-clause-told c =
     let all = c.args.funs.now in
     let this = c.index-funs-i.result in
     let i = c.loop-i.i in
@@ -58,8 +59,9 @@ returns-in_err-emit_fun-clause-told c told =
     let from = length c.args.pass.now.code.items in
     let same = ap (map fun_of) (drop_more all i this c.loop-i-test.true) ∙ ap (λ f. fun_of f ∷ rest) (sym c.index-funs-i.is) in
     let so-far = subst (λ l. Laid rows types (map fun_of all) from l (mark_of c.loop-i.pass) c.loop-i.found.items) same c.loop-i.invariant.laid in
-    c.in_err-emit_fun.ensures.told
-    (laid-told rows types (map fun_of all) from (fun_of this) rest (mark_of c.loop-i.pass) c.loop-i.found.items so-far c.args.sure c.args.at.now.labels.items told)
+    passed _ c.from_residual-in_err-emit_fun.result c.in_err-emit_fun.field-0.0 c.from_residual-in_err-emit_fun.ensures.1
+    (λ told. c.in_err-emit_fun.ensures.told
+    (laid-told rows types (map fun_of all) from (fun_of this) rest (mark_of c.loop-i.pass) c.loop-i.found.items so-far c.args.sure c.args.at.now.labels.items told))
 
 pub returns-clause-code : goal.returns-clause-code
 returns-clause-code c = λ s.

@@ -1,21 +1,22 @@
-use Rattle.std.proofs.Common.{◌≡◌, refl, ℕ, zero-add, ap, ◌∙◌, true, false, get_or, rules}
+use Rattle.std.proofs.Common.{refl, zero-add, ap, ◌∙◌, get_or}
+use Rattle.std.proofs.lemmas.Bool.{false≢true}
 use Rattle.ssa_form.specs.Programs.{program_of}
 use Rattle.emit_code.specs.PlacesOf.{places_of}
 use Rattle.emit_code.specs.declared.places.Places.{Places}
 use Rattle.emit_known.specs.Known.{KnowsConstants}
+use Rattle.emit_walk.proofs.Nodes.{passed}
 use Rattle.machine_emit.proofs.Whole.{settled}
 use Rattle.machine_emit.proofs.assemble.walk_twice.Goals as goal
 
 pub returns-in_err-found-clause-settled : goal.returns-in_err-found-clause-settled
-returns-in_err-found-clause-settled c known = c.in_err-found.ensures.told known.1.type_at (λ s. absurd (false-is-not-true s))
-  where
-    false-is-not-true : false ≡ true → ⊥
-    false-is-not-true = search rules
+returns-in_err-found-clause-settled c known =
+    passed _ c.from_residual.result c.in_err-found.field-0.0 c.from_residual.ensures.1 (c.in_err-found.ensures.told known.1.type_at (λ s. absurd (false≢true s)))
 
 pub returns-in_err-made-clause-settled : goal.returns-in_err-made-clause-settled
 returns-in_err-made-clause-settled c known =
-    c.in_err-made.ensures.told known.1.type_at
-    (λ s k lt. ap (λ z. get_or c.in_ok-found.found.labels.items z 0) (zero-add k) ∙ ap (λ l. get_or l k 0) (c.in_ok-found.ensures.labels known.1.type_at))
+    passed _ c.from_residual-in_err-made.result c.in_err-made.field-0.0 c.from_residual-in_err-made.ensures.1
+    (c.in_err-made.ensures.told known.1.type_at
+    (λ s k lt. ap (λ z. get_or c.in_ok-found.found.labels.items z 0) (zero-add k) ∙ ap (λ l. get_or l k 0) (c.in_ok-found.ensures.labels known.1.type_at)))
 
 pub returns-clause-code : goal.returns-clause-code
 returns-clause-code c texts known =
