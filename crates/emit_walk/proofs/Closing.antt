@@ -1,5 +1,6 @@
 -- How far a walk comes with what stands behind the rest of a body, by what the code has of a step.
-use Rattle.std.proofs.Common.{◌≡◌, refl, ℕ, suc, ◌+◌, ◌-◌, List, [], ◌∷◌, ◌++◌, length, map, drop, Bool, true, Vec, Box, Global, sym, ap, ◌∙◌, get_or}
+use Rattle.std.proofs.Common.{◌≡◌, refl, ℕ, suc, ◌+◌, ◌-◌, List, [], ◌∷◌, ◌++◌, length, map, drop, Bool, true, Vec, Box, Global, sym, ap, ◌∙◌, get_or, ⊎_elim}
+use Rattle.std.specs.Prelude.{◌⊎◌}
 use Rattle.std.proofs.Math.ListN.{set}
 use Rattle.mlc_base.specs.declared.place.Place.{Place}
 use Rattle.mlc_prims.specs.declared.basis.BasisPrimitive.{BasisPrimitive}
@@ -26,7 +27,7 @@ module _ (types : List Shape) (g : Step) (front back : List ℕ) (pc : ℕ) (f :
     (hl : m0.found ≡ front ++ (opened rows types pc f (step_of g) ++ back)) where
   -- A step with a variable, which leaves its scope.
 
-  pub plain-ends : (p : Plain) (xs : Vec ℕ Global) (x : ℕ) (m1 : Mark) → g ≡ step.Plain p xs x → m1.place ≡ m0.place → m1.frame.depth ≡ m0.frame.depth - 1
+  plain-ends : (p : Plain) (xs : Vec ℕ Global) (x : ℕ) (m1 : Mark) → g ≡ step.Plain p xs x → m1.place ≡ m0.place → m1.frame.depth ≡ m0.frame.depth - 1
       → m1.frame.scope ≡ drop 1 m0.frame.scope → m1.frame.exits ≡ m0.frame.exits → m1.found ≡ m0.found
       → m1 ≡ past_end rows types front back pc m0.place f (step_of g)
   plain-ends p xs x m1 is kp kd ks ke kl =
@@ -35,7 +36,7 @@ module _ (types : List Shape) (g : Step) (front back : List ℕ) (pc : ℕ) (f :
       end-plain rows types (step_of g) h front back pc f m0 tree hf hl m1 refl refl refl kp
       (unbound f m0.frame m1.frame x (hf ∙ ap (entered f) tree) kd ks ke) kl
 
-  pub make-ends : (t : ℕ) (ps : Vec Piece Global) (x : ℕ) (m1 : Mark) → g ≡ step.Make t ps x → m1.place ≡ m0.place → m1.frame.depth ≡ m0.frame.depth - 1
+  make-ends : (t : ℕ) (ps : Vec Piece Global) (x : ℕ) (m1 : Mark) → g ≡ step.Make t ps x → m1.place ≡ m0.place → m1.frame.depth ≡ m0.frame.depth - 1
       → m1.frame.scope ≡ drop 1 m0.frame.scope → m1.frame.exits ≡ m0.frame.exits → m1.found ≡ m0.found
       → m1 ≡ past_end rows types front back pc m0.place f (step_of g)
   make-ends t ps x m1 is kp kd ks ke kl =
@@ -44,7 +45,7 @@ module _ (types : List Shape) (g : Step) (front back : List ℕ) (pc : ℕ) (f :
       end-plain rows types (step_of g) h front back pc f m0 tree hf hl m1 refl refl refl kp
       (unbound f m0.frame m1.frame x (hf ∙ ap (entered f) tree) kd ks ke) kl
 
-  pub call-ends : (p : Place) (c : Callee) (xs : Vec ℕ Global) (x : ℕ) (m1 : Mark) → g ≡ step.Call p c xs x → m1.place ≡ m0.place → m1.frame.depth ≡ m0.frame.depth - 1
+  call-ends : (p : Place) (c : Callee) (xs : Vec ℕ Global) (x : ℕ) (m1 : Mark) → g ≡ step.Call p c xs x → m1.place ≡ m0.place → m1.frame.depth ≡ m0.frame.depth - 1
       → m1.frame.scope ≡ drop 1 m0.frame.scope → m1.frame.exits ≡ m0.frame.exits → m1.found ≡ m0.found
       → m1 ≡ past_end rows types front back pc m0.place f (step_of g)
   call-ends p c xs x m1 is kp kd ks ke kl =
@@ -53,18 +54,30 @@ module _ (types : List Shape) (g : Step) (front back : List ℕ) (pc : ℕ) (f :
       end-plain rows types (step_of g) h front back pc f m0 tree hf hl m1 refl refl refl kp
       (unbound f m0.frame m1.frame x (hf ∙ ap (entered f) tree) kd ks ke) kl
 
-  pub turn-ends : (p : Place) (m1 : Mark) → g ≡ step.Turn p → m1.place ≡ m0.place → m1.frame ≡ m0.frame → m1.found ≡ m0.found
+  pub variable-ends : (m1 : Mark) → ((p : Plain) × (xs : Vec ℕ Global) × (x : ℕ) × (g ≡ step.Plain p xs x))
+      ⊎ (((t : ℕ) × (ps : Vec Piece Global) × (x : ℕ) × (g ≡ step.Make t ps x)) ⊎ ((p : Place) × (c : Callee) × (xs : Vec ℕ Global) × (x : ℕ) × (g ≡ step.Call p c xs x)))
+      → m1.place ≡ m0.place → m1.frame.depth ≡ m0.frame.depth - 1 → m1.frame.scope ≡ drop 1 m0.frame.scope → m1.frame.exits ≡ m0.frame.exits → m1.found ≡ m0.found
+      → m1 ≡ past_end rows types front back pc m0.place f (step_of g)
+  variable-ends m1 is kp kd ks ke kl =
+      ⊎_elim (λ z. plain-ends z.0 z.1 z.2 m1 z.3 kp kd ks ke kl)
+      (λ other. ⊎_elim (λ z. make-ends z.0 z.1 z.2 m1 z.3 kp kd ks ke kl) (λ z. call-ends z.0 z.1 z.2 z.3 m1 z.4 kp kd ks ke kl) other) is
+
+  turn-ends : (p : Place) (m1 : Mark) → g ≡ step.Turn p → m1.place ≡ m0.place → m1.frame ≡ m0.frame → m1.found ≡ m0.found
       → m1 ≡ past_end rows types front back pc m0.place f (step_of g)
   turn-ends p m1 is kp kf kl =
       let tree : step_of g ≡ turn_step p = turn-at g p is in
       end-plain rows types (step_of g) (turn_step p) front back pc f m0 tree hf hl m1 refl refl refl kp (kf ∙ hf ∙ ap (entered f) tree) kl
 
-  pub unless-ends : (q : Test) (xs : Vec ℕ Global) (b : Box Body Global) (m1 : Mark) → g ≡ step.Unless q xs b → m1.place ≡ m0.place → m1.frame ≡ m0.frame
+  unless-ends : (q : Test) (xs : Vec ℕ Global) (b : Box Body Global) (m1 : Mark) → g ≡ step.Unless q xs b → m1.place ≡ m0.place → m1.frame ≡ m0.frame
       → m1.found ≡ m0.found → m1 ≡ past_end rows types front back pc m0.place f (step_of g)
   unless-ends q xs b m1 is kp kf kl =
       let h = unless_step (test_of q) xs.items (tree_of b.value) in
       let tree : step_of g ≡ h = unless-at g q xs b xs.items b.value is refl refl in
       end-plain rows types (step_of g) h front back pc f m0 tree hf hl m1 refl refl refl kp (kf ∙ hf ∙ ap (entered f) tree) kl
+
+  pub same-ends : (m1 : Mark) → ((p : Place) × (g ≡ step.Turn p)) ⊎ ((q : Test) × (xs : Vec ℕ Global) × (b : Box Body Global) × (g ≡ step.Unless q xs b))
+      → m1.place ≡ m0.place → m1.frame ≡ m0.frame → m1.found ≡ m0.found → m1 ≡ past_end rows types front back pc m0.place f (step_of g)
+  same-ends m1 is kp kf kl = ⊎_elim (λ z. turn-ends z.0 m1 z.1 kp kf kl) (λ z. unless-ends z.0 z.1 z.2 m1 z.3 kp kf kl) is
 
   -- A block, whose parameters leave their scope.
   pub label-ends : (xs : Vec ℕ Global) (b : Box Body Global) (n : ℕ) (m1 : Mark) → g ≡ step.Label xs b → n ≡ length xs.items → m1.place ≡ m0.place

@@ -21,6 +21,7 @@ ghost use Rattle.emit_parts.specs.Labels.{label_in, spot_of, spots_of};
 
 use emit_code::cell::emit_cell;
 use emit_code::choice::{Choice, choose};
+use emit_code::fault::EmitFault;
 use emit_code::places::Places;
 use emit_code::plain::{emit_late, emit_plain};
 use emit_code::put::{depth_of, here, put, slot_at, slot_of, sum};
@@ -481,7 +482,7 @@ fn left_spot(spot: Spot, depth: u32) -> Spot
 }
 
 /// One label alone.
-fn only_spot(alloc: Global, spot: Spot) -> Result<Vec<Spot>, WalkFault>
+fn only_spot(alloc: Global, spot: Spot) -> Result<Vec<Spot>, EmitFault>
     ensures { IfOk result (λ spots. spots_of spots.items ≡ spot_of spot ∷ []) }
 {
     let mut spots = Vec::new(alloc);

@@ -23,12 +23,12 @@ use Rattle.walk_labels.proofs.Loops.{heads-start, heads-marks, heads-numbers, he
 use Rattle.emit_walk.proofs.WalkMarks.{arm-test-long, goto-long, grown, steps-heads, steps-mark, steps-pass, steps-rest}
 use Rattle.emit_walk.proofs.Nodes.{call-long, case-asks, case-ends, case-last, case-marked, case-numbered, case-passes, case-settles, late-long, make-long, passed, plain-long, row-long, switch-asks, switch-marked, switch-passes, switch-settles, tail-long, test-long, under-frame}
 use Rattle.emit_walk.proofs.Opening.{again-asks, again-begins, attempt-begins, attempt-numbered, call-begins, label-asks, label-begins, make-begins, again-numbered, call-numbered, label-numbered, make-numbered, plain-begins, plain-numbered, turn-begins, turn-numbered, unless-numbered, unless-asks, unless-begins, unless-settles, when-begins, when-numbered}
-use Rattle.emit_walk.proofs.Closing.{again-ends, attempt-asks, attempt-ends, attempt-settles, label-ends, plain-ends, turn-ends, when-asks, when-ends, when-settles}
+use Rattle.emit_walk.proofs.Closing.{again-ends, attempt-asks, attempt-ends, attempt-settles, label-ends, same-ends, variable-ends, when-asks, when-ends, when-settles}
 use Rattle.emit_walk.proofs.Walking.{label-is, label-code, heads-step, heads-code, heads-scope, heads-begin, arms-end, ends-kept, ends-code-step, ends-stand-step}
 use Rattle.emit_walk.proofs.Parts.{unless-before}
 use Rattle.emit_walk.proofs.Rolls.{arm-is, attempt-at, goto-at, guard-at, jump-at, raise-at, ret-at, tail-at, unless-at}
 use Rattle.emit_walk.proofs.Turns.{body-code, head-code}
-use Rattle.emit_walk.proofs.Ends.{labelled-by, ends-done-code, ends-done-kept, ends-done-stand, attempt-end-code, label-end-kept, again-end-kept, guard-bound}
+use Rattle.emit_walk.proofs.Ends.{ends-start-code, ends-start-kept, ends-start-stand, labelled-by, ends-done-code, ends-done-kept, ends-done-stand, attempt-end-code, label-end-kept, again-end-kept, guard-bound}
 use Rattle.emit_walk.proofs.Whole.{steps-code, steps-kept, switch-code, case-end-code, case-end-kept, case-end-stands, case-head-code, case-head-begins, guarded-whole, arms-turn}
 use Rattle.emit_walk.proofs.Sizes.{steps-fall}
 use Rattle.emit_walk.proofs.body.+walk.Goals as goal
@@ -554,7 +554,7 @@ emit_guarded-returns-clause-walked t c =
     (c.spot_at-outer.ensures ∙ ap (λ (z : List Spot). get_or (spots_of z) c.args.label no_spot) c.deref.ensures.value) c.left_spot-spot.ensures
     (ap (λ (z : Vec Spot Global). spots_of z.items) c.replace-outside.ensures.after ∙ c.in_ok-inside.ensures)))
     c.in_ok-number.ensures.found m2 _ h2 refl
-    (frame-is _ (frame_of c.args.pass.now) refl (ap (λ (z : Mark). z.frame.scope) h2) (ap (λ (z : Vec Spot Global). exits_of (spots_of z.items)) c.replace-outside.ensures.result))
+    (frame-is _ (frame_of c.args.pass.now) refl (ap (λ (z : Mark). z.frame.scope) h2) (ap (λ (z : Vec Spot Global). exits_of (spots_of z.items)) c.replace-outside.ensures.value))
     (h ∙ ap (λ z. set c.emit_body.new.pass.found.items z (length c.emit_body.new.pass.code.items)) c.in_ok-number.ensures.number)) c.settle.ensures.found
 
 pub emit_guarded-returns-clause-told : goal.emit_guarded-returns-clause-told
@@ -573,14 +573,17 @@ emit_guarded-returns-clause-told t c =
 -- What stands behind it.
 
 pub emit_ends-loop-left-init : goal.emit_ends-loop-left-init
-emit_ends-loop-left-init t c = record {
-  within = search rules;
-  kept = search rules;
-  code = search rules;
-  ends = search rules;
-  met = λ front back pc f hk hl hs. ends-start rows (tables_of c.args.tables.now).types step_of c.args.steps.now c.len-left.result pc (length c.args.pass.now.code.items) f
-      (frame_of c.args.pass.now) front back c.args.pass.now.found.items c.len-left.ensures hk hl;
-}
+emit_ends-loop-left-init t c =
+    let at = places_of c.args.tables.now c.args.at.now in
+    let xs = c.args.steps.now in
+    record {
+      within = search rules;
+      kept = λ p e h. ends-start-kept at xs (length xs) e (env_of c.args.pass.now) refl h;
+      code = λ p e h. ends-start-code at xs (length xs) e c.args.pass.now.code.items (length c.args.pass.now.code.items) refl;
+      ends = λ p e h. ends-start-stand at (label_in c.args.at.now) xs c.args.numbers.now (length xs) e (length c.args.pass.now.code.items) refl;
+      met = λ front back pc f hk hl hs. ends-start rows (tables_of c.args.tables.now).types step_of xs (length xs) pc (length c.args.pass.now.code.items) f
+          (frame_of c.args.pass.now) front back c.args.pass.now.found.items refl hk hl;
+    }
 
 pub emit_ends-loop-left-preserved : goal.emit_ends-loop-left-preserved
 emit_ends-loop-left-preserved t c =
@@ -690,7 +693,7 @@ emit_end-returns-in_ok-settle-in-Case-clause-ends t c =
 
 pub emit_end-returns-in-Plain-clause-walked : goal.emit_end-returns-in-Plain-clause-walked
 emit_end-returns-in-Plain-clause-walked t c front back pc f hf hl hn =
-    plain-ends (tables_of c.args.tables.now).types c.args.step.now front back pc f (mark_of c.args.pass.now) hf hl _ _ _ _ c.in-Plain.is refl c.leave.ensures.depth c.leave.ensures.slots refl refl
+    variable-ends (tables_of c.args.tables.now).types c.args.step.now front back pc f (mark_of c.args.pass.now) hf hl _ c.in-Plain.is refl c.leave.ensures.depth c.leave.ensures.slots refl refl
 
 pub emit_end-returns-in_err-settle-in-Attempt-clause-told : goal.emit_end-returns-in_err-settle-in-Attempt-clause-told
 emit_end-returns-in_err-settle-in-Attempt-clause-told t c =
@@ -711,11 +714,11 @@ emit_end-returns-in_ok-emit_body-in-Attempt-clause-walked t c front back pc f hf
     attempt-ends (tables_of c.args.tables.now).types c.args.step.now front back pc f (mark_of c.args.pass.now) hf hl c.args.number hn c.in-Attempt.kind c.in-Attempt.primitive _ c.in-Attempt.variable c.in-Attempt.raised c.deref.result.now c.in-Attempt.is c.deref.ensures (record { place = length c.emit_late.new.code.items; frame = frame_of c.args.pass.now; found = c.settle.new.found.items })
     (late-long (rows.late (operands_of c.in-Attempt.kind) c.in-Attempt.primitive) _ _ c.args.pass.now.code.items c.emit_late.new.code.items c.in_ok-emit_late-in-Attempt.ensures) refl
     c.in_ok-settle-in-Attempt.ensures.found (mark_of c.emit_body.new.pass) _ c.in_ok-emit_body-in-Attempt.ensures.walked refl
-    c.leave-in-Attempt.ensures.depth c.leave-in-Attempt.ensures.slots refl refl
+    c.leave.ensures.depth c.leave.ensures.slots refl refl
 
 pub emit_end-returns-in-Turn-clause-walked : goal.emit_end-returns-in-Turn-clause-walked
 emit_end-returns-in-Turn-clause-walked t c front back pc f hf hl hn =
-    turn-ends (tables_of c.args.tables.now).types c.args.step.now front back pc f (mark_of c.args.pass.now) hf hl _ (mark_of c.args.pass.now) c.in-Turn.is refl refl refl
+    same-ends (tables_of c.args.tables.now).types c.args.step.now front back pc f (mark_of c.args.pass.now) hf hl (mark_of c.args.pass.now) c.in-Turn.is refl refl refl
 
 pub emit_end-returns-in-Label-clause-walked : goal.emit_end-returns-in-Label-clause-walked
 emit_end-returns-in-Label-clause-walked t c front back pc f hf hl hn =
@@ -731,16 +734,16 @@ pub emit_end-returns-in_err-settle-in-When-clause-told : goal.emit_end-returns-i
 emit_end-returns-in_err-settle-in-When-clause-told t c =
     passed _ c.from_residual-in_err-settle-in-When.result c.in_err-settle-in-When.field-0.0 c.from_residual-in_err-settle-in-When.ensures.1
     (λ front back pc f hf hl hn told inside. c.in_err-settle-in-When.ensures.told
-    (when-settles (tables_of c.args.tables.now).types c.args.step.now front back pc f (mark_of c.args.pass.now) hf hl c.args.number hn c.in-When.test _ c.in-When.other c.in-When.other.value c.in-When.is refl c.args.sure c.args.at.now.labels.items told))
+    (when-settles (tables_of c.args.tables.now).types c.args.step.now front back pc f (mark_of c.args.pass.now) hf hl c.args.number hn _ _ c.in-When.other c.in-When.other.value c.in-When.is refl c.args.sure c.args.at.now.labels.items told))
 
 pub emit_end-returns-in_ok-settle-in-When-clause-walked : goal.emit_end-returns-in_ok-settle-in-When-clause-walked
 emit_end-returns-in_ok-settle-in-When-clause-walked t c =
-    ok-then c.emit_body-in-When.result (λ h front back pc f hf hl hn. when-ends (tables_of c.args.tables.now).types c.args.step.now front back pc f (mark_of c.args.pass.now) hf hl c.args.number hn c.in-When.test _ c.in-When.other c.deref-in-When.result.now c.in-When.is c.deref-in-When.ensures (record { place = length c.args.pass.now.code.items; frame = frame_of c.args.pass.now; found = c.settle-in-When.new.found.items }) refl refl c.in_ok-settle-in-When.ensures.found
+    ok-then c.emit_body-in-When.result (λ h front back pc f hf hl hn. when-ends (tables_of c.args.tables.now).types c.args.step.now front back pc f (mark_of c.args.pass.now) hf hl c.args.number hn _ _ c.in-When.other c.deref-in-When.result.now c.in-When.is c.deref-in-When.ensures (record { place = length c.args.pass.now.code.items; frame = frame_of c.args.pass.now; found = c.settle-in-When.new.found.items }) refl refl c.in_ok-settle-in-When.ensures.found
     (mark_of c.emit_body-in-When.new.pass) h) c.emit_body-in-When.ensures.walked
 
 pub emit_end-returns-in_ok-settle-in-When-clause-told : goal.emit_end-returns-in_ok-settle-in-When-clause-told
 emit_end-returns-in_ok-settle-in-When-clause-told t c =
-    err-then c.emit_body-in-When.result (λ e h front back pc f hf hl hn told inside. h (when-asks (tables_of c.args.tables.now).types c.args.step.now front back pc f (mark_of c.args.pass.now) hf hl c.args.number hn c.in-When.test _ c.in-When.other c.deref-in-When.result.now c.in-When.is c.deref-in-When.ensures (record { place = length c.args.pass.now.code.items; frame = frame_of c.args.pass.now; found = c.settle-in-When.new.found.items }) refl refl c.in_ok-settle-in-When.ensures.found
+    err-then c.emit_body-in-When.result (λ e h front back pc f hf hl hn told inside. h (when-asks (tables_of c.args.tables.now).types c.args.step.now front back pc f (mark_of c.args.pass.now) hf hl c.args.number hn _ _ c.in-When.other c.deref-in-When.result.now c.in-When.is c.deref-in-When.ensures (record { place = length c.args.pass.now.code.items; frame = frame_of c.args.pass.now; found = c.settle-in-When.new.found.items }) refl refl c.in_ok-settle-in-When.ensures.found
     c.args.sure c.args.at.now.labels.items inside)) c.emit_body-in-When.ensures.told
 
 pub emit_end-returns-in_err-end-in-Case-clause-told : goal.emit_end-returns-in_err-end-in-Case-clause-told
