@@ -5,7 +5,7 @@ use Rattle.ir_code.specs.declared.instr.Instr.TheVariants.{Acc, PushHandler, Rai
 use Rattle.first_tables.specs.TablesOf.{callee_of, operands_of, plain_of, tables_of, test_of}
 use Rattle.ssa_tree.specs.TreeOf.{ArmTree, arm_of, step_of, tree_of, unless_step}
 use Rattle.ir_ssa.specs.Tree as s
-use Rattle.machine_code.specs.Code.{args_of, depth_in, depths_in, exits_of, no_spot}
+use Rattle.machine_code.specs.Code.{args_of, callee_at, depth_in, depths_in, exits_of, no_spot, slot}
 use Rattle.machine_rows.specs.Table.{rows}
 use Rattle.walk_labels.specs.Labels.{Frame, blank, bound, guarded, labelled, numbers_of, opened_all}
 use Rattle.walk_labels.specs.Marks.{Mark, past_guarded, past_heads}
@@ -342,7 +342,8 @@ pub emit_head-returns-in_ok-bind-in-Call-clause-walked : goal.emit_head-returns-
 emit_head-returns-in_ok-bind-in-Call-clause-walked t c =
     let m1 : Mark = record { place = length c.emit_call.new.code.items; frame = record { depth = c.bind-in-Call.new.depth; scope = c.bind-in-Call.new.slots; exits = exits_of (spots_of c.args.pass.now.spots.items) }; found = c.args.pass.now.found.items } in
     call-begins (tables_of c.args.tables.now).types c.args.step.now (mark_of c.args.pass.now) c.in-Call.variable m1 c.in_ok-bind-in-Call.ensures.depth c.in_ok-bind-in-Call.ensures.slots refl _ c.in-Call.callee c.in-Call.operands c.deref-in-Call.result.now c.in-Call.is c.deref-in-Call.ensures.value
-    (call-long (places_of c.args.tables.now c.args.at.now) c.rows_are_right.ensures c.args.pass.now.depth _ _ (callee_of c.in-Call.callee) c.args.pass.now.slots c.deref-in-Call.result.now c.args.pass.now.code.items c.emit_call.new.code.items c.in_ok-emit_call-in-Call.ensures) refl
+    (call-long (places_of c.args.tables.now c.args.at.now) c.rows_are_right.ensures c.args.pass.now.depth
+    (callee_at (places_of c.args.tables.now c.args.at.now) (callee_of c.in-Call.callee)) (slot c.args.pass.now.depth) (callee_of c.in-Call.callee) c.args.pass.now.slots c.deref-in-Call.result.now c.args.pass.now.code.items c.emit_call.new.code.items c.in_ok-emit_call-in-Call.ensures) refl
 
 pub emit_head-returns-in_ok-bind-in-Attempt-clause-walked : goal.emit_head-returns-in_ok-bind-in-Attempt-clause-walked
 emit_head-returns-in_ok-bind-in-Attempt-clause-walked t c =
@@ -693,7 +694,7 @@ emit_end-returns-in_ok-settle-in-Case-clause-ends t c =
 
 pub emit_end-returns-in-Plain-clause-walked : goal.emit_end-returns-in-Plain-clause-walked
 emit_end-returns-in-Plain-clause-walked t c front back pc f hf hl hn =
-    variable-ends (tables_of c.args.tables.now).types c.args.step.now front back pc f (mark_of c.args.pass.now) hf hl _ c.in-Plain.is refl c.leave.ensures.depth c.leave.ensures.slots refl refl
+    variable-ends (tables_of c.args.tables.now).types c.args.step.now front back pc f (mark_of c.args.pass.now) hf hl _ c.in-Plain.is refl c.leave-in-Plain.ensures.depth c.leave-in-Plain.ensures.slots refl refl
 
 pub emit_end-returns-in_err-settle-in-Attempt-clause-told : goal.emit_end-returns-in_err-settle-in-Attempt-clause-told
 emit_end-returns-in_err-settle-in-Attempt-clause-told t c =
