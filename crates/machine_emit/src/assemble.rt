@@ -118,12 +118,7 @@ fn empty_pass(alloc: Global) -> Pass
 
 /// The code, by places that are known so far. A sure walk has the code of the places; what any walk finds is where things stand in it, whatever the places of
 /// functions, routines and labels.
-fn assemble(
-    alloc: Global,
-    program: &Ssa,
-    at: &Places,
-    sure: bool,
-) -> Result<Assembled, WalkFault>
+fn assemble(alloc: Global, program: &Ssa, at: &Places, sure: bool) -> Result<Assembled, WalkFault>
     ensures code { sure ≡ true → ArePlaces (tables_of program.now.tables).types at.now.types.items at.now.types_end →
         IfOk result (λ made. made.code.items ≡ code_by (places_of program.now.tables at.now) (program_of program.now)) }
     ensures funs { ArePlaces (tables_of program.now.tables).types at.now.types.items at.now.types_end →

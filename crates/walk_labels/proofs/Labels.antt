@@ -1,12 +1,12 @@
 -- The labels of a body of steps are those before the rest, those of the rest, and those behind it.
-use Rattle.std.proofs.Common.{◌≡◌, refl, ℕ, suc, ◌+◌, List, [], ◌∷◌, ◌++◌, length, sym, ap, ◌∙◌, arith, append_assoc, append-nil}
+use Rattle.std.proofs.Common.{◌≡◌, ℕ, ◌+◌, List, [], ◌∷◌, ◌++◌, length, sym, ap, ◌∙◌, arith, append_assoc, append-nil}
 use Rattle.first_values.specs.Equality.{Shape}
-use Rattle.ir_ssa.specs.Tree.{Body, Bodies, arm}
+use Rattle.ir_ssa.specs.Tree.{Body, arm}
 use Rattle.ssa_tree.specs.TreeOf.{StepTree, plain_step, make_step, call_step, attempt_step, turn_step, label_step, again_step, when_step, unless_step, case_step, put, onto}
 use Rattle.machine_code.specs.Rows.{Rows, later}
 use Rattle.machine_code.specs.Code.{callee_count, choice_of, choice_size, test_arm_size, test_size}
-use Rattle.walk_labels.specs.Labels.{Frame, bound, labelled, blocked, entered, entered_all, cases, size_of, arm_places, labels, arms_labels, head_size, end_size, head_sizes, end_sizes, closed, ended, closed_all, ended_all}
-use Rattle.walk_labels.proofs.Sizes.{case-size, size-put, sizes-onto}
+use Rattle.walk_labels.specs.Labels.{Frame, bound, labelled, blocked, entered, entered_all, cases, size_of, arm_places, labels, arms_labels, head_size, head_sizes, end_sizes, closed, ended, closed_all, ended_all}
+use Rattle.walk_labels.proofs.Sizes.{case-size, sizes-onto}
 
 regroup : (a c l e d : List ℕ) → a ++ ((c ++ (l ++ e)) ++ d) ≡ (a ++ c) ++ (l ++ (e ++ d))
 regroup a c l e d =

@@ -244,13 +244,13 @@ module _ (rows : Rows) (types : List Shape) where
         arms-from-long how f as_ q,
       ) in (
         (λ s. ap (λ z. get_or all z 0) so_far.found.3
-        ∙ told-first all (length front + length met) p (arms_from rows types how next f rest)
-        (told-right all (length front) met (p ∷ arms_from rows types how next f rest) (told-same all (length front) _ _ (sym so_far.found.4) (places s)))),
+            ∙ told-first all (length front + length met) p (arms_from rows types how next f rest)
+            (told-right all (length front) met (p ∷ arms_from rows types how next f rest) (told-same all (length front) _ _ (sym so_far.found.4) (places s)))),
         (λ s. told-from all (n0 + length within) (length now) _ (sym long)
-        (told-same all (n0 + length within) _ _ (ap (λ z. labels rows types (p + test_arm_size how) z a.body) (sym so_far.frame))
-        (told-left all (n0 + length within) (labels rows types (p + test_arm_size how) f a.body) (arms_within rows types how next f rest)
-        (told-right all n0 within (labels rows types (p + test_arm_size how) f a.body ++ arms_within rows types how next f rest)
-        (told-same all n0 _ _ (sym so_far.found.5) (inside s)))))),
+            (told-same all (n0 + length within) _ _ (ap (λ z. labels rows types (p + test_arm_size how) z a.body) (sym so_far.frame))
+            (told-left all (n0 + length within) (labels rows types (p + test_arm_size how) f a.body) (arms_within rows types how next f rest)
+            (told-right all n0 within (labels rows types (p + test_arm_size how) f a.body ++ arms_within rows types how next f rest)
+            (told-same all n0 _ _ (sym so_far.found.5) (inside s)))))),
       )
 
   module _ {X : Type 0} (arm : X → ArmTree) (xs : List X) where
@@ -261,8 +261,11 @@ module _ (rows : Rows) (types : List Shape) where
 
     pub arms-finish : (how : Choice) (i n m q : ℕ) (m0 : Mark) (f : Frame) (front back : List ℕ) → length xs ≤ i
         → ArmsMet rows types how (map arm xs) (map arm (drop i xs)) n m q m0.place f m0.frame front back m0.found
-        → (m0 ≡ record { place = q + arms_long rows types how f (map arm xs); frame = f;
-        found = front ++ (arms_from rows types how q f (map arm xs) ++ (back ++ arms_within rows types how q f (map arm xs))) }) × (m ≡ n + length xs)
+        → (m0 ≡ record {
+          place = q + arms_long rows types how f (map arm xs);
+          frame = f;
+          found = front ++ (arms_from rows types how q f (map arm xs) ++ (back ++ arms_within rows types how q f (map arm xs)));
+        }) × (m ≡ n + length xs)
     arms-finish how i n m q m0 f front back le met =
         let d = arms-done rows types how (map arm xs) (map arm (drop i xs)) n m q m0.place f m0.frame front back m0.found (ap (map arm) (drop_all i xs le)) met in (
           mark-is m0 _ d.1 d.0 d.3,

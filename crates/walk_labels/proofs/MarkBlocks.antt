@@ -1,5 +1,5 @@
 -- How far a walk comes with a body whose label, or whose handler, stands behind it; and where labels are to stand that are behind what was walked.
-use Rattle.std.proofs.Common.{◌≡◌, refl, ℕ, ◌+◌, List, [], ◌∷◌, ◌++◌, length, Bool, true, sym, ap, ◌∙◌, subst, arith, append_assoc, length-append, get_or}
+use Rattle.std.proofs.Common.{◌≡◌, refl, ℕ, ◌+◌, List, [], ◌∷◌, ◌++◌, length, Bool, true, sym, ap, ◌∙◌, subst, append_assoc, length-append, get_or}
 use Rattle.std.proofs.Math.ListN.{set}
 use Rattle.first_values.specs.Equality.{Shape}
 use Rattle.first_values.specs.Operations.{Test}

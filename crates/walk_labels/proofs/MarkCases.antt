@@ -5,8 +5,8 @@ use Rattle.first_values.specs.Equality.{Shape}
 use Rattle.ir_ssa.specs.Tree.{Body, Bodies, switch}
 use Rattle.ssa_tree.specs.TreeOf.{StepTree, ArmTree, bodies_of, case_step}
 use Rattle.machine_code.specs.Rows.{Rows}
-use Rattle.machine_code.specs.Code.{Choice, choice_of, choice_size, count, test_arm_size}
-use Rattle.walk_labels.specs.Labels.{Frame, blank, cases, entered, size_of, labels, arms_size_of, arm_places, arms_labels, arms_from, arms_within, arms_long, head_size, opened, closed, ended, number_of}
+use Rattle.machine_code.specs.Code.{Choice, choice_of, choice_size, test_arm_size}
+use Rattle.walk_labels.specs.Labels.{Frame, blank, cases, entered, size_of, labels, arms_size_of, arm_places, arms_labels, arms_from, arms_within, arms_long, opened, closed, ended, number_of}
 use Rattle.walk_labels.specs.Marks.{Mark, Foretold, labels_at, past_arms, past_body, past_head, past_end}
 use Rattle.walk_labels.proofs.Sizes.{blank-length, places-length}
 use Rattle.walk_labels.proofs.Arms.{blank-last, arms-count, arms-size, arms-places, arms-labels}
@@ -68,8 +68,11 @@ module _ (rows : Rows) (types : List Shape) where
       at-arms : (m2 ≡ record { place = far; frame = f; found = front ++ (places ++ (0 ∷ (back ++ within))) }) × (number ≡ length (front ++ places))
       at-arms =
           let h = h2 front (0 ∷ back) hn before-arms in (
-            h.0 ∙ ap (λ z. record { place = m1.place + arms_long rows types how z as_; frame = z;
-            found = front ++ (arms_from rows types how m1.place z as_ ++ (0 ∷ (back ++ arms_within rows types how m1.place z as_))) }) hf,
+            h.0 ∙ ap (λ z. record {
+              place = m1.place + arms_long rows types how z as_;
+              frame = z;
+              found = front ++ (arms_from rows types how m1.place z as_ ++ (0 ∷ (back ++ arms_within rows types how m1.place z as_)));
+            }) hf,
             omega (arith, h.1, hn, length-append front places, from-length how f as_ m1.place),
           )
 
@@ -95,14 +98,20 @@ module _ (rows : Rows) (types : List Shape) where
             ∙ ap (λ z. front ++ z) (sym (append_assoc places (far ∷ []) (back ++ within))))
 
         pub arms-walked : (m4 : Mark) → m4 ≡ past_body rows types l m3
-            → m4 ≡ record { place = m1.place + arms_size_of rows types how f arms; frame = f;
-            found = front ++ (arm_places rows types how m1.place f arms ++ (back ++ arms_labels rows types how m1.place f arms)) }
+            → m4 ≡ record {
+              place = m1.place + arms_size_of rows types how f arms;
+              frame = f;
+              found = front ++ (arm_places rows types how m1.place f arms ++ (back ++ arms_labels rows types how m1.place f arms));
+            }
         arms-walked m4 h4 =
             let fourth : m4 ≡ past_body rows types l last_ = h4 ∙ ap (past_body rows types l) at-last in
             let more = labels rows types far f l in
             fourth
-            ∙ mark-is (past_body rows types l last_) (record { place = m1.place + arms_size_of rows types how f arms; frame = f;
-            found = front ++ (arm_places rows types how m1.place f arms ++ (back ++ arms_labels rows types how m1.place f arms)) })
+            ∙ mark-is (past_body rows types l last_) (record {
+              place = m1.place + arms_size_of rows types how f arms;
+              frame = f;
+              found = front ++ (arm_places rows types how m1.place f arms ++ (back ++ arms_labels rows types how m1.place f arms));
+            })
             (omega (arith, arms-size rows types how f as_ l)) refl
             (append_assoc front ((places ++ far ∷ []) ++ (back ++ within)) more
             ∙ ap (λ z. front ++ z) (append_assoc (places ++ far ∷ []) (back ++ within) more ∙ ap (λ z. (places ++ far ∷ []) ++ z) (append_assoc back within more))
@@ -175,8 +184,11 @@ module _ (rows : Rows) (types : List Shape) where
         (kp : m3.place ≡ m2.place) (kf : m3.frame ≡ m2.frame) (kl : m3.found ≡ set m2.found number m2.place) where
       pub switch-walked : (m4 : Mark) → m4 ≡ past_body rows types l m3 → m4 ≡ past_body rows types t m0
       switch-walked m4 h4 =
-          let whole : Choice → ℕ → Mark = λ h p. record { place = p + arms_size_of rows types h m0.frame all_arms; frame = m0.frame;
-          found = m0.found ++ (arm_places rows types h p m0.frame all_arms ++ arms_labels rows types h p m0.frame all_arms) } in
+          let whole : Choice → ℕ → Mark = λ h p. record {
+            place = p + arms_size_of rows types h m0.frame all_arms;
+            frame = m0.frame;
+            found = m0.found ++ (arm_places rows types h p m0.frame all_arms ++ arms_labels rows types h p m0.frame all_arms);
+          } in
           arms-walked how as_ l m0.found [] first m1 m0.frame hn hf behind-choice number m2 h2 m3 kp kf kl m4 h4
           ∙ ap (λ h. whole h m1.place) hh ∙ ap (λ p. whole (choice_of all_arms) p) hp
           ∙ mark-is (whole (choice_of all_arms) at) (past_body rows types (switch x all_arms) m0) (omega arith) refl refl
@@ -244,8 +256,11 @@ module _ (rows : Rows) (types : List Shape) where
         (kp : m3.place ≡ m2.place) (kf : m3.frame ≡ m2.frame) (kl : m3.found ≡ set m2.found number m2.place) where
       pub case-walked : (m4 : Mark) → m4 ≡ past_body rows types l m3 → m4 ≡ past_end rows types front back pc m0.place f g
       case-walked m4 h4 =
-          let whole : Choice → Mark = λ h. record { place = m0.place + arms_size_of rows types h f rest_arms; frame = f;
-          found = front_ ++ (arm_places rows types h m0.place f rest_arms ++ (back ++ arms_labels rows types h m0.place f rest_arms)) } in
+          let whole : Choice → Mark = λ h. record {
+            place = m0.place + arms_size_of rows types h f rest_arms;
+            frame = f;
+            found = front_ ++ (arm_places rows types h m0.place f rest_arms ++ (back ++ arms_labels rows types h m0.place f rest_arms));
+          } in
           let all : m4 ≡ whole (choice_of (cases i rest_arms)) =
           arms-walked how as_ l front_ back first m0 f first-is same-frame blanks number m2 h2 m3 kp kf kl m4 h4 ∙ ap whole hh in
           end-walked rows types g (case_step x i rest_arms) front back pc f m0 is hf hl m4 (ap place_in all) (ap (λ (z : Mark). z.frame) all)

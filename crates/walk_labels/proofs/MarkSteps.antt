@@ -10,9 +10,9 @@ use Rattle.ssa_tree.specs.TreeOf.{StepTree, attempt_step, label_step, again_step
 use Rattle.machine_code.specs.Rows.{Rows, late_size, later}
 use Rattle.machine_code.specs.Code.{Scope, Spot, exits_of, exit_of, exit_at, with_params, test_size}
 use Rattle.walk_labels.specs.Labels.{Frame, bound, labelled, blocked, entered, size_of, labels, head_size, end_size, opened, closed, ended, number_of}
-use Rattle.walk_labels.specs.Marks.{Mark, Foretold, labels_at, own_labels, past_body, past_head, past_end, past_labelled}
+use Rattle.walk_labels.specs.Marks.{Mark, Foretold, labels_at, past_body, past_head, past_end, past_labelled}
 use Rattle.walk_labels.proofs.Walks.{settled}
-use Rattle.walk_labels.proofs.Marks.{frame-is, mark-is, fore-left, fore-right, fore-same}
+use Rattle.walk_labels.proofs.Marks.{frame-is, mark-is, fore-right, fore-same}
 
 abbrev place_in : Mark → ℕ
 place_in m = m.place

@@ -1,5 +1,5 @@
 -- How far a walk comes, part by part.
-use Rattle.std.proofs.Common.{◌≡◌, refl, ℕ, suc, ◌+◌, ◌-◌, List, [], ◌∷◌, ◌++◌, length, drop, Bool, Result, Ok, Err, IfErr, OnOk, sym, ap, ◌∙◌, subst, arith, append_assoc, append-nil, length-append}
+use Rattle.std.proofs.Common.{◌≡◌, refl, ℕ, ◌+◌, ◌-◌, List, [], ◌∷◌, ◌++◌, length, drop, Bool, Result, Ok, Err, IfErr, OnOk, sym, ap, ◌∙◌, subst, arith, append_assoc, append-nil, length-append}
 use Rattle.std.proofs.Math.ListN.{set}
 use Rattle.first_values.specs.Equality.{Shape}
 use Rattle.ir_ssa.specs.Tree.{Body, guard}

@@ -1,5 +1,5 @@
 -- A body of steps is as long as what is before the rest, the rest, and what is behind it.
-use Rattle.std.proofs.Common.{◌≡◌, refl, ℕ, zero, suc, ◌+◌, List, [], ◌∷◌, ◌++◌, length, sym, ap, ◌∙◌, arith, length-append}
+use Rattle.std.proofs.Common.{◌≡◌, refl, ℕ, zero, suc, ◌+◌, List, [], ◌∷◌, length, sym, ap, ◌∙◌, arith, length-append}
 use Rattle.first_values.specs.Equality.{Shape}
 use Rattle.ir_ssa.specs.Tree.{Body, Bodies, last, arm}
 use Rattle.ssa_tree.specs.TreeOf.{StepTree, plain_step, make_step, call_step, attempt_step, turn_step, label_step, again_step, when_step, unless_step, case_step, put, onto}

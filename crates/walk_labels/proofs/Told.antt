@@ -1,10 +1,10 @@
 -- Labels whose places are told, in parts.
-use Rattle.std.proofs.Common.{◌≡◌, refl, ℕ, zero, suc, ◌+◌, ◌<◌, List, [], ◌∷◌, ◌++◌, length, sym, ap, ◌∙◌, subst, arith, length-append, get_or}
+use Rattle.std.proofs.Common.{◌≡◌, ℕ, suc, ◌+◌, List, [], ◌∷◌, ◌++◌, length, ap, ◌∙◌, subst, arith, length-append, get_or}
 use Rattle.std.proofs.lemmas.List.{get_or_append_left, get_or-append-add}
 use Rattle.first_values.specs.Equality.{Shape}
 use Rattle.ssa_tree.specs.TreeOf.{StepTree}
 use Rattle.machine_code.specs.Rows.{Rows}
-use Rattle.walk_labels.specs.Labels.{Frame, entered, entered_all, head_size, end_size, head_sizes, end_sizes, opened, closed, ended, opened_all, closed_all, ended_all, Told}
+use Rattle.walk_labels.specs.Labels.{Frame, entered, entered_all, head_size, head_sizes, end_sizes, opened, closed, opened_all, closed_all, ended_all, Told}
 use Rattle.walk_labels.proofs.Sizes.{opened-length}
 
 module _ (all : List ℕ) where

@@ -1,5 +1,5 @@
 -- A walk over steps, and over arms, one by one.
-use Rattle.std.proofs.Common.{◌≡◌, refl, ℕ, zero, suc, ◌+◌, ◌<◌, List, [], ◌∷◌, ◌++◌, length, sym, ap, ◌∙◌, subst, arith, append_assoc, append-nil, length-append, get_or}
+use Rattle.std.proofs.Common.{◌≡◌, refl, ℕ, suc, ◌+◌, List, [], ◌∷◌, ◌++◌, length, sym, ap, ◌∙◌, arith, append_assoc, append-nil, length-append, get_or}
 use Rattle.std.proofs.Math.ListN.{set}
 use Rattle.std.proofs.Math.Seq.{set-append_seam}
 use Rattle.first_values.specs.Equality.{Shape}
@@ -103,15 +103,14 @@ module _ (rows : Rows) (types : List Shape) where
       let before = opened_all rows types pc f pre in
       let this = opened rows types at one g in
       let places = λ (z : ℕ) (h : Frame). closed_all rows types q z h post ++ (rest ++ ended_all rows types q h post) in
-      let far : pc + head_sizes rows types f (pre ++ g ∷ []) ≡ at + head_size rows types one g = omega (arith, heads-more f pre g) in
-      (
+      let far : pc + head_sizes rows types f (pre ++ g ∷ []) ≡ at + head_size rows types one g = omega (arith, heads-more f pre g) in (
         met.frame ∙ all-more f pre g,
         met.place ∙ ap (λ h. q + end_sizes rows types h post) (all-more f pre g),
         met.found ∙ ap (λ z. front ++ (z ++ places (pc + head_sizes rows types f (pre ++ g ∷ [])) (entered_all f (pre ++ g ∷ [])))) (opened-more pc f pre g)
-        ∙ ap (λ h. front ++ ((before ++ this) ++ places (pc + head_sizes rows types f (pre ++ g ∷ [])) h)) (all-more f pre g)
-        ∙ ap (λ z. front ++ ((before ++ this) ++ places z (entered one g))) far
-        ∙ ap (λ z. front ++ z) (append_assoc before this (places (at + head_size rows types one g) (entered one g)))
-        ∙ sym (append_assoc front before (this ++ places (at + head_size rows types one g) (entered one g))),
+            ∙ ap (λ h. front ++ ((before ++ this) ++ places (pc + head_sizes rows types f (pre ++ g ∷ [])) h)) (all-more f pre g)
+            ∙ ap (λ z. front ++ ((before ++ this) ++ places z (entered one g))) far
+            ∙ ap (λ z. front ++ z) (append_assoc before this (places (at + head_size rows types one g) (entered one g)))
+            ∙ sym (append_assoc front before (this ++ places (at + head_size rows types one g) (entered one g))),
       )
 
   pub ends-met : (pre : List StepTree) (g : StepTree) (post : List StepTree) (pc q p p' : ℕ) (f k : Frame) (front rest new : List ℕ)
@@ -176,12 +175,12 @@ module _ (rows : Rows) (types : List Shape) where
           met ++ p ∷ [],
           within ++ this,
           hl ∙ ap (λ z. mid ++ labels rows types (p + test_arm_size how) z a.body) so_far.frame
-          ∙ ap (λ z. z ++ this) mid-is
-          ∙ append_assoc (front ++ met) (p ∷ tail_) this
-          ∙ append_assoc front met (p ∷ (tail_ ++ this))
-          ∙ ap (λ z. front ++ z) (sym (append_assoc met (p ∷ []) (tail_ ++ this)))
-          ∙ ap (λ z. front ++ ((met ++ p ∷ []) ++ z))
-          (append_assoc (blank (length rest)) (back ++ within) this ∙ ap (λ z. blank (length rest) ++ z) (append_assoc back within this)),
+              ∙ ap (λ z. z ++ this) mid-is
+              ∙ append_assoc (front ++ met) (p ∷ tail_) this
+              ∙ append_assoc front met (p ∷ (tail_ ++ this))
+              ∙ ap (λ z. front ++ z) (sym (append_assoc met (p ∷ []) (tail_ ++ this)))
+              ∙ ap (λ z. front ++ ((met ++ p ∷ []) ++ z))
+              (append_assoc (blank (length rest)) (back ++ within) this ∙ ap (λ z. blank (length rest) ++ z) (append_assoc back within this)),
           omega (arith, hm, so_far.found.3, length-append met (p ∷ [])),
           append_assoc met (p ∷ []) (arms_from rows types how p' f rest) ∙ ap (λ z. met ++ (p ∷ arms_from rows types how z f rest)) hp' ∙ so_far.found.4,
           append_assoc within this (arms_within rows types how p' f rest) ∙ ap (λ z. within ++ (this ++ arms_within rows types how z f rest)) hp' ∙ so_far.found.5,
@@ -197,11 +196,10 @@ module _ (rows : Rows) (types : List Shape) where
       let all-met : met ≡ arms_from rows types how q f as_ =
       sym (append-nil met) ∙ ap (λ z. met ++ arms_from rows types how p f z) (sym none) ∙ so_far.found.4 in
       let all-within : within ≡ arms_within rows types how q f as_ =
-      sym (append-nil within) ∙ ap (λ z. within ++ arms_within rows types how p f z) (sym none) ∙ so_far.found.5 in
-      (
+      sym (append-nil within) ∙ ap (λ z. within ++ arms_within rows types how p f z) (sym none) ∙ so_far.found.5 in (
         so_far.frame,
         (let e : p ≡ p + arms_long rows types how f [] = omega arith in e) ∙ ap (λ z. p + arms_long rows types how f z) (sym none) ∙ so_far.place,
         (let e : m ≡ m + length {A = ArmTree} [] = omega arith in e) ∙ ap (λ z. m + length z) (sym none) ∙ so_far.number,
         so_far.found.2 ∙ ap (λ z. front ++ (met ++ (blank (length z) ++ (back ++ within)))) none
-        ∙ ap (λ z. front ++ (z ++ (back ++ within))) all-met ∙ ap (λ z. front ++ (arms_from rows types how q f as_ ++ (back ++ z))) all-within,
+            ∙ ap (λ z. front ++ (z ++ (back ++ within))) all-met ∙ ap (λ z. front ++ (arms_from rows types how q f as_ ++ (back ++ z))) all-within,
       )

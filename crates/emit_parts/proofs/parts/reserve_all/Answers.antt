@@ -1,4 +1,4 @@
-use Rattle.std.proofs.Common.{◌≡◌, ◌+◌, length, arith}
+use Rattle.std.proofs.Common.{length, arith}
 use Rattle.emit_parts.specs.Labels.{label_in, numbered}
 use Rattle.emit_parts.proofs.Searches.{targets-next}
 use Rattle.emit_parts.proofs.Blanks.{blank-next, blank-all}

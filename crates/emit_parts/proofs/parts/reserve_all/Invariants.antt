@@ -1,4 +1,4 @@
-use Rattle.std.proofs.Common.{◌≡◌, ◌+◌, ◌++◌, length, map, drop}
+use Rattle.std.proofs.Common.{◌≡◌, ◌++◌, map, drop}
 use Rattle.walk_labels.specs.Labels.{blank}
 use Rattle.emit_code.specs.Tags.{target_of}
 use Rattle.emit_parts.specs.Labels.{label_in, numbered}

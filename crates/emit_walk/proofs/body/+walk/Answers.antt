@@ -128,8 +128,11 @@ emit_body-returns-in_err-emit_guarded-in-Guard-clause-told t c =
 pub emit_body-returns-in_err-emit_body-in-Guard-clause-told : goal.emit_body-returns-in_err-emit_body-in-Guard-clause-told
 emit_body-returns-in_err-emit_body-in-Guard-clause-told t c =
     passed _ c.from_residual-in_err-emit_body-in-Guard.result c.in_err-emit_body-in-Guard.field-0.0 c.from_residual-in_err-emit_body-in-Guard.ensures.1
-    (λ told. let m2 : Mark = record { place = length c.put.new.code.items; frame = record { depth = c.bind.new.depth; scope = c.bind.new.slots; exits = exits_of (spots_of c.emit_guarded.new.pass.spots.items) };
-    found = c.emit_guarded.new.pass.found.items } in
+    (λ told. let m2 : Mark = record {
+      place = length c.put.new.code.items;
+      frame = record { depth = c.bind.new.depth; scope = c.bind.new.slots; exits = exits_of (spots_of c.emit_guarded.new.pass.spots.items) };
+      found = c.emit_guarded.new.pass.found.items;
+    } in
     c.in_err-emit_body-in-Guard.ensures.told (handler-told rows (tables_of c.args.tables.now).types (tree_of c.args.body.now) (tree_of c.deref-in-Guard.result.now) (tree_of c.deref-in-Guard-2.result.now) c.in-Guard.label c.in-Guard.packet (mark_of c.args.pass.now)
     (mark_of c.emit_guarded.new.pass) m2
     (guard-at c.args.body.now c.in-Guard.label c.in-Guard.body c.in-Guard.packet c.in-Guard.handler c.deref-in-Guard.result.now c.deref-in-Guard-2.result.now c.in-Guard.is
@@ -139,8 +142,11 @@ emit_body-returns-in_err-emit_body-in-Guard-clause-told t c =
 
 pub emit_body-returns-in_ok-emit_body-in-Guard-clause-walked : goal.emit_body-returns-in_ok-emit_body-in-Guard-clause-walked
 emit_body-returns-in_ok-emit_body-in-Guard-clause-walked t c =
-    let m2 : Mark = record { place = length c.put.new.code.items; frame = record { depth = c.bind.new.depth; scope = c.bind.new.slots; exits = exits_of (spots_of c.emit_guarded.new.pass.spots.items) };
-    found = c.emit_guarded.new.pass.found.items } in
+    let m2 : Mark = record {
+      place = length c.put.new.code.items;
+      frame = record { depth = c.bind.new.depth; scope = c.bind.new.slots; exits = exits_of (spots_of c.emit_guarded.new.pass.spots.items) };
+      found = c.emit_guarded.new.pass.found.items;
+    } in
     guard-walked rows (tables_of c.args.tables.now).types (tree_of c.args.body.now) (tree_of c.deref-in-Guard.result.now) (tree_of c.deref-in-Guard-2.result.now) c.in-Guard.label c.in-Guard.packet (mark_of c.args.pass.now)
     (mark_of c.emit_guarded.new.pass) m2
     (guard-at c.args.body.now c.in-Guard.label c.in-Guard.body c.in-Guard.packet c.in-Guard.handler c.deref-in-Guard.result.now c.deref-in-Guard-2.result.now c.in-Guard.is
@@ -371,9 +377,11 @@ emit_head-returns-in_err-emit_labelled-in-Label-clause-told t c =
 
 pub emit_head-returns-in_ok-bind_all-in-Label-clause-walked : goal.emit_head-returns-in_ok-bind_all-in-Label-clause-walked
 emit_head-returns-in_ok-bind_all-in-Label-clause-walked t c =
-    let m2 : Mark = record { place = length c.emit_labelled.new.pass.code.items;
-    frame = record { depth = c.bind_all.new.depth; scope = c.bind_all.new.slots; exits = exits_of (spots_of c.emit_labelled.new.pass.spots.items) };
-    found = c.emit_labelled.new.pass.found.items } in
+    let m2 : Mark = record {
+      place = length c.emit_labelled.new.pass.code.items;
+      frame = record { depth = c.bind_all.new.depth; scope = c.bind_all.new.slots; exits = exits_of (spots_of c.emit_labelled.new.pass.spots.items) };
+      found = c.emit_labelled.new.pass.found.items;
+    } in
     label-begins (tables_of c.args.tables.now).types c.args.step.now (mark_of c.args.pass.now) c.in-Label.params c.in-Label.body c.deref-in-Label.result.now c.in-Label.is c.deref-in-Label.ensures c.deref-in-Label-2.result.now
     (mark_of c.emit_labelled.new.pass) m2 c.deref-in-Label-2.ensures.value c.in_ok-emit_labelled-in-Label.ensures.walked refl c.in_ok-bind_all-in-Label.ensures.depth
     c.in_ok-bind_all-in-Label.ensures.slots refl refl
@@ -386,9 +394,11 @@ emit_head-returns-in_err-spot-in-Again-clause-told t c =
 
 pub emit_head-returns-in_ok-push_spot-in-Again-clause-walked : goal.emit_head-returns-in_ok-push_spot-in-Again-clause-walked
 emit_head-returns-in_ok-push_spot-in-Again-clause-walked t c =
-    let m2 : Mark = record { place = length c.emit_labelled-in-Again.new.pass.code.items;
-    frame = record { depth = c.bind_all-in-Again.new.depth; scope = c.bind_all-in-Again.new.slots; exits = exits_of (spots_of c.push_spot.new.spots.items) };
-    found = c.emit_labelled-in-Again.new.pass.found.items } in
+    let m2 : Mark = record {
+      place = length c.emit_labelled-in-Again.new.pass.code.items;
+      frame = record { depth = c.bind_all-in-Again.new.depth; scope = c.bind_all-in-Again.new.slots; exits = exits_of (spots_of c.push_spot.new.spots.items) };
+      found = c.emit_labelled-in-Again.new.pass.found.items;
+    } in
     again-begins (tables_of c.args.tables.now).types c.args.step.now (mark_of c.args.pass.now) c.in-Again.params c.in-Again.body c.deref-in-Again.result.now c.in-Again.is c.deref-in-Again.ensures c.deref-in-Again-2.result.now
     (mark_of c.emit_labelled-in-Again.new.pass) m2 (spots_of c.emit_labelled-in-Again.new.pass.spots.items) (spots_of c.push_spot.new.spots.items) (spot_of c.in_ok-spot-in-Again.spot)
     c.deref-in-Again-2.ensures.value c.in_ok-spot-in-Again.ensures.walked refl c.in_ok-bind_all-in-Again.ensures.depth c.in_ok-bind_all-in-Again.ensures.slots refl refl
@@ -520,8 +530,11 @@ pub emit_labelled-returns-clause-walked : goal.emit_labelled-returns-clause-walk
 emit_labelled-returns-clause-walked t c =
     let m1 : Mark = record { place = length c.args.pass.now.code.items; frame = record { depth = c.args.pass.now.depth; scope = c.args.pass.now.slots; exits = exits_of (spots_of c.push_spot.new.spots.items) }; found = c.reserve.new.found.items } in
     let m2 = mark_of c.emit_body.new.pass in
-    let m3 : Mark = record { place = length c.emit_body.new.pass.code.items;
-    frame = record { depth = c.emit_body.new.pass.depth; scope = c.emit_body.new.pass.slots; exits = exits_of (spots_of c.pop_spot.new.spots.items) }; found = c.settle.new.found.items } in
+    let m3 : Mark = record {
+      place = length c.emit_body.new.pass.code.items;
+      frame = record { depth = c.emit_body.new.pass.depth; scope = c.emit_body.new.pass.slots; exits = exits_of (spots_of c.pop_spot.new.spots.items) };
+      found = c.settle.new.found.items;
+    } in
     let h2 = c.in_ok-emit_body.ensures.walked in
     let same : m1.frame ≡ labelled (frame_of c.args.pass.now) = (frame-is (record { depth = c.args.pass.now.depth; scope = c.args.pass.now.slots; exits = exits_of (spots_of c.push_spot.new.spots.items) }) (labelled (frame_of c.args.pass.now)) refl refl
     (exits-push (spots_of c.push_spot.new.spots.items) (spots_of c.args.pass.now.spots.items) _ c.in_ok-push_spot.ensures)) in
@@ -534,8 +547,11 @@ pub emit_guarded-returns-in_err-emit_body-clause-told : goal.emit_guarded-return
 emit_guarded-returns-in_err-emit_body-clause-told t c =
     passed _ c.from_residual-in_err-emit_body.result c.in_err-emit_body.field-0.0 c.from_residual-in_err-emit_body.ensures.1
     (λ told. c.in_err-emit_body.ensures.told
-    (under-told rows (tables_of c.args.tables.now).types c.args.label (tree_of c.args.body.now) (mark_of c.args.pass.now) (record { place = length c.put.new.code.items; frame = record { depth = c.in_ok-inner.inner; scope = c.args.pass.now.slots; exits = exits_of (spots_of c.replace-outside.new.dest.items) };
-    found = c.reserve.new.found.items })
+    (under-told rows (tables_of c.args.tables.now).types c.args.label (tree_of c.args.body.now) (mark_of c.args.pass.now) (record {
+      place = length c.put.new.code.items;
+      frame = record { depth = c.in_ok-inner.inner; scope = c.args.pass.now.slots; exits = exits_of (spots_of c.replace-outside.new.dest.items) };
+      found = c.reserve.new.found.items;
+    })
     (grown c.args.pass.now.code.items c.put.new.code.items (PushHandler c.in_ok-record.record c.label-target.result ∷ []) 1 c.in_ok-put.ensures refl)
     (frame-is (record { depth = c.in_ok-inner.inner; scope = c.args.pass.now.slots; exits = exits_of (spots_of c.replace-outside.new.dest.items) }) (guarded c.args.label (frame_of c.args.pass.now)) c.in_ok-inner.ensures refl
     (under-frame (frame_of c.args.pass.now) (frame_of c.args.pass.now) c.args.label (spots_of c.args.pass.now.spots.items) (spots_of c.replace-outside.new.dest.items) (spot_of c.spot_at-outer.result) (spot_of c.left_spot-spot.result) refl
@@ -547,8 +563,11 @@ pub emit_guarded-returns-clause-walked : goal.emit_guarded-returns-clause-walked
 emit_guarded-returns-clause-walked t c =
     let m2 = mark_of c.emit_body.new.pass in
     let h2 = c.in_ok-emit_body.ensures.walked in
-    ok-then c.settle.result (λ h. under-walked rows (tables_of c.args.tables.now).types c.args.label (tree_of c.args.body.now) (mark_of c.args.pass.now) (record { place = length c.put.new.code.items; frame = record { depth = c.in_ok-inner.inner; scope = c.args.pass.now.slots; exits = exits_of (spots_of c.replace-outside.new.dest.items) };
-    found = c.reserve.new.found.items })
+    ok-then c.settle.result (λ h. under-walked rows (tables_of c.args.tables.now).types c.args.label (tree_of c.args.body.now) (mark_of c.args.pass.now) (record {
+      place = length c.put.new.code.items;
+      frame = record { depth = c.in_ok-inner.inner; scope = c.args.pass.now.slots; exits = exits_of (spots_of c.replace-outside.new.dest.items) };
+      found = c.reserve.new.found.items;
+    })
     (grown c.args.pass.now.code.items c.put.new.code.items (PushHandler c.in_ok-record.record c.label-target.result ∷ []) 1 c.in_ok-put.ensures refl)
     (frame-is (record { depth = c.in_ok-inner.inner; scope = c.args.pass.now.slots; exits = exits_of (spots_of c.replace-outside.new.dest.items) }) (guarded c.args.label (frame_of c.args.pass.now)) c.in_ok-inner.ensures refl
     (under-frame (frame_of c.args.pass.now) (frame_of c.args.pass.now) c.args.label (spots_of c.args.pass.now.spots.items) (spots_of c.replace-outside.new.dest.items) (spot_of c.spot_at-outer.result) (spot_of c.left_spot-spot.result) refl
@@ -561,8 +580,11 @@ emit_guarded-returns-clause-walked t c =
 pub emit_guarded-returns-clause-told : goal.emit_guarded-returns-clause-told
 emit_guarded-returns-clause-told t c =
     err-then c.settle.result (λ e h told. h
-    (λ s. ap (λ z. get_or c.args.at.now.labels.items z 0) c.in_ok-number.ensures.number ∙ under-settled rows (tables_of c.args.tables.now).types c.args.label (tree_of c.args.body.now) (mark_of c.args.pass.now) (record { place = length c.put.new.code.items; frame = record { depth = c.in_ok-inner.inner; scope = c.args.pass.now.slots; exits = exits_of (spots_of c.replace-outside.new.dest.items) };
-    found = c.reserve.new.found.items })
+    (λ s. ap (λ z. get_or c.args.at.now.labels.items z 0) c.in_ok-number.ensures.number ∙ under-settled rows (tables_of c.args.tables.now).types c.args.label (tree_of c.args.body.now) (mark_of c.args.pass.now) (record {
+      place = length c.put.new.code.items;
+      frame = record { depth = c.in_ok-inner.inner; scope = c.args.pass.now.slots; exits = exits_of (spots_of c.replace-outside.new.dest.items) };
+      found = c.reserve.new.found.items;
+    })
     (grown c.args.pass.now.code.items c.put.new.code.items (PushHandler c.in_ok-record.record c.label-target.result ∷ []) 1 c.in_ok-put.ensures refl)
     (frame-is (record { depth = c.in_ok-inner.inner; scope = c.args.pass.now.slots; exits = exits_of (spots_of c.replace-outside.new.dest.items) }) (guarded c.args.label (frame_of c.args.pass.now)) c.in_ok-inner.ensures refl
     (under-frame (frame_of c.args.pass.now) (frame_of c.args.pass.now) c.args.label (spots_of c.args.pass.now.spots.items) (spots_of c.replace-outside.new.dest.items) (spot_of c.spot_at-outer.result) (spot_of c.left_spot-spot.result) refl
