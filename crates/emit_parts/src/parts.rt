@@ -1,6 +1,6 @@
 // Calls, jumps, tests and choices, with labels.
 
-ghost use Rattle.std.specs.Prelude.{◌≡◌, ℕ, suc, ◌+◌, true, [], ◌∷◌, ◌++◌, length, map, IfOk, OnOk};
+ghost use Rattle.std.specs.Prelude.{◌≡◌, ℕ, suc, ◌+◌, true, [], ◌∷◌, ◌++◌, ◌≢◌, length, map, IfErr, IfOk, OnOk};
 ghost use Rattle.ir_code.specs.declared.instr.Instr.TheVariants.{Acc, Call as CallRow, Jmp};
 ghost use Rattle.first_tables.specs.TablesOf.{callee_of, operands_of, test_of};
 ghost use Rattle.machine_code.specs.Code as code_;
@@ -9,8 +9,11 @@ ghost use Rattle.machine_rows.specs.Table.{rows};
 ghost use Rattle.emit_rows.specs.Shapes.{packet_in};
 ghost use Rattle.emit_code.specs.PlacesOf.{places_of};
 ghost use Rattle.emit_code.specs.Tags.{choice_for, choice_of, end_of, target_of};
-ghost use Rattle.emit_parts.specs.Labels.{label_in, list_of, numbered, spot_of, tag_of};
+ghost use Rattle.walk_labels.specs.Labels.{blank};
+ghost use Rattle.emit_parts.specs.Labels.{label_in, list_of, numbered, spot_of, switch_code, tag_of};
+ghost use Rattle.emit_parts.specs.declared.fault.WalkFault.TheVariants.{Unsettled};
 
+use crate::fault::WalkFault;
 use crate::pass::{Spot, next_label, number_at, reserve, settle};
 use crate::search::push_search;
 use emit_code::choice::{Choice, Target, choose, push_table, tags_end};
@@ -40,7 +43,9 @@ pub fn emit_attempt(
     primitive: BasisPrimitive,
     operands: &[usize],
 ) -> Result<usize, EmitFault>
-    ensures { IfOk result (λ number. code.new.items ≡ code.old.items
+    ensures number { IfOk result (λ number. number ≡ length found.old.items) }
+    ensures found { OnOk result (found.new.items ≡ found.old.items ++ 0 ∷ []) }
+    ensures code { IfOk result (λ number. code.new.items ≡ code.old.items
         ++ rows.code (operands_of kind) primitive (packet_in at.now.packets) (length code.old.items) (slot depth) (label_in at.now number)
         (map slot (depths_in operands.now slots.now))) }
 {
@@ -64,7 +69,9 @@ pub fn emit_tested(
     test: Test,
     operands: &[usize],
 ) -> Result<usize, EmitFault>
-    ensures { IfOk result (λ number. code.new.items ≡ code.old.items
+    ensures number { IfOk result (λ number. number ≡ length found.old.items) }
+    ensures found { OnOk result (found.new.items ≡ found.old.items ++ 0 ∷ []) }
+    ensures code { IfOk result (λ number. code.new.items ≡ code.old.items
         ++ test_code (places_of tables.now at.now) (length code.old.items) depth (test_of test) (depths_in operands.now slots.now) (label_in at.now number)) }
 {
     let number = reserve(found)?;
@@ -85,7 +92,12 @@ pub fn emit_case(
     cell: usize,
     tag: usize,
     others: &[Arm],
-) -> Result<usize, EmitFault>
+) -> Result<usize, WalkFault>
+    ensures number { IfOk result (λ first. first ≡ length found.old.items) }
+    ensures found { OnOk result (found.new.items ≡ found.old.items ++ ((length code.old.items + length (switch_code (label_in at.now) (length code.old.items)
+        depth (depth_in cell slots.now) (length found.old.items) (tag ∷ map tag_of others.now))) ∷ blank (suc (length others.now)))) }
+    ensures told { IfErr result (λ fault. (sure ≡ true → label_in at.now (length found.old.items) ≡ length code.old.items + length (switch_code (label_in at.now)
+        (length code.old.items) depth (depth_in cell slots.now) (length found.old.items) (tag ∷ map tag_of others.now))) → fault ≢ Unsettled) }
     ensures code { IfOk result (λ first. code.new.items ≡ code.old.items
         ++ (choice_code (length code.old.items) depth (depth_in cell slots.now) (choice_for (tag ∷ map tag_of others.now)) (end_of (tag ∷ map tag_of others.now))
         (numbered (label_in at.now) first (tag ∷ map tag_of others.now)) (label_in at.now (first + length (tag ∷ map tag_of others.now)))
@@ -184,7 +196,9 @@ fn reserve_all(
     found: &mut Vec<u32>,
     tags: &[usize],
 ) -> Result<(usize, Vec<Target>), EmitFault>
-    ensures { IfOk result (λ made. map target_of made.1.items ≡ numbered (label_in at.now) made.0 tags.now) }
+    ensures number { IfOk result (λ made. made.0 ≡ length found.old.items) }
+    ensures found { OnOk result (found.new.items ≡ found.old.items ++ blank (suc (length tags.now))) }
+    ensures targets { IfOk result (λ made. map target_of made.1.items ≡ numbered (label_in at.now) made.0 tags.now) }
 {
     let first = found.len();
     let mut targets = Vec::new(alloc);
@@ -211,7 +225,9 @@ pub fn emit_choice(
     cell: usize,
     tags: &[usize],
 ) -> Result<usize, EmitFault>
-    ensures { IfOk result (λ first. code.new.items ≡ code.old.items
+    ensures number { IfOk result (λ first. first ≡ length found.old.items) }
+    ensures found { OnOk result (found.new.items ≡ found.old.items ++ blank (suc (length tags.now))) }
+    ensures code { IfOk result (λ first. code.new.items ≡ code.old.items
         ++ choice_code (length code.old.items) depth (depth_in cell slots.now) (choice_for tags.now) (end_of tags.now)
         (numbered (label_in at.now) first tags.now) (label_in at.now (first + length tags.now))) }
 {

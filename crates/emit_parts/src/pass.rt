@@ -1,9 +1,11 @@
 // Labels and the scopes of variables.
 
-ghost use Rattle.std.specs.Prelude.{◌≡◌, suc, true, ◌+◌, ◌-◌, [], ◌∷◌, ◌++◌, drop, length, IfOk, OnOk, get_or};
+ghost use Rattle.std.specs.Prelude.{◌≡◌, suc, true, ◌+◌, ◌-◌, [], ◌∷◌, ◌++◌, drop, length, slice_set, ◌≢◌, IfErr, IfOk, OnOk, get_or};
 ghost use Rattle.machine_code.specs.Code.{no_spot, with_params};
 ghost use Rattle.emit_parts.specs.Labels.{label_in, spot_of, spots_of};
+ghost use Rattle.emit_parts.specs.declared.fault.WalkFault.TheVariants.{Unsettled};
 
+use crate::fault::WalkFault;
 use emit_code::fault::EmitFault;
 use emit_code::places::Places;
 use emit_code::put::{here, sum};
@@ -28,19 +30,21 @@ pub fn reserve(found: &mut Vec<u32>) -> Result<usize, EmitFault>
     Ok(number)
 }
 
-/// The label of a number stands here. In a sure walk it is where the places say.
+/// The label of a number stands here. In a sure walk it is where the places say, or they are wrong.
 pub fn settle(
     code: &Vec<Instr>,
     found: &mut Vec<u32>,
     at: &Places,
     sure: bool,
     number: usize,
-) -> Result<(), EmitFault>
-    ensures { OnOk result (sure ≡ true → label_in at.now number ≡ length code.now.items) }
+) -> Result<(), WalkFault>
+    ensures sure { OnOk result (sure ≡ true → label_in at.now number ≡ length code.now.items) }
+    ensures found { OnOk result (found.new.items ≡ slice_set found.old.items number (length code.now.items)) }
+    ensures told { IfErr result (λ fault. (sure ≡ true → label_in at.now number ≡ length code.now.items) → fault ≢ Unsettled) }
 {
     let place = here(code)?;
     if sure && at.label(number) != place {
-        return Err(EmitFault::Unsettled);
+        return Err(WalkFault::Unsettled);
     }
     if number < found.len() {
         found[number] = place;

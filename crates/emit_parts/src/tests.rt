@@ -1,5 +1,6 @@
 // Labels, scopes and searches come with ample memory.
 
+use crate::fault::WalkFault;
 use crate::pass::{Spot, bind_all, leave, pop_spot, push_spot, reserve, settle, spot_at};
 use crate::search::push_search;
 use emit_code::choice::Target;
@@ -76,7 +77,7 @@ fn labels_are_counted_from_the_innermost(rt: HostRuntime) -> Result<(), Fail> {
 }
 
 /// A label that comes where the code begins, and is said to be at a place.
-fn settled(alloc: Global, place: u32) -> Result<(), EmitFault> {
+fn settled(alloc: Global, place: u32) -> Result<(), WalkFault> {
     let mut labels = Vec::new(alloc);
     labels.push(place)?;
     let at = Places {
@@ -107,6 +108,6 @@ fn settled(alloc: Global, place: u32) -> Result<(), EmitFault> {
 #[test]
 fn labels_are_compared(rt: HostRuntime) -> Result<(), Fail> {
     assert_eq!(rt; settled(rt.alloc(), 0), Ok(()));
-    assert_eq!(rt; settled(rt.alloc(), 1), Err(EmitFault::Unsettled));
+    assert_eq!(rt; settled(rt.alloc(), 1), Err(WalkFault::Unsettled));
     Ok(())
 }

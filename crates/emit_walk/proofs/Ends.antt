@@ -1,5 +1,6 @@
 -- Ends of steps and of blocks, by the code's nodes.
-use Rattle.std.proofs.Common.{◌≡◌, refl, ℕ, suc, ◌+◌, ◌-◌, ◌≤◌, List, [], ◌∷◌, ◌++◌, length, map, take, drop, Vec, Box, Global, sym, ap, ◌∙◌, subst, get_or, arith}
+use Rattle.std.proofs.Common.{◌≡◌, refl, ℕ, suc, ◌+◌, ◌-◌, ◌≤◌, List, [], ◌∷◌, ◌++◌, length, append-nil, map, take, drop, Vec, Box, Global, sym, ap, ◌∙◌, subst, get_or, arith}
+use Rattle.std.proofs.lemmas.List.{drop_all, take_all}
 use Rattle.ir_code.specs.declared.instr.Instr.{Instr}
 use Rattle.ir_code.specs.declared.instr.Instr.TheVariants.{Acc, PushHandler}
 use Rattle.mlc_prims.specs.declared.basis.BasisPrimitive.{BasisPrimitive}
@@ -21,6 +22,15 @@ module _ (at : Places) where
   pub labelled-by : {spot : Spot} (e : Env) (b : s.Body) (old new : List Instr) (spots : List Spot) → new ≡ old ++ code_at at e.pc e.depth e.scope spots b → spots ≡ spot ∷ e.spots
       → new ≡ old ++ code_at at e.pc e.depth e.scope (spot ∷ e.spots) b
   labelled-by e b old new spots hn hs = hn ∙ ap (λ z. old ++ code_at at e.pc e.depth e.scope z b) hs
+
+  -- before the first of them
+  pub ends-start-kept : (xs : List Step) (n : ℕ) (e f : Env) → n ≡ length xs → Kept (after_all at e (map step_of xs)) f → Kept (after_all at e (map step_of (take n xs))) f
+  ends-start-kept xs n e f h = subst (λ l. Kept (after_all at e (map step_of l)) f) (sym (take_all n xs (omega (arith, h))))
+
+  pub ends-start-code : (xs : List Step) (n : ℕ) (e : Env) (old : List Instr) (q : ℕ) → n ≡ length xs
+      → old ≡ old ++ behind_all at (after_all at e (map step_of (take n xs))) (map step_of (drop n xs)) q
+  ends-start-code xs n e old q h =
+      sym (ap (λ l. old ++ behind_all at (after_all at e (map step_of (take n xs))) (map step_of l) q) (drop_all n xs (omega (arith, h))) ∙ append-nil old)
 
   pub ends-done-code : (xs : List Step) (left : ℕ) (e : Env) (old now : List Instr) → left ≤ 0
       → now ≡ old ++ behind_all at (after_all at e (map step_of (take left xs))) (map step_of (drop left xs)) (length old) → now ≡ old ++ behind_all at e (map step_of xs) (length old)
@@ -46,6 +56,11 @@ module _ (at : Places) where
       kept-blocked e f k xs.items was.depth was.scope (hd ∙ ap (λ z. f.depth - z) hc) (hs ∙ ap (λ z. drop z f.scope) hc) (hl ∙ ap (drop 1) was.spots)
 
 module _ (at : Places) (label : ℕ → ℕ) where
+  pub ends-start-stand : (xs : List Step) (ns : List ℕ) (n : ℕ) (e : Env) (q : ℕ) → n ≡ length xs
+      → EndAll at label (after_all at e (map step_of (take n xs))) (drop n ns) (map step_of (drop n xs)) q
+  ends-start-stand xs ns n e q h =
+      subst (λ l. EndAll at label (after_all at e (map step_of (take n xs))) (drop n ns) (map step_of l) q) (sym (drop_all n xs (omega (arith, h)))) tt
+
   pub ends-done-stand : (xs : List Step) (ns : List ℕ) (left : ℕ) (e : Env) (q : ℕ) → left ≤ 0
       → EndAll at label (after_all at e (map step_of (take left xs))) (drop left ns) (map step_of (drop left xs)) q → EndAll at label e ns (map step_of xs) q
   ends-done-stand xs ns left e q le h =

@@ -6,3 +6,7 @@ pub mod Turns
 pub mod Whole
 pub mod Ends
 pub mod Sizes
+pub mod WalkMarks
+pub mod Nodes
+pub mod Closing
+pub mod Opening

@@ -119,6 +119,11 @@ module _ (at : Places) (right : AreRight at.rows) (label : ℕ → ℕ) where
       → length (choice_code pc d x (choice_of bs) (arms_end bs) (by_labels at label n bs) (label (n + count bs))) ≡ choice_size (choice_of bs) bs
   choice-long pc d x n bs = choice_length pc d x (choice_of bs) bs (by_labels at label n bs) (label (n + count bs)) (chosen bs) (labels-length at right label n bs)
 
+  -- .. and how long it is
+  pub choice-grown : (pc d x n : ℕ) (ts : List ℕ) (bs : Bodies) → ts ≡ tags_in bs
+      → length (choice_code pc d x (choice_for ts) (end_of ts) (numbered label n ts) (label (n + length ts))) ≡ choice_size (choice_of bs) bs
+  choice-grown pc d x n ts bs is = ap length (choice-tags pc d x n ts bs is) ∙ choice-long pc d x n bs
+
   pub switch-whole : (e f : Env) (x first : ℕ) (how : Choice) (ts : List ℕ) (bs : Bodies) (old mid new : List Instr) → e.pc ≡ length old → Kept e f
       → ts ≡ tags_in bs → how ≡ choice_for ts
       → mid ≡ old ++ choice_code e.pc e.depth (depth_in x e.scope) (choice_for ts) (end_of ts) (numbered label first ts) (label (first + length ts))

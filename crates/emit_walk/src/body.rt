@@ -1,14 +1,22 @@
 // Bodies.
 
-ghost use Rattle.std.specs.Prelude.{◌≡◌, ◌+◌, true, [], ◌∷◌, ◌++◌, length, map, get_or, IfOk, OnOk};
+ghost use Rattle.std.specs.Prelude.{◌≡◌, ◌≢◌, ℕ, List, ◌+◌, true, [], ◌∷◌, ◌++◌, length, map, get_or, IfErr, IfOk, OnOk};
 ghost use Rattle.ir_code.specs.declared.instr.Instr.TheVariants.{Acc, PushHandler};
 ghost use Rattle.machine_code.specs.Code as code_;
-ghost use Rattle.machine_code.specs.Code.{code_at, guard_size, left_by, no_spot, slot};
+ghost use Rattle.first_tables.specs.TablesOf.{tables_of};
+ghost use Rattle.machine_code.specs.Code.{code_at, exit_at, exit_of, guard_size, left_by, no_spot, slot};
+ghost use Rattle.machine_rows.specs.Table.{rows};
 ghost use Rattle.ssa_tree.specs.TreeOf.{arm_of, step_of, tree_of};
 ghost use Rattle.emit_code.specs.PlacesOf.{places_of};
 ghost use Rattle.emit_code.specs.Tags.{choice_of};
 ghost use Rattle.emit_walk.specs.Walk.{ArmsBefore, BeginAll, Begins, EndAll, Ends, Env, Kept, after, after_all, before, before_all, behind, behind_all};
 ghost use Rattle.emit_walk.specs.Walk.{code_in, env_of, spot_in};
+ghost use Rattle.emit_walk.specs.Marks.{frame_of, mark_of};
+ghost use Rattle.walk_labels.specs.Labels.{Frame, arms_from, arms_within, blank, closed, closed_all, ended, ended_all, entered, entered_all, number_of, numbers_of};
+ghost use Rattle.walk_labels.specs.Labels.{opened, opened_all};
+ghost use Rattle.walk_labels.specs.Marks.{Foretold, fun_labels, guarded_labels, labels_at, own_labels, past_arms, past_body, past_end, past_ends, past_fun};
+ghost use Rattle.walk_labels.specs.Marks.{past_guarded, past_head, past_heads, past_labelled};
+ghost use Rattle.emit_parts.specs.declared.fault.WalkFault.TheVariants.{Unsettled};
 ghost use Rattle.emit_parts.specs.Labels.{label_in, spot_of, spots_of};
 
 use emit_code::cell::emit_cell;
@@ -17,6 +25,7 @@ use emit_code::fault::EmitFault;
 use emit_code::places::Places;
 use emit_code::plain::{emit_late, emit_plain};
 use emit_code::put::{depth_of, here, put, slot_at, slot_of, sum};
+use emit_parts::fault::WalkFault;
 use emit_parts::parts::{
     emit_arm_test, emit_attempt, emit_call, emit_case, emit_choice, emit_goto, emit_tail,
     emit_tested, tags_of,
@@ -53,10 +62,13 @@ pub fn emit_body(
     sure: bool,
     pass: &mut Pass,
     body: &Body,
-) -> Result<(), EmitFault>
+) -> Result<(), WalkFault>
     ensures code { OnOk result (sure ≡ true → pass.new.code.items ≡ pass.old.code.items
         ++ code_in (places_of tables.now at.now) (env_of pass.old) (tree_of body.now)) }
     ensures kept { OnOk result (sure ≡ true → Kept (env_of pass.old) (env_of pass.new)) }
+    ensures walked { OnOk result (mark_of pass.new ≡ past_body rows (tables_of tables.now).types (tree_of body.now) (mark_of pass.old)) }
+    ensures told { IfErr result (λ fault. Foretold sure at.now.labels.items (length pass.old.found.items)
+        (labels_at rows (tables_of tables.now).types (mark_of pass.old) (tree_of body.now)) → fault ≢ Unsettled) }
 {
     rows_are_right();
     match body {
@@ -108,7 +120,8 @@ pub fn emit_body(
                 pass.depth,
                 spot,
                 operands,
-            )
+            )?;
+            Ok(())
         }
         Body::Jump(_, label, operands) => {
             let spot = spot_at(&pass.spots, *label);
@@ -119,25 +132,31 @@ pub fn emit_body(
                 pass.depth,
                 spot,
                 operands,
-            )
+            )?;
+            Ok(())
         }
-        Body::Tail(_, callee, operands) => emit_tail(
-            alloc,
-            &mut pass.code,
-            tables,
-            at,
-            &pass.slots,
-            pass.depth,
-            *callee,
-            operands,
-        ),
+        Body::Tail(_, callee, operands) => {
+            emit_tail(
+                alloc,
+                &mut pass.code,
+                tables,
+                at,
+                &pass.slots,
+                pass.depth,
+                *callee,
+                operands,
+            )?;
+            Ok(())
+        }
         Body::Ret(variable) => {
             let value = slot_of(&pass.slots, *variable)?;
-            put(&mut pass.code, Instr::Ret { value })
+            put(&mut pass.code, Instr::Ret { value })?;
+            Ok(())
         }
         Body::Raise(variable) => {
             let packet = slot_of(&pass.slots, *variable)?;
-            put(&mut pass.code, Instr::Raise { packet })
+            put(&mut pass.code, Instr::Raise { packet })?;
+            Ok(())
         }
     }
 }
@@ -151,12 +170,17 @@ fn emit_heads(
     sure: bool,
     pass: &mut Pass,
     steps: &[Step],
-) -> Result<Vec<usize>, EmitFault>
+) -> Result<Vec<usize>, WalkFault>
     ensures code { IfOk result (λ numbers. sure ≡ true → pass.new.code.items ≡ pass.old.code.items
         ++ before_all (places_of tables.now at.now) (label_in at.now) (env_of pass.old) numbers.items (map step_of steps.now)) }
     ensures scope { IfOk result (λ numbers. sure ≡ true → env_of pass.new ≡ after_all (places_of tables.now at.now) (env_of pass.old) (map step_of steps.now)) }
     ensures begins { IfOk result (λ numbers. sure ≡ true → BeginAll (places_of tables.now at.now) (label_in at.now) (env_of pass.old) numbers.items (map
         step_of steps.now)) }
+    ensures walked { OnOk result (mark_of pass.new ≡ past_heads rows (tables_of tables.now).types (map step_of steps.now) (mark_of pass.old)) }
+    ensures numbers { IfOk result (λ numbers. numbers.items ≡ numbers_of rows (tables_of tables.now).types (length pass.old.found.items) (length pass.old.code.items)
+        (frame_of pass.old) (map step_of steps.now)) }
+    ensures told { IfErr result (λ fault. (q : ℕ) → Foretold sure at.now.labels.items (length pass.old.found.items)
+        (closed_all rows (tables_of tables.now).types q (length pass.old.code.items) (frame_of pass.old) (map step_of steps.now)) → fault ≢ Unsettled) }
 {
     rows_are_right();
     let mut numbers = Vec::new(alloc);
@@ -176,11 +200,15 @@ fn emit_head(
     sure: bool,
     pass: &mut Pass,
     step: &Step,
-) -> Result<usize, EmitFault>
+) -> Result<usize, WalkFault>
     ensures code { IfOk result (λ number. sure ≡ true → pass.new.code.items ≡ pass.old.code.items
         ++ before (places_of tables.now at.now) (label_in at.now) (env_of pass.old) number (step_of step.now)) }
     ensures scope { IfOk result (λ number. sure ≡ true → Kept (after (places_of tables.now at.now) (env_of pass.old) (step_of step.now)) (env_of pass.new)) }
     ensures begins { IfOk result (λ number. sure ≡ true → Begins (places_of tables.now at.now) (label_in at.now) (env_of pass.old) number (step_of step.now)) }
+    ensures walked { OnOk result (mark_of pass.new ≡ past_head rows (tables_of tables.now).types (step_of step.now) (mark_of pass.old)) }
+    ensures number { IfOk result (λ number. number ≡ number_of (length pass.old.found.items) (step_of step.now)) }
+    ensures told { IfErr result (λ fault. (q : ℕ) → Foretold sure at.now.labels.items (length pass.old.found.items)
+        (closed rows (tables_of tables.now).types q (length pass.old.code.items) (frame_of pass.old) (step_of step.now)) → fault ≢ Unsettled) }
 {
     rows_are_right();
     match step {
@@ -248,7 +276,7 @@ fn emit_head(
             push_spot(&mut pass.spots, spot)?;
             Ok(0)
         }
-        Step::When(test, operands, _) => emit_tested(
+        Step::When(test, operands, _) => Ok(emit_tested(
             alloc,
             tables,
             at,
@@ -258,7 +286,7 @@ fn emit_head(
             pass.depth,
             *test,
             operands,
-        ),
+        )?),
         Step::Unless(test, operands, body) => {
             let number = emit_tested(
                 alloc,
@@ -305,13 +333,23 @@ fn emit_ends(
     pass: &mut Pass,
     steps: &[Step],
     numbers: &[usize],
-) -> Result<(), EmitFault>
+) -> Result<(), WalkFault>
     ensures code { OnOk result (sure ≡ true → (e : Env) → Kept (after_all (places_of tables.now at.now) e (map step_of steps.now)) (env_of pass.old)
         → pass.new.code.items ≡ pass.old.code.items ++ behind_all (places_of tables.now at.now) e (map step_of steps.now) (length pass.old.code.items)) }
     ensures kept { OnOk result (sure ≡ true → (e : Env) → Kept (after_all (places_of tables.now at.now) e (map step_of steps.now)) (env_of pass.old)
         → Kept e (env_of pass.new)) }
     ensures ends { OnOk result (sure ≡ true → (e : Env) → Kept (after_all (places_of tables.now at.now) e (map step_of steps.now)) (env_of pass.old)
         → EndAll (places_of tables.now at.now) (label_in at.now) e numbers.now (map step_of steps.now) (length pass.old.code.items)) }
+    ensures walked { OnOk result ((front back : List ℕ) (pc : ℕ) (f : Frame) → frame_of pass.old ≡ entered_all f (map step_of steps.now)
+        → pass.old.found.items ≡ front ++ (opened_all rows (tables_of tables.now).types pc f (map step_of steps.now) ++ back)
+        → numbers.now ≡ numbers_of rows (tables_of tables.now).types (length front) pc f (map step_of steps.now)
+        → mark_of pass.new ≡ past_ends rows (tables_of tables.now).types front back pc (length pass.old.code.items) f (map step_of steps.now)) }
+    ensures told { IfErr result (λ fault. (front back : List ℕ) (pc : ℕ) (f : Frame) → frame_of pass.old ≡ entered_all f (map step_of steps.now)
+        → pass.old.found.items ≡ front ++ (opened_all rows (tables_of tables.now).types pc f (map step_of steps.now) ++ back)
+        → numbers.now ≡ numbers_of rows (tables_of tables.now).types (length front) pc f (map step_of steps.now)
+        → Foretold sure at.now.labels.items (length front) (closed_all rows (tables_of tables.now).types (length pass.old.code.items) pc f (map step_of steps.now))
+        → Foretold sure at.now.labels.items (length pass.old.found.items) (ended_all rows (tables_of tables.now).types (length pass.old.code.items) f (map step_of steps.now))
+        → fault ≢ Unsettled) }
 {
     rows_are_right();
     let mut left = steps.len();
@@ -333,13 +371,21 @@ fn emit_end(
     pass: &mut Pass,
     number: usize,
     step: &Step,
-) -> Result<(), EmitFault>
+) -> Result<(), WalkFault>
     ensures code { OnOk result (sure ≡ true → (e : Env) → Kept (after (places_of tables.now at.now) e (step_of step.now)) (env_of pass.old)
         → pass.new.code.items ≡ pass.old.code.items ++ behind (places_of tables.now at.now) e (step_of step.now) (length pass.old.code.items)) }
     ensures kept { OnOk result (sure ≡ true → (e : Env) → Kept (after (places_of tables.now at.now) e (step_of step.now)) (env_of pass.old)
         → Kept e (env_of pass.new)) }
     ensures ends { OnOk result (sure ≡ true → (e : Env) → Kept (after (places_of tables.now at.now) e (step_of step.now)) (env_of pass.old)
         → Ends (places_of tables.now at.now) (label_in at.now) e number (step_of step.now) (length pass.old.code.items)) }
+    ensures walked { OnOk result ((front back : List ℕ) (pc : ℕ) (f : Frame) → frame_of pass.old ≡ entered f (step_of step.now)
+        → pass.old.found.items ≡ front ++ (opened rows (tables_of tables.now).types pc f (step_of step.now) ++ back) → number ≡ number_of (length front) (step_of step.now)
+        → mark_of pass.new ≡ past_end rows (tables_of tables.now).types front back pc (length pass.old.code.items) f (step_of step.now)) }
+    ensures told { IfErr result (λ fault. (front back : List ℕ) (pc : ℕ) (f : Frame) → frame_of pass.old ≡ entered f (step_of step.now)
+        → pass.old.found.items ≡ front ++ (opened rows (tables_of tables.now).types pc f (step_of step.now) ++ back) → number ≡ number_of (length front) (step_of step.now)
+        → Foretold sure at.now.labels.items (length front) (closed rows (tables_of tables.now).types (length pass.old.code.items) pc f (step_of step.now))
+        → Foretold sure at.now.labels.items (length pass.old.found.items) (ended rows (tables_of tables.now).types (length pass.old.code.items) f (step_of step.now))
+        → fault ≢ Unsettled) }
 {
     rows_are_right();
     match step {
@@ -394,12 +440,16 @@ fn emit_labelled(
     sure: bool,
     pass: &mut Pass,
     body: &Body,
-) -> Result<Spot, EmitFault>
+) -> Result<Spot, WalkFault>
     ensures code { IfOk result (λ spot. sure ≡ true → pass.new.code.items ≡ pass.old.code.items
         ++ code_at (places_of tables.now at.now) (length pass.old.code.items) pass.old.depth pass.old.slots (spot_in (places_of tables.now at.now) (env_of
         pass.old) (tree_of body.now) ∷ spots_of pass.old.spots.items) (tree_of body.now)) }
     ensures spot { IfOk result (λ spot. sure ≡ true → spot_of spot ≡ spot_in (places_of tables.now at.now) (env_of pass.old) (tree_of body.now)) }
     ensures kept { OnOk result (sure ≡ true → Kept (env_of pass.old) (env_of pass.new)) }
+    ensures walked { OnOk result (mark_of pass.new ≡ past_labelled rows (tables_of tables.now).types (tree_of body.now) (mark_of pass.old)) }
+    ensures exit { IfOk result (λ spot. exit_of (spot_of spot) ≡ exit_at pass.old.depth) }
+    ensures told { IfErr result (λ fault. Foretold sure at.now.labels.items (length pass.old.found.items)
+        (own_labels rows (tables_of tables.now).types (mark_of pass.old) (tree_of body.now)) → fault ≢ Unsettled) }
 {
     rows_are_right();
     let number = reserve(&mut pass.found)?;
@@ -450,13 +500,16 @@ fn emit_guarded(
     pass: &mut Pass,
     label: usize,
     body: &Body,
-) -> Result<(), EmitFault>
+) -> Result<(), WalkFault>
     ensures code { OnOk result (sure ≡ true → pass.new.code.items ≡ pass.old.code.items
         ++ PushHandler (slot pass.old.depth) (length pass.old.code.items + 1 + guard_size (places_of tables.now at.now) pass.old.depth pass.old.slots
         (spots_of pass.old.spots.items) label (tree_of body.now))
         ∷ code_at (places_of tables.now at.now) (length pass.old.code.items + 1) (pass.old.depth + 3) pass.old.slots
         (left_by pass.old.depth (get_or (spots_of pass.old.spots.items) label no_spot) ∷ []) (tree_of body.now)) }
     ensures kept { OnOk result (sure ≡ true → Kept (env_of pass.old) (env_of pass.new)) }
+    ensures walked { OnOk result (mark_of pass.new ≡ past_guarded rows (tables_of tables.now).types label (tree_of body.now) (mark_of pass.old)) }
+    ensures told { IfErr result (λ fault. Foretold sure at.now.labels.items (length pass.old.found.items)
+        (guarded_labels rows (tables_of tables.now).types label (mark_of pass.old) (tree_of body.now)) → fault ≢ Unsettled) }
 {
     rows_are_right();
     let number = reserve(&mut pass.found)?;
@@ -487,10 +540,18 @@ fn emit_arms(
     how: Choice,
     first: usize,
     arms: &[Arm],
-) -> Result<usize, EmitFault>
+) -> Result<usize, WalkFault>
     ensures arms { IfOk result (λ number. sure ≡ true → ArmsBefore (places_of tables.now at.now) (label_in at.now) (choice_of how) (map arm_of arms.now)
         first number (env_of pass.old) pass.old.code.items pass.new.code.items) }
     ensures kept { OnOk result (sure ≡ true → Kept (env_of pass.old) (env_of pass.new)) }
+    ensures walked { IfOk result (λ number. (front back : List ℕ) → first ≡ length front → pass.old.found.items ≡ front ++ (blank (length arms.now) ++ back)
+        → (mark_of pass.new ≡ past_arms rows (tables_of tables.now).types (choice_of how) front back (map arm_of arms.now) (mark_of pass.old))
+        × (number ≡ first + length arms.now)) }
+    ensures told { IfErr result (λ fault. (front back : List ℕ) → first ≡ length front → pass.old.found.items ≡ front ++ (blank (length arms.now) ++ back)
+        → Foretold sure at.now.labels.items (length front) (arms_from rows (tables_of tables.now).types (choice_of how) (length pass.old.code.items) (frame_of pass.old) (map
+        arm_of arms.now))
+        → Foretold sure at.now.labels.items (length pass.old.found.items) (arms_within rows (tables_of tables.now).types (choice_of how) (length pass.old.code.items)
+        (frame_of pass.old) (map arm_of arms.now)) → fault ≢ Unsettled) }
 {
     rows_are_right();
     let mut number = first;
@@ -512,11 +573,14 @@ pub fn emit_fun(
     sure: bool,
     pass: &mut Pass,
     fun: &Fun,
-) -> Result<(), EmitFault>
+) -> Result<(), WalkFault>
     ensures code { OnOk result (sure ≡ true → pass.new.code.items ≡ pass.old.code.items
         ++ code_at (places_of tables.now at.now) (length pass.old.code.items) (pass.old.depth + length fun.now.params.items)
         (code_.with_params fun.now.params.items pass.old.depth pass.old.slots) (spots_of pass.old.spots.items) (tree_of fun.now.body)) }
     ensures kept { OnOk result (sure ≡ true → Kept (env_of pass.old) (env_of pass.new)) }
+    ensures walked { OnOk result (mark_of pass.new ≡ past_fun rows (tables_of tables.now).types fun.now.params.items (tree_of fun.now.body) (mark_of pass.old)) }
+    ensures told { IfErr result (λ fault. Foretold sure at.now.labels.items (length pass.old.found.items)
+        (fun_labels rows (tables_of tables.now).types fun.now.params.items (tree_of fun.now.body) (mark_of pass.old)) → fault ≢ Unsettled) }
 {
     bind_all(&mut pass.slots, &mut pass.depth, &fun.params)?;
     emit_body(alloc, tables, at, sure, pass, &fun.body)?;

@@ -1,3 +1,5 @@
 pub mod Emitted
+pub mod Funs
+pub mod SetPlaces
 pub mod Whole
 pub mod Only

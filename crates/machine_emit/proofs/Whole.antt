@@ -19,6 +19,7 @@ use Rattle.emit_code.specs.declared.places.Places.{Places}
 use Rattle.emit_walk.specs.Walk.{Env, Kept}
 use Rattle.emit_known.specs.Known.{KnowsConstants}
 use Rattle.machine_emit.specs.Begin.{IsEmpty}
+use Rattle.machine_emit.proofs.SetPlaces.{same-place}
 
 -- a function's code, where nothing of the frame is in use before it
 pub fun-is : (at : code.Places) (pc d : ℕ) (scope : Scope) (spots : List Spot) (g : Fun) → d ≡ 0 → scope ≡ [] → spots ≡ []
@@ -59,46 +60,27 @@ module _ (at : code.Places) (right : AreRight at.rows) (funs : List Fun) (old : 
   pub walked-code : (env : Env) (code : List Instr) (places : List ℕ) → Walked [] env code places → code ≡ old ++ funs_code at (length old) funs
   walked-code env code places w = sym (append-nil code) ∙ w.so-far.whole
 
-  pub walked-places : (env : Env) (code : List Instr) (places : List ℕ) (end : ℕ) → end ≡ length code → Walked [] env code places
-      → (i : ℕ) → get_or places i end ≡ fun_place at.rows at.types (length old) funs i
-  walked-places env code places end e w = funs-done at right funs old code places end e w.so-far
-
 -- the whole, from the start, the functions and the routines of sets
 module _ (at : code.Places) (right : AreRight at.rows) (p : Program) (start with-funs all : List Instr)
     (h1 : start ≡ (CallRow (at.fun_at 0) 0 ∷ End ∷ []) ++ equal_code p.tables.types 2 most_code) (h2 : with-funs ≡ start ++ funs_code at (length start) p.funs) where
   pub start-long : length start ≡ funs_from p
   start-long = before-funs at right p (CallRow (at.fun_at 0) 0 ∷ End ∷ []) start with-funs (with-funs ++ sets_code p.funs at.fun_at (length with-funs) p.tables.sets) refl h1 h2 refl
 
-  pub funs-long : length with-funs ≡ sets_from at p
-  funs-long = before-sets at right p (CallRow (at.fun_at 0) 0 ∷ End ∷ []) start with-funs (with-funs ++ sets_code p.funs at.fun_at (length with-funs) p.tables.sets) refl h1 h2 refl
-
   pub whole-code : all ≡ with-funs ++ sets_code p.funs at.fun_at (length with-funs) p.tables.sets → all ≡ code_by at p
   whole-code h = assembled at right p (CallRow (at.fun_at 0) 0 ∷ End ∷ []) start with-funs all refl h1 h2 h
-
-  pub funs-stand : (places : List ℕ) (end : ℕ) → ((i : ℕ) → get_or places i end ≡ fun_place at.rows at.types (length start) p.funs i)
-      → (i : ℕ) → get_or places i end ≡ fun_place at.rows at.types (funs_from p) p.funs i
-  funs-stand places end h i = h i ∙ ap (λ n. fun_place at.rows at.types n p.funs i) start-long
-
-  pub sets-stand : (places : List ℕ) (end : ℕ) → ((i : ℕ) → get_or places i end ≡ set_place p.funs at.fun_at (length with-funs) p.tables.sets i)
-      → (i : ℕ) → get_or places i end ≡ set_place p.funs at.fun_at (sets_from at p) p.tables.sets i
-  sets-stand places end h i = h i ∙ ap (λ n. set_place p.funs at.fun_at n p.tables.sets i) funs-long
 
 -- the places are those of the image
 module _ (texts : List (List ℕ)) (tables : Tables) (funs : List Fun) (at : Places) where
   abbrev program : Program
   program = record { tables = tables_of tables; funs = funs }
 
-  pub settled : (known : KnowsConstants texts program at) (fs ss : List ℕ) (fe se : ℕ)
-      → ((i : ℕ) → get_or fs i fe ≡ fun_place rows (tables_of tables).types (funs_from program) funs i)
-      → ((i : ℕ) → get_or ss i se ≡ set_place funs (places_of tables at).fun_at (sets_from (places_of tables at) program) (tables_of tables).sets i)
-      → at.funs.items ≡ fs → at.funs_end ≡ fe → at.sets.items ≡ ss → at.sets_end ≡ se → (c : List Instr) → c ≡ code_by (places_of tables at) program
-      → c ≡ code_of rows texts program
-  settled known fs ss fe se hf hs ef efe es ese c h =
-      let funs-same : (i : ℕ) → get_or at.funs.items i at.funs_end ≡ fun_at rows texts program i =
-      λ i. ap (λ l. get_or l i at.funs_end) ef ∙ ap (get_or fs i) efe ∙ hf i in
+  pub settled : (known : KnowsConstants texts program at) (f : ℕ → ℕ)
+      → ((i : ℕ) → get_or at.funs.items i at.funs_end ≡ fun_place rows (tables_of tables).types (funs_from program) funs i)
+      → ((i : ℕ) → get_or at.sets.items i at.sets_end ≡ set_place funs f (sets_from (places_of tables at) program) (tables_of tables).sets i)
+      → (c : List Instr) → c ≡ code_by (places_of tables at) program → c ≡ code_of rows texts program
+  settled known f hf hs c h =
       let sets-same : (i : ℕ) → get_or at.sets.items i at.sets_end ≡ set_place funs (fun_at rows texts program) (sets_at rows texts program) (tables_of tables).sets i =
-      λ i. ap (λ l. get_or l i at.sets_end) es ∙ ap (get_or ss i) ese ∙ hs i
-      ∙ ap (λ f. set_place funs f (sets_at rows texts program) (tables_of tables).sets i) (fun_ext funs-same) in
+      λ i. hs i ∙ same-place f (fun_at rows texts program) funs (tables_of tables).sets (sets_at rows texts program) i in
       h ∙ code-is rows texts program (places_of tables at)
-      (same-places (places_of tables at) (image_places rows texts program) refl refl known.text_at known.name_at (λ i. ap (λ n. n + i) known.first_at) known.packet_at funs-same sets-same
+      (same-places (places_of tables at) (image_places rows texts program) refl refl known.text_at known.name_at (λ i. ap (λ n. n + i) known.first_at) known.packet_at hf sets-same
       known.type_at)

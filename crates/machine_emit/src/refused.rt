@@ -12,8 +12,6 @@ pub enum EmitRefused {
     TooLong,
     /// A number or a place that the code names is no word.
     NoWord,
-    /// The second walk would not put a label, a function or a routine where the first one found it.
-    Unsettled,
     Memory,
 }
 
@@ -22,8 +20,8 @@ impl From<EmitFault> for EmitRefused {
 
     fn from(fault: EmitFault) -> EmitRefused {
         match fault {
-            EmitFault::NoWord => EmitRefused::NoWord,
-            EmitFault::Unsettled => EmitRefused::Unsettled,
+            // Nothing in emit_code answers Unsettled.
+            EmitFault::NoWord | EmitFault::Unsettled => EmitRefused::NoWord,
             EmitFault::Memory => EmitRefused::Memory,
         }
     }

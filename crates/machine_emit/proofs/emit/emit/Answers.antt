@@ -19,6 +19,9 @@ texts_of-requires c =
     subst (All (λ i. i < length c.args.names.now)) (sym c.deref-2.ensures.value)
     (all-found (λ i. i < length c.args.names.now) (exceptions (program_of p)) c.in_ok-found.found.items same c.requires)
 
+pub settled_code-requires : goal.settled_code-requires
+settled_code-requires c = (map items_of c.deref-3.result.now, c.in_ok-words.ensures.places (program_of c.args.program.now) refl)
+
 pub returns-clause-image : goal.returns-clause-image
 returns-clause-image c =
     let p = c.args.program.now in

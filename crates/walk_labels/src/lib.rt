@@ -1,0 +1,2 @@
+// Where the labels of a body stand.
+#![tactic(auto)]
