@@ -86,10 +86,7 @@ const MODULES: [(&str, &str); 12] = [
     ("fun f x = x structure A = B", "1.1"),
     ("val x = 0w1 structure A = B", "1.9"),
     ("val x = y structure A = B fun f x = x", "1.11"),
-    (
-        "val x = 1\nlocal structure S = T in val y = 2 end",
-        "2.1",
-    ),
+    ("val x = 1\nlocal structure S = T in val y = 2 end", "2.1"),
     ("local val x = 1 in val y = x end structure A = B", "1.1"),
     ("signature S = sig end structure A = B", "1.1"),
     ("functor F (X : S) = X", "1.1"),
@@ -110,7 +107,10 @@ fn modules_are_not_compiled(rt: HostRuntime) -> Result<(), Fail> {
 // Sources with modules or with expressions at their top that are refused otherwise.
 const MODULES_REFUSED: [(&str, &str); 10] = [
     ("structure A = sig end", "p.sml:1.15: E11 syntax error\n"),
-    ("fun f x = x signature S =", "p.sml:1.26: E11 syntax error\n"),
+    (
+        "fun f x = x signature S =",
+        "p.sml:1.26: E11 syntax error\n",
+    ),
     (
         "structure A = struct val end",
         "p.sml:1.26: E11 syntax error\n",
