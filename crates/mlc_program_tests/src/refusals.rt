@@ -4,11 +4,12 @@ use crate::calls::{REFUSED, Row, bad_mlb, bad_sml, check, check_all};
 use std::test::Fail;
 
 // Sources, and the lines that tell why they are refused.
-const SOURCES: [(&str, &str); 15] = [
+const SOURCES: [(&str, &str); 16] = [
     ("val () = print \"a", "p.sml:1.16: E10 no token\n"),
     ("val () = print \"\x7f\"", "p.sml:1.16: E10 no token\n"),
     ("val x = 1 (* open", "p.sml:1.11: E10 no token\n"),
-    ("valx () = print \"a\"", "p.sml:1.1: E11 syntax error\n"),
+    ("valx () = print \"a\"", "p.sml:1.19: E11 syntax error\n"),
+    (") val x = 1", "p.sml:1.1: E11 syntax error\n"),
     (
         "infixr 5 ++ infix 5 -- val z = 1 ++ 2 -- 3",
         "p.sml:1.39: E11 syntax error\n",
@@ -85,10 +86,7 @@ const MODULES: [(&str, &str); 12] = [
     ("fun f x = x structure A = B", "1.1"),
     ("val x = 0w1 structure A = B", "1.9"),
     ("val x = y structure A = B fun f x = x", "1.11"),
-    (
-        "val x = 1\nlocal structure S = T in val y = 2 end",
-        "2.1",
-    ),
+    ("val x = 1\nlocal structure S = T in val y = 2 end", "2.1"),
     ("local val x = 1 in val y = x end structure A = B", "1.1"),
     ("signature S = sig end structure A = B", "1.1"),
     ("functor F (X : S) = X", "1.1"),
@@ -109,7 +107,10 @@ fn modules_are_not_compiled(rt: HostRuntime) -> Result<(), Fail> {
 // Sources with modules or with expressions at their top that are refused otherwise.
 const MODULES_REFUSED: [(&str, &str); 10] = [
     ("structure A = sig end", "p.sml:1.15: E11 syntax error\n"),
-    ("fun f x = x signature S =", "p.sml:1.26: E11 syntax error\n"),
+    (
+        "fun f x = x signature S =",
+        "p.sml:1.26: E11 syntax error\n",
+    ),
     (
         "structure A = struct val end",
         "p.sml:1.26: E11 syntax error\n",

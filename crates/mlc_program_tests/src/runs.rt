@@ -35,8 +35,14 @@ const EXPRESSIONS: [(&str, &str); 7] = [
     ("val x = 1 ; ; x + 1 ; val y = 2", ""),
     (";;print\"a\";print\"b\"; ; val () = print \"c\"", "abc"),
     ("\"a\" ^ \"b\" ; print it ; it ;", "ab"),
-    ("val it = \"a\" val x = it ; print x ; print (x ^ x) ;", "aaa"),
-    ("infix 6 ++ val op ++ = op ^ ; \"a\" ++ \"b\" ; print it ;", "ab"),
+    (
+        "val it = \"a\" val x = it ; print x ; print (x ^ x) ;",
+        "aaa",
+    ),
+    (
+        "infix 6 ++ val op ++ = op ^ ; \"a\" ++ \"b\" ; print it ;",
+        "ab",
+    ),
 ];
 
 #[test]
