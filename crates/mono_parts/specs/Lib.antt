@@ -1,0 +1,3 @@
+pub mod Operations
+pub mod Arms
+pub mod Steps

@@ -1,0 +1,6 @@
+// What of copying doesn't recurse: operations, arms, and what steps bind.
+#![tactic(auto)]
+
+pub mod arms;
+pub mod operations;
+pub mod steps;
