@@ -5,7 +5,8 @@ ghost use Rattle.ir_mono.specs.Types.{Row, node_at};
 ghost use Rattle.closure_convert.specs.Scope.{index_of};
 ghost use Rattle.closure_meaning.specs.Convert.{con_tag, label_index, labels_in};
 ghost use Rattle.closure_whole.specs.Converted.{text_index};
-ghost use Rattle.closure_parts.specs.Indexed.{Finds, place_in, number_next, constructor_numbers, label_key, label_keys, keys_by, AreFound, ArePlaces, AreTexts, FindsTexts, text_in, texts_of};
+ghost use Rattle.closure_parts.specs.Indexed.{Finds, place_in, number_next, constructor_numbers, label_key, label_keys, keys_by, AreFound};
+ghost use Rattle.closure_parts.specs.Indexed.{ArePlaces, AreTexts, FindsTexts, text_in, texts_of};
 
 use indexmap::IndexMap;
 use ir_uses::constructor::{FALSE, TRUE};
