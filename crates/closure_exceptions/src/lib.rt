@@ -1,0 +1,4 @@
+// Exceptions that conversions make.
+#![tactic(auto)]
+
+pub mod law;

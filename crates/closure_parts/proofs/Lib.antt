@@ -1,0 +1,9 @@
+pub mod Rolls
+pub mod Putting
+pub mod Finding
+pub mod Closures
+pub mod Operating
+pub mod Numbered
+pub mod Whole
+pub mod TextMap
+pub mod NameMap

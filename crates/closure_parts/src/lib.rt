@@ -1,0 +1,10 @@
+// Steps of single operations, with closures as cells.
+#![tactic(auto)]
+
+pub mod access;
+pub mod making;
+mod names;
+pub mod operands;
+pub mod operation;
+pub mod places;
+pub mod setting;
