@@ -1,0 +1,146 @@
+-- What a state has of the context of the initial basis.
+use Rattle.std.proofs.Common.{◌≡◌, ◌<◌, ◌≤◌, ◌+◌, ℕ, zero, suc, Bool, true, false, cond, List, [], ◌∷◌, ◌++◌, map, length, nat_eq, Option, Some, None, slice_get, refl, sym, ap, ap₂, subst, ◌∙◌, arith}
+use Rattle.std.proofs.lemmas.List.{length-map}
+use Rattle.std.specs.List.{AllByRecursion}
+use Rattle.ty_core.specs.Types.{Typ}
+use Rattle.ty_core.specs.Marks.{is_inhabited}
+use Rattle.ty_core.specs.declared.name.TyName.{TyName}
+use Rattle.ty_table.specs.TypeAt.{type_at, top, AllBelow}
+use Rattle.ty_solve.specs.Substitution.{is_below}
+use Rattle.sml_tree.specs.declared.ident.Vid.{Vid}
+use Rattle.sml_tree.specs.declared.ident.Vid.TheVariants.{Named, Equals, Fresh}
+use Rattle.core_rules.specs.Objects.{Scheme}
+use Rattle.core_rules.specs.Initial.{entries, integers}
+use Rattle.initial_types.specs.Schemes.{schemes_in}
+use Rattle.elab_state.specs.States.{types_in, made}
+use Rattle.elab_state.specs.declared.state.State.{State}
+use Rattle.elab_context.specs.Entries.{entry_in}
+use Rattle.elab_context.specs.Telling.{IsContext, IsHeld}
+use Rattle.elab_context.specs.declared.context.Context.{Context}
+use Rattle.elab_context.specs.declared.entry.Entry.{Entry}
+use Rattle.elab_context.specs.declared.entry.Scheme as code
+use Rattle.basis_context.specs.Basis.{Rows, scheme_in, row_list, integer_list, type_list, type_entries, arity_of, body_of, entry_at}
+use Rattle.basis_context.specs.declared.rows.Kind.{Kind}
+use Rattle.basis_context.specs.declared.rows.Kind.TheVariants.{Reference, Constructor, Exception, Primitive}
+use Rattle.core_rules.specs.Words.{same_vid}
+use Rattle.elab_state.specs.Namings.{IsAmong}
+use Rattle.basis_context.proofs.Agreeing.{row_entry, vid_of, front}
+use Rattle.vid_scope.specs.declared.vids.VidScope.{VidScope}
+use Rattle.basis_context.specs.Basis.{HasBasis, basis_marks, marks_at}
+use Rattle.basis_context.specs.declared.tables.Basis.{Basis}
+use Rattle.basis_context.proofs.Making.{schemes-from, schemes-append, schemes-below, marks-append, below-append}
+use Rattle.basis_context.proofs.Whole.{IsBasis, HasRows, rows-found, member-of}
+
+-- schemes are closed, and their marks inhabited
+record IsClosed (s : Scheme) : Type 0 where
+  below : is_below (length s.marks) s.body ≡ true
+  marks : AllByRecursion (λ m. is_inhabited m ≡ true) s.marks
+
+closed-all : AllByRecursion IsClosed (schemes_in entries ++ schemes_in integers)
+closed-all = (record { below = refl; marks = (refl, tt) }, (record { below = refl; marks = tt }, (record { below = refl; marks = tt }, (record { below = refl; marks = (refl, tt) }, (record { below = refl; marks = (refl, tt) }, (record { below = refl; marks = tt }, (record { below = refl; marks = tt }, (record { below = refl; marks = tt }, (record { below = refl; marks = tt }, (record { below = refl; marks = tt }, (record { below = refl; marks = tt }, (record { below = refl; marks = tt }, (record { below = refl; marks = (refl, tt) }, (record { below = refl; marks = (refl, tt) }, (record { below = refl; marks = (refl, tt) }, (record { below = refl; marks = (refl, tt) }, (record { below = refl; marks = (refl, tt) }, (record { below = refl; marks = (refl, tt) }, (record { below = refl; marks = tt }, (record { below = refl; marks = (refl, tt) }, (record { below = refl; marks = (refl, tt) }, (record { below = refl; marks = (refl, tt) }, (record { below = refl; marks = (refl, tt) }, (record { below = refl; marks = (refl, tt) }, (record { below = refl; marks = (refl, tt) }, (record { below = refl; marks = tt }, (record { below = refl; marks = tt }, (record { below = refl; marks = tt }, tt))))))))))))))))))))))))))))
+
+closed-at : (ts : List Typ) (ks : List code.Scheme) (vs : List Scheme) (k : ℕ) (s : code.Scheme) → map (scheme_in ts) ks ≡ vs → AllByRecursion IsClosed vs → slice_get ks k ≡ Some s → IsClosed (scheme_in ts s)
+closed-at ts [] vs k s e h q = cc
+closed-at ts (x ∷ ks) [] k s e h q = cc
+closed-at ts (x ∷ ks) (v ∷ vs) zero s e h q = let same : x ≡ s = cc in let at : scheme_in ts x ≡ v = cc in subst IsClosed (sym at ∙ ap (scheme_in ts) same) h.0
+closed-at ts (x ∷ ks) (v ∷ vs) (suc k) s e h q = closed-at ts ks vs k s (cc) h.1 q
+
+held-at : (n : ℕ) (ks : List code.Scheme) (k : ℕ) (s : code.Scheme) → AllByRecursion (λ s. s.body < n) ks → slice_get ks k ≡ Some s → s.body < n
+held-at n [] k s h q = cc
+held-at n (x ∷ ks) zero s h q = let same : x ≡ s = cc in subst (λ (z : code.Scheme). z.body < n) same h.0
+held-at n (x ∷ ks) (suc k) s h q = held-at n ks k s h.1 q
+
+-- type constructors
+
+types-held : (n : ℕ) (ts : List (ℕ × Option TyName)) (bs : List ℕ) (k : ℕ) → AllBelow n bs → AllByRecursion (λ b. b.1.body < n) (type_entries ts bs k)
+types-held n [] bs k h = tt
+types-held n (t ∷ ts) [] k h = tt
+types-held n (t ∷ ts) (b ∷ bs) k h = (h.0, types-held n ts bs (suc k) h.1)
+
+few-variables : AllByRecursion (λ t. top (body_of t.1) ≤ arity_of t.1) type_list
+few-variables = (omega arith, (omega arith, (omega arith, (omega arith, (omega arith, (omega arith, (omega arith, (omega arith, (omega arith, tt)))))))))
+
+types-closed : (us : List Typ) (ts : List (ℕ × Option TyName)) (bs : List ℕ) (k : ℕ) → map (type_at us) bs ≡ map (λ t. body_of t.1) ts → AllByRecursion (λ t. top (body_of t.1) ≤ arity_of t.1) ts
+    → AllByRecursion (λ b. top (type_at us b.1.body) ≤ b.1.arity) (type_entries ts bs k)
+types-closed us [] bs k e h = tt
+types-closed us (t ∷ ts) [] k e h = tt
+types-closed us (t ∷ ts) (b ∷ bs) k e h =
+    let body : type_at us b ≡ body_of t.1 = cc in
+    (subst (λ z. top z ≤ arity_of t.1) (sym body) h.0, types-closed us ts bs (suc k) (cc) h.1)
+
+-- identifiers
+
+row-held : (S : State) (C : Context) (a : Kind) (k : ℕ) → k < length C.schemes.items → IsHeld S C (entry_at a k)
+row-held S C Reference k lt = lt
+row-held S C (Constructor n y) k lt = lt
+row-held S C (Exception n) k lt = lt
+row-held S C (Primitive q) k lt = lt
+
+rows-held : (S : State) (C : Context) (rs : Rows) (k : ℕ) (x : Vid) (e : Entry) → k + length rs ≤ length C.schemes.items → row_entry rs k x ≡ Some e → IsHeld S C e
+rows-held S C [] k (Named x) e le q = cc
+rows-held S C [] k (Fresh x) e le q = cc
+rows-held S C [] k Equals e le q = cc
+rows-held S C ((w, a) ∷ rs) k x e le q = by (same_vid x (vid_of w)) (λ s. rows-held S C rs (suc k) x e (omega (arith, le)) s) (sym (front rs k w a x) ∙ q)
+  where
+    by : (b : Bool) → (row_entry rs (suc k) x ≡ Some e → IsHeld S C e) → cond b (Some (entry_at a k)) (row_entry rs (suc k) x) ≡ Some e → IsHeld S C e
+    by true f s = let same : entry_at a k ≡ e = cc in subst (IsHeld S C) same (row-held S C a k (omega (arith, le)))
+    by false f s = f s
+
+module _ (S : State) (C : Context) (i : IsBasis (types_in S) C) where
+  scheme-count : length C.schemes.items ≡ 28
+  scheme-count = sym (length-map C.schemes.items (scheme_in (types_in S))) ∙ ap length i.schemes
+
+  entries-held : (qs : List ℕ) (x : Vid) (e : Entry) → entry_in C qs x ≡ Some e → IsHeld S C e
+  entries-held [] x e q = let n = scheme-count in rows-held S C row_list 0 x e (omega (arith, n)) (sym (rows-found C.values row_list 0 x i.values) ∙ q)
+  entries-held (n ∷ []) x e q = by (nat_eq n 72) (sym (member-of S C i n x) ∙ q)
+    where
+      by : (b : Bool) → cond b (row_entry integer_list 25 x) None ≡ Some e → IsHeld S C e
+      by true h = let n = scheme-count in rows-held S C integer_list 25 x e (omega (arith, n)) h
+      by false h = cc
+  entries-held (n ∷ m ∷ ns) x e q = cc
+
+  pub context_is : IsContext S C
+  context_is = record {
+    wide = let n = i.names in omega (arith, n);
+    deep = let l = i.level in omega (arith, l);
+    naming = subst (IsAmong (length S.namings.items)) (sym i.naming) tt;
+    holds = record {
+      tyvars = subst (AllByRecursion (λ b. b.1 < length (types_in S))) (sym i.tyvars) tt;
+      bodies = subst (AllByRecursion (λ b. b.1.body < length (types_in S))) (sym i.types) (types-held (length (types_in S)) type_list i.bodies 0 i.bodies_held);
+      closed = subst (AllByRecursion (λ b. top (type_at (types_in S) b.1.body) ≤ b.1.arity)) (sym i.types) (types-closed (types_in S) type_list i.bodies 0 i.bodies_are few-variables);
+    };
+    known = subst (AllByRecursion (λ b. is_below (made S) (type_at (types_in S) b.1) ≡ true)) (sym i.tyvars) tt;
+    schemes = λ k s e.
+        let c = closed-at (types_in S) C.schemes.items (schemes_in entries ++ schemes_in integers) k s i.schemes closed-all e in
+        record { held = held-at (length (types_in S)) C.schemes.items k s i.schemes_held e; closed = c.below; inhabited = c.marks };
+    entries = λ qs x e q. entries-held qs x e q;
+  }
+
+-- what the code makes is the context of the basis
+pub basis_is : (ts : List Typ) (C : Context) (b : Basis) (m : VidScope Entry) (first : List code.Scheme) → HasBasis ts b → HasRows C.values row_list 0 → C.structures ≡ (72, 0) ∷ [] → C.members.items ≡ m ∷ []
+    → HasRows m integer_list 25 → C.types.tyvars ≡ [] → C.types.types ≡ type_entries type_list b.bodies.items 0 → marks_at first ≡ basis_marks b.values.items
+    → marks_at C.schemes.items ≡ marks_at first ++ basis_marks b.integers.items → C.level ≡ 0 → C.names ≡ 8 → C.naming ≡ None → C.numbers ≡ [] → IsBasis ts C
+basis_is ts C b m first h v s ms r tv ty f g l n o ns =
+    let whole : marks_at C.schemes.items ≡ basis_marks (b.values.items ++ b.integers.items)
+    = g ∙ ap (λ z. z ++ basis_marks b.integers.items) f ∙ sym (marks-append b.values.items b.integers.items) in
+    record {
+      values = v;
+      structures = s;
+      member = m;
+      members = ms;
+      of_integers = r;
+      tyvars = tv;
+      bodies = b.bodies.items;
+      types = ty;
+      bodies_held = h.bodies_held;
+      bodies_are = h.bodies;
+      schemes = schemes-from ts C.schemes.items (b.values.items ++ b.integers.items) whole ∙ schemes-append ts b.values.items b.integers.items ∙ ap₂ (λ x y. x ++ y) h.values h.integers;
+      schemes_held = schemes-below (length ts) C.schemes.items (b.values.items ++ b.integers.items) whole (below-append (length ts) b.values.items b.integers.items h.values_held h.integers_held);
+      level = l;
+      names = n;
+      naming = o;
+      numbers = ns;
+    }
+
+pub bodies-count : (ts : List Typ) (b : Basis) (ks : List ℕ) → HasBasis ts b → ks ≡ b.bodies.items → length ks ≡ 9
+bodies-count ts b ks h e = ap length e ∙ sym (length-map b.bodies.items (type_at ts)) ∙ ap length h.bodies

@@ -1,0 +1,5 @@
+pub mod Agreeing
+pub mod Telling
+pub mod Whole
+pub mod Being
+pub mod Making

@@ -1,0 +1,109 @@
+-- What the code has of the initial basis.
+use Rattle.std.specs.Prelude.{◌≡◌, ℕ, zero, suc, List, [], ◌∷◌, map, length, Option, Some, None}
+use Rattle.mlc_base.specs.StandardWords.{word_unit, word_int, word_word, word_char, word_string, word_bool, word_list, word_ref, word_exn, word_true, word_false, word_nil, word_cons, word_Match, word_Bind, word_Overflow, word_Div, word_Subscript, word_Size, word_Chr, word_plus, word_minus, word_times, word_div, word_mod, word_negate, word_abs, word_less_than, word_at_most, word_greater_than, word_at_least, word_assign, word_quot, word_rem}
+use Rattle.mlc_prims.specs.declared.basis.BasisPrimitive.TheVariants as prim
+use Rattle.ty_core.specs.Types.{Typ, var, con, none, more, name}
+use Rattle.ty_core.specs.declared.mark.Mark.{Mark}
+use Rattle.ty_core.specs.declared.name.TyName.{TyName}
+use Rattle.ty_basis.specs.Types.{int_name, word_name, char_name, string_name, ref_name, exn_name, bool_name, list_name, unit_type}
+use Rattle.ty_table.specs.TypeAt.{type_at, AllBelow}
+use Rattle.core_rules.specs.Objects.{Scheme}
+use Rattle.core_rules.specs.Initial.{entries, integers, word_toString}
+use Rattle.initial_types.specs.Schemes.{bodies_of, marks_of, schemes_in, schemes_of}
+use Rattle.initial_types.specs.declared.row.Scheme as basis
+use Rattle.elab_types.specs.declared.scope.TypeEntry.{TypeEntry}
+use Rattle.elab_context.specs.declared.entry.Entry.{Entry}
+use Rattle.elab_context.specs.declared.entry.Entry.TheVariants as entry
+use Rattle.elab_context.specs.declared.entry.Scheme as code
+use Rattle.basis_context.specs.declared.rows.Kind.{Kind}
+use Rattle.basis_context.specs.declared.rows.Kind.TheVariants.{Reference, Constructor, Exception, Primitive}
+use Rattle.basis_context.specs.declared.tables.Basis.{Basis}
+
+-- what an identifier with the scheme of a number is
+abbrev pub entry_at : Kind → ℕ → Entry
+entry_at Reference s = entry.Reference s
+entry_at (Constructor n y) s = entry.Constructor s n y
+entry_at (Exception n) s = entry.Initial s n
+entry_at (Primitive q) s = entry.Primitive s q
+
+-- identifiers by the numbers of their words; no word is `=`
+abbrev pub Rows : Type 0
+Rows = List (Option ℕ × Kind)
+
+-- a word's entry in front, and that of `=`
+abbrev pub named_with : Option ℕ → Entry → List (ℕ × Entry) → List (ℕ × Entry)
+named_with (Some w) e es = (w, e) ∷ es
+named_with None e es = es
+
+abbrev pub equal_with : Option ℕ → Entry → List (ℕ × Entry) → List (ℕ × Entry)
+equal_with (Some w) e es = es
+equal_with None e es = (0, e) ∷ es
+
+-- what words are, and what `=` is, with schemes from the k-th on
+abbrev pub named_rows : Rows → ℕ → List (ℕ × Entry)
+named_rows [] k = []
+named_rows (r ∷ rs) k = named_with r.0 (entry_at r.1 k) (named_rows rs (suc k))
+
+abbrev pub equal_rows : Rows → ℕ → List (ℕ × Entry)
+equal_rows [] k = []
+equal_rows (r ∷ rs) k = equal_with r.0 (entry_at r.1 k) (equal_rows rs (suc k))
+
+abbrev pub row_list : Rows
+row_list = (Some word_ref, Reference) ∷ (Some word_true, Constructor word_true bool_name) ∷ (Some word_false, Constructor word_false bool_name)
+    ∷ (Some word_nil, Constructor word_nil list_name) ∷ (Some word_cons, Constructor word_cons list_name) ∷ (Some word_Match, Exception 0)
+    ∷ (Some word_Bind, Exception 1) ∷ (Some word_Overflow, Exception 2) ∷ (Some word_Div, Exception 3) ∷ (Some word_Subscript, Exception 4)
+    ∷ (Some word_Size, Exception 5) ∷ (Some word_Chr, Exception 6) ∷ (Some word_plus, Primitive prim.Add) ∷ (Some word_minus, Primitive prim.Subtract)
+    ∷ (Some word_times, Primitive prim.Multiply) ∷ (Some word_div, Primitive prim.Divide) ∷ (Some word_mod, Primitive prim.Modulo)
+    ∷ (Some word_negate, Primitive prim.Negate) ∷ (Some word_abs, Primitive prim.Absolute) ∷ (Some word_less_than, Primitive prim.Less)
+    ∷ (Some word_at_most, Primitive prim.LessEqual) ∷ (Some word_greater_than, Primitive prim.Greater) ∷ (Some word_at_least, Primitive prim.GreaterEqual)
+    ∷ (None, Primitive prim.Equals) ∷ (Some word_assign, Primitive prim.Assign) ∷ []
+
+abbrev pub integer_list : Rows
+integer_list = (Some word_toString, Primitive prim.TextOf) ∷ (Some word_quot, Primitive prim.Quotient) ∷ (Some word_rem, Primitive prim.Remainder) ∷ []
+
+-- type constructors; no name is `unit`
+abbrev pub type_list : List (ℕ × Option TyName)
+type_list = (word_unit, None) ∷ (word_int, Some int_name) ∷ (word_word, Some word_name) ∷ (word_char, Some char_name) ∷ (word_string, Some string_name)
+    ∷ (word_exn, Some exn_name) ∷ (word_ref, Some ref_name) ∷ (word_bool, Some bool_name) ∷ (word_list, Some list_name) ∷ []
+
+-- the body of its function, which has one parameter at most
+abbrev pub body_with : TyName → ℕ → Typ
+body_with y zero = con (name y) none
+body_with y (suc k) = con (name y) (more (var 0) none)
+
+abbrev pub body_of : Option TyName → Typ
+body_of None = unit_type
+body_of (Some y) = body_with y y.arity
+
+abbrev pub arity_of : Option TyName → ℕ
+arity_of None = 0
+arity_of (Some y) = y.arity
+
+abbrev pub function_bodies : List Typ
+function_bodies = map (λ t. body_of t.1) type_list
+
+-- with bodies by number, and numbered from k on
+abbrev pub type_entries : List (ℕ × Option TyName) → List ℕ → ℕ → List (ℕ × TypeEntry)
+type_entries [] bs k = []
+type_entries (t ∷ ts) [] k = []
+type_entries (t ∷ ts) (b ∷ bs) k = (t.0, record { arity = arity_of t.1; body = b; constructors = k }) ∷ type_entries ts bs (suc k)
+
+-- the types of the basis are in a table
+pub record HasBasis (ts : List Typ) (b : Basis) : Type 0 where
+  pub values_held : AllBelow (length ts) (bodies_of b.values.items)
+  pub values : schemes_of ts b.values.items ≡ schemes_in entries
+  pub integers_held : AllBelow (length ts) (bodies_of b.integers.items)
+  pub integers : schemes_of ts b.integers.items ≡ schemes_in integers
+  pub bodies_held : AllBelow (length ts) b.bodies.items
+  pub bodies : map (type_at ts) b.bodies.items ≡ function_bodies
+
+-- a scheme of a context, in a table of types
+abbrev pub scheme_in : List Typ → code.Scheme → Scheme
+scheme_in ts s = record { marks = s.marks.items; body = type_at ts s.body }
+
+-- what a scheme of the basis becomes
+abbrev pub marks_at : List code.Scheme → List (List Mark × ℕ)
+marks_at = map (λ s. (s.marks.items, s.body))
+
+abbrev pub basis_marks : List basis.Scheme → List (List Mark × ℕ)
+basis_marks = map (λ s. (marks_of s.mark, s.body))

@@ -1,0 +1,156 @@
+// The context of the initial basis.
+ghost use Rattle.std.specs.Prelude.{◌≡◌, ◌≤◌, ◌+◌, ◌++◌, [], length, IfOk};
+ghost use Rattle.elab_context.specs.Telling.{IsContext};
+ghost use Rattle.elab_steps.specs.Growing.{Grows};
+ghost use Rattle.basis_context.specs.Basis.{arity_of as arity_at, basis_marks, marks_at, type_entries, type_list};
+ghost use Rattle.basis_context.specs.Basis.{entry_at, equal_rows, equal_with, named_rows, named_with};
+ghost use Rattle.initial_types.specs.Schemes.{marks_of};
+ghost use Rattle.basis_context.specs.Telling.{TellsBasis};
+
+use crate::rows::{INT_STRUCTURE, INTEGERS, Kind, ROWS, TYPES, entry_of};
+use crate::tables::{Basis, basis_of};
+use elab_context::context::Context;
+use elab_context::entry::{Entry, Scheme};
+use elab_state::state::State;
+use elab_types::scope::{TypeEntry, TypeScope};
+use initial_types::row::Scheme as BasisScheme;
+use mlc_base::make::one;
+use mlc_base::memory::NoMemory;
+use scoped_map::scoped::Scoped;
+use std::alloc::Global;
+use ty_core::mark::Mark;
+use ty_core::name::TyName;
+use vid_scope::vids::VidScope;
+
+/// How many type names the basis has.
+const NAME_COUNT: usize = 8;
+
+/// Brings the identifier of a row into scope, with the scheme of a number.
+fn bind_row(
+    scope: &mut VidScope<Entry>,
+    row: (Option<u32>, Kind),
+    scheme: usize,
+) -> Result<(), NoMemory>
+    ensures named { IfOk result (λ _. scope.new.named ≡ named_with row.0 (entry_at row.1 scheme) scope.old.named) }
+    ensures fresh { scope.new.fresh ≡ scope.old.fresh }
+    ensures equals { IfOk result (λ _. scope.new.equals ≡ equal_with row.0 (entry_at row.1 scheme) scope.old.equals) }
+{
+    let entry = entry_of(row.1, scheme);
+    match row.0 {
+        Some(word) => scope.named.bind(word as usize, entry),
+        None => scope.equals.bind(0, entry),
+    }
+}
+
+/// The identifiers of these rows; their schemes are numbered from the first on.
+fn scope_of(
+    alloc: Global,
+    rows: &[(Option<u32>, Kind)],
+    first: usize,
+) -> Result<VidScope<Entry>, NoMemory>
+    requires { first + length rows.now ≤ 100 }
+    ensures named { IfOk result (λ s. s.named ≡ named_rows rows.now first) }
+    ensures fresh { IfOk result (λ s. s.fresh ≡ []) }
+    ensures equals { IfOk result (λ s. s.equals ≡ equal_rows rows.now first) }
+{
+    let mut scope = VidScope::new(alloc);
+    let mut i = rows.len();
+    while i > 0 {
+        i -= 1;
+        bind_row(&mut scope, rows[i], first + i)?;
+    }
+    Ok(scope)
+}
+
+/// How many arguments a type constructor takes.
+fn arity_of(name: Option<TyName>) -> usize
+    ensures { result ≡ arity_at name }
+{
+    match name {
+        Some(name) => name.arity as usize,
+        None => 0,
+    }
+}
+
+/// The type constructors, with the bodies of their functions.
+fn types_of(alloc: Global, bodies: &[usize]) -> Result<TypeScope, NoMemory>
+    requires { length bodies.now ≡ 9 }
+    ensures tyvars { IfOk result (λ s. s.tyvars ≡ []) }
+    ensures types { IfOk result (λ s. s.types ≡ type_entries type_list bodies.now 0) }
+{
+    let mut types = Scoped::new(alloc);
+    let mut i = TYPES.len();
+    while i > 0 {
+        i -= 1;
+        let entry = TypeEntry {
+            arity: arity_of(TYPES[i].1),
+            body: bodies[i],
+            constructors: i,
+        };
+        types.bind(TYPES[i].0 as usize, entry)?;
+    }
+    Ok(TypeScope {
+        tyvars: Scoped::new(alloc),
+        types,
+    })
+}
+
+/// The marks of a scheme's parameters.
+fn marks_in(alloc: Global, mark: Option<Mark>) -> Result<Vec<Mark>, NoMemory>
+    ensures { IfOk result (λ marks. marks.items ≡ marks_of mark) }
+{
+    match mark {
+        Some(mark) => one(alloc, mark),
+        None => Ok(Vec::new(alloc)),
+    }
+}
+
+/// Adds schemes of the basis to those of a context.
+fn add_schemes(
+    alloc: Global,
+    added: &[BasisScheme],
+    schemes: &mut Vec<Scheme>,
+) -> Result<(), NoMemory>
+    ensures { IfOk result (λ _. marks_at schemes.new.items ≡ marks_at schemes.old.items ++ basis_marks added.now) }
+{
+    for i in 0..added.len() {
+        let marks = marks_in(alloc, added[i].mark)?;
+        schemes.push(Scheme {
+            marks,
+            body: added[i].body,
+        })?;
+    }
+    Ok(())
+}
+
+/// The context before any declaration.
+pub fn initial_context(alloc: Global, state: &mut State) -> Result<Context, NoMemory>
+    ensures is { IfOk result (λ c. IsContext state.new c) }
+    ensures tells { IfOk result (λ c. TellsBasis state.new c) }
+    ensures grows { IfOk result (λ _. Grows state.old state.new) }
+    ensures tables { state.new.tables ≡ state.old.tables }
+    ensures next { state.new.next ≡ state.old.next }
+{
+    let basis = basis_of(alloc, state)?;
+    let mut schemes = Vec::new(alloc);
+    add_schemes(alloc, &basis.values, &mut schemes)?;
+    add_schemes(alloc, &basis.integers, &mut schemes)?;
+    let values = scope_of(alloc, &ROWS, 0)?;
+    let integers = scope_of(alloc, &INTEGERS, ROWS.len())?;
+    let mut members = Vec::new(alloc);
+    members.push(integers)?;
+    let mut structures = Scoped::new(alloc);
+    structures.bind(INT_STRUCTURE as usize, 0)?;
+    let types = types_of(alloc, &basis.bodies)?;
+    Ok(Context {
+        values,
+        structures,
+        members,
+        types,
+        schemes,
+        level: 0,
+        names: NAME_COUNT,
+        naming: None,
+        numbers: Scoped::new(alloc),
+    })
+}

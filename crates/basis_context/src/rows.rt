@@ -1,0 +1,116 @@
+// The identifiers of the initial basis: what each is, in the order of its table.
+ghost use Rattle.std.specs.Prelude.{◌≡◌};
+ghost use Rattle.basis_context.specs.Basis.{entry_at};
+
+use elab_context::entry::Entry;
+use mlc_base::words;
+use mlc_prims::basis::BasisPrimitive;
+use ty_core::name::{Equality, TyName};
+
+/// What an identifier of the basis is.
+#[derive(Clone, Copy)]
+pub enum Kind {
+    Reference,
+    /// A constructor: the number of its identifier, and its datatype.
+    Constructor(usize, TyName),
+    /// An exception, by its number.
+    Exception(usize),
+    Primitive(BasisPrimitive),
+}
+
+pub const BOOL: TyName = TyName {
+    stamp: 6,
+    arity: 0,
+    equality: Equality::ByArguments,
+};
+
+pub const LIST: TyName = TyName {
+    stamp: 7,
+    arity: 1,
+    equality: Equality::ByArguments,
+};
+
+/// The word `Int`, a structure.
+pub const INT_STRUCTURE: u32 = 72;
+
+/// The word `toString`.
+pub const TO_STRING: u32 = 96;
+
+/// Identifiers, by the numbers of their words; no word is `=`.
+pub const ROWS: [(Option<u32>, Kind); 25] = [
+    (Some(words::REF), Kind::Reference),
+    (Some(words::TRUE), Kind::Constructor(11, BOOL)),
+    (Some(words::FALSE), Kind::Constructor(12, BOOL)),
+    (Some(words::NIL), Kind::Constructor(13, LIST)),
+    (Some(words::CONS), Kind::Constructor(14, LIST)),
+    (Some(words::MATCH), Kind::Exception(0)),
+    (Some(words::BIND), Kind::Exception(1)),
+    (Some(words::OVERFLOW), Kind::Exception(2)),
+    (Some(words::DIV_EXCEPTION), Kind::Exception(3)),
+    (Some(words::SUBSCRIPT), Kind::Exception(4)),
+    (Some(words::SIZE_EXCEPTION), Kind::Exception(5)),
+    (Some(words::CHR_EXCEPTION), Kind::Exception(6)),
+    (Some(words::PLUS), Kind::Primitive(BasisPrimitive::Add)),
+    (
+        Some(words::MINUS),
+        Kind::Primitive(BasisPrimitive::Subtract),
+    ),
+    (
+        Some(words::TIMES),
+        Kind::Primitive(BasisPrimitive::Multiply),
+    ),
+    (Some(words::DIV), Kind::Primitive(BasisPrimitive::Divide)),
+    (Some(words::MOD), Kind::Primitive(BasisPrimitive::Modulo)),
+    (Some(words::NEGATE), Kind::Primitive(BasisPrimitive::Negate)),
+    (Some(words::ABS), Kind::Primitive(BasisPrimitive::Absolute)),
+    (
+        Some(words::LESS_THAN),
+        Kind::Primitive(BasisPrimitive::Less),
+    ),
+    (
+        Some(words::AT_MOST),
+        Kind::Primitive(BasisPrimitive::LessEqual),
+    ),
+    (
+        Some(words::GREATER_THAN),
+        Kind::Primitive(BasisPrimitive::Greater),
+    ),
+    (
+        Some(words::AT_LEAST),
+        Kind::Primitive(BasisPrimitive::GreaterEqual),
+    ),
+    (None, Kind::Primitive(BasisPrimitive::Equals)),
+    (Some(words::ASSIGN), Kind::Primitive(BasisPrimitive::Assign)),
+];
+
+/// The members of the structure `Int`.
+pub const INTEGERS: [(Option<u32>, Kind); 3] = [
+    (Some(TO_STRING), Kind::Primitive(BasisPrimitive::TextOf)),
+    (Some(words::QUOT), Kind::Primitive(BasisPrimitive::Quotient)),
+    (Some(words::REM), Kind::Primitive(BasisPrimitive::Remainder)),
+];
+
+/// Type constructors, by the numbers of their words; no name is `unit`.
+pub const TYPES: [(u32, Option<TyName>); 9] = [
+    (words::UNIT, None),
+    (words::INT, Some(TyName::INT)),
+    (words::WORD, Some(TyName::WORD)),
+    (words::CHAR, Some(TyName::CHAR)),
+    (words::STRING, Some(TyName::STRING)),
+    (words::EXN, Some(TyName::EXN)),
+    (words::REF, Some(TyName::REF)),
+    (words::BOOL, Some(BOOL)),
+    (words::LIST, Some(LIST)),
+];
+
+/// What is kept of an identifier with the scheme of a number.
+pub fn entry_of(kind: Kind, scheme: usize) -> Entry
+    ensures { result ≡ entry_at kind scheme }
+{
+    match kind {
+        Kind::Reference => Entry::Reference(scheme),
+        Kind::Constructor(number, name) => Entry::Constructor(scheme, number, name),
+        Kind::Exception(number) => Entry::Initial(scheme, number),
+        Kind::Primitive(primitive) => Entry::Primitive(scheme, primitive),
+    }
+}

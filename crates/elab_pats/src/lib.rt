@@ -1,0 +1,5 @@
+// Patterns, whatever their form.
+#![tactic(auto)]
+
+pub mod elab;
+pub mod stopped;
