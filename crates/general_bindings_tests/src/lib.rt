@@ -1,0 +1,5 @@
+// Tests of bindings that are generalised, and of new exceptions.
+#![tactic(auto)]
+
+#[cfg(test)]
+mod tests;
