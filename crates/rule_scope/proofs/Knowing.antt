@@ -91,7 +91,7 @@ apart (v ∷ vs) us x t u d h k =
 
 -- nothing bound, one variable, and one behind the other
 
-none-bound : (A : Around) (k : ℕ) (G : Knowns) → Binding A k k G G [] empty
+pub none-bound : (A : Around) (k : ℕ) (G : Knowns) → Binding A k k G G [] empty
 none-bound A k G = record { most = omega arith; older = λ n lt. refl; known = λ d x. tt }
 
 differ : (m n : ℕ) → m < n → nat_eq m n ≡ false
@@ -160,7 +160,7 @@ either A k i G (Some d) (Some e) (Some t) None never a b = absurd (nothing e b)
     nothing (primitive q) a = a
 either A k i G (Some d) (Some e) (Some t) (Some u) never a b = absurd (never t u refl refl)
 
-both-bound : (A : Around) (k j i : ℕ) (G H I : Knowns) (vs us : Bound) (q o : Scope) → Binding A k j G H vs q → Binding A j i H I us o → Binding A k i G I (vs ++ us) (plus_scope q o)
+pub both-bound : (A : Around) (k j i : ℕ) (G H I : Knowns) (vs us : Bound) (q o : Scope) → Binding A k j G H vs q → Binding A j i H I us o → Binding A k i G I (vs ++ us) (plus_scope q o)
 both-bound A k j i G H I vs us q o a b = record {
   most = let l = a.most in let m = b.most in omega (arith, l, m);
   older = λ n lt. let l = a.most in b.older n (omega (arith, l, lt)) ∙ a.older n lt;

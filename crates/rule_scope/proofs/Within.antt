@@ -39,7 +39,7 @@ use Rattle.rule_scope.specs.Binding.{Binding, IsKnown}
 use Rattle.rule_scope.specs.Within.{entries_of, within}
 
 -- the latest variable of an identifier
-abbrev latest : List BoundVariable → Vid → Option BoundVariable
+abbrev pub latest : List BoundVariable → Vid → Option BoundVariable
 latest [] x = None
 latest (b ∷ bs) x = option_or (latest bs x) (cond (same_vid x b.vid) (Some b) None)
 
@@ -56,7 +56,7 @@ entry-of s (b ∷ bs) x =
     ∙ ap (option_or (option_map (λ b. Single b.ty b.number) (latest bs x))) (latest_found s (with_entry s b.vid (Single b.ty b.number)) b.vid (Single b.ty b.number) refl x)
     ∙ or-else (λ (b : BoundVariable). Single b.ty b.number) (latest bs x) (same_vid x b.vid) b (entry_of s x)
 
-denotes-of : (s : Scope) (bs : List BoundVariable) (x : Vid) → denotes_in (scope_onto s bs) x ≡ option_or (option_map (λ b. variable b.number) (latest bs x)) (denotes_in s x)
+pub denotes-of : (s : Scope) (bs : List BoundVariable) (x : Vid) → denotes_in (scope_onto s bs) x ≡ option_or (option_map (λ b. variable b.number) (latest bs x)) (denotes_in s x)
 denotes-of s [] x = refl
 denotes-of s (b ∷ bs) x =
     denotes-of (scoped b.vid (variable b.number) s) bs x ∙ or-else (λ (b : BoundVariable). variable b.number) (latest bs x) (same_vid x b.vid) b (denotes_in s x)
@@ -76,11 +76,11 @@ not-so : (b : Bool) → not b ≡ true → b ≡ false
 not-so true h = cc
 not-so false h = refl
 
-or-none : {A : Type 0} (o : Option A) → o ≡ option_or o None
+pub or-none : {A : Type 0} (o : Option A) → o ≡ option_or o None
 or-none None = refl
 or-none (Some a) = refl
 
-lookup-of : (W : World) (bs : List BoundVariable) (x : Vid) → distinct same_vid (bound_in (bound_of W bs)) ≡ true
+pub lookup-of : (W : World) (bs : List BoundVariable) (x : Vid) → distinct same_vid (bound_in (bound_of W bs)) ≡ true
     → lookup (same_vid x) (bound_of W bs) ≡ option_map (λ b. type_of W b.ty) (latest bs x)
 lookup-of W [] x d = refl
 lookup-of W (b ∷ bs) x d =
@@ -98,7 +98,7 @@ lookup-of W (b ∷ bs) x d =
         ap (λ c. cond c (Some (type_of W b.ty)) (lookup (same_vid x) (bound_of W bs))) q ∙ h ∙ ap (option_map (λ (b : BoundVariable). type_of W b.ty)) (or-none (latest bs x))
         ∙ sym (ap (λ c. option_map (λ (b : BoundVariable). type_of W b.ty) (option_or (latest bs x) (cond c (Some b) None))) q)
 
-latest-among : (P : BoundVariable → Type 0) (bs : List BoundVariable) (x : Vid) (b : BoundVariable) → AllByRecursion P bs → latest bs x ≡ Some b → P b
+pub latest-among : (P : BoundVariable → Type 0) (bs : List BoundVariable) (x : Vid) (b : BoundVariable) → AllByRecursion P bs → latest bs x ≡ Some b → P b
 latest-among P [] x b h e = cc
 latest-among P (c ∷ bs) x b h e = by (latest bs x) refl (same_vid x c.vid) e (latest-among P bs x b h.1)
   where
@@ -172,7 +172,7 @@ types-apart : (vs us : static.Values) (ts : Map ℕ static.TypeStructure) (ss : 
 types-apart vs us ts ss [] x = refl
 types-apart vs us ts ss (q ∷ qs) x = refl
 
-inside-onto : (s : Scope) (bs : List BoundVariable) (q : ℕ) → inside_in (scope_onto s bs) q ≡ inside_in s q
+pub inside-onto : (s : Scope) (bs : List BoundVariable) (q : ℕ) → inside_in (scope_onto s bs) q ≡ inside_in s q
 inside-onto s [] q = refl
 inside-onto s (b ∷ bs) q = inside-onto (scoped b.vid (variable b.number) s) bs q
 
@@ -281,7 +281,7 @@ module _ (C : Context) (W : World) (A : Around) (bs : List BoundVariable) (k j :
 
 -- one variable more
 
-with-snoc : (s : VidScope Entry) (es : List (Vid × Entry)) (e : Vid × Entry) → with_entries s (es ++ e ∷ []) ≡ with_entry (with_entries s es) e.0 e.1
+pub with-snoc : (s : VidScope Entry) (es : List (Vid × Entry)) (e : Vid × Entry) → with_entries s (es ++ e ∷ []) ≡ with_entry (with_entries s es) e.0 e.1
 with-snoc s [] e = refl
 with-snoc s (d ∷ es) e = with-snoc (with_entry s d.0 d.1) es e
 

@@ -1,0 +1,2 @@
+pub mod Decs
+pub mod Telling

@@ -1,0 +1,44 @@
+// `let`.
+ghost use Rattle.std.specs.Prelude.{List, IfOk};
+ghost use Rattle.sml_tree.specs.BareTree.{Dec as SourceDec, Exp as SourceExp, let_in};
+ghost use Rattle.sml_tree.specs.TreeOf.{decs_of};
+ghost use Rattle.elab_context.specs.Telling.{IsContext};
+ghost use Rattle.elab_context.specs.declared.context.Context.{Context};
+ghost use Rattle.elab_steps.specs.Growing.{HasType};
+ghost use Rattle.use_elab.specs.Elaborated.{IsExp};
+ghost use Rattle.dec_forms.specs.Decs.{IsDecs, TellsOver};
+
+use elab_context::context::Context;
+use elab_state::state::State;
+use elab_steps::step::{fresh_type, unify, write};
+use elab_types::refused::Refused;
+use mlc_base::make::boxed;
+use mlc_base::place::Place;
+use prog_tree::tree::{Dec, Exp};
+use std::alloc::Global;
+use ty_core::mark::Mark;
+use use_elab::typed::TypedExp;
+
+/// Declarations before an expression, in the context before them: its type has no type name of theirs.
+pub fn block(
+    alloc: Global,
+    state: &mut State,
+    context: &Context,
+    place: Place,
+    decs: Vec<Dec>,
+    body: TypedExp,
+) -> Result<TypedExp, Refused>
+    requires context { IsContext state.old context.now }
+    requires body { HasType state.old body.ty }
+    ensures { IfOk result (λ r. (S M : State) (inner : Context) (p : Place) (ds : List SourceDec) (e : SourceExp) → TellsOver context.now
+        → IsDecs S context.now ds M inner decs.items → IsExp M inner e state.old body → IsExp S context.now (let_in p (decs_of ds) e) state.new r) }
+{
+    let ty = fresh_type(alloc, state, Mark::Any, context.limit())?;
+    unify(alloc, state, place, body.ty, ty)?;
+    let written = write(state, ty, context.naming)?;
+    let exp = boxed(alloc, body.exp)?;
+    Ok(TypedExp {
+        exp: Exp::Let(written, decs, exp),
+        ty,
+    })
+}

@@ -1,0 +1,5 @@
+pub mod Once
+pub mod Using
+pub mod Entering
+pub mod Joining
+pub mod Finishing
