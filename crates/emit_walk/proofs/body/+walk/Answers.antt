@@ -1,4 +1,4 @@
-use Rattle.std.proofs.Common.{rules, ◌≡◌, ℕ, suc, ◌+◌, ◌-◌, ◌<◌, [], ◌∷◌, ◌++◌, ◌∙◌, true, map, take, drop, length, length-append, get_or, List, Vec, Global, sym, ap, refl, arith}
+use Rattle.std.proofs.Common.{rules, ◌≡◌, suc, ◌+◌, ◌-◌, ◌<◌, [], ◌∷◌, ◌++◌, ◌∙◌, true, map, take, drop, length, length-append, get_or, List, Vec, Global, ap, refl, arith}
 use Rattle.std.proofs.lemmas.List.{drop_all, take_all}
 use Rattle.std.proofs.Math.ListN.{set}
 use Rattle.ir_code.specs.declared.instr.Instr.TheVariants.{Acc, PushHandler, Raise, Ret}

@@ -1,4 +1,4 @@
-use Rattle.std.proofs.Common.{◌≡◌, refl, ◌+◌, ◌-◌, ◌∙◌, length, drop, ap, sym, arith}
+use Rattle.std.proofs.Common.{◌≡◌, refl, ◌+◌, ◌-◌, ◌∙◌, length, drop, ap, arith}
 use Rattle.first_tables.specs.TablesOf.{tables_of}
 use Rattle.ssa_tree.specs.TreeOf.{tree_of}
 use Rattle.machine_code.specs.Code.{exits_of, with_params}
