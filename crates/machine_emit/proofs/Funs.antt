@@ -1,11 +1,10 @@
 -- Functions, one behind the other, in any walk: where they stand, and where their labels do.
-use Rattle.std.proofs.Common.{◌≡◌, refl, ℕ, suc, ◌+◌, ◌-◌, ◌<◌, List, [], ◌∷◌, ◌++◌, length, Bool, true, sym, ap, ◌∙◌, ⊎_elim, arith, append_assoc, append-nil, length-append, get_or, zero-add}
+use Rattle.std.proofs.Common.{◌≡◌, refl, ℕ, suc, ◌+◌, ◌-◌, ◌<◌, List, [], ◌∷◌, ◌++◌, length, Bool, sym, ap, ◌∙◌, ⊎_elim, arith, append_assoc, append-nil, length-append, get_or, zero-add}
 use Rattle.std.proofs.lemmas.Bool.{cases_lt}
 use Rattle.std.proofs.lemmas.List.{get_or_append_left, get_or_push, get_or_past}
 use Rattle.first_values.specs.Equality.{Shape}
 use Rattle.ir_ssa.specs.Tree.{Fun}
 use Rattle.machine_code.specs.Rows.{Rows}
-use Rattle.machine_code.specs.Code.{with_params}
 use Rattle.machine_code.specs.Image.{fun_place, fun_size, funs_size}
 use Rattle.walk_labels.specs.Labels.{Frame, blocked, labels, size_of}
 use Rattle.walk_labels.specs.Marks.{Mark, Foretold, fun_labels, past_fun}
