@@ -16,7 +16,8 @@ module _ (f g : ℕ → ℕ) where
   same-end [] = refl
   same-end (m ∷ ms) = ap (λ n. max (suc m.tag) n) (same-end ms)
 
-  same-search : (ms : List Member) → search_size (search_of false 0 (length (placed f ms)) (placed f ms)) ≡ search_size (search_of false 0 (length (placed g ms)) (placed g ms))
+  same-search : (ms : List Member)
+      → search_size (search_of false 0 (length (placed f ms)) (placed f ms)) ≡ search_size (search_of false 0 (length (placed g ms)) (placed g ms))
   same-search [] = refl
   same-search (m ∷ ms) =
       let a = placed f (m ∷ ms) in
