@@ -1,6 +1,6 @@
 // Large values: equality needs no stack, and what is pending is in the heap.
 
-use crate::given::TEXT_OF;
+use crate::programs::TEXT_OF;
 use crate::run::{Size, ends_in, run};
 use first_tables::operation::{Callee, Constant, Operands, Piece, Test};
 use heap_vm::stop::Stop;

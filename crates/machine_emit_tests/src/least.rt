@@ -1,8 +1,8 @@
 // The least heap and stack that suffice, and a word less of each. A heap holds the texts of what is written and the cells that are made; a stack two words and the
 // variables of each frame, and what its operations use.
 
+use crate::programs as of;
 use crate::run::{Least, Size, is_least};
-use crate::{control, given, orders, switches, values};
 use heap_vm::stop::Stop;
 use std::test::Fail;
 
@@ -15,7 +15,7 @@ fn least_for_an_overflow(rt: HostRuntime) -> Result<(), Fail> {
         output: "",
         name: "Overflow",
     };
-    is_least(&rt, rt.alloc(), &given::NOTHING, &control::OVERFLOW, least)?;
+    is_least(&rt, rt.alloc(), &of::NOTHING, &of::OVERFLOW, least)?;
     Ok(())
 }
 
@@ -28,7 +28,7 @@ fn least_for_a_tail_call(rt: HostRuntime) -> Result<(), Fail> {
         output: "55",
         name: "",
     };
-    is_least(&rt, rt.alloc(), &given::NOTHING, &control::SUM, least)?;
+    is_least(&rt, rt.alloc(), &of::NOTHING, &of::SUM, least)?;
     Ok(())
 }
 
@@ -41,7 +41,7 @@ fn least_for_a_swap(rt: HostRuntime) -> Result<(), Fail> {
         output: "~4",
         name: "",
     };
-    is_least(&rt, rt.alloc(), &given::NOTHING, &control::SWAP, least)?;
+    is_least(&rt, rt.alloc(), &of::NOTHING, &of::SWAP, least)?;
     Ok(())
 }
 
@@ -54,7 +54,7 @@ fn least_for_a_loop(rt: HostRuntime) -> Result<(), Fail> {
         output: "543210",
         name: "",
     };
-    is_least(&rt, rt.alloc(), &given::NOTHING, &control::LOOP, least)?;
+    is_least(&rt, rt.alloc(), &of::NOTHING, &of::LOOP, least)?;
     Ok(())
 }
 
@@ -67,7 +67,7 @@ fn least_for_a_handler(rt: HostRuntime) -> Result<(), Fail> {
         output: "1",
         name: "",
     };
-    is_least(&rt, rt.alloc(), &given::NOTHING, &control::HANDLED, least)?;
+    is_least(&rt, rt.alloc(), &of::NOTHING, &of::HANDLED, least)?;
     Ok(())
 }
 
@@ -80,7 +80,7 @@ fn least_for_a_handler_that_is_restored(rt: HostRuntime) -> Result<(), Fail> {
         output: "9",
         name: "",
     };
-    is_least(&rt, rt.alloc(), &given::NOTHING, &control::RESTORED, least)?;
+    is_least(&rt, rt.alloc(), &of::NOTHING, &of::RESTORED, least)?;
     Ok(())
 }
 
@@ -93,7 +93,7 @@ fn least_for_a_handler_that_is_left(rt: HostRuntime) -> Result<(), Fail> {
         output: "",
         name: "Div",
     };
-    is_least(&rt, rt.alloc(), &given::NOTHING, &control::LEFT, least)?;
+    is_least(&rt, rt.alloc(), &of::NOTHING, &of::LEFT, least)?;
     Ok(())
 }
 
@@ -109,7 +109,7 @@ fn least_for_calls(rt: HostRuntime) -> Result<(), Fail> {
         output: "210",
         name: "",
     };
-    is_least(&rt, rt.alloc(), &given::NOTHING, &control::DEEP, least)?;
+    is_least(&rt, rt.alloc(), &of::NOTHING, &of::DEEP, least)?;
     Ok(())
 }
 
@@ -125,13 +125,7 @@ fn least_for_a_table_of_closures(rt: HostRuntime) -> Result<(), Fail> {
         output: "3822",
         name: "",
     };
-    is_least(
-        &rt,
-        rt.alloc(),
-        &given::DENSE_SET,
-        &control::DISPATCH,
-        least,
-    )?;
+    is_least(&rt, rt.alloc(), &of::DENSE_SET, &of::DISPATCH, least)?;
     Ok(())
 }
 
@@ -147,7 +141,7 @@ fn least_for_a_search_of_closures(rt: HostRuntime) -> Result<(), Fail> {
         output: "382238",
         name: "",
     };
-    is_least(&rt, rt.alloc(), &given::SPARSE_SET, &control::SPARSE, least)?;
+    is_least(&rt, rt.alloc(), &of::SPARSE_SET, &of::SPARSE, least)?;
     Ok(())
 }
 
@@ -163,7 +157,7 @@ fn least_for_lists(rt: HostRuntime) -> Result<(), Fail> {
         output: "10",
         name: "",
     };
-    is_least(&rt, rt.alloc(), &given::TYPES, &values::EQUAL, least)?;
+    is_least(&rt, rt.alloc(), &of::TYPES, &of::EQUAL, least)?;
     Ok(())
 }
 
@@ -179,7 +173,7 @@ fn least_for_pairs(rt: HostRuntime) -> Result<(), Fail> {
         output: "10",
         name: "",
     };
-    is_least(&rt, rt.alloc(), &given::TYPES, &values::PAIRS, least)?;
+    is_least(&rt, rt.alloc(), &of::TYPES, &of::PAIRS, least)?;
     Ok(())
 }
 
@@ -192,7 +186,7 @@ fn least_for_references(rt: HostRuntime) -> Result<(), Fail> {
         output: "210",
         name: "",
     };
-    is_least(&rt, rt.alloc(), &given::TYPES, &values::REFERENCES, least)?;
+    is_least(&rt, rt.alloc(), &of::TYPES, &of::REFERENCES, least)?;
     Ok(())
 }
 
@@ -208,7 +202,7 @@ fn least_for_a_switch_by_a_table(rt: HostRuntime) -> Result<(), Fail> {
         output: "1009910210399",
         name: "",
     };
-    is_least(&rt, rt.alloc(), &given::NOTHING, &switches::TABLE, least)?;
+    is_least(&rt, rt.alloc(), &of::NOTHING, &of::TABLE, least)?;
     Ok(())
 }
 
@@ -224,7 +218,7 @@ fn least_for_a_switch_by_a_search(rt: HostRuntime) -> Result<(), Fail> {
         output: "99110991201301409915099",
         name: "",
     };
-    is_least(&rt, rt.alloc(), &given::NOTHING, &switches::SEARCH, least)?;
+    is_least(&rt, rt.alloc(), &of::NOTHING, &of::SEARCH, least)?;
     Ok(())
 }
 
@@ -240,7 +234,7 @@ fn least_for_a_switch_by_tests(rt: HostRuntime) -> Result<(), Fail> {
         output: "991079915099",
         name: "",
     };
-    is_least(&rt, rt.alloc(), &given::NOTHING, &switches::TESTS, least)?;
+    is_least(&rt, rt.alloc(), &of::NOTHING, &of::TESTS, least)?;
     Ok(())
 }
 
@@ -256,7 +250,7 @@ fn least_for_cases(rt: HostRuntime) -> Result<(), Fail> {
         output: "131012",
         name: "",
     };
-    is_least(&rt, rt.alloc(), &given::NOTHING, &switches::CASES, least)?;
+    is_least(&rt, rt.alloc(), &of::NOTHING, &of::CASES, least)?;
     Ok(())
 }
 
@@ -272,7 +266,7 @@ fn least_for_runs(rt: HostRuntime) -> Result<(), Fail> {
         output: "6564",
         name: "",
     };
-    is_least(&rt, rt.alloc(), &given::NOTHING, &values::RUNS, least)?;
+    is_least(&rt, rt.alloc(), &of::NOTHING, &of::RUNS, least)?;
     Ok(())
 }
 
@@ -285,7 +279,7 @@ fn least_for_a_constant(rt: HostRuntime) -> Result<(), Fail> {
         output: "42",
         name: "",
     };
-    is_least(&rt, rt.alloc(), &given::NOTHING, &control::ONE, least)?;
+    is_least(&rt, rt.alloc(), &of::NOTHING, &of::ONE, least)?;
     Ok(())
 }
 
@@ -298,7 +292,7 @@ fn least_for_texts(rt: HostRuntime) -> Result<(), Fail> {
         output: "abcd4b",
         name: "Subscript",
     };
-    is_least(&rt, rt.alloc(), &given::WORDS, &values::TEXTS, least)?;
+    is_least(&rt, rt.alloc(), &of::WORDS, &of::TEXTS, least)?;
     Ok(())
 }
 
@@ -311,7 +305,7 @@ fn least_for_bytes(rt: HostRuntime) -> Result<(), Fail> {
         output: "b98",
         name: "Subscript",
     };
-    is_least(&rt, rt.alloc(), &given::WORDS, &values::BYTES, least)?;
+    is_least(&rt, rt.alloc(), &of::WORDS, &of::BYTES, least)?;
     Ok(())
 }
 
@@ -324,7 +318,7 @@ fn least_for_an_exception(rt: HostRuntime) -> Result<(), Fail> {
         output: "",
         name: "option",
     };
-    is_least(&rt, rt.alloc(), &given::NOTHING, &values::OWN, least)?;
+    is_least(&rt, rt.alloc(), &of::NOTHING, &of::OWN, least)?;
     Ok(())
 }
 
@@ -337,7 +331,7 @@ fn least_for_another_exception(rt: HostRuntime) -> Result<(), Fail> {
         output: "",
         name: "option",
     };
-    is_least(&rt, rt.alloc(), &given::NOTHING, &values::OTHER, least)?;
+    is_least(&rt, rt.alloc(), &of::NOTHING, &of::OTHER, least)?;
     Ok(())
 }
 
@@ -350,7 +344,7 @@ fn least_for_an_exception_that_is_caught(rt: HostRuntime) -> Result<(), Fail> {
         output: "5",
         name: "",
     };
-    is_least(&rt, rt.alloc(), &given::NOTHING, &values::CAUGHT, least)?;
+    is_least(&rt, rt.alloc(), &of::NOTHING, &of::CAUGHT, least)?;
     Ok(())
 }
 
@@ -366,7 +360,7 @@ fn least_for_orders(rt: HostRuntime) -> Result<(), Fail> {
         output: "1001110101",
         name: "",
     };
-    is_least(&rt, rt.alloc(), &given::WORDS, &orders::ORDERS, least)?;
+    is_least(&rt, rt.alloc(), &of::WORDS, &of::ORDERS, least)?;
     Ok(())
 }
 
@@ -382,6 +376,6 @@ fn least_for_orders_as_tests(rt: HostRuntime) -> Result<(), Fail> {
         output: "1001110101",
         name: "",
     };
-    is_least(&rt, rt.alloc(), &given::WORDS, &orders::BRANCHES, least)?;
+    is_least(&rt, rt.alloc(), &of::WORDS, &of::BRANCHES, least)?;
     Ok(())
 }

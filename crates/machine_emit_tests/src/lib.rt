@@ -2,30 +2,14 @@
 #![tactic(auto)]
 
 #[cfg(test)]
-mod comparisons;
-#[cfg(test)]
-mod control;
-#[cfg(test)]
-mod edge;
-#[cfg(test)]
-mod edges_of_ints;
-#[cfg(test)]
-mod edges_of_texts;
-#[cfg(test)]
-mod edges_of_words;
-#[cfg(test)]
-mod given;
+mod edges;
 #[cfg(test)]
 mod large;
 #[cfg(test)]
 mod least;
 #[cfg(test)]
-mod orders;
+mod programs;
 #[cfg(test)]
 mod run;
 #[cfg(test)]
-mod switches;
-#[cfg(test)]
 mod tests;
-#[cfg(test)]
-mod values;

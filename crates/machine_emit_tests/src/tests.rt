@@ -1,85 +1,66 @@
 // What programs write, and how they end.
 
+use crate::programs as of;
 use crate::run::{ends, uncaught};
-use crate::{control, given, orders, switches, values};
 use std::test::Fail;
 
 #[test]
 fn a_constant_is_printed(rt: HostRuntime) -> Result<(), Fail> {
-    ends(&rt, rt.alloc(), &given::NOTHING, &control::ONE, "42")?;
+    ends(&rt, rt.alloc(), &of::NOTHING, &of::ONE, "42")?;
     Ok(())
 }
 
 #[test]
 fn an_overflow_is_uncaught(rt: HostRuntime) -> Result<(), Fail> {
-    uncaught(
-        &rt,
-        rt.alloc(),
-        &given::NOTHING,
-        &control::OVERFLOW,
-        "",
-        "Overflow",
-    )?;
+    uncaught(&rt, rt.alloc(), &of::NOTHING, &of::OVERFLOW, "", "Overflow")?;
     Ok(())
 }
 
 #[test]
 fn a_tail_call_loops(rt: HostRuntime) -> Result<(), Fail> {
-    ends(&rt, rt.alloc(), &given::NOTHING, &control::SUM, "55")?;
+    ends(&rt, rt.alloc(), &of::NOTHING, &of::SUM, "55")?;
     Ok(())
 }
 
 #[test]
 fn a_tail_call_swaps(rt: HostRuntime) -> Result<(), Fail> {
-    ends(&rt, rt.alloc(), &given::NOTHING, &control::SWAP, "~4")?;
+    ends(&rt, rt.alloc(), &of::NOTHING, &of::SWAP, "~4")?;
     Ok(())
 }
 
 #[test]
 fn a_loop_counts(rt: HostRuntime) -> Result<(), Fail> {
-    ends(&rt, rt.alloc(), &given::NOTHING, &control::LOOP, "543210")?;
+    ends(&rt, rt.alloc(), &of::NOTHING, &of::LOOP, "543210")?;
     Ok(())
 }
 
 #[test]
 fn a_handler_handles(rt: HostRuntime) -> Result<(), Fail> {
-    ends(&rt, rt.alloc(), &given::NOTHING, &control::HANDLED, "1")?;
+    ends(&rt, rt.alloc(), &of::NOTHING, &of::HANDLED, "1")?;
     Ok(())
 }
 
 #[test]
 fn a_handler_is_restored(rt: HostRuntime) -> Result<(), Fail> {
-    ends(&rt, rt.alloc(), &given::NOTHING, &control::RESTORED, "9")?;
+    ends(&rt, rt.alloc(), &of::NOTHING, &of::RESTORED, "9")?;
     Ok(())
 }
 
 #[test]
 fn a_handler_is_left(rt: HostRuntime) -> Result<(), Fail> {
-    uncaught(&rt, rt.alloc(), &given::NOTHING, &control::LEFT, "", "Div")?;
+    uncaught(&rt, rt.alloc(), &of::NOTHING, &of::LEFT, "", "Div")?;
     Ok(())
 }
 
 #[test]
 fn a_table_of_closures(rt: HostRuntime) -> Result<(), Fail> {
-    ends(
-        &rt,
-        rt.alloc(),
-        &given::DENSE_SET,
-        &control::DISPATCH,
-        "3822",
-    )?;
+    ends(&rt, rt.alloc(), &of::DENSE_SET, &of::DISPATCH, "3822")?;
     Ok(())
 }
 
 #[test]
 fn a_search_of_closures(rt: HostRuntime) -> Result<(), Fail> {
-    ends(
-        &rt,
-        rt.alloc(),
-        &given::SPARSE_SET,
-        &control::SPARSE,
-        "382238",
-    )?;
+    ends(&rt, rt.alloc(), &of::SPARSE_SET, &of::SPARSE, "382238")?;
     Ok(())
 }
 
@@ -88,8 +69,8 @@ fn texts_are_taken_apart(rt: HostRuntime) -> Result<(), Fail> {
     uncaught(
         &rt,
         rt.alloc(),
-        &given::WORDS,
-        &values::TEXTS,
+        &of::WORDS,
+        &of::TEXTS,
         "abcd4b",
         "Subscript",
     )?;
@@ -98,69 +79,49 @@ fn texts_are_taken_apart(rt: HostRuntime) -> Result<(), Fail> {
 
 #[test]
 fn bytes_of_texts(rt: HostRuntime) -> Result<(), Fail> {
-    uncaught(
-        &rt,
-        rt.alloc(),
-        &given::WORDS,
-        &values::BYTES,
-        "b98",
-        "Subscript",
-    )?;
+    uncaught(&rt, rt.alloc(), &of::WORDS, &of::BYTES, "b98", "Subscript")?;
     Ok(())
 }
 
 #[test]
 fn lists_are_compared(rt: HostRuntime) -> Result<(), Fail> {
-    ends(&rt, rt.alloc(), &given::TYPES, &values::EQUAL, "10")?;
+    ends(&rt, rt.alloc(), &of::TYPES, &of::EQUAL, "10")?;
     Ok(())
 }
 
 #[test]
 fn pairs_are_compared(rt: HostRuntime) -> Result<(), Fail> {
-    ends(&rt, rt.alloc(), &given::TYPES, &values::PAIRS, "10")?;
+    ends(&rt, rt.alloc(), &of::TYPES, &of::PAIRS, "10")?;
     Ok(())
 }
 
 #[test]
 fn an_exception_has_a_name(rt: HostRuntime) -> Result<(), Fail> {
-    uncaught(&rt, rt.alloc(), &given::NOTHING, &values::OWN, "", "option")?;
+    uncaught(&rt, rt.alloc(), &of::NOTHING, &of::OWN, "", "option")?;
     Ok(())
 }
 
 #[test]
 fn exceptions_are_told_apart(rt: HostRuntime) -> Result<(), Fail> {
-    uncaught(
-        &rt,
-        rt.alloc(),
-        &given::NOTHING,
-        &values::OTHER,
-        "",
-        "option",
-    )?;
+    uncaught(&rt, rt.alloc(), &of::NOTHING, &of::OTHER, "", "option")?;
     Ok(())
 }
 
 #[test]
 fn an_exception_is_caught(rt: HostRuntime) -> Result<(), Fail> {
-    ends(&rt, rt.alloc(), &given::NOTHING, &values::CAUGHT, "5")?;
+    ends(&rt, rt.alloc(), &of::NOTHING, &of::CAUGHT, "5")?;
     Ok(())
 }
 
 #[test]
 fn references_are_places(rt: HostRuntime) -> Result<(), Fail> {
-    ends(&rt, rt.alloc(), &given::TYPES, &values::REFERENCES, "210")?;
+    ends(&rt, rt.alloc(), &of::TYPES, &of::REFERENCES, "210")?;
     Ok(())
 }
 
 #[test]
 fn a_switch_by_a_table(rt: HostRuntime) -> Result<(), Fail> {
-    ends(
-        &rt,
-        rt.alloc(),
-        &given::NOTHING,
-        &switches::TABLE,
-        "1009910210399",
-    )?;
+    ends(&rt, rt.alloc(), &of::NOTHING, &of::TABLE, "1009910210399")?;
     Ok(())
 }
 
@@ -169,8 +130,8 @@ fn a_switch_by_a_search(rt: HostRuntime) -> Result<(), Fail> {
     ends(
         &rt,
         rt.alloc(),
-        &given::NOTHING,
-        &switches::SEARCH,
+        &of::NOTHING,
+        &of::SEARCH,
         "99110991201301409915099",
     )?;
     Ok(())
@@ -178,54 +139,36 @@ fn a_switch_by_a_search(rt: HostRuntime) -> Result<(), Fail> {
 
 #[test]
 fn a_switch_by_tests(rt: HostRuntime) -> Result<(), Fail> {
-    ends(
-        &rt,
-        rt.alloc(),
-        &given::NOTHING,
-        &switches::TESTS,
-        "991079915099",
-    )?;
+    ends(&rt, rt.alloc(), &of::NOTHING, &of::TESTS, "991079915099")?;
     Ok(())
 }
 
 #[test]
 fn cases_go_on(rt: HostRuntime) -> Result<(), Fail> {
-    ends(&rt, rt.alloc(), &given::NOTHING, &switches::CASES, "131012")?;
+    ends(&rt, rt.alloc(), &of::NOTHING, &of::CASES, "131012")?;
     Ok(())
 }
 
 #[test]
 fn runs_are_copied(rt: HostRuntime) -> Result<(), Fail> {
-    ends(&rt, rt.alloc(), &given::NOTHING, &values::RUNS, "6564")?;
+    ends(&rt, rt.alloc(), &of::NOTHING, &of::RUNS, "6564")?;
     Ok(())
 }
 
 #[test]
 fn calls_nest(rt: HostRuntime) -> Result<(), Fail> {
-    ends(&rt, rt.alloc(), &given::NOTHING, &control::DEEP, "210")?;
+    ends(&rt, rt.alloc(), &of::NOTHING, &of::DEEP, "210")?;
     Ok(())
 }
 
 #[test]
 fn orders_are_values(rt: HostRuntime) -> Result<(), Fail> {
-    ends(
-        &rt,
-        rt.alloc(),
-        &given::WORDS,
-        &orders::ORDERS,
-        "1001110101",
-    )?;
+    ends(&rt, rt.alloc(), &of::WORDS, &of::ORDERS, "1001110101")?;
     Ok(())
 }
 
 #[test]
 fn orders_are_tests(rt: HostRuntime) -> Result<(), Fail> {
-    ends(
-        &rt,
-        rt.alloc(),
-        &given::WORDS,
-        &orders::BRANCHES,
-        "1001110101",
-    )?;
+    ends(&rt, rt.alloc(), &of::WORDS, &of::BRANCHES, "1001110101")?;
     Ok(())
 }
