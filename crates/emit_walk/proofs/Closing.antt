@@ -1,5 +1,5 @@
 -- How far a walk comes with what stands behind the rest of a body, by what the code has of a step.
-use Rattle.std.proofs.Common.{◌≡◌, refl, ℕ, suc, ◌+◌, ◌-◌, List, [], ◌∷◌, ◌++◌, length, map, drop, Bool, true, Vec, Box, Global, sym, ap, ◌∙◌, get_or, ⊎_elim}
+use Rattle.std.proofs.Common.{◌≡◌, refl, ℕ, ◌-◌, List, ◌++◌, length, map, drop, Bool, true, Vec, Box, Global, sym, ap, ◌∙◌, get_or, ⊎_elim}
 use Rattle.std.specs.Prelude.{◌⊎◌}
 use Rattle.std.proofs.Math.ListN.{set}
 use Rattle.mlc_base.specs.declared.place.Place.{Place}

@@ -16,9 +16,9 @@ use Rattle.ssa_tree.specs.declared.tree.Body.{Body}
 use Rattle.ssa_tree.specs.declared.tree.Body.TheVariants as body
 use Rattle.ssa_tree.specs.declared.tree.Step.{Step}
 use Rattle.ssa_tree.specs.declared.tree.Step.TheVariants as step
-use Rattle.ssa_tree.specs.TreeOf.{StepTree, ArmTree, arm_of, bodies_of, case_step, onto, step_of, tree_of}
+use Rattle.ssa_tree.specs.TreeOf.{ArmTree, arm_of, bodies_of, case_step, step_of, tree_of}
 use Rattle.machine_code.specs.Rows.{AreRight, Packets, late_code, later}
-use Rattle.machine_code.specs.Code.{Choice, Places, Scope, Spot, args_of, callee_count, choice_of, choice_size, left, left_by, exits_of, no_exit, no_spot, make_code, make_size, move_code, move_size, plain_code, plain_size, push_code, slot, test_arm_code, test_arm_size, test_code, test_size, choice_code}
+use Rattle.machine_code.specs.Code.{Choice, Places, Scope, Spot, args_of, callee_count, choice_of, choice_size, left, left_by, exits_of, no_exit, no_spot, make_code, make_size, move_code, move_size, plain_code, plain_size, push_code, test_arm_code, test_arm_size, test_code, test_size, choice_code}
 use Rattle.machine_code.proofs.Sizes.{args_count, late_place, left_exits, make_length, plain_length, test_arm_length, test_length}
 use Rattle.machine_code.proofs.Pieces.{move_length, push_length}
 use Rattle.machine_rows.specs.Table.{rows}

@@ -16,7 +16,7 @@ use Rattle.ssa_tree.specs.declared.tree.Step.TheVariants as step
 use Rattle.ssa_tree.specs.TreeOf.{StepTree, plain_step, make_step, call_step, attempt_step, turn_step, label_step, again_step, when_step, unless_step, step_of, tree_of}
 use Rattle.machine_code.specs.Code.{Spot, callee_count, exit_at, exit_of, exits_of, make_size, plain_size, test_size, with_params}
 use Rattle.machine_rows.specs.Table.{rows}
-use Rattle.walk_labels.specs.Labels.{Frame, blocked, bound, closed, number_of}
+use Rattle.walk_labels.specs.Labels.{blocked, bound, closed, number_of}
 use Rattle.walk_labels.specs.Marks.{Mark, Foretold, labels_at, own_labels, past_body, past_head, past_labelled}
 use Rattle.walk_labels.proofs.Marks.{fore-same, frame-is}
 use Rattle.walk_labels.proofs.MarkSteps.{exits-push, head-again, head-label, head-plain, head-unless, head-walked, unless-told}

@@ -1,15 +1,13 @@
 -- How far a walk comes, by what its node stands for.
-use Rattle.std.proofs.Common.{◌≡◌, ◌≢◌, refl, ℕ, suc, ◌+◌, ◌-◌, List, [], ◌∷◌, ◌++◌, length, map, drop, Bool, true, Vec, Box, Global, Result, Ok, Err, OnOk, IfErr, sym, ap, ◌∙◌, subst, arith, length-append, get_or}
+use Rattle.std.proofs.Common.{◌≡◌, ◌≢◌, refl, ℕ, ◌+◌, List, [], ◌++◌, length, map, Bool, Vec, Box, Global, Result, OnOk, IfErr, sym, ap, ◌∙◌, subst, length-append, get_or}
 use Rattle.ir_code.specs.declared.instr.Instr.{Instr}
 use Rattle.first_values.specs.Equality.{Shape}
-use Rattle.ir_ssa.specs.Tree as s
 use Rattle.ssa_tree.specs.declared.tree.Body.{Body}
 use Rattle.ssa_tree.specs.declared.tree.Body.TheVariants as body
 use Rattle.ssa_tree.specs.declared.tree.Step.{Step}
-use Rattle.ssa_tree.specs.TreeOf.{StepTree, step_of, tree_of, onto}
-use Rattle.machine_code.specs.Code.{Choice, Spot, no_spot, no_exit, exit_of, exits_of, goto_code, goto_size, move_code, move_size, test_arm_code, test_arm_size}
+use Rattle.ssa_tree.specs.TreeOf.{step_of, tree_of, onto}
+use Rattle.machine_code.specs.Code.{Choice, Spot, no_spot, no_exit, exit_of, exits_of, goto_code, goto_size, test_arm_code, test_arm_size}
 use Rattle.machine_code.proofs.Sizes.{exit_in, goto_length, test_arm_length}
-use Rattle.machine_code.proofs.Pieces.{move_length}
 use Rattle.machine_rows.specs.Table.{rows}
 use Rattle.emit_parts.specs.declared.fault.WalkFault.{WalkFault}
 use Rattle.emit_parts.specs.declared.fault.WalkFault.TheVariants.{Unsettled}

@@ -1,11 +1,10 @@
 -- Functions, one behind the other, in any walk: where they stand, and where their labels do.
-use Rattle.std.proofs.Common.{◌≡◌, refl, ℕ, suc, ◌+◌, ◌-◌, ◌<◌, List, [], ◌∷◌, ◌++◌, length, Bool, true, sym, ap, ◌∙◌, ⊎_elim, arith, append_assoc, append-nil, length-append, get_or, zero-add}
+use Rattle.std.proofs.Common.{◌≡◌, refl, ℕ, suc, ◌+◌, ◌-◌, ◌<◌, List, [], ◌∷◌, ◌++◌, length, Bool, sym, ap, ◌∙◌, ⊎_elim, arith, append_assoc, append-nil, length-append, get_or, zero-add}
 use Rattle.std.proofs.lemmas.Bool.{cases_lt}
 use Rattle.std.proofs.lemmas.List.{get_or_append_left, get_or_push, get_or_past}
 use Rattle.first_values.specs.Equality.{Shape}
 use Rattle.ir_ssa.specs.Tree.{Fun}
 use Rattle.machine_code.specs.Rows.{Rows}
-use Rattle.machine_code.specs.Code.{with_params}
 use Rattle.machine_code.specs.Image.{fun_place, fun_size, funs_size}
 use Rattle.walk_labels.specs.Labels.{Frame, blocked, labels, size_of}
 use Rattle.walk_labels.specs.Marks.{Mark, Foretold, fun_labels, past_fun}
@@ -47,7 +46,10 @@ module _ (rows : Rows) (types : List Shape) where
           long = ap (λ n. n + funs_size rows types funs) hp;
           labels = ap (λ l. l ++ funs_labels rows types m.place funs) hl ∙ ap (λ n. funs_labels rows types n funs) hp;
           found = λ t e lt. absurd (omega (arith, lt, short));
-          behind = λ t. ap (λ n. fun_place rows types n funs t) hp ∙ ap (fun_place rows types from funs) (let z : t ≡ length places + t = omega (arith, short) in z);
+          behind = λ t. ap (λ n. fun_place rows types n funs t) hp ∙ ap (fun_place rows types from funs) (let z : t ≡ length places + t = omega (
+            arith,
+            short,
+          ) in z);
         }
 
     pub laid-next : (g : Fun) (rest : List Fun) (m m' : Mark) (places places' : List ℕ) (p : ℕ) → Laid (g ∷ rest) m places
@@ -87,7 +89,8 @@ module _ (rows : Rows) (types : List Shape) where
         (fore-right sure all 0 (length m.found) m.found (this ++ more) (sym (zero-add (length m.found)))
         (fore-same sure all 0 (funs_labels rows types from funs) (m.found ++ (this ++ more)) (sym f.labels) told)))
 
-    pub all-places : (m : Mark) (places : List ℕ) (end : ℕ) → end ≡ m.place → Laid [] m places → (i : ℕ) → get_or places i end ≡ fun_place rows types from funs i
+    pub all-places : (m : Mark) (places : List ℕ) (end : ℕ) → end ≡ m.place → Laid [] m places → (i : ℕ)
+        → get_or places i end ≡ fun_place rows types from funs i
     all-places m places end e f i =
         ⊎_elim (λ below. f.found i end below)
         (λ past. get_or_past places i end past ∙ e ∙ f.behind (i - length places)

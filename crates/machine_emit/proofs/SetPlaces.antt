@@ -1,9 +1,9 @@
 -- Where a routine of a set stands, wherever functions are.
-use Rattle.std.proofs.Common.{◌≡◌, refl, ℕ, zero, suc, ◌+◌, ◌*◌, ◌≤◌, max, List, [], ◌∷◌, length, Bool, true, false, sym, ap, ◌∙◌, arith}
+use Rattle.std.proofs.Common.{◌≡◌, refl, ℕ, zero, suc, ◌+◌, ◌*◌, max, List, [], ◌∷◌, length, Bool, true, false, ap, ◌∙◌, arith}
 use Rattle.std.specs.Prelude.{nat_le, if◌then◌else◌}
 use Rattle.first_values.specs.Operations.{Member}
 use Rattle.ir_ssa.specs.Tree.{Fun}
-use Rattle.machine_routines.specs.FindCode.{Target, by_table, by_search, search_of, search_size, way_of, way_size}
+use Rattle.machine_routines.specs.FindCode.{by_table, by_search, search_of, search_size, way_of, way_size}
 use Rattle.machine_code.specs.Image.{placed, set_place, set_size, tags_end}
 use Rattle.emit_parts.proofs.Searches.{search-long}
 
@@ -16,7 +16,8 @@ module _ (f g : ℕ → ℕ) where
   same-end [] = refl
   same-end (m ∷ ms) = ap (λ n. max (suc m.tag) n) (same-end ms)
 
-  same-search : (ms : List Member) → search_size (search_of false 0 (length (placed f ms)) (placed f ms)) ≡ search_size (search_of false 0 (length (placed g ms)) (placed g ms))
+  same-search : (ms : List Member)
+      → search_size (search_of false 0 (length (placed f ms)) (placed f ms)) ≡ search_size (search_of false 0 (length (placed g ms)) (placed g ms))
   same-search [] = refl
   same-search (m ∷ ms) =
       let a = placed f (m ∷ ms) in

@@ -1,6 +1,5 @@
 -- The code of functions, one by one, and the whole.
 use Rattle.std.proofs.Common.{◌≡◌, refl, ℕ, ◌+◌, List, [], ◌∷◌, ◌++◌, length, sym, ap, ◌∙◌, arith, append-nil, get_or, zero-add}
-use Rattle.std.proofs.Math.Path.{fun_ext}
 use Rattle.ir_code.specs.declared.instr.Instr.{Instr}
 use Rattle.ir_code.specs.declared.instr.Instr.TheVariants.{Call as CallRow, End}
 use Rattle.ir_ssa.specs.Tree.{Fun, Program}
@@ -13,7 +12,7 @@ use Rattle.machine_code.specs.Code.{Scope, Spot, code_at, with_params}
 use Rattle.machine_code.specs.Image.{code_of, fun_at, fun_place, funs_code, most_code, sets_at, sets_code, set_place, places_of as image_places}
 use Rattle.machine_rows.specs.Table.{rows}
 use Rattle.image_law.specs.Assembled.{code_by, funs_from, sets_from}
-use Rattle.image_law.proofs.Assembling.{fun_code, FunsSoFar, funs-next, funs-done, assembled, before-funs, before-sets, same-places, code-is}
+use Rattle.image_law.proofs.Assembling.{fun_code, FunsSoFar, funs-next, assembled, before-funs, same-places, code-is}
 use Rattle.emit_code.specs.PlacesOf.{places_of}
 use Rattle.emit_code.specs.declared.places.Places.{Places}
 use Rattle.emit_walk.specs.Walk.{Env, Kept}

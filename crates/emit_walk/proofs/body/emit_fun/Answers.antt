@@ -1,4 +1,4 @@
-use Rattle.std.proofs.Common.{◌≡◌, refl, ◌+◌, ◌-◌, ◌∙◌, length, drop, ap, sym, arith}
+use Rattle.std.proofs.Common.{◌≡◌, refl, ◌+◌, ◌-◌, ◌∙◌, length, drop, ap, arith}
 use Rattle.first_tables.specs.TablesOf.{tables_of}
 use Rattle.ssa_tree.specs.TreeOf.{tree_of}
 use Rattle.machine_code.specs.Code.{exits_of, with_params}
@@ -22,7 +22,8 @@ returns-in_err-emit_body-clause-told c =
     (c.in_ok-bind_all.ensures.slots ∙ ap (λ l. with_params l c.args.pass.now.depth c.args.pass.now.slots) c.deref.ensures.value) refl in
     passed _ c.from_residual-in_err-emit_body.result c.in_err-emit_body.field-0.0 c.from_residual-in_err-emit_body.ensures.1
     (λ told. c.in_err-emit_body.ensures.told
-    (fun-told (tables_of c.args.tables.now).types ps (tree_of c.args.fun.now.body) (mark_of c.args.pass.now) m1 refl is refl c.args.sure c.args.at.now.labels.items told))
+    (fun-told (tables_of c.args.tables.now).types ps (tree_of c.args.fun.now.body) (mark_of c.args.pass.now) m1 refl is refl c.args.sure
+    c.args.at.now.labels.items told))
 
 pub returns-clause-walked : goal.returns-clause-walked
 returns-clause-walked c =
@@ -32,7 +33,8 @@ returns-clause-walked c =
     let is : f ≡ blocked ps (frame_of c.args.pass.now) =
     frame-is f (blocked ps (frame_of c.args.pass.now)) (c.in_ok-bind_all.ensures.depth ∙ ap (λ l. c.args.pass.now.depth + length l) c.deref.ensures.value)
     (c.in_ok-bind_all.ensures.slots ∙ ap (λ l. with_params l c.args.pass.now.depth c.args.pass.now.slots) c.deref.ensures.value) refl in
-    fun-walked (tables_of c.args.tables.now).types ps (tree_of c.args.fun.now.body) (mark_of c.args.pass.now) m1 refl is refl c.len.result (mark_of c.emit_body.new.pass) _
+    fun-walked (tables_of c.args.tables.now).types ps (tree_of c.args.fun.now.body) (mark_of c.args.pass.now) m1 refl is refl c.len.result (mark_of
+    c.emit_body.new.pass) _
     c.in_ok-emit_body.ensures.walked (omega (arith, c.len.ensures, c.args.fun.now.params.ok.0)) refl c.leave.ensures.depth c.leave.ensures.slots refl refl
 
 pub returns-clause-kept : goal.returns-clause-kept

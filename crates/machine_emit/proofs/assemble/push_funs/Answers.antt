@@ -1,4 +1,4 @@
-use Rattle.std.proofs.Common.{◌≡◌, ℕ, List, refl, ◌+◌, ◌∷◌, length, map, drop, sym, ap, ◌∙◌, subst, arith}
+use Rattle.std.proofs.Common.{refl, ◌+◌, ◌∷◌, length, map, drop, sym, ap, ◌∙◌, subst, arith}
 use Rattle.std.proofs.lemmas.List.{drop_more, drop_all}
 use Rattle.first_tables.specs.TablesOf.{tables_of}
 use Rattle.ssa_tree.specs.TreeOf.{fun_of}
@@ -16,13 +16,16 @@ use Rattle.machine_emit.proofs.assemble.push_funs.Goals as goal
 pub loop-i-init : goal.loop-i-init
 loop-i-init c = record {
   code = λ right s.
-      subst (λ l. Walked (places_of c.args.tables.now c.args.at.now) right (map fun_of c.args.funs.now) c.args.pass.now.code.items (map fun_of c.args.funs.now) (env_of c.args.pass.now)
+      subst (λ l. Walked (places_of c.args.tables.now c.args.at.now) right (map fun_of c.args.funs.now) c.args.pass.now.code.items (map fun_of
+      c.args.funs.now) (env_of c.args.pass.now)
       c.args.pass.now.code.items l) (sym c.new-found.ensures.items)
-      (first-walked (places_of c.args.tables.now c.args.at.now) right (map fun_of c.args.funs.now) c.args.pass.now.code.items (env_of c.args.pass.now) c.args.pass.now.code.items
+      (first-walked (places_of c.args.tables.now c.args.at.now) right (map fun_of c.args.funs.now) c.args.pass.now.code.items (env_of c.args.pass.now)
+      c.args.pass.now.code.items
       c.requires.empty refl);
   laid =
       let e = c.requires.empty in
-      none-laid rows (tables_of c.args.tables.now).types (map fun_of c.args.funs.now) (length c.args.pass.now.code.items) (mark_of c.args.pass.now) c.new-found.result.items
+      none-laid rows (tables_of c.args.tables.now).types (map fun_of c.args.funs.now) (length c.args.pass.now.code.items) (mark_of c.args.pass.now)
+      c.new-found.result.items
       (frame-is (frame_of c.args.pass.now) no_frame e.depth e.scope (ap exits_of e.spots)) refl c.requires.none c.new-found.ensures.items;
 }
 
@@ -36,16 +39,20 @@ loop-i-preserved c =
     record {
       code = λ right s.
           let at = places_of c.args.tables.now c.args.at.now in
-          let so-far = subst (λ l. Walked at right (map fun_of all) c.args.pass.now.code.items l (env_of c.loop-i.pass) c.loop-i.pass.code.items c.loop-i.found.items)
+          let so-far = subst (λ l. Walked at right (map fun_of all) c.args.pass.now.code.items l (env_of c.loop-i.pass) c.loop-i.pass.code.items
+          c.loop-i.found.items)
           same (c.loop-i.invariant.code right s) in
-          walked-next at right (map fun_of all) c.args.pass.now.code.items (fun_of this) rest (env_of c.loop-i.pass) (env_of c.emit_fun.new.pass) c.loop-i.pass.code.items
-          c.emit_fun.new.pass.code.items c.loop-i.found.items c.push.new.self.items c.in_ok-here.field-0 so-far (c.in_ok-emit_fun.ensures.code s) (c.in_ok-emit_fun.ensures.kept s)
+          walked-next at right (map fun_of all) c.args.pass.now.code.items (fun_of this) rest (env_of c.loop-i.pass) (env_of c.emit_fun.new.pass)
+          c.loop-i.pass.code.items
+          c.emit_fun.new.pass.code.items c.loop-i.found.items c.push.new.self.items c.in_ok-here.field-0 so-far (c.in_ok-emit_fun.ensures.code s)
+          (c.in_ok-emit_fun.ensures.kept s)
           c.in_ok-here.ensures c.in_ok-push.ensures.items;
       laid =
           let types = (tables_of c.args.tables.now).types in
           let from = length c.args.pass.now.code.items in
           let so-far = subst (λ l. Laid rows types (map fun_of all) from l (mark_of c.loop-i.pass) c.loop-i.found.items) same c.loop-i.invariant.laid in
-          laid-next rows types (map fun_of all) from (fun_of this) rest (mark_of c.loop-i.pass) (mark_of c.emit_fun.new.pass) c.loop-i.found.items c.push.new.self.items
+          laid-next rows types (map fun_of all) from (fun_of this) rest (mark_of c.loop-i.pass) (mark_of c.emit_fun.new.pass) c.loop-i.found.items
+          c.push.new.self.items
           c.in_ok-here.field-0 so-far c.in_ok-emit_fun.ensures.walked c.in_ok-here.ensures c.in_ok-push.ensures.items;
     }
 
@@ -61,14 +68,16 @@ returns-in_err-emit_fun-clause-told c =
     let so-far = subst (λ l. Laid rows types (map fun_of all) from l (mark_of c.loop-i.pass) c.loop-i.found.items) same c.loop-i.invariant.laid in
     passed _ c.from_residual-in_err-emit_fun.result c.in_err-emit_fun.field-0.0 c.from_residual-in_err-emit_fun.ensures.1
     (λ told. c.in_err-emit_fun.ensures.told
-    (laid-told rows types (map fun_of all) from (fun_of this) rest (mark_of c.loop-i.pass) c.loop-i.found.items so-far c.args.sure c.args.at.now.labels.items told))
+    (laid-told rows types (map fun_of all) from (fun_of this) rest (mark_of c.loop-i.pass) c.loop-i.found.items so-far c.args.sure c.args.at.now.labels.items
+    told))
 
 pub returns-clause-code : goal.returns-clause-code
 returns-clause-code c = λ s.
     let at = places_of c.args.tables.now c.args.at.now in
     let all = c.args.funs.now in
     walked-code at c.rows_are_right.ensures (map fun_of all) c.args.pass.now.code.items (env_of c.loop-i.pass) c.loop-i.pass.code.items c.loop-i.found.items
-    (subst (λ l. Walked at c.rows_are_right.ensures (map fun_of all) c.args.pass.now.code.items l (env_of c.loop-i.pass) c.loop-i.pass.code.items c.loop-i.found.items)
+    (subst (λ l. Walked at c.rows_are_right.ensures (map fun_of all) c.args.pass.now.code.items l (env_of c.loop-i.pass) c.loop-i.pass.code.items
+    c.loop-i.found.items)
     (ap (map fun_of) (drop_all c.loop-i.i all (omega arith))) (c.loop-i.invariant.code c.rows_are_right.ensures s))
 
 pub returns-clause-places : goal.returns-clause-places
@@ -77,7 +86,8 @@ returns-clause-places c =
     let types = (tables_of c.args.tables.now).types in
     let from = length c.args.pass.now.code.items in
     all-places rows types (map fun_of all) from (mark_of c.loop-i.pass) c.loop-i.found.items c.in_ok-end.end c.in_ok-end.ensures
-    (subst (λ l. Laid rows types (map fun_of all) from l (mark_of c.loop-i.pass) c.loop-i.found.items) (ap (map fun_of) (drop_all c.loop-i.i all (omega arith))) c.loop-i.invariant.laid)
+    (subst (λ l. Laid rows types (map fun_of all) from l (mark_of c.loop-i.pass) c.loop-i.found.items) (ap (map fun_of) (drop_all c.loop-i.i all (omega
+    arith))) c.loop-i.invariant.laid)
 
 pub returns-clause-long : goal.returns-clause-long
 returns-clause-long c =
@@ -85,7 +95,8 @@ returns-clause-long c =
     let types = (tables_of c.args.tables.now).types in
     let from = length c.args.pass.now.code.items in
     all-long rows types (map fun_of all) from (mark_of c.loop-i.pass) c.loop-i.found.items
-    (subst (λ l. Laid rows types (map fun_of all) from l (mark_of c.loop-i.pass) c.loop-i.found.items) (ap (map fun_of) (drop_all c.loop-i.i all (omega arith))) c.loop-i.invariant.laid)
+    (subst (λ l. Laid rows types (map fun_of all) from l (mark_of c.loop-i.pass) c.loop-i.found.items) (ap (map fun_of) (drop_all c.loop-i.i all (omega
+    arith))) c.loop-i.invariant.laid)
 
 pub returns-clause-labels : goal.returns-clause-labels
 returns-clause-labels c =
@@ -93,4 +104,5 @@ returns-clause-labels c =
     let types = (tables_of c.args.tables.now).types in
     let from = length c.args.pass.now.code.items in
     all-labels rows types (map fun_of all) from (mark_of c.loop-i.pass) c.loop-i.found.items
-    (subst (λ l. Laid rows types (map fun_of all) from l (mark_of c.loop-i.pass) c.loop-i.found.items) (ap (map fun_of) (drop_all c.loop-i.i all (omega arith))) c.loop-i.invariant.laid)
+    (subst (λ l. Laid rows types (map fun_of all) from l (mark_of c.loop-i.pass) c.loop-i.found.items) (ap (map fun_of) (drop_all c.loop-i.i all (omega
+    arith))) c.loop-i.invariant.laid)

@@ -13,6 +13,7 @@ use Rattle.machine_emit.proofs.assemble.push_funs.Given as goal
 abbrev pub invariant-loop-i : goal.invariant-loop-i
 invariant-loop-i l = record {
   code : (right : AreRight rows) → l.sure ≡ true
-      → Walked (places_of l.tables l.at) right (map fun_of l.funs) l.fn.pass.code.items (map fun_of (drop l.i l.funs)) (env_of l.pass) l.pass.code.items l.found.items;
+      → Walked (places_of l.tables l.at) right (map fun_of l.funs) l.fn.pass.code.items (map fun_of (drop l.i l.funs)) (env_of l.pass) l.pass.code.items
+      l.found.items;
   laid : Laid rows (tables_of l.tables).types (map fun_of l.funs) (length l.fn.pass.code.items) (map fun_of (drop l.i l.funs)) (mark_of l.pass) l.found.items;
 }

@@ -11,7 +11,8 @@ returns c places =
     c.in_ok-put-2.ensures ∙ ap (λ l. l ++ End ∷ [])
     (c.in_ok-put.ensures ∙ ap (λ l. l ++ CallRow c.first_fun.result 0 ∷ []) c.requires ∙ ap (λ n. CallRow n 0 ∷ []) c.first_fun.ensures) in
     subst (λ l. OnOk c.push_equality.result (c.push_equality.new.code.items ≡ l ++ equal_code (all_shapes c.args.tables.now.types.items) 2 most)) two
-    (subst (λ s. OnOk c.push_equality.result (c.push_equality.new.code.items ≡ c.put-2.new.code.items ++ equal_code (all_shapes s) 2 most)) c.deref.ensures.value
+    (subst (λ s. OnOk c.push_equality.result (c.push_equality.new.code.items ≡ c.put-2.new.code.items ++ equal_code (all_shapes s) 2 most))
+    c.deref.ensures.value
     (c.push_equality.ensures (ap length two)
     (subst (λ s. ArePlaces (all_shapes s) c.deref-2.result.now c.args.at.now.types_end) (sym c.deref.ensures.value)
     (subst (λ t. ArePlaces (all_shapes c.args.tables.now.types.items) t c.args.at.now.types_end) (sym c.deref-2.ensures.value) places))))

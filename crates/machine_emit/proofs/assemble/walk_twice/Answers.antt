@@ -10,7 +10,8 @@ use Rattle.machine_emit.proofs.assemble.walk_twice.Goals as goal
 
 pub returns-in_err-found-clause-settled : goal.returns-in_err-found-clause-settled
 returns-in_err-found-clause-settled c known =
-    passed _ c.from_residual.result c.in_err-found.field-0.0 c.from_residual.ensures.1 (c.in_err-found.ensures.told known.1.type_at (λ s. absurd (false≢true s)))
+    passed _ c.from_residual.result c.in_err-found.field-0.0 c.from_residual.ensures.1 (c.in_err-found.ensures.told known.1.type_at (λ s. absurd (false≢true
+    s)))
 
 pub returns-in_err-made-clause-settled : goal.returns-in_err-made-clause-settled
 returns-in_err-made-clause-settled c known =

@@ -52,7 +52,8 @@ returns-clause-runs c =
     λ i. ap (λ l. text_of (map items_of l) i) c.deref-3.ensures.value ∙ c.in_ok-identifiers.ensures i ∙ ap (λ l. text_in names l i) c.deref-2.ensures.value in
     let ew = c.in_ok-words.ensures.words (program_of p) refl in
     let ec = c.in_ok-code.ensures texts (c.in_ok-words.ensures.places (program_of p) refl) in
-    image-does names (program_of p) found texts same told ws code ew ec c.finish.result c.image_is_right.ensures c.finish.ensures.constants c.finish.ensures.code c.finish.ensures.small
+    image-does names (program_of p) found texts same told ws code ew ec c.finish.result c.image_is_right.ensures c.finish.ensures.constants
+    c.finish.ensures.code c.finish.ensures.small
 
 pub returns-clause-short : goal.returns-clause-short
 returns-clause-short c =
@@ -68,7 +69,8 @@ returns-clause-short c =
     λ i. ap (λ l. text_of (map items_of l) i) c.deref-3.ensures.value ∙ c.in_ok-identifiers.ensures i ∙ ap (λ l. text_in names l i) c.deref-2.ensures.value in
     let ew = c.in_ok-words.ensures.words (program_of p) refl in
     let ec = c.in_ok-code.ensures texts (c.in_ok-words.ensures.places (program_of p) refl) in
-    not-long (program_of p) names c.finish.result (image-is names (program_of p) found texts same told ws code ew ec c.finish.result c.finish.ensures.constants c.finish.ensures.code) c.finish.ensures.small
+    not-long (program_of p) names c.finish.result (image-is names (program_of p) found texts same told ws code ew ec c.finish.result
+    c.finish.ensures.constants c.finish.ensures.code) c.finish.ensures.small
 
 pub returns-clause-too_long : goal.returns-clause-too_long
 returns-clause-too_long c =
@@ -100,4 +102,5 @@ returns-clause-large c =
     λ i. ap (λ l. text_of (map items_of l) i) c.deref-3.ensures.value ∙ c.in_ok-identifiers.ensures i ∙ ap (λ l. text_in names l i) c.deref-2.ensures.value in
     let ew = c.in_ok-words.ensures.words (program_of p) refl in
     let ec = c.in_ok-code.ensures texts (c.in_ok-words.ensures.places (program_of p) refl) in
-    too-large names (program_of p) found texts same told ws code ew ec (λ e. e ≡ TooLong) c.finish.result c.images_are_small.ensures.long c.finish.ensures.too_long
+    too-large names (program_of p) found texts same told ws code ew ec (λ e. e ≡ TooLong) c.finish.result c.images_are_small.ensures.long
+    c.finish.ensures.too_long
