@@ -8,7 +8,7 @@ const SOURCES: [(&str, &str); 16] = [
     ("val () = print \"a", "p.sml:1.16: E10 no token\n"),
     ("val () = print \"\x7f\"", "p.sml:1.16: E10 no token\n"),
     ("val x = 1 (* open", "p.sml:1.11: E10 no token\n"),
-    ("valx () = print \"a\"", "p.sml:1.19: E11 syntax error\n"),
+    ("valx () = print \"a\"", "p.sml:1.20: E11 syntax error\n"),
     (") val x = 1", "p.sml:1.1: E11 syntax error\n"),
     (
         "infixr 5 ++ infix 5 -- val z = 1 ++ 2 -- 3",
