@@ -15,6 +15,7 @@ use Rattle.initial_types.specs.Schemes.{schemes_in}
 use Rattle.elab_state.specs.States.{types_in, made}
 use Rattle.elab_state.specs.declared.state.State.{State}
 use Rattle.elab_context.specs.Entries.{entry_in}
+use Rattle.elab_context.specs.Numbered.{IsBelowIf, number_of}
 use Rattle.elab_context.specs.Telling.{IsContext, IsHeld}
 use Rattle.elab_context.specs.declared.context.Context.{Context}
 use Rattle.elab_context.specs.declared.entry.Entry.{Entry}
@@ -86,6 +87,24 @@ rows-held S C ((w, a) ∷ rs) k x e le q = by (same_vid x (vid_of w)) (λ s. row
     by true f s = let same : entry_at a k ≡ e = cc in subst (IsHeld S C) same (row-held S C a k (omega (arith, le)))
     by false f s = f s
 
+-- none has a variable of the program
+
+row-free : (j : ℕ) (a : Kind) (k : ℕ) → IsBelowIf j (entry_at a k)
+row-free j Reference k n q = cc
+row-free j (Constructor m y) k n q = cc
+row-free j (Exception m) k n q = cc
+row-free j (Primitive p) k n q = cc
+
+rows-free : (j : ℕ) (rs : Rows) (k : ℕ) (x : Vid) (e : Entry) → row_entry rs k x ≡ Some e → IsBelowIf j e
+rows-free j [] k (Named x) e q = cc
+rows-free j [] k (Fresh x) e q = cc
+rows-free j [] k Equals e q = cc
+rows-free j ((w, a) ∷ rs) k x e q = by (same_vid x (vid_of w)) (λ s. rows-free j rs (suc k) x e s) (sym (front rs k w a x) ∙ q)
+  where
+    by : (b : Bool) → (row_entry rs (suc k) x ≡ Some e → IsBelowIf j e) → cond b (Some (entry_at a k)) (row_entry rs (suc k) x) ≡ Some e → IsBelowIf j e
+    by true f s = let same : entry_at a k ≡ e = cc in subst (IsBelowIf j) same (row-free j a k)
+    by false f s = f s
+
 module _ (S : State) (C : Context) (i : IsBasis (types_in S) C) where
   scheme-count : length C.schemes.items ≡ 28
   scheme-count = sym (length-map C.schemes.items (scheme_in (types_in S))) ∙ ap length i.schemes
@@ -98,6 +117,15 @@ module _ (S : State) (C : Context) (i : IsBasis (types_in S) C) where
       by true h = let n = scheme-count in rows-held S C integer_list 25 x e (omega (arith, n)) h
       by false h = cc
   entries-held (n ∷ m ∷ ns) x e q = cc
+
+  entries-free : (j : ℕ) (qs : List ℕ) (x : Vid) (e : Entry) → entry_in C qs x ≡ Some e → IsBelowIf j e
+  entries-free j [] x e q = rows-free j row_list 0 x e (sym (rows-found C.values row_list 0 x i.values) ∙ q)
+  entries-free j (n ∷ []) x e q = by (nat_eq n 72) (sym (member-of S C i n x) ∙ q)
+    where
+      by : (b : Bool) → cond b (row_entry integer_list 25 x) None ≡ Some e → IsBelowIf j e
+      by true h = rows-free j integer_list 25 x e h
+      by false h = cc
+  entries-free j (n ∷ m ∷ ns) x e q = cc
 
   pub context_is : IsContext S C
   context_is = record {
@@ -114,6 +142,7 @@ module _ (S : State) (C : Context) (i : IsBasis (types_in S) C) where
         let c = closed-at (types_in S) C.schemes.items (schemes_in entries ++ schemes_in integers) k s i.schemes closed-all e in
         record { held = held-at (length (types_in S)) C.schemes.items k s i.schemes_held e; closed = c.below; inhabited = c.marks };
     entries = λ qs x e q. entries-held qs x e q;
+    numbered = entries-free S.next;
   }
 
 -- what the code makes is the context of the basis

@@ -12,12 +12,13 @@ use Rattle.sml_tree.specs.declared.ident.Vid.TheVariants.{Named, Equals, Fresh}
 use Rattle.core_rules.specs.Words.{same_vid}
 use Rattle.core_rules.specs.Objects.{along, at, value_in, values_env, Scheme, Value, Values}
 use Rattle.core_rules.specs.Elaborated.{type_in}
-use Rattle.core_rules.specs.Initial.{TypeEntry as TypeRow, entries, integers, static_types, static_values, type_rows}
+use Rattle.core_rules.specs.Initial.{TypeEntry as TypeRow, entries, initial_context, integers, static_types, static_values, type_rows}
 use Rattle.ir_poly.specs.TestsChecked.{Known}
 use Rattle.ir_poly.specs.TestsChecked as checked
 use Rattle.core_elab.specs.Scopes.{along_scope, denotes_in, long_denotes_in, rows_scope}
 use Rattle.initial_types.specs.Schemes.{schemes_in}
 use Rattle.elab_typed.specs.Contexts.{given, given_values, kept_in, Around, generic}
+use Rattle.elab_typed.proofs.Under.{kept-env-under}
 use Rattle.elab_types.specs.Reading.{entry_of as type_entry_of}
 use Rattle.elab_state.specs.States.{types_in}
 use Rattle.elab_state.specs.declared.state.State.{State}
@@ -205,4 +206,5 @@ module _ (S : State) (C : Context) (W : World) (c : Comes S W) (i : IsBasis (typ
     known = λ x e n k q h. unknown-all x.qualifiers x.vid e n k q h;
     tyvars = λ a. ap (λ l. option_map (type_of W) (lookup (nat_eq a) l)) (sym i.tyvars);
     types = λ qs x. typed-all qs x;
+    over = λ s f a i. record { names = A.names; tyvars = []; env = (kept-env-under s initial_context.env ∙ sym (kept-env-under f initial_context.env)) i };
   }

@@ -26,15 +26,15 @@ use Rattle.elab_context.specs.declared.context.Context.{Context}
 use Rattle.use_elab.specs.Elaborated.{ElaboratesExp, IsExp}
 use Rattle.use_elab.specs.declared.typed.TypedExp.{TypedExp}
 use Rattle.exp_forms.proofs.Calling.{new-names, new-parameters, written-as}
-use Rattle.dec_forms.specs.Decs.{EachUpTo, IsDecs, TellsOver}
+use Rattle.dec_forms.specs.Decs.{EachUpTo, IsDecs}
 use Rattle.dec_forms.proofs.Sequencing.{choices_of, decs-do}
 
 pub let_is : (S M N F U T : State) (C D : Context) (p : Place) (ds : List bare.Dec) (e : bare.Exp) (decs : Vec Dec Global) (body r : TypedExp) (l : Limit) (ty written : ℕ)
-    (boxed : Box Exp Global) → IsContext N C → TellsOver C → IsDecs S C ds M D decs.items → IsExp M D e N body → l ≡ limit_of C → Grows N F → HasType F ty
+    (boxed : Box Exp Global) → IsContext N C → IsDecs S C ds M D decs.items → IsExp M D e N body → l ≡ limit_of C → Grows N F → HasType F ty
     → Always F (λ W. IsWithin W l ty) → Grows F U → Always U (λ W. type_of W body.ty ≡ type_of W ty) → Grows U T
     → Always T (λ W. W.reading.type written ≡ type_as (W.naming C.naming) (type_of W ty)) → boxed.value ≡ body.exp → r.exp ≡ tree.Let written decs boxed → r.ty ≡ ty
     → IsExp S C (bare.let_in p (source.decs_of ds) e) T r
-let_is S M N F U T C D p ds e decs body r l ty written boxed ic o h i el gf hf w gu same gt wr v ex q =
+let_is S M N F U T C D p ds e decs body r l ty written boxed ic h i el gf hf w gu same gt wr v ex q =
     let ft = grows_on F U T gu gt in
     let nt = grows_on N F T gf ft in
     let mt = grows_on M N T i.grows nt in
@@ -43,7 +43,7 @@ let_is S M N F U T C D p ds e decs body r l ty written boxed ic o h i el gf hf w
       is = subst (HasType T) (sym q) (type_later F T ty ft hf);
       gives = λ W c A t.
           let R = W.reading in
-          let a = h.gives W (comes_before M T W mt c) A t (o W A t) in
+          let a = h.gives W (comes_before M T W mt c) A t in
           let u = type_of W ty in
           let is : type_of W body.ty ≡ u = same W (comes_before U T W gt c) in
           let b = i.gives W (comes_before N T W nt c) a.around a.tells in

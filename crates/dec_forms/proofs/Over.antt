@@ -18,7 +18,7 @@ use Rattle.elab_typed.specs.Contexts.{Around, IsOver, KeptEnv, after, context_un
 use Rattle.elab_typed.proofs.Instancing.{eq-turned}
 use Rattle.elab_typed.proofs.Under.{after-under}
 
-abbrev Agree : List Quantified → (ℕ → Typ) → (ℕ → Typ) → Type 0
+abbrev pub Agree : List Quantified → (ℕ → Typ) → (ℕ → Typ) → Type 0
 Agree D s f = (v : ℕ) → in_scope D v ≡ true → s v ≡ f v
 
 not-placed : (qs D : List Quantified) (v : ℕ) → place_in qs v ≡ None → in_scope (qs ++ D) v ≡ true → in_scope D v ≡ true

@@ -11,7 +11,7 @@ use Rattle.core_elab.specs.Resolves.{joined}
 use Rattle.core_elab.specs.Scopes.{Scope, empty}
 use Rattle.prog_tree.specs.TreeOf.{DecTree, val_tree, exception_tree, counted_tree, dec_of, decs_of}
 use Rattle.prog_tree.specs.declared.tree.Dec.{Dec}
-use Rattle.elab_typed.specs.Contexts.{Around, IsOver, KeptEnv, kept_values, after}
+use Rattle.elab_typed.specs.Contexts.{Around, KeptEnv, kept_values, after}
 use Rattle.elab_typed.specs.Elaborates.{DecElab, DecsElab, no_decs_elab, a_dec_elab}
 use Rattle.elab_state.specs.declared.state.State.{State}
 use Rattle.elab_steps.specs.Growing.{Grows}
@@ -84,14 +84,13 @@ each-snoc (one_dec g h) f = one_dec g (each-snoc h f)
 pub no_decs_are : (S : State) (C : Context) (xs : List Dec) → xs ≡ [] → IsDecs S C [] S C xs
 no_decs_are S C xs q = subst (IsDecs S C [] S C) (sym q) (record {
   grows = grows_same S;
-  gives = λ W c A t o. record {
+  gives = λ W c A t. record {
     parts = [];
     whole = refl;
     around = A;
     choices = [];
     elab = λ h le. record { next = h; most = le; elab = no_dec };
     tells = t;
-    over = o;
   };
 })
 
@@ -99,9 +98,9 @@ pub more_decs : (S M T : State) (C D E : Context) (ds : List bare.Dec) (d : bare
     → IsDecs S C (ds ++ d ∷ []) T E zs
 more_decs S M T C D E ds d xs ys zs h k q = subst (IsDecs S C (ds ++ d ∷ []) T E) (sym q) (record {
   grows = grows_on S M T h.grows k.grows;
-  gives = λ W c A t o.
-      let a = h.gives W (comes_before M T W k.grows c) A t o in
-      let b = k.gives W c a.around a.tells a.over in
+  gives = λ W c A t.
+      let a = h.gives W (comes_before M T W k.grows c) A t in
+      let b = k.gives W c a.around a.tells in
       let y = decs_of (map (dec_of W.reading) ys) in
       record {
         parts = a.parts ++ y ∷ [];
@@ -115,6 +114,5 @@ more_decs S M T C D E ds d xs ys zs h k q = subst (IsDecs S C (ds ++ d ∷ []) T
             let g = b.elab f.next f.most in
             record { next = g.next; most = g.most; elab = each-snoc f.elab g.elab };
         tells = b.tells;
-        over = b.over;
       };
 })

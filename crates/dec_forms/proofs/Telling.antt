@@ -25,6 +25,7 @@ use Rattle.elab_context.specs.declared.context.Context.{Context}
 use Rattle.elab_context.specs.declared.entry.Entry.{Entry}
 use Rattle.elab_context.specs.declared.entry.Entry.TheVariants.{Constructor, Reference, Initial, Primitive, Raised, Single, Own, General}
 use Rattle.dec_forms.specs.Telling.{last_of, with_all}
+use Rattle.dec_forms.proofs.Over.{Agree, over_after}
 
 or-else : {A : Type 0} (o : Option A) (b : Bool) (a : A) (p : Option A) → option_or o (cond b (Some a) p) ≡ option_or (option_or o (cond b (Some a) None)) p
 or-else None true a p = refl
@@ -107,6 +108,7 @@ pub record AreFurther (C : Context) (W : World) (A : Around) (es : List (Vid × 
   pub alone : (s : Scope) (q : ℕ) → inside_in (plus_scope s r) q ≡ inside_in s q
   pub fit : (x : Vid) (e : Entry) → last_of es x ≡ Some e → IsFit C W A e
   pub new : (x : Vid) (e : Entry) (n : ℕ) (v : Known) → last_of es x ≡ Some e → known_of W A e ≡ Some (n, v) → checked.at G n ≡ Some v
+  pub over : (s f : ℕ → Typ) → Agree A.parameters s f → values_under s ks ≡ values_under f ks
   pub old : (x : LongVid) (e : Entry) (n : ℕ) (v : Known) → entry_in C x.qualifiers x.vid ≡ Some e → known_of W A e ≡ Some (n, v) → checked.at G n ≡ Some v
 
 module _ (C : Context) (W : World) (A : Around) (es : List (Vid × Entry)) (ks : KeptValues) (r : Scope) (G : Knowns) (t : Tells C W A) (f : AreFurther C W A es ks r G) where
@@ -187,4 +189,5 @@ module _ (C : Context) (W : World) (A : Around) (es : List (Vid × Entry)) (ks :
         ap₂ (λ ts ss. option_map (λ y. y.function) (type_in (static.env (values_under var (joined same_vid A.env.values ks)) ts ss) qs x)) (joined-none nat_eq A.env.types)
         (ap structures_of (joined-none nat_eq (structure_map A.env.structures)) ∙ structures-same A.env.structures)
         ∙ types-apart (values_under var (joined same_vid A.env.values ks)) (values_under var A.env.values) A.env.types A.env.structures qs x ∙ t.types qs x;
+    over = over_after A 0 A.number (kept_values ks) r G t.over (λ s g a. ap (λ l. static.env l [] static.no_structures) (f.over s g a));
   }

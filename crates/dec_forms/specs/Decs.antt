@@ -10,17 +10,13 @@ use Rattle.core_elab.specs.Resolves.{joined}
 use Rattle.core_elab.specs.Scopes.{Scope}
 use Rattle.prog_tree.specs.TreeOf.{dec_of, decs_of}
 use Rattle.prog_tree.specs.declared.tree.Dec.{Dec}
-use Rattle.elab_typed.specs.Contexts.{Around, IsOver, KeptEnv, after}
+use Rattle.elab_typed.specs.Contexts.{Around, KeptEnv, after}
 use Rattle.elab_typed.specs.Elaborates.{DecElab}
 use Rattle.elab_state.specs.declared.state.State.{State}
 use Rattle.elab_steps.specs.Growing.{Grows}
 use Rattle.elab_steps.specs.World.{World, Comes}
 use Rattle.elab_context.specs.Telling.{Tells}
 use Rattle.elab_context.specs.declared.context.Context.{Context}
-
--- whatever a context tells of speaks of no parameters but those in scope
-abbrev pub TellsOver : Context → Type 0
-TellsOver C = (W : World) (A : Around) → Tells C W A → IsOver A
 
 -- a declaration elaborates, and the next variable is at most the j-th
 pub record DecUpTo (table : List Constructor) (A : Around) (h : ℕ) (d : bare.Dec) (x : prog.Decs) (made : ℕ) (number : ℕ → ℕ) (env : KeptEnv) (scope : Scope) (known : Knowns)
@@ -40,11 +36,10 @@ pub record ElaboratesDec (W : World) (A : Around) (k : ℕ) (d : bare.Dec) (x : 
   pub elab : (h : ℕ) → h ≤ k → DecUpTo W.table A h d x made number env scope known choices j
   -- what the context tells then
   pub tells : Tells D W (after A made number env scope known)
-  pub over : IsOver (after A made number env scope known)
 
 pub record IsDec (S : State) (C : Context) (d : bare.Dec) (T : State) (D : Context) (decs : List Dec) : Type 0 where
   pub grows : Grows S T
-  pub gives : (W : World) → Comes T W → (A : Around) → Tells C W A → IsOver A → ElaboratesDec W A S.next d (decs_of (map (dec_of W.reading) decs)) D T.next
+  pub gives : (W : World) → Comes T W → (A : Around) → Tells C W A → ElaboratesDec W A S.next d (decs_of (map (dec_of W.reading) decs)) D T.next
 
 -- one after the other, with what is around the next
 pub data EachDec (table : List Constructor) : Around → ℕ → List bare.Dec → List prog.Decs → List Choices → Around → ℕ → Type 0 where
@@ -68,8 +63,7 @@ pub record ElaboratesDecs (W : World) (A : Around) (k : ℕ) (ds : List bare.Dec
   pub choices : List Choices
   pub elab : (h : ℕ) → h ≤ k → EachUpTo W.table A h ds parts choices around j
   pub tells : Tells D W around
-  pub over : IsOver around
 
 pub record IsDecs (S : State) (C : Context) (ds : List bare.Dec) (T : State) (D : Context) (decs : List Dec) : Type 0 where
   pub grows : Grows S T
-  pub gives : (W : World) → Comes T W → (A : Around) → Tells C W A → IsOver A → ElaboratesDecs W A S.next ds (decs_of (map (dec_of W.reading) decs)) D T.next
+  pub gives : (W : World) → Comes T W → (A : Around) → Tells C W A → ElaboratesDecs W A S.next ds (decs_of (map (dec_of W.reading) decs)) D T.next

@@ -1,2 +1,9 @@
 pub mod Decs
 pub mod Telling
+pub mod Entries
+pub mod Bringing
+pub mod Laws
+pub mod Binds
+pub mod Exceptions
+pub mod Local
+pub mod Abbreviations

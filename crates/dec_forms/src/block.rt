@@ -6,7 +6,7 @@ ghost use Rattle.elab_context.specs.Telling.{IsContext};
 ghost use Rattle.elab_context.specs.declared.context.Context.{Context};
 ghost use Rattle.elab_steps.specs.Growing.{HasType};
 ghost use Rattle.use_elab.specs.Elaborated.{IsExp};
-ghost use Rattle.dec_forms.specs.Decs.{IsDecs, TellsOver};
+ghost use Rattle.dec_forms.specs.Decs.{IsDecs};
 
 use elab_context::context::Context;
 use elab_state::state::State;
@@ -30,7 +30,7 @@ pub fn block(
 ) -> Result<TypedExp, Refused>
     requires context { IsContext state.old context.now }
     requires body { HasType state.old body.ty }
-    ensures { IfOk result (λ r. (S M : State) (inner : Context) (p : Place) (ds : List SourceDec) (e : SourceExp) → TellsOver context.now
+    ensures { IfOk result (λ r. (S M : State) (inner : Context) (p : Place) (ds : List SourceDec) (e : SourceExp)
         → IsDecs S context.now ds M inner decs.items → IsExp M inner e state.old body → IsExp S context.now (let_in p (decs_of ds) e) state.new r) }
 {
     let ty = fresh_type(alloc, state, Mark::Any, context.limit())?;

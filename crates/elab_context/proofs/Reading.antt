@@ -34,6 +34,7 @@ use Rattle.elab_steps.specs.World.{World, type_of, Comes}
 use Rattle.elab_steps.proofs.Growing.{below-up, comes_before, type_later}
 use Rattle.sml_tree.specs.Terminal.{LongVid}
 use Rattle.elab_context.specs.Entries.{entry_in}
+use Rattle.elab_context.specs.Numbered.{IsBelowIf, IsNumbered}
 use Rattle.elab_context.specs.Telling.{Tells, IsContext, IsHeld, IsHeldIf, HasList, IsUnboundIn, function_of, kept_of}
 use Rattle.elab_context.specs.declared.entry.Entry.{Entry}
 use Rattle.elab_context.specs.declared.entry.Entry.TheVariants.{Constructor, Reference, Initial, Primitive, Raised, Single, Own, General}
@@ -139,6 +140,12 @@ held-later S T C (Own t n) g h = type_later S T t g h
 held-later S T C (General l t n o) g h =
     (type_later S T t g h.0, list-later S T l g h.1)
 
+pub below-later : (k j : ℕ) (e : Entry) → k ≤ j → IsBelowIf k e → IsBelowIf j e
+below-later k j e le h n q = let lt = h n q in omega (arith, le, lt)
+
+pub numbered_later : (k j : ℕ) (C : Context) → k ≤ j → IsNumbered k C → IsNumbered j C
+numbered_later k j C le h qs x e q = below-later k j e le (h qs x e q)
+
 pub context_later : (S T : State) (C : Context) → Grows S T → IsContext S C → IsContext T C
 context_later S T C g i = record {
   wide = i.wide;
@@ -148,6 +155,7 @@ context_later S T C g i = record {
   known = known-later S T g C.types.tyvars i.holds.tyvars i.known;
   schemes = λ k s e. scheme-later S T s.marks.items s.body g (i.schemes k s e);
   entries = λ qs x e h. held-later S T C e g (i.entries qs x e h);
+  numbered = numbered_later S.next T.next C g.next i.numbered;
 }
 
 pub unbound_in : (C : Context) (x : LongVid) → entry_in C x.qualifiers x.vid ≡ None → IsUnboundIn C x

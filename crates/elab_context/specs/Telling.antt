@@ -26,7 +26,7 @@ use Rattle.ir_poly.specs.TestsChecked as checked
 use Rattle.core_elab.specs.Scopes.{Denotes, variable, constructor, reference, exception, primitive, long_denotes_in}
 use Rattle.ir_tables.specs.Tables.{parameters_of, parameters_at}
 use Rattle.elab_typed.specs.Numbers.{name_as, type_as, KeepsInitial}
-use Rattle.elab_typed.specs.Contexts.{Kept, given, general, single, raised, kept_in, Around, generic}
+use Rattle.elab_typed.specs.Contexts.{Kept, given, general, single, raised, kept_in, Around, IsOver, generic}
 use Rattle.elab_types.specs.declared.scope.TypeEntry.{TypeEntry}
 use Rattle.elab_types.specs.Reading.{entry_of as type_entry_of, AreKnown, Holds}
 use Rattle.elab_state.specs.Namings.{IsAmong}
@@ -36,6 +36,7 @@ use Rattle.elab_steps.specs.Growing.{HasType}
 use Rattle.elab_steps.specs.Instances.{IsScheme}
 use Rattle.elab_steps.specs.World.{World, type_of}
 use Rattle.elab_context.specs.Entries.{entry_in, number_in}
+use Rattle.elab_context.specs.Numbered.{IsNumbered}
 use Rattle.elab_context.specs.declared.context.Context.{Context}
 use Rattle.elab_context.specs.declared.entry.Entry.{Entry}
 use Rattle.elab_context.specs.declared.entry.Entry.TheVariants.{Constructor, Reference, Initial, Primitive, Raised, Single, Own, General}
@@ -144,6 +145,8 @@ pub record Tells (C : Context) (W : World) (A : Around) : Type 0 where
       → checked.at A.known n ≡ Some k
   pub tyvars : (a : ℕ) → at nat_eq A.tyvars a ≡ option_map (type_of W) (lookup (nat_eq a) C.types.tyvars)
   pub types : (qs : List ℕ) (x : ℕ) → option_map (λ y. y.function) (type_in (generic A).env qs x) ≡ option_map (function_of W) (type_entry_of C.types qs x)
+  -- what is around speaks of no parameters but those in scope
+  pub over : IsOver A
 
 -- where the context tells of something, the identifier isn't bound in it
 abbrev pub IsUnboundIn : Context → LongVid → Type 0
@@ -179,3 +182,5 @@ pub record IsContext (S : State) (C : Context) : Type 0 where
   pub known : AreKnown (made S) (types_in S) C.types
   pub schemes : (k : ℕ) (s : code.Scheme) → slice_get C.schemes.items k ≡ Some s → IsScheme S s.marks.items s.body
   pub entries : (qs : List ℕ) (x : Vid) (e : Entry) → entry_in C qs x ≡ Some e → IsHeld S C e
+  -- the program's variables of what is in scope are there
+  pub numbered : IsNumbered S.next C

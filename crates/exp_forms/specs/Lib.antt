@@ -1,2 +1,14 @@
+pub mod Binding
+pub mod Within
 pub mod Parts
 pub mod Calls
+pub mod Joints
+pub mod Rules
+pub mod Constructed
+pub mod Chains
+pub mod Lists
+pub mod Choices
+pub mod Parameters
+pub mod Functions
+pub mod Clauses
+pub mod Begun

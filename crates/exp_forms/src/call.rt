@@ -3,7 +3,7 @@ ghost use Rattle.std.specs.Prelude.{IfOk};
 ghost use Rattle.sml_tree.specs.BareTree.{Exp as SourceExp, app};
 ghost use Rattle.core_elab.specs.Resolves.{IsCalled};
 ghost use Rattle.elab_context.specs.Telling.{IsContext};
-ghost use Rattle.elab_steps.specs.Growing.{HasType};
+ghost use Rattle.elab_steps.specs.Growing.{Grows, HasType};
 ghost use Rattle.use_elab.specs.Elaborated.{IsExp};
 ghost use Rattle.exp_forms.specs.Calls.{IsCall};
 
@@ -46,7 +46,9 @@ pub fn add_argument(
     requires context { IsContext state.old context.now }
     requires function { HasType state.old made.old.ty }
     requires argument { HasType state.old argument.ty }
-    ensures { IfOk result (λ _. (S M : State) (p : Place) (f a : SourceExp) → IsCalled f → IsCall S context.now p f M made.old
+    ensures grows { IfOk result (λ _. Grows state.old state.new) }
+    ensures is { IfOk result (λ _. HasType state.new made.new.ty) }
+    ensures added { IfOk result (λ _. (S M : State) (p : Place) (f a : SourceExp) → IsCalled f → IsCall S context.now p f M made.old
         → IsExp M context.now a state.old argument → IsCall S context.now p (app p f a) state.new made.new) }
 {
     let ty = fresh_type(alloc, state, Mark::Any, context.limit())?;

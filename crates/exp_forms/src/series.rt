@@ -90,7 +90,8 @@ pub fn add_operand(
     before: &mut Vec<Exp>,
 ) -> Result<(), Refused>
     requires { HasType state.old one.ty }
-    ensures { IfOk result (λ _. (S M : State) (C : Context) (es : List SourceExp) (e : SourceExp)
+    ensures grows { IfOk result (λ _. Grows state.old state.new) }
+    ensures added { IfOk result (λ _. (S M : State) (C : Context) (es : List SourceExp) (e : SourceExp)
         → AreExpsOf S C es M before.old.items bool_type → IsExp M C e state.old one → AreExpsOf S C (es ++ e ∷ []) state.new before.new.items bool_type) }
 {
     make_truth(alloc, state, place, one.ty)?;

@@ -1,5 +1,6 @@
 -- A program is well formed where the answers on its parts are yes.
 use Rattle.std.proofs.Common.{◌≡◌, ◌↔◌, Bool, true, false, ◌&&◌, List, [], length, nat_eq, IsTrue, refl, sym, ap, ◌∙◌}
+use Rattle.mlc_base.specs.Passes.{initial_exceptions}
 use Rattle.ty_table.specs.TypeAt.{type_at}
 use Rattle.ir_known.specs.Knows.{marks_of, knowns_of}
 use Rattle.ir_poly.specs.Prog.{Decs}
@@ -8,7 +9,7 @@ use Rattle.ir_poly.specs.TestsChecked.{exn_type}
 use Rattle.ir_poly.specs.WellFormed as clean
 use Rattle.ir_poly.specs.WellFormed.{IsProg, table_of}
 use Rattle.ir_tables.specs.declared.tables.Tables.{Tables}
-use Rattle.ir_tables.specs.Tables.{parameters_of}
+use Rattle.ir_tables.specs.Tables.{initial_of, parameters_of}
 use Rattle.prog_check.specs.Binders.{decs_binders, are_distinct}
 use Rattle.prog_check.specs.Checking.{check_decs}
 use Rattle.prog_check.specs.Program.{check, check_table}
@@ -52,9 +53,13 @@ formed p so tables typed once s t y o = ((λ e. check-sound p (sym whole ∙ e))
         ∙ ap (λ b. (nat_eq (length p.initial) 7 && check_table p.constructors) && (check_decs (table_of p) [] [] p.body && b)) distinct
         ∙ grouped (nat_eq (length p.initial) 7) (check_table p.constructors) (check_decs (table_of p) [] [] p.body) (are_distinct (decs_binders p.body))
 
--- and the type that it carries is that of exceptions
-pub carried : (p : Program) (b : Bool) → type_at p.tables.types p.exn ≡ exn_type → IsTrue b ↔ IsProg (prog_of p) → IsTrue b ↔ IsWellFormed p
-carried p b e w = ((λ y. record { exn = e; program = w.0 y }), (λ f. w.1 f.program))
+-- its exceptions are those of the initial basis, and the type that it carries is that of exceptions
+pub carried : (p : Program) (a b : Bool) → IsTrue a ↔ (initial_of p.tables ≡ initial_exceptions) → a ≡ true → type_at p.tables.types p.exn ≡ exn_type
+    → IsTrue b ↔ IsProg (prog_of p) → IsTrue b ↔ IsWellFormed p
+carried p a b i y e w = ((λ z. record { exn = e; initial = i.0 y; program = w.0 z }), (λ f. w.1 f.program))
+
+pub not-initial : (p : Program) (a : Bool) → IsTrue a ↔ (initial_of p.tables ≡ initial_exceptions) → a ≡ false → IsTrue false ↔ IsWellFormed p
+not-initial p a w e = ((λ y. absurd (let k : false ≡ true = y in cc)), (λ f. sym e ∙ w.1 f.initial))
 
 pub not-carried : (p : Program) (b : Bool) → IsTrue b ↔ (type_at p.tables.types p.exn ≡ exn_type) → b ≡ false → IsTrue false ↔ IsWellFormed p
 not-carried p b w e = ((λ y. absurd (let k : false ≡ true = y in cc)), (λ f. sym e ∙ w.1 f.exn))

@@ -1,7 +1,7 @@
 -- The program with source matches that a program of the code stands for.
 use Rattle.std.specs.Prelude.{◌≡◌, ℕ, suc, List, [], unwrap_or}
 use Rattle.mlc_base.specs.Outcome.{Outcome}
-use Rattle.mlc_base.specs.Passes.{greatest_expansion}
+use Rattle.mlc_base.specs.Passes.{greatest_expansion, initial_exceptions}
 use Rattle.ty_table.specs.TypeAt.{type_at}
 use Rattle.ir_poly.specs.Prog.{Decs}
 use Rattle.ir_poly.specs.ProgWeight.{decs_weight}
@@ -9,7 +9,7 @@ use Rattle.ir_poly.specs.Tests.{Tests}
 use Rattle.ir_poly.specs.TestsChecked.{exn_type}
 use Rattle.ir_poly.specs.WellFormed as clean
 use Rattle.ir_poly.specs.WellFormed.{meaning_of_prog, IsProg, table_of}
-use Rattle.ir_tables.specs.Tables.{program_of}
+use Rattle.ir_tables.specs.Tables.{initial_of, program_of}
 use Rattle.match_compile.specs.Compile.{compiled}
 use Rattle.match_compile.specs.Exceptions.{decs_made}
 use Rattle.monomorphise.specs.Counting.{expansion_within}
@@ -27,9 +27,10 @@ prog_of p = program_of p.tables (body_in p)
 abbrev pub meaning : Program → ℕ → Outcome
 meaning p = meaning_of_prog (prog_of p)
 
--- what the program stands for is well formed, and the type that it carries is that of exceptions
+-- what the program stands for is well formed, its exceptions of the initial basis are those, and the type that it carries is that of exceptions
 pub record IsWellFormed (p : Program) : Type 0 where
   pub exn : type_at p.tables.types p.exn ≡ exn_type
+  pub initial : initial_of p.tables ≡ initial_exceptions
   pub program : IsProg (prog_of p)
 
 -- the identifiers of the exceptions that the program makes, in the order of the text

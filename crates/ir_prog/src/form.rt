@@ -1,5 +1,6 @@
 // Which programs are well formed.
 ghost use Rattle.std.specs.Prelude.{◌≡◌, ◌↔◌, ◌&&◌, [], nat_eq, length, IsTrue, IfOk};
+ghost use Rattle.mlc_base.specs.Passes.{initial_exceptions};
 ghost use Rattle.ty_table.specs.TypeAt.{type_at};
 ghost use Rattle.ir_poly.specs.TestsChecked.{exn_type};
 ghost use Rattle.ir_poly.specs.WellFormed.{IsProg};
@@ -10,6 +11,7 @@ ghost use Rattle.prog_known.specs.Environments.{table_in};
 ghost use Rattle.ir_prog.specs.Programs.{body_in, prog_of, IsWellFormed};
 
 use crate::program::Program;
+use initial_names::are_initial;
 use ir_known::ask::is_named;
 use ir_uses::table::is_table;
 use mlc_base::memory::NoMemory;
@@ -65,10 +67,21 @@ fn is_program(alloc: Global, program: &Program) -> Result<bool, NoMemory>
     Ok(both(tables, both(typed, once)))
 }
 
+/// Whether the exceptions of the initial basis have their names.
+fn has_initial(program: &Program) -> bool
+    ensures { IsTrue result ↔ (initial_of program.now.tables ≡ initial_exceptions) }
+{
+    are_initial(&program.tables.initial)
+}
+
 /// Whether a program is well formed.
 pub fn is_well_formed(alloc: Global, program: &Program) -> Result<bool, NoMemory>
     ensures { IfOk result (λ so. IsTrue so ↔ IsWellFormed program.now) }
 {
+    let named = has_initial(program);
+    if !named {
+        return Ok(false);
+    }
     let carries = is_named(&program.tables.types, program.exn, TyName::EXN);
     if !carries {
         return Ok(false);

@@ -1,6 +1,7 @@
 -- When a program is well formed, from what is asked of its tables and of its body.
-use Rattle.std.proofs.Common.{◌≡◌, ◌↔◌, ℕ, Bool, true, false, List, [], length, IsTrue, refl, sym, subst}
+use Rattle.std.proofs.Common.{◌≡◌, ◌↔◌, ℕ, Bool, true, false, List, [], length, IsTrue, refl, sym, ap, subst}
 use Rattle.std.specs.List.{AllByRecursion}
+use Rattle.mlc_base.specs.Passes.{initial_exceptions}
 use Rattle.ty_core.specs.Types.{Typ}
 use Rattle.ty_core.specs.declared.mark.Mark.{Mark}
 use Rattle.ty_table.specs.TypeAt.{type_at}
@@ -44,10 +45,10 @@ module _ (p : Program) where
 
   -- each part that fails
   abbrev HasBasis : Type 0
-  HasBasis = (length (initial_of p.tables) ≡ 7) × (type_at p.tables.types p.exn ≡ exn_type)
+  HasBasis = (initial_of p.tables ≡ initial_exceptions) × (type_at p.tables.types p.exn ≡ exn_type)
 
   pub no-basis : (b : Bool) → IsTrue b ↔ HasBasis → b ≡ false → IsTrue false ↔ IsWellFormed p
-  no-basis b w f = ((λ g. absurd (cc)), (λ i. absurd (not-yes f (w.1 (i.tests.initial, i.exn)))))
+  no-basis b w f = ((λ g. absurd (cc)), (λ i. absurd (not-yes f (w.1 (i.initial, i.exn)))))
 
   pub no-table : (b : Bool) → IsTrue b ↔ AllByRecursion IsConstructor (constructors_of p.tables) → b ≡ false → IsTrue false ↔ IsWellFormed p
   no-table b w f = ((λ g. absurd (cc)), (λ i. absurd (not-yes f (w.1 i.tests.table))))
@@ -59,7 +60,8 @@ module _ (p : Program) where
       → IsTrue answer ↔ IsTyped p → IsTrue answer ↔ IsWellFormed p
   well-formed b c d answer wb eb wc ec wd ed w = (
     (λ y. let t = w.0 y in let r = (fits-is-right (table_of (tests_of p)) false (body_of p) t.0).0 t.1 in record {
-      tests = record { initial = (wb.0 eb).0; table = wc.0 ec; type = t.0; typed = r.typed; once = wd.0 ed; local = r.local };
+      initial = (wb.0 eb).0;
+      tests = record { initial = ap length (wb.0 eb).0; table = wc.0 ec; type = t.0; typed = r.typed; once = wd.0 ed; local = r.local };
       exn = (wb.0 eb).1;
     }),
     (λ i. w.1 (

@@ -1,14 +1,14 @@
 -- The program of tests that a program of the code stands for.
 use Rattle.std.specs.Prelude.{◌≡◌, ℕ, suc, false, List, [], unwrap_or}
 use Rattle.mlc_base.specs.Outcome.{Outcome}
-use Rattle.mlc_base.specs.Passes.{greatest_expansion}
+use Rattle.mlc_base.specs.Passes.{greatest_expansion, initial_exceptions}
 use Rattle.ty_core.specs.Types.{Typ}
 use Rattle.ty_table.specs.TypeAt.{type_at}
 use Rattle.ir_poly.specs.Tests.{Tests}
 use Rattle.ir_poly.specs.TestsChecked.{exn_type}
 use Rattle.ir_poly.specs.WellFormed as clean
 use Rattle.ir_poly.specs.WellFormed.{meaning_of_tests, IsTests, table_of}
-use Rattle.ir_tables.specs.Tables.{program_of}
+use Rattle.ir_tables.specs.Tables.{initial_of, program_of}
 use Rattle.plain_tree.specs.TreeOf.{tree_of}
 use Rattle.tests_check.specs.Fits.{ExpFits}
 use Rattle.tests_check.specs.Reads.{reading}
@@ -30,9 +30,10 @@ meaning p = meaning_of_tests (tests_of p)
 abbrev pub IsTyped : Program → Type 0
 IsTyped p = (t : Typ) × ExpFits (table_of (tests_of p)) false [] [] [] (body_of p) t
 
--- the tests are, and the type of exceptions has its number
+-- the tests are, their exceptions of the initial basis are those, and the type of exceptions has its number
 pub record IsWellFormed (p : Program) : Type 0 where
   pub tests : IsTests (tests_of p)
+  pub initial : initial_of p.tables ≡ initial_exceptions
   pub exn : type_at p.tables.types p.exn ≡ exn_type
 
 -- the identifiers of the exceptions that the program makes, in the order of the text

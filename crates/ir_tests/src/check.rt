@@ -1,11 +1,13 @@
 // Whether a program of tests is well formed.
-ghost use Rattle.std.specs.Prelude.{◌≡◌, ◌↔◌, length, IsTrue, IfOk};
+ghost use Rattle.std.specs.Prelude.{◌≡◌, ◌↔◌, IsTrue, IfOk};
+ghost use Rattle.mlc_base.specs.Passes.{initial_exceptions};
 ghost use Rattle.ty_table.specs.TypeAt.{type_at};
 ghost use Rattle.ir_poly.specs.TestsChecked.{exn_type};
 ghost use Rattle.ir_tables.specs.Tables.{initial_of};
 ghost use Rattle.ir_tests.specs.Programs.{IsTyped, IsWellFormed};
 
 use crate::program::Program;
+use initial_names::are_initial;
 use ir_known::ask::is_named;
 use ir_known::scope::Scope;
 use ir_known::stack::Stack;
@@ -18,14 +20,11 @@ use tests_check::infer::exp_type;
 use ty_core::mark::Mark;
 use ty_core::name::TyName;
 
-/// How many exceptions the initial basis has.
-const INITIAL_COUNT: usize = 7;
-
 /// Whether the basis' exceptions are named, and the type of exceptions has its number.
 fn has_basis(program: &Program) -> bool
-    ensures { IsTrue result ↔ ((length (initial_of program.now.tables) ≡ 7) × (type_at program.now.tables.types program.now.exn ≡ exn_type)) }
+    ensures { IsTrue result ↔ ((initial_of program.now.tables ≡ initial_exceptions) × (type_at program.now.tables.types program.now.exn ≡ exn_type)) }
 {
-    if program.tables.initial.len() != INITIAL_COUNT {
+    if !are_initial(&program.tables.initial) {
         return false;
     }
     is_named(&program.tables.types, program.exn, TyName::EXN)

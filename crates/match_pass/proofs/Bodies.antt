@@ -28,8 +28,8 @@ use Rattle.match_types.proofs.Seeing.{sees-before, earlier-stays, longer-by, hel
 use Rattle.match_steps.specs.Steps.{stand}
 use Rattle.exp_steps.specs.Making.{Pushed}
 use Rattle.exp_blocks.specs.Giving.{Gives, Grows}
-use Rattle.build_parts.specs.Reading.{decs_read}
-use Rattle.build_parts.specs.Going.{Declares}
+use Rattle.match_pass.specs.Reading.{decs_read}
+use Rattle.match_pass.specs.Going.{Declares}
 use Rattle.match_pass.specs.Programs.{program}
 use Rattle.match_pass.proofs.Tabled.{unclassed-at, unknown-type}
 

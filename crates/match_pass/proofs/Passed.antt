@@ -51,6 +51,7 @@ module _ (p : from.Program) (q : to.Program) (built : target.tests_of q ≡ sour
   pub formed : take (length p.tables.types) q.tables.types ≡ p.tables.types → q.exn ≡ p.exn → StaysWellFormed (source.prog_of p) → source.IsWellFormed p → target.IsWellFormed q
   formed grown same h w = record {
     tests = subst IsTests (sym built) (h w.program);
+    initial = ap (λ x. x.initial) built ∙ w.initial;
     exn = ap (type_at q.tables.types) same ∙ exn-stays p.tables.types q.tables.types p.exn grown w.exn;
   }
 

@@ -11,7 +11,7 @@ use Rattle.ir_tables.specs.declared.constructors.Constructor.{Constructor}
 use Rattle.match_compile.specs.Compile as clean
 use Rattle.pattern_tests.proofs.Chains.{next-take}
 use Rattle.exp_blocks.proofs.Binding.{take-next}
-use Rattle.build_parts.proofs.Lists.{take-past}
+use Rattle.match_pass.proofs.Lists.{take-past}
 
 unclassed-more : (qs : List Quantified) (q : Quantified) → clean.unclassed (qs ++ q ∷ []) ≡ clean.unclassed qs ++ record { variable = q.variable; mark = clean.opened q.mark } ∷ []
 unclassed-more [] q = refl

@@ -1,1 +1,7 @@
+pub mod Reading
+pub mod Going
+pub mod Heads
+pub mod Chains
+pub mod Declaring
+pub mod Apart
 pub mod Programs

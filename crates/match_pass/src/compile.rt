@@ -10,6 +10,7 @@ ghost use Rattle.match_names.specs.Bindings.{names_of};
 ghost use Rattle.exp_blocks.specs.Giving.{Gives, Grows};
 ghost use Rattle.match_pass.specs.Programs.{program};
 
+use crate::exps::push_decs;
 use crate::tables::{all_kept, all_unclassed};
 use exp_blocks::blocks::{Otherwise, ended, one_of, raising};
 use exp_steps::calls::push_unit;
@@ -21,7 +22,6 @@ use mlc_base::memory::NoMemory;
 use plain_tree::tree::Exp;
 use prog_tree::tree::Dec;
 use std::alloc::Global;
-use tests_build::exps::push_decs;
 
 /// Tests with the tables that their numbers stand in.
 #[derive(Drop)]

@@ -1,6 +1,8 @@
-// Tests of the steps of programs.
+// Tests of match compilation: small programs and long ones.
 #![tactic(auto)]
 
+#[cfg(test)]
+mod large;
 #[cfg(test)]
 mod made;
 #[cfg(test)]

@@ -1,6 +1,7 @@
 -- When a program is well formed, from what is asked of its tables and of its body.
 use Rattle.std.proofs.Common.{◌≡◌, ◌↔◌, ℕ, Bool, true, false, [], length, Option, Some, None, nat_eq, IsTrue, refl, sym, ap, ◌∙◌, subst}
 use Rattle.std.proofs.lemmas.Bool.{eq-eqb}
+use Rattle.mlc_base.specs.Passes.{initial_exceptions}
 use Rattle.ir_plain.specs.Once.{IsOnce}
 use Rattle.ir_plain.proofs.UniqueLemmas.{once-unique}
 use Rattle.ir_poly.specs.Types.{exn_name}
@@ -24,14 +25,14 @@ same n = eq-eqb n n refl
 
 module _ (p : Program) where
   abbrev HasBasis : Type 0
-  HasBasis = (length (initial_of p.tables) ≡ 7) × IsExn p.tables.types p.tables.exn
+  HasBasis = (initial_of p.tables ≡ initial_exceptions) × IsExn p.tables.types p.tables.exn
 
-  pub not-many : (length (initial_of p.tables) ≡ 7 → ⊥) → IsTrue false ↔ HasBasis
-  not-many n = ((λ e. absurd (cc)), (λ h. absurd (n h.0)))
+  pub not-initial : (a : Bool) → IsTrue a ↔ (initial_of p.tables ≡ initial_exceptions) → a ≡ false → IsTrue false ↔ HasBasis
+  not-initial a w e = ((λ y. absurd (cc)), (λ h. absurd (not-yes e (w.1 h.0))))
 
-  pub basis-named : (b : Bool) → length (initial_of p.tables) ≡ 7 → b ≡ is_exn p.tables.types p.tables.exn → IsTrue b ↔ HasBasis
-  basis-named b l e = (
-    (λ y. (l, named-sound p.tables.types p.tables.exn exn_name (sym e ∙ y))),
+  pub basis-named : (a b : Bool) → IsTrue a ↔ (initial_of p.tables ≡ initial_exceptions) → a ≡ true → b ≡ is_exn p.tables.types p.tables.exn → IsTrue b ↔ HasBasis
+  basis-named a b w l e = (
+    (λ y. (w.0 l, named-sound p.tables.types p.tables.exn exn_name (sym e ∙ y))),
     (λ h. e ∙ named-since p.tables.types p.tables.exn exn_name h.1),
   )
 
@@ -54,7 +55,7 @@ module _ (p : Program) where
   -- each part that fails
 
   pub no-basis : (b : Bool) → IsTrue b ↔ HasBasis → b ≡ false → IsTrue false ↔ IsWellFormed p
-  no-basis b w f = ((λ g. absurd (cc)), (λ i. absurd (not-yes f (w.1 (i.program.initial, i.exn)))))
+  no-basis b w f = ((λ g. absurd (cc)), (λ i. absurd (not-yes f (w.1 (i.initial, i.exn)))))
 
   pub no-table : (b : Bool) → IsTrue b ↔ IsTable p.tables.types → b ≡ false → IsTrue false ↔ IsWellFormed p
   no-table b w f = ((λ g. absurd (cc)), (λ i. absurd (not-yes f (w.1 i.program.table))))
@@ -66,7 +67,8 @@ module _ (p : Program) where
       → IsTrue answer ↔ IsWellFormed p
   well-formed b c d answer wb eb wc ec wd ed w = (
     (λ y. let t = w.0 y in let r = (fits-is-right p.tables.types p.tables.exn (wc.0 ec) (wb.0 eb).1 false (body_of p) t.0).0 t.1 in record {
-      program = record { table = wc.0 ec; initial = (wb.0 eb).0; type = t.0; typed = r.typed; once = wd.0 ed; local = r.local };
+      initial = (wb.0 eb).0;
+      program = record { table = wc.0 ec; initial = ap length (wb.0 eb).0; type = t.0; typed = r.typed; once = wd.0 ed; local = r.local };
       exn = (wb.0 eb).1;
     }),
     (λ i. w.1 (

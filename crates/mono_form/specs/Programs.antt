@@ -1,12 +1,13 @@
 -- The program of simple types that a program of the code stands for.
 use Rattle.std.specs.Prelude.{◌≡◌, ℕ, true, false, List, []}
 use Rattle.mlc_base.specs.Outcome.{Outcome, wrong}
+use Rattle.mlc_base.specs.Passes.{initial_exceptions}
 use Rattle.ir_mono.specs.Types.{IsExn}
 use Rattle.ir_mono.specs.Mono.{Mono}
 use Rattle.ir_mono.specs.Mono as clean
 use Rattle.ir_mono.specs.WellFormed as formed
 use Rattle.mono_fits.specs.Fits.{exp_fits}
-use Rattle.mono_tree.specs.Programs.{exceptions_of}
+use Rattle.mono_tree.specs.Programs.{exceptions_of, initial_of}
 use Rattle.mono_tree.specs.Programs as tree
 use Rattle.mono_form.specs.declared.program.Program.{Program}
 
@@ -19,9 +20,10 @@ program_of p = tree.program_of p.tables p.expansion p.body
 abbrev pub meaning : Program → ℕ → Outcome
 meaning p = clean.meaning (program_of p)
 
--- the program is, and the type of exceptions has its number
+-- the program is, its exceptions of the initial basis are those, and the type of exceptions has its number
 pub record IsWellFormed (p : Program) : Type 0 where
   pub program : formed.IsWellFormed (program_of p)
+  pub initial : initial_of p.tables ≡ initial_exceptions
   pub exn : IsExn p.tables.types p.tables.exn
 
 -- a program goes wrong at no number of turns

@@ -1,10 +1,12 @@
 // Whether a program of simple types is well formed.
-ghost use Rattle.std.specs.Prelude.{◌≡◌, ◌↔◌, ℕ, true, length, IsTrue, IfOk};
+ghost use Rattle.std.specs.Prelude.{◌≡◌, ◌↔◌, ℕ, true, IsTrue, IfOk};
+ghost use Rattle.mlc_base.specs.Passes.{initial_exceptions};
 ghost use Rattle.ir_mono.specs.Types.{IsExn};
 ghost use Rattle.mono_tree.specs.Programs.{initial_of};
 ghost use Rattle.mono_form.specs.Programs.{IsTyped, IsWellFormed, NeverWrong};
 
 use crate::program::Program;
+use initial_names::are_initial;
 use ir_known::scope::Scope;
 use mlc_base::memory::NoMemory;
 use mlc_base::pass::{Check, Form};
@@ -13,14 +15,11 @@ use mono_table::table::is_table;
 use mono_uses::ask::is_exn;
 use std::alloc::Global;
 
-/// How many exceptions the initial basis has.
-const INITIAL_COUNT: usize = 7;
-
 /// Whether the basis' exceptions are named, and the type of exceptions has its number.
 fn has_basis(program: &Program) -> bool
-    ensures { IsTrue result ↔ ((length (initial_of program.now.tables) ≡ 7) × IsExn program.now.tables.types program.now.tables.exn) }
+    ensures { IsTrue result ↔ ((initial_of program.now.tables ≡ initial_exceptions) × IsExn program.now.tables.types program.now.tables.exn) }
 {
-    if program.tables.initial.len() != INITIAL_COUNT {
+    if !are_initial(&program.tables.initial) {
         return false;
     }
     is_exn(&program.tables.types, program.tables.exn)

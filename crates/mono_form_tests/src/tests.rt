@@ -1,5 +1,6 @@
 // Small programs, each with what its check says.
 
+use initial_names::initial;
 use ir_tables::tables::Constant;
 use mlc_base::make::{both, boxed, one, two, with};
 use mlc_base::memory::NoMemory;
@@ -66,16 +67,15 @@ fn all_types(alloc: Global) -> Result<Types, NoMemory> {
     Ok(types)
 }
 
-fn initial(alloc: Global, count: usize) -> Result<Vec<Name>, NoMemory> {
-    let mut names = Vec::new(alloc);
-    for _ in 0..count {
-        names.push(Name::standard(0))?;
-    }
+/// The first so many names of exceptions of the basis.
+fn first_names(alloc: Global, count: usize) -> Result<Vec<Name>, NoMemory> {
+    let mut names = initial(alloc)?;
+    names.truncate(count);
     Ok(names)
 }
 
 fn tables(alloc: Global, count: usize) -> Result<Tables, NoMemory> {
-    let (types, initial) = both(all_types(alloc), initial(alloc, count))?;
+    let (types, initial) = both(all_types(alloc), first_names(alloc, count))?;
     Ok(Tables {
         types,
         initial,

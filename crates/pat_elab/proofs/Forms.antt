@@ -1,7 +1,6 @@
 -- Patterns made of parts.
-use Rattle.std.proofs.Common.{◌≡◌, ℕ, suc, true, List, [], ◌∷◌, ◌++◌, Box, Global, Option, refl, sym, ap, subst, ◌∙◌, arith}
+use Rattle.std.proofs.Common.{◌≡◌, ◌<◌, ◌≤◌, ◌+◌, ℕ, suc, true, List, [], ◌∷◌, ◌++◌, Box, Global, Option, refl, sym, ap, subst, ◌∙◌, arith}
 use Rattle.std.proofs.lemmas.List.{append_assoc}
-use Rattle.std.specs.List.{AllByRecursion}
 use Rattle.mlc_base.specs.declared.place.Place.{Place}
 use Rattle.sml_tree.specs.Derived.{short}
 use Rattle.sml_tree.specs.BareTree as bare
@@ -22,14 +21,24 @@ use Rattle.elab_steps.proofs.Growing.{grows_on, type_later, comes_before}
 use Rattle.elab_context.specs.Telling.{Tells}
 use Rattle.elab_context.specs.declared.context.Context.{Context}
 use Rattle.pat_elab.proofs.Trees.{pat_of-Variable, pat_of-As}
-use Rattle.pat_elab.specs.Elaborated.{bound_of, scope_of, scope_onto, IsBound, IsAnnotated, IsAnnotatedIf, IsPat}
+use Rattle.pat_elab.specs.Elaborated.{bound_of, scope_of, scope_onto, AreVariables, HasVariable, IsBound, IsAnnotated, IsAnnotatedIf, IsPat}
 use Rattle.pat_elab.specs.declared.bound.BoundVariable.{BoundVariable}
 use Rattle.pat_elab.specs.declared.bound.TypedPat.{TypedPat}
 
 -- what is bound stays so
-pub all-later : (S T : State) → Grows S T → (bs : List BoundVariable) → AllByRecursion (λ b. HasType S b.ty) bs → AllByRecursion (λ b. HasType T b.ty) bs
+variable-later : (S T : State) (b : BoundVariable) → Grows S T → HasVariable S b → HasVariable T b
+variable-later S T b g h = record { is = type_later S T b.ty g h.is; below = let lt = h.below in let le = g.next in omega (arith, lt, le) }
+
+pub all-later : (S T : State) → Grows S T → (bs : List BoundVariable) → AreVariables S bs → AreVariables T bs
 all-later S T g [] h = tt
-all-later S T g (b ∷ bs) h = (type_later S T b.ty g h.0, all-later S T g bs h.1)
+all-later S T g (b ∷ bs) h = (variable-later S T b g h.0, all-later S T g bs h.1)
+
+-- what a pattern binds is the state's
+pub all-bound : (S T : State) (C : Context) (a : bare.Pat) (bs : List BoundVariable) (r : TypedPat) → IsPat S C a T [] bs r → AreVariables T bs
+all-bound S T C a bs r h = subst (AreVariables T) (sym h.bound) h.have
+
+bound-has : (S T : State) (C : Context) (x : Vid) (before after : List BoundVariable) (b : BoundVariable) → IsBound S C x before after b T → HasVariable T b
+bound-has S T C x before after b h = record { is = h.is; below = let n = h.next in omega (arith, n) }
 
 -- scopes made one after the other
 pub onto-plus : (s : Scope) (bs : List BoundVariable) → scope_onto s bs ≡ plus_scope s (scope_of bs)
@@ -47,7 +56,7 @@ alone_is S T C place x before after b r h e p = record {
   bound = h.last;
   grows = h.grows;
   is = subst (HasType T) (sym e) h.is;
-  have = (h.is, tt);
+  have = (bound-has S T C x before after b h, tt);
   gives = λ W c A t.
       let s : suc b.number ≡ T.next = let n = h.next in omega (arith, n) in
       let binds = h.binds W c A t in
@@ -96,7 +105,7 @@ as_is S M N P T C place x ty a before mid after b inner r boxed h i n g same e q
       bound = i.bound ∙ ap (λ l. l ++ i.added) h.last ∙ append_assoc before (b ∷ []) i.added;
       grows = grows_on S M T h.grows all;
       is = subst (HasType T) (sym q) (type_later M T b.ty all h.is);
-      have = (type_later M T b.ty all h.is, all-later N T up i.added i.have);
+      have = (variable-later M T b all (bound-has S M C x before mid b h), all-later N T up i.added i.have);
       gives = λ W c A t.
           let cp = comes_before P T W g c in
           let cn = comes_before N P W n.grows cp in

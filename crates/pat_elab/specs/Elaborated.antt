@@ -1,6 +1,6 @@
 -- What the elaborator says of a pattern: in every world in which what the state says afterwards comes true, it elaborates to the program's pattern, with its type
 -- and what it binds.
-use Rattle.std.specs.Prelude.{◌≡◌, ◌≤◌, ◌+◌, ℕ, true, List, [], ◌∷◌, ◌++◌, map, Option}
+use Rattle.std.specs.Prelude.{◌≡◌, ◌<◌, ◌≤◌, ◌+◌, ℕ, true, List, [], ◌∷◌, ◌++◌, map, Option}
 use Rattle.std.specs.List.{AllByRecursion}
 use Rattle.ty_core.specs.Types.{Typ}
 use Rattle.sml_tree.specs.BareTree as bare
@@ -70,10 +70,18 @@ pub record IsNamed (S : State) (C : Context) (ty : Option bare.Ty) (k inner : �
   pub annotated : IsAnnotatedIf S C ty k T
   pub same : Always T (λ W. type_of W k ≡ type_of W inner)
 
+-- a variable is the state's: its type is one, and its number is below the next
+pub record HasVariable (S : State) (b : BoundVariable) : Type 0 where
+  pub is : HasType S b.ty
+  pub below : b.number < S.next
+
+abbrev pub AreVariables : State → List BoundVariable → Type 0
+AreVariables S = AllByRecursion (HasVariable S)
+
 pub record IsPat (S : State) (C : Context) (a : bare.Pat) (T : State) (before after : List BoundVariable) (r : TypedPat) : Type 0 where
   pub added : List BoundVariable
   pub bound : after ≡ before ++ added
   pub grows : Grows S T
   pub is : HasType T r.ty
-  pub have : AllByRecursion (λ b. HasType T b.ty) added
+  pub have : AreVariables T added
   pub gives : (W : World) → Comes T W → (A : Around) → Tells C W A → Elaborates W A S.next a (pat_of W.reading r.pat) (type_of W r.ty) added T.next

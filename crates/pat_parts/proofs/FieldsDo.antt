@@ -42,7 +42,7 @@ use Rattle.pat_elab.proofs.Forms.{all-later, onto-plus}
 use Rattle.pat_elab.proofs.Leaves.{no-more}
 use Rattle.pat_elab.proofs.Trees.{pat_field_of-is}
 use Rattle.prog_tree.proofs.ExpOf.{pat_of-Record}
-use Rattle.pat_elab.specs.Elaborated.{bound_of, scope_of, scope_onto, Elaborates, IsPat}
+use Rattle.pat_elab.specs.Elaborated.{bound_of, scope_of, scope_onto, AreVariables, Elaborates, IsPat}
 use Rattle.pat_parts.specs.Fields.{IsField, Follow, none_follow, one_follows, AreFields, numbered}
 use Rattle.pat_elab.specs.declared.bound.BoundVariable.{BoundVariable}
 use Rattle.pat_parts.specs.declared.parts.Fields.{Fields}
@@ -60,7 +60,7 @@ scope-append bs cs = go empty bs ∙ onto-plus (scope_of bs) cs
 pub bound-append : (W : World) (bs cs : List BoundVariable) → bound_of W (bs ++ cs) ≡ bound_of W bs ++ bound_of W cs
 bound-append W bs cs = map-append (λ (b : BoundVariable). (b.vid, type_of W b.ty)) bs cs
 
-pub all-append : (S : State) (bs cs : List BoundVariable) → AllByRecursion (λ b. HasType S b.ty) bs → AllByRecursion (λ b. HasType S b.ty) cs → AllByRecursion (λ b. HasType S b.ty) (bs ++ cs)
+pub all-append : (S : State) (bs cs : List BoundVariable) → AreVariables S bs → AreVariables S cs → AreVariables S (bs ++ cs)
 all-append S [] cs h k = k
 all-append S (b ∷ bs) cs h k = (h.0, all-append S bs cs h.1 k)
 

@@ -1,6 +1,5 @@
 -- Patterns joined by infix constructors.
 use Rattle.std.specs.Prelude.{◌≡◌, ℕ, List, [], ◌∷◌, ◌++◌, map}
-use Rattle.std.specs.List.{AllByRecursion}
 use Rattle.mlc_base.specs.declared.place.Place.{Place}
 use Rattle.ty_core.specs.Types.{Typ}
 use Rattle.sml_tree.specs.BareTree as bare
@@ -15,7 +14,7 @@ use Rattle.elab_steps.specs.Growing.{HasType, Grows}
 use Rattle.elab_steps.specs.World.{World, type_of, Comes}
 use Rattle.elab_context.specs.Telling.{Tells}
 use Rattle.elab_context.specs.declared.context.Context.{Context}
-use Rattle.pat_elab.specs.Elaborated.{Elaborates}
+use Rattle.pat_elab.specs.Elaborated.{AreVariables, Elaborates}
 use Rattle.pat_elab.specs.declared.bound.BoundVariable.{BoundVariable}
 use Rattle.pat_parts.specs.declared.parts.Joined.{Joined}
 use Rattle.pat_parts.specs.declared.parts.LeftChain.{LeftChain}
@@ -67,7 +66,7 @@ pub record IsRight (S : State) (C : Context) (a : bare.Pat) (os : Operands) (T :
   pub last_is : HasType T m.last
   pub hole_is : HasType T m.hole
   pub whole_is : HasType T m.whole
-  pub have : AllByRecursion (λ b. HasType T b.ty) added
+  pub have : AreVariables T added
   pub gives : (W : World) → Comes T W → (A : Around) → Tells C W A → AreRight W A S.next a os m added T.next
 
 -- the same to the left, where all that is there is joined
@@ -77,7 +76,7 @@ pub record IsLeft (S : State) (C : Context) (place : Place) (a : bare.Pat) (os :
   pub bound : after ≡ before ++ added
   pub grows : Grows S T
   pub is : HasType T m.ty
-  pub have : AllByRecursion (λ b. HasType T b.ty) added
+  pub have : AreVariables T added
   pub gives : (W : World) → Comes T W → (A : Around) → Tells C W A
       → Elaborates W A S.next (left_chain (λ v. source.join_pats v) place a os)
       (left_pats (pat_of W.reading m.first) (map (pat_part_of W.reading) m.parts.items)) (type_of W m.ty) added T.next

@@ -14,7 +14,7 @@ use Rattle.elab_steps.specs.Growing.{HasType, Grows}
 use Rattle.elab_steps.specs.World.{World, type_of, Comes}
 use Rattle.elab_context.specs.Telling.{Tells}
 use Rattle.elab_context.specs.declared.context.Context.{Context}
-use Rattle.pat_elab.specs.Elaborated.{Elaborates}
+use Rattle.pat_elab.specs.Elaborated.{AreVariables, Elaborates}
 use Rattle.pat_elab.specs.declared.bound.BoundVariable.{BoundVariable}
 use Rattle.pat_parts.specs.declared.parts.Fields.{Fields}
 
@@ -37,7 +37,7 @@ pub record AreFields (S : State) (C : Context) (fs : List PatFieldOf) (T : State
   pub bound : after ≡ before ++ added
   pub grows : Grows S T
   pub row : AllByRecursion (λ r. HasType T r.part) m.row.items
-  pub have : AllByRecursion (λ b. HasType T b.ty) added
+  pub have : AreVariables T added
   pub gives : (W : World) → Comes T W → (A : Around) → Tells C W A → Follow W A S.next fs m.pats.items m.row.items added T.next
 
 -- the parts of a tuple, with the numbers from k on for labels

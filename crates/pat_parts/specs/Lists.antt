@@ -1,6 +1,5 @@
 -- Lists of patterns.
 use Rattle.std.specs.Prelude.{◌≡◌, ℕ, List, [], ◌∷◌, ◌++◌, ⊤}
-use Rattle.std.specs.List.{AllByRecursion}
 use Rattle.mlc_base.specs.declared.place.Place.{Place}
 use Rattle.ty_core.specs.Types.{Typ}
 use Rattle.sml_tree.specs.BareTree as bare
@@ -16,7 +15,7 @@ use Rattle.elab_steps.specs.Growing.{HasType, Grows}
 use Rattle.elab_steps.specs.World.{World, type_of, Comes}
 use Rattle.elab_context.specs.Telling.{Tells}
 use Rattle.elab_context.specs.declared.context.Context.{Context}
-use Rattle.pat_elab.specs.Elaborated.{Elaborates}
+use Rattle.pat_elab.specs.Elaborated.{AreVariables, Elaborates}
 use Rattle.pat_elab.specs.declared.bound.BoundVariable.{BoundVariable}
 use Rattle.pat_parts.specs.Chains.{IsJoin}
 use Rattle.pat_parts.specs.declared.parts.Listed.{Listed}
@@ -50,5 +49,5 @@ pub record AreElements (S : State) (C : Context) (l : Listed) (as_ : List bare.P
   pub added : List BoundVariable
   pub bound : after ≡ before ++ added
   pub grows : Grows S T
-  pub have : AllByRecursion (λ b. HasType T b.ty) added
+  pub have : AreVariables T added
   pub gives : (W : World) → Comes T W → (A : Around) → Tells C W A → Elements W A l S.next as_ gs added T.next

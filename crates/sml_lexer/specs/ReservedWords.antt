@@ -1,8 +1,10 @@
 -- Reserved words: sections 2.1 and 3.1.
-use Rattle.std.specs.Prelude.{ℕ, zero, suc, List, [], ◌∷◌, Option, Some, None, codes, take, if◌then◌else◌}
+use Rattle.std.specs.Prelude.{ℕ, zero, suc, List, [], ◌∷◌, Option, Some, None, ◌==◌, codes, take, if◌then◌else◌}
+use Rattle.std.specs.List.{filter}
 use Rattle.std.specs.Str.{bytes_eq}
 use Rattle.mlc_base.specs.declared.token.Reserved.{Reserved}
 use Rattle.mlc_base.specs.declared.token.Reserved.TheVariants.{Abstype, And, Andalso, As, Case, Datatype, Do, Else, End, Eqtype, Exception, Fn, Fun, Functor, Handle, If, In, Include, Infix, Infixr, Let, Local, Nonfix, Of, Op, Open, Orelse, Raise, Rec, Sharing, Sig, Signature, Struct, Structure, Then, TypeWord, Val, Where, While, With, Withtype, LeftParen, RightParen, LeftBracket, RightBracket, LeftBrace, RightBrace, Comma, Semicolon, Dots, Underscore, Colon, ColonGreater, Bar, Equals, DoubleArrow, Arrow, Hash}
+use Rattle.sml_lexer.specs.Chars.{byte}
 
 abbrev pub spelling : Reserved → List ℕ
 spelling Abstype = codes "abstype"
@@ -77,6 +79,10 @@ symbolic = Colon ∷ ColonGreater ∷ Bar ∷ Equals ∷ DoubleArrow ∷ Arrow �
 -- those that are marks of one character
 abbrev pub marks : List Reserved
 marks = LeftParen ∷ RightParen ∷ LeftBracket ∷ RightBracket ∷ LeftBrace ∷ RightBrace ∷ Comma ∷ Semicolon ∷ Underscore ∷ []
+
+-- those of these words that begin with this byte
+abbrev pub beginning : ℕ → List Reserved → List Reserved
+beginning first words = filter (λ word. byte (spelling word) 0 == first) words
 
 -- the one of these that a text spells
 abbrev pub spelt : List Reserved → List ℕ → Option Reserved

@@ -1,76 +1,93 @@
 // Reserved words.
 
 ghost use Rattle.std.specs.Prelude.{◌≡◌, ◌≤◌, length};
-ghost use Rattle.sml_lexer.specs.ReservedWords.{free_len, marks, spelling, spelt, symbolic, words};
+ghost use Rattle.sml_lexer.specs.ReservedWords.{beginning, free_len, marks, spelling, spelt, symbolic, words};
 
-use crate::chars::front;
+use crate::chars::{byte_at, front};
 use mlc_base::token::Reserved;
 
-const WORDS: [Reserved; 41] = [
-    Reserved::Abstype,
-    Reserved::And,
-    Reserved::Andalso,
-    Reserved::As,
-    Reserved::Case,
-    Reserved::Datatype,
-    Reserved::Do,
-    Reserved::Else,
-    Reserved::End,
-    Reserved::Eqtype,
-    Reserved::Exception,
-    Reserved::Fn,
-    Reserved::Fun,
-    Reserved::Functor,
-    Reserved::Handle,
-    Reserved::If,
-    Reserved::In,
-    Reserved::Include,
-    Reserved::Infix,
-    Reserved::Infixr,
-    Reserved::Let,
-    Reserved::Local,
-    Reserved::Nonfix,
-    Reserved::Of,
-    Reserved::Op,
-    Reserved::Open,
-    Reserved::Orelse,
-    Reserved::Raise,
-    Reserved::Rec,
-    Reserved::Sharing,
-    Reserved::Sig,
-    Reserved::Signature,
-    Reserved::Struct,
-    Reserved::Structure,
-    Reserved::Then,
-    Reserved::TypeWord,
-    Reserved::Val,
-    Reserved::Where,
-    Reserved::While,
-    Reserved::With,
-    Reserved::Withtype,
-];
+/// The alphanumeric reserved words that begin with this byte.
+fn words_from(first: u8) -> &'static [Reserved]
+    ensures { result.now ≡ beginning first words }
+{
+    match first {
+        b'a' => &[
+            Reserved::Abstype,
+            Reserved::And,
+            Reserved::Andalso,
+            Reserved::As,
+        ],
+        b'c' => &[Reserved::Case],
+        b'd' => &[Reserved::Datatype, Reserved::Do],
+        b'e' => &[
+            Reserved::Else,
+            Reserved::End,
+            Reserved::Eqtype,
+            Reserved::Exception,
+        ],
+        b'f' => &[Reserved::Fn, Reserved::Fun, Reserved::Functor],
+        b'h' => &[Reserved::Handle],
+        b'i' => &[
+            Reserved::If,
+            Reserved::In,
+            Reserved::Include,
+            Reserved::Infix,
+            Reserved::Infixr,
+        ],
+        b'l' => &[Reserved::Let, Reserved::Local],
+        b'n' => &[Reserved::Nonfix],
+        b'o' => &[Reserved::Of, Reserved::Op, Reserved::Open, Reserved::Orelse],
+        b'r' => &[Reserved::Raise, Reserved::Rec],
+        b's' => &[
+            Reserved::Sharing,
+            Reserved::Sig,
+            Reserved::Signature,
+            Reserved::Struct,
+            Reserved::Structure,
+        ],
+        b't' => &[Reserved::Then, Reserved::TypeWord],
+        b'v' => &[Reserved::Val],
+        b'w' => &[
+            Reserved::Where,
+            Reserved::While,
+            Reserved::With,
+            Reserved::Withtype,
+        ],
+        _ => &[],
+    }
+}
 
-const SYMBOLIC: [Reserved; 7] = [
-    Reserved::Colon,
-    Reserved::ColonGreater,
-    Reserved::Bar,
-    Reserved::Equals,
-    Reserved::DoubleArrow,
-    Reserved::Arrow,
-    Reserved::Hash,
-];
+/// The symbolic reserved words that begin with this byte.
+fn symbolic_from(first: u8) -> &'static [Reserved]
+    ensures { result.now ≡ beginning first symbolic }
+{
+    match first {
+        b':' => &[Reserved::Colon, Reserved::ColonGreater],
+        b'|' => &[Reserved::Bar],
+        b'=' => &[Reserved::Equals, Reserved::DoubleArrow],
+        b'-' => &[Reserved::Arrow],
+        b'#' => &[Reserved::Hash],
+        _ => &[],
+    }
+}
 
-const MARKS: [Reserved; 9] = [
-    Reserved::LeftParen,
-    Reserved::RightParen,
-    Reserved::LeftBracket,
-    Reserved::RightBracket,
-    Reserved::LeftBrace,
-    Reserved::RightBrace,
-    Reserved::Comma,
-    Reserved::Semicolon,
-    Reserved::Underscore,
-];
+/// The marks that begin with this byte.
+fn marks_from(first: u8) -> &'static [Reserved]
+    ensures { result.now ≡ beginning first marks }
+{
+    match first {
+        b'(' => &[Reserved::LeftParen],
+        b')' => &[Reserved::RightParen],
+        b'[' => &[Reserved::LeftBracket],
+        b']' => &[Reserved::RightBracket],
+        b'{' => &[Reserved::LeftBrace],
+        b'}' => &[Reserved::RightBrace],
+        b',' => &[Reserved::Comma],
+        b';' => &[Reserved::Semicolon],
+        b'_' => &[Reserved::Underscore],
+        _ => &[],
+    }
+}
 
 fn spelling(word: Reserved) -> &'static [u8]
     ensures { result.now ≡ spelling word }
@@ -169,7 +186,7 @@ pub fn free_word_len(len: usize, text: &[u8]) -> usize
     ensures longest { result ≡ free_len words len text.now }
     ensures within { result ≤ len }
 {
-    free_len(&WORDS, len, text)
+    free_len(words_from(byte_at(text, 0)), len, text)
 }
 
 /// The length of the longest front that spells no symbolic reserved word.
@@ -178,26 +195,26 @@ pub fn free_symbol_len(len: usize, text: &[u8]) -> usize
     ensures longest { result ≡ free_len symbolic len text.now }
     ensures within { result ≤ len }
 {
-    free_len(&SYMBOLIC, len, text)
+    free_len(symbolic_from(byte_at(text, 0)), len, text)
 }
 
 /// The alphanumeric reserved word of this text.
 pub fn word_of(text: &[u8]) -> Option<Reserved>
     ensures { result ≡ spelt words text.now }
 {
-    spelt(&WORDS, text)
+    spelt(words_from(byte_at(text, 0)), text)
 }
 
 /// The symbolic reserved word of this text.
 pub fn symbolic_of(text: &[u8]) -> Option<Reserved>
     ensures { result ≡ spelt symbolic text.now }
 {
-    spelt(&SYMBOLIC, text)
+    spelt(symbolic_from(byte_at(text, 0)), text)
 }
 
 /// The mark of this text.
 pub fn mark_of(text: &[u8]) -> Option<Reserved>
     ensures { result ≡ spelt marks text.now }
 {
-    spelt(&MARKS, text)
+    spelt(marks_from(byte_at(text, 0)), text)
 }

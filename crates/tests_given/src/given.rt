@@ -2,6 +2,7 @@
 ghost use Rattle.std.specs.Prelude.{◌↔◌, ◌<◌, IsTrue};
 ghost use Rattle.ty_table.specs.TypeAt.{AllBelow};
 
+use initial_names::initial;
 use ir_known::ask::BOOL;
 use ir_tables::constructors::Constructor;
 use ir_tables::tables::Tables;
@@ -263,11 +264,10 @@ pub fn put_constructor(
     })
 }
 
-/// So many names of exceptions of the basis more.
-fn put_initial(tables: &mut Tables, count: usize) -> Result<(), NoMemory> {
-    for _ in 0..count {
-        tables.initial.push(Name::standard(0))?;
-    }
+/// The first so many names of exceptions of the basis.
+fn put_initial(alloc: Global, tables: &mut Tables, count: usize) -> Result<(), NoMemory> {
+    tables.initial = initial(alloc)?;
+    tables.initial.truncate(count);
     Ok(())
 }
 
@@ -277,7 +277,7 @@ pub fn make_tables(alloc: Global, count: usize) -> Result<Tables, NoMemory> {
     put_shapes(alloc, &mut tables.types)?;
     put_parameters(alloc, &mut tables)?;
     put_constructors(&mut tables)?;
-    put_initial(&mut tables, count)?;
+    put_initial(alloc, &mut tables, count)?;
     Ok(tables)
 }
 

@@ -1,5 +1,0 @@
-use Rattle.std.proofs.Common.{◌∙◌}
-use Rattle.build_parts.proofs.choices.push_handled.Goals as goal
-
-pub returns : goal.returns
-returns c = λ g h e r. c.in_ok-a.ensures g h (record { gives = λ v sees. c.in_ok-body.ensures v ∙ e v sees }) r

@@ -1,7 +1,0 @@
-use Rattle.std.proofs.Common.{ap}
-use Rattle.plain_tree.specs.TreeOf.{fun_of}
-use Rattle.match_types.specs.Views.{reading}
-use Rattle.build_parts.proofs.heads.with_steps.Goals as goal
-
-pub returns : goal.returns
-returns c = λ v. ap (fun_of (reading v) c.args.head.parameters.items c.args.head.last) (c.in_ok-body.ensures v)

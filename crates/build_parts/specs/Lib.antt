@@ -1,5 +1,0 @@
-pub mod Reading
-pub mod Going
-pub mod Heads
-pub mod Chains
-pub mod Declaring

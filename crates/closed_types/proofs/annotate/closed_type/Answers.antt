@@ -1,0 +1,25 @@
+use Rattle.std.proofs.Common.{length, refl}
+use Rattle.ty_instance.proofs.Going.{longer}
+use Rattle.elab_steps.proofs.Changing.{if-ok, tabled_grows, written_later}
+use Rattle.closed_types.proofs.annotate.closed_type.Goals as goal
+
+pub invariant_of-state : goal.invariant_of-state
+invariant_of-state c =
+    let s = c.args.state.now in
+    let ts = s.solver.subst.types in
+    record {
+      held = written_later (length ts) (length c.closed_within.new.solver.subst.types) (length s.namings.items) s.written.items
+          (longer ts c.closed_within.new.solver.subst.types c.closed_within.ensures.earlier_stay) s.held;
+      ordered = s.ordered;
+      rows = s.rows;
+    }
+
+pub returns-clause-grows : goal.returns-clause-grows
+returns-clause-grows c =
+    if-ok c.closed_within.result (λ r e. tabled_grows c.args.state.now _ (record {
+      stays = record { written = refl; namings = refl; tables = refl; next = refl };
+      types = c.closed_within.ensures.earlier_stay;
+      slots = c.closed_within.ensures.slots;
+      limits = c.closed_within.ensures.limits;
+      says = c.closed_within.ensures.says;
+    })) c.closed_within.ensures.is

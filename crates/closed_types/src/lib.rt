@@ -1,0 +1,5 @@
+// Types over parameters of their own.
+#![tactic(auto)]
+
+pub mod annotate;
+pub mod parameters;

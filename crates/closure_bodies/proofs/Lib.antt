@@ -1,0 +1,3 @@
+pub mod Arms
+pub mod Loops
+pub mod Nodes

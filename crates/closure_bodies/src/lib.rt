@@ -1,0 +1,4 @@
+// Expressions of a program with simple types as expressions without function values.
+#![tactic(auto)]
+
+pub mod convert;

@@ -1,0 +1,62 @@
+-- A context with what comes into scope.
+use Rattle.std.specs.Prelude.{◌≡◌, ℕ, List, [], ◌∷◌, map, Option, Some, None, nat_eq, if◌then◌else◌}
+use Rattle.std.specs.Option.{option_or}
+use Rattle.sml_tree.specs.declared.ident.Vid.{Vid}
+use Rattle.sml_tree.specs.declared.ident.Vid.TheVariants.{Named, Equals, Fresh}
+use Rattle.vid_scope.specs.Entries.{with_entries}
+use Rattle.core_rules.specs.Restrictions.{may_construct}
+use Rattle.core_elab.specs.Scopes.{Scope, empty, scoped}
+use Rattle.elab_types.specs.declared.scope.TypeEntry.{TypeEntry}
+use Rattle.elab_types.specs.declared.scope.TypeScope.{TypeScope}
+use Rattle.elab_typed.specs.Contexts.{KeptValues}
+use Rattle.elab_steps.specs.Growing.{Begins}
+use Rattle.elab_steps.specs.World.{World}
+use Rattle.elab_context.specs.Telling.{kept_of, denotes_of}
+use Rattle.elab_context.specs.declared.context.Context.{Context}
+use Rattle.elab_context.specs.declared.entry.Entry.{Entry}
+
+-- the identifiers of entries, what is kept of them, and the scope that they make, the first of them in front
+abbrev pub vids_in : List (Vid × Entry) → List Vid
+vids_in = map (λ e. e.0)
+
+abbrev pub named_vids : List ℕ → List Vid
+named_vids = map Named
+
+abbrev pub kept_entries : Context → World → List (Vid × Entry) → KeptValues
+kept_entries C W = map (λ e. (e.0, kept_of C W e.1))
+
+abbrev pub scope_of_entries : List (Vid × Entry) → Scope
+scope_of_entries [] = empty
+scope_of_entries (e ∷ es) = scoped e.0 (denotes_of e.1) (scope_of_entries es)
+
+-- the name of an identifier that a constructor or an exception may have
+abbrev pub constructing_name : Vid → Option ℕ
+constructing_name (Named x) = if may_construct (Named x) then Some x else None
+constructing_name Equals = None
+constructing_name (Fresh k) = None
+
+-- the last of a type constructor
+abbrev pub last_at : List (ℕ × TypeEntry) → ℕ → Option TypeEntry
+last_at [] x = None
+last_at (t ∷ ts) x = option_or (last_at ts x) (if nat_eq x t.0 then Some t.1 else None)
+
+-- in front of others, the last in front
+abbrev pub types_onto : List (ℕ × TypeEntry) → List (ℕ × TypeEntry) → List (ℕ × TypeEntry)
+types_onto s [] = s
+types_onto s (t ∷ ts) = types_onto (t ∷ s) ts
+
+abbrev pub type_scope : List (ℕ × ℕ) → List (ℕ × TypeEntry) → TypeScope
+type_scope tyvars types = record { tyvars = tyvars; types = types }
+
+abbrev pub with_types : Context → List (ℕ × TypeEntry) → Context
+with_types C ts = record C { types = type_scope C.types.tyvars (types_onto C.types.types ts) }
+
+-- D has what C has, with these identifiers and type constructors, and may have further schemes and type names
+pub record Adds (C D : Context) (es : List (Vid × Entry)) (ts : List (ℕ × TypeEntry)) : Type 0 where
+  pub values : D.values ≡ with_entries C.values es
+  pub structures : D.structures ≡ C.structures
+  pub members : D.members.items ≡ C.members.items
+  pub tyvars : D.types.tyvars ≡ C.types.tyvars
+  pub types : D.types.types ≡ types_onto C.types.types ts
+  pub schemes : Begins C.schemes.items D.schemes.items
+  pub level : D.level ≡ C.level

@@ -1,0 +1,8 @@
+use Rattle.std.proofs.Common.{refl}
+use Rattle.exp_forms.proofs.Within.{within-next}
+use Rattle.exp_forms.proofs.bind.bind_all.Goals as goal
+
+pub loop-i-preserved : goal.loop-i-preserved
+loop-i-preserved c =
+    within-next c.args.context.now c.args.bound.now c.loop-i.i c.index-bound-i.result c.loop-i.context _ c.bind.new.self c.loop-i-test.true c.index-bound-i.is c.loop-i.invariant
+    c.in_ok-bind.ensures.bound refl

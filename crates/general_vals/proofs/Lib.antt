@@ -1,0 +1,4 @@
+pub mod Collecting
+pub mod Closing
+pub mod Ending
+pub mod Settling

@@ -1,0 +1,5 @@
+// `val` declarations whose bindings are generalised.
+#![tactic(auto)]
+
+pub mod close;
+pub mod settle;

@@ -1,0 +1,6 @@
+pub mod Scoping
+pub mod Admitting
+pub mod Worlds
+pub mod Telling
+pub mod General
+pub mod Keeping

@@ -1,0 +1,5 @@
+use Rattle.general_worlds.proofs.Keeping.{new-tidy}
+use Rattle.general_worlds.proofs.law.new_is_tidy.Goals as goal
+
+pub returns : goal.returns
+returns c = new-tidy

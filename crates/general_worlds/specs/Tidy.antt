@@ -1,0 +1,48 @@
+-- States inside l `val` declarations, and the end of one more.
+use Rattle.std.specs.Prelude.{◌≡◌, ◌<◌, ℕ, true, List, [], ◌∷◌, ◌++◌, if◌then◌else◌, nat_eq}
+use Rattle.ty_core.specs.declared.mark.Mark.{Mark}
+use Rattle.ty_core.specs.declared.mark.Mark.TheVariants.{Any}
+use Rattle.ty_core.specs.declared.scheme.Quantified.{Quantified}
+use Rattle.ty_table.specs.TypeAt.{type_at}
+use Rattle.ty_solve.specs.Substitution.{free, is_in, is_open}
+use Rattle.ir_poly.specs.Types.{in_scope}
+use Rattle.ir_tables.specs.Tables.{parameters_of, strings_of}
+use Rattle.elab_state.specs.States.{types_in, made, said_in, limit_in, general_in, table_in, dead_level, IsSettled}
+use Rattle.elab_state.specs.Generalising.{Generalises}
+use Rattle.elab_state.specs.declared.state.State.{State}
+
+-- variables are those of l declarations, or done with; and the open ones that are done with are those that were generalised
+pub record IsTidy (S : State) (l : ℕ) : Type 0 where
+  pub settled : IsSettled S l
+  pub done : (v : ℕ) → in_scope (general_in S) v ≡ true → (limit_in S v).level ≡ dead_level
+  pub ended : (v : ℕ) → v < made S → is_open (said_in S v) ≡ true → (limit_in S v).level ≡ dead_level → in_scope (general_in S) v ≡ true
+
+-- a variable that is done with stays what it is
+pub record StaysDone (S T : State) (v : ℕ) : Type 0 where
+  pub said : said_in T v ≡ said_in S v
+  pub level : (limit_in T v).level ≡ dead_level
+
+-- what is asked of a parameter
+abbrev pub mark_in : List Quantified → ℕ → Mark
+mark_in [] v = Any
+mark_in (q ∷ qs) v = if nat_eq q.variable v then q.mark else mark_in qs v
+
+-- At the end of a declaration inside l others its open variables become the parameters qs, with their marks, and all of its variables are done with. Nothing
+-- else changes.
+pub record Ends (l : ℕ) (qs : List Quantified) (S T : State) : Type 0 where
+  pub generalises : Generalises (made S) (said_in S) (limit_in S) (limit_in T) (general_in S) qs l
+  pub ended : (v : ℕ) → v < made S → is_open (said_in S v) ≡ true → (limit_in S v).level ≡ dead_level → in_scope (general_in S) v ≡ true
+  pub marks : (v : ℕ) → in_scope qs v ≡ true → said_in S v ≡ free (mark_in qs v)
+  pub said : said_in T ≡ said_in S
+  pub made : made T ≡ made S
+  pub types : types_in T ≡ types_in S
+  pub written : T.written.items ≡ S.written.items
+  pub namings : T.namings.items ≡ S.namings.items
+  pub lists : parameters_of T.tables ≡ parameters_of S.tables ++ qs ∷ []
+  pub strings : strings_of T.tables ≡ strings_of S.tables
+  pub rows : table_in T ≡ table_in S
+  pub next : T.next ≡ S.next
+
+-- no bound variable stands in a type
+abbrev pub AreOpen : State → ℕ → Type 0
+AreOpen S k = (v : ℕ) → is_in v (type_at (types_in S) k) ≡ true → is_open (said_in S v) ≡ true

@@ -1,0 +1,4 @@
+// The world inside a `val` declaration.
+#![tactic(auto)]
+
+pub mod law;

@@ -1,0 +1,10 @@
+pub mod Changing
+pub mod Nodes
+pub mod Walking
+pub mod Leaves
+pub mod Shapes
+pub mod Standing
+pub mod Cycle
+pub mod Copies
+pub mod Whole
+pub mod Sizes

@@ -1,5 +1,0 @@
-pub mod Once
-pub mod Using
-pub mod Entering
-pub mod Joining
-pub mod Finishing

@@ -1,4 +1,0 @@
-// The scope of a rule: what its pattern binds.
-#![tactic(auto)]
-
-pub mod bind;

@@ -1,0 +1,10 @@
+use Rattle.std.proofs.Common.{ap, ◌∙◌}
+use Rattle.sml_lexer.specs.ReservedWords.{beginning, free_len, symbolic}
+use Rattle.sml_lexer.proofs.ReservedLemmas.{free_beginning}
+use Rattle.sml_lexer.proofs.reserved.free_symbol_len.Goals as goal
+
+pub returns-clause-longest : goal.returns-clause-longest
+returns-clause-longest c =
+    let len = c.args.len in
+    let text = c.args.text.now in
+    c.free_len.ensures.longest ∙ ap (λ some. free_len some len text) (c.symbolic_from.ensures ∙ ap (λ first. beginning first symbolic) c.byte_at.ensures) ∙ free_beginning symbolic len text
