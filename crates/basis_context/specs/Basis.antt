@@ -1,6 +1,6 @@
 -- What the code has of the initial basis.
 use Rattle.std.specs.Prelude.{◌≡◌, ℕ, zero, suc, List, [], ◌∷◌, map, length, Option, Some, None}
-use Rattle.mlc_base.specs.StandardWords.{word_unit, word_int, word_word, word_char, word_string, word_bool, word_list, word_ref, word_exn, word_true, word_false, word_nil, word_cons, word_Match, word_Bind, word_Overflow, word_Div, word_Subscript, word_Size, word_Chr, word_plus, word_minus, word_times, word_div, word_mod, word_negate, word_abs, word_less_than, word_at_most, word_greater_than, word_at_least, word_assign, word_quot, word_rem}
+use Rattle.mlc_names.specs.StandardWords.{word_unit, word_int, word_word, word_char, word_string, word_bool, word_list, word_ref, word_exn, word_true, word_false, word_nil, word_cons, word_Match, word_Bind, word_Overflow, word_Div, word_Subscript, word_Size, word_Chr, word_plus, word_minus, word_times, word_div, word_mod, word_negate, word_abs, word_less_than, word_at_most, word_greater_than, word_at_least, word_assign, word_quot, word_rem}
 use Rattle.mlc_prims.specs.declared.basis.BasisPrimitive.TheVariants as prim
 use Rattle.ty_core.specs.Types.{Typ, var, con, none, more, name}
 use Rattle.ty_core.specs.declared.mark.Mark.{Mark}

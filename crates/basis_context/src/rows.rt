@@ -3,7 +3,7 @@ ghost use Rattle.std.specs.Prelude.{◌≡◌};
 ghost use Rattle.basis_context.specs.Basis.{entry_at};
 
 use elab_context::entry::Entry;
-use mlc_base::words;
+use mlc_names::words;
 use mlc_prims::basis::BasisPrimitive;
 use ty_core::name::{Equality, TyName};
 

@@ -1,6 +1,6 @@
 -- What each node binds.
 use Rattle.std.proofs.Common.{◌≡◌, ℕ, List, [], ◌∷◌, ◌++◌, map, Vec, Box, Option, Global, sym, ap, ◌∙◌}
-use Rattle.mlc_base.specs.declared.names.Name.{Name}
+use Rattle.mlc_names.specs.declared.names.Name.{Name}
 use Rattle.plain_tree.specs.declared.tree.Parameter.{Parameter}
 use Rattle.plain_tree.specs.declared.tree.Binding.{Binding}
 use Rattle.plain_tree.specs.declared.tree.Case.{Case}

@@ -1,8 +1,8 @@
 -- What is found in a body, and the arms of a switch: the simulation without recursion.
 use Rattle.std.proofs.Common.{◌≡◌, ℕ, List, [], ◌∷◌, Option, Some, None, Bool, true, false, if◌then◌else◌, nat_eq, refl, sym, ap, subst, ◌∙◌}
 use Rattle.std.specs.Prelude.{option_and_then}
-use Rattle.mlc_base.specs.Run.{World, Answer, stops, went_wrong, or_fail}
-use Rattle.mlc_base.specs.Refinement.{Refines, first_wrong}
+use Rattle.mlc_runs.specs.Run.{World, Answer, stops, went_wrong, or_fail}
+use Rattle.mlc_runs.specs.Refinement.{Refines, first_wrong}
 use Rattle.mlc_base.specs.declared.place.Place.{Place}
 use Rattle.mlc_prims.specs.LitOf.{Literal}
 use Rattle.mlc_prims.specs.Table.{literal_eq}

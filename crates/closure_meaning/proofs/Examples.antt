@@ -4,7 +4,7 @@ use Rattle.std.proofs.lemmas.Bool.{eqb-true}
 use mathlib.Core.Logic.{◌⊎◌, inl, inr}
 use Rattle.std.specs.Prelude.{⊤}
 use Rattle.std.specs.Map.{lookup}
-use Rattle.mlc_base.specs.Outcome.{End, ended, uncaught, going, Outcome}
+use Rattle.mlc_runs.specs.Outcome.{End, ended, uncaught, going, Outcome}
 use Rattle.mlc_base.specs.declared.place.Place.{Place}
 use Rattle.mlc_prims.specs.LitOf.{string}
 use Rattle.mlc_prims.specs.declared.basis.BasisPrimitive.TheVariants.{Print}

@@ -1,11 +1,11 @@
 -- References, packets, fields and calls.
 use Rattle.std.proofs.Common.{◌≡◌, ℕ, zero, suc, List, [], ◌∷◌, map, Option, Some, None, Bool, true, false, ◌||◌, if◌then◌else◌, nat_eq, get_or, refl, sym, ap, subst}
-use Rattle.mlc_base.specs.Run.{World, Answer, gives, raises, fail, or_fail}
-use Rattle.mlc_base.specs.Run as run
-use Rattle.mlc_base.specs.Refinement.{Refines, both_give, both_raise, first_wrong}
-use Rattle.mlc_base.specs.declared.label.Label.{Label}
+use Rattle.mlc_runs.specs.Run.{World, Answer, gives, raises, fail, or_fail}
+use Rattle.mlc_runs.specs.Run as run
+use Rattle.mlc_runs.specs.Refinement.{Refines, both_give, both_raise, first_wrong}
+use Rattle.mlc_names.specs.declared.label.Label.{Label}
 use Rattle.mlc_base.specs.declared.place.Place.{Place}
-use Rattle.mlc_base.proofs.RefineLaws.{dereference-refines, take_turn-refines}
+use Rattle.mlc_runs.proofs.RefineLaws.{dereference-refines, take_turn-refines}
 use Rattle.ir_values.specs.Values.{field_in, same_label}
 use Rattle.ir_values.specs.Primitives.{marked, content_of, raise_value}
 use Rattle.ir_plain.specs.Meaning.{Parts, read_reference, select_from}

@@ -2,10 +2,10 @@
 use Rattle.std.proofs.Common.{◌≡◌, ℕ, zero, suc, ◌<◌, length, List, [], ◌∷◌, map, Option, Some, Bool, true, false, ◌||◌, if◌then◌else◌, nat_eq, get_or, slice_get, refl, sym, ap, subst, ◌∙◌, arith}
 use Rattle.std.specs.Prelude.{option_map}
 use Rattle.std.proofs.lemmas.Bool.{ltb-true}
-use Rattle.mlc_base.specs.Run.{World, Answer, gives, raises, then_do, fail, or_fail}
-use Rattle.mlc_base.specs.Refinement.{both_give, both_raise, first_wrong}
+use Rattle.mlc_runs.specs.Run.{World, Answer, gives, raises, then_do, fail, or_fail}
+use Rattle.mlc_runs.specs.Refinement.{both_give, both_raise, first_wrong}
 use Rattle.mlc_base.specs.declared.place.Place.{Place}
-use Rattle.mlc_base.proofs.RefineLaws.{then_do-refines, or_handle-refines, weaker, new_reference-refines, new_exception-refines}
+use Rattle.mlc_runs.proofs.RefineLaws.{then_do-refines, or_handle-refines, weaker, new_reference-refines, new_exception-refines}
 use Rattle.ir_values.specs.Values.{exn, exn_of, con, con_of, closure, bind, cell, value_of}
 use Rattle.ir_values.specs.Match.{matches, after_match, against_exn, under_exn, against_con, under_con}
 use Rattle.ir_values.specs.Primitives as prims

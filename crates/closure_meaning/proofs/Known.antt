@@ -1,8 +1,8 @@
 -- Each variable that a body reaches is found, where its scope says, and each closure is made of what it captures.
 use Rattle.std.proofs.Common.{◌≡◌, ℕ, zero, suc, List, [], ◌∷◌, ◌++◌, length, Option, Some, None, Bool, true, false, ◌||◌, if◌then◌else◌, nat_eq, refl, sym, ap, subst, ◌∙◌, arith}
 use Rattle.std.specs.Prelude.{⊤}
-use Rattle.mlc_base.specs.Run.{World, Answer, gives, then_do, or_fail}
-use Rattle.mlc_base.specs.Refinement.{Refines}
+use Rattle.mlc_runs.specs.Run.{World, Answer, gives, then_do, or_fail}
+use Rattle.mlc_runs.specs.Refinement.{Refines}
 use Rattle.ir_values.specs.Values.{closure, bind}
 use Rattle.ir_plain.specs.Tree.{Fun, Funs, no_funs, fun}
 use Rattle.ir_plain.specs.Meaning as src

@@ -1,11 +1,11 @@
 -- What is done with values is done with their conversions: constants, primitives, references, packets.
 use Rattle.std.proofs.Common.{◌≡◌, ℕ, zero, suc, List, [], ◌∷◌, Option, Some, None, Bool, true, false, not, ◌||◌, if◌then◌else◌, refl, sym, ap, subst, ◌∙◌}
 use Rattle.std.specs.Prelude.{ℤ, option_map, option_and_then}
-use Rattle.mlc_base.specs.Run.{World, Answer, gives, raises, fail, or_fail, writes}
-use Rattle.mlc_base.specs.Run as run
-use Rattle.mlc_base.specs.Agreement.{SameWorlds}
-use Rattle.mlc_base.specs.Refinement.{Refines, both_give, both_raise, first_wrong}
-use Rattle.mlc_base.proofs.RefineLaws.{assign-refines}
+use Rattle.mlc_runs.specs.Run.{World, Answer, gives, raises, fail, or_fail, writes}
+use Rattle.mlc_runs.specs.Run as run
+use Rattle.mlc_runs.specs.Agreement.{SameWorlds}
+use Rattle.mlc_runs.specs.Refinement.{Refines, both_give, both_raise, first_wrong}
+use Rattle.mlc_runs.proofs.RefineLaws.{assign-refines}
 use Rattle.mlc_prims.specs.LitOf.{Literal, int, word, char, string, truth, int_in, word_in, char_in, string_in, one_in, two_in}
 use Rattle.mlc_prims.specs.PrimOf.{Gives, made, raised}
 use Rattle.mlc_prims.specs.Table.{row_of}
@@ -273,7 +273,7 @@ module _ (C : Setting) (all : List out.Fun) (sound : IsTable C.types) where
 
   print-same : {as_ : Atoms (mono C.types)} {vs : List (Val C.types)} {us : List cells.Value} {ks : List ℕ} (w : World (Val C.types)) (u : World cells.Value) → AtomsSame as_ vs us → Worlds w u → Re ks (or_fail (prims.literals vs) w (λ ls. print_literals (by_number C.types) ls w)) (op.perform T op.print us u)
   print-same w u no_same s = first_wrong _
-  print-same w u (more_same a (same_literal (string t)) i no_same) s = both_give (record { same = unit-same; is = tt }) (Rattle.mlc_base.proofs.RunLaws.writes-same (R C all) t w u s)
+  print-same w u (more_same a (same_literal (string t)) i no_same) s = both_give (record { same = unit-same; is = tt }) (Rattle.mlc_runs.proofs.RunLaws.writes-same (R C all) t w u s)
   print-same w u (more_same a (same_literal (int z)) i no_same) s = first_wrong _
   print-same w u (more_same a (same_literal (word z)) i no_same) s = first_wrong _
   print-same w u (more_same a (same_literal (char z)) i no_same) s = first_wrong _

@@ -1,7 +1,7 @@
 -- The values of a program and those of its conversion.
 use Rattle.std.proofs.Common.{◌≡◌, ℕ, List, [], ◌∷◌, Some, None, Bool, true, false, slice_get}
 use Rattle.std.specs.Prelude.{⊤}
-use Rattle.mlc_base.specs.declared.label.Label.{Label}
+use Rattle.mlc_names.specs.declared.label.Label.{Label}
 use Rattle.mlc_prims.specs.LitOf.{Literal}
 use Rattle.mlc_prims.specs.declared.basis.BasisPrimitive.{BasisPrimitive}
 use Rattle.ty_core.specs.Types.{labels}

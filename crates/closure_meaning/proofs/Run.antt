@@ -1,11 +1,11 @@
 -- Calls do the same, and so does the whole program.
 use Rattle.std.proofs.Common.{◌≡◌, ℕ, zero, suc, List, [], ◌∷◌, Some, Bool, true, false, slice_get, refl, sym, ap, subst, ◌∙◌, arith}
-use Rattle.mlc_base.specs.Outcome.{wrong}
-use Rattle.mlc_base.specs.Run.{World, Answer, stops, went_wrong, out_of_turns, then_do, fail, or_fail, take_turn, start}
-use Rattle.mlc_base.specs.Agreement.{none}
-use Rattle.mlc_base.specs.Refinement.{both_stop, first_wrong}
+use Rattle.mlc_runs.specs.Outcome.{wrong}
+use Rattle.mlc_runs.specs.Run.{World, Answer, stops, went_wrong, out_of_turns, then_do, fail, or_fail, take_turn, start}
+use Rattle.mlc_runs.specs.Agreement.{none}
+use Rattle.mlc_runs.specs.Refinement.{both_stop, first_wrong}
 use Rattle.mlc_base.specs.declared.place.Place.{Place}
-use Rattle.mlc_base.proofs.RefineLaws.{take_turn-refines, outcome_of-refines}
+use Rattle.mlc_runs.proofs.RefineLaws.{take_turn-refines, outcome_of-refines}
 use Rattle.ir_values.specs.Values.{literal, record_of, con, con_of, exn, exn_of, ref, address, cell, primitive, closure, empty}
 use Rattle.ir_plain.specs.Tree.{Fun, last, more}
 use Rattle.ir_plain.specs.Meaning as src

@@ -1,6 +1,6 @@
 -- What is claimed of the conversion.
 use Rattle.std.specs.Prelude.{◌≡◌, ℕ, suc, List, [], Some, slice_get}
-use Rattle.mlc_base.specs.Outcome.{wrong}
+use Rattle.mlc_runs.specs.Outcome.{wrong}
 use Rattle.ir_mono.specs.Types as table
 use Rattle.ir_mono.specs.Types.{IsTable}
 use Rattle.ir_mono.specs.Mono.{Mono, Program}

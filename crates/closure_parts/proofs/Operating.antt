@@ -1,7 +1,7 @@
 -- What operations become.
 use Rattle.std.proofs.Common.{◌≡◌, ℕ, zero, suc, Bool, true, false, List, [], ◌∷◌, map, length, get_or, slice_index_or, Option, Some, None, Result, Ok, Err, IfOk, if◌then◌else◌, Vec, Global, refl, sym, ap, ap₂, ◌∙◌}
 use Rattle.mlc_base.specs.declared.place.Place.{Place}
-use Rattle.mlc_base.specs.declared.label.Label.{Label}
+use Rattle.mlc_names.specs.declared.label.Label.{Label}
 use Rattle.mlc_prims.specs.declared.basis.BasisPrimitive.{BasisPrimitive}
 use Rattle.ir_values.specs.Primitives.{sort_of}
 use Rattle.ir_tables.specs.declared.tables.Constant.{Constant as Literal}

@@ -10,8 +10,8 @@ ghost use Rattle.closure_parts.specs.Indexed.{ArePlaces, AreTexts, FindsTexts, t
 
 use indexmap::IndexMap;
 use ir_uses::constructor::{FALSE, TRUE};
-use mlc_base::label::Label;
 use mlc_base::memory::NoMemory;
+use mlc_names::label::Label;
 use mono_types::constructors::Constructors;
 use mono_types::types::{Types, View};
 use std::alloc::Global;

@@ -23,7 +23,7 @@ use first_tables::operation::Plain;
 use first_tree::tree::{Exp, Operation, Step};
 use mlc_base::make::boxed;
 use mlc_base::memory::NoMemory;
-use mlc_base::names::Name;
+use mlc_names::names::Name;
 use plain_tree::tree::{Exception, Function};
 use std::alloc::Global;
 

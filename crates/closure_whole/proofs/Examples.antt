@@ -1,6 +1,6 @@
 -- Whole ways of programs by computation: a constructor, a primitive and an exception that are called as functions.
 use Rattle.std.proofs.Common.{◌≡◌, ℕ, List, [], ◌∷◌, refl}
-use Rattle.mlc_base.specs.Outcome.{ended, uncaught, Outcome}
+use Rattle.mlc_runs.specs.Outcome.{ended, uncaught, Outcome}
 use Rattle.ir_first.specs.Meaning as first
 use Rattle.eta_expand.proofs.Examples.{at, E, of_body, constructs, joins, raises}
 use Rattle.closure_whole.specs.Constants.{AreHeld}

@@ -1,9 +1,9 @@
 -- Answers that agree, where packets are related by P and what the store has by R.
 use Rattle.std.proofs.Common.{◌≡◌, ℕ, zero, suc, Bool, true, false, if◌then◌else◌, [], ◌∷◌, ◌++◌, length, Option, nat_lt, refl, ap, subst, sym, arith}
-use Rattle.mlc_base.specs.Run.{World, Cut, Answer, gives, raises, stops, then_do, or_handle, fail, take_turn, turn_from, new_reference, assign, new_exception, outcome_of, uncaught_end}
-use Rattle.mlc_base.specs.Agreement.{SameWorlds}
+use Rattle.mlc_runs.specs.Run.{World, Cut, Answer, gives, raises, stops, then_do, or_handle, fail, take_turn, turn_from, new_reference, assign, new_exception, outcome_of, uncaught_end}
+use Rattle.mlc_runs.specs.Agreement.{SameWorlds}
 use Rattle.mlc_base.specs.declared.place.Place.{Place}
-use Rattle.mlc_base.proofs.RunLaws.{ends-same, length-same, push-same, slice_set-same}
+use Rattle.mlc_runs.proofs.RunLaws.{ends-same, length-same, push-same, slice_set-same}
 
 module _ {V W : Type 0} (P R : V → W → Type 0) where
   module _ {A B : Type 0} (S : A → B → Type 0) where

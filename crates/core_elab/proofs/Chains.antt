@@ -1,8 +1,8 @@
 -- An operand of andalso and orelse: two rules in the source, two tests in the program.
 use Rattle.std.proofs.Common.{◌≡◌, ℕ, Bool, true, false, if◌then◌else◌, Some, refl, sym, ap, subst, ◌∙◌, arith, eqb-true}
 use Rattle.std.specs.Prelude.{nat_eq}
-use Rattle.mlc_base.specs.Run.{World, Answer, gives, raises}
-use Rattle.mlc_base.specs.StandardWords.{word_true, word_false}
+use Rattle.mlc_runs.specs.Run.{World, Answer, gives, raises}
+use Rattle.mlc_names.specs.StandardWords.{word_true, word_false}
 use Rattle.sml_tree.specs.declared.ident.BuiltIn.{BuiltIn}
 use Rattle.sml_tree.specs.declared.ident.BuiltIn.TheVariants.{True, False}
 use Rattle.core_rules.specs.Values.{Con, built, Value, con, con_of, Env, nothing}

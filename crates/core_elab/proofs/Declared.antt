@@ -1,7 +1,7 @@
 -- Groups of functions, parameters, datatypes and exceptions.
 use Rattle.std.proofs.Common.{◌≡◌, ℕ, suc, ◌≤◌, true, List, [], ◌∷◌, Option, Some, refl, sym, ◌∙◌, arith}
-use Rattle.mlc_base.specs.Run.{World, Answer, gives, then_do, or_fail}
-use Rattle.mlc_base.proofs.RunLaws.{then_do-then_do}
+use Rattle.mlc_runs.specs.Run.{World, Answer, gives, then_do, or_fail}
+use Rattle.mlc_runs.proofs.RunLaws.{then_do-then_do}
 use Rattle.sml_tree.specs.declared.ident.Vid.{Vid}
 use Rattle.sml_tree.specs.BareTree.{ConBind, DataBind, TypeBind, ExBind}
 use Rattle.sml_tree.specs.BareTree as bare

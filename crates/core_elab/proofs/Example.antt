@@ -1,9 +1,9 @@
 -- Declarations with every difficulty of the relation, and a program that resolves them; by computation both do the same.
 use Rattle.std.proofs.Common.{◌≡◌, ℕ, ◌≤◌, true, false, [], ◌∷◌, None, refl, arith}
 use Rattle.std.specs.Prelude.{pos, suc}
-use Rattle.mlc_base.specs.StandardWords.{word_quot}
-use Rattle.mlc_base.specs.Outcome.{Outcome, uncaught, going}
-use Rattle.mlc_base.specs.declared.label.Label.TheVariants.{Number}
+use Rattle.mlc_names.specs.StandardWords.{word_quot}
+use Rattle.mlc_runs.specs.Outcome.{Outcome, uncaught, going}
+use Rattle.mlc_names.specs.declared.label.Label.TheVariants.{Number}
 use Rattle.mlc_base.specs.declared.place.Place.{Place}
 use Rattle.mlc_prims.specs.declared.basis.BasisPrimitive.TheVariants.{Quotient}
 use Rattle.mlc_prims.specs.LitOf.{int}

@@ -1,7 +1,7 @@
 -- A field that is put in its place in a record stands among the others, past none of its own label.
 use Rattle.std.proofs.Common.{◌≡◌, ℕ, Bool, true, false, cond, nat_eq, nat_lt, refl, arith}
-use Rattle.mlc_base.specs.declared.label.Label.{Label}
-use Rattle.mlc_base.specs.declared.label.Label.TheVariants.{Number, Word}
+use Rattle.mlc_names.specs.declared.label.Label.{Label}
+use Rattle.mlc_names.specs.declared.label.Label.TheVariants.{Number, Word}
 use Rattle.label_rows.specs.Order.{label_before}
 use Rattle.ir_values.specs.Values.{same_label}
 use Rattle.ir_values.specs.Values as made

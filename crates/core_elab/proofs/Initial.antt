@@ -7,8 +7,8 @@ use Rattle.core_elab.specs.Scopes.{Scope, denotes_of, rows_scope, type_rows_scop
 use Rattle.core_elab.specs.Laws.{MeaningKept, ProjectKept}
 use Rattle.core_elab.proofs.Related.{Rel, Stored, Known, known_constructor, known_reference, known_fixed, known_primitive, Covers, covers_nothing, covers_value, covers_tycon, covers_structure, covers-plus, covers-more, Anew, anew-scope}
 use Rattle.core_elab.proofs.Kept.{meaning-kept, Calls, decs-rel, apply-rel, named-rel}
-use Rattle.mlc_base.specs.Run.{World}
-use Rattle.mlc_base.specs.Agreement.{none}
+use Rattle.mlc_runs.specs.Run.{World}
+use Rattle.mlc_runs.specs.Agreement.{none}
 use Rattle.sml_tree.specs.BareTree.{Decs}
 use Rattle.core_rules.specs.Values.{Value, Env}
 use Rattle.core_rules.specs.Eval.{Apply, apply}

@@ -2,8 +2,8 @@
 use Rattle.std.proofs.Common.{◌≡◌, ℕ, zero, suc, Bool, Option, Some, slice_get, refl, sym, ap, subst, arith}
 use Rattle.std.specs.Prelude.{option_and_then}
 use Rattle.mlc_base.specs.declared.place.Place.{Place}
-use Rattle.mlc_base.specs.Run.{World, Answer, gives, raises, out_of_turns, then_do, or_fail}
-use Rattle.mlc_base.specs.Agreement.{none}
+use Rattle.mlc_runs.specs.Run.{World, Answer, gives, raises, out_of_turns, then_do, or_fail}
+use Rattle.mlc_runs.specs.Agreement.{none}
 use Rattle.sml_tree.specs.Terminal as term
 use Rattle.sml_tree.specs.BareTree.{LongIdAt}
 use Rattle.sml_tree.specs.BareTree as bare

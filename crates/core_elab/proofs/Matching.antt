@@ -1,8 +1,8 @@
 -- Matching in the source and in the program.
 use Rattle.std.proofs.Common.{◌≡◌, ℕ, suc, ◌≤◌, Bool, true, false, if◌then◌else◌, List, Option, Some, None, slice_get, refl, sym, ap, subst}
 use Rattle.std.specs.Prelude.{option_and_then, nat_eq}
-use Rattle.mlc_base.specs.Agreement.{AllRelated, BothOrNeither, neither, both}
-use Rattle.mlc_base.proofs.RunLaws.{slice_get-same}
+use Rattle.mlc_runs.specs.Agreement.{AllRelated, BothOrNeither, neither, both}
+use Rattle.mlc_runs.proofs.RunLaws.{slice_get-same}
 use Rattle.mlc_prims.specs.LitOf.{Literal}
 use Rattle.mlc_prims.specs.Table.{literal_eq}
 use Rattle.sml_tree.specs.Terminal.{LongVid}

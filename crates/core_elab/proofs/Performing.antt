@@ -1,10 +1,10 @@
 -- Primitives on related values.
 use Rattle.std.proofs.Common.{◌≡◌, ℕ, zero, suc, Bool, true, false, List, [], ◌∷◌, Option, Some, None, refl, sym, subst}
 use Rattle.std.specs.Prelude.{option_and_then, option_map}
-use Rattle.mlc_base.specs.declared.label.Label.TheVariants.{Number}
-use Rattle.mlc_base.specs.Run.{World, Answer, gives, or_fail}
-use Rattle.mlc_base.specs.Agreement.{AllRelated, none, more, BothOrNeither, neither, both, SameWorlds}
-use Rattle.mlc_base.proofs.RunLaws.{writes-same}
+use Rattle.mlc_names.specs.declared.label.Label.TheVariants.{Number}
+use Rattle.mlc_runs.specs.Run.{World, Answer, gives, or_fail}
+use Rattle.mlc_runs.specs.Agreement.{AllRelated, none, more, BothOrNeither, neither, both, SameWorlds}
+use Rattle.mlc_runs.proofs.RunLaws.{writes-same}
 use Rattle.mlc_prims.specs.LitOf.{Literal, int, word, char, string, truth}
 use Rattle.mlc_prims.specs.PrimOf.{Gives, made as gives_literal, raised}
 use Rattle.mlc_prims.specs.Table.{row_of}

@@ -1,9 +1,9 @@
 -- Numbers of constructors, fields, and equality of values.
 use Rattle.std.proofs.Common.{◌≡◌, ℕ, suc, Bool, true, false, ◌||◌, if◌then◌else◌, Option, Some, None, refl, sym, ap, subst, ◌∙◌, eqb-true, eq-eqb}
 use Rattle.std.specs.Prelude.{option_and_then, option_map, nat_eq}
-use Rattle.mlc_base.specs.declared.label.Label.{Label}
-use Rattle.mlc_base.specs.declared.label.Label.TheVariants.{Number, Word}
-use Rattle.mlc_base.specs.Agreement.{BothOrNeither, neither, both}
+use Rattle.mlc_names.specs.declared.label.Label.{Label}
+use Rattle.mlc_names.specs.declared.label.Label.TheVariants.{Number, Word}
+use Rattle.mlc_runs.specs.Agreement.{BothOrNeither, neither, both}
 use Rattle.mlc_prims.specs.Table.{literal_eq}
 use Rattle.sml_tree.specs.declared.ident.Vid.TheVariants.{Named, Equals, Fresh}
 use Rattle.sml_tree.specs.declared.ident.BuiltIn.{BuiltIn}

@@ -1,7 +1,7 @@
 -- A program resolves declarations, under a scope. k is above all variables in scope: what a pattern or a declaration binds has a number from k on, and the
 -- next number is told. What is inside an expression is out of scope after it. No type is looked at.
 use Rattle.std.specs.Prelude.{◌≡◌, ℕ, suc, ◌≤◌, Bool, true, false, List, [], ◌∷◌, Option, Some}
-use Rattle.mlc_base.specs.declared.label.Label.{Label}
+use Rattle.mlc_names.specs.declared.label.Label.{Label}
 use Rattle.mlc_base.specs.declared.place.Place.{Place}
 use Rattle.mlc_prims.specs.declared.basis.BasisPrimitive.{BasisPrimitive}
 use Rattle.ty_core.specs.Types.{Typ}

@@ -1,7 +1,7 @@
 -- What identifiers stand for in the program: an environment of the shape of the dynamic one, the latest first. The initial scope is a view of the table of
 -- the initial basis.
 use Rattle.std.specs.Prelude.{ℕ, Bool, true, false, List, [], ◌∷◌, Option, Some, None, option_map, option_and_then, nat_eq, if◌then◌else◌}
-use Rattle.mlc_base.specs.StandardWords.{word_true, word_false, word_nil, word_cons}
+use Rattle.mlc_names.specs.StandardWords.{word_true, word_false, word_nil, word_cons}
 use Rattle.mlc_prims.specs.declared.basis.BasisPrimitive.{BasisPrimitive}
 use Rattle.sml_tree.specs.Terminal.{LongVid}
 use Rattle.sml_tree.specs.declared.ident.Vid.{Vid}

@@ -1,8 +1,8 @@
 -- val x = fn r : {a : int, b : int} => #a r is principal: its annotation settles the labels of `...`.
 use Rattle.std.proofs.Common.{◌≡◌, ℕ, zero, suc, Bool, true, false, not, List, [], ◌∷◌, ◌++◌, length, Option, Some, None, refl, sym, ap, ◌∙◌, subst}
 use Rattle.std.specs.Prelude.{unwrap_or, ◌&&◌, ◌-◌, nat_lt, nat_eq, if◌then◌else◌}
-use Rattle.mlc_base.specs.declared.label.Label.{Label}
-use Rattle.mlc_base.specs.declared.label.Label.TheVariants.{Number, Word}
+use Rattle.mlc_names.specs.declared.label.Label.{Label}
+use Rattle.mlc_names.specs.declared.label.Label.TheVariants.{Number, Word}
 use Rattle.ty_core.specs.Types.{Typ, Typs, Symbol, var, con, none, more, arrow, labels, name as symbol, no_variable}
 use Rattle.ty_core.specs.Statics.{replace_all}
 use Rattle.ty_core.specs.declared.mark.Mark.{Mark}

@@ -8,7 +8,7 @@ use Rattle.ty_core.specs.declared.env.Status.TheVariants.{Variable, Constructor}
 use Rattle.sml_tree.specs.declared.ident.Vid.{Vid}
 use Rattle.sml_tree.specs.Derived.{list_of, tuple_pat}
 use Rattle.sml_tree.specs.BareTree.{Exp, Decs, bind, no_binds}
-use Rattle.mlc_base.specs.StandardWords.{word_ref}
+use Rattle.mlc_names.specs.StandardWords.{word_ref}
 use Rattle.ty_basis.specs.Types.{function_type, pair_type, unit_type, int_type, list_type, ref_type}
 use Rattle.core_rules.specs.Words.{same_vid}
 use Rattle.core_rules.specs.Objects.{Context, Value, Env, put, monomorphic, plus, no_env, values_env, with_env}

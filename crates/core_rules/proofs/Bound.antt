@@ -2,7 +2,7 @@
 use Rattle.std.proofs.Common.{◌≡◌, ℕ, zero, suc, Bool, true, false, List, [], ◌∷◌, ◌++◌, map, flat_map, length, Option, Some, None, nat_eq, refl, sym, ap, ◌∙◌, subst, arith}
 use Rattle.std.specs.Prelude.{is_some, if◌then◌else◌, option_map, option_and_then, unwrap_or}
 use Rattle.std.specs.Option.{option_or}
-use Rattle.mlc_base.specs.Run.{World, gives, or_fail}
+use Rattle.mlc_runs.specs.Run.{World, gives, or_fail}
 use Rattle.ty_core.specs.Types.{Typ, Typs}
 use Rattle.ty_core.specs.Statics.{apply}
 use Rattle.ty_core.specs.declared.name.TyName.{TyName}

@@ -1,7 +1,7 @@
 -- Restrictions, one tree or two for each: the places that break it, inner phrases before those round them.
 use Rattle.std.proofs.Common.{◌≡◌, ℕ, false, List, [], ◌∷◌, refl, Some, None}
-use Rattle.mlc_base.specs.declared.label.Label.{Label}
-use Rattle.mlc_base.specs.declared.label.Label.TheVariants.{Word}
+use Rattle.mlc_names.specs.declared.label.Label.{Label}
+use Rattle.mlc_names.specs.declared.label.Label.TheVariants.{Word}
 use Rattle.mlc_base.specs.declared.place.Place.{Place}
 use Rattle.sml_tree.specs.declared.ident.Tyvar.{Tyvar}
 use Rattle.sml_tree.specs.declared.ident.Vid.TheVariants.{Equals}
@@ -9,7 +9,7 @@ use Rattle.sml_tree.specs.Derived.{withtype_of}
 use Rattle.sml_tree.specs.BareTree.{Ty, var, fields, ty_field, no_ty_fields, wild_pat, fields_pat, pat_field, no_pat_fields, typed_pat, Exp, fields_exp, exp_field, no_exp_fields, let_in, fn, no_rules, Dec, val_dec, type_dec, datatype_dec, exception_dec, new_exn, same_exn, bind, no_binds, TypeBind, ConBind, DataBind}
 use Rattle.sml_tree.specs.Derived.{short}
 use Rattle.core_rules.specs.Restrictions.{broken_in}
-use Rattle.mlc_base.specs.StandardWords.{word_int, word_it, word_ref}
+use Rattle.mlc_names.specs.StandardWords.{word_int, word_it, word_ref}
 use Rattle.core_rules.proofs.Words.{at, num, v, vid, pv, tycon, decs, val, fun, clause, one_rule, word_A, word_B, word_E, word_a, word_b, word_f, word_g, word_id, word_l, word_t, word_x, word_y}
 
 abbrev place : ℕ → Place

@@ -2,7 +2,7 @@
 use Rattle.std.proofs.Common.{◌≡◌, ℕ, zero, suc, Bool, true, false, List, [], ◌∷◌, ◌++◌, map, length, Option, Some, None, nat_eq, refl, sym, ap, ◌∙◌, subst, arith}
 use Rattle.std.specs.Prelude.{is_some, cond, if◌then◌else◌, option_map, option_and_then, ◌&&◌}
 use Rattle.std.specs.Option.{option_or, option_zip}
-use Rattle.mlc_base.specs.Run.{World, Answer, gives, raises, stops, then_do, or_fail}
+use Rattle.mlc_runs.specs.Run.{World, Answer, gives, raises, stops, then_do, or_fail}
 use Rattle.ty_core.specs.Types.{Typ, con, more, none, arrow, labels, name as symbol}
 use Rattle.ty_core.specs.declared.mark.Mark.{Mark}
 use Rattle.ty_core.specs.declared.mark.Mark.TheVariants.{Any, Equality}

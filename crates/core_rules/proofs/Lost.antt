@@ -7,7 +7,7 @@ use Rattle.sml_tree.specs.BareTree.{Exp, vid_exp, let_in, typed, fn, no_rules, c
 use Rattle.core_rules.specs.Unbound.{Unbound, value_at, tycon_at, structure_at, unbound_in}
 use Rattle.core_rules.specs.Initial.{initial_env}
 use Rattle.core_rules.specs.Values.{nothing}
-use Rattle.mlc_base.specs.StandardWords.{word_Prim, word_nil, word_plus, word_quot}
+use Rattle.mlc_names.specs.StandardWords.{word_Prim, word_nil, word_plus, word_quot}
 use Rattle.core_rules.specs.Initial.{word_Int}
 use Rattle.core_rules.proofs.Words.{at, num, v, vid, pv, val, fun, clause, decs, one_rule, ap as call, op, word_A, word_E, word_a, word_f, word_g, word_id, word_l, word_t, word_x, word_y}
 

@@ -1,7 +1,7 @@
 -- Further worked typings, and readings of the static rules.
 use Rattle.std.proofs.Common.{◌≡◌, Bool, true, false, [], ◌∷◌, refl, Some, subst}
-use Rattle.mlc_base.specs.StandardWords.{word_assign, word_nil, word_plus, word_ref}
-use Rattle.mlc_base.specs.declared.label.Label.TheVariants.{Number, Word}
+use Rattle.mlc_names.specs.StandardWords.{word_assign, word_nil, word_plus, word_ref}
+use Rattle.mlc_names.specs.declared.label.Label.TheVariants.{Number, Word}
 use Rattle.ty_core.specs.Types.{Typ, var, no_variable, admits}
 use Rattle.ty_core.specs.declared.mark.Mark.TheVariants.{Any}
 use Rattle.ty_core.specs.declared.env.Status.TheVariants.{Constructor, Variable}
@@ -19,7 +19,7 @@ use Rattle.core_rules.specs.Typing.{HasType, PatHas, DecHas, DecsHave, is_non_ex
 use Rattle.core_rules.proofs.Words.{at, num, v, vid, pv, ap as app, op, one_rule, val, do_, decs, tycon, word_A, word_E, word_a, word_b, word_f, word_t, word_x, pc}
 use Rattle.core_rules.proofs.Typings.{start, inst-has, mono-has}
 use Rattle.core_rules.proofs.Refused.{fresh, fresh_choices}
-use Rattle.mlc_base.specs.StandardWords.{word_int}
+use Rattle.mlc_names.specs.StandardWords.{word_int}
 
 abbrev Holds : Bool → Type 0
 Holds true = Unit {0}

@@ -1,8 +1,8 @@
 -- Numbers that are printed.
 use Rattle.std.proofs.Common.{◌≡◌, ℕ, suc, List, [], ◌∷◌, ◌++◌, codes, refl, arith, decimal}
 use Rattle.std.proofs.lemmas.Fmt.{decimal-digits_of}
-use Rattle.mlc_base.specs.StandardWords.{word_div, word_mod, word_quot, word_rem}
-use Rattle.mlc_base.specs.Outcome.{going, ended}
+use Rattle.mlc_names.specs.StandardWords.{word_div, word_mod, word_quot, word_rem}
+use Rattle.mlc_runs.specs.Outcome.{going, ended}
 use Rattle.sml_tree.specs.Derived.{tuple}
 use Rattle.sml_tree.specs.BareTree.{Exp, vid_exp, Dec}
 use Rattle.core_rules.specs.Initial.{word_Int, word_toString}

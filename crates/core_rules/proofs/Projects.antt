@@ -1,11 +1,11 @@
 -- Projects over a small prelude.
 use Rattle.std.proofs.Common.{◌≡◌, ℕ, List, [], ◌∷◌, codes, refl, None}
-use Rattle.mlc_base.specs.Outcome.{Outcome, ended, uncaught, going, wrong}
+use Rattle.mlc_runs.specs.Outcome.{Outcome, ended, uncaught, going, wrong}
 use Rattle.sml_tree.specs.Derived.{tuple}
 use Rattle.sml_tree.specs.BareTree.{Exp, vid_exp, handle, raise, Decs, exception_dec, new_exn, same_exn, no_rules}
 use Rattle.sml_tree.specs.Derived.{short}
 use Rattle.core_rules.specs.Project.{Part, source, standard_basis, project_meaning}
-use Rattle.mlc_base.specs.StandardWords.{word_Div, word_print, word_quot}
+use Rattle.mlc_names.specs.StandardWords.{word_Div, word_print, word_quot}
 use Rattle.core_rules.specs.Initial.{word_Int}
 use Rattle.core_rules.proofs.Words.{at, num, str, vid, v, prim, pv, ap as call, val, print, do_, clause, fun, decs, one_rule, word_A, word_E, word_f, word_id, word_x}
 

@@ -1,7 +1,7 @@
 -- Readings of the rules, one example each.
 use Rattle.std.proofs.Common.{◌≡◌, ℕ, true, false, List, [], ◌∷◌, codes, refl, Some, None}
-use Rattle.mlc_base.specs.declared.label.Label.TheVariants as label
-use Rattle.mlc_base.specs.Outcome.{Outcome, wrong}
+use Rattle.mlc_names.specs.declared.label.Label.TheVariants as label
+use Rattle.mlc_runs.specs.Outcome.{Outcome, wrong}
 use Rattle.ty_core.specs.Types.{no_variable}
 use Rattle.sml_tree.specs.declared.ident.Tyvar.{Tyvar}
 use Rattle.sml_tree.specs.declared.ident.BuiltIn.TheVariants.{True}
@@ -14,7 +14,7 @@ use Rattle.core_rules.specs.Initial.{empty_context, prelude_env}
 use Rattle.core_rules.specs.Choices.{no_choice}
 use Rattle.core_rules.specs.Typing.{HasType, constant_exp_has, is_non_expansive}
 use Rattle.core_rules.specs.Meaning.{meaning_in, begin}
-use Rattle.mlc_base.specs.StandardWords.{word_less_than, word_ref, word_Match, word_Bind, word_Overflow, word_Div, word_Subscript, word_Size, word_Chr}
+use Rattle.mlc_names.specs.StandardWords.{word_less_than, word_ref, word_Match, word_Bind, word_Overflow, word_Div, word_Subscript, word_Size, word_Chr}
 use Rattle.core_rules.proofs.Words.{at, num, str, vid, v, pv, ap as call, op, eq, print, do_, decs, one_rule, word_E, word_a, word_b, word_f, word_t, word_x, word_y}
 use Rattle.core_rules.proofs.Typings.{start}
 

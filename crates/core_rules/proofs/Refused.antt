@@ -2,8 +2,8 @@
 use Rattle.std.proofs.Common.{◌≡◌, ℕ, Bool, true, false, not, List, [], ◌∷◌, ◌++◌, refl, sym, ap, ◌∙◌, subst, Some, None, Option}
 use Rattle.std.specs.Prelude.{unwrap_or, length, nat_eq, if◌then◌else◌, nat_lt, ◌-◌, ◌&&◌, ◌<◌}
 use Rattle.ty_core.specs.Types.{Typ, var, con, none, more, Typs, Symbol, arrow, labels, name as symbol, no_variable, admits}
-use Rattle.mlc_base.specs.declared.label.Label.{Label}
-use Rattle.mlc_base.specs.declared.label.Label.TheVariants.{Word}
+use Rattle.mlc_names.specs.declared.label.Label.{Label}
+use Rattle.mlc_names.specs.declared.label.Label.TheVariants.{Word}
 use Rattle.ty_core.specs.Marks.{Allows, overloaded}
 use Rattle.ty_basis.specs.Types.{Row, bool_type, function_type, int_type, labels_in, list_type, pair_type, ref_type, row_type, string_type, unit_type, word_type}
 use Rattle.ty_basis.specs.Primitives.{numbers}
@@ -21,7 +21,7 @@ use Rattle.core_rules.specs.Initial.{for_all}
 use Rattle.core_rules.specs.Choices.{Choices, no_choice, both, base, further, settled, IntsOf, SameRows, SameSettled}
 use Rattle.core_rules.specs.Typing.{open_has, field_has, no_field_has, rule_has, no_rule_has, HasType, IsInstance, IsChoiceOf, BindsHave, DecHas, DecsHave, Bound, put_bound, together, closed, has_none, have_none, bound_have_none, is_non_expansive, all_general, vid_has, app_has, fn_has, record_has, exp_field_has, no_exp_field_has, constant_exp_has, built_exp_has, variable_has, constructor_has, bind_has, no_bind_has, val_has, dec_has, no_dec_has}
 use Rattle.core_rules.specs.Principal.{Generalises, HasInstance, IsInstanceOf, IsPrincipal, Counts}
-use Rattle.mlc_base.specs.StandardWords.{word_plus, word_ref}
+use Rattle.mlc_names.specs.StandardWords.{word_plus, word_ref}
 use Rattle.core_rules.proofs.Words.{op, at, num, v, vid, pv, ap as app, eq, one_rule, val, decs, word_a, word_b, word_x, word_y}
 use Rattle.core_rules.proofs.Typings.{start, inst-has, mono-has}
 use Rattle.core_rules.proofs.Basics.{put-none, units-may-stand}

@@ -1,6 +1,6 @@
 -- Worked examples of statics: what makes a scheme more general, `+` of environments and bases, and which type functions admit equality.
 use Rattle.std.proofs.Common.{◌≡◌, ℕ, Bool, true, false, [], ◌∷◌, Some, None, refl, sym, ap, ◌∙◌, arith}
-use Rattle.mlc_base.specs.declared.label.Label.TheVariants.{Number}
+use Rattle.mlc_names.specs.declared.label.Label.TheVariants.{Number}
 use Rattle.ty_core.specs.Types.{Symbol, Typ, var, con, none, more, arrow, labels, name, admits, no_variable}
 use Rattle.ty_core.specs.Statics.{TypeFunction, function_admits, named}
 use Rattle.ty_core.specs.declared.name.TyName.{TyName}

@@ -1,7 +1,7 @@
 -- Worked typings.
 use Rattle.std.proofs.Common.{◌≡◌, ℕ, Bool, true, false, List, [], ◌∷◌, codes, refl, sym, subst, Some, None, arith}
 use Rattle.std.specs.Prelude.{unwrap_or, length}
-use Rattle.mlc_base.specs.declared.label.Label.TheVariants.{Number, Word}
+use Rattle.mlc_names.specs.declared.label.Label.TheVariants.{Number, Word}
 use Rattle.ty_core.specs.Types.{Typ, var, no_variable}
 use Rattle.ty_core.specs.declared.mark.Mark.TheVariants.{Any}
 use Rattle.ty_core.specs.declared.env.Status.{Status}
@@ -18,7 +18,7 @@ use Rattle.core_rules.specs.Initial.{initial_context}
 use Rattle.core_rules.specs.Choices.{Choices, no_choice, both, further, settled}
 use Rattle.core_rules.specs.Typing.{Chosen, closed, HasType, DecHas, variable_has, open_has, no_field_has, field_has, vid_has, app_has, fn_has, no_rule_has, rule_has, val_has, no_bind_has, bind_has, datatype_has, let_has, dec_has, no_dec_has, record_has, constant_exp_has, no_exp_field_has, exp_field_has}
 use Rattle.core_rules.proofs.Basics.{put-none}
-use Rattle.mlc_base.specs.StandardWords.{word_int}
+use Rattle.mlc_names.specs.StandardWords.{word_int}
 use Rattle.core_rules.proofs.Words.{at, num, str, vid, v, pv, ap as app, val, clause, fun, one_rule, tycon, decs, word_A, word_B, word_a, word_b, word_id, word_t, word_x}
 
 not-so : {A : Type 0} → true ≡ false → A

@@ -1,8 +1,8 @@
 -- Evaluation in the run algebra. [Definition 6.7] A phrase is evaluated left to right in an environment; calls go through `apply`, which takes the turns.
 -- Where no case applies the run goes wrong.
 use Rattle.std.specs.Prelude.{ℕ, zero, suc, Bool, true, false, List, [], ◌∷◌, Option, Some, None, option_map, option_and_then, if◌then◌else◌}
-use Rattle.mlc_base.specs.Run.{World, Answer, gives, raises, stops, out_of_turns, then_do, or_handle, or_fail, fail, take_turn, writes, new_reference, assign, new_exception}
-use Rattle.mlc_base.specs.declared.label.Label.TheVariants.{Number}
+use Rattle.mlc_runs.specs.Run.{World, Answer, gives, raises, stops, out_of_turns, then_do, or_handle, or_fail, fail, take_turn, writes, new_reference, assign, new_exception}
+use Rattle.mlc_names.specs.declared.label.Label.TheVariants.{Number}
 use Rattle.mlc_base.specs.declared.place.Place.{Place}
 use Rattle.mlc_prims.specs.LitOf.{Literal, string, truth}
 use Rattle.mlc_prims.specs.PrimOf.{Gives, made, raised}

@@ -1,6 +1,6 @@
 -- The initial basis, statically and dynamically from one table. [Definition, Appendices C and D] Its identifiers are standard words.
 use Rattle.std.specs.Prelude.{ℕ, List, [], ◌∷◌, ◌++◌, map, flat_map}
-use Rattle.mlc_base.specs.StandardWords.{word_unit, word_int, word_word, word_char, word_string, word_bool, word_list, word_ref, word_exn, word_true, word_false, word_nil, word_cons, word_Match, word_Bind, word_Overflow, word_Div, word_Subscript, word_Size, word_Chr, word_plus, word_minus, word_times, word_div, word_mod, word_negate, word_abs, word_less_than, word_at_most, word_greater_than, word_at_least, word_assign, word_Prim, word_quot, word_rem, word_andb, word_orb, word_xorb, word_notb, word_shl, word_shr, word_sar, word_toInt, word_toIntX, word_fromInt, word_ord, word_chr, word_text, word_size, word_sub, word_part, word_cat, word_str, word_print}
+use Rattle.mlc_names.specs.StandardWords.{word_unit, word_int, word_word, word_char, word_string, word_bool, word_list, word_ref, word_exn, word_true, word_false, word_nil, word_cons, word_Match, word_Bind, word_Overflow, word_Div, word_Subscript, word_Size, word_Chr, word_plus, word_minus, word_times, word_div, word_mod, word_negate, word_abs, word_less_than, word_at_most, word_greater_than, word_at_least, word_assign, word_Prim, word_quot, word_rem, word_andb, word_orb, word_xorb, word_notb, word_shl, word_shr, word_sar, word_toInt, word_toIntX, word_fromInt, word_ord, word_chr, word_text, word_size, word_sub, word_part, word_cat, word_str, word_print}
 use Rattle.sml_tree.specs.declared.ident.Vid.{Vid}
 use Rattle.sml_tree.specs.declared.ident.Vid.TheVariants.{Named, Equals}
 use Rattle.sml_tree.specs.declared.ident.BuiltIn.{BuiltIn}

@@ -2,8 +2,8 @@
 -- The standard basis is the initial basis and over it what the prelude declares, a source that alone sees the structure `Prim`.
 -- The prelude is a part of the project, where the standard basis stands first.
 use Rattle.std.specs.Prelude.{◌≡◌, ℕ, List, [], ◌∷◌, Option, Some, None}
-use Rattle.mlc_base.specs.Outcome.{Outcome}
-use Rattle.mlc_base.specs.Run.{World, Answer, gives, then_do, outcome_of}
+use Rattle.mlc_runs.specs.Outcome.{Outcome}
+use Rattle.mlc_runs.specs.Run.{World, Answer, gives, then_do, outcome_of}
 use Rattle.sml_tree.specs.BareTree.{Decs}
 use Rattle.core_rules.specs.Objects.{Env, plus, Context, with_env}
 use Rattle.core_rules.specs.Values as dynamic

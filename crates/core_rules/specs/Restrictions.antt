@@ -3,8 +3,8 @@
 -- That no variable is bound twice, nor one of the kept identifiers, is asked by the rules of patterns: there an identifier's status is known.
 use Rattle.std.specs.Prelude.{ℕ, zero, suc, Bool, true, false, not, ◌&&◌, ◌||◌, nat_eq, if◌then◌else◌, List, [], ◌∷◌, ◌++◌, map, flat_map, length}
 use Rattle.std.specs.List.{list_all}
-use Rattle.mlc_base.specs.StandardWords.{word_true, word_false, word_nil, word_cons, word_ref, word_it}
-use Rattle.mlc_base.specs.declared.label.Label.{Label}
+use Rattle.mlc_names.specs.StandardWords.{word_true, word_false, word_nil, word_cons, word_ref, word_it}
+use Rattle.mlc_names.specs.declared.label.Label.{Label}
 use Rattle.mlc_base.specs.declared.place.Place.{Place}
 use Rattle.sml_tree.specs.declared.ident.Tyvar.{Tyvar}
 use Rattle.sml_tree.specs.declared.ident.Vid.{Vid}

@@ -2,7 +2,7 @@
 -- A `val` declaration is typed at once for all types of its parameters: this is the closure of its types [4.7, 4.8], with no type variables to keep apart.
 use Rattle.std.specs.Prelude.{◌≡◌, ℕ, ◌+◌, ◌<◌, Bool, true, false, not, ◌&&◌, nat_eq, nat_lt, if◌then◌else◌, List, [], ◌∷◌, ◌++◌, map, flat_map, length, Option, Some, None, ⊤}
 use Rattle.std.specs.List.{list_all}
-use Rattle.mlc_base.specs.declared.label.Label.{Label}
+use Rattle.mlc_names.specs.declared.label.Label.{Label}
 use Rattle.mlc_base.specs.declared.place.Place.{Place}
 use Rattle.ty_core.specs.Types.{Typ, var, con, Typs, none, more, arrow, name}
 use Rattle.ty_core.specs.Marks.{overloaded}

@@ -1,8 +1,8 @@
 -- Identifiers and labels: when two are one. The order of labels is that of `label_rows`.
 use Rattle.std.specs.Prelude.{Bool, true, false, nat_eq, List}
 use Rattle.std.specs.List.{list_any}
-use Rattle.mlc_base.specs.declared.label.Label.{Label}
-use Rattle.mlc_base.specs.declared.label.Label.TheVariants.{Number, Word}
+use Rattle.mlc_names.specs.declared.label.Label.{Label}
+use Rattle.mlc_names.specs.declared.label.Label.TheVariants.{Number, Word}
 use Rattle.sml_tree.specs.declared.ident.Vid.{Vid}
 use Rattle.sml_tree.specs.declared.ident.Vid.TheVariants.{Named, Equals, Fresh}
 pub use Rattle.label_rows.specs.Order.{label_before}

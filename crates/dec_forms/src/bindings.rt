@@ -12,7 +12,7 @@ use elab_state::state::State;
 use elab_types::refused::Refused;
 use elab_types::scope::{TypeEntry, TypeScope};
 use mlc_base::memory::NoMemory;
-use mlc_base::names::Name;
+use mlc_names::names::Name;
 use sml_tree::ident::Tyvar;
 use sml_tree::tree::TypeBind;
 use std::alloc::Global;

@@ -7,7 +7,7 @@ use elab_context::context::Context;
 use elab_context::entry::Entry;
 use elab_types::scope::TypeEntry;
 use mlc_base::memory::NoMemory;
-use mlc_base::names::Name;
+use mlc_names::names::Name;
 use sml_tree::ident::Vid;
 
 /// Brings value identifiers into scope.

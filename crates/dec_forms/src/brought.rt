@@ -4,7 +4,7 @@ ghost use Rattle.std.specs.Prelude.{◌≡◌, ◌++◌, [], IfOk};
 use elab_context::entry::Entry;
 use elab_types::scope::TypeEntry;
 use mlc_base::memory::NoMemory;
-use mlc_base::names::Name;
+use mlc_names::names::Name;
 use sml_tree::ident::Vid;
 use std::alloc::Global;
 

@@ -3,7 +3,7 @@ ghost use Rattle.std.specs.Prelude.{◌≡◌};
 ghost use Rattle.core_rules.specs.Restrictions.{is_kept as is_kept_vid};
 ghost use Rattle.elab_context.specs.Entries.{is_free as is_free_entry};
 
-use mlc_base::words;
+use mlc_names::words;
 use mlc_prims::basis::BasisPrimitive;
 use sml_tree::ident::Vid;
 use ty_core::mark::Mark;

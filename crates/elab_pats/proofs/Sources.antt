@@ -1,6 +1,6 @@
 -- The bare pattern of each node.
 use Rattle.std.proofs.Common.{◌≡◌, ◌+◌, ℕ, suc, Bool, List, [], ◌∷◌, ◌++◌, map, length, Option, Vec, Box, Global, sym, ap, ◌∙◌, arith}
-use Rattle.mlc_base.specs.declared.label.Label.TheVariants.{Number}
+use Rattle.mlc_names.specs.declared.label.Label.TheVariants.{Number}
 use Rattle.mlc_base.specs.declared.place.Place.{Place}
 use Rattle.sml_tree.specs.declared.ident.BuiltIn.{BuiltIn as Built}
 use Rattle.sml_tree.specs.declared.ident.Constant.{Constant as SourceConstant}

@@ -1,6 +1,6 @@
 // Patterns, whatever their form: recursion along nesting, loops along lists.
 ghost use Rattle.std.specs.Prelude.{◌≡◌, ◌+◌, List, map, IfOk};
-ghost use Rattle.mlc_base.specs.declared.label.Label.TheVariants.{Number};
+ghost use Rattle.mlc_names.specs.declared.label.Label.TheVariants.{Number};
 ghost use Rattle.sml_tree.specs.BareTree.{Pat as SourcePat, fields_pat};
 ghost use Rattle.sml_tree.specs.Derived.{join_pats, left_chain, list_pat_of, right_chain, tuple_pat};
 ghost use Rattle.sml_tree.specs.TreeOf.{pat_of, pat_field_of, pat_fields_of, pat_part_of};
@@ -11,9 +11,9 @@ ghost use Rattle.pat_elab.specs.Elaborated.{IsPat};
 use crate::stopped::Stopped;
 use elab_context::context::Context;
 use elab_state::state::State;
-use mlc_base::label::Label;
 use mlc_base::memory::NoMemory;
 use mlc_base::place::Place;
+use mlc_names::label::Label;
 use pat_elab::bound::{BoundVariable, TypedPat};
 use pat_elab::leaf::{bind_variable, constant, wild};
 use pat_matched::built::built_alone;

@@ -1,7 +1,7 @@
 -- Types with the program's numbers of type names.
 use Rattle.std.proofs.Common.{◌≡◌, ℕ, Bool, true, false, ◌&&◌, List, [], ◌∷◌, map, Option, Some, nat_eq, nat_lt, if◌then◌else◌, refl, sym, ap, ◌∙◌}
 use Rattle.std.specs.Map.{lookup}
-use Rattle.mlc_base.specs.declared.label.Label.{Label}
+use Rattle.mlc_names.specs.declared.label.Label.{Label}
 use Rattle.ty_core.specs.Types.{Symbol, arrow, labels, name, Typ, var, con, Typs, none, more, typs_of, admits, all_admit, attribute, allowed}
 use Rattle.ty_core.specs.Marks.{Allows}
 use Rattle.ty_core.specs.Statics.{replace, replace_all}

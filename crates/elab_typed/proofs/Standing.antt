@@ -81,7 +81,7 @@ more-under s None p = refl
 more-under s (Some t) None = refl
 more-under s (Some t) (Some ts) = refl
 
-field-under : (s : ℕ → Typ) (l : Rattle.mlc_base.specs.declared.label.Label.Label) (o : Option Typ) (p : Option Row)
+field-under : (s : ℕ → Typ) (l : Rattle.mlc_names.specs.declared.label.Label.Label) (o : Option Typ) (p : Option Row)
     → option_map (λ (r : Typ × Row). (l, r.0) ∷ r.1) (option_zip (option_map (replace s) o) (option_map (row_read s) p))
     ≡ option_map (row_read s) (option_map (λ (r : Typ × Row). (l, r.0) ∷ r.1) (option_zip o p))
 field-under s l None p = refl

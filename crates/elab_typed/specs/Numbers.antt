@@ -1,6 +1,6 @@
 -- Type names of the source by their numbers in the program: the source gives numbers back at the end of a `let`, the program never.
 use Rattle.std.specs.Prelude.{◌≡◌, ℕ, true, nat_lt, List, map}
-use Rattle.mlc_base.specs.declared.label.Label.{Label}
+use Rattle.mlc_names.specs.declared.label.Label.{Label}
 use Rattle.ty_core.specs.Types.{Symbol, arrow, labels, name, Typ, var, con, Typs, none, more}
 use Rattle.ty_core.specs.declared.name.TyName.{TyName}
 use Rattle.ty_basis.specs.Types.{name_count}

@@ -7,8 +7,8 @@ use Rattle.std.proofs.Common.{eq-eqb, get_or, nat_lt, ◌-◌, Vec, Box, Global}
 use Rattle.std.proofs.lemmas.Bool.{eqb-true}
 use Rattle.ty_instance.specs.Images.{image_at}
 use Rattle.std.proofs.lemmas.Option.{slice_get_within, get_or_from_slice_get}
-use Rattle.mlc_base.specs.declared.label.Label.{Label}
-use Rattle.mlc_base.specs.declared.label.Label.TheVariants.{Number}
+use Rattle.mlc_names.specs.declared.label.Label.{Label}
+use Rattle.mlc_names.specs.declared.label.Label.TheVariants.{Number}
 use Rattle.mlc_base.specs.declared.place.Place.{Place}
 use Rattle.ty_core.specs.Types.{Typ, var, con, Typs, none, more, typs_of, labels}
 use Rattle.ty_core.specs.Statics.{TypeFunction, apply, argument, count, replace, replace_all}

@@ -1,7 +1,7 @@
 -- The types that are written, as numbers of a table.
 use Rattle.std.specs.Prelude.{◌≡◌, ◌<◌, ℕ, List, [], ◌∷◌, map, length, Option, Some, None, option_map, option_and_then, ⊤}
 use Rattle.std.specs.Option.{option_zip}
-use Rattle.mlc_base.specs.declared.label.Label.{Label}
+use Rattle.mlc_names.specs.declared.label.Label.{Label}
 use Rattle.ty_core.specs.Types.{Typ}
 use Rattle.ty_core.specs.Statics.{apply, replace}
 use Rattle.ty_table.specs.TypeAt.{type_at, types_at, AllBelow}

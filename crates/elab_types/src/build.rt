@@ -6,8 +6,8 @@ ghost use Rattle.label_rows.specs.Sorting.{sorted};
 ghost use Rattle.elab_types.specs.Building.{labels_of, parts_of, functions, numbered_from};
 
 use label_rows::sort::{Field, sort_fields};
-use mlc_base::label::Label;
 use mlc_base::memory::NoMemory;
+use mlc_names::label::Label;
 use std::alloc::Global;
 use ty_core::ty::Head;
 use ty_table::types::Types;

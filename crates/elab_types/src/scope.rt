@@ -5,7 +5,7 @@ ghost use Rattle.ty_table.specs.TypeAt.{type_at, top};
 ghost use Rattle.elab_types.specs.Reading.{entry_of, left_at, Holds};
 
 use mlc_base::memory::NoMemory;
-use mlc_base::names::Name;
+use mlc_names::names::Name;
 use scoped_map::scoped::Scoped;
 use sml_tree::ident::LongId;
 use std::alloc::Global;

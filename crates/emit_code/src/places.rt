@@ -11,7 +11,7 @@ use crate::fault::EmitFault;
 use emit_rows::push::Packets;
 use first_tables::operation::{Callee, Constant};
 use first_tables::tables::{Shape, Tables};
-use mlc_base::names::Name;
+use mlc_names::names::Name;
 
 /// The addresses of strings, of identifiers' texts and of the first exceptions' names and packets, the places of functions, of routines of sets and of
 /// comparisons, each with the place behind the last, and the places of labels, as far as they are known.

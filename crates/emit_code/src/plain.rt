@@ -21,7 +21,7 @@ use emit_rows::sizes::{late_exception, row_size};
 use first_tables::operation::{Constant, Operands, Plain, Test};
 use first_tables::tables::Tables;
 use ir_code::instr::Instr;
-use mlc_base::names::Name;
+use mlc_names::names::Name;
 use mlc_prims::basis::BasisPrimitive;
 use scoped_map::scoped::Scoped;
 use std::alloc::Global;

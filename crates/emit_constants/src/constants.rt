@@ -9,7 +9,7 @@ ghost use Rattle.machine_code.specs.Image.{constants_of, initial_at, names_at, p
 use emit_code::fault::EmitFault;
 use emit_code::put::{sum, word};
 use first_tables::tables::Tables;
-use mlc_base::names::Name;
+use mlc_names::names::Name;
 use std::alloc::Global;
 
 /// The constant words; the addresses of strings and of identifiers' texts, and of the first exceptions' names and packets.

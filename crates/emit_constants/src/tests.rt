@@ -3,7 +3,7 @@
 use crate::constants::place_constants;
 use emit_code::fault::EmitFault;
 use first_tables::tables::Tables;
-use mlc_base::names::Name;
+use mlc_names::names::Name;
 use std::alloc::Global;
 use std::test::Fail;
 

@@ -11,7 +11,7 @@ ghost use Rattle.emit_known.specs.Found.{Adds, arms_make, step_makes, steps_make
 use first_tables::operation::Plain;
 use first_tables::tables::Tables;
 use mlc_base::memory::NoMemory;
-use mlc_base::names::Name;
+use mlc_names::names::Name;
 use ssa_tree::tree::{Arm, Body, Fun, Step};
 use std::alloc::Global;
 

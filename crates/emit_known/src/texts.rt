@@ -6,7 +6,7 @@ ghost use Rattle.machine_code.specs.Image.{text_of};
 ghost use Rattle.image_law.specs.ImageOf.{text_in};
 
 use mlc_base::memory::NoMemory;
-use mlc_base::names::{Name, Names};
+use mlc_names::names::{Name, Names};
 use std::alloc::Global;
 
 /// Makes room for the text of this number.

@@ -1,7 +1,7 @@
 -- Expansions by computation.
 use Rattle.std.proofs.Common.{◌≡◌, ℕ, List, [], ◌∷◌, Some, None, false, refl}
-use Rattle.mlc_base.specs.Outcome.{ended, uncaught}
-use Rattle.mlc_base.specs.declared.label.Label.TheVariants.{Number}
+use Rattle.mlc_runs.specs.Outcome.{ended, uncaught}
+use Rattle.mlc_names.specs.declared.label.Label.TheVariants.{Number}
 use Rattle.mlc_base.specs.declared.place.Place.{Place}
 use Rattle.mlc_prims.specs.LitOf.{string}
 use Rattle.mlc_prims.specs.declared.basis.BasisPrimitive.TheVariants.{Concat, Print}

@@ -1,14 +1,14 @@
 -- The program does what its expansion does, unless that goes wrong.
 use Rattle.std.proofs.Common.{◌≡◌, ℕ, zero, suc, ◌+◌, ◌<◌, List, [], ◌∷◌, length, Bool, true, false, if◌then◌else◌, Option, Some, None, nat_eq, nat_lt, slice_get, option_map, option_and_then, refl, sym, ap, subst, ◌∙◌, arith}
 use Rattle.std.proofs.lemmas.Bool.{eqb-true}
-use Rattle.mlc_base.specs.declared.label.Label.{Label}
-use Rattle.mlc_base.specs.declared.label.Label.TheVariants.{Number}
+use Rattle.mlc_names.specs.declared.label.Label.{Label}
+use Rattle.mlc_names.specs.declared.label.Label.TheVariants.{Number}
 use Rattle.mlc_base.specs.declared.place.Place.{Place}
-use Rattle.mlc_base.specs.Outcome.{wrong}
-use Rattle.mlc_base.specs.Run.{World, Answer, gives, out_of_turns, then_do, or_fail, fail}
-use Rattle.mlc_base.specs.Agreement.{AllRelated, none, more as one_more, BothOrNeither, neither, both, SameWorlds}
-use Rattle.mlc_base.specs.Refinement.{Refines, both_give, both_raise, both_stop, first_wrong}
-use Rattle.mlc_base.proofs.RefineLaws.{then_do-refines, or_handle-refines, take_turn-refines, dereference-refines, new_exception-refines, outcome_of-refines}
+use Rattle.mlc_runs.specs.Outcome.{wrong}
+use Rattle.mlc_runs.specs.Run.{World, Answer, gives, out_of_turns, then_do, or_fail, fail}
+use Rattle.mlc_runs.specs.Agreement.{AllRelated, none, more as one_more, BothOrNeither, neither, both, SameWorlds}
+use Rattle.mlc_runs.specs.Refinement.{Refines, both_give, both_raise, both_stop, first_wrong}
+use Rattle.mlc_runs.proofs.RefineLaws.{then_do-refines, or_handle-refines, take_turn-refines, dereference-refines, new_exception-refines, outcome_of-refines}
 use Rattle.mlc_prims.specs.LitOf.{Literal, int, word, char, string, truth}
 use Rattle.mlc_prims.specs.declared.basis.BasisPrimitive.{BasisPrimitive}
 use Rattle.mlc_prims.specs.declared.basis.BasisPrimitive.TheVariants.{Add}

@@ -1,8 +1,8 @@
 -- Values of the two programs, the expansion's first: functions have expanded bodies, and what is a function by itself is a `fn`.
 use Rattle.std.proofs.Common.{◌≡◌, ℕ, suc, ◌+◌, List, [], ◌∷◌, length, Bool, true, false, Option, Some, None, if◌then◌else◌, nat_eq, subst, refl, sym, ap}
 use Rattle.std.specs.Prelude.{option_and_then}
-use Rattle.mlc_base.specs.Agreement.{AllRelated, none, more, BothOrNeither, neither, both}
-use Rattle.mlc_base.specs.declared.label.Label.{Label}
+use Rattle.mlc_runs.specs.Agreement.{AllRelated, none, more, BothOrNeither, neither, both}
+use Rattle.mlc_names.specs.declared.label.Label.{Label}
 use Rattle.mlc_prims.specs.LitOf.{Literal}
 use Rattle.mlc_prims.specs.Table.{literal_eq}
 use Rattle.mlc_prims.specs.declared.basis.BasisPrimitive.{BasisPrimitive}

@@ -1,6 +1,6 @@
 // What is a function by itself, as a function.
 ghost use Rattle.std.specs.Prelude.{◌≡◌, ◌+◌, true, false, ℕ, List, length, IfOk};
-ghost use Rattle.mlc_base.specs.declared.label.Label.TheVariants.{Number};
+ghost use Rattle.mlc_names.specs.declared.label.Label.TheVariants.{Number};
 ghost use Rattle.ir_plain.specs.Tree.{fn, prim_alone};
 ghost use Rattle.ir_mono.specs.Mono.{Mono};
 ghost use Rattle.plain_tree.specs.TreeOf.{onto};
@@ -10,9 +10,9 @@ ghost use Rattle.eta_parts.specs.Numbers.{numbers_from};
 
 use crate::ask::{fields_at, given_at, take_numbers, taken_at, takes_one};
 use crate::making::{block_of, ended, function, giving, value};
-use mlc_base::label::Label;
 use mlc_base::make::{one, two};
 use mlc_base::memory::NoMemory;
+use mlc_names::label::Label;
 use mlc_prims::basis::BasisPrimitive;
 use mono_types::types::Types;
 use plain_tree::tree::{Binding, Exception, Operation, Parameter, Step};

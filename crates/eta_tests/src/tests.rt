@@ -1,9 +1,9 @@
 // What stands as a value becomes a function, and new variables are numbered in order.
 
 use eta_code::expand::expand;
-use mlc_base::label::Label;
 use mlc_base::make::{boxed, one, two};
 use mlc_base::memory::NoMemory;
+use mlc_names::label::Label;
 use mlc_prims::basis::BasisPrimitive;
 use mono_types::types::Types;
 use plain_tree::tree::{Arm, Binding, Case, Exception, Exp, Operation, Parameter, Step};
@@ -215,7 +215,7 @@ fn exceptions(alloc: Global) -> Result<Exp, NoMemory> {
     steps.push(Step::Name(20, Exception::Initial(0)))?;
     steps.push(Step::Exception {
         variable: 22,
-        identifier: mlc_base::names::Name::standard(0),
+        identifier: mlc_names::names::Name::standard(0),
         argument: Some(0),
     })?;
     steps.push(Step::Name(21, Exception::Held(22)))?;

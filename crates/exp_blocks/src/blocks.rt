@@ -19,7 +19,7 @@ use match_types::types::{new_binding, scoped_type};
 use match_types::work::{ValueType, Work};
 use mlc_base::make::{boxed, one};
 use mlc_base::memory::NoMemory;
-use mlc_base::words::{FALSE, TRUE};
+use mlc_names::words::{FALSE, TRUE};
 use plain_tree::tree::{Arm, Case, Exp, Function, Operation, Parameter, Step};
 use std::alloc::Global;
 

@@ -1,6 +1,6 @@
 -- Expressions one after the other, as fields, operands or those of a sequence.
 use Rattle.std.specs.Prelude.{◌≡◌, ◌≤◌, ℕ, Bool, true, false, List, [], ◌∷◌, map, ⊤}
-use Rattle.mlc_base.specs.declared.label.Label.{Label}
+use Rattle.mlc_names.specs.declared.label.Label.{Label}
 use Rattle.mlc_base.specs.declared.place.Place.{Place}
 use Rattle.ty_core.specs.Types.{Typ, typs_of}
 use Rattle.sml_tree.specs.BareTree as bare

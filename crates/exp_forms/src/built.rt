@@ -20,7 +20,7 @@ use elab_steps::step::{apply, fresh_type, write};
 use mlc_base::make::one;
 use mlc_base::memory::NoMemory;
 use mlc_base::place::Place;
-use mlc_base::words;
+use mlc_names::words;
 use pat_matched::built::{lists, pairs};
 use prog_tree::tree::Used;
 use sml_tree::ident::BuiltIn;

@@ -1,7 +1,7 @@
 // Forms while their parts are made.
 
 use label_rows::sort::Field;
-use mlc_base::label::Label;
+use mlc_names::label::Label;
 use prog_tree::tree::Exp;
 
 /// A function, its arguments so far, each with the type of the application to it, and the type of the whole.

@@ -1,6 +1,6 @@
 -- Expressions of one node, and what is made of parts.
 use Rattle.std.specs.Prelude.{ℕ, List}
-use Rattle.mlc_base.specs.declared.label.Label.{Label}
+use Rattle.mlc_names.specs.declared.label.Label.{Label}
 use Rattle.mlc_base.specs.declared.place.Place.{Place}
 use Rattle.ir_poly.specs.Prog as t
 use Rattle.prog_tree.specs.TreeOf.{Reading, atom_of, use_of}

@@ -1,7 +1,7 @@
 -- How applications go, as the code's values say it.
 use Rattle.std.specs.Prelude.{ℕ, suc, Bool, true, ◌&&◌, List, [], ◌∷◌, Option, Some, None, nat_lt}
-use Rattle.mlc_base.specs.declared.label.Label.{Label}
-use Rattle.mlc_base.specs.declared.label.Label.TheVariants.{Number}
+use Rattle.mlc_names.specs.declared.label.Label.{Label}
+use Rattle.mlc_names.specs.declared.label.Label.TheVariants.{Number}
 use Rattle.ty_core.specs.Types.{Typ}
 use Rattle.ir_poly.specs.Prog as t
 use Rattle.ir_poly.specs.Types.{unit_type}

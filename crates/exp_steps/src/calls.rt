@@ -1,6 +1,6 @@
 // What is done with the values of parts.
 ghost use Rattle.std.specs.Prelude.{◌≡◌, IfOk, List, [], ◌∷◌};
-ghost use Rattle.mlc_base.specs.declared.label.Label.TheVariants.{Number};
+ghost use Rattle.mlc_names.specs.declared.label.Label.TheVariants.{Number};
 ghost use Rattle.ir_plain.specs.Tree.{make_record, no_row};
 ghost use Rattle.ir_poly.specs.Prog.{Exp as Source, Fields, type_of};
 ghost use Rattle.ir_poly.specs.Types.{unit_type};

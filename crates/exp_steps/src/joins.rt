@@ -1,6 +1,6 @@
 // Infix operators.
 ghost use Rattle.std.specs.Prelude.{◌≡◌, IfOk, List, [], ◌∷◌};
-ghost use Rattle.mlc_base.specs.declared.label.Label.TheVariants.{Number};
+ghost use Rattle.mlc_names.specs.declared.label.Label.TheVariants.{Number};
 ghost use Rattle.ir_poly.specs.Prog.{Exp as Source};
 ghost use Rattle.plain_tree.specs.declared.tree.Step.{Step as Row};
 ghost use Rattle.prog_tree.specs.TreeOf.{Reading};
@@ -13,9 +13,9 @@ ghost use Rattle.exp_steps.specs.Joining.{pair_fields as both_fields, pair_row};
 use crate::calls::{push_built, push_call, push_performed, push_record};
 use crate::ways::Built;
 use match_types::work::Work;
-use mlc_base::label::Label;
 use mlc_base::make::two;
 use mlc_base::memory::NoMemory;
+use mlc_names::label::Label;
 use mlc_prims::basis::BasisPrimitive;
 use plain_tree::tree::{Field, Step};
 use prog_tree::tree::Join;

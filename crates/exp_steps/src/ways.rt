@@ -1,6 +1,6 @@
 // How applications and matches go, seen by their first nodes.
 ghost use Rattle.std.specs.Prelude.{◌≡◌, ◌&&◌, IfOk};
-ghost use Rattle.mlc_base.specs.declared.label.Label.TheVariants.{Number};
+ghost use Rattle.mlc_names.specs.declared.label.Label.TheVariants.{Number};
 ghost use Rattle.ir_values.specs.Values.{same_label};
 ghost use Rattle.ty_core.specs.Types.{Typ};
 ghost use Rattle.ir_poly.specs.Prog.{Exp as Source};
@@ -11,8 +11,8 @@ ghost use Rattle.exp_steps.specs.Ways.{way_of, headed, operands, type_or_unit, l
 ghost use Rattle.exp_steps.specs.Making.{Weighs};
 
 use crate::operations::push_counted;
-use mlc_base::label::Label;
 use mlc_base::memory::NoMemory;
+use mlc_names::label::Label;
 use mlc_prims::basis::BasisPrimitive;
 use plain_tree::tree::Step;
 use prog_tree::tree::{Atom, Exception, Exp, Pat, Used};

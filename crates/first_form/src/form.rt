@@ -16,7 +16,7 @@ use first_known::tables::are_tables;
 use first_tables::tables::Tables;
 use first_tree::tree::Fun;
 use mlc_base::memory::NoMemory;
-use mlc_base::pass::{Check, Form};
+use mlc_runs::pass::{Check, Form};
 use std::alloc::Global;
 
 /// A program without function values: its tables, its functions, of which the first is the program itself, and how many nodes it has written out.

@@ -1,6 +1,6 @@
 // What is done with values at once, as the code has it.
 
-use mlc_base::names::Name;
+use mlc_names::names::Name;
 use mlc_prims::basis::BasisPrimitive;
 
 /// A constant. A string is that of its number in the tables.

@@ -1,6 +1,6 @@
 // The tables of a program.
 
-use mlc_base::names::Name;
+use mlc_names::names::Name;
 
 /// How the values of a type are compared: a cell by the types of the parts at each tag.
 #[derive(Drop)]

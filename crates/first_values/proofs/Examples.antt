@@ -1,7 +1,7 @@
 -- Small cases, by computation.
 use Rattle.std.proofs.Common.{◌≡◌, ℕ, ◌-◌, ◌^◌, [], ◌∷◌, Some, None, true, false, refl}
 use Rattle.std.specs.Prelude.{pos, negsuc}
-use Rattle.mlc_base.specs.Run.{gives, stops, went_wrong, start}
+use Rattle.mlc_runs.specs.Run.{gives, stops, went_wrong, start}
 use Rattle.mlc_prims.specs.LitOf.{int, string}
 use Rattle.mlc_prims.specs.PrimOf.{made, raised}
 use Rattle.mlc_prims.specs.declared.basis.BasisPrimitive.TheVariants.{Add, Less, Divide}

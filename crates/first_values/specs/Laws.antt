@@ -1,6 +1,6 @@
 -- What is claimed of what is done with values.
 use Rattle.std.specs.Prelude.{◌≡◌, ℕ, true, List, [], ◌∷◌, Some}
-use Rattle.mlc_base.specs.Run.{World, raises}
+use Rattle.mlc_runs.specs.Run.{World, raises}
 use Rattle.mlc_prims.specs.LitOf.{Literal}
 use Rattle.mlc_prims.specs.PrimOf.{raised}
 use Rattle.mlc_prims.specs.declared.basis.BasisPrimitive.{BasisPrimitive}

@@ -1,7 +1,7 @@
 -- What is done with values at once: operations that give a value, primitives that may raise, tests, and which function a call enters.
 use Rattle.std.specs.Prelude.{ℕ, ◌^◌, ℤ, Bool, true, false, List, [], ◌∷◌, Option, Some, None, option_map, option_and_then, nat_eq, nat_lt, if◌then◌else◌, slice_get, get_or}
-use Rattle.mlc_base.specs.Run.{World, Answer, gives, raises, fail, or_fail, writes, new_reference, dereference, new_exception}
-use Rattle.mlc_base.specs.Run as run
+use Rattle.mlc_runs.specs.Run.{World, Answer, gives, raises, fail, or_fail, writes, new_reference, dereference, new_exception}
+use Rattle.mlc_runs.specs.Run as run
 use Rattle.mlc_prims.specs.LitOf.{Literal, int, word, char, string, truth}
 use Rattle.mlc_prims.specs.PrimOf.{Gives, made, raised, fitting}
 use Rattle.mlc_prims.specs.Table.{row_of, literal_eq}

@@ -1,6 +1,6 @@
 -- Flow sets by computation: a function in a record, and one that gives a function.
 use Rattle.std.proofs.Common.{◌≡◌, true, false, List, [], ◌∷◌, None, refl}
-use Rattle.mlc_base.specs.declared.label.Label.TheVariants.{Number}
+use Rattle.mlc_names.specs.declared.label.Label.TheVariants.{Number}
 use Rattle.ty_core.specs.Types.{arrow, labels, name}
 use Rattle.ir_values.specs.Values.{true_number, false_number}
 use Rattle.ir_plain.specs.Tree.{ret, let_in, fn, use_of, make_record, select, no_row, a_row, last}

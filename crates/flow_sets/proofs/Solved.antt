@@ -1,8 +1,8 @@
 -- In a well typed program all functions of each type are a solution: one case a construct.
 use Rattle.std.proofs.Common.{◌≡◌, ℕ, Bool, true, false, List, [], ◌∷◌, ◌++◌, length, Option, Some, nat_eq, if◌then◌else◌, refl, sym, ap, subst, ◌∙◌}
 use Rattle.std.specs.Prelude.{option_and_then}
-use Rattle.mlc_base.specs.declared.label.Label.{Label}
-use Rattle.mlc_base.specs.declared.label.Label.TheVariants.{Number, Word}
+use Rattle.mlc_names.specs.declared.label.Label.{Label}
+use Rattle.mlc_names.specs.declared.label.Label.TheVariants.{Number, Word}
 use Rattle.mlc_prims.specs.declared.basis.BasisPrimitive.{BasisPrimitive}
 use Rattle.mlc_prims.specs.declared.basis.BasisPrimitive.TheVariants.{Assign}
 use Rattle.ty_core.specs.Types.{labels, typs_of}

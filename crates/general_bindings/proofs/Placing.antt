@@ -1,8 +1,8 @@
 -- Steps that bind a variable of a type of the table.
 use Rattle.std.proofs.Common.{◌≡◌, ℕ, suc, List, [], ◌∷◌, ◌++◌, map, length, Box, Global, sym, ap, ap₂, subst, ◌∙◌}
 use Rattle.std.proofs.lemmas.List.{length-map}
-use Rattle.mlc_base.specs.declared.label.Label.{Label}
-use Rattle.mlc_base.specs.declared.label.Label.TheVariants.{Number}
+use Rattle.mlc_names.specs.declared.label.Label.{Label}
+use Rattle.mlc_names.specs.declared.label.Label.TheVariants.{Number}
 use Rattle.ty_core.specs.Types.{Typ}
 use Rattle.ty_table.specs.TypeAt.{type_at}
 use Rattle.ir_plain.specs.Tree as te

@@ -11,7 +11,7 @@ ghost use Rattle.exp_blocks.specs.Giving.{Grows};
 use match_types::types::{fresh, scoped_type};
 use match_types::work::{ValueType, Work};
 use mlc_base::memory::NoMemory;
-use mlc_base::names::Name;
+use mlc_names::names::Name;
 use plain_tree::tree::Step;
 use std::alloc::Global;
 

@@ -1,6 +1,6 @@
 // The record of a pattern's variables. Variables are given the latest first.
 ghost use Rattle.std.specs.Prelude.{◌≡◌, [], suc, map, length, IfOk};
-ghost use Rattle.mlc_base.specs.declared.label.Label.TheVariants.{Number};
+ghost use Rattle.mlc_names.specs.declared.label.Label.TheVariants.{Number};
 ghost use Rattle.ty_core.specs.Types.{Typ, var};
 ghost use Rattle.ty_table.specs.TypeAt.{type_at, AllBelow};
 ghost use Rattle.ir_plain.specs.Tree.{Op, let_in, ret, raise_initial, make_record, use_of, select, block};
@@ -18,9 +18,9 @@ ghost use Rattle.general_bindings.specs.General.{listed, over_scope, placing, ge
 use exp_blocks::blocks::ended;
 use match_types::types::{fresh, scoped_type};
 use match_types::work::Work;
-use mlc_base::label::Label;
 use mlc_base::make::boxed;
 use mlc_base::memory::NoMemory;
+use mlc_names::label::Label;
 use pattern_tests::spots::Spot;
 use plain_tree::tree::{Binding, Exp, Field, Operation, Step};
 use std::alloc::Global;

@@ -8,7 +8,7 @@ use match_names::names::Names;
 use match_types::work::{ValueType, Work};
 use mlc_base::make::boxed;
 use mlc_base::memory::NoMemory;
-use mlc_base::names::Name;
+use mlc_names::names::Name;
 use pattern_tests::spots::Spot;
 use plain_tree::tree::{Exp, Step};
 use prog_tree::tree::{Pat, Side};

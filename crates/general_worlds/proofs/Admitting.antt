@@ -1,7 +1,7 @@
 -- Solutions where other variables admit equality.
 use Rattle.std.proofs.Common.{◌≡◌, inl, inr, ◌||◌, ◌&&◌, ℕ, Bool, true, false, List, [], ◌∷◌, refl, sym, ap, ap₂, subst, ◌∙◌}
 use Rattle.std.proofs.lemmas.Bool.{eq-eqb}
-use Rattle.mlc_base.specs.declared.label.Label.{Label}
+use Rattle.mlc_names.specs.declared.label.Label.{Label}
 use Rattle.ty_core.specs.Types.{Typ, Typs, var, con, none, more, admits, all_admit, allowed, attribute}
 use Rattle.ty_core.specs.declared.mark.Mark.{Mark}
 use Rattle.ty_solve.specs.Rows.{At}

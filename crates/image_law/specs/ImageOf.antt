@@ -1,7 +1,7 @@
 -- An image of a program, with the texts of the identifiers that it has.
 use Rattle.std.specs.Prelude.{◌≡◌, ◌≢◌, ℕ, ◌+◌, ◌*◌, ◌^◌, ◌<◌, ◌≤◌, List, [], ◌∷◌, length, Bool, true, false, ◌||◌, nat_eq, if◌then◌else◌}
 use Rattle.std.specs.List.{AllByRecursion}
-use Rattle.mlc_base.specs.Outcome.{wrong}
+use Rattle.mlc_runs.specs.Outcome.{wrong}
 use Rattle.ir_code.specs.Machine.{all_bytes}
 use Rattle.ir_code.specs.Program as machine
 use Rattle.ir_code.specs.Run.{run_of}

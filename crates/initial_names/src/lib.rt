@@ -2,11 +2,11 @@
 #![tactic(auto)]
 
 ghost use Rattle.std.specs.Prelude.{◌≡◌, ◌↔◌, IfOk, IsTrue};
-ghost use Rattle.mlc_base.specs.Passes.{initial_exceptions};
+ghost use Rattle.mlc_runs.specs.Passes.{initial_exceptions};
 
 use mlc_base::memory::NoMemory;
-use mlc_base::names::Name;
-use mlc_base::words::{
+use mlc_names::names::Name;
+use mlc_names::words::{
     BIND, CHR_EXCEPTION, DIV_EXCEPTION, MATCH, OVERFLOW, SIZE_EXCEPTION, SUBSCRIPT,
 };
 use std::alloc::Global;

@@ -7,8 +7,8 @@ ghost use Rattle.ty_table.specs.TypeAt.{type_at, types_at, AllBelow};
 ghost use Rattle.ir_uses.specs.Shapes.{shape_type, shapes_of};
 
 use ir_uses::shape::{Arguments, Shape, primitive_type};
-use mlc_base::label::Label;
 use mlc_base::memory::NoMemory;
+use mlc_names::label::Label;
 use mlc_prims::basis::BasisPrimitive;
 use std::alloc::Global;
 use ty_core::name::TyName;

@@ -1,7 +1,7 @@
 -- What is done with calls of closures alone is done with all calls, unless it goes wrong.
 use Rattle.std.proofs.Common.{◌≡◌, ℕ, zero, suc, List, Option, Some, None, refl}
-use Rattle.mlc_base.specs.Outcome.{wrong}
-use Rattle.mlc_base.specs.Run.{World, Answer, gives, raises, stops, went_wrong, then_do, or_handle, or_fail, fail, turn_from, start, outcome_of}
+use Rattle.mlc_runs.specs.Outcome.{wrong}
+use Rattle.mlc_runs.specs.Run.{World, Answer, gives, raises, stops, went_wrong, then_do, or_handle, or_fail, fail, turn_from, start, outcome_of}
 use Rattle.mlc_base.specs.declared.place.Place.{Place}
 use Rattle.ir_values.specs.Values.{literal, record_of, con, con_of, exn, exn_of, ref, address, cell, primitive, closure, bind, empty}
 use Rattle.ir_values.specs.Match.{Matched, matches, no_match, mismatch, after_match}

@@ -1,7 +1,7 @@
 -- What a program does where only `fn` and groups are functions: to call a constructor, `ref`, a primitive or an exception's name goes wrong.
 use Rattle.std.specs.Prelude.{ℕ, zero, suc, List}
-use Rattle.mlc_base.specs.Outcome.{Outcome}
-use Rattle.mlc_base.specs.Run.{World, Answer, stops, out_of_turns, start, take_turn, fail, outcome_of}
+use Rattle.mlc_runs.specs.Outcome.{Outcome}
+use Rattle.mlc_runs.specs.Run.{World, Answer, stops, out_of_turns, start, take_turn, fail, outcome_of}
 use Rattle.ir_values.specs.Values.{closure, empty}
 use Rattle.ir_plain.specs.Kind.{Kind}
 use Rattle.ir_plain.specs.Tree.{Exp, Fun}

@@ -1,6 +1,6 @@
 -- What is claimed of programs with no function by itself.
 use Rattle.std.specs.Prelude.{◌≡◌, ℕ, []}
-use Rattle.mlc_base.specs.Outcome.{wrong}
+use Rattle.mlc_runs.specs.Outcome.{wrong}
 use Rattle.ir_mono.specs.Mono.{Program}
 use Rattle.ir_mono.specs.Mono as mono
 use Rattle.ir_mono.specs.Explicit.{IsExplicit}

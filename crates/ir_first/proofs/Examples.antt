@@ -1,7 +1,7 @@
 -- Small programs, by computation: in both meanings.
 use Rattle.std.proofs.Common.{◌≡◌, ℕ, List, [], ◌∷◌, refl}
 use Rattle.std.specs.Prelude.{pos}
-use Rattle.mlc_base.specs.Outcome.{Outcome, ended, wrong, going, uncaught}
+use Rattle.mlc_runs.specs.Outcome.{Outcome, ended, wrong, going, uncaught}
 use Rattle.mlc_base.specs.declared.place.Place.{Place}
 use Rattle.mlc_prims.specs.declared.basis.BasisPrimitive.TheVariants.{Add, Less, Divide}
 use Rattle.first_values.specs.Values.{one, run}

@@ -2,8 +2,8 @@
 use Rattle.std.proofs.Common.{◌≡◌, ℕ, zero, suc, ◌||◌, List, [], ◌∷◌, Option, Some, None, Bool, true, false, if◌then◌else◌, nat_eq, slice_get, refl, ap, subst}
 use Rattle.std.specs.Prelude.{⊤}
 use Rattle.std.specs.List.{AllByRecursion}
-use Rattle.mlc_base.specs.Outcome.{wrong}
-use Rattle.mlc_base.specs.Run.{World, gives, raises, stops, went_wrong, then_do, or_handle, fail, or_fail, turn_from, outcome_of}
+use Rattle.mlc_runs.specs.Outcome.{wrong}
+use Rattle.mlc_runs.specs.Run.{World, gives, raises, stops, went_wrong, then_do, or_handle, fail, or_fail, turn_from, outcome_of}
 use Rattle.mlc_base.specs.declared.place.Place.{Place}
 use Rattle.mlc_prims.specs.PrimOf.{Gives, made, raised}
 use Rattle.first_values.specs.Values.{Value, literal, cell, reference, name, packet, values_of, Env, Run, bind, look_up, look_all, bind_all, gather, identifier_of, tag_of}

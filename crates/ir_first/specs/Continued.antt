@@ -1,7 +1,7 @@
 -- The same, with what is done where an expression misses: `other`. Here a block that misses is wrong.
 use Rattle.std.specs.Prelude.{ℕ, zero, suc, List, [], nat_eq, if◌then◌else◌, slice_get}
-use Rattle.mlc_base.specs.Outcome.{Outcome}
-use Rattle.mlc_base.specs.Run.{World, gives, raises, stops, out_of_turns, then_do, or_handle, fail, or_fail, take_turn, outcome_of}
+use Rattle.mlc_runs.specs.Outcome.{Outcome}
+use Rattle.mlc_runs.specs.Run.{World, gives, raises, stops, out_of_turns, then_do, or_handle, fail, or_fail, take_turn, outcome_of}
 use Rattle.first_values.specs.Values.{Value, cell, values_of, Env, Run, bind, look_up, look_all, bind_all, gather, identifier_of, tag_of}
 use Rattle.first_values.specs.Operations.{Tables, perform, attempted, either_way, decide, called, raised_from}
 use Rattle.ir_first.specs.Tree.{Exp, Op, Arms, Fun, Program, ret, let_in, turn, switch, branch, first, miss, plain, make, attempt, call, block, handle, raise, no_arms, arm}

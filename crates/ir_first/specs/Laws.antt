@@ -1,6 +1,6 @@
 -- What is claimed of the two meanings.
 use Rattle.std.specs.Prelude.{◌≡◌, ℕ}
-use Rattle.mlc_base.specs.Outcome.{wrong}
+use Rattle.mlc_runs.specs.Outcome.{wrong}
 use Rattle.ir_first.specs.Tree.{Program}
 use Rattle.ir_first.specs.Meaning.{meaning}
 use Rattle.ir_first.specs.Continued as continued

@@ -1,6 +1,6 @@
 -- What the first node of a type and its parts say of the type.
 use Rattle.std.proofs.Common.{◌≡◌, ◌≢◌, ◌↔◌, ℕ, suc, Bool, false, List, [], ◌∷◌, IsTrue, length, slice_index_or, refl, sym, ap, ◌∙◌}
-use Rattle.mlc_base.specs.declared.label.Label.{Label}
+use Rattle.mlc_names.specs.declared.label.Label.{Label}
 use Rattle.ty_core.specs.Types.{Typ, con, Typs, none, more, name, labels, arrow, Symbol}
 use Rattle.ty_core.specs.declared.name.TyName.{TyName}
 use Rattle.ty_table.specs.TypeAt.{type_at, types_at}

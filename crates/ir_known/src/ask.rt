@@ -4,7 +4,7 @@ ghost use Rattle.ty_core.specs.Types.{Typ, var};
 ghost use Rattle.ty_table.specs.TypeAt.{type_at};
 ghost use Rattle.ir_poly.specs.Types.{of_name, function_type, ref_type, unit_type, bool_name};
 
-use mlc_base::label::Label;
+use mlc_names::label::Label;
 use ty_core::name::{Equality, TyName};
 use ty_core::ty::Head;
 use ty_table::types::{Types, View};

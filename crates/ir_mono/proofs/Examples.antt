@@ -1,7 +1,7 @@
 -- Small programs in simple types, by computation: each value keeps the number of its type, and what was made at one type goes wrong at another.
 use Rattle.std.proofs.Common.{◌≡◌, ℕ, List, [], ◌∷◌, Some, None, true, false, pos, refl}
-use Rattle.mlc_base.specs.Outcome.{End, ended, wrong, Outcome}
-use Rattle.mlc_base.specs.declared.label.Label.TheVariants.{Number}
+use Rattle.mlc_runs.specs.Outcome.{End, ended, wrong, Outcome}
+use Rattle.mlc_names.specs.declared.label.Label.TheVariants.{Number}
 use Rattle.mlc_prims.specs.LitOf.{int}
 use Rattle.mlc_prims.specs.declared.basis.BasisPrimitive.TheVariants.{Equals}
 use Rattle.ty_core.specs.Types.{labels, name}

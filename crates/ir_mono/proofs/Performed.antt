@@ -2,9 +2,9 @@
 use Rattle.std.proofs.Common.{◌≡◌, ℕ, zero, suc, ◌<◌, List, [], ◌∷◌, ◌++◌, length, Bool, true, false, Option, Some, None, slice_get, if◌then◌else◌, nat_eq, nat_lt, option_map, option_and_then, subst, refl, sym, ap, arith, ◌∙◌}
 use Rattle.std.specs.Prelude.{slice_set, not, ◌||◌}
 use Rattle.std.proofs.lemmas.Bool.{lt-ltb, eq-eqb, eqb-true}
-use Rattle.mlc_base.specs.Run.{World, Answer, gives, raises, stops, out_of_turns, then_do, or_handle, or_fail, fail, turn_from}
-use Rattle.mlc_base.specs.declared.label.Label.{Label}
-use Rattle.mlc_base.specs.declared.label.Label.TheVariants.{Number}
+use Rattle.mlc_runs.specs.Run.{World, Answer, gives, raises, stops, out_of_turns, then_do, or_handle, or_fail, fail, turn_from}
+use Rattle.mlc_names.specs.declared.label.Label.{Label}
+use Rattle.mlc_names.specs.declared.label.Label.TheVariants.{Number}
 use Rattle.mlc_prims.specs.LitOf.{Literal, int, word, char, string}
 use Rattle.mlc_prims.specs.PrimOf.{Gives, made}
 use Rattle.mlc_prims.specs.Table.{row_of}
@@ -236,7 +236,7 @@ module _ (types : List Row) where
         go (stand_more stands_var (stand_more stands_var stand_none)) (a_value_is x (a_value_is y no_values_are)) = compared-fine w (same-answers types table S x y (table.comparable u a.mark)) (truth-result a.result) k
 
     assign-fine : {S : Shape} {u n : ℕ} (i : ℕ) {v : W} (w : World W) → slice_get S.store i ≡ Some u → ValueTyped types S v u → Stands types (λ x. u) n Rattle.ir_poly.specs.Types.unit_type → WorldTyped types S w
-        → Fine (OfType n) S (Rattle.mlc_base.specs.Run.assign i (cell u v) w (gives (Rattle.ir_values.specs.Values.unit_value (by_number types))))
+        → Fine (OfType n) S (Rattle.mlc_runs.specs.Run.assign i (cell u v) w (gives (Rattle.ir_values.specs.Values.unit_value (by_number types))))
     assign-fine i w e h r k = if-true (nat_lt i (length w.store)) _ _ (lt-ltb i (length w.store) (in-store i k.store e)) (here (record { store = set-stored i k.store e h; exceptions = k.exceptions }) (unit-typed r))
 
     assigns-fine : {S : Shape} {u n : ℕ} {ns : List ℕ} {vs : List W} (w : World W) → PrimAt types Assign u ns n → ValuesTyped types S vs ns → WorldTyped types S w → Fine (OfType n) S (perform_as (by_number types) assigns u Assign vs w)

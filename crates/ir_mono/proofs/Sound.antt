@@ -1,9 +1,9 @@
 -- A well formed program goes wrong at no number of turns.
 use Rattle.std.proofs.Common.{◌≡◌, ℕ, zero, suc, List, [], ◌∷◌, ◌++◌, length, Bool, true, false, Option, Some, None, slice_get, if◌then◌else◌, nat_eq, subst, refl, sym, ap, ◌∙◌, arith}
 use Rattle.std.proofs.lemmas.Bool.{eq-eqb, ltb-true}
-use Rattle.mlc_base.specs.Outcome.{wrong}
-use Rattle.mlc_base.specs.Run.{World, Answer, gives, start, then_do, or_handle, or_fail, fail, turn_from, outcome_of}
-use Rattle.mlc_base.specs.declared.label.Label.{Label}
+use Rattle.mlc_runs.specs.Outcome.{wrong}
+use Rattle.mlc_runs.specs.Run.{World, Answer, gives, start, then_do, or_handle, or_fail, fail, turn_from, outcome_of}
+use Rattle.mlc_names.specs.declared.label.Label.{Label}
 use Rattle.mlc_base.specs.declared.place.Place.{Place}
 use Rattle.ir_values.specs.Values.{Value, cell, exn, closure, empty, record_of, packet_name}
 use Rattle.ir_values.specs.Match.{after_match}

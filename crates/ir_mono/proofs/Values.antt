@@ -1,8 +1,8 @@
 -- What is stored and which exceptions are made only grows; what a typed value is, and what arms find of it.
 use Rattle.std.proofs.Common.{◌≡◌, ℕ, suc, List, [], ◌∷◌, length, Bool, true, false, Option, Some, None, slice_get, if◌then◌else◌, nat_eq, nat_lt, subst, sym, refl, ap, ◌∙◌, arith}
 use Rattle.std.proofs.lemmas.Bool.{eqb-true, eq-eqb, ltb-true}
-use Rattle.mlc_base.specs.Run.{World}
-use Rattle.mlc_base.specs.declared.label.Label.{Label}
+use Rattle.mlc_runs.specs.Run.{World}
+use Rattle.mlc_names.specs.declared.label.Label.{Label}
 use Rattle.mlc_prims.specs.LitOf.{Literal}
 use Rattle.mlc_prims.specs.Table.{literal_eq}
 use Rattle.ty_core.specs.Types.{labels, name}

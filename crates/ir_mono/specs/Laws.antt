@@ -1,6 +1,6 @@
 -- What simple types give.
 use Rattle.std.specs.Prelude.{◌≡◌, ℕ, Bool, true, List, [], Some}
-use Rattle.mlc_base.specs.Outcome.{wrong}
+use Rattle.mlc_runs.specs.Outcome.{wrong}
 use Rattle.ir_plain.specs.Scoped.{IsBound}
 use Rattle.ir_values.specs.Equality.{same_at}
 use Rattle.ir_plain.specs.Meaning.{V}

@@ -1,6 +1,6 @@
 -- The plain-order tree with simple types: a variable is a number, a type its number in the program's table, and values keep the numbers of their types.
 use Rattle.std.specs.Prelude.{ℕ, List, nat_eq, ⊤}
-use Rattle.mlc_base.specs.Outcome.{Outcome}
+use Rattle.mlc_runs.specs.Outcome.{Outcome}
 use Rattle.ir_plain.specs.Kind.{Kind}
 use Rattle.ir_plain.specs.Tree.{Exp}
 use Rattle.ir_plain.specs.Meaning as plain

@@ -1,8 +1,8 @@
 -- A small program for each construct, with its outcome at several numbers of turns, by computation.
 use Rattle.std.proofs.Common.{◌≡◌, ℕ, List, [], ◌∷◌, Some, None, nat_eq, pos, refl}
 use Rattle.std.specs.Prelude.{⊤, if◌then◌else◌}
-use Rattle.mlc_base.specs.Outcome.{End, ended, uncaught, going, wrong, Outcome}
-use Rattle.mlc_base.specs.declared.label.Label.TheVariants.{Number}
+use Rattle.mlc_runs.specs.Outcome.{End, ended, uncaught, going, wrong, Outcome}
+use Rattle.mlc_names.specs.declared.label.Label.TheVariants.{Number}
 use Rattle.mlc_base.specs.declared.place.Place.{Place}
 use Rattle.mlc_prims.specs.LitOf.{int, string}
 use Rattle.mlc_prims.specs.declared.basis.BasisPrimitive.TheVariants.{Add, Divide, Equals, Assign, Concat, Print}

@@ -1,7 +1,7 @@
 -- What a checker accepts where no miss goes on doesn't miss.
 use Rattle.std.proofs.Common.{◌≡◌, false, List, Option, Some, refl, ap}
 use mathlib.Core.Path.{fun_ext}
-use Rattle.mlc_base.specs.Run.{World, Answer, gives, raises, stops, then_do}
+use Rattle.mlc_runs.specs.Run.{World, Answer, gives, raises, stops, then_do}
 use Rattle.ty_core.specs.Types.{Typ}
 use Rattle.ty_core.specs.declared.scheme.Quantified.{Quantified}
 use Rattle.ir_values.specs.Values.{exn, bind}

@@ -1,8 +1,8 @@
 -- A small program for each construct with source matches, with its outcome at several numbers of turns, by computation. Types are ignored, and unit's stands everywhere.
 use Rattle.std.proofs.Common.{◌≡◌, ℕ, true, false, List, [], ◌∷◌, Some, None, pos, refl}
-use Rattle.mlc_base.specs.Outcome.{End, ended, uncaught, going, wrong, Outcome}
-use Rattle.mlc_base.specs.Run.{World, gives}
-use Rattle.mlc_base.specs.declared.label.Label.TheVariants.{Number}
+use Rattle.mlc_runs.specs.Outcome.{End, ended, uncaught, going, wrong, Outcome}
+use Rattle.mlc_runs.specs.Run.{World, gives}
+use Rattle.mlc_names.specs.declared.label.Label.TheVariants.{Number}
 use Rattle.mlc_base.specs.declared.place.Place.{Place}
 use Rattle.mlc_prims.specs.LitOf.{int, string}
 use Rattle.mlc_prims.specs.declared.basis.BasisPrimitive.TheVariants.{Divide, Equals, Assign, Print}

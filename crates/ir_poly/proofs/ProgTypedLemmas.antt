@@ -1,6 +1,6 @@
 -- What a checker accepts of a program with source matches is typed whatever its parameters stand for.
 use Rattle.std.proofs.Common.{◌≡◌, ℕ, true, List, [], ◌∷◌, ◌++◌, Option, refl, sym, ap, subst, ◌∙◌}
-use Rattle.mlc_base.specs.declared.label.Label.{Label}
+use Rattle.mlc_names.specs.declared.label.Label.{Label}
 use Rattle.ty_core.specs.Types.{Typ, con, name, typs_of}
 use Rattle.ty_core.specs.Statics.{replace}
 use Rattle.ty_core.specs.declared.scheme.Quantified.{Quantified}

@@ -1,6 +1,6 @@
 -- What a checker accepts is typed whatever its parameters stand for.
 use Rattle.std.proofs.Common.{◌≡◌, ℕ, Bool, true, false, List, [], ◌∷◌, ◌++◌, map, Option, Some, None, nat_eq, if◌then◌else◌, refl, ap, subst, ◌∙◌}
-use Rattle.mlc_base.specs.declared.label.Label.{Label}
+use Rattle.mlc_names.specs.declared.label.Label.{Label}
 use Rattle.mlc_prims.specs.LitOf.{Literal}
 use Rattle.ty_core.specs.Types.{Typ, var, con, name}
 use Rattle.ty_core.specs.Statics.{replace}

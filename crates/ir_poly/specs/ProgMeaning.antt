@@ -1,9 +1,9 @@
 -- What a program with source matches does. [Definition 6.7] Types and weights are ignored. A phrase is evaluated left to right in an environment; calls go
 -- through `apply`, which takes the turns. Where no case applies the run goes wrong.
 use Rattle.std.specs.Prelude.{ℕ, zero, suc, Bool, true, false, not, List, [], ◌∷◌, Option, Some, None, nat_eq, if◌then◌else◌, option_and_then, slice_get, ⊤}
-use Rattle.mlc_base.specs.Outcome.{Outcome}
-use Rattle.mlc_base.specs.Run.{World, Answer, gives, raises, stops, out_of_turns, start, then_do, or_handle, or_fail, new_exception, outcome_of}
-use Rattle.mlc_base.specs.declared.label.Label.{Label}
+use Rattle.mlc_runs.specs.Outcome.{Outcome}
+use Rattle.mlc_runs.specs.Run.{World, Answer, gives, raises, stops, out_of_turns, start, then_do, or_handle, or_fail, new_exception, outcome_of}
+use Rattle.mlc_names.specs.declared.label.Label.{Label}
 use Rattle.mlc_base.specs.declared.place.Place.{Place}
 use Rattle.label_rows.specs.Order.{label_before}
 use Rattle.ir_values.specs.Tags.{untagged}

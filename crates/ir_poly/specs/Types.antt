@@ -1,7 +1,7 @@
 -- Types of the program: parameters of declarations in scope, instances, the program's table of constructors, and the types of primitives at instances.
 -- [Definition 4.2 to 4.5] Type names and the types of primitives are those of the initial basis.
 use Rattle.std.specs.Prelude.{◌≡◌, ℕ, zero, suc, Bool, true, false, not, ◌&&◌, ◌||◌, List, [], ◌∷◌, map, Option, Some, None, nat_eq, nat_lt, if◌then◌else◌, ⊤}
-use Rattle.mlc_base.specs.declared.label.Label.{Label}
+use Rattle.mlc_names.specs.declared.label.Label.{Label}
 use Rattle.mlc_prims.specs.declared.basis.BasisPrimitive.{BasisPrimitive}
 use Rattle.ty_core.specs.Types.{Typ, var, con, Typs, none, more, admits}
 use Rattle.ty_core.specs.Marks.{Allows}

@@ -1,8 +1,8 @@
 -- What programs with source matches do in so many turns, one or more for each construct, by computation. Where the number is `m` it is so at each, and
 -- where it is `suc n` at each but 0. They are those of the tests of `ir_prog` where those are well typed; types are ignored, and unit's stands everywhere.
 use Rattle.std.proofs.Common.{◌≡◌, ℕ, suc, true, false, List, [], ◌∷◌, Some, pos, refl}
-use Rattle.mlc_base.specs.Outcome.{End, ended, uncaught, going, wrong, Outcome}
-use Rattle.mlc_base.specs.declared.label.Label.TheVariants.{Number}
+use Rattle.mlc_runs.specs.Outcome.{End, ended, uncaught, going, wrong, Outcome}
+use Rattle.mlc_names.specs.declared.label.Label.TheVariants.{Number}
 use Rattle.mlc_base.specs.declared.place.Place.{Place}
 use Rattle.mlc_prims.specs.LitOf.{int, string}
 use Rattle.mlc_prims.specs.declared.basis.BasisPrimitive.TheVariants.{Add, Equals, Print}

@@ -1,7 +1,7 @@
 -- What programs of tests do in so many turns, one or more for each construct, by computation. They are those of the tests of `ir_tests`, with the types that numbers stand for there.
 use Rattle.std.proofs.Common.{◌≡◌, ℕ, List, [], ◌∷◌, Some, None, pos, refl}
-use Rattle.mlc_base.specs.Outcome.{End, ended, uncaught, going, Outcome}
-use Rattle.mlc_base.specs.declared.label.Label.TheVariants.{Number}
+use Rattle.mlc_runs.specs.Outcome.{End, ended, uncaught, going, Outcome}
+use Rattle.mlc_names.specs.declared.label.Label.TheVariants.{Number}
 use Rattle.mlc_base.specs.declared.place.Place.{Place}
 use Rattle.mlc_prims.specs.LitOf.{int, string}
 use Rattle.mlc_prims.specs.declared.basis.BasisPrimitive.TheVariants.{Add, Equals}

@@ -1,6 +1,6 @@
 -- A program is well formed where the answers on its parts are yes.
 use Rattle.std.proofs.Common.{◌≡◌, ◌↔◌, Bool, true, false, ◌&&◌, List, [], length, nat_eq, IsTrue, refl, sym, ap, ◌∙◌}
-use Rattle.mlc_base.specs.Passes.{initial_exceptions}
+use Rattle.mlc_runs.specs.Passes.{initial_exceptions}
 use Rattle.ty_table.specs.TypeAt.{type_at}
 use Rattle.ir_known.specs.Knows.{marks_of, knowns_of}
 use Rattle.ir_poly.specs.Prog.{Decs}

@@ -1,7 +1,7 @@
 -- The program with source matches that a program of the code stands for.
 use Rattle.std.specs.Prelude.{◌≡◌, ℕ, suc, List, [], unwrap_or}
-use Rattle.mlc_base.specs.Outcome.{Outcome}
-use Rattle.mlc_base.specs.Passes.{greatest_expansion, initial_exceptions}
+use Rattle.mlc_runs.specs.Outcome.{Outcome}
+use Rattle.mlc_runs.specs.Passes.{greatest_expansion, initial_exceptions}
 use Rattle.ty_table.specs.TypeAt.{type_at}
 use Rattle.ir_poly.specs.Prog.{Decs}
 use Rattle.ir_poly.specs.ProgWeight.{decs_weight}

@@ -1,6 +1,6 @@
 // Which programs are well formed.
 ghost use Rattle.std.specs.Prelude.{◌≡◌, ◌↔◌, ◌&&◌, [], nat_eq, length, IsTrue, IfOk};
-ghost use Rattle.mlc_base.specs.Passes.{initial_exceptions};
+ghost use Rattle.mlc_runs.specs.Passes.{initial_exceptions};
 ghost use Rattle.ty_table.specs.TypeAt.{type_at};
 ghost use Rattle.ir_poly.specs.TestsChecked.{exn_type};
 ghost use Rattle.ir_poly.specs.WellFormed.{IsProg};
@@ -15,8 +15,8 @@ use initial_names::are_initial;
 use ir_known::ask::is_named;
 use ir_uses::table::is_table;
 use mlc_base::memory::NoMemory;
-use mlc_base::names::Name;
-use mlc_base::pass::{Check, Form};
+use mlc_names::names::Name;
+use mlc_runs::pass::{Check, Form};
 use prog_exps::exps::check_decs;
 use prog_known::answers::both;
 use prog_known::environment::Environment;

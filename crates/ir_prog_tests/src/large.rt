@@ -3,9 +3,9 @@
 use crate::make::{integers, labels, level, put_selections, record, record_pat, three, val};
 use ir_prog::program::Program;
 use ir_tables::tables::Tables;
-use mlc_base::label::Label;
 use mlc_base::make::{both, one};
-use mlc_base::pass::Check;
+use mlc_names::label::Label;
+use mlc_runs::pass::Check;
 use prog_asked::asked::{said, tables};
 use prog_tree::tree::{Dec, Exp, Pat};
 use prog_words::make::Made;

@@ -1,8 +1,8 @@
 // Declarations of integers, and a record of many fields.
 
 use ir_tables::tables::Constant;
-use mlc_base::label::Label;
 use mlc_base::make::{boxed, one};
+use mlc_names::label::Label;
 use prog_tree::tree::{Atom, Binding, Dec, Exp, Pat, PatField, Rule, Used};
 use prog_words::make::{Made, PLACE, add, let_in};
 use std::alloc::Global;

@@ -3,9 +3,9 @@
 use ir_known::ask::BOOL;
 use ir_tables::tables::Constant;
 use ir_uses::constructor::{CONS, LIST, NIL, TRUE};
-use mlc_base::label::Label;
-use mlc_base::pass::Check;
+use mlc_names::label::Label;
 use mlc_prims::basis::BasisPrimitive;
+use mlc_runs::pass::Check;
 use prog_asked::asked::{INTS_TO_TRUTH, NO, said, tables, wrong};
 use prog_tree::tree::{Atom, Exception, Head, Pair, Side, Used};
 use prog_words::expressions::Word;

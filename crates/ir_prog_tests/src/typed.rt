@@ -3,7 +3,7 @@
 use ir_known::ask::BOOL;
 use ir_tables::tables::Constant;
 use ir_uses::constructor::{CONS, LIST, NIL, TRUE};
-use mlc_base::label::Label;
+use mlc_names::label::Label;
 use mlc_prims::basis::BasisPrimitive;
 use prog_asked::asked::{INTS_TO_TRUTH, YES, wrong};
 use prog_tree::tree::{Atom, Exception, Head, Pair, Side, Used};

@@ -4,7 +4,7 @@ ghost use Rattle.ir_tables.specs.Tables.{initial_of, constructors_of, parameters
 
 use crate::constructors::Constructors;
 use mlc_base::memory::NoMemory;
-use mlc_base::names::Name;
+use mlc_names::names::Name;
 use std::alloc::Global;
 use ty_core::scheme::Quantified;
 use ty_table::types::Types;

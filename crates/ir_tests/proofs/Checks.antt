@@ -1,7 +1,7 @@
 -- When a program is well formed, from what is asked of its tables and of its body.
 use Rattle.std.proofs.Common.{◌≡◌, ◌↔◌, ℕ, Bool, true, false, List, [], length, IsTrue, refl, sym, ap, subst}
 use Rattle.std.specs.List.{AllByRecursion}
-use Rattle.mlc_base.specs.Passes.{initial_exceptions}
+use Rattle.mlc_runs.specs.Passes.{initial_exceptions}
 use Rattle.ty_core.specs.Types.{Typ}
 use Rattle.ty_core.specs.declared.mark.Mark.{Mark}
 use Rattle.ty_table.specs.TypeAt.{type_at}

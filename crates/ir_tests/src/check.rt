@@ -1,6 +1,6 @@
 // Whether a program of tests is well formed.
 ghost use Rattle.std.specs.Prelude.{◌≡◌, ◌↔◌, IsTrue, IfOk};
-ghost use Rattle.mlc_base.specs.Passes.{initial_exceptions};
+ghost use Rattle.mlc_runs.specs.Passes.{initial_exceptions};
 ghost use Rattle.ty_table.specs.TypeAt.{type_at};
 ghost use Rattle.ir_poly.specs.TestsChecked.{exn_type};
 ghost use Rattle.ir_tables.specs.Tables.{initial_of};
@@ -13,7 +13,7 @@ use ir_known::scope::Scope;
 use ir_known::stack::Stack;
 use ir_uses::table::is_table;
 use mlc_base::memory::NoMemory;
-use mlc_base::pass::{Check, Form};
+use mlc_runs::pass::{Check, Form};
 use record_order::facts::Facts;
 use std::alloc::Global;
 use tests_check::infer::exp_type;

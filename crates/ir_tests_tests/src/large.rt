@@ -1,9 +1,9 @@
 // Large programs: what takes more than near linear time takes minutes here.
 ghost use Rattle.std.specs.Prelude.{◌<◌, ◌^◌};
 
-use mlc_base::label::Label;
 use mlc_base::memory::NoMemory;
-use mlc_base::pass::Check;
+use mlc_names::label::Label;
+use mlc_runs::pass::Check;
 use plain_tree::tree::{Field, Operation};
 use std::alloc::Global;
 use std::test::Fail;

@@ -3,8 +3,8 @@
 use ir_tables::tables::Constant;
 use ir_uses::constructor::{NIL, TRUE};
 use mlc_base::memory::NoMemory;
-use mlc_base::pass::Check;
 use mlc_prims::basis::BasisPrimitive;
+use mlc_runs::pass::Check;
 use plain_tree::tree::{Case, Exception};
 use std::alloc::Global;
 use std::test::Fail;

@@ -4,7 +4,7 @@ use Rattle.std.proofs.lemmas.Bool.{and_parts, and_from}
 use Rattle.std.proofs.Math.Seq.{take-length}
 use Rattle.std.specs.Option.{option_map, option_and_then}
 use Rattle.std.specs.Map.{lookup}
-use Rattle.mlc_base.specs.declared.label.Label.{Label}
+use Rattle.mlc_names.specs.declared.label.Label.{Label}
 use Rattle.ty_core.specs.Types.{Symbol, arrow, labels, name, Typ, var, con, Typs, typs_of}
 use Rattle.ty_table.specs.TypeAt.{type_at, types_at}
 use Rattle.ir_values.specs.Values.{same_label}

@@ -1,7 +1,7 @@
 -- What is asked of the types of records, in the words of the typing.
 use Rattle.std.specs.Prelude.{◌≡◌, ℕ, true, List, Option, Some, map, length}
 use Rattle.std.specs.Map.{lookup}
-use Rattle.mlc_base.specs.declared.label.Label.{Label}
+use Rattle.mlc_names.specs.declared.label.Label.{Label}
 use Rattle.ty_core.specs.Types.{Typ}
 use Rattle.ty_table.specs.TypeAt.{type_at}
 use Rattle.ir_values.specs.Values.{same_label}

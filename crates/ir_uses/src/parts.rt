@@ -1,12 +1,12 @@
 // What a type begins with, and its parts.
 ghost use Rattle.std.specs.Prelude.{◌≡◌, ◌↔◌, List, [], ◌∷◌, map, IsTrue, MatchOption};
-ghost use Rattle.mlc_base.specs.declared.label.Label.{Label};
+ghost use Rattle.mlc_names.specs.declared.label.Label.{Label};
 ghost use Rattle.ty_core.specs.Types.{Typ, Typs, con, name, labels as labels_symbol};
 ghost use Rattle.ty_table.specs.TypeAt.{type_at, types_at};
 ghost use Rattle.ir_poly.specs.Types.{function_type};
 
 use ir_known::ask::same_type;
-use mlc_base::label::Label;
+use mlc_names::label::Label;
 use ty_core::name::TyName;
 use ty_core::ty::Head;
 use ty_table::types::{Types, View};

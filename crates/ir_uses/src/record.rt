@@ -2,7 +2,7 @@
 ghost use Rattle.std.specs.Prelude.{◌≡◌, ◌↔◌, List, Some, None, true, map, zip, length, IsTrue, IfSome, IfNone};
 ghost use Rattle.std.specs.Option.{option_map, option_and_then};
 ghost use Rattle.std.specs.Map.{lookup};
-ghost use Rattle.mlc_base.specs.declared.label.Label.{Label};
+ghost use Rattle.mlc_names.specs.declared.label.Label.{Label};
 ghost use Rattle.ty_core.specs.Types.{Typ};
 ghost use Rattle.ty_table.specs.TypeAt.{type_at};
 ghost use Rattle.ir_values.specs.Values.{same_label};
@@ -13,7 +13,7 @@ ghost use Rattle.ir_uses.specs.Fields.{field_types, HasField, IsSized};
 
 use crate::parts::{is_label, record_parts};
 use ir_known::ask::same_type;
-use mlc_base::label::Label;
+use mlc_names::label::Label;
 use ty_table::types::Types;
 
 /// Whether labels are those of fields.

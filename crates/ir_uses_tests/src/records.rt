@@ -2,7 +2,7 @@
 
 use ir_tables::tables::Tables;
 use ir_uses::record::{do_ascend, field, is_record, is_selected, is_sized_record, record_size};
-use mlc_base::label::Label;
+use mlc_names::label::Label;
 use std::test::Fail;
 use tests_given::given::*;
 

@@ -1,8 +1,8 @@
 -- What patterns do with related values agrees.
 use Rattle.std.proofs.Common.{ℕ, Bool, true, false, List, Option, Some, None, if◌then◌else◌, nat_eq, option_and_then}
-use Rattle.mlc_base.specs.Agreement.{AllRelated, BothOrNeither, neither, both, SameWorlds, Agree, both_stop}
-use Rattle.mlc_base.specs.Run.{World, Answer}
-use Rattle.mlc_base.proofs.RunLaws.{slice_get-same}
+use Rattle.mlc_runs.specs.Agreement.{AllRelated, BothOrNeither, neither, both, SameWorlds, Agree, both_stop}
+use Rattle.mlc_runs.specs.Run.{World, Answer}
+use Rattle.mlc_runs.proofs.RunLaws.{slice_get-same}
 use Rattle.mlc_prims.specs.LitOf.{Literal}
 use Rattle.mlc_prims.specs.Table.{literal_eq}
 use Rattle.ir_values.specs.Tags.{Tagging}

@@ -1,7 +1,7 @@
 -- What a pattern does with a value. [Definition 6.7, rules 133 to 149] A value of a wrong kind, or one that was made at another type, is a mismatch, which
 -- goes wrong.
 use Rattle.std.specs.Prelude.{ℕ, Bool, true, false, List, Option, Some, None, option_and_then, nat_eq, slice_get, if◌then◌else◌}
-use Rattle.mlc_base.specs.Run.{World, Answer, fail}
+use Rattle.mlc_runs.specs.Run.{World, Answer, fail}
 use Rattle.mlc_prims.specs.LitOf.{Literal}
 use Rattle.mlc_prims.specs.Table.{literal_eq}
 use Rattle.ir_values.specs.Tags.{Tagging}

@@ -1,8 +1,8 @@
 // Fields in order.
 
 use crate::sort::{Field, sort_fields};
-use mlc_base::label::Label;
 use mlc_base::memory::NoMemory;
+use mlc_names::label::Label;
 use std::alloc::Global;
 use std::test::Fail;
 

@@ -9,9 +9,9 @@ use Rattle.ir_code.specs.Words.{one_if, same_word}
 use Rattle.ir_code.specs.Machine.{State, Goes, act}
 use Rattle.ir_code.specs.Laws.{ControlLaws, MemoryLaws, ArithmeticLaws}
 use Rattle.ir_values.specs.Primitives.{raised_name}
-use Rattle.mlc_base.specs.Run.{World, gives, stops, out_of_turns, or_fail, turn_from}
+use Rattle.mlc_runs.specs.Run.{World, gives, stops, out_of_turns, or_fail, turn_from}
 use Rattle.mlc_base.specs.declared.place.Place.{Place}
-use Rattle.mlc_base.proofs.MoreTurnsLaws.{prefix-refl as prefix_refl, prefix-trans as prefix_trans}
+use Rattle.mlc_runs.proofs.MoreTurnsLaws.{prefix-refl as prefix_refl, prefix-trans as prefix_trans}
 use Rattle.mlc_prims.specs.LitOf.{Literal}
 use Rattle.mlc_prims.specs.PrimOf.{Gives, made, raised}
 use Rattle.mlc_prims.specs.declared.basis.BasisPrimitive.{BasisPrimitive}

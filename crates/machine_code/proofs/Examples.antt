@@ -1,7 +1,7 @@
 -- Small programs and their images, by computation, with the code of three primitives.
 use Rattle.std.proofs.Common.{◌≡◌, ℕ, List, [], ◌∷◌, length, map, Some, get_or, refl}
 use Rattle.std.specs.Prelude.{pos}
-use Rattle.mlc_base.specs.Outcome.{ended, uncaught}
+use Rattle.mlc_runs.specs.Outcome.{ended, uncaught}
 use Rattle.mlc_base.specs.declared.place.Place.{Place}
 use Rattle.ir_code.specs.declared.instr.Instr.{Instr}
 use Rattle.ir_code.specs.declared.instr.Instr.TheVariants.{Li, Mov, Jmp, Brz, Alloc, St, Ret, Raise as RaiseRow, Add as AddRow, Sub as SubRow, ILt, Eq}

@@ -1,9 +1,9 @@
 -- What is written stays.
 use Rattle.std.proofs.Common.{◌≡◌, ℕ, zero, suc, List, [], ◌∷◌, ◌++◌, length, Option, Some, None, Bool, true, false, refl}
 use Rattle.std.specs.Prelude.{slice_get, slice_set, nat_lt, nat_eq, if◌then◌else◌, get_or}
-use Rattle.mlc_base.specs.Run.{World, gives, raises, stops, out_of_turns, fail, or_fail, turn_from}
+use Rattle.mlc_runs.specs.Run.{World, gives, raises, stops, out_of_turns, fail, or_fail, turn_from}
 use Rattle.mlc_base.specs.declared.place.Place.{Place}
-use Rattle.mlc_base.proofs.MoreTurnsLaws.{prefix-refl as prefix_refl, prefix-trans as prefix_trans}
+use Rattle.mlc_runs.proofs.MoreTurnsLaws.{prefix-refl as prefix_refl, prefix-trans as prefix_trans}
 use Rattle.mlc_prims.specs.LitOf.{string}
 use Rattle.mlc_prims.specs.PrimOf.{Gives, made, raised}
 use Rattle.ir_values.specs.Primitives.{raised_name}

@@ -5,7 +5,7 @@ use Rattle.ir_code.specs.declared.instr.Instr.{Instr}
 use Rattle.ir_code.specs.declared.instr.Instr.TheVariants.{Raise, PopHandler}
 use Rattle.ir_code.specs.Machine.{State, Goes, act, run}
 use Rattle.ir_code.specs.Laws.{ControlLaws, MemoryLaws, ArithmeticLaws}
-use Rattle.mlc_base.specs.Run.{World, stops, went_wrong, turn_from}
+use Rattle.mlc_runs.specs.Run.{World, stops, went_wrong, turn_from}
 use Rattle.first_values.specs.Values.{Value, Run, Env}
 use Rattle.mlc_base.specs.declared.place.Place.{Place}
 use Rattle.ir_ssa.specs.Meaning.{Onward, Handler, throw, go_to, at_top}
@@ -15,7 +15,7 @@ use Rattle.machine_routines.proofs.Seams.{get_left, get_here, get_right, index_o
 use Rattle.machine_code.specs.Agrees.{AreAll, Begins}
 use Rattle.machine_code.specs.Code.{slot, Scope, Spot, no_spot, leave_code}
 use Rattle.same_runs.specs.SameRuns.{IsPrefix}
-use Rattle.mlc_base.proofs.MoreTurnsLaws.{prefix-trans as prefix_trans}
+use Rattle.mlc_runs.proofs.MoreTurnsLaws.{prefix-trans as prefix_trans}
 use Rattle.machine_code.proofs.Grows.{AllGrow, HandlersGrow}
 use Rattle.machine_code.proofs.RoutineLaws.{RoutineLaws}
 use Rattle.machine_code.proofs.Kept.{begins_refl, begins_trans}

@@ -7,7 +7,7 @@ use Rattle.ir_code.specs.declared.halt.Halt.TheVariants.{NoHeap, NoStack}
 use Rattle.ir_code.specs.Words.{one_if, same_word}
 use Rattle.ir_code.specs.Machine.{State}
 use Rattle.ir_code.specs.Laws.{ControlLaws, MemoryLaws, ArithmeticLaws}
-use Rattle.mlc_base.specs.Run.{World, gives, fail, or_fail, writes}
+use Rattle.mlc_runs.specs.Run.{World, gives, fail, or_fail, writes}
 use Rattle.mlc_prims.specs.LitOf.{Literal, string}
 use Rattle.mlc_prims.specs.PrimOf.{Gives, made, raised}
 use Rattle.mlc_prims.specs.declared.basis.BasisPrimitive.{BasisPrimitive}

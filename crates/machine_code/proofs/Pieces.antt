@@ -7,7 +7,7 @@ use Rattle.ir_code.specs.declared.instr.Instr.TheVariants.{Li, Mov, Alloc, St}
 use Rattle.ir_code.specs.declared.halt.Halt.TheVariants.{NoHeap, NoStack}
 use Rattle.ir_code.specs.Machine.{State, Goes}
 use Rattle.ir_code.specs.Laws.{ControlLaws, MemoryLaws, ArithmeticLaws}
-use Rattle.mlc_base.specs.Run.{World}
+use Rattle.mlc_runs.specs.Run.{World}
 use Rattle.first_values.specs.Values.{Value, Run}
 use Rattle.machine_routines.specs.Layout.{Word}
 use Rattle.machine_routines.specs.Runs.{HasAt}

@@ -10,8 +10,8 @@ use Rattle.ir_code.specs.declared.halt.Halt.TheVariants.{Uncaught, NoStack}
 use Rattle.ir_code.specs.Machine.{State, Goes, Halts, act, step, then_on, check, start, run, no_handler, string_at, name_at, has_bytes, has_string, all_bytes}
 use Rattle.ir_code.specs.Laws.{ControlLaws, MemoryLaws, ArithmeticLaws, KeepLaws, IsSound}
 use Rattle.ir_code.specs.Run.{RunResult, end_of, result_of, run_of}
-use Rattle.mlc_base.specs.Run.{World, gives, raises, stops, out_of_turns, went_wrong, fail, or_fail, take_turn, outcome_of, uncaught_end}
-use Rattle.mlc_base.specs.Run as world
+use Rattle.mlc_runs.specs.Run.{World, gives, raises, stops, out_of_turns, went_wrong, fail, or_fail, take_turn, outcome_of, uncaught_end}
+use Rattle.mlc_runs.specs.Run as world
 use Rattle.mlc_base.specs.declared.place.Place.{Place}
 use Rattle.first_values.specs.Values.{Value, literal, cell, reference, name, packet, Run, Env, bind_all, identifier_of}
 use Rattle.first_values.specs.Equality.{Shape}

@@ -8,7 +8,7 @@ use Rattle.ir_code.specs.declared.instr.Instr.TheVariants.{WAdd, Copy}
 use Rattle.ir_code.specs.Words.{word_sum, write_at}
 use Rattle.ir_code.specs.Machine.{State, Goes, may_copy, next}
 use Rattle.ir_code.specs.Laws.{ControlLaws, MemoryLaws, ArithmeticLaws}
-use Rattle.mlc_base.specs.Run.{World}
+use Rattle.mlc_runs.specs.Run.{World}
 use Rattle.first_values.specs.Values.{Value, cell, Values, Run, Env, at, look_up, first_some, parts_from, parts_of, gather, Piece, one as a_value, run as a_run}
 use Rattle.machine_routines.specs.Layout.{Word, AreAt, Shows}
 use Rattle.machine_routines.specs.Runs.{HasAt, Frame}

@@ -6,14 +6,14 @@ use Rattle.ir_code.specs.declared.instr.Instr.TheVariants.{Raise}
 use Rattle.ir_code.specs.declared.halt.Halt.{Halt}
 use Rattle.ir_code.specs.declared.halt.Halt.TheVariants.{NoHeap, NoStack}
 use Rattle.ir_code.specs.Machine.{State, Goes, Prints, Halts, act, step, then_on, run}
-use Rattle.mlc_base.specs.Run.{World, gives, raises, stops, out_of_turns, went_wrong, writes}
+use Rattle.mlc_runs.specs.Run.{World, gives, raises, stops, out_of_turns, went_wrong, writes}
 use Rattle.first_values.specs.Values.{Value, Run}
 use Rattle.ir_ssa.specs.Meaning.{Handler, throw, then_go}
 use Rattle.machine_routines.specs.Layout.{Word, Is}
 use Rattle.machine_routines.specs.Runs.{inside, returned, Leads, CutBy}
 use Rattle.machine_code.specs.Agrees.{Agrees, Begins}
 use Rattle.same_runs.specs.SameRuns.{IsPrefix}
-use Rattle.mlc_base.proofs.MoreTurnsLaws.{prefix-trans as prefix_trans}
+use Rattle.mlc_runs.proofs.MoreTurnsLaws.{prefix-trans as prefix_trans}
 use Rattle.machine_code.proofs.Grows.{out_of, Grows, HandlersGrow, throw_grows}
 use Rattle.machine_code.proofs.Kept.{begins_trans}
 

@@ -10,7 +10,7 @@ use Rattle.ir_code.specs.declared.instr.Instr.TheVariants.{Li, Jmp, Brz, Ld, Eq,
 use Rattle.ir_code.specs.Words.{one_if, same_word, order_code}
 use Rattle.ir_code.specs.Machine.{State, Goes, act}
 use Rattle.ir_code.specs.Laws.{ControlLaws, MemoryLaws, ArithmeticLaws}
-use Rattle.mlc_base.specs.Run.{World, or_fail}
+use Rattle.mlc_runs.specs.Run.{World, or_fail}
 use Rattle.mlc_prims.specs.LitOf.{Literal, int, word, char, string, truth}
 use Rattle.mlc_prims.specs.PrimOf.{Gives, made, fitting}
 use Rattle.mlc_prims.specs.Table.{literal_eq}

@@ -1,7 +1,7 @@
 -- The image of a program that is never wrong does what the program does.
 use Rattle.std.specs.Prelude.{◌≡◌, ◌≢◌, ℕ, ◌+◌, List, length, ◌<◌, ◌≤◌, ◌^◌, true}
 use Rattle.std.specs.List.{AllByRecursion}
-use Rattle.mlc_base.specs.Outcome.{wrong}
+use Rattle.mlc_runs.specs.Outcome.{wrong}
 use Rattle.ir_code.specs.Machine.{all_bytes}
 use Rattle.ir_code.specs.Run.{run_of}
 use Rattle.ir_ssa.specs.Tree.{Program}

@@ -1,7 +1,7 @@
 -- What emit promises.
 use Rattle.std.specs.Prelude.{◌≡◌, ◌≢◌, ℕ, ◌+◌, ◌^◌, ◌<◌, List, length, true}
 use Rattle.std.specs.List.{AllByRecursion}
-use Rattle.mlc_base.specs.Outcome.{wrong}
+use Rattle.mlc_runs.specs.Outcome.{wrong}
 use Rattle.ir_code.specs.Machine.{all_bytes}
 use Rattle.ir_code.specs.Program as machine
 use Rattle.ir_code.specs.Run.{run_of}

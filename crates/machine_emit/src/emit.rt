@@ -17,7 +17,7 @@ use image_law::law::image_is_right;
 use image_size::law::images_are_small;
 use ir_code::image::Image;
 use ir_code::instr::Instr;
-use mlc_base::names::Names;
+use mlc_names::names::Names;
 use ssa_form::form::Ssa;
 use std::alloc::Global;
 

@@ -7,7 +7,7 @@ use heap_vm::stop::Stop;
 use heap_vm::vm::Vm;
 use machine_emit::emit::emit;
 use machine_emit::refused::EmitRefused;
-use mlc_base::names::Names;
+use mlc_names::names::Names;
 use mlc_outside::mem_sink::MemSink;
 use ssa_form::form::Ssa;
 use ssa_words::build::{functions, tables};

@@ -2,7 +2,7 @@
 use Rattle.std.proofs.Common.{◌≡◌, ◌≢◌, ℕ, ◌+◌, ◌^◌, ◌<◌, List, [], ◌∷◌, refl, sym, ap, ◌∙◌, arith}
 use Rattle.std.specs.Prelude.{pos, negsuc}
 use Rattle.std.specs.Fmt.{digits}
-use Rattle.mlc_base.specs.Outcome.{ended, uncaught, wrong}
+use Rattle.mlc_runs.specs.Outcome.{ended, uncaught, wrong}
 use Rattle.ir_code.specs.Machine.{run}
 use Rattle.ir_code.specs.Run.{run_of}
 use Rattle.ir_code.specs.Run as machine

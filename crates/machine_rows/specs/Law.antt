@@ -1,6 +1,6 @@
 -- The image of a program, with the code of all primitives.
 use Rattle.std.specs.Prelude.{◌≢◌, ℕ, ◌+◌, ◌*◌, ◌^◌, ◌<◌, ◌≤◌, List, length}
-use Rattle.mlc_base.specs.Outcome.{wrong}
+use Rattle.mlc_runs.specs.Outcome.{wrong}
 use Rattle.ir_code.specs.Run.{run_of}
 use Rattle.mlc_prims.specs.declared.basis.BasisPrimitive.{BasisPrimitive}
 use Rattle.first_values.specs.Operations.{Operands}

@@ -1,7 +1,7 @@
 -- What small programs become, and what they do then, by computation. Types are ignored, and unit's stands everywhere but in the typed one.
 use Rattle.std.proofs.Common.{◌≡◌, ℕ, true, false, List, [], ◌∷◌, ◌++◌, Some, None, pos, refl}
-use Rattle.mlc_base.specs.Outcome.{End, ended, uncaught, going, wrong, Outcome}
-use Rattle.mlc_base.specs.declared.label.Label.TheVariants.{Number}
+use Rattle.mlc_runs.specs.Outcome.{End, ended, uncaught, going, wrong, Outcome}
+use Rattle.mlc_names.specs.declared.label.Label.TheVariants.{Number}
 use Rattle.mlc_base.specs.declared.place.Place.{Place}
 use Rattle.mlc_prims.specs.LitOf.{int, string}
 use Rattle.mlc_prims.specs.declared.basis.BasisPrimitive.TheVariants.{Add, Divide, Assign, Print}

@@ -2,13 +2,13 @@
 use Rattle.std.proofs.Common.{◌≡◌, ℕ, zero, suc, ◌<◌, ◌≤◌, Bool, true, false, not, ◌&&◌, List, [], ◌∷◌, ◌++◌, Option, Some, None, slice_get, option_and_then, nat_lt, refl, sym, ap, ap₂, subst, ◌∙◌, arith, if◌then◌else◌}
 use Rattle.std.specs.Prelude.{⊤}
 use Rattle.std.proofs.lemmas.Bool.{eqb-true, eq-eqb}
-use Rattle.mlc_base.specs.declared.label.Label.{Label}
-use Rattle.mlc_base.specs.declared.label.Label.TheVariants.{Number, Word}
+use Rattle.mlc_names.specs.declared.label.Label.{Label}
+use Rattle.mlc_names.specs.declared.label.Label.TheVariants.{Number, Word}
 use Rattle.mlc_base.specs.declared.place.Place.{Place}
-use Rattle.mlc_base.specs.Run.{World, Answer, gives, raises, stops, then_do, or_handle, or_fail, fail, take_turn, outcome_of, start}
-use Rattle.mlc_base.specs.Agreement.{AllRelated, none, BothOrNeither, neither, both, SameWorlds, Agree, both_give, both_raise, both_stop}
-use Rattle.mlc_base.specs.Agreement as agreement
-use Rattle.mlc_base.proofs.RunLaws.{then_do-gives, then_do-then_do, then_do-agree, take_turn-agree, new_exception-agree, outcome_of-agree}
+use Rattle.mlc_runs.specs.Run.{World, Answer, gives, raises, stops, then_do, or_handle, or_fail, fail, take_turn, outcome_of, start}
+use Rattle.mlc_runs.specs.Agreement.{AllRelated, none, BothOrNeither, neither, both, SameWorlds, Agree, both_give, both_raise, both_stop}
+use Rattle.mlc_runs.specs.Agreement as agreement
+use Rattle.mlc_runs.proofs.RunLaws.{then_do-gives, then_do-then_do, then_do-agree, take_turn-agree, new_exception-agree, outcome_of-agree}
 use Rattle.mlc_prims.specs.LitOf.{Literal, int, word, char, string, truth}
 use Rattle.mlc_prims.specs.declared.basis.BasisPrimitive.{BasisPrimitive}
 use Rattle.ty_core.specs.Types.{Typ}

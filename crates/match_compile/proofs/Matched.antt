@@ -2,10 +2,10 @@
 use Rattle.std.proofs.Common.{◌≡◌, ℕ, suc, ◌<◌, ◌≤◌, Bool, true, false, List, [], ◌++◌, Option, Some, None, if◌then◌else◌, nat_eq, option_and_then, refl, sym, ap, subst, ◌∙◌, arith}
 use Rattle.std.specs.Prelude.{⊤}
 use Rattle.std.proofs.lemmas.Bool.{eq-eqb}
-use Rattle.mlc_base.specs.declared.label.Label.TheVariants.{Number}
-use Rattle.mlc_base.specs.Run.{World, Answer, gives, then_do, or_fail, fail}
-use Rattle.mlc_base.specs.Agreement.{BothOrNeither, neither, both, Agree, both_give, both_stop}
-use Rattle.mlc_base.proofs.RunLaws.{slice_get-same}
+use Rattle.mlc_names.specs.declared.label.Label.TheVariants.{Number}
+use Rattle.mlc_runs.specs.Run.{World, Answer, gives, then_do, or_fail, fail}
+use Rattle.mlc_runs.specs.Agreement.{BothOrNeither, neither, both, Agree, both_give, both_stop}
+use Rattle.mlc_runs.proofs.RunLaws.{slice_get-same}
 use Rattle.mlc_prims.specs.LitOf.{Literal}
 use Rattle.mlc_prims.specs.Table.{literal_eq}
 use Rattle.ty_core.specs.Types.{Typ}

@@ -1,7 +1,7 @@
 -- What the source raises is a packet.
 use Rattle.std.proofs.Common.{◌≡◌, ℕ, zero, suc, Bool, true, false, not, List, [], ◌∷◌, Option, Some, None, if◌then◌else◌, nat_lt, length, refl}
 use Rattle.std.specs.Prelude.{⊤}
-use Rattle.mlc_base.specs.Run.{World, Answer, gives, raises, stops, then_do, or_handle, or_fail, turn_from}
+use Rattle.mlc_runs.specs.Run.{World, Answer, gives, raises, stops, then_do, or_handle, or_fail, turn_from}
 use Rattle.mlc_base.specs.declared.place.Place.{Place}
 use Rattle.mlc_prims.specs.LitOf.{Literal, string}
 use Rattle.mlc_prims.specs.PrimOf.{Gives, made, raised}

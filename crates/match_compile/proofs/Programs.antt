@@ -1,7 +1,7 @@
 -- Programs with their tables.
 use Rattle.std.proofs.Common.{ℕ, Bool, true, false, List, [], ◌++◌, None, Contains, refl, subst, sym}
 use Rattle.std.proofs.lemmas.List.Elements.{All-weaker, All-contains_itself, Contains-append_left}
-use Rattle.mlc_base.specs.Passes.{initial_exceptions, BringsNone}
+use Rattle.mlc_runs.specs.Passes.{initial_exceptions, BringsNone}
 use Rattle.ir_values.specs.Values.{truth_number}
 use Rattle.ir_poly.specs.Prog.{Decs}
 use Rattle.ir_poly.specs.TestsChecked.{HasConstructor}

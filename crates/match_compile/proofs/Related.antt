@@ -2,9 +2,9 @@
 use Rattle.std.proofs.Common.{◌≡◌, ℕ, suc, ◌<◌, ◌≤◌, Bool, true, false, List, [], ◌∷◌, Option, Some, None, if◌then◌else◌, nat_eq, refl, sym, ap, subst, ◌∙◌, arith}
 use Rattle.std.specs.Prelude.{⊤}
 use Rattle.std.proofs.lemmas.Bool.{eq-eqb}
-use Rattle.mlc_base.specs.declared.label.Label.{Label}
-use Rattle.mlc_base.specs.Agreement.{BothOrNeither, neither, both, SameWorlds, Agree}
-use Rattle.mlc_base.specs.Run.{World, Answer}
+use Rattle.mlc_names.specs.declared.label.Label.{Label}
+use Rattle.mlc_runs.specs.Agreement.{BothOrNeither, neither, both, SameWorlds, Agree}
+use Rattle.mlc_runs.specs.Run.{World, Answer}
 use Rattle.mlc_prims.specs.LitOf.{Literal}
 use Rattle.mlc_prims.specs.declared.basis.BasisPrimitive.{BasisPrimitive}
 use Rattle.ty_core.specs.Types.{Typ}

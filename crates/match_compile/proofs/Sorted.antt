@@ -1,7 +1,7 @@
 -- A record's atoms in the order of labels have the values that it has in that order.
 use Rattle.std.proofs.Common.{◌≡◌, ℕ, Bool, true, false, cond, List, ◌∷◌, Option, Some, None, refl, sym, ap, ◌∙◌}
 use Rattle.std.specs.Prelude.{option_map}
-use Rattle.mlc_base.specs.declared.label.Label.{Label}
+use Rattle.mlc_names.specs.declared.label.Label.{Label}
 use Rattle.label_rows.specs.Order.{label_before, put_by}
 use Rattle.ty_core.specs.Types.{Typ}
 use Rattle.ir_values.specs.Values.{no_fields, field}

@@ -1,9 +1,9 @@
 -- Rule by rule, each rule tested from its first pattern node to its last; every value in the order in which it is made. Each variable of the source gets
 -- the number of a new one. New ones are numbered from 1 on, in the order of the text.
 use Rattle.std.specs.Prelude.{ℕ, zero, suc, Bool, true, false, not, ◌&&◌, List, [], ◌∷◌, ◌++◌, length, map, Option, Some, nat_eq, nat_lt, if◌then◌else◌}
-use Rattle.mlc_base.specs.declared.label.Label.TheVariants.{Number}
+use Rattle.mlc_names.specs.declared.label.Label.TheVariants.{Number}
 use Rattle.mlc_base.specs.declared.place.Place.{Place}
-use Rattle.mlc_base.specs.declared.label.Label.{Label}
+use Rattle.mlc_names.specs.declared.label.Label.{Label}
 use Rattle.mlc_prims.specs.declared.basis.BasisPrimitive.{BasisPrimitive}
 use Rattle.ty_core.specs.Types.{Typ, name, var, con, typs_of}
 use Rattle.ty_core.specs.Statics.{replace}

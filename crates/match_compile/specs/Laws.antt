@@ -1,6 +1,6 @@
 -- What the pass keeps.
 use Rattle.std.specs.Prelude.{◌≡◌, ℕ, false, List, [], ◌++◌}
-use Rattle.mlc_base.specs.Passes.{BringsNone}
+use Rattle.mlc_runs.specs.Passes.{BringsNone}
 use Rattle.ir_plain.specs.Once.{IsOnce}
 use Rattle.ir_plain.specs.Scoped.{IsLocal}
 use Rattle.ir_plain.specs.Weight.{weight}

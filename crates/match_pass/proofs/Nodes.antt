@@ -1,6 +1,6 @@
 -- What each kind of expression and of function is, whose lists and parts are given.
 use Rattle.std.proofs.Common.{◌≡◌, ℕ, Bool, true, List, [], map, length, nat_eq, Vec, Box, Global, refl, sym, ap, ap₂, ◌∙◌}
-use Rattle.mlc_base.specs.declared.label.Label.{Label}
+use Rattle.mlc_names.specs.declared.label.Label.{Label}
 use Rattle.mlc_base.specs.declared.place.Place.{Place}
 use Rattle.ir_poly.specs.Prog as t
 use Rattle.prog_tree.specs.TreeOf.{Reading, DecTree, RuleTree, tree_of, function_of, node_dec, node_exp, node_function, node_rule, atom_of, use_of, decs_of, dec_of, record_of, field_of, rules_of, rule_of, chain_of, sequence_of, apply_by, argument_of, joins_by, join_of, after_parameters}

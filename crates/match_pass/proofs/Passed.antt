@@ -1,7 +1,7 @@
 -- What a program that was compiled keeps.
 use Rattle.std.proofs.Common.{◌≡◌, ◌<◌, ℕ, zero, suc, Bool, true, false, List, [], ◌∷◌, length, unwrap_or, take, sym, ap, ap₂, subst, ◌∙◌, arith}
 use Rattle.std.proofs.lemmas.Bool.{false≢true}
-use Rattle.mlc_base.specs.Passes.{BringsNone, greatest_expansion}
+use Rattle.mlc_runs.specs.Passes.{BringsNone, greatest_expansion}
 use Rattle.ty_core.specs.Types.{Typ, var, con}
 use Rattle.ty_table.specs.TypeAt.{type_at}
 use Rattle.ir_plain.specs.Once.{IsOnce}

@@ -1,6 +1,6 @@
 -- Parts of expressions as they are read, and what is left of lists.
 use Rattle.std.specs.Prelude.{◌≡◌, ℕ, suc, Bool, List, [], ◌∷◌, map}
-use Rattle.mlc_base.specs.declared.label.Label.{Label}
+use Rattle.mlc_names.specs.declared.label.Label.{Label}
 use Rattle.mlc_base.specs.declared.place.Place.{Place}
 use Rattle.ir_poly.specs.Prog as t
 use Rattle.prog_tree.specs.TreeOf.{Reading, tree_of, function_of, rule_of, dec_of, decs_of, field_of, argument_of, join_of, record_of, rules_of, chain_of, sequence_of, apply_by, left_joins, right_joins, after_parameters, put}

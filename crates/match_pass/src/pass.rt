@@ -1,7 +1,7 @@
 // The pass.
 ghost use Rattle.std.specs.Prelude.{◌≡◌, ℕ, IfOk, IfErr};
-ghost use Rattle.mlc_base.specs.Passes.{BringsNone};
-ghost use Rattle.mlc_base.specs.declared.pass.PassFault.TheVariants.{Memory};
+ghost use Rattle.mlc_runs.specs.Passes.{BringsNone};
+ghost use Rattle.mlc_runs.specs.declared.pass.PassFault.TheVariants.{Memory};
 ghost use Rattle.ir_plain.specs.Once.{IsOnce};
 ghost use Rattle.ir_poly.specs.Tests.{poly};
 ghost use Rattle.ir_prog.specs.Programs as source;
@@ -11,7 +11,7 @@ use crate::compile::compile;
 use ir_prog::program::Program as Source;
 use ir_tests::program::Program as Target;
 use match_compile::law::{programs_are_kept, variables_are_bound};
-use mlc_base::pass::{Pass, PassFault};
+use mlc_runs::pass::{Pass, PassFault};
 use std::alloc::Global;
 
 /// The tests of a program, and what they keep: the outcome at every number of turns, whatever the program, also where it goes wrong; that each variable is bound

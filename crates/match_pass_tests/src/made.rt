@@ -2,10 +2,10 @@
 
 use ir_tables::tables::{Constant, Tables};
 use match_pass::compile::compile;
-use mlc_base::label::Label;
 use mlc_base::make::{boxed, one};
 use mlc_base::memory::NoMemory;
 use mlc_base::place::Place;
+use mlc_names::label::Label;
 use plain_tree::tree::{Exp as Tests, Operation, Step};
 use prog_tree::tree::{Atom, Binding, Dec, Exp, Join, Pat, PatField, Rule, Side, Used};
 use std::alloc::Global;

@@ -2,9 +2,9 @@
 
 use crate::made::{PLACE, declared, general, made, two_variables};
 use ir_tables::tables::Constant;
-use mlc_base::label::Label;
 use mlc_base::make::{boxed, one};
 use mlc_base::memory::NoMemory;
+use mlc_names::label::Label;
 use mlc_prims::basis::BasisPrimitive;
 use plain_tree::tree::{Arm, Exp as Tests, Function as Member, Operation, Step};
 use prog_tree::tree::{Atom, Binding, Dec, Exp, Function, Join, Parameter, Pat, Rule, Side, Used};

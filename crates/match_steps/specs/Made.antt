@@ -1,6 +1,6 @@
 -- What single steps make, in the words of the pass.
 use Rattle.std.specs.Prelude.{ℕ, suc}
-use Rattle.mlc_base.specs.declared.label.Label.{Label}
+use Rattle.mlc_names.specs.declared.label.Label.{Label}
 use Rattle.ir_plain.specs.Tree.{is_con_of, is_exn_of, name_in, content, select}
 use Rattle.ir_poly.specs.Tests.{Tests}
 use Rattle.match_compile.specs.Compile.{scoped, atom, put, test, excepted}

@@ -11,8 +11,8 @@ ghost use Rattle.match_steps.specs.Made.{testing, naming, selecting, containing,
 use match_names::names::Names;
 use match_types::types::{fresh, new_binding, scoped_type};
 use match_types::work::{ValueType, Work};
-use mlc_base::label::Label;
 use mlc_base::memory::NoMemory;
+use mlc_names::label::Label;
 use plain_tree::tree::{Case, Exception, Operation, Parameter, Step};
 use prog_tree::tree::{Exception as Named, Head};
 use std::alloc::Global;

@@ -1,6 +1,6 @@
 -- How much was read.
 use Rattle.std.proofs.Common.{◌≡◌, ℕ, ◌+◌, ◌<◌, ◌≤◌, List, [], ◌∷◌, ◌++◌, length, ap, ◌∙◌, arith, length-append}
-use Rattle.mlc_base.specs.File.{File}
+use Rattle.mlc_faults.specs.File.{File}
 use Rattle.mlb_reader.specs.Counting.{IsCount, KeepsFile}
 use Rattle.mlb_reader.specs.Project.{bytes_in, most_bytes, most_bytes_together, most_reads}
 use Rattle.mlb_reader.specs.declared.counts.Counts.{Counts}

@@ -3,10 +3,10 @@ use Rattle.std.proofs.Common.{◌≡◌, ℕ, ◌≤◌, List, [], ◌∷◌, �
 use Rattle.std.proofs.Math.Seq.{get_or-append_seam}
 use Rattle.std.proofs.lemmas.List.{get_or_append_left}
 use Rattle.std.proofs.lemmas.Option.{slice_get_within, slice_get-get_or, get_or_from_slice_get}
-use Rattle.mlc_base.specs.File.{File}
-use Rattle.mlc_base.specs.Files.{LiesIn, LiesInFile}
-use Rattle.mlc_base.specs.declared.code.Code.{Code}
-use Rattle.mlc_base.specs.declared.fault.Fault.{Fault}
+use Rattle.mlc_faults.specs.File.{File}
+use Rattle.mlc_faults.specs.Files.{LiesIn, LiesInFile}
+use Rattle.mlc_faults.specs.declared.code.Code.{Code}
+use Rattle.mlc_faults.specs.declared.fault.Fault.{Fault}
 use Rattle.mlc_base.specs.declared.place.Place.{Place}
 use Rattle.mlb_reader.specs.Broken.{fault_at}
 use Rattle.mlb_reader.specs.Project.{most_bytes}

@@ -4,13 +4,13 @@ use Rattle.std.specs.Option.{ForSome}
 use Rattle.std.proofs.lemmas.Bool.{ltb-true}
 use Rattle.std.proofs.lemmas.List.{get_or_default, length-take, take-append-drop, take-append-le}
 use Rattle.std.proofs.lemmas.List.Elements.{All-append, All-cons, All-nil, All-same, All-weaker}
-use Rattle.mlc_base.specs.File.{File}
-use Rattle.mlc_base.specs.Files.{LiesIn}
+use Rattle.mlc_faults.specs.File.{File}
+use Rattle.mlc_faults.specs.Files.{LiesIn}
 use Rattle.mlc_base.specs.declared.place.Place.{Place}
-use Rattle.mlc_base.specs.declared.token.Token.{Token}
-use Rattle.mlc_base.specs.declared.token.TokenKind.{TokenKind}
-use Rattle.mlc_base.specs.declared.token.TokenKind.TheVariants as kind
-use Rattle.mlc_base.specs.StandardWords.{standard_words, word_it}
+use Rattle.mlc_names.specs.declared.token.Token.{Token}
+use Rattle.mlc_names.specs.declared.token.TokenKind.{TokenKind}
+use Rattle.mlc_names.specs.declared.token.TokenKind.TheVariants as kind
+use Rattle.mlc_names.specs.StandardWords.{standard_words, word_it}
 use Rattle.sml_lexer.specs.Lexeme.{HoldsNames}
 use Rattle.sml_lexer.specs.Lexes.{HoldsAllNames, Rises}
 use Rattle.sml_lexer.specs.NameTable.{Keeps}
@@ -27,7 +27,7 @@ use Rattle.phrase_base.specs.declared.source.Source.{Source}
 use Rattle.sml_rules.specs.Basis.{IsTable}
 use Rattle.sml_rules.specs.Phrases.{Phrase, brings_basis, foreign, decs_phrases, parts_phrases}
 use Rattle.sml_rules.specs.Project.{Part, standard_basis, source, cut}
-use Rattle.mlc_base.proofs.NamesLemmas.{standard_words-apart}
+use Rattle.mlc_names.proofs.NamesLemmas.{standard_words-apart}
 use Rattle.mlb_reader.specs.Loading.{Grows, IsKnown, IsPlaceOf}
 use Rattle.mlb_reader.specs.Project.{Loaded, most_bytes}
 use Rattle.mlb_reader.specs.Tops.{part_of_tops}

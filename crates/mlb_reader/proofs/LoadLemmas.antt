@@ -3,13 +3,13 @@ use Rattle.std.proofs.Common.{◌≡◌, ◌≢◌, ℕ, ◌+◌, ◌<◌, ◌�
 use Rattle.std.specs.FinMap.{get}
 use Rattle.std.proofs.lemmas.Bool.{ltb-true, ltb-false}
 use Rattle.std.proofs.lemmas.List.{take_more, take_all, take-append-drop, drop_more, get_or-map}
-use Rattle.mlc_base.specs.File.{File}
-use Rattle.mlc_base.specs.Files.{LiesIn}
-use Rattle.mlc_base.specs.declared.code.Code.TheVariants.{FilesTooLarge, MlbSyntax, PathVariable, Extension, TooManyFiles}
-use Rattle.mlc_base.specs.declared.fault.Fault.{Fault}
+use Rattle.mlc_faults.specs.File.{File}
+use Rattle.mlc_faults.specs.Files.{LiesIn}
+use Rattle.mlc_faults.specs.declared.code.Code.TheVariants.{FilesTooLarge, MlbSyntax, PathVariable, Extension, TooManyFiles}
+use Rattle.mlc_faults.specs.declared.fault.Fault.{Fault}
 use Rattle.mlc_outside.specs.Files.{Files}
 use Rattle.mlc_outside.specs.Store.{HasFile}
-use Rattle.mlc_base.specs.StandardWords.{standard_words}
+use Rattle.mlc_names.specs.StandardWords.{standard_words}
 use Rattle.sml_tree.specs.Fixity.{Fixity}
 use Rattle.sml_rules.specs.Project.{Part}
 use Rattle.mlb_reader.specs.Broken.{IsBad, IsBroken, IsMissing, fault_at, large_mlb, no_mlb, variable, extension, too_many, too_large, bad_source}

@@ -7,12 +7,12 @@ use Rattle.std.specs.Str.{bytes_eq}
 use Rattle.std.proofs.lemmas.Bool.{false_from_ne_true}
 use Rattle.std.proofs.lemmas.Slice.Eq.{bytes_eq-Decides}
 use Rattle.std.proofs.Math.Seq.{drop-append_seam}
-use Rattle.mlc_base.specs.File.{File}
-use Rattle.mlc_base.specs.StandardWords.{word_times, word_it}
-use Rattle.mlc_base.specs.declared.token.Token.{Token}
-use Rattle.mlc_base.specs.declared.token.TokenKind.{TokenKind}
-use Rattle.mlc_base.specs.declared.token.TokenKind.TheVariants as kind
-use Rattle.mlc_base.proofs.NamesLemmas.{AreApart, with_texts-apart, standard_words-apart}
+use Rattle.mlc_faults.specs.File.{File}
+use Rattle.mlc_names.specs.StandardWords.{word_times, word_it}
+use Rattle.mlc_names.specs.declared.token.Token.{Token}
+use Rattle.mlc_names.specs.declared.token.TokenKind.{TokenKind}
+use Rattle.mlc_names.specs.declared.token.TokenKind.TheVariants as kind
+use Rattle.mlc_names.proofs.NamesLemmas.{AreApart, with_texts-apart, standard_words-apart}
 use Rattle.mlc_outside.specs.Files.{Files}
 use Rattle.sml_lexer.specs.Lexeme.{Lexeme, lexeme_of, text_of, HoldsNames, words_in}
 use Rattle.sml_lexer.specs.Lexeme as lexeme

@@ -1,9 +1,9 @@
 -- Facts of refusals, case by case.
 use Rattle.std.proofs.Common.{◌≡◌, Result, Ok, Err, String, Global, subst, sym}
 use Rattle.std.specs.Result.{IsErrAnd}
-use Rattle.mlc_base.specs.declared.fault.Fault as base
-use Rattle.mlc_base.specs.declared.refused.Refused.{Refused}
-use Rattle.mlc_base.specs.declared.refused.Refused.TheVariants as refusal
+use Rattle.mlc_faults.specs.declared.fault.Fault as base
+use Rattle.mlc_faults.specs.declared.refused.Refused.{Refused}
+use Rattle.mlc_faults.specs.declared.refused.Refused.TheVariants as refusal
 use Rattle.sml_lexer.specs.Lexes.{IfFault}
 use Rattle.mlb_reader.specs.Refusals.{IfLoadFault, IfNoFile, IfReadFault, load_refused_of}
 use Rattle.mlb_reader.specs.declared.refused.LoadRefused.{LoadRefused}

@@ -1,11 +1,11 @@
 -- Reading a source.
 use Rattle.std.proofs.Common.{◌≡◌, ℕ, zero, suc, ◌<◌, ◌≤◌, inl, inr, List, [], ◌∷◌, length, map, get_or, None, Err, ap, subst, ◌∙◌, arith}
-use Rattle.mlc_base.specs.declared.fault.Fault.{Fault}
-use Rattle.mlc_base.specs.declared.refused.Refused.{Refused}
-use Rattle.mlc_base.specs.declared.refused.Refused.TheVariants as refusal
+use Rattle.mlc_faults.specs.declared.fault.Fault.{Fault}
+use Rattle.mlc_faults.specs.declared.refused.Refused.{Refused}
+use Rattle.mlc_faults.specs.declared.refused.Refused.TheVariants as refusal
 use Rattle.mlc_base.specs.declared.place.Place.{Place}
-use Rattle.mlc_base.specs.StandardWords.{word_times, word_it}
-use Rattle.mlc_base.specs.declared.token.Token.{Token}
+use Rattle.mlc_names.specs.StandardWords.{word_times, word_it}
+use Rattle.mlc_names.specs.declared.token.Token.{Token}
 use Rattle.sml_lexer.specs.Lexes.{IfFault, IsRefused, Lexed, Lexes, Rises}
 use Rattle.sml_tree.specs.Fixity.{Fixity}
 use Rattle.sml_tree.specs.Terminal.{terminals}

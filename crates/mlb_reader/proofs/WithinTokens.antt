@@ -2,9 +2,9 @@
 use Rattle.std.proofs.Common.{◌≡◌, ℕ, ◌<◌, List, Option, Some, None, All, refl, sym, subst, Bool, true, false, if◌then◌else◌, nat_eq, get_or}
 use Rattle.std.specs.Option.{ForSome}
 use Rattle.std.proofs.lemmas.List.Elements.{All-map}
-use Rattle.mlc_base.specs.declared.token.Token.{Token}
-use Rattle.mlc_base.specs.declared.token.TokenKind.{TokenKind}
-use Rattle.mlc_base.specs.declared.token.TokenKind.TheVariants as kind
+use Rattle.mlc_names.specs.declared.token.Token.{Token}
+use Rattle.mlc_names.specs.declared.token.TokenKind.{TokenKind}
+use Rattle.mlc_names.specs.declared.token.TokenKind.TheVariants as kind
 use Rattle.sml_tree.specs.Terminal.{terminal_at, terminal_of, terminals, star, symbol, long_star, long_symbol}
 use Rattle.mlb_reader.proofs.WithinTerminals.{terminal_place, terminal_name, TerminalHolds}
 

@@ -1,12 +1,12 @@
 -- Why loading refuses a project, in the one order, with the files that were read.
 use Rattle.std.specs.Prelude.{◌≡◌, ◌≢◌, ℕ, ◌≤◌, true, false, List, [], ◌∷◌, ◌++◌, length, Some, None}
 use Rattle.std.specs.FinMap.{get}
-use Rattle.mlc_base.specs.File.{File}
-use Rattle.mlc_base.specs.declared.code.Code.{Code}
-use Rattle.mlc_base.specs.declared.code.Code.TheVariants.{FilesTooLarge, MlbSyntax, PathVariable, Extension, TooManyFiles}
-use Rattle.mlc_base.specs.declared.fault.Fault.{Fault}
-use Rattle.mlc_base.specs.declared.token.Token.{Token}
-use Rattle.mlc_base.specs.StandardWords.{word_times}
+use Rattle.mlc_faults.specs.File.{File}
+use Rattle.mlc_faults.specs.declared.code.Code.{Code}
+use Rattle.mlc_faults.specs.declared.code.Code.TheVariants.{FilesTooLarge, MlbSyntax, PathVariable, Extension, TooManyFiles}
+use Rattle.mlc_faults.specs.declared.fault.Fault.{Fault}
+use Rattle.mlc_names.specs.declared.token.Token.{Token}
+use Rattle.mlc_names.specs.StandardWords.{word_times}
 use Rattle.mlc_outside.specs.Files.{Files}
 use Rattle.sml_lexer.specs.Lexes as lexer
 use Rattle.sml_lexer.specs.Lexes.{Lexed, Lexes}

@@ -1,6 +1,6 @@
 -- How much was read, as the code counts it.
 use Rattle.std.specs.Prelude.{◌≡◌, ℕ, ◌≤◌, List, length}
-use Rattle.mlc_base.specs.File.{File}
+use Rattle.mlc_faults.specs.File.{File}
 use Rattle.mlb_reader.specs.Project.{Fits, bytes_in, most_bytes_together, most_reads}
 use Rattle.mlb_reader.specs.declared.counts.Counts.{Counts}
 use Rattle.mlb_reader.specs.declared.counts.Kept as code

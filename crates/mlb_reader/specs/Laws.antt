@@ -1,6 +1,6 @@
 -- What holds of every project.
 use Rattle.std.specs.Prelude.{◌≡◌, ℕ, List}
-use Rattle.mlc_base.specs.File.{File}
+use Rattle.mlc_faults.specs.File.{File}
 use Rattle.mlc_outside.specs.Files.{Files}
 use Rattle.sml_rules.specs.Project.{Part}
 use Rattle.mlb_reader.specs.Project.{ProjectOf}

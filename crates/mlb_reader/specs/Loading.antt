@@ -1,9 +1,9 @@
 -- Steps of loading.
 use Rattle.std.specs.Prelude.{◌≡◌, ℕ, ◌≤◌, List, [], ◌∷◌, ◌++◌, length, map, Option, Some, None, nat_lt, if◌then◌else◌}
-use Rattle.mlc_base.specs.File.{File}
-use Rattle.mlc_base.specs.Files.{LiesIn}
-use Rattle.mlc_base.specs.declared.code.Code.TheVariants.{FilesTooLarge, PathVariable, Extension, TooManyFiles}
-use Rattle.mlc_base.specs.declared.fault.Fault.{Fault}
+use Rattle.mlc_faults.specs.File.{File}
+use Rattle.mlc_faults.specs.Files.{LiesIn}
+use Rattle.mlc_faults.specs.declared.code.Code.TheVariants.{FilesTooLarge, PathVariable, Extension, TooManyFiles}
+use Rattle.mlc_faults.specs.declared.fault.Fault.{Fault}
 use Rattle.mlc_base.specs.declared.place.Place.{Place}
 use Rattle.mlc_outside.specs.Files.{Files}
 use Rattle.mlc_outside.specs.Store.{HasFile}

@@ -1,10 +1,10 @@
 -- The project that files give at a path. [ML Basis, Semantics]
 use Rattle.std.specs.Prelude.{◌≡◌, ℕ, ◌+◌, ◌^◌, ◌<◌, ◌≤◌, true, false, List, [], ◌∷◌, ◌++◌, length, map, Some}
 use Rattle.std.specs.FinMap.{get}
-use Rattle.mlc_base.specs.File.{File}
-use Rattle.mlc_base.specs.declared.token.Token.{Token}
+use Rattle.mlc_faults.specs.File.{File}
+use Rattle.mlc_names.specs.declared.token.Token.{Token}
 use Rattle.mlc_outside.specs.Files.{Files}
-use Rattle.mlc_base.specs.StandardWords.{standard_words, word_times, word_it}
+use Rattle.mlc_names.specs.StandardWords.{standard_words, word_times, word_it}
 use Rattle.sml_lexer.specs.Lexes.{Lexes, lexed_of, HoldsAllNames, names_after}
 use Rattle.sml_tree.specs.Terminal.{terminals}
 use Rattle.sml_tree.specs.Fixity.{Fixity}

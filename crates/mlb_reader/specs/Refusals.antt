@@ -1,9 +1,9 @@
 -- Why loading has no answer.
 use Rattle.std.specs.Prelude.{Option, Some, None, Result, Ok, Err, String, ⊤}
 use Rattle.std.specs.Global.{Global}
-use Rattle.mlc_base.specs.declared.fault.Fault as base
-use Rattle.mlc_base.specs.declared.refused.Refused.{Refused}
-use Rattle.mlc_base.specs.declared.refused.Refused.TheVariants as refusal
+use Rattle.mlc_faults.specs.declared.fault.Fault as base
+use Rattle.mlc_faults.specs.declared.refused.Refused.{Refused}
+use Rattle.mlc_faults.specs.declared.refused.Refused.TheVariants as refusal
 use Rattle.mlc_outside.specs.Files.{Files}
 use Rattle.mlb_reader.specs.declared.refused.LoadRefused.{LoadRefused}
 use Rattle.mlb_reader.specs.declared.refused.LoadRefused.TheVariants as load

@@ -4,8 +4,8 @@ ghost use Rattle.std.specs.Prelude.{◌≡◌, ◌↔◌, ◌+◌, ◌≤◌, �
 ghost use Rattle.mlb_reader.specs.Counting.{IsCount, IsKept};
 ghost use Rattle.mlb_reader.specs.Project.{most_bytes, most_bytes_together, most_reads};
 
-use mlc_base::files::Files;
 use mlc_base::memory::NoMemory;
+use mlc_faults::files::Files;
 use std::alloc::Global;
 
 /// The most reads of files, the ML Basis file's among them.

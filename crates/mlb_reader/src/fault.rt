@@ -3,9 +3,9 @@
 ghost use Rattle.std.specs.Prelude.{◌≡◌};
 ghost use Rattle.mlb_reader.specs.Broken.{fault_at};
 
-use mlc_base::code::Code;
-use mlc_base::fault::Fault;
 use mlc_base::place::Place;
+use mlc_faults::code::Code;
+use mlc_faults::fault::Fault;
 
 /// The refusal with this code at a byte of a file.
 pub fn fault_at(code: Code, file: u32, byte: u32) -> Fault

@@ -9,8 +9,8 @@ ghost use Rattle.mlb_reader.specs.MlbOf.{items_of, BeginsPath, IsNoMlb};
 ghost use Rattle.mlb_reader.specs.Reading.{is_no_blank};
 
 use crate::fault::fault_at;
-use mlc_base::code::Code;
-use mlc_base::refused::Refused;
+use mlc_faults::code::Code;
+use mlc_faults::refused::Refused;
 use std::alloc::Global;
 
 const RESERVED: [&str; 12] = [

@@ -4,9 +4,9 @@ ghost use Rattle.std.specs.Prelude.{◌≡◌};
 ghost use Rattle.mlb_reader.specs.Refusals.{load_refused_of};
 ghost use Rattle.mlb_reader.specs.declared.refused.LoadRefused.TheVariants.{Memory};
 
-use mlc_base::fault::Fault;
 use mlc_base::memory::NoMemory;
-use mlc_base::refused::Refused;
+use mlc_faults::fault::Fault;
+use mlc_faults::refused::Refused;
 use std::alloc::{AllocError, AllocFailed};
 
 /// Why a project isn't loaded.

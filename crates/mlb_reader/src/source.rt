@@ -13,9 +13,9 @@ ghost use Rattle.mlb_reader.specs.Within.{AllPlacedIn, HoldsAll};
 
 use crate::project::Part;
 use crate::tops::part_of_tops;
-use mlc_base::names::{Name, Names};
-use mlc_base::refused::Refused;
-use mlc_base::words;
+use mlc_faults::refused::Refused;
+use mlc_names::names::{Name, Names};
+use mlc_names::words;
 use phrase_base::source::Source;
 use sml_lexer::lex::lex;
 use sml_modparse::read::read_program;

@@ -3,10 +3,10 @@
 use mlb_reader::load::load;
 use mlb_reader::project::{Part, Project};
 use mlb_reader::refused::LoadRefused;
-use mlc_base::fault::fault_line;
-use mlc_base::files::Files;
 use mlc_base::memory::NoMemory;
-use mlc_base::names::Names;
+use mlc_faults::fault::fault_line;
+use mlc_faults::files::Files;
+use mlc_names::names::Names;
 use mlc_outside::mem_store::MemStore;
 use std::alloc::Global;
 use std::collections::BTreeMap;

@@ -1,11 +1,11 @@
 // Two toy forms, and two passes one after the other.
 
 ghost use Rattle.std.specs.Prelude.{◌≡◌, ℕ, ◌≤◌, ◌<◌, List, [], ◌∷◌, length};
-ghost use Rattle.mlc_base.specs.Outcome.{ended};
-ghost use Rattle.mlc_base.specs.StandardWords.{word_Bind};
+ghost use Rattle.mlc_runs.specs.Outcome.{ended};
+ghost use Rattle.mlc_names.specs.StandardWords.{word_Bind};
 
 use mlc_base::memory::NoMemory;
-use mlc_base::pass::{Check, Form, Pass, PassFault, Then};
+use mlc_runs::pass::{Check, Form, Pass, PassFault, Then};
 use std::alloc::Global;
 use std::test::Fail;
 

@@ -2,15 +2,15 @@
 
 ghost use Rattle.std.specs.Prelude.{◌≡◌};
 
-use mlc_base::code::Code;
-use mlc_base::fault::{Fault, fault_line};
-use mlc_base::files::Files;
-use mlc_base::law::{
+use mlc_base::place::Place;
+use mlc_faults::code::Code;
+use mlc_faults::fault::{Fault, fault_line};
+use mlc_faults::files::Files;
+use mlc_names::names::{Name, Names};
+use mlc_names::words;
+use mlc_runs::law::{
     Relation, more_turns_go_on, packets_are_handled, results_go_on, runs_agree, runs_refine,
 };
-use mlc_base::names::{Name, Names};
-use mlc_base::place::Place;
-use mlc_base::words;
 use std::test::Fail;
 
 #[test]

@@ -1,8 +1,8 @@
 -- Worked examples: phrases that pass, with their tape, and phrases that break a rule.
 use Rattle.std.proofs.Common.{ℕ, true, List, [], ◌∷◌, refl, codes}
 use Rattle.std.specs.Prelude.{pos}
-use Rattle.mlc_base.specs.declared.code.Code.TheVariants.{Unbound, NoTyping, Restriction}
-use Rattle.mlc_base.specs.StandardWords.{word_ref, word_plus, word_print}
+use Rattle.mlc_faults.specs.declared.code.Code.TheVariants.{Unbound, NoTyping, Restriction}
+use Rattle.mlc_names.specs.StandardWords.{word_ref, word_plus, word_print}
 use Rattle.mlc_base.specs.declared.place.Place.{Place}
 use Rattle.std.specs.Prelude.{Some, None}
 use Rattle.mlc_prims.specs.declared.prim.Primitive.TheVariants.{Add, Print}

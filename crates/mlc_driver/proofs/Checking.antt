@@ -6,7 +6,7 @@ use Rattle.std.specs.Option.{ForSome}
 use Rattle.std.proofs.lemmas.Bool.{eq-eqb, eqb-true}
 use Rattle.std.proofs.lemmas.List.{append-nil, map_more, map-append, take-append-drop, get_or-map, length-map, take_rest}
 use Rattle.std.proofs.Math.Seq.{drop-cons}
-use Rattle.mlc_base.specs.StandardWords.{word_plus, word_minus, word_times, word_concatenate, word_print}
+use Rattle.mlc_names.specs.StandardWords.{word_plus, word_minus, word_times, word_concatenate, word_print}
 use Rattle.mlc_prims.specs.declared.prim.Primitive.{Primitive}
 use Rattle.mlc_prims.specs.declared.prim.Primitive.TheVariants.{Add, Sub, Mul, Cat, Print}
 use Rattle.sml_rules.specs.Basis.{basis_prim}

@@ -1,12 +1,12 @@
 -- The answers of checking and of compiling a project.
 use Rattle.std.proofs.Common.{◌≡◌, ℕ, ◌+◌, ◌*◌, ◌^◌, ◌<◌, ◌≤◌, ◌⊎◌, max, List, Option, Some, None, Result, Ok, Err, refl, subst, sym, ap, ◌∙◌, arith, min}
-use Rattle.mlc_base.specs.File.{File}
-use Rattle.mlc_base.specs.Outcome.{Outcome}
-use Rattle.mlc_base.specs.declared.code.Code.TheVariants.{NotCompiled, ExpansionTooLarge}
-use Rattle.mlc_base.specs.declared.fault.Fault as base
+use Rattle.mlc_faults.specs.File.{File}
+use Rattle.mlc_runs.specs.Outcome.{Outcome}
+use Rattle.mlc_faults.specs.declared.code.Code.TheVariants.{NotCompiled, ExpansionTooLarge}
+use Rattle.mlc_faults.specs.declared.fault.Fault as base
 use Rattle.mlc_base.specs.declared.place.Place.{Place}
-use Rattle.mlc_base.specs.declared.refused.Refused.{Refused}
-use Rattle.mlc_base.specs.declared.refused.Refused.TheVariants as refusal
+use Rattle.mlc_faults.specs.declared.refused.Refused.{Refused}
+use Rattle.mlc_faults.specs.declared.refused.Refused.TheVariants as refusal
 use Rattle.mlc_outside.specs.Files.{Files}
 use Rattle.ir_code.specs.Run.{RunResult, run_of}
 use Rattle.sml_rules.specs.Basis.{IsTable, text_in}

@@ -1,10 +1,10 @@
 -- What a tape has written stays written.
 use Rattle.std.proofs.Common.{List, [], ◌∷◌, Bool, true, false}
 use Rattle.std.specs.Prelude.{slice_get}
-use Rattle.mlc_base.specs.MoreTurns.{IsPrefix, output_in}
-use Rattle.mlc_base.specs.Run.{World, then_do, take_turn}
+use Rattle.mlc_runs.specs.MoreTurns.{IsPrefix, output_in}
+use Rattle.mlc_runs.specs.Run.{World, then_do, take_turn}
 use Rattle.mlc_base.specs.declared.place.Place.{Place}
-use Rattle.mlc_base.proofs.MoreTurnsLaws.{gives-on, fail-on, or_fail-on, then_do-on, take_turn-on}
+use Rattle.mlc_runs.proofs.MoreTurnsLaws.{gives-on, fail-on, or_fail-on, then_do-on, take_turn-on}
 use Rattle.mlc_prims.specs.LitOf.{Literal}
 use Rattle.mlc_prims.specs.declared.prim.Primitive.{Primitive}
 use Rattle.sml_rules.specs.Values.{Value}

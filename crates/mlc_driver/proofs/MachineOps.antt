@@ -4,7 +4,7 @@ use Rattle.std.specs.Prelude.{slice_get, slice_set, min, ⊤}
 use Rattle.std.specs.Int.{cast_unsigned, w32}
 use Rattle.std.proofs.lemmas.Bool.{cases_lt}
 use Rattle.std.proofs.lemmas.Int.{to_z-of_z}
-use Rattle.mlc_base.specs.Run.{World, Answer, gives, raises, stops, went_wrong, then_do, or_fail, take_turn, turn_from}
+use Rattle.mlc_runs.specs.Run.{World, Answer, gives, raises, stops, went_wrong, then_do, or_fail, take_turn, turn_from}
 use Rattle.mlc_base.specs.declared.place.Place.{Place}
 use Rattle.ir_code.specs.declared.instr.Instr.{Instr}
 use Rattle.ir_code.specs.declared.instr.Instr.TheVariants as instr
@@ -18,7 +18,7 @@ use Rattle.same_runs.specs.SameRuns.{IsExhausted, of_stack}
 use Rattle.mlc_driver.specs.Tape.{Op, number, text, unit, slot, apply, keep, forget, forget_unit, Values, do_all}
 use Rattle.mlc_driver.specs.Code.{AllFit, Spot, basis_constants, code_from, spot_after, op_keeps, keeps_in}
 use Rattle.mlc_driver.proofs.MachineSeams.{HasAt, get_within, get_set_same, get_set_other}
-use Rattle.mlc_base.specs.MoreTurns.{output_in}
+use Rattle.mlc_runs.specs.MoreTurns.{output_in}
 use Rattle.mlc_driver.proofs.MachineGrows.{all_grow}
 use Rattle.mlc_driver.proofs.MachineValues.{IsString, Is, Longer, longer_same, string_longer, KeptAt, LatestAt, SameBelow, kept_stays, latest_stays, latest_above, kept_more}
 use Rattle.mlc_driver.proofs.MachineSteps.{MachineLaws, Leads, then_leads, at, stop}

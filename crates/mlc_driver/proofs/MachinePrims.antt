@@ -4,7 +4,7 @@ use Rattle.std.specs.Prelude.{slice_get, slice_set, FitsSigned, option_map, ifâ—
 use Rattle.std.specs.Int.{cast_unsigned, w32}
 use Rattle.std.proofs.lemmas.Bool.{cases_lt, ltb-true, le-leb, lt-leb}
 use Rattle.std.proofs.lemmas.Int.{to_z-of_z}
-use Rattle.mlc_base.specs.Run.{World, Answer, then_do, or_fail, writes}
+use Rattle.mlc_runs.specs.Run.{World, Answer, then_do, or_fail, writes}
 use Rattle.mlc_base.specs.declared.place.Place.{Place}
 use Rattle.ir_code.specs.declared.instr.Instr.{Instr}
 use Rattle.ir_code.specs.declared.instr.Instr.TheVariants as instr
@@ -24,7 +24,7 @@ use Rattle.same_runs.specs.SameRuns.{IsExhausted, of_heap}
 use Rattle.mlc_driver.specs.Tape.{Op, apply, Values, result_for, do_all}
 use Rattle.mlc_driver.specs.Code.{Spot, basis_constants, raising_code, number_code, cat_code, code_from, spot_after}
 use Rattle.mlc_driver.proofs.MachineSeams.{HasAt, has_front, has_back, get_within, get_set_same, get_set_other}
-use Rattle.mlc_base.specs.MoreTurns.{output_in}
+use Rattle.mlc_runs.specs.MoreTurns.{output_in}
 use Rattle.mlc_driver.proofs.MachineGrows.{all_grow}
 use Rattle.mlc_driver.proofs.MachineValues.{IsString, Is, Longer, longer_same, string_is, string_bytes_there, SameBelow, kept_stays, latest_stays}
 use Rattle.mlc_driver.proofs.MachineSteps.{MachineLaws, Leads, then_leads, at}

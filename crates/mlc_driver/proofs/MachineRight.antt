@@ -4,15 +4,15 @@ use Rattle.std.specs.Prelude.{slice_get, slice_index_or}
 use Rattle.std.specs.Str.{bytes_eq}
 use Rattle.std.proofs.lemmas.List.{length-replicate}
 use Rattle.std.proofs.lemmas.Slice.Eq.{bytes_eq-Decides}
-use Rattle.mlc_base.specs.Outcome.{Outcome}
-use Rattle.mlc_base.specs.Outcome as source
-use Rattle.mlc_base.specs.Run.{World, Answer, gives, raises, stops, outcome_of, uncaught_end}
+use Rattle.mlc_runs.specs.Outcome.{Outcome}
+use Rattle.mlc_runs.specs.Outcome as source
+use Rattle.mlc_runs.specs.Run.{World, Answer, gives, raises, stops, outcome_of, uncaught_end}
 use Rattle.ir_code.specs.declared.instr.Instr.{Instr}
 use Rattle.ir_code.specs.Machine.{State, run, start}
 use Rattle.ir_code.specs.Run.{RunResult, result_of, run_of}
 use Rattle.ir_code.specs.Run as machine
 use Rattle.mlc_prims.specs.declared.prim.Primitive.TheVariants.{Add, Sub, Mul, Cat, Print}
-use Rattle.mlc_base.specs.StandardWords.{word_Overflow, word_Size}
+use Rattle.mlc_names.specs.StandardWords.{word_Overflow, word_Size}
 use Rattle.sml_rules.specs.Basis.{text_in, basis_exceptions, IsTable}
 use Rattle.sml_rules.specs.Laws.{IsPrefix}
 use Rattle.sml_rules.specs.Values.{Value}
@@ -22,7 +22,7 @@ use Rattle.mlc_driver.specs.Tape.{Op, number, text, unit, slot, apply, keep, for
 use Rattle.mlc_driver.specs.Code.{AllFit, Spot, string_words, basis_constants, text_constants, raising_code, code_from, spot_after, keeps_in, first_spot, image_of, size_of}
 use Rattle.mlc_driver.specs.CodeLaws.{ImageIsRight}
 use Rattle.mlc_driver.proofs.MachineSeams.{HasAt, has_front, has_back, has_all}
-use Rattle.mlc_base.specs.MoreTurns.{output_in}
+use Rattle.mlc_runs.specs.MoreTurns.{output_in}
 use Rattle.mlc_driver.proofs.MachineSteps.{MachineLaws, jmp}
 use Rattle.mlc_driver.proofs.MachineOps.{TextsAt, Names, names_overflow, names_size, Comes, comes_end, comes_raised, comes_short, comes_wrong, before_comes, Follows, nothing_follows, number_follows, text_follows, unit_follows, slot_follows, keep_follows, forget_follows, unit_goes}
 use Rattle.mlc_driver.proofs.MachinePrims.{print_follows, add_follows, sub_follows, mul_follows, cat_follows}

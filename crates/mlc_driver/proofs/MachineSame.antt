@@ -1,14 +1,14 @@
 -- A meaning and a machine that end alike, or of which the machine is exhausted, do so at each number of turns and of steps.
 use Rattle.std.proofs.Common.{◌≡◌, ◌≢◌, ℕ, ◌+◌, ◌-◌, ◌≤◌, ◌⊎◌, inl, inr, List, ap, subst, sym, ◌∙◌, arith, ⊎_elim}
 use Rattle.std.proofs.lemmas.Bool.{cases_lt}
-use Rattle.mlc_base.specs.Outcome.{Outcome}
-use Rattle.mlc_base.specs.Outcome as source
+use Rattle.mlc_runs.specs.Outcome.{Outcome}
+use Rattle.mlc_runs.specs.Outcome as source
 use Rattle.ir_code.specs.Run.{RunResult}
 use Rattle.ir_code.specs.Run as machine
 use Rattle.sml_rules.specs.Laws.{IsPrefix, GrowsTo}
 use Rattle.same_runs.specs.SameRuns.{SameEnd, both_ended, both_uncaught, IsOver, HasEnded, IsExhausted, of_heap, of_stack, SameResult, SameRuns}
 use Rattle.same_runs.specs.SameRuns as same
-use Rattle.mlc_base.proofs.MoreTurnsLaws.{prefix-refl, prefix-trans}
+use Rattle.mlc_runs.proofs.MoreTurnsLaws.{prefix-refl, prefix-trans}
 
 -- how the machine stands when it has stopped
 pub data Stopped (text_of : ℕ → List ℕ) (o : Outcome) (r : RunResult) : Type 0 where

@@ -2,7 +2,7 @@
 use Rattle.std.proofs.Common.{◌≡◌, ℕ, zero, suc, Bool, true, false, if◌then◌else◌, List, [], ◌∷◌, ◌++◌, Option, Some, None, refl, sym, ap, ◌∙◌, subst}
 use Rattle.std.specs.Prelude.{length, slice_get, nat_eq}
 use Rattle.mlc_base.specs.declared.place.Place.{Place}
-use Rattle.mlc_base.specs.Run.{World, Cut, went_wrong, Answer, gives, raises, stops, then_do, or_fail, outcome_of}
+use Rattle.mlc_runs.specs.Run.{World, Cut, went_wrong, Answer, gives, raises, stops, then_do, or_fail, outcome_of}
 use Rattle.mlc_prims.specs.declared.prim.Primitive.{Primitive}
 use Rattle.sml_tree.specs.declared.ident.Vid.TheVariants.{Named, Equals}
 use Rattle.sml_tree.specs.BareTree.{Exp, Pat, wild_pat, vid_pat, fields_pat, no_pat_fields, Decs}

@@ -1,6 +1,6 @@
 -- Laws of runs and of tapes, and how checked phrases are split.
 use Rattle.std.proofs.Common.{◌≡◌, ℕ, List, [], ◌∷◌, ◌++◌, refl, sym, ap, ◌∙◌, subst, append_assoc, append-nil}
-use Rattle.mlc_base.specs.Run.{World, Answer, gives, raises, stops, then_do}
+use Rattle.mlc_runs.specs.Run.{World, Answer, gives, raises, stops, then_do}
 use Rattle.sml_rules.specs.Values.{Value}
 use Rattle.sml_rules.specs.Phrases.{Phrase}
 use Rattle.mlc_driver.specs.Tape.{Op, Values, do_op, do_all, result_for}

@@ -1,7 +1,7 @@
 -- Where the faults of phrases lie.
 use Rattle.std.proofs.Common.{◌≡◌, ℕ, List, [], ◌∷◌, ◌++◌, Some, refl, subst}
 use Rattle.std.proofs.lemmas.List.Elements.{All-head, All-tail}
-use Rattle.mlc_base.specs.declared.fault.Fault.{Fault}
+use Rattle.mlc_faults.specs.declared.fault.Fault.{Fault}
 use Rattle.mlc_base.specs.declared.place.Place.{Place}
 use Rattle.sml_rules.specs.Broken.{FirstBroken, Breaks, is_unbound, is_never_bound, has_no_typing, declaration_at, Typed}
 use Rattle.sml_rules.specs.Phrases.{Phrase, integer, text, identifier, nothing, applies, applies_pair, binds_any, binds, binds_nothing, declares, brings_basis, foreign, first_foreign}

@@ -1,9 +1,9 @@
 -- A checked project, and why a project is refused.
 use Rattle.std.specs.Prelude.{◌≡◌, ℕ, ◌+◌, ◌<◌, min, List, Option, Some, None}
 use Rattle.std.specs.Option.{ForSome}
-use Rattle.mlc_base.specs.File.{File}
-use Rattle.mlc_base.specs.declared.code.Code.TheVariants.{NotCompiled}
-use Rattle.mlc_base.specs.declared.fault.Fault.{Fault}
+use Rattle.mlc_faults.specs.File.{File}
+use Rattle.mlc_faults.specs.declared.code.Code.TheVariants.{NotCompiled}
+use Rattle.mlc_faults.specs.declared.fault.Fault.{Fault}
 use Rattle.mlc_base.specs.declared.place.Place.{Place}
 use Rattle.mlc_outside.specs.Files.{Files}
 use Rattle.mlb_reader.specs.Broken.{IsBroken}

@@ -1,11 +1,11 @@
 -- The checker of the code: what it knows, and what a phrase does to it.
 use Rattle.std.specs.Prelude.{◌≡◌, ℕ, Bool, true, false, if◌then◌else◌, ◌≤◌, ◌+◌, List, [], ◌∷◌, ◌++◌, reverse, Option, Some, None, Result, Ok, Err, ⊤, nat_eq}
 use Rattle.std.specs.HashMap.{get}
-use Rattle.mlc_base.specs.StandardWords.{word_plus, word_minus, word_times, word_concatenate, word_print}
-use Rattle.mlc_base.specs.declared.code.Code.TheVariants.{Unbound, NoTyping, Restriction}
+use Rattle.mlc_names.specs.StandardWords.{word_plus, word_minus, word_times, word_concatenate, word_print}
+use Rattle.mlc_faults.specs.declared.code.Code.TheVariants.{Unbound, NoTyping, Restriction}
 use Rattle.mlc_base.specs.declared.place.Place.{Place}
-use Rattle.mlc_base.specs.declared.refused.Refused.{Refused}
-use Rattle.mlc_base.specs.declared.refused.Refused.TheVariants as refusal
+use Rattle.mlc_faults.specs.declared.refused.Refused.{Refused}
+use Rattle.mlc_faults.specs.declared.refused.Refused.TheVariants as refusal
 use Rattle.mlc_prims.specs.declared.prim.Primitive.{Primitive}
 use Rattle.mlc_prims.specs.declared.prim.Primitive.TheVariants.{Add, Sub, Mul, Cat, Print}
 use Rattle.sml_tree.specs.declared.ident.Vid.{Vid}

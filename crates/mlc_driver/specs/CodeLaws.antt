@@ -1,6 +1,6 @@
 -- Laws of the image of a tape.
 use Rattle.std.specs.Prelude.{◌≡◌, ◌≢◌, ℕ, ◌+◌, ◌*◌, ◌^◌, ◌≤◌, max, List, length}
-use Rattle.mlc_base.specs.Outcome.{wrong}
+use Rattle.mlc_runs.specs.Outcome.{wrong}
 use Rattle.ir_code.specs.ImageBytes.{IsProgram}
 use Rattle.ir_code.specs.Run.{run_of}
 use Rattle.sml_rules.specs.Basis.{IsTable, text_in}

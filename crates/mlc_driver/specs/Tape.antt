@@ -1,7 +1,7 @@
 -- A checked project as a tape: what is done with the values under way, in order. Functions are none of them: what is applied is known.
 use Rattle.std.specs.Prelude.{ℕ, ℤ, Bool, true, false, List, [], ◌∷◌, ◌++◌, slice_get}
-use Rattle.mlc_base.specs.Outcome.{Outcome}
-use Rattle.mlc_base.specs.Run.{World, Answer, gives, then_do, or_fail, fail, take_turn, outcome_of}
+use Rattle.mlc_runs.specs.Outcome.{Outcome}
+use Rattle.mlc_runs.specs.Run.{World, Answer, gives, then_do, or_fail, fail, take_turn, outcome_of}
 use Rattle.mlc_base.specs.declared.place.Place.{Place}
 use Rattle.mlc_prims.specs.LitOf.{int, string}
 use Rattle.mlc_prims.specs.declared.prim.Primitive.{Primitive}

@@ -10,9 +10,9 @@ ghost use Rattle.mlc_driver.specs.PhraseOf.{phrase_of, phrases_of, between_phras
 ghost use Rattle.mlc_driver.specs.declared.phrase.Kind.TheVariants.{One};
 
 use crate::phrase::{Between, Kind, Phrase};
-use mlc_base::label::Label;
 use mlc_base::memory::NoMemory;
 use mlc_base::place::Place;
+use mlc_names::label::Label;
 use sml_tree::ident::{Constant, LongVid, Vid};
 use sml_tree::tree::{Bind, Dec, Exp, ExpField, Joint, Part, Pat};
 use std::alloc::Global;

@@ -1,7 +1,7 @@
 // The phrases of a project.
 
-use mlc_base::names::Name;
 use mlc_base::place::Place;
+use mlc_names::names::Name;
 
 /// A phrase, after those that are in it.
 #[derive(Drop)]

@@ -2,9 +2,9 @@
 
 use mlc_base::make::{both, boxed, one, two};
 use mlc_base::memory::NoMemory;
-use mlc_base::names::Name;
 use mlc_base::place::Place;
-use mlc_base::words;
+use mlc_names::names::Name;
+use mlc_names::words;
 use sml_tree::ident::{Constant, LongVid, Vid};
 use sml_tree::tree::{Bind, Dec, Exp, Joint, Part, Pat, TyvarSeq};
 use std::alloc::Global;

@@ -1,8 +1,8 @@
 -- Why a command's project is refused.
 use Rattle.std.proofs.Common.{◌≡◌, ℕ, ◌<◌, List, [], ◌∷◌, length, Option, Some, None, arith}
-use Rattle.mlc_base.specs.File.{File}
-use Rattle.mlc_base.specs.Files.{LiesIn}
-use Rattle.mlc_base.specs.declared.fault.Fault.{Fault}
+use Rattle.mlc_faults.specs.File.{File}
+use Rattle.mlc_faults.specs.Files.{LiesIn}
+use Rattle.mlc_faults.specs.declared.fault.Fault.{Fault}
 use Rattle.mlc_outside.specs.Files.{Files}
 use Rattle.sml_rules.specs.Broken.{IsRefused}
 use Rattle.sml_rules.specs.Project.{Part}

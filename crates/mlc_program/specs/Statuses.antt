@@ -1,8 +1,8 @@
 -- The statuses of the program: what each says of the files, of what was written, and of the line on err.
 use Rattle.std.specs.Prelude.{◌≡◌, ℕ, ◌+◌, ◌*◌, ◌≤◌, ◌⊎◌, max, List, [], ◌++◌, length, Option, Some, codes}
-use Rattle.mlc_base.specs.File.{File}
-use Rattle.mlc_base.specs.FaultLine.{fault_text}
-use Rattle.mlc_base.specs.declared.fault.Fault.{Fault}
+use Rattle.mlc_faults.specs.File.{File}
+use Rattle.mlc_faults.specs.FaultLine.{fault_text}
+use Rattle.mlc_faults.specs.declared.fault.Fault.{Fault}
 use Rattle.mlc_outside.specs.Faults.{Rose}
 use Rattle.mlc_outside.specs.Files.{Files}
 use Rattle.mlc_outside.specs.Sink.{adds, WasPut}

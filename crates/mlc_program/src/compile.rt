@@ -3,7 +3,7 @@
 ghost use Rattle.std.specs.Prelude.{◌≡◌, ◌<◌, length, IfOk, IfErr};
 ghost use Rattle.std.specs.Option.{ForSome};
 ghost use Rattle.std.specs.String.{string_bytes};
-ghost use Rattle.mlc_base.specs.Files.{LiesIn};
+ghost use Rattle.mlc_faults.specs.Files.{LiesIn};
 ghost use Rattle.mlc_program.specs.CommandOf.{command_of};
 ghost use Rattle.mlc_program.specs.Exits.{Unbuilt};
 ghost use Rattle.mlc_program.specs.Outside.{disk};
@@ -13,12 +13,12 @@ use crate::command::Command;
 use crate::exit::Exit;
 use ir_code::image::Image;
 use mlb_reader::refused::LoadRefused;
-use mlc_base::fault::{Fault, fault_line};
-use mlc_base::files::Files;
 use mlc_base::memory::NoMemory;
-use mlc_base::names::Names;
-use mlc_base::refused::Refused;
 use mlc_driver::driver::{check_project, compile};
+use mlc_faults::fault::{Fault, fault_line};
+use mlc_faults::files::Files;
+use mlc_faults::refused::Refused;
+use mlc_names::names::Names;
 use mlc_outside::store::Store;
 use std::alloc::Global;
 

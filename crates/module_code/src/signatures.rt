@@ -1,7 +1,7 @@
 // Signatures and specifications.
 
-use mlc_base::names::Name;
 use mlc_base::place::Place;
+use mlc_names::names::Name;
 use sml_tree::ident::{LongId, Tyvar};
 use sml_tree::tree::{LongIdAt, Ty, TypeBind};
 

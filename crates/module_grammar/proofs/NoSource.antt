@@ -1,6 +1,6 @@
 -- Texts that are no source, whatever their tree's depth, and one that is too deep.
 use Rattle.std.proofs.Common.{◌≡◌, ℕ, pos, List, [], ◌∷◌, true, refl}
-use Rattle.mlc_base.specs.declared.token.Reserved.TheVariants as res
+use Rattle.mlc_names.specs.declared.token.Reserved.TheVariants as res
 use Rattle.sml_tree.specs.Fixity.{Fixity}
 use Rattle.sml_tree.specs.Terminal.{Terminal, reserved, number, alpha, short_strid}
 use Rattle.sml_grammar.specs.Answer.{bad, deep, many}

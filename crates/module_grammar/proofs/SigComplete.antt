@@ -1,7 +1,7 @@
 -- Signatures and specifications that are in the grammar, and not too deep, are read.
 use Rattle.std.proofs.Common.{◌≡◌, ℕ, zero, suc, ◌≤◌, ◌<◌, List, ◌∷◌, length, Some, None, true, false, refl, ◌∙◌, arith}
 use Rattle.std.proofs.lemmas.Bool.{le-leb}
-use Rattle.mlc_base.specs.declared.token.Reserved.TheVariants as res
+use Rattle.mlc_names.specs.declared.token.Reserved.TheVariants as res
 use Rattle.sml_tree.specs.Terminal.{Terminal, reserved, alpha, IsVid, alpha_vid, symbol_vid, star_vid, IsTycon}
 use Rattle.sml_tree.specs.declared.ident.Tyvar.{Tyvar}
 use Rattle.sml_tree.specs.ReadTree.{Placed, TypeBind}

@@ -1,7 +1,7 @@
 -- Signatures and specifications that are too deep are told to be.
 use Rattle.std.proofs.Common.{◌≡◌, ℕ, zero, suc, ◌≤◌, ◌<◌, List, ◌∷◌, length, Some, None, Bool, true, false, ◌⊎◌, inl, inr, refl, ◌∙◌, arith, nat_le}
 use Rattle.std.proofs.lemmas.Bool.{le-leb, lt-leb}
-use Rattle.mlc_base.specs.declared.token.Reserved.TheVariants as res
+use Rattle.mlc_names.specs.declared.token.Reserved.TheVariants as res
 use Rattle.sml_tree.specs.Terminal.{Terminal, reserved}
 use Rattle.sml_grammar.specs.Answer.{deep, read, many, whole}
 use Rattle.sml_grammar.specs.Terminals.{after_word, no_state}

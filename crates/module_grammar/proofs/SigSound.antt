@@ -1,7 +1,7 @@
 -- Signatures and specifications that are read are in the grammar.
 use Rattle.std.proofs.Common.{◌≡◌, ℕ, zero, suc, List, ◌∷◌, length, inl, inr, arith, nat_le}
 use Rattle.std.proofs.lemmas.Bool.{leb-true}
-use Rattle.mlc_base.specs.declared.token.Reserved.TheVariants as res
+use Rattle.mlc_names.specs.declared.token.Reserved.TheVariants as res
 use Rattle.sml_tree.specs.Terminal.{LongId, Terminal, reserved, alpha, IsLongTycon}
 use Rattle.sml_tree.specs.ReadTree.{Placed}
 use Rattle.sml_grammar.specs.Answer.{Read, ok, Turn, whole}

@@ -1,6 +1,6 @@
 -- Texts that are read, and texts that aren't.
 use Rattle.std.proofs.Common.{◌≡◌, ℕ, pos, [], ◌∷◌, true, refl}
-use Rattle.mlc_base.specs.declared.token.Reserved.TheVariants as res
+use Rattle.mlc_names.specs.declared.token.Reserved.TheVariants as res
 use Rattle.sml_tree.specs.Fixity.{Fixity}
 use Rattle.sml_tree.specs.Terminal.{reserved, number, alpha, int, LongId}
 use Rattle.sml_tree.specs.ReadTree.{Placed, con_ty, no_tys, constant_exp, local_dec, open_dec, no_decs, dec}

@@ -1,6 +1,6 @@
 -- Sources that are too deep are told to be; so where bad is answered no terminals are a source of any depth.
 use Rattle.std.proofs.Common.{◌≡◌, ℕ, zero, suc, ◌≤◌, ◌<◌, List, [], ◌∷◌, length, Some, None, Bool, true, false, inl, inr, refl, ◌∙◌, arith}
-use Rattle.mlc_base.specs.declared.token.Reserved.TheVariants as res
+use Rattle.mlc_names.specs.declared.token.Reserved.TheVariants as res
 use Rattle.sml_tree.specs.Terminal.{Terminal, reserved}
 use Rattle.sml_tree.specs.Fixity.{Fixity}
 use Rattle.sml_grammar.specs.Answer.{Answer, ok, bad, deep, read, then_read, many, whole}

@@ -1,6 +1,6 @@
 -- Lists of specifications that are in the grammar, and not too deep, are read.
 use Rattle.std.proofs.Common.{◌≡◌, ℕ, zero, suc, ◌≤◌, ◌<◌, List, [], ◌∷◌, length, Some, None, false, refl, ◌∙◌, arith}
-use Rattle.mlc_base.specs.declared.token.Reserved.TheVariants as res
+use Rattle.mlc_names.specs.declared.token.Reserved.TheVariants as res
 use Rattle.sml_tree.specs.Terminal.{LongId, Terminal, reserved, IsTycon, alpha_tycon, symbol_tycon, IsLongTycon, short_tycon, long_alpha_tycon, long_symbol_tycon}
 use Rattle.sml_tree.specs.ReadTree.{Placed}
 use Rattle.sml_grammar.specs.Answer.{read, many}

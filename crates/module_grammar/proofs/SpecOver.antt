@@ -1,6 +1,6 @@
 -- Lists of specifications that are too deep are told to be.
 use Rattle.std.proofs.Common.{◌≡◌, ℕ, zero, suc, ◌<◌, List, ◌∷◌, length, Option, Some, None, false, inl, inr, refl, ◌∙◌, arith}
-use Rattle.mlc_base.specs.declared.token.Reserved.TheVariants as res
+use Rattle.mlc_names.specs.declared.token.Reserved.TheVariants as res
 use Rattle.sml_tree.specs.Terminal.{Terminal, reserved}
 use Rattle.sml_tree.specs.ReadTree.{Ty}
 use Rattle.sml_tree.specs.Depth.{depth_ty, depth_some}

@@ -1,7 +1,7 @@
 -- Structures and their declarations that are in the grammar, and not too deep, are read.
 use Rattle.std.proofs.Common.{◌≡◌, ℕ, zero, suc, ◌≤◌, ◌<◌, List, [], ◌∷◌, ◌++◌, length, Some, None, Bool, true, false, refl, sym, ap, ◌∙◌, arith, max}
 use Rattle.std.proofs.lemmas.Bool.{le-leb}
-use Rattle.mlc_base.specs.declared.token.Reserved.TheVariants as res
+use Rattle.mlc_names.specs.declared.token.Reserved.TheVariants as res
 use Rattle.sml_tree.specs.Terminal.{LongId, Terminal, reserved, IsLongStrid, short_strid, long_strid}
 use Rattle.sml_tree.specs.Fixity.{Fixity}
 use Rattle.sml_tree.specs.ReadTree.{Decs, no_decs, dec, Dec}

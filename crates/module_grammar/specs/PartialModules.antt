@@ -1,7 +1,7 @@
 -- Partial structures and sources: `OpensTops f fresh i d` where some front of the terminals i is a source, cut off at its right edge, that is at least d
 -- deep. Each phrase of a path along the cut edge is entered by a terminal of its own, or by a complete left part.
 use Rattle.std.specs.Prelude.{ℕ, suc, ◌≤◌, ◌≡◌, Bool, true, false, List, ◌∷◌}
-use Rattle.mlc_base.specs.declared.token.Reserved.TheVariants as res
+use Rattle.mlc_names.specs.declared.token.Reserved.TheVariants as res
 use Rattle.sml_tree.specs.Terminal.{LongId, Terminal, reserved, IsLongStrid}
 use Rattle.sml_tree.specs.Fixity.{Fixity}
 use Rattle.sml_tree.specs.ReadTree.{Placed}

@@ -1,7 +1,7 @@
 -- How signatures and specifications are read. `read_sig n` reads a signature that is at most n deep.
 use Rattle.std.specs.Prelude.{ℕ, zero, suc, List, [], ◌∷◌, Option, Some, None, Bool, true, false, nat_le, if◌then◌else◌}
-use Rattle.mlc_base.specs.declared.token.Reserved.{Reserved}
-use Rattle.mlc_base.specs.declared.token.Reserved.TheVariants as res
+use Rattle.mlc_names.specs.declared.token.Reserved.{Reserved}
+use Rattle.mlc_names.specs.declared.token.Reserved.TheVariants as res
 use Rattle.sml_tree.specs.Terminal.{LongId, Terminal, reserved, alpha}
 use Rattle.sml_tree.specs.ReadTree.{Placed, Ty}
 use Rattle.sml_tree.specs.declared.ident.Tyvar.{Tyvar}

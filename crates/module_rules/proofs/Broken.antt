@@ -1,7 +1,7 @@
 -- Restrictions, one tree or two for each: the places that break it, inner phrases before those round them.
 use Rattle.std.proofs.Common.{◌≡◌, ℕ, List, [], ◌∷◌, false, refl, None, Some}
-use Rattle.mlc_base.specs.StandardWords.{word_int, word_it, word_true}
-use Rattle.mlc_base.specs.declared.label.Label.TheVariants.{Word}
+use Rattle.mlc_names.specs.StandardWords.{word_int, word_it, word_true}
+use Rattle.mlc_names.specs.declared.label.Label.TheVariants.{Word}
 use Rattle.mlc_base.specs.declared.place.Place.{Place}
 use Rattle.sml_tree.specs.declared.ident.Tyvar.{Tyvar}
 use Rattle.sml_tree.specs.BareTree.{Ty, var, fields, no_ty_fields, ty_field, con, no_tys, type_dec}

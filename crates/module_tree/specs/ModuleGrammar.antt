@@ -1,7 +1,7 @@
 -- The grammar of programs with modules (the Definition, sections 3.4 and 8, and Appendix A). `ReadsStr f i t o`: under the fixities f the terminals i
 -- begin with the tree t, and o are the terminals after it. Each constructor is one production, which its comment names.
 use Rattle.std.specs.Prelude.{ℕ, ◌≡◌, Bool, true, false, List, [], ◌∷◌, Option, ◌&&◌}
-use Rattle.mlc_base.specs.declared.token.Reserved.TheVariants as res
+use Rattle.mlc_names.specs.declared.token.Reserved.TheVariants as res
 use Rattle.sml_tree.specs.Terminal.{LongId, Terminal, reserved, alpha, IsVid, IsTycon, IsLongTycon, IsLongStrid}
 use Rattle.sml_tree.specs.declared.ident.Tyvar.{Tyvar}
 use Rattle.sml_tree.specs.Fixity.{Fixity}

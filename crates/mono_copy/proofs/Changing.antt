@@ -1,9 +1,9 @@
 -- One change behind another, and the faults of calls that are passed on.
 use Rattle.std.proofs.Common.{◌≡◌, ◌<◌, ◌≤◌, ℕ, List, [], ◌∷◌, ◌++◌, Result, Ok, Err, IfErr, refl, sym, ap, subst, ◌∙◌, arith}
 use Rattle.std.specs.Result.{IsErrAnd}
-use Rattle.mlc_base.specs.Passes.{greatest_expansion}
-use Rattle.mlc_base.specs.declared.pass.PassFault.{PassFault}
-use Rattle.mlc_base.specs.declared.pass.PassFault.TheVariants.{Expansion}
+use Rattle.mlc_runs.specs.Passes.{greatest_expansion}
+use Rattle.mlc_runs.specs.declared.pass.PassFault.{PassFault}
+use Rattle.mlc_runs.specs.declared.pass.PassFault.TheVariants.{Expansion}
 use Rattle.ty_core.specs.Types.{Typ}
 use Rattle.ir_tables.specs.Tables.{strings_of}
 use Rattle.ir_tables.specs.declared.tables.Tables.{Tables}

@@ -1,6 +1,6 @@
 -- All copies of a binding, and of a group.
 use Rattle.std.proofs.Common.{◌≡◌, ◌<◌, ℕ, subst, Bool, true, List, [], map, reverse, ap, ap₂, ◌∙◌, arith}
-use Rattle.mlc_base.specs.Passes.{greatest_expansion}
+use Rattle.mlc_runs.specs.Passes.{greatest_expansion}
 use Rattle.ty_core.specs.Types.{Typ}
 use Rattle.ty_table.specs.TypeAt.{type_at}
 use Rattle.ir_tables.specs.Tables.{strings_of, parameters_of, parameters_at}

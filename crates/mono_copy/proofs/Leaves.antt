@@ -1,7 +1,7 @@
 -- What is put where no expression is copied.
 use Rattle.std.proofs.Common.{◌≡◌, ◌<◌, ◌+◌, ℕ, Bool, List, [], ◌∷◌, Option, Some, sym, ap, ◌∙◌}
 use Rattle.std.specs.Option.{option_map}
-use Rattle.mlc_base.specs.Passes.{greatest_expansion}
+use Rattle.mlc_runs.specs.Passes.{greatest_expansion}
 use Rattle.ty_core.specs.Types.{Typ}
 use Rattle.ty_core.specs.Statics.{replace}
 use Rattle.ty_table.specs.TypeAt.{type_at}

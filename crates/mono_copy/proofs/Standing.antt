@@ -1,6 +1,6 @@
 -- Types stand for parameters while a copy is made, and are taken back then.
 use Rattle.std.proofs.Common.{◌≡◌, ◌<◌, ◌≤◌, ◌-◌, ℕ, Bool, List, [], ◌∷◌, ◌++◌, map, drop, length, get_or, nat_eq, refl, sym, ap, ap₂, subst, ◌∙◌, arith, length-append}
-use Rattle.mlc_base.specs.Passes.{greatest_expansion}
+use Rattle.mlc_runs.specs.Passes.{greatest_expansion}
 use Rattle.indexmap.specs.IndexMap.{get}
 use Rattle.ty_core.specs.Types.{Typ}
 use Rattle.ty_core.specs.Statics.{replace}

@@ -1,7 +1,7 @@
 -- The copies of a whole program.
 use Rattle.std.proofs.Common.{◌≡◌, ◌<◌, ◌+◌, ℕ, false, List, [], map, reverse, ap, ◌∙◌, arith}
 use Rattle.std.proofs.lemmas.List.{append-nil}
-use Rattle.mlc_base.specs.Passes.{greatest_expansion}
+use Rattle.mlc_runs.specs.Passes.{greatest_expansion}
 use Rattle.ty_core.specs.Types.{Typ}
 use Rattle.ty_table.specs.TypeAt.{type_at}
 use Rattle.ir_plain.specs.Weight.{weight}

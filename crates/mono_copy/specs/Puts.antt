@@ -1,6 +1,6 @@
 -- What a call that copies does to what is seen.
 use Rattle.std.specs.Prelude.{◌≡◌, ◌<◌, ℕ}
-use Rattle.mlc_base.specs.Passes.{greatest_expansion}
+use Rattle.mlc_runs.specs.Passes.{greatest_expansion}
 use Rattle.ty_core.specs.Types.{Typ}
 use Rattle.ir_tables.specs.Tables.{strings_of}
 use Rattle.ir_tables.specs.declared.tables.Tables.{Tables}

@@ -1,7 +1,7 @@
 // What is put where no expression is copied.
 ghost use Rattle.std.specs.Prelude.{◌≡◌, Bool, IfOk, IfErr};
 ghost use Rattle.std.specs.Option.{option_map};
-ghost use Rattle.mlc_base.specs.declared.pass.PassFault.TheVariants.{Expansion};
+ghost use Rattle.mlc_runs.specs.declared.pass.PassFault.TheVariants.{Expansion};
 ghost use Rattle.ir_tables.specs.declared.tables.Tables.{Tables};
 ghost use Rattle.mono_words.specs.Made.{all_bare};
 ghost use Rattle.mono_parts.specs.Steps.{steps_in};
@@ -10,7 +10,7 @@ ghost use Rattle.mono_copy.specs.Changes.{ret_put, packet_put, test_left, counte
 
 use ir_tables::tables::Tables;
 use mlc_base::memory::NoMemory;
-use mlc_base::pass::PassFault;
+use mlc_runs::pass::PassFault;
 use mono_parts::arms::{leave_arm, put_switch};
 use mono_parts::steps::{
     enter_binding, enter_group, enter_variable, leave_exception, leave_name, leave_variable,

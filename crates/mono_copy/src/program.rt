@@ -1,7 +1,7 @@
 // The copies of a whole program.
 ghost use Rattle.std.specs.Prelude.{◌≡◌, ◌<◌, ◌≤◌, ℕ, [], map, reverse, IfOk, IfErr};
-ghost use Rattle.mlc_base.specs.Passes.{greatest_expansion};
-ghost use Rattle.mlc_base.specs.declared.pass.PassFault.TheVariants.{Expansion};
+ghost use Rattle.mlc_runs.specs.Passes.{greatest_expansion};
+ghost use Rattle.mlc_runs.specs.declared.pass.PassFault.TheVariants.{Expansion};
 ghost use Rattle.ty_table.specs.TypeAt.{type_at};
 ghost use Rattle.ir_plain.specs.Weight.{weight};
 ghost use Rattle.ir_tables.specs.Tables.{strings_of};
@@ -13,7 +13,7 @@ ghost use Rattle.mono_copy.specs.Changes.{exp_in};
 
 use crate::walk::walk;
 use ir_tables::tables::Tables;
-use mlc_base::pass::PassFault;
+use mlc_runs::pass::PassFault;
 use mono_state::copier::Copier;
 use plain_tree::tree::Exp;
 use std::alloc::Global;

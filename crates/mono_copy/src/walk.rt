@@ -1,7 +1,7 @@
 // The walk from the end of a program to its beginning. A binding's scope is entered before what follows it is put; when it is left, the binding is copied at
 // each list of types that was needed: its operation is walked along again for each.
 ghost use Rattle.std.specs.Prelude.{◌≡◌, ℕ, true, reverse, IfOk, IfErr};
-ghost use Rattle.mlc_base.specs.declared.pass.PassFault.TheVariants.{Expansion};
+ghost use Rattle.mlc_runs.specs.declared.pass.PassFault.TheVariants.{Expansion};
 ghost use Rattle.mono_state.specs.Seen.{held_of};
 ghost use Rattle.mono_state.specs.Going.{IsHeld, AllHeld};
 ghost use Rattle.mono_copy.specs.Puts.{IsReady, Puts, Passes};
@@ -10,7 +10,7 @@ ghost use Rattle.mono_copy.specs.Changes.{operation_put, handler_put, function_p
 
 use crate::parts::{binding_of, leave_plain, open_step, put_packet, put_ret, strips_behind};
 use ir_tables::tables::Tables;
-use mlc_base::pass::PassFault;
+use mlc_runs::pass::PassFault;
 use mono_parts::arms::{enter_arm, leave_arm, put_switch};
 use mono_parts::operations::put_operation;
 use mono_parts::steps::{

@@ -1,7 +1,7 @@
 -- What is decided of a table is so, and the other way round.
 use Rattle.std.proofs.Common.{◌≡◌, ℕ, zero, suc, Bool, true, false, ◌&&◌, List, [], ◌∷◌, length, Option, Some, None, option_and_then, nat_eq, cond, refl, sym, ap, ap₂, ◌∙◌, subst}
 use Rattle.std.proofs.lemmas.Bool.{eqb-true, and_parts, and_from}
-use Rattle.mlc_base.specs.declared.label.Label.{Label}
+use Rattle.mlc_names.specs.declared.label.Label.{Label}
 use Rattle.mlc_prims.specs.LitOf.{Literal, int, word, char, string, truth}
 use Rattle.ty_core.specs.Types.{Symbol, arrow, labels, name, con, none}
 use Rattle.ty_core.specs.Marks.{has, overloaded}

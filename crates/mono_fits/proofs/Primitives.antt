@@ -1,7 +1,7 @@
 -- Primitives at a type: what is decided is so, and the other way round.
 use Rattle.std.proofs.Common.{◌≡◌, ℕ, Bool, true, false, ◌&&◌, List, [], ◌∷◌, Option, Some, None, nat_eq, refl, sym, ap, ◌∙◌, subst}
 use Rattle.std.proofs.lemmas.Bool.{eqb-true, and_parts, and_from}
-use Rattle.mlc_base.specs.declared.label.Label.{Label}
+use Rattle.mlc_names.specs.declared.label.Label.{Label}
 use Rattle.mlc_prims.specs.declared.basis.BasisPrimitive.{BasisPrimitive}
 use Rattle.ty_core.specs.Types.{Symbol, arrow, labels, name, Typ, var, con, Typs, none, more, typs_of}
 use Rattle.ir_poly.specs.Types.{prim_type}

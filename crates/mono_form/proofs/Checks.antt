@@ -1,7 +1,7 @@
 -- When a program is well formed, from what is asked of its tables and of its body.
 use Rattle.std.proofs.Common.{◌≡◌, ◌↔◌, ℕ, Bool, true, false, [], length, Option, Some, None, nat_eq, IsTrue, refl, sym, ap, ◌∙◌, subst}
 use Rattle.std.proofs.lemmas.Bool.{eq-eqb}
-use Rattle.mlc_base.specs.Passes.{initial_exceptions}
+use Rattle.mlc_runs.specs.Passes.{initial_exceptions}
 use Rattle.ir_plain.specs.Once.{IsOnce}
 use Rattle.ir_plain.proofs.UniqueLemmas.{once-unique}
 use Rattle.ir_poly.specs.Types.{exn_name}

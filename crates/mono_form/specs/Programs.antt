@@ -1,7 +1,7 @@
 -- The program of simple types that a program of the code stands for.
 use Rattle.std.specs.Prelude.{◌≡◌, ℕ, true, false, List, []}
-use Rattle.mlc_base.specs.Outcome.{Outcome, wrong}
-use Rattle.mlc_base.specs.Passes.{initial_exceptions}
+use Rattle.mlc_runs.specs.Outcome.{Outcome, wrong}
+use Rattle.mlc_runs.specs.Passes.{initial_exceptions}
 use Rattle.ir_mono.specs.Types.{IsExn}
 use Rattle.ir_mono.specs.Mono.{Mono}
 use Rattle.ir_mono.specs.Mono as clean

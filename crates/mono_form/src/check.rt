@@ -1,6 +1,6 @@
 // Whether a program of simple types is well formed.
 ghost use Rattle.std.specs.Prelude.{◌≡◌, ◌↔◌, ℕ, true, IsTrue, IfOk};
-ghost use Rattle.mlc_base.specs.Passes.{initial_exceptions};
+ghost use Rattle.mlc_runs.specs.Passes.{initial_exceptions};
 ghost use Rattle.ir_mono.specs.Types.{IsExn};
 ghost use Rattle.mono_tree.specs.Programs.{initial_of};
 ghost use Rattle.mono_form.specs.Programs.{IsTyped, IsWellFormed, NeverWrong};
@@ -9,7 +9,7 @@ use crate::program::Program;
 use initial_names::are_initial;
 use ir_known::scope::Scope;
 use mlc_base::memory::NoMemory;
-use mlc_base::pass::{Check, Form};
+use mlc_runs::pass::{Check, Form};
 use mono_check::infer::exp_type;
 use mono_table::table::is_table;
 use mono_uses::ask::is_exn;

@@ -5,7 +5,7 @@ use Rattle.std.proofs.lemmas.Bool.{and_from, eq-eqb, eqb-true}
 use Rattle.std.proofs.lemmas.List.{map-append, map-id}
 use Rattle.std.proofs.lemmas.Slice.Eq.{bytes_eq-Decides}
 use Rattle.indexmap.specs.IndexSet.{insert_key}
-use Rattle.mlc_base.proofs.NamesLemmas.{Kept, texts_of, same_text}
+use Rattle.mlc_names.proofs.NamesLemmas.{Kept, texts_of, same_text}
 use Rattle.mono_names.specs.Numbers.{AreOnce, IsNumbered}
 
 some-is : {A : Type 0} {x y : A} → Some x ≡ Some y → x ≡ y

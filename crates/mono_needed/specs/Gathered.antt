@@ -1,6 +1,6 @@
 -- The types that equality needs, gathered in any order.
 use Rattle.std.specs.Prelude.{◌≡◌, ◌≤◌, ◌<◌, ℕ, List, [], length, Some, None, option_map}
-use Rattle.mlc_base.specs.declared.label.Label.{Label}
+use Rattle.mlc_names.specs.declared.label.Label.{Label}
 use Rattle.ty_core.specs.Types.{Typ, Typs, con, labels}
 use Rattle.ir_poly.specs.Types.{Constructor}
 use Rattle.ir_poly.specs.TestsChecked.{HasConstructor}

@@ -1,7 +1,7 @@
 -- What is in scope, and atoms one after the other.
 use Rattle.std.proofs.Common.{◌≡◌, ◌≢◌, ℕ, zero, suc, ◌+◌, ◌<◌, ◌≤◌, Bool, true, false, ◌&&◌, List, [], ◌∷◌, ◌++◌, map, length, drop, slice_index_or, Option, Some, None, nat_eq, cond, option_map, option_and_then, refl, sym, ap, ap₂, ◌∙◌, subst, arith, append_assoc}
 use Rattle.std.specs.Map.{lookup}
-use Rattle.mlc_base.specs.declared.label.Label.{Label}
+use Rattle.mlc_names.specs.declared.label.Label.{Label}
 use Rattle.ir_values.specs.Values.{same_label}
 use Rattle.ir_mono.specs.Typing.{Sort, Sorts, sort_of}
 use Rattle.ir_known.specs.declared.known.Known.{Known}

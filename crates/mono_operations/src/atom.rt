@@ -12,8 +12,8 @@ ghost use Rattle.mono_operations.specs.declared.tables.Tables.{Tables};
 
 use ir_known::known::Known;
 use ir_known::scope::Scope;
-use mlc_base::label::Label;
 use mlc_base::memory::NoMemory;
+use mlc_names::label::Label;
 use mono_uses::ask::same_type;
 use mono_uses::label::is_label;
 use plain_tree::tree::{Exception, Field};

@@ -5,8 +5,8 @@ ghost use Rattle.mono_fits.specs.Asked.{are_distinct};
 ghost use Rattle.mono_operations.specs.Keys.{label_key};
 
 use indexmap::IndexSet;
-use mlc_base::label::Label;
 use mlc_base::memory::NoMemory;
+use mlc_names::label::Label;
 use std::alloc::Global;
 
 /// The number of a label.

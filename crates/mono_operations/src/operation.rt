@@ -13,8 +13,8 @@ use crate::distinct::are_distinct;
 use crate::tables::Tables;
 use ir_known::known::Known;
 use ir_known::scope::Scope;
-use mlc_base::label::Label;
 use mlc_base::memory::NoMemory;
+use mlc_names::label::Label;
 use mlc_prims::basis::BasisPrimitive;
 use mono_types::types::Types;
 use mono_uses::ask::{

@@ -1,5 +1,5 @@
 // The tables of a program.
-use mlc_base::names::Name;
+use mlc_names::names::Name;
 use mono_types::types::Types;
 
 /// What a program of simple types names by number: closed types, and strings; the identifiers of the exceptions of the initial basis; and the number of the

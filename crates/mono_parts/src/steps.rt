@@ -22,7 +22,7 @@ ghost use Rattle.mono_parts.specs.Steps.{functions_in, steps_in, with_own, param
 use crate::arms::{exception_of, parameter_of};
 use ir_tables::tables::Tables;
 use mlc_base::memory::NoMemory;
-use mlc_base::names::Name;
+use mlc_names::names::Name;
 use mono_state::copier::Copier;
 use mono_state::names::{alone, copy_at, type_of, unit_list};
 use mono_state::word::Word;

@@ -12,7 +12,7 @@ use Rattle.monomorphise.specs.Monomorphise.{unit_for, units}
 use Rattle.mono_close.specs.Closing.{standing}
 use Rattle.mono_close.proofs.Tables.{below-longer, length-longer, type-longer, type-got, type-held, then-longer}
 use Rattle.mono_names.specs.Numbers.{IsNumbered}
-use Rattle.mlc_base.specs.Passes.{greatest_expansion}
+use Rattle.mlc_runs.specs.Passes.{greatest_expansion}
 use Rattle.mono_state.specs.Seen.{Held, held_of, Longer, Later, seen}
 use Rattle.mono_state.specs.Going.{IsHeld, IsOpen, Goes}
 use Rattle.mono_state.specs.declared.copier.Copier.{Copier}

@@ -8,7 +8,7 @@ use Rattle.ty_table.specs.TypeAt.{type_at, AllBelow}
 use Rattle.ir_poly.specs.Types.{changed}
 use Rattle.mono_close.specs.Closing.{standing, or_unit, AreHeld}
 use Rattle.mono_names.specs.Named.{types_named}
-use Rattle.mlc_base.specs.Passes.{greatest_expansion}
+use Rattle.mlc_runs.specs.Passes.{greatest_expansion}
 use Rattle.mono_close.proofs.Tables.{below-longer, length-longer, held-longer}
 use Rattle.needed_scopes.specs.Reads.{scopes_of, AreKept}
 use Rattle.mono_state.specs.Seen.{held_of, Longer}

@@ -1,6 +1,6 @@
 // Where a walk stands, and what it has made so far.
 ghost use Rattle.std.specs.Prelude.{◌≡◌, ◌<◌, ◌+◌, ℕ, List, [], IfOk, IfErr};
-ghost use Rattle.mlc_base.specs.Passes.{greatest_expansion};
+ghost use Rattle.mlc_runs.specs.Passes.{greatest_expansion};
 ghost use Rattle.ty_core.specs.Types.{Typ};
 ghost use Rattle.mono_words.specs.Seen.{with_sign, made};
 ghost use Rattle.mono_state.specs.Seen.{Held, seen, sign_of};
@@ -8,9 +8,9 @@ ghost use Rattle.mono_state.specs.Going.{IsOpen, IsRight, Goes};
 
 use crate::word::{Act, Word};
 use indexmap::IndexMap;
-use mlc_base::label::Label;
 use mlc_base::memory::NoMemory;
-use mlc_base::pass::PassFault;
+use mlc_names::label::Label;
+use mlc_runs::pass::PassFault;
 use mono_names::copies::Copies;
 use mono_names::lists::Lists;
 use needed_scopes::scopes::Scopes;

@@ -1,9 +1,9 @@
 // Copies as words, in the order of the text.
 
 use ir_tables::tables::Constant;
-use mlc_base::label::Label;
-use mlc_base::names::Name;
 use mlc_base::place::Place;
+use mlc_names::label::Label;
+use mlc_names::names::Name;
 use mlc_prims::basis::BasisPrimitive;
 use plain_tree::tree::{Case, Exception, Field, Parameter};
 

@@ -2,7 +2,7 @@
 use Rattle.std.proofs.Common.{◌≡◌, ◌≢◌, ℕ, Bool, false, List, [], ◌∷◌, ◌++◌, Option, map, length, Vec, Global, refl, sym, ap, ◌∙◌}
 use Rattle.std.specs.List.{list_any, IsDistinct}
 use Rattle.indexmap.specs.IndexSet.{insert_key}
-use Rattle.mlc_base.proofs.NamesLemmas.{Kept as Code, is_text, same_text, one_to_one}
+use Rattle.mlc_names.proofs.NamesLemmas.{Kept as Code, is_text, same_text, one_to_one}
 use Rattle.ty_core.specs.TypesOf.{head_of}
 use Rattle.ty_core.specs.declared.ty.Head.{Head}
 use Rattle.ty_table.proofs.Keeping.{nodes_in, new-keys, map-snoc, length-map}

@@ -5,8 +5,8 @@ ghost use Rattle.ty_table.specs.Codes.{label_code, labels_code, attribute_code, 
 ghost use Rattle.ir_mono.specs.Types.{node};
 ghost use Rattle.mono_types.specs.Codes.{node_code};
 
-use mlc_base::label::Label;
 use mlc_base::memory::NoMemory;
+use mlc_names::label::Label;
 use std::alloc::Global;
 use ty_core::name::Equality;
 use ty_core::ty::Head;

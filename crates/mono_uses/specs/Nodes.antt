@@ -1,6 +1,6 @@
 -- What a node is: a type name without arguments, a type name with one, a function, a record.
 use Rattle.std.specs.Prelude.{◌≡◌, ℕ, List, [], ◌∷◌, Option, Some, None}
-use Rattle.mlc_base.specs.declared.label.Label.{Label}
+use Rattle.mlc_names.specs.declared.label.Label.{Label}
 use Rattle.ty_core.specs.Types.{arrow, labels, name}
 use Rattle.ty_core.specs.declared.name.TyName.{TyName}
 use Rattle.ir_mono.specs.Types.{Node, node}

@@ -1,7 +1,7 @@
 -- Types of shapes: what is asked of a primitive's arguments and result.
 use Rattle.std.specs.Prelude.{ℕ, Bool, false, ◌&&◌, List, map, length, option_and_then, nat_eq}
-use Rattle.mlc_base.specs.declared.label.Label.{Label}
-use Rattle.mlc_base.specs.declared.label.Label.TheVariants.{Number}
+use Rattle.mlc_names.specs.declared.label.Label.{Label}
+use Rattle.mlc_names.specs.declared.label.Label.TheVariants.{Number}
 use Rattle.ty_core.specs.Types.{typs_of}
 use Rattle.ir_values.specs.Values.{same_label}
 use Rattle.ir_uses.specs.declared.shape.Shape.{Shape}

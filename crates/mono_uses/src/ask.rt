@@ -9,7 +9,7 @@ ghost use Rattle.ir_poly.specs.TestsChecked.{is_size};
 use crate::label::part_at;
 use crate::node::{applied, function_parts, record_parts, type_name};
 use ir_tables::tables::Constant;
-use mlc_base::label::Label;
+use mlc_names::label::Label;
 use mono_types::types::Types;
 use ty_core::name::{Equality, TyName};
 

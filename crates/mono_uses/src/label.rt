@@ -1,12 +1,12 @@
 // Labels.
 ghost use Rattle.std.specs.Prelude.{◌≡◌, ◌&&◌};
-ghost use Rattle.mlc_base.specs.declared.label.Label.TheVariants.{Number};
+ghost use Rattle.mlc_names.specs.declared.label.Label.TheVariants.{Number};
 ghost use Rattle.ir_values.specs.Values.{same_label};
 ghost use Rattle.ir_mono.specs.Types.{part};
 ghost use Rattle.mono_fits.specs.Asked.{given};
 ghost use Rattle.mono_uses.specs.Nodes.{two_of, three_of};
 
-use mlc_base::label::Label;
+use mlc_names::label::Label;
 
 /// Whether two labels are one.
 pub fn is_label(label: &Label, other: &Label) -> bool

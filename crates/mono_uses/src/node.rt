@@ -5,7 +5,7 @@ ghost use Rattle.ty_core.specs.TypesOf.{head_of};
 ghost use Rattle.ir_mono.specs.Types.{node, node_at};
 ghost use Rattle.mono_uses.specs.Nodes.{alone_in, single_in, two_in, name_in, applied_in, function_in, record_in};
 
-use mlc_base::label::Label;
+use mlc_names::label::Label;
 use mono_types::types::{Types, View};
 use ty_core::name::TyName;
 use ty_core::ty::Head;

@@ -11,7 +11,7 @@ use crate::ask::{is_named, is_reference, same_name};
 use crate::label::{are_pair, are_triple};
 use crate::node::{function_parts, record_parts, type_name};
 use ir_uses::shape::{Arguments, Shape, Signature, primitive_type};
-use mlc_base::label::Label;
+use mlc_names::label::Label;
 use mlc_prims::basis::BasisPrimitive;
 use mono_types::types::Types;
 use ty_core::mark::{Class, Mark};

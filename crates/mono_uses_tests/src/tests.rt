@@ -1,8 +1,8 @@
 // Types that are placed in a table, and what is asked of them.
 
 use ir_tables::tables::Constant;
-use mlc_base::label::Label;
 use mlc_base::memory::NoMemory;
+use mlc_names::label::Label;
 use mlc_prims::basis::BasisPrimitive;
 use mono_types::constructors::Constructors;
 use mono_types::types::Types;

@@ -1,6 +1,6 @@
 -- The words of copies in the order of the text, each with the names and the types that it says. A part of a tree is its words in front of those that follow.
 use Rattle.std.specs.Prelude.{ℕ, List, ◌∷◌, Option}
-use Rattle.mlc_base.specs.declared.label.Label.{Label}
+use Rattle.mlc_names.specs.declared.label.Label.{Label}
 use Rattle.mlc_base.specs.declared.place.Place.{Place}
 use Rattle.mlc_prims.specs.declared.basis.BasisPrimitive.{BasisPrimitive}
 use Rattle.ty_core.specs.Types.{Typ}

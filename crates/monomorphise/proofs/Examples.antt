@@ -1,6 +1,6 @@
 -- Small programs and their copies, by computation: how many variables the copies bind, and that both do the same, also with numbers for names.
 use Rattle.std.proofs.Common.{◌≡◌, ℕ, List, [], ◌∷◌, Some, None, pos, refl}
-use Rattle.mlc_base.specs.Outcome.{End, ended, uncaught, going, Outcome}
+use Rattle.mlc_runs.specs.Outcome.{End, ended, uncaught, going, Outcome}
 use Rattle.mlc_base.specs.declared.place.Place.{Place}
 use Rattle.mlc_prims.specs.LitOf.{int, string}
 use Rattle.mlc_prims.specs.declared.basis.BasisPrimitive.TheVariants.{Print}

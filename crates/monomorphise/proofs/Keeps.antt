@@ -1,12 +1,12 @@
 -- The program does what its copies do, unless they go wrong.
 use Rattle.std.proofs.Common.{◌≡◌, ℕ, zero, suc, List, [], Bool, true, false, if◌then◌else◌, Option, Some, None, slice_get, option_and_then, refl, sym, ap, subst, ◌∙◌}
-use Rattle.mlc_base.specs.declared.label.Label.{Label}
+use Rattle.mlc_names.specs.declared.label.Label.{Label}
 use Rattle.mlc_base.specs.declared.place.Place.{Place}
-use Rattle.mlc_base.specs.Outcome.{wrong}
-use Rattle.mlc_base.specs.Run.{World, Answer, gives, out_of_turns, start, then_do, or_fail, fail}
-use Rattle.mlc_base.specs.Agreement.{AllRelated, none, BothOrNeither, neither, both, SameWorlds}
-use Rattle.mlc_base.specs.Refinement.{Refines, both_give, both_raise, both_stop, first_wrong}
-use Rattle.mlc_base.proofs.RefineLaws.{or_handle-refines, take_turn-refines, dereference-refines, new_exception-refines, outcome_of-refines}
+use Rattle.mlc_runs.specs.Outcome.{wrong}
+use Rattle.mlc_runs.specs.Run.{World, Answer, gives, out_of_turns, start, then_do, or_fail, fail}
+use Rattle.mlc_runs.specs.Agreement.{AllRelated, none, BothOrNeither, neither, both, SameWorlds}
+use Rattle.mlc_runs.specs.Refinement.{Refines, both_give, both_raise, both_stop, first_wrong}
+use Rattle.mlc_runs.proofs.RefineLaws.{or_handle-refines, take_turn-refines, dereference-refines, new_exception-refines, outcome_of-refines}
 use Rattle.ty_core.specs.Types.{Typ}
 use Rattle.ty_core.specs.declared.scheme.Quantified.{Quantified}
 use Rattle.ir_values.specs.Tags.{untagged}

@@ -1,7 +1,7 @@
 -- Copies of a well formed program in simple types are well formed, and do the same.
 use Rattle.std.proofs.Common.{◌≡◌, ℕ, false, [], length, nat_eq, refl, sym, ap, subst, ◌∙◌}
 use Rattle.std.proofs.lemmas.Bool.{eq-eqb}
-use Rattle.mlc_base.specs.Outcome.{wrong}
+use Rattle.mlc_runs.specs.Outcome.{wrong}
 use Rattle.ty_core.specs.Statics.{replace}
 use Rattle.ir_plain.specs.Once.{IsOnce}
 use Rattle.ir_plain.specs.Meaning.{run}

@@ -1,8 +1,8 @@
 -- Labels that ascend are distinct.
 use Rattle.std.proofs.Common.{◌≡◌, ℕ, ◌<◌, Bool, true, false, ◌&&◌, List, [], ◌∷◌, nat_eq, nat_lt, refl, arith}
 use Rattle.std.proofs.lemmas.Bool.{and_parts, eqb-true, ltb-true, lt-ltb}
-use Rattle.mlc_base.specs.declared.label.Label.{Label}
-use Rattle.mlc_base.specs.declared.label.Label.TheVariants.{Number, Word}
+use Rattle.mlc_names.specs.declared.label.Label.{Label}
+use Rattle.mlc_names.specs.declared.label.Label.TheVariants.{Number, Word}
 use Rattle.ir_values.specs.Values.{same_label}
 use Rattle.ir_poly.specs.Types.{label_before, ascend}
 use Rattle.ir_mono.specs.Types.{IsOther, other_none, other_more, AreDistinct, distinct_none, distinct_more}

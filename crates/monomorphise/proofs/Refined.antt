@@ -1,12 +1,12 @@
 -- What is done with values of the copies is done with those of the program, unless it goes wrong with the copies.
 use Rattle.std.proofs.Common.{◌≡◌, ℕ, List, [], ◌∷◌, Bool, true, false, Option, Some, None, option_map, option_and_then, nat_eq, subst, refl, sym}
 use Rattle.std.specs.Prelude.{zero, suc, not, ◌||◌, if◌then◌else◌}
-use Rattle.mlc_base.specs.declared.label.Label.TheVariants.{Number}
-use Rattle.mlc_base.specs.Agreement.{AllRelated, none, more, BothOrNeither, neither, both, SameWorlds}
-use Rattle.mlc_base.specs.Refinement.{Refines, both_give, both_raise, both_stop, first_wrong}
-use Rattle.mlc_base.specs.Run.{World, Answer, gives, or_fail}
-use Rattle.mlc_base.proofs.RunLaws.{writes-same}
-use Rattle.mlc_base.proofs.RefineLaws.{new_reference-refines, assign-refines}
+use Rattle.mlc_names.specs.declared.label.Label.TheVariants.{Number}
+use Rattle.mlc_runs.specs.Agreement.{AllRelated, none, more, BothOrNeither, neither, both, SameWorlds}
+use Rattle.mlc_runs.specs.Refinement.{Refines, both_give, both_raise, both_stop, first_wrong}
+use Rattle.mlc_runs.specs.Run.{World, Answer, gives, or_fail}
+use Rattle.mlc_runs.proofs.RunLaws.{writes-same}
+use Rattle.mlc_runs.proofs.RefineLaws.{new_reference-refines, assign-refines}
 use Rattle.mlc_prims.specs.LitOf.{Literal, int, word, char, string, truth}
 use Rattle.mlc_prims.specs.PrimOf.{Gives, made, raised}
 use Rattle.mlc_prims.specs.Table.{literal_eq, row_of}

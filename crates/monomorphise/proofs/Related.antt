@@ -1,8 +1,8 @@
 -- Values of the two programs, the copies' first: equal but for what they keep of types, and for functions, whose bodies are copies.
 use Rattle.std.proofs.Common.{◌≡◌, ℕ, List, [], Bool, true, false, Option, Some, None, if◌then◌else◌, nat_eq, suc, subst, refl, sym, ap, ◌∙◌}
 use Rattle.std.proofs.lemmas.Bool.{eq-eqb}
-use Rattle.mlc_base.specs.Agreement.{AllRelated, none, more, BothOrNeither, neither, both}
-use Rattle.mlc_base.specs.declared.label.Label.{Label}
+use Rattle.mlc_runs.specs.Agreement.{AllRelated, none, more, BothOrNeither, neither, both}
+use Rattle.mlc_names.specs.declared.label.Label.{Label}
 use Rattle.mlc_prims.specs.LitOf.{Literal}
 use Rattle.mlc_prims.specs.Table.{literal_eq}
 use Rattle.mlc_prims.specs.declared.basis.BasisPrimitive.{BasisPrimitive}

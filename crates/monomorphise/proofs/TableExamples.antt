@@ -2,7 +2,7 @@
 -- computation, and that it does the same.
 use Rattle.std.proofs.Common.{◌≡◌, ◌≤◌, ℕ, suc, ◌+◌, Bool, true, false, not, ◌&&◌, ◌||◌, List, [], ◌∷◌, length, Option, Some, None, nat_eq, if◌then◌else◌, pos, refl, sym, subst, arith}
 use Rattle.std.proofs.lemmas.Bool.{and_parts, eqb-true}
-use Rattle.mlc_base.specs.Outcome.{ended, wrong}
+use Rattle.mlc_runs.specs.Outcome.{ended, wrong}
 use Rattle.mlc_base.specs.declared.place.Place.{Place}
 use Rattle.mlc_prims.specs.LitOf.{int, string}
 use Rattle.mlc_prims.specs.declared.basis.BasisPrimitive.TheVariants.{Equals}

@@ -1,7 +1,7 @@
 -- The function makes a well formed program in simple types, which does the same.
 use Rattle.std.proofs.Common.{◌≡◌, ℕ, false, List, [], refl}
 use Rattle.std.specs.List.{AllByRecursion}
-use Rattle.mlc_base.specs.Outcome.{wrong}
+use Rattle.mlc_runs.specs.Outcome.{wrong}
 use Rattle.ty_core.specs.Statics.{replace}
 use Rattle.ir_plain.proofs.UniqueLemmas.{once-unique}
 use Rattle.ir_poly.specs.Tests.{Tests}

@@ -1,6 +1,6 @@
 -- What the pass keeps.
 use Rattle.std.specs.Prelude.{◌≡◌, ◌≤◌, ℕ, true, List, Option, Some, None, option_map}
-use Rattle.mlc_base.specs.Outcome.{wrong}
+use Rattle.mlc_runs.specs.Outcome.{wrong}
 use Rattle.ty_core.specs.Types.{Typ}
 use Rattle.ir_plain.specs.Meaning.{run}
 use Rattle.ir_plain.specs.Once.{IsOnce}

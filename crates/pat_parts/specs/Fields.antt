@@ -1,7 +1,7 @@
 -- Fields of a pattern, one after the other.
 use Rattle.std.specs.Prelude.{◌≡◌, ℕ, suc, List, [], ◌∷◌, ◌++◌}
 use Rattle.std.specs.List.{AllByRecursion}
-use Rattle.mlc_base.specs.declared.label.Label.TheVariants.{Number}
+use Rattle.mlc_names.specs.declared.label.Label.TheVariants.{Number}
 use Rattle.label_rows.specs.declared.sort.Field.{Field}
 use Rattle.sml_tree.specs.BareTree as bare
 use Rattle.sml_tree.specs.TreeOf.{PatFieldOf}

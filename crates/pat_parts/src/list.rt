@@ -15,7 +15,7 @@ use elab_types::refused::Refused;
 use mlc_base::make::boxed;
 use mlc_base::memory::NoMemory;
 use mlc_base::place::Place;
-use mlc_base::words;
+use mlc_names::words;
 use pat_elab::bound::{BoundVariable, TypedPat};
 use pat_matched::built::{lists, nil, pairs};
 use prog_tree::tree::{Head, Pair, Pat, PatPart, Side};

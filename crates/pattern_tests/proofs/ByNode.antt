@@ -1,6 +1,6 @@
 -- Each node of a pattern is done by its steps.
 use Rattle.std.proofs.Common.{◌≡◌, ℕ, suc, Bool, Option, refl, sym, ap, ap₂, ◌∙◌}
-use Rattle.mlc_base.specs.declared.label.Label.{Label}
+use Rattle.mlc_names.specs.declared.label.Label.{Label}
 use Rattle.ir_plain.specs.Tree.{is_literal, is_record}
 use Rattle.ir_poly.specs.Prog as t
 use Rattle.ir_poly.specs.ProgMeaning.{size_of}

@@ -1,7 +1,7 @@
 -- What is to be done with parts of patterns.
 use Rattle.std.specs.Prelude.{ℕ, suc, Bool, false, List, [], ◌∷◌, map}
-use Rattle.mlc_base.specs.declared.label.Label.{Label}
-use Rattle.mlc_base.specs.declared.label.Label.TheVariants.{Number}
+use Rattle.mlc_names.specs.declared.label.Label.{Label}
+use Rattle.mlc_names.specs.declared.label.Label.TheVariants.{Number}
 use Rattle.ir_poly.specs.Prog as t
 use Rattle.ir_tables.specs.Tables.{literal_at}
 use Rattle.ir_tables.specs.declared.tables.Constant.{Constant}

@@ -1,7 +1,7 @@
 -- Lists of one element or more that a word parts: each element is read by a reader of its own.
 use Rattle.std.proofs.Common.{◌≡◌, ℕ, ◌<◌, ◌≤◌, List, [], ◌∷◌, ◌++◌, length, map, max, Some, None, refl, sym, ap, ◌∙◌, subst, arith}
 use Rattle.std.proofs.lemmas.List.{map_push}
-use Rattle.mlc_base.specs.declared.token.Reserved.{Reserved}
+use Rattle.mlc_names.specs.declared.token.Reserved.{Reserved}
 use Rattle.sml_tree.specs.Terminal.{Terminal}
 use Rattle.sml_grammar.specs.Answer.{Read, Answer, ok, read, then_read, Turn, last, more, whole}
 use Rattle.sml_grammar.specs.Terminals.{after_word, separated, NoState, no_state}

@@ -1,6 +1,6 @@
 -- What is taken from the head leaves fewer terminals.
 use Rattle.std.proofs.Common.{◌≡◌, suc, ◌<◌, List, [], ◌∷◌, length, Some, None, Option, Bool, true, false, ap, arith, if◌then◌else◌}
-use Rattle.mlc_base.specs.declared.token.Reserved.{Reserved}
+use Rattle.mlc_names.specs.declared.token.Reserved.{Reserved}
 use Rattle.sml_tree.specs.Terminal.{Terminal}
 use Rattle.sml_tree.specs.ReadTree.{Placed}
 use Rattle.sml_grammar.specs.Terminals.{place_of, first_as, placed_if, after_word, after_star, word_of, is_word, star_of, Taken, taken}

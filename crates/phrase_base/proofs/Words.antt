@@ -1,8 +1,8 @@
 -- Words are compared by their numbers.
 use Rattle.std.proofs.Common.{◌≡◌, List, [], ◌∷◌, Some, None, true, false, refl, sym, ◌∙◌, nat_eq}
-use Rattle.mlc_base.specs.declared.token.Reserved.{Reserved}
-use Rattle.mlc_base.specs.declared.token.Reserved.TheVariants as res
-use Rattle.mlc_base.specs.contracts.token.Reserved.{the_type}
+use Rattle.mlc_names.specs.declared.token.Reserved.{Reserved}
+use Rattle.mlc_names.specs.declared.token.Reserved.TheVariants as res
+use Rattle.mlc_names.specs.contracts.token.Reserved.{the_type}
 use Rattle.sml_tree.specs.Terminal.{Terminal}
 use Rattle.sml_grammar.specs.Terminals.{word_number, after_word, word_at, tail}
 use denote.Enum.Bare.{sameb}

@@ -1,6 +1,6 @@
 -- The terminals that are left.
 use Rattle.std.specs.Prelude.{List}
-use Rattle.mlc_base.specs.declared.token.Token.{Token}
+use Rattle.mlc_names.specs.declared.token.Token.{Token}
 use Rattle.sml_tree.specs.Terminal.{Terminal, terminals}
 use Rattle.phrase_base.specs.declared.source.Source.{Source}
 

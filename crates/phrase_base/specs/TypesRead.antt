@@ -1,6 +1,6 @@
 -- What was read of types, type variables and bindings of types, against the reading function's answer.
 use Rattle.std.specs.Prelude.{ℕ, ◌≡◌, ◌≤◌, ◌<◌, List, length, map}
-use Rattle.mlc_base.specs.declared.token.Token.{Token}
+use Rattle.mlc_names.specs.declared.token.Token.{Token}
 use Rattle.sml_tree.specs.Terminal.{Terminal}
 use Rattle.sml_tree.specs.ReadTree as read
 use Rattle.sml_tree.specs.Bare.{bare_ty, bare_type_bind}

@@ -3,7 +3,7 @@
 ghost use Rattle.std.specs.Prelude.{◌≡◌, ◌++◌, ◌∷◌, [], IfOk};
 
 use mlc_base::memory::NoMemory;
-use mlc_base::token::Token;
+use mlc_names::token::Token;
 
 /// A phrase, how deep it is, and the tokens after it.
 #[derive(Drop)]

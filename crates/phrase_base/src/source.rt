@@ -1,6 +1,6 @@
 // What the parser knows of the file it reads.
 
-use mlc_base::names::Name;
+use mlc_names::names::Name;
 use std::alloc::Global;
 
 /// The number of the file, and the name of `*`.

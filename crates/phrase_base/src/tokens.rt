@@ -9,10 +9,10 @@ ghost use Rattle.phrase_base.specs.declared.stop.Stop.TheVariants.{Memory, Bad, 
 
 use crate::source::Source;
 use crate::stop::Stop;
-use mlc_base::label::Label;
-use mlc_base::names::Name;
 use mlc_base::place::Place;
-use mlc_base::token::{Reserved, Token, TokenKind};
+use mlc_names::label::Label;
+use mlc_names::names::Name;
+use mlc_names::token::{Reserved, Token, TokenKind};
 use sml_tree::ident::{LongId, Tyvar};
 use std::alloc::Global;
 

@@ -10,7 +10,7 @@ ghost use Rattle.phrase_base.specs.TypesRead.{IsTy, IsTyvars, IsTypeBinds};
 use crate::got::Got;
 use crate::source::Source;
 use crate::stop::Stop;
-use mlc_base::token::Token;
+use mlc_names::token::Token;
 use sml_tree::ident::Tyvar;
 use sml_tree::tree::{Ty, TypeBind};
 use std::alloc::Global;

@@ -1,9 +1,9 @@
 // The tree: variables, types, lists of parameters and strings are numbers. What the numbers stand for is the form's (a `Reading`).
 
 use ir_tables::tables::Constant;
-use mlc_base::label::Label;
-use mlc_base::names::Name;
 use mlc_base::place::Place;
+use mlc_names::label::Label;
+use mlc_names::names::Name;
 use mlc_prims::basis::BasisPrimitive;
 
 /// A variable and its type.

@@ -2,7 +2,7 @@
 
 use ir_prog::program::Program;
 use ir_tables::tables::Tables;
-use mlc_base::pass::{Check, Form};
+use mlc_runs::pass::{Check, Form};
 use prog_tree::tree::Dec;
 use prog_words::expressions::Word;
 use prog_words::make::Made;

@@ -2,8 +2,8 @@
 use Rattle.std.proofs.Common.{◌≡◌, ℕ, zero, suc, ◌+◌, ◌<◌, ◌≤◌, Bool, List, [], ◌∷◌, ◌++◌, map, take, length, get_or, Option, Vec, Box, Global, refl, sym, ap, ◌∙◌, arith}
 use Rattle.std.proofs.lemmas.List.Sums.{sum_by-cons}
 use Rattle.std.specs.Prelude.{sum_by}
-use Rattle.mlc_base.specs.declared.label.Label.{Label}
-use Rattle.mlc_base.specs.declared.label.Label.TheVariants.{Number}
+use Rattle.mlc_names.specs.declared.label.Label.{Label}
+use Rattle.mlc_names.specs.declared.label.Label.TheVariants.{Number}
 use Rattle.mlc_base.specs.declared.place.Place.{Place}
 use Rattle.ty_core.specs.Types.{Typ}
 use Rattle.ir_poly.specs.Prog as t
@@ -28,7 +28,7 @@ use Rattle.prog_tree.specs.declared.tree.Function.{Function}
 use Rattle.prog_tree.specs.declared.tree.Function.TheVariants.{Named, ByRules}
 use Rattle.prog_tree.specs.declared.tree.Dec.{Dec, Dec-F, fold-roll-Dec}
 use Rattle.prog_tree.specs.declared.tree.Dec.TheVariants.{Val, Exception, rolls-Exception}
-use Rattle.mlc_base.specs.declared.names.Name.{Name}
+use Rattle.mlc_names.specs.declared.names.Name.{Name}
 use Rattle.prog_tree.specs.declared.tree.Rule.{Rule}
 use Rattle.prog_tree.specs.declared.tree.Exp.{Exp, Exp-F, fold-roll-Exp}
 use Rattle.prog_tree.specs.declared.tree.Exp.TheVariants.{Atom as an_atom, Use, Record, Let, Apply, Infix, Case, Sequence, Test, Handle, Raise, Fn, Counted, rolls-Atom, rolls-Use, rolls-Raise, rolls-Fn, rolls-Counted}

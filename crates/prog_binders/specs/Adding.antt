@@ -1,7 +1,7 @@
 -- How often variables are bound: what a list of variables gains, and how often the parts of a tree bind them.
 use Rattle.std.specs.Prelude.{◌≡◌, ℕ, ◌+◌, List, Vec}
 use Rattle.std.specs.Global.{Global}
-use Rattle.mlc_base.specs.declared.label.Label.{Label}
+use Rattle.mlc_names.specs.declared.label.Label.{Label}
 use Rattle.ir_poly.specs.ProgOnce.{pat_times, list_times, times, fun_times, binds_times, funs_times}
 use Rattle.prog_tree.specs.TreeOf.{Reading, DecTree, val_tree, exception_tree, counted_tree, pat_of, tree_of, function_of, dec_of}
 use Rattle.prog_tree.specs.declared.tree.Binding.{Binding}

@@ -5,8 +5,8 @@ ghost use Rattle.prog_tree.specs.TreeOf.{tree_of, body_of};
 ghost use Rattle.prog_binders.specs.Adding.{Adds, parameter_times, exp_times, field_times, argument_times, join_times, rule_times, bind_times, function_times, member_times, dec_times};
 
 use crate::pats::push_pat;
-use mlc_base::label::Label;
 use mlc_base::memory::NoMemory;
+use mlc_names::label::Label;
 use prog_tree::tree::{Binding, Dec, Exp, Function, Join, Parameter, Rule};
 
 fn push_parameters(parameters: &[Parameter], found: &mut Vec<usize>) -> Result<(), NoMemory>

@@ -1,7 +1,7 @@
 -- What the rules of typing allow is answered by yes.
 use Rattle.std.proofs.Common.{◌≡◌, Bool, true, ◌&&◌, List, length, Some, None, refl, sym, ap, subst, ◌∙◌}
 use Rattle.std.proofs.lemmas.Bool.{and_from}
-use Rattle.mlc_base.specs.declared.label.Label.{Label}
+use Rattle.mlc_names.specs.declared.label.Label.{Label}
 use Rattle.ty_core.specs.Types.{Typ}
 use Rattle.ty_core.specs.declared.scheme.Quantified.{Quantified}
 use Rattle.ir_poly.specs.Prog.{Pat, PatFields, Exp, type_of, Fields, Chain, Rules, Fun, Decs, Binds, Funs, fields_pat}

@@ -1,7 +1,7 @@
 -- The functions that ask of types answer yes exactly where the rules do.
 use Rattle.std.proofs.Common.{◌≡◌, ℕ, Bool, true, false, List, [], ◌∷◌, map, Option, Some, None, nat_lt, option_map, if◌then◌else◌, refl, sym, ap, subst, ◌∙◌}
 use Rattle.std.proofs.lemmas.Bool.{and_parts, and_from}
-use Rattle.mlc_base.specs.declared.label.Label.{Label}
+use Rattle.mlc_names.specs.declared.label.Label.{Label}
 use Rattle.mlc_prims.specs.LitOf.{Literal, int, word, char, string, truth}
 use Rattle.ty_core.specs.Types.{arrow, labels, name, Typ, var, con, Typs, none, more, typs_of}
 use Rattle.ty_core.specs.Marks.{overloaded, has, IsOf, Allows}

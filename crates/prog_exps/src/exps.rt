@@ -10,8 +10,8 @@ ghost use Rattle.prog_leaves.specs.Places.{Adds};
 ghost use Rattle.prog_leaves.specs.Right.{exp_right, typed_right, field_right, record_right, argument_right, join_right, rule_right, raise_right, dropped_right, operand_right, function_right, fn_right, named_right, by_rules_right, member_right, group_right, inner_right, dec_right, decs_right};
 
 use ir_tables::tables::Tables;
-use mlc_base::label::Label;
 use mlc_base::memory::NoMemory;
+use mlc_names::label::Label;
 use prog_binds::groups::{bind_bindings, bind_members};
 use prog_binds::pats::bind_pat;
 use prog_known::answers::both;

@@ -2,8 +2,8 @@
 
 use ir_known::known::Known;
 use ir_tables::tables::Tables;
-use mlc_base::label::Label;
 use mlc_base::memory::NoMemory;
+use mlc_names::label::Label;
 use prog_binds::pats::bind_pat;
 use prog_known::environment::Environment;
 use prog_known::manner::Manner;

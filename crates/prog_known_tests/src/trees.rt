@@ -1,10 +1,10 @@
 // Which variables trees bind, and their types.
 
 use ir_tables::tables::Constant;
-use mlc_base::label::Label;
 use mlc_base::make::{both, boxed, one};
 use mlc_base::memory::NoMemory;
 use mlc_base::place::Place;
+use mlc_names::label::Label;
 use prog_binders::once::binds_once;
 use prog_shapes::types::type_of;
 use prog_tree::tree::{Atom, Binding, Dec, Exp, Function, Parameter, Pat, PatField, Rule};

@@ -1,6 +1,6 @@
 -- A label beside a number, as what is sorted by labels.
 use Rattle.std.specs.Prelude.{ℕ}
-use Rattle.mlc_base.specs.declared.label.Label.{Label}
+use Rattle.mlc_names.specs.declared.label.Label.{Label}
 use Rattle.label_rows.specs.declared.sort.Field.{Field}
 
 abbrev pub field_of : Label × ℕ → Field

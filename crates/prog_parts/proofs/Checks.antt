@@ -1,8 +1,8 @@
 -- Whether nodes with lists are right, part by part.
 use Rattle.std.proofs.Common.{◌≡◌, ℕ, Bool, true, false, ◌&&◌, List, [], ◌∷◌, ◌++◌, map, if◌then◌else◌, Vec, Box, Global, refl, sym, ap, ◌∙◌}
 use Rattle.std.proofs.lemmas.Bool.{and_right}
-use Rattle.mlc_base.specs.declared.label.Label.{Label}
-use Rattle.mlc_base.specs.declared.label.Label.TheVariants.{Number}
+use Rattle.mlc_names.specs.declared.label.Label.{Label}
+use Rattle.mlc_names.specs.declared.label.Label.TheVariants.{Number}
 use Rattle.mlc_base.specs.declared.place.Place.{Place}
 use Rattle.ty_core.specs.Types.{Typ}
 use Rattle.ty_core.specs.declared.scheme.Quantified.{Quantified}

@@ -1,7 +1,7 @@
 -- Parts and sizes of records, and arguments of exceptions.
 use Rattle.std.proofs.Common.{◌≡◌, ◌↔◌, ℕ, Bool, false, List, [], length, Option, Some, None, nat_lt, if◌then◌else◌, IsTrue, refl, sym, ap, ◌∙◌}
 use Rattle.std.specs.Option.{option_map, option_and_then}
-use Rattle.mlc_base.specs.declared.label.Label.{Label}
+use Rattle.mlc_names.specs.declared.label.Label.{Label}
 use Rattle.ty_core.specs.Types.{Typ}
 use Rattle.ir_poly.specs.Prog.{fixed}
 use Rattle.ir_poly.specs.TestsChecked.{is_size}

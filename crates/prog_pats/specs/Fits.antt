@@ -1,6 +1,6 @@
 -- What is asked of patterns where this is in scope. Types are numbers of the tables.
 use Rattle.std.specs.Prelude.{ℕ, Bool, ◌&&◌, List}
-use Rattle.mlc_base.specs.declared.label.Label.{Label}
+use Rattle.mlc_names.specs.declared.label.Label.{Label}
 use Rattle.ty_core.specs.Types.{Typ}
 use Rattle.ty_table.specs.TypeAt.{type_at}
 use Rattle.ir_poly.specs.Types.{over}

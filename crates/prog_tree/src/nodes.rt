@@ -7,7 +7,7 @@ ghost use Rattle.prog_tree.specs.Weights.{exp_weight, field_weight, argument_wei
 
 use crate::tree::{Binding, Dec, Exp, Function, Join, Rule};
 use ir_tables::tables::Tables;
-use mlc_base::label::Label;
+use mlc_names::label::Label;
 
 #[cycle(nodes)]
 fn exp_nodes(tables: &Tables, exp: &Exp) -> u64

@@ -2,9 +2,9 @@
 // list, a chain of infix operators or the arguments of an application, is one node, so that nothing recurses along it.
 
 use ir_tables::tables::Constant;
-use mlc_base::label::Label;
-use mlc_base::names::Name;
 use mlc_base::place::Place;
+use mlc_names::label::Label;
+use mlc_names::names::Name;
 use mlc_prims::basis::BasisPrimitive;
 use ty_core::name::TyName;
 

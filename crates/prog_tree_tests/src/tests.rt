@@ -1,10 +1,10 @@
 // Trees that are made bottom up, and their nodes.
 
 use ir_tables::tables::Tables;
-use mlc_base::label::Label;
 use mlc_base::make::{both, boxed, one};
 use mlc_base::memory::NoMemory;
 use mlc_base::place::Place;
+use mlc_names::label::Label;
 use prog_tree::nodes::nodes;
 use prog_tree::tree::{Atom, Binding, Dec, Exp, Join, Pat, Rule, Side};
 use std::alloc::Global;

@@ -1,6 +1,6 @@
 -- No variable is bound where one of that number is bound already, in a program with source matches. As `IsUnique` of ir_plain says it of the plain tree.
 use Rattle.std.specs.Prelude.{ℕ, Bool, Option, List, [], ◌∷◌}
-use Rattle.mlc_base.specs.declared.label.Label.{Label}
+use Rattle.mlc_names.specs.declared.label.Label.{Label}
 use Rattle.mlc_base.specs.declared.place.Place.{Place}
 use Rattle.mlc_prims.specs.LitOf.{Literal}
 use Rattle.mlc_prims.specs.declared.basis.BasisPrimitive.{BasisPrimitive}

@@ -5,7 +5,7 @@ ghost use Rattle.prog_known.specs.Lists.{all_hold};
 ghost use Rattle.prog_tree.specs.TreeOf.{Reading, tree_of, atom_of, use_of};
 ghost use Rattle.prog_values.specs.Parts.{field_is_value, join_is_value, are_values, names_construction, uses_construction, is_nil};
 
-use mlc_base::label::Label;
+use mlc_names::label::Label;
 use prog_known::answers::both;
 use prog_tree::tree::{Atom, Exp, Join, Used};
 

@@ -5,9 +5,9 @@ use crate::make::{
 };
 use crate::patterns::{Form, Patterns};
 use ir_tables::tables::Constant;
-use mlc_base::label::Label;
 use mlc_base::make::{boxed, one, two};
-use mlc_base::pass::Check;
+use mlc_names::label::Label;
+use mlc_runs::pass::Check;
 use prog_tree::tree::{Atom, Dec, Exp, Function, Join, Parameter, Rule, Side, Used};
 use std::alloc::Global;
 use std::mem;

@@ -2,8 +2,8 @@
 
 use crate::make::{Made, add, before, chain, layered};
 use ir_tables::tables::Constant;
-use mlc_base::label::Label;
 use mlc_base::make::boxed;
+use mlc_names::label::Label;
 use prog_tree::tree::{Exception, Head, Pair, Pat, PatField, PatPart, Side};
 use std::alloc::Global;
 use std::mem;

@@ -4,7 +4,7 @@ use crate::expressions::{Expressions, Word};
 use crate::make::{Made, PLACE, add, member};
 use crate::patterns::Form;
 use mlc_base::make::one;
-use mlc_base::names::Name;
+use mlc_names::names::Name;
 use prog_tree::tree::{Binding, Dec, Function, Rule};
 use std::alloc::Global;
 use std::mem;

@@ -2,8 +2,8 @@
 use Rattle.std.proofs.Common.{◌≡◌, ℕ, zero, suc, ◌+◌, ◌-◌, ◌<◌, ◌≤◌, Bool, true, false, ◌&&◌, cond, nat_eq, nat_lt, List, [], ◌∷◌, length, take, zip, map, slice_index_or, Some, None, refl, sym, ap, ◌∙◌, subst, arith}
 use Rattle.std.proofs.lemmas.Bool.{and_parts, and_from, eqb-true, ltb-true, lt-ltb}
 use Rattle.std.specs.Map.{lookup}
-use Rattle.mlc_base.specs.declared.label.Label.{Label}
-use Rattle.mlc_base.specs.declared.label.Label.TheVariants.{Number, Word}
+use Rattle.mlc_names.specs.declared.label.Label.{Label}
+use Rattle.mlc_names.specs.declared.label.Label.TheVariants.{Number, Word}
 use Rattle.ty_core.specs.Types.{Typ, con, labels}
 use Rattle.ty_table.specs.TypeAt.{type_at, types_at}
 use Rattle.ir_values.specs.Values.{same_label}

@@ -10,7 +10,7 @@ ghost use Rattle.record_order.specs.Order.{is_ordered};
 
 use ir_uses::parts::record_parts;
 use ir_uses::record::field;
-use mlc_base::label::Label;
+use mlc_names::label::Label;
 use ty_table::types::Types;
 
 /// Whether a label stands before another: numbers by value, then words by their numbers.

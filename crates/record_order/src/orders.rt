@@ -11,8 +11,8 @@ ghost use Rattle.record_order.specs.Order.{is_ordered, AreOrders};
 
 use crate::fields::{field_of, has_order};
 use ir_known::ask::same_type;
-use mlc_base::label::Label;
 use mlc_base::memory::NoMemory;
+use mlc_names::label::Label;
 use std::alloc::Global;
 use ty_table::types::Types;
 

@@ -2,8 +2,8 @@
 ghost use Rattle.record_order.specs.Order.{AreOrders};
 
 use ir_tables::tables::Tables;
-use mlc_base::label::Label;
 use mlc_base::memory::NoMemory;
+use mlc_names::label::Label;
 use record_order::facts::Facts;
 use record_order::fields::has_order;
 use std::alloc::Global;

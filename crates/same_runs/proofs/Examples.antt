@@ -1,7 +1,7 @@
 -- Two runs of one instruction and their meanings, by computation.
 use Rattle.std.proofs.Common.{ℕ, [], ◌∷◌, refl}
-use Rattle.mlc_base.specs.Outcome.{Outcome}
-use Rattle.mlc_base.specs.Outcome as source
+use Rattle.mlc_runs.specs.Outcome.{Outcome}
+use Rattle.mlc_runs.specs.Outcome as source
 use Rattle.ir_code.specs.declared.instr.Instr.TheVariants.{End, Call}
 use Rattle.ir_code.specs.Machine.{run}
 use Rattle.ir_code.specs.Program.{Program}

@@ -1,11 +1,11 @@
 -- A machine that follows a meaning at each number of turns does the same.
 use Rattle.std.proofs.Common.{◌≡◌, ◌≢◌, ℕ, ◌+◌, ◌-◌, ◌≤◌, ◌⊎◌, inl, inr, List, ap, subst, sym, ◌∙◌, arith, ⊎_elim}
 use Rattle.std.proofs.lemmas.Bool.{cases_lt}
-use Rattle.mlc_base.specs.Outcome.{Outcome}
-use Rattle.mlc_base.specs.Outcome as source
+use Rattle.mlc_runs.specs.Outcome.{Outcome}
+use Rattle.mlc_runs.specs.Outcome as source
 use Rattle.ir_code.specs.Run.{RunResult}
 use Rattle.ir_code.specs.Run as machine
-use Rattle.mlc_base.proofs.MoreTurnsLaws.{prefix-refl, prefix-trans}
+use Rattle.mlc_runs.proofs.MoreTurnsLaws.{prefix-refl, prefix-trans}
 use Rattle.same_runs.specs.SameRuns.{IsPrefix, SameEnd, both_ended, both_uncaught, IsOver, HasEnded, IsExhausted, of_heap, of_stack, SameResult, SameRuns}
 use Rattle.same_runs.specs.SameRuns as same
 use Rattle.same_runs.specs.Follows.{Follows, has_ended, is_going, is_cut, is_wrong}

@@ -1,7 +1,7 @@
 -- What is said of a machine by a meaning at one number of turns, and that it is enough to say it at each.
 use Rattle.std.specs.Prelude.{◌≡◌, ◌≢◌, ℕ, ◌≤◌, List}
-use Rattle.mlc_base.specs.Outcome.{Outcome}
-use Rattle.mlc_base.specs.Outcome as source
+use Rattle.mlc_runs.specs.Outcome.{Outcome}
+use Rattle.mlc_runs.specs.Outcome as source
 use Rattle.ir_code.specs.Program.{Program}
 use Rattle.ir_code.specs.Run.{RunResult, run_of}
 use Rattle.ir_code.specs.Run as machine

@@ -1,10 +1,10 @@
 -- A meaning and the runs of a machine end alike.
 use Rattle.std.specs.Prelude.{◌≡◌, ◌≢◌, ℕ, ◌⊎◌, List}
-use Rattle.mlc_base.specs.Outcome.{Outcome}
-use Rattle.mlc_base.specs.Outcome as source
+use Rattle.mlc_runs.specs.Outcome.{Outcome}
+use Rattle.mlc_runs.specs.Outcome as source
 use Rattle.ir_code.specs.Run.{RunResult}
 use Rattle.ir_code.specs.Run as machine
-pub use Rattle.mlc_base.specs.MoreTurns.{IsPrefix}
+pub use Rattle.mlc_runs.specs.MoreTurns.{IsPrefix}
 
 -- an end of the program itself, the same on both sides: an exception by its identifier's text
 pub data SameEnd (text_of : ℕ → List ℕ) : source.End → machine.End → Type 0 where

@@ -1,7 +1,7 @@
 -- Lists of one phrase or more that `sep` parts, however the tree that is read has them.
 use Rattle.std.proofs.Common.{◌≡◌, ℕ, ◌<◌, ◌≤◌, List, [], ◌∷◌, ◌++◌, length, map, max, Some, None, refl, ap, ◌∙◌, subst, arith}
 use Rattle.std.proofs.lemmas.List.{map_push}
-use Rattle.mlc_base.specs.declared.token.Token.{Token}
+use Rattle.mlc_names.specs.declared.token.Token.{Token}
 use Rattle.sml_tree.specs.Terminal.{Terminal}
 use Rattle.sml_grammar.specs.Answer.{Read, Answer, ok, read, then_read, Turn, last, more, whole}
 use Rattle.sml_grammar.specs.Terminals.{separated, NoState, no_state}

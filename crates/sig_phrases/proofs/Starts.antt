@@ -1,6 +1,6 @@
 -- What signatures begin with, and how deep they may be.
 use Rattle.std.proofs.Common.{◌≡◌, ℕ, zero, suc, ◌<◌, ◌+◌, ◌-◌, List, [], ◌∷◌, length, Some, None, Result, Ok, Err, refl, ap, ◌∙◌, subst, arith}
-use Rattle.mlc_base.specs.declared.token.Reserved.TheVariants as res
+use Rattle.mlc_names.specs.declared.token.Reserved.TheVariants as res
 use Rattle.sml_tree.specs.Terminal.{Terminal, reserved, number, constant, alpha, symbol, star, long_alpha, long_symbol, long_star, type_var}
 use Rattle.sml_grammar.specs.Answer.{Read, ok, deep_if, whole}
 use Rattle.sml_grammar.specs.Terminals.{after_word, first_as, place_at, tail}

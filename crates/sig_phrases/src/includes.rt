@@ -9,7 +9,7 @@ ghost use Rattle.spec_phrases.specs.FormsRead.{IsSpec};
 ghost use Rattle.sig_phrases.specs.SigsRead.{ids_form};
 
 use mlc_base::place::Place;
-use mlc_base::token::Token;
+use mlc_names::token::Token;
 use module_code::nodes;
 use module_code::signatures::{IdAt, Spec};
 use phrase_base::got::{Got, prefixed};

@@ -10,9 +10,9 @@ ghost use Rattle.phrase_base.specs.Left.{left};
 ghost use Rattle.spec_phrases.specs.FormsRead.{IsSpec, read_eqtype_spec};
 
 use mlc_base::make::with;
-use mlc_base::names::Name;
 use mlc_base::place::Place;
-use mlc_base::token::{Reserved, Token};
+use mlc_names::names::Name;
+use mlc_names::token::{Reserved, Token};
 use module_code::nodes;
 use module_code::signatures::{IdAt, Spec};
 use phrase_base::got::{Got, prefixed};

@@ -17,7 +17,7 @@ use crate::wheres::with_wheres;
 use crate::words::{SpecWord, no_sig_room, spec_word};
 use mlc_base::make::with;
 use mlc_base::place::Place;
-use mlc_base::token::{Reserved, Token};
+use mlc_names::token::{Reserved, Token};
 use module_code::nodes;
 use module_code::signatures::{IdAt, SigExp, Spec, StrDesc};
 use phrase_base::got::{Got, pushed};

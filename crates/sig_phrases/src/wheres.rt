@@ -10,7 +10,7 @@ ghost use Rattle.phrase_base.specs.Left.{left};
 ghost use Rattle.sig_phrases.specs.SigsRead.{IsSig};
 
 use mlc_base::make::with;
-use mlc_base::token::{Reserved, Token};
+use mlc_names::token::{Reserved, Token};
 use module_code::nodes;
 use module_code::signatures::SigExp;
 use phrase_base::got::Got;

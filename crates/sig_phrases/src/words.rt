@@ -9,7 +9,7 @@ ghost use Rattle.phrase_base.specs.Gives.{Fails};
 ghost use Rattle.phrase_base.specs.Left.{left};
 ghost use Rattle.sig_phrases.specs.SigsRead.{starts};
 
-use mlc_base::token::{Reserved, Token, TokenKind};
+use mlc_names::token::{Reserved, Token, TokenKind};
 use phrase_base::source::Source;
 use phrase_base::stop::Stop;
 use phrase_base::tokens::word_at;

@@ -2,7 +2,7 @@
 use Rattle.std.proofs.Common.{◌≡◌, ℕ, zero, suc, List, ◌∷◌, Option, Some, None, Bool, true, false, ◌||◌, ◌⊎◌, inl, inr, refl, sym, ap, ◌∙◌, subst, if◌then◌else◌}
 use Rattle.std.proofs.Common.{max, nat_le, ◌≤◌, ◌<◌, arith}
 use Rattle.std.proofs.lemmas.Bool.{leb-true, leb-false}
-use Rattle.mlc_base.specs.declared.token.Reserved.{Reserved}
+use Rattle.mlc_names.specs.declared.token.Reserved.{Reserved}
 use Rattle.sml_tree.specs.Terminal.{Terminal, reserved}
 use Rattle.sml_grammar.specs.Answer.{Read, Answer, ok, bad, deep, read, then_read, deep_if, Turn, last, more, after_turn, many}
 use Rattle.sml_grammar.specs.Terminals.{Taken, taken, on_some, on_taken, then_taken, word_then, separated}

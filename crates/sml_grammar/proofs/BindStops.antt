@@ -1,7 +1,7 @@
 -- What bindings of types and exceptions could go on with.
 use Rattle.std.proofs.Common.{◌≡◌, ℕ, List, [], ◌∷◌, Option, Some, None, Bool, false, ◌||◌, refl}
 use Rattle.std.specs.Option.{is_some}
-use Rattle.mlc_base.specs.declared.token.Reserved.TheVariants as res
+use Rattle.mlc_names.specs.declared.token.Reserved.TheVariants as res
 use Rattle.sml_tree.specs.Terminal.{Terminal, reserved}
 use Rattle.sml_grammar.specs.Terminals.{after_word}
 use Rattle.sml_grammar.specs.Types.{ty_could_go_on}

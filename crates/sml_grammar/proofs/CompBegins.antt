@@ -1,7 +1,7 @@
 -- What partial trees begin with.
 use Rattle.std.proofs.Common.{◌≡◌, ℕ, List, ◌∷◌, None, true, ◌&&◌, refl, arith, nat_le}
 use Rattle.std.proofs.lemmas.Bool.{le-leb}
-use Rattle.mlc_base.specs.declared.token.Reserved.TheVariants as res
+use Rattle.mlc_names.specs.declared.token.Reserved.TheVariants as res
 use Rattle.sml_tree.specs.declared.ident.Tyvar.{Tyvar}
 use Rattle.sml_tree.specs.Terminal.{Terminal, reserved, IsTycon, alpha_tycon, symbol_tycon}
 use Rattle.sml_tree.specs.Fixity.{Fixity}

@@ -1,7 +1,7 @@
 -- What is too deep is told to be: lists of expressions, matches, and atomic expressions.
 use Rattle.std.proofs.Common.{◌≡◌, ℕ, zero, suc, ◌≤◌, ◌<◌, List, ◌∷◌, length, true, false, ◌⊎◌, inl, inr, refl, arith}
-use Rattle.mlc_base.specs.declared.token.Reserved.{Reserved}
-use Rattle.mlc_base.specs.declared.token.Reserved.TheVariants as res
+use Rattle.mlc_names.specs.declared.token.Reserved.{Reserved}
+use Rattle.mlc_names.specs.declared.token.Reserved.TheVariants as res
 use Rattle.sml_tree.specs.Terminal.{Terminal, reserved}
 use Rattle.sml_tree.specs.Fixity.{Fixity}
 use Rattle.sml_tree.specs.ReadTree.{Pat, Exp, Exps, exp, exp_field, rule, Decs}

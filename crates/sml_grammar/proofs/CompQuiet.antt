@@ -1,8 +1,8 @@
 -- What expressions and declarations end before, and what they begin with.
 use Rattle.std.proofs.Common.{◌≡◌, ℕ, ◌≤◌, List, [], ◌∷◌, Option, None, Bool, true, false, ◌||◌, ◌&&◌, refl, ap, ◌∙◌, subst, arith, nat_le}
 use Rattle.std.proofs.lemmas.Bool.{le-leb}
-use Rattle.mlc_base.specs.declared.token.Reserved.{Reserved}
-use Rattle.mlc_base.specs.declared.token.Reserved.TheVariants as res
+use Rattle.mlc_names.specs.declared.token.Reserved.{Reserved}
+use Rattle.mlc_names.specs.declared.token.Reserved.TheVariants as res
 use Rattle.sml_tree.specs.Terminal.{LongVid, Terminal, reserved, is_number, is_constant, alpha_vid, symbol_vid, star_vid, long_alpha_vid, long_symbol_vid, long_star_vid}
 use Rattle.sml_tree.specs.Fixity.{Fixity}
 use Rattle.sml_tree.specs.ReadTree.{Placed, Exp, ExpFields, Exps, Decs, Dec}

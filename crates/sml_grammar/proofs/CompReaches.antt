@@ -1,7 +1,7 @@
 -- What is in the grammar, and not too deep, is read: expressions.
 use Rattle.std.proofs.Common.{◌≡◌, ℕ, zero, suc, ◌≤◌, ◌<◌, List, ◌∷◌, length, false, refl, sym, ◌∙◌, subst, arith}
 use Rattle.std.proofs.lemmas.Bool.{le-leb}
-use Rattle.mlc_base.specs.declared.token.Reserved.TheVariants as res
+use Rattle.mlc_names.specs.declared.token.Reserved.TheVariants as res
 use Rattle.sml_tree.specs.Terminal.{Terminal, reserved}
 use Rattle.sml_tree.specs.Fixity.{Fixity}
 use Rattle.sml_tree.specs.ReadTree.{Exp, app, chain, typed, handle, raise, if_then, while, case, fn, Exps, exp}

@@ -1,6 +1,6 @@
 -- Where bindings of values or functions are too deep, a partial one is there.
 use Rattle.std.proofs.Common.{◌≡◌, ℕ, suc, List, ◌∷◌, length, Option, Some, None, true, false, inl, inr, refl, sym, subst, arith}
-use Rattle.mlc_base.specs.declared.token.Reserved.TheVariants as res
+use Rattle.mlc_names.specs.declared.token.Reserved.TheVariants as res
 use Rattle.sml_tree.specs.Terminal.{Terminal, reserved}
 use Rattle.sml_tree.specs.declared.ident.Vid.{Vid}
 use Rattle.sml_tree.specs.declared.ident.Vid.TheVariants.{Equals}

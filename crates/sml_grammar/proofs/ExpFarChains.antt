@@ -1,7 +1,7 @@
 -- Where matches, the operands of chains, or what follows an expression are too deep, a partial expression is there.
 use Rattle.std.proofs.Common.{◌≡◌, ℕ, suc, ◌≤◌, List, ◌∷◌, length, Bool, false, inl, inr, refl, sym, subst, arith, nat_le, nat_eq}
 use Rattle.std.proofs.lemmas.Bool.{leb-true, leb-false, eqb-true}
-use Rattle.mlc_base.specs.declared.token.Reserved.TheVariants as res
+use Rattle.mlc_names.specs.declared.token.Reserved.TheVariants as res
 use Rattle.sml_tree.specs.Terminal.{Terminal}
 use Rattle.sml_tree.specs.Fixity.{Fixity}
 use Rattle.sml_tree.specs.ReadTree.{Joint, Exp, Parts, Rules, last_rule, rule}

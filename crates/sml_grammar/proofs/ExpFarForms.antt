@@ -1,7 +1,7 @@
 -- Where applications, forms that begin with a keyword, or whole expressions are too deep, a partial expression is there.
 use Rattle.std.proofs.Common.{◌≡◌, ℕ, suc, ◌≤◌, List, ◌∷◌, length, inl, inr, sym, subst, arith, nat_le}
 use Rattle.std.proofs.lemmas.Bool.{leb-true}
-use Rattle.mlc_base.specs.declared.token.Reserved.TheVariants as res
+use Rattle.mlc_names.specs.declared.token.Reserved.TheVariants as res
 use Rattle.sml_tree.specs.Terminal.{Terminal, reserved}
 use Rattle.sml_tree.specs.Fixity.{Fixity}
 use Rattle.sml_tree.specs.ReadTree.{Exp, Exps, no_exps, exp}

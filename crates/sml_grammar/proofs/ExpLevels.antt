@@ -1,7 +1,7 @@
 -- What may stand at the head of the terminals where an expression or a declaration is read: the functions that look, as views.
 use Rattle.std.proofs.Common.{◌≡◌, ℕ, suc, ◌≤◌, ◌<◌, List, ◌∷◌, Option, Some, None, Bool, true, false, ◌||◌, ◌&&◌, refl, arith, nat_le}
 use Rattle.std.proofs.lemmas.Bool.{leb-true, leb-false, lt-leb}
-use Rattle.mlc_base.specs.declared.token.Reserved.TheVariants as res
+use Rattle.mlc_names.specs.declared.token.Reserved.TheVariants as res
 use Rattle.sml_tree.specs.Terminal.{Constant, LongVid, Terminal, reserved, number, constant, alpha, symbol, star, IsConstant, is_number, is_constant, alpha_vid, symbol_vid, star_vid}
 use Rattle.sml_tree.specs.declared.ident.Vid.TheVariants.{Named, Equals}
 use Rattle.sml_tree.specs.declared.fixity.Infix.{Infix}

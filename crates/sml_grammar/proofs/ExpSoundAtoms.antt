@@ -1,7 +1,7 @@
 -- Lists of expressions, and atomic expressions, that are read are in the grammar.
 use Rattle.std.proofs.Common.{◌≡◌, ℕ, suc, ◌≤◌, List, ◌∷◌, length, false, inl, inr, arith}
-use Rattle.mlc_base.specs.declared.label.Label.{Label}
-use Rattle.mlc_base.specs.declared.token.Reserved.TheVariants as res
+use Rattle.mlc_names.specs.declared.label.Label.{Label}
+use Rattle.mlc_names.specs.declared.token.Reserved.TheVariants as res
 use Rattle.sml_tree.specs.Terminal.{Terminal, reserved, IsLabel}
 use Rattle.sml_tree.specs.Fixity.{Fixity}
 use Rattle.sml_tree.specs.ReadTree.{Placed, Exp, record_exp, selector, unit_exp, list_exp, Exps, no_exps, exp, ExpFields, no_exp_fields, exp_field, Decs}

@@ -1,7 +1,7 @@
 -- Applications, forms that begin with a keyword, and whole expressions, that are read are in the grammar.
 use Rattle.std.proofs.Common.{◌≡◌, ℕ, suc, ◌≤◌, List, ◌∷◌, length, false, ◌||◌, inl, inr, refl, sym, subst, arith, nat_le}
 use Rattle.std.proofs.lemmas.Bool.{leb-true}
-use Rattle.mlc_base.specs.declared.token.Reserved.TheVariants as res
+use Rattle.mlc_names.specs.declared.token.Reserved.TheVariants as res
 use Rattle.sml_tree.specs.Terminal.{Terminal, reserved}
 use Rattle.sml_tree.specs.Fixity.{Fixity}
 use Rattle.sml_tree.specs.ReadTree.{Exp, Exps, Rules}

@@ -1,6 +1,6 @@
 -- Words at the head of terminals that are told by a path, and one turn of a loop over a list.
 use Rattle.std.proofs.Common.{◌≡◌, ℕ, List, ◌∷◌, None, inl, inr, sym, subst}
-use Rattle.mlc_base.specs.declared.token.Reserved.{Reserved}
+use Rattle.mlc_names.specs.declared.token.Reserved.{Reserved}
 use Rattle.sml_tree.specs.Terminal.{Terminal, reserved}
 use Rattle.sml_grammar.specs.Answer.{Read, ok, read, Turn, last, more}
 use Rattle.sml_grammar.specs.Terminals.{after_word, separated}

@@ -1,7 +1,7 @@
 -- Texts that are in no declaration, by computation.
 use Rattle.std.proofs.Common.{◌≡◌, ℕ, List, [], ◌∷◌, refl, true}
 use Rattle.std.specs.Prelude.{pos}
-use Rattle.mlc_base.specs.declared.token.Reserved.TheVariants as res
+use Rattle.mlc_names.specs.declared.token.Reserved.TheVariants as res
 use Rattle.sml_tree.specs.Fixity.{Fixity}
 use Rattle.sml_tree.specs.Terminal.{Terminal, reserved, number, alpha}
 use Rattle.sml_grammar.specs.Answer.{bad, many}

@@ -1,6 +1,6 @@
 -- Partial trees of some texts.
 use Rattle.std.proofs.Common.{◌≡◌, ℕ, zero, suc, List, [], ◌∷◌, false, refl}
-use Rattle.mlc_base.specs.declared.token.Reserved.TheVariants as res
+use Rattle.mlc_names.specs.declared.token.Reserved.TheVariants as res
 use Rattle.sml_tree.specs.Fixity.{Fixity}
 use Rattle.sml_tree.specs.Terminal.{Terminal, reserved, alpha, type_var, alpha_vid}
 use Rattle.sml_tree.specs.Grammar.{plain_long, of_pat_vid, of_atpat}

@@ -1,7 +1,7 @@
 -- What is read of atomic patterns, and of the lists in them, is in the grammar.
 use Rattle.std.proofs.Common.{◌≡◌, ℕ, suc, ◌≤◌, List, ◌∷◌, length, Option, None, false, inl, inr, subst, arith}
-use Rattle.mlc_base.specs.declared.label.Label.{Label}
-use Rattle.mlc_base.specs.declared.token.Reserved.TheVariants as res
+use Rattle.mlc_names.specs.declared.label.Label.{Label}
+use Rattle.mlc_names.specs.declared.token.Reserved.TheVariants as res
 use Rattle.sml_tree.specs.declared.ident.Vid.TheVariants.{Named}
 use Rattle.sml_tree.specs.Fixity.{Fixity, fix_of}
 use Rattle.sml_tree.specs.Terminal.{Terminal, reserved, IsVid, IsLabel}

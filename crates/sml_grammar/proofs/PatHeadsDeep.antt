@@ -1,7 +1,7 @@
 -- Heads of clauses that are too deep: they are told to be, and what is told to be is.
 use Rattle.std.proofs.Common.{◌≡◌, ℕ, zero, suc, ◌≤◌, ◌<◌, List, ◌∷◌, length, Option, Some, None, true, false, inl, inr, refl, sym, subst, arith, nat_le, max, if◌then◌else◌}
 use Rattle.std.proofs.lemmas.Bool.{leb-false, le-leb, lt-leb}
-use Rattle.mlc_base.specs.declared.token.Reserved.TheVariants as res
+use Rattle.mlc_names.specs.declared.token.Reserved.TheVariants as res
 use Rattle.sml_tree.specs.declared.ident.Vid.{Vid}
 use Rattle.sml_tree.specs.declared.ident.Vid.TheVariants.{Named}
 use Rattle.sml_tree.specs.Fixity.{Fixity}

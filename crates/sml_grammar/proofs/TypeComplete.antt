@@ -1,8 +1,8 @@
 -- A type of the grammar is read where it isn't too deep, and else the answer is that it is.
 use Rattle.std.proofs.Common.{◌≡◌, ℕ, zero, suc, ◌≤◌, ◌<◌, List, ◌∷◌, length, None, Bool, true, false, inl, inr, refl, ◌∙◌, subst, arith, nat_le}
 use Rattle.std.proofs.lemmas.Bool.{leb-true, le-leb, lt-leb}
-use Rattle.mlc_base.specs.declared.label.Label.{Label}
-use Rattle.mlc_base.specs.declared.token.Reserved.TheVariants as res
+use Rattle.mlc_names.specs.declared.label.Label.{Label}
+use Rattle.mlc_names.specs.declared.token.Reserved.TheVariants as res
 use Rattle.sml_tree.specs.Terminal.{LongId, Terminal, reserved, IsLongTycon, IsLabel}
 use Rattle.sml_tree.specs.ReadTree.{Ty, record_ty, con_ty, product_ty, arrow_ty, paren_ty, Tys, no_tys, ty, TyFields, no_ty_fields, ty_field, ty_place}
 use Rattle.sml_tree.specs.Depth.{depth_ty, depth_tys, depth_ty_fields}

@@ -1,6 +1,6 @@
 -- What phrases begin with: the first terminals of the grammar's productions (the Definition, sections 2.8 and 2.9).
 use Rattle.std.specs.Prelude.{ℕ, ◌≤◌, ◌≡◌, List, ◌∷◌, None}
-use Rattle.mlc_base.specs.declared.token.Reserved.TheVariants as res
+use Rattle.mlc_names.specs.declared.token.Reserved.TheVariants as res
 use Rattle.sml_tree.specs.Terminal.{Constant, LongVid, LongId, Terminal, reserved, type_var, IsConstant, IsLongTycon}
 use Rattle.sml_tree.specs.declared.ident.Tyvar.{Tyvar}
 use Rattle.sml_tree.specs.declared.ident.Vid.TheVariants.{Equals}

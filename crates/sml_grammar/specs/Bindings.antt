@@ -1,6 +1,6 @@
 -- How type variables, bindings of types and exceptions, and what directives and `open` name, are read. Types are at most n deep.
 use Rattle.std.specs.Prelude.{ℕ, ℤ, pos, List, [], ◌∷◌, Option, Some, None, Bool, true, nat_le, if◌then◌else◌}
-use Rattle.mlc_base.specs.declared.token.Reserved.TheVariants as res
+use Rattle.mlc_names.specs.declared.token.Reserved.TheVariants as res
 use Rattle.sml_tree.specs.Terminal.{LongId, Terminal, number}
 use Rattle.sml_tree.specs.declared.ident.Tyvar.{Tyvar}
 use Rattle.sml_tree.specs.declared.ident.Vid.{Vid}

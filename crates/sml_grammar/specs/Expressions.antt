@@ -1,7 +1,7 @@
 -- How expressions and declarations are read. `(readers n).exp f l` reads an expression of a level of at least l that is at most n deep,
 -- `(readers n).atom f` an atomic one, and `(readers n).decs f` declarations.
 use Rattle.std.specs.Prelude.{ℕ, zero, suc, List, [], ◌∷◌, Option, Some, None, Bool, true, false, ◌||◌, ◌&&◌, nat_eq, nat_le, if◌then◌else◌}
-use Rattle.mlc_base.specs.declared.token.Reserved.TheVariants as res
+use Rattle.mlc_names.specs.declared.token.Reserved.TheVariants as res
 use Rattle.sml_tree.specs.Terminal.{Constant, int, LongVid, Terminal, reserved, number, constant}
 use Rattle.sml_tree.specs.declared.ident.Vid.{Vid}
 use Rattle.sml_tree.specs.declared.ident.Vid.TheVariants.{Named, Equals}

@@ -1,6 +1,6 @@
 -- Partial bindings of types and exceptions.
 use Rattle.std.specs.Prelude.{ℕ, List, ◌∷◌, Option}
-use Rattle.mlc_base.specs.declared.token.Reserved.TheVariants as res
+use Rattle.mlc_names.specs.declared.token.Reserved.TheVariants as res
 use Rattle.sml_tree.specs.Terminal.{Terminal, reserved, IsTycon}
 use Rattle.sml_tree.specs.declared.ident.Tyvar.{Tyvar}
 use Rattle.sml_tree.specs.declared.ident.Vid.{Vid}

@@ -1,8 +1,8 @@
 -- Partial types: `OpensTy l i d` where some front of the terminals i is a type of a level of at least l, cut off at its right edge, that is at
 -- least d deep. Each phrase of a path along the cut edge is entered by a terminal of its own, or by a complete left part.
 use Rattle.std.specs.Prelude.{ℕ, suc, ◌≤◌, List, ◌∷◌}
-use Rattle.mlc_base.specs.declared.label.Label.{Label}
-use Rattle.mlc_base.specs.declared.token.Reserved.TheVariants as res
+use Rattle.mlc_names.specs.declared.label.Label.{Label}
+use Rattle.mlc_names.specs.declared.token.Reserved.TheVariants as res
 use Rattle.sml_tree.specs.Terminal.{LongId, Terminal, reserved, star, IsLongTycon, IsLabel}
 use Rattle.sml_tree.specs.ReadTree.{Ty}
 use Rattle.sml_tree.specs.Depth.{depth_ty}

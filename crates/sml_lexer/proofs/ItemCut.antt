@@ -2,9 +2,9 @@
 use Rattle.std.proofs.Common.{◌≡◌, ℕ, ◌+◌, ◌-◌, ◌≤◌, ◌⊎◌, inl, inr, true, false, ◌&&◌, ◌==◌, List, [], ◌∷◌, length, take, drop, Option, Some, None, refl, arith, sym, ap, ◌∙◌, length-drop}
 use Rattle.std.proofs.lemmas.Bool.{and_right, true≢false, cases_Bool, eqb-true}
 use Rattle.std.proofs.lemmas.List.{drop-drop, take-take}
-use Rattle.mlc_base.specs.declared.code.Code.{Code}
-use Rattle.mlc_base.specs.declared.token.Reserved.{Reserved}
-use Rattle.mlc_base.specs.declared.token.Reserved.TheVariants.{Dots}
+use Rattle.mlc_faults.specs.declared.code.Code.{Code}
+use Rattle.mlc_names.specs.declared.token.Reserved.{Reserved}
+use Rattle.mlc_names.specs.declared.token.Reserved.TheVariants.{Dots}
 use Rattle.sml_lexer.specs.declared.chars.Class.TheVariants.{NameChar, Space, SymbolChar}
 use Rattle.sml_lexer.specs.Chars.{after_run, byte, is_letter, is_name_char, is_space, is_symbol_char, run, run_len}
 use Rattle.sml_lexer.specs.Comments.{after_comments, comment_item, comment_of}

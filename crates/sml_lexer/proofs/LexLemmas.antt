@@ -1,9 +1,9 @@
 -- Sequences of items.
 use Rattle.std.proofs.Common.{◌≡◌, ℕ, List, [], ◌∷◌, ◌++◌, length, refl, ap, ◌∙◌, subst}
-use Rattle.mlc_base.specs.declared.code.Code.{Code}
+use Rattle.mlc_faults.specs.declared.code.Code.{Code}
 use Rattle.sml_lexer.specs.Item.{blank, found, refused}
 use Rattle.sml_lexer.specs.Items.{item_at}
-use Rattle.mlc_base.specs.declared.code.Code.TheVariants.{NoToken}
+use Rattle.mlc_faults.specs.declared.code.Code.TheVariants.{NoToken}
 use Rattle.sml_lexer.specs.Lexeme.{Lexeme}
 use Rattle.sml_lexer.specs.Lexes.{Lexed, Reads, nothing, a_blank, a_token, OneReading, lexed}
 

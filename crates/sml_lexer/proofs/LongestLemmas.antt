@@ -2,8 +2,8 @@
 use Rattle.std.proofs.Common.{◌≡◌, ℕ, zero, suc, ◌-◌, ◌<◌, ◌≤◌, ◌⊎◌, inl, inr, Bool, true, false, ◌&&◌, ◌==◌, List, [], length, take, drop, Option, Some, None, refl, arith, sym, ap, ◌∙◌, length-drop, length-take}
 use Rattle.std.proofs.lemmas.Bool.{cases_Bool, false≢true, true≢false}
 use Rattle.std.proofs.lemmas.List.{drop_all, take-take}
-use Rattle.mlc_base.specs.declared.code.Code.TheVariants.{NoToken}
-use Rattle.mlc_base.specs.declared.token.Reserved.{Reserved}
+use Rattle.mlc_faults.specs.declared.code.Code.TheVariants.{NoToken}
+use Rattle.mlc_names.specs.declared.token.Reserved.{Reserved}
 use Rattle.sml_lexer.specs.declared.chars.Class.TheVariants.{Space}
 use Rattle.sml_lexer.specs.Chars.{after_run, byte, is_letter, is_space, is_symbol_char}
 use Rattle.sml_lexer.specs.Comments.{after_comments, begins_comment, comment_item}

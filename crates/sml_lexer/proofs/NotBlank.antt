@@ -1,8 +1,8 @@
 -- What items of each class are not.
 use Rattle.std.proofs.Common.{◌≡◌, ℕ, zero, suc, ◌^◌, Bool, true, false, ◌==◌, nat_le, nat_lt, cond, List, [], ◌∷◌, ◌++◌, take, drop, Option, Some, None, refl}
 use Rattle.std.specs.Str.Parse.{digits_value}
-use Rattle.mlc_base.specs.declared.code.Code.TheVariants.{ConstantRange, RealConstant}
-use Rattle.mlc_base.specs.declared.token.Reserved.{Reserved}
+use Rattle.mlc_faults.specs.declared.code.Code.TheVariants.{ConstantRange, RealConstant}
+use Rattle.mlc_names.specs.declared.token.Reserved.{Reserved}
 use Rattle.sml_lexer.specs.declared.chars.Class.TheVariants.{Digit, HexDigit, NameChar, SymbolChar}
 use Rattle.sml_lexer.specs.declared.identifiers.Part.{Part}
 use Rattle.sml_lexer.specs.declared.identifiers.Part.TheVariants.{Letters, Symbols, Nothing}

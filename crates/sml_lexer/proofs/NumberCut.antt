@@ -3,8 +3,8 @@ use Rattle.std.proofs.Common.{◌≡◌, ℕ, zero, suc, ◌+◌, ◌-◌, ◌^�
 use Rattle.std.specs.Str.Parse.{digits_value}
 use Rattle.std.proofs.lemmas.List.{get_or-drop}
 use Rattle.std.proofs.lemmas.Bool.{and_parts, both_ways, cases_Bool, or_cases, or_left}
-use Rattle.mlc_base.specs.declared.code.Code.{Code}
-use Rattle.mlc_base.specs.declared.code.Code.TheVariants.{ConstantRange, RealConstant}
+use Rattle.mlc_faults.specs.declared.code.Code.{Code}
+use Rattle.mlc_faults.specs.declared.code.Code.TheVariants.{ConstantRange, RealConstant}
 use Rattle.sml_lexer.specs.declared.chars.Class.{Class}
 use Rattle.sml_lexer.specs.declared.chars.Class.TheVariants.{Digit, HexDigit}
 use Rattle.sml_lexer.specs.Chars.{after_run, byte, is_digit, is_hex_digit, run, run_len}

@@ -2,7 +2,7 @@
 use Rattle.std.proofs.Common.{◌≡◌, ℕ, zero, suc, ◌<◌, ◌≤◌, inl, inr, false, ◌==◌, List, length, take, refl, arith, sym, ap, ◌∙◌, Some, None}
 use Rattle.std.proofs.lemmas.Bool.{cases_Bool, cases_lt, ne_eqb}
 use Rattle.std.proofs.lemmas.List.{take-take}
-use Rattle.mlc_base.specs.declared.token.Reserved.{Reserved}
+use Rattle.mlc_names.specs.declared.token.Reserved.{Reserved}
 use Rattle.sml_lexer.specs.declared.chars.Class.{Class}
 use Rattle.sml_lexer.specs.declared.chars.Class.TheVariants.{NameChar, SymbolChar}
 use Rattle.sml_lexer.specs.declared.identifiers.Part.{Part}

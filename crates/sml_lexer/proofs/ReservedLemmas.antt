@@ -3,7 +3,7 @@ use Rattle.std.proofs.Common.{◌≡◌, ℕ, zero, suc, ◌-◌, ◌<◌, ◌==
 use Rattle.std.proofs.lemmas.Bool.{cases_Bool, eq-eqb}
 use Rattle.std.proofs.lemmas.Slice.Eq.{bytes_eq-Decides}
 use Rattle.std.specs.Str.{bytes_eq}
-use Rattle.mlc_base.specs.declared.token.Reserved.{Reserved}
+use Rattle.mlc_names.specs.declared.token.Reserved.{Reserved}
 use Rattle.sml_lexer.specs.Chars.{byte}
 use Rattle.sml_lexer.specs.ReservedWords.{beginning, free_len, free_or, spelling, spelt}
 use Rattle.sml_lexer.proofs.CutLemmas.{byte_cut}

@@ -3,11 +3,11 @@ use Rattle.std.proofs.Common.{◌≡◌, ℕ, ◌<◌, List, [], ◌∷◌, ◌+
 use Rattle.std.specs.Prelude.{All}
 use Rattle.std.specs.List.{flat_map}
 use Rattle.std.proofs.lemmas.List.{map-append}
-use Rattle.mlc_base.specs.declared.token.Token.{Token}
-use Rattle.mlc_base.specs.Names.{with_text, with_texts}
-use Rattle.mlc_base.proofs.NamesLemmas.{with_texts-append}
-use Rattle.mlc_base.specs.declared.token.TokenKind.{TokenKind}
-use Rattle.mlc_base.specs.declared.token.TokenKind.TheVariants as kind
+use Rattle.mlc_names.specs.declared.token.Token.{Token}
+use Rattle.mlc_names.specs.Names.{with_text, with_texts}
+use Rattle.mlc_names.proofs.NamesLemmas.{with_texts-append}
+use Rattle.mlc_names.specs.declared.token.TokenKind.{TokenKind}
+use Rattle.mlc_names.specs.declared.token.TokenKind.TheVariants as kind
 use Rattle.sml_lexer.specs.declared.item.Item as code_item
 use Rattle.sml_lexer.specs.declared.item.Item.TheVariants as code
 use Rattle.sml_lexer.specs.Identifiers.{named}

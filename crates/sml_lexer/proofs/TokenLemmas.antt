@@ -3,9 +3,9 @@ use Rattle.std.proofs.Common.{◌≡◌, ℕ, ◌+◌, ◌-◌, ◌<◌, ◌≤�
 use Rattle.std.specs.Prelude.{All}
 use Rattle.std.proofs.lemmas.List.{drop-drop, map-append}
 use Rattle.std.proofs.lemmas.List.Elements.{All-cons, All-head, All-nil, All-tail}
-use Rattle.mlc_base.specs.declared.token.Token.{Token}
-use Rattle.mlc_base.specs.declared.token.TokenKind.{TokenKind}
-use Rattle.mlc_base.specs.declared.token.TokenKind.TheVariants as kind
+use Rattle.mlc_names.specs.declared.token.Token.{Token}
+use Rattle.mlc_names.specs.declared.token.TokenKind.{TokenKind}
+use Rattle.mlc_names.specs.declared.token.TokenKind.TheVariants as kind
 use Rattle.sml_lexer.specs.Item.{blank, found}
 use Rattle.sml_lexer.specs.Items.{item_at}
 use Rattle.sml_lexer.specs.Lexeme.{lexeme_of, HoldsNames, text_of, ident, symbol, long_ident, long_symbol, type_var, eq_type_var}

@@ -1,6 +1,6 @@
 -- Comments: section 2.3.
 use Rattle.std.specs.Prelude.{ℕ, ◌+◌, ◌-◌, Bool, ◌&&◌, ◌==◌, if◌then◌else◌, List, [], ◌∷◌, Option, Some, None, drop}
-use Rattle.mlc_base.specs.declared.code.Code.TheVariants.{NoToken}
+use Rattle.mlc_faults.specs.declared.code.Code.TheVariants.{NoToken}
 use Rattle.sml_lexer.specs.Chars.{byte}
 use Rattle.sml_lexer.specs.Item.{Item, blank, refused}
 

@@ -1,6 +1,6 @@
 -- What a text begins with.
 use Rattle.std.specs.Prelude.{ℕ, List, []}
-use Rattle.mlc_base.specs.declared.code.Code.{Code}
+use Rattle.mlc_faults.specs.declared.code.Code.{Code}
 use Rattle.sml_lexer.specs.Lexeme.{Lexeme, words_in}
 
 -- white space or a whole comment, and what follows it; a token, and what follows it; or why there is no item

@@ -1,8 +1,8 @@
 -- The item that a text begins with: white space, a comment or a token.
 use Rattle.std.specs.Prelude.{ℕ, Bool, ◌&&◌, ◌==◌, if◌then◌else◌, List, Option, Some, None, take, drop}
-use Rattle.mlc_base.specs.declared.code.Code.TheVariants.{NoToken}
-use Rattle.mlc_base.specs.declared.token.Reserved.{Reserved}
-use Rattle.mlc_base.specs.declared.token.Reserved.TheVariants.{Dots}
+use Rattle.mlc_faults.specs.declared.code.Code.TheVariants.{NoToken}
+use Rattle.mlc_names.specs.declared.token.Reserved.{Reserved}
+use Rattle.mlc_names.specs.declared.token.Reserved.TheVariants.{Dots}
 use Rattle.sml_lexer.specs.declared.chars.Class.TheVariants.{Space}
 use Rattle.sml_lexer.specs.Chars.{byte, is_letter, is_space, is_symbol_char, after_run}
 use Rattle.sml_lexer.specs.Comments.{begins_comment, comment_item}

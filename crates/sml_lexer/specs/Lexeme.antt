@@ -1,8 +1,8 @@
 -- What a token is, with the texts of its identifiers.
 use Rattle.std.specs.Prelude.{ℕ, ℤ, ◌<◌, Bool, List, [], ◌∷◌, ◌++◌, length, map, slice_index_or, All}
-use Rattle.mlc_base.specs.declared.token.Reserved.{Reserved}
-use Rattle.mlc_base.specs.declared.token.TokenKind.{TokenKind}
-use Rattle.mlc_base.specs.declared.token.TokenKind.TheVariants as kind
+use Rattle.mlc_names.specs.declared.token.Reserved.{Reserved}
+use Rattle.mlc_names.specs.declared.token.TokenKind.{TokenKind}
+use Rattle.mlc_names.specs.declared.token.TokenKind.TheVariants as kind
 
 pub data Lexeme : Type 0 where
   reserved : Reserved → Lexeme

@@ -1,12 +1,12 @@
 -- The tokens of a text: section 2.5.
 use Rattle.std.specs.Prelude.{◌≡◌, ℕ, ◌-◌, ◌<◌, ◌≤◌, List, [], ◌∷◌, length, drop, All, None, Result, Ok, Err, ⊤}
 use Rattle.std.specs.List.{flat_map}
-use Rattle.mlc_base.specs.Names.{with_texts}
-use Rattle.mlc_base.specs.declared.fault.Fault as base
-use Rattle.mlc_base.specs.declared.refused.Refused.{Refused}
-use Rattle.mlc_base.specs.declared.refused.Refused.TheVariants as refusal
-use Rattle.mlc_base.specs.declared.token.Token.{Token}
-use Rattle.mlc_base.specs.declared.token.Span.{Span}
+use Rattle.mlc_names.specs.Names.{with_texts}
+use Rattle.mlc_faults.specs.declared.fault.Fault as base
+use Rattle.mlc_faults.specs.declared.refused.Refused.{Refused}
+use Rattle.mlc_faults.specs.declared.refused.Refused.TheVariants as refusal
+use Rattle.mlc_names.specs.declared.token.Token.{Token}
+use Rattle.mlc_names.specs.declared.token.Span.{Span}
 use Rattle.sml_lexer.specs.Item.{blank, found, refused}
 use Rattle.sml_lexer.specs.Items.{item_at}
 use Rattle.sml_lexer.specs.Lexeme.{Lexeme, lexeme_of, HoldsNames, words_in}

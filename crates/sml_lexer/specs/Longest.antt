@@ -1,6 +1,6 @@
 -- Items are the longest that begin at their places.
 use Rattle.std.specs.Prelude.{◌≡◌, ℕ, false, ◌<◌, ◌≤◌, ◌⊎◌, List, [], length, take, drop}
-use Rattle.mlc_base.specs.declared.code.Code.TheVariants.{NoToken}
+use Rattle.mlc_faults.specs.declared.code.Code.TheVariants.{NoToken}
 use Rattle.sml_lexer.specs.Comments.{begins_comment}
 use Rattle.sml_lexer.specs.Item.{Item, blank, found, refused}
 use Rattle.sml_lexer.specs.Items.{begins_char, item_at}

@@ -1,7 +1,7 @@
 -- Integer, word and real constants: section 2.2.
 use Rattle.std.specs.Prelude.{ℕ, ◌-◌, ◌^◌, ℤ, pos, neg_ℤ, Bool, true, false, not, ◌&&◌, ◌||◌, ◌==◌, nat_le, nat_lt, if◌then◌else◌, List, drop}
 use Rattle.std.specs.Str.Parse.{digits_value}
-use Rattle.mlc_base.specs.declared.code.Code.TheVariants.{ConstantRange, RealConstant}
+use Rattle.mlc_faults.specs.declared.code.Code.TheVariants.{ConstantRange, RealConstant}
 use Rattle.sml_lexer.specs.declared.chars.Class.TheVariants.{Digit, HexDigit}
 use Rattle.sml_lexer.specs.Chars.{byte, is_digit, is_hex_digit, run, run_len, after_run}
 use Rattle.sml_lexer.specs.Lexeme.{int, word}

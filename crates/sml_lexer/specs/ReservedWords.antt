@@ -2,8 +2,8 @@
 use Rattle.std.specs.Prelude.{ℕ, zero, suc, List, [], ◌∷◌, Option, Some, None, ◌==◌, codes, take, if◌then◌else◌}
 use Rattle.std.specs.List.{filter}
 use Rattle.std.specs.Str.{bytes_eq}
-use Rattle.mlc_base.specs.declared.token.Reserved.{Reserved}
-use Rattle.mlc_base.specs.declared.token.Reserved.TheVariants.{Abstype, And, Andalso, As, Case, Datatype, Do, Else, End, Eqtype, Exception, Fn, Fun, Functor, Handle, If, In, Include, Infix, Infixr, Let, Local, Nonfix, Of, Op, Open, Orelse, Raise, Rec, Sharing, Sig, Signature, Struct, Structure, Then, TypeWord, Val, Where, While, With, Withtype, LeftParen, RightParen, LeftBracket, RightBracket, LeftBrace, RightBrace, Comma, Semicolon, Dots, Underscore, Colon, ColonGreater, Bar, Equals, DoubleArrow, Arrow, Hash}
+use Rattle.mlc_names.specs.declared.token.Reserved.{Reserved}
+use Rattle.mlc_names.specs.declared.token.Reserved.TheVariants.{Abstype, And, Andalso, As, Case, Datatype, Do, Else, End, Eqtype, Exception, Fn, Fun, Functor, Handle, If, In, Include, Infix, Infixr, Let, Local, Nonfix, Of, Op, Open, Orelse, Raise, Rec, Sharing, Sig, Signature, Struct, Structure, Then, TypeWord, Val, Where, While, With, Withtype, LeftParen, RightParen, LeftBracket, RightBracket, LeftBrace, RightBrace, Comma, Semicolon, Dots, Underscore, Colon, ColonGreater, Bar, Equals, DoubleArrow, Arrow, Hash}
 use Rattle.sml_lexer.specs.Chars.{byte}
 
 abbrev pub spelling : Reserved → List ℕ

@@ -2,7 +2,7 @@
 use Rattle.std.specs.Prelude.{ℕ, Vec, zero, suc, ◌+◌, ◌-◌, Bool, not, ◌&&◌, ◌==◌, nat_le, nat_lt, if◌then◌else◌, List, [], ◌∷◌, ◌++◌, Option, Some, None, take, drop, option_map, option_and_then, option_to_list}
 use Rattle.std.specs.Global.{Global}
 use Rattle.std.specs.Str.Parse.{digits_value}
-use Rattle.mlc_base.specs.declared.code.Code.TheVariants.{NoToken}
+use Rattle.mlc_faults.specs.declared.code.Code.TheVariants.{NoToken}
 use Rattle.sml_lexer.specs.declared.chars.Class.TheVariants.{Space}
 use Rattle.sml_lexer.specs.declared.strings.Piece.{Piece}
 use Rattle.sml_lexer.specs.Chars.{byte, is_between, is_digit, is_hex_digit, is_space, run_len}

@@ -6,7 +6,7 @@ ghost use Rattle.sml_lexer.specs.ItemOf.{IsConstant};
 
 use crate::chars::byte_at;
 use crate::item::Item;
-use mlc_base::code::Code;
+use mlc_faults::code::Code;
 
 fn opens(c: u8, d: u8) -> bool
     ensures { result ≡ opens c d }

@@ -1,7 +1,7 @@
 // Identifiers.
 
 ghost use Rattle.std.specs.Prelude.{◌≡◌, ◌<◌, ◌≤◌, ◌^◌, ◌+◌, [], true, drop, take, length, IfOk, OnOk, map, All, ℕ, List};
-ghost use Rattle.mlc_base.specs.Names.{with_text, with_texts};
+ghost use Rattle.mlc_names.specs.Names.{with_text, with_texts};
 ghost use Rattle.sml_lexer.specs.Chars.{byte, is_letter, is_symbol_char};
 ghost use Rattle.sml_lexer.specs.Identifiers.{name_item, named, next_part, qualified, symbol_item, type_var_item};
 ghost use Rattle.sml_lexer.specs.Item.{words_of};
@@ -13,8 +13,8 @@ use crate::chars::{Class, byte_at, front, is_letter, is_symbol_char, rest, run_l
 use crate::item::Item;
 use crate::reserved::{free_symbol_len, free_word_len, symbolic_of, word_of};
 use mlc_base::memory::NoMemory;
-use mlc_base::names::{Name, Names};
-use mlc_base::token::TokenKind;
+use mlc_names::names::{Name, Names};
+use mlc_names::token::TokenKind;
 use std::alloc::Global;
 
 /// An identifier by its sort and how many bytes it has.

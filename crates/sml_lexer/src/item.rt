@@ -1,7 +1,7 @@
 // What a text begins with.
 
-use mlc_base::code::Code;
-use mlc_base::token::TokenKind;
+use mlc_faults::code::Code;
+use mlc_names::token::TokenKind;
 
 /// What a text begins with.
 #[derive(Drop)]

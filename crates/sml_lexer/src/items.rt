@@ -1,7 +1,7 @@
 // The item that a text begins with.
 
 ghost use Rattle.std.specs.Prelude.{◌≡◌, ◌<◌, ◌^◌, true, length, IfOk, OnOk};
-ghost use Rattle.mlc_base.specs.Names.{with_texts};
+ghost use Rattle.mlc_names.specs.Names.{with_texts};
 ghost use Rattle.sml_lexer.specs.Chars.{byte, is_space};
 ghost use Rattle.sml_lexer.specs.Item.{words_of};
 ghost use Rattle.sml_lexer.specs.ItemOf.{IsConstant, IsItem};
@@ -15,10 +15,10 @@ use crate::item::Item;
 use crate::numbers::{begins_number, number_item};
 use crate::reserved::mark_of;
 use crate::strings::{char_item, string_item};
-use mlc_base::code::Code;
 use mlc_base::memory::NoMemory;
-use mlc_base::names::Names;
-use mlc_base::token::{Reserved, TokenKind};
+use mlc_faults::code::Code;
+use mlc_names::names::Names;
+use mlc_names::token::{Reserved, TokenKind};
 use std::alloc::Global;
 
 fn begins_char(text: &[u8]) -> bool

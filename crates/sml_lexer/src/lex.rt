@@ -8,11 +8,11 @@ ghost use Rattle.sml_lexer.specs.NameTable.{Keeps};
 use crate::chars::rest;
 use crate::item::Item;
 use crate::items::next_item;
-use mlc_base::fault::Fault;
-use mlc_base::names::Names;
 use mlc_base::place::Place;
-use mlc_base::refused::Refused;
-use mlc_base::token::{Span, Token, Tokens};
+use mlc_faults::fault::Fault;
+use mlc_faults::refused::Refused;
+use mlc_names::names::Names;
+use mlc_names::token::{Span, Token, Tokens};
 use std::alloc::Global;
 
 /// The tokens of a file.

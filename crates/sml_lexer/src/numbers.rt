@@ -10,8 +10,8 @@ ghost use Rattle.sml_lexer.specs.Numbers.{begins_exponent, begins_fraction, begi
 
 use crate::chars::{Class, byte_at, front, is_digit, is_hex_digit, rest, run_len};
 use crate::item::Item;
-use mlc_base::code::Code;
-use mlc_base::token::TokenKind;
+use mlc_faults::code::Code;
+use mlc_names::token::TokenKind;
 
 fn begins_hex(text: &[u8]) -> bool
     ensures { result ≡ begins_hex text.now }

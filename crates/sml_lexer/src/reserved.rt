@@ -4,7 +4,7 @@ ghost use Rattle.std.specs.Prelude.{◌≡◌, ◌≤◌, length};
 ghost use Rattle.sml_lexer.specs.ReservedWords.{beginning, free_len, marks, spelling, spelt, symbolic, words};
 
 use crate::chars::{byte_at, front};
-use mlc_base::token::Reserved;
+use mlc_names::token::Reserved;
 
 /// The alphanumeric reserved words that begin with this byte.
 fn words_from(first: u8) -> &'static [Reserved]

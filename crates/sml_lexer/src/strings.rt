@@ -9,9 +9,9 @@ ghost use Rattle.sml_lexer.specs.Strings.{char_item, control_escape, decimal_esc
 use crate::chars::{Class, byte_at, front, is_digit, is_hex_digit, is_space, rest, run_len};
 use crate::item::Item;
 use crate::numbers::digits_value;
-use mlc_base::code::Code;
 use mlc_base::memory::NoMemory;
-use mlc_base::token::TokenKind;
+use mlc_faults::code::Code;
+use mlc_names::token::TokenKind;
 use std::alloc::Global;
 
 /// A character of a string constant, or a gap, which has no value; and how many bytes it's written in.

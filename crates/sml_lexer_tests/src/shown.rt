@@ -4,11 +4,11 @@ ghost use Rattle.std.specs.Prelude.{◌<◌, ◌^◌, ◌+◌, length, All};
 ghost use Rattle.sml_lexer.specs.Lexeme.{HoldsNames};
 ghost use Rattle.sml_lexer.specs.Lexes.{HoldsAllNames};
 
-use mlc_base::fault::Fault;
 use mlc_base::memory::NoMemory;
-use mlc_base::names::{Name, Names};
-use mlc_base::refused::Refused;
-use mlc_base::token::{Token, TokenKind};
+use mlc_faults::fault::Fault;
+use mlc_faults::refused::Refused;
+use mlc_names::names::{Name, Names};
+use mlc_names::token::{Token, TokenKind};
 use sml_lexer::lex::lex;
 use std::alloc::Global;
 use std::fmt::Debug;

@@ -2,8 +2,8 @@
 
 use crate::shown::shown;
 use mlc_base::memory::NoMemory;
-use mlc_base::names::Names;
-use mlc_base::refused::Refused;
+use mlc_faults::refused::Refused;
+use mlc_names::names::Names;
 use sml_lexer::lex::lex;
 use std::alloc::Global;
 use std::process::Abort;

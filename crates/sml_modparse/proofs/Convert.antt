@@ -18,7 +18,7 @@ use Rattle.sml_tree.specs.declared.tree.TypeBind.{TypeBind}
 use Rattle.sml_grammar.specs.Answer.{Read, Answer, ok}
 use Rattle.sml_grammar.specs.Terminals.{place_at}
 use Rattle.sml_grammar.specs.Expressions.{DecStart, readers, dec_by}
-use Rattle.mlc_base.specs.declared.token.Token.{Token}
+use Rattle.mlc_names.specs.declared.token.Token.{Token}
 use Rattle.module_tree.specs.ModuleBare.{bare_it}
 use Rattle.phrase_base.specs.declared.source.Source.{Source}
 use Rattle.phrase_base.specs.declared.stop.Stop.{Stop}

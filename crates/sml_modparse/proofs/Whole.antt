@@ -1,6 +1,6 @@
 -- From what was read of a source to its tree.
 use Rattle.std.proofs.Common.{◌≡◌, ℕ, List, ap, subst, ◌∙◌}
-use Rattle.mlc_base.specs.declared.token.Token.{Token}
+use Rattle.mlc_names.specs.declared.token.Token.{Token}
 use Rattle.sml_tree.specs.Fixity.{Fixity}
 use Rattle.sml_tree.specs.TreeOf.{dec_of}
 use Rattle.sml_tree.specs.declared.tree.Dec.{Dec}

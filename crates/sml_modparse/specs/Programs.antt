@@ -1,8 +1,8 @@
 -- What the parser of programs with modules answers for the tokens of a source, and why it refuses them.
 use Rattle.std.specs.Prelude.{ℕ, ◌≡◌, List, map, true}
-use Rattle.mlc_base.specs.declared.code.Code.{Code}
-use Rattle.mlc_base.specs.declared.code.Code.TheVariants as code
-use Rattle.mlc_base.specs.declared.token.Token.{Token}
+use Rattle.mlc_faults.specs.declared.code.Code.{Code}
+use Rattle.mlc_faults.specs.declared.code.Code.TheVariants as code
+use Rattle.mlc_names.specs.declared.token.Token.{Token}
 use Rattle.sml_tree.specs.Terminal.{Terminal}
 use Rattle.sml_tree.specs.Fixity.{Fixity}
 use Rattle.sml_tree.specs.TreeOf.{dec_of}

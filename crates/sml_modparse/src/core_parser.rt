@@ -7,9 +7,9 @@ ghost use Rattle.sml_tree.specs.declared.ident.Vid.TheVariants.{Named};
 
 use mlc_base::make::one;
 use mlc_base::memory::NoMemory;
-use mlc_base::names::Name;
 use mlc_base::place::Place;
-use mlc_base::token::Token;
+use mlc_names::names::Name;
+use mlc_names::token::Token;
 use phrase_base::got::Got;
 use phrase_base::source::Source;
 use phrase_base::stop::Stop;

@@ -7,12 +7,12 @@ ghost use Rattle.phrase_base.specs.Left.{left};
 ghost use Rattle.sml_modparse.specs.Programs.{IsProgram, Cause};
 
 use crate::core_parser::CoreParser;
-use mlc_base::code::Code;
-use mlc_base::fault::Fault;
-use mlc_base::names::Name;
 use mlc_base::place::Place;
-use mlc_base::refused::Refused;
-use mlc_base::token::{Token, Tokens};
+use mlc_faults::code::Code;
+use mlc_faults::fault::Fault;
+use mlc_faults::refused::Refused;
+use mlc_names::names::Name;
+use mlc_names::token::{Token, Tokens};
 use module_code::sources::Top;
 use module_grammar::law;
 use phrase_base::source::Source;

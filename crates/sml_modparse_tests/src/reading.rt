@@ -3,8 +3,8 @@
 ghost use Rattle.std.specs.Prelude.{◌<◌, ◌^◌, ◌+◌, length};
 
 use mlc_base::memory::NoMemory;
-use mlc_base::names::Names;
-use mlc_base::refused::Refused;
+use mlc_faults::refused::Refused;
+use mlc_names::names::Names;
 use module_code::sources::Top;
 use module_code::structures::StrDec;
 use phrase_base::source::Source;

@@ -1,9 +1,9 @@
 -- What the parser answers for the tokens of a file, and why it refuses them.
 use Rattle.std.specs.Prelude.{ℕ, ◌≡◌, ◌≤◌, ◌<◌, ◌⊎◌, List, [], length, map, slice_index_or}
-use Rattle.mlc_base.specs.declared.code.Code.{Code}
-use Rattle.mlc_base.specs.declared.code.Code.TheVariants as code
+use Rattle.mlc_faults.specs.declared.code.Code.{Code}
+use Rattle.mlc_faults.specs.declared.code.Code.TheVariants as code
 use Rattle.mlc_base.specs.declared.place.Place.{Place}
-use Rattle.mlc_base.specs.declared.token.Token.{Token}
+use Rattle.mlc_names.specs.declared.token.Token.{Token}
 use Rattle.sml_tree.specs.Terminal.{Terminal}
 use Rattle.sml_tree.specs.Fixity.{Fixity}
 use Rattle.sml_tree.specs.ReadTree.{Decs}

@@ -5,11 +5,11 @@ ghost use Rattle.sml_lexer.specs.Lexes.{IfFault};
 ghost use Rattle.sml_parser.specs.Core.{IsCore, Cause, IsStop};
 ghost use Rattle.phrase_base.specs.Left.{left};
 
-use mlc_base::code::Code;
-use mlc_base::fault::Fault;
 use mlc_base::place::Place;
-use mlc_base::refused::Refused;
-use mlc_base::token::{Token, Tokens};
+use mlc_faults::code::Code;
+use mlc_faults::fault::Fault;
+use mlc_faults::refused::Refused;
+use mlc_names::token::{Token, Tokens};
 use phrase_base::source::Source;
 use phrase_base::stop::Stop;
 use sml_grammar::law;

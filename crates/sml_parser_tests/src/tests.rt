@@ -4,9 +4,9 @@ ghost use Rattle.std.specs.Prelude.{◌<◌, ◌^◌, ◌+◌, length};
 
 use crate::reading::{read, shown};
 use mlc_base::memory::NoMemory;
-use mlc_base::names::Names;
 use mlc_base::place::Place;
-use mlc_base::refused::Refused;
+use mlc_faults::refused::Refused;
+use mlc_names::names::Names;
 use sml_lexer::lex::lex;
 use sml_tree::tree::{Bind, Dec, Exp, Joint, Part};
 use std::alloc::Global;

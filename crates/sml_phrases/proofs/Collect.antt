@@ -1,10 +1,10 @@
 -- Loops that collect what their turns read.
 use Rattle.std.proofs.Common.{◌≡◌, ℕ, max, ◌<◌, ◌≤◌, List, [], ◌∷◌, ◌++◌, length, Some, None, refl, sym, ap, ◌∙◌, subst, arith, append_assoc}
 use Rattle.std.proofs.lemmas.List.{append-nil}
-use Rattle.mlc_base.specs.declared.token.Token.{Token}
+use Rattle.mlc_names.specs.declared.token.Token.{Token}
 use Rattle.sml_tree.specs.Terminal.{Terminal}
 use Rattle.sml_grammar.specs.Answer.{Answer, bad, read, then_read, Turn, last, more, whole}
-use Rattle.mlc_base.specs.declared.token.Reserved.{Reserved}
+use Rattle.mlc_names.specs.declared.token.Reserved.{Reserved}
 use Rattle.sml_grammar.specs.Terminals.{after_word, word_then, on_some}
 use Rattle.phrase_base.specs.declared.source.Source.{Source}
 use Rattle.phrase_base.specs.declared.stop.Stop.{Stop}

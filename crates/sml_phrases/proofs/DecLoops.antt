@@ -1,8 +1,8 @@
 -- The loops that read declarations and the functions of `fun`.
 use Rattle.std.proofs.Common.{◌≡◌, ℕ, zero, suc, ◌<◌, ◌≤◌, Bool, true, false, if◌then◌else◌, List, [], ◌∷◌, ◌++◌, length, map, max, Option, Some, None, refl, sym, ap, ◌∙◌, subst, arith, append_assoc}
 use Rattle.std.proofs.lemmas.List.{map_push}
-use Rattle.mlc_base.specs.declared.token.Token.{Token}
-use Rattle.mlc_base.specs.declared.token.Reserved.TheVariants as res
+use Rattle.mlc_names.specs.declared.token.Token.{Token}
+use Rattle.mlc_names.specs.declared.token.Reserved.TheVariants as res
 use Rattle.sml_tree.specs.Terminal.{Terminal}
 use Rattle.sml_tree.specs.BareTree as bare
 use Rattle.sml_tree.specs.Bare.{bare_dec, is_directive, functions}

@@ -1,7 +1,7 @@
 -- Lemmas about what is read of expressions.
 use Rattle.std.proofs.Common.{◌≡◌, ℕ, ◌<◌, ◌≤◌, List, [], ◌∷◌, length, Bool, true, false, Option, Some, None, refl, sym, ap, subst, arith, if◌then◌else◌}
-use Rattle.mlc_base.specs.declared.token.Reserved.{Reserved}
-use Rattle.mlc_base.specs.declared.token.Reserved.TheVariants as res
+use Rattle.mlc_names.specs.declared.token.Reserved.{Reserved}
+use Rattle.mlc_names.specs.declared.token.Reserved.TheVariants as res
 use Rattle.sml_tree.specs.Terminal.{Terminal, LongVid, reserved, number, constant, alpha, symbol, star, long_alpha, long_symbol, long_star, type_var}
 use Rattle.sml_tree.specs.Fixity.{Fixity, fix_of}
 use Rattle.sml_tree.specs.declared.fixity.Infix.{Infix}
@@ -105,10 +105,10 @@ closed-in bad c put = refl
 closed-in deep c put = refl
 
 -- a label takes a terminal
-pub label-shorter : (i : List Terminal) (l : Placed Rattle.mlc_base.specs.declared.label.Label.Label) (o : List Terminal) → first_as as_label i ≡ taken l o → length o < length i
+pub label-shorter : (i : List Terminal) (l : Placed Rattle.mlc_names.specs.declared.label.Label.Label) (o : List Terminal) → first_as as_label i ≡ taken l o → length o < length i
 label-shorter [] l o e = not_some e
 label-shorter (t ∷ i) l o e = go (as_label t) e
   where
-    go : (v : Option Rattle.mlc_base.specs.declared.label.Label.Label) → Rattle.sml_grammar.specs.Terminals.placed_if (Rattle.sml_grammar.specs.Terminals.place_of t) v i ≡ taken l o → length o < length (t ∷ i)
+    go : (v : Option Rattle.mlc_names.specs.declared.label.Label.Label) → Rattle.sml_grammar.specs.Terminals.placed_if (Rattle.sml_grammar.specs.Terminals.place_of t) v i ≡ taken l o → length o < length (t ∷ i)
     go None e = not_some e
-    go (Some b) e = subst (λ (z : Taken (Placed Rattle.mlc_base.specs.declared.label.Label.Label)). length z.rest < length (t ∷ i)) (got_some e) (omega arith)
+    go (Some b) e = subst (λ (z : Taken (Placed Rattle.mlc_names.specs.declared.label.Label.Label)). length z.rest < length (t ∷ i)) (got_some e) (omega arith)

@@ -1,8 +1,8 @@
 -- Turns of the loops that read expressions.
 use Rattle.std.proofs.Common.{◌≡◌, ℕ, zero, suc, ◌+◌, ◌-◌, ◌<◌, ◌≤◌, List, true, false, Option, Some, None, refl, ap, arith}
 use Rattle.std.proofs.lemmas.Bool.{le-leb, lt-leb}
-use Rattle.mlc_base.specs.declared.token.Reserved.TheVariants as res
-use Rattle.mlc_base.specs.declared.label.Label.{Label}
+use Rattle.mlc_names.specs.declared.token.Reserved.TheVariants as res
+use Rattle.mlc_names.specs.declared.label.Label.{Label}
 use Rattle.sml_tree.specs.Terminal.{Terminal}
 use Rattle.sml_tree.specs.Fixity.{Fixity}
 use Rattle.sml_tree.specs.Bare.{bare_exp}

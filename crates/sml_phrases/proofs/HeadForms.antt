@@ -1,6 +1,6 @@
 -- The bracket of a head, read again: it is read exactly where the pattern that it is has two atomic patterns and one infix identifier in it.
 use Rattle.std.proofs.Common.{◌≡◌, ℕ, suc, ◌<◌, ◌≤◌, ◌-◌, List, [], ◌∷◌, max, Some, None, Option, ◌&&◌, inl, inr, refl, sym, ap, ◌∙◌, subst, arith}
-use Rattle.mlc_base.specs.declared.token.Reserved.TheVariants as res
+use Rattle.mlc_names.specs.declared.token.Reserved.TheVariants as res
 use Rattle.sml_tree.specs.Terminal.{Terminal, reserved}
 use Rattle.sml_tree.specs.ReadTree.{Placed, Pat, paren_pat, chain_pat, last_pat_part}
 use Rattle.sml_tree.specs.Fixity.{Fixity}

@@ -1,9 +1,9 @@
 -- The pair in the brackets of a head, once its patterns were read.
 use Rattle.std.proofs.Common.{◌≡◌, ℕ, ◌-◌, ◌≤◌, List, Option, Some, None, refl, sym, subst}
 use Rattle.std.specs.Prelude.{MatchOption}
-use Rattle.mlc_base.specs.declared.token.Reserved.TheVariants.{LeftParen, RightParen}
+use Rattle.mlc_names.specs.declared.token.Reserved.TheVariants.{LeftParen, RightParen}
 use Rattle.mlc_base.specs.declared.place.Place.{Place}
-use Rattle.mlc_base.specs.declared.token.Token.{Token}
+use Rattle.mlc_names.specs.declared.token.Token.{Token}
 use Rattle.sml_tree.specs.Terminal.{Terminal}
 use Rattle.sml_tree.specs.ReadTree as read_tree
 use Rattle.sml_tree.specs.ReadTree.{Placed}

@@ -1,8 +1,8 @@
 -- How patterns are read, form by form.
 use Rattle.std.proofs.Common.{◌≡◌, ℕ, zero, suc, ◌<◌, ◌≤◌, ◌+◌, ◌-◌, List, [], ◌∷◌, length, max, Some, None, Bool, true, nat_le, refl, ap, ◌∙◌, subst, arith, Result, Ok, Err}
 use Rattle.std.proofs.lemmas.Bool.{le-leb, lt-leb}
-use Rattle.mlc_base.specs.declared.token.Token.{Token}
-use Rattle.mlc_base.specs.declared.token.Reserved.TheVariants as res
+use Rattle.mlc_names.specs.declared.token.Token.{Token}
+use Rattle.mlc_names.specs.declared.token.Reserved.TheVariants as res
 use Rattle.sml_tree.specs.Terminal.{Terminal, LongVid, reserved, number, constant}
 use Rattle.sml_tree.specs.ReadTree as read_tree
 use Rattle.sml_tree.specs.ReadTree.{Placed}

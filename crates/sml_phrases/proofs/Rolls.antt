@@ -1,6 +1,6 @@
 -- What structs of the trees stand for.
 use Rattle.std.proofs.Common.{◌≡◌}
-use Rattle.mlc_base.specs.declared.label.Label.{Label}
+use Rattle.mlc_names.specs.declared.label.Label.{Label}
 use Rattle.mlc_base.specs.declared.place.Place.{Place}
 use Rattle.sml_tree.specs.BareTree as bare
 use Rattle.sml_tree.specs.Derived.{TyAt}

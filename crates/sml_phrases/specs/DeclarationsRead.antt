@@ -1,8 +1,8 @@
 -- What was read of declarations, against the reading function's answer.
 use Rattle.std.specs.Prelude.{ℕ, zero, suc, ◌≡◌, ◌≤◌, ◌<◌, true, false, List, [], ◌∷◌, length, Option, Some, None, map, max, if◌then◌else◌}
-use Rattle.mlc_base.specs.declared.token.Reserved.{Reserved}
-use Rattle.mlc_base.specs.declared.token.Reserved.TheVariants as res
-use Rattle.mlc_base.specs.declared.token.Token.{Token}
+use Rattle.mlc_names.specs.declared.token.Reserved.{Reserved}
+use Rattle.mlc_names.specs.declared.token.Reserved.TheVariants as res
+use Rattle.mlc_names.specs.declared.token.Token.{Token}
 use Rattle.sml_tree.specs.Terminal.{Terminal}
 use Rattle.sml_tree.specs.BareTree as bare
 use Rattle.sml_tree.specs.Bare.{at, bare_exp, bare_pat, bare_some, bare_dec, is_directive, clauses_place, clauses_vid, clauses_vid_place, clause_list, head_pats}

@@ -1,8 +1,8 @@
 -- What was read of expressions and declarations, against the reading function's answer.
 use Rattle.std.specs.Prelude.{ℕ, ◌≡◌, ◌≤◌, ◌<◌, List, [], ◌∷◌, length, Option, Some, None, map, if◌then◌else◌}
-use Rattle.mlc_base.specs.declared.token.Reserved.{Reserved}
-use Rattle.mlc_base.specs.declared.token.Reserved.TheVariants as res
-use Rattle.mlc_base.specs.declared.token.Token.{Token}
+use Rattle.mlc_names.specs.declared.token.Reserved.{Reserved}
+use Rattle.mlc_names.specs.declared.token.Reserved.TheVariants as res
+use Rattle.mlc_names.specs.declared.token.Token.{Token}
 use Rattle.sml_tree.specs.Terminal.{Terminal, LongVid}
 use Rattle.sml_tree.specs.BareTree as bare
 use Rattle.sml_tree.specs.Bare.{at, bare_exp, bare_pat, bare_dec, is_directive}

@@ -1,9 +1,9 @@
 -- What was read of patterns, against the reading function's answer.
 use Rattle.std.specs.Prelude.{ℕ, suc, ◌≡◌, ◌≤◌, ◌<◌, List, ◌∷◌, ◌++◌, length, map, max, Bool, true, false, Some, None}
-use Rattle.mlc_base.specs.declared.label.Label.TheVariants.{Word}
-use Rattle.mlc_base.specs.declared.token.Token.{Token}
-use Rattle.mlc_base.specs.declared.token.Reserved.{Reserved}
-use Rattle.mlc_base.specs.declared.token.Reserved.TheVariants as res
+use Rattle.mlc_names.specs.declared.label.Label.TheVariants.{Word}
+use Rattle.mlc_names.specs.declared.token.Token.{Token}
+use Rattle.mlc_names.specs.declared.token.Reserved.{Reserved}
+use Rattle.mlc_names.specs.declared.token.Reserved.TheVariants as res
 use Rattle.sml_tree.specs.Terminal.{Terminal, int, reserved, number, constant, alpha, symbol, star, long_alpha, long_symbol, long_star}
 use Rattle.sml_tree.specs.BareTree as tree
 use Rattle.sml_tree.specs.Derived as derived

@@ -1,6 +1,6 @@
 -- What was read of types, against the reading function's answer.
 use Rattle.std.specs.Prelude.{ℕ, ◌≡◌, ◌≤◌, ◌<◌, List, length, map, max, ◌++◌, ◌∷◌, Option}
-use Rattle.mlc_base.specs.declared.token.Reserved.TheVariants as res
+use Rattle.mlc_names.specs.declared.token.Reserved.TheVariants as res
 use Rattle.sml_tree.specs.Terminal.{Terminal, type_var}
 use Rattle.sml_tree.specs.ReadTree as read
 use Rattle.sml_tree.specs.ReadTree.{Tys, no_tys, ty, TyFields, ty_place}
@@ -10,7 +10,7 @@ use Rattle.sml_tree.specs.TreeOf.{ty_of, ty_field_of, ty_part_of, ty_fields_of, 
 use Rattle.sml_tree.specs.declared.tree.Ty.{Ty}
 use Rattle.sml_tree.specs.declared.tree.TyField.{TyField}
 use Rattle.sml_tree.specs.declared.tree.TyPart.{TyPart}
-use Rattle.mlc_base.specs.declared.token.Token.{Token}
+use Rattle.mlc_names.specs.declared.token.Token.{Token}
 use Rattle.sml_grammar.specs.Answer.{Read, Answer, then_read, Turn}
 use Rattle.sml_grammar.specs.Terminals.{place_at, NoState, first_as, as_long_tycon, after_word, after_star, separated}
 use Rattle.sml_grammar.specs.Types.{TyReader, TyStart, var_start, con_if}

@@ -1,6 +1,6 @@
 -- The place of an identifier that `op` may stand before: its own, and not that of `op`.
 use Rattle.std.specs.Prelude.{ℕ, List, ◌∷◌}
-use Rattle.mlc_base.specs.declared.token.Reserved.TheVariants as res
+use Rattle.mlc_names.specs.declared.token.Reserved.TheVariants as res
 use Rattle.sml_tree.specs.Terminal.{Terminal, reserved}
 use Rattle.sml_grammar.specs.Terminals.{place_at}
 

@@ -15,7 +15,7 @@ ghost use Rattle.phrase_base.specs.declared.stop.Stop.TheVariants.{Memory};
 use crate::nodes::{constant, name};
 use crate::ties::is_infix;
 use crate::vids::{constant_at, names_vid, vid_place};
-use mlc_base::token::{Reserved, Token, TokenKind};
+use mlc_names::token::{Reserved, Token, TokenKind};
 use phrase_base::got::Got;
 use phrase_base::source::Source;
 use phrase_base::stop::Stop;

@@ -12,9 +12,9 @@ ghost use Rattle.sml_phrases.specs.BindingsRead.{IsTyvars, IsStrids, IsVids, IsT
 use crate::types::{maybe_ty, read_ty};
 use crate::vids::{binds_vid, digit_at, names_vid, vid_place};
 use mlc_base::make::with;
-use mlc_base::names::Name;
 use mlc_base::place::Place;
-use mlc_base::token::{Reserved, Token};
+use mlc_names::names::Name;
+use mlc_names::token::{Reserved, Token};
 use phrase_base::got::{Got, pushed};
 use phrase_base::source::Source;
 use phrase_base::stop::Stop;

@@ -28,7 +28,7 @@ use crate::ties::{
 use crate::types::read_ty;
 use mlc_base::make::with;
 use mlc_base::place::Place;
-use mlc_base::token::{Reserved, Token};
+use mlc_names::token::{Reserved, Token};
 use phrase_base::got::{Got, pushed};
 use phrase_base::source::Source;
 use phrase_base::stop::Stop;

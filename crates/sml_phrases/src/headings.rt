@@ -17,7 +17,7 @@ use crate::types::maybe_ty;
 use mlc_base::make::with;
 use mlc_base::memory::NoMemory;
 use mlc_base::place::Place;
-use mlc_base::token::{Reserved, Token};
+use mlc_names::token::{Reserved, Token};
 use phrase_base::got::Got;
 use phrase_base::source::Source;
 use phrase_base::stop::Stop;

@@ -1,7 +1,7 @@
 // Heads of clauses.
 
 ghost use Rattle.std.specs.Prelude.{◌≡◌, ℕ, ◌<◌, ◌≤◌, ◌+◌, ◌-◌, ◌∷◌, [], length, map, List, Option, Some, None, MatchOption, MatchResult};
-ghost use Rattle.mlc_base.specs.declared.token.Reserved.TheVariants.{LeftParen, RightParen};
+ghost use Rattle.mlc_names.specs.declared.token.Reserved.TheVariants.{LeftParen, RightParen};
 ghost use Rattle.sml_tree.specs.Terminal.{Terminal};
 ghost use Rattle.sml_tree.specs.ReadTree as read;
 ghost use Rattle.sml_tree.specs.Bare as bare;
@@ -21,9 +21,9 @@ ghost use Rattle.phrase_base.specs.declared.stop.Stop.TheVariants.{Memory};
 use crate::patterns::{begins_pat, read_atpat};
 use crate::vids::{binds_vid, joint_at, vid_place};
 use mlc_base::make::{one, two, with};
-use mlc_base::names::Name;
 use mlc_base::place::Place;
-use mlc_base::token::{Reserved, Token};
+use mlc_names::names::Name;
+use mlc_names::token::{Reserved, Token};
 use phrase_base::got::{Got, discard, pushed};
 use phrase_base::source::Source;
 use phrase_base::stop::Stop;

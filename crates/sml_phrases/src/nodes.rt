@@ -5,11 +5,11 @@ ghost use Rattle.sml_tree.specs.BareTree as bare;
 ghost use Rattle.sml_tree.specs.Derived.{tuple, list_of, app_of, chain_of, join, fun_dec_of, withtype_of};
 ghost use Rattle.sml_tree.specs.TreeOf.{exp_of, pat_of, ty_of, rule_of, rules_of, part_of, exp_field_of, exp_fields_of, bind_of, binds_of, clause_of, function_of, dec_of, decs_of, long_vid_of, constant_of, type_bind_of, data_bind_of, ex_bind_of, long_id_at_of};
 
-use mlc_base::label::Label;
 use mlc_base::make::{boxed, with};
 use mlc_base::memory::NoMemory;
-use mlc_base::names::Name;
 use mlc_base::place::Place;
+use mlc_names::label::Label;
+use mlc_names::names::Name;
 use phrase_base::got::prefixed;
 use sml_tree::ident::{Constant, LongVid, Vid};
 use sml_tree::tree::{

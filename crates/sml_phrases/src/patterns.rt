@@ -1,7 +1,7 @@
 // Patterns.
 
 ghost use Rattle.std.specs.Prelude.{◌≡◌, ℕ, ◌<◌, ◌≤◌, ◌+◌, ◌∷◌, [], length, map, List, Option, Some, None, IfOk, MatchOption, MatchResult};
-ghost use Rattle.mlc_base.specs.declared.token.Reserved.TheVariants.{Colon, RightParen};
+ghost use Rattle.mlc_names.specs.declared.token.Reserved.TheVariants.{Colon, RightParen};
 ghost use Rattle.sml_tree.specs.Terminal.{Terminal};
 ghost use Rattle.sml_tree.specs.ReadTree as read;
 ghost use Rattle.sml_tree.specs.ReadTree.{pat_place};
@@ -30,12 +30,12 @@ use crate::vids::{
     binds_vid, constant_at, infix_level, infix_vid, joint_at, names_vid, plain_vid, vid_level,
     vid_place, vid_right,
 };
-use mlc_base::label::Label;
 use mlc_base::make::{boxed, one, with};
 use mlc_base::memory::NoMemory;
-use mlc_base::names::Name;
 use mlc_base::place::Place;
-use mlc_base::token::{Reserved, Token, TokenKind};
+use mlc_names::label::Label;
+use mlc_names::names::Name;
+use mlc_names::token::{Reserved, Token, TokenKind};
 use phrase_base::got::{Got, pushed};
 use phrase_base::source::Source;
 use phrase_base::stop::Stop;

@@ -14,9 +14,9 @@ use crate::bindings::{
 };
 use crate::nodes::{abbreviations, datatypes, exceptions, opened, replicated, withtype};
 use mlc_base::make::with;
-use mlc_base::names::Name;
 use mlc_base::place::Place;
-use mlc_base::token::{Reserved, Token};
+use mlc_names::names::Name;
+use mlc_names::token::{Reserved, Token};
 use phrase_base::got::Got;
 use phrase_base::source::Source;
 use phrase_base::stop::Stop;

@@ -11,7 +11,7 @@ ghost use Rattle.phrase_base.specs.declared.stop.Stop.TheVariants.{Bad};
 ghost use Rattle.sml_phrases.specs.Ties.{joint_from, next_from, FromFile, tie_level, tie_least, PartEnds, PartGoes, PartFails};
 
 use mlc_base::place::Place;
-use mlc_base::token::{Reserved, Token, TokenKind};
+use mlc_names::token::{Reserved, Token, TokenKind};
 use phrase_base::source::Source;
 use phrase_base::stop::Stop;
 use sml_tree::fixity::Fixities;

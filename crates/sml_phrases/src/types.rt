@@ -19,7 +19,7 @@ ghost use Rattle.sml_phrases.specs.TypesRead.{IsTy, IsTys, IsTyParts, IsTyFields
 use mlc_base::make::{boxed, one, with};
 use mlc_base::memory::NoMemory;
 use mlc_base::place::Place;
-use mlc_base::token::{Reserved, Token, TokenKind};
+use mlc_names::token::{Reserved, Token, TokenKind};
 use phrase_base::got::{Got, pushed};
 use phrase_base::source::Source;
 use phrase_base::stop::Stop;

@@ -12,9 +12,9 @@ ghost use Rattle.phrase_base.specs.Left.{left};
 ghost use Rattle.sml_phrases.specs.VidPlace.{vid_place};
 ghost use Rattle.phrase_base.specs.declared.stop.Stop.TheVariants.{Memory};
 
-use mlc_base::names::Name;
 use mlc_base::place::Place;
-use mlc_base::token::{Reserved, Token, TokenKind};
+use mlc_names::names::Name;
+use mlc_names::token::{Reserved, Token, TokenKind};
 use phrase_base::source::Source;
 use phrase_base::stop::Stop;
 use phrase_base::tokens::{after_word, place_at, vid_at};

@@ -3,7 +3,7 @@ use Rattle.std.proofs.Common.{false, ◌≡◌, ℕ, ◌≤◌, arith, List, [],
 use Rattle.std.specs.Prelude.{pos, map}
 use Rattle.mlc_prims.specs.declared.prim.Primitive.TheVariants.{Add, Sub, Mul, Cat, Print}
 use Rattle.mlc_base.specs.declared.place.Place.{Place}
-use Rattle.mlc_base.specs.Outcome.{ended, uncaught, going}
+use Rattle.mlc_runs.specs.Outcome.{ended, uncaught, going}
 use Rattle.sml_tree.specs.declared.ident.Vid.TheVariants.{Named, Equals}
 use Rattle.sml_tree.specs.Fixity.{fix_of}
 use Rattle.sml_tree.specs.Terminal.{int, string}
@@ -12,11 +12,11 @@ use Rattle.sml_tree.specs.BareTree.{Exp, constant_exp, vid_exp, app, Pat, vid_pa
 use Rattle.sml_rules.specs.Project.{Part, standard_basis, source}
 use Rattle.sml_rules.specs.Meaning.{meaning}
 use Rattle.sml_rules.specs.Phrases.{integer, text, identifier, applies, applies_pair, binds, binds_nothing, declares, brings_basis, dec_phrases, parts_phrases, first_foreign, nodes_in}
-use Rattle.mlc_base.specs.StandardWords.{standard_words, word_cons, word_true, word_false, word_nil, word_ref, word_it, word_Overflow, word_plus, word_minus, word_times, word_negate, word_concatenate, word_div, word_before, word_print}
+use Rattle.mlc_names.specs.StandardWords.{standard_words, word_cons, word_true, word_false, word_nil, word_ref, word_it, word_Overflow, word_plus, word_minus, word_times, word_negate, word_concatenate, word_div, word_before, word_print}
 use Rattle.sml_rules.specs.Basis.{basis_exceptions, infix_left, infix_right, basis_prim, is_restricted, standard_fixities, IsTable, text_in}
 use Rattle.sml_rules.specs.Broken.{max_nodes, IsAccepted}
 use Rattle.sml_rules.specs.Typing.{Elaborates, constant_has, vid_has, app_has, variable_has, unit_has, val_has, no_dec_has, dec_has, no_part_has, basis_has, source_has}
-use Rattle.mlc_base.proofs.NamesLemmas.{standard_words-apart}
+use Rattle.mlc_names.proofs.NamesLemmas.{standard_words-apart}
 
 -- a name that is no standard word
 abbrev x_name : ℕ

@@ -2,9 +2,9 @@
 use Rattle.std.proofs.Common.{◌≡◌, List, [], ◌∷◌, refl, ap}
 use Rattle.std.specs.Prelude.{slice_get}
 use Rattle.mlc_base.specs.declared.place.Place.{Place}
-use Rattle.mlc_base.specs.MoreTurns.{HasMoreTurns, GoesOn}
-use Rattle.mlc_base.specs.Run.{World, Answer}
-use Rattle.mlc_base.proofs.MoreTurnsLaws.{gives-on, raises-on, fail-on, or_fail-on, then_do-on, take_turn-on, writes-on, outcome_of-grows}
+use Rattle.mlc_runs.specs.MoreTurns.{HasMoreTurns, GoesOn}
+use Rattle.mlc_runs.specs.Run.{World, Answer}
+use Rattle.mlc_runs.proofs.MoreTurnsLaws.{gives-on, raises-on, fail-on, or_fail-on, then_do-on, take_turn-on, writes-on, outcome_of-grows}
 use Rattle.mlc_prims.specs.LitOf.{Literal, int, word, char, string, truth}
 use Rattle.mlc_prims.specs.PrimOf.{Gives, made, raised, prim_of}
 use Rattle.mlc_prims.specs.declared.prim.Primitive.{Primitive}

@@ -1,8 +1,8 @@
 -- Expressions, declarations and projects of the language that is compiled so far, with their phrases.
 use Rattle.std.proofs.Common.{◌≡◌, ℕ, Bool, true, false, ◌&&◌, if◌then◌else◌, List, [], ◌∷◌, ◌++◌, Some, None, refl, sym, ap, subst}
 use Rattle.std.proofs.lemmas.Bool.{eqb-true}
-use Rattle.mlc_base.specs.declared.label.Label.{Label}
-use Rattle.mlc_base.specs.declared.label.Label.TheVariants.{Number, Word}
+use Rattle.mlc_names.specs.declared.label.Label.{Label}
+use Rattle.mlc_names.specs.declared.label.Label.TheVariants.{Number, Word}
 use Rattle.mlc_base.specs.declared.place.Place.{Place}
 use Rattle.std.specs.Prelude.{ℤ}
 use Rattle.sml_tree.specs.declared.ident.Vid.{Vid}

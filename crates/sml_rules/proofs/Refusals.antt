@@ -1,9 +1,9 @@
 -- Worked examples: in which order parts are evaluated, and what refuses small projects. The numbers of places are bytes of the texts above.
 use Rattle.std.proofs.Common.{◌≡◌, ℕ, List, [], ◌∷◌, refl, ap, arith, true, Some, None}
 use Rattle.std.specs.Prelude.{codes, pos}
-use Rattle.mlc_base.specs.Outcome.{ended}
-use Rattle.mlc_base.specs.StandardWords.{word_ref, word_plus, word_concatenate, word_print}
-use Rattle.mlc_base.specs.declared.code.Code.TheVariants.{Unbound, NoTyping, Restriction, NotCompiled}
+use Rattle.mlc_runs.specs.Outcome.{ended}
+use Rattle.mlc_names.specs.StandardWords.{word_ref, word_plus, word_concatenate, word_print}
+use Rattle.mlc_faults.specs.declared.code.Code.TheVariants.{Unbound, NoTyping, Restriction, NotCompiled}
 use Rattle.mlc_base.specs.declared.place.Place.{Place}
 use Rattle.sml_tree.specs.declared.ident.Vid.TheVariants.{Named}
 use Rattle.sml_tree.specs.Terminal.{int, string, word}

@@ -1,10 +1,10 @@
 -- A project that elaborates never goes wrong.
 use Rattle.std.proofs.Common.{◌≡◌, ◌≢◌, ℕ, zero, suc, Bool, true, false, if◌then◌else◌, List, [], ◌∷◌, ◌++◌, Option, Some, None, refl, sym, ap, ◌∙◌, subst, arith}
 use Rattle.std.specs.Prelude.{ℤ, ◌+ℤ◌, ◌-ℤ◌, ◌*ℤ◌, ◌+◌, length, slice_get, nat_eq, nat_le, option_map}
-use Rattle.mlc_base.specs.declared.label.Label.TheVariants.{Number}
+use Rattle.mlc_names.specs.declared.label.Label.TheVariants.{Number}
 use Rattle.mlc_base.specs.declared.place.Place.{Place}
-use Rattle.mlc_base.specs.Outcome.{wrong, uncaught, ended, going}
-use Rattle.mlc_base.specs.Run.{World, out_of_turns, Answer, gives, raises, stops, then_do, or_fail, turn_from, outcome_of, uncaught_end}
+use Rattle.mlc_runs.specs.Outcome.{wrong, uncaught, ended, going}
+use Rattle.mlc_runs.specs.Run.{World, out_of_turns, Answer, gives, raises, stops, then_do, or_fail, turn_from, outcome_of, uncaught_end}
 use Rattle.mlc_prims.specs.LitOf.{int, word, char, string, truth, ints_in}
 use Rattle.mlc_prims.specs.PrimOf.{max_size, made, raised, int_result, exact, fitting}
 use Rattle.mlc_prims.specs.declared.prim.Primitive.{Primitive}
@@ -13,9 +13,9 @@ use Rattle.mlc_prims.specs.declared.prim.PrimExn.{PrimExn}
 use Rattle.mlc_prims.specs.declared.prim.PrimExn.TheVariants.{Overflow, Div, Subscript, Size, Chr}
 use Rattle.sml_tree.specs.BareTree.{Exp, fields_exp, no_exp_fields, exp_field, Pat, Decs}
 use Rattle.ty_core.specs.Types.{Typ, var, con, Typs, none, more, Symbol, arrow, labels, name}
-use Rattle.mlc_base.specs.declared.label.Label.{Label}
+use Rattle.mlc_names.specs.declared.label.Label.{Label}
 use Rattle.sml_rules.specs.Project.{Part}
-use Rattle.mlc_base.specs.StandardWords.{word_Overflow, word_Div, word_Subscript, word_Size, word_Chr}
+use Rattle.mlc_names.specs.StandardWords.{word_Overflow, word_Div, word_Subscript, word_Size, word_Chr}
 use Rattle.sml_rules.specs.Basis.{basis_prim, basis_exceptions}
 use Rattle.sml_rules.specs.Values.{Value, literal, record_of, primitive, packet, Fields, no_fields, field, exn_number, Env, nothing_bound, bound, basis_bound, value_of, basis_value}
 use Rattle.sml_rules.specs.Eval.{literals_in, giving, perform, enter, eval, bind_pat, eval_decs, eval_parts, is_unit, if_unit}

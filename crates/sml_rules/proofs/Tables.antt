@@ -3,8 +3,8 @@ use Rattle.std.proofs.Common.{◌≡◌, ℕ, ◌<◌, true, List, ◌++◌, len
 use Rattle.std.proofs.lemmas.Bool.{ltb-true}
 use Rattle.std.proofs.lemmas.List.{length-append, take-append-drop, get_or_append_left}
 use Rattle.std.proofs.lemmas.Option.{slice_get-get_or, get_or_from_slice_get}
-use Rattle.mlc_base.specs.Labels.{held_text}
-use Rattle.mlc_base.specs.StandardWords.{standard_words}
+use Rattle.mlc_names.specs.Labels.{held_text}
+use Rattle.mlc_names.specs.StandardWords.{standard_words}
 use Rattle.sml_rules.specs.Basis.{IsTable, text_in}
 
 in-front : (front more : List (List ℕ)) (k : ℕ) (text : List ℕ) → k < length front → slice_get front k ≡ Some text → text_in (front ++ more) k ≡ text

@@ -1,8 +1,8 @@
 -- What the path of the standard basis brings so far: `+`, `-` and `*` on int, `^`, `print`, and fixities. Identifiers are names: standard words
 -- by their numbers.
 use Rattle.std.specs.Prelude.{◌≡◌, ◌≢◌, ℕ, Bool, true, false, ◌||◌, if◌then◌else◌, List, [], ◌∷◌, length, map, take, AllPairs, Option, Some, None, nat_eq, slice_get}
-use Rattle.mlc_base.specs.Labels.{held_text}
-use Rattle.mlc_base.specs.StandardWords.{standard_words, word_ref, word_true, word_false, word_nil, word_cons, word_Match, word_Bind, word_Overflow, word_Div, word_Subscript, word_Size, word_Chr, word_plus, word_minus, word_times, word_div, word_mod, word_less_than, word_at_most, word_greater_than, word_at_least, word_assign, word_divide, word_not_equal, word_append, word_concatenate, word_compose, word_before, word_print}
+use Rattle.mlc_names.specs.Labels.{held_text}
+use Rattle.mlc_names.specs.StandardWords.{standard_words, word_ref, word_true, word_false, word_nil, word_cons, word_Match, word_Bind, word_Overflow, word_Div, word_Subscript, word_Size, word_Chr, word_plus, word_minus, word_times, word_div, word_mod, word_less_than, word_at_most, word_greater_than, word_at_least, word_assign, word_divide, word_not_equal, word_append, word_concatenate, word_compose, word_before, word_print}
 use Rattle.mlc_prims.specs.declared.prim.Primitive.{Primitive}
 use Rattle.mlc_prims.specs.declared.prim.Primitive.TheVariants.{Add, Sub, Mul, Cat, Print}
 use Rattle.sml_tree.specs.declared.fixity.Infix.{Infix}

@@ -1,7 +1,7 @@
 -- Evaluation in the run algebra. [Definition 6.7] An application whose operator isn't written as `fn` takes one turn once operator and argument are values.
 -- A phrase for which there is no case yet goes wrong; the checker refuses it.
 use Rattle.std.specs.Prelude.{ℕ, Bool, true, false, List, [], ◌∷◌, Option, Some, None}
-use Rattle.mlc_base.specs.Run.{World, Answer, gives, raises, then_do, or_fail, fail, take_turn, writes}
+use Rattle.mlc_runs.specs.Run.{World, Answer, gives, raises, then_do, or_fail, fail, take_turn, writes}
 use Rattle.mlc_base.specs.declared.place.Place.{Place}
 use Rattle.mlc_prims.specs.LitOf.{Literal, int, word, char, string}
 use Rattle.mlc_prims.specs.PrimOf.{Gives, made, raised, prim_of}

@@ -1,8 +1,8 @@
 -- What holds of every project.
 use Rattle.std.specs.Prelude.{◌≡◌, ◌≢◌, ◌↔◌, ℕ, ◌≤◌, List, None}
-pub use Rattle.mlc_base.specs.MoreTurns.{IsPrefix, GrowsTo}
-use Rattle.mlc_base.specs.Outcome.{wrong}
-use Rattle.mlc_base.specs.declared.fault.Fault.{Fault}
+pub use Rattle.mlc_runs.specs.MoreTurns.{IsPrefix, GrowsTo}
+use Rattle.mlc_runs.specs.Outcome.{wrong}
+use Rattle.mlc_faults.specs.declared.fault.Fault.{Fault}
 use Rattle.sml_rules.specs.Project.{Part}
 use Rattle.sml_rules.specs.Broken.{Typed, AllTypes, nothing_yet, FirstBroken}
 use Rattle.sml_rules.specs.Meaning.{meaning}

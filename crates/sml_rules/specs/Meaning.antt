@@ -1,7 +1,7 @@
 -- What a project does: its output and its end at m turns. An exception that nothing handles ends it.
 use Rattle.std.specs.Prelude.{ℕ, List, Option, None, slice_get}
-use Rattle.mlc_base.specs.Outcome.{Outcome}
-use Rattle.mlc_base.specs.Run.{World, start, outcome_of}
+use Rattle.mlc_runs.specs.Outcome.{Outcome}
+use Rattle.mlc_runs.specs.Run.{World, start, outcome_of}
 use Rattle.sml_rules.specs.Project.{Part}
 use Rattle.sml_rules.specs.Basis.{basis_exceptions}
 use Rattle.sml_rules.specs.Values.{Value, literal, record_of, primitive, packet, nothing_bound}

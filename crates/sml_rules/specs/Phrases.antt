@@ -2,7 +2,7 @@
 -- The operator of an infix application stands between its operands. A phrase outside the language that is compiled so far is foreign, and
 -- stands for all that is in it; a pair may only be an argument.
 use Rattle.std.specs.Prelude.{ℕ, ◌+◌, ℤ, Bool, true, false, ◌&&◌, nat_eq, if◌then◌else◌, List, [], ◌∷◌, ◌++◌, length, Option, Some, None}
-use Rattle.mlc_base.specs.declared.label.Label.{Label}
+use Rattle.mlc_names.specs.declared.label.Label.{Label}
 use Rattle.mlc_base.specs.declared.place.Place.{Place}
 use Rattle.sml_tree.specs.declared.ident.Tyvar.{Tyvar}
 use Rattle.sml_tree.specs.declared.ident.Vid.{Vid}

@@ -1,7 +1,7 @@
 -- Values, and the environments in which expressions are evaluated. [Definition 6.2, 6.3]
 use Rattle.std.specs.Prelude.{ℕ, Bool, false, Option, Some, None, nat_eq, if◌then◌else◌}
-use Rattle.mlc_base.specs.declared.label.Label.{Label}
-use Rattle.mlc_base.specs.declared.label.Label.TheVariants.{Number, Word}
+use Rattle.mlc_names.specs.declared.label.Label.{Label}
+use Rattle.mlc_names.specs.declared.label.Label.TheVariants.{Number, Word}
 use Rattle.mlc_prims.specs.LitOf.{Literal}
 use Rattle.mlc_prims.specs.declared.prim.Primitive.{Primitive}
 use Rattle.mlc_prims.specs.declared.prim.PrimExn.{PrimExn}

@@ -1,7 +1,7 @@
 -- Worked examples: the bare trees of trees that were read, and their depths.
 use Rattle.std.proofs.Common.{◌≡◌, ℕ, [], ◌∷◌, refl, true, false, Some, None}
 use Rattle.std.specs.Prelude.{pos}
-use Rattle.mlc_base.specs.declared.label.Label.TheVariants as label
+use Rattle.mlc_names.specs.declared.label.Label.TheVariants as label
 use Rattle.sml_tree.specs.declared.ident.Vid.TheVariants.{Named, Fresh}
 use Rattle.sml_tree.specs.declared.ident.BuiltIn.TheVariants.{True, False}
 use Rattle.sml_tree.specs.Terminal.{int}

@@ -1,8 +1,8 @@
 -- Worked examples: a derivation of the tree that each text has. The numbers are the places of first bytes in the text above.
 use Rattle.std.proofs.Common.{ℕ, List, [], ◌∷◌, refl, arith, true, false, Some, None}
 use Rattle.std.specs.Prelude.{pos}
-use Rattle.mlc_base.specs.declared.label.Label.TheVariants as label
-use Rattle.mlc_base.specs.declared.token.Reserved.TheVariants as res
+use Rattle.mlc_names.specs.declared.label.Label.TheVariants as label
+use Rattle.mlc_names.specs.declared.token.Reserved.TheVariants as res
 use Rattle.sml_tree.specs.declared.ident.Vid.TheVariants.{Named, Equals}
 use Rattle.sml_tree.specs.Fixity.{Fixity}
 use Rattle.sml_tree.specs.Derived.{short}

@@ -1,7 +1,7 @@
 -- Worked examples of texts that no tree reads.
 use Rattle.std.proofs.Common.{◌≡◌, ◌<◌, ℕ, List, [], ◌∷◌, refl, sym, arith, Bool, true, false, Some, ◌⊎◌, inl, inr, subst, ◌∙◌}
 use Rattle.std.specs.Prelude.{ℤ, pos}
-use Rattle.mlc_base.specs.declared.token.Reserved.TheVariants as res
+use Rattle.mlc_names.specs.declared.token.Reserved.TheVariants as res
 use Rattle.sml_tree.specs.declared.ident.Vid.TheVariants.{Named}
 use Rattle.sml_tree.specs.Fixity.{Fixity}
 use Rattle.sml_tree.specs.Terminal.{Terminal, reserved, number, alpha, symbol, alpha_vid, symbol_vid, is_number}

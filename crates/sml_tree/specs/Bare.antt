@@ -1,6 +1,6 @@
 -- The bare tree of a tree that was read from a file: brackets are gone, and each derived form is what it stands for.
 use Rattle.std.specs.Prelude.{ℕ, Bool, true, false, List, [], ◌∷◌, map, Option, Some, None, if◌then◌else◌}
-use Rattle.mlc_base.specs.declared.label.Label.TheVariants.{Word}
+use Rattle.mlc_names.specs.declared.label.Label.TheVariants.{Word}
 use Rattle.mlc_base.specs.declared.place.Place.{Place}
 use Rattle.sml_tree.specs.Terminal.{LongId}
 use Rattle.sml_tree.specs.declared.ident.Vid.{Vid}

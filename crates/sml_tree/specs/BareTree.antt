@@ -2,7 +2,7 @@
 -- Each phrase carries the place of its first byte; an identifier after `op` that of its own first byte. The constructors that derived forms name are apart
 -- from identifiers.
 use Rattle.std.specs.Prelude.{ℕ, Bool, List, Option}
-use Rattle.mlc_base.specs.declared.label.Label.{Label}
+use Rattle.mlc_names.specs.declared.label.Label.{Label}
 use Rattle.mlc_base.specs.declared.place.Place.{Place}
 use Rattle.sml_tree.specs.Terminal.{Constant, LongVid, LongId}
 use Rattle.sml_tree.specs.declared.ident.Tyvar.{Tyvar}

@@ -1,7 +1,7 @@
 -- The derived forms (the Definition, Appendix A), one function a form: what each stands for. Each phrase that a form makes has the place of the form.
 use Rattle.std.specs.Prelude.{ℕ, suc, Bool, true, false, List, [], ◌∷◌, map, Option, Some, None, nat_eq, if◌then◌else◌}
-use Rattle.mlc_base.specs.declared.label.Label.{Label}
-use Rattle.mlc_base.specs.declared.label.Label.TheVariants.{Number}
+use Rattle.mlc_names.specs.declared.label.Label.{Label}
+use Rattle.mlc_names.specs.declared.label.Label.TheVariants.{Number}
 use Rattle.mlc_base.specs.declared.place.Place.{Place}
 use Rattle.sml_tree.specs.Terminal.{LongVid, LongId}
 use Rattle.sml_tree.specs.declared.ident.Tyvar.{Tyvar}

@@ -1,8 +1,8 @@
 -- The grammar of the core (the Definition, sections 2.8 and 2.9, Appendices A and B). `Reads f i t o`: under the fixities f the terminals i begin
 -- with the tree t, and o are the terminals after it. Each constructor is one production, which its comment names.
 use Rattle.std.specs.Prelude.{ℕ, pos, ◌≤◌, ◌<◌, ◌≡◌, Bool, true, false, List, [], ◌∷◌, Option, Some, None}
-use Rattle.mlc_base.specs.declared.label.Label.{Label}
-use Rattle.mlc_base.specs.declared.token.Reserved.TheVariants as res
+use Rattle.mlc_names.specs.declared.label.Label.{Label}
+use Rattle.mlc_names.specs.declared.token.Reserved.TheVariants as res
 use Rattle.sml_tree.specs.Terminal.{Constant, LongVid, LongId, Terminal, reserved, number, type_var, star, IsConstant, IsVid, IsQualifiedVid, IsAnyVid, IsAnyLongVid, IsTycon, IsLongTycon, IsLongStrid, IsLabel}
 use Rattle.sml_tree.specs.declared.ident.Tyvar.{Tyvar}
 use Rattle.sml_tree.specs.declared.ident.Vid.{Vid}

@@ -2,7 +2,7 @@
 -- derived forms (Appendix A) kept. A number that comes first is the place of the phrase's first byte; the others have it from their first part.
 -- An identifier that may stand after `op` has a place of its own, that of its own first byte.
 use Rattle.std.specs.Prelude.{ℕ, suc, Bool, List, Option}
-use Rattle.mlc_base.specs.declared.label.Label.{Label}
+use Rattle.mlc_names.specs.declared.label.Label.{Label}
 use Rattle.sml_tree.specs.Terminal.{Constant, LongVid, LongId}
 use Rattle.sml_tree.specs.declared.ident.Tyvar.{Tyvar}
 use Rattle.sml_tree.specs.declared.ident.Vid.{Vid}

@@ -1,12 +1,12 @@
 -- The terminals of the grammar: tokens with the place of their first byte, and with `*` told from other identifiers.
 use Rattle.std.specs.Prelude.{ℕ, suc, ℤ, pos, Bool, true, false, List, [], map, nat_eq, if◌then◌else◌}
-use Rattle.mlc_base.specs.declared.label.Label.{Label}
-use Rattle.mlc_base.specs.declared.label.Label.TheVariants as label
-use Rattle.mlc_base.specs.declared.token.Reserved.{Reserved}
-use Rattle.mlc_base.specs.declared.token.Reserved.TheVariants as res
-use Rattle.mlc_base.specs.declared.token.TokenKind.{TokenKind}
-use Rattle.mlc_base.specs.declared.token.TokenKind.TheVariants as kind
-use Rattle.mlc_base.specs.declared.token.Token.{Token}
+use Rattle.mlc_names.specs.declared.label.Label.{Label}
+use Rattle.mlc_names.specs.declared.label.Label.TheVariants as label
+use Rattle.mlc_names.specs.declared.token.Reserved.{Reserved}
+use Rattle.mlc_names.specs.declared.token.Reserved.TheVariants as res
+use Rattle.mlc_names.specs.declared.token.TokenKind.{TokenKind}
+use Rattle.mlc_names.specs.declared.token.TokenKind.TheVariants as kind
+use Rattle.mlc_names.specs.declared.token.Token.{Token}
 use Rattle.sml_tree.specs.declared.ident.Tyvar.{Tyvar}
 use Rattle.sml_tree.specs.declared.ident.Vid.{Vid}
 use Rattle.sml_tree.specs.declared.ident.Vid.TheVariants.{Named, Equals}

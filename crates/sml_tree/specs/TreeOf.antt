@@ -1,6 +1,6 @@
 -- The bare tree that a tree of the code stands for.
 use Rattle.std.specs.Prelude.{List, [], ◌∷◌, Option, map, option_map}
-use Rattle.mlc_base.specs.declared.label.Label.{Label}
+use Rattle.mlc_names.specs.declared.label.Label.{Label}
 use Rattle.mlc_base.specs.declared.place.Place.{Place}
 use Rattle.sml_tree.specs.Terminal as term
 use Rattle.sml_tree.specs.BareTree as bare

@@ -8,11 +8,11 @@ ghost use Rattle.sml_tree.specs.TreeOf.{exp_of, pat_of, ty_of, dec_of, rule_of, 
 
 use crate::ident::{BuiltIn, LongVid, Vid};
 use crate::tree::{Bind, Dec, Exp, Pat, PatField, Rule, Ty, TyvarSeq};
-use mlc_base::label::Label;
 use mlc_base::make::{both, boxed, one, two, with};
 use mlc_base::memory::NoMemory;
-use mlc_base::names::Name;
 use mlc_base::place::Place;
+use mlc_names::label::Label;
+use mlc_names::names::Name;
 use std::alloc::Global;
 
 /// The fresh variable of this number.

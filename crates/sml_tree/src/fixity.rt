@@ -8,7 +8,7 @@ use crate::ident::Vid;
 use crate::trie::{Node, find, insert, share};
 use mlc_base::make::both;
 use mlc_base::memory::NoMemory;
-use mlc_base::names::Name;
+use mlc_names::names::Name;
 use std::alloc::Global;
 use std::marker::Model;
 use std::rc::Rc;

@@ -1,6 +1,6 @@
 // Identifiers.
 
-use mlc_base::names::Name;
+use mlc_names::names::Name;
 
 /// A value identifier.
 #[derive(Clone, Copy, PartialEq, Eq, Debug)]

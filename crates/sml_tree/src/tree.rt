@@ -1,9 +1,9 @@
 // Bare trees, with what the grammar counts once kept in one node.
 
 use crate::ident::{BuiltIn, Constant, LongId, LongVid, Tyvar, Vid};
-use mlc_base::label::Label;
-use mlc_base::names::Name;
 use mlc_base::place::Place;
+use mlc_names::label::Label;
+use mlc_names::names::Name;
 
 #[derive(Drop)]
 #[cycle(types)]

@@ -1,8 +1,8 @@
 // Each derived form with ample memory.
 
-use mlc_base::label::Label;
 use mlc_base::memory::NoMemory;
 use mlc_base::place::Place;
+use mlc_names::label::Label;
 use sml_tree::derive::{conditional, disjunction, selector, while_loop};
 use sml_tree::ident::Constant;
 use sml_tree::tree::{Exp, Rule};

@@ -1,7 +1,7 @@
 // Directives and their scopes.
 
 use mlc_base::memory::NoMemory;
-use mlc_base::names::{Name, Names};
+use mlc_names::names::{Name, Names};
 use sml_tree::fixity::{Fixities, Infix};
 use sml_tree::ident::Vid;
 use std::alloc::Global;

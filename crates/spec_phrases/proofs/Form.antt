@@ -6,7 +6,7 @@ use Rattle.sml_tree.specs.declared.tree.TypeBind.{TypeBind}
 use Rattle.module_tree.specs.ModuleBare.{abbreviated}
 use Rattle.module_code.specs.TreeOf.{abbreviation_of}
 use Rattle.std.proofs.Common.{◌≡◌, ℕ, List, [], ◌∷◌, map, Bool, true, false, Result, refl, ap, sym, ◌∙◌, subst, ◌≤◌, arith}
-use Rattle.mlc_base.specs.declared.token.Token.{Token}
+use Rattle.mlc_names.specs.declared.token.Token.{Token}
 use Rattle.sml_tree.specs.Terminal.{Terminal}
 use Rattle.sml_grammar.specs.Answer.{Read, Answer, ok, read, then_read}
 use Rattle.phrase_base.specs.declared.source.Source.{Source}

@@ -1,8 +1,8 @@
 -- What was read of identifiers, and of what `where type` binds, against the reading function's answer.
 use Rattle.std.specs.Prelude.{ℕ, List, map, Option}
 use Rattle.mlc_base.specs.declared.place.Place.{Place}
-use Rattle.mlc_base.specs.declared.token.Reserved.TheVariants as res
-use Rattle.mlc_base.specs.declared.token.Token.{Token}
+use Rattle.mlc_names.specs.declared.token.Reserved.TheVariants as res
+use Rattle.mlc_names.specs.declared.token.Token.{Token}
 use Rattle.sml_tree.specs.Terminal.{Terminal, LongId}
 use Rattle.sml_tree.specs.BareTree as core
 use Rattle.sml_tree.specs.Bare.{at, bare_ty, bare_long}

@@ -7,8 +7,8 @@ ghost use Rattle.spec_phrases.specs.DescsRead.{read_val_desc, IsValDesc, read_va
 ghost use Rattle.module_grammar.specs.Signatures.{read_con_descs};
 
 use mlc_base::make::with;
-use mlc_base::names::Name;
-use mlc_base::token::{Reserved, Token};
+use mlc_names::names::Name;
+use mlc_names::token::{Reserved, Token};
 use module_code::signatures::{ConDesc, DataDesc, TypeDesc, ValDesc};
 use phrase_base::got::{Got, pushed};
 use phrase_base::source::Source;

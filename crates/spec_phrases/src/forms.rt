@@ -9,7 +9,7 @@ ghost use Rattle.module_grammar.specs.Signatures.{binds_type, type_form};
 
 use crate::descs::{read_con_descs, read_data_descs, read_type_descs, read_val_descs};
 use mlc_base::place::Place;
-use mlc_base::token::{Reserved, Token};
+use mlc_names::token::{Reserved, Token};
 use module_code::nodes;
 use module_code::signatures::Spec;
 use phrase_base::got::Got;

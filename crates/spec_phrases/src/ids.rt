@@ -5,8 +5,8 @@ ghost use Rattle.sml_grammar.specs.Terminals.{place_at, first_as, taken};
 ghost use Rattle.module_grammar.specs.Signatures.{as_module_id};
 ghost use Rattle.phrase_base.specs.Left.{left};
 
-use mlc_base::names::Name;
-use mlc_base::token::{Token, TokenKind};
+use mlc_names::names::Name;
+use mlc_names::token::{Token, TokenKind};
 use phrase_base::source::Source;
 
 /// The identifier of a structure, signature or functor that stands first.

@@ -10,7 +10,7 @@ ghost use Rattle.spec_phrases.specs.ListsRead.{read_tycon, IsTycon, read_tycons,
 use crate::ids::module_id_at;
 use mlc_base::make::with;
 use mlc_base::place::Place;
-use mlc_base::token::{Reserved, Token};
+use mlc_names::token::{Reserved, Token};
 use module_code::signatures::{IdAt, WhereType};
 use phrase_base::got::{Got, pushed};
 use phrase_base::source::Source;

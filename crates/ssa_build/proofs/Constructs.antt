@@ -1,7 +1,7 @@
 -- Each construct outside a handler and under one, at several numbers of turns, by computation.
 use Rattle.std.proofs.Common.{◌≡◌, ℕ, List, [], ◌∷◌, refl}
 use Rattle.std.specs.Prelude.{pos}
-use Rattle.mlc_base.specs.Outcome.{Outcome, ended, going, uncaught}
+use Rattle.mlc_runs.specs.Outcome.{Outcome, ended, going, uncaught}
 use Rattle.mlc_prims.specs.declared.basis.BasisPrimitive.TheVariants.{Add, Less}
 use Rattle.first_values.specs.Values.{one, run}
 use Rattle.first_values.specs.Equality.{numbers}

@@ -1,7 +1,7 @@
 -- Small programs and their SSA forms, by computation.
 use Rattle.std.proofs.Common.{◌≡◌, ℕ, [], ◌∷◌, refl}
 use Rattle.std.specs.Prelude.{pos}
-use Rattle.mlc_base.specs.Outcome.{ended, wrong, going, uncaught}
+use Rattle.mlc_runs.specs.Outcome.{ended, wrong, going, uncaught}
 use Rattle.mlc_base.specs.declared.place.Place.{Place}
 use Rattle.mlc_prims.specs.declared.basis.BasisPrimitive.TheVariants.{Add, Subtract}
 use Rattle.first_values.specs.Operations.{Tables, an_int, a_text, ints, constant, exception, initial, pack, argument, print, is, is_of, known, one_of}

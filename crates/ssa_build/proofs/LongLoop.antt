@@ -1,6 +1,6 @@
 -- A loop of 10,000 tail calls, by computation: at as many turns it comes to its end, at one less it is cut off.
 use Rattle.std.proofs.Common.{◌≡◌, ℕ, [], ◌∷◌, refl}
-use Rattle.mlc_base.specs.Outcome.{going}
+use Rattle.mlc_runs.specs.Outcome.{going}
 use Rattle.ir_ssa.specs.Meaning as after
 use Rattle.ssa_build.specs.Build.{ssa}
 use Rattle.ssa_build.proofs.Examples.{looping}

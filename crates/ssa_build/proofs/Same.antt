@@ -3,7 +3,7 @@ use Rattle.std.proofs.Common.{◌≡◌, ℕ, zero, suc, List, [], ◌∷◌, ma
 use Rattle.std.proofs.lemmas.Bool.{eq-eqb}
 use Rattle.std.proofs.lemmas.Option.{slice_get-map}
 use Rattle.std.specs.Prelude.{option_map}
-use Rattle.mlc_base.specs.Run.{World, gives, raises, stops, then_do, or_handle, or_fail, take_turn, turn_from, outcome_of}
+use Rattle.mlc_runs.specs.Run.{World, gives, raises, stops, then_do, or_handle, or_fail, take_turn, turn_from, outcome_of}
 use Rattle.mlc_base.specs.declared.place.Place.{Place}
 use Rattle.mlc_prims.specs.PrimOf.{Gives, made, raised}
 use Rattle.ir_values.specs.Primitives.{raised_name}

@@ -4,8 +4,8 @@ use Rattle.std.specs.Prelude.{slice_set, Contains}
 use Rattle.std.specs.List.{AllByRecursion}
 use Rattle.std.proofs.lemmas.List.{get_or_at}
 use Rattle.mlc_base.specs.declared.place.Place.{Place}
-use Rattle.mlc_base.specs.Outcome.{uncaught}
-use Rattle.mlc_base.specs.Run.{World, Cut, out_of_turns, went_wrong, gives, raises, stops, or_fail, turn_from, writes, uncaught_end, outcome_of}
+use Rattle.mlc_runs.specs.Outcome.{uncaught}
+use Rattle.mlc_runs.specs.Run.{World, Cut, out_of_turns, went_wrong, gives, raises, stops, or_fail, turn_from, writes, uncaught_end, outcome_of}
 use Rattle.mlc_prims.specs.LitOf.{int, word, char, string, truth}
 use Rattle.mlc_prims.specs.PrimOf.{Gives, made, raised}
 use Rattle.first_values.specs.Values.{Value, literal, cell, reference, name, packet, values_of, Env, Run, bind, look_up, look_all, bind_all, gather, identifier_of, tag_of, at}

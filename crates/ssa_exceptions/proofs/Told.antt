@@ -1,6 +1,6 @@
 -- A run that tells exceptions by some texts tells them by others that are the same where they are told.
 use Rattle.std.proofs.Common.{◌≡◌, refl, ℕ, List, sym, ◌∙◌, inl, inr, ⊎_elim}
-use Rattle.mlc_base.specs.Outcome as source
+use Rattle.mlc_runs.specs.Outcome as source
 use Rattle.ir_code.specs.Run.{RunResult}
 use Rattle.ir_code.specs.Run as machine
 use Rattle.ir_ssa.specs.Meaning.{meaning}

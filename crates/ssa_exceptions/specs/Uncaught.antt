@@ -1,6 +1,6 @@
 -- The exceptions that end a program.
 use Rattle.std.specs.Prelude.{◌≡◌, ℕ, Contains}
-use Rattle.mlc_base.specs.Outcome.{uncaught}
+use Rattle.mlc_runs.specs.Outcome.{uncaught}
 use Rattle.ir_ssa.specs.Tree.{Program}
 use Rattle.ir_ssa.specs.Meaning.{meaning}
 use Rattle.ssa_tree.specs.Exceptions.{exceptions}

@@ -14,7 +14,7 @@ use first_known::calls::find_takings;
 use first_known::tables::are_tables;
 use first_tables::tables::Tables;
 use mlc_base::memory::NoMemory;
-use mlc_base::pass::{Check, Form};
+use mlc_runs::pass::{Check, Form};
 use ssa_tree::tree::Fun;
 use std::alloc::Global;
 

@@ -2,7 +2,7 @@
 use Rattle.std.proofs.Common.{◌≡◌, ℕ, ◌+◌, ◌≤◌, List, [], ◌∷◌, ◌++◌, map, All, Contains, sym, ap, ◌∙◌, subst}
 use Rattle.std.proofs.lemmas.List.Elements.{All-cons, All-head, All-tail, All-weaker, All-contains_itself, Contains-append_left}
 use Rattle.std.specs.List.{AllByRecursion}
-use Rattle.mlc_base.specs.Passes.{BringsNone, initial_exceptions}
+use Rattle.mlc_runs.specs.Passes.{BringsNone, initial_exceptions}
 use Rattle.first_values.specs.Operations.{Tables}
 use Rattle.ir_first.specs.Tree as f
 use Rattle.ir_first.specs.Meaning as before

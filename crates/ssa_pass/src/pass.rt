@@ -1,7 +1,7 @@
 // The pass.
 ghost use Rattle.std.specs.Prelude.{◌≡◌, ◌+◌, ◌≤◌, ℕ, IfOk, IfErr};
-ghost use Rattle.mlc_base.specs.Passes.{BringsNone};
-ghost use Rattle.mlc_base.specs.declared.pass.PassFault.TheVariants.{Memory};
+ghost use Rattle.mlc_runs.specs.Passes.{BringsNone};
+ghost use Rattle.mlc_runs.specs.declared.pass.PassFault.TheVariants.{Memory};
 ghost use Rattle.ir_first.specs.Meaning.{meaning as meant_before};
 ghost use Rattle.ir_first.specs.WellFormed.{IsWellFormed as WasWellFormed};
 ghost use Rattle.ir_first.specs.Size.{nodes_funs as nodes_before};
@@ -17,7 +17,7 @@ ghost use Rattle.ssa_pass.specs.Bounds.{FitBefore, FitAfter};
 
 use crate::build::build_funs;
 use first_form::form::First;
-use mlc_base::pass::{Pass, PassFault};
+use mlc_runs::pass::{Pass, PassFault};
 use ssa_build::law::ssa_build_keeps;
 use ssa_form::form::Ssa;
 use std::alloc::Global;

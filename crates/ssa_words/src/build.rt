@@ -4,8 +4,8 @@ use crate::words::{Action, Given, Kind, Op};
 use first_tables::operation::Plain;
 use first_tables::tables::{Shape, Tables};
 use mlc_base::memory::NoMemory;
-use mlc_base::names::Name;
 use mlc_base::place::Place;
+use mlc_names::names::Name;
 use ssa_tree::tree::{Arm, Body, Fun, Step};
 use std::alloc::Global;
 

@@ -2,7 +2,7 @@
 
 ghost use Rattle.std.specs.Prelude.{◌≡◌, ◌<◌, true, All};
 
-use mlc_base::names::Name;
+use mlc_names::names::Name;
 
 /// Whether all of these are standard words, of which there are 119.
 pub fn are_standard(found: &[Name]) -> bool

@@ -8,9 +8,9 @@ ghost use Rattle.phrase_base.specs.Gives.{Gives};
 ghost use Rattle.phrase_base.specs.Left.{left};
 ghost use Rattle.str_phrases.specs.CoreRead.{IsCoreDec, IsIt, inner_core};
 
-use mlc_base::names::Name;
 use mlc_base::place::Place;
-use mlc_base::token::Token;
+use mlc_names::names::Name;
+use mlc_names::token::Token;
 use phrase_base::got::Got;
 use phrase_base::source::Source;
 use phrase_base::stop::Stop;

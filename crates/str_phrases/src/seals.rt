@@ -16,7 +16,7 @@ ghost use Rattle.str_phrases.specs.StrsRead.{IsStr, IsSign, sign_of, put_sign};
 use mlc_base::make::with;
 use mlc_base::memory::NoMemory;
 use mlc_base::place::Place;
-use mlc_base::token::{Reserved, Token};
+use mlc_names::token::{Reserved, Token};
 use module_code::nodes;
 use module_code::signatures::SigExp;
 use module_code::structures::{Seal, StrExp};

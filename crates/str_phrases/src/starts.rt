@@ -8,7 +8,7 @@ ghost use Rattle.module_grammar.specs.Structures.{begins_str, str_start, begins_
 ghost use Rattle.phrase_base.specs.Gives.{Fails};
 ghost use Rattle.phrase_base.specs.Left.{left};
 
-use mlc_base::token::{Reserved, Token, TokenKind};
+use mlc_names::token::{Reserved, Token, TokenKind};
 use phrase_base::source::Source;
 use phrase_base::stop::Stop;
 use phrase_base::tokens::word_at;

@@ -21,7 +21,7 @@ use crate::seals::{read_sign, signed, with_seals};
 use crate::starts::{begins_str, begins_str_dec, no_str_room};
 use mlc_base::make::with;
 use mlc_base::place::Place;
-use mlc_base::token::{Reserved, Token};
+use mlc_names::token::{Reserved, Token};
 use module_code::nodes;
 use module_code::signatures::IdAt;
 use module_code::structures::{StrBind, StrExp};

@@ -3,7 +3,7 @@
 use ir_tables::tables::Tables;
 use ir_tests::program::Program;
 use mlc_base::memory::NoMemory;
-use mlc_base::pass::{Check, Form};
+use mlc_runs::pass::{Check, Form};
 use std::alloc::Global;
 use tests_given::given::{EXN, make_tables};
 use tests_words::words::{Text, Word};

@@ -3,7 +3,7 @@ ghost use Rattle.std.specs.Prelude.{◌≡◌, ◌↔◌, [], List, map, Some, �
 ghost use Rattle.ty_core.specs.Types.{Typ};
 ghost use Rattle.ty_table.specs.TypeAt.{type_at};
 ghost use Rattle.ir_poly.specs.Tests.{inst};
-ghost use Rattle.mlc_base.specs.declared.label.Label.{Label as AnyLabel};
+ghost use Rattle.mlc_names.specs.declared.label.Label.{Label as AnyLabel};
 ghost use Rattle.plain_tree.specs.TreeOf.{atoms_of, row_of};
 ghost use Rattle.tests_check.specs.Fits.{AtomFits, AtomsFit, RowFits};
 ghost use Rattle.tests_check.specs.Reads.{reading};
@@ -13,8 +13,8 @@ use ir_known::ask::same_type;
 use ir_known::known::Known;
 use ir_known::scope::Scope;
 use ir_tables::tables::Tables;
-use mlc_base::label::Label;
 use mlc_base::memory::NoMemory;
+use mlc_names::label::Label;
 use plain_tree::tree::Field;
 
 /// The type of an atom.

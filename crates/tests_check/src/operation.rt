@@ -1,7 +1,7 @@
 // Operations that hold no expression.
 ghost use Rattle.std.specs.Prelude.{◌≡◌, ◌↔◌, [], List, map, true, Some, ℕ, IsTrue, IfOk};
 ghost use Rattle.std.specs.Option.{option_map};
-ghost use Rattle.mlc_base.specs.declared.label.Label.{Label as AnyLabel};
+ghost use Rattle.mlc_names.specs.declared.label.Label.{Label as AnyLabel};
 ghost use Rattle.ty_core.specs.Types.{Typ};
 ghost use Rattle.ty_core.specs.Marks.{Allows};
 ghost use Rattle.ty_table.specs.TypeAt.{type_at};
@@ -27,8 +27,8 @@ use ir_uses::literal::has_literal;
 use ir_uses::primitive::{admits_type, gives, is_primitive_value, takes};
 use ir_uses::record::{do_ascend, is_record};
 use ir_uses::using::use_fits;
-use mlc_base::label::Label;
 use mlc_base::memory::NoMemory;
+use mlc_names::label::Label;
 use mlc_prims::basis::BasisPrimitive;
 use plain_tree::tree::{Field, Operation};
 use record_order::facts::Facts;

@@ -1,13 +1,13 @@
 // Programs as words: what holds expressions stands behind them, with its steps before it.
 
 use ir_tables::tables::Constant;
-use mlc_base::label::Label;
 use mlc_base::make::{both, boxed, one, two};
 use mlc_base::memory::NoMemory;
-use mlc_base::names::Name;
-use mlc_base::pass::Check;
 use mlc_base::place::Place;
+use mlc_names::label::Label;
+use mlc_names::names::Name;
 use mlc_prims::basis::BasisPrimitive;
+use mlc_runs::pass::Check;
 use plain_tree::tree::{
     Arm, Binding, Case, Exception, Exp, Field, Function, Operation, Parameter, Step,
 };

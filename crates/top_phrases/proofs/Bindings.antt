@@ -1,8 +1,8 @@
 -- Bindings of signatures and functors, one after the other.
 use Rattle.std.proofs.Common.{◌≡◌, ℕ, ◌<◌, ◌≤◌, List, [], ◌∷◌, length, map, max, Option, Some, None, refl, sym, ap, ◌∙◌, subst, arith}
 use Rattle.mlc_base.specs.declared.place.Place.{Place}
-use Rattle.mlc_base.specs.declared.token.Token.{Token}
-use Rattle.mlc_base.specs.declared.token.Reserved.TheVariants as res
+use Rattle.mlc_names.specs.declared.token.Token.{Token}
+use Rattle.mlc_names.specs.declared.token.Reserved.TheVariants as res
 use Rattle.sml_tree.specs.Terminal.{Terminal, reserved, number, constant, alpha, symbol, star, long_alpha, long_symbol, long_star, type_var}
 use Rattle.sml_tree.specs.BareTree as core
 use Rattle.sml_tree.specs.Bare.{at}

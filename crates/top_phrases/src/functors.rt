@@ -8,7 +8,7 @@ ghost use Rattle.top_phrases.specs.TopsRead.{IsParameter, parameter_by, read_fun
 
 use mlc_base::make::with;
 use mlc_base::place::Place;
-use mlc_base::token::{Reserved, Token};
+use mlc_names::token::{Reserved, Token};
 use module_code::nodes;
 use module_code::signatures::IdAt;
 use module_code::sources::{FunBind, Parameter};

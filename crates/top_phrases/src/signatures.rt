@@ -6,7 +6,7 @@ ghost use Rattle.phrase_base.specs.Left.{left};
 ghost use Rattle.top_phrases.specs.TopsRead.{read_sig_bind, IsSigBind, read_sig_binds, IsSigBinds};
 
 use mlc_base::make::with;
-use mlc_base::token::{Reserved, Token};
+use mlc_names::token::{Reserved, Token};
 use module_code::signatures::IdAt;
 use module_code::sources::SigBind;
 use phrase_base::got::{Got, pushed};

@@ -1,7 +1,7 @@
 // The types that are measured.
 
-use mlc_base::label::Label;
 use mlc_base::memory::NoMemory;
+use mlc_names::label::Label;
 use std::alloc::Global;
 use ty_core::mark::Mark;
 use ty_core::name::{Equality, TyName};

@@ -4,8 +4,8 @@ ghost use Rattle.ty_core.specs.Types.{attribute};
 ghost use Rattle.ty_core.specs.TypesOf.{head_of};
 
 use crate::name::{Equality, TyName};
-use mlc_base::label::Label;
 use mlc_base::memory::NoMemory;
+use mlc_names::label::Label;
 use std::alloc::Global;
 
 /// What a type that is no variable begins with.

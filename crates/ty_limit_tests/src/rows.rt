@@ -1,8 +1,8 @@
 // Limits of rows, and of what comes to stand in their fields.
 
 use crate::make::{NONE, answer, limit, tenth, variable, variables};
-use mlc_base::label::Label;
 use mlc_base::memory::NoMemory;
+use mlc_names::label::Label;
 use std::alloc::Global;
 use std::test::Fail;
 use ty_core::ty::Head;

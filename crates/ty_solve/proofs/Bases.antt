@@ -9,7 +9,7 @@ use Rattle.ty_solve.specs.Substitution.{Entry, free, bound, row, mark, Meets, su
 use Rattle.ty_solve.specs.SlotsOf.{row_of}
 use Rattle.ty_solve.specs.Weight.{AreBelow, AreInhabited}
 use Rattle.ty_solve.specs.Forces.{Problem, Strict, Clashes, Met, EntryMet, ForcedAt, IsForcedRow}
-use Rattle.mlc_base.specs.declared.label.Label.{Label}
+use Rattle.mlc_names.specs.declared.label.Label.{Label}
 use Rattle.ty_solve.specs.Changes.{RefusesRow, IsFitRow, row_rank, entry_rank}
 use Rattle.ty_solve.specs.Fields.{IsBase}
 use Rattle.ty_solve.specs.Rows.{Known}

@@ -1,7 +1,7 @@
 -- What calls answer, of the same rows and types.
 use Rattle.std.proofs.Common.{◌≡◌, ◌<◌, ℕ, Bool, true, false, List, None, map, length, set, Result, Ok, Err, IfOk, IfErr, refl, sym, ap, ◌∙◌, subst}
 use Rattle.std.proofs.lemmas.Bool.{false≢true}
-use Rattle.mlc_base.specs.declared.label.Label.{Label}
+use Rattle.mlc_names.specs.declared.label.Label.{Label}
 use Rattle.ty_core.specs.Types.{Typ, var, Typs}
 use Rattle.ty_core.specs.declared.mark.Mark.{Mark}
 use Rattle.ty_table.specs.TypeAt.{type_at, types_at, AllBelow}

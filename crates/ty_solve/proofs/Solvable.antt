@@ -1,7 +1,7 @@
 -- A substitution with no cycle whose marks are inhabited has a solution.
 use Rattle.std.proofs.Common.{◌≡◌, ◌≤◌, ◌<◌, ◌↔◌, IsTrue, ℕ, zero, suc, Bool, true, false, ◌||◌, List, [], refl, sym, ap, ◌∙◌, subst, arith}
 use Rattle.std.proofs.lemmas.Bool.{lt-ltb}
-use Rattle.mlc_base.specs.declared.label.Label.{Label}
+use Rattle.mlc_names.specs.declared.label.Label.{Label}
 use Rattle.ty_solve.specs.Rows.{Extends}
 use Rattle.ty_core.specs.Types.{Typ, var, con, Typs, none, more, labels, name}
 use Rattle.ty_core.specs.Marks.{Allows, IsOf, overloaded, has, is_inhabited}

@@ -1,6 +1,6 @@
 -- What an equation of two types forces under a substitution, read off part by part.
 use Rattle.std.specs.Prelude.{◌≡◌, ◌≢◌, ◌⊎◌, ℕ, suc, Bool, true, List, ⊤}
-use Rattle.mlc_base.specs.declared.label.Label.{Label}
+use Rattle.mlc_names.specs.declared.label.Label.{Label}
 use Rattle.ty_core.specs.Types.{Typ, var, con, Typs, none, more, Symbol, labels, attribute}
 use Rattle.ty_core.specs.Marks.{Allows, IsOf}
 use Rattle.ty_core.specs.declared.mark.Class.{Class}

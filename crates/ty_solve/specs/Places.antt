@@ -1,7 +1,7 @@
 -- Where labels stand, by a number for each label.
 use Rattle.std.specs.Prelude.{◌+◌, ◌*◌, ℕ, List, Option, take, MatchOption}
-use Rattle.mlc_base.specs.declared.label.Label.{Label}
-use Rattle.mlc_base.specs.declared.label.Label.TheVariants.{Number, Word}
+use Rattle.mlc_names.specs.declared.label.Label.{Label}
+use Rattle.mlc_names.specs.declared.label.Label.TheVariants.{Number, Word}
 use Rattle.ty_solve.specs.Rows.{Among}
 use Rattle.ty_solve.specs.Fields.{IsPlace}
 

@@ -7,7 +7,7 @@ use Rattle.std.proofs.Props.{props}
 use mathlib.Core.HLevel.{Π_prop, →_prop, ×_prop, Σ_prop_path, Unit-prop}
 use Rattle.ty_core.specs.Types.{Typ, var, con, Typs, none, more, labels}
 use Rattle.ty_solve.specs.Substitution.{Entry, free, bound, row}
-use Rattle.mlc_base.specs.declared.label.Label.{Label}
+use Rattle.mlc_names.specs.declared.label.Label.{Label}
 use Rattle.ty_solve.specs.Rows.{IsProper}
 use Rattle.ty_solve.specs.Weight.{weight, weights}
 use Rattle.ty_solve.specs.Weight.{WeighsAt, Weighs, IsAcyclic, BelowAt, AreBelow, InhabitedAt, AreInhabited}

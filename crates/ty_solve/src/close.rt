@@ -13,7 +13,7 @@ ghost use Rattle.ty_solve.specs.Fields.{Closes};
 use crate::refused::UnifyRefused;
 use crate::row::{Row, admit_others, equal_common, is_proper, lacking};
 use crate::task::Todo;
-use mlc_base::label::Label;
+use mlc_names::label::Label;
 use std::alloc::Global;
 use ty_core::ty::Head;
 use ty_table::types::Types;

@@ -6,8 +6,8 @@ ghost use Rattle.ty_solve.specs.Fields.{IsPlace};
 ghost use Rattle.ty_solve.specs.Places.{label_key, AreNoted};
 
 use indexmap::IndexMap;
-use mlc_base::label::Label;
 use mlc_base::memory::NoMemory;
+use mlc_names::label::Label;
 use std::alloc::Global;
 
 /// A number for each label.

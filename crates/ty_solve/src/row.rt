@@ -12,8 +12,8 @@ ghost use Rattle.ty_solve.specs.Fields.{IsLacking, FieldMeets, FieldsMeet, Other
 use crate::places::{all_places, note, place};
 use crate::task::Todo;
 use indexmap::IndexMap;
-use mlc_base::label::Label;
 use mlc_base::memory::NoMemory;
+use mlc_names::label::Label;
 use std::alloc::Global;
 use ty_core::mark::Mark;
 use ty_core::ty::copy_labels;

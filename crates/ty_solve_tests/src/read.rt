@@ -1,8 +1,8 @@
 // Types and substitutions from short texts.
 
 use crate::rows::{fresh_row, has_rows, is_row, rows};
-use mlc_base::label::Label;
 use mlc_base::memory::NoMemory;
+use mlc_names::label::Label;
 use std::alloc::Global;
 use ty_core::mark::{Class, Mark};
 use ty_core::name::{Equality, TyName};

@@ -1,8 +1,8 @@
 // Rows from letters, and whether rows are as they were.
 
 use crate::read::read_pair;
-use mlc_base::label::Label;
 use mlc_base::memory::NoMemory;
+use mlc_names::label::Label;
 use std::alloc::Global;
 use ty_solve::known::fits;
 use ty_solve::row::{Row, copy_row};

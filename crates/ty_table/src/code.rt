@@ -4,8 +4,8 @@ ghost use Rattle.ty_core.specs.Types.{labels as labels_symbol};
 ghost use Rattle.ty_core.specs.TypesOf.{head_of};
 ghost use Rattle.ty_table.specs.Codes.{label_code, attribute_code, code_of};
 
-use mlc_base::label::Label;
 use mlc_base::memory::NoMemory;
+use mlc_names::label::Label;
 use std::alloc::Global;
 use ty_core::name::Equality;
 use ty_core::ty::Head;

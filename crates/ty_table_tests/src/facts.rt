@@ -1,7 +1,7 @@
 // What is known of types without looking through them: their few variables, and equality where all variables admit it.
 
-use mlc_base::label::Label;
 use mlc_base::memory::NoMemory;
+use mlc_names::label::Label;
 use std::alloc::Global;
 use std::test::Fail;
 use ty_core::name::{Equality, TyName};

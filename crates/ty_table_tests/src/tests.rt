@@ -1,7 +1,7 @@
 // Types that are made in a table, and what is read of them.
 
-use mlc_base::label::Label;
 use mlc_base::memory::NoMemory;
+use mlc_names::label::Label;
 use std::alloc::Global;
 use std::test::Fail;
 use ty_core::name::{Equality, TyName};

@@ -1,6 +1,6 @@
 use Rattle.std.proofs.Common.{rules, ◌≡◌, ◌<◌, ◌≤◌, ◌+◌, ◌-◌, ◌++◌, ◌∷◌, [], ℕ, suc, length, map, true, false, Some, None, List, refl, sym, ap, subst, ◌∙◌, arith, max}
 use Rattle.std.proofs.lemmas.Result.{err_from_is_err_and}
-use Rattle.mlc_base.specs.declared.token.Reserved.TheVariants as res
+use Rattle.mlc_names.specs.declared.token.Reserved.TheVariants as res
 use Rattle.sml_tree.specs.Terminal.{Terminal}
 use Rattle.sml_grammar.specs.Answer.{ok, whole, then_read, read, bad}
 use Rattle.sml_grammar.specs.Terminals.{place_at, tail, word_at, word_then, no_state, after_word, on_some}

@@ -1,5 +1,5 @@
 use Rattle.std.proofs.Common.{refl, subst, ◌∙◌}
-use Rattle.mlc_base.specs.declared.label.Label.TheVariants.{Number}
+use Rattle.mlc_names.specs.declared.label.Label.TheVariants.{Number}
 use Rattle.exp_steps.specs.Made.{recorded}
 use Rattle.exp_steps.specs.Joining.{Opens, pair_fields}
 use Rattle.exp_steps.proofs.Fields.{all-none, all-more, all-made-as, tuple-of-all}

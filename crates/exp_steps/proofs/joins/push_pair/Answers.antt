@@ -1,4 +1,4 @@
-use Rattle.mlc_base.specs.declared.label.Label.TheVariants.{Number}
+use Rattle.mlc_names.specs.declared.label.Label.TheVariants.{Number}
 use Rattle.exp_steps.specs.Joining.{pair_fields}
 use Rattle.exp_steps.proofs.Fields.{all-none, all-more, all-made-as}
 use Rattle.exp_steps.proofs.joins.push_pair.Goals as goal

@@ -1,7 +1,7 @@
 use Rattle.std.proofs.Common.{◌≡◌, ◌≤◌, ◌++◌, ◌∷◌, [], length, map, None, ap, ◌∙◌, subst, arith}
 use Rattle.std.specs.String.{string_bytes}
 use Rattle.std.proofs.lemmas.List.{map-append}
-use Rattle.mlc_base.specs.Files.{LiesIn}
+use Rattle.mlc_faults.specs.Files.{LiesIn}
 use Rattle.mlc_outside.specs.Store.{HasFile}
 use Rattle.mlb_reader.specs.Loading.{BreaksAt, IsFetched, IsTooLarge, MissesAt, NeedsAt, loaded_of}
 use Rattle.mlb_reader.specs.MlbOf.{item_of}

@@ -1,5 +1,5 @@
 use Rattle.std.proofs.Common.{ap, subst, sym}
-use Rattle.mlc_base.specs.Files.{LiesIn}
+use Rattle.mlc_faults.specs.Files.{LiesIn}
 use Rattle.mlc_driver.specs.CheckedOf.{checked_of}
 use Rattle.mlc_program.specs.CommandOf.{command_of}
 use Rattle.mlc_program.proofs.Compiling.{first-byte, refused-project}

@@ -1,5 +1,5 @@
 use Rattle.std.proofs.Common.{◌≡◌, ◌<◌, ℕ, List, [], add-one, suc, ◌++◌, ◌∷◌, get_or, length, take, ap, sym, ◌∙◌, append_assoc, arith, refl}
-use Rattle.mlc_base.specs.declared.label.Label.{Label}
+use Rattle.mlc_names.specs.declared.label.Label.{Label}
 use Rattle.ty_table.specs.Codes.{label_code, labels_code}
 use Rattle.ty_table.proofs.Coding.{next-label, all-labels}
 use Rattle.mono_types.proofs.code.push_labels.Goals as goal

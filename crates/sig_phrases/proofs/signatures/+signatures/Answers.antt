@@ -1,6 +1,6 @@
 use Rattle.std.proofs.Common.{refl, arith}
 use Rattle.std.proofs.lemmas.Result.{err_from_is_err_and}
-use Rattle.mlc_base.specs.declared.token.Reserved.TheVariants as res
+use Rattle.mlc_names.specs.declared.token.Reserved.TheVariants as res
 use Rattle.sml_grammar.specs.Answer.{whole}
 use Rattle.sml_grammar.specs.Terminals.{no_state, place_at}
 use Rattle.module_grammar.specs.Signatures.{read_sig, str_desc_turn}

@@ -1,6 +1,6 @@
 use Rattle.std.proofs.Common.{◌+◌, List, length, ap, arith}
 use Rattle.std.proofs.lemmas.Result.{err_from_is_err_and}
-use Rattle.mlc_base.specs.declared.token.Reserved.TheVariants as res
+use Rattle.mlc_names.specs.declared.token.Reserved.TheVariants as res
 use Rattle.sml_tree.specs.Terminal.{Terminal}
 use Rattle.phrase_base.specs.Left.{left}
 use Rattle.phrase_base.proofs.Shorter.{word-shorter}

@@ -2,7 +2,7 @@ use Rattle.std.proofs.Common.{◌≡◌, ◌+◌, ◌≤◌, ◌==◌, ◌<◌, 
 use Rattle.std.proofs.lemmas.List.Elements.{All-push, All-same}
 use Rattle.sml_lexer.specs.declared.identifiers.Part.TheVariants.{Letters, Symbols, Nothing}
 use Rattle.sml_lexer.specs.Identifiers.{next_part}
-use Rattle.mlc_base.specs.Names.{with_texts}
+use Rattle.mlc_names.specs.Names.{with_texts}
 use Rattle.sml_lexer.specs.Item.{found, words_of}
 use Rattle.sml_lexer.specs.Lexeme.{text_of, words_in}
 use Rattle.sml_lexer.proofs.NameLemmas.{all_held_stay, held_stays, keeps_on}

@@ -1,6 +1,6 @@
 use Rattle.std.proofs.Common.{◌≡◌, ◌<◌, ◌≤◌, ◌-◌, [], ◌∷◌, ◌++◌, drop, take, length, map}
 use Rattle.std.specs.Prelude.{All}
-use Rattle.mlc_base.specs.Names.{with_texts}
+use Rattle.mlc_names.specs.Names.{with_texts}
 use Rattle.sml_lexer.specs.Identifiers.{qualified}
 use Rattle.sml_lexer.specs.Lexeme.{text_of}
 use Rattle.sml_lexer.specs.NameTable.{Keeps}

@@ -1,6 +1,6 @@
 use Rattle.std.proofs.Common.{◌≡◌, ◌==◌, [], true, false, IfOk, sym, ap, ◌∙◌, subst, rules, eq-eqb}
 use Rattle.std.proofs.lemmas.Result.{IfOk-weaker}
-use Rattle.mlc_base.specs.Names.{with_texts}
+use Rattle.mlc_names.specs.Names.{with_texts}
 use Rattle.sml_lexer.specs.Chars.{byte, is_letter, is_space, is_symbol_char}
 use Rattle.sml_lexer.specs.Item.{words_of}
 use Rattle.sml_lexer.specs.ItemOf.{IsItem}

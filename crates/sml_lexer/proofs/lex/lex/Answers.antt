@@ -1,6 +1,6 @@
 use Rattle.std.proofs.Common.{◌≡◌, ◌+◌, ◌≤◌, [], ◌∷◌, ◌++◌, length, drop, map, sym, ap, ◌∙◌, subst, arith, refl, length-drop}
 use Rattle.std.proofs.lemmas.List.Elements.{All-nil, All-push, All-same}
-use Rattle.mlc_base.specs.declared.token.Token.{Token}
+use Rattle.mlc_names.specs.declared.token.Token.{Token}
 use Rattle.sml_lexer.specs.declared.item.Item.TheVariants as code
 use Rattle.sml_lexer.specs.Item.{refused, words_of}
 use Rattle.sml_lexer.specs.ItemOf.{IsItem, FitsItem}

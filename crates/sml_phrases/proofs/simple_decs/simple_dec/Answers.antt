@@ -1,5 +1,5 @@
 use Rattle.std.proofs.Common.{◌≡◌, ◌∙◌, Some, refl, sym, ap, true, false}
-use Rattle.mlc_base.specs.declared.token.Reserved.TheVariants as res
+use Rattle.mlc_names.specs.declared.token.Reserved.TheVariants as res
 use Rattle.sml_grammar.specs.Terminals.{word_at}
 use Rattle.phrase_base.specs.Left.{left}
 use Rattle.sml_phrases.proofs.DecForms.{infix-at, nonfix-at}

@@ -1,7 +1,7 @@
 use Rattle.std.proofs.Common.{ℕ, refl, arith}
 use Rattle.std.proofs.lemmas.Result.{err_from_is_err_and}
 use Rattle.sml_grammar.specs.Terminals.{after_word}
-use Rattle.mlc_base.specs.declared.token.Reserved.TheVariants as res
+use Rattle.mlc_names.specs.declared.token.Reserved.TheVariants as res
 use Rattle.sml_tree.specs.Depth.{depth_ty}
 use Rattle.module_tree.specs.ReadModules.{ValDesc}
 use Rattle.module_tree.specs.ModuleBare.{bare_val_desc}

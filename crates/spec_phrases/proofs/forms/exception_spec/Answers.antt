@@ -8,7 +8,7 @@ use Rattle.module_tree.specs.ModuleDepth.{depth_con_descs, depth_spec}
 use Rattle.module_code.specs.TreeOf.{con_desc_of, spec_of}
 use Rattle.phrase_base.specs.Left.{left}
 use Rattle.phrase_base.proofs.Loop.{fails-then}
-use Rattle.mlc_base.specs.declared.token.Reserved.TheVariants as res
+use Rattle.mlc_names.specs.declared.token.Reserved.TheVariants as res
 use Rattle.module_grammar.specs.Signatures.{read_con_descs}
 use Rattle.spec_phrases.specs.FormsRead.{spec_list}
 use Rattle.spec_phrases.proofs.Form.{form-one}

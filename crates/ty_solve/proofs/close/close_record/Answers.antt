@@ -1,5 +1,5 @@
 use Rattle.std.proofs.Common.{map, length, MatchOption, subst, ◌∙◌, refl}
-use Rattle.mlc_base.specs.declared.label.Label.{Label}
+use Rattle.mlc_names.specs.declared.label.Label.{Label}
 use Rattle.ty_table.specs.TypeAt.{type_at, types_at}
 use Rattle.ty_solve.specs.Rows.{Among, IsProper}
 use Rattle.ty_solve.specs.Fields.{IsLacking}

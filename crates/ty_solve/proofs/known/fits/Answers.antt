@@ -1,5 +1,5 @@
 use Rattle.std.proofs.Common.{length, sym, subst}
-use Rattle.mlc_base.specs.declared.label.Label.{Label}
+use Rattle.mlc_names.specs.declared.label.Label.{Label}
 use Rattle.std.proofs.Common.{List, ℕ}
 use Rattle.ty_table.specs.TypeAt.{types_at}
 use Rattle.ty_solve.specs.Rows.{IsProper}

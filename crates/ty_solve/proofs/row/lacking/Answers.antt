@@ -1,5 +1,5 @@
 use Rattle.std.proofs.Common.{◌≤◌, length, add-one, refl, arith, subst}
-use Rattle.mlc_base.specs.declared.label.Label.{Label}
+use Rattle.mlc_names.specs.declared.label.Label.{Label}
 use Rattle.ty_solve.specs.Rows.{Among}
 use Rattle.ty_solve.proofs.FieldLists.{lacking-next, lacking-end, among-get, not-whole, place-whole, get-same}
 use Rattle.ty_solve.proofs.row.lacking.Goals as goal

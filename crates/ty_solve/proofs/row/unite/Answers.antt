@@ -1,7 +1,7 @@
 use Rattle.std.proofs.Common.{◌≡◌, ◌<◌, List, [], ◌∷◌, ◌++◌, length, map, get_or, nat_eq, refl, sym, ap, subst, ◌∙◌, add-one, arith}
 use Rattle.indexmap.specs.IndexMap.{get}
 use Rattle.ty_solve.specs.Places.{AreNoted}
-use Rattle.mlc_base.specs.declared.label.Label.{Label}
+use Rattle.mlc_names.specs.declared.label.Label.{Label}
 use Rattle.ty_table.specs.TypeAt.{type_at, AllBelow}
 use Rattle.ty_table.proofs.Viewing.{below-at}
 use Rattle.ty_solve.proofs.Arms.{map-get, all-length}

@@ -3,7 +3,7 @@ use Rattle.std.specs.List.{list_any, IsDistinct}
 use Rattle.indexmap.specs.IndexSet.{insert_key}
 use Rattle.ty_core.specs.TypesOf.{head_of}
 use Rattle.ty_core.specs.declared.ty.Head.{Head}
-use Rattle.mlc_base.proofs.NamesLemmas.{held_found, one_to_one}
+use Rattle.mlc_names.proofs.NamesLemmas.{held_found, one_to_one}
 use Rattle.ty_table.proofs.Keeping.{nodes_in}
 use Rattle.ir_mono.specs.Types.{node}
 use Rattle.mono_types.specs.Codes.{node_code}

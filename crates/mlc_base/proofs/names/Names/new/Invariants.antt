@@ -1,6 +1,0 @@
-use Rattle.std.proofs.Common.{◌≡◌, [], map, take}
-use Rattle.mlc_base.specs.Names.{with_texts}
-use Rattle.mlc_base.proofs.names.Names.new.Given as goal
-
-abbrev pub invariant-loop-word : goal.invariant-loop-word
-invariant-loop-word l = l.names ≡ with_texts [] (map (λ w. w.now) (take l.word-index l.word-items))

@@ -1,0 +1,4 @@
+pub mod Code
+pub mod FaultLine
+pub mod File
+pub mod Files

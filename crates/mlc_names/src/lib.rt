@@ -1,0 +1,7 @@
+// Names and the standard words, labels, tokens.
+#![tactic(auto)]
+
+pub mod label;
+pub mod names;
+pub mod token;
+pub mod words;

@@ -1,0 +1,5 @@
+pub mod RunLaws
+pub mod MoreTurnsLaws
+pub mod RefineLaws
+pub mod PassLaws
+mod Examples
