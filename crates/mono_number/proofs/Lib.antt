@@ -1,0 +1,5 @@
+pub mod Numbering
+pub mod Given
+pub mod Moving
+pub mod Wording
+pub mod Heads

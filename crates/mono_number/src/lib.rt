@@ -1,0 +1,8 @@
+// Variables of copies as numbers.
+#![tactic(auto)]
+
+pub mod law;
+pub mod steps;
+pub mod tree;
+pub mod walk;
+pub mod words;

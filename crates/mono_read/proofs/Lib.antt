@@ -1,0 +1,4 @@
+pub mod Rolls
+pub mod Built
+pub mod Given
+pub mod Stacked

@@ -1,0 +1,8 @@
+// Words of programs with simple types, read back into trees.
+#![tactic(auto)]
+
+pub mod law;
+pub mod lists;
+pub mod parts;
+pub mod read;
+pub mod stack;
