@@ -1,12 +1,12 @@
 -- Steps that may miss, in a block with what is raised then.
-use Rattle.std.proofs.Common.{◌≡◌, ℕ, suc, List, refl, sym, ap, ap₂, ◌∙◌}
+use Rattle.std.proofs.Common.{◌≡◌, ℕ, suc, List, sym, ap, ap₂, ◌∙◌}
 use Rattle.ir_plain.specs.Tree as te
 use Rattle.ir_poly.specs.Tests.{Tests}
 use Rattle.match_compile.specs.Compile.{atom, put, otherwise, Otherwise}
 use Rattle.plain_tree.specs.TreeOf as plain
 use Rattle.plain_tree.specs.declared.tree.Exp.{Exp}
 use Rattle.plain_tree.specs.declared.tree.Step.{Step}
-use Rattle.match_types.specs.Views.{View, reading, Sees, Keeps, value_type}
+use Rattle.match_types.specs.Views.{View, reading, Keeps, value_type}
 use Rattle.match_types.specs.declared.work.Work.{Work}
 use Rattle.match_types.specs.declared.work.ValueType.{ValueType}
 use Rattle.match_types.specs.declared.work.ValueType.TheVariants as kind

@@ -1,13 +1,10 @@
 -- Functions and rules, whose variables are bound while they are made.
-use Rattle.std.proofs.Common.{◌≡◌, ℕ, suc, Bool, true, List, [], ◌∷◌, map, refl, sym, ap, ap₂, ◌∙◌}
+use Rattle.std.proofs.Common.{◌≡◌, ℕ, suc, List, [], sym, ap, ap₂, ◌∙◌}
 use Rattle.mlc_base.specs.declared.place.Place.{Place}
-use Rattle.ty_core.specs.Types.{Typ}
 use Rattle.ir_plain.specs.Tree as te
 use Rattle.ir_poly.specs.Prog as t
-use Rattle.ir_poly.specs.Tests.{Tests}
 use Rattle.ir_values.specs.Primitives.{match_name}
-use Rattle.ty_table.specs.TypeAt.{type_at}
-use Rattle.match_compile.specs.Compile.{making, value_at, atom, scoped, function, past_fun, named, rules, initial, tests, spots, spots_named, no_spots, past_pat, past_rules, fits_all}
+use Rattle.match_compile.specs.Compile.{making, value_at, atom, scoped, function, named, rules, initial, tests, spots, spots_named, no_spots, past_pat, past_rules}
 use Rattle.match_names.specs.Bindings.{names_of}
 use Rattle.plain_tree.specs.TreeOf as plain
 use Rattle.plain_tree.specs.declared.tree.Exp.{Exp}
@@ -17,18 +14,18 @@ use Rattle.prog_tree.specs.TreeOf.{Reading, tree_of, pat_of, after_parameters}
 use Rattle.prog_tree.specs.declared.tree.Parameter as source
 use Rattle.prog_tree.specs.declared.tree.Pat.{Pat}
 use Rattle.prog_tree.specs.declared.tree.Rule.{Rule}
-use Rattle.match_types.specs.Views.{View, reading, Sees, Keeps, Stands, in_view, value_type}
+use Rattle.match_types.specs.Views.{View, reading, Sees, Keeps, value_type}
 use Rattle.match_types.specs.declared.work.Work.{Work}
 use Rattle.match_types.specs.declared.work.ValueType.{ValueType}
 use Rattle.match_types.specs.declared.work.ValueType.TheVariants as kind
-use Rattle.match_types.proofs.Seeing.{keeps-on, sees-before}
+use Rattle.match_types.proofs.Seeing.{sees-before}
 use Rattle.match_steps.specs.Steps.{stand, Puts}
 use Rattle.pattern_tests.specs.Spots.{spots_onto, names_onto}
 use Rattle.pattern_tests.specs.Tasks.{tests_of}
 use Rattle.pattern_tests.specs.declared.spots.Spot.{Spot}
 use Rattle.exp_steps.specs.Making.{Makes}
-use Rattle.exp_blocks.specs.Giving.{Gives, GivesFun, Grows, over, parameters_before, lambda_of}
-use Rattle.exp_blocks.specs.Binding.{Bound, AllBound, Fits}
+use Rattle.exp_blocks.specs.Giving.{Grows, over, parameters_before, lambda_of}
+use Rattle.exp_blocks.specs.Binding.{Fits}
 use Rattle.exp_blocks.specs.declared.blocks.Lambda.{Lambda}
 use Rattle.exp_blocks.proofs.Growing.{grows-on, grows-by, keeps-grown, sees-named, sees-through, ends-same, ends-as}
 use Rattle.exp_blocks.proofs.Binding.{fun-before}

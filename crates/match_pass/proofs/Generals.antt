@@ -1,19 +1,19 @@
 -- Bindings, generalised or not.
-use Rattle.std.proofs.Common.{◌≡◌, ◌<◌, ◌≤◌, ◌+◌, ◌-◌, ℕ, suc, List, [], ◌∷◌, ◌++◌, length, drop, slice_index_or, Option, Some, None, refl, sym, ap, ap₂, subst, ◌∙◌, arith}
+use Rattle.std.proofs.Common.{◌≡◌, ◌<◌, ◌≤◌, ◌+◌, ◌-◌, ℕ, suc, List, [], ◌++◌, length, drop, slice_index_or, Option, Some, None, refl, sym, ap, ap₂, subst, ◌∙◌}
 use Rattle.ty_core.specs.Types.{Typ}
 use Rattle.ty_core.specs.declared.scheme.Quantified.{Quantified}
 use Rattle.ir_plain.specs.Tree as te
 use Rattle.ir_poly.specs.Prog as t
 use Rattle.ir_poly.specs.Tests.{Tests}
 use Rattle.ir_tables.specs.Tables.{parameters_at, parameters_of}
-use Rattle.match_compile.specs.Compile.{making, value_at, tests, spots, spot, Spots, no_spots, past_pat, atom, scoped, shape, shaped, Shape, plain, alone, recorded, general_shape, past_shape, shape_spots, past_split, split_spots, split, part, record_type, together, otherwise, initial, bindings, past_binds, binds_spots}
+use Rattle.match_compile.specs.Compile.{making, value_at, tests, spots, spot, Spots, no_spots, past_pat, atom, scoped, shape, shaped, plain, alone, recorded, general_shape, past_shape, shape_spots, past_split, split_spots, split, part, record_type, together, otherwise, initial, bindings, past_binds, binds_spots}
 use Rattle.ir_values.specs.Primitives.{bind_name}
 use Rattle.plain_tree.specs.declared.tree.Step.{Step}
-use Rattle.prog_tree.specs.TreeOf.{Reading, tree_of, pat_of, bind_of}
+use Rattle.prog_tree.specs.TreeOf.{Reading, tree_of, pat_of}
 use Rattle.prog_tree.specs.declared.tree.Binding.{Binding}
 use Rattle.prog_tree.specs.declared.tree.Rule.{Rule}
 use Rattle.prog_tree.proofs.ExpOf.{rule_of-parts}
-use Rattle.match_types.specs.Views.{View, Sees, Keeps, value_type, in_view}
+use Rattle.match_types.specs.Views.{View, Sees, Keeps, in_view}
 use Rattle.match_types.specs.declared.work.Work.{Work}
 use Rattle.match_types.specs.declared.work.ValueType.TheVariants.{Source}
 use Rattle.match_types.proofs.Seeing.{keeps-same, keeps-on, sees-before}
@@ -28,7 +28,7 @@ use Rattle.exp_blocks.specs.Binding.{InScope}
 use Rattle.exp_blocks.proofs.Growing.{grows-on, keeps-grown}
 use Rattle.general_bindings.specs.General.{listed, general, separate, splitting, found, past, shape_of, past_of, found_of, made_of}
 use Rattle.match_pass.specs.Reading.{expression}
-use Rattle.match_pass.specs.Declaring.{Binds, Generalises, general_made, bind_before, binds_read}
+use Rattle.match_pass.specs.Declaring.{Binds, Generalises, bind_before, binds_read}
 use Rattle.match_pass.proofs.Lists.{drop-past}
 use Rattle.match_pass.proofs.Grouping.{Inside, inside, inside-on, inside-pushed, scope-back, sees-inside}
 

@@ -1,13 +1,11 @@
 -- Functions that know each other, and parameters that are in scope for a while.
-use Rattle.std.proofs.Common.{◌≡◌, ◌<◌, ◌≤◌, ◌+◌, ◌-◌, ℕ, zero, suc, Bool, ◌||◌, List, [], ◌∷◌, ◌++◌, map, length, drop, slice_index_or, Vec, Global, nat_eq, refl, sym, ap, ap₂, subst, ◌∙◌, arith}
-use Rattle.std.proofs.lemmas.List.{map-append}
-use Rattle.ty_core.specs.Types.{Typ}
+use Rattle.std.proofs.Common.{◌≡◌, ◌<◌, ◌≤◌, ◌+◌, ◌-◌, ℕ, suc, ◌||◌, List, [], ◌∷◌, ◌++◌, map, length, drop, slice_index_or, Vec, Global, nat_eq, refl, sym, ap, ap₂, subst, ◌∙◌}
 use Rattle.ty_core.specs.declared.mark.Mark.{Mark}
 use Rattle.ty_core.specs.declared.scheme.Quantified.{Quantified}
 use Rattle.ty_table.specs.TypeAt.{type_at}
 use Rattle.ir_plain.specs.Tree as te
 use Rattle.ir_poly.specs.Prog as t
-use Rattle.ir_poly.specs.Tests.{Tests, poly}
+use Rattle.ir_poly.specs.Tests.{poly}
 use Rattle.ir_poly.specs.Types.{in_scope}
 use Rattle.ir_known.specs.Knows.{marks_of}
 use Rattle.ir_tables.specs.Tables.{parameters_at, parameters_of}
@@ -16,7 +14,7 @@ use Rattle.match_names.specs.Bindings.{names_of}
 use Rattle.plain_tree.specs.TreeOf as plain
 use Rattle.plain_tree.specs.declared.tree.Function.{Function}
 use Rattle.plain_tree.specs.declared.tree.Step.{Step}
-use Rattle.prog_tree.specs.TreeOf.{Reading, fun_of}
+use Rattle.prog_tree.specs.TreeOf.{Reading}
 use Rattle.prog_tree.specs.declared.tree.Function as source
 use Rattle.match_types.specs.Views.{View, reading, Sees, Keeps, Stands, in_view}
 use Rattle.match_types.specs.declared.work.Work.{Work}

@@ -1,9 +1,9 @@
 -- Chains of infix operators.
-use Rattle.std.proofs.Common.{◌≡◌, ◌<◌, ◌≤◌, ◌+◌, ℕ, suc, List, [], ◌∷◌, ◌++◌, map, length, take, drop, reverse, slice_index_or, refl, sym, ap, subst, ◌∙◌, arith}
+use Rattle.std.proofs.Common.{◌≡◌, ◌<◌, ◌≤◌, ◌+◌, ℕ, List, [], ◌∷◌, ◌++◌, length, take, drop, reverse, slice_index_or, sym, ap, subst, ◌∙◌, arith}
 use Rattle.std.proofs.lemmas.List.{reverse-append}
 use Rattle.ir_poly.specs.Prog as t
 use Rattle.plain_tree.specs.declared.tree.Step.{Step}
-use Rattle.prog_tree.specs.TreeOf.{Reading, tree_of, join, join_of, right_joins}
+use Rattle.prog_tree.specs.TreeOf.{Reading}
 use Rattle.prog_tree.specs.declared.tree.Exp.{Exp}
 use Rattle.prog_tree.specs.declared.tree.Join.{Join}
 use Rattle.match_types.specs.declared.work.Work.{Work}
@@ -12,9 +12,9 @@ use Rattle.exp_steps.specs.Making.{Makes}
 use Rattle.exp_steps.specs.Joining.{Opens, joined}
 use Rattle.exp_steps.specs.declared.joins.Opening.{Opening}
 use Rattle.exp_steps.proofs.Counting.{makes-as}
-use Rattle.match_pass.specs.Reading.{expression, left_chain, right_chain}
-use Rattle.match_pass.specs.Chains.{LeftOpen, LeftMade, RightOpen, RightMade}
-use Rattle.match_pass.proofs.Lists.{joins-taken, drop-past, take-past}
+use Rattle.match_pass.specs.Reading.{expression, left_chain}
+use Rattle.match_pass.specs.Chains.{LeftOpen, LeftMade}
+use Rattle.match_pass.proofs.Lists.{joins-taken}
 
 -- one operator more is open, from the outermost on
 pub left-opened : {start w w1 : Work} {before s s1 : List Step} (js : List (Join × Exp × Exp)) (n i : ℕ) (j : Join × Exp × Exp) (os later : List Opening) (o : Opening) → n ≡ i + 1 → n ≤ length js → j ≡ slice_index_or js i j

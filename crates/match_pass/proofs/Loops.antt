@@ -1,13 +1,12 @@
 -- Fields, arguments, sequences and chains, one element after the other.
-use Rattle.std.proofs.Common.{◌≡◌, ◌<◌, ◌≤◌, ◌+◌, ℕ, suc, Bool, List, [], ◌∷◌, ◌++◌, map, length, take, drop, slice_index_or, refl, sym, ap, ap₂, subst, ◌∙◌, arith}
+use Rattle.std.proofs.Common.{◌≡◌, ◌<◌, ◌≤◌, ◌+◌, ℕ, suc, Bool, List, [], ◌∷◌, ◌++◌, length, take, drop, slice_index_or, refl, sym, ap, ap₂, subst, ◌∙◌}
 use Rattle.mlc_names.specs.declared.label.Label.{Label}
 use Rattle.mlc_base.specs.declared.place.Place.{Place}
 use Rattle.ir_poly.specs.Prog as t
-use Rattle.ir_poly.specs.Tests.{Tests}
 use Rattle.match_compile.specs.Compile.{making, value_at, links, past_chain}
 use Rattle.plain_tree.specs.declared.tree.Field.{Field}
 use Rattle.plain_tree.specs.declared.tree.Step.{Step}
-use Rattle.prog_tree.specs.TreeOf.{Reading, tree_of, chain_of}
+use Rattle.prog_tree.specs.TreeOf.{Reading, tree_of}
 use Rattle.prog_tree.specs.declared.tree.Exp.{Exp}
 use Rattle.match_types.specs.Views.{View, Sees, Keeps}
 use Rattle.match_types.specs.declared.work.Work.{Work}
@@ -15,14 +14,14 @@ use Rattle.match_types.proofs.Seeing.{keeps-same, keeps-on, sees-before}
 use Rattle.match_steps.specs.Steps.{Puts, stand}
 use Rattle.pattern_tests.proofs.Chains.{next-drop}
 use Rattle.exp_steps.specs.Making.{Makes, MakesAll}
-use Rattle.exp_steps.specs.Made.{one_more, applied}
+use Rattle.exp_steps.specs.Made.{one_more}
 use Rattle.exp_steps.proofs.Leaves.{then-makes}
 use Rattle.exp_steps.proofs.Fields.{all-more, all-as, all-made-as}
 use Rattle.exp_steps.proofs.Counting.{makes-as}
 use Rattle.exp_blocks.specs.Giving.{linking}
-use Rattle.match_pass.specs.Reading.{expression, fields_read, applied_to, sequence_read, chain_read}
+use Rattle.match_pass.specs.Reading.{expression, fields_read, sequence_read, chain_read}
 use Rattle.match_pass.specs.Going.{Linked}
-use Rattle.match_pass.proofs.Lists.{fields-taken, arguments-taken, drop-past, take-past}
+use Rattle.match_pass.proofs.Lists.{fields-taken, drop-past, take-past}
 
 pub fields-step : {w v w1 : Work} {s m a : List Step} {x : ℕ} (fs : List (Label × Exp)) (i : ℕ) (f : Label × Exp) (made later : List Field) → i < length fs → f ≡ slice_index_or fs i f
     → MakesAll w v s m (fields_read (take i fs)) made → Makes v w1 m a (expression f.1) x → later ≡ made ++ record { label = f.0; atom = x } ∷ [] → MakesAll w w1 s a (fields_read (take (i + 1) fs)) later

@@ -1,28 +1,33 @@
 -- Functions of parts that are read as others, and functions as values.
-use Rattle.std.proofs.Common.{◌≡◌, ◌≢◌, ℕ, suc, Bool, true, false, List, [], ◌∷◌, map, length, slice_index_or, if◌then◌else◌, refl, sym, ap, ap₂, subst, ◌∙◌, arith}
+use Rattle.std.proofs.Common.{◌≡◌, ◌≢◌, ℕ, suc, true, false, List, [], ◌∷◌, length, slice_index_or, Result, Ok, Err, IfOk, if◌then◌else◌, refl, sym, ap, ap₂, ◌∙◌, arith}
 use Rattle.mlc_base.specs.declared.place.Place.{Place}
 use Rattle.ir_plain.specs.Tree as te
 use Rattle.ir_poly.specs.Prog as t
 use Rattle.ir_poly.specs.Prog.{type_of}
-use Rattle.ir_poly.specs.Tests.{Tests, poly}
-use Rattle.match_compile.specs.Compile.{making, value_at, put, function, past_fun, is_direct, making_rule, value_of_rule, past_rules, fits_all, rules, initial, spots, spots_named, no_spots, atom, way, by_call, by_building, by_performing}
+use Rattle.ir_poly.specs.Tests.{poly}
+use Rattle.match_compile.specs.Compile.{making, value_at, put, function, past_fun, is_direct, past_rules, fits_all, rules, initial, spots, spots_named, no_spots}
 use Rattle.ir_values.specs.Primitives.{match_name}
-use Rattle.plain_tree.specs.TreeOf as plain
 use Rattle.plain_tree.specs.declared.tree.Step.{Step}
 use Rattle.prog_tree.specs.TreeOf.{Reading, tree_of, pat_of}
 use Rattle.prog_tree.specs.declared.tree.Rule.{Rule}
 use Rattle.prog_tree.proofs.ExpOf.{rule_of-parts}
-use Rattle.match_types.specs.Views.{View, Sees, Keeps}
+use Rattle.match_types.specs.Views.{View, Sees}
 use Rattle.match_types.specs.declared.work.Work.{Work}
 use Rattle.match_types.specs.declared.work.ValueType.TheVariants as kind
 use Rattle.match_types.proofs.Seeing.{keeps-on, sees-before}
-use Rattle.match_steps.specs.Steps.{Puts, stand}
-use Rattle.match_steps.proofs.Pushed.{puts-as, two-puts}
-use Rattle.exp_steps.specs.Making.{Makes, Pushed, putting}
+use Rattle.match_steps.specs.Steps.{stand}
+use Rattle.match_steps.proofs.Pushed.{puts-as}
+use Rattle.exp_steps.specs.Making.{Makes, Pushed}
+use Rattle.exp_steps.proofs.Counting.{makes-as}
 use Rattle.exp_blocks.specs.Giving.{GivesFun}
 use Rattle.exp_blocks.specs.declared.blocks.Lambda.{Lambda}
 use Rattle.match_pass.specs.Reading.{rules_read}
-use Rattle.match_pass.specs.Going.{GivesFunction, GivesRules, MakesRule}
+use Rattle.match_pass.specs.Going.{GivesFunction, MakesRule}
+
+-- an expression that is read as another, where it was made at all
+pub made-as : {E : Type 0} (w v : Work) (s m : List Step) (f g : Reading → t.Exp) (r : Result ℕ E) → ((R : Reading) → g R ≡ f R) → IfOk r (λ a. Makes w v s m f a) → IfOk r (λ a. Makes w v s m g a)
+made-as w v s m f g (Ok a) e h = makes-as f g e h
+made-as w v s m f g (Err x) e h = h
 
 -- a function as a value
 pub fn-makes : {w0 w1 w2 : Work} {s a : List Step} {x : ℕ} (u : ℕ) (f : Reading → t.Fun) (made : Lambda) → GivesFunction w0 w1 f made

@@ -1,14 +1,14 @@
 -- Declarations, one after the other.
-use Rattle.std.proofs.Common.{◌≡◌, ◌<◌, ◌≤◌, ◌+◌, ℕ, zero, suc, List, [], ◌∷◌, ◌++◌, length, drop, slice_index_or, Option, Vec, Global, refl, sym, ap, ap₂, subst, ◌∙◌, arith}
+use Rattle.std.proofs.Common.{◌≡◌, ◌<◌, ◌≤◌, ◌+◌, ℕ, suc, List, [], ◌∷◌, ◌++◌, length, drop, slice_index_or, Option, Vec, Global, refl, sym, ap, ap₂, subst, ◌∙◌, arith}
 use Rattle.std.specs.Option.{option_map}
 use Rattle.ty_core.specs.declared.scheme.Quantified.{Quantified}
 use Rattle.ir_plain.specs.Tree as te
 use Rattle.ir_poly.specs.Prog as t
 use Rattle.ir_poly.specs.Tests.{Tests}
-use Rattle.match_compile.specs.Compile.{Names, named, decs, decs_named, past_decs, option_scoped, bindings, past_binds, binds_spots, no_spots, functions, past_funs, past_group, funs_named, val_named, spots_named, grouped, each_named, unclassed}
+use Rattle.match_compile.specs.Compile.{Names, decs, decs_named, past_decs, option_scoped, bindings, past_binds, binds_spots, no_spots, functions, past_funs, past_group, funs_named, spots_named, grouped, unclassed}
 use Rattle.match_names.specs.Bindings.{names_of}
 use Rattle.plain_tree.specs.declared.tree.Step.{Step}
-use Rattle.prog_tree.specs.TreeOf.{Reading, DecTree, dec_of, val_tree, exception_tree, counted_tree, put, node_dec, node_exp, node_function, node_rule, RuleTree}
+use Rattle.prog_tree.specs.TreeOf.{Reading, DecTree, dec_of, exception_tree, counted_tree, put, node_dec, node_exp, node_function, node_rule, RuleTree}
 use Rattle.prog_tree.specs.declared.tree.Binding.{Binding}
 use Rattle.prog_tree.specs.declared.tree.Dec.{Dec, Dec-F, fold-roll-Dec}
 use Rattle.prog_tree.specs.declared.tree.Dec.TheVariants as decs_are
@@ -17,7 +17,6 @@ use Rattle.prog_tree.specs.declared.tree.Rule.{Rule}
 use Rattle.prog_tree.proofs.ExpOf.{dec_of-Val}
 use Rattle.match_types.specs.Views.{View, Sees, Keeps}
 use Rattle.match_types.specs.declared.work.Work.{Work}
-use Rattle.match_types.proofs.Seeing.{keeps-on, sees-before}
 use Rattle.match_steps.specs.Steps.{Puts, stand}
 use Rattle.pattern_tests.specs.Spots.{spots_onto, names_onto}
 use Rattle.pattern_tests.specs.declared.spots.Spot.{Spot}

@@ -1,9 +1,9 @@
 -- What each kind of expression and of function is, whose lists and parts are given.
-use Rattle.std.proofs.Common.{◌≡◌, ℕ, Bool, true, List, [], map, length, nat_eq, Vec, Box, Global, refl, sym, ap, ap₂, ◌∙◌}
+use Rattle.std.proofs.Common.{◌≡◌, ℕ, Bool, List, map, Vec, Box, Global, sym, ap, ap₂, ◌∙◌}
 use Rattle.mlc_names.specs.declared.label.Label.{Label}
 use Rattle.mlc_base.specs.declared.place.Place.{Place}
 use Rattle.ir_poly.specs.Prog as t
-use Rattle.prog_tree.specs.TreeOf.{Reading, DecTree, RuleTree, tree_of, function_of, node_dec, node_exp, node_function, node_rule, atom_of, use_of, decs_of, dec_of, record_of, field_of, rules_of, rule_of, chain_of, sequence_of, apply_by, argument_of, joins_by, join_of, after_parameters}
+use Rattle.prog_tree.specs.TreeOf.{Reading, DecTree, RuleTree, tree_of, function_of, node_dec, node_exp, node_function, node_rule, use_of, decs_of, dec_of, rules_of, rule_of, chain_of, sequence_of, apply_by, argument_of, joins_by, join_of, after_parameters}
 use Rattle.prog_tree.specs.declared.tree.Atom.{Atom}
 use Rattle.prog_tree.specs.declared.tree.Used.{Used}
 use Rattle.prog_tree.specs.declared.tree.Dec.{Dec}
@@ -19,7 +19,7 @@ use Rattle.prog_tree.specs.declared.tree.Side.TheVariants as side
 use Rattle.prog_tree.proofs.ExpOf.{tree_of-Record, tree_of-Let, tree_of-Apply, tree_of-Infix, tree_of-Case, tree_of-Sequence, tree_of-Test, tree_of-Handle, function_of-Named, function_of-ByRules}
 use Rattle.exp_steps.specs.Made.{atomic, used, recorded, raised, counted}
 use Rattle.exp_steps.proofs.Heads.{counted-node}
-use Rattle.match_pass.specs.Reading.{expression, fields_read, let_read, applied_to, left_chain, right_chain, case_read, rules_read, sequence_read, chain_exp_read, handle_read, function_read, named_read, by_rules_read}
+use Rattle.match_pass.specs.Reading.{expression, fields_read, let_read, applied_to, left_chain, right_chain, case_read, sequence_read, chain_exp_read, handle_read, function_read, named_read, by_rules_read}
 
 module _ (R : Reading) (P : Exp) where
   pub atom-node : (a : Atom) (u : ℕ) → P ≡ exps.Atom a u → expression P R ≡ atomic a u R

@@ -1,22 +1,12 @@
 -- Names that are bound for a while, and what is made meanwhile.
-use Rattle.std.proofs.Common.{◌≡◌, ◌-◌, ℕ, suc, List, [], ◌∷◌, length, drop, refl, sym, ap, ap₂, ◌∙◌}
-use Rattle.ir_plain.specs.Tree as te
-use Rattle.ir_poly.specs.Prog as t
-use Rattle.ir_poly.specs.Tests.{Tests}
-use Rattle.match_compile.specs.Compile.{making, value_at, atom, Spots, no_spots, spot, spots_named, named, Names}
+use Rattle.std.proofs.Common.{◌≡◌, ◌-◌, ℕ, List, [], ◌∷◌, length, drop, ap, ◌∙◌}
+use Rattle.match_compile.specs.Compile.{Spots, spot, spots_named, named, Names}
 use Rattle.match_names.specs.Bindings.{names_of}
-use Rattle.plain_tree.specs.TreeOf as plain
-use Rattle.plain_tree.specs.declared.tree.Exp.{Exp}
-use Rattle.plain_tree.specs.declared.tree.Step.{Step}
-use Rattle.prog_tree.specs.TreeOf.{Reading}
-use Rattle.match_types.specs.Views.{View, reading, Sees, Keeps, value_type}
-use Rattle.match_types.specs.declared.work.Work.{Work}
-use Rattle.match_steps.specs.Steps.{stand}
+use Rattle.match_types.specs.Views.{View, value_type}
 use Rattle.pattern_tests.specs.Spots.{spots_onto, names_onto}
 use Rattle.pattern_tests.specs.declared.spots.Spot.{Spot}
-use Rattle.exp_steps.specs.Making.{Makes}
-use Rattle.exp_blocks.specs.Giving.{Grows, Ends, over}
-use Rattle.exp_blocks.proofs.Growing.{grows-on, grows-by, grows-equal, keeps-grown, sees-through, sees-named, ends-same, ends-more, ends-on}
+use Rattle.exp_blocks.specs.Giving.{Ends}
+use Rattle.exp_blocks.proofs.Growing.{ends-more}
 
 -- what was bound is taken back
 pub names-back : (old now back : List (ℕ × ℕ)) (len : ℕ) → len ≡ length old → Ends old now → back ≡ drop (length now - len) now → back ≡ old

@@ -1,5 +1,5 @@
 -- Chains of infix operators to the right, and the ends of chains.
-use Rattle.std.proofs.Common.{◌≡◌, ◌<◌, ◌≤◌, ◌+◌, ℕ, zero, suc, List, [], ◌∷◌, ◌++◌, map, length, take, drop, reverse, slice_index_or, refl, sym, ap, subst, ◌∙◌, arith}
+use Rattle.std.proofs.Common.{◌≡◌, ◌<◌, ◌≤◌, ◌+◌, ℕ, List, [], ◌∷◌, ◌++◌, map, length, take, drop, reverse, slice_index_or, sym, ap, subst, ◌∙◌, arith}
 use Rattle.std.proofs.lemmas.List.{reverse-append, map-append, length-reverse, length-map, length-take}
 use Rattle.ir_poly.specs.Prog as t
 use Rattle.plain_tree.specs.declared.tree.Step.{Step}

@@ -1,5 +1,5 @@
 -- Rules, one after the other, and what they are in.
-use Rattle.std.proofs.Common.{◌≡◌, ◌<◌, ◌≤◌, ◌+◌, ℕ, suc, Bool, true, false, if◌then◌else◌, List, [], ◌∷◌, ◌++◌, map, length, drop, slice_index_or, refl, sym, ap, ap₂, subst, ◌∙◌, arith}
+use Rattle.std.proofs.Common.{◌≡◌, ◌<◌, ◌≤◌, ◌+◌, ℕ, suc, false, if◌then◌else◌, List, [], ◌∷◌, ◌++◌, map, length, drop, slice_index_or, refl, sym, ap, ap₂, ◌∙◌}
 use Rattle.mlc_base.specs.declared.place.Place.{Place}
 use Rattle.ty_core.specs.Types.{Typ}
 use Rattle.ir_plain.specs.Tree as te
@@ -7,11 +7,11 @@ use Rattle.ir_poly.specs.Prog as t
 use Rattle.ir_poly.specs.Prog.{type_of}
 use Rattle.ir_poly.specs.Tests.{Tests}
 use Rattle.ir_values.specs.Primitives.{match_name}
-use Rattle.match_compile.specs.Compile.{making, value_at, atom, put, rules, past_rules, past_pat, spots, spots_named, no_spots, fits_all, is_direct, otherwise, Otherwise, initial, again, exception_type, value_of_rule, making_rule}
+use Rattle.match_compile.specs.Compile.{making, value_at, atom, put, rules, past_rules, past_pat, is_direct, otherwise, Otherwise, initial, value_of_rule, making_rule}
 use Rattle.plain_tree.specs.TreeOf as plain
 use Rattle.plain_tree.specs.declared.tree.Exp.{Exp}
 use Rattle.plain_tree.specs.declared.tree.Step.{Step}
-use Rattle.prog_tree.specs.TreeOf.{Reading, tree_of, pat_of, rule_of, rules_of}
+use Rattle.prog_tree.specs.TreeOf.{Reading, tree_of, pat_of}
 use Rattle.prog_tree.specs.declared.tree.Rule.{Rule}
 use Rattle.prog_tree.proofs.ExpOf.{rule_of-parts}
 use Rattle.match_types.specs.Views.{View, reading, Sees, Keeps, value_type}

@@ -1,5 +1,5 @@
 -- Tuples that are written under nodes that add nothing, and expressions that are none.
-use Rattle.std.proofs.Common.{◌≡◌, ℕ, List, [], refl, sym, ap, subst, ◌∙◌}
+use Rattle.std.proofs.Common.{◌≡◌, List, [], sym, ap, subst, ◌∙◌}
 use Rattle.plain_tree.specs.declared.tree.Field.{Field}
 use Rattle.plain_tree.specs.declared.tree.Step.{Step}
 use Rattle.prog_tree.specs.TreeOf.{Reading, tree_of}

@@ -1,19 +1,18 @@
 -- Expressions whose parts stand in blocks.
-use Rattle.std.proofs.Common.{◌≡◌, ℕ, suc, Bool, List, [], ◌∷◌, map, refl, sym, ap, ap₂, ◌∙◌}
+use Rattle.std.proofs.Common.{◌≡◌, ℕ, suc, Bool, List, [], sym, ap, ap₂, ◌∙◌}
 use Rattle.ir_plain.specs.Tree as te
 use Rattle.ir_poly.specs.Prog as t
 use Rattle.ir_poly.specs.Tests.{Tests}
 use Rattle.ir_poly.specs.Types.{in_scope}
 use Rattle.ir_known.specs.Knows.{marks_of}
 use Rattle.ir_values.specs.Primitives.{match_name, bind_name}
-use Rattle.match_compile.specs.Compile.{making, value_at, atom, put, decs, decs_named, past_decs, links, past_chain, rules, past_rules, otherwise, Otherwise, initial, again, bool_type, exception_type}
+use Rattle.match_compile.specs.Compile.{making, value_at, atom, put, decs, decs_named, past_decs, links, past_chain, rules, past_rules, otherwise, initial, again, bool_type, exception_type}
 use Rattle.match_names.specs.Bindings.{names_of}
-use Rattle.plain_tree.specs.TreeOf as plain
 use Rattle.plain_tree.specs.declared.tree.Exp.{Exp}
 use Rattle.plain_tree.specs.declared.tree.Step.{Step}
 use Rattle.prog_tree.specs.TreeOf.{Reading, tree_of}
 use Rattle.prog_tree.specs.declared.tree.Exp as source
-use Rattle.match_types.specs.Views.{View, reading, Sees, Keeps}
+use Rattle.match_types.specs.Views.{View, Sees, Keeps}
 use Rattle.match_types.specs.declared.work.Work.{Work}
 use Rattle.match_types.specs.declared.work.ValueType.TheVariants as kind
 use Rattle.match_types.proofs.Seeing.{keeps-on, sees-before}

@@ -1,7 +1,6 @@
 -- What bindings and groups of functions become, as far as they have been gone through.
 use Rattle.std.specs.Prelude.{◌≡◌, ℕ, suc, List, [], ◌∷◌, ◌++◌, map, Vec}
 use Rattle.std.specs.Global.{Global}
-use Rattle.ty_core.specs.declared.scheme.Quantified.{Quantified}
 use Rattle.ir_plain.specs.Tree as te
 use Rattle.ir_poly.specs.Prog as t
 use Rattle.ir_poly.specs.Tests.{Tests, poly}
@@ -9,11 +8,11 @@ use Rattle.match_compile.specs.Compile.{making, value_at, past_pat, spots, tests
 use Rattle.plain_tree.specs.TreeOf as plain
 use Rattle.plain_tree.specs.declared.tree.Function.{Function}
 use Rattle.plain_tree.specs.declared.tree.Step.{Step}
-use Rattle.prog_tree.specs.TreeOf.{Reading, rule_of, tree_of, pat_of, bind_of, fun_of, binds_by, funs_by}
+use Rattle.prog_tree.specs.TreeOf.{Reading, tree_of, pat_of, bind_of, fun_of, binds_by, funs_by}
 use Rattle.prog_tree.specs.declared.tree.Binding.{Binding}
 use Rattle.prog_tree.specs.declared.tree.Function as source
 use Rattle.prog_tree.specs.declared.tree.Rule.{Rule}
-use Rattle.match_types.specs.Views.{View, reading, Sees, Keeps, value_type}
+use Rattle.match_types.specs.Views.{View, reading, Sees, Keeps}
 use Rattle.match_types.specs.declared.work.Work.{Work}
 use Rattle.match_steps.specs.Steps.{Leads, Puts}
 use Rattle.pattern_tests.specs.Spots.{spots_onto}

@@ -10,12 +10,13 @@ ghost use Rattle.match_types.specs.Views.{View, Sees, Keeps};
 ghost use Rattle.match_types.specs.declared.work.Work.{Work as State};
 ghost use Rattle.match_steps.specs.Steps.{Puts};
 ghost use Rattle.exp_steps.specs.Making.{Makes, MakesAll, MakesTuple};
-ghost use Rattle.exp_steps.specs.Made.{applied};
+ghost use Rattle.exp_steps.specs.Made.{applied, recorded};
 ghost use Rattle.exp_steps.specs.Ways.{way_of};
 ghost use Rattle.exp_steps.specs.Joining.{Opens};
 ghost use Rattle.exp_blocks.specs.Giving.{otherwise_of};
 ghost use Rattle.match_pass.specs.Reading.{expression, fields_read, applied_to, left_chain, right_chain, rules_read, sequence_read, chain_read, function_read};
 ghost use Rattle.match_pass.specs.Reading.{case_read, named_read, by_rules_read, decs_read, dec_before};
+ghost use Rattle.match_pass.specs.Kinds.{IsLet, IsApply, IsInfix, IsTest, IsHandle};
 ghost use Rattle.match_pass.specs.Chains.{LeftOpen, LeftMade, RightMade, last_first};
 ghost use Rattle.match_pass.specs.Going.{GivesRules, GivesFunction, MakesRule, MakesTested, Linked, Attempted, Declares};
 ghost use Rattle.match_pass.specs.Declaring.{Binds, Generalises, Groups, binds_read, bind_before, funs_read, grouping};
@@ -61,135 +62,185 @@ pub fn push_exp(
     ensures { IfOk result (λ a. Makes work.old work.new steps.old.items steps.new.items (expression exp.now) a) }
 {
     match exp {
-        Exp::Atom(atom, u) => {
-            let a = push_atom(alloc, work, *atom, *u, steps)?;
-            Ok(a)
-        }
-        Exp::Use(what, types, u) => {
-            let a = push_used(alloc, work, *what, types, *u, steps)?;
-            Ok(a)
-        }
-        Exp::Record(u, fields) => {
-            let made = push_fields(alloc, work, fields, steps)?;
-            let a = push_record(alloc, work, *u, made, steps)?;
-            Ok(a)
-        }
-        Exp::Let(u, decs, body) => {
-            let first = work.next;
-            let bound = work.names.len();
-            let mut inner = Vec::new(alloc);
-            push_decs(alloc, work, decs, &mut inner)?;
-            let value = push_exp(alloc, work, body, &mut inner)?;
-            work.names.restore(bound)?;
-            let t = ValueType::Source(*u);
-            let a = push_choice(
-                alloc,
-                work,
-                *u,
-                inner,
-                value,
-                t,
-                first,
-                Otherwise::Bind,
-                steps,
-            )?;
-            Ok(a)
-        }
-        Exp::Apply(place, function, arguments) => {
-            let function: &Exp = function;
-            let arguments: &[(usize, Exp)] = arguments;
-            if arguments.is_empty() {
-                let a = push_exp(alloc, work, function, steps)?;
-                return Ok(a);
-            }
-            let way = application_way(function, &arguments[0].1);
-            let opening = push_head(alloc, work, way, function, steps)?;
-            let a = push_arguments(alloc, work, *place, opening, arguments, steps)?;
-            Ok(a)
-        }
-        Exp::Infix(side, first, joins) => {
-            let joins: &[(Join, Exp, Exp)] = joins;
-            match side {
-                Side::Left => {
-                    let mut openings = Vec::new(alloc);
-                    push_operators(alloc, work, joins, &mut openings, steps)?;
-                    let value = push_exp(alloc, work, first, steps)?;
-                    let a = push_operands(alloc, work, joins, &mut openings, value, steps)?;
-                    Ok(a)
-                }
-                Side::Right => {
-                    let mut openings = Vec::new(alloc);
-                    let opening = push_operator(alloc, work, joins, 0, steps)?;
-                    let value = push_exp(alloc, work, first, steps)?;
-                    let last = push_waiting(
-                        alloc,
-                        work,
-                        joins,
-                        opening,
-                        value,
-                        &mut openings,
-                        steps,
-                    )?;
-                    let a = close_right(alloc, work, joins, &mut openings, last, steps)?;
-                    Ok(a)
-                }
-            }
-        }
+        Exp::Atom(atom, u) => push_atom(alloc, work, *atom, *u, steps),
+        Exp::Use(what, types, u) => push_used(alloc, work, *what, types, *u, steps),
+        Exp::Record(u, fields) => push_recorded(alloc, work, *u, fields, steps),
+        Exp::Let(_, _, _) => push_let(alloc, work, exp, steps),
+        Exp::Apply(_, _, _) => push_application(alloc, work, exp, steps),
+        Exp::Infix(_, _, _) => push_infix(alloc, work, exp, steps),
         Exp::Case(_, u, scrutinee, rules) => {
-            let scrutinee: &Exp = scrutinee;
             let value = push_exp(alloc, work, scrutinee, steps)?;
-            let a = push_case(alloc, work, *u, type_of(scrutinee), rules, value, steps)?;
-            Ok(a)
+            push_case(alloc, work, *u, type_of(scrutinee), rules, value, steps)
         }
         Exp::Sequence(_, _, dropped, last) => {
             push_dropped(alloc, work, dropped, steps)?;
-            let a = push_exp(alloc, work, last, steps)?;
-            Ok(a)
+            push_exp(alloc, work, last, steps)
         }
-        Exp::Test(goes_on, u, operands, last) => {
-            let first = work.next;
-            let t = ValueType::Bool;
-            let mut inner = Vec::new(alloc);
-            push_links(alloc, work, *goes_on, operands, &mut inner)?;
-            let value = push_exp(alloc, work, last, &mut inner)?;
-            let a = push_choice(
-                alloc,
-                work,
-                *u,
-                inner,
-                value,
-                t,
-                first,
-                Otherwise::Match,
-                steps,
-            )?;
-            Ok(a)
-        }
-        Exp::Handle(u, body, rules) => {
-            let mut inner = Vec::new(alloc);
-            let value = push_exp(alloc, work, body, &mut inner)?;
-            let packet = fresh(work)?;
-            let t = ValueType::Exception;
-            let handler = make_rules(alloc, work, rules, t, *u, packet, Otherwise::Again)?;
-            let a = push_handled(alloc, work, *u, inner, value, packet, handler, steps)?;
-            Ok(a)
-        }
+        Exp::Test(_, _, _, _) => push_chain(alloc, work, exp, steps),
+        Exp::Handle(_, _, _) => push_handling(alloc, work, exp, steps),
         Exp::Raise(u, packet) => {
             let packet = push_exp(alloc, work, packet, steps)?;
-            let a = push_raise(alloc, work, *u, packet, steps)?;
-            Ok(a)
+            push_raise(alloc, work, *u, packet, steps)
         }
         Exp::Fn(u, function) => {
             let made = make_function(alloc, work, function)?;
-            let a = push_lambda(alloc, work, *u, made, steps)?;
-            Ok(a)
+            push_lambda(alloc, work, *u, made, steps)
         }
         Exp::Counted(count, _, inner) => {
             push_counted(*count, steps)?;
-            let a = push_exp(alloc, work, inner, steps)?;
+            push_exp(alloc, work, inner, steps)
+        }
+    }
+}
+
+/// A record of fields.
+#[cycle(exps)]
+fn push_recorded(
+    alloc: Global,
+    work: &mut Work,
+    u: usize,
+    fields: &[(Label, Exp)],
+    steps: &mut Vec<Step>,
+) -> Result<usize, NoMemory>
+    ensures { IfOk result (λ a. Makes work.old work.new steps.old.items steps.new.items (recorded u (fields_read fields.now)) a) }
+{
+    let made = push_fields(alloc, work, fields, steps)?;
+    let a = push_record(alloc, work, u, made, steps)?;
+    Ok(a)
+}
+
+/// An expression in the scope of declarations, in a block of its own.
+#[cycle(exps)]
+fn push_let(
+    alloc: Global,
+    work: &mut Work,
+    exp: &Exp,
+    steps: &mut Vec<Step>,
+) -> Result<usize, NoMemory>
+    requires { IsLet exp.now }
+    ensures { IfOk result (λ a. Makes work.old work.new steps.old.items steps.new.items (expression exp.now) a) }
+{
+    let Exp::Let(u, decs, body) = exp else {
+        unreachable!()
+    };
+    let first = work.next;
+    let bound = work.names.len();
+    let mut inner = Vec::new(alloc);
+    push_decs(alloc, work, decs, &mut inner)?;
+    let value = push_exp(alloc, work, body, &mut inner)?;
+    work.names.restore(bound)?;
+    let t = ValueType::Source(*u);
+    let other = Otherwise::Bind;
+    let a = push_choice(alloc, work, *u, inner, value, t, first, other, steps)?;
+    Ok(a)
+}
+
+/// A function with its arguments.
+#[cycle(exps)]
+fn push_application(
+    alloc: Global,
+    work: &mut Work,
+    exp: &Exp,
+    steps: &mut Vec<Step>,
+) -> Result<usize, NoMemory>
+    requires { IsApply exp.now }
+    ensures { IfOk result (λ a. Makes work.old work.new steps.old.items steps.new.items (expression exp.now) a) }
+{
+    let Exp::Apply(place, function, arguments) = exp else {
+        unreachable!()
+    };
+    let function: &Exp = function;
+    let arguments: &[(usize, Exp)] = arguments;
+    if arguments.is_empty() {
+        let a = push_exp(alloc, work, function, steps)?;
+        return Ok(a);
+    }
+    let way = application_way(function, &arguments[0].1);
+    let opening = push_head(alloc, work, way, function, steps)?;
+    let a = push_arguments(alloc, work, *place, opening, arguments, steps)?;
+    Ok(a)
+}
+
+/// A chain of infix operators. Those that associate to the left: all of them, the first operand, and then each right operand with its application; those
+/// that associate to the right: each before its left operand, and all applications at the end.
+#[cycle(exps)]
+fn push_infix(
+    alloc: Global,
+    work: &mut Work,
+    exp: &Exp,
+    steps: &mut Vec<Step>,
+) -> Result<usize, NoMemory>
+    requires { IsInfix exp.now }
+    ensures { IfOk result (λ a. Makes work.old work.new steps.old.items steps.new.items (expression exp.now) a) }
+{
+    let Exp::Infix(side, first, joins) = exp else {
+        unreachable!()
+    };
+    let joins: &[(Join, Exp, Exp)] = joins;
+    match side {
+        Side::Left => {
+            let mut openings = Vec::new(alloc);
+            push_operators(alloc, work, joins, &mut openings, steps)?;
+            let value = push_exp(alloc, work, first, steps)?;
+            let a = push_operands(alloc, work, joins, &mut openings, value, steps)?;
+            Ok(a)
+        }
+        Side::Right => {
+            let mut openings = Vec::new(alloc);
+            let opening = push_operator(alloc, work, joins, 0, steps)?;
+            let value = push_exp(alloc, work, first, steps)?;
+            let last = push_waiting(alloc, work, joins, opening, value, &mut openings, steps)?;
+            let a = close_right(alloc, work, joins, &mut openings, last, steps)?;
             Ok(a)
         }
     }
+}
+
+/// Operands of `andalso` or `orelse`, in a block of their own.
+#[cycle(exps)]
+fn push_chain(
+    alloc: Global,
+    work: &mut Work,
+    exp: &Exp,
+    steps: &mut Vec<Step>,
+) -> Result<usize, NoMemory>
+    requires { IsTest exp.now }
+    ensures { IfOk result (λ a. Makes work.old work.new steps.old.items steps.new.items (expression exp.now) a) }
+{
+    let Exp::Test(goes_on, u, operands, last) = exp else {
+        unreachable!()
+    };
+    let first = work.next;
+    let t = ValueType::Bool;
+    let other = Otherwise::Match;
+    let mut inner = Vec::new(alloc);
+    push_links(alloc, work, *goes_on, operands, &mut inner)?;
+    let value = push_exp(alloc, work, last, &mut inner)?;
+    let a = push_choice(alloc, work, *u, inner, value, t, first, other, steps)?;
+    Ok(a)
+}
+
+/// An expression with rules for the packet that it raises.
+#[cycle(exps)]
+fn push_handling(
+    alloc: Global,
+    work: &mut Work,
+    exp: &Exp,
+    steps: &mut Vec<Step>,
+) -> Result<usize, NoMemory>
+    requires { IsHandle exp.now }
+    ensures { IfOk result (λ a. Makes work.old work.new steps.old.items steps.new.items (expression exp.now) a) }
+{
+    let Exp::Handle(u, body, rules) = exp else {
+        unreachable!()
+    };
+    let mut inner = Vec::new(alloc);
+    let value = push_exp(alloc, work, body, &mut inner)?;
+    let packet = fresh(work)?;
+    let t = ValueType::Exception;
+    let handler = make_rules(alloc, work, rules, t, *u, packet, Otherwise::Again)?;
+    let a = push_handled(alloc, work, *u, inner, value, packet, handler, steps)?;
+    Ok(a)
 }
 
 /// The values of fields, one after the other.
@@ -225,36 +276,19 @@ fn push_tuple(
     ensures { IfOk result (λ made. MakesTuple work.old work.new steps.old.items steps.new.items (expression tuple.now) made.items) }
 {
     match tuple {
-        Exp::Record(_, fields) => {
-            let made = push_fields(alloc, work, fields, steps)?;
-            Ok(made)
-        }
+        Exp::Record(_, fields) => push_fields(alloc, work, fields, steps),
         Exp::Counted(count, _, inner) => {
             push_counted(*count, steps)?;
-            let made = push_tuple(alloc, work, inner, steps)?;
-            Ok(made)
+            push_tuple(alloc, work, inner, steps)
         }
-        Exp::Apply(_, inner, rest) => {
-            if rest.is_empty() {
-                let made = push_tuple(alloc, work, inner, steps)?;
-                return Ok(made);
-            }
-            Ok(Vec::new(alloc))
+        Exp::Apply(_, inner, rest) if rest.is_empty() => push_tuple(alloc, work, inner, steps),
+        Exp::Apply(_, _, _) => Ok(Vec::new(alloc)),
+        Exp::Infix(_, inner, rest) if rest.is_empty() => push_tuple(alloc, work, inner, steps),
+        Exp::Infix(_, _, _) => Ok(Vec::new(alloc)),
+        Exp::Sequence(_, _, dropped, inner) if dropped.is_empty() => {
+            push_tuple(alloc, work, inner, steps)
         }
-        Exp::Infix(_, inner, rest) => {
-            if rest.is_empty() {
-                let made = push_tuple(alloc, work, inner, steps)?;
-                return Ok(made);
-            }
-            Ok(Vec::new(alloc))
-        }
-        Exp::Sequence(_, _, dropped, inner) => {
-            if dropped.is_empty() {
-                let made = push_tuple(alloc, work, inner, steps)?;
-                return Ok(made);
-            }
-            Ok(Vec::new(alloc))
-        }
+        Exp::Sequence(_, _, _, _) => Ok(Vec::new(alloc)),
         Exp::Atom(_, _) => Ok(Vec::new(alloc)),
         Exp::Use(_, _, _) => Ok(Vec::new(alloc)),
         Exp::Let(_, _, _) => Ok(Vec::new(alloc)),

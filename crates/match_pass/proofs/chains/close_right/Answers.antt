@@ -1,4 +1,4 @@
-use Rattle.std.proofs.Common.{length, arith}
+use Rattle.std.proofs.Common.{arith}
 use Rattle.pattern_tests.proofs.Chains.{no-items}
 use Rattle.match_pass.proofs.Rights.{right-whole, right-closed, right-never, right-end}
 use Rattle.match_pass.proofs.chains.close_right.Goals as goal

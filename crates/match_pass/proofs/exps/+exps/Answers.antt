@@ -1,5 +1,7 @@
 use Rattle.std.proofs.Common.{subst, [], length, refl, sym, ap, ◌∙◌, arith}
 use Rattle.std.proofs.lemmas.Bool.{eqb-false}
+use Rattle.std.proofs.lemmas.Result.{IfOk-weaker}
+use Rattle.ir_poly.specs.Prog.{type_of}
 use Rattle.match_compile.specs.Compile.{way}
 use Rattle.pattern_tests.specs.Spots.{names_onto}
 use Rattle.exp_steps.specs.Made.{atomic, used, recorded, raised, counted}
@@ -11,7 +13,7 @@ use Rattle.exp_blocks.specs.Giving.{otherwise_of}
 use Rattle.exp_blocks.proofs.Growing.{grows-equal, ends-more, ends-as}
 use Rattle.match_pass.specs.Reading.{expression, fields_read, applied_to, left_chain, right_chain, rules_read, case_read, sequence_read, chain_read, chain_exp_read, function_read, let_read, handle_read, decs_read, named_read, by_rules_read}
 use Rattle.match_pass.proofs.Nodes.{atom-node, use-node, record-node, let-node, apply-node, left-node, right-node, case-node, sequence-node, test-node, handle-node, raise-node, fn-node, weight-node, named-node, by_rules-node}
-use Rattle.match_pass.proofs.Making.{fn-makes, function-as, one-rule, direct-case, direct-fits}
+use Rattle.match_pass.proofs.Making.{made-as, fn-makes, function-as, one-rule, direct-case, direct-fits}
 use Rattle.match_pass.proofs.Loops.{fields-step, fields-end, turn-step, turn-end, linked-none, linked-step, linked-end}
 use Rattle.match_pass.proofs.Tuples.{alone-tuple, inner-tuple}
 use Rattle.match_pass.proofs.Joins.{left-opened, left-closed}
@@ -29,107 +31,124 @@ use Rattle.match_pass.specs.Apart.{Begins, going}
 use Rattle.match_pass.proofs.Parts.{parts-read, first-same, first-none, first-some, waiting-first, waiting-step, waiting-never, waiting-end}
 use Rattle.match_pass.proofs.exps.+exps.Goals as goal
 
-pub push_exp-returns-in_ok-a-in-Atom : goal.push_exp-returns-in_ok-a-in-Atom
-push_exp-returns-in_ok-a-in-Atom t c = makes-as (atomic c.in-Atom.atom c.in-Atom.u) (expression c.args.exp.now) (λ R. atom-node R c.args.exp.now c.in-Atom.atom c.in-Atom.u c.in-Atom.is) c.in_ok-a-in-Atom.ensures
+pub push_exp-returns-in-Atom : goal.push_exp-returns-in-Atom
+push_exp-returns-in-Atom t c = made-as _ _ _ _ (atomic c.in-Atom.atom c.in-Atom.u) (expression c.args.exp.now) c.push_atom.result (λ R. atom-node R c.args.exp.now c.in-Atom.atom c.in-Atom.u c.in-Atom.is) c.push_atom.ensures
 
-pub push_exp-returns-in_ok-a-in-Use : goal.push_exp-returns-in_ok-a-in-Use
-push_exp-returns-in_ok-a-in-Use t c =
-    makes-as (used c.in-Use.what c.deref.result.now c.in-Use.u) (expression c.args.exp.now) (λ R. use-node R c.args.exp.now c.in-Use.what c.in-Use.types c.in-Use.u c.deref.result.now c.in-Use.is c.deref.ensures.value)
-    c.in_ok-a-in-Use.ensures
+pub push_exp-returns-in-Use : goal.push_exp-returns-in-Use
+push_exp-returns-in-Use t c =
+    made-as _ _ _ _ (used c.in-Use.what c.deref.result.now c.in-Use.u) (expression c.args.exp.now) c.push_used.result
+    (λ R. use-node R c.args.exp.now c.in-Use.what c.in-Use.types c.in-Use.u c.deref.result.now c.in-Use.is c.deref.ensures.value) c.push_used.ensures
 
-pub push_exp-returns-in_ok-a-in-Record : goal.push_exp-returns-in_ok-a-in-Record
-push_exp-returns-in_ok-a-in-Record t c =
-    makes-as (recorded c.in-Record.u (fields_read c.deref-in-Record.result.now)) (expression c.args.exp.now)
-    (λ R. record-node R c.args.exp.now c.in-Record.u c.in-Record.fields c.deref-in-Record.result.now c.in-Record.is c.deref-in-Record.ensures.value)
-    (c.in_ok-a-in-Record.ensures _ _ (fields_read c.deref-in-Record.result.now) c.in_ok-made-in-Record.ensures)
+pub push_exp-returns-in-Record : goal.push_exp-returns-in-Record
+push_exp-returns-in-Record t c =
+    made-as _ _ _ _ (recorded c.in-Record.u (fields_read c.deref-in-Record.result.now)) (expression c.args.exp.now) c.push_recorded.result
+    (λ R. record-node R c.args.exp.now c.in-Record.u c.in-Record.fields c.deref-in-Record.result.now c.in-Record.is c.deref-in-Record.ensures.value) c.push_recorded.ensures
 
-pub push_exp-returns-in_ok-a-in-Let : goal.push_exp-returns-in_ok-a-in-Let
-push_exp-returns-in_ok-a-in-Let t c =
-    let ds = c.deref-in-Let.result.now in
-    let e = c.deref-in-Let-2.result.now in
-    let d = c.in_ok-push_decs-in-Let.ensures in
-    let m = c.in_ok-value-in-Let.ensures in
+pub push_exp-returns-in_ok-value-in-Case : goal.push_exp-returns-in_ok-value-in-Case
+push_exp-returns-in_ok-value-in-Case t c =
+    let e = c.deref-in-Case.result.now in
+    let rs = c.deref-in-Case-3.result.now in
+    IfOk-weaker c.push_case.result _ _
+    (λ a p. makes-as (case_read c.in-Case.field-0 c.in-Case.u (expression e) rs) (expression c.args.exp.now)
+    (λ R. case-node R c.args.exp.now c.in-Case.field-0 c.in-Case.u c.in-Case.scrutinee c.in-Case.rules e rs c.in-Case.is c.deref-in-Case.ensures c.deref-in-Case-3.ensures.value)
+    (p c.in-Case.field-0 _ _ (expression e) (λ R. c.type_of.ensures R ∙ ap (λ x. type_of (expression x R)) (c.deref-in-Case-2.ensures ∙ sym c.deref-in-Case.ensures)) c.in_ok-value-in-Case.ensures)) c.push_case.ensures
+
+pub push_exp-returns-in_ok-push_dropped-in-Sequence : goal.push_exp-returns-in_ok-push_dropped-in-Sequence
+push_exp-returns-in_ok-push_dropped-in-Sequence t c =
+    let ds = c.deref-in-Sequence.result.now in
+    let e = c.deref-in-Sequence-2.result.now in
+    IfOk-weaker c.push_exp-in-Sequence.result _ _
+    (λ a p. makes-as (sequence_read c.in-Sequence.field-0 c.in-Sequence.field-1 ds (expression e)) (expression c.args.exp.now)
+    (λ R. sequence-node R c.args.exp.now c.in-Sequence.field-0 c.in-Sequence.field-1 c.in-Sequence.dropped c.in-Sequence.last ds e c.in-Sequence.is c.deref-in-Sequence.ensures.value c.deref-in-Sequence-2.ensures)
+    (c.in_ok-push_dropped-in-Sequence.ensures c.in-Sequence.field-0 c.in-Sequence.field-1 _ _ e _ p)) c.push_exp-in-Sequence.ensures
+
+pub push_exp-returns-in_ok-packet-in-Raise : goal.push_exp-returns-in_ok-packet-in-Raise
+push_exp-returns-in_ok-packet-in-Raise t c =
+    let e = c.deref-in-Raise.result.now in
+    IfOk-weaker c.push_raise.result _ _
+    (λ a p. makes-as (raised c.in-Raise.u (expression e)) (expression c.args.exp.now) (λ R. raise-node R c.args.exp.now c.in-Raise.u c.in-Raise.packet e c.in-Raise.is c.deref-in-Raise.ensures)
+    (p _ _ (expression e) c.in_ok-packet-in-Raise.ensures)) c.push_raise.ensures
+
+pub push_exp-returns-in_ok-made-in-Fn : goal.push_exp-returns-in_ok-made-in-Fn
+push_exp-returns-in_ok-made-in-Fn t c =
+    IfOk-weaker c.push_lambda.result _ _
+    (λ a p. makes-as _ (expression c.args.exp.now) (λ R. fn-node R c.args.exp.now c.in-Fn.u c.in-Fn.function c.in-Fn.is) (fn-makes c.in-Fn.u (function_read c.in-Fn.function) c.in_ok-made-in-Fn.made c.in_ok-made-in-Fn.ensures p)) c.push_lambda.ensures
+
+pub push_exp-returns-in_ok-push_counted-in-Counted : goal.push_exp-returns-in_ok-push_counted-in-Counted
+push_exp-returns-in_ok-push_counted-in-Counted t c =
+    let e = c.deref-in-Counted.result.now in
+    IfOk-weaker c.push_exp-in-Counted.result _ _
+    (λ a p. makes-as (counted c.in-Counted.count c.in-Counted.field-1 (expression e)) (expression c.args.exp.now)
+    (λ R. weight-node R c.args.exp.now c.in-Counted.count c.in-Counted.field-1 c.in-Counted.inner e c.in-Counted.is c.deref-in-Counted.ensures)
+    (counted-makes c.in-Counted.count c.in-Counted.field-1 (c.in_ok-push_counted-in-Counted.ensures c.args.work.now) p)) c.push_exp-in-Counted.ensures
+
+pub push_recorded-returns : goal.push_recorded-returns
+push_recorded-returns t c = c.in_ok-a.ensures _ _ (fields_read c.args.fields.now) c.in_ok-made.ensures
+
+pub push_let-returns : goal.push_let-returns
+push_let-returns t c =
+    let ds = c.deref.result.now in
+    let e = c.deref-2.result.now in
+    let d = c.in_ok-push_decs.ensures in
+    let m = c.in_ok-value.ensures in
     let w = c.push_exp.new.work in
     makes-as (let_read c.in-Let.u ds (expression e)) (expression c.args.exp.now)
-    (λ R. let-node R c.args.exp.now c.in-Let.u c.in-Let.decs c.in-Let.body ds e c.in-Let.is c.deref-in-Let.ensures.value c.deref-in-Let-2.ensures)
+    (λ R. let-node R c.args.exp.now c.in-Let.u c.in-Let.decs c.in-Let.body ds e c.in-Let.is c.deref.ensures.value c.deref-2.ensures)
     (let-makes c.in-Let.u (decs_read ds) (expression e) c.new-inner.ensures.items
     (scoped-makes (decs_read ds) (expression e) d m (grows-equal w _ refl refl refl refl refl refl) refl refl
-    (names-back _ w.names _ c.len-bound.result c.len-bound.ensures (ends-as _ _ w.names m.keeps.names d.ends) c.in_ok-restore-in-Let.ensures)) c.in_ok-a-in-Let.ensures)
+    (names-back _ w.names _ c.len-bound.result c.len-bound.ensures (ends-as _ _ w.names m.keeps.names d.ends) c.in_ok-restore.ensures)) c.in_ok-a.ensures)
 
-pub push_exp-returns-in_ok-a-in-Apply-2 : goal.push_exp-returns-in_ok-a-in-Apply-2
-push_exp-returns-in_ok-a-in-Apply-2 t c =
+pub push_application-returns-then-is_empty : goal.push_application-returns-then-is_empty
+push_application-returns-then-is_empty t c =
+    let f = c.deref-function.result.now in
+    let as_ = c.deref-arguments.result.now in
+    makes-as (applied_to c.in-Apply.place (expression f) as_) (expression c.args.exp.now)
+    (λ R. apply-node R c.args.exp.now c.in-Apply.place c.in-Apply.function c.in-Apply.arguments f as_ c.in-Apply.is c.deref-function.ensures c.deref-arguments.ensures.value)
+    (apply-none c.in-Apply.place f as_ (no-elements as_ (sym c.is_empty.ensures ∙ c.if-is_empty.true)) c.in_ok-a.ensures)
+
+pub push_application-returns : goal.push_application-returns
+push_application-returns t c =
     let f = c.deref-function.result.now in
     let as_ = c.deref-arguments.result.now in
     let some = eqb-false (length as_) 0 (sym c.is_empty.ensures ∙ c.if-is_empty.false) in
     makes-as (applied_to c.in-Apply.place (expression f) as_) (expression c.args.exp.now)
     (λ R. apply-node R c.args.exp.now c.in-Apply.place c.in-Apply.function c.in-Apply.arguments f as_ c.in-Apply.is c.deref-function.ensures c.deref-arguments.ensures.value)
-    (c.in_ok-a-in-Apply-2.ensures _ _ f
-    (λ R a is. ap (λ x. way (expression f R) (expression x.1 R)) (first-same as_ a c.index-arguments-0.result (omega (arith, some)) is c.index-arguments-0.is ∙ c.index-arguments-0.is) ∙ c.application_way-way.ensures R ∙ c.in_ok-opening-in-Apply.ensures.goes R)
-    c.in_ok-opening-in-Apply.ensures.begins)
+    (c.in_ok-a-2.ensures _ _ f
+    (λ R a is. ap (λ x. way (expression f R) (expression x.1 R)) (first-same as_ a c.index-arguments-0.result (omega (arith, some)) is c.index-arguments-0.is ∙ c.index-arguments-0.is) ∙ c.application_way-way.ensures R ∙ c.in_ok-opening.ensures.goes R)
+    c.in_ok-opening.ensures.begins)
 
-pub push_exp-returns-in_ok-a-in-Left : goal.push_exp-returns-in_ok-a-in-Left
-push_exp-returns-in_ok-a-in-Left t c =
+pub push_infix-returns-in_ok-a-in-Left : goal.push_infix-returns-in_ok-a-in-Left
+push_infix-returns-in_ok-a-in-Left t c =
     let js = c.deref-joins.result.now in
-    let e = c.deref-in-Left.result.now in
+    let e = c.deref.result.now in
     makes-as (left_chain (expression e) js) (expression c.args.exp.now)
-    (λ R. left-node R c.args.exp.now c.in-Infix.side c.in-Infix.first c.in-Infix.joins e js c.in-Infix.is c.in-Left.is c.deref-in-Left.ensures c.deref-joins.ensures.value)
+    (λ R. left-node R c.args.exp.now c.in-Infix.side c.in-Infix.first c.in-Infix.joins e js c.in-Infix.is c.in-Left.is c.deref.ensures c.deref-joins.ensures.value)
     (c.in_ok-a-in-Left.ensures _ _ (expression e) (record { work = _; steps = _; waits = c.in_ok-push_operators-in-Left.ensures c.new-openings.ensures.items; made = c.in_ok-value-in-Left.ensures }))
 
-pub push_exp-returns-in_ok-a-in-Right : goal.push_exp-returns-in_ok-a-in-Right
-push_exp-returns-in_ok-a-in-Right t c =
+pub push_infix-returns-in_ok-a-in-Right : goal.push_infix-returns-in_ok-a-in-Right
+push_infix-returns-in_ok-a-in-Right t c =
     let js = c.deref-joins.result.now in
     let e = c.deref-in-Right.result.now in
     makes-as (right_chain (expression e) js) (expression c.args.exp.now)
     (λ R. right-node R c.args.exp.now c.in-Infix.side c.in-Infix.first c.in-Infix.joins e js c.in-Infix.is c.in-Right.is c.deref-in-Right.ensures c.deref-joins.ensures.value)
     (c.in_ok-a-in-Right.ensures _ _ (right_chain (expression e) js) (c.in_ok-last-in-Right.ensures _ _ _ _ e c.new-openings-in-Right.ensures.items c.in_ok-opening-in-Right.ensures c.in_ok-value-in-Right.ensures))
 
-pub push_exp-returns-in_ok-a-in-Case : goal.push_exp-returns-in_ok-a-in-Case
-push_exp-returns-in_ok-a-in-Case t c =
-    let e = c.deref-scrutinee.result.now in
-    let rs = c.deref-in-Case.result.now in
-    makes-as (case_read c.in-Case.field-0 c.in-Case.u (expression e) rs) (expression c.args.exp.now)
-    (λ R. case-node R c.args.exp.now c.in-Case.field-0 c.in-Case.u c.in-Case.scrutinee c.in-Case.rules e rs c.in-Case.is c.deref-scrutinee.ensures c.deref-in-Case.ensures.value)
-    (c.in_ok-a-in-Case.ensures c.in-Case.field-0 _ _ (expression e) c.type_of.ensures c.in_ok-value-in-Case.ensures)
-
-pub push_exp-returns-in_ok-a-in-Sequence : goal.push_exp-returns-in_ok-a-in-Sequence
-push_exp-returns-in_ok-a-in-Sequence t c =
-    let ds = c.deref-in-Sequence.result.now in
-    let e = c.deref-in-Sequence-2.result.now in
-    makes-as (sequence_read c.in-Sequence.field-0 c.in-Sequence.field-1 ds (expression e)) (expression c.args.exp.now)
-    (λ R. sequence-node R c.args.exp.now c.in-Sequence.field-0 c.in-Sequence.field-1 c.in-Sequence.dropped c.in-Sequence.last ds e c.in-Sequence.is c.deref-in-Sequence.ensures.value c.deref-in-Sequence-2.ensures)
-    (c.in_ok-push_dropped-in-Sequence.ensures c.in-Sequence.field-0 c.in-Sequence.field-1 _ _ e _ c.in_ok-a-in-Sequence.ensures)
-
-pub push_exp-returns-in_ok-a-in-Test : goal.push_exp-returns-in_ok-a-in-Test
-push_exp-returns-in_ok-a-in-Test t c =
-    let es = c.deref-in-Test.result.now in
-    let e = c.deref-in-Test-2.result.now in
+pub push_chain-returns : goal.push_chain-returns
+push_chain-returns t c =
+    let es = c.deref.result.now in
+    let e = c.deref-2.result.now in
     makes-as (chain_exp_read c.in-Test.goes_on c.in-Test.u es e) (expression c.args.exp.now)
-    (λ R. test-node R c.args.exp.now c.in-Test.goes_on c.in-Test.u c.in-Test.operands c.in-Test.last es e c.in-Test.is c.deref-in-Test.ensures.value c.deref-in-Test-2.ensures)
-    (chain-makes c.in-Test.goes_on c.in-Test.u (chain_read es e) c.new-inner-in-Test.ensures.items (chain-ends c.in-Test.goes_on es e (c.in_ok-push_links-in-Test.ensures e) c.in_ok-value-in-Test.ensures) c.in_ok-a-in-Test.ensures)
+    (λ R. test-node R c.args.exp.now c.in-Test.goes_on c.in-Test.u c.in-Test.operands c.in-Test.last es e c.in-Test.is c.deref.ensures.value c.deref-2.ensures)
+    (chain-makes c.in-Test.goes_on c.in-Test.u (chain_read es e) c.new-inner.ensures.items (chain-ends c.in-Test.goes_on es e (c.in_ok-push_links.ensures e) c.in_ok-value.ensures) c.in_ok-a.ensures)
 
-pub push_exp-returns-in_ok-a-in-Handle : goal.push_exp-returns-in_ok-a-in-Handle
-push_exp-returns-in_ok-a-in-Handle t c =
-    let e = c.deref-in-Handle.result.now in
-    let rs = c.deref-in-Handle-2.result.now in
-    let f = c.in_ok-packet-in-Handle.ensures in
+pub push_handling-returns : goal.push_handling-returns
+push_handling-returns t c =
+    let e = c.deref.result.now in
+    let rs = c.deref-2.result.now in
+    let f = c.in_ok-packet.ensures in
     makes-as (handle_read c.in-Handle.u (expression e) rs) (expression c.args.exp.now)
-    (λ R. handle-node R c.args.exp.now c.in-Handle.u c.in-Handle.body c.in-Handle.rules e rs c.in-Handle.is c.deref-in-Handle.ensures c.deref-in-Handle-2.ensures.value)
-    (handle-makes c.in-Handle.u (expression e) (rules_read rs) c.in_ok-handler-in-Handle.handler c.new-inner-in-Handle.ensures.items c.in_ok-value-in-Handle.ensures f.keeps f.is f.next c.in_ok-handler-in-Handle.ensures c.in_ok-a-in-Handle.ensures)
-
-pub push_exp-returns-in_ok-a-in-Raise : goal.push_exp-returns-in_ok-a-in-Raise
-push_exp-returns-in_ok-a-in-Raise t c =
-    makes-as (raised c.in-Raise.u (expression c.deref-in-Raise.result.now)) (expression c.args.exp.now) (λ R. raise-node R c.args.exp.now c.in-Raise.u c.in-Raise.packet c.deref-in-Raise.result.now c.in-Raise.is c.deref-in-Raise.ensures)
-    (c.in_ok-a-in-Raise.ensures _ _ (expression c.deref-in-Raise.result.now) c.in_ok-packet-in-Raise.ensures)
-
-pub push_exp-returns-in_ok-a-in-Fn : goal.push_exp-returns-in_ok-a-in-Fn
-push_exp-returns-in_ok-a-in-Fn t c =
-    makes-as _ (expression c.args.exp.now) (λ R. fn-node R c.args.exp.now c.in-Fn.u c.in-Fn.function c.in-Fn.is) (fn-makes c.in-Fn.u (function_read c.in-Fn.function) c.in_ok-made-in-Fn.made c.in_ok-made-in-Fn.ensures c.in_ok-a-in-Fn.ensures)
-
-pub push_exp-returns-in_ok-a-in-Counted : goal.push_exp-returns-in_ok-a-in-Counted
-push_exp-returns-in_ok-a-in-Counted t c =
-    makes-as (counted c.in-Counted.count c.in-Counted.field-1 (expression c.deref-in-Counted.result.now)) (expression c.args.exp.now)
-    (λ R. weight-node R c.args.exp.now c.in-Counted.count c.in-Counted.field-1 c.in-Counted.inner c.deref-in-Counted.result.now c.in-Counted.is c.deref-in-Counted.ensures)
-    (counted-makes c.in-Counted.count c.in-Counted.field-1 (c.in_ok-push_counted-in-Counted.ensures c.args.work.now) c.in_ok-a-in-Counted.ensures)
+    (λ R. handle-node R c.args.exp.now c.in-Handle.u c.in-Handle.body c.in-Handle.rules e rs c.in-Handle.is c.deref.ensures c.deref-2.ensures.value)
+    (handle-makes c.in-Handle.u (expression e) (rules_read rs) c.in_ok-handler.handler c.new-inner.ensures.items c.in_ok-value.ensures f.keeps f.is f.next c.in_ok-handler.ensures c.in_ok-a.ensures)
 
 pub push_fields-loop-i-init : goal.push_fields-loop-i-init
 push_fields-loop-i-init t c = all-made-as [] _ c.new-made.ensures.items (all-none _ _)
@@ -141,44 +160,48 @@ push_fields-loop-i-preserved t c =
 pub push_fields-returns : goal.push_fields-returns
 push_fields-returns t c = fields-end c.args.fields.now c.loop-i.i c.loop-i.made.items c.loop-i-test.false c.loop-i.invariant
 
-pub push_tuple-returns-in_ok-made-in-Record : goal.push_tuple-returns-in_ok-made-in-Record
-push_tuple-returns-in_ok-made-in-Record t c =
-    tuple-as (recorded c.in-Record.field-0 (fields_read c.deref.result.now)) (expression c.args.tuple.now) (λ R. record-node R c.args.tuple.now c.in-Record.field-0 c.in-Record.fields c.deref.result.now c.in-Record.is c.deref.ensures.value)
-    (tuple-of-all c.in-Record.field-0 c.in_ok-made-in-Record.ensures)
+pub push_tuple-returns-in-Record : goal.push_tuple-returns-in-Record
+push_tuple-returns-in-Record t c =
+    IfOk-weaker c.push_fields.result _ _
+    (λ made p. tuple-as (recorded c.in-Record.field-0 (fields_read c.deref.result.now)) (expression c.args.tuple.now) (λ R. record-node R c.args.tuple.now c.in-Record.field-0 c.in-Record.fields c.deref.result.now c.in-Record.is c.deref.ensures.value)
+    (tuple-of-all c.in-Record.field-0 p)) c.push_fields.ensures
 
-pub push_tuple-returns-in_ok-made-in-Counted : goal.push_tuple-returns-in_ok-made-in-Counted
-push_tuple-returns-in_ok-made-in-Counted t c =
-    tuple-as (counted c.in-Counted.count c.in-Counted.field-1 (expression c.deref-in-Counted.result.now)) (expression c.args.tuple.now)
+pub push_tuple-returns-in_ok-push_counted-in-Counted : goal.push_tuple-returns-in_ok-push_counted-in-Counted
+push_tuple-returns-in_ok-push_counted-in-Counted t c =
+    IfOk-weaker c.push_tuple.result _ _
+    (λ made p. tuple-as (counted c.in-Counted.count c.in-Counted.field-1 (expression c.deref-in-Counted.result.now)) (expression c.args.tuple.now)
     (λ R. weight-node R c.args.tuple.now c.in-Counted.count c.in-Counted.field-1 c.in-Counted.inner c.deref-in-Counted.result.now c.in-Counted.is c.deref-in-Counted.ensures)
-    (counted-tuple c.in-Counted.count c.in-Counted.field-1 (c.in_ok-push_counted-in-Counted.ensures c.args.work.now) c.in_ok-made-in-Counted.ensures)
+    (counted-tuple c.in-Counted.count c.in-Counted.field-1 (c.in_ok-push_counted-in-Counted.ensures c.args.work.now) p)) c.push_tuple.ensures
 
-pub push_tuple-returns-then-is_empty : goal.push_tuple-returns-then-is_empty
-push_tuple-returns-then-is_empty t c =
-    inner-tuple c.args.tuple.now _ c.deref-then-is_empty.result.now c.in-Apply.inner.value c.in-Apply.is (λ R. apply-alone R c.in-Apply.field-0 c.in-Apply.inner c.in-Apply.rest (sym c.is_empty.ensures ∙ c.if-is_empty.true)) c.deref-then-is_empty.ensures
-    c.in_ok-made-in-Apply.ensures
+pub push_tuple-returns-in-Apply : goal.push_tuple-returns-in-Apply
+push_tuple-returns-in-Apply t c =
+    IfOk-weaker c.push_tuple-in-Apply.result _ _
+    (λ made p. inner-tuple c.args.tuple.now _ c.deref-in-Apply.result.now c.in-Apply.inner.value c.in-Apply.is (λ R. apply-alone R c.in-Apply.field-0 c.in-Apply.inner c.in-Apply.rest (sym c.if-is_empty.ensures)) c.deref-in-Apply.ensures p)
+    c.push_tuple-in-Apply.ensures
 
-pub push_tuple-returns-else-is_empty : goal.push_tuple-returns-else-is_empty
-push_tuple-returns-else-is_empty t c =
-    alone-tuple c.args.work.now _ _ c.args.tuple.now _ c.new.ensures.items c.in-Apply.is (λ R. (apply-many R c.in-Apply.field-0 c.in-Apply.inner c.in-Apply.rest (sym c.is_empty.ensures ∙ c.if-is_empty.false)).alone)
+pub push_tuple-returns-in-Apply-2 : goal.push_tuple-returns-in-Apply-2
+push_tuple-returns-in-Apply-2 t c =
+    alone-tuple c.args.work.now _ _ c.args.tuple.now _ c.new.ensures.items c.in-Apply.is (λ R. (apply-many R c.in-Apply.field-0 c.in-Apply.inner c.in-Apply.rest (sym c.if-is_empty.ensures)).alone)
 
-pub push_tuple-returns-then-is_empty-2 : goal.push_tuple-returns-then-is_empty-2
-push_tuple-returns-then-is_empty-2 t c =
-    inner-tuple c.args.tuple.now _ c.deref-then-is_empty-2.result.now c.in-Infix.inner.value c.in-Infix.is (λ R. infix-alone R c.in-Infix.field-0 c.in-Infix.inner c.in-Infix.rest (sym c.is_empty-in-Infix.ensures ∙ c.if-is_empty-2.true))
-    c.deref-then-is_empty-2.ensures c.in_ok-made-in-Infix.ensures
+pub push_tuple-returns-in-Infix : goal.push_tuple-returns-in-Infix
+push_tuple-returns-in-Infix t c =
+    IfOk-weaker c.push_tuple-in-Infix.result _ _
+    (λ made p. inner-tuple c.args.tuple.now _ c.deref-in-Infix.result.now c.in-Infix.inner.value c.in-Infix.is (λ R. infix-alone R c.in-Infix.field-0 c.in-Infix.inner c.in-Infix.rest (sym c.if-is_empty-2.ensures)) c.deref-in-Infix.ensures p)
+    c.push_tuple-in-Infix.ensures
 
-pub push_tuple-returns-else-is_empty-2 : goal.push_tuple-returns-else-is_empty-2
-push_tuple-returns-else-is_empty-2 t c =
-    alone-tuple c.args.work.now _ _ c.args.tuple.now _ c.new-in-Infix.ensures.items c.in-Infix.is (λ R. (infix-many R c.in-Infix.field-0 c.in-Infix.inner c.in-Infix.rest (sym c.is_empty-in-Infix.ensures ∙ c.if-is_empty-2.false)).alone)
+pub push_tuple-returns-in-Infix-2 : goal.push_tuple-returns-in-Infix-2
+push_tuple-returns-in-Infix-2 t c =
+    alone-tuple c.args.work.now _ _ c.args.tuple.now _ c.new-in-Infix-2.ensures.items c.in-Infix.is (λ R. (infix-many R c.in-Infix.field-0 c.in-Infix.inner c.in-Infix.rest (sym c.if-is_empty-2.ensures)).alone)
 
-pub push_tuple-returns-then-is_empty-3 : goal.push_tuple-returns-then-is_empty-3
-push_tuple-returns-then-is_empty-3 t c =
-    inner-tuple c.args.tuple.now _ c.deref-then-is_empty-3.result.now c.in-Sequence.inner.value c.in-Sequence.is
-    (λ R. sequence-alone R c.in-Sequence.field-0 c.in-Sequence.field-1 c.in-Sequence.dropped c.in-Sequence.inner (sym c.is_empty-in-Sequence.ensures ∙ c.if-is_empty-3.true)) c.deref-then-is_empty-3.ensures c.in_ok-made-in-Sequence.ensures
+pub push_tuple-returns-in-Sequence : goal.push_tuple-returns-in-Sequence
+push_tuple-returns-in-Sequence t c =
+    IfOk-weaker c.push_tuple-in-Sequence.result _ _
+    (λ made p. inner-tuple c.args.tuple.now _ c.deref-in-Sequence.result.now c.in-Sequence.inner.value c.in-Sequence.is (λ R. sequence-alone R c.in-Sequence.field-0 c.in-Sequence.field-1 c.in-Sequence.dropped c.in-Sequence.inner (sym c.if-is_empty-3.ensures)) c.deref-in-Sequence.ensures p)
+    c.push_tuple-in-Sequence.ensures
 
-pub push_tuple-returns-else-is_empty-3 : goal.push_tuple-returns-else-is_empty-3
-push_tuple-returns-else-is_empty-3 t c =
-    alone-tuple c.args.work.now _ _ c.args.tuple.now _ c.new-in-Sequence.ensures.items c.in-Sequence.is
-    (λ R. (sequence-many R c.in-Sequence.field-0 c.in-Sequence.field-1 c.in-Sequence.dropped c.in-Sequence.inner (sym c.is_empty-in-Sequence.ensures ∙ c.if-is_empty-3.false)).alone)
+pub push_tuple-returns-in-Sequence-2 : goal.push_tuple-returns-in-Sequence-2
+push_tuple-returns-in-Sequence-2 t c =
+    alone-tuple c.args.work.now _ _ c.args.tuple.now _ c.new-in-Sequence-2.ensures.items c.in-Sequence.is (λ R. (sequence-many R c.in-Sequence.field-0 c.in-Sequence.field-1 c.in-Sequence.dropped c.in-Sequence.inner (sym c.if-is_empty-3.ensures)).alone)
 
 pub push_tuple-returns-in-Atom : goal.push_tuple-returns-in-Atom
 push_tuple-returns-in-Atom t c = alone-tuple c.args.work.now _ _ c.args.tuple.now _ c.new-in-Atom.ensures.items c.in-Atom.is (λ R. atom-alone R c.in-Atom.field-0 c.in-Atom.field-1)
@@ -422,14 +445,6 @@ push_general-returns t c =
     let h = c.in_ok-push_shaped.ensures in
     shape-generalises c.args.parameters c.args.ty c.args.rule.now c.args.spots.now.items c.push_shaped.new.spots.items c.new-inner.ensures.items (grows-equal c.args.work.now _ refl refl refl refl refl refl) refl refl c.in_ok-push_scope.ensures
     c.parameters.ensures m h.keeps (grows-equal c.push_shaped.new.work _ refl refl refl refl refl refl) c.len-scope.result c.len-scope.ensures c.truncate.ensures refl refl c.sole_variable-sole.result c.sole_variable-sole.ensures h.next h.spots h.puts
-
-pub push_exp-returns-then-is_empty : goal.push_exp-returns-then-is_empty
-push_exp-returns-then-is_empty t c =
-    let f = c.deref-function.result.now in
-    let as_ = c.deref-arguments.result.now in
-    makes-as (applied_to c.in-Apply.place (expression f) as_) (expression c.args.exp.now)
-    (λ R. apply-node R c.args.exp.now c.in-Apply.place c.in-Apply.function c.in-Apply.arguments f as_ c.in-Apply.is c.deref-function.ensures c.deref-arguments.ensures.value)
-    (apply-none c.in-Apply.place f as_ (no-elements as_ (sym c.is_empty.ensures ∙ c.if-is_empty.true)) c.in_ok-a-in-Apply.ensures)
 
 pub push_head-returns-in_ok-operator-in-Call-clause-begins : goal.push_head-returns-in_ok-operator-in-Call-clause-begins
 push_head-returns-in_ok-operator-in-Call-clause-begins t c =
