@@ -2,4 +2,5 @@
 #![tactic(auto)]
 
 pub mod close;
+pub mod enter;
 pub mod settle;

@@ -4,3 +4,4 @@ pub mod Worlds
 pub mod Telling
 pub mod General
 pub mod Declaring
+pub mod Contexts

@@ -1,5 +1,6 @@
 -- What holds outside a declaration holds inside, with its parameters.
 use Rattle.std.specs.Prelude.{◌≡◌, ◌<◌, ℕ, suc, Bool, true, false, List, [], ◌++◌}
+use Rattle.std.specs.List.{AllByRecursion}
 use Rattle.ty_core.specs.declared.scheme.Quantified.{Quantified}
 use Rattle.sml_tree.specs.BareTree as bare
 use Rattle.sml_tree.specs.declared.ident.Tyvar.{Tyvar}
@@ -13,7 +14,7 @@ use Rattle.elab_state.specs.States.{dead_level, general_in, made}
 use Rattle.elab_steps.specs.Growing.{Grows, HasGeneral, HasType}
 use Rattle.elab_steps.specs.Tidy.{IsTidy}
 use Rattle.elab_steps.specs.World.{World, Comes, type_of}
-use Rattle.elab_context.specs.Telling.{IsGeneral, Tells}
+use Rattle.elab_context.specs.Telling.{IsContext, IsGeneral, Tells}
 use Rattle.elab_context.specs.declared.context.Context.{Context}
 use Rattle.general_worlds.specs.Tidy.{AreOpen, AreOuter, Ends, Enters}
 use Rattle.general_worlds.specs.Inner.{IsInside, inner_world, ComesInside, deeper, HasTyvars}
@@ -56,6 +57,11 @@ EnteredIsTidy = (l : ℕ) (R S : State) → suc l < dead_level → Enters R S �
 
 abbrev pub EnteredTypesStay : Type 0
 EnteredTypesStay = (R S : State) → Enters R S → (k : ℕ) → HasType R k → HasType S k
+
+-- And what it has of a context it has of one inside, behind further steps, where the types of the type variables in scope there are its own.
+abbrev pub ContextsAreInside : Type 0
+ContextsAreInside = (C : Context) (s : TypeScope) (R S T : State) → suc C.level < dead_level → Enters R S → Grows S T → IsContext R C → s.types ≡ C.types.types
+    → AllByRecursion (λ b. HasType T b.1) s.tyvars → IsContext T (deeper C s)
 
 -- A state without variables is tidy.
 abbrev pub NewIsTidy : Type 0

@@ -1,6 +1,7 @@
 // Laws of the worlds inside declarations, as contracts.
 
 ghost use Rattle.general_worlds.specs.Laws.{
+  ContextsAreInside,
   ContextsTellInside,
   DeclarationsGrow,
   EarlierAreOuter,
@@ -56,6 +57,11 @@ pub fn entered_is_tidy()
 /// And types stay types.
 pub fn entered_types_stay()
     ensures { EnteredTypesStay }
+{}
+
+/// And what it has of a context it has of one inside.
+pub fn contexts_are_inside()
+    ensures { ContextsAreInside }
 {}
 
 /// A state without variables is tidy.
