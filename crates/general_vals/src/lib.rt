@@ -3,4 +3,5 @@
 
 pub mod close;
 pub mod enter;
+pub mod law;
 pub mod settle;

@@ -7,7 +7,9 @@ ghost use Rattle.ty_solve.specs.Substitution.{Fits, is_below, is_in, is_open, su
 ghost use Rattle.ty_instance.specs.Images.{IsResolved};
 ghost use Rattle.elab_steps.specs.Growing.{Always, Grows, HasType};
 ghost use Rattle.elab_steps.specs.World.{type_of};
+ghost use Rattle.elab_steps.specs.Tidy.{IsTidy};
 ghost use Rattle.general_worlds.specs.Tidy.{AreOpen};
+ghost use Rattle.general_vals.specs.Settling.{IsMade, Settles};
 
 use elab_state::state::State;
 use mlc_base::memory::NoMemory;
@@ -35,11 +37,13 @@ fn resolve_within(alloc: Global, solver: &mut Solver, ty: usize) -> Result<usize
 
 /// The same type with no bound variables in it.
 pub fn settled_type(alloc: Global, state: &mut State, ty: usize) -> Result<usize, NoMemory>
-    requires { HasType state.old ty }
+    requires { IsMade state.old ty }
     ensures grows { IfOk result (λ _. Grows state.old state.new) }
-    ensures is { IfOk result (λ r. HasType state.new r) }
+    ensures is { IfOk result (λ r. HasType state.old ty → HasType state.new r) }
+    ensures settles { IfOk result (λ r. Settles state.old state.new ty r) }
     ensures open { IfOk result (λ r. AreOpen state.new r) }
     ensures same { IfOk result (λ r. Always state.new (λ W. type_of W r ≡ type_of W ty)) }
+    ensures tidy { IfOk result (λ _. (l : ℕ) → IsTidy state.old l → IsTidy state.new l) }
     ensures next { IfOk result (λ _. state.new.next ≡ state.old.next) }
 {
     resolve_within(alloc, &mut state.solver, ty)
