@@ -14,8 +14,9 @@ use Rattle.core_rules.specs.Initial.{entries, integers}
 use Rattle.initial_types.specs.Schemes.{schemes_in}
 use Rattle.elab_state.specs.States.{types_in, made}
 use Rattle.elab_state.specs.declared.state.State.{State}
+use Rattle.elab_steps.specs.Tidy.{IsLive, IsTidy}
 use Rattle.elab_context.specs.Entries.{entry_in}
-use Rattle.elab_context.specs.Numbered.{IsBelowIf, number_of}
+use Rattle.elab_context.specs.Numbered.{IsBelowIf}
 use Rattle.elab_context.specs.Telling.{IsContext, IsHeld}
 use Rattle.elab_context.specs.declared.context.Context.{Context}
 use Rattle.elab_context.specs.declared.entry.Entry.{Entry}
@@ -127,8 +128,8 @@ module _ (S : State) (C : Context) (i : IsBasis (types_in S) C) where
       by false h = cc
   entries-free j (n ∷ m ∷ ns) x e q = cc
 
-  pub context_is : IsContext S C
-  context_is = record {
+  pub context_is : S.level ≡ 0 → IsTidy S 0 → IsContext S C
+  context_is level tidy = record {
     wide = let n = i.names in omega (arith, n);
     deep = let l = i.level in omega (arith, l);
     naming = subst (IsAmong (length S.namings.items)) (sym i.naming) tt;
@@ -143,6 +144,9 @@ module _ (S : State) (C : Context) (i : IsBasis (types_in S) C) where
         record { held = held-at (length (types_in S)) C.schemes.items k s i.schemes_held e; closed = c.below; inhabited = c.marks };
     entries = λ qs x e q. entries-held qs x e q;
     numbered = entries-free S.next;
+    live = subst (AllByRecursion (λ b. IsLive S b.1)) (sym i.tyvars) tt;
+    level = level ∙ sym i.level;
+    tidy = subst (IsTidy S) (sym i.level) tidy;
   }
 
 -- what the code makes is the context of the basis

@@ -2,6 +2,7 @@
 ghost use Rattle.std.specs.Prelude.{◌≡◌, ◌≤◌, ◌+◌, ◌++◌, [], length, IfOk};
 ghost use Rattle.elab_context.specs.Telling.{IsContext};
 ghost use Rattle.elab_steps.specs.Growing.{Grows};
+ghost use Rattle.elab_steps.specs.Tidy.{IsTidy};
 ghost use Rattle.basis_context.specs.Basis.{arity_of as arity_at, basis_marks, marks_at, type_entries, type_list};
 ghost use Rattle.basis_context.specs.Basis.{entry_at, equal_rows, equal_with, named_rows, named_with};
 ghost use Rattle.initial_types.specs.Schemes.{marks_of};
@@ -125,6 +126,8 @@ fn add_schemes(
 
 /// The context before any declaration.
 pub fn initial_context(alloc: Global, state: &mut State) -> Result<Context, NoMemory>
+    requires level { state.old.level ≡ 0 }
+    requires tidy { IsTidy state.old 0 }
     ensures is { IfOk result (λ c. IsContext state.new c) }
     ensures tells { IfOk result (λ c. TellsBasis state.new c) }
     ensures grows { IfOk result (λ _. Grows state.old state.new) }

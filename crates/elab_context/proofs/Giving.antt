@@ -1,8 +1,8 @@
 -- Instances of schemes as what is kept of identifiers has them.
-use Rattle.std.proofs.Common.{◌≡◌, ◌<◌, ◌≤◌, ◌+◌, ◌-◌, ℕ, zero, suc, Bool, true, false, ◌&&◌, if◌then◌else◌, List, [], ◌∷◌, length, map, nat_lt, nat_eq, Option, Some, None, slice_get, refl, sym, ap, ap₂, subst, ◌∙◌, arith}
+use Rattle.std.proofs.Common.{◌≡◌, ◌<◌, ◌+◌, ◌-◌, ℕ, zero, suc, Bool, true, ◌&&◌, if◌then◌else◌, List, [], ◌∷◌, length, map, nat_lt, Option, Some, None, slice_get, refl, sym, ap, ap₂, subst, ◌∙◌, arith}
 use Rattle.std.specs.Prelude.{option_map}
-use Rattle.std.proofs.lemmas.Bool.{ltb-true, lt-ltb, and_parts}
-use Rattle.ty_core.specs.Types.{Typ, Typs, Symbol, var, con, none, more, typs_of, name, admits, all_admit, allowed, attribute}
+use Rattle.std.proofs.lemmas.Bool.{and_parts}
+use Rattle.ty_core.specs.Types.{Typ, Typs, var, con, none, more, typs_of, name, admits, all_admit, allowed, attribute}
 use Rattle.ty_core.specs.Marks.{Allows}
 use Rattle.ty_core.specs.Statics.{replace, replace_all, variables}
 use Rattle.ty_core.specs.declared.mark.Mark.{Mark}

@@ -14,24 +14,23 @@ use Rattle.ty_solve.proofs.Holding.{type-stays}
 use Rattle.ty_instance.proofs.Going.{longer}
 use Rattle.sml_tree.specs.BareTree.{Ty}
 use Rattle.core_rules.specs.Objects.{at}
-use Rattle.core_rules.specs.Elaborated.{type_in, type_of as type_of_ty}
-use Rattle.elab_typed.specs.Contexts.{Around, context_under, generic}
+use Rattle.elab_typed.specs.Contexts.{Around, context_under}
 use Rattle.elab_typed.specs.Elaborates.{Stands}
 use Rattle.elab_typed.proofs.Closed.{types-under}
-use Rattle.elab_types.specs.Reading.{entry_of, function_in, Reads, Holds, AreKnown}
+use Rattle.elab_types.specs.Reading.{entry_of, function_in, Reads}
 use Rattle.elab_types.specs.Annotations.{IsTypeOf}
 use Rattle.elab_types.specs.declared.scope.TypeEntry.{TypeEntry}
-use Rattle.elab_types.specs.declared.scope.TypeScope.{TypeScope}
-use Rattle.elab_types.proofs.Holding.{tyvar-held, body-held}
+use Rattle.elab_types.proofs.Holding.{tyvar-held}
 use Rattle.elab_types.proofs.Keeping.{holds_later, entry-held}
-use Rattle.ir_tables.specs.Tables.{parameters_of}
+use Rattle.ir_tables.specs.Tables.{parameters_at, parameters_of}
 use Rattle.elab_state.specs.Namings.{IsAmong}
 use Rattle.elab_state.specs.States.{types_in, made}
-use Rattle.elab_steps.specs.Growing.{HasType, Begins, Grows}
+use Rattle.elab_steps.specs.Growing.{HasGeneral, Begins, Grows}
 use Rattle.elab_steps.specs.Instances.{IsScheme}
 use Rattle.elab_state.specs.declared.state.State.{State}
+use Rattle.elab_steps.specs.Tidy.{IsLive, IsTidy}
 use Rattle.elab_steps.specs.World.{World, type_of, Comes}
-use Rattle.elab_steps.proofs.Growing.{below-up, comes_before, type_later}
+use Rattle.elab_steps.proofs.Growing.{below-up, general_later, type_later}
 use Rattle.sml_tree.specs.Terminal.{LongVid}
 use Rattle.elab_context.specs.Entries.{entry_in}
 use Rattle.elab_context.specs.Numbered.{IsBelowIf, IsNumbered}
@@ -95,6 +94,12 @@ known-later S T g (x ∷ xs) h k = (
   known-later S T g xs h.1 k.1,
 )
 
+live-later : (S T : State) → Grows S T → (xs : List (ℕ × ℕ)) → AllByRecursion (λ b. b.1 < length (types_in S)) xs
+    → AllByRecursion (λ b. is_below (made S) (type_at (types_in S) b.1) ≡ true) xs → AllByRecursion (λ b. IsLive S b.1) xs → AllByRecursion (λ b. IsLive T b.1) xs
+live-later S T g [] h k l = tt
+live-later S T g (x ∷ xs) h k l =
+    ((type_later S T x.1 g (record { held = h.0; below = k.0; live = l.0 })).live, live-later S T g xs h.1 k.1 l.1)
+
 among-later : {A : Type 0} (xs ys : List A) (o : Option ℕ) → length xs ≤ length ys → IsAmong (length xs) o → IsAmong (length ys) o
 among-later xs ys None le h = tt
 among-later xs ys (Some k) le h = omega (arith, h, le)
@@ -137,8 +142,11 @@ held-later S T C (Primitive s q) g h = h
 held-later S T C (Raised n a) g h = held-if-later S T a g h
 held-later S T C (Single t n) g h = type_later S T t g h
 held-later S T C (Own t n) g h = type_later S T t g h
-held-later S T C (General l t n o) g h =
-    (type_later S T t g h.0, list-later S T l g h.1)
+held-later S T C (General l t n o) g h = (
+  subst (λ qs. HasGeneral T qs t) (sym (same-list (parameters_of S.tables) (parameters_of T.tables) l g.lists h.1.held))
+      (general_later S T (parameters_at (parameters_of S.tables) l) t g h.0),
+  list-later S T l g h.1,
+)
 
 pub below-later : (k j : ℕ) (e : Entry) → k ≤ j → IsBelowIf k e → IsBelowIf j e
 below-later k j e le h n q = let lt = h n q in omega (arith, le, lt)
@@ -156,6 +164,9 @@ context_later S T C g i = record {
   schemes = λ k s e. scheme-later S T s.marks.items s.body g (i.schemes k s e);
   entries = λ qs x e h. held-later S T C e g (i.entries qs x e h);
   numbered = numbered_later S.next T.next C g.next i.numbered;
+  live = live-later S T g C.types.tyvars i.holds.tyvars i.known i.live;
+  level = g.level ∙ i.level;
+  tidy = subst (IsTidy T) (g.level ∙ i.level) (g.tidy (subst (IsTidy S) (sym i.level) i.tidy));
 }
 
 pub unbound_in : (C : Context) (x : LongVid) → entry_in C x.qualifiers x.vid ≡ None → IsUnboundIn C x

@@ -32,8 +32,9 @@ use Rattle.elab_types.specs.Reading.{entry_of as type_entry_of, AreKnown, Holds}
 use Rattle.elab_state.specs.Namings.{IsAmong}
 use Rattle.elab_state.specs.States.{types_in, made, dead_level}
 use Rattle.elab_state.specs.declared.state.State.{State}
-use Rattle.elab_steps.specs.Growing.{HasType}
+use Rattle.elab_steps.specs.Growing.{AreLive, HasGeneral, HasType}
 use Rattle.elab_steps.specs.Instances.{IsScheme}
+use Rattle.elab_steps.specs.Tidy.{IsTidy}
 use Rattle.elab_steps.specs.World.{World, type_of}
 use Rattle.elab_context.specs.Entries.{entry_in, number_in}
 use Rattle.elab_context.specs.Numbered.{IsNumbered}
@@ -170,7 +171,7 @@ IsHeld S C (Primitive s q) = s < length C.schemes.items
 IsHeld S C (Raised n a) = IsHeldIf S a
 IsHeld S C (Single t n) = HasType S t
 IsHeld S C (Own t n) = HasType S t
-IsHeld S C (General l t n o) = HasType S t × HasList S l
+IsHeld S C (General l t n o) = HasGeneral S (parameters_at (parameters_of S.tables) l) t × HasList S l
 
 -- what a state has of a context: new variables may be made in it, and annotations read
 pub record IsContext (S : State) (C : Context) : Type 0 where
@@ -184,3 +185,8 @@ pub record IsContext (S : State) (C : Context) : Type 0 where
   pub entries : (qs : List ℕ) (x : Vid) (e : Entry) → entry_in C qs x ≡ Some e → IsHeld S C e
   -- the program's variables of what is in scope are there
   pub numbered : IsNumbered S.next C
+  -- the types of type variables have no variable that is done with
+  pub live : AreLive S C.types
+  -- the state is as deep, and tidy
+  pub level : S.level ≡ C.level
+  pub tidy : IsTidy S C.level

@@ -7,21 +7,21 @@ use Rattle.ty_core.specs.Types.{Typ, var, typs_of}
 use Rattle.ty_core.specs.Marks.{Allows}
 use Rattle.ty_core.specs.Statics.{replace}
 use Rattle.ty_core.specs.declared.mark.Mark.{Mark}
-use Rattle.ty_solve.specs.Substitution.{Entry, sub, Solves, Meets, free}
+use Rattle.ty_solve.specs.Substitution.{Entry, sub, Meets, free}
 use Rattle.ty_solve.specs.SlotsOf.{look, entries, entry_of, seen}
 use Rattle.ty_solve.specs.declared.limit.Limit.{Limit}
 use Rattle.ty_solve.specs.declared.subst.Slot.{Slot}
 use Rattle.ty_solve.specs.declared.subst.Slot.TheVariants.{Open}
 use Rattle.ty_solve.specs.declared.subst.Subst.{Subst}
 use Rattle.core_rules.specs.Objects.{AllAllowed, AllOver}
-use Rattle.ir_poly.specs.Types.{nth_type, over, all_over}
-use Rattle.elab_state.specs.States.{types_in, made, said_in, dead_level}
+use Rattle.ir_poly.specs.Types.{nth_type, all_over}
+use Rattle.elab_state.specs.States.{types_in, said_in, dead_level}
 use Rattle.elab_state.specs.Namings.{IsAmong}
 use Rattle.elab_state.specs.declared.state.State.{State}
 use Rattle.elab_typed.specs.Numbers.{type_as}
-use Rattle.elab_steps.specs.Growing.{HasType, AreTypes, Begins, Grows, Always, IsWithin}
+use Rattle.elab_steps.specs.Growing.{HasType, AreTypes, Begins, Grows, Always}
 use Rattle.elab_steps.specs.Instances.{IsInstance}
-use Rattle.elab_steps.specs.World.{World, type_of, Comes}
+use Rattle.elab_steps.specs.World.{World, type_of}
 use Rattle.elab_steps.proofs.Growing.{grows_same, grows_on, type_later, comes_before}
 use Rattle.elab_steps.proofs.Changing.{Freshened, freshened_within}
 use Rattle.elab_instances.specs.Fresh.{IsFresh, AreFresh, images_of}

@@ -1,7 +1,8 @@
 // New variables as types.
-ghost use Rattle.std.specs.Prelude.{◌≡◌, ◌≤◌, true, length, IfOk};
+ghost use Rattle.std.specs.Prelude.{◌≡◌, ◌<◌, ◌≤◌, true, length, IfOk};
 ghost use Rattle.std.specs.List.{AllByRecursion};
 ghost use Rattle.ty_core.specs.Marks.{is_inhabited};
+ghost use Rattle.elab_state.specs.States.{dead_level};
 ghost use Rattle.elab_steps.specs.Growing.{HasType, Always, AreTypes, Grows};
 ghost use Rattle.elab_instances.specs.Fresh.{AreFresh, IsFresh};
 
@@ -20,6 +21,8 @@ pub fn marked_type(
 ) -> Result<usize, NoMemory>
     requires inhabited { is_inhabited mark ≡ true }
     requires wide { 4 ≤ limit.names }
+    requires deep { limit.level < dead_level }
+    requires inside { limit.level ≤ state.old.level }
     ensures grows { IfOk result (λ _. Grows state.old state.new) }
     ensures is { IfOk result (λ r. HasType state.new r) }
     ensures fresh { IfOk result (λ r. Always state.new (λ W. IsFresh W limit mark r)) }
@@ -38,6 +41,8 @@ pub fn fresh_types(
 ) -> Result<Vec<usize>, NoMemory>
     requires inhabited { AllByRecursion (λ m. is_inhabited m ≡ true) marks.now }
     requires wide { 4 ≤ limit.names }
+    requires deep { limit.level < dead_level }
+    requires inside { limit.level ≤ state.old.level }
     ensures grows { IfOk result (λ _. Grows state.old state.new) }
     ensures are { IfOk result (λ ks. AreTypes state.new ks.items) }
     ensures count { IfOk result (λ ks. length ks.items ≡ length marks.now) }

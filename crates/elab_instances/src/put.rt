@@ -8,7 +8,7 @@ ghost use Rattle.ty_instance.specs.Images.{image_at};
 ghost use Rattle.ty_instance.specs.Put.{put_for};
 ghost use Rattle.ir_poly.specs.Types.{changed, nth_type};
 ghost use Rattle.elab_state.specs.States.{types_in};
-ghost use Rattle.elab_steps.specs.Growing.{HasType, Always, AreTypes, Grows};
+ghost use Rattle.elab_steps.specs.Growing.{HasGeneral, HasType, Always, AreTypes, Grows};
 ghost use Rattle.elab_steps.specs.World.{type_of};
 ghost use Rattle.elab_instances.specs.Fresh.{images_of};
 
@@ -97,7 +97,7 @@ pub fn put_with(
     parameters: &[Quantified],
     images: &[usize],
 ) -> Result<usize, NoMemory>
-    requires body { HasType state.old body }
+    requires body { HasGeneral state.old parameters.now body }
     requires images { AreTypes state.old images.now }
     requires each_has_one { length images.now ≡ length parameters.now }
     ensures grows { IfOk result (λ _. Grows state.old state.new) }

@@ -18,6 +18,7 @@ impl State {
         ensures constructors { IfOk result (λ s. constructors_of s.tables ≡ []) }
         ensures general { IfOk result (λ s. general_in s ≡ []) }
         ensures next { IfOk result (λ s. s.next ≡ 0) }
+        ensures level { IfOk result (λ s. s.level ≡ 0) }
     {
         let solver = Solver::new(alloc)?;
         let tables = Tables::new(alloc)?;
@@ -27,6 +28,7 @@ impl State {
             namings: Vec::new(alloc),
             tables,
             next: 0,
+            level: 0,
         })
     }
 }

@@ -8,7 +8,8 @@ use crate::naming::{Naming, Written};
 use ir_tables::tables::Tables;
 use ty_solve::solver::Solver;
 
-/// What variables stand for; the types that the tree writes, by number, and the namings that are in force in it; the program's tables and its next variable.
+/// What variables stand for; the types that the tree writes, by number, and the namings that are in force in it; the program's tables and its next variable;
+/// and inside how many `val` declarations that generalise all of this is.
 #[derive(Drop)]
 pub struct State {
     pub solver: Solver,
@@ -16,6 +17,7 @@ pub struct State {
     pub namings: Vec<Naming>,
     pub tables: Tables,
     pub next: usize,
+    pub level: usize,
     pub ghost held: { AreWritten (length solver.subst.types) (length namings.items) written.items } by { AreWritten-prop (length solver.subst.types) (length namings.items) written.items },
     pub ghost ordered: { AreNamings namings.items } by { AreNamings-prop namings.items },
     pub ghost rows: { AreHeldRows (length tables.types) tables.constructors } by { AreHeldRows-prop (length tables.types) tables.constructors },

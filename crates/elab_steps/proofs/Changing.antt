@@ -1,18 +1,19 @@
 -- The changes of single steps.
-use Rattle.std.proofs.Common.{◌≡◌, ◌<◌, ◌≤◌, ◌+◌, ℕ, zero, suc, Bool, true, false, if◌then◌else◌, ◌&&◌, ap₂, List, [], ◌∷◌, ◌++◌, length, take, map, Result, Ok, Err, IfOk, Some, slice_get, refl, sym, ap, subst, ◌∙◌, arith}
+use Rattle.std.proofs.Common.{◌≡◌, ◌<◌, ◌≤◌, ◌+◌, inl, inr, ℕ, zero, suc, Bool, true, false, if◌then◌else◌, ◌&&◌, ap₂, List, [], ◌∷◌, ◌++◌, length, take, map, Result, Ok, Err, IfOk, Some, slice_get, nat_lt, refl, sym, ap, subst, ◌∙◌, arith}
 use Rattle.std.proofs.lemmas.Option.{slice_get_within, get_or_from_slice_get}
-use Rattle.std.proofs.lemmas.List.{length-append}
-use Rattle.std.proofs.lemmas.Bool.{lt-ltb}
+use Rattle.std.specs.List.{AllByRecursion}
+use Rattle.std.proofs.lemmas.List.{length-append, length-map}
+use Rattle.std.proofs.lemmas.Bool.{eqb-true, lt-ltb, ltb-true}
 use Rattle.std.specs.Prelude.{Vec}
 use Rattle.std.specs.Global.{Global}
 use Rattle.ty_core.specs.Types.{Typ, var, con, more, Symbol}
 use Rattle.ty_core.specs.declared.mark.Mark.{Mark}
 use Rattle.ty_table.specs.TypeAt.{type_at, types_at, AllBelow}
-use Rattle.ty_solve.specs.Substitution.{Entry, sub, subs, Solves, is_below, are_below, Meets, free}
+use Rattle.ty_solve.specs.Substitution.{Entry, sub, subs, Solves, is_below, are_below, is_in, are_in, Meets, free}
 use Rattle.ty_solve.specs.SlotsOf.{look, entries, entry_of, seen}
 use Rattle.ty_solve.specs.Said.{said}
-use Rattle.ty_solve.specs.Solve.{IsMostGeneral}
-use Rattle.ty_solve.specs.Limits.{limit_at, Fall, NoFurther}
+use Rattle.ty_solve.specs.Solve.{IsMostGeneral, LeavesRest}
+use Rattle.ty_solve.specs.Limits.{limit_at, Fall, LeavesLimits, NoFurther}
 use Rattle.ty_solve.specs.declared.limit.Limit.{Limit}
 use Rattle.ty_solve.specs.declared.subst.Slot.{Slot}
 use Rattle.ty_solve.specs.declared.subst.Slot.TheVariants.{Open}
@@ -29,13 +30,17 @@ use Rattle.elab_types.specs.declared.scope.TypeScope.{TypeScope}
 use Rattle.elab_types.proofs.Knowing.{known_where}
 use Rattle.elab_state.specs.Readings.{AreWritten}
 use Rattle.elab_state.specs.Namings.{IsAmong}
-use Rattle.elab_state.specs.States.{types_in, made, said_in, limit_in, dead_level}
-use Rattle.elab_steps.specs.Growing.{HasType, Begins, Grows, Always, IsWithin, AreTypes, types_of}
-use Rattle.elab_state.specs.declared.naming.Naming.{Naming}
+use Rattle.ir_poly.specs.Types.{in_scope}
+use Rattle.elab_state.specs.States.{types_in, made, said_in, limit_in, general_in, all_parameters, dead_level}
+use Rattle.elab_state.proofs.Typed.{either}
+use Rattle.elab_steps.specs.Tidy.{IsLive, IsTidy}
+use Rattle.elab_steps.specs.Growing.{HasType, AreLive, Begins, Grows, Always, IsWithin, AreTypes, types_of}
 use Rattle.elab_state.specs.declared.naming.Written.{Written}
 use Rattle.elab_state.specs.declared.state.State.{State}
 use Rattle.elab_steps.specs.World.{World, type_of, Comes}
 use Rattle.elab_steps.proofs.Growing.{comes_before}
+use Rattle.elab_steps.proofs.Keeping.{Makes, makes-done, makes-tidy, unified-done, unified-tidy}
+use Rattle.elab_steps.proofs.Annotating.{annotation-in}
 
 -- what follows of an Ok
 pub if-ok : {A E : Type 0} {P Q : A → Type 0} (r : Result A E) → ((x : A) → P x → Q x) → IfOk r P → IfOk r Q
@@ -89,6 +94,30 @@ pub record Stays (S T : State) : Type 0 where
   pub namings : T.namings.items ≡ S.namings.items
   pub tables : T.tables ≡ S.tables
   pub next : T.next ≡ S.next
+  pub level : T.level ≡ S.level
+
+-- where nothing is said of a variable that wasn't said before
+same-general : (S T : State) → T.tables ≡ S.tables → (x : ℕ) → in_scope (general_in T) x ≡ in_scope (general_in S) x
+same-general S T e x = ap (λ t. in_scope (all_parameters (parameters_of t)) x) e
+
+pub solver-makes : (S T : State) → T.solver ≡ S.solver → ((x : ℕ) → in_scope (general_in T) x ≡ in_scope (general_in S) x) → T.level ≡ S.level → Makes S T
+solver-makes S T e general level = record {
+  said = λ x lt. ap (λ s. said s.subst x) e;
+  limits = λ x lt. ap (λ s. limit_at s.limits.items x) e;
+  new = λ x le lt. absurd (let same : made T ≡ made S = ap (λ s. length s.subst.slots.items) e in omega (arith, same, le, lt));
+  general = general;
+  level = level;
+}
+
+tables-makes : (S T : State) → Stays S T → T.solver.subst.slots.items ≡ S.solver.subst.slots.items → T.solver.limits.items ≡ S.solver.limits.items
+    → said T.solver.subst ≡ said S.solver.subst → Makes S T
+tables-makes S T h slots limits says = record {
+  said = λ x lt. ap (λ f. f x) says;
+  limits = λ x lt. ap (λ ls. limit_at ls x) limits;
+  new = λ x le lt. absurd (let same : made T ≡ made S = ap length slots in omega (arith, same, le, lt));
+  general = same-general S T h.tables;
+  level = h.level;
+}
 
 pub rows-same : (a b : Tables) → b ≡ a → (y : _) (c : ℕ) (row : Rattle.ir_poly.specs.Types.Constructor)
     → Rattle.ir_poly.specs.Types.find (Rattle.ir_tables.specs.Tables.constructors_of a) y c ≡ Some row → Rattle.ir_poly.specs.Types.find (Rattle.ir_tables.specs.Tables.constructors_of b) y c ≡ Some row
@@ -105,9 +134,36 @@ pub record Freshened (S T : State) (mid : Subst) (mark : Mark) (limit : Limit) (
   pub says : said T.solver.subst ≡ said mid
   pub number : v ≡ made S
   pub is : slice_get (types_in T) r ≡ Some (var v)
+  -- it belongs to one of the declarations around
+  pub deep : limit.level < dead_level
+  pub inside : limit.level ≤ S.level
 
 pub made-fresh : (S T : State) (mid : Subst) (mark : Mark) (limit : Limit) (v r : ℕ) → Freshened S T mid mark limit v r → made T ≡ made S + 1
 made-fresh S T mid mark limit v r h = ap length (h.slots ∙ h.mid_slots) ∙ length-append S.solver.subst.slots.items (Open mark ∷ [])
+
+freshened-limit : (S T : State) (mid : Subst) (mark : Mark) (limit : Limit) (v r : ℕ) → Freshened S T mid mark limit v r → limit_in T v ≡ limit
+freshened-limit S T mid mark limit v r h =
+    ap (limit_at T.solver.limits.items) (h.number ∙ sym S.solver.each_has_one) ∙ ap (λ ls. limit_at ls (length S.solver.limits.items)) h.limits
+    ∙ limit-last S.solver.limits.items limit
+
+look-first : (es : List Entry) (k : Mark) (v : ℕ) → v < length es → look (es ++ free k ∷ []) v ≡ look es v
+look-first [] k v lt = absurd (omega (arith, lt))
+look-first (e ∷ es) k zero lt = refl
+look-first (e ∷ es) k (suc v) lt = look-first es k v (omega (arith, lt))
+
+freshened-makes : (S T : State) (mid : Subst) (mark : Mark) (limit : Limit) (v r : ℕ) → Freshened S T mid mark limit v r → Makes S T
+freshened-makes S T mid mark limit v r h = record {
+  said = λ x lt.
+      let ts = types_in S in let os = S.solver.subst.slots.items in
+      ap (λ f. f x) h.says ∙ ap (λ l. seen l mid.slots.items x) h.mid_types ∙ ap (λ l. seen ts l x) h.mid_slots ∙ ap (λ l. look l x) (entries-snoc ts os mark)
+      ∙ look-first (entries ts os) mark x (let n = length-map os (entry_of ts) in omega (arith, lt, n));
+  limits = λ x lt. ap (λ ls. limit_at ls x) h.limits ∙ limit-front S.solver.limits.items limit x (let e = S.solver.each_has_one in omega (arith, e, lt));
+  new = λ x le lt.
+      let n = made-fresh S T mid mark limit v r h in let k = h.number in let s : v ≡ x = omega (arith, n, k, le, lt) in let i = h.inside in
+      subst (λ y. (limit_in T y).level ≤ S.level) s (subst (λ (l : Limit). l.level ≤ S.level) (sym (freshened-limit S T mid mark limit v r h)) i);
+  general = same-general S T h.stays.tables;
+  level = h.stays.level;
+}
 
 pub freshened_grows : (S T : State) (mid : Subst) (mark : Mark) (limit : Limit) (v r : ℕ) → Freshened S T mid mark limit v r → Grows S T
 freshened_grows S T mid mark limit v r h = record {
@@ -123,6 +179,9 @@ freshened_grows S T mid mark limit v r h = record {
   limits = λ x lt. same-limit (limit_in T x) (limit_in S x)
       (ap (λ ls. limit_at ls x) h.limits ∙ limit-front S.solver.limits.items limit x (let e = S.solver.each_has_one in omega (arith, e, lt)));
   next = let e = h.stays.next in omega (arith, e);
+  level = h.stays.level;
+  done = makes-done S T (freshened-makes S T mid mark limit v r h);
+  tidy = makes-tidy S T (freshened-makes S T mid mark limit v r h);
 }
 
 pub freshened_is : (S T : State) (mid : Subst) (mark : Mark) (limit : Limit) (v r : ℕ) → Freshened S T mid mark limit v r → HasType T r
@@ -131,6 +190,9 @@ freshened_is S T mid mark limit v r h = record {
   below =
       let e = made-fresh S T mid mark limit v r h in let n = h.number in let lt : v < made T = omega (arith, e, n) in
       subst (λ t. is_below (made T) t ≡ true) (sym (get_or_from_slice_get (types_in T) r (var v) (var 0) h.is)) (lt-ltb v (made T) lt);
+  live = λ x i.
+      let same : v ≡ x = eqb-true v x (subst (λ t. is_in x t ≡ true) (get_or_from_slice_get (types_in T) r (var v) (var 0) h.is) i) in
+      subst (λ y. (limit_in T y).level < dead_level) same (subst (λ (l : Limit). l.level < dead_level) (sym (freshened-limit S T mid mark limit v r h)) h.deep);
 }
 
 pub freshened_within : (S T : State) (mid : Subst) (mark : Mark) (limit : Limit) (v r : ℕ) → Freshened S T mid mark limit v r → Always T (λ W. IsWithin W limit r)
@@ -138,7 +200,7 @@ freshened_within S T mid mark limit v r h W c =
     let e = made-fresh S T mid mark limit v r h in
     let n = h.number in
     let lt : v < made T = omega (arith, e, n) in
-    let same : limit_in T v ≡ limit = ap (limit_at T.solver.limits.items) (h.number ∙ sym S.solver.each_has_one) ∙ ap (λ ls. limit_at ls (length S.solver.limits.items)) h.limits ∙ limit-last S.solver.limits.items limit in
+    let same = freshened-limit S T mid mark limit v r h in
     let is : type_of W r ≡ W.value v = ap (sub W.value) (c.types r (slice_get_within (types_in T) r (var v) h.is) ∙ get_or_from_slice_get (types_in T) r (var v) (var 0) h.is) in
     record {
       names = subst (Rattle.core_rules.specs.Objects.Over limit.names) (sym is) (subst (λ l. Rattle.core_rules.specs.Objects.Over l.names (W.value v)) same (c.names v lt));
@@ -153,6 +215,10 @@ pub record Unified (S T : State) (a b : ℕ) : Type 0 where
   pub count : made T ≡ made S
   pub general : IsMostGeneral (said_in S) (said_in T) (type_at (types_in S) a) (type_at (types_in S) b)
   pub fall : Fall (limit_in S) (limit_in T)
+  pub rest : LeavesRest (said_in S) (said_in T) (type_at (types_in S) a) (type_at (types_in S) b)
+  pub rest_limits : LeavesLimits (said_in S) (limit_in S) (limit_in T) (type_at (types_in S) a) (type_at (types_in S) b)
+  pub first : HasType S a
+  pub second : HasType S b
 
 pub unified_grows : (S T : State) (a b : ℕ) → Unified S T a b → Grows S T
 unified_grows S T a b h = record {
@@ -166,6 +232,10 @@ unified_grows S T a b h = record {
   solves = λ m f s. ((h.general m f).0 s).0;
   limits = λ v lt. h.fall v;
   next = let e = h.stays.next in omega (arith, e);
+  level = h.stays.level;
+  done = λ v lt. unified-done S T a b h.first h.second h.rest h.rest_limits v;
+  tidy = λ t. unified-tidy S T a b h.first h.second h.rest h.rest_limits T.level h.count (ap (λ t. all_parameters (parameters_of t)) h.stays.tables) h.fall
+      (subst (IsTidy S) (sym h.stays.level) t);
 }
 
 pub unified_equal : (S T : State) (a b : ℕ) → Unified S T a b → HasType S a → HasType S b → Always T (λ W. type_of W a ≡ type_of W b)
@@ -181,6 +251,7 @@ pub record Wrote (S T : State) (w : Written) : Type 0 where
   pub namings : T.namings.items ≡ S.namings.items
   pub tables : T.tables ≡ S.tables
   pub next : T.next ≡ S.next
+  pub level : T.level ≡ S.level
 
 found-last : {A : Type 0} (xs : List A) (a : A) → slice_get (xs ++ a ∷ []) (length xs) ≡ Some a
 found-last [] a = refl
@@ -198,6 +269,9 @@ wrote_grows S T w h = record {
   solves = λ m f s. subst (λ x. Solves m f (said x.subst)) h.solver s;
   limits = λ v lt. same-limit (limit_in T v) (limit_in S v) (ap (λ s. limit_at s.limits.items v) h.solver);
   next = let e = h.next in omega (arith, e);
+  level = h.level;
+  done = makes-done S T (solver-makes S T h.solver (same-general S T h.tables) h.level);
+  tidy = makes-tidy S T (solver-makes S T h.solver (same-general S T h.tables) h.level);
 }
 
 pub wrote_is : (S T : State) (w : Written) (k : ℕ) → Wrote S T w → k ≡ length S.written.items → Always T (λ W. W.reading.type k ≡ type_as (W.naming w.naming) (type_of W w.ty))
@@ -220,8 +294,8 @@ written_pushed n count false ws new w e h lt i = subst (AreWritten n count) (sym
 pub begins-of : (ts us vs : List Typ) → us ≡ ts → take (length us) vs ≡ us → take (length ts) vs ≡ ts
 begins-of ts us vs e h = subst (λ (l : List Typ). take (length l) vs ≡ l) e h
 
-pub next_grows : (S T : State) → T.solver ≡ S.solver → T.written.items ≡ S.written.items → T.namings.items ≡ S.namings.items → T.tables ≡ S.tables → T.next ≡ S.next + 1 → Grows S T
-next_grows S T a b c d e = record {
+pub next_grows : (S T : State) → T.solver ≡ S.solver → T.written.items ≡ S.written.items → T.namings.items ≡ S.namings.items → T.tables ≡ S.tables → T.next ≡ S.next + 1 → T.level ≡ S.level → Grows S T
+next_grows S T a b c d e l = record {
   types = begins-same _ _ (ap (λ s. s.subst.types) a);
   written = begins-same _ _ b;
   namings = begins-same _ _ c;
@@ -232,6 +306,9 @@ next_grows S T a b c d e = record {
   solves = λ m f s. subst (λ x. Solves m f (said x.subst)) a s;
   limits = λ v lt. same-limit (limit_in T v) (limit_in S v) (ap (λ s. limit_at s.limits.items v) a);
   next = omega (arith, e);
+  level = l;
+  done = makes-done S T (solver-makes S T a (same-general S T d) l);
+  tidy = makes-tidy S T (solver-makes S T a (same-general S T d) l);
 }
 
 -- a type made of parts
@@ -255,6 +332,9 @@ applied_grows S T h ks r a = record {
   solves = λ m f s. subst (Solves m f) a.says s;
   limits = λ v lt. same-limit (limit_in T v) (limit_in S v) (ap (λ ls. limit_at ls v) a.limits);
   next = let e = a.stays.next in omega (arith, e);
+  level = a.stays.level;
+  done = makes-done S T (tables-makes S T a.stays a.slots a.limits a.says);
+  tidy = makes-tidy S T (tables-makes S T a.stays a.slots a.limits a.says);
 }
 
 both : (a b : Bool) → a ≡ true → b ≡ true → (a && b) ≡ true
@@ -263,6 +343,11 @@ both a b e q = ap₂ (λ a b. a && b) e q
 parts-below : (S : State) (ks : List ℕ) → AreTypes S ks → are_below (made S) (types_at (types_in S) ks) ≡ true
 parts-below S [] h = refl
 parts-below S (k ∷ ks) h = both (is_below (made S) (type_at (types_in S) k)) (are_below (made S) (types_at (types_in S) ks)) h.0.below (parts-below S ks h.1)
+
+parts-live : (S : State) (ks : List ℕ) → AreTypes S ks → (v : ℕ) → are_in v (types_at (types_in S) ks) ≡ true → (limit_in S v).level < dead_level
+parts-live S [] h v i = cc
+parts-live S (k ∷ ks) h v i =
+    elim (either (is_in v (type_at (types_in S) k)) (are_in v (types_at (types_in S) ks)) i) [ inl j ↦ h.0.live v j | inr j ↦ parts-live S ks h.1 v j ]
 
 pub parts_held : (S : State) (ks : List ℕ) → AreTypes S ks → AllBelow (length (types_in S)) ks
 parts_held S [] h = tt
@@ -275,6 +360,9 @@ applied_is S T h ks r a ts = record {
       let e : made T ≡ made S = ap length a.slots in
       subst (λ t. is_below (made T) t ≡ true) (sym (get_or_from_slice_get (types_in T) r (con h (types_at (types_in S) ks)) (var 0) a.is))
       (ap (λ n. are_below n (types_at (types_in S) ks)) e ∙ parts-below S ks ts);
+  live = λ v i.
+      subst (λ (l : Limit). l.level < dead_level) (ap (λ ls. limit_at ls v) (sym a.limits))
+      (parts-live S ks ts v (subst (λ t. is_in v t ≡ true) (get_or_from_slice_get (types_in T) r (con h (types_at (types_in S) ks)) (var 0) a.is) i));
 }
 
 parts-come : (S : State) (W : World) (ks : List ℕ) → Comes S W → AreTypes S ks → subs W.value (types_at (types_in S) ks) ≡ types_of W ks
@@ -296,6 +384,7 @@ pub record Texted (S T : State) (s : Vec ℕ Global) : Type 0 where
   pub lists : T.tables.parameters ≡ S.tables.parameters
   pub strings : T.tables.strings.items ≡ S.tables.strings.items ++ s ∷ []
   pub next : T.next ≡ S.next
+  pub level : T.level ≡ S.level
 
 begins-map : {A B : Type 0} (f : A → B) (xs ys : List A) → Begins xs ys → Begins (map f xs) (map f ys)
 begins-map f [] ys e = refl
@@ -314,7 +403,13 @@ texted_grows S T s h = record {
   solves = λ m f s. subst (λ x. Solves m f (said x.subst)) h.solver s;
   limits = λ v lt. same-limit (limit_in T v) (limit_in S v) (ap (λ s. limit_at s.limits.items v) h.solver);
   next = let e = h.next in omega (arith, e);
+  level = h.level;
+  done = makes-done S T (solver-makes S T h.solver general h.level);
+  tidy = makes-tidy S T (solver-makes S T h.solver general h.level);
 }
+  where
+    general : (x : ℕ) → in_scope (general_in T) x ≡ in_scope (general_in S) x
+    general x = ap (λ v. in_scope (all_parameters (map (λ p. p.items) v.items)) x) h.lists
 
 pub texted_is : (S T : State) (s : Vec ℕ Global) (k : ℕ) (bytes : List ℕ) → Texted S T s → k ≡ length S.tables.strings.items → s.items ≡ bytes → Always T (λ W. string_at W.reading.strings k ≡ bytes)
 texted_is S T s k bytes h e q W c =
@@ -348,10 +443,23 @@ tabled_grows S T a = record {
   solves = λ m f s. subst (Solves m f) a.says s;
   limits = λ v lt. same-limit (limit_in T v) (limit_in S v) (ap (λ ls. limit_at ls v) a.limits);
   next = let e = a.stays.next in omega (arith, e);
+  level = a.stays.level;
+  done = makes-done S T (tables-makes S T a.stays a.slots a.limits a.says);
+  tidy = makes-tidy S T (tables-makes S T a.stays a.slots a.limits a.says);
 }
 
-pub annotated_is : (S T : State) (s : TypeScope) (ty : Ty) (r : ℕ) → Tabled S T → AreKnown (made S) (types_in S) s → IsTypeOf (types_in S) (types_in T) s ty r → HasType T r
-annotated_is S T s ty r a k is = record {
+scope-live : (S : State) (xs : List (ℕ × ℕ)) → AllByRecursion (λ b. IsLive S b.1) xs
+    → AllByRecursion (λ b. (v : ℕ) → is_in v (type_at (types_in S) b.1) ≡ true → nat_lt (limit_in S v).level dead_level ≡ true) xs
+scope-live S [] h = tt
+scope-live S (x ∷ xs) h = ((λ v i. lt-ltb (limit_in S v).level dead_level (h.0 v i)), scope-live S xs h.1)
+
+pub annotated_is : (S T : State) (s : TypeScope) (ty : Ty) (r : ℕ) → Tabled S T → AreKnown (made S) (types_in S) s → AreLive S s → IsTypeOf (types_in S) (types_in T) s ty r
+    → HasType T r
+annotated_is S T s ty r a k l is = record {
   held = is.held;
   below = let e : made T ≡ made S = ap length a.slots in subst (λ n. is_below n (type_at (types_in T) r) ≡ true) (sym e) (known_where (types_in S) (types_in T) s ty r is (made S) k);
+  live = λ v i.
+      subst (λ (l : Limit). l.level < dead_level) (ap (λ ls. limit_at ls v) (sym a.limits))
+      (ltb-true (limit_in S v).level dead_level
+      (annotation-in (λ x. nat_lt (limit_in S x).level dead_level) (types_in S) (types_in T) s ty r is (scope-live S s.tyvars l) v i));
 }

@@ -1,23 +1,19 @@
 -- What a later state says tells what an earlier one said.
 use Rattle.std.proofs.Common.{◌≡◌, ◌<◌, ◌≤◌, ◌+◌, ◌-◌, ℕ, zero, suc, Bool, true, false, ◌&&◌, ◌||◌, List, [], ◌∷◌, ◌++◌, length, take, get_or, Option, Some, slice_get, nat_lt, refl, sym, ap, ap₂, subst, ◌∙◌, arith}
-use Rattle.std.proofs.lemmas.Option.{slice_get_within, slice_get-get_or, get_or_from_slice_get}
-use Rattle.std.proofs.lemmas.List.{get_or-take}
 use Rattle.std.proofs.lemmas.Bool.{ltb-true, lt-ltb}
 use Rattle.ty_core.specs.Types.{Typ, var, con, Typs, none, more}
-use Rattle.ty_core.specs.declared.name.TyName.{TyName}
 use Rattle.ty_core.specs.declared.scheme.Quantified.{Quantified}
 use Rattle.ty_table.specs.TypeAt.{type_at}
-use Rattle.ty_solve.specs.Substitution.{sub, Solves, is_below, are_below}
-use Rattle.ty_solve.specs.Limits.{NoFurther}
-use Rattle.ty_solve.specs.declared.limit.Limit.{Limit}
+use Rattle.ty_solve.specs.Substitution.{is_below, are_below, is_in}
 use Rattle.ty_solve.proofs.Holding.{type-stays}
 use Rattle.ty_instance.proofs.Going.{stays-on, longer, whole}
 use Rattle.core_rules.specs.Objects.{Over}
-use Rattle.ir_poly.specs.Types.{in_scope, over, all_over, find, Constructor}
-use Rattle.ir_tables.specs.Tables.{parameters_of, strings_of, string_at}
+use Rattle.ir_poly.specs.Types.{in_scope, over, all_over}
+use Rattle.ir_tables.specs.Tables.{parameters_of, strings_of}
 use Rattle.elab_typed.proofs.Under.{over-more}
-use Rattle.elab_state.specs.States.{types_in, made, said_in, limit_in, general_in, all_parameters, table_in, dead_level}
-use Rattle.elab_steps.specs.Growing.{HasType, Begins, Grows, Always, IsWithin}
+use Rattle.elab_state.specs.States.{types_in, made, limit_in, general_in, all_parameters, dead_level}
+use Rattle.elab_state.proofs.Typed.{in-below}
+use Rattle.elab_steps.specs.Growing.{HasType, HasGeneral, Begins, Grows, Always}
 use Rattle.elab_state.specs.declared.state.State.{State}
 use Rattle.elab_steps.specs.World.{World, Comes}
 
@@ -148,6 +144,9 @@ grows_same S = record {
   solves = λ m f s. s;
   limits = λ v lt. (omega arith, omega arith);
   next = omega arith;
+  level = refl;
+  done = λ v lt e. record { said = refl; level = e };
+  tidy = λ t. t;
 }
 
 pub grows_on : (S T U : State) → Grows S T → Grows T U → Grows S U
@@ -164,6 +163,10 @@ grows_on S T U g h = record {
       let a = g.limits v lt in let b = h.limits v (within v (made S) (made T) lt g.variables) in
       (at-most (limit_in U v).names (limit_in T v).names (limit_in S v).names b.0 a.0, at-most (limit_in U v).level (limit_in T v).level (limit_in S v).level b.1 a.1);
   next = at-most S.next T.next U.next g.next h.next;
+  level = h.level ∙ g.level;
+  done = λ v lt e.
+      let a = g.done v lt e in let b = h.done v (within v (made S) (made T) lt g.variables) a.level in record { said = b.said ∙ a.said; level = b.level };
+  tidy = λ t. h.tidy (g.tidy t);
 }
 
 pub type_later : (S T : State) (k : ℕ) → Grows S T → HasType S k → HasType T k
@@ -171,7 +174,24 @@ type_later S T k g i = record {
   held = within k (length (types_in S)) (length (types_in T)) i.held (longer (types_in S) (types_in T) g.types);
   below =
       subst (λ t. is_below (made T) t ≡ true) (sym (type-stays (types_in S) (types_in T) k g.types i.held)) (below-up (made S) (made T) g.variables (type_at (types_in S) k) i.below);
+  live = λ v j.
+      let here : is_in v (type_at (types_in S) k) ≡ true = subst (λ t. is_in v t ≡ true) (type-stays (types_in S) (types_in T) k g.types i.held) j in
+      under (limit_in T v).level (limit_in S v).level dead_level (g.limits v (in-below (made S) v (type_at (types_in S) k) here i.below)).1 (i.live v here);
 }
+
+pub general_later : (S T : State) (qs : List Quantified) (k : ℕ) → Grows S T → HasGeneral S qs k → HasGeneral T qs k
+general_later S T qs k g i = record {
+  held = within k (length (types_in S)) (length (types_in T)) i.held (longer (types_in S) (types_in T) g.types);
+  below =
+      subst (λ t. is_below (made T) t ≡ true) (sym (type-stays (types_in S) (types_in T) k g.types i.held)) (below-up (made S) (made T) g.variables (type_at (types_in S) k) i.below);
+  live = λ v j out.
+      let here : is_in v (type_at (types_in S) k) ≡ true = subst (λ t. is_in v t ≡ true) (type-stays (types_in S) (types_in T) k g.types i.held) j in
+      under (limit_in T v).level (limit_in S v).level dead_level (g.limits v (in-below (made S) v (type_at (types_in S) k) here i.below)).1 (i.live v here out);
+}
+
+-- a type is one that was generalised, with no parameters or any
+pub general-type : (S : State) (qs : List Quantified) (k : ℕ) → HasType S k → HasGeneral S qs k
+general-type S qs k i = record { held = i.held; below = i.below; live = λ v j out. i.live v j }
 
 apart-before : (b c : Bool) → c ≡ false → (b ≡ true → c ≡ true) → b ≡ false
 apart-before true c e h = let q = h refl in cc

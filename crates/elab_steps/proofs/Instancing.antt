@@ -1,6 +1,6 @@
 -- Instances at new variables.
 use Rattle.std.proofs.Common.{◌≡◌, ◌<◌, ◌≤◌, ◌+◌, ◌-◌, ℕ, zero, suc, Bool, true, false, ◌&&◌, if◌then◌else◌, List, [], ◌∷◌, ◌++◌, length, map, nat_lt, Some, slice_get, refl, sym, ap, ap₂, subst, ◌∙◌, arith}
-use Rattle.std.proofs.lemmas.Bool.{ltb-true, lt-ltb, and_parts}
+use Rattle.std.proofs.lemmas.Bool.{eqb-true, ltb-true, lt-ltb, and_parts}
 use Rattle.std.proofs.lemmas.List.{map-append, length-map, length-append}
 use Rattle.std.proofs.lemmas.Option.{slice_get_within, get_or_from_slice_get}
 use Rattle.ty_core.specs.Types.{Typ, var, con, Typs, none, more, typs_of}
@@ -8,23 +8,24 @@ use Rattle.ty_core.specs.Marks.{Allows}
 use Rattle.ty_core.specs.Statics.{replace, replace_all}
 use Rattle.ty_core.specs.declared.mark.Mark.{Mark}
 use Rattle.ty_table.specs.TypeAt.{type_at}
-use Rattle.ty_solve.specs.Substitution.{Entry, free, sub, subs, Meets, is_below, are_below}
+use Rattle.ty_solve.specs.Substitution.{Entry, free, sub, subs, Meets, is_below, are_below, is_in}
 use Rattle.ty_solve.specs.SlotsOf.{look, entries, entry_of}
 use Rattle.ty_solve.specs.Limits.{limit_at}
 use Rattle.ty_solve.specs.declared.limit.Limit.{Limit}
-use Rattle.ty_solve.specs.declared.subst.Slot.{Slot}
 use Rattle.ty_solve.specs.declared.subst.Slot.TheVariants.{Open}
 use Rattle.ty_instance.specs.Renamed.{renamed}
 use Rattle.ir_tables.specs.Tables.{parameters_of, strings_of}
 use Rattle.core_rules.specs.Objects.{AllAllowed, Over, AllOver}
-use Rattle.ir_poly.specs.Types.{nth_type, over, all_over}
-use Rattle.elab_state.specs.States.{types_in, made, said_in, limit_in, dead_level}
+use Rattle.ir_poly.specs.Types.{in_scope, nth_type, over, all_over}
+use Rattle.elab_state.specs.States.{types_in, made, said_in, limit_in, all_parameters, dead_level}
+use Rattle.elab_state.proofs.Typed.{in-below}
 use Rattle.elab_state.specs.declared.state.State.{State}
 use Rattle.elab_steps.specs.Growing.{HasType, Begins, Grows, Always}
 use Rattle.elab_steps.specs.Instances.{IsScheme, IsInstance}
-use Rattle.elab_steps.specs.World.{World, type_of, Comes}
+use Rattle.elab_steps.specs.World.{type_of}
 use Rattle.elab_steps.proofs.Growing.{comes_before, below-up}
 use Rattle.elab_steps.proofs.Changing.{Stays, begins-same, rows-same, same-limit}
+use Rattle.elab_steps.proofs.Keeping.{Makes, makes-done, makes-tidy, replaced-in}
 
 -- what is said of variables, where some are added
 
@@ -116,6 +117,9 @@ pub record Instanced (S T : State) (marks : List Mark) (body : ℕ) (limit : Lim
   pub says : (v : ℕ) → v < made S → said_in T v ≡ said_in S v
   pub known : is_below (length marks + made S) (type_at (types_in S) body) ≡ true → is_below (made T) (type_at (types_in T) r) ≡ true
   pub is : slice_get (types_in T) r ≡ Some (replace (renamed (made S) (length marks)) (type_at (types_in S) body))
+  -- the new variables belong to one of the declarations around
+  pub deep : limit.level < dead_level
+  pub inside : limit.level ≤ S.level
 
 module _ (S T : State) (marks : List Mark) (body : ℕ) (limit : Limit) (r : ℕ) (h : Instanced S T marks body limit r) where
   made-more : made T ≡ made S + length marks
@@ -130,6 +134,22 @@ module _ (S T : State) (marks : List Mark) (body : ℕ) (limit : Limit) (r : ℕ
           let le : made S ≤ v = grind (arith, Rattle.std.proofs.lemmas.Bool.Decides.nat_tests) in
           subst (Meets m f (f v)) (sym (look-past (entries (types_in S) S.solver.subst.slots.items) v (omega (arith, length-map S.solver.subst.slots.items (entry_of (types_in S)))))) tt
 
+  new-limit : (i : ℕ) → i < length marks → limit_in T (made S + i) ≡ limit
+  new-limit i lt =
+      ap (λ ls. limit_at ls (made S + i)) h.limits ∙ limit-behind S.solver.limits.items (map (λ _. limit) marks) (made S) i (sym S.solver.each_has_one) ∙ limit-each limit marks i lt
+
+  instanced-makes : Makes S T
+  instanced-makes = record {
+    said = h.says;
+    limits = λ x lt.
+        ap (λ ls. limit_at ls x) h.limits ∙ limit-among S.solver.limits.items (map (λ _. limit) marks) x (let e = S.solver.each_has_one in omega (arith, e, lt));
+    new = λ x le lt.
+        let n = made-more in let s : made S + (x - made S) ≡ x = omega (arith, le) in let i = h.inside in
+        subst (λ y. (limit_in T y).level ≤ S.level) s (subst (λ (l : Limit). l.level ≤ S.level) (sym (new-limit (x - made S) (omega (arith, n, le, lt)))) i);
+    general = λ x. ap (λ t. in_scope (all_parameters (parameters_of t)) x) h.stays.tables;
+    level = h.stays.level;
+  }
+
   pub instanced_grows : Grows S T
   instanced_grows = record {
     types = h.types;
@@ -143,12 +163,27 @@ module _ (S T : State) (marks : List Mark) (body : ℕ) (limit : Limit) (r : ℕ
     limits = λ v lt. same-limit (limit_in T v) (limit_in S v)
         (ap (λ ls. limit_at ls v) h.limits ∙ limit-among S.solver.limits.items (map (λ _. limit) marks) v (let e = S.solver.each_has_one in omega (arith, e, lt)));
     next = let e = h.stays.next in omega (arith, e);
+    level = h.stays.level;
+    done = makes-done S T instanced-makes;
+    tidy = makes-tidy S T instanced-makes;
   }
+
+  renamed-live : (v x : ℕ) → v < length marks → is_in x (renamed (made S) (length marks) v) ≡ true → (limit_in T x).level < dead_level
+  renamed-live v x lt i =
+      let at : renamed (made S) (length marks) v ≡ var (made S + v) = ap (λ (b : Bool). if b then var (made S + v) else var (v - length marks)) (lt-ltb v (length marks) lt) in
+      let same : made S + v ≡ x = eqb-true (made S + v) x (subst (λ t. is_in x t ≡ true) at i) in
+      subst (λ y. (limit_in T y).level < dead_level) same (subst (λ (l : Limit). l.level < dead_level) (sym (new-limit v lt)) h.deep)
 
   pub instanced_is : IsScheme S marks body → HasType T r
   instanced_is s = record {
     held = slice_get_within (types_in T) r (replace (renamed (made S) (length marks)) (type_at (types_in S) body)) h.is;
     below = h.known (below-up (length marks) (length marks + made S) (omega arith) (type_at (types_in S) body) s.closed);
+    live = λ x i.
+        let f = renamed (made S) (length marks) in
+        let t = type_at (types_in S) body in
+        replaced-in ((limit_in T x).level < dead_level) f x t
+        (subst (λ u. is_in x u ≡ true) (get_or_from_slice_get (types_in T) r (replace f t) (var 0) h.is) i)
+        (λ v j. renamed-live v x (in-below (length marks) v t j s.closed));
   }
 
   new-said : (i : ℕ) (a : Mark) → slice_get marks i ≡ Some a → said_in T (made S + i) ≡ free a
@@ -156,10 +191,6 @@ module _ (S T : State) (marks : List Mark) (body : ℕ) (limit : Limit) (r : ℕ
       let os = S.solver.subst.slots.items in let ts = types_in T in
       ap (λ l. look (entries ts l) (made S + i)) h.slots ∙ ap (λ l. look l (made S + i)) (map-append (entry_of ts) os (map Open marks))
       ∙ look-behind (entries ts os) (entries ts (map Open marks)) (made S) i (sym (length-map os (entry_of ts))) ∙ look-open ts marks i a e
-
-  new-limit : (i : ℕ) → i < length marks → limit_in T (made S + i) ≡ limit
-  new-limit i lt =
-      ap (λ ls. limit_at ls (made S + i)) h.limits ∙ limit-behind S.solver.limits.items (map (λ _. limit) marks) (made S) i (sym S.solver.each_has_one) ∙ limit-each limit marks i lt
 
   pub instanced_instance : IsScheme S marks body → Always T (λ W. IsInstance W limit marks (W.raw body) (type_of W r))
   instanced_instance s W c =

@@ -1,3 +1,5 @@
+pub mod Annotating
+pub mod Keeping
 pub mod Growing
 pub mod Changing
 pub mod Instancing

@@ -1,5 +1,5 @@
 -- Fields in the order of their labels.
-use Rattle.std.proofs.Common.{◌≡◌, ◌⊎◌, inl, inr, ◌<◌, ◌≤◌, ◌+◌, ◌-◌, ℕ, zero, suc, Bool, true, false, ◌&&◌, not, cond, List, [], ◌∷◌, ◌++◌, length, map, take, get_or, nat_eq, nat_lt, Some, refl, sym, ap, ap₂, subst, ◌∙◌, arith}
+use Rattle.std.proofs.Common.{◌≡◌, ◌⊎◌, inl, inr, ◌<◌, ◌≤◌, ◌+◌, ◌-◌, ℕ, zero, suc, Bool, true, false, ◌&&◌, cond, List, [], ◌∷◌, length, map, take, get_or, Some, refl, sym, ap, ap₂, subst, ◌∙◌, arith}
 use Rattle.std.proofs.lemmas.Bool.{ltb-true, and_parts}
 use Rattle.std.proofs.lemmas.Bool.Decides.{nat_tests}
 use Rattle.std.proofs.lemmas.Option.{get_or_from_slice_get, slice_get-get_or}
@@ -7,10 +7,10 @@ use Rattle.std.specs.List.{AllByRecursion}
 use Rattle.std.specs.Map.{lookup}
 use Rattle.mlc_names.specs.declared.label.Label.{Label}
 use Rattle.mlc_names.specs.declared.label.Label.TheVariants.{Number, Word}
-use Rattle.ty_core.specs.Types.{Typ, Typs, con, labels, none, more, typs_of}
-use Rattle.ty_basis.specs.Types.{Row, labels_in, row_type}
+use Rattle.ty_core.specs.Types.{Typ, con, labels, more, typs_of}
+use Rattle.ty_basis.specs.Types.{labels_in, row_type}
 use Rattle.label_rows.specs.declared.sort.Field.{Field}
-use Rattle.label_rows.specs.Order.{label_before, put_by, sorted_by}
+use Rattle.label_rows.specs.Order.{label_before}
 use Rattle.label_rows.specs.Sorting.{sorted, put_field}
 use Rattle.label_rows.proofs.Mapped.{sorted-map}
 use Rattle.label_rows.proofs.Merging.{before-trans}

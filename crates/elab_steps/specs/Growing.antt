@@ -1,16 +1,20 @@
 -- What a step leaves of a state: all that was said.
-use Rattle.std.specs.Prelude.{◌≡◌, ◌<◌, ◌≤◌, ℕ, Bool, true, List, [], ◌∷◌, length, take, Some, ⊤}
+use Rattle.std.specs.Prelude.{◌≡◌, ◌<◌, ◌≤◌, ℕ, Bool, true, false, List, [], ◌∷◌, length, take, Some, ⊤}
+use Rattle.std.specs.List.{AllByRecursion}
 use Rattle.ty_core.specs.Types.{Typ, Typs, none, more}
 use Rattle.ty_core.specs.declared.name.TyName.{TyName}
 use Rattle.ty_table.specs.TypeAt.{type_at}
-use Rattle.ty_solve.specs.Substitution.{Solves, is_below}
+use Rattle.ty_core.specs.declared.scheme.Quantified.{Quantified}
+use Rattle.ty_solve.specs.Substitution.{Solves, is_below, is_in}
 use Rattle.ty_solve.specs.Limits.{NoFurther}
 use Rattle.ty_solve.specs.declared.limit.Limit.{Limit}
 use Rattle.core_rules.specs.Objects.{Over}
-use Rattle.ir_poly.specs.Types.{over, find, Constructor}
+use Rattle.ir_poly.specs.Types.{over, find, in_scope, Constructor}
 use Rattle.ir_tables.specs.Tables.{parameters_of, strings_of}
 use Rattle.elab_state.specs.States.{types_in, made, said_in, limit_in, table_in, dead_level}
 use Rattle.elab_state.specs.declared.state.State.{State}
+use Rattle.elab_types.specs.declared.scope.TypeScope.{TypeScope}
+use Rattle.elab_steps.specs.Tidy.{IsLive, IsTidy, StaysDone}
 use Rattle.elab_steps.specs.World.{World, type_of, Comes}
 
 -- new is old with more behind it
@@ -29,11 +33,26 @@ pub record Grows (S T : State) : Type 0 where
   pub solves : (m : ℕ → Bool) (f : ℕ → Typ) → Solves m f (said_in T) → Solves m f (said_in S)
   pub limits : (v : ℕ) → v < made S → NoFurther (limit_in T v) (limit_in S v)
   pub next : S.next ≤ T.next
+  -- it is as deep as before; what is done with stays, and a tidy state stays tidy
+  pub level : T.level ≡ S.level
+  pub done : (v : ℕ) → v < made S → (limit_in S v).level ≡ dead_level → StaysDone S T v
+  pub tidy : IsTidy S S.level → IsTidy T T.level
 
--- k is a type over the variables of the state
+-- k is a type over the variables of the state, of which none is done with
 pub record HasType (S : State) (k : ℕ) : Type 0 where
   pub held : k < length (types_in S)
   pub below : is_below (made S) (type_at (types_in S) k) ≡ true
+  pub live : IsLive S k
+
+-- the same of a type that was generalised: the parameters qs may be done with
+pub record HasGeneral (S : State) (qs : List Quantified) (k : ℕ) : Type 0 where
+  pub held : k < length (types_in S)
+  pub below : is_below (made S) (type_at (types_in S) k) ≡ true
+  pub live : (v : ℕ) → is_in v (type_at (types_in S) k) ≡ true → in_scope qs v ≡ false → (limit_in S v).level < dead_level
+
+-- and of the types of type variables in scope
+abbrev pub AreLive : State → TypeScope → Type 0
+AreLive S s = AllByRecursion (λ b. IsLive S b.1) s.tyvars
 
 -- in every world in which what the state says comes true
 abbrev pub Always : State → (World → Type 0) → Type 0

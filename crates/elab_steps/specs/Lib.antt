@@ -1,3 +1,4 @@
+pub mod Tidy
 pub mod World
 pub mod Growing
 pub mod Instances

@@ -6,7 +6,7 @@ ghost use Rattle.sml_tree.specs.TreeOf.{ty_of};
 ghost use Rattle.elab_types.specs.Annotations.{IsTypeOf};
 ghost use Rattle.elab_types.specs.Reading.{AreKnown, Holds};
 ghost use Rattle.elab_state.specs.States.{types_in, made};
-ghost use Rattle.elab_steps.specs.Growing.{HasType, Grows};
+ghost use Rattle.elab_steps.specs.Growing.{AreLive, HasType, Grows};
 
 use elab_state::state::State;
 use elab_types::refused::Refused;
@@ -63,6 +63,7 @@ pub fn annotated(
 ) -> Result<usize, Refused>
     requires holds { Holds (types_in state.old) scope.now }
     requires known { AreKnown (made state.old) (types_in state.old) scope.now }
+    requires live { AreLive state.old scope.now }
     ensures grows { IfOk result (λ _. Grows state.old state.new) }
     ensures is { IfOk result (λ r. HasType state.new r) }
     ensures written { IfOk result (λ r. IsTypeOf (types_in state.old) (types_in state.new) scope.now (ty_of ty.now) r) }

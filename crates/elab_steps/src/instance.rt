@@ -1,5 +1,6 @@
 // Instances of schemes, in the state.
-ghost use Rattle.std.specs.Prelude.{◌≡◌, ◌≤◌, length, IfOk};
+ghost use Rattle.std.specs.Prelude.{◌≡◌, ◌<◌, ◌≤◌, length, IfOk};
+ghost use Rattle.elab_state.specs.States.{dead_level};
 ghost use Rattle.elab_steps.specs.Growing.{HasType, Always, Grows};
 ghost use Rattle.elab_steps.specs.Instances.{IsInstance, IsScheme};
 ghost use Rattle.elab_steps.specs.World.{type_of};
@@ -21,6 +22,8 @@ pub fn instance(
 ) -> Result<usize, NoMemory>
     requires scheme { IsScheme state.old marks.now body }
     requires wide { 4 ≤ limit.names }
+    requires deep { limit.level < dead_level }
+    requires inside { limit.level ≤ state.old.level }
     ensures grows { IfOk result (λ _. Grows state.old state.new) }
     ensures is { IfOk result (λ r. HasType state.new r) }
     ensures instance { IfOk result (λ r. Always state.new (λ W. IsInstance W limit marks.now (W.raw body) (type_of W r))) }

@@ -6,7 +6,7 @@ ghost use Rattle.ty_core.specs.Marks.{is_inhabited};
 ghost use Rattle.ir_tables.specs.Tables.{string_at};
 ghost use Rattle.elab_typed.specs.Numbers.{type_as};
 ghost use Rattle.elab_state.specs.Namings.{IsAmong};
-ghost use Rattle.elab_state.specs.States.{types_in};
+ghost use Rattle.elab_state.specs.States.{dead_level, types_in};
 ghost use Rattle.elab_steps.specs.Growing.{HasType, Always, AreTypes, Grows, IsWithin, types_of};
 ghost use Rattle.elab_steps.specs.Instances.{begins_as_function};
 ghost use Rattle.elab_steps.specs.World.{type_of};
@@ -33,6 +33,8 @@ pub fn fresh_type(
 ) -> Result<usize, NoMemory>
     requires inhabited { is_inhabited mark ≡ true }
     requires wide { 4 ≤ limit.names }
+    requires deep { limit.level < dead_level }
+    requires inside { limit.level ≤ state.old.level }
     ensures grows { IfOk result (λ _. Grows state.old state.new) }
     ensures is { IfOk result (λ r. HasType state.new r) }
     ensures within { IfOk result (λ r. Always state.new (λ W. IsWithin W limit r)) }

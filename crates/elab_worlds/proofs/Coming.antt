@@ -1,6 +1,6 @@
 -- What a state says comes true in the world of a generic solution, and there is one.
-use Rattle.std.proofs.Common.{◌≡◌, ◌<◌, ℕ, zero, suc, Bool, true, false, nat_eq, if◌then◌else◌, List, [], ◌∷◌, ◌++◌, length, Option, Some, None, slice_get, refl, sym, ap, subst, ◌∙◌, arith}
-use Rattle.std.proofs.lemmas.Option.{slice_get_within, get_or_from_slice_get}
+use Rattle.std.proofs.Common.{◌≡◌, ◌<◌, ℕ, zero, suc, true, nat_eq, if◌then◌else◌, List, [], ◌∷◌, ◌++◌, length, Option, Some, None, slice_get, refl, sym, ap, subst, ◌∙◌, arith}
+use Rattle.std.proofs.lemmas.Option.{get_or_from_slice_get}
 use Rattle.std.proofs.lemmas.List.{append_assoc, append-nil, length-append}
 use Rattle.ty_core.specs.Types.{Typ}
 use Rattle.ty_core.specs.declared.scheme.Quantified.{Quantified}
@@ -12,17 +12,16 @@ use Rattle.ty_instance.proofs.Going.{whole}
 use Rattle.ir_poly.specs.Types.{in_scope}
 use Rattle.ir_tables.specs.Tables.{parameters_of, strings_of}
 use Rattle.elab_state.specs.Namings.{number_in, IsAbove, ComesBefore, IsNext, AreNext, AreNamings, IsAmong}
-use Rattle.elab_state.specs.Readings.{type_of, type_if}
-use Rattle.elab_state.specs.States.{types_in, made, said_in, limit_in, general_in, reading_in, numbers_in, value_in}
+use Rattle.elab_state.specs.Readings.{type_if}
+use Rattle.elab_state.specs.States.{types_in, said_in, limit_in, general_in}
 use Rattle.elab_state.specs.Generic.{IsGeneric}
-use Rattle.elab_state.specs.Steps.{Begins, Grows}
+use Rattle.elab_state.specs.Steps.{Grows}
 use Rattle.elab_state.specs.declared.naming.Naming.{Naming}
-use Rattle.elab_state.specs.declared.naming.Written.{Written}
 use Rattle.elab_state.specs.declared.state.State.{State}
 use Rattle.elab_state.proofs.Begins.{begins-get, begins-push}
 use Rattle.elab_state.proofs.Numbering.{number-stays, new-number}
 use Rattle.elab_state.proofs.Reading.{table-finds}
-use Rattle.elab_steps.specs.World.{World, Comes}
+use Rattle.elab_steps.specs.World.{Comes}
 use Rattle.elab_worlds.specs.Worlds.{world_of, HasWorld}
 use Rattle.elab_worlds.proofs.Ground.{grounded, ground-over, names-over, over-static, solves-ground}
 

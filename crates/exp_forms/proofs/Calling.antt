@@ -1,9 +1,8 @@
 -- A function before its arguments.
-use Rattle.std.proofs.Common.{◌≡◌, ◌≤◌, ℕ, true, Bool, ◌&&◌, List, [], ◌∷◌, ◌++◌, map, Box, Vec, Global, refl, sym, ap, ap₂, subst, ◌∙◌}
+use Rattle.std.proofs.Common.{◌≡◌, ℕ, true, List, [], ◌∷◌, ◌++◌, map, Box, Global, refl, sym, ap, ap₂, subst, ◌∙◌}
 use Rattle.std.proofs.lemmas.List.{map-append}
 use Rattle.mlc_base.specs.declared.place.Place.{Place}
 use Rattle.ty_core.specs.Types.{Typ}
-use Rattle.ty_core.specs.declared.mark.Mark.{Mark}
 use Rattle.ty_basis.specs.Types.{function_type}
 use Rattle.ty_solve.specs.declared.limit.Limit.{Limit}
 use Rattle.sml_tree.specs.BareTree as bare
@@ -12,7 +11,7 @@ use Rattle.core_rules.specs.Choices.{both}
 use Rattle.ir_poly.specs.Prog as prog
 use Rattle.ir_poly.specs.Types.{over}
 use Rattle.core_elab.specs.Resolves.{IsCalled}
-use Rattle.prog_tree.specs.TreeOf.{Reading, apply_by, argument_of, tree_of}
+use Rattle.prog_tree.specs.TreeOf.{apply_by, argument_of, tree_of}
 use Rattle.prog_tree.specs.declared.tree.Exp.{Exp}
 use Rattle.prog_tree.specs.declared.tree.Exp.TheVariants as tree
 use Rattle.prog_tree.proofs.ExpOf.{tree_of-Apply}
@@ -22,7 +21,7 @@ use Rattle.elab_typed.specs.Elaborates.{app_elab}
 use Rattle.elab_typed.specs.Instances.{as_typed}
 use Rattle.elab_state.specs.declared.state.State.{State}
 use Rattle.elab_steps.specs.Growing.{HasType, Grows, Always, IsWithin}
-use Rattle.elab_steps.specs.World.{World, type_of, Comes}
+use Rattle.elab_steps.specs.World.{World, type_of}
 use Rattle.elab_steps.proofs.Growing.{grows_on, type_later, comes_before}
 use Rattle.elab_context.specs.Entries.{limit_of}
 use Rattle.elab_context.specs.Telling.{Tells, IsContext}

@@ -1,5 +1,5 @@
 -- A context with the variables of a pattern.
-use Rattle.std.proofs.Common.{◌≡◌, ◌<◌, ◌≤◌, ℕ, Bool, true, false, cond, List, [], ◌∷◌, Option, Some, None, refl, sym, ap, subst, ◌∙◌, arith}
+use Rattle.std.proofs.Common.{◌≡◌, ℕ, Bool, true, false, cond, List, [], ◌∷◌, Some, None, refl, sym, ap, subst, ◌∙◌, arith}
 use Rattle.std.specs.Prelude.{option_map}
 use Rattle.std.specs.List.{AllByRecursion}
 use Rattle.sml_tree.specs.declared.ident.Vid.{Vid}
@@ -10,19 +10,18 @@ use Rattle.vid_scope.proofs.Latest.{latest_found}
 use Rattle.ir_poly.specs.TestsChecked.{Known}
 use Rattle.elab_typed.specs.Contexts.{Around}
 use Rattle.elab_state.specs.declared.state.State.{State}
-use Rattle.elab_steps.specs.Growing.{HasType, Grows, Always}
-use Rattle.elab_steps.specs.World.{World, type_of}
-use Rattle.elab_steps.proofs.Growing.{type_later}
+use Rattle.elab_steps.specs.Growing.{Grows}
+use Rattle.elab_steps.specs.World.{World}
 use Rattle.elab_context.specs.Entries.{entry_in}
 use Rattle.elab_context.specs.Telling.{IsContext, IsHeld, known_of}
 use Rattle.elab_context.specs.declared.context.Context.{Context}
 use Rattle.elab_context.specs.declared.entry.Entry.{Entry}
 use Rattle.elab_context.specs.declared.entry.Entry.TheVariants.{Constructor, Reference, Initial, Primitive, Raised, Single, Own, General}
 use Rattle.elab_context.proofs.Reading.{context_later}
-use Rattle.pat_elab.specs.Elaborated.{AreVariables, HasVariable}
+use Rattle.pat_elab.specs.Elaborated.{AreVariables}
 use Rattle.pat_elab.specs.declared.bound.BoundVariable.{BoundVariable}
 use Rattle.exp_forms.specs.Within.{entries_of, within}
-use Rattle.elab_context.specs.Numbered.{number_of, IsBelowIf, IsNumbered}
+use Rattle.elab_context.specs.Numbered.{number_of, IsBelowIf}
 
 -- what holds of all that is in scope holds with one more
 
@@ -65,6 +64,9 @@ context_with S C D es i h b q = subst (IsContext S) (sym q) (record {
   schemes = i.schemes;
   entries = λ qs x e f. held-same S C (with_entries C.values es) e (all-more (IsHeld S C) C es h i.entries qs x e f);
   numbered = all-more (IsBelowIf S.next) C es b i.numbered;
+  live = i.live;
+  level = i.level;
+  tidy = i.tidy;
 })
 
 each-single : (P : Entry → Type 0) (bs : List BoundVariable) → AllByRecursion (λ b. P (Single b.ty b.number)) bs → AllByRecursion (λ (e : Vid × Entry). P e.1) (entries_of bs)

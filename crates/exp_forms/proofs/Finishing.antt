@@ -1,13 +1,11 @@
 -- `fn`, `case` and `handle` of their rules.
 use Rattle.std.proofs.Common.{◌≡◌, ◌≤◌, ◌&&◌, ℕ, true, List, [], map, Vec, Box, Global, refl, sym, ap, ap₂, subst, ◌∙◌}
 use Rattle.mlc_base.specs.declared.place.Place.{Place}
-use Rattle.ty_core.specs.Types.{Typ}
 use Rattle.ty_basis.specs.Types.{exn_type, function_type}
 use Rattle.sml_tree.specs.BareTree as bare
 use Rattle.sml_tree.specs.TreeOf.{RuleOf, rules_of}
 use Rattle.core_rules.specs.Choices.{both}
 use Rattle.ir_poly.specs.Prog as prog
-use Rattle.ir_poly.specs.Types.{over}
 use Rattle.prog_tree.specs.TreeOf.{Reading, DecTree, RuleTree, function_of, node_dec, node_exp, node_function, node_rule, rule_of, tree_of}
 use Rattle.prog_tree.specs.TreeOf as tree
 use Rattle.prog_tree.specs.declared.tree.Exp.{Exp, Exp-F, fold-roll-Exp}
@@ -15,23 +13,19 @@ use Rattle.prog_tree.specs.declared.tree.Exp.TheVariants as exps
 use Rattle.prog_tree.specs.declared.tree.Function.{Function}
 use Rattle.prog_tree.specs.declared.tree.Function.TheVariants as functions
 use Rattle.prog_tree.specs.declared.tree.Parameter.{Parameter}
-use Rattle.prog_tree.specs.declared.tree.Rule.{Rule}
 use Rattle.prog_tree.proofs.ExpOf.{tree_of-Case, tree_of-Handle, function_of-ByRules}
 use Rattle.elab_typed.specs.Numbers.{type_as}
-use Rattle.elab_typed.specs.Contexts.{Around}
-use Rattle.elab_typed.specs.Elaborates.{RulesElab, case_elab, fn_elab, handle_elab, by_rules_elab}
+use Rattle.elab_typed.specs.Elaborates.{case_elab, fn_elab, handle_elab, by_rules_elab}
 use Rattle.elab_typed.specs.Instances.{as_typed}
 use Rattle.elab_typed.proofs.Names.{over-as}
 use Rattle.elab_state.specs.declared.state.State.{State}
 use Rattle.elab_steps.specs.Growing.{HasType, Grows, Always}
-use Rattle.elab_steps.specs.World.{World, type_of, Comes}
+use Rattle.elab_steps.specs.World.{type_of}
 use Rattle.elab_steps.proofs.Growing.{grows_on, type_later, comes_before}
-use Rattle.elab_context.specs.Telling.{Tells}
 use Rattle.elab_context.specs.declared.context.Context.{Context}
 use Rattle.use_elab.specs.Elaborated.{ElaboratesExp, IsExp}
 use Rattle.use_elab.specs.declared.typed.TypedExp.{TypedExp}
 use Rattle.exp_forms.proofs.Calling.{written-as}
-use Rattle.exp_forms.proofs.Joining.{fewer}
 use Rattle.exp_forms.specs.Rules.{AreRules, ElaboratesRules}
 use Rattle.exp_forms.specs.declared.rules_made.RulesMade.{RulesMade}
 use Rattle.exp_forms.proofs.JoiningRules.{choices_of, rules-do}

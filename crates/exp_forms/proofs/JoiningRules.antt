@@ -1,22 +1,20 @@
 -- Rules, one after the other.
-use Rattle.std.proofs.Common.{◌≡◌, ◌≤◌, ◌<◌, ℕ, true, List, [], ◌∷◌, ◌++◌, map, Option, Some, refl, sym, ap, ap₂, subst, ◌∙◌, arith}
+use Rattle.std.proofs.Common.{◌≡◌, ◌≤◌, ◌<◌, ℕ, true, List, [], ◌∷◌, ◌++◌, map, refl, sym, ap, subst, ◌∙◌, arith}
 use Rattle.std.proofs.lemmas.Bool.{lt-ltb}
 use Rattle.std.proofs.lemmas.List.{map-append}
 use Rattle.mlc_base.specs.declared.place.Place.{Place}
 use Rattle.ty_core.specs.Types.{Typ}
-use Rattle.ty_basis.specs.Types.{exn_type, name_count}
+use Rattle.ty_basis.specs.Types.{exn_type}
 use Rattle.ty_solve.specs.declared.limit.Limit.{Limit}
 use Rattle.sml_tree.specs.BareTree as bare
-use Rattle.sml_tree.specs.Terminal.{LongVid}
 use Rattle.sml_tree.specs.TreeOf.{RuleOf, rules_of}
-use Rattle.sml_tree.specs.declared.ident.Vid.{Vid}
 use Rattle.core_rules.specs.Choices.{Choices, no_choice, both}
 use Rattle.core_rules.specs.Restrictions.{distinct}
 use Rattle.core_rules.specs.Typing.{Bound, bound_in, AreDistinct}
 use Rattle.core_rules.specs.Words.{same_vid}
 use Rattle.ir_poly.specs.ProgChecked.{pat_onto}
-use Rattle.ir_poly.specs.TestsChecked.{Known, of_type}
-use Rattle.ir_poly.specs.Types.{over, Constructor}
+use Rattle.ir_poly.specs.TestsChecked.{of_type}
+use Rattle.ir_poly.specs.Types.{Constructor}
 use Rattle.core_elab.specs.Scopes.{Scope}
 use Rattle.prog_tree.specs.TreeOf.{RuleTree, pat_of, tree_of, rule_of}
 use Rattle.prog_tree.specs.TreeOf as tree
@@ -29,10 +27,9 @@ use Rattle.elab_state.specs.declared.state.State.{State}
 use Rattle.elab_steps.specs.Growing.{HasType, Grows, Always, IsWithin}
 use Rattle.elab_steps.specs.World.{World, type_of, Comes}
 use Rattle.elab_steps.proofs.Growing.{grows_on, type_later, comes_before}
-use Rattle.elab_context.specs.Entries.{entry_in, limit_of}
-use Rattle.elab_context.specs.Telling.{Tells, IsContext, IsInUse, known_of}
+use Rattle.elab_context.specs.Entries.{limit_of}
+use Rattle.elab_context.specs.Telling.{Tells, IsContext, IsInUse}
 use Rattle.elab_context.specs.declared.context.Context.{Context}
-use Rattle.elab_context.specs.declared.entry.Entry.{Entry}
 use Rattle.pat_elab.specs.Elaborated.{Elaborates, IsPat, bound_of, scope_of}
 use Rattle.pat_elab.specs.declared.bound.BoundVariable.{BoundVariable}
 use Rattle.pat_elab.specs.declared.bound.TypedPat.{TypedPat}

@@ -1,5 +1,5 @@
 -- What is known of the variables of a pattern that elaborates.
-use Rattle.std.proofs.Common.{◌≡◌, ◌⊎◌, inl, inr, ◌<◌, ◌≤◌, ◌+◌, ℕ, zero, suc, Bool, true, false, not, ◌&&◌, ◌||◌, cond, List, [], ◌∷◌, ◌++◌, map, Option, Some, None, nat_eq, refl, sym, ap, ap₂, subst, ◌∙◌, arith}
+use Rattle.std.proofs.Common.{◌≡◌, ◌⊎◌, inl, inr, ◌<◌, ◌≤◌, ℕ, suc, Bool, true, false, not, ◌&&◌, ◌||◌, cond, List, [], ◌∷◌, ◌++◌, Option, Some, None, nat_eq, refl, sym, ap, ap₂, subst, ◌∙◌, arith}
 use Rattle.std.specs.Option.{option_or}
 use Rattle.std.specs.Map.{lookup}
 use Rattle.std.proofs.lemmas.Bool.{and_parts, eqb-true, eq-eqb}
@@ -10,11 +10,11 @@ use Rattle.sml_tree.specs.declared.ident.Vid.{Vid}
 use Rattle.core_rules.specs.Words.{same_vid, is_in}
 use Rattle.core_rules.specs.Choices.{Choices}
 use Rattle.core_rules.specs.Restrictions.{distinct}
-use Rattle.core_rules.specs.Typing.{Bound, bound_in, AreDistinct}
+use Rattle.core_rules.specs.Typing.{Bound, bound_in}
 use Rattle.core_rules.proofs.LookUps.{vid-tells, at-append}
 use Rattle.ir_poly.specs.Prog as prog
 use Rattle.ir_poly.specs.ProgChecked.{pat_onto, pats_onto}
-use Rattle.ir_poly.specs.TestsChecked.{Knowns, Known, at, of_type}
+use Rattle.ir_poly.specs.TestsChecked.{Knowns, at, of_type}
 use Rattle.ir_poly.specs.Types.{Constructor}
 use Rattle.core_elab.specs.Scopes.{Denotes, variable, constructor, reference, exception, primitive, Scope, empty, scoped, typed_by, inside, plus_scope, denotes_in}
 use Rattle.elab_typed.specs.Contexts.{Around}

@@ -1,8 +1,8 @@
 -- Constants, `raise`, and types that are written.
-use Rattle.std.proofs.Common.{◌≡◌, ◌<◌, ◌≤◌, ℕ, Bool, true, Box, Global, refl, sym, ap, ap₂, subst, ◌∙◌, arith}
+use Rattle.std.proofs.Common.{◌≡◌, ◌≤◌, ℕ, true, Box, Global, refl, sym, ap, ap₂, subst, ◌∙◌, arith}
 use Rattle.std.proofs.lemmas.Bool.{lt-ltb}
 use Rattle.mlc_base.specs.declared.place.Place.{Place}
-use Rattle.ty_basis.specs.Types.{exn_type, name_count}
+use Rattle.ty_basis.specs.Types.{exn_type}
 use Rattle.ty_solve.specs.declared.limit.Limit.{Limit}
 use Rattle.sml_tree.specs.Terminal.{Constant, int, word, char, string}
 use Rattle.sml_tree.specs.BareTree as bare
@@ -19,15 +19,14 @@ use Rattle.prog_tree.specs.declared.tree.Atom.TheVariants as atom
 use Rattle.prog_tree.specs.declared.tree.Exp.{Exp, Exp-F, fold-roll-Exp}
 use Rattle.prog_tree.specs.declared.tree.Exp.TheVariants as tree
 use Rattle.elab_typed.specs.Numbers.{type_as}
-use Rattle.elab_typed.specs.Contexts.{Around}
 use Rattle.elab_typed.specs.Elaborates.{ExpElab, constant_exp_elab, raise_elab, typed_exp_elab}
 use Rattle.elab_typed.specs.Instances.{as_typed}
 use Rattle.elab_state.specs.declared.state.State.{State}
 use Rattle.elab_steps.specs.Growing.{HasType, Grows, Always, IsWithin}
-use Rattle.elab_steps.specs.World.{World, type_of, Comes}
+use Rattle.elab_steps.specs.World.{type_of}
 use Rattle.elab_steps.proofs.Growing.{grows_on, type_later, comes_before}
 use Rattle.elab_context.specs.Entries.{limit_of}
-use Rattle.elab_context.specs.Telling.{Tells, IsContext}
+use Rattle.elab_context.specs.Telling.{IsContext}
 use Rattle.elab_context.specs.declared.context.Context.{Context}
 use Rattle.pat_elab.specs.Elaborated.{IsAnnotated}
 use Rattle.use_elab.specs.Elaborated.{ElaboratesExp, IsExp}

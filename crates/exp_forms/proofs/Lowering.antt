@@ -1,5 +1,5 @@
 -- A pattern elaborates as well where fewer variables are in scope: its own are new there too.
-use Rattle.std.proofs.Common.{◌≡◌, ◌≤◌, ℕ, suc, List, arith}
+use Rattle.std.proofs.Common.{◌≤◌, ℕ, suc, List, arith}
 use Rattle.ty_core.specs.Types.{Typ}
 use Rattle.ty_basis.specs.Types.{Row}
 use Rattle.sml_tree.specs.BareTree as bare

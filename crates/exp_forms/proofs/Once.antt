@@ -1,10 +1,10 @@
 -- Identifiers that are bound once, looked at from the last on.
-use Rattle.std.proofs.Common.{◌≡◌, ◌<◌, ◌≤◌, ◌+◌, ◌-◌, ℕ, zero, suc, Bool, true, false, not, ◌&&◌, ◌||◌, cond, List, [], ◌∷◌, map, length, drop, get_or, Option, Some, None, refl, sym, ap, ap₂, subst, ◌∙◌, arith}
+use Rattle.std.proofs.Common.{◌≡◌, ◌<◌, ◌≤◌, ◌-◌, ℕ, zero, suc, Bool, true, false, not, ◌&&◌, ◌||◌, cond, List, [], ◌∷◌, length, drop, get_or, Option, Some, None, refl, sym, ap, ap₂, subst, ◌∙◌, arith}
 use Rattle.std.specs.Prelude.{is_some}
 use Rattle.sml_tree.specs.declared.ident.Vid.{Vid}
 use Rattle.core_rules.specs.Restrictions.{distinct}
 use Rattle.core_rules.specs.Words.{same_vid, is_in}
-use Rattle.vid_scope.specs.Entries.{entry_of, with_entry, HasLatest}
+use Rattle.vid_scope.specs.Entries.{entry_of, HasLatest}
 use Rattle.vid_scope.specs.declared.vids.VidScope.{VidScope}
 use Rattle.pat_elab.specs.declared.bound.BoundVariable.{BoundVariable}
 use Rattle.exp_forms.specs.Rules.{vids_of}

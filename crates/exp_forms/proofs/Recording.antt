@@ -7,7 +7,7 @@ use Rattle.mlc_base.specs.declared.place.Place.{Place}
 use Rattle.ty_core.specs.Types.{Typ, typs_of}
 use Rattle.ty_basis.specs.Types.{Row, labels_in, row_type}
 use Rattle.label_rows.specs.declared.sort.Field.{Field}
-use Rattle.label_rows.specs.Order.{put_by, sorted_by, label_before}
+use Rattle.label_rows.specs.Order.{put_by, label_before}
 use Rattle.label_rows.specs.Sorting.{sorted}
 use Rattle.sml_tree.specs.BareTree as bare
 use Rattle.core_rules.specs.Objects.{Over, AllOver, sorted as sorted_row}
@@ -25,15 +25,14 @@ use Rattle.elab_typed.specs.Instances.{as_typed}
 use Rattle.elab_state.specs.declared.state.State.{State}
 use Rattle.elab_steps.specs.Growing.{HasType, Grows, Always}
 use Rattle.elab_steps.specs.Rows.{row_of}
-use Rattle.elab_steps.specs.World.{World, type_of, Comes}
+use Rattle.elab_steps.specs.World.{World, type_of}
 use Rattle.elab_steps.proofs.Growing.{grows_on, type_later, comes_before}
 use Rattle.elab_steps.proofs.Sorting.{row-sorted}
 use Rattle.elab_instances.specs.Fresh.{images_of}
-use Rattle.elab_context.specs.Telling.{Tells}
 use Rattle.elab_context.specs.declared.context.Context.{Context}
 use Rattle.use_elab.specs.Elaborated.{ElaboratesExp, IsExp}
 use Rattle.use_elab.specs.declared.typed.TypedExp.{TypedExp}
-use Rattle.exp_forms.specs.Parts.{ExpsElab, no_exps, an_exp, ElaboratesAll, AreExps, AreFields, with_labels}
+use Rattle.exp_forms.specs.Parts.{ExpsElab, no_exps, an_exp, AreExps, AreFields, with_labels}
 use Rattle.exp_forms.specs.declared.made.FieldsMade.{FieldsMade}
 use Rattle.exp_forms.proofs.Joining.{none_are, more_are}
 use Rattle.exp_forms.proofs.Calling.{written-as}

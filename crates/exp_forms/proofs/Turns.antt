@@ -1,6 +1,5 @@
 -- Sequences, and operands of `andalso` and `orelse`.
 use Rattle.std.proofs.Common.{◌≡◌, ◌<◌, ◌≤◌, ℕ, Bool, true, false, ◌&&◌, List, [], ◌∷◌, ◌++◌, map, filter, Option, None, Box, Vec, Global, refl, sym, ap, ap₂, subst, ◌∙◌, arith}
-use Rattle.std.specs.Prelude.{unwrap_or, is_some, not}
 use Rattle.std.proofs.lemmas.Bool.{lt-ltb, and_parts}
 use Rattle.mlc_base.specs.declared.place.Place.{Place}
 use Rattle.ty_core.specs.Types.{Typ, typs_of}
@@ -18,20 +17,19 @@ use Rattle.prog_tree.specs.declared.tree.Exp.TheVariants as tree
 use Rattle.prog_tree.proofs.ExpOf.{tree_of-Sequence, tree_of-Test}
 use Rattle.elab_typed.specs.Numbers.{type_as}
 use Rattle.elab_typed.specs.Contexts.{Around, with_bound, KeptEnv, plus_kept, kept_values}
-use Rattle.elab_typed.specs.Elaborates.{ExpElab, RulesElab, ChainElab, case_elab, chain_elab, a_rule_elab, no_rules_elab, wild_elab, only_elab, and_elab, or_elab}
+use Rattle.elab_typed.specs.Elaborates.{ExpElab, ChainElab, case_elab, chain_elab, a_rule_elab, no_rules_elab, wild_elab, only_elab, and_elab, or_elab}
 use Rattle.elab_typed.specs.Instances.{as_typed}
 use Rattle.elab_typed.proofs.Names.{over-as}
 use Rattle.elab_state.specs.declared.state.State.{State}
 use Rattle.elab_steps.specs.Growing.{HasType, Grows, Always}
-use Rattle.elab_steps.specs.World.{World, type_of, Comes}
+use Rattle.elab_steps.specs.World.{World, type_of}
 use Rattle.elab_steps.proofs.Growing.{grows_on, type_later, comes_before}
-use Rattle.elab_instances.specs.Fresh.{images_of}
-use Rattle.elab_context.specs.Telling.{Tells, IsContext}
+use Rattle.elab_context.specs.Telling.{IsContext}
 use Rattle.elab_context.specs.declared.context.Context.{Context}
 use Rattle.use_elab.specs.Elaborated.{ElaboratesExp, IsExp}
 use Rattle.use_elab.specs.declared.typed.TypedExp.{TypedExp}
-use Rattle.exp_forms.specs.Parts.{ExpsElab, no_exps, an_exp, ElaboratesAll, AreExps, AreExpsOf, AllAre, before_last, tests_of}
-use Rattle.exp_forms.proofs.Joining.{fewer, exp_later, later_are}
+use Rattle.exp_forms.specs.Parts.{ExpsElab, no_exps, an_exp, AreExps, AreExpsOf, AllAre, before_last, tests_of}
+use Rattle.exp_forms.proofs.Joining.{fewer}
 use Rattle.exp_forms.proofs.Calling.{written-as}
 
 -- nothing bound changes nothing

@@ -1,5 +1,5 @@
 -- What a context with the variables of a pattern tells of.
-use Rattle.std.proofs.Common.{◌≡◌, ◌⊎◌, inl, inr, ◌<◌, ◌≤◌, ◌+◌, ℕ, suc, length, take, get_or, Bool, true, false, not, ◌&&◌, ◌||◌, cond, List, [], ◌∷◌, ◌++◌, map, Option, Some, None, nat_eq, slice_get, refl, sym, ap, ap₂, subst, ◌∙◌, arith}
+use Rattle.std.proofs.Common.{◌≡◌, ◌⊎◌, inl, inr, ◌<◌, ◌+◌, ℕ, suc, length, take, get_or, Bool, true, false, not, ◌||◌, cond, List, [], ◌∷◌, ◌++◌, Option, Some, None, nat_eq, refl, sym, ap, ap₂, subst, ◌∙◌, arith}
 use Rattle.std.specs.Prelude.{option_map, option_and_then}
 use Rattle.std.proofs.lemmas.Bool.{and_parts}
 use Rattle.std.proofs.lemmas.List.{map-append}
@@ -22,13 +22,12 @@ use Rattle.core_rules.specs.Typing.{Bound, bound_in, AreDistinct}
 use Rattle.core_rules.proofs.LookUps.{vid-tells, at-joined}
 use Rattle.ir_poly.specs.TestsChecked.{Knowns, Known, of_type}
 use Rattle.ir_poly.specs.TestsChecked as checked
-use Rattle.core_elab.specs.Scopes.{Denotes, variable, Scope, empty, scoped, plus_scope, denotes_in, inside_in, along_scope, long_denotes_in}
-use Rattle.elab_typed.specs.Contexts.{Kept, given, single, KeptEnv, kept_in, plus_kept, kept_values, singles, values_under, with_bound, Around, generic}
+use Rattle.core_elab.specs.Scopes.{variable, Scope, empty, scoped, denotes_in, inside_in, along_scope, long_denotes_in}
+use Rattle.elab_typed.specs.Contexts.{given, single, kept_in, singles, values_under, with_bound, Around}
 use Rattle.elab_typed.specs.Instances.{as_typed}
-use Rattle.elab_state.specs.declared.state.State.{State}
 use Rattle.elab_steps.specs.World.{World, type_of}
 use Rattle.elab_context.specs.Entries.{entry_in}
-use Rattle.elab_context.specs.Telling.{Tells, IsContext, IsConstructor, IsPrimitive, IsFit, IsInUse, kept_of, denotes_of, known_of}
+use Rattle.elab_context.specs.Telling.{Tells, IsFit, IsInUse, kept_of, denotes_of, known_of}
 use Rattle.elab_context.specs.declared.context.Context.{Context}
 use Rattle.elab_context.specs.declared.entry.Entry.{Entry}
 use Rattle.elab_context.specs.declared.entry.Entry.TheVariants.{Constructor, Reference, Initial, Primitive, Raised, Single, Own, General}

@@ -1,5 +1,5 @@
 -- A function and its arguments so far.
-use Rattle.std.specs.Prelude.{◌≡◌, map}
+use Rattle.std.specs.Prelude.{map}
 use Rattle.mlc_base.specs.declared.place.Place.{Place}
 use Rattle.sml_tree.specs.BareTree as bare
 use Rattle.prog_tree.specs.TreeOf.{apply_by, argument_of, tree_of}

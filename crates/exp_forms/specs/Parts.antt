@@ -14,8 +14,8 @@ use Rattle.prog_tree.specs.declared.tree.Exp.{Exp}
 use Rattle.elab_typed.specs.Contexts.{Around}
 use Rattle.elab_typed.specs.Elaborates.{ExpElab}
 use Rattle.elab_state.specs.declared.state.State.{State}
-use Rattle.elab_steps.specs.Growing.{HasType, AreTypes, Grows, Always}
-use Rattle.elab_steps.specs.World.{World, type_of, Comes}
+use Rattle.elab_steps.specs.Growing.{AreTypes, Grows, Always}
+use Rattle.elab_steps.specs.World.{World, Comes}
 use Rattle.elab_instances.specs.Fresh.{images_of}
 use Rattle.elab_context.specs.Telling.{Tells}
 use Rattle.elab_context.specs.declared.context.Context.{Context}

@@ -18,9 +18,10 @@ use Rattle.ir_tables.specs.Tables.{parameters_of, parameters_at}
 use Rattle.elab_state.specs.States.{types_in, made, said_in, limit_in, general_in, all_parameters, dead_level}
 use Rattle.elab_state.specs.declared.state.State.{State}
 use Rattle.elab_context.specs.Telling.{HasList}
-use Rattle.general_worlds.specs.Tidy.{IsTidy, Ends}
+use Rattle.elab_steps.specs.Tidy.{IsTidy}
+use Rattle.general_worlds.specs.Tidy.{AreOuter, Ends}
 use Rattle.general_worlds.proofs.Scoping.{scope-either, last-general, earlier-general}
-use Rattle.general_vals.specs.Closing.{is_inner, added, collected, ended, ended_at, AreOuter}
+use Rattle.general_vals.specs.Closing.{is_inner, added, collected, ended, ended_at}
 use Rattle.general_vals.proofs.Closing.{limit-past, limit-get}
 use Rattle.general_vals.proofs.Collecting.{Collected, are-collected}
 
@@ -173,6 +174,8 @@ pub record Closed (S T : State) (l first k : ℕ) (qs : Vec Quantified Global) :
   pub lists : T.tables.parameters.items ≡ S.tables.parameters.items ++ qs ∷ []
   pub strings : T.tables.strings ≡ S.tables.strings
   pub next : T.next ≡ S.next
+  pub deeper : S.level ≡ l + 1
+  pub level : T.level ≡ l
   pub number : k ≡ length S.tables.parameters.items
   pub found : collected (said_in S) (limit_in S) l first (made S) ≡ Some qs.items
 
@@ -257,6 +260,9 @@ module _ (S T : State) (l first list : ℕ) (qs : Vec Quantified Global) (z : Cl
     strings = ap (λ v. map (λ p. p.items) v.items) z.strings;
     rows = ap₂ constructors_at z.types z.constructors;
     next = z.next;
+    inside = let e = z.deeper in omega (arith, e);
+    level = z.level;
+    stay = λ v e. ap (λ k. k.level) (z.limits v) ∙ stays-done l first v (limit_in S v) e;
   }
     where
       types-of : Rattle.ty_solve.specs.declared.subst.Subst.Subst → List Typ
@@ -307,6 +313,7 @@ module _ (S T : State) (l first list : ℕ) (qs : Vec Quantified Global) (z : Cl
     settled = λ v lt. settle v (fate-of v);
     done = general-now;
     ended = λ v lt o e. subst (λ ps. in_scope (all_parameters ps) v ≡ true) (sym lists-are) (end v (subst (λ n. v < n) made-is lt) (open-then v o) e);
+    low = omega (arith, low);
   }
     where
       settle : (v : ℕ) → Outside l (limit_in S v) (limit_in T v) ⊎ ((limit_in T v).level ≡ dead_level) → ((limit_in T v).level ≤ l) ⊎ ((limit_in T v).level ≡ dead_level)

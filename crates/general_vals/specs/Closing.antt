@@ -1,11 +1,10 @@
 -- Which variables become parameters where a declaration ends.
-use Rattle.std.specs.Prelude.{◌≡◌, ◌⊎◌, ◌<◌, ◌≤◌, ◌&&◌, ℕ, zero, suc, Bool, not, nat_lt, if◌then◌else◌, List, [], ◌∷◌, ◌++◌, Option, Some, None, option_and_then}
+use Rattle.std.specs.Prelude.{◌&&◌, ℕ, zero, suc, Bool, not, nat_lt, if◌then◌else◌, List, [], ◌∷◌, ◌++◌, Option, Some, None, option_and_then}
 use Rattle.ty_core.specs.declared.scheme.Quantified.{Quantified}
 use Rattle.ty_solve.specs.Substitution.{Entry, free, bound, row}
 use Rattle.ty_solve.specs.declared.limit.Limit.{Limit}
 use Rattle.ir_poly.specs.Types.{is_declarable}
-use Rattle.elab_state.specs.States.{limit_in, dead_level}
-use Rattle.elab_state.specs.declared.state.State.{State}
+use Rattle.elab_state.specs.States.{dead_level}
 
 -- a variable was made inside more than l declarations, and is not done with
 abbrev pub is_inner : ℕ → Limit → Bool
@@ -28,7 +27,3 @@ ended l b = if nat_lt l b.level then record { names = b.names; level = dead_leve
 
 abbrev pub ended_at : ℕ → ℕ → ℕ → Limit → Limit
 ended_at l first v b = if nat_lt v first then b else ended l b
-
--- the variables below the first one belong to l declarations, or are done with
-abbrev pub AreOuter : State → ℕ → ℕ → Type 0
-AreOuter S l first = (v : ℕ) → v < first → ((limit_in S v).level ≤ l) ⊎ ((limit_in S v).level ≡ dead_level)

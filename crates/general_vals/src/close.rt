@@ -6,10 +6,11 @@ ghost use Rattle.ty_solve.specs.Limits.{limit_at};
 ghost use Rattle.ty_solve.specs.SlotsOf.{entry_of};
 ghost use Rattle.ir_poly.specs.Types.{is_declarable};
 ghost use Rattle.ir_tables.specs.Tables.{parameters_at, parameters_of};
-ghost use Rattle.elab_state.specs.States.{dead_level, limit_in, made, said_in};
+ghost use Rattle.elab_state.specs.States.{limit_in, made, said_in};
 ghost use Rattle.elab_context.specs.Telling.{HasList};
-ghost use Rattle.general_worlds.specs.Tidy.{Ends, IsTidy};
-ghost use Rattle.general_vals.specs.Closing.{AreOuter, added, collected, ended, ended_at, is_inner};
+ghost use Rattle.elab_steps.specs.Tidy.{IsTidy};
+ghost use Rattle.general_worlds.specs.Tidy.{AreOuter, Ends};
+ghost use Rattle.general_vals.specs.Closing.{added, collected, ended, ended_at, is_inner};
 
 use elab_state::state::State;
 use mlc_base::memory::NoMemory;
@@ -127,7 +128,7 @@ pub fn close(
     level: usize,
     first: usize,
 ) -> Result<Option<usize>, NoMemory>
-    requires low { level + 1 < dead_level }
+    requires level { state.old.level ≡ level + 1 }
     requires first { first ≤ made state.old }
     requires outer { AreOuter state.old level first }
     requires tidy { IsTidy state.old (level + 1) }
@@ -142,6 +143,7 @@ pub fn close(
     };
     let list = state.tables.parameters.len();
     state.tables.parameters.push(parameters)?;
+    state.level = level;
     end_limits(&mut state.solver.limits, level, first);
     Ok(Some(list))
 }

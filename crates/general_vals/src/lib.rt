@@ -2,4 +2,6 @@
 #![tactic(auto)]
 
 pub mod close;
+pub mod enter;
+pub mod law;
 pub mod settle;

@@ -4,9 +4,12 @@ ghost use Rattle.ty_core.specs.Types.{Typ};
 ghost use Rattle.ty_table.specs.TypeAt.{type_at};
 ghost use Rattle.ty_solve.specs.Said.{said};
 ghost use Rattle.ty_solve.specs.Substitution.{Fits, is_below, is_in, is_open, sub};
+ghost use Rattle.ty_instance.specs.Images.{IsResolved};
 ghost use Rattle.elab_steps.specs.Growing.{Always, Grows, HasType};
 ghost use Rattle.elab_steps.specs.World.{type_of};
-ghost use Rattle.general_worlds.specs.Tidy.{AreOpen, IsTidy};
+ghost use Rattle.elab_steps.specs.Tidy.{IsTidy};
+ghost use Rattle.general_worlds.specs.Tidy.{AreOpen};
+ghost use Rattle.general_vals.specs.Settling.{IsMade, Settles};
 
 use elab_state::state::State;
 use mlc_base::memory::NoMemory;
@@ -18,6 +21,7 @@ use ty_solve::solver::Solver;
 fn resolve_within(alloc: Global, solver: &mut Solver, ty: usize) -> Result<usize, NoMemory>
     requires { ty < length solver.old.subst.types }
     ensures held { IfOk result (λ r. r < length solver.new.subst.types) }
+    ensures is { IfOk result (λ r. IsResolved (said solver.old.subst) (type_at solver.old.subst.types ty) (type_at solver.new.subst.types r)) }
     ensures same { IfOk result (λ r. (f : ℕ → Typ) → Fits f (said solver.old.subst)
         → sub f (type_at solver.new.subst.types r) ≡ sub f (type_at solver.old.subst.types ty)) }
     ensures open_in { IfOk result (λ r. (v : ℕ) → is_in v (type_at solver.new.subst.types r) ≡ true → is_open (said solver.old.subst v) ≡ true) }
@@ -33,9 +37,10 @@ fn resolve_within(alloc: Global, solver: &mut Solver, ty: usize) -> Result<usize
 
 /// The same type with no bound variables in it.
 pub fn settled_type(alloc: Global, state: &mut State, ty: usize) -> Result<usize, NoMemory>
-    requires { HasType state.old ty }
+    requires { IsMade state.old ty }
     ensures grows { IfOk result (λ _. Grows state.old state.new) }
-    ensures is { IfOk result (λ r. HasType state.new r) }
+    ensures is { IfOk result (λ r. HasType state.old ty → HasType state.new r) }
+    ensures settles { IfOk result (λ r. Settles state.old state.new ty r) }
     ensures open { IfOk result (λ r. AreOpen state.new r) }
     ensures same { IfOk result (λ r. Always state.new (λ W. type_of W r ≡ type_of W ty)) }
     ensures tidy { IfOk result (λ _. (l : ℕ) → IsTidy state.old l → IsTidy state.new l) }

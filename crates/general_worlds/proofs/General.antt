@@ -16,10 +16,11 @@ use Rattle.elab_state.specs.States.{types_in, made, said_in, limit_in, general_i
 use Rattle.elab_state.proofs.Solving.{over-deeper}
 use Rattle.elab_state.proofs.Typed.{in-below}
 use Rattle.elab_state.specs.declared.state.State.{State}
-use Rattle.elab_steps.specs.Growing.{HasType}
+use Rattle.elab_steps.specs.Growing.{HasGeneral}
+use Rattle.elab_steps.specs.Tidy.{IsTidy}
 use Rattle.elab_steps.specs.World.{World, Comes, type_of}
 use Rattle.elab_context.specs.Telling.{IsGeneral}
-use Rattle.general_worlds.specs.Tidy.{AreOpen, IsTidy}
+use Rattle.general_worlds.specs.Tidy.{AreOpen}
 use Rattle.general_worlds.proofs.Scoping.{not-in}
 
 mutual
@@ -102,7 +103,7 @@ module _ (l : ℕ) (qs : List Quantified) (T : State) (deep : l < dead_level) (t
       by false i (inl e) = same e
       by false i (inr k) = changed-out qs ts W.value v i ∙ sym (replace-none qs (W.parameters l) ts (W.value v) k apart)
 
-  pub open-general : (A : Around) → A.parameters ≡ W.parameters l → (k : ℕ) → HasType T k → AreOpen T k → Over A.names (type_of W k)
+  pub open-general : (A : Around) → A.parameters ≡ W.parameters l → (k : ℕ) → HasGeneral T qs k → AreOpen T k → Over A.names (type_of W k)
       → over (qs ++ A.parameters) (type_of W k) ≡ true → (has : Bool) → (has ≡ false → over A.parameters (type_of W k) ≡ true) → IsGeneral W A qs k has
   open-general A same k h o names body has plain = record {
     marks = marks-general qs new;

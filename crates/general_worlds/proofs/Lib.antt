@@ -3,4 +3,5 @@ pub mod Admitting
 pub mod Worlds
 pub mod Telling
 pub mod General
-pub mod Keeping
+pub mod Declaring
+pub mod Contexts

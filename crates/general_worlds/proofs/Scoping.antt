@@ -3,10 +3,8 @@ use Rattle.std.proofs.Common.{◌≡◌, ◌<◌, inl, inr, ◌||◌, ◌&&◌, 
 use Rattle.std.proofs.lemmas.Bool.{and_parts, and_from, eqb-true, eq-eqb}
 use Rattle.ty_core.specs.Types.{Typ, Typs, var, con, none, more}
 use Rattle.ty_core.specs.declared.scheme.Quantified.{Quantified}
-use Rattle.ty_solve.specs.Limits.{NoFurther, Limited, AllLimited}
 use Rattle.ty_solve.specs.Substitution.{is_in, are_in}
 use Rattle.ty_solve.specs.Weight.{weight, weights}
-use Rattle.ty_solve.specs.declared.limit.Limit.{Limit}
 use Rattle.ir_poly.specs.Types.{in_scope, admits_in, is_equality, is_declarable, are_new, over, all_over}
 use Rattle.elab_state.specs.States.{all_parameters}
 use Rattle.elab_state.proofs.Generalising.{scope-front, scope-behind}
@@ -73,15 +71,6 @@ not-in true c e h = let q = h refl in cc
 not-in false c e h = refl
 
 -- variables of types
-
-mutual
-  pub limit-in : (b : ℕ → Limit) (k : Limit) (x : ℕ) (t : Typ) → Limited b k t → is_in x t ≡ true → NoFurther (b x) k
-  limit-in b k x (var v) h i = subst (λ y. NoFurther (b y) k) (eqb-true v x i) h
-  limit-in b k x (con c ts) h i = limits-in b k x ts h.1 i
-
-  limits-in : (b : ℕ → Limit) (k : Limit) (x : ℕ) (ts : Typs) → AllLimited b k ts → are_in x ts ≡ true → NoFurther (b x) k
-  limits-in b k x none h i = cc
-  limits-in b k x (more t ts) h i = elim (either (is_in x t) (are_in x ts) i) [ inl j ↦ limit-in b k x t h.0 j | inr j ↦ limits-in b k x ts h.1 j ]
 
 mutual
   pub lighter : (w : ℕ → ℕ) (x : ℕ) (t : Typ) → is_in x t ≡ true → w x < weight w t

@@ -1,5 +1,6 @@
 -- What holds outside a declaration holds inside, with its parameters.
-use Rattle.std.specs.Prelude.{◌≡◌, ◌<◌, ◌≤◌, ◌+◌, ℕ, suc, Bool, true, false, List, [], ◌++◌}
+use Rattle.std.specs.Prelude.{◌≡◌, ◌<◌, ℕ, suc, Bool, true, false, List, [], ◌++◌}
+use Rattle.std.specs.List.{AllByRecursion}
 use Rattle.ty_core.specs.declared.scheme.Quantified.{Quantified}
 use Rattle.sml_tree.specs.BareTree as bare
 use Rattle.sml_tree.specs.declared.ident.Tyvar.{Tyvar}
@@ -9,15 +10,13 @@ use Rattle.elab_typed.specs.Contexts.{Around, IsOver}
 use Rattle.elab_typed.specs.Elaborates.{inner}
 use Rattle.elab_types.specs.declared.scope.TypeScope.{TypeScope}
 use Rattle.elab_state.specs.declared.state.State.{State}
-use Rattle.ty_table.specs.TypeAt.{type_at}
-use Rattle.ty_solve.specs.Limits.{Fall, LeavesLimits}
-use Rattle.ty_solve.specs.Solve.{LeavesRest}
-use Rattle.elab_state.specs.States.{IsType, dead_level, general_in, limit_in, made, said_in, types_in}
-use Rattle.elab_steps.specs.Growing.{HasType}
+use Rattle.elab_state.specs.States.{dead_level, general_in, made}
+use Rattle.elab_steps.specs.Growing.{Grows, HasGeneral, HasType}
+use Rattle.elab_steps.specs.Tidy.{IsTidy}
 use Rattle.elab_steps.specs.World.{World, Comes, type_of}
-use Rattle.elab_context.specs.Telling.{IsGeneral, Tells}
+use Rattle.elab_context.specs.Telling.{IsContext, IsGeneral, Tells}
 use Rattle.elab_context.specs.declared.context.Context.{Context}
-use Rattle.general_worlds.specs.Tidy.{AreOpen, Ends, IsTidy, StaysDone}
+use Rattle.general_worlds.specs.Tidy.{AreOpen, AreOuter, Ends, Enters}
 use Rattle.general_worlds.specs.Inner.{IsInside, inner_world, ComesInside, deeper, HasTyvars}
 
 -- where a declaration ends, what the state before says comes true inside, in each world in which what the state after says comes true
@@ -37,31 +36,33 @@ InnerIsOver = (A : Around) (qs : List Quantified) (as_ : List Tyvar) (bs rs : ba
 abbrev pub OpenTypesAreGeneral : Type 0
 OpenTypesAreGeneral = (l : ℕ) (qs : List Quantified) (T : State) → l < dead_level → IsTidy T l → are_new qs [] ≡ true
     → ((v : ℕ) → in_scope qs v ≡ true → in_scope (general_in T) v ≡ true) → (W : World) → Comes T W → (A : Around) → A.parameters ≡ W.parameters l
-    → (k : ℕ) → HasType T k → AreOpen T k → Over A.names (type_of W k) → over (qs ++ A.parameters) (type_of W k) ≡ true
+    → (k : ℕ) → HasGeneral T qs k → AreOpen T k → Over A.names (type_of W k) → over (qs ++ A.parameters) (type_of W k) ≡ true
     → (has : Bool) → (has ≡ false → over A.parameters (type_of W k) ≡ true) → IsGeneral W A qs k has
 
--- Two types that reach no variable that is done with are made equal, as the solver does it: the state stays tidy.
-abbrev pub UnifyKeepsTidy : Type 0
-UnifyKeepsTidy = (S T : State) (a b l m : ℕ) → l < dead_level → m < dead_level → IsType S m a → IsType S m b → made T ≡ made S → general_in T ≡ general_in S
-    → Fall (limit_in S) (limit_in T) → LeavesRest (said_in S) (said_in T) (type_at (types_in S) a) (type_at (types_in S) b)
-    → LeavesLimits (said_in S) (limit_in S) (limit_in T) (type_at (types_in S) a) (type_at (types_in S) b) → IsTidy S l → IsTidy T l
+-- A type with no bound variables is one that was generalised, behind the end of its declaration.
+abbrev pub OpenTypesAreHeld : Type 0
+OpenTypesAreHeld = (l : ℕ) (qs : List Quantified) (S T : State) → Ends l qs S T → (k : ℕ) → HasType S k → AreOpen S k → HasGeneral T qs k
 
--- and with one variable more, of one of l declarations
-abbrev pub FreshKeepsTidy : Type 0
-FreshKeepsTidy = (S T : State) (l v : ℕ) → l < dead_level → v ≡ made S → made T ≡ v + 1 → general_in T ≡ general_in S
-    → ((x : ℕ) → x < made S → said_in T x ≡ said_in S x) → ((x : ℕ) → x < made S → limit_in T x ≡ limit_in S x) → (limit_in T v).level ≤ l → IsTidy S l
-    → IsTidy T l
+-- A declaration with its steps from where it begins to where it has ended is a step of the state around it.
+abbrev pub DeclarationsGrow : Type 0
+DeclarationsGrow = (l : ℕ) (qs : List Quantified) (R S T U : State) → Enters R S → Grows S T → Ends l qs T U → IsTidy R l → IsTidy U l → Grows R U
 
--- Made equal so, types leave what is done with.
-abbrev pub UnifyLeavesDone : Type 0
-UnifyLeavesDone = (S T : State) (a b m : ℕ) → m < dead_level → IsType S m a → IsType S m b
-    → LeavesRest (said_in S) (said_in T) (type_at (types_in S) a) (type_at (types_in S) b)
-    → LeavesLimits (said_in S) (limit_in S) (limit_in T) (type_at (types_in S) a) (type_at (types_in S) b)
-    → (v : ℕ) → (limit_in S v).level ≡ dead_level → StaysDone S T v
+-- Inside it the variables made before are those of the declarations around, or done with.
+abbrev pub EarlierAreOuter : Type 0
+EarlierAreOuter = (l : ℕ) (R S T : State) → Enters R S → Grows S T → IsTidy R l → AreOuter T l (made R)
 
--- A state without variables is tidy, and a tidy one is so inside a declaration more.
+-- Where it begins a tidy state is so inside a declaration more, and types are types.
+abbrev pub EnteredIsTidy : Type 0
+EnteredIsTidy = (l : ℕ) (R S : State) → suc l < dead_level → Enters R S → IsTidy R l → IsTidy S (suc l)
+
+abbrev pub EnteredTypesStay : Type 0
+EnteredTypesStay = (R S : State) → Enters R S → (k : ℕ) → HasType R k → HasType S k
+
+-- And what it has of a context it has of one inside, behind further steps, where the types of the type variables in scope there are its own.
+abbrev pub ContextsAreInside : Type 0
+ContextsAreInside = (C : Context) (s : TypeScope) (R S T : State) → suc C.level < dead_level → Enters R S → Grows S T → IsContext R C → s.types ≡ C.types.types
+    → AllByRecursion (λ b. HasType T b.1) s.tyvars → IsContext T (deeper C s)
+
+-- A state without variables is tidy.
 abbrev pub NewIsTidy : Type 0
-NewIsTidy = (S : State) (l : ℕ) → made S ≡ 0 → general_in S ≡ [] → IsTidy S l
-
-abbrev pub TidyInside : Type 0
-TidyInside = (S : State) (l : ℕ) → IsTidy S l → IsTidy S (suc l)
+NewIsTidy = (S : State) (l : ℕ) → l < dead_level → made S ≡ 0 → general_in S ≡ [] → IsTidy S l

@@ -1,5 +1,5 @@
--- States inside l `val` declarations, and the end of one more.
-use Rattle.std.specs.Prelude.{◌≡◌, ◌<◌, ℕ, true, List, [], ◌∷◌, ◌++◌, if◌then◌else◌, nat_eq}
+-- The states at both ends of a `val` declaration inside l others.
+use Rattle.std.specs.Prelude.{◌≡◌, ◌⊎◌, ◌<◌, ◌≤◌, ℕ, suc, true, List, [], ◌∷◌, ◌++◌, if◌then◌else◌, nat_eq}
 use Rattle.ty_core.specs.declared.mark.Mark.{Mark}
 use Rattle.ty_core.specs.declared.mark.Mark.TheVariants.{Any}
 use Rattle.ty_core.specs.declared.scheme.Quantified.{Quantified}
@@ -7,20 +7,9 @@ use Rattle.ty_table.specs.TypeAt.{type_at}
 use Rattle.ty_solve.specs.Substitution.{free, is_in, is_open}
 use Rattle.ir_poly.specs.Types.{in_scope}
 use Rattle.ir_tables.specs.Tables.{parameters_of, strings_of}
-use Rattle.elab_state.specs.States.{types_in, made, said_in, limit_in, general_in, table_in, dead_level, IsSettled}
+use Rattle.elab_state.specs.States.{types_in, made, said_in, limit_in, general_in, table_in, dead_level}
 use Rattle.elab_state.specs.Generalising.{Generalises}
 use Rattle.elab_state.specs.declared.state.State.{State}
-
--- variables are those of l declarations, or done with; and the open ones that are done with are those that were generalised
-pub record IsTidy (S : State) (l : ℕ) : Type 0 where
-  pub settled : IsSettled S l
-  pub done : (v : ℕ) → in_scope (general_in S) v ≡ true → (limit_in S v).level ≡ dead_level
-  pub ended : (v : ℕ) → v < made S → is_open (said_in S v) ≡ true → (limit_in S v).level ≡ dead_level → in_scope (general_in S) v ≡ true
-
--- a variable that is done with stays what it is
-pub record StaysDone (S T : State) (v : ℕ) : Type 0 where
-  pub said : said_in T v ≡ said_in S v
-  pub level : (limit_in T v).level ≡ dead_level
 
 -- what is asked of a parameter
 abbrev pub mark_in : List Quantified → ℕ → Mark
@@ -42,6 +31,22 @@ pub record Ends (l : ℕ) (qs : List Quantified) (S T : State) : Type 0 where
   pub strings : strings_of T.tables ≡ strings_of S.tables
   pub rows : table_in T ≡ table_in S
   pub next : T.next ≡ S.next
+  pub inside : S.level ≡ suc l
+  pub level : T.level ≡ l
+  pub stay : (v : ℕ) → (limit_in S v).level ≡ dead_level → (limit_in T v).level ≡ dead_level
+
+-- where one begins: the same state, inside a declaration more
+pub record Enters (S T : State) : Type 0 where
+  pub solver : T.solver ≡ S.solver
+  pub written : T.written.items ≡ S.written.items
+  pub namings : T.namings.items ≡ S.namings.items
+  pub tables : T.tables ≡ S.tables
+  pub next : T.next ≡ S.next
+  pub level : T.level ≡ suc S.level
+
+-- the variables below the first one belong to l declarations, or are done with
+abbrev pub AreOuter : State → ℕ → ℕ → Type 0
+AreOuter S l first = (v : ℕ) → v < first → ((limit_in S v).level ≤ l) ⊎ ((limit_in S v).level ≡ dead_level)
 
 -- no bound variable stands in a type
 abbrev pub AreOpen : State → ℕ → Type 0

@@ -1,14 +1,16 @@
 // Laws of the worlds inside declarations, as contracts.
 
 ghost use Rattle.general_worlds.specs.Laws.{
+  ContextsAreInside,
   ContextsTellInside,
-  FreshKeepsTidy,
+  DeclarationsGrow,
+  EarlierAreOuter,
+  EnteredIsTidy,
+  EnteredTypesStay,
   InnerIsOver,
   NewIsTidy,
   OpenTypesAreGeneral,
-  TidyInside,
-  UnifyKeepsTidy,
-  UnifyLeavesDone,
+  OpenTypesAreHeld,
   WorldsGeneralise,
 };
 
@@ -32,27 +34,37 @@ pub fn open_types_are_general()
     ensures { OpenTypesAreGeneral }
 {}
 
-/// Unify keeps a state tidy, where the types reach no variable that is done with.
-pub fn unify_keeps_tidy()
-    ensures { UnifyKeepsTidy }
+/// Behind the end of its declaration a type with no bound variables is one that was generalised.
+pub fn open_types_are_held()
+    ensures { OpenTypesAreHeld }
 {}
 
-/// And so does a new variable.
-pub fn fresh_keeps_tidy()
-    ensures { FreshKeepsTidy }
+/// A whole declaration is a step of the state around it.
+pub fn declarations_grow()
+    ensures { DeclarationsGrow }
 {}
 
-/// What is done with stays.
-pub fn unify_leaves_done()
-    ensures { UnifyLeavesDone }
+/// Inside a declaration the variables made before are those of the declarations around.
+pub fn earlier_are_outer()
+    ensures { EarlierAreOuter }
+{}
+
+/// Where a declaration begins a tidy state is so inside it.
+pub fn entered_is_tidy()
+    ensures { EnteredIsTidy }
+{}
+
+/// And types stay types.
+pub fn entered_types_stay()
+    ensures { EnteredTypesStay }
+{}
+
+/// And what it has of a context it has of one inside.
+pub fn contexts_are_inside()
+    ensures { ContextsAreInside }
 {}
 
 /// A state without variables is tidy.
 pub fn new_is_tidy()
     ensures { NewIsTidy }
-{}
-
-/// A tidy state is so inside a declaration more.
-pub fn tidy_inside()
-    ensures { TidyInside }
 {}

@@ -1,5 +1,5 @@
 -- Patterns made of parts.
-use Rattle.std.proofs.Common.{◌≡◌, ◌<◌, ◌≤◌, ◌+◌, ℕ, suc, true, List, [], ◌∷◌, ◌++◌, Box, Global, Option, refl, sym, ap, subst, ◌∙◌, arith}
+use Rattle.std.proofs.Common.{◌≡◌, suc, true, List, [], ◌∷◌, ◌++◌, Box, Global, Option, refl, sym, ap, subst, ◌∙◌, arith}
 use Rattle.std.proofs.lemmas.List.{append_assoc}
 use Rattle.mlc_base.specs.declared.place.Place.{Place}
 use Rattle.sml_tree.specs.Derived.{short}
@@ -12,13 +12,11 @@ use Rattle.core_elab.specs.Scopes.{Scope, empty, scoped, plus_scope, variable}
 use Rattle.prog_tree.specs.TreeOf.{pat_of}
 use Rattle.prog_tree.specs.declared.tree.Pat.{Pat}
 use Rattle.prog_tree.specs.declared.tree.Pat.TheVariants as tree
-use Rattle.elab_typed.specs.Contexts.{Around}
-use Rattle.elab_typed.specs.Elaborates.{PatElab, variable_elab, typed_elab, as_elab, StandsIf}
+use Rattle.elab_typed.specs.Elaborates.{PatElab, variable_elab, typed_elab, as_elab}
 use Rattle.elab_steps.specs.Growing.{HasType, Grows, Always}
 use Rattle.elab_state.specs.declared.state.State.{State}
-use Rattle.elab_steps.specs.World.{World, type_of, Comes}
+use Rattle.elab_steps.specs.World.{type_of}
 use Rattle.elab_steps.proofs.Growing.{grows_on, type_later, comes_before}
-use Rattle.elab_context.specs.Telling.{Tells}
 use Rattle.elab_context.specs.declared.context.Context.{Context}
 use Rattle.pat_elab.proofs.Trees.{pat_of-Variable, pat_of-As}
 use Rattle.pat_elab.specs.Elaborated.{bound_of, scope_of, scope_onto, AreVariables, HasVariable, IsBound, IsAnnotated, IsAnnotatedIf, IsPat}

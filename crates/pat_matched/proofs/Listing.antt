@@ -1,9 +1,9 @@
 -- The constructors that derived forms name.
-use Rattle.std.proofs.Common.{◌≡◌, ◌⊎◌, inl, inr, ◌≤◌, ◌+◌, ℕ, true, List, [], ◌∷◌, Option, Some, None, refl, sym, ap, ap₂, subst, ◌∙◌, ◌&&◌, arith}
-use Rattle.std.proofs.lemmas.Bool.{lt-ltb, and_parts}
+use Rattle.std.proofs.Common.{◌≡◌, ◌⊎◌, inl, inr, ◌≤◌, ℕ, true, List, [], ◌∷◌, Some, None, refl, sym, ap, subst, ◌∙◌, ◌&&◌, arith}
+use Rattle.std.proofs.lemmas.Bool.{lt-ltb}
 use Rattle.mlc_base.specs.declared.place.Place.{Place}
 use Rattle.ty_core.specs.Types.{Typ, con, more, none, name}
-use Rattle.ty_basis.specs.Types.{name_count, bool_name, bool_type, list_name, list_type, pair_type, function_type}
+use Rattle.ty_basis.specs.Types.{bool_name, bool_type, list_name, list_type, pair_type, function_type}
 use Rattle.sml_tree.specs.BareTree as bare
 use Rattle.sml_tree.specs.declared.ident.BuiltIn.{BuiltIn}
 use Rattle.sml_tree.specs.declared.ident.BuiltIn.TheVariants.{True, False, Nil, Cons}
@@ -12,13 +12,13 @@ use Rattle.core_rules.specs.Choices.{no_choice}
 use Rattle.ir_poly.specs.Prog as prog
 use Rattle.ir_poly.specs.Types.{over, constructor_of}
 use Rattle.ir_poly.specs.TestsChecked.{HasConstructor}
-use Rattle.core_elab.specs.Scopes.{built_number, empty}
+use Rattle.core_elab.specs.Scopes.{built_number}
 use Rattle.prog_tree.specs.TreeOf.{pat_of, before}
 use Rattle.prog_tree.specs.declared.tree.Head.TheVariants as head
 use Rattle.prog_tree.specs.declared.tree.Pat.TheVariants as tree
-use Rattle.elab_typed.specs.Numbers.{type_as, KeepsInitial}
+use Rattle.elab_typed.specs.Numbers.{type_as}
 use Rattle.elab_typed.specs.Contexts.{Around}
-use Rattle.elab_typed.specs.Elaborates.{PatElab, built_elab, built_con_elab, built_value}
+use Rattle.elab_typed.specs.Elaborates.{built_elab, built_con_elab, built_value}
 use Rattle.elab_typed.specs.Instances.{IsGivenAt, as_typed}
 use Rattle.elab_typed.proofs.Names.{over-as, name-kept, of_name-kept}
 use Rattle.elab_state.specs.declared.state.State.{State}
@@ -30,7 +30,7 @@ use Rattle.elab_context.specs.Telling.{Tells, IsContext}
 use Rattle.elab_context.specs.declared.context.Context.{Context}
 use Rattle.pat_elab.proofs.Leaves.{no-more, within-names, within-parameters}
 use Rattle.pat_elab.proofs.Trees.{pat_of-Constructor}
-use Rattle.pat_elab.specs.Elaborated.{bound_of, scope_of, Elaborates, IsPat}
+use Rattle.pat_elab.specs.Elaborated.{Elaborates, IsPat}
 use Rattle.pat_elab.specs.declared.bound.BoundVariable.{BoundVariable}
 use Rattle.pat_elab.specs.declared.bound.TypedPat.{TypedPat}
 use Rattle.pat_matched.proofs.Matching.{as-written}

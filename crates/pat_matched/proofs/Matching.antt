@@ -1,10 +1,9 @@
 -- Constructors and exceptions in patterns.
-use Rattle.std.proofs.Common.{◌≡◌, ◌<◌, ◌≤◌, ◌+◌, ℕ, zero, suc, Bool, true, false, List, [], ◌∷◌, ◌++◌, length, Option, Some, None, Box, Global, slice_get, nat_lt, refl, sym, ap, ap₂, subst, ◌∙◌, arith}
+use Rattle.std.proofs.Common.{◌≡◌, ◌<◌, ◌≤◌, ℕ, zero, suc, true, false, List, [], ◌∷◌, length, Option, Some, None, Box, Global, slice_get, nat_lt, refl, sym, ap, subst, ◌∙◌, arith}
 use Rattle.std.specs.Prelude.{option_map}
 use Rattle.std.proofs.lemmas.Bool.{lt-ltb, and_parts}
-use Rattle.std.specs.List.{list_all}
 use Rattle.mlc_base.specs.declared.place.Place.{Place}
-use Rattle.ty_core.specs.Types.{Typ, Typs, var, con, none, more, typs_of, name, arrow}
+use Rattle.ty_core.specs.Types.{Typ, Typs, var, con, none, more, name}
 use Rattle.ty_core.specs.Statics.{replace, replace_all, variables}
 use Rattle.ty_core.specs.declared.mark.Mark.{Mark}
 use Rattle.ty_core.specs.declared.mark.Mark.TheVariants.{Any, Equality, Class}
@@ -17,9 +16,8 @@ use Rattle.sml_tree.specs.Terminal.{LongVid}
 use Rattle.sml_tree.specs.declared.ident.Vid.{Vid}
 use Rattle.sml_tree.specs.BareTree as bare
 use Rattle.sml_tree.specs.BareTree.{vid_pat, con_pat}
-use Rattle.core_rules.specs.Objects.{Over, AllOver, Value}
-use Rattle.core_rules.specs.Choices.{Choices, no_choice}
-use Rattle.core_rules.specs.Initial.{ref_row}
+use Rattle.core_rules.specs.Objects.{Over, Value}
+use Rattle.core_rules.specs.Choices.{no_choice}
 use Rattle.core_rules.specs.Typing.{Chosen, all_general}
 use Rattle.ir_poly.specs.Prog as prog
 use Rattle.ir_poly.specs.Prog.{fixed, held}
@@ -40,17 +38,17 @@ use Rattle.elab_typed.proofs.Names.{over-as}
 use Rattle.elab_state.specs.States.{types_in}
 use Rattle.elab_state.specs.declared.state.State.{State}
 use Rattle.elab_steps.specs.Growing.{HasType, Grows, Always}
-use Rattle.elab_steps.specs.Instances.{IsScheme, IsInstance, begins_as_function}
+use Rattle.elab_steps.specs.Instances.{IsInstance, begins_as_function}
 use Rattle.elab_steps.specs.World.{World, type_of, Comes}
-use Rattle.elab_steps.proofs.Growing.{grows_on, type_later, comes_before}
+use Rattle.elab_steps.proofs.Growing.{grows_on, comes_before}
 use Rattle.elab_context.specs.Entries.{entry_in, limit_of}
-use Rattle.elab_context.specs.Telling.{Tells, IsContext, IsHeld, IsConstructor, IsInUse, IsInUseIf, kept_of, denotes_of, scheme_at, scheme_of}
+use Rattle.elab_context.specs.Telling.{Tells, IsContext, IsHeld, IsConstructor, kept_of, denotes_of, scheme_at, scheme_of}
 use Rattle.elab_context.specs.declared.context.Context.{Context}
 use Rattle.elab_context.specs.declared.entry.Entry.{Entry}
 use Rattle.elab_context.specs.declared.entry.Entry.TheVariants.{Constructor, Reference, Initial, Raised}
 use Rattle.elab_context.specs.declared.entry.Scheme as code
 use Rattle.elab_context.proofs.Reading.{context_later}
-use Rattle.elab_context.proofs.Giving.{is_given, has_row, instance-over, instance-names, images-are}
+use Rattle.elab_context.proofs.Giving.{is_given, has_row, instance-over, instance-names}
 use Rattle.pat_elab.proofs.Leaves.{no-more}
 use Rattle.pat_elab.proofs.Forms.{all-later, alone_is}
 use Rattle.pat_elab.proofs.Trees.{pat_of-Constructor, pat_of-Exception, pat_of-Before}

@@ -4,7 +4,7 @@ use Rattle.ir_poly.specs.Prog as prog
 use Rattle.prog_tree.specs.TreeOf.{Reading, DecTree, RuleTree, atom_of, use_of, node_dec, node_exp, node_function, node_rule, tree_of}
 use Rattle.prog_tree.specs.declared.tree.Atom as nodes
 use Rattle.prog_tree.specs.declared.tree.Used as uses
-use Rattle.prog_tree.specs.declared.tree.Exp.{Exp, Exp-F, fold-roll-Exp}
+use Rattle.prog_tree.specs.declared.tree.Exp.{Exp-F, fold-roll-Exp}
 use Rattle.prog_tree.specs.declared.tree.Exp.TheVariants.{Atom, Use, rolls-Atom, rolls-Use}
 
 module _ (R : Reading) where

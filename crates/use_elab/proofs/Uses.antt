@@ -1,12 +1,12 @@
 -- Identifiers used.
-use Rattle.std.proofs.Common.{◌≡◌, ◌⊎◌, inl, inr, ◌<◌, ◌≤◌, ◌+◌, ℕ, zero, suc, Bool, true, false, ◌&&◌, ◌||◌, if◌then◌else◌, List, [], ◌∷◌, ◌++◌, length, map, Option, Some, None, slice_get, nat_eq, refl, sym, ap, ap₂, subst, ◌∙◌, arith}
+use Rattle.std.proofs.Common.{◌≡◌, ◌⊎◌, inl, inr, ◌<◌, ◌≤◌, ℕ, zero, suc, Bool, true, false, ◌&&◌, ◌||◌, if◌then◌else◌, List, [], ◌∷◌, ◌++◌, length, map, Option, Some, None, slice_get, nat_eq, refl, sym, ap, ap₂, subst, ◌∙◌, arith}
 use Rattle.std.specs.Prelude.{option_map}
 use Rattle.std.proofs.lemmas.Bool.{lt-ltb, and_parts}
 use Rattle.std.proofs.lemmas.Option.{slice_get-get_or}
 use Rattle.std.specs.List.{AllByRecursion}
 use Rattle.mlc_base.specs.declared.place.Place.{Place}
 use Rattle.mlc_prims.specs.declared.basis.BasisPrimitive.{BasisPrimitive}
-use Rattle.ty_core.specs.Types.{Typ, Typs, Symbol, var, con, arrow, labels, none, more, typs_of, name}
+use Rattle.ty_core.specs.Types.{Typ, Typs, var, con, none, more, typs_of, name}
 use Rattle.ty_core.specs.Marks.{Allows}
 use Rattle.ty_core.specs.Statics.{replace, replace_all, variables}
 use Rattle.ty_core.specs.declared.mark.Mark.{Mark}
@@ -15,7 +15,6 @@ use Rattle.ty_core.specs.declared.name.TyName.{TyName}
 use Rattle.ty_core.specs.declared.scheme.Quantified.{Quantified}
 use Rattle.ty_core.specs.declared.env.Status.TheVariants as status
 use Rattle.ty_basis.specs.Types.{name_count, function_type, ref_type, exn_type}
-use Rattle.ty_basis.specs.Primitives.{primitive_type}
 use Rattle.ty_solve.specs.Substitution.{sub, is_below}
 use Rattle.ty_solve.specs.declared.limit.Limit.{Limit}
 use Rattle.sml_tree.specs.Terminal.{LongVid}
@@ -27,7 +26,7 @@ use Rattle.core_rules.specs.Typing.{Chosen, all_general}
 use Rattle.ir_poly.specs.Prog as prog
 use Rattle.ir_poly.specs.Prog.{fixed, held}
 use Rattle.ir_poly.specs.ProgChecked.{fixed_checked, held_checked}
-use Rattle.ir_poly.specs.Types.{in_scope, admits_in, over, all_over, changed, AreAllowed, nth_type, prim_type, constructor_of, argument_at, tuple_type, arguments_at, result_at}
+use Rattle.ir_poly.specs.Types.{in_scope, admits_in, over, all_over, changed, AreAllowed, nth_type, prim_type, constructor_of, argument_at}
 use Rattle.ir_poly.specs.TestsChecked.{of_type, own, alone_type, exception as exception_known}
 use Rattle.ir_poly.specs.TestsChecked as checked
 use Rattle.ir_tables.specs.Tables.{parameters_of, parameters_at}
@@ -39,13 +38,11 @@ use Rattle.prog_tree.specs.declared.tree.Used.TheVariants as used
 use Rattle.elab_typed.specs.Numbers.{name_as, type_as}
 use Rattle.elab_typed.specs.Contexts.{Kept, given, general, single, raised, Around}
 use Rattle.elab_typed.specs.Elaborates.{vid_elab}
-use Rattle.elab_typed.specs.Instances.{as_typed, IsGivenAt, IsInstanceAt, ConHas, PrimHas, UseElab, use_general, use_plain, use_single, use_own, use_constructor, use_reference, use_exception, use_given_exception, use_primitive}
-use Rattle.elab_typed.proofs.Names.{replace-as, typs_of-as, over-as, args-over}
+use Rattle.elab_typed.specs.Instances.{as_typed, IsGivenAt, IsInstanceAt, ConHas, UseElab, use_general, use_plain, use_single, use_own, use_constructor, use_reference, use_exception, use_given_exception, use_primitive}
+use Rattle.elab_typed.proofs.Names.{typs_of-as, over-as, args-over}
 use Rattle.elab_typed.proofs.Under.{over-under}
-use Rattle.elab_state.specs.States.{types_in, dead_level}
 use Rattle.elab_state.specs.declared.state.State.{State}
 use Rattle.elab_steps.specs.Growing.{HasType, Grows, Always, IsWithin}
-use Rattle.elab_steps.specs.Instances.{IsInstance}
 use Rattle.elab_steps.specs.World.{World, type_of, Comes}
 use Rattle.elab_steps.proofs.Growing.{grows_on, type_later, comes_before}
 use Rattle.elab_instances.specs.Fresh.{IsFresh, AreFresh, images_of}

@@ -6,7 +6,7 @@ ghost use Rattle.sml_tree.specs.BareTree.{vid_exp};
 ghost use Rattle.ty_core.specs.Marks.{is_inhabited};
 ghost use Rattle.ir_tables.specs.Tables.{parameters_of, parameters_at};
 ghost use Rattle.elab_typed.specs.Numbers.{type_as};
-ghost use Rattle.elab_steps.specs.Growing.{HasType, Always, AreTypes, Grows};
+ghost use Rattle.elab_steps.specs.Growing.{HasGeneral, HasType, Always, AreTypes, Grows};
 ghost use Rattle.elab_instances.specs.Fresh.{images_of};
 ghost use Rattle.elab_context.specs.Entries.{entry_in};
 ghost use Rattle.elab_context.specs.Telling.{IsContext, HasList};
@@ -94,7 +94,7 @@ fn at_new(
 ) -> Result<Instance, NoMemory>
     requires context { IsContext state.old context.now }
     requires list { HasList state.old list }
-    requires ty { HasType state.old ty }
+    requires ty { HasGeneral state.old (parameters_at (parameters_of state.old.tables) list) ty }
     ensures { IfOk result (λ r. IsAtNew state.old context.now list ty state.new r) }
 {
     let parameters = parameters_of_list(alloc, state, list)?;
@@ -137,7 +137,7 @@ pub fn general(
 ) -> Result<TypedExp, NoMemory>
     requires context { IsContext state.old context.now }
     requires list { HasList state.old list }
-    requires ty { HasType state.old ty }
+    requires ty { HasGeneral state.old (parameters_at (parameters_of state.old.tables) list) ty }
     ensures { IfOk result (λ r. (place : Place) (x : LongVid) → entry_in context.now x.qualifiers x.vid ≡ Some (General list ty number has)
         → IsExp state.old context.now (vid_exp place x) state.new r) }
 {

@@ -1,8 +1,9 @@
-use Rattle.std.proofs.Common.{ℕ, List, [], ◌∷◌, ◌++◌, refl, ap, ap₂, ◌∙◌}
+use Rattle.std.proofs.Common.{ℕ, List, [], ◌∷◌, ◌++◌, refl, sym, ap, ap₂, subst, ◌∙◌}
 use Rattle.elab_context.specs.declared.entry.Entry.{Entry}
 use Rattle.elab_context.specs.declared.entry.Scheme as code
 use Rattle.vid_scope.specs.declared.vids.VidScope.{VidScope}
 use Rattle.elab_state.specs.States.{types_in}
+use Rattle.elab_steps.specs.Tidy.{IsTidy}
 use Rattle.basis_context.specs.Basis.{basis_marks, marks_at, type_entries, type_list}
 use Rattle.basis_context.proofs.Being.{basis_is, context_is, bodies-count}
 use Rattle.basis_context.proofs.Whole.{tells_all}
@@ -22,6 +23,9 @@ returns-clause-is c =
     c.in_ok-types.ensures.tyvars (c.in_ok-types.ensures.types ∙ ap (λ (l : List ℕ). type_entries type_list l 0) c.deref-3.ensures.value)
     (c.in_ok-add_schemes.ensures ∙ ap₂ (λ (l : List code.Scheme) ss. marks_at l ++ basis_marks ss) c.new-schemes.ensures.items c.deref.ensures.value)
     (c.in_ok-add_schemes-2.ensures ∙ ap (λ ss. marks_at c.add_schemes.new.schemes.items ++ basis_marks ss) c.deref-2.ensures.value) refl refl refl c.new.ensures)
+    (c.in_ok-basis.ensures.grows.level ∙ c.requires.level)
+    (subst (IsTidy c.basis_of.new.state) (c.in_ok-basis.ensures.grows.level ∙ c.requires.level)
+    (c.in_ok-basis.ensures.grows.tidy (subst (IsTidy c.args.state.now) (sym c.requires.level) c.requires.tidy)))
 
 pub returns-clause-tells : goal.returns-clause-tells
 returns-clause-tells c W w h p =

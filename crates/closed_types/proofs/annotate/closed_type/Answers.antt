@@ -17,7 +17,7 @@ invariant_of-state c =
 pub returns-clause-grows : goal.returns-clause-grows
 returns-clause-grows c =
     if-ok c.closed_within.result (λ r e. tabled_grows c.args.state.now _ (record {
-      stays = record { written = refl; namings = refl; tables = refl; next = refl };
+      stays = record { written = refl; namings = refl; tables = refl; next = refl; level = refl };
       types = c.closed_within.ensures.earlier_stay;
       slots = c.closed_within.ensures.slots;
       limits = c.closed_within.ensures.limits;

@@ -21,7 +21,7 @@ invariant_of-state c =
 pub returns-clause-grows : goal.returns-clause-grows
 returns-clause-grows c =
     if-ok c.instance_within.result (λ r e. tabled_grows c.args.state.now _ (record {
-      stays = record { written = refl; namings = refl; tables = refl; next = refl };
+      stays = record { written = refl; namings = refl; tables = refl; next = refl; level = refl };
       types = c.instance_within.ensures.earlier_stay;
       slots = c.instance_within.ensures.slots;
       limits = c.instance_within.ensures.limits;
@@ -32,7 +32,7 @@ pub returns-clause-is : goal.returns-clause-is
 returns-clause-is c =
     if-ok c.instance_within.result (λ r e. instanced_is c.args.state.now _ c.args.body c.args.images.now r (record {
       tabled = record {
-        stays = record { written = refl; namings = refl; tables = refl; next = refl };
+        stays = record { written = refl; namings = refl; tables = refl; next = refl; level = refl };
         types = c.instance_within.ensures.earlier_stay;
         slots = c.instance_within.ensures.slots;
         limits = c.instance_within.ensures.limits;
@@ -45,7 +45,7 @@ pub returns-clause-has : goal.returns-clause-has
 returns-clause-has c =
     if-ok c.instance_within.result (λ r e. instanced_has c.args.state.now _ c.args.body c.args.images.now r (record {
       tabled = record {
-        stays = record { written = refl; namings = refl; tables = refl; next = refl };
+        stays = record { written = refl; namings = refl; tables = refl; next = refl; level = refl };
         types = c.instance_within.ensures.earlier_stay;
         slots = c.instance_within.ensures.slots;
         limits = c.instance_within.ensures.limits;

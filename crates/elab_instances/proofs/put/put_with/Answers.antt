@@ -1,4 +1,4 @@
-use Rattle.std.proofs.Common.{length, map, refl, sym, ap, subst, ◌∙◌}
+use Rattle.std.proofs.Common.{length, refl, sym, ap, ◌∙◌}
 use Rattle.std.proofs.lemmas.List.{length-map}
 use Rattle.ty_core.specs.declared.scheme.Quantified.{Quantified}
 use Rattle.ty_instance.proofs.Going.{longer}
@@ -27,7 +27,7 @@ invariant_of-state c =
 pub returns-clause-grows : goal.returns-clause-grows
 returns-clause-grows c =
     if-ok c.put_within.result (λ r e. tabled_grows c.args.state.now _ (record {
-      stays = record { written = refl; namings = refl; tables = refl; next = refl };
+      stays = record { written = refl; namings = refl; tables = refl; next = refl; level = refl };
       types = c.put_within.ensures.earlier_stay;
       slots = c.put_within.ensures.slots;
       limits = c.put_within.ensures.limits;
@@ -36,22 +36,22 @@ returns-clause-grows c =
 
 pub returns-clause-is : goal.returns-clause-is
 returns-clause-is c =
-    if-ok c.put_within.result (λ r e. putted_is c.args.state.now _ c.args.body c.deref.result.now c.args.images.now r (record {
+    if-ok c.put_within.result (λ r e. putted_is c.args.state.now _ c.args.body c.args.parameters.now c.deref.result.now c.args.images.now r (record {
       tabled = record {
-        stays = record { written = refl; namings = refl; tables = refl; next = refl };
+        stays = record { written = refl; namings = refl; tables = refl; next = refl; level = refl };
         types = c.put_within.ensures.earlier_stay;
         slots = c.put_within.ensures.slots;
         limits = c.put_within.ensures.limits;
         says = c.put_within.ensures.says;
       };
       is = e;
-    }) c.requires.body c.requires.images) c.put_within.ensures.is
+    }) (c.deref.ensures.value ∙ c.in_ok-variables.ensures) c.requires.each_has_one c.requires.body c.requires.images) c.put_within.ensures.is
 
 pub returns-clause-has : goal.returns-clause-has
 returns-clause-has c =
     if-ok c.put_within.result (λ r e. putted_has c.args.state.now _ c.args.body c.args.parameters.now c.deref.result.now c.args.images.now r (record {
       tabled = record {
-        stays = record { written = refl; namings = refl; tables = refl; next = refl };
+        stays = record { written = refl; namings = refl; tables = refl; next = refl; level = refl };
         types = c.put_within.ensures.earlier_stay;
         slots = c.put_within.ensures.slots;
         limits = c.put_within.ensures.limits;

@@ -1,4 +1,3 @@
-use Rattle.std.proofs.Common.{length}
 use Rattle.elab_steps.proofs.Growing.{type_later}
 use Rattle.elab_instances.proofs.Making.{type-at, among-later, writes_more}
 use Rattle.elab_instances.proofs.writing.write_all.Goals as goal

@@ -18,7 +18,7 @@ invariant_of-state c =
 pub returns-clause-grows : goal.returns-clause-grows
 returns-clause-grows c =
     if-ok c.annotation_within.result (λ r e. tabled_grows c.args.state.now _ (record {
-      stays = record { written = refl; namings = refl; tables = refl; next = refl };
+      stays = record { written = refl; namings = refl; tables = refl; next = refl; level = refl };
       types = c.annotation_within.ensures.earlier_stay;
       slots = c.annotation_within.ensures.slots;
       limits = c.annotation_within.ensures.limits;
@@ -28,9 +28,9 @@ returns-clause-grows c =
 pub returns-clause-is : goal.returns-clause-is
 returns-clause-is c =
     if-ok c.annotation_within.result (λ r e. annotated_is c.args.state.now _ c.args.scope.now (ty_of c.args.ty.now) r (record {
-      stays = record { written = refl; namings = refl; tables = refl; next = refl };
+      stays = record { written = refl; namings = refl; tables = refl; next = refl; level = refl };
       types = c.annotation_within.ensures.earlier_stay;
       slots = c.annotation_within.ensures.slots;
       limits = c.annotation_within.ensures.limits;
       says = c.annotation_within.ensures.says;
-    }) c.requires.known e) c.annotation_within.ensures.is
+    }) c.requires.known c.requires.live e) c.annotation_within.ensures.is

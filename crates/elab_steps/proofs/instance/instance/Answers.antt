@@ -1,7 +1,7 @@
 use Rattle.std.proofs.Common.{length, refl}
 use Rattle.ty_instance.proofs.Going.{longer}
 use Rattle.elab_steps.proofs.Changing.{written_later}
-use Rattle.elab_steps.proofs.Instancing.{Instanced, instanced_grows, instanced_is, instanced_instance}
+use Rattle.elab_steps.proofs.Instancing.{instanced_grows, instanced_is, instanced_instance}
 use Rattle.elab_steps.proofs.instance.instance.Goals as goal
 
 pub invariant_of-state : goal.invariant_of-state
@@ -17,33 +17,39 @@ invariant_of-state c =
 
 pub returns-clause-grows : goal.returns-clause-grows
 returns-clause-grows c = instanced_grows c.args.state.now _ c.args.marks.now c.args.body c.args.limit c.in_ok-ty.ty (record {
-  stays = record { written = refl; namings = refl; tables = refl; next = refl };
+  stays = record { written = refl; namings = refl; tables = refl; next = refl; level = refl };
   types = c.instantiate_fresh.ensures.earlier_stay;
   slots = c.in_ok-ty.ensures.marked;
   limits = c.in_ok-ty.ensures.limited;
   says = c.in_ok-ty.ensures.says;
   known = c.in_ok-ty.ensures.known;
   is = c.in_ok-ty.ensures.is;
+  deep = c.requires.deep;
+  inside = c.requires.inside;
 })
 
 pub returns-clause-is : goal.returns-clause-is
 returns-clause-is c = instanced_is c.args.state.now _ c.args.marks.now c.args.body c.args.limit c.in_ok-ty.ty (record {
-  stays = record { written = refl; namings = refl; tables = refl; next = refl };
+  stays = record { written = refl; namings = refl; tables = refl; next = refl; level = refl };
   types = c.instantiate_fresh.ensures.earlier_stay;
   slots = c.in_ok-ty.ensures.marked;
   limits = c.in_ok-ty.ensures.limited;
   says = c.in_ok-ty.ensures.says;
   known = c.in_ok-ty.ensures.known;
   is = c.in_ok-ty.ensures.is;
+  deep = c.requires.deep;
+  inside = c.requires.inside;
 }) c.requires.scheme
 
 pub returns-clause-instance : goal.returns-clause-instance
 returns-clause-instance c = instanced_instance c.args.state.now _ c.args.marks.now c.args.body c.args.limit c.in_ok-ty.ty (record {
-  stays = record { written = refl; namings = refl; tables = refl; next = refl };
+  stays = record { written = refl; namings = refl; tables = refl; next = refl; level = refl };
   types = c.instantiate_fresh.ensures.earlier_stay;
   slots = c.in_ok-ty.ensures.marked;
   limits = c.in_ok-ty.ensures.limited;
   says = c.in_ok-ty.ensures.says;
   known = c.in_ok-ty.ensures.known;
   is = c.in_ok-ty.ensures.is;
+  deep = c.requires.deep;
+  inside = c.requires.inside;
 }) c.requires.scheme

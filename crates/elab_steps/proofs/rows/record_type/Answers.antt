@@ -1,6 +1,5 @@
-use Rattle.std.proofs.Common.{length, sym, subst, ◌∙◌, ap, arith}
+use Rattle.std.proofs.Common.{sym, subst, ◌∙◌, arith}
 use Rattle.label_rows.specs.declared.sort.Field.{Field}
-use Rattle.label_rows.specs.Sorting.{sorted}
 use Rattle.elab_steps.specs.Growing.{HasType, AreTypes}
 use Rattle.elab_steps.proofs.Sorting.{column, row-is, sorted-all, types-held}
 use Rattle.elab_steps.proofs.rows.record_type.Goals as goal

@@ -21,7 +21,7 @@ invariant_of-state c =
 pub returns-clause-grows : goal.returns-clause-grows
 returns-clause-grows c =
     on-ok c.apply.result (λ r e. applied_grows c.args.state.now _ (head_of c.args.head) c.args.parts.now r (record {
-      stays = record { written = refl; namings = refl; tables = refl; next = refl };
+      stays = record { written = refl; namings = refl; tables = refl; next = refl; level = refl };
       types = c.apply.ensures.earlier_stay;
       slots = c.apply.ensures.slots;
       limits = c.apply.ensures.limits;
@@ -32,7 +32,7 @@ returns-clause-grows c =
 pub returns-clause-is : goal.returns-clause-is
 returns-clause-is c =
     on-ok c.apply.result (λ r e. applied_is c.args.state.now _ (head_of c.args.head) c.args.parts.now r (record {
-      stays = record { written = refl; namings = refl; tables = refl; next = refl };
+      stays = record { written = refl; namings = refl; tables = refl; next = refl; level = refl };
       types = c.apply.ensures.earlier_stay;
       slots = c.apply.ensures.slots;
       limits = c.apply.ensures.limits;
@@ -43,7 +43,7 @@ returns-clause-is c =
 pub returns-clause-made : goal.returns-clause-made
 returns-clause-made c =
     on-ok c.apply.result (λ r e. applied_made c.args.state.now _ (head_of c.args.head) c.args.parts.now r (record {
-      stays = record { written = refl; namings = refl; tables = refl; next = refl };
+      stays = record { written = refl; namings = refl; tables = refl; next = refl; level = refl };
       types = c.apply.ensures.earlier_stay;
       slots = c.apply.ensures.slots;
       limits = c.apply.ensures.limits;

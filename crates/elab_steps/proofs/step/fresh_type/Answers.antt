@@ -1,4 +1,4 @@
-use Rattle.std.proofs.Common.{length, take, refl, sym, ap, subst, ◌∙◌}
+use Rattle.std.proofs.Common.{length, refl, ◌∙◌}
 use Rattle.ty_instance.proofs.Going.{longer}
 use Rattle.ty_instance.proofs.Putting.{on-ok}
 use Rattle.elab_steps.proofs.Changing.{freshened_grows, freshened_is, freshened_within, written_later, begins-of}
@@ -18,7 +18,7 @@ invariant_of-state-2 c =
 pub returns-clause-grows : goal.returns-clause-grows
 returns-clause-grows c =
     on-ok c.variable.result (λ r e. freshened_grows c.args.state.now _ c.fresh.new.self.subst c.args.mark c.args.limit c.in_ok-v.v r (record {
-      stays = record { written = refl; namings = refl; tables = refl; next = refl };
+      stays = record { written = refl; namings = refl; tables = refl; next = refl; level = refl };
       mid_types = c.in_ok-v.ensures.types;
       mid_slots = c.in_ok-v.ensures.marked;
       limits = c.variable.ensures.limits ∙ c.in_ok-v.ensures.limited;
@@ -27,12 +27,14 @@ returns-clause-grows c =
       says = c.variable.ensures.says;
       number = c.in_ok-v.ensures.next;
       is = e;
+      deep = c.requires.deep;
+      inside = c.requires.inside;
     })) c.variable.ensures.held
 
 pub returns-clause-is : goal.returns-clause-is
 returns-clause-is c =
     on-ok c.variable.result (λ r e. freshened_is c.args.state.now _ c.fresh.new.self.subst c.args.mark c.args.limit c.in_ok-v.v r (record {
-      stays = record { written = refl; namings = refl; tables = refl; next = refl };
+      stays = record { written = refl; namings = refl; tables = refl; next = refl; level = refl };
       mid_types = c.in_ok-v.ensures.types;
       mid_slots = c.in_ok-v.ensures.marked;
       limits = c.variable.ensures.limits ∙ c.in_ok-v.ensures.limited;
@@ -41,12 +43,14 @@ returns-clause-is c =
       says = c.variable.ensures.says;
       number = c.in_ok-v.ensures.next;
       is = e;
+      deep = c.requires.deep;
+      inside = c.requires.inside;
     })) c.variable.ensures.held
 
 pub returns-clause-within : goal.returns-clause-within
 returns-clause-within c =
     on-ok c.variable.result (λ r e. freshened_within c.args.state.now _ c.fresh.new.self.subst c.args.mark c.args.limit c.in_ok-v.v r (record {
-      stays = record { written = refl; namings = refl; tables = refl; next = refl };
+      stays = record { written = refl; namings = refl; tables = refl; next = refl; level = refl };
       mid_types = c.in_ok-v.ensures.types;
       mid_slots = c.in_ok-v.ensures.marked;
       limits = c.variable.ensures.limits ∙ c.in_ok-v.ensures.limited;
@@ -55,4 +59,6 @@ returns-clause-within c =
       says = c.variable.ensures.says;
       number = c.in_ok-v.ensures.next;
       is = e;
+      deep = c.requires.deep;
+      inside = c.requires.inside;
     })) c.variable.ensures.held

@@ -12,4 +12,5 @@ returns-clause-is c = texted_is c.args.state.now _ c.extend_from_slice.new.self 
   lists = refl;
   strings = c.in_ok-push.ensures.items;
   next = refl;
+  level = refl;
 }) (omega (arith, c.len-number.ensures, c.args.state.now.tables.strings.ok.0)) (c.in_ok-extend_from_slice.ensures.items ∙ ap (λ l. l ++ c.args.bytes.now) c.new-copy.ensures.items)

@@ -18,4 +18,5 @@ returns-clause-is c = wrote_is c.args.state.now _ (record { ty = c.args.ty; nami
   namings = refl;
   tables = refl;
   next = refl;
+  level = refl;
 }) (omega (arith, c.len-number.ensures, c.args.state.now.written.ok.0))

@@ -1,6 +1,5 @@
 use Rattle.std.proofs.Common.{refl}
-use Rattle.elab_context.proofs.Reading.{context_later}
-use Rattle.elab_steps.proofs.Growing.{grows_on, type_later, always_later}
+use Rattle.elab_steps.proofs.Growing.{grows_on, always_later}
 use Rattle.exp_forms.proofs.Finishing.{function_is}
 use Rattle.exp_forms.proofs.finish.by_rules.Goals as goal
 

@@ -1,6 +1,5 @@
 use Rattle.std.proofs.Common.{refl}
-use Rattle.elab_context.proofs.Reading.{context_later}
-use Rattle.elab_steps.proofs.Growing.{grows_on, type_later}
+use Rattle.elab_steps.proofs.Growing.{type_later}
 use Rattle.exp_forms.proofs.Leaves.{raise_is}
 use Rattle.exp_forms.proofs.raising.raising.Goals as goal
 

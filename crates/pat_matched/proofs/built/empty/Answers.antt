@@ -1,4 +1,4 @@
-use Rattle.std.proofs.Common.{sym, subst}
+use Rattle.std.proofs.Common.{subst}
 use Rattle.elab_steps.specs.Growing.{Always, IsWithin}
 use Rattle.pat_matched.proofs.Listing.{empty_is}
 use Rattle.pat_matched.proofs.built.empty.Goals as goal

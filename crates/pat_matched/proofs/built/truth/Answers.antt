@@ -1,4 +1,4 @@
-use Rattle.std.proofs.Common.{refl, sym, ap}
+use Rattle.std.proofs.Common.{ap}
 use Rattle.prog_tree.specs.declared.tree.Pat.TheVariants as tree
 use Rattle.pat_matched.proofs.Listing.{truth_is}
 use Rattle.pat_matched.proofs.built.truth.Goals as goal

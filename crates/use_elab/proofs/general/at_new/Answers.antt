@@ -1,4 +1,4 @@
-use Rattle.std.proofs.Common.{◌≡◌, List, length, map, true, sym, ap, subst, ◌∙◌}
+use Rattle.std.proofs.Common.{◌≡◌, List, map, true, sym, ap, subst, ◌∙◌}
 use Rattle.std.specs.List.{AllByRecursion}
 use Rattle.ty_core.specs.Marks.{is_inhabited}
 use Rattle.ty_core.specs.declared.mark.Mark.{Mark}
@@ -6,9 +6,9 @@ use Rattle.ty_core.specs.declared.scheme.Quantified.{Quantified}
 use Rattle.ty_solve.specs.Substitution.{sub}
 use Rattle.ir_poly.specs.Types.{changed}
 use Rattle.elab_instances.specs.Fresh.{images_of}
-use Rattle.elab_steps.specs.Growing.{Always}
+use Rattle.elab_steps.specs.Growing.{Always, HasGeneral}
 use Rattle.elab_steps.specs.World.{type_of}
-use Rattle.elab_steps.proofs.Growing.{type_later}
+use Rattle.elab_steps.proofs.Growing.{general_later}
 use Rattle.use_elab.proofs.Uses.{all-marks, at_new_is}
 use Rattle.use_elab.proofs.general.at_new.Goals as goal
 
@@ -18,7 +18,9 @@ fresh_types-requires-clause-inhabited c =
     (all-marks (λ m. is_inhabited m ≡ true) _ c.requires.list.inhabited)
 
 pub put_with-requires-clause-body : goal.put_with-requires-clause-body
-put_with-requires-clause-body c = type_later c.args.state.now c.fresh_types.new.state c.args.ty c.in_ok-images.ensures.grows c.requires.ty
+put_with-requires-clause-body c =
+    subst (λ qs. HasGeneral c.fresh_types.new.state qs c.args.ty) (sym (c.deref-3.ensures.value ∙ c.in_ok-parameters.ensures))
+    (general_later c.args.state.now c.fresh_types.new.state _ c.args.ty c.in_ok-images.ensures.grows c.requires.ty)
 
 pub returns : goal.returns
 returns c =
