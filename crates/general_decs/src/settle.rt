@@ -1,0 +1,59 @@
+// What the variables of a declaration are when they come into scope.
+ghost use Rattle.std.specs.Prelude.{◌≡◌, ◌&&◌, ℕ, length, IfOk};
+ghost use Rattle.elab_steps.specs.Growing.{Grows, HasType};
+ghost use Rattle.general_worlds.specs.Tidy.{IsTidy};
+ghost use Rattle.pat_elab.specs.Elaborated.{AreVariables};
+ghost use Rattle.general_decs.specs.Entries.{AreShown, IsShown};
+
+use elab_context::entry::Entry;
+use elab_state::state::State;
+use general_vals::settle::settled_type;
+use mlc_base::memory::NoMemory;
+use pat_elab::bound::BoundVariable;
+use prog_known::answers::both;
+use sml_tree::ident::Vid;
+use std::alloc::Global;
+
+/// One variable, over a list of parameters where it is generalised and there are some.
+fn show(
+    alloc: Global,
+    state: &mut State,
+    list: usize,
+    some: bool,
+    variable: BoundVariable,
+    general: bool,
+) -> Result<(Vid, Entry), NoMemory>
+    requires { HasType state.old variable.ty }
+    ensures grows { IfOk result (λ _. Grows state.old state.new) }
+    ensures next { IfOk result (λ _. state.new.next ≡ state.old.next) }
+    ensures tidy { IfOk result (λ _. (l : ℕ) → IsTidy state.old l → IsTidy state.new l) }
+    ensures shown { IfOk result (λ e. (l : ℕ) → IsTidy state.old l → IsShown state.old state.new l list some variable general e) }
+{
+    let ty = settled_type(alloc, state, variable.ty)?;
+    let entry = Entry::General(list, ty, variable.number, both(general, some));
+    Ok((variable.vid, entry))
+}
+
+/// Variables, each with its flag.
+pub fn show_all(
+    alloc: Global,
+    state: &mut State,
+    list: usize,
+    some: bool,
+    bound: &[BoundVariable],
+    flags: &[bool],
+) -> Result<Vec<(Vid, Entry)>, NoMemory>
+    requires have { AreVariables state.old bound.now }
+    requires count { length flags.now ≡ length bound.now }
+    ensures grows { IfOk result (λ _. Grows state.old state.new) }
+    ensures next { IfOk result (λ _. state.new.next ≡ state.old.next) }
+    ensures tidy { IfOk result (λ _. (l : ℕ) → IsTidy state.old l → IsTidy state.new l) }
+    ensures shown { IfOk result (λ es. (l : ℕ) → IsTidy state.old l → AreShown state.old state.new l list some bound.now flags.now es.items) }
+{
+    let mut values = Vec::new(alloc);
+    for i in 0..bound.len() {
+        let value = show(alloc, state, list, some, bound[i], flags[i])?;
+        values.push(value)?;
+    }
+    Ok(values)
+}
