@@ -1,5 +1,5 @@
 -- The declaration of bindings.
-use Rattle.std.proofs.Common.{◌≡◌, ◌≤◌, ◌<◌, ◌+◌, ℕ, Bool, true, false, cond, List, [], ◌∷◌, ◌++◌, map, length, take, get_or, Option, Some, None, slice_get, Vec, Global, refl, sym, ap, ap₂, subst, ◌∙◌, arith}
+use Rattle.std.proofs.Common.{◌≡◌, ◌≤◌, ◌<◌, ◌+◌, ◌||◌, nat_eq, ℕ, true, false, List, [], ◌∷◌, ◌++◌, map, length, take, get_or, Some, slice_get, Vec, Global, refl, sym, ap, ap₂, subst, ◌∙◌, arith}
 use Rattle.std.specs.List.{AllByRecursion}
 use Rattle.std.proofs.lemmas.Option.{slice_get_within, get_or_from_slice_get}
 use Rattle.std.proofs.lemmas.List.{map-append}
@@ -16,19 +16,16 @@ use Rattle.sml_tree.specs.declared.ident.Tyvar.{Tyvar}
 use Rattle.sml_tree.specs.declared.ident.Vid.{Vid}
 use Rattle.vid_scope.specs.Entries.{with_entry, with_entries}
 use Rattle.vid_scope.specs.declared.vids.VidScope.{VidScope}
-use Rattle.core_rules.specs.Choices.{Choices, no_choice, both}
+use Rattle.core_rules.specs.Choices.{no_choice, both}
 use Rattle.core_rules.specs.Restrictions.{distinct}
 use Rattle.core_rules.specs.Typing.{Bound, bound_in, AreDistinct, mark_of, together}
 use Rattle.core_rules.specs.Words.{same_vid}
 use Rattle.ir_poly.specs.Prog as prog
 use Rattle.ir_poly.specs.ProgChecked.{binds_onto}
-use Rattle.ir_poly.specs.TestsChecked.{Knowns}
-use Rattle.ir_poly.specs.Types.{Constructor}
-use Rattle.ir_poly.specs.Types.{find}
+use Rattle.ir_poly.specs.Types.{find, in_scope}
 use Rattle.ir_tables.specs.Rows.{constructors_at}
-use Rattle.ir_tables.specs.Tables.{parameters_of}
+use Rattle.ir_tables.specs.Tables.{parameters_at, parameters_of}
 use Rattle.core_elab.specs.Resolves.{no_heads_to}
-use Rattle.core_elab.specs.Scopes.{Scope, empty}
 use Rattle.prog_tree.specs.TreeOf.{RuleTree, bind_of, binds_by, dec_of, decs_of, fun_of, funs_by}
 use Rattle.prog_tree.specs.declared.tree.Binding.{Binding}
 use Rattle.prog_tree.specs.declared.tree.Dec.{Dec}
@@ -39,12 +36,13 @@ use Rattle.prog_tree.proofs.ExpOf.{dec_of-Val}
 use Rattle.elab_typed.specs.Contexts.{Around, IsOver, after, generals, generic, kept_values}
 use Rattle.elab_typed.specs.Elaborates.{BindsElab, DecElab, inner, no_funs_elab, scoped_as, val_elab}
 use Rattle.elab_scoped.proofs.Phrases.{none_is_new}
-use Rattle.elab_state.specs.States.{limit_in, made}
+use Rattle.elab_state.specs.States.{all_parameters, limit_in, made}
 use Rattle.elab_state.specs.declared.state.State.{State}
-use Rattle.elab_steps.specs.Growing.{Begins, HasType, Grows}
-use Rattle.elab_steps.specs.World.{World, type_of, Comes}
-use Rattle.elab_steps.proofs.Changing.{begins-more, begins-same, same-limit}
-use Rattle.elab_steps.proofs.Growing.{grows_on, comes_before, type_later}
+use Rattle.elab_steps.specs.Growing.{Begins, Grows}
+use Rattle.elab_steps.specs.World.{World}
+use Rattle.elab_steps.proofs.Changing.{begins-more, begins-same, same-limit, solver-makes}
+use Rattle.elab_steps.proofs.Keeping.{Makes, makes-done, makes-tidy}
+use Rattle.elab_steps.proofs.Growing.{grows_on, comes_before, general-type}
 use Rattle.elab_context.specs.Numbered.{IsBelowIf}
 use Rattle.elab_context.specs.Telling.{HasList, IsContext, IsHeld, Tells}
 use Rattle.elab_context.specs.declared.context.Context.{Context}
@@ -186,7 +184,7 @@ context_declared S T C D l bs g i h e q =
   where
     held : (bs : List BoundVariable) → AreVariables T bs → AllByRecursion (λ b. IsHeld T C (General l b.ty b.number false)) bs
     held [] h = tt
-    held (b ∷ bs) h = ((h.0.is, list-held T l e), held bs h.1)
+    held (b ∷ bs) h = ((general-type T (parameters_at (parameters_of T.tables) l) b.ty h.0.is, list-held T l e), held bs h.1)
 
     below : (bs : List BoundVariable) → AreVariables T bs → AllByRecursion (λ b. IsBelowIf T.next (General l b.ty b.number false)) bs
     below [] h = tt
@@ -203,6 +201,24 @@ pub record Listed (S T : State) (qs : Vec Quantified Global) : Type 0 where
   pub lists : T.tables.parameters.items ≡ S.tables.parameters.items ++ qs ∷ []
   pub strings : T.tables.strings ≡ S.tables.strings
   pub next : T.next ≡ S.next
+  pub level : T.level ≡ S.level
+  pub none : qs.items ≡ []
+
+-- nothing was generalised
+general-none : (pss : List (Vec Quantified Global)) (qs : Vec Quantified Global) (x : ℕ) → qs.items ≡ []
+    → in_scope (all_parameters (map (λ p. p.items) (pss ++ qs ∷ []))) x ≡ in_scope (all_parameters (map (λ p. p.items) pss)) x
+general-none [] qs x e = ap (λ (l : List Quantified). in_scope (l ++ []) x) e
+general-none (p ∷ pss) qs x e = by p.items (general-none pss qs x e)
+  where
+    by : (ps : List Quantified) → in_scope (all_parameters (map (λ p. p.items) (pss ++ qs ∷ []))) x ≡ in_scope (all_parameters (map (λ p. p.items) pss)) x
+        → in_scope (ps ++ all_parameters (map (λ p. p.items) (pss ++ qs ∷ []))) x ≡ in_scope (ps ++ all_parameters (map (λ p. p.items) pss)) x
+    by [] h = h
+    by (q ∷ ps) h = ap (λ b. nat_eq q.variable x || b) (by ps h)
+
+listed-makes : (S T : State) (qs : Vec Quantified Global) → Listed S T qs → Makes S T
+listed-makes S T qs h =
+    solver-makes S T h.solver
+    (λ x. ap (λ (l : List (Vec Quantified Global)). in_scope (all_parameters (map (λ p. p.items) l)) x) h.lists ∙ general-none S.tables.parameters.items qs x h.none) h.level
 
 begins-map : {A B : Type 0} (f : A → B) (xs ys : List A) → Begins xs ys → Begins (map f xs) (map f ys)
 begins-map f [] ys e = refl
@@ -221,6 +237,9 @@ listed_grows S T qs h = record {
   solves = λ m f s. subst (λ x. Solves m f (said x.subst)) h.solver s;
   limits = λ v lt. same-limit (limit_in T v) (limit_in S v) (ap (λ s. limit_at s.limits.items v) h.solver);
   next = let e = h.next in omega (arith, e);
+  level = h.level;
+  done = makes-done S T (listed-makes S T qs h);
+  tidy = makes-tidy S T (listed-makes S T qs h);
 }
 
 pub listed_is : (old new : List (Vec Quantified Global)) (qs : Vec Quantified Global) (n : ℕ) → new ≡ old ++ qs ∷ [] → qs.items ≡ [] → n ≡ length old

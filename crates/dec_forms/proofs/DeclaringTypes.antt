@@ -155,6 +155,9 @@ context_with_types S C D ts i h q = subst (IsContext S) (sym q) (record {
   schemes = i.schemes;
   entries = λ qs x e f. held-same S C ts e (entry-of qs x e f);
   numbered = numbered-types S.next C ts i.numbered;
+  live = i.live;
+  level = i.level;
+  tidy = i.tidy;
 })
   where
     entry-of : (qs : List ℕ) (x : Vid) (e : Entry) → entry_in (with_types C ts) qs x ≡ Some e → IsHeld S C e

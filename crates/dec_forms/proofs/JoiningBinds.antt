@@ -1,5 +1,5 @@
 -- Bindings, one after the other.
-use Rattle.std.proofs.Common.{◌≡◌, ◌≤◌, ◌&&◌, ℕ, Bool, true, false, List, [], ◌∷◌, ◌++◌, map, refl, sym, ap, ap₂, subst, ◌∙◌, arith}
+use Rattle.std.proofs.Common.{◌≡◌, ◌≤◌, ◌&&◌, ℕ, true, false, List, [], ◌∷◌, ◌++◌, map, refl, sym, ap, ap₂, subst, ◌∙◌, arith}
 use Rattle.std.specs.List.{AllByRecursion, list_all}
 use Rattle.std.proofs.lemmas.List.{append_assoc, map-append}
 use Rattle.mlc_base.specs.declared.place.Place.{Place}
@@ -13,7 +13,7 @@ use Rattle.core_rules.specs.Typing.{Bound, is_non_expansive, settles, together}
 use Rattle.ir_poly.specs.Prog as prog
 use Rattle.ir_poly.specs.Types.{over, Constructor}
 use Rattle.core_elab.specs.Scopes.{Scope, empty, scoped, typed_by, inside, plus_scope}
-use Rattle.prog_tree.specs.TreeOf.{RuleTree, bind_of, binds_by, pat_of, rule_of, tree_of}
+use Rattle.prog_tree.specs.TreeOf.{RuleTree, bind_of, binds_by, pat_of, tree_of}
 use Rattle.prog_tree.specs.declared.tree.Binding.{Binding}
 use Rattle.prog_tree.specs.declared.tree.Rule.{Rule}
 use Rattle.prog_tree.proofs.ExpOf.{rule_of-parts}
@@ -23,10 +23,10 @@ use Rattle.elab_typed.specs.Elaborates.{BindsElab, ExpElab, PatElab, no_binds_el
 use Rattle.elab_typed.specs.Instances.{as_typed}
 use Rattle.elab_typed.proofs.Names.{over-as}
 use Rattle.elab_state.specs.declared.state.State.{State}
-use Rattle.elab_steps.specs.Growing.{HasType, Grows, Always}
-use Rattle.elab_steps.specs.World.{World, type_of, Comes}
-use Rattle.elab_steps.proofs.Growing.{grows_same, grows_on, type_later, comes_before}
-use Rattle.elab_context.specs.Telling.{Tells, IsInUse}
+use Rattle.elab_steps.specs.Growing.{Grows, Always}
+use Rattle.elab_steps.specs.World.{World, type_of}
+use Rattle.elab_steps.proofs.Growing.{grows_same, grows_on, comes_before}
+use Rattle.elab_context.specs.Telling.{IsInUse}
 use Rattle.elab_context.specs.declared.context.Context.{Context}
 use Rattle.pat_elab.specs.Elaborated.{AreVariables, Elaborates, HasVariable, IsPat, bound_of, scope_of, scope_onto}
 use Rattle.pat_elab.specs.declared.bound.BoundVariable.{BoundVariable}
@@ -38,7 +38,7 @@ use Rattle.exp_forms.proofs.Calling.{written-as}
 use Rattle.exp_forms.proofs.Lowering.{lowered}
 use Rattle.exp_forms.proofs.Using.{variables-used}
 use Rattle.dec_forms.proofs.After.{plus-plus}
-use Rattle.dec_forms.specs.Binds.{EachBind, no_bind, one_bind, BindsUpTo, ElaboratesBinds, AreBinds, all_plus}
+use Rattle.dec_forms.specs.Binds.{EachBind, no_bind, one_bind, ElaboratesBinds, AreBinds, all_plus}
 
 -- those of a list in a row
 

@@ -1,5 +1,5 @@
 -- What is known of the variables of bindings.
-use Rattle.std.proofs.Common.{◌≡◌, ◌≤◌, ◌<◌, ℕ, Bool, true, false, cond, List, [], ◌∷◌, map, Option, Some, None, refl, sym, ap, ap₂, subst, ◌∙◌}
+use Rattle.std.proofs.Common.{◌≡◌, ℕ, Bool, true, false, cond, List, [], ◌∷◌, Option, Some, None, refl, sym, ap, ap₂, subst, ◌∙◌}
 use Rattle.std.specs.Prelude.{option_map}
 use Rattle.std.specs.Option.{option_or}
 use Rattle.std.specs.List.{AllByRecursion}
@@ -7,7 +7,6 @@ use Rattle.std.specs.Map.{lookup}
 use Rattle.ty_core.specs.Types.{Typ, Typs, var, con, none, more}
 use Rattle.ty_core.specs.Statics.{replace, replace_all}
 use Rattle.ty_core.specs.declared.scheme.Quantified.{Quantified}
-use Rattle.ty_solve.specs.Substitution.{sub}
 use Rattle.sml_tree.specs.TreeOf.{RuleOf}
 use Rattle.sml_tree.specs.Terminal.{LongVid}
 use Rattle.sml_tree.specs.declared.ident.Vid.{Vid}
@@ -18,11 +17,11 @@ use Rattle.ir_poly.specs.Prog as prog
 use Rattle.ir_poly.specs.ProgChecked.{binds_onto, parameters_if, pat_onto}
 use Rattle.ir_poly.specs.TestsChecked.{Known, Knowns, declared, of_type}
 use Rattle.ir_poly.specs.TestsChecked as checked
-use Rattle.ir_poly.specs.Types.{changed, Constructor}
+use Rattle.ir_poly.specs.Types.{Constructor}
 use Rattle.core_elab.specs.Scopes.{Scope, empty, variable, denotes_in, inside_in, plus_scope}
 use Rattle.prog_tree.specs.TreeOf.{RuleTree, binds_by}
 use Rattle.prog_tree.specs.declared.tree.Binding.{Binding}
-use Rattle.elab_typed.specs.Contexts.{Around, general, generals, KeptValues}
+use Rattle.elab_typed.specs.Contexts.{Around, general, generals}
 use Rattle.elab_typed.specs.Instances.{as_typed}
 use Rattle.elab_steps.specs.World.{World, type_of}
 use Rattle.elab_context.specs.Entries.{entry_in}
@@ -30,7 +29,7 @@ use Rattle.elab_context.specs.Telling.{IsFit, IsGeneral, IsInUse, kept_of, denot
 use Rattle.elab_context.specs.declared.context.Context.{Context}
 use Rattle.elab_context.specs.declared.entry.Entry.{Entry}
 use Rattle.elab_context.specs.declared.entry.Entry.TheVariants.{General}
-use Rattle.pat_elab.specs.Elaborated.{bound_of, scope_of, scope_onto}
+use Rattle.pat_elab.specs.Elaborated.{bound_of, scope_of}
 use Rattle.pat_elab.specs.declared.bound.BoundVariable.{BoundVariable}
 use Rattle.pat_elab.proofs.Forms.{onto-plus}
 use Rattle.exp_forms.specs.Binding.{Binding as Binds, IsKnown}

@@ -1,7 +1,6 @@
 -- `let`.
-use Rattle.std.proofs.Common.{◌≡◌, ◌≤◌, ℕ, true, List, map, Vec, Box, Global, refl, sym, ap, ap₂, subst, ◌∙◌}
+use Rattle.std.proofs.Common.{◌≡◌, ℕ, List, map, Vec, Box, Global, sym, ap, ap₂, subst, ◌∙◌}
 use Rattle.mlc_base.specs.declared.place.Place.{Place}
-use Rattle.ty_core.specs.Types.{Typ}
 use Rattle.ty_solve.specs.declared.limit.Limit.{Limit}
 use Rattle.sml_tree.specs.BareTree as bare
 use Rattle.sml_tree.specs.TreeOf as source
@@ -13,20 +12,19 @@ use Rattle.prog_tree.specs.declared.tree.Exp.{Exp}
 use Rattle.prog_tree.specs.declared.tree.Exp.TheVariants as tree
 use Rattle.prog_tree.proofs.ExpOf.{tree_of-Let}
 use Rattle.elab_typed.specs.Numbers.{type_as}
-use Rattle.elab_typed.specs.Contexts.{Around}
 use Rattle.elab_typed.specs.Elaborates.{ExpElab, let_elab}
 use Rattle.elab_typed.specs.Instances.{as_typed}
 use Rattle.elab_state.specs.declared.state.State.{State}
 use Rattle.elab_steps.specs.Growing.{HasType, Grows, Always, IsWithin}
-use Rattle.elab_steps.specs.World.{World, type_of, Comes}
+use Rattle.elab_steps.specs.World.{type_of}
 use Rattle.elab_steps.proofs.Growing.{grows_on, type_later, comes_before}
 use Rattle.elab_context.specs.Entries.{limit_of}
-use Rattle.elab_context.specs.Telling.{Tells, IsContext}
+use Rattle.elab_context.specs.Telling.{IsContext}
 use Rattle.elab_context.specs.declared.context.Context.{Context}
 use Rattle.use_elab.specs.Elaborated.{ElaboratesExp, IsExp}
 use Rattle.use_elab.specs.declared.typed.TypedExp.{TypedExp}
 use Rattle.exp_forms.proofs.Calling.{new-names, new-parameters, written-as}
-use Rattle.dec_forms.specs.Decs.{EachUpTo, IsDecs}
+use Rattle.dec_forms.specs.Decs.{IsDecs}
 use Rattle.dec_forms.proofs.Sequencing.{choices_of, decs-do}
 
 pub let_is : (S M N F U T : State) (C D : Context) (p : Place) (ds : List bare.Dec) (e : bare.Exp) (decs : Vec Dec Global) (body r : TypedExp) (l : Limit) (ty written : ℕ)

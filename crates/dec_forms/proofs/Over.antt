@@ -1,11 +1,9 @@
 -- What is bound over parameters speaks of no others.
-use Rattle.std.proofs.Common.{◌≡◌, ◌+◌, ℕ, zero, suc, Bool, true, false, ◌&&◌, ◌||◌, List, [], ◌∷◌, ◌++◌, map, length, Option, Some, None, nat_eq, if◌then◌else◌, refl, sym, ap, ap₂, subst, ◌∙◌}
+use Rattle.std.proofs.Common.{◌≡◌, ℕ, zero, suc, Bool, true, false, ◌||◌, List, [], ◌∷◌, ◌++◌, map, length, Option, Some, None, nat_eq, if◌then◌else◌, refl, sym, ap, ap₂, ◌∙◌}
 use Rattle.std.specs.Prelude.{option_map, unwrap_or}
 use Rattle.std.specs.List.{list_all}
 use Rattle.std.proofs.lemmas.Bool.{and_parts}
-use Rattle.sml_tree.specs.declared.ident.Vid.{Vid}
 use Rattle.ty_core.specs.Types.{Typ, var}
-use Rattle.ty_core.specs.Statics.{replace}
 use Rattle.ty_core.specs.declared.scheme.Quantified.{Quantified}
 use Rattle.core_rules.specs.Closing.{behind, place_in, scheme_under}
 use Rattle.core_rules.specs.Objects.{Env, with_env}
@@ -14,7 +12,7 @@ use Rattle.ir_poly.specs.TestsChecked.{Knowns}
 use Rattle.ir_poly.specs.Types.{in_scope, over}
 use Rattle.ir_poly.proofs.ReplaceLemmas.{replace-agree}
 use Rattle.core_elab.specs.Scopes.{Scope}
-use Rattle.elab_typed.specs.Contexts.{Around, IsOver, KeptEnv, after, context_under, env_under, generals, kept_values, values_under}
+use Rattle.elab_typed.specs.Contexts.{Around, IsOver, KeptEnv, after, env_under, generals, kept_values, values_under}
 use Rattle.elab_typed.proofs.Instancing.{eq-turned}
 use Rattle.elab_typed.proofs.Under.{after-under}
 

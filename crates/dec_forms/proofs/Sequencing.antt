@@ -1,5 +1,5 @@
 -- Declarations, one after the other.
-use Rattle.std.proofs.Common.{◌≡◌, ◌≤◌, ◌+◌, ℕ, List, [], ◌∷◌, ◌++◌, map, refl, sym, ap, ap₂, subst, ◌∙◌, arith}
+use Rattle.std.proofs.Common.{◌≡◌, ◌+◌, ℕ, List, [], ◌∷◌, ◌++◌, map, refl, sym, ap, subst, ◌∙◌}
 use Rattle.std.proofs.lemmas.List.{map-append}
 use Rattle.sml_tree.specs.BareTree as bare
 use Rattle.sml_tree.specs.TreeOf as source
@@ -14,12 +14,9 @@ use Rattle.prog_tree.specs.declared.tree.Dec.{Dec}
 use Rattle.elab_typed.specs.Contexts.{Around, KeptEnv, kept_values, after}
 use Rattle.elab_typed.specs.Elaborates.{DecElab, DecsElab, no_decs_elab, a_dec_elab}
 use Rattle.elab_state.specs.declared.state.State.{State}
-use Rattle.elab_steps.specs.Growing.{Grows}
-use Rattle.elab_steps.specs.World.{World, Comes}
 use Rattle.elab_steps.proofs.Growing.{grows_same, grows_on, comes_before}
-use Rattle.elab_context.specs.Telling.{Tells}
 use Rattle.elab_context.specs.declared.context.Context.{Context}
-use Rattle.dec_forms.specs.Decs.{EachDec, no_dec, one_dec, EachUpTo, all_joined, DecUpTo, ElaboratesDec, ElaboratesDecs, IsDec, IsDecs}
+use Rattle.dec_forms.specs.Decs.{EachDec, no_dec, one_dec, all_joined, IsDec, IsDecs}
 use Rattle.dec_forms.proofs.After.{after-none, after-after}
 
 -- the program's declarations

@@ -164,6 +164,9 @@ context_shown S T C D E F es us ts vs b g i a ev et w j q = subst (IsContext T) 
   schemes = j.schemes;
   entries = λ qs x e h. held-same T E C b e (entry qs x e h);
   numbered = numbered-shown S.next T.next C D E es b g.next i.numbered j.numbered a.values ev w.structures w.members;
+  live = later.live;
+  level = j.level;
+  tidy = j.tidy;
 })
   where
     later : IsContext T C

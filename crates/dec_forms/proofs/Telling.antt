@@ -1,5 +1,5 @@
 -- What a context with further values tells of.
-use Rattle.std.proofs.Common.{◌≡◌, ◌<◌, ◌+◌, ℕ, Bool, true, false, cond, List, [], ◌∷◌, Option, Some, None, nat_eq, refl, sym, ap, ap₂, subst, ◌∙◌, arith}
+use Rattle.std.proofs.Common.{◌≡◌, ◌+◌, ℕ, Bool, true, false, cond, List, [], ◌∷◌, Option, Some, None, nat_eq, refl, sym, ap, ap₂, subst, ◌∙◌, arith}
 use Rattle.std.specs.Prelude.{option_map, option_and_then}
 use Rattle.std.specs.Option.{option_or}
 use Rattle.std.specs.Map.{lookup}
@@ -17,7 +17,7 @@ use Rattle.core_rules.proofs.LookUps.{vid-tells, at-joined}
 use Rattle.ir_poly.specs.TestsChecked.{Knowns, Known}
 use Rattle.ir_poly.specs.TestsChecked as checked
 use Rattle.core_elab.specs.Scopes.{Scope, plus_scope, denotes_in, inside_in, along_scope, long_denotes_in}
-use Rattle.elab_typed.specs.Contexts.{given, KeptValues, kept_in, kept_values, values_under, Around, after, generic}
+use Rattle.elab_typed.specs.Contexts.{given, KeptValues, kept_in, kept_values, values_under, Around, after}
 use Rattle.elab_steps.specs.World.{World, type_of}
 use Rattle.elab_context.specs.Entries.{entry_in}
 use Rattle.elab_context.specs.Telling.{Tells, IsFit, IsInUse, kept_of, denotes_of, known_of}

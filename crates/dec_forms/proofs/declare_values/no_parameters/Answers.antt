@@ -1,4 +1,4 @@
-use Rattle.std.proofs.Common.{length, refl, arith}
+use Rattle.std.proofs.Common.{refl, arith}
 use Rattle.dec_forms.proofs.Declaring.{listed_grows, listed_is}
 use Rattle.dec_forms.proofs.declare_values.no_parameters.Goals as goal
 
@@ -12,6 +12,8 @@ returns-clause-grows c = listed_grows c.args.state.now _ c.new.result (record {
   lists = c.in_ok-push.ensures.items;
   strings = refl;
   next = refl;
+  level = refl;
+  none = c.new.ensures.items;
 })
 
 pub returns-clause-is : goal.returns-clause-is
