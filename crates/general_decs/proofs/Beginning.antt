@@ -1,5 +1,9 @@
 -- Where a declaration begins: its type variables come into scope, and its context is one deeper.
-use Rattle.std.proofs.Common.{◌≡◌, ◌<◌, ◌≤◌, ◌+◌, ℕ, suc, Bool, true, false, List, [], ◌∷◌, ◌++◌, length, take, get_or, Option, Some, None, slice_get, nat_eq, refl, sym, ap, ap₂, subst, ◌∙◌, arith}
+use Rattle.general_worlds.proofs.Declaring.{entered-type}
+use Rattle.general_worlds.proofs.Contexts.{context-inside}
+use Rattle.general_worlds.specs.Inner.{deeper}
+use Rattle.general_worlds.specs.Tidy.{Enters}
+use Rattle.std.proofs.Common.{◌≡◌, ◌<◌, ◌≤◌, ◌+◌, ℕ, suc, Bool, true, false, List, [], ◌∷◌, ◌++◌, length, take, get_or, Option, Some, None, slice_get, nat_eq, refl, sym, ap, subst, ◌∙◌, arith}
 use Rattle.std.specs.Prelude.{is_some}
 use Rattle.std.specs.List.{AllByRecursion}
 use Rattle.std.specs.Map.{lookup}
@@ -14,9 +18,10 @@ use Rattle.elab_types.specs.declared.scope.TypeEntry.{TypeEntry}
 use Rattle.elab_types.specs.declared.scope.TypeScope.{TypeScope}
 use Rattle.elab_state.specs.States.{dead_level, made, types_in}
 use Rattle.elab_state.specs.declared.state.State.{State}
-use Rattle.elab_steps.specs.Growing.{Always, Grows, HasType}
+use Rattle.elab_steps.specs.Growing.{Always, AreLive, Grows, HasType}
+use Rattle.elab_steps.specs.Tidy.{IsLive}
 use Rattle.elab_steps.specs.World.{World}
-use Rattle.elab_steps.proofs.Growing.{comes_before}
+use Rattle.elab_steps.proofs.Growing.{comes_before, grows_same}
 use Rattle.elab_context.specs.Telling.{IsContext, IsHeld}
 use Rattle.elab_context.specs.declared.context.Context.{Context}
 use Rattle.elab_context.specs.declared.entry.Entry.{Entry}
@@ -37,8 +42,8 @@ held-as S C D (Single t n) q h = h
 held-as S C D (Own t n) q h = h
 held-as S C D (General l t n o) q h = h
 
-with-scope : (T : State) (C : Context) (s : TypeScope) → IsContext T C → Holds (types_in T) s → AreKnown (made T) (types_in T) s → IsContext T (record C { types = s })
-with-scope T C s i h k = record {
+with-scope : (T : State) (C : Context) (s : TypeScope) → IsContext T C → Holds (types_in T) s → AreKnown (made T) (types_in T) s → AreLive T s → IsContext T (record C { types = s })
+with-scope T C s i h k v = record {
   wide = i.wide;
   deep = i.deep;
   naming = i.naming;
@@ -47,6 +52,9 @@ with-scope T C s i h k = record {
   schemes = i.schemes;
   entries = λ qs x e f. held-as T C (record C { types = s }) e refl (i.entries qs x e f);
   numbered = i.numbered;
+  live = v;
+  level = i.level;
+  tidy = i.tidy;
 }
 
 -- one type variable more
@@ -61,7 +69,8 @@ context_scoped S T C D n k g ic h q ts as_ =
       bodies = subst (AllByRecursion (λ (b : ℕ × TypeEntry). b.1.body < length (types_in T))) (sym ts) i.holds.bodies;
       closed = subst (AllByRecursion (λ (b : ℕ × TypeEntry). top (type_at (types_in T) b.1.body) ≤ b.1.arity)) (sym ts) i.holds.closed;
     })
-    (subst (AllByRecursion (λ (b : ℕ × ℕ). is_below (made T) (type_at (types_in T) b.1) ≡ true)) (sym as_) (h.below, i.known)))
+    (subst (AllByRecursion (λ (b : ℕ × ℕ). is_below (made T) (type_at (types_in T) b.1) ≡ true)) (sym as_) (h.below, i.known))
+    (subst (AllByRecursion (λ (b : ℕ × ℕ). IsLive T b.1)) (sym as_) (h.live, i.live)))
 
 none-of : {A : Type 0} (o : Option A) (b : Bool) → b ≡ false → b ≡ is_some o → o ≡ None
 none-of None b e q = refl
@@ -123,26 +132,37 @@ rest-next C D E p q = q ∙ ap (λ (k : Context). record k { types = E.types }) 
 
 -- one deeper
 
-pub context_deeper : (T : State) (C : Context) (n : ℕ) → IsContext T C → n < dead_level → IsContext T (record C { level = n })
-context_deeper T C n i lt = record {
-  wide = i.wide;
-  deep = lt;
-  naming = i.naming;
-  holds = i.holds;
-  known = i.known;
-  schemes = i.schemes;
-  entries = λ qs x e f. held-as T C (record C { level = n }) e refl (i.entries qs x e f);
-  numbered = i.numbered;
-}
+tyvars-are : (S : State) (xs : List (ℕ × ℕ)) → AllByRecursion (λ (b : ℕ × ℕ). b.1 < length (types_in S)) xs
+    → AllByRecursion (λ (b : ℕ × ℕ). is_below (made S) (type_at (types_in S) b.1) ≡ true) xs → AllByRecursion (λ (b : ℕ × ℕ). IsLive S b.1) xs
+    → AllByRecursion (λ (b : ℕ × ℕ). HasType S b.1) xs
+tyvars-are S [] h k v = tt
+tyvars-are S (x ∷ xs) h k v = (record { held = h.0; below = k.0; live = v.0 }, tyvars-are S xs h.1 k.1 v.1)
 
-pub begun-is : (S T : State) (C E : Context) (scoped : List Tyvar) (n : ℕ) → Grows S T → T.next ≡ S.next → E ≡ record C { types = E.types } → E.types.types ≡ C.types.types
-    → IsFurther C.types.tyvars E.types.tyvars → Always T (λ W. CameIntoScope W (made S) scoped C.types.tyvars E.types.tyvars) → n ≡ suc C.level
-    → IsBegun S C scoped T (record E { level = n })
-begun-is S T C E scoped n g nx q ts f came e = record {
+all-entered : (S E : State) (xs : List (ℕ × ℕ)) → Enters S E → AllByRecursion (λ (b : ℕ × ℕ). HasType S b.1) xs → AllByRecursion (λ (b : ℕ × ℕ). HasType E b.1) xs
+all-entered S E [] e h = tt
+all-entered S E (x ∷ xs) e h = (entered-type S E e x.1 h.0, all-entered S E xs e h.1)
+
+pub context_deeper : (S E : State) (C D : Context) → IsContext S C → Enters S E → E.level < dead_level → D ≡ record C { level = E.level } → D ≡ deeper C C.types
+context_deeper S E C D i e low q = let n : E.level ≡ suc C.level = (let a = e.level in let b = i.level in omega (arith, a, b)) in q ∙ ap (λ (n : ℕ). record C { level = n }) n
+
+pub context_entered : (S E : State) (C D : Context) → IsContext S C → Enters S E → E.level < dead_level → D ≡ record C { level = E.level } → IsContext E D
+context_entered S E C D i e low q =
+    subst (IsContext E) (sym (context_deeper S E C D i e low q))
+    (context-inside C C.types S E E (let a = e.level in let b = i.level in omega (arith, a, b, low)) e (grows_same E) i refl
+    (all-entered S E C.types.tyvars e (tyvars-are S C.types.tyvars i.holds.tyvars i.known i.live)))
+
+pub begun-is : (S E T : State) (C D F : Context) (scoped : List Tyvar) → Enters S E → D ≡ deeper C C.types → Grows E T → T.next ≡ E.next → F ≡ record D { types = F.types }
+    → F.types.types ≡ D.types.types → IsFurther D.types.tyvars F.types.tyvars → Always T (λ W. CameIntoScope W (made E) scoped D.types.tyvars F.types.tyvars)
+    → IsBegun S C scoped T F
+begun-is S E T C D F scoped e d g nx q ts f came = record {
+  entered = E;
+  enters = e;
   grows = g;
-  next = nx;
-  deep = ap₂ (λ (k : Context) (m : ℕ). record k { level = m }) q e;
-  types = ts;
-  further = f;
-  tyvars = came;
+  next = nx ∙ e.next;
+  deep = q ∙ ap (λ (k : Context). record k { types = F.types }) d;
+  types = ts ∙ ap (λ (k : Context). k.types.types) d;
+  further = subst (λ (k : Context). IsFurther k.types.tyvars F.types.tyvars) d f;
+  tyvars = λ W c.
+      subst (λ n. CameIntoScope W n scoped C.types.tyvars F.types.tyvars) (ap (λ s. length s.subst.slots.items) e.solver)
+      (subst (λ (k : Context). CameIntoScope W (made E) scoped k.types.tyvars F.types.tyvars) d (came W c));
 }

@@ -6,8 +6,6 @@ use Rattle.std.specs.Map.{lookup}
 use Rattle.mlc_base.specs.declared.place.Place.{Place}
 use Rattle.ty_core.specs.Types.{Typ, var}
 use Rattle.ty_core.specs.declared.scheme.Quantified.{Quantified}
-use Rattle.ty_solve.specs.Limits.{NoFurther}
-use Rattle.ty_solve.specs.Substitution.{Solves}
 use Rattle.sml_tree.specs.BareTree as bare
 use Rattle.sml_tree.specs.TreeOf.{RuleOf, binds_of}
 use Rattle.sml_tree.specs.declared.ident.Tyvar.{Tyvar}
@@ -20,8 +18,8 @@ use Rattle.core_rules.specs.Words.{same_vid}
 use Rattle.ir_poly.specs.Prog as prog
 use Rattle.ir_poly.specs.ProgChecked.{binds_onto}
 use Rattle.ir_poly.specs.TestsChecked.{Knowns}
-use Rattle.ir_poly.specs.Types.{are_new, find, in_scope}
-use Rattle.ir_tables.specs.Tables.{parameters_of, strings_of}
+use Rattle.ir_poly.specs.Types.{are_new, in_scope}
+use Rattle.ir_tables.specs.Tables.{parameters_of}
 use Rattle.core_elab.specs.Resolves.{no_heads_to}
 use Rattle.prog_tree.specs.TreeOf.{RuleTree, bind_of, binds_by, dec_of, decs_of, fun_of, funs_by}
 use Rattle.prog_tree.specs.declared.tree.Binding.{Binding}
@@ -32,10 +30,10 @@ use Rattle.prog_tree.specs.declared.tree.Rule.{Rule}
 use Rattle.prog_tree.proofs.ExpOf.{dec_of-Val}
 use Rattle.elab_typed.specs.Contexts.{Around, generals, generic, kept_values}
 use Rattle.elab_typed.specs.Elaborates.{BindsElab, DecElab, inner, no_funs_elab, scoped_as, val_elab}
-use Rattle.elab_state.specs.States.{all_parameters, dead_level, general_in, limit_in, made, types_in}
+use Rattle.elab_state.specs.States.{all_parameters, dead_level, general_in, made}
 use Rattle.elab_state.specs.Generalising.{inside}
 use Rattle.elab_state.specs.declared.state.State.{State}
-use Rattle.elab_steps.specs.Growing.{Begins, Grows}
+use Rattle.elab_steps.specs.Growing.{Grows}
 use Rattle.elab_steps.specs.World.{World, type_of, Comes}
 use Rattle.elab_steps.proofs.Growing.{grows_on, comes_before}
 use Rattle.elab_context.specs.Numbered.{IsBelowIf, IsNumbered}
@@ -49,11 +47,12 @@ use Rattle.pat_elab.specs.declared.bound.BoundVariable.{BoundVariable}
 use Rattle.exp_forms.specs.Rules.{vids_of}
 use Rattle.exp_forms.proofs.JoiningRules.{vids-bound}
 use Rattle.general_worlds.specs.Inner.{ComesInside, IsInside, deeper, inner_world}
-use Rattle.general_worlds.specs.Tidy.{Ends, IsTidy}
+use Rattle.elab_steps.specs.Tidy.{IsTidy}
+use Rattle.general_worlds.specs.Tidy.{Ends}
+use Rattle.general_worlds.proofs.Declaring.{declaration-grows}
 use Rattle.general_worlds.proofs.Telling.{tells-inside}
 use Rattle.general_worlds.proofs.Worlds.{comes-inside}
 use Rattle.general_worlds.proofs.Scoping.{last-general}
-use Rattle.general_vals.specs.Closing.{AreOuter}
 use Rattle.dec_forms.specs.Binds.{all_plus}
 use Rattle.dec_forms.specs.Bringing.{Brings, EffectUpTo, IsBringing}
 use Rattle.dec_forms.specs.Telling.{with_all}
@@ -107,43 +106,6 @@ module _ (C : Context) (W : World) (A : Around) (qs : List Quantified) (h : IsIn
     over = t.over;
   }
 
--- the end of a declaration leaves what was there before it
-
-begins-append : {A : Type 0} (xs ys zs : List A) → take (length xs) ys ≡ xs → take (length xs) (ys ++ zs) ≡ xs
-begins-append [] ys zs e = refl
-begins-append (x ∷ xs) [] zs e = cc
-begins-append (x ∷ xs) (y ∷ ys) zs e = let p : y ≡ x = cc in let q : take (length xs) ys ≡ xs = cc in ap₂ (λ a l. a ∷ l) p (begins-append xs ys zs q)
-
-pub ends_grow : (l : ℕ) (qs : List Quantified) (S N T : State) → l < dead_level → Grows S N → Ends l qs N T → IsTidy T l → AreOuter N l (made S) → Grows S T
-ends_grow l qs S N T deep g e tidy outer = record {
-  types = subst (Begins (types_in S)) (sym e.types) g.types;
-  written = subst (Begins S.written.items) (sym e.written) g.written;
-  namings = subst (Begins S.namings.items) (sym e.namings) g.namings;
-  lists = subst (Begins (parameters_of S.tables)) (sym e.lists) (begins-append (parameters_of S.tables) (parameters_of N.tables) (qs ∷ []) g.lists);
-  strings = subst (Begins (strings_of S.tables)) (sym e.strings) g.strings;
-  rows = λ y c row f. ap (λ t. find t y c) e.rows ∙ g.rows y c row f;
-  variables = let a = g.variables in let b = e.made in omega (arith, a, b);
-  solves = λ m f s. g.solves m f (subst (Solves m f) e.said s);
-  limits = λ v lt.
-      let h : NoFurther (limit_in N v) (limit_in S v) = g.limits v lt in
-      (let a = h.0 in let b = e.generalises.names v in omega (arith, a, b), level v lt h.1);
-  next = let a = g.next in let b = e.next in omega (arith, a, b);
-}
-  where
-    low : (v : ℕ) → v < made S → (limit_in T v).level ≤ dead_level
-    low v lt = by (tidy.settled v (let a = g.variables in let b = e.made in omega (arith, a, b, lt)))
-      where
-        by : ((limit_in T v).level ≤ l) ⊎ ((limit_in T v).level ≡ dead_level) → (limit_in T v).level ≤ dead_level
-        by (inl a) = omega (arith, a, deep)
-        by (inr a) = omega (arith, a)
-
-    level : (v : ℕ) → v < made S → (limit_in N v).level ≤ (limit_in S v).level → (limit_in T v).level ≤ (limit_in S v).level
-    level v lt le = by (outer v lt)
-      where
-        by : ((limit_in N v).level ≤ l) ⊎ ((limit_in N v).level ≡ dead_level) → (limit_in T v).level ≤ (limit_in S v).level
-        by (inl a) = let b = e.generalises.outer v a in omega (arith, b, le)
-        by (inr a) = let b = low v lt in omega (arith, a, b, le)
-
 -- its variables have numbers below the next
 pub below-shown : (k : ℕ) (S N T : State) (l list : ℕ) (some : Bool) (bs : List BoundVariable) (fs : List Bool) (es : List (Vid × Entry)) → N.next ≤ k → AreVariables N bs
     → AreShown S T l list some bs fs es → AllByRecursion (λ (e : Vid × Entry). IsBelowIf k e.1) es
@@ -159,14 +121,14 @@ below-shown k S N T l list some (b ∷ bs) (f ∷ fs) (e ∷ es) le v h = (
 
 module _ (S M N E T : State) (C D : Context) (p q : Place) (as_ scoped : List Tyvar) (rs : List RuleOf) (bs : List BoundVariable) (fs : List Bool) (es : List (Vid × Entry))
     (binds : List (Binding × Rule)) (qs rest : List Quantified) (list : ℕ) (deep : C.level < dead_level) (begun : IsBegun S C scoped M D) (h : AreInside M C D.types rs N bs fs binds)
-    (ends : Ends C.level qs N E) (tidy : IsTidy E C.level) (outer : AreOuter N C.level (made S)) (first : qs ≡ tyvar_parameters (made S) scoped ++ rest)
+    (ends : Ends C.level qs N E) (before-tidy : IsTidy S C.level) (tidy : IsTidy E C.level) (first : qs ≡ tyvar_parameters (made S) scoped ++ rest)
     (found : slice_get (parameters_of E.tables) list ≡ Some qs) (scopes : ScopesThese C as_ (binds_of rs) scoped) (once : distinct same_vid (vids_of bs) ≡ true) (et : Grows E T)
     (shown : AreShown E T C.level list (has_some qs) bs fs es) where
   abbrev source : bare.Dec
   source = bare.val_dec p q as_ (binds_of rs) bare.no_binds
 
   grows : Grows S T
-  grows = grows_on S E T (ends_grow C.level qs S N E deep (grows_on S M N begun.grows h.grows) ends tidy outer) et
+  grows = grows_on S E T (declaration-grows C.level qs S begun.entered N E begun.enters (grows_on begun.entered M N begun.grows h.grows) ends before-tidy tidy) et
 
   low : (i : ℕ) → i ≤ S.next → i ≤ M.next
   low i le = let a = begun.next in omega (arith, a, le)
@@ -272,7 +234,7 @@ module _ (S M N E T : State) (C D : Context) (p q : Place) (as_ scoped : List Ty
     brings n =
         let k = are-known S.next (omega arith) in
         values_bring C W A S.next es (generals qs (bound_of W bs)) (scope_of bs) G t
-        (further-shown C W A E T qs tyvars list t c deep ends.generalises.declarable general list-is S.next (elab.elab S.next (low S.next (omega arith))).next G bs fs es shown elab.used once k n)
+        (further-shown C W A E T qs tyvars list t c deep ends.generalises.declarable N ends general list-is S.next (elab.elab S.next (low S.next (omega arith))).next G bs fs es h.have shown elab.used once k n)
         k.older
 
   module _ (parts : Vec (Binding × Rule) Global) (funs : Vec (Vec ℕ Global × ℕ × Function) Global) (dec : Dec) (is : parts.items ≡ binds) (none : funs.items ≡ [])

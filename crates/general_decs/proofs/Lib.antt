@@ -7,6 +7,7 @@ pub mod Shown
 pub mod Showing
 pub mod Leading
 pub mod Beginning
+pub mod Lowering
 pub mod Declaring
 pub mod Finishing
 pub mod Valued

@@ -28,13 +28,15 @@ use Rattle.elab_context.specs.Telling.{IsFit, IsGeneral, IsInUse, Tells, kept_of
 use Rattle.elab_context.specs.declared.context.Context.{Context}
 use Rattle.elab_context.specs.declared.entry.Entry.{Entry}
 use Rattle.elab_context.specs.declared.entry.Entry.TheVariants.{General}
-use Rattle.pat_elab.specs.Elaborated.{bound_of, scope_of}
+use Rattle.pat_elab.specs.Elaborated.{AreVariables, HasVariable, bound_of, scope_of}
 use Rattle.pat_elab.specs.declared.bound.BoundVariable.{BoundVariable}
 use Rattle.pat_elab.proofs.Forms.{onto-plus}
 use Rattle.exp_forms.specs.Rules.{vids_of}
 use Rattle.exp_forms.proofs.Entering.{number-known}
 use Rattle.exp_forms.proofs.Within.{latest, denotes-of, inside-onto}
 use Rattle.general_worlds.proofs.General.{open-general}
+use Rattle.general_worlds.specs.Tidy.{Ends}
+use Rattle.general_vals.proofs.Settling.{settled-held}
 use Rattle.dec_forms.specs.Entries.{kept_entries, vids_in}
 use Rattle.dec_forms.specs.Telling.{last_of}
 use Rattle.dec_forms.proofs.Listed.{kept-listed, last-among, last-first}
@@ -81,7 +83,7 @@ module _ (S T : State) (l list : ℕ) (some : Bool) where
 -- in a world
 
 module _ (C : Context) (W : World) (A : Around) (S T : State) (qs : List Quantified) (m : Map ℕ Typ) (list : ℕ) (t : Tells C W A) (c : Comes T W) (deep : C.level < dead_level)
-    (new : are_new qs [] ≡ true) (ended : (v : ℕ) → in_scope qs v ≡ true → in_scope (general_in S) v ≡ true) (is : W.reading.parameters list ≡ qs) where
+    (new : are_new qs [] ≡ true) (N : State) (ends : Ends C.level qs N S) (ended : (v : ℕ) → in_scope qs v ≡ true → in_scope (general_in S) v ≡ true) (is : W.reading.parameters list ≡ qs) where
   abbrev some : Bool
   some = has_some qs
 
@@ -102,8 +104,8 @@ module _ (C : Context) (W : World) (A : Around) (S T : State) (qs : List Quantif
   over-outside (p ∷ ps) true u e h n = cc
   over-outside ps false u e h n = h.parameters
 
-  fit-shown : (b : BoundVariable) (f : Bool) (e : Vid × Entry) → IsShown S T C.level list some b f e → IsUsedAs W A B b f → IsFit C W A e.1
-  fit-shown b f e h u =
+  fit-shown : (b : BoundVariable) (f : Bool) (e : Vid × Entry) → HasVariable N b → IsShown S T C.level list some b f e → IsUsedAs W A B b f → IsFit C W A e.1
+  fit-shown b f e v h u =
       let s = h.settled in
       let cs = comes_before s.at T W s.before c in
       let same : type_of W h.ty ≡ type_of W b.ty = s.same W cs in
@@ -111,17 +113,17 @@ module _ (C : Context) (W : World) (A : Around) (S T : State) (qs : List Quantif
       subst (IsFit C W A) (sym h.is)
       (subst (λ ps. IsGeneral W A ps h.ty (f && some)) (sym is)
       (open-general C.level qs s.at deep s.tidy new
-      (λ v i. general-later (parameters_of S.tables) (parameters_of s.at.tables) v s.after.lists (ended v i)) W cs A t.parameters h.ty s.is s.resolved
+      (λ x i. general-later (parameters_of S.tables) (parameters_of s.at.tables) x s.after.lists (ended x i)) W cs A t.parameters h.ty (settled-held C.level qs N S s.from s.at b.ty h.ty ends v.is s.keeps s.settles s.resolved) s.resolved
       (names-inside f (type_of W h.ty) used) (over-inside f (type_of W h.ty) used) (f && some) (over-outside qs f (type_of W h.ty) refl used)))
 
-  pub fits-shown : (bs : List BoundVariable) (fs : List Bool) (es : List (Vid × Entry)) → AreShown S T C.level list some bs fs es → AllFlagged (IsUsedAs W A B) bs fs
+  pub fits-shown : (bs : List BoundVariable) (fs : List Bool) (es : List (Vid × Entry)) → AreVariables N bs → AreShown S T C.level list some bs fs es → AllFlagged (IsUsedAs W A B) bs fs
       → AllByRecursion (λ e. IsFit C W A e.1) es
-  fits-shown [] [] [] h u = tt
-  fits-shown [] [] (e ∷ es) h u = absurd h
-  fits-shown [] (f ∷ fs) es h u = absurd h
-  fits-shown (b ∷ bs) [] es h u = absurd h
-  fits-shown (b ∷ bs) (f ∷ fs) [] h u = absurd h
-  fits-shown (b ∷ bs) (f ∷ fs) (e ∷ es) h u = (fit-shown b f e h.0 u.0, fits-shown bs fs es h.1 u.1)
+  fits-shown [] [] [] v h u = tt
+  fits-shown [] [] (e ∷ es) v h u = absurd h
+  fits-shown [] (f ∷ fs) es v h u = absurd h
+  fits-shown (b ∷ bs) [] es v h u = absurd h
+  fits-shown (b ∷ bs) (f ∷ fs) [] v h u = absurd h
+  fits-shown (b ∷ bs) (f ∷ fs) (e ∷ es) v h u = (fit-shown b f e v.0 h.0 u.0, fits-shown bs fs es v.1 h.1 u.1)
 
   -- what is known of the variable
   known-of : (ps : List Quantified) (f : Bool) (ty n : ℕ) → W.reading.parameters list ≡ ps
@@ -172,10 +174,10 @@ module _ (C : Context) (W : World) (A : Around) (S T : State) (qs : List Quantif
   all-over-inside (b ∷ bs) [] u = absurd u
   all-over-inside (b ∷ bs) (f ∷ fs) u = ap₂ (λ x y. x && y) (over-inside f (type_of W b.ty) u.0) (all-over-inside bs fs u.1)
 
-  pub further-shown : (k j : ℕ) (G : Knowns) (bs : List BoundVariable) (fs : List Bool) (es : List (Vid × Entry)) → AreShown S T C.level list some bs fs es
+  pub further-shown : (k j : ℕ) (G : Knowns) (bs : List BoundVariable) (fs : List Bool) (es : List (Vid × Entry)) → AreVariables N bs → AreShown S T C.level list some bs fs es
       → AllFlagged (IsUsedAs W A B) bs fs → distinct same_vid (vids_of bs) ≡ true → AreKnownAs (type_of W) A.number qs k j A.known G bs fs → IsNumbered k C
       → AreFurther C W A es (generals qs (bound_of W bs)) (scope_of bs) G
-  further-shown k j G bs fs es h u d r n =
+  further-shown k j G bs fs es v h u d r n =
       let once : distinct same_vid (vids_in es) ≡ true = ap (distinct same_vid) (vids-shown S T C.level list some bs fs es h) ∙ d in
       record {
         kept = λ x.
@@ -183,8 +185,8 @@ module _ (C : Context) (W : World) (A : Around) (S T : State) (qs : List Quantif
         denotes = λ s x.
             ap (λ z. denotes_in z x) (sym (onto-plus s bs)) ∙ denotes-of s bs x ∙ ap (λ o. option_or o (denotes_in s x)) (sym (last-shown S T C.level list some x bs fs es h));
         alone = λ s q. ap (λ z. inside_in z q) (sym (onto-plus s bs)) ∙ inside-onto s bs q;
-        fit = λ x e q. last-among (IsFit C W A) es x e (fits-shown bs fs es h u) q;
-        new = λ x e i v q s. last-among (IsNew G) es x e (news-shown k j G bs fs es h r.known) q i v s;
+        fit = λ x e q. last-among (IsFit C W A) es x e (fits-shown bs fs es v h u) q;
+        new = λ x e i w q s. last-among (IsNew G) es x e (news-shown k j G bs fs es h r.known) q i w s;
         over = λ s f a. generals-same qs A.parameters (bound_of W bs) s f (all-over-inside bs fs u) a;
         old = λ x e i v q s. r.older i (n x.qualifiers x.vid e q i (number-known W A e i v s)) ∙ t.known x e i v q s;
       }

@@ -13,6 +13,7 @@ use Rattle.elab_steps.specs.Growing.{Always, Grows}
 use Rattle.elab_steps.specs.World.{World}
 use Rattle.elab_context.specs.declared.context.Context.{Context}
 use Rattle.general_worlds.specs.Inner.{deeper}
+use Rattle.general_worlds.specs.Tidy.{Enters}
 
 -- the declaration scopes these
 abbrev pub ScopesThese : Context → List Tyvar → bare.Binds → List Tyvar → Type 0
@@ -40,7 +41,9 @@ CameIntoScope W v (a ∷ as_) old new = (k : ℕ) × (W.raw k ≡ var v) × (loo
 
 -- a declaration begins: the context D is one deeper than C, with these type variables
 pub record IsBegun (S : State) (C : Context) (scoped : List Tyvar) (T : State) (D : Context) : Type 0 where
-  pub grows : Grows S T
+  pub entered : State
+  pub enters : Enters S entered
+  pub grows : Grows entered T
   pub next : T.next ≡ S.next
   pub deep : D ≡ deeper C D.types
   pub types : D.types.types ≡ C.types.types

@@ -6,11 +6,14 @@ ghost use Rattle.core_rules.specs.Typing.{mark_of as mark_of_tyvar};
 ghost use Rattle.elab_state.specs.States.{dead_level, made, types_in};
 ghost use Rattle.elab_steps.specs.Growing.{Always, Grows, HasType};
 ghost use Rattle.elab_context.specs.Telling.{IsContext};
+ghost use Rattle.general_worlds.specs.Inner.{deeper};
+ghost use Rattle.general_worlds.specs.Tidy.{Enters};
 ghost use Rattle.general_decs.specs.Scoped.{CameIntoScope, IsBegun, IsFurther};
 
 use elab_context::context::Context;
 use elab_state::state::State;
 use elab_types::refused::Refused;
+use general_vals::enter::enter;
 use mlc_base::memory::NoMemory;
 use mlc_base::place::Place;
 use sml_tree::ident::Tyvar;
@@ -44,6 +47,8 @@ fn tyvar_type(
     limit: Limit,
 ) -> Result<usize, NoMemory>
     requires wide { 4 ≤ limit.names }
+    requires deep { limit.level < dead_level }
+    requires inside { limit.level ≤ state.old.level }
     ensures grows { IfOk result (λ _. Grows state.old state.new) }
     ensures is { IfOk result (λ r. HasType state.new r) }
     ensures made { IfOk result (λ _. made state.new ≡ made state.old + 1) }
@@ -63,16 +68,6 @@ fn is_scoped(context: &Context, tyvar: &Tyvar) -> bool
     found.is_some()
 }
 
-/// How far variables may reach inside so many declarations.
-fn inner_limit(context: &Context, level: usize) -> Limit
-    ensures { result.names ≡ context.now.names }
-{
-    Limit {
-        names: context.names,
-        level,
-    }
-}
-
 /// Brings a type variable into scope.
 fn bind_tyvar(context: &mut Context, tyvar: &Tyvar, ty: usize) -> Result<(), NoMemory>
     ensures rest { IfOk result (λ _. context.new ≡ record context.old { types = context.new.types }) }
@@ -82,14 +77,13 @@ fn bind_tyvar(context: &mut Context, tyvar: &Tyvar, ty: usize) -> Result<(), NoM
     context.types.bind_tyvar(tyvar.name, ty)
 }
 
-/// Brings a type variable into scope that isn't there, for a new variable inside so many declarations.
+/// Brings a type variable into scope that isn't there, for a new variable of the declaration.
 fn scope_tyvar(
     alloc: Global,
     state: &mut State,
     context: &mut Context,
     place: Place,
     tyvar: &Tyvar,
-    level: usize,
 ) -> Result<(), Refused>
     requires context { IsContext state.old context.old }
     ensures grows { IfOk result (λ _. Grows state.old state.new) }
@@ -104,8 +98,7 @@ fn scope_tyvar(
     if is_scoped(context, tyvar) {
         return Err(Refused::Broken(place));
     }
-    let limit = inner_limit(context, level);
-    let ty = tyvar_type(alloc, state, tyvar, limit)?;
+    let ty = tyvar_type(alloc, state, tyvar, context.limit())?;
     bind_tyvar(context, tyvar, ty)?;
     Ok(())
 }
@@ -117,7 +110,6 @@ fn scope_tyvars(
     context: &mut Context,
     place: Place,
     scoped: &[Tyvar],
-    level: usize,
 ) -> Result<(), Refused>
     requires context { IsContext state.old context.old }
     ensures grows { IfOk result (λ _. Grows state.old state.new) }
@@ -129,9 +121,22 @@ fn scope_tyvars(
     ensures came { IfOk result (λ _. Always state.new (λ W. CameIntoScope W (made state.old) scoped.now context.old.types.tyvars context.new.types.tyvars)) }
 {
     for i in 0..scoped.len() {
-        scope_tyvar(alloc, state, context, place, &scoped[i], level)?;
+        scope_tyvar(alloc, state, context, place, &scoped[i])?;
     }
     Ok(())
+}
+
+/// The state and the context are inside a declaration more; the number of the first variable that may belong to it.
+fn enter_both(state: &mut State, context: &mut Context) -> Result<usize, NoMemory>
+    requires { IsContext state.old context.old }
+    ensures enters { IfOk result (λ _. Enters state.old state.new) }
+    ensures first { IfOk result (λ first. first ≡ made state.old) }
+    ensures deeper { IfOk result (λ _. context.new ≡ deeper context.old context.old.types) }
+    ensures context { IfOk result (λ _. IsContext state.new context.new) }
+{
+    let first = enter(state)?;
+    context.level = state.level;
+    Ok(first)
 }
 
 /// The beginning of a declaration that scopes these type variables: the context is one deeper.
@@ -148,13 +153,8 @@ pub fn begin(
     ensures first { IfOk result (λ b. b.first ≡ made state.old) }
     ensures tyvars { IfOk result (λ b. b.tyvars ≡ length context.old.types.tyvars) }
 {
-    let first = state.solver.limits.len();
     let tyvars = context.types.tyvars.len();
-    let level = context.level;
-    if level >= usize::MAX - 1 {
-        return Err(Refused::Memory);
-    }
-    scope_tyvars(alloc, state, context, place, scoped, level + 1)?;
-    context.level = level + 1;
+    let first = enter_both(state, context)?;
+    scope_tyvars(alloc, state, context, place, scoped)?;
     Ok(Begun { first, tyvars })
 }

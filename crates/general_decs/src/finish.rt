@@ -5,12 +5,12 @@ ghost use Rattle.sml_tree.specs.BareTree.{no_binds, val_dec};
 ghost use Rattle.sml_tree.specs.TreeOf.{RuleOf, binds_of};
 ghost use Rattle.sml_tree.specs.declared.ident.Tyvar.{Tyvar as TyvarOf};
 ghost use Rattle.ir_tables.specs.Tables.{parameters_at, parameters_of};
-ghost use Rattle.elab_state.specs.States.{dead_level, made};
+ghost use Rattle.elab_state.specs.States.{made};
 ghost use Rattle.elab_context.specs.Telling.{HasList, IsContext};
 ghost use Rattle.pat_elab.specs.Elaborated.{AreVariables};
 ghost use Rattle.general_worlds.specs.Inner.{deeper};
-ghost use Rattle.general_worlds.specs.Tidy.{Ends, IsTidy};
-ghost use Rattle.general_vals.specs.Closing.{AreOuter};
+ghost use Rattle.elab_steps.specs.Tidy.{IsTidy};
+ghost use Rattle.general_worlds.specs.Tidy.{AreOuter, Ends};
 ghost use Rattle.dec_forms.specs.Bringing.{IsBringing};
 ghost use Rattle.dec_forms.specs.Telling.{with_all};
 ghost use Rattle.general_decs.specs.Entries.{has_some};
@@ -18,6 +18,7 @@ ghost use Rattle.general_decs.specs.Inside.{AreInside};
 ghost use Rattle.general_decs.specs.Scoped.{IsBegun, IsFurther, IsLedBy, ScopesThese};
 
 use crate::begin::{Begun, mark_of};
+use crate::lower::lower_rest;
 use crate::settle::show_all;
 use dec_forms::bring::bring_values;
 use dec_forms::brought::Brought;
@@ -79,7 +80,7 @@ fn close_led(
     first: usize,
     scoped: &[Tyvar],
 ) -> Result<usize, Refused>
-    requires low { level + 1 < dead_level }
+    requires level { state.old.level ≡ level + 1 }
     requires first { first ≤ made state.old }
     requires outer { AreOuter state.old level first }
     requires tidy { IsTidy state.old (level + 1) }
@@ -133,8 +134,8 @@ fn has_any(state: &State, list: usize) -> bool
     state.tables.parameters[list].len() > 0
 }
 
-/// The end of a declaration that generalises. Its variables come into scope, each over its parameters.
-pub fn finish(
+/// The end of a declaration of whose variables none that is open is of a class or a row.
+fn finish_lowered(
     alloc: Global,
     state: &mut State,
     context: &mut Context,
@@ -146,14 +147,13 @@ pub fn finish(
     binds: Vec<(Binding, Rule)>,
     brought: &mut Brought,
 ) -> Result<Dec, Refused>
-    requires deep { context.old.level < dead_level }
+    requires context { IsContext state.old context.old }
     requires inside { 0 < context.old.level }
     requires have { AreVariables state.old bound.now }
     requires count { length flags.now ≡ length bound.now }
     requires first { begun.first ≤ made state.old }
-    requires tidy { IsTidy state.old context.old.level }
     requires outer { AreOuter state.old (context.old.level - 1) begun.first }
-    ensures brings { IfOk result (λ d. (S M : State) (C : Context) (p q : PlaceAt) (as_ : List TyvarOf) (rs : List RuleOf) → IsBegun S C scoped.now M context.old
+    ensures brings { IfOk result (λ d. (S M : State) (C : Context) (p q : PlaceAt) (as_ : List TyvarOf) (rs : List RuleOf) → IsContext S C → IsBegun S C scoped.now M context.old
         → AreInside M C context.old.types rs state.old bound.now flags.now binds.items → begun.first ≡ made S → begun.tyvars ≡ length C.types.tyvars
         → ScopesThese C as_ (binds_of rs) scoped.now
         → IsBringing S C (val_dec p q as_ (binds_of rs) no_binds) state.new context.new (d ∷ []) brought.old brought.new) }
@@ -168,4 +168,38 @@ pub fn finish(
     let values = show_all(alloc, state, list, some, bound, flags)?;
     bring(context, begun.tyvars, &values, brought)?;
     Ok(Dec::Val(list, binds, Vec::new(alloc)))
+}
+
+/// The end of a declaration that generalises. Its variables come into scope, each over its parameters.
+pub fn finish(
+    alloc: Global,
+    state: &mut State,
+    context: &mut Context,
+    place: Place,
+    begun: Begun,
+    scoped: &[Tyvar],
+    bound: &[BoundVariable],
+    flags: &[bool],
+    binds: Vec<(Binding, Rule)>,
+    brought: &mut Brought,
+) -> Result<Dec, Refused>
+    requires context { IsContext state.old context.old }
+    requires inside { 0 < context.old.level }
+    requires have { AreVariables state.old bound.now }
+    requires count { length flags.now ≡ length bound.now }
+    requires first { begun.first ≤ made state.old }
+    requires outer { AreOuter state.old (context.old.level - 1) begun.first }
+    ensures brings { IfOk result (λ d. (S M : State) (C : Context) (p q : PlaceAt) (as_ : List TyvarOf) (rs : List RuleOf) → IsContext S C → IsBegun S C scoped.now M context.old
+        → AreInside M C context.old.types rs state.old bound.now flags.now binds.items → begun.first ≡ made S → begun.tyvars ≡ length C.types.tyvars
+        → ScopesThese C as_ (binds_of rs) scoped.now
+        → IsBringing S C (val_dec p q as_ (binds_of rs) no_binds) state.new context.new (d ∷ []) brought.old brought.new) }
+    ensures context { IfOk result (λ _. (S M : State) (C : Context) (rs : List RuleOf) → IsContext S C → IsBegun S C scoped.now M context.old
+        → AreInside M C context.old.types rs state.old bound.now flags.now binds.items → begun.first ≡ made S → begun.tyvars ≡ length C.types.tyvars
+        → IsContext state.new context.new) }
+{
+    let level = context.level - 1;
+    lower_rest(alloc, state, place, level, begun.first)?;
+    finish_lowered(
+        alloc, state, context, place, begun, scoped, bound, flags, binds, brought,
+    )
 }

@@ -4,5 +4,6 @@
 pub mod add;
 pub mod begin;
 pub mod finish;
+pub mod lower;
 pub mod settle;
 pub mod values;

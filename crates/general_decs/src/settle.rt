@@ -1,9 +1,9 @@
 // What the variables of a declaration are when they come into scope.
 ghost use Rattle.std.specs.Prelude.{◌≡◌, ◌&&◌, ℕ, length, IfOk};
-ghost use Rattle.elab_steps.specs.Growing.{Grows, HasType};
-ghost use Rattle.general_worlds.specs.Tidy.{IsTidy};
-ghost use Rattle.pat_elab.specs.Elaborated.{AreVariables};
-ghost use Rattle.general_decs.specs.Entries.{AreShown, IsShown};
+ghost use Rattle.elab_steps.specs.Growing.{Grows};
+ghost use Rattle.elab_steps.specs.Tidy.{IsTidy};
+ghost use Rattle.general_vals.specs.Settling.{IsMade, KeepsVariables};
+ghost use Rattle.general_decs.specs.Entries.{AreMade, AreShown, IsShown};
 
 use elab_context::entry::Entry;
 use elab_state::state::State;
@@ -23,10 +23,11 @@ fn show(
     variable: BoundVariable,
     general: bool,
 ) -> Result<(Vid, Entry), NoMemory>
-    requires { HasType state.old variable.ty }
+    requires { IsMade state.old variable.ty }
     ensures grows { IfOk result (λ _. Grows state.old state.new) }
     ensures next { IfOk result (λ _. state.new.next ≡ state.old.next) }
     ensures tidy { IfOk result (λ _. (l : ℕ) → IsTidy state.old l → IsTidy state.new l) }
+    ensures keeps { IfOk result (λ _. KeepsVariables state.old state.new) }
     ensures shown { IfOk result (λ e. (l : ℕ) → IsTidy state.old l → IsShown state.old state.new l list some variable general e) }
 {
     let ty = settled_type(alloc, state, variable.ty)?;
@@ -43,7 +44,7 @@ pub fn show_all(
     bound: &[BoundVariable],
     flags: &[bool],
 ) -> Result<Vec<(Vid, Entry)>, NoMemory>
-    requires have { AreVariables state.old bound.now }
+    requires made { AreMade state.old bound.now }
     requires count { length flags.now ≡ length bound.now }
     ensures grows { IfOk result (λ _. Grows state.old state.new) }
     ensures next { IfOk result (λ _. state.new.next ≡ state.old.next) }

@@ -17,7 +17,7 @@ invariant_of-state-2 c =
 pub returns-clause-grows : goal.returns-clause-grows
 returns-clause-grows c =
     if-ok c.variable.result (λ r e. freshened_grows c.args.state.now _ c.fresh.new.self.subst c.mark_of-mark.result c.args.limit c.in_ok-v.v r (record {
-      stays = record { written = refl; namings = refl; tables = refl; next = refl };
+      stays = record { written = refl; namings = refl; tables = refl; next = refl; level = refl };
       mid_types = c.in_ok-v.ensures.types;
       mid_slots = c.in_ok-v.ensures.marked;
       limits = c.variable.ensures.limits ∙ c.in_ok-v.ensures.limited;
@@ -26,12 +26,14 @@ returns-clause-grows c =
       says = c.variable.ensures.says;
       number = c.in_ok-v.ensures.next;
       is = e;
+      deep = c.requires.deep;
+      inside = c.requires.inside;
     })) c.variable.ensures.held
 
 pub returns-clause-is : goal.returns-clause-is
 returns-clause-is c =
     if-ok c.variable.result (λ r e. freshened_is c.args.state.now _ c.fresh.new.self.subst c.mark_of-mark.result c.args.limit c.in_ok-v.v r (record {
-      stays = record { written = refl; namings = refl; tables = refl; next = refl };
+      stays = record { written = refl; namings = refl; tables = refl; next = refl; level = refl };
       mid_types = c.in_ok-v.ensures.types;
       mid_slots = c.in_ok-v.ensures.marked;
       limits = c.variable.ensures.limits ∙ c.in_ok-v.ensures.limited;
@@ -40,4 +42,6 @@ returns-clause-is c =
       says = c.variable.ensures.says;
       number = c.in_ok-v.ensures.next;
       is = e;
+      deep = c.requires.deep;
+      inside = c.requires.inside;
     })) c.variable.ensures.held

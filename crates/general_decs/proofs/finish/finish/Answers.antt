@@ -1,24 +1,30 @@
-use Rattle.std.proofs.Common.{◌++◌, List, refl, ap, ◌∙◌}
-use Rattle.sml_tree.specs.declared.ident.Vid.{Vid}
-use Rattle.elab_context.specs.declared.entry.Entry.{Entry}
-use Rattle.dec_forms.specs.Telling.{with_all}
-use Rattle.general_decs.proofs.Finishing.{finish_brings, finish_context}
+use Rattle.elab_context.proofs.Reading.{context_later}
+use Rattle.elab_steps.proofs.Changing.{if-ok}
+use Rattle.pat_elab.proofs.Forms.{all-later}
+use Rattle.general_decs.proofs.Lowering.{inside-later, outer-later}
 use Rattle.general_decs.proofs.finish.finish.Goals as goal
 
+pub finish_lowered-requires-clause-context : goal.finish_lowered-requires-clause-context
+finish_lowered-requires-clause-context c = context_later c.args.state.now c.lower_rest.new.state c.args.context.now c.in_ok-lower_rest.ensures.grows c.requires.context
+
+pub finish_lowered-requires-clause-have : goal.finish_lowered-requires-clause-have
+finish_lowered-requires-clause-have c = all-later c.args.state.now c.lower_rest.new.state c.in_ok-lower_rest.ensures.grows c.args.bound.now c.requires.have
+
+pub finish_lowered-requires-clause-outer : goal.finish_lowered-requires-clause-outer
+finish_lowered-requires-clause-outer c = outer-later c.args.state.now c.lower_rest.new.state _ c.args.begun.first c.in_ok-lower_rest.ensures.grows c.requires.first c.requires.outer
+
 pub returns-clause-brings : goal.returns-clause-brings
-returns-clause-brings c S M C p q as_ rs b h f v s =
-    let e = c.in_ok-list.ensures in
-    let g = c.in_ok-values.ensures in
-    finish_brings S M c.args.state.now c.close_led.new.state c.show_all.new.state C c.args.context.now c.args.scoped.now rs c.args.bound.now c.args.flags.now c.in_ok-values.values.items c.args.binds
-    c.in_ok-list.list _ c.args.begun.first c.has_any-some.result refl c.requires.deep c.requires.inside b h e.ends e.list e.tidy c.requires.outer f g.grows (g.shown _ e.tidy) c.bring.new.context p q as_
-    c.new.result c.args.brought.now c.bring.new.brought e.led s c.in_ok-check_once.ensures.once c.has_any-some.ensures c.new.ensures.items
-    (c.in_ok-bring.ensures.context C b.deep b.types b.further v ∙ ap (with_all C) c.deref.ensures.value)
-    (c.in_ok-bring.ensures.values ∙ ap (λ (l : List (Vid × Entry)). c.args.brought.now.values.items ++ l) c.deref.ensures.value) c.in_ok-bring.ensures.types
+returns-clause-brings c =
+    if-ok c.finish_lowered.result
+    (λ d e S M C p q as_ rs i b h f v s.
+    e S M C p q as_ rs i b
+    (inside-later M c.args.state.now c.lower_rest.new.state C c.args.context.now.types rs c.args.bound.now c.args.flags.now c.args.binds.items h c.in_ok-lower_rest.ensures.grows) f v s)
+    c.finish_lowered.ensures.brings
 
 pub returns-clause-context : goal.returns-clause-context
-returns-clause-context c S M C rs i b h f v =
-    let e = c.in_ok-list.ensures in
-    let g = c.in_ok-values.ensures in
-    finish_context S M c.args.state.now c.close_led.new.state c.show_all.new.state C c.args.context.now c.args.scoped.now rs c.args.bound.now c.args.flags.now c.in_ok-values.values.items c.args.binds
-    c.in_ok-list.list _ c.args.begun.first c.has_any-some.result refl c.requires.deep c.requires.inside b h e.ends e.list e.tidy c.requires.outer f g.grows (g.shown _ e.tidy) c.bring.new.context i
-    (c.in_ok-bring.ensures.context C b.deep b.types b.further v ∙ ap (with_all C) c.deref.ensures.value)
+returns-clause-context c =
+    if-ok c.finish_lowered.result
+    (λ d e S M C rs i b h f v.
+    e S M C rs i b
+    (inside-later M c.args.state.now c.lower_rest.new.state C c.args.context.now.types rs c.args.bound.now c.args.flags.now c.args.binds.items h c.in_ok-lower_rest.ensures.grows) f v)
+    c.finish_lowered.ensures.context
