@@ -29,5 +29,5 @@ pub record Settles (S T : State) (k r : ℕ) : Type 0 where
 
 -- What a type of a declaration comes to, resolved behind its end, is a type that was generalised.
 abbrev pub SettledTypesAreHeld : Type 0
-SettledTypesAreHeld = (l : ℕ) (qs : List Quantified) (R S M T : State) (k r : ℕ) → Ends l qs R S → HasType R k → KeepsVariables S M → Settles M T k r → AreOpen T r
-    → HasGeneral T qs r
+SettledTypesAreHeld = (l : ℕ) (qs : List Quantified) (R S M T : State) (k r : ℕ) → Ends l qs R S → HasType R k → KeepsVariables S M → Settles M T k r
+    → AreOpen T r → HasGeneral T qs r
