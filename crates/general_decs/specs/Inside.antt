@@ -38,7 +38,8 @@ Keeps old new = (a : ℕ) (t : Typ) → at nat_eq old a ≡ Some t → at nat_eq
 
 -- Each elaborates, inside B, from the k-th variable on: the patterns one after the other, the expressions outside them. A generalised one is of a value; the
 -- pattern of another one has no parameters but those of A.
-pub data EachInside (W : World) (A B : Around) (h : ℕ) : ℕ → List RuleOf → List (Binding × RuleTree) → List (List BoundVariable) → List (Choices × Choices) → ℕ → Type 0 where
+pub data EachInside (W : World) (A B : Around) (h : ℕ) : ℕ → List RuleOf → List (Binding × RuleTree) → List (List BoundVariable) → List (Choices × Choices)
+    → ℕ → Type 0 where
   none_inside : {k : ℕ} → EachInside W A B h k [] [] [] [] k
   general_inside : {k j i : ℕ} {r : RuleOf} {rs : List RuleOf} {b : Binding} {x : RuleTree} {xs : List (Binding × RuleTree)} {t : Typ} {vs : List BoundVariable}
       {vss : List (List BoundVariable)} {c d : Choices} {cs : List (Choices × Choices)} → PatElab W.table B k r.pat x.pat t (bound_of W vs) c (scope_of vs) j
@@ -46,12 +47,14 @@ pub data EachInside (W : World) (A B : Around) (h : ℕ) : ℕ → List RuleOf �
       → b.general ≡ true → W.reading.type b.ty ≡ as_typed B t → EachInside W A B h j rs xs vss cs i
       → EachInside W A B h k (r ∷ rs) ((b, x) ∷ xs) (vs ∷ vss) ((c, d) ∷ cs) i
   plain_inside : {k j i : ℕ} {r : RuleOf} {rs : List RuleOf} {b : Binding} {x : RuleTree} {xs : List (Binding × RuleTree)} {t : Typ} {vs : List BoundVariable}
-      {vss : List (List BoundVariable)} {c d : Choices} {cs : List (Choices × Choices)} → PatElab W.table (without B A.parameters) k r.pat x.pat t (bound_of W vs) c (scope_of vs) j
+      {vss : List (List BoundVariable)} {c d : Choices} {cs : List (Choices × Choices)}
+      → PatElab W.table (without B A.parameters) k r.pat x.pat t (bound_of W vs) c (scope_of vs) j
       → ExpElab W.table B h r.exp x.exp t d → list_all (λ v. over A.parameters v.1) (bound_of W vs) ≡ true → over A.parameters (as_typed B t) ≡ true
       → b.general ≡ false → W.reading.type b.ty ≡ as_typed B t → EachInside W A B h j rs xs vss cs i
       → EachInside W A B h k (r ∷ rs) ((b, x) ∷ xs) (vs ∷ vss) ((c, d) ∷ cs) i
 
-pub record InsideUpTo (W : World) (A B : Around) (h : ℕ) (rs : List RuleOf) (xs : List (Binding × RuleTree)) (vss : List (List BoundVariable)) (choices : List (Choices × Choices))
+pub record InsideUpTo (W : World) (A B : Around) (h : ℕ) (rs : List RuleOf) (xs : List (Binding × RuleTree)) (vss : List (List BoundVariable))
+    (choices : List (Choices × Choices))
     (j : ℕ) : Type 0 where
   pub next : ℕ
   pub most : next ≤ j
@@ -82,7 +85,8 @@ abbrev pub IsUsedAs : World → Around → Around → BoundVariable → Bool →
 IsUsedAs W A B b f = IsInUse (if f then B else A) (type_of W b.ty)
 
 -- where the variables in scope are below k
-pub record ElaboratesInside (W : World) (A B : Around) (k : ℕ) (rs : List RuleOf) (xs : List (Binding × RuleTree)) (bs : List BoundVariable) (fs : List Bool) (j : ℕ)
+pub record ElaboratesInside (W : World) (A B : Around) (k : ℕ) (rs : List RuleOf) (xs : List (Binding × RuleTree)) (bs : List BoundVariable)
+    (fs : List Bool) (j : ℕ)
     : Type 0 where
   pub groups : List (List BoundVariable)
   pub choices : List (Choices × Choices)
@@ -92,11 +96,13 @@ pub record ElaboratesInside (W : World) (A B : Around) (k : ℕ) (rs : List Rule
   pub used : AllFlagged (IsUsedAs W A B) bs fs
 
 -- in each world in which what the state says comes true, wherever the one context tells of what is around the declaration, and the other of what is inside
-pub record AreInside (S : State) (C : Context) (s : TypeScope) (rs : List RuleOf) (T : State) (bs : List BoundVariable) (fs : List Bool) (binds : List (Binding × Rule)) : Type 0 where
+pub record AreInside (S : State) (C : Context) (s : TypeScope) (rs : List RuleOf) (T : State) (bs : List BoundVariable) (fs : List Bool) (binds : List
+    (Binding × Rule)) : Type 0 where
   pub grows : Grows S T
   pub have : AreVariables T bs
   pub count : length fs ≡ length bs
-  pub gives : (W : World) → Comes T W → (A : Around) → Tells C W A → (m : Map ℕ Typ) (qs : List Quantified) → Keeps A.tyvars m → Tells (deeper C s) W (inside_of A m qs)
+  pub gives : (W : World) → Comes T W → (A : Around) → Tells C W A → (m : Map ℕ Typ) (qs : List Quantified) → Keeps A.tyvars m
+      → Tells (deeper C s) W (inside_of A m qs)
       → ElaboratesInside W A (inside_of A m qs) S.next rs (map (bind_of W.reading) binds) bs fs T.next
 
 -- A pattern, in the context C, and an expression, in D, stand behind the bindings so far, in any order, and before the state V.

@@ -46,11 +46,13 @@ pub fn add(
     requires pat { HasType state.old pat.ty }
     requires exp { HasType state.old exp.ty }
     ensures grows { IfOk result (λ _. Grows state.old state.new) }
-    ensures generalised { IfOk result (λ _. general ≡ true → (S N Z : State) (C : Context) (s : TypeScope) (rs : List RuleOf) (r : RuleOf) (before : List BoundVariable)
+    ensures generalised { IfOk result (λ _. general ≡ true → (S N Z : State) (C : Context) (s : TypeScope) (rs : List RuleOf) (r : RuleOf)
+        (before : List BoundVariable)
         → context.now ≡ deeper C s → AreInside S C s rs N before flags.old.items binds.old.items
         → StandBehind N (deeper C s) (deeper C s) r before bound.now pat exp state.old → Grows Z state.old → IsGeneralised Z (deeper C s) r.exp exp.exp
         → AreInside S C s (rs ++ r ∷ []) state.new bound.now flags.new.items binds.new.items) }
-    ensures plain { IfOk result (λ _. general ≡ false → (S N : State) (C : Context) (s : TypeScope) (rs : List RuleOf) (r : RuleOf) (before : List BoundVariable)
+    ensures plain { IfOk result (λ _. general ≡ false → (S N : State) (C : Context) (s : TypeScope) (rs : List RuleOf) (r : RuleOf)
+        (before : List BoundVariable)
         → context.now ≡ deeper C s → AreInside S C s rs N before flags.old.items binds.old.items
         → StandBehind N C (deeper C s) r before bound.now pat exp state.old
         → AreInside S C s (rs ++ r ∷ []) state.new bound.now flags.new.items binds.new.items) }

@@ -93,7 +93,8 @@ fn scope_tyvar(
     ensures rest { IfOk result (λ _. context.new ≡ record context.old { types = context.new.types }) }
     ensures types { IfOk result (λ _. context.new.types.types ≡ context.old.types.types) }
     ensures further { IfOk result (λ _. IsFurther context.old.types.tyvars context.new.types.tyvars) }
-    ensures came { IfOk result (λ _. Always state.new (λ W. CameIntoScope W (made state.old) (tyvar.now ∷ []) context.old.types.tyvars context.new.types.tyvars)) }
+    ensures came { IfOk result (λ _. Always state.new (λ W. CameIntoScope W (made state.old)
+        (tyvar.now ∷ []) context.old.types.tyvars context.new.types.tyvars)) }
 {
     if is_scoped(context, tyvar) {
         return Err(Refused::Broken(place));

@@ -153,7 +153,8 @@ fn finish_lowered(
     requires count { length flags.now ≡ length bound.now }
     requires first { begun.first ≤ made state.old }
     requires outer { AreOuter state.old (context.old.level - 1) begun.first }
-    ensures brings { IfOk result (λ d. (S M : State) (C : Context) (p q : PlaceAt) (as_ : List TyvarOf) (rs : List RuleOf) → IsContext S C → IsBegun S C scoped.now M context.old
+    ensures brings { IfOk result (λ d. (S M : State) (C : Context) (p q : PlaceAt) (as_ : List TyvarOf) (rs : List RuleOf) → IsContext S C
+        → IsBegun S C scoped.now M context.old
         → AreInside M C context.old.types rs state.old bound.now flags.now binds.items → begun.first ≡ made S → begun.tyvars ≡ length C.types.tyvars
         → ScopesThese C as_ (binds_of rs) scoped.now
         → IsBringing S C (val_dec p q as_ (binds_of rs) no_binds) state.new context.new (d ∷ []) brought.old brought.new) }
@@ -189,7 +190,8 @@ pub fn finish(
     requires count { length flags.now ≡ length bound.now }
     requires first { begun.first ≤ made state.old }
     requires outer { AreOuter state.old (context.old.level - 1) begun.first }
-    ensures brings { IfOk result (λ d. (S M : State) (C : Context) (p q : PlaceAt) (as_ : List TyvarOf) (rs : List RuleOf) → IsContext S C → IsBegun S C scoped.now M context.old
+    ensures brings { IfOk result (λ d. (S M : State) (C : Context) (p q : PlaceAt) (as_ : List TyvarOf) (rs : List RuleOf) → IsContext S C
+        → IsBegun S C scoped.now M context.old
         → AreInside M C context.old.types rs state.old bound.now flags.now binds.items → begun.first ≡ made S → begun.tyvars ≡ length C.types.tyvars
         → ScopesThese C as_ (binds_of rs) scoped.now
         → IsBringing S C (val_dec p q as_ (binds_of rs) no_binds) state.new context.new (d ∷ []) brought.old brought.new) }

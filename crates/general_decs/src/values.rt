@@ -5,7 +5,20 @@ ghost use Rattle.core_rules.specs.Typing.{is_conexp_in};
 ghost use Rattle.prog_known.specs.Lists.{all_hold};
 ghost use Rattle.sml_tree.specs.TreeOf.{exp_of, long_vid_of};
 ghost use Rattle.elab_context.specs.Telling.{IsContext, IsHeld};
-ghost use Rattle.general_decs.specs.Values.{IsConexpAs, IsNonExpansiveAs, IsRight, applied_is, exp_is, field_is, is_nil, joint_makes, makes as makes_what, makes_if, part_is, vid_makes};
+ghost use Rattle.general_decs.specs.Values.{
+  IsConexpAs,
+  IsNonExpansiveAs,
+  IsRight,
+  applied_is,
+  exp_is,
+  field_is,
+  is_nil,
+  joint_makes,
+  makes as makes_what,
+  makes_if,
+  part_is,
+  vid_makes,
+};
 
 use elab_context::context::Context;
 use elab_context::entry::Entry;
