@@ -1,0 +1,14 @@
+pub mod Tyvars
+pub mod Opening
+pub mod Marks
+pub mod Groups
+pub mod Adding
+pub mod Shown
+pub mod Showing
+pub mod Leading
+pub mod Beginning
+pub mod Lowering
+pub mod Declaring
+pub mod Finishing
+pub mod Valued
+pub mod Making

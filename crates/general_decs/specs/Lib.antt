@@ -1,0 +1,4 @@
+pub mod Scoped
+pub mod Inside
+pub mod Entries
+pub mod Values

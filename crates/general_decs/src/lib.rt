@@ -1,0 +1,9 @@
+// `val` declarations that generalise, each from its parts.
+#![tactic(auto)]
+
+pub mod add;
+pub mod begin;
+pub mod finish;
+pub mod lower;
+pub mod settle;
+pub mod values;
