@@ -1,0 +1,119 @@
+-- Loops along rules.
+use Rattle.std.proofs.Common.{◌≡◌, ◌<◌, ◌≤◌, ◌+◌, ℕ, List, [], ◌∷◌, ◌++◌, map, take, length, get_or, Vec, Box, Global, refl, sym, ap, ap₂, subst, ◌∙◌, arith}
+use Rattle.mlc_base.specs.declared.place.Place.{Place}
+use Rattle.ty_basis.specs.Types.{exn_type}
+use Rattle.sml_tree.specs.BareTree as bare
+use Rattle.sml_tree.specs.Derived.{app_of}
+use Rattle.sml_tree.specs.TreeOf.{RuleOf, exp_of, pat_of, rule_of, rules_of}
+use Rattle.sml_tree.specs.declared.tree.Exp.{Exp}
+use Rattle.sml_tree.specs.declared.tree.Exp.TheVariants as node
+use Rattle.sml_tree.specs.declared.tree.Rule.{Rule}
+use Rattle.elab_types.proofs.Lists.{all-map, next-map-at}
+use Rattle.elab_state.specs.declared.state.State.{State}
+use Rattle.elab_steps.specs.Growing.{Always, Grows}
+use Rattle.elab_steps.specs.World.{type_of}
+use Rattle.elab_steps.proofs.Growing.{grows_on, grows_same}
+use Rattle.elab_context.specs.Telling.{IsContext}
+use Rattle.elab_context.specs.declared.context.Context.{Context}
+use Rattle.elab_context.proofs.Reading.{context_later}
+use Rattle.use_elab.specs.Elaborated.{IsExp}
+use Rattle.use_elab.specs.declared.typed.TypedExp.{TypedExp}
+use Rattle.exp_forms.specs.Begun.{IsBegun}
+use Rattle.exp_forms.specs.Rules.{AreRules}
+use Rattle.exp_forms.specs.declared.begun.RuleBegun.{RuleBegun}
+use Rattle.exp_forms.specs.declared.rules_made.RulesMade.{RulesMade}
+use Rattle.exp_forms.proofs.Nodes.{rule-is, source-Apply, source-Fn, source-Handle}
+use Rattle.elab_exps.proofs.Loops.{exp_in, same-at}
+
+pub record RulesSoFar (S : State) (C : Context) (m : RulesMade) (rs : List RuleOf) (T : State) (D : Context) (n : RulesMade) : Type 0 where
+  pub same : D ≡ C
+  pub grows : Grows S T
+  pub domain : n.domain ≡ m.domain
+  pub range : n.range ≡ m.range
+  pub rules : (R : State) → AreRules R C [] S m → AreRules R C rs T n
+
+pub rules_begin : (S : State) (C : Context) (m : RulesMade) → RulesSoFar S C m [] S C m
+rules_begin S C m = record { same = refl; grows = grows_same S; domain = refl; range = refl; rules = λ R h. h }
+
+pub begun_grows : (S T : State) (C D : Context) (a : bare.Pat) (k : ℕ) (r : RuleBegun) → IsBegun S C a k T D r → Grows S T
+begun_grows S T C D a k r h = grows_on S h.middle T h.pat.grows h.entered.grows
+
+rule-at : (rs : List Rule) (i : ℕ) (d e f : Rule) (place : Place) → i < length rs → place ≡ (get_or rs i d).place
+    → rule_of (get_or rs i d) ≡ record { place = place; pat = pat_of (get_or rs i e).pat; exp = exp_of (get_or rs i f).exp }
+rule-at rs i d e f place lt at =
+    rule-is (get_or rs i d)
+    ∙ ap₂ (λ p (r : Rule). record { place = p; pat = pat_of r.pat; exp = exp_of (get_or rs i d).exp }) (sym at) (same-at rs i d e lt)
+    ∙ ap (λ (r : Rule). record { place = place; pat = pat_of (get_or rs i e).pat; exp = exp_of r.exp }) (same-at rs i d f lt)
+
+pub rules_more : (S M P N T : State) (C D E F G : Context) (rs : List Rule) (i : ℕ) (d e f : Rule) (place : Place) (begun : RuleBegun) (exp : TypedExp) (first old new : RulesMade)
+    → IsContext S C → i < length rs → place ≡ (get_or rs i d).place → RulesSoFar S C first (map rule_of (take i rs)) M D old
+    → IsBegun M D (pat_of (get_or rs i e).pat) old.domain P E begun → F ≡ E → IsExp P E (exp_of (get_or rs i f).exp) N exp → Grows N T → new.domain ≡ old.domain → new.range ≡ old.range
+    → ((S T : State) (C : Context) (a : bare.Pat) (k : ℕ) → IsBegun S C a k T F begun → G ≡ C)
+    → ((S M Q : State) (C : Context) (rs : List RuleOf) (p : Place) (a : bare.Pat) (e : bare.Exp) → AreRules S C rs M old → IsContext M C → IsBegun M C a old.domain Q F begun
+    → IsExp Q F e N exp → AreRules S C (rs ++ record { place = p; pat = a; exp = e } ∷ []) T new)
+    → RulesSoFar S C first (map rule_of (take (i + 1) rs)) T G new
+rules_more S M P N T C D E F G rs i d e f place begun exp first old new ctx lt at h b q x g ed er left add =
+    let pat = pat_of (get_or rs i e).pat in
+    let body = exp_of (get_or rs i f).exp in
+    let inside = subst (λ H. IsBegun M D pat old.domain P H begun) (sym q) b in
+    let within = subst (λ H. IsBegun M H pat old.domain P F begun) h.same inside in
+    record {
+      same = left M P C pat old.domain within;
+      grows = grows_on S M T h.grows (grows_on M P T (begun_grows M P D E pat old.domain begun b) (grows_on P N T x.grows g));
+      domain = ed ∙ h.domain;
+      range = er ∙ h.range;
+      rules = λ R k.
+          let whole = add R M P C (map rule_of (take i rs)) place pat body (h.rules R k) (context_later S M C h.grows ctx) within (subst (λ H. IsExp P H body N exp) (sym q) x) in
+          subst (λ l. AreRules R C l T new) (sym (next-map-at rule_of rs i d lt ∙ ap (λ r. map rule_of (take i rs) ++ r ∷ []) (rule-at rs i d e f place lt at))) whole;
+    }
+
+pub rules_end : (S T : State) (C D : Context) (rs : List Rule) (i : ℕ) (first m : RulesMade) → length rs ≤ i → RulesSoFar S C first (map rule_of (take i rs)) T D m
+    → (R : State) → AreRules R C [] S first → AreRules R C (map rule_of rs) T m
+rules_end S T C D rs i first m le h R k = subst (λ l. AreRules R C l T m) (all-map rule_of rs i le) (h.rules R k)
+
+-- the whole
+
+pub function_is : (S T U : State) (C D : Context) (place : Place) (rs : List RuleOf) (m : RulesMade) (r : TypedExp) → D ≡ C → AreRules S C rs T m
+    → ((S : State) (p : Place) (rs : List RuleOf) → AreRules S D rs T m → IsExp S D (bare.fn p (rules_of rs)) U r) → IsExp S C (bare.fn place (rules_of rs)) U r
+function_is S T U C D place rs m r q h made =
+    exp_in S U C D (bare.fn place (rules_of rs)) r q (made S place rs (subst (λ E. AreRules S E rs T m) (sym q) h))
+
+pub case_is : (S M N T : State) (C D : Context) (p q : Place) (e : bare.Exp) (rs : List RuleOf) (taken : TypedExp) (m : RulesMade) (r : TypedExp) → D ≡ C → IsExp S C e M taken
+    → AreRules M C rs N m → m.domain ≡ taken.ty
+    → ((S M : State) (p q : Place) (e : bare.Exp) (rs : List RuleOf) → IsExp S D e M taken → AreRules M D rs N m → m.domain ≡ taken.ty → IsExp S D (bare.app p (bare.fn q (rules_of rs)) e) T r)
+    → IsExp S C (bare.app p (bare.fn q (rules_of rs)) e) T r
+case_is S M N T C D p q e rs taken m r s h k d made =
+    exp_in S T C D (bare.app p (bare.fn q (rules_of rs)) e) r s (made S M p q e rs (exp_in S M D C e taken (sym s) h) (subst (λ E. AreRules M E rs N m) (sym s) k) d)
+
+pub handle_is : (S M N T : State) (C D E : Context) (w : Exp) (place : Place) (a : Box Exp Global) (vs : Vec Rule Global) (x : Exp) (rs : List Rule) (body : TypedExp) (m : RulesMade) (r : TypedExp)
+    → w ≡ node.Handle place a vs → x ≡ a.value → rs ≡ vs.items → D ≡ C → E ≡ D → IsExp S C (exp_of x) M body → AreRules M D (map rule_of rs) N m → Always N (λ W. type_of W m.domain ≡ exn_type)
+    → m.range ≡ body.ty
+    → ((S M : State) (p : Place) (e : bare.Exp) (rs : List RuleOf) → IsExp S E e M body → AreRules M E rs N m → Always N (λ W. type_of W m.domain ≡ exn_type) → m.range ≡ body.ty
+    → IsExp S E (bare.handle p e (rules_of rs)) T r) → IsExp S C (exp_of w) T r
+handle_is S M N T C D E w place a vs x rs body m r is ex ers q s h k d g made =
+    let whole = bare.handle place (exp_of x) (rules_of (map rule_of rs)) in
+    let node-is : exp_of w ≡ whole =
+    ap exp_of is ∙ source-Handle place a vs ∙ ap₂ (λ (y : Exp) (l : List Rule). bare.handle place (exp_of y) (rules_of (map rule_of l))) (sym ex) (sym ers) in
+    subst (λ z. IsExp S C z T r) (sym node-is)
+    (exp_in S T C E whole r (s ∙ q)
+    (made S M place (exp_of x) (map rule_of rs) (exp_in S M E C (exp_of x) body (sym (s ∙ q)) h) (subst (λ F. AreRules M F (map rule_of rs) N m) (sym s) k) d g))
+
+-- `fn` applied
+
+one-of : (xs : List Exp) (x : Exp) → length xs ≡ 1 → x ≡ get_or xs 0 x → xs ≡ x ∷ []
+one-of [] x n is = absurd (omega (arith, n))
+one-of (y ∷ []) x n is = ap (λ z. z ∷ []) (sym is)
+one-of (y ∷ z ∷ zs) x n is = absurd (omega (arith, n))
+
+pub applied_is : (S M T : State) (C D : Context) (e : Exp) (place : Place) (a : Box Exp Global) (es : Vec Exp Global) (f : Exp) (q : Place) (vs : Vec Rule Global) (rs : List Rule)
+    (xs : List Exp) (x : Exp) (taken r : TypedExp) → e ≡ node.Apply place a es → f ≡ a.value → xs ≡ es.items → f ≡ node.Fn q vs → rs ≡ vs.items → length xs ≡ 1 → x ≡ get_or xs 0 x → D ≡ C
+    → IsExp S C (exp_of x) M taken
+    → ((S : State) (p q : Place) (e : bare.Exp) → IsExp S D e M taken → IsExp S D (bare.app p (bare.fn q (rules_of (map rule_of rs))) e) T r) → IsExp S C (exp_of e) T r
+applied_is S M T C D e place a es f q vs rs xs x taken r is ef exs isf ers n isx s h made =
+    let function = bare.fn q (rules_of (map rule_of rs)) in
+    let function-is : exp_of f ≡ function = ap exp_of isf ∙ source-Fn q vs ∙ ap (λ (l : List Rule). bare.fn q (rules_of (map rule_of l))) (sym ers) in
+    let whole = bare.app place function (exp_of x) in
+    let node-is : exp_of e ≡ whole =
+    ap exp_of is ∙ source-Apply place a es ∙ ap₂ (λ (y : Exp) (ys : List Exp). app_of place (exp_of y) (map exp_of ys)) (sym ef) (sym exs)
+    ∙ ap₂ (λ (g : bare.Exp) (ys : List Exp). app_of place g (map exp_of ys)) function-is (one-of xs x n isx) in
+    subst (λ z. IsExp S C z T r) (sym node-is) (exp_in S T C D whole r s (made S place q (exp_of x) (exp_in S M D C (exp_of x) taken (sym s) h)))

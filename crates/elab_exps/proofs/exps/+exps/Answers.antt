@@ -1,0 +1,598 @@
+use Rattle.std.proofs.Common.{◌-◌, length, get_or, map, refl, sym, ap, subst, ◌∙◌, arith}
+use Rattle.sml_tree.specs.TreeOf.{exp_of, rule_of}
+use Rattle.sml_tree.specs.declared.tree.Exp.TheVariants as node
+use Rattle.elab_steps.specs.Growing.{HasType}
+use Rattle.elab_steps.proofs.Growing.{comes_before, grows_on, type_later}
+use Rattle.elab_steps.specs.World.{type_of}
+use Rattle.exp_forms.proofs.Nodes.{source-BuiltIn, source-Constant, source-Vid}
+use Rattle.exp_forms.proofs.Sizes.{arguments-size, exp-size, field-size, handled-size, handler-size, operand-size, operator-size, part-size, parts-size, rest-size, rule-size, rules-size}
+use Rattle.elab_exps.proofs.Loops.{calls_begin, calls_end, calls_more, context_on, elements_begin, elements_end, elements_more, exp_in, fields_end, fields_more, rows_have, tuple_end, tuple_more}
+use Rattle.elab_exps.proofs.Chains.{left_done, left_first, left_next, right_done, right_first, right_next, tests_done, tests_first, tests_next}
+use Rattle.elab_exps.proofs.Rules.{applied_is, begun_grows, case_is, function_is, handle_is, rules_begin, rules_end, rules_more}
+use Rattle.elab_exps.proofs.Whole.{apply_is, of_source, one-more, raise_is, sequence_alone, sequence_begins, sequence_done, sequence_more, some-before, typed_is}
+use Rattle.elab_exps.proofs.exps.+exps.Goals as goal
+
+pub record_of-loop-i-init : goal.record_of-loop-i-init
+record_of-loop-i-init t c = record { same = refl; are = c.no_fields-made.ensures _ _ }
+
+pub record_of-elab_exp-requires : goal.record_of-elab_exp-requires
+record_of-elab_exp-requires t c = (
+  omega (arith, c.decreases, field-size c.args.fields.now c.loop-i.i c.index-fields-i.result c.loop-i-test.true),
+  context_on c.args.state.now c.loop-i.state c.args.context.now c.loop-i.context c.requires c.loop-i.invariant.are.exps.grows c.loop-i.invariant.same,
+)
+
+pub record_of-loop-i-preserved : goal.record_of-loop-i-preserved
+record_of-loop-i-preserved t c =
+    fields_more c.args.state.now c.loop-i.state c.elab_exp.new.state c.args.context.now c.loop-i.context c.elab_exp.new.context c.args.fields.now c.loop-i.i c.index-fields-i.result
+    c.index-fields-i-in-loop-i.result c.in_ok-one.one c.loop-i.made c.add_field.new.fields c.loop-i-test.true c.loop-i.invariant c.in_ok-one.ensures.context c.in_ok-one.ensures.is
+    c.in_ok-add_field.ensures
+
+pub record_of-record-requires-clause-context : goal.record_of-record-requires-clause-context
+record_of-record-requires-clause-context t c =
+    context_on c.args.state.now c.loop-i.state c.args.context.now c.loop-i.context c.requires c.loop-i.invariant.are.exps.grows c.loop-i.invariant.same
+
+pub record_of-record-requires-clause-row : goal.record_of-record-requires-clause-row
+record_of-record-requires-clause-row t c = rows_have c.args.state.now c.loop-i.state c.args.context.now _ _ c.loop-i.made c.loop-i.invariant.are
+
+pub record_of-returns-clause-context : goal.record_of-returns-clause-context
+record_of-returns-clause-context t c = c.loop-i.invariant.same
+
+pub record_of-returns-clause-is : goal.record_of-returns-clause-is
+record_of-returns-clause-is t c =
+    fields_end c.args.state.now c.loop-i.state c.record.new.state c.args.context.now c.loop-i.context c.args.place c.args.fields.now c.loop-i.i c.loop-i.made _ (omega arith) c.loop-i.invariant
+    c.in_ok-record.ensures
+
+pub tuple_of-loop-i-init : goal.tuple_of-loop-i-init
+tuple_of-loop-i-init t c = record { same = refl; are = c.no_fields-made.ensures _ _ }
+
+pub tuple_of-elab_exp-requires : goal.tuple_of-elab_exp-requires
+tuple_of-elab_exp-requires t c = (
+  omega (arith, c.decreases, exp-size c.args.parts.now c.loop-i.i c.index-parts-i.result c.loop-i-test.true c.index-parts-i.is),
+  context_on c.args.state.now c.loop-i.state c.args.context.now c.loop-i.context c.requires c.loop-i.invariant.are.exps.grows c.loop-i.invariant.same,
+)
+
+pub tuple_of-loop-i-preserved : goal.tuple_of-loop-i-preserved
+tuple_of-loop-i-preserved t c =
+    tuple_more c.args.state.now c.loop-i.state c.elab_exp.new.state c.args.context.now c.loop-i.context c.elab_exp.new.context c.args.parts.now c.loop-i.i c.index-parts-i.result
+    c.in_ok-label.label c.in_ok-one.one c.loop-i.made c.add_field.new.fields c.loop-i-test.true c.index-parts-i.is c.in_ok-label.ensures c.loop-i.invariant c.in_ok-one.ensures.context
+    c.in_ok-one.ensures.is c.in_ok-add_field.ensures
+
+pub tuple_of-record-requires-clause-context : goal.tuple_of-record-requires-clause-context
+tuple_of-record-requires-clause-context t c =
+    context_on c.args.state.now c.loop-i.state c.args.context.now c.loop-i.context c.requires c.loop-i.invariant.are.exps.grows c.loop-i.invariant.same
+
+pub tuple_of-record-requires-clause-row : goal.tuple_of-record-requires-clause-row
+tuple_of-record-requires-clause-row t c = rows_have c.args.state.now c.loop-i.state c.args.context.now _ _ c.loop-i.made c.loop-i.invariant.are
+
+pub tuple_of-returns-clause-context : goal.tuple_of-returns-clause-context
+tuple_of-returns-clause-context t c = c.loop-i.invariant.same
+
+pub tuple_of-returns-clause-is : goal.tuple_of-returns-clause-is
+tuple_of-returns-clause-is t c =
+    tuple_end c.args.state.now c.loop-i.state c.record.new.state c.args.context.now c.loop-i.context c.args.place c.args.parts.now c.loop-i.i c.loop-i.made _ (omega arith) c.loop-i.invariant
+    c.in_ok-record.ensures
+
+pub calls_from-loop-i-init : goal.calls_from-loop-i-init
+calls_from-loop-i-init t c = calls_begin c.args.state.now c.args.context.now c.args.place c.args.made.now c.requires.made
+
+pub calls_from-elab_exp-requires : goal.calls_from-elab_exp-requires
+calls_from-elab_exp-requires t c = (
+  omega (arith, c.decreases, exp-size c.args.arguments.now c.loop-i.i c.index-arguments-i.result c.loop-i-test.true c.index-arguments-i.is),
+  context_on c.args.state.now c.loop-i.state c.args.context.now c.loop-i.context c.requires.context c.loop-i.invariant.grows c.loop-i.invariant.same,
+)
+
+pub calls_from-add_argument-requires-clause-context : goal.calls_from-add_argument-requires-clause-context
+calls_from-add_argument-requires-clause-context t c =
+    context_on c.args.state.now c.elab_exp.new.state c.args.context.now c.elab_exp.new.context c.requires.context
+    (grows_on c.args.state.now c.loop-i.state c.elab_exp.new.state c.loop-i.invariant.grows c.in_ok-one.ensures.is.grows) (c.in_ok-one.ensures.context ∙ c.loop-i.invariant.same)
+
+pub calls_from-add_argument-requires-clause-function : goal.calls_from-add_argument-requires-clause-function
+calls_from-add_argument-requires-clause-function t c = type_later c.loop-i.state c.elab_exp.new.state c.loop-i.made.ty c.in_ok-one.ensures.is.grows c.loop-i.invariant.is
+
+pub calls_from-add_argument-requires-clause-argument : goal.calls_from-add_argument-requires-clause-argument
+calls_from-add_argument-requires-clause-argument t c = c.in_ok-one.ensures.is.is
+
+pub calls_from-loop-i-preserved : goal.calls_from-loop-i-preserved
+calls_from-loop-i-preserved t c =
+    calls_more c.args.state.now c.loop-i.state c.elab_exp.new.state c.add_argument.new.state c.args.context.now c.loop-i.context c.elab_exp.new.context c.args.place c.args.arguments.now
+    c.loop-i.i c.index-arguments-i.result c.in_ok-one.one c.args.made.now c.loop-i.made c.add_argument.new.made c.loop-i-test.true c.index-arguments-i.is c.loop-i.invariant
+    c.in_ok-one.ensures.context c.in_ok-one.ensures.is c.in_ok-add_argument.ensures.grows c.in_ok-add_argument.ensures.is c.in_ok-add_argument.ensures.added
+
+pub calls_from-returns-clause-context : goal.calls_from-returns-clause-context
+calls_from-returns-clause-context t c = c.loop-i.invariant.same
+
+pub calls_from-returns-clause-is : goal.calls_from-returns-clause-is
+calls_from-returns-clause-is t c S f h k =
+    calls_end c.args.state.now c.loop-i.state c.args.context.now c.loop-i.context c.args.place c.args.arguments.now c.loop-i.i c.args.made.now c.loop-i.made (omega arith) c.loop-i.invariant
+    S f h k
+
+pub apply_of-elab_exp-requires : goal.apply_of-elab_exp-requires
+apply_of-elab_exp-requires t c =
+    (omega (arith, c.decreases, operator-size c.args.exp.now c.in-Apply.place c.in-Apply.operator c.in-Apply.arguments c.deref-3.result.now c.in-Apply.is c.deref-3.ensures), c.requires)
+
+pub apply_of-calls_from-requires : goal.apply_of-calls_from-requires
+apply_of-calls_from-requires t c = (
+  omega (arith, c.decreases, arguments-size c.args.exp.now c.in-Apply.place c.in-Apply.operator c.in-Apply.arguments c.deref-4.result.now c.in-Apply.is c.deref-4.ensures.value),
+  (
+    context_on c.args.state.now c.elab_exp.new.state c.args.context.now c.elab_exp.new.context c.requires c.in_ok-function.ensures.is.grows c.in_ok-function.ensures.context,
+    (c.in_ok-made.ensures c.args.state.now c.elab_exp.new.state c.args.context.now c.in-Apply.place (exp_of c.deref-3.result.now) c.in_ok-function.ensures.is).is,
+  ),
+)
+
+pub apply_of-returns-clause-context : goal.apply_of-returns-clause-context
+apply_of-returns-clause-context t c = c.in_ok-calls_from.ensures.context ∙ c.in_ok-function.ensures.context
+
+pub apply_of-returns-clause-is : goal.apply_of-returns-clause-is
+apply_of-returns-clause-is t c =
+    apply_is c.args.state.now c.elab_exp.new.state c.calls_from.new.state c.args.context.now c.elab_exp.new.context c.args.exp.now c.in-Apply.place c.in-Apply.operator c.in-Apply.arguments
+    c.deref-3.result.now c.deref-4.result.now c.in_ok-function.function c.in_ok-made.made c.calls_from.new.made c.finish_call.result c.in-Apply.is c.deref-3.ensures c.deref-4.ensures.value
+    c.in_ok-function.ensures.context (let h = c.is_called.ensures in let k = c.if-not-is_called.false in search arith) c.in_ok-function.ensures.is c.in_ok-made.ensures
+    c.in_ok-calls_from.ensures.is c.finish_call.ensures
+
+pub elab_exp-with_type-requires-clause-context : goal.elab_exp-with_type-requires-clause-context
+elab_exp-with_type-requires-clause-context t c =
+    context_on c.args.state.now c.elab_exp.new.state c.args.context.now c.elab_exp.new.context c.requires c.in_ok-inner-in-Typed.ensures.is.grows c.in_ok-inner-in-Typed.ensures.context
+
+pub elab_exp-raising-requires-clause-context : goal.elab_exp-raising-requires-clause-context
+elab_exp-raising-requires-clause-context t c =
+    context_on c.args.state.now c.elab_exp-in-Raise.new.state c.args.context.now c.elab_exp-in-Raise.new.context c.requires c.in_ok-packet-in-Raise.ensures.is.grows
+    c.in_ok-packet-in-Raise.ensures.context
+
+pub elab_exp-returns-in_ok-identifier-in-Vid-clause-is : goal.elab_exp-returns-in_ok-identifier-in-Vid-clause-is
+elab_exp-returns-in_ok-identifier-in-Vid-clause-is t c =
+    of_source c.args.state.now c.identifier.new.state c.args.context.now c.in_ok-identifier-in-Vid.field-0 c.args.exp.now (node.Vid c.in-Vid.place c.in-Vid.long) _ c.in-Vid.is
+    (source-Vid c.in-Vid.place c.in-Vid.long) c.in_ok-identifier-in-Vid.ensures.is
+
+pub elab_exp-returns-in_ok-with_type-in-Typed-clause-is : goal.elab_exp-returns-in_ok-with_type-in-Typed-clause-is
+elab_exp-returns-in_ok-with_type-in-Typed-clause-is t c =
+    typed_is c.args.state.now c.elab_exp.new.state c.with_type.new.state c.args.context.now c.elab_exp.new.context c.args.exp.now c.in-Typed.place c.in-Typed.inner c.in-Typed.ty
+    c.deref-in-Typed.result.now c.in_ok-inner-in-Typed.inner c.in_ok-with_type-in-Typed.field-0 c.in-Typed.is c.deref-in-Typed.ensures c.in_ok-inner-in-Typed.ensures.context
+    c.in_ok-inner-in-Typed.ensures.is c.in_ok-with_type-in-Typed.ensures
+
+pub elab_exp-returns-in_ok-raising-in-Raise-clause-is : goal.elab_exp-returns-in_ok-raising-in-Raise-clause-is
+elab_exp-returns-in_ok-raising-in-Raise-clause-is t c =
+    raise_is c.args.state.now c.elab_exp-in-Raise.new.state c.raising.new.state c.args.context.now c.elab_exp-in-Raise.new.context c.args.exp.now c.in-Raise.place c.in-Raise.packet
+    c.deref-in-Raise.result.now c.in_ok-packet-in-Raise.packet c.in_ok-raising-in-Raise.field-0 c.in-Raise.is c.deref-in-Raise.ensures c.in_ok-packet-in-Raise.ensures.context
+    c.in_ok-packet-in-Raise.ensures.is c.in_ok-raising-in-Raise.ensures
+
+pub elab_exp-returns-in_ok-constant-in-Constant-clause-is : goal.elab_exp-returns-in_ok-constant-in-Constant-clause-is
+elab_exp-returns-in_ok-constant-in-Constant-clause-is t c =
+    of_source c.args.state.now c.constant.new.state c.args.context.now c.in_ok-constant-in-Constant.field-0 c.args.exp.now (node.Constant c.in-Constant.field-0 c.in-Constant.value) _
+    c.in-Constant.is (source-Constant c.in-Constant.field-0 c.in-Constant.value) (c.in_ok-constant-in-Constant.ensures c.in-Constant.field-0)
+
+pub elab_exp-returns-in_ok-built-in-BuiltIn-clause-is : goal.elab_exp-returns-in_ok-built-in-BuiltIn-clause-is
+elab_exp-returns-in_ok-built-in-BuiltIn-clause-is t c =
+    of_source c.args.state.now c.built.new.state c.args.context.now c.in_ok-built-in-BuiltIn.field-0 c.args.exp.now (node.BuiltIn c.in-BuiltIn.field-0 c.in-BuiltIn.which) _
+    c.in-BuiltIn.is (source-BuiltIn c.in-BuiltIn.field-0 c.in-BuiltIn.which) (c.in_ok-built-in-BuiltIn.ensures c.in-BuiltIn.field-0)
+
+pub sequence_of-returns-then-is_empty-clause-is : goal.sequence_of-returns-then-is_empty-clause-is
+sequence_of-returns-then-is_empty-clause-is t c =
+    sequence_alone c.args.state.now c.elab_exp.new.state c.args.context.now c.args.exp.now c.in-Sequence.place c.in-Sequence.first c.in-Sequence.rest c.deref.result.now c.deref-rest.result.now
+    c.in_ok-one.one c.in-Sequence.is c.deref.ensures c.deref-rest.ensures.value (sym c.is_empty.ensures ∙ c.if-is_empty.true) c.in_ok-one.ensures.is
+
+pub sequence_of-loop-i-init : goal.sequence_of-loop-i-init
+sequence_of-loop-i-init t c =
+    sequence_begins c.args.state.now c.elab_exp.new.state c.args.context.now c.elab_exp.new.context c.args.exp.now c.in-Sequence.place c.in-Sequence.first c.in-Sequence.rest c.deref.result.now
+    c.deref-rest.result.now _ c.in_ok-one.one _ c.add_before.new.before.items c.in-Sequence.is c.deref.ensures c.deref-rest.ensures.value c.new-before.ensures.items
+    c.in_ok-one.ensures.context c.in_ok-one.ensures.is c.in_ok-add_before.ensures
+
+pub sequence_of-elab_exp-requires-in-loop-i : goal.sequence_of-elab_exp-requires-in-loop-i
+sequence_of-elab_exp-requires-in-loop-i t c = (
+  omega (
+    arith,
+    c.decreases,
+    rest-size c.args.exp.now c.in-Sequence.place c.in-Sequence.first c.in-Sequence.rest c.deref-rest.result.now c.in-Sequence.is c.deref-rest.ensures.value,
+    exp-size c.deref-rest.result.now c.loop-i.i c.index-rest-i.result (omega (arith, c.loop-i-test.true)) c.index-rest-i.is,
+  ),
+  context_on c.args.state.now c.loop-i.state c.args.context.now c.loop-i.context c.requires c.loop-i.invariant.parts.are.grows c.loop-i.invariant.parts.same,
+)
+
+pub sequence_of-loop-i-preserved : goal.sequence_of-loop-i-preserved
+sequence_of-loop-i-preserved t c =
+    sequence_more c.args.state.now c.loop-i.state c.elab_exp-in-loop-i.new.state c.args.context.now c.loop-i.context c.elab_exp-in-loop-i.new.context c.args.exp.now c.in-Sequence.place
+    c.deref-rest.result.now (length c.deref-rest.result.now - 1) c.loop-i.i c.index-rest-i.result c.in_ok-one-2.one c.loop-i.before.items c.add_before-in-loop-i.new.before.items
+    (omega (arith, c.loop-i-test.true)) c.loop-i-test.true c.index-rest-i.is c.loop-i.invariant c.in_ok-one-2.ensures.context c.in_ok-one-2.ensures.is c.in_ok-add_before-2.ensures
+
+pub sequence_of-elab_exp-requires-2 : goal.sequence_of-elab_exp-requires-2
+sequence_of-elab_exp-requires-2 t c = (
+  omega (
+    arith,
+    c.decreases,
+    rest-size c.args.exp.now c.in-Sequence.place c.in-Sequence.first c.in-Sequence.rest c.deref-rest.result.now c.in-Sequence.is c.deref-rest.ensures.value,
+    exp-size c.deref-rest.result.now (length c.deref-rest.result.now - 1) c.index-rest-end.result (some-before c.deref-rest.result.now c.is_empty.result c.is_empty.ensures c.if-is_empty.false)
+        c.index-rest-end.is,
+  ),
+  context_on c.args.state.now c.loop-i.state c.args.context.now c.loop-i.context c.requires c.loop-i.invariant.parts.are.grows c.loop-i.invariant.parts.same,
+)
+
+pub sequence_of-sequence-requires-clause-context : goal.sequence_of-sequence-requires-clause-context
+sequence_of-sequence-requires-clause-context t c =
+    context_on c.args.state.now c.elab_exp-2.new.state c.args.context.now c.elab_exp-2.new.context c.requires
+    (grows_on c.args.state.now c.loop-i.state c.elab_exp-2.new.state c.loop-i.invariant.parts.are.grows c.in_ok-last.ensures.is.grows)
+    (c.in_ok-last.ensures.context ∙ c.loop-i.invariant.parts.same)
+
+pub sequence_of-returns-clause-context : goal.sequence_of-returns-clause-context
+sequence_of-returns-clause-context t c = c.in_ok-last.ensures.context ∙ c.loop-i.invariant.parts.same
+
+pub sequence_of-returns-clause-is : goal.sequence_of-returns-clause-is
+sequence_of-returns-clause-is t c =
+    sequence_done c.args.state.now c.loop-i.state c.elab_exp-2.new.state c.sequence.new.state c.args.context.now c.loop-i.context c.elab_exp-2.new.context c.args.exp.now c.in-Sequence.place
+    c.deref-rest.result.now (length c.deref-rest.result.now - 1) c.loop-i.i c.index-rest-end.result c.loop-i.before.items c.in_ok-last.last c.in_ok-sequence.field-0
+    (one-more c.deref-rest.result.now c.is_empty.result c.is_empty.ensures c.if-is_empty.false) (omega (arith)) c.index-rest-end.is c.loop-i.invariant c.in_ok-last.ensures.context
+    c.in_ok-last.ensures.is c.in_ok-sequence.ensures
+
+pub list_of-loop-i-init : goal.list_of-loop-i-init
+list_of-loop-i-init t c = elements_begin c.start_list.new.state c.args.context.now c.in_ok-listed.listed _ c.new-made.ensures.items
+
+pub list_of-elab_exp-requires : goal.list_of-elab_exp-requires
+list_of-elab_exp-requires t c = (
+  omega (arith, c.decreases, exp-size c.args.elements.now c.loop-i.i c.index-elements-i.result c.loop-i-test.true c.index-elements-i.is),
+  context_on c.args.state.now c.loop-i.state c.args.context.now c.loop-i.context c.requires
+      (grows_on c.args.state.now c.start_list.new.state c.loop-i.state c.in_ok-listed.ensures.grows c.loop-i.invariant.are.grows) c.loop-i.invariant.same,
+)
+
+pub list_of-add_element-requires-clause-element : goal.list_of-add_element-requires-clause-element
+list_of-add_element-requires-clause-element t c =
+    type_later c.start_list.new.state c.elab_exp.new.state c.in_ok-listed.listed.element
+    (grows_on c.start_list.new.state c.loop-i.state c.elab_exp.new.state c.loop-i.invariant.are.grows c.in_ok-one.ensures.is.grows) c.in_ok-listed.ensures.element
+
+pub list_of-loop-i-preserved : goal.list_of-loop-i-preserved
+list_of-loop-i-preserved t c =
+    elements_more c.start_list.new.state c.loop-i.state c.elab_exp.new.state c.add_element.new.state c.args.context.now c.loop-i.context c.elab_exp.new.context c.in_ok-listed.listed
+    c.args.elements.now c.loop-i.i c.index-elements-i.result c.in_ok-one.one c.loop-i.made.items c.add_element.new.parts.items c.loop-i-test.true c.index-elements-i.is c.loop-i.invariant
+    c.in_ok-one.ensures.context c.in_ok-one.ensures.is c.in_ok-add_element.ensures
+
+pub list_of-returns-clause-context : goal.list_of-returns-clause-context
+list_of-returns-clause-context t c = c.loop-i.invariant.same
+
+pub list_of-returns-clause-is : goal.list_of-returns-clause-is
+list_of-returns-clause-is t c =
+    elements_end c.args.state.now c.start_list.new.state c.loop-i.state c.args.context.now c.loop-i.context c.args.place c.in_ok-listed.listed c.args.elements.now c.loop-i.i c.loop-i.made.items
+    _ (omega arith) c.in_ok-listed.ensures c.loop-i.invariant c.in_ok-finish_list.ensures
+
+pub left_of-elab_exp-requires : goal.left_of-elab_exp-requires
+left_of-elab_exp-requires t c =
+    (omega (arith, c.decreases, operand-size c.args.exp.now c.in-Chain.place c.in-Chain.right c.in-Chain.first c.in-Chain.parts c.deref.result.now c.in-Chain.is c.deref.ensures), c.requires)
+
+pub left_of-loop-i-init : goal.left_of-loop-i-init
+left_of-loop-i-init t c =
+    left_first c.args.exp.now c.in-Chain.place c.in-Chain.right c.in-Chain.first c.in-Chain.parts c.deref.result.now c.deref-parts.result.now c.in-Chain.is c.deref.ensures
+    c.deref-parts.ensures.value c.args.state.now c.elab_exp.new.state c.args.context.now c.elab_exp.new.context c.in_ok-one.one c.start_left-made.result c.if-right.false
+    c.in_ok-one.ensures.context c.in_ok-one.ensures.is c.start_left-made.ensures.is
+
+pub left_of-elab_exp-requires-in-loop-i : goal.left_of-elab_exp-requires-in-loop-i
+left_of-elab_exp-requires-in-loop-i t c = (
+  omega (
+    arith,
+    c.decreases,
+    parts-size c.args.exp.now c.in-Chain.place c.in-Chain.right c.in-Chain.first c.in-Chain.parts c.deref-parts.result.now c.in-Chain.is c.deref-parts.ensures.value,
+    part-size c.deref-parts.result.now c.loop-i.i c.index-parts-i.result c.loop-i-test.true,
+  ),
+  context_on c.args.state.now c.loop-i.state c.args.context.now c.loop-i.context c.requires c.loop-i.invariant.so_far.left.grows c.loop-i.invariant.so_far.same,
+)
+
+pub left_of-add_left-requires-clause-context : goal.left_of-add_left-requires-clause-context
+left_of-add_left-requires-clause-context t c =
+    context_on c.args.state.now c.elab_exp-in-loop-i.new.state c.args.context.now c.elab_exp-in-loop-i.new.context c.requires
+    (grows_on c.args.state.now c.loop-i.state c.elab_exp-in-loop-i.new.state c.loop-i.invariant.so_far.left.grows c.in_ok-one-2.ensures.is.grows)
+    (c.in_ok-one-2.ensures.context ∙ c.loop-i.invariant.so_far.same)
+
+pub left_of-add_left-requires-clause-chain : goal.left_of-add_left-requires-clause-chain
+left_of-add_left-requires-clause-chain t c =
+    type_later c.loop-i.state c.elab_exp-in-loop-i.new.state c.loop-i.made.ty c.in_ok-one-2.ensures.is.grows c.loop-i.invariant.so_far.left.is
+
+pub left_of-loop-i-preserved : goal.left_of-loop-i-preserved
+left_of-loop-i-preserved t c =
+    left_next c.args.state.now c.loop-i.state c.elab_exp-in-loop-i.new.state c.add_left.new.state c.args.context.now c.loop-i.context c.elab_exp-in-loop-i.new.context c.args.exp.now
+    c.in-Chain.place c.deref-parts.result.now c.loop-i.i c.index-parts-i-in-loop-i.result c.index-parts-i.result c.in_ok-operator.operator c.in_ok-one-2.one c.loop-i.made c.add_left.new.chain
+    c.loop-i-test.true c.index-parts-i-in-loop-i.is c.in_ok-operator.ensures c.loop-i.invariant c.in_ok-one-2.ensures.context c.in_ok-one-2.ensures.is
+    (c.in_ok-add_left.ensures)
+
+pub left_of-returns-clause-context : goal.left_of-returns-clause-context
+left_of-returns-clause-context t c = c.loop-i.invariant.so_far.same
+
+pub left_of-returns-clause-is : goal.left_of-returns-clause-is
+left_of-returns-clause-is t c =
+    left_done c.args.state.now c.loop-i.state c.args.context.now c.loop-i.context c.args.exp.now c.in-Chain.place c.deref-parts.result.now c.loop-i.i c.loop-i.made _ (omega arith)
+    c.loop-i.invariant c.in_ok-finish_left.ensures
+
+pub rules_from-loop-i-init : goal.rules_from-loop-i-init
+rules_from-loop-i-init t c = rules_begin c.args.state.now c.args.context.now c.args.made.now
+
+pub rules_from-begin_rule-requires-clause-context : goal.rules_from-begin_rule-requires-clause-context
+rules_from-begin_rule-requires-clause-context t c =
+    context_on c.args.state.now c.loop-i.state c.args.context.now c.loop-i.context c.requires.context c.loop-i.invariant.grows c.loop-i.invariant.same
+
+pub rules_from-begin_rule-requires-clause-domain : goal.rules_from-begin_rule-requires-clause-domain
+rules_from-begin_rule-requires-clause-domain t c =
+    subst (HasType c.loop-i.state) (sym c.loop-i.invariant.domain) (type_later c.args.state.now c.loop-i.state c.args.made.now.domain c.loop-i.invariant.grows c.requires.domain)
+
+pub rules_from-elab_exp-requires : goal.rules_from-elab_exp-requires
+rules_from-elab_exp-requires t c = (
+  omega (arith, c.decreases, rule-size c.args.rules.now c.loop-i.i c.index-rules-i-in-loop-i-2.result c.loop-i-test.true),
+  c.in_ok-begun.ensures.begun.context,
+)
+
+pub rules_from-end_rule-requires-clause-range : goal.rules_from-end_rule-requires-clause-range
+rules_from-end_rule-requires-clause-range t c =
+    subst (HasType c.elab_exp.new.state) (sym c.loop-i.invariant.range)
+    (type_later c.args.state.now c.elab_exp.new.state c.args.made.now.range
+    (grows_on c.args.state.now c.loop-i.state c.elab_exp.new.state c.loop-i.invariant.grows
+    (grows_on c.loop-i.state c.begin_rule.new.state c.elab_exp.new.state
+    (begun_grows c.loop-i.state c.begin_rule.new.state c.loop-i.context c.begin_rule.new.context _ c.loop-i.made.domain c.in_ok-begun.begun c.in_ok-begun.ensures.begun)
+    c.in_ok-exp.ensures.is.grows)) c.requires.range)
+
+pub rules_from-loop-i-preserved : goal.rules_from-loop-i-preserved
+rules_from-loop-i-preserved t c =
+    rules_more c.args.state.now c.loop-i.state c.begin_rule.new.state c.elab_exp.new.state c.end_rule.new.state c.args.context.now c.loop-i.context c.begin_rule.new.context
+    c.elab_exp.new.context c.end_rule.new.context c.args.rules.now c.loop-i.i c.index-rules-i.result c.index-rules-i-in-loop-i.result c.index-rules-i-in-loop-i-2.result
+    (get_or c.args.rules.now c.loop-i.i c.index-rules-i.result).place
+    c.in_ok-begun.begun c.in_ok-exp.exp c.args.made.now c.loop-i.made c.end_rule.new.made c.requires.context c.loop-i-test.true refl c.loop-i.invariant
+    c.in_ok-begun.ensures.begun c.in_ok-exp.ensures.context c.in_ok-exp.ensures.is c.in_ok-end_rule.ensures.grows c.in_ok-end_rule.ensures.domain c.in_ok-end_rule.ensures.range
+    c.in_ok-end_rule.ensures.left c.in_ok-end_rule.ensures.added
+
+pub rules_from-returns-clause-are : goal.rules_from-returns-clause-are
+rules_from-returns-clause-are t c R k =
+    rules_end c.args.state.now c.loop-i.state c.args.context.now c.loop-i.context c.args.rules.now c.loop-i.i c.args.made.now c.loop-i.made (omega arith) c.loop-i.invariant R k
+
+pub function_of-rules_from-requires : goal.function_of-rules_from-requires
+function_of-rules_from-requires t c = (
+  omega (arith, c.decreases),
+  (
+    context_on c.args.state.now c.start_function.new.state c.args.context.now c.args.context.now c.requires c.in_ok-made.ensures.grows refl,
+    (c.in_ok-made.ensures.domain, c.in_ok-made.ensures.range),
+  ),
+)
+
+pub function_of-by_rules-requires-clause-context : goal.function_of-by_rules-requires-clause-context
+function_of-by_rules-requires-clause-context t c =
+    context_on c.args.state.now c.rules_from.new.state c.args.context.now c.rules_from.new.context c.requires
+    (grows_on c.args.state.now c.start_function.new.state c.rules_from.new.state c.in_ok-made.ensures.grows c.in_ok-rules_from.ensures.grows) c.in_ok-rules_from.ensures.context
+
+pub function_of-by_rules-requires-clause-domain : goal.function_of-by_rules-requires-clause-domain
+function_of-by_rules-requires-clause-domain t c = (c.in_ok-rules_from.ensures.are c.args.state.now c.in_ok-made.ensures).domain
+
+pub function_of-by_rules-requires-clause-range : goal.function_of-by_rules-requires-clause-range
+function_of-by_rules-requires-clause-range t c = (c.in_ok-rules_from.ensures.are c.args.state.now c.in_ok-made.ensures).range
+
+pub function_of-returns-clause-is : goal.function_of-returns-clause-is
+function_of-returns-clause-is t c =
+    function_is c.args.state.now c.rules_from.new.state c.by_rules.new.state c.args.context.now c.rules_from.new.context c.args.place (map rule_of c.args.rules.now) c.rules_from.new.made _
+    c.in_ok-rules_from.ensures.context (c.in_ok-rules_from.ensures.are c.args.state.now c.in_ok-made.ensures) c.in_ok-by_rules.ensures
+
+pub case_from-rules_from-requires : goal.case_from-rules_from-requires
+case_from-rules_from-requires t c = (
+  omega (arith, c.decreases),
+  (
+    context_on c.args.state.now c.start_case.new.state c.args.context.now c.args.context.now c.requires.context c.in_ok-made.ensures.grows refl,
+    (
+      subst (HasType c.start_case.new.state) (sym c.in_ok-made.ensures.domain)
+          (type_later c.args.state.now c.start_case.new.state c.args.taken.ty c.in_ok-made.ensures.grows c.requires.taken),
+      c.in_ok-made.ensures.range,
+    ),
+  ),
+)
+
+pub case_from-case_of-requires-clause-context : goal.case_from-case_of-requires-clause-context
+case_from-case_of-requires-clause-context t c =
+    context_on c.args.state.now c.rules_from.new.state c.args.context.now c.rules_from.new.context c.requires.context
+    (grows_on c.args.state.now c.start_case.new.state c.rules_from.new.state c.in_ok-made.ensures.grows c.in_ok-rules_from.ensures.grows) c.in_ok-rules_from.ensures.context
+
+pub case_from-case_of-requires-clause-range : goal.case_from-case_of-requires-clause-range
+case_from-case_of-requires-clause-range t c =
+    subst (HasType c.rules_from.new.state) (sym c.in_ok-rules_from.ensures.range)
+    (type_later c.start_case.new.state c.rules_from.new.state c.in_ok-made.made.range c.in_ok-rules_from.ensures.grows c.in_ok-made.ensures.range)
+
+pub case_from-returns-clause-is : goal.case_from-returns-clause-is
+case_from-returns-clause-is t c S p q e h =
+    case_is S c.args.state.now c.rules_from.new.state c.case_of.new.state c.args.context.now c.rules_from.new.context p q e (map rule_of c.args.rules.now) c.args.taken c.rules_from.new.made _
+    c.in_ok-rules_from.ensures.context h (c.in_ok-rules_from.ensures.are c.args.state.now (c.in_ok-made.ensures.started S e h))
+    (c.in_ok-rules_from.ensures.domain ∙ c.in_ok-made.ensures.domain) c.in_ok-case_of.ensures
+
+pub handle_of-elab_exp-requires : goal.handle_of-elab_exp-requires
+handle_of-elab_exp-requires t c =
+    (omega (arith, c.decreases, handled-size c.args.exp.now c.in-Handle.field-0 c.in-Handle.body c.in-Handle.rules c.deref.result.now c.in-Handle.is c.deref.ensures), c.requires)
+
+pub handle_of-start_handle-requires : goal.handle_of-start_handle-requires
+handle_of-start_handle-requires t c = record {
+  context = context_on c.args.state.now c.elab_exp.new.state c.args.context.now c.elab_exp.new.context c.requires c.in_ok-body.ensures.is.grows c.in_ok-body.ensures.context;
+}
+
+pub handle_of-rules_from-requires : goal.handle_of-rules_from-requires
+handle_of-rules_from-requires t c = (
+  omega (arith, c.decreases, handler-size c.args.exp.now c.in-Handle.field-0 c.in-Handle.body c.in-Handle.rules c.deref-2.result.now c.in-Handle.is c.deref-2.ensures.value),
+  (
+    context_on c.args.state.now c.start_handle.new.state c.args.context.now c.elab_exp.new.context c.requires
+        (grows_on c.args.state.now c.elab_exp.new.state c.start_handle.new.state c.in_ok-body.ensures.is.grows c.in_ok-made.ensures.grows) c.in_ok-body.ensures.context,
+    (
+      c.in_ok-made.ensures.is,
+      subst (HasType c.start_handle.new.state) (sym c.in_ok-made.ensures.range)
+          (type_later c.elab_exp.new.state c.start_handle.new.state c.in_ok-body.body.ty c.in_ok-made.ensures.grows c.in_ok-body.ensures.is.is),
+    ),
+  ),
+)
+
+pub handle_of-handling-requires-clause-context : goal.handle_of-handling-requires-clause-context
+handle_of-handling-requires-clause-context t c =
+    context_on c.args.state.now c.rules_from.new.state c.args.context.now c.rules_from.new.context c.requires
+    (grows_on c.args.state.now c.elab_exp.new.state c.rules_from.new.state c.in_ok-body.ensures.is.grows
+    (grows_on c.elab_exp.new.state c.start_handle.new.state c.rules_from.new.state c.in_ok-made.ensures.grows c.in_ok-rules_from.ensures.grows))
+    (c.in_ok-rules_from.ensures.context ∙ c.in_ok-body.ensures.context)
+
+pub handle_of-handling-requires-clause-body : goal.handle_of-handling-requires-clause-body
+handle_of-handling-requires-clause-body t c =
+    type_later c.elab_exp.new.state c.rules_from.new.state c.in_ok-body.body.ty
+    (grows_on c.elab_exp.new.state c.start_handle.new.state c.rules_from.new.state c.in_ok-made.ensures.grows c.in_ok-rules_from.ensures.grows) c.in_ok-body.ensures.is.is
+
+pub handle_of-returns-clause-context : goal.handle_of-returns-clause-context
+handle_of-returns-clause-context t c = c.in_ok-rules_from.ensures.context ∙ c.in_ok-body.ensures.context
+
+pub handle_of-returns-clause-is : goal.handle_of-returns-clause-is
+handle_of-returns-clause-is t c =
+    handle_is c.args.state.now c.elab_exp.new.state c.rules_from.new.state c.handling.new.state c.args.context.now c.elab_exp.new.context c.rules_from.new.context c.args.exp.now
+    c.in-Handle.field-0 c.in-Handle.body c.in-Handle.rules c.deref.result.now c.deref-2.result.now c.in_ok-body.body c.rules_from.new.made _ c.in-Handle.is c.deref.ensures
+    c.deref-2.ensures.value c.in_ok-body.ensures.context c.in_ok-rules_from.ensures.context c.in_ok-body.ensures.is
+    (c.in_ok-rules_from.ensures.are c.elab_exp.new.state
+    (c.in_ok-made.ensures.started c.args.state.now (exp_of c.deref.result.now)
+    (exp_in c.args.state.now c.elab_exp.new.state c.elab_exp.new.context c.args.context.now (exp_of c.deref.result.now) c.in_ok-body.body (sym c.in_ok-body.ensures.context)
+    c.in_ok-body.ensures.is)))
+    (λ W k.
+    ap (λ d. type_of W d) c.in_ok-rules_from.ensures.domain
+    ∙ c.in_ok-made.ensures.domain W (comes_before c.start_handle.new.state c.rules_from.new.state W c.in_ok-rules_from.ensures.grows k))
+    (c.in_ok-rules_from.ensures.range ∙ c.in_ok-made.ensures.range) c.in_ok-handling.ensures
+
+pub right_of-elab_exp-requires : goal.right_of-elab_exp-requires
+right_of-elab_exp-requires t c =
+    (omega (arith, c.decreases, operand-size c.args.exp.now c.in-Chain.place c.in-Chain.right c.in-Chain.first c.in-Chain.parts c.deref.result.now c.in-Chain.is c.deref.ensures), c.requires)
+
+pub right_of-start_right-requires : goal.right_of-start_right-requires
+right_of-start_right-requires t c = record {
+  context = context_on c.args.state.now c.elab_exp.new.state c.args.context.now c.elab_exp.new.context c.requires c.in_ok-one.ensures.is.grows c.in_ok-one.ensures.context;
+}
+
+pub right_of-loop-i-init : goal.right_of-loop-i-init
+right_of-loop-i-init t c =
+    right_first c.args.exp.now c.in-Chain.place c.in-Chain.right c.in-Chain.first c.in-Chain.parts c.deref.result.now c.deref-parts.result.now c.in-Chain.is c.deref.ensures
+    c.deref-parts.ensures.value c.args.state.now c.elab_exp.new.state c.start_right.new.state c.args.context.now c.elab_exp.new.context c.in_ok-one.one c.in_ok-made.made
+    (let k = c.if-not-right.false in search arith) c.in_ok-one.ensures.context c.in_ok-one.ensures.is c.in_ok-made.ensures
+
+pub right_of-elab_exp-requires-in-loop-i : goal.right_of-elab_exp-requires-in-loop-i
+right_of-elab_exp-requires-in-loop-i t c = (
+  omega (
+    arith,
+    c.decreases,
+    parts-size c.args.exp.now c.in-Chain.place c.in-Chain.right c.in-Chain.first c.in-Chain.parts c.deref-parts.result.now c.in-Chain.is c.deref-parts.ensures.value,
+    part-size c.deref-parts.result.now c.loop-i.i c.index-parts-i.result c.loop-i-test.true,
+  ),
+  context_on c.args.state.now c.loop-i.state c.args.context.now c.loop-i.context c.requires c.loop-i.invariant.so_far.right.grows c.loop-i.invariant.so_far.same,
+)
+
+pub right_of-add_right-requires-clause-context : goal.right_of-add_right-requires-clause-context
+right_of-add_right-requires-clause-context t c =
+    context_on c.args.state.now c.elab_exp-in-loop-i.new.state c.args.context.now c.elab_exp-in-loop-i.new.context c.requires
+    (grows_on c.args.state.now c.loop-i.state c.elab_exp-in-loop-i.new.state c.loop-i.invariant.so_far.right.grows c.in_ok-one-2.ensures.is.grows)
+    (c.in_ok-one-2.ensures.context ∙ c.loop-i.invariant.so_far.same)
+
+pub right_of-add_right-requires-clause-last : goal.right_of-add_right-requires-clause-last
+right_of-add_right-requires-clause-last t c =
+    type_later c.loop-i.state c.elab_exp-in-loop-i.new.state c.loop-i.made.last c.in_ok-one-2.ensures.is.grows c.loop-i.invariant.so_far.right.last_is
+
+pub right_of-add_right-requires-clause-hole : goal.right_of-add_right-requires-clause-hole
+right_of-add_right-requires-clause-hole t c =
+    type_later c.loop-i.state c.elab_exp-in-loop-i.new.state c.loop-i.made.hole c.in_ok-one-2.ensures.is.grows c.loop-i.invariant.so_far.right.hole_is
+
+pub right_of-loop-i-preserved : goal.right_of-loop-i-preserved
+right_of-loop-i-preserved t c =
+    right_next c.args.state.now c.loop-i.state c.elab_exp-in-loop-i.new.state c.add_right.new.state c.args.context.now c.loop-i.context c.elab_exp-in-loop-i.new.context c.args.exp.now
+    c.deref-parts.result.now c.loop-i.i c.index-parts-i-in-loop-i.result c.index-parts-i.result c.index-parts-i-in-loop-i-2.result
+    (get_or c.deref-parts.result.now c.loop-i.i c.index-parts-i-in-loop-i-2.result).place c.in_ok-operator.operator c.in_ok-one-2.one c.loop-i.made c.add_right.new.chain
+    c.loop-i-test.true c.index-parts-i-in-loop-i.is c.in_ok-operator.ensures refl c.loop-i.invariant c.in_ok-one-2.ensures.context c.in_ok-one-2.ensures.is c.in_ok-add_right.ensures
+
+pub right_of-finish_right-requires-clause-last : goal.right_of-finish_right-requires-clause-last
+right_of-finish_right-requires-clause-last t c = c.loop-i.invariant.so_far.right.last_is
+
+pub right_of-finish_right-requires-clause-hole : goal.right_of-finish_right-requires-clause-hole
+right_of-finish_right-requires-clause-hole t c = c.loop-i.invariant.so_far.right.hole_is
+
+pub right_of-returns-clause-context : goal.right_of-returns-clause-context
+right_of-returns-clause-context t c = c.loop-i.invariant.so_far.same
+
+pub right_of-returns-clause-is : goal.right_of-returns-clause-is
+right_of-returns-clause-is t c =
+    right_done c.args.state.now c.loop-i.state c.finish_right.new.state c.args.context.now c.loop-i.context c.args.exp.now c.deref-parts.result.now c.loop-i.i c.loop-i.made _ (omega arith)
+    c.loop-i.invariant c.in_ok-finish_right.ensures
+
+pub tests_of-elab_exp-requires : goal.tests_of-elab_exp-requires
+tests_of-elab_exp-requires t c =
+    (omega (arith, c.decreases, operand-size c.args.exp.now c.in-Chain.place c.in-Chain.right c.in-Chain.first c.in-Chain.parts c.deref.result.now c.in-Chain.is c.deref.ensures), c.requires)
+
+pub tests_of-loop-i-init : goal.tests_of-loop-i-init
+tests_of-loop-i-init t c =
+    tests_first c.args.exp.now c.in-Chain.place c.in-Chain.right c.in-Chain.first c.in-Chain.parts c.deref.result.now c.deref-parts.result.now c.in-Chain.is c.deref.ensures
+    c.deref-parts.ensures.value c.args.state.now c.elab_exp.new.state c.add_operand.new.state c.args.context.now c.elab_exp.new.context (length c.deref-parts.result.now - 1) c.in_ok-one.one _
+    c.add_operand.new.before.items (let k = c.if-not-right.false in search arith) c.new-before.ensures.items c.in_ok-one.ensures.context c.in_ok-one.ensures.is
+    c.in_ok-add_operand.ensures.added
+
+pub tests_of-elab_exp-requires-in-loop-i : goal.tests_of-elab_exp-requires-in-loop-i
+tests_of-elab_exp-requires-in-loop-i t c = (
+  omega (
+    arith,
+    c.decreases,
+    parts-size c.args.exp.now c.in-Chain.place c.in-Chain.right c.in-Chain.first c.in-Chain.parts c.deref-parts.result.now c.in-Chain.is c.deref-parts.ensures.value,
+    part-size c.deref-parts.result.now c.loop-i.i c.index-parts-i.result (omega (arith, c.loop-i-test.true)),
+  ),
+  context_on c.args.state.now c.loop-i.state c.args.context.now c.loop-i.context c.requires c.loop-i.invariant.so_far.are.parts.grows c.loop-i.invariant.so_far.same,
+)
+
+pub tests_of-add_operand-requires-in-loop-i : goal.tests_of-add_operand-requires-in-loop-i
+tests_of-add_operand-requires-in-loop-i t c = c.in_ok-one-2.ensures.is.is
+
+pub tests_of-loop-i-preserved : goal.tests_of-loop-i-preserved
+tests_of-loop-i-preserved t c =
+    tests_next c.args.state.now c.loop-i.state c.elab_exp-in-loop-i.new.state c.add_operand-in-loop-i.new.state c.args.context.now c.loop-i.context c.elab_exp-in-loop-i.new.context
+    c.args.exp.now c.deref-parts.result.now (length c.deref-parts.result.now - 1) c.loop-i.i c.index-parts-i.result c.in_ok-one-2.one c.loop-i.before.items
+    c.add_operand-in-loop-i.new.before.items (omega (arith, c.loop-i-test.true)) c.loop-i-test.true c.loop-i.invariant c.in_ok-one-2.ensures.context c.in_ok-one-2.ensures.is
+    c.in_ok-add_operand-2.ensures.added
+
+pub tests_of-elab_exp-requires-2 : goal.tests_of-elab_exp-requires-2
+tests_of-elab_exp-requires-2 t c = (
+  omega (
+    arith,
+    c.decreases,
+    parts-size c.args.exp.now c.in-Chain.place c.in-Chain.right c.in-Chain.first c.in-Chain.parts c.deref-parts.result.now c.in-Chain.is c.deref-parts.ensures.value,
+    part-size c.deref-parts.result.now (length c.deref-parts.result.now - 1) c.index-parts-end.result
+        (some-before c.deref-parts.result.now c.is_empty.result c.is_empty.ensures c.if-is_empty.false),
+  ),
+  context_on c.args.state.now c.loop-i.state c.args.context.now c.loop-i.context c.requires c.loop-i.invariant.so_far.are.parts.grows c.loop-i.invariant.so_far.same,
+)
+
+pub tests_of-choices-requires-clause-context : goal.tests_of-choices-requires-clause-context
+tests_of-choices-requires-clause-context t c =
+    context_on c.args.state.now c.elab_exp-2.new.state c.args.context.now c.elab_exp-2.new.context c.requires
+    (grows_on c.args.state.now c.loop-i.state c.elab_exp-2.new.state c.loop-i.invariant.so_far.are.parts.grows c.in_ok-last.ensures.is.grows)
+    (c.in_ok-last.ensures.context ∙ c.loop-i.invariant.so_far.same)
+
+pub tests_of-returns-clause-context : goal.tests_of-returns-clause-context
+tests_of-returns-clause-context t c = c.in_ok-last.ensures.context ∙ c.loop-i.invariant.so_far.same
+
+pub tests_of-returns-clause-is : goal.tests_of-returns-clause-is
+tests_of-returns-clause-is t c =
+    tests_done c.args.state.now c.loop-i.state c.elab_exp-2.new.state c.choices.new.state c.args.context.now c.loop-i.context c.elab_exp-2.new.context c.args.exp.now c.args.all
+    c.deref-parts.result.now (length c.deref-parts.result.now - 1) c.loop-i.i c.index-parts-end.result c.loop-i.before.items c.in_ok-last.last _
+    (one-more c.deref-parts.result.now c.is_empty.result c.is_empty.ensures c.if-is_empty.false) (omega arith) (c.are_joined.ensures (let k = c.if-not-are_joined.false in search arith))
+    c.loop-i.invariant c.in_ok-last.ensures.context c.in_ok-last.ensures.is c.in_ok-choices.ensures
+
+pub fn_applied-elab_exp-requires : goal.fn_applied-elab_exp-requires
+fn_applied-elab_exp-requires t c = (
+  omega (
+    arith,
+    c.decreases,
+    arguments-size c.args.exp.now c.in-Apply.place c.in-Apply.operator c.in-Apply.arguments c.deref-arguments.result.now c.in-Apply.is c.deref-arguments.ensures.value,
+    exp-size c.deref-arguments.result.now 0 c.index-arguments-0.result (omega arith) c.index-arguments-0.is,
+  ),
+  c.requires,
+)
+
+pub fn_applied-case_from-requires : goal.fn_applied-case_from-requires
+fn_applied-case_from-requires t c = (
+  omega (
+    arith,
+    c.decreases,
+    operator-size c.args.exp.now c.in-Apply.place c.in-Apply.operator c.in-Apply.arguments c.deref-operator.result.now c.in-Apply.is c.deref-operator.ensures,
+    rules-size c.deref-operator.result.now c.in-Fn.field-0 c.in-Fn.rules c.deref.result.now c.in-Fn.is c.deref.ensures.value,
+  ),
+  (
+    context_on c.args.state.now c.elab_exp.new.state c.args.context.now c.elab_exp.new.context c.requires c.in_ok-taken.ensures.is.grows c.in_ok-taken.ensures.context,
+    c.in_ok-taken.ensures.is.is,
+  ),
+)
+
+pub fn_applied-returns-clause-context : goal.fn_applied-returns-clause-context
+fn_applied-returns-clause-context t c = c.in_ok-made.ensures.context ∙ c.in_ok-taken.ensures.context
+
+pub fn_applied-returns-clause-is : goal.fn_applied-returns-clause-is
+fn_applied-returns-clause-is t c =
+    applied_is c.args.state.now c.elab_exp.new.state c.case_from.new.state c.args.context.now c.elab_exp.new.context c.args.exp.now c.in-Apply.place c.in-Apply.operator c.in-Apply.arguments
+    c.deref-operator.result.now c.in-Fn.field-0 c.in-Fn.rules c.deref.result.now c.deref-arguments.result.now c.index-arguments-0.result c.in_ok-taken.taken c.in_ok-made.made c.in-Apply.is
+    c.deref-operator.ensures c.deref-arguments.ensures.value c.in-Fn.is c.deref.ensures.value (omega arith) c.index-arguments-0.is c.in_ok-taken.ensures.context c.in_ok-taken.ensures.is
+    c.in_ok-made.ensures.is

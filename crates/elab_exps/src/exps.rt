@@ -1,0 +1,441 @@
+// Expressions, whatever their form: recursion along nesting, loops along lists. Each leaves the context as it found it.
+ghost use Rattle.std.specs.Prelude.{◌≡◌, [], map, IfOk};
+ghost use Rattle.sml_tree.specs.BareTree.{Exp as SourceExp, app, fields_exp, fn as fn_exp};
+ghost use Rattle.sml_tree.specs.Derived.{app_of, list_of as listed_exp, tuple};
+ghost use Rattle.sml_tree.specs.TreeOf.{exp_field_of, exp_fields_of, exp_of, rule_of, rules_of};
+ghost use Rattle.core_elab.specs.Resolves.{IsCalled};
+ghost use Rattle.elab_context.specs.Telling.{IsContext};
+ghost use Rattle.elab_steps.specs.Growing.{Grows, HasType};
+ghost use Rattle.use_elab.specs.Elaborated.{IsExp};
+ghost use Rattle.exp_forms.specs.Calls.{IsCall};
+ghost use Rattle.exp_forms.specs.Rules.{AreRules};
+
+use crate::absent::absent;
+use crate::shapes::{Shape, label_at, operator_of, shape_of};
+use elab_context::context::Context;
+use elab_pats::stopped::Stopped;
+use elab_state::state::State;
+use exp_forms::annotated::with_type;
+use exp_forms::built::built;
+use exp_forms::call::{add_argument, finish_call, start_call};
+use exp_forms::called::{is_called, is_fn};
+use exp_forms::chain::{add_left, add_right, finish_left, finish_right, start_left, start_right};
+use exp_forms::choices::choices;
+use exp_forms::fields::{add_field, no_fields, record};
+use exp_forms::finish::{by_rules, case_of, handling};
+use exp_forms::joints::are_joined;
+use exp_forms::leaf::constant;
+use exp_forms::list::{add_element, finish_list, start_list};
+use exp_forms::made::Called;
+use exp_forms::raising::raising;
+use exp_forms::rules::{start_case, start_function, start_handle};
+use exp_forms::rules_made::RulesMade;
+use exp_forms::series::{add_before, add_operand, sequence};
+use exp_forms::steps::{begin_rule, end_rule};
+use mlc_base::place::Place;
+use sml_tree::tree::{Exp, ExpField, Part, Rule};
+use std::alloc::Global;
+use use_elab::typed::TypedExp;
+use use_elab::used::identifier;
+
+/// A record.
+#[cycle(exps)]
+fn record_of(
+    alloc: Global,
+    state: &mut State,
+    context: &mut Context,
+    place: Place,
+    fields: &[ExpField],
+) -> Result<TypedExp, Stopped>
+    requires { IsContext state.old context.old }
+    ensures context { IfOk result (λ _. context.new ≡ context.old) }
+    ensures is { IfOk result (λ r. IsExp state.old context.old (fields_exp place (exp_fields_of (map exp_field_of fields.now))) state.new r) }
+{
+    let mut made = no_fields(alloc);
+    for i in 0..fields.len() {
+        let one = elab_exp(alloc, state, context, &fields[i].exp)?;
+        add_field(&fields[i].label, one, &mut made)?;
+    }
+    Ok(record(alloc, state, context, place, made)?)
+}
+
+/// A tuple: its parts are fields with their numbers for labels.
+#[cycle(exps)]
+fn tuple_of(
+    alloc: Global,
+    state: &mut State,
+    context: &mut Context,
+    place: Place,
+    parts: &[Exp],
+) -> Result<TypedExp, Stopped>
+    requires { IsContext state.old context.old }
+    ensures context { IfOk result (λ _. context.new ≡ context.old) }
+    ensures is { IfOk result (λ r. IsExp state.old context.old (tuple place (map exp_of parts.now)) state.new r) }
+{
+    let mut made = no_fields(alloc);
+    for i in 0..parts.len() {
+        let label = label_at(i)?;
+        let one = elab_exp(alloc, state, context, &parts[i])?;
+        add_field(&label, one, &mut made)?;
+    }
+    Ok(record(alloc, state, context, place, made)?)
+}
+
+/// A sequence.
+#[cycle(exps)]
+fn sequence_of(
+    alloc: Global,
+    state: &mut State,
+    context: &mut Context,
+    exp: &Exp,
+) -> Result<TypedExp, Stopped>
+    requires { IsContext state.old context.old }
+    ensures context { IfOk result (λ _. context.new ≡ context.old) }
+    ensures is { IfOk result (λ r. IsExp state.old context.old (exp_of exp.now) state.new r) }
+{
+    let Exp::Sequence(place, first, rest) = exp else {
+        return Err(absent(exp));
+    };
+    let rest: &[Exp] = rest;
+    let one = elab_exp(alloc, state, context, first)?;
+    if rest.is_empty() {
+        return Ok(one);
+    }
+    let mut before = Vec::new(alloc);
+    add_before(one, &mut before)?;
+    let end = rest.len() - 1;
+    for i in 0..end {
+        let one = elab_exp(alloc, state, context, &rest[i])?;
+        add_before(one, &mut before)?;
+    }
+    let last = elab_exp(alloc, state, context, &rest[end])?;
+    Ok(sequence(alloc, state, context, *place, before, last)?)
+}
+
+/// Further arguments.
+#[cycle(exps)]
+fn calls_from(
+    alloc: Global,
+    state: &mut State,
+    context: &mut Context,
+    place: Place,
+    arguments: &[Exp],
+    made: &mut Called,
+) -> Result<(), Stopped>
+    requires context { IsContext state.old context.old }
+    requires made { HasType state.old made.old.ty }
+    ensures context { IfOk result (λ _. context.new ≡ context.old) }
+    ensures is { IfOk result (λ _. (S : State) (f : SourceExp) → IsCalled f → IsCall S context.old place f state.old made.old
+        → IsCall S context.old place (app_of place f (map exp_of arguments.now)) state.new made.new) }
+{
+    for i in 0..arguments.len() {
+        let one = elab_exp(alloc, state, context, &arguments[i])?;
+        add_argument(alloc, state, context, place, one, made)?;
+    }
+    Ok(())
+}
+
+/// An operator and its arguments.
+#[cycle(exps)]
+fn apply_of(
+    alloc: Global,
+    state: &mut State,
+    context: &mut Context,
+    exp: &Exp,
+) -> Result<TypedExp, Stopped>
+    requires { IsContext state.old context.old }
+    ensures context { IfOk result (λ _. context.new ≡ context.old) }
+    ensures is { IfOk result (λ r. IsExp state.old context.old (exp_of exp.now) state.new r) }
+{
+    let Exp::Apply(place, operator, arguments) = exp else {
+        return Err(absent(exp));
+    };
+    if is_fn(operator) {
+        return fn_applied(alloc, state, context, exp);
+    }
+    if !is_called(operator) {
+        return Err(absent(exp));
+    }
+    let function = elab_exp(alloc, state, context, operator)?;
+    let mut made = start_call(alloc, function)?;
+    calls_from(alloc, state, context, *place, arguments, &mut made)?;
+    Ok(finish_call(*place, made))
+}
+
+/// A list.
+#[cycle(exps)]
+fn list_of(
+    alloc: Global,
+    state: &mut State,
+    context: &mut Context,
+    place: Place,
+    elements: &[Exp],
+) -> Result<TypedExp, Stopped>
+    requires { IsContext state.old context.old }
+    ensures context { IfOk result (λ _. context.new ≡ context.old) }
+    ensures is { IfOk result (λ r. IsExp state.old context.old (listed_exp place (map exp_of elements.now)) state.new r) }
+{
+    let listed = start_list(alloc, state, context, place)?;
+    let mut made = Vec::new(alloc);
+    for i in 0..elements.len() {
+        let one = elab_exp(alloc, state, context, &elements[i])?;
+        add_element(alloc, state, place, listed, one, &mut made)?;
+    }
+    Ok(finish_list(alloc, listed, made)?)
+}
+
+/// Operands of `andalso` (true) or `orelse` (false).
+#[cycle(exps)]
+fn tests_of(
+    alloc: Global,
+    state: &mut State,
+    context: &mut Context,
+    exp: &Exp,
+    all: bool,
+) -> Result<TypedExp, Stopped>
+    requires { IsContext state.old context.old }
+    ensures context { IfOk result (λ _. context.new ≡ context.old) }
+    ensures is { IfOk result (λ r. IsExp state.old context.old (exp_of exp.now) state.new r) }
+{
+    let Exp::Chain(place, right, first, parts) = exp else {
+        return Err(absent(exp));
+    };
+    let parts: &[Part] = parts;
+    if !*right {
+        return Err(absent(exp));
+    }
+    if parts.is_empty() {
+        return Err(absent(exp));
+    }
+    if !are_joined(parts, all) {
+        return Err(absent(exp));
+    }
+    let one = elab_exp(alloc, state, context, first)?;
+    let mut before = Vec::new(alloc);
+    add_operand(alloc, state, *place, one, &mut before)?;
+    let end = parts.len() - 1;
+    for i in 0..end {
+        let one = elab_exp(alloc, state, context, &parts[i].exp)?;
+        add_operand(alloc, state, parts[i].place, one, &mut before)?;
+    }
+    let last = elab_exp(alloc, state, context, &parts[end].exp)?;
+    let at = parts[end].place;
+    Ok(choices(alloc, state, context, at, all, before, last)?)
+}
+
+/// Operands of infix identifiers that associate to the left.
+#[cycle(exps)]
+fn left_of(
+    alloc: Global,
+    state: &mut State,
+    context: &mut Context,
+    exp: &Exp,
+) -> Result<TypedExp, Stopped>
+    requires { IsContext state.old context.old }
+    ensures context { IfOk result (λ _. context.new ≡ context.old) }
+    ensures is { IfOk result (λ r. IsExp state.old context.old (exp_of exp.now) state.new r) }
+{
+    let Exp::Chain(place, right, first, parts) = exp else {
+        return Err(absent(exp));
+    };
+    let parts: &[Part] = parts;
+    if *right {
+        return Err(absent(exp));
+    }
+    let one = elab_exp(alloc, state, context, first)?;
+    let mut made = start_left(alloc, one);
+    for i in 0..parts.len() {
+        let one = elab_exp(alloc, state, context, &parts[i].exp)?;
+        let operator = operator_of(&parts[i])?;
+        add_left(alloc, state, context, *place, operator, one, &mut made)?;
+    }
+    Ok(finish_left(alloc, made)?)
+}
+
+/// The same to the right.
+#[cycle(exps)]
+fn right_of(
+    alloc: Global,
+    state: &mut State,
+    context: &mut Context,
+    exp: &Exp,
+) -> Result<TypedExp, Stopped>
+    requires { IsContext state.old context.old }
+    ensures context { IfOk result (λ _. context.new ≡ context.old) }
+    ensures is { IfOk result (λ r. IsExp state.old context.old (exp_of exp.now) state.new r) }
+{
+    let Exp::Chain(place, right, first, parts) = exp else {
+        return Err(absent(exp));
+    };
+    let parts: &[Part] = parts;
+    if !*right {
+        return Err(absent(exp));
+    }
+    let one = elab_exp(alloc, state, context, first)?;
+    let mut made = start_right(alloc, state, context, *place, one)?;
+    for i in 0..parts.len() {
+        let one = elab_exp(alloc, state, context, &parts[i].exp)?;
+        let operator = operator_of(&parts[i])?;
+        let at = parts[i].place;
+        add_right(alloc, state, context, at, operator, one, &mut made)?;
+    }
+    let at = made.place;
+    Ok(finish_right(alloc, state, at, made)?)
+}
+
+/// Rules.
+#[cycle(exps)]
+fn rules_from(
+    alloc: Global,
+    state: &mut State,
+    context: &mut Context,
+    rules: &[Rule],
+    made: &mut RulesMade,
+) -> Result<(), Stopped>
+    requires context { IsContext state.old context.old }
+    requires domain { HasType state.old made.old.domain }
+    requires range { HasType state.old made.old.range }
+    ensures context { IfOk result (λ _. context.new ≡ context.old) }
+    ensures grows { IfOk result (λ _. Grows state.old state.new) }
+    ensures domain { IfOk result (λ _. made.new.domain ≡ made.old.domain) }
+    ensures range { IfOk result (λ _. made.new.range ≡ made.old.range) }
+    ensures are { IfOk result (λ _. (S : State) → AreRules S context.old [] state.old made.old
+        → AreRules S context.old (map rule_of rules.now) state.new made.new) }
+{
+    for i in 0..rules.len() {
+        let place = rules[i].place;
+        let domain = made.domain;
+        let begun = begin_rule(alloc, state, context, place, domain, &rules[i].pat)?;
+        let exp = elab_exp(alloc, state, context, &rules[i].exp)?;
+        end_rule(alloc, state, context, place, begun, exp, made)?;
+    }
+    Ok(())
+}
+
+/// `fn`.
+#[cycle(exps)]
+fn function_of(
+    alloc: Global,
+    state: &mut State,
+    context: &mut Context,
+    place: Place,
+    rules: &[Rule],
+) -> Result<TypedExp, Stopped>
+    requires { IsContext state.old context.old }
+    ensures context { IfOk result (λ _. context.new ≡ context.old) }
+    ensures is { IfOk result (λ r. IsExp state.old context.old (fn_exp place (rules_of (map rule_of rules.now))) state.new r) }
+{
+    let mut made = start_function(alloc, state, context)?;
+    rules_from(alloc, state, context, rules, &mut made)?;
+    Ok(by_rules(alloc, state, context, place, made)?)
+}
+
+/// Rules on the value of an expression.
+#[cycle(exps)]
+fn case_from(
+    alloc: Global,
+    state: &mut State,
+    context: &mut Context,
+    place: Place,
+    taken: TypedExp,
+    rules: &[Rule],
+) -> Result<TypedExp, Stopped>
+    requires context { IsContext state.old context.old }
+    requires taken { HasType state.old taken.ty }
+    ensures context { IfOk result (λ _. context.new ≡ context.old) }
+    ensures is { IfOk result (λ r. (S : State) (p q : Place) (e : SourceExp) → IsExp S context.old e state.old taken
+        → IsExp S context.old (app p (fn_exp q (rules_of (map rule_of rules.now))) e) state.new r) }
+{
+    let mut made = start_case(alloc, state, context, &taken)?;
+    rules_from(alloc, state, context, rules, &mut made)?;
+    Ok(case_of(alloc, state, context, place, taken, made)?)
+}
+
+/// `fn` and its argument: a `case`. Further arguments of a `fn` aren't compiled yet.
+#[cycle(exps)]
+fn fn_applied(
+    alloc: Global,
+    state: &mut State,
+    context: &mut Context,
+    exp: &Exp,
+) -> Result<TypedExp, Stopped>
+    requires { IsContext state.old context.old }
+    ensures context { IfOk result (λ _. context.new ≡ context.old) }
+    ensures is { IfOk result (λ r. IsExp state.old context.old (exp_of exp.now) state.new r) }
+{
+    let Exp::Apply(place, operator, arguments) = exp else {
+        return Err(absent(exp));
+    };
+    let operator: &Exp = operator;
+    let arguments: &[Exp] = arguments;
+    let Exp::Fn(_, rules) = operator else {
+        return Err(absent(exp));
+    };
+    if arguments.len() != 1 {
+        return Err(absent(exp));
+    }
+    let taken = elab_exp(alloc, state, context, &arguments[0])?;
+    let made = case_from(alloc, state, context, *place, taken, rules)?;
+    Ok(made)
+}
+
+/// `handle`.
+#[cycle(exps)]
+fn handle_of(
+    alloc: Global,
+    state: &mut State,
+    context: &mut Context,
+    exp: &Exp,
+) -> Result<TypedExp, Stopped>
+    requires { IsContext state.old context.old }
+    ensures context { IfOk result (λ _. context.new ≡ context.old) }
+    ensures is { IfOk result (λ r. IsExp state.old context.old (exp_of exp.now) state.new r) }
+{
+    let Exp::Handle(_, body, rules) = exp else {
+        return Err(absent(exp));
+    };
+    let body = elab_exp(alloc, state, context, body)?;
+    let mut made = start_handle(alloc, state, context, &body)?;
+    rules_from(alloc, state, context, rules, &mut made)?;
+    Ok(handling(alloc, state, context, body, made)?)
+}
+
+/// The program's expression, and its type.
+#[cycle(exps)]
+pub fn elab_exp(
+    alloc: Global,
+    state: &mut State,
+    context: &mut Context,
+    exp: &Exp,
+) -> Result<TypedExp, Stopped>
+    requires { IsContext state.old context.old }
+    ensures context { IfOk result (λ _. context.new ≡ context.old) }
+    ensures is { IfOk result (λ r. IsExp state.old context.old (exp_of exp.now) state.new r) }
+{
+    match exp {
+        Exp::Constant(_, value) => Ok(constant(alloc, state, context, value)?),
+        Exp::Vid(place, long) => Ok(identifier(alloc, state, context, *place, long)?),
+        Exp::BuiltIn(_, which) => Ok(built(alloc, state, context, *which)?),
+        Exp::Record(place, fields) => record_of(alloc, state, context, *place, fields),
+        Exp::Tuple(place, parts) => tuple_of(alloc, state, context, *place, parts),
+        Exp::Sequence(_, _, _) => sequence_of(alloc, state, context, exp),
+        Exp::Apply(_, _, _) => apply_of(alloc, state, context, exp),
+        Exp::Typed(place, inner, ty) => {
+            let inner = elab_exp(alloc, state, context, inner)?;
+            Ok(with_type(alloc, state, context, *place, ty, inner)?)
+        }
+        Exp::Raise(place, packet) => {
+            let packet = elab_exp(alloc, state, context, packet)?;
+            Ok(raising(alloc, state, context, *place, packet)?)
+        }
+        Exp::List(place, elements) => list_of(alloc, state, context, *place, elements),
+        Exp::Chain(_, right, _, parts) => match shape_of(*right, parts) {
+            Shape::Left => left_of(alloc, state, context, exp),
+            Shape::Right => right_of(alloc, state, context, exp),
+            Shape::Tests(all) => tests_of(alloc, state, context, exp, all),
+        },
+        Exp::Handle(_, _, _) => handle_of(alloc, state, context, exp),
+        Exp::Fn(place, rules) => function_of(alloc, state, context, *place, rules),
+        Exp::Let(_, _, _) => Err(absent(exp)),
+    }
+}

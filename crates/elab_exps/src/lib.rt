@@ -1,0 +1,6 @@
+// Expressions, whatever their form.
+#![tactic(auto)]
+
+pub mod absent;
+pub mod exps;
+pub mod shapes;
