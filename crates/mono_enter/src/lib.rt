@@ -1,0 +1,4 @@
+// The closed types that copies want, entered in a table.
+#![tactic(auto)]
+
+pub mod law;
