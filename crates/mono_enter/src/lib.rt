@@ -1,4 +1,5 @@
 // The closed types that copies want, entered in a table.
 #![tactic(auto)]
 
+pub mod constructors;
 pub mod law;
