@@ -3,3 +3,4 @@
 
 pub mod constructors;
 pub mod law;
+pub mod walk;
