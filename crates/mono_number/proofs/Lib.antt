@@ -3,3 +3,4 @@ pub mod Given
 pub mod Moving
 pub mod Wording
 pub mod Heads
+pub mod NamesApart

@@ -29,6 +29,11 @@ pub record AreNumbers (limit : ℕ) (known : ℕ → Option ℕ) (H : Held) (ind
   pub distinct : (n m : ℕ) → n < limit → m < limit → is_same (name_in H n) (name_in H m) ≡ true → n ≡ m
   pub indexed : (k n : ℕ) → known k ≡ Some n → index (type_at H.types k) ≡ n
 
+-- copies are at lists below a limit
+abbrev pub AreWithin : ℕ → List (ℕ × ℕ) → Type 0
+AreWithin limit [] = ⊤
+AreWithin limit (c ∷ cs) = (c.1 < limit) × AreWithin limit cs
+
 abbrev pub given_in : Held → List (ℕ × ℕ) → Given
 given_in H [] = none_given
 given_in H (e ∷ l) = given (name_in H e.0) e.1 (given_in H l)

@@ -1,0 +1,4 @@
+pub mod Scanning
+pub mod Entering
+pub mod Walked
+pub mod Laws

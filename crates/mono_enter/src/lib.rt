@@ -1,0 +1,6 @@
+// The closed types that copies want, entered in a table.
+#![tactic(auto)]
+
+pub mod constructors;
+pub mod law;
+pub mod walk;

@@ -1,0 +1,5 @@
+// Tests of copies with numbers.
+#![tactic(auto)]
+
+#[cfg(test)]
+mod tests;
