@@ -62,3 +62,8 @@ def crates(module, root):
     library.guarded()
     module.Crate.allowed = module.handles_of(root)
     return sorted(library.crates_below(root), key=lambda it: len(it.below()))
+
+
+def is_of_tests(crate, crates):
+    """Whether a crate is there for its tests alone."""
+    return crate.name.endswith("_tests") and not any(crate in it.deps for it in crates)
