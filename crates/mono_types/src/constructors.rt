@@ -75,4 +75,14 @@ impl Constructors {
             None => None,
         }
     }
+
+    /// The argument's type of the constructor that was the i-th to come, if there is one.
+    pub fn argument_at(&self, i: usize) -> Option<Option<usize>>
+        ensures { option_map (λ e. e.1) (slice_get (reverse self.now) i) ≡ result }
+    {
+        match self.entries.get_index(i) {
+            Some((_, argument)) => Some(*argument),
+            None => None,
+        }
+    }
 }

@@ -1,0 +1,4 @@
+// The conversion of functions to cells, with all that it keeps.
+#![tactic(auto)]
+
+pub mod convert;
