@@ -5,7 +5,7 @@ use mlc_base::place::Place;
 use sml_tree::tree::Exp;
 
 /// The place of an expression.
-pub fn place_of(exp: &Exp) -> Place {
+fn place_of(exp: &Exp) -> Place {
     match exp {
         Exp::Constant(place, _) => *place,
         Exp::Vid(place, _) => *place,

@@ -1,5 +1,8 @@
 // Parts of nodes: labels of tuples, operators and shapes of chains.
-ghost use Rattle.std.specs.Prelude.{◌≡◌, ◌+◌, IfOk};
+ghost use Rattle.std.specs.Prelude.{◌≡◌, ◌+◌, true, false, Some, slice_get, IfOk};
+ghost use Rattle.sml_tree.specs.declared.tree.Part.{Part as PartOf};
+ghost use Rattle.elab_exps.specs.Shapes.{shape_by};
+ghost use Rattle.elab_exps.specs.declared.shapes.Shape.TheVariants.{Left};
 ghost use Rattle.mlc_names.specs.declared.label.Label.TheVariants.{Number};
 ghost use Rattle.sml_tree.specs.declared.tree.Joint.TheVariants.{Infix};
 
@@ -38,7 +41,10 @@ pub enum Shape {
 }
 
 /// What its first joint says that a chain is.
-pub fn shape_of(right: bool, parts: &[Part]) -> Shape {
+pub fn shape_of(right: bool, parts: &[Part]) -> Shape
+    ensures left { right ≡ false → result ≡ Left }
+    ensures right { (part : PartOf) → right ≡ true → slice_get parts.now 0 ≡ Some part → result ≡ shape_by part.joint }
+{
     if parts.is_empty() || !right {
         return Shape::Left;
     }
