@@ -145,8 +145,8 @@ module _ (S : State) (C : Context) (i : IsBasis (types_in S) C) where
     entries = λ qs x e q. entries-held qs x e q;
     numbered = entries-free S.next;
     live = subst (AllByRecursion (λ b. IsLive S b.1)) (sym i.tyvars) tt;
-    level = level ∙ sym i.level;
-    tidy = subst (IsTidy S) (sym i.level) tidy;
+    level = let a = level in let b = i.level in omega (arith, a, b);
+    tidy = subst (IsTidy S) (sym level) tidy;
   }
 
 -- what the code makes is the context of the basis

@@ -1,2 +1,9 @@
+pub mod Adding
+pub mod Entering
+pub mod Holding
 pub mod Least
+pub mod Listing
 pub mod Making
+pub mod Parts
+pub mod Strings
+pub mod Walking

@@ -1,28 +1,24 @@
 -- Whole programs.
-use Rattle.std.proofs.Common.{◌≡◌, ℕ, List, [], map, ap, ap₂, subst, ◌∙◌}
+use Rattle.std.proofs.Common.{◌≡◌, ℕ, List, map, ap, ap₂, subst, ◌∙◌}
 use Rattle.ir_mono.specs.Types as table
 use Rattle.ir_mono.specs.Mono.{Mono}
 use Rattle.ir_first.specs.Tree as out
 use Rattle.first_values.specs.Equality.{Shape}
 use Rattle.first_values.specs.Operations.{Member}
 use Rattle.flow_sets.specs.Flow.{Flow}
-use Rattle.flow_sets.specs.ByType.{bound}
 use Rattle.closure_convert.specs.Scope.{Table}
 use Rattle.closure_meaning.specs.Convert.{Numbering, shapes, set_of, program}
-use Rattle.closure_whole.specs.Rising.{above}
-use Rattle.closure_whole.specs.Converted.{converted}
-use Rattle.closure_whole.specs.Whole.{without_functions}
-use Rattle.eta_expand.specs.Expand.{expand}
-use Rattle.flow_types.specs.Flows.{program_with}
+use Rattle.flow_types.specs.Flows.{Has, program_with}
+use Rattle.flow_types.specs.declared.flow.Flow as code
 use Rattle.plain_tree.specs.declared.tree.Exp.{Exp}
 use Rattle.mono_bound.specs.Reads.{mono_of}
 use Rattle.closure_convert.specs.Capture.{table_of}
-use Rattle.closure_whole.specs.Rising.{rising}
 use Rattle.closure_whole.specs.Converted.{numbering}
 use Rattle.closure_parts.specs.Indexed.{Kept, texts_of}
-use Rattle.closure_parts.specs.Settings.{Holds, HoldsProgram}
+use Rattle.closure_parts.specs.Settings.{Holds}
 use Rattle.closure_parts.specs.declared.setting.Setting.{Setting}
-use Rattle.closure_code.specs.Codes.{functions_of}
+use Rattle.closure_first.specs.Codes.{functions_of}
+use Rattle.closure_first.specs.Made.{HoldsBy, converted_by}
 
 module _ (strings : List (List ℕ)) (initial : List ℕ) (types : List table.Row) (expansion : ℕ) where
   pub program-made : (n : Numbering) (F : Flow) (T : Table) (e : Mono types) (ss : List Shape) (sets : List (List Member)) (funs : List out.Fun) → ss ≡ shapes types → sets ≡ map (set_of n) F.sets
@@ -32,22 +28,18 @@ module _ (strings : List (List ℕ)) (initial : List ℕ) (types : List table.Ro
       ap₂ (λ l ts. record { tables = record { initial = initial; strings = strings; types = l; sets = ts }; funs = funs }) a b
       ∙ ap (λ fs. record { tables = record { initial = initial; strings = strings; types = shapes types; sets = map (set_of n) F.sets }; funs = fs }) c
 
-  pub whole-made : (e d : Mono types) (r : out.Program) → d ≡ expand types [] (above (bound types e)) e → r ≡ converted strings (program_with initial types expansion d)
-      → r ≡ without_functions strings (program_with initial types expansion e)
-  whole-made e d r h k = k ∙ ap (λ v. converted strings (program_with initial types expansion v)) h
+-- with other sets
+pub by-sets : (s : Setting) (flow : code.Flow) (types : List table.Row) (strings : List (List ℕ)) (n : Numbering) (F G : Flow) (T : Table) → Holds s types strings n G T → Has flow F
+    → Holds (record s { flow = flow }) types strings n F T
+by-sets s flow types strings n F G T h f =
+    record { functions = h.functions; texts = h.texts; names = h.names; flow = f; captured = h.captured; pieces = h.pieces; places = h.places }
 
-module _ (setting : Setting) (types : List table.Row) (made body : Exp) where
-  -- the body is that of the explicit program, and the setting is what its conversion is made with
-  abbrev pub IsExplicit : List (List ℕ) → Type 0
-  IsExplicit strings =
-      (mono_of types strings made ≡ expand types [] (above (bound types (mono_of types strings body))) (mono_of types strings body))
-      × ((initial : List ℕ) (expansion : ℕ) → HoldsProgram setting strings (program_with initial types expansion (mono_of types strings made)))
-
-  pub whole-from : (us ss : List Kept) (initial : List ℕ) (expansion : ℕ) (r : out.Program) → us ≡ ss → IsExplicit (texts_of us)
-      → ((n : Numbering) (F : Flow) (T : Table) → Holds setting types (texts_of ss) n F T → r ≡ program n (texts_of ss) F T (program_with initial types expansion (mono_of types (texts_of ss) made)))
-      → r ≡ without_functions (texts_of ss) (program_with initial types expansion (mono_of types (texts_of ss) body))
-  whole-from us ss initial expansion r k x p =
-      let y = subst (λ l. IsExplicit (texts_of l)) k x in
-      let q = program_with initial types expansion (mono_of types (texts_of ss) made) in
-      whole-made (texts_of ss) initial types expansion (mono_of types (texts_of ss) body) (mono_of types (texts_of ss) made) r y.0
-      (p (numbering (texts_of ss) q) (rising q) (table_of types (mono_of types (texts_of ss) made)) (y.1 initial expansion))
+-- by the numbers and captures of the conversion of whole programs, and any sets
+pub converted-from : (setting : Setting) (types : List table.Row) (body : Exp) (us ss : List Kept) (initial : List ℕ) (expansion : ℕ) (F : Flow) (r : out.Program) → us ≡ ss
+    → HoldsBy setting (texts_of us) F (program_with initial types expansion (mono_of types (texts_of us) body))
+    → ((n : Numbering) (G : Flow) (T : Table) → Holds setting types (texts_of ss) n G T → r ≡ program n (texts_of ss) G T (program_with initial types expansion (mono_of types (texts_of ss) body)))
+    → r ≡ converted_by F (texts_of ss) (program_with initial types expansion (mono_of types (texts_of ss) body))
+converted-from setting types body us ss initial expansion F r k x p =
+    let q = program_with initial types expansion (mono_of types (texts_of ss) body) in
+    p (numbering (texts_of ss) q) F (table_of types (mono_of types (texts_of ss) body))
+    (subst (λ l. HoldsBy setting (texts_of l) F (program_with initial types expansion (mono_of types (texts_of l) body))) k x)

@@ -1,5 +1,12 @@
-// Programs with simple types as programs without function values, but for how values are compared.
+// Programs with simple types as programs without function values.
 #![tactic(auto)]
 
 pub mod above;
+pub mod codes;
+pub mod functions;
+pub mod held;
+pub mod program;
+pub mod reading;
+pub mod shapes;
+pub mod texts;
 pub mod whole;

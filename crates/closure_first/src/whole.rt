@@ -6,24 +6,26 @@ ghost use Rattle.mono_bound.specs.Reads.{mono_of};
 ghost use Rattle.flow_sets.specs.ByType.{bound};
 ghost use Rattle.closure_convert.specs.Scope.{Table};
 ghost use Rattle.closure_whole.specs.Rising.{above as above_of};
-ghost use Rattle.closure_whole.specs.Whole.{without_functions as without_functions_of};
 ghost use Rattle.first_tables.specs.TablesOf.{shape_of, set_of as made_set};
 ghost use Rattle.first_tree.specs.TreeOf.{fun_of};
 ghost use Rattle.first_form.specs.Programs.{program_of};
-ghost use Rattle.flow_types.specs.Flows.{program_with};
+ghost use Rattle.flow_types.specs.Flows.{Has, program_with};
 ghost use Rattle.closure_meaning.specs.Convert.{Numbering, shapes as shapes_of, set_of, program as program_made};
 ghost use Rattle.closure_parts.specs.Indexed.{texts_of};
-ghost use Rattle.closure_parts.specs.Settings.{Row, Texts, Holds, HoldsProgram};
-ghost use Rattle.closure_code.specs.Codes.{functions_of};
+ghost use Rattle.closure_parts.specs.Settings.{Texts, Holds};
+ghost use Rattle.closure_first.specs.Codes.{functions_of};
+ghost use Rattle.closure_first.specs.Made.{HoldsBy, converted_by};
 
 use crate::above::above;
+use crate::program::{functions, sets};
 use capture_scope::scope::ScopeFault;
-use closure_code::program::{functions, sets};
 use closure_parts::setting::Setting;
 use eta_code::expand::expand;
 use first_form::form::First;
 use first_tables::tables::{Member, Shape, Tables};
 use first_tree::tree::Fun;
+use flow_types::flow::Flow as Sets;
+use mlc_base::memory::NoMemory;
 use mlc_names::names::Name;
 use mono_types::types::Types;
 use plain_tree::tree::Exp;
@@ -82,37 +84,45 @@ pub fn program(
     })
 }
 
-/// A program's body with a function for each function by itself, and what its conversion is made with.
-fn explicit(
+/// What the conversion of a program is for, by these sets.
+fn setting_by(
     alloc: Global,
     types: &Types,
     strings: &[Vec<u8>],
+    flow: Sets,
     body: &Exp,
-) -> Result<(Exp, Setting), ScopeFault>
-    ensures body { IfOk result (λ made. mono_of types.now (texts_of strings.now) made.0
-        ≡ clean_expand.expand types.now [] (above_of (bound types.now (mono_of types.now (texts_of strings.now) body.now))) (mono_of types.now (texts_of strings.now) body.now)) }
-    ensures setting { IfOk result (λ made. (initial : List ℕ) (expansion : ℕ) → HoldsProgram made.1 (texts_of strings.now)
-        (program_with initial types.now expansion (mono_of types.now (texts_of strings.now) made.0))) }
+) -> Result<Setting, ScopeFault>
+    ensures { IfOk result (λ setting. (F : Flow) (initial : List ℕ) (expansion : ℕ) → Has flow F
+        → HoldsBy setting (texts_of strings.now) F (program_with initial types.now expansion (mono_of types.now (texts_of strings.now) body.now))) }
 {
-    let first = above(alloc, types, body)?;
-    let made = expand(alloc, types, first, body)?;
-    let setting = Setting::new(alloc, types, strings, &made)?;
-    Ok((made, setting))
+    let mut setting = Setting::new(alloc, types, strings, body)?;
+    setting.flow = flow;
+    Ok(setting)
 }
 
-/// A program, all of whose functions become cells. Err for want of memory, or where a variable is bound that is visible already, as it is only where one is
-/// bound twice.
-pub fn without_functions(
+/// A program that has no function by itself, converted by these sets, and by what its functions capture in the order of binding. Err for want of memory, or
+/// where a variable is bound that is visible already, as it is only where one is bound twice.
+pub fn converted(
     alloc: Global,
     types: &Types,
+    flow: Sets,
     rest: Rest,
     body: &Exp,
 ) -> Result<First, ScopeFault>
     requires { map shape_of rest.shapes.items ≡ shapes_of types.now }
-    ensures made { IfOk result (λ made. program_of made ≡ without_functions_of (texts_of rest.strings.items)
+    ensures made { IfOk result (λ made. (F : Flow) → Has flow F → program_of made ≡ converted_by F (texts_of rest.strings.items)
         (program_with rest.initial.items types.now rest.expansion (mono_of types.now (texts_of rest.strings.items) body.now))) }
     ensures expansion { IfOk result (λ made. made.expansion ≡ rest.expansion) }
 {
-    let (made, setting) = explicit(alloc, types, &rest.strings, body)?;
-    program(alloc, types, &setting, rest, &made)
+    let setting = setting_by(alloc, types, &rest.strings, flow, body)?;
+    program(alloc, types, &setting, rest, body)
+}
+
+/// A program's body with a function for each function by itself, with new variables above all that the program binds.
+pub fn explicit(alloc: Global, types: &Types, body: &Exp) -> Result<Exp, NoMemory>
+    ensures { IfOk result (λ made. (strings : Texts) → mono_of types.now strings made
+        ≡ clean_expand.expand types.now [] (above_of (bound types.now (mono_of types.now strings body.now))) (mono_of types.now strings body.now)) }
+{
+    let first = above(alloc, types, body)?;
+    expand(alloc, types, first, body)
 }

@@ -11,12 +11,12 @@ use Rattle.ir_mono.specs.Types.{admits, flag, node_at, IsFunction}
 use Rattle.ir_mono.specs.Mono.{Program}
 use Rattle.ir_mono.specs.WellFormed as mono
 use Rattle.first_values.specs.Operations.{Tables, Member}
-use Rattle.first_values.specs.WellFormed.{IsIn, IsConstant, Takes}
+use Rattle.first_values.specs.WellFormed.{IsIn, IsConstant, Takes, Rise}
 use Rattle.ir_first.specs.Tree as out
 use Rattle.ir_first.specs.WellFormed as first
 use Rattle.ir_first.specs.WellFormed.{arity}
 use Rattle.flow_sets.specs.Member.{is_in}
-use Rattle.flow_sets.specs.Flow.{variable, at}
+use Rattle.flow_sets.specs.Flow.{Flow, variable, at}
 use Rattle.flow_sets.specs.ByType.{Bound, bound_in, bound, type_of}
 use Rattle.flow_sets.proofs.Known.{once-known}
 use Rattle.flow_sets.proofs.Member.{nat_eq-same, or_left, within-same}
@@ -24,17 +24,17 @@ use Rattle.flow_sets.proofs.Sets.{of-set}
 use Rattle.closure_convert.specs.Scope.{Table, top, index_of}
 use Rattle.closure_convert.specs.Capture.{table_of}
 use Rattle.closure_convert.proofs.Numbered.{captures-are-right}
-use Rattle.closure_meaning.specs.Convert.{Numbering, numbers_in, codes, constant, call_set, set_of, shapes, tables, var}
+use Rattle.closure_meaning.specs.Convert.{Numbering, numbers_in, codes, constant, call_set, set_of, shapes, tables, var, program}
 use Rattle.closure_whole.specs.Constants.{IsHeld, AreHeld}
 use Rattle.closure_whole.specs.Rising.{above, rising_from, rising}
-use Rattle.closure_whole.specs.Converted.{text_index, numbering, converted}
+use Rattle.closure_whole.specs.Converted.{text_index, numbering}
 use Rattle.closure_whole.specs.Whole.{explicit}
 use Rattle.closure_whole.proofs.Rise.{falls}
 use Rattle.closure_whole.proofs.Held.{held}
 use Rattle.closure_whole.proofs.Whole.{explicit-well-formed}
-use Rattle.closure_formed.specs.Tables.{AreRows, AreBytes}
-use Rattle.closure_formed.specs.Laws.{ConvertedWellFormed, WithoutFunctionsWellFormed}
-use Rattle.closure_formed.proofs.Tables.{sets-rise, length-shapes, are-shapes}
+use Rattle.closure_formed.specs.Tables.{AreRows, AreBytes, Ascends, AreOrderly}
+use Rattle.closure_formed.specs.Laws.{ConvertedWellFormed, RisingAreOrderly, WithoutFunctionsWellFormed}
+use Rattle.closure_formed.proofs.Tables.{sets-ascend, length-shapes, are-shapes}
 use Rattle.closure_formed.proofs.Numbers.{codes-two, takes-two, numbered, has-number}
 use Rattle.closure_formed.proofs.Scoped.{Has, Known, Holds, OpFine, scoped, codes-scoped}
 use Rattle.closure_formed.proofs.Misses.{whole, clean-program, codes-whole}
@@ -76,7 +76,16 @@ node-there : (types : List table.Row) (t : ℕ) {k : table.Node} (o : Option tab
 node-there types t None q e = absurd (cc)
 node-there types t (Some r) q e = row-below types t q
 
-module _ (strings : List (List ℕ)) (p : Program) (w : mono.IsWellFormed p) where
+ascend-sets : (n : Numbering) (sets : List (List ℕ)) → AllByRecursion Ascends sets → AllByRecursion Rise (map (set_of n) sets)
+ascend-sets n [] h = tt
+ascend-sets n (ks ∷ sets) h = (rise ks h.0, ascend-sets n sets h.1)
+  where
+    rise : (ks : List ℕ) → Ascends ks → Rise (set_of n ks)
+    rise [] h = tt
+    rise (k ∷ []) h = tt
+    rise (k ∷ l ∷ ks) h = (lt-ltb k l h.0, rise (l ∷ ks) h.1)
+
+module _ (strings : List (List ℕ)) (F : Flow) (p : Program) (w : mono.IsWellFormed p) (orderly : AreOrderly p F) where
   abbrev n : Numbering
   n = numbering strings p
 
@@ -84,13 +93,13 @@ module _ (strings : List (List ℕ)) (p : Program) (w : mono.IsWellFormed p) whe
   caps = table_of p.types p.body
 
   abbrev T : Tables
-  T = tables n strings p.initial p.types (rising p)
+  T = tables n strings p.initial p.types F
 
   abbrev all : List Bound
   all = bound p.types p.body
 
   abbrev cs : List out.Fun
-  cs = codes n p.types (rising p) caps p.body []
+  cs = codes n p.types F caps p.body []
 
   abbrev ar : List ℕ
   ar = 0 ∷ map arity cs
@@ -103,11 +112,9 @@ module _ (strings : List (List ℕ)) (p : Program) (w : mono.IsWellFormed p) whe
   constants (truth b) h = tt
 
   -- each function of a set takes the closure and its argument
-  takes : (u : ℕ) {b c : ℕ} → IsFunction p.types u b c → (k : ℕ) → is_in k (get_or (rising_from 0 (length p.types) all) u []) ≡ true → Takes T ar 2 (n.function k)
-  takes u i k j =
-      let q = of-set p.types all u k (once-known p.types p.body w.once) i ((falls p.types all (once-known p.types p.body w.once) u).all k j) in
-      let m : is_in k (numbers_in p.types p.body []) ≡ true = has-number k q.entry all (numbers_in p.types p.body []) u q.is (numbered p.types p.body [] (numbers_in p.types p.body []) (within-same refl)) q.found in
-      ap (λ z. slice_get z (index_of k (numbers_in p.types p.body []))) (codes-two n p.types (rising p) caps p.body (record { same = refl })).same ∙ takes-two k (numbers_in p.types p.body []) m
+  takes : (k : ℕ) → is_in k (numbers_in p.types p.body []) ≡ true → Takes T ar 2 (n.function k)
+  takes k m =
+      ap (λ z. slice_get z (index_of k (numbers_in p.types p.body []))) (codes-two n p.types F caps p.body (record { same = refl })).same ∙ takes-two k (numbers_in p.types p.body []) m
 
   all-take : (ks : List ℕ) → ((k : ℕ) → is_in k ks ≡ true → Takes T ar 2 (n.function k)) → AllByRecursion (λ (m : Member). Takes T ar 2 m.function) (set_of n ks)
   all-take [] h = tt
@@ -119,14 +126,14 @@ module _ (strings : List (List ℕ)) (p : Program) (w : mono.IsWellFormed p) whe
   called place u f a xs (k ∷ l ∷ ks) e h i j = ((i, (set_of n (k ∷ l ∷ ks), e, all-take (k ∷ l ∷ ks) h)), (j, tt))
 
   callee : (place : Place) (f a u b c : ℕ) (xs : List ℕ) → type_of p.types (bound_in f all) ≡ u → IsFunction p.types u b c → IsIn xs (var f) → IsIn xs (var a)
-      → OpFine p.types n (rising p) caps T ar all strings xs (call_set n place ((rising p).number (variable f)) (at (rising p) (variable f)) (var f) (var a))
-  callee place f a u b c xs e i h g = record {
-    is = subst (λ z. first.OpScoped T ar xs (call_set n place z (get_or (rising_from 0 (length p.types) all) z []) (var f) (var a))) (sym e)
-        (called place u (var f) (var a) xs (get_or (rising_from 0 (length p.types) all) u [])
-        (map-at (set_of n) (rising_from 0 (length p.types) all) u [] (subst (λ z. u < z) (sym (length-rising 0 (length p.types) all)) (node-there p.types u (slice_get p.types u) refl i))) (takes u i) h g);
-  }
+      → OpFine p.types n F caps T ar all strings xs (call_set n place (F.number (variable f)) (at F (variable f)) (var f) (var a))
+  callee place f a u b c xs e i h g =
+      let t : IsFunction p.types (type_of p.types (bound_in f all)) b c = subst (λ z. IsFunction p.types z b c) (sym e) i in record {
+        is = called place (F.number (variable f)) (var f) (var a) xs (at F (variable f)) (map-at (set_of n) F.sets (F.number (variable f)) [] (orderly.there f b c t))
+            (λ k j. takes k (orderly.functions f b c k t j)) h g;
+      }
 
-  has : Has p.types n (rising p) caps T ar all strings
+  has : Has p.types n F caps T ar all strings
   has = record {
     constants = constants;
     initial = λ i h. subst (λ z. nat_lt i z ≡ true) (sym w.initial) h;
@@ -134,25 +141,40 @@ module _ (strings : List (List ℕ)) (p : Program) (w : mono.IsWellFormed p) whe
     callee = callee;
   }
 
-  known : Known p.types n (rising p) caps T ar all strings []
+  known : Known p.types n F caps T ar all strings []
   known = record { is = λ f u a b e i. absurd (cc) }
 
   holds : Holds top []
   holds = record { locals = λ x i. absurd (cc); outside = λ y i. absurd (cc) }
 
-  pub formed : AreHeld strings p.body → AreRows p.types → AreBytes strings → first.IsWellFormed (converted strings p)
+  pub formed : AreHeld strings p.body → AreRows p.types → AreBytes strings → first.IsWellFormed (program n strings F caps p)
   formed d rows bytes =
       let k = once-known p.types p.body w.once in
       let c = captures-are-right p w in record {
-        tables = record { initial = w.initial; strings = bytes; types = are-shapes p.types rows; sets = sets-rise n 0 (length p.types) all };
+        tables = record { initial = w.initial; strings = bytes; types = are-shapes p.types rows; sets = ascend-sets n F.sets orderly.ascend };
         main = refl;
-        scoped = ((scoped p.types n (rising p) caps T ar all strings has top known k holds c d w.typed).is, (codes-scoped p.types n (rising p) caps T ar all strings has top known k c d w.typed (record { are = tt })).are);
-        whole = ((clean-program p.types n (rising p) caps top w.typed, (whole p.types n (rising p) caps top w.typed).is), (codes-whole p.types n (rising p) caps w.typed (record { are = tt })).are);
+        scoped = ((scoped p.types n F caps T ar all strings has top known k holds c d w.typed).is, (codes-scoped p.types n F caps T ar all strings has top known k c d w.typed (record { are = tt })).are);
+        whole = ((clean-program p.types n F caps top w.typed, (whole p.types n F caps top w.typed).is), (codes-whole p.types n F caps w.typed (record { are = tt })).are);
       }
 
 pub converted-well-formed : ConvertedWellFormed
-converted-well-formed strings p w x h rows bytes = formed strings p w h rows bytes
+converted-well-formed strings F p w x h rows bytes o = formed strings F p w o h rows bytes
+
+-- all functions of each type, in rising order, are orderly
+pub rising-are-orderly : RisingAreOrderly
+rising-are-orderly p w = record {
+  ascend = sets-ascend 0 (length p.types) all;
+  there = λ f a b i. subst (λ z. type_of p.types (bound_in f all) < z) (sym (length-rising 0 (length p.types) all)) (node-there p.types (type_of p.types (bound_in f all)) (slice_get p.types (type_of p.types (bound_in f all))) refl i);
+  functions = λ f a b k i j.
+      let u = type_of p.types (bound_in f all) in
+      let q = of-set p.types all u k (once-known p.types p.body w.once) i ((falls p.types all (once-known p.types p.body w.once) u).all k j) in
+      has-number k q.entry all (numbers_in p.types p.body []) u q.is (numbered p.types p.body [] (numbers_in p.types p.body []) (within-same refl)) q.found;
+}
+  where
+    all : List Bound
+    all = bound p.types p.body
 
 pub without-functions-well-formed : WithoutFunctionsWellFormed
 without-functions-well-formed strings p w h rows bytes =
-    formed strings (explicit p) (explicit-well-formed p w) (held strings p.types [] (above (bound p.types p.body)) p.body h) rows bytes
+    formed strings (rising (explicit p)) (explicit p) (explicit-well-formed p w) (rising-are-orderly (explicit p) (explicit-well-formed p w))
+    (held strings p.types [] (above (bound p.types p.body)) p.body h) rows bytes

@@ -1,18 +1,17 @@
 -- The tables of a conversion: types are of types, and tags rise along each set.
-use Rattle.std.proofs.Common.{◌≡◌, ℕ, zero, suc, ◌≤◌, Bool, true, false, List, [], ◌∷◌, length, map, Option, nat_eq, if◌then◌else◌, refl, sym, ap, subst, arith}
+use Rattle.std.proofs.Common.{◌≡◌, ℕ, zero, suc, ◌≤◌, Bool, true, false, List, [], ◌∷◌, length, Option, nat_eq, if◌then◌else◌, refl, sym, ap, subst, arith}
 use Rattle.std.specs.Prelude.{⊤}
 use Rattle.std.specs.List.{AllByRecursion}
-use Rattle.std.proofs.lemmas.Bool.{lt-ltb}
 use Rattle.ty_core.specs.Types.{arrow, labels, name}
 use Rattle.ir_mono.specs.Types as table
 use Rattle.ir_mono.specs.Types.{Node, node, bool_number}
 use Rattle.ir_poly.specs.Types.{int_name, word_name, char_name, string_name, ref_name}
 use Rattle.first_values.specs.Equality.{Shape, numbers, texts, references, cells}
-use Rattle.first_values.specs.WellFormed.{IsShape, Rise}
+use Rattle.first_values.specs.WellFormed.{IsShape}
 use Rattle.flow_sets.specs.ByType.{Bound, bound_in}
-use Rattle.closure_meaning.specs.Convert.{Numbering, part_types, parts_among, shape_of, shapes_from, set_of}
+use Rattle.closure_meaning.specs.Convert.{part_types, parts_among, shape_of, shapes_from}
 use Rattle.closure_whole.specs.Rising.{is_function, functions_from, above, rising_from}
-use Rattle.closure_formed.specs.Tables.{Below, NodeBelow, RowBelow}
+use Rattle.closure_formed.specs.Tables.{Below, NodeBelow, RowBelow, Ascends}
 
 -- Sets
 
@@ -20,30 +19,29 @@ abbrev NoLess : ℕ → List ℕ → Type 0
 NoLess k [] = ⊤
 NoLess k (x ∷ xs) = k ≤ x
 
-module _ (n : Numbering) where
-  rise-more : (k : ℕ) (ks : List ℕ) → NoLess (suc k) ks → Rise (set_of n ks) → Rise (set_of n (k ∷ ks))
-  rise-more k [] l r = tt
-  rise-more k (x ∷ xs) l r = (lt-ltb k x (omega (arith, l)), r)
+rise-more : (k : ℕ) (ks : List ℕ) → NoLess (suc k) ks → Ascends ks → Ascends (k ∷ ks)
+rise-more k [] l r = tt
+rise-more k (x ∷ xs) l r = (omega (arith, l), r)
 
-  weaker : (k : ℕ) (ks : List ℕ) → NoLess (suc k) ks → NoLess k ks
-  weaker k [] l = tt
-  weaker k (x ∷ xs) l = omega (arith, l)
+weaker : (k : ℕ) (ks : List ℕ) → NoLess (suc k) ks → NoLess k ks
+weaker k [] l = tt
+weaker k (x ∷ xs) l = omega (arith, l)
 
-  record Rising (k : ℕ) (ks : List ℕ) : Type 0 where
-    first : NoLess k ks
-    rises : Rise (set_of n ks)
+record Rising (k : ℕ) (ks : List ℕ) : Type 0 where
+  first : NoLess k ks
+  rises : Ascends ks
 
-  one-more : (x : ℕ) (ks : List ℕ) (b : Bool) → Rising (suc x) ks → Rising x (if b then x ∷ ks else ks)
-  one-more x ks true h = record { first = omega arith; rises = rise-more x ks h.first h.rises }
-  one-more x ks false h = record { first = weaker x ks h.first; rises = h.rises }
+one-more : (x : ℕ) (ks : List ℕ) (b : Bool) → Rising (suc x) ks → Rising x (if b then x ∷ ks else ks)
+one-more x ks true h = record { first = omega arith; rises = rise-more x ks h.first h.rises }
+one-more x ks false h = record { first = weaker x ks h.first; rises = h.rises }
 
-  functions-rise : (t x m : ℕ) (bs : List Bound) → Rising x (functions_from t x m bs)
-  functions-rise t x zero bs = record { first = tt; rises = tt }
-  functions-rise t x (suc m) bs = one-more x (functions_from t (suc x) m bs) (is_function t (bound_in x bs)) (functions-rise t (suc x) m bs)
+functions-rise : (t x m : ℕ) (bs : List Bound) → Rising x (functions_from t x m bs)
+functions-rise t x zero bs = record { first = tt; rises = tt }
+functions-rise t x (suc m) bs = one-more x (functions_from t (suc x) m bs) (is_function t (bound_in x bs)) (functions-rise t (suc x) m bs)
 
-  pub sets-rise : (t m : ℕ) (bs : List Bound) → AllByRecursion Rise (map (set_of n) (rising_from t m bs))
-  sets-rise t zero bs = tt
-  sets-rise t (suc m) bs = ((functions-rise t zero (above bs) bs).rises, sets-rise (suc t) m bs)
+pub sets-ascend : (t m : ℕ) (bs : List Bound) → AllByRecursion Ascends (rising_from t m bs)
+sets-ascend t zero bs = tt
+sets-ascend t (suc m) bs = ((functions-rise t zero (above bs) bs).rises, sets-ascend (suc t) m bs)
 
 -- Types
 

@@ -1,4 +1,6 @@
-// The pass from programs with simple types to programs without function values.
+// The conversion of functions to cells, with all that it keeps, and the pass.
 #![tactic(auto)]
 
+pub mod convert;
+pub mod exceptions;
 pub mod pass;

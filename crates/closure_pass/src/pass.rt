@@ -1,5 +1,5 @@
 // The pass.
-ghost use Rattle.std.specs.Prelude.{◌≡◌, ◌∷◌, ◌++◌, [], ℕ, IfOk, IfErr};
+ghost use Rattle.std.specs.Prelude.{◌≡◌, ℕ, IfOk, IfErr};
 ghost use Rattle.mlc_runs.specs.Passes.{BringsNone};
 ghost use Rattle.mlc_runs.specs.declared.pass.PassFault.TheVariants.{Memory};
 ghost use Rattle.mono_operations.specs.Reads.{strings_of};
@@ -9,32 +9,43 @@ ghost use Rattle.first_tree.specs.Exceptions.{exceptions};
 ghost use Rattle.ir_first.specs.Meaning.{meaning};
 ghost use Rattle.ir_first.specs.WellFormed.{IsWellFormed};
 ghost use Rattle.closure_whole.specs.Whole.{without_functions};
+ghost use Rattle.closure_pass.specs.Given.{texts};
 
-use closure_kept::convert::convert;
+use crate::convert::convert;
+use crate::exceptions::conversions_make_no_more;
+use closure_first::whole::explicit;
+use closure_formed::law::conversions_are_well_formed;
 use first_form::form::First;
+use flow_types::flow::flows;
 use mlc_runs::pass::{Pass, PassFault};
 use mono_form::program::Program;
 use std::alloc::Global;
 
 /// A program without function values, and what it keeps of a well formed one: the outcome at every number of turns; that it is well formed; its exceptions and
-/// its expansion. None only for want of memory or of numbers, where a type has a part that is in no table, or where a variable is bound twice.
+/// its expansion. What is a function by itself becomes a `fn`, and the sets are all functions of each type. None only for want of memory or of numbers, or
+/// where a variable is bound twice.
 pub fn convert_program(alloc: Global, program: Program) -> Result<First, PassFault>
-    ensures made { IfOk result (λ to. target.program_of to ≡ without_functions (strings_of program.tables ++ [] ∷ []) (source.program_of program)) }
+    ensures made { IfOk result (λ to. target.program_of to ≡ without_functions (texts (strings_of program.tables)) (source.program_of program)) }
     ensures same { source.IsWellFormed program → IfOk result (λ to. (turns : ℕ) → meaning (target.program_of to) turns ≡ source.meaning program turns) }
     ensures well_formed { source.IsWellFormed program → IfOk result (λ to. IsWellFormed (target.program_of to)) }
     ensures exceptions { source.IsWellFormed program → IfOk result (λ to. BringsNone (source.exceptions program) (exceptions (target.program_of to))) }
     ensures size { IfOk result (λ to. to.expansion ≡ program.expansion) }
     ensures memory { IfErr result (λ fault. fault ≡ Memory) }
 {
+    conversions_are_well_formed();
+    conversions_make_no_more();
     let tables = program.tables;
     let types = tables.types;
-    let body = program.body;
+    let given = program.body;
+    let body = explicit(alloc, &types, &given)?;
+    let flow = flows(alloc, &types, &body)?;
     convert(
         alloc,
         &types,
         tables.initial,
         tables.strings,
         program.expansion,
+        flow,
         &body,
     )
 }

@@ -12,7 +12,8 @@ use Rattle.elab_context.specs.declared.entry.Entry.{Entry}
 use Rattle.dec_forms.specs.Telling.{with_all}
 use Rattle.dec_forms.specs.Entries.{Adds, type_scope, types_onto, with_types}
 use Rattle.dec_forms.specs.declared.brought.Brought.{Brought}
-use Rattle.dec_forms.specs.Local.{mark_in, shown_in}
+use Rattle.dec_forms.specs.Local.{block_mark_in, mark_in, shown_in}
+use Rattle.dec_forms.specs.declared.block.BlockMark.{BlockMark}
 use Rattle.dec_forms.specs.declared.local.LocalMark.{LocalMark}
 
 -- a list with others in front of it
@@ -53,3 +54,20 @@ ended C E F es ts m vs us K L b e a u tv ty k l f =
     let y : us.types ≡ C.types.types = ty ∙ ap (λ (z : LocalMark). left_at z.types.types E.types.types) e ∙ types-left C.types.types ts E.types.types a.types in
     f ∙ ap (λ (z : Context). with_types z b.types.items) (l ∙ ap (λ (z : Context). with_all z b.values.items) k)
     ∙ λ i. record E { values = with_entries (v i) b.values.items; types = type_scope (x i) (types_onto (y i) b.types.items) }
+
+-- left, with all that a `let` brought
+pub block_left : (C E N : Context) (es : List (Vid × Entry)) (ts : List (ℕ × TypeEntry)) (m : BlockMark) (vs : VidScope Entry) (us : TypeScope) (ns : List (ℕ × ℕ)) → m ≡ block_mark_in C
+    → Adds C E es ts → E.schemes ≡ C.schemes → Undoes E.values m.local.values vs → us.tyvars ≡ left_at m.local.types.tyvars E.types.tyvars
+    → us.types ≡ left_at m.local.types.types E.types.types → ns ≡ drop (length E.numbers - m.numbers) E.numbers
+    → N ≡ record E { values = vs; types = us; names = m.names; naming = m.naming; numbers = ns } → N ≡ C
+block_left C E N es ts m vs us ns e a s u tv ty nu is =
+    let v : vs ≡ C.values = u C.values es (ap (λ (z : BlockMark). z.local.values) e) a.values in
+    let x : us.tyvars ≡ C.types.tyvars = tv ∙ ap (λ (z : BlockMark). left_at z.local.types.tyvars E.types.tyvars) e ∙ tyvars-left C.types.tyvars E.types.tyvars a.tyvars in
+    let y : us.types ≡ C.types.types = ty ∙ ap (λ (z : BlockMark). left_at z.local.types.types E.types.types) e ∙ types-left C.types.types ts E.types.types a.types in
+    let n : ns ≡ C.numbers =
+    nu ∙ ap (λ (z : BlockMark). drop (length E.numbers - z.numbers) E.numbers) e ∙ ap (λ l. drop (length l - length C.numbers) l) a.numbers.is
+    ∙ drop-front a.numbers.own C.numbers in
+    let c : m.names ≡ C.names = ap (λ (z : BlockMark). z.names) e in
+    let g : m.naming ≡ C.naming = ap (λ (z : BlockMark). z.naming) e in
+    is ∙ ap (λ (z : Context). record z { values = vs; types = us; names = m.names; naming = m.naming; numbers = ns }) a.rest
+    ∙ λ i. record C { values = v i; types = type_scope (x i) (y i); schemes = s i; names = c i; naming = g i; numbers = n i }

@@ -4,6 +4,7 @@ use Rattle.std.specs.Prelude.{option_map, unwrap_or}
 use Rattle.std.specs.Option.{option_or}
 use Rattle.std.specs.Map.{lookup}
 use Rattle.std.proofs.lemmas.Bool.{lt-ltb, ltb-true}
+use Rattle.std.proofs.lemmas.List.{append_assoc}
 use Rattle.ty_instance.proofs.Going.{stays-on}
 use Rattle.sml_tree.specs.declared.ident.Vid.{Vid}
 use Rattle.vid_scope.specs.Entries.{entry_of, with_entries, with_entry}
@@ -73,6 +74,10 @@ adds_then C D E es ds ts us a b = record {
   types = b.types ∙ ap (λ s. types_onto s us) a.types ∙ sym (onto-append C.types.types ts us);
   schemes = stays-on _ _ _ a.schemes b.schemes;
   level = b.level ∙ a.level;
+  rest =
+      b.rest
+      ∙ ap (λ (k : Context). record k { values = E.values; types = E.types; schemes = E.schemes; names = E.names; naming = E.naming; numbers = E.numbers }) a.rest;
+  numbers = record { own = b.numbers.own ++ a.numbers.own; is = b.numbers.is ∙ ap (λ l. b.numbers.own ++ l) a.numbers.is ∙ sym (append_assoc b.numbers.own a.numbers.own C.numbers) };
 }
 
 -- structures that are none are none together

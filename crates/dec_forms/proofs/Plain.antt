@@ -53,6 +53,8 @@ values_add C D es q = subst (λ D. Adds C D es []) (sym q) (record {
   types = refl;
   schemes = begins-same _ _ refl;
   level = refl;
+  rest = refl;
+  numbers = record { own = []; is = refl };
 })
 
 module _ (C : Context) (W : World) (A : Around) (k : ℕ) (es : List (Vid × Entry)) (ks : KeptValues) (r : Scope) (G : Knowns) (t : Tells C W A) (f : AreFurther C W A es ks r G)
@@ -102,6 +104,8 @@ types_add C D ts q = subst (λ D. Adds C D [] ts) (sym q) (record {
   types = refl;
   schemes = begins-same _ _ refl;
   level = refl;
+  rest = refl;
+  numbers = record { own = []; is = refl };
 })
 
 pub types_bring : (C : Context) (W : World) (A : Around) (k : ℕ) (ts : List (ℕ × TypeEntry)) (us : Map ℕ TypeStructure) (r : Scope) → Tells C W A

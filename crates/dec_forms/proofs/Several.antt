@@ -81,6 +81,8 @@ nothing-added C = record {
   types = refl;
   schemes = begins-same _ _ refl;
   level = refl;
+  rest = refl;
+  numbers = record { own = []; is = refl };
 }
 
 nothing-brought : (C : Context) (W : World) (A : Around) (k : ℕ) → Tells C W A → Brings C W A k [] [] (no_effect A)

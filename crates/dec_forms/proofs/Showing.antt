@@ -31,10 +31,10 @@ use Rattle.dec_forms.specs.Decs.{all_joined}
 use Rattle.dec_forms.specs.Telling.{last_of}
 use Rattle.dec_forms.proofs.Telling.{entry-among}
 use Rattle.dec_forms.specs.Bringing.{AreBringing, IsBringing, all_effects, last_effect, past}
-use Rattle.dec_forms.specs.Entries.{Adds, types_onto}
+use Rattle.dec_forms.specs.Entries.{Adds, type_scope, types_onto}
 use Rattle.dec_forms.specs.declared.brought.Brought.{Brought}
 use Rattle.dec_forms.proofs.Effects.{all_choices, effects-do}
-use Rattle.dec_forms.proofs.Joining.{brings_last}
+use Rattle.dec_forms.proofs.Joining.{adds_then, brings_last}
 use Rattle.dec_forms.proofs.Several.{decs-append}
 use Rattle.dec_forms.proofs.TellingScope.{tells_past}
 use Rattle.dec_forms.specs.Local.{IsEmpty, shown_in}
@@ -62,6 +62,7 @@ pub local_is : (S M T : State) (C D E F : Context) (p : Place) (ds es : List bar
 local_is S M T C D E F p ds es xs ys a b none shown old new z h k q ev et =
     let vs : shown.values.items ≡ k.values = k.all_values ∙ ap (λ l. l ++ k.values) z.values in
     let ts : shown.types.items ≡ k.types = k.all_types ∙ ap (λ l. l ++ k.types) z.types in
+    let added = adds_then C D E h.values k.values h.types k.types h.adds k.adds in
     subst (λ F. IsBringing S C (bare.local_dec p (source.decs_of ds) (source.decs_of es)) T F (xs ++ ys) old new) (sym q)
     (record {
       values = k.values;
@@ -76,6 +77,9 @@ local_is S M T C D E F p ds es xs ys a b none shown old new z h k q ev et =
         types = ap (types_onto C.types.types) ts;
         schemes = stays-on _ _ _ h.adds.schemes k.adds.schemes;
         level = k.adds.level ∙ h.adds.level;
+        rest =
+            ap (λ (z : Context). record z { values = with_entries C.values shown.values.items; types = type_scope C.types.tyvars (types_onto C.types.types shown.types.items) }) added.rest;
+        numbers = added.numbers;
       };
       grows = grows_on S M T h.grows k.grows;
       numbered = λ n.

@@ -1,5 +1,5 @@
 -- A context with what comes into scope.
-use Rattle.std.specs.Prelude.{◌≡◌, ℕ, List, [], ◌∷◌, map, Option, Some, None, nat_eq, if◌then◌else◌}
+use Rattle.std.specs.Prelude.{◌≡◌, ℕ, List, [], ◌∷◌, ◌++◌, map, Option, Some, None, nat_eq, if◌then◌else◌}
 use Rattle.std.specs.Option.{option_or}
 use Rattle.sml_tree.specs.declared.ident.Vid.{Vid}
 use Rattle.sml_tree.specs.declared.ident.Vid.TheVariants.{Named, Equals, Fresh}
@@ -51,7 +51,12 @@ type_scope tyvars types = record { tyvars = tyvars; types = types }
 abbrev pub with_types : Context → List (ℕ × TypeEntry) → Context
 with_types C ts = record C { types = type_scope C.types.tyvars (types_onto C.types.types ts) }
 
--- D has what C has, with these identifiers and type constructors, and may have further schemes and type names
+-- new is old with others in front
+pub record HasFront {A : Type 0} (old new : List A) : Type 0 where
+  pub own : List A
+  pub is : new ≡ own ++ old
+
+-- D has what C has, with these identifiers and type constructors, and may have further schemes and type names, with their numbers in the program
 pub record Adds (C D : Context) (es : List (Vid × Entry)) (ts : List (ℕ × TypeEntry)) : Type 0 where
   pub values : D.values ≡ with_entries C.values es
   pub structures : D.structures ≡ C.structures
@@ -60,3 +65,5 @@ pub record Adds (C D : Context) (es : List (Vid × Entry)) (ts : List (ℕ × Ty
   pub types : D.types.types ≡ types_onto C.types.types ts
   pub schemes : Begins C.schemes.items D.schemes.items
   pub level : D.level ≡ C.level
+  pub rest : D ≡ record C { values = D.values; types = D.types; schemes = D.schemes; names = D.names; naming = D.naming; numbers = D.numbers }
+  pub numbers : HasFront C.numbers D.numbers

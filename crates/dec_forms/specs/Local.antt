@@ -1,4 +1,4 @@
--- Where a `local` begins and ends.
+-- Where a `local` or a `let` begins and ends.
 use Rattle.std.specs.Prelude.{◌≡◌, List, [], length}
 use Rattle.mlc_base.specs.declared.place.Place.{Place}
 use Rattle.sml_tree.specs.BareTree as bare
@@ -11,9 +11,13 @@ use Rattle.dec_forms.specs.Bringing.{AreBringing, IsBringing}
 use Rattle.dec_forms.specs.Entries.{type_scope, types_onto}
 use Rattle.dec_forms.specs.declared.brought.Brought.{Brought}
 use Rattle.dec_forms.specs.declared.local.LocalMark.{LocalMark}
+use Rattle.dec_forms.specs.declared.block.BlockMark.{BlockMark}
 
 abbrev pub mark_in : Context → LocalMark
 mark_in C = record { values = mark_of C.values; types = record { tyvars = length C.types.tyvars; types = length C.types.types } }
+
+abbrev pub block_mark_in : Context → BlockMark
+block_mark_in C = record { local = mark_in C; names = C.names; naming = C.naming; numbers = length C.numbers }
 
 pub record IsEmpty (b : Brought) : Type 0 where
   pub values : b.values.items ≡ []

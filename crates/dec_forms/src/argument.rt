@@ -11,7 +11,7 @@ use elab_state::state::State;
 use elab_steps::step::{fresh_type, write};
 use elab_types::refused::Refused;
 use mlc_base::place::Place;
-use pat_matched::annotate::annotate;
+use pat_elab::annotate::annotate;
 use sml_tree::tree::Ty;
 use std::alloc::Global;
 use ty_core::mark::Mark;

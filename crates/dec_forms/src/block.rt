@@ -1,13 +1,19 @@
 // `let`.
-ghost use Rattle.std.specs.Prelude.{List, IfOk};
+ghost use Rattle.std.specs.Prelude.{◌≡◌, ℕ, List, IfOk};
+ghost use Rattle.sml_tree.specs.declared.ident.Vid.{Vid};
 ghost use Rattle.sml_tree.specs.BareTree.{Dec as SourceDec, Exp as SourceExp, let_in};
 ghost use Rattle.sml_tree.specs.TreeOf.{decs_of};
 ghost use Rattle.elab_context.specs.Telling.{IsContext};
 ghost use Rattle.elab_context.specs.declared.context.Context.{Context};
+ghost use Rattle.elab_context.specs.declared.entry.Entry.{Entry};
+ghost use Rattle.elab_types.specs.declared.scope.TypeEntry.{TypeEntry};
 ghost use Rattle.elab_steps.specs.Growing.{HasType};
 ghost use Rattle.use_elab.specs.Elaborated.{IsExp};
 ghost use Rattle.dec_forms.specs.Decs.{IsDecs};
+ghost use Rattle.dec_forms.specs.Entries.{Adds};
+ghost use Rattle.dec_forms.specs.Local.{block_mark_in};
 
+use crate::local::{LocalMark, begin_local};
 use elab_context::context::Context;
 use elab_state::state::State;
 use elab_steps::step::{fresh_type, unify, write};
@@ -18,6 +24,39 @@ use prog_tree::tree::{Dec, Exp};
 use std::alloc::Global;
 use ty_core::mark::Mark;
 use use_elab::typed::TypedExp;
+
+/// What is in scope where a `let` begins, and how many type names there are, with their numbers in the program.
+#[derive(Clone, Copy)]
+pub struct BlockMark {
+    pub local: LocalMark,
+    pub names: usize,
+    pub naming: Option<usize>,
+    pub numbers: usize,
+}
+
+/// Where a `let` begins.
+pub fn begin_block(context: &Context) -> BlockMark
+    ensures { result ≡ block_mark_in context.now }
+{
+    BlockMark {
+        local: begin_local(context),
+        names: context.names,
+        naming: context.naming,
+        numbers: context.numbers.len(),
+    }
+}
+
+/// Where a `let` ends: what its declarations brought goes, where they added no schemes.
+pub fn leave_block(context: &mut Context, mark: BlockMark)
+    ensures { (C : Context) (es : List (Vid × Entry)) (ts : List (ℕ × TypeEntry)) → mark ≡ block_mark_in C → Adds C context.old es ts
+        → context.old.schemes ≡ C.schemes → context.new ≡ C }
+{
+    context.values.leave(mark.local.values);
+    context.types.leave(mark.local.types);
+    context.numbers.truncate(mark.numbers);
+    context.names = mark.names;
+    context.naming = mark.naming;
+}
 
 /// Declarations before an expression, in the context before them: its type has no type name of theirs.
 pub fn block(

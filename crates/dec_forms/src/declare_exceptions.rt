@@ -31,6 +31,7 @@ pub fn exceptions(
 ) -> Result<Vec<Dec>, Refused>
     requires { IsContext state.old context.old }
     ensures context { IfOk result (λ _. IsContext state.new context.new) }
+    ensures schemes { IfOk result (λ _. context.new.schemes ≡ context.old.schemes) }
     ensures once { IfOk result (λ _. distinct same_vid (exn_vids (map ex_bind_of binds.now)) ≡ true) }
     ensures unkept { IfOk result (λ _. list_all may_construct (exn_vids (map ex_bind_of binds.now)) ≡ true) }
     ensures declared { IfOk result (λ decs. IsBringing state.old context.old (exception_dec place (map ex_bind_of binds.now)) state.new context.new decs.items

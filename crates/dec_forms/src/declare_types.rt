@@ -66,6 +66,7 @@ pub fn abbreviations(
 ) -> Result<(), Refused>
     requires { IsContext state.old context.old }
     ensures context { IfOk result (λ _. IsContext state.new context.new) }
+    ensures schemes { IfOk result (λ _. context.new.schemes ≡ context.old.schemes) }
     ensures once { IfOk result (λ _. distinct nat_eq (map (λ b. b.tycon) (map type_bind_of binds.now)) ≡ true) }
     ensures unrepeated { IfOk result (λ _. list_all (λ b. no_repetition b.tyvars) (map type_bind_of binds.now) ≡ true) }
     ensures declared { IfOk result (λ _. IsBringing state.old context.old (type_dec place (map type_bind_of binds.now)) state.new context.new []

@@ -48,6 +48,7 @@ pub fn end_local(
     ensures declared { IfOk result (λ _. (S M T : State) (C D : Context) (p : Place) (ds es : List SourceDec) (xs ys : List Dec) (a b none : Brought)
         → mark ≡ mark_in C → IsEmpty none → AreBringing S C ds M D xs a b → AreBringing M D es T context.old ys none shown.now
         → IsBringing S C (local_dec p (decs_of ds) (decs_of es)) T context.new (xs ++ ys) brought.old brought.new) }
+    ensures schemes { IfOk result (λ _. context.new.schemes ≡ context.old.schemes) }
 {
     context.values.leave(mark.values);
     context.types.leave(mark.types);

@@ -165,8 +165,8 @@ context_later S T C g i = record {
   entries = λ qs x e h. held-later S T C e g (i.entries qs x e h);
   numbered = numbered_later S.next T.next C g.next i.numbered;
   live = live-later S T g C.types.tyvars i.holds.tyvars i.known i.live;
-  level = g.level ∙ i.level;
-  tidy = subst (IsTidy T) (g.level ∙ i.level) (g.tidy (subst (IsTidy S) (sym i.level) i.tidy));
+  level = subst (λ n. C.level ≤ n) (sym g.level) i.level;
+  tidy = g.tidy i.tidy;
 }
 
 pub unbound_in : (C : Context) (x : LongVid) → entry_in C x.qualifiers x.vid ≡ None → IsUnboundIn C x

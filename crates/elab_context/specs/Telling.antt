@@ -187,6 +187,6 @@ pub record IsContext (S : State) (C : Context) : Type 0 where
   pub numbered : IsNumbered S.next C
   -- the types of type variables have no variable that is done with
   pub live : AreLive S C.types
-  -- the state is as deep, and tidy
-  pub level : S.level ≡ C.level
-  pub tidy : IsTidy S C.level
+  -- the state is as deep or deeper, and tidy
+  pub level : C.level ≤ S.level
+  pub tidy : IsTidy S S.level

@@ -32,6 +32,7 @@ use Rattle.exp_forms.specs.declared.parts.Listed.{Listed}
 use Rattle.exp_forms.proofs.Joining.{none_are}
 use Rattle.exp_forms.proofs.Nodes.{field-is}
 use Rattle.exp_forms.proofs.Turns.{sequence-is}
+use Rattle.elab_exps.specs.Decs.{StandsIn}
 
 -- the context is as it was
 
@@ -40,6 +41,9 @@ exp_in S T C D e r q h = subst (λ E. IsExp S E e T r) q h
 
 pub context_on : (S T : State) (C D : Context) → IsContext S C → Grows S T → D ≡ C → IsContext T D
 context_on S T C D h g q = subst (IsContext T) (sym q) (context_later S T C g h)
+
+pub stands_on : (S T : State) (C D : Context) → StandsIn S C → Grows S T → D ≡ C → StandsIn T D
+stands_on S T C D h g q = record { context = context_on S T C D h.context g q; level = g.level ∙ h.level ∙ ap (λ (k : Context). k.level) (sym q) }
 
 -- an element of a list is the same whatever stands in for it
 pub same-at : {A : Type 0} (xs : List A) (i : ℕ) (d e : A) → i < length xs → get_or xs i d ≡ get_or xs i e

@@ -1,5 +1,5 @@
 -- Loops along rules.
-use Rattle.std.proofs.Common.{◌≡◌, ◌<◌, ◌≤◌, ◌+◌, ℕ, List, [], ◌∷◌, ◌++◌, map, take, length, get_or, Vec, Box, Global, refl, sym, ap, ap₂, subst, ◌∙◌, arith}
+use Rattle.std.proofs.Common.{◌≡◌, ◌<◌, ◌≤◌, ◌+◌, ℕ, List, [], ◌∷◌, ◌++◌, map, take, length, get_or, drop, Vec, Box, Global, refl, sym, ap, ap₂, subst, ◌∙◌, arith}
 use Rattle.mlc_base.specs.declared.place.Place.{Place}
 use Rattle.ty_basis.specs.Types.{exn_type}
 use Rattle.sml_tree.specs.BareTree as bare
@@ -18,11 +18,15 @@ use Rattle.elab_context.specs.declared.context.Context.{Context}
 use Rattle.elab_context.proofs.Reading.{context_later}
 use Rattle.use_elab.specs.Elaborated.{IsExp}
 use Rattle.use_elab.specs.declared.typed.TypedExp.{TypedExp}
+use Rattle.core_elab.specs.Resolves.{IsCalled, called_app}
+use Rattle.exp_forms.specs.Calls.{IsCall}
+use Rattle.exp_forms.specs.declared.made.Called.{Called}
 use Rattle.exp_forms.specs.Begun.{IsBegun}
 use Rattle.exp_forms.specs.Rules.{AreRules}
 use Rattle.exp_forms.specs.declared.begun.RuleBegun.{RuleBegun}
 use Rattle.exp_forms.specs.declared.rules_made.RulesMade.{RulesMade}
 use Rattle.exp_forms.proofs.Nodes.{rule-is, source-Apply, source-Fn, source-Handle}
+use Rattle.elab_exps.specs.Decs.{StandsIn}
 use Rattle.elab_exps.proofs.Loops.{exp_in, same-at}
 
 pub record RulesSoFar (S : State) (C : Context) (m : RulesMade) (rs : List RuleOf) (T : State) (D : Context) (n : RulesMade) : Type 0 where
@@ -37,6 +41,10 @@ rules_begin S C m = record { same = refl; grows = grows_same S; domain = refl; r
 
 pub begun_grows : (S T : State) (C D : Context) (a : bare.Pat) (k : ℕ) (r : RuleBegun) → IsBegun S C a k T D r → Grows S T
 begun_grows S T C D a k r h = grows_on S h.middle T h.pat.grows h.entered.grows
+
+pub stands_begun : (S T : State) (C D : Context) (a : bare.Pat) (k : ℕ) (r : RuleBegun) → StandsIn S C → IsBegun S C a k T D r → StandsIn T D
+stands_begun S T C D a k r h b =
+    record { context = b.context; level = (begun_grows S T C D a k r b).level ∙ h.level ∙ ap (λ (z : Context). z.level) (sym b.within) }
 
 rule-at : (rs : List Rule) (i : ℕ) (d e f : Rule) (place : Place) → i < length rs → place ≡ (get_or rs i d).place
     → rule_of (get_or rs i d) ≡ record { place = place; pat = pat_of (get_or rs i e).pat; exp = exp_of (get_or rs i f).exp }
@@ -100,20 +108,25 @@ handle_is S M N T C D E w place a vs x rs body m r is ex ers q s h k d g made =
 
 -- `fn` applied
 
-one-of : (xs : List Exp) (x : Exp) → length xs ≡ 1 → x ≡ get_or xs 0 x → xs ≡ x ∷ []
-one-of [] x n is = absurd (omega (arith, n))
-one-of (y ∷ []) x n is = ap (λ z. z ∷ []) (sym is)
-one-of (y ∷ z ∷ zs) x n is = absurd (omega (arith, n))
+first-of : (xs : List Exp) (x : Exp) → 0 < length xs → x ≡ get_or xs 0 x → xs ≡ x ∷ drop 1 xs
+first-of [] x n is = absurd (omega (arith, n))
+first-of (y ∷ ys) x n is = ap (λ z. z ∷ ys) (sym is)
 
-pub applied_is : (S M T : State) (C D : Context) (e : Exp) (place : Place) (a : Box Exp Global) (es : Vec Exp Global) (f : Exp) (q : Place) (vs : Vec Rule Global) (rs : List Rule)
-    (xs : List Exp) (x : Exp) (taken r : TypedExp) → e ≡ node.Apply place a es → f ≡ a.value → xs ≡ es.items → f ≡ node.Fn q vs → rs ≡ vs.items → length xs ≡ 1 → x ≡ get_or xs 0 x → D ≡ C
-    → IsExp S C (exp_of x) M taken
-    → ((S : State) (p q : Place) (e : bare.Exp) → IsExp S D e M taken → IsExp S D (bare.app p (bare.fn q (rules_of (map rule_of rs))) e) T r) → IsExp S C (exp_of e) T r
-applied_is S M T C D e place a es f q vs rs xs x taken r is ef exs isf ers n isx s h made =
+pub applied_is : (S M N T : State) (C D F : Context) (e : Exp) (place : Place) (a : Box Exp Global) (es : Vec Exp Global) (f : Exp) (q : Place) (vs : Vec Rule Global) (rs : List Rule)
+    (xs ys : List Exp) (x : Exp) (taken one : TypedExp) (begun made : Called) (r : TypedExp) → e ≡ node.Apply place a es → f ≡ a.value → xs ≡ es.items → f ≡ node.Fn q vs → rs ≡ vs.items
+    → 0 < length xs → x ≡ get_or xs 0 x → ys ≡ drop 1 xs → D ≡ C → F ≡ D → IsExp S C (exp_of x) M taken
+    → ((S : State) (p q : Place) (e : bare.Exp) → IsExp S D e M taken → IsExp S D (bare.app p (bare.fn q (rules_of (map rule_of rs))) e) N one)
+    → ((S T : State) (C : Context) (place : Place) (e : bare.Exp) → IsExp S C e T one → IsCall S C place e T begun)
+    → ((R : State) (f : bare.Exp) → IsCalled f → IsCall R F place f N begun → IsCall R F place (app_of place f (map exp_of ys)) T made)
+    → ((S T : State) (C : Context) (e : bare.Exp) → IsCall S C place e T made → IsExp S C e T r) → IsExp S C (exp_of e) T r
+applied_is S M N T C D F e place a es f q vs rs xs ys x taken one begun made r is ef exs isf ers n isx rest s t h cased start calls finish =
     let function = bare.fn q (rules_of (map rule_of rs)) in
     let function-is : exp_of f ≡ function = ap exp_of isf ∙ source-Fn q vs ∙ ap (λ (l : List Rule). bare.fn q (rules_of (map rule_of l))) (sym ers) in
-    let whole = bare.app place function (exp_of x) in
+    let first = bare.app place function (exp_of x) in
+    let whole = app_of place first (map exp_of ys) in
     let node-is : exp_of e ≡ whole =
-    ap exp_of is ∙ source-Apply place a es ∙ ap₂ (λ (y : Exp) (ys : List Exp). app_of place (exp_of y) (map exp_of ys)) (sym ef) (sym exs)
-    ∙ ap₂ (λ (g : bare.Exp) (ys : List Exp). app_of place g (map exp_of ys)) function-is (one-of xs x n isx) in
-    subst (λ z. IsExp S C z T r) (sym node-is) (exp_in S T C D whole r s (made S place q (exp_of x) (exp_in S M D C (exp_of x) taken (sym s) h)))
+    ap exp_of is ∙ source-Apply place a es ∙ ap₂ (λ (y : Exp) (zs : List Exp). app_of place (exp_of y) (map exp_of zs)) (sym ef) (sym exs)
+    ∙ ap₂ (λ (g : bare.Exp) (zs : List Exp). app_of place g (map exp_of zs)) function-is (first-of xs x n isx ∙ ap (λ zs. x ∷ zs) (sym rest)) in
+    let k = cased S place q (exp_of x) (exp_in S M D C (exp_of x) taken (sym s) h) in
+    let b = start S N F place first (exp_in S N F D first one (sym t) k) in
+    subst (λ z. IsExp S C z T r) (sym node-is) (exp_in S T C F whole r (t ∙ s) (finish S T F whole (calls S first (called_app place function (exp_of x)) b)))

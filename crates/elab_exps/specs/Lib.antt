@@ -1,1 +1,3 @@
 pub mod Shapes
+pub mod Decs
+pub mod Inside

@@ -1,8 +1,11 @@
 // What isn't compiled yet.
+ghost use Rattle.std.specs.Prelude.{◌≡◌};
+ghost use Rattle.mlc_base.specs.declared.place.Place.{Place as PlaceAt};
+ghost use Rattle.pat_elab.specs.declared.stopped.Stopped.TheVariants.{Foreign};
 
-use elab_pats::stopped::Stopped;
 use mlc_base::place::Place;
-use sml_tree::tree::Exp;
+use pat_elab::stopped::Stopped;
+use sml_tree::tree::{Dec, Exp};
 
 /// The place of an expression.
 fn place_of(exp: &Exp) -> Place {
@@ -24,7 +27,32 @@ fn place_of(exp: &Exp) -> Place {
     }
 }
 
-/// An expression that isn't compiled yet.
-pub fn absent(exp: &Exp) -> Stopped {
+/// An expression that isn't compiled yet, with its place.
+pub fn absent(exp: &Exp) -> Stopped
+    ensures { (p : PlaceAt) × (result ≡ Foreign p) }
+{
     Stopped::Foreign(place_of(exp))
+}
+
+/// The place of a declaration.
+fn place_of_dec(dec: &Dec) -> Place {
+    match dec {
+        Dec::Val(place, _, _, _) => *place,
+        Dec::Fun(place, _, _) => *place,
+        Dec::Abbreviation(place, _) => *place,
+        Dec::Datatype(place, _) => *place,
+        Dec::Withtype(place, _, _) => *place,
+        Dec::Replicate(place, _, _) => *place,
+        Dec::Exception(place, _) => *place,
+        Dec::Local(place, _, _) => *place,
+        Dec::Open(place, _) => *place,
+        Dec::Declarations(place, _) => *place,
+    }
+}
+
+/// A declaration that isn't compiled yet, with its place.
+pub fn absent_dec(dec: &Dec) -> Stopped
+    ensures { (p : PlaceAt) × (result ≡ Foreign p) }
+{
+    Stopped::Foreign(place_of_dec(dec))
 }

@@ -1,19 +1,27 @@
-// Expressions, whatever their form: recursion along nesting, loops along lists. Each leaves the context as it found it.
-ghost use Rattle.std.specs.Prelude.{◌≡◌, [], map, IfOk};
+// Expressions and declarations, whatever their form: recursion along nesting, loops along lists. Each expression leaves the context as it found it.
+ghost use Rattle.std.specs.Prelude.{◌≡◌, ◌∷◌, [], map, IfOk};
+ghost use Rattle.dec_forms.specs.Bringing.{IsBringing};
 ghost use Rattle.sml_tree.specs.BareTree.{Exp as SourceExp, app, fields_exp, fn as fn_exp};
 ghost use Rattle.sml_tree.specs.Derived.{app_of, list_of as listed_exp, tuple};
-ghost use Rattle.sml_tree.specs.TreeOf.{exp_field_of, exp_fields_of, exp_of, rule_of, rules_of};
+ghost use Rattle.sml_tree.specs.TreeOf.{bind_of, dec_of, exp_field_of, exp_fields_of, exp_of, rule_of, rules_of};
 ghost use Rattle.core_elab.specs.Resolves.{IsCalled};
-ghost use Rattle.elab_context.specs.Telling.{IsContext};
+ghost use Rattle.elab_exps.specs.Decs.{AreDeclared, IsDeclared, StandsIn};
+ghost use Rattle.elab_exps.specs.Inside.{AreBound, IsWithin};
 ghost use Rattle.elab_steps.specs.Growing.{Grows, HasType};
 ghost use Rattle.use_elab.specs.Elaborated.{IsExp};
 ghost use Rattle.exp_forms.specs.Calls.{IsCall};
 ghost use Rattle.exp_forms.specs.Rules.{AreRules};
 
-use crate::absent::absent;
+use crate::absent::{absent, absent_dec};
+use crate::inside::{Inside, add_binding, none_inside};
+use crate::made::{add_dec, add_decs};
 use crate::shapes::{Shape, label_at, operator_of, shape_of};
+use dec_forms::block::{begin_block, block, leave_block};
+use dec_forms::brought::Brought;
+use dec_forms::declare_exceptions::exceptions;
+use dec_forms::declare_types::abbreviations;
+use dec_forms::local::{begin_local, end_local};
 use elab_context::context::Context;
-use elab_pats::stopped::Stopped;
 use elab_state::state::State;
 use exp_forms::annotated::with_type;
 use exp_forms::built::built;
@@ -32,8 +40,15 @@ use exp_forms::rules::{start_case, start_function, start_handle};
 use exp_forms::rules_made::RulesMade;
 use exp_forms::series::{add_before, add_operand, sequence};
 use exp_forms::steps::{begin_rule, end_rule};
+use general_decs::begin::{Begun, begin};
+use general_decs::finish::finish;
 use mlc_base::place::Place;
-use sml_tree::tree::{Exp, ExpField, Part, Rule};
+use pat_elab::bound::BoundVariable;
+use pat_elab::stopped::Stopped;
+use prog_tree::tree::Dec as ProgramDec;
+use scoped_tyvars::scoped::scoped_in_val;
+use sml_tree::ident::Tyvar;
+use sml_tree::tree::{Bind, Dec, Exp, ExpField, Part, Rule};
 use std::alloc::Global;
 use use_elab::typed::TypedExp;
 use use_elab::used::identifier;
@@ -47,7 +62,7 @@ fn record_of(
     place: Place,
     fields: &[ExpField],
 ) -> Result<TypedExp, Stopped>
-    requires { IsContext state.old context.old }
+    requires { StandsIn state.old context.old }
     ensures context { IfOk result (λ _. context.new ≡ context.old) }
     ensures is { IfOk result (λ r. IsExp state.old context.old (fields_exp place (exp_fields_of (map exp_field_of fields.now))) state.new r) }
 {
@@ -68,7 +83,7 @@ fn tuple_of(
     place: Place,
     parts: &[Exp],
 ) -> Result<TypedExp, Stopped>
-    requires { IsContext state.old context.old }
+    requires { StandsIn state.old context.old }
     ensures context { IfOk result (λ _. context.new ≡ context.old) }
     ensures is { IfOk result (λ r. IsExp state.old context.old (tuple place (map exp_of parts.now)) state.new r) }
 {
@@ -89,7 +104,7 @@ fn sequence_of(
     context: &mut Context,
     exp: &Exp,
 ) -> Result<TypedExp, Stopped>
-    requires { IsContext state.old context.old }
+    requires { StandsIn state.old context.old }
     ensures context { IfOk result (λ _. context.new ≡ context.old) }
     ensures is { IfOk result (λ r. IsExp state.old context.old (exp_of exp.now) state.new r) }
 {
@@ -122,7 +137,7 @@ fn calls_from(
     arguments: &[Exp],
     made: &mut Called,
 ) -> Result<(), Stopped>
-    requires context { IsContext state.old context.old }
+    requires context { StandsIn state.old context.old }
     requires made { HasType state.old made.old.ty }
     ensures context { IfOk result (λ _. context.new ≡ context.old) }
     ensures is { IfOk result (λ _. (S : State) (f : SourceExp) → IsCalled f → IsCall S context.old place f state.old made.old
@@ -143,7 +158,7 @@ fn apply_of(
     context: &mut Context,
     exp: &Exp,
 ) -> Result<TypedExp, Stopped>
-    requires { IsContext state.old context.old }
+    requires { StandsIn state.old context.old }
     ensures context { IfOk result (λ _. context.new ≡ context.old) }
     ensures is { IfOk result (λ r. IsExp state.old context.old (exp_of exp.now) state.new r) }
 {
@@ -171,7 +186,7 @@ fn list_of(
     place: Place,
     elements: &[Exp],
 ) -> Result<TypedExp, Stopped>
-    requires { IsContext state.old context.old }
+    requires { StandsIn state.old context.old }
     ensures context { IfOk result (λ _. context.new ≡ context.old) }
     ensures is { IfOk result (λ r. IsExp state.old context.old (listed_exp place (map exp_of elements.now)) state.new r) }
 {
@@ -193,7 +208,7 @@ fn tests_of(
     exp: &Exp,
     all: bool,
 ) -> Result<TypedExp, Stopped>
-    requires { IsContext state.old context.old }
+    requires { StandsIn state.old context.old }
     ensures context { IfOk result (λ _. context.new ≡ context.old) }
     ensures is { IfOk result (λ r. IsExp state.old context.old (exp_of exp.now) state.new r) }
 {
@@ -231,7 +246,7 @@ fn left_of(
     context: &mut Context,
     exp: &Exp,
 ) -> Result<TypedExp, Stopped>
-    requires { IsContext state.old context.old }
+    requires { StandsIn state.old context.old }
     ensures context { IfOk result (λ _. context.new ≡ context.old) }
     ensures is { IfOk result (λ r. IsExp state.old context.old (exp_of exp.now) state.new r) }
 {
@@ -260,7 +275,7 @@ fn right_of(
     context: &mut Context,
     exp: &Exp,
 ) -> Result<TypedExp, Stopped>
-    requires { IsContext state.old context.old }
+    requires { StandsIn state.old context.old }
     ensures context { IfOk result (λ _. context.new ≡ context.old) }
     ensures is { IfOk result (λ r. IsExp state.old context.old (exp_of exp.now) state.new r) }
 {
@@ -292,7 +307,7 @@ fn rules_from(
     rules: &[Rule],
     made: &mut RulesMade,
 ) -> Result<(), Stopped>
-    requires context { IsContext state.old context.old }
+    requires context { StandsIn state.old context.old }
     requires domain { HasType state.old made.old.domain }
     requires range { HasType state.old made.old.range }
     ensures context { IfOk result (λ _. context.new ≡ context.old) }
@@ -321,7 +336,7 @@ fn function_of(
     place: Place,
     rules: &[Rule],
 ) -> Result<TypedExp, Stopped>
-    requires { IsContext state.old context.old }
+    requires { StandsIn state.old context.old }
     ensures context { IfOk result (λ _. context.new ≡ context.old) }
     ensures is { IfOk result (λ r. IsExp state.old context.old (fn_exp place (rules_of (map rule_of rules.now))) state.new r) }
 {
@@ -340,7 +355,7 @@ fn case_from(
     taken: TypedExp,
     rules: &[Rule],
 ) -> Result<TypedExp, Stopped>
-    requires context { IsContext state.old context.old }
+    requires context { StandsIn state.old context.old }
     requires taken { HasType state.old taken.ty }
     ensures context { IfOk result (λ _. context.new ≡ context.old) }
     ensures is { IfOk result (λ r. (S : State) (p q : Place) (e : SourceExp) → IsExp S context.old e state.old taken
@@ -351,7 +366,7 @@ fn case_from(
     Ok(case_of(alloc, state, context, place, taken, made)?)
 }
 
-/// `fn` and its argument: a `case`. Further arguments of a `fn` aren't compiled yet.
+/// `fn` and its arguments: a `case`, applied to those behind the first.
 #[cycle(exps)]
 fn fn_applied(
     alloc: Global,
@@ -359,7 +374,7 @@ fn fn_applied(
     context: &mut Context,
     exp: &Exp,
 ) -> Result<TypedExp, Stopped>
-    requires { IsContext state.old context.old }
+    requires { StandsIn state.old context.old }
     ensures context { IfOk result (λ _. context.new ≡ context.old) }
     ensures is { IfOk result (λ r. IsExp state.old context.old (exp_of exp.now) state.new r) }
 {
@@ -371,12 +386,14 @@ fn fn_applied(
     let Exp::Fn(_, rules) = operator else {
         return Err(absent(exp));
     };
-    if arguments.len() != 1 {
+    if arguments.is_empty() {
         return Err(absent(exp));
     }
     let taken = elab_exp(alloc, state, context, &arguments[0])?;
     let made = case_from(alloc, state, context, *place, taken, rules)?;
-    Ok(made)
+    let mut made = start_call(alloc, made)?;
+    calls_from(alloc, state, context, *place, &arguments[1..], &mut made)?;
+    Ok(finish_call(*place, made))
 }
 
 /// `handle`.
@@ -387,7 +404,7 @@ fn handle_of(
     context: &mut Context,
     exp: &Exp,
 ) -> Result<TypedExp, Stopped>
-    requires { IsContext state.old context.old }
+    requires { StandsIn state.old context.old }
     ensures context { IfOk result (λ _. context.new ≡ context.old) }
     ensures is { IfOk result (λ r. IsExp state.old context.old (exp_of exp.now) state.new r) }
 {
@@ -408,7 +425,7 @@ pub fn elab_exp(
     context: &mut Context,
     exp: &Exp,
 ) -> Result<TypedExp, Stopped>
-    requires { IsContext state.old context.old }
+    requires { StandsIn state.old context.old }
     ensures context { IfOk result (λ _. context.new ≡ context.old) }
     ensures is { IfOk result (λ r. IsExp state.old context.old (exp_of exp.now) state.new r) }
 {
@@ -436,6 +453,183 @@ pub fn elab_exp(
         },
         Exp::Handle(_, _, _) => handle_of(alloc, state, context, exp),
         Exp::Fn(place, rules) => function_of(alloc, state, context, *place, rules),
-        Exp::Let(_, _, _) => Err(absent(exp)),
+        Exp::Let(_, _, _) => let_of(alloc, state, context, exp),
+    }
+}
+
+/// `let`: what its declarations bring is in scope in its expression alone.
+#[cycle(exps)]
+fn let_of(
+    alloc: Global,
+    state: &mut State,
+    context: &mut Context,
+    exp: &Exp,
+) -> Result<TypedExp, Stopped>
+    requires { StandsIn state.old context.old }
+    ensures context { IfOk result (λ _. context.new ≡ context.old) }
+    ensures is { IfOk result (λ r. IsExp state.old context.old (exp_of exp.now) state.new r) }
+{
+    let Exp::Let(place, decs, body) = exp else {
+        return Err(absent(exp));
+    };
+    let mark = begin_block(context);
+    let mut brought = Brought::new(alloc);
+    let mut made = Vec::new(alloc);
+    decs_from(alloc, state, context, decs, &mut made, &mut brought)?;
+    let body = elab_exp(alloc, state, context, body)?;
+    leave_block(context, mark);
+    Ok(block(alloc, state, context, *place, made, body)?)
+}
+
+/// Declarations, one after the other: each in the scope of those before.
+#[cycle(exps)]
+fn decs_from(
+    alloc: Global,
+    state: &mut State,
+    context: &mut Context,
+    decs: &[Dec],
+    made: &mut Vec<ProgramDec>,
+    brought: &mut Brought,
+) -> Result<(), Stopped>
+    requires { StandsIn state.old context.old }
+    ensures { IfOk result (λ _. AreDeclared state.old context.old (map dec_of decs.now) state.new context.new made.old.items made.new.items
+        brought.old brought.new) }
+{
+    for i in 0..decs.len() {
+        elab_dec(alloc, state, context, &decs[i], made, brought)?;
+    }
+    Ok(())
+}
+
+/// `local`: what its first part brings is in scope in the second alone.
+#[cycle(exps)]
+fn local_of(
+    alloc: Global,
+    state: &mut State,
+    context: &mut Context,
+    dec: &Dec,
+    made: &mut Vec<ProgramDec>,
+    brought: &mut Brought,
+) -> Result<(), Stopped>
+    requires { StandsIn state.old context.old }
+    ensures { IfOk result (λ _. IsDeclared state.old context.old (dec_of dec.now) state.new context.new made.old.items made.new.items brought.old brought.new) }
+{
+    let Dec::Local(_, first, second) = dec else {
+        return Err(absent_dec(dec));
+    };
+    let mark = begin_local(context);
+    let mut hidden = Brought::new(alloc);
+    decs_from(alloc, state, context, first, made, &mut hidden)?;
+    let mut shown = Brought::new(alloc);
+    decs_from(alloc, state, context, second, made, &mut shown)?;
+    end_local(context, mark, &shown, brought)?;
+    Ok(())
+}
+
+/// Bindings inside their declaration.
+#[cycle(exps)]
+fn bindings_from(
+    alloc: Global,
+    state: &mut State,
+    context: &mut Context,
+    begun: Begun,
+    scoped: &[Tyvar],
+    binds: &[Bind],
+) -> Result<Inside, Stopped>
+    requires context { StandsIn state.old context.old }
+    requires within { IsWithin context.old begun scoped.now }
+    ensures context { IfOk result (λ _. context.new ≡ context.old) }
+    ensures are { IfOk result (λ r. AreBound state.old context.old begun (map bind_of binds.now) state.new r) }
+{
+    let mut inside = none_inside(alloc);
+    for i in 0..binds.len() {
+        let exp = elab_exp(alloc, state, context, &binds[i].exp)?;
+        add_binding(
+            alloc,
+            state,
+            context,
+            begun,
+            scoped,
+            &binds[i],
+            exp,
+            &mut inside,
+        )?;
+    }
+    Ok(inside)
+}
+
+/// `val` without `rec`.
+#[cycle(exps)]
+fn val_of(
+    alloc: Global,
+    state: &mut State,
+    context: &mut Context,
+    dec: &Dec,
+    brought: &mut Brought,
+) -> Result<ProgramDec, Stopped>
+    requires { StandsIn state.old context.old }
+    ensures stands { IfOk result (λ _. StandsIn state.new context.new) }
+    ensures schemes { IfOk result (λ _. context.new.schemes ≡ context.old.schemes) }
+    ensures brings { IfOk result (λ d. IsBringing state.old context.old (dec_of dec.now) state.new context.new (d ∷ []) brought.old brought.new) }
+{
+    let Dec::Val(place, tyvars, binds, functions) = dec else {
+        return Err(absent_dec(dec));
+    };
+    let binds: &[Bind] = binds;
+    let functions: &[Bind] = functions;
+    if functions.len() > 0 {
+        return Err(absent_dec(dec));
+    }
+    let tyvars: &[Tyvar] = &tyvars.tyvars;
+    let scoped = scoped_in_val(alloc, &context.types.tyvars, tyvars, binds, functions)?;
+    let scoped: &[Tyvar] = &scoped;
+    let begun = begin(alloc, state, context, *place, scoped)?;
+    let inside = bindings_from(alloc, state, context, begun, scoped, binds)?;
+    let Inside {
+        bound,
+        flags,
+        binds,
+    } = inside;
+    let bound: &[BoundVariable] = &bound;
+    let flags: &[bool] = &flags;
+    let none = Vec::new(alloc);
+    let made = finish(
+        alloc, state, context, *place, begun, scoped, bound, flags, binds, none, brought,
+    )?;
+    Ok(made)
+}
+
+/// A declaration: its part of the program stands behind what was made, and what it brings is in scope.
+#[cycle(exps)]
+pub fn elab_dec(
+    alloc: Global,
+    state: &mut State,
+    context: &mut Context,
+    dec: &Dec,
+    made: &mut Vec<ProgramDec>,
+    brought: &mut Brought,
+) -> Result<(), Stopped>
+    requires { StandsIn state.old context.old }
+    ensures { IfOk result (λ _. IsDeclared state.old context.old (dec_of dec.now) state.new context.new made.old.items made.new.items brought.old brought.new) }
+{
+    match dec {
+        Dec::Val(_, _, _, _) => {
+            let one = val_of(alloc, state, context, dec, brought)?;
+            Ok(add_dec(made, one)?)
+        }
+        Dec::Abbreviation(place, binds) => {
+            Ok(abbreviations(alloc, state, context, *place, binds, brought)?)
+        }
+        Dec::Exception(place, binds) => {
+            let new = exceptions(alloc, state, context, *place, binds, brought)?;
+            Ok(add_decs(made, new)?)
+        }
+        Dec::Local(_, _, _) => local_of(alloc, state, context, dec, made, brought),
+        Dec::Declarations(_, decs) => decs_from(alloc, state, context, decs, made, brought),
+        Dec::Fun(_, _, _) => Err(absent_dec(dec)),
+        Dec::Datatype(_, _) => Err(absent_dec(dec)),
+        Dec::Withtype(_, _, _) => Err(absent_dec(dec)),
+        Dec::Replicate(_, _, _) => Err(absent_dec(dec)),
+        Dec::Open(_, _) => Err(absent_dec(dec)),
     }
 }

@@ -3,4 +3,6 @@
 
 pub mod absent;
 pub mod exps;
+pub mod inside;
+pub mod made;
 pub mod shapes;

@@ -27,11 +27,11 @@ use Rattle.elab_worlds.proofs.Ground.{grounded, ground-over, names-over, over-st
 
 -- the numbers of a row of namings
 
-next-at : (qs before after : List Naming) (r : Naming) → AreNext qs (before ++ r ∷ after) → IsNext (qs ++ before) r
+pub next-at : (qs before after : List Naming) (r : Naming) → AreNext qs (before ++ r ∷ after) → IsNext (qs ++ before) r
 next-at qs [] after r h = subst (λ l. IsNext l r) (sym (append-nil qs)) h.0
 next-at qs (q ∷ before) after r h = subst (λ l. IsNext l r) (append_assoc qs (q ∷ []) before) (next-at (qs ++ q ∷ []) before after r h.1)
 
-among-found : (rs : List Naming) (k n : ℕ) → IsAbove n (slice_get rs k) → k < length rs
+pub among-found : (rs : List Naming) (k n : ℕ) → IsAbove n (slice_get rs k) → k < length rs
 among-found [] k n h = absurd h
 among-found (r ∷ rs) zero n h = omega arith
 among-found (r ∷ rs) (suc k) n h = let l = among-found rs k n h in omega (arith, l)
@@ -56,12 +56,12 @@ pub record Split (rs : List Naming) (k : ℕ) (r : Naming) : Type 0 where
   pub is : rs ≡ before ++ r ∷ after
   pub at : k ≡ length before
 
-split : (rs : List Naming) (k : ℕ) (r : Naming) → slice_get rs k ≡ Some r → Split rs k r
+pub split : (rs : List Naming) (k : ℕ) (r : Naming) → slice_get rs k ≡ Some r → Split rs k r
 split [] k r e = cc
 split (q ∷ rs) zero r e = let s : q ≡ r = cc in record { before = []; after = rs; is = ap (λ x. x ∷ rs) s; at = refl }
 split (q ∷ rs) (suc k) r e = let s = split rs k r e in record { before = q ∷ s.before; after = s.after; is = ap (λ l. q ∷ l) s.is; at = ap suc s.at }
 
-numbers-at : (rs : List Naming) (k : ℕ) (r : Naming) (x : ℕ) → AreNamings rs → slice_get rs k ≡ Some r → number_in rs (Some k) x ≡ (if nat_eq r.stamp x then r.number else number_in rs r.before x)
+pub numbers-at : (rs : List Naming) (k : ℕ) (r : Naming) (x : ℕ) → AreNamings rs → slice_get rs k ≡ Some r → number_in rs (Some k) x ≡ (if nat_eq r.stamp x then r.number else number_in rs r.before x)
 numbers-at rs k r x h e =
     let s = split rs k r e in
     subst (λ j. number_in rs (Some j) x ≡ (if nat_eq r.stamp x then r.number else number_in rs r.before x)) (sym s.at)

@@ -20,7 +20,7 @@ use Rattle.elab_typed.specs.Instances.{as_typed}
 use Rattle.elab_typed.specs.Numbers.{type_as}
 use Rattle.elab_typed.proofs.Names.{over-as}
 use Rattle.elab_state.specs.declared.state.State.{State}
-use Rattle.elab_instances.specs.Fresh.{images_of}
+use Rattle.use_elab.specs.Fresh.{images_of}
 use Rattle.elab_steps.specs.Growing.{HasType, AreTypes, Grows, Always}
 use Rattle.elab_steps.specs.World.{World, type_of, Comes}
 use Rattle.elab_steps.proofs.Growing.{grows_on, grows_same, type_later, comes_before}

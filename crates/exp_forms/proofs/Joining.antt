@@ -15,8 +15,8 @@ use Rattle.elab_state.specs.declared.state.State.{State}
 use Rattle.elab_steps.specs.Growing.{Grows, Always}
 use Rattle.elab_steps.specs.World.{World, type_of}
 use Rattle.elab_steps.proofs.Growing.{grows_same, grows_on, type_later, comes_before}
-use Rattle.elab_instances.specs.Fresh.{images_of}
-use Rattle.elab_instances.proofs.Making.{types_later, types-snoc}
+use Rattle.use_elab.specs.Fresh.{images_of}
+use Rattle.use_elab.proofs.Making.{types_later, types-snoc}
 use Rattle.elab_context.specs.declared.context.Context.{Context}
 use Rattle.use_elab.specs.Elaborated.{ElaboratesExp, IsExp}
 use Rattle.use_elab.specs.declared.typed.TypedExp.{TypedExp}

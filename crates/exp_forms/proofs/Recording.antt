@@ -28,7 +28,7 @@ use Rattle.elab_steps.specs.Rows.{row_of}
 use Rattle.elab_steps.specs.World.{World, type_of}
 use Rattle.elab_steps.proofs.Growing.{grows_on, type_later, comes_before}
 use Rattle.elab_steps.proofs.Sorting.{row-sorted}
-use Rattle.elab_instances.specs.Fresh.{images_of}
+use Rattle.use_elab.specs.Fresh.{images_of}
 use Rattle.elab_context.specs.declared.context.Context.{Context}
 use Rattle.use_elab.specs.Elaborated.{ElaboratesExp, IsExp}
 use Rattle.use_elab.specs.declared.typed.TypedExp.{TypedExp}

@@ -16,7 +16,7 @@ use Rattle.elab_typed.specs.Elaborates.{ExpElab}
 use Rattle.elab_state.specs.declared.state.State.{State}
 use Rattle.elab_steps.specs.Growing.{AreTypes, Grows, Always}
 use Rattle.elab_steps.specs.World.{World, Comes}
-use Rattle.elab_instances.specs.Fresh.{images_of}
+use Rattle.use_elab.specs.Fresh.{images_of}
 use Rattle.elab_context.specs.Telling.{Tells}
 use Rattle.elab_context.specs.declared.context.Context.{Context}
 use Rattle.exp_forms.specs.declared.made.FieldsMade.{FieldsMade}

@@ -10,7 +10,7 @@ use elab_context::context::Context;
 use elab_state::state::State;
 use elab_types::refused::Refused;
 use mlc_base::place::Place;
-use pat_matched::annotate::annotate;
+use pat_elab::annotate::annotate;
 use sml_tree::tree::Ty;
 use std::alloc::Global;
 use use_elab::typed::TypedExp;

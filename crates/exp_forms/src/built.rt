@@ -21,7 +21,7 @@ use mlc_base::make::one;
 use mlc_base::memory::NoMemory;
 use mlc_base::place::Place;
 use mlc_names::words;
-use pat_matched::built::{lists, pairs};
+use pat_elab::built::{lists, pairs};
 use prog_tree::tree::Used;
 use sml_tree::ident::BuiltIn;
 use std::alloc::Global;

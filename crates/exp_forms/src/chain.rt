@@ -17,7 +17,7 @@ use elab_types::refused::Refused;
 use mlc_base::make::boxed;
 use mlc_base::memory::NoMemory;
 use mlc_base::place::Place;
-use pat_matched::built::pairs;
+use pat_elab::built::pairs;
 use prog_tree::tree::{Exp, Join, Side};
 use sml_tree::ident::LongVid;
 use std::alloc::Global;

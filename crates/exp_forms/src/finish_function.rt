@@ -2,7 +2,7 @@
 ghost use Rattle.std.specs.Prelude.{◌≡◌, ◌++◌, ◌∷◌, [], IfOk, List};
 ghost use Rattle.sml_tree.specs.BareTree.{Exp as SourceExp, Rules, fn as function_exp};
 ghost use Rattle.elab_context.specs.Telling.{IsContext};
-ghost use Rattle.elab_instances.specs.Fresh.{images_of};
+ghost use Rattle.use_elab.specs.Fresh.{images_of};
 ghost use Rattle.elab_steps.specs.Growing.{HasType, AreTypes, Always, Grows};
 ghost use Rattle.elab_steps.specs.World.{type_of};
 ghost use Rattle.use_elab.specs.Elaborated.{IsExp};

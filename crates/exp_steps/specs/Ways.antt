@@ -21,6 +21,12 @@ built_of (built.Constructor k) R = clean.a_con k
 built_of (built.Reference held) R = clean.a_ref (R.type held)
 built_of (built.Exception x) R = clean.an_exn (exc_of x)
 
+-- the type that a construction of type t from a value of type u is made at
+abbrev pub made_at : clean.Built → (t u : Typ) → Typ
+made_at (clean.a_con k) t u = t
+made_at (clean.a_ref w) t u = w
+made_at (clean.an_exn x) t u = u
+
 abbrev pub type_or_unit : Option ℕ → Reading → Typ
 type_or_unit (Some k) R = R.type k
 type_or_unit None R = unit_type

@@ -2,17 +2,20 @@
 ghost use Rattle.std.specs.Prelude.{◌≡◌, IfOk, List, [], ◌∷◌};
 ghost use Rattle.mlc_names.specs.declared.label.Label.TheVariants.{Number};
 ghost use Rattle.ir_plain.specs.Tree.{make_record, no_row};
+ghost use Rattle.ty_core.specs.Types.{Typ};
+ghost use Rattle.ty_table.specs.TypeAt.{type_at};
 ghost use Rattle.ir_poly.specs.Prog.{Exp as Source, Fields, type_of};
 ghost use Rattle.ir_poly.specs.Types.{unit_type};
 ghost use Rattle.match_compile.specs.Compile.{way, by_call, by_building, by_performing, scoped, building};
+ghost use Rattle.plain_tree.specs.TreeOf.{operation_of};
 ghost use Rattle.plain_tree.specs.declared.tree.Step.{Step as Row};
 ghost use Rattle.prog_tree.specs.TreeOf.{Reading, tree_of};
-ghost use Rattle.match_types.specs.Views.{View, Keeps, Stands};
+ghost use Rattle.match_types.specs.Views.{View, reading, Keeps, Stands};
 ghost use Rattle.match_types.specs.declared.work.Work.{Work as State};
 ghost use Rattle.match_types.specs.declared.work.ValueType.TheVariants.{Source as OfSource, Unit as OfUnit};
 ghost use Rattle.exp_steps.specs.Making.{Makes, MakesAll, MakesTuple, Weighs, Begun, Pushed, atoms_in};
 ghost use Rattle.exp_steps.specs.Made.{raised, applied, recorded};
-ghost use Rattle.exp_steps.specs.Ways.{built_of, type_or_unit as known_type};
+ghost use Rattle.exp_steps.specs.Ways.{built_of, made_at, type_or_unit as known_type};
 
 use crate::operations::push_operation;
 use crate::records::in_order;
@@ -133,6 +136,44 @@ pub fn push_beginning(
     Ok(name)
 }
 
+/// The type that a construction of type `u` from a value of type `argument` is made at.
+fn built_at(built: Built, u: usize, argument: usize) -> usize
+    ensures { (R : Reading) → R.type result ≡ made_at (built_of built R) (R.type u) (R.type argument) }
+{
+    match built {
+        Built::Constructor(_) => u,
+        Built::Reference(held) => held,
+        Built::Exception(_) => argument,
+    }
+}
+
+/// A construction, with the type that it is made at over the parameters in scope.
+fn construction(built: Built, name: usize, place: Place, ty: usize, value: usize) -> Operation
+    ensures { (v : View) (u w : Typ) → type_at v.types ty ≡ scoped v.scope (made_at (built_of built v.source) u w)
+        → operation_of (reading v) result ≡ building v.scope (built_of built v.source) place u w name value }
+{
+    let place = Some(place);
+    match built {
+        Built::Constructor(constructor) => Operation::Construct {
+            place,
+            constructor,
+            ty,
+            argument: value,
+        },
+        Built::Reference(_) => Operation::Refer {
+            place,
+            ty,
+            argument: value,
+        },
+        Built::Exception(_) => Operation::Pack {
+            place,
+            ty,
+            exception: name,
+            argument: value,
+        },
+    }
+}
+
 /// A construction of type `u` from a value of type `argument`.
 fn push_construction(
     alloc: Global,
@@ -148,40 +189,11 @@ fn push_construction(
     ensures { IfOk result (λ a. Pushed work.old work.new steps.old.items steps.new.items (OfSource u)
         (λ v. building v.scope (built_of built v.source) place (v.source.type u) (v.source.type argument) name value) a) }
 {
-    match built {
-        Built::Constructor(constructor) => {
-            let ty = scoped_type(alloc, work, ValueType::Source(u))?;
-            let operation = Operation::Construct {
-                place: Some(place),
-                constructor,
-                ty,
-                argument: value,
-            };
-            let a = push_operation(alloc, work, ValueType::Source(u), operation, steps)?;
-            Ok(a)
-        }
-        Built::Reference(held) => {
-            let ty = scoped_type(alloc, work, ValueType::Source(held))?;
-            let operation = Operation::Refer {
-                place: Some(place),
-                ty,
-                argument: value,
-            };
-            let a = push_operation(alloc, work, ValueType::Source(u), operation, steps)?;
-            Ok(a)
-        }
-        Built::Exception(_) => {
-            let ty = scoped_type(alloc, work, ValueType::Source(argument))?;
-            let operation = Operation::Pack {
-                place: Some(place),
-                ty,
-                exception: name,
-                argument: value,
-            };
-            let a = push_operation(alloc, work, ValueType::Source(u), operation, steps)?;
-            Ok(a)
-        }
-    }
+    let at = built_at(built, u, argument);
+    let ty = scoped_type(alloc, work, ValueType::Source(at))?;
+    let operation = construction(built, name, place, ty, value);
+    let a = push_operation(alloc, work, ValueType::Source(u), operation, steps)?;
+    Ok(a)
 }
 
 /// What is built from the value of an argument, whose type is given.

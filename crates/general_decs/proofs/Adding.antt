@@ -49,7 +49,7 @@ none_are_inside S C s = record {
   gives = λ W c A t m qs k u. record {
     groups = [];
     choices = [];
-    elab = λ h le. record { next = h; most = le; elab = none_inside };
+    elab = λ e h le lt. record { next = h; most = lt; elab = none_inside };
     bound = refl;
     flags = refl;
     used = tt;
@@ -84,19 +84,19 @@ module _ (W : World) (A : Around) (m : Map ℕ Typ) (qs : List Quantified) (k n 
       record {
         groups = from.groups ++ added ∷ [];
         choices = from.choices ++ (a.choices, e.choices) ∷ [];
-        elab = λ h l.
-            let f = from.elab h l in
+        elab = λ y h l lt.
+            let f = from.elab y h l lt in
             let d = lowered W.table B f.next (at-most f.next n p f.most up-to) a.elab in
             record {
               next = d.next;
               most = at-most d.next i j d.most up;
               elab =
-                  general-snoc W A B h r b x added f.elab d.elab (e.elab h (at-most h k later l (at-most k n later lowest behind))) s v
+                  general-snoc W A B y r b x added f.elab d.elab (e.elab y (at-most y k later l (at-most k n later lowest behind))) s v
                   (over-as A.number B.parameters t ∙ a.parameters) g w;
             };
         bound = bound-snoc from.groups added ∙ ap (λ l. l ++ added) from.bound;
         flags =
-            flags-snoc W A B k b x added (from.elab k (omega arith)).elab
+            flags-snoc W A B k b x added (from.elab k k (omega arith) (omega arith)).elab
             ∙ ap₂ (λ l z. l ++ marked_as z added) from.flags g;
         used = flagged-both (IsUsedAs W A B) before added fs (marked_as true added) from.used (flagged-as (IsUsedAs W A B) true added used);
       }
@@ -109,19 +109,19 @@ module _ (W : World) (A : Around) (m : Map ℕ Typ) (qs : List Quantified) (k n 
       record {
         groups = from.groups ++ added ∷ [];
         choices = from.choices ++ (a.choices, e.choices) ∷ [];
-        elab = λ h l.
-            let f = from.elab h l in
+        elab = λ y h l lt.
+            let f = from.elab y h l lt in
             let d = lowered W.table A f.next (at-most f.next n p f.most up-to) a.elab in
             record {
               next = d.next;
               most = at-most d.next i j d.most up;
               elab =
-                  plain-snoc W A B h r b x added f.elab (pat-wider A m keeps W.table d.elab) (e.elab h (at-most h k later l (at-most k n later lowest behind)))
+                  plain-snoc W A B y r b x added f.elab (pat-wider A m keeps W.table d.elab) (e.elab y (at-most y k later l (at-most k n later lowest behind)))
                   (all-over W A added used) (over-as A.number A.parameters t ∙ a.parameters) g w;
             };
         bound = bound-snoc from.groups added ∙ ap (λ l. l ++ added) from.bound;
         flags =
-            flags-snoc W A B k b x added (from.elab k (omega arith)).elab
+            flags-snoc W A B k b x added (from.elab k k (omega arith) (omega arith)).elab
             ∙ ap₂ (λ l z. l ++ marked_as z added) from.flags g;
         used = flagged-both (IsUsedAs W A B) before added fs (marked_as false added) from.used (flagged-as (IsUsedAs W A B) false added used);
       }

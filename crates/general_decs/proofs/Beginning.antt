@@ -27,11 +27,11 @@ use Rattle.elab_context.specs.declared.context.Context.{Context}
 use Rattle.elab_context.specs.declared.entry.Entry.{Entry}
 use Rattle.elab_context.specs.declared.entry.Entry.TheVariants.{Constructor, Reference, Initial, Primitive, Raised, Single, Own, General}
 use Rattle.elab_context.proofs.Reading.{context_later}
-use Rattle.general_decs.specs.Scoped.{CameIntoScope, IsBegun, IsFurther}
+use Rattle.general_decs.specs.Scoped.{CameByName, CameIntoScope, IsBegun, IsFurther}
 
 -- contexts with the same schemes
 
-held-as : (S : State) (C D : Context) (e : Entry) → D.schemes ≡ C.schemes → IsHeld S C e → IsHeld S D e
+pub held-as : (S : State) (C D : Context) (e : Entry) → D.schemes ≡ C.schemes → IsHeld S C e → IsHeld S D e
 held-as S C D (Constructor s n y) q h = subst (λ (z : _). s < length z.items) (sym q) h
 held-as S C D (Reference s) q h = subst (λ (z : _). s < length z.items) (sym q) h
 held-as S C D (Initial s n) q h = subst (λ (z : _). s < length z.items) (sym q) h
@@ -85,7 +85,14 @@ came-one S T a k old new b is absent found e W c = (
   e,
 )
 
+pub named-one : (a : Tyvar) (k : ℕ) (old new : List (ℕ × ℕ)) (b : Bool) → b ≡ false → b ≡ is_some (lookup (nat_eq a.name) old) → new ≡ (a.name, k) ∷ old → CameByName (a ∷ []) old new
+named-one a k old new b absent found e = (k, none-of (lookup (nat_eq a.name) old) b absent found, e)
+
 -- one after the other
+
+named-snoc : (as_ : List Tyvar) (a : Tyvar) (old mid new : List (ℕ × ℕ)) → CameByName as_ old mid → CameByName (a ∷ []) mid new → CameByName (as_ ++ a ∷ []) old new
+named-snoc [] a old mid new h k = (k.0, ap (lookup (nat_eq a.name)) (sym h) ∙ k.1, k.2 ∙ ap (λ (l : List (ℕ × ℕ)). (a.name, k.0) ∷ l) h)
+named-snoc (b ∷ as_) a old mid new h k = (h.0, h.1, named-snoc as_ a ((b.name, h.0) ∷ old) mid new h.2 k)
 
 came-snoc : (W : World) (v w : ℕ) (as_ : List Tyvar) (a : Tyvar) (old mid new : List (ℕ × ℕ)) → w ≡ v + length as_ → CameIntoScope W v as_ old mid → CameIntoScope W w (a ∷ []) mid new
     → CameIntoScope W v (as_ ++ a ∷ []) old new
@@ -110,6 +117,10 @@ came-next S M T as_ i a old mid new lt is g n h k W c =
     subst (λ l. CameIntoScope W (made S) l old new) (take-next as_ i a lt is)
     (came-snoc W (made S) (made M) (take i as_) a old mid new w (h W (comes_before M T W g c)) (k W c))
 
+pub named-next : (as_ : List Tyvar) (i : ℕ) (a : Tyvar) (old mid new : List (ℕ × ℕ)) → i < length as_ → a ≡ get_or as_ i a → CameByName (take i as_) old mid
+    → CameByName (a ∷ []) mid new → CameByName (take (i + 1) as_) old new
+named-next as_ i a old mid new lt is h k = subst (λ l. CameByName l old new) (take-next as_ i a lt is) (named-snoc (take i as_) a old mid new h k)
+
 taken : {A : Type 0} (xs : List A) (i : ℕ) → length xs ≤ i → take i xs ≡ xs
 taken [] ℕ.zero le = refl
 taken [] (suc i) le = refl
@@ -119,6 +130,9 @@ taken (x ∷ xs) (suc i) le = ap (λ l. x ∷ l) (taken xs i (omega (arith, le))
 pub came-ends : (T : State) (v i : ℕ) (as_ : List Tyvar) (old new : List (ℕ × ℕ)) → length as_ ≤ i → Always T (λ W. CameIntoScope W v (take i as_) old new)
     → Always T (λ W. CameIntoScope W v as_ old new)
 came-ends T v i as_ old new le h W c = subst (λ l. CameIntoScope W v l old new) (taken as_ i le) (h W c)
+
+pub named-ends : (i : ℕ) (as_ : List Tyvar) (old new : List (ℕ × ℕ)) → length as_ ≤ i → CameByName (take i as_) old new → CameByName as_ old new
+named-ends i as_ old new le h = subst (λ l. CameByName l old new) (taken as_ i le) h
 
 further-on : (old mid new : List (ℕ × ℕ)) → IsFurther old mid → IsFurther mid new → IsFurther old new
 further-on old mid new h k = record { own = k.own ++ h.own; is = k.is ∙ ap (λ l. k.own ++ l) h.is ∙ sym (Rattle.std.proofs.lemmas.List.append_assoc k.own h.own old) }
@@ -142,19 +156,19 @@ all-entered : (S E : State) (xs : List (ℕ × ℕ)) → Enters S E → AllByRec
 all-entered S E [] e h = tt
 all-entered S E (x ∷ xs) e h = (entered-type S E e x.1 h.0, all-entered S E xs e h.1)
 
-pub context_deeper : (S E : State) (C D : Context) → IsContext S C → Enters S E → E.level < dead_level → D ≡ record C { level = E.level } → D ≡ deeper C C.types
-context_deeper S E C D i e low q = let n : E.level ≡ suc C.level = (let a = e.level in let b = i.level in omega (arith, a, b)) in q ∙ ap (λ (n : ℕ). record C { level = n }) n
+pub context_deeper : (S E : State) (C D : Context) → S.level ≡ C.level → Enters S E → E.level < dead_level → D ≡ record C { level = E.level } → D ≡ deeper C C.types
+context_deeper S E C D i e low q = let n : E.level ≡ suc C.level = (let a = e.level in omega (arith, a, i)) in q ∙ ap (λ (n : ℕ). record C { level = n }) n
 
-pub context_entered : (S E : State) (C D : Context) → IsContext S C → Enters S E → E.level < dead_level → D ≡ record C { level = E.level } → IsContext E D
-context_entered S E C D i e low q =
-    subst (IsContext E) (sym (context_deeper S E C D i e low q))
-    (context-inside C C.types S E E (let a = e.level in let b = i.level in omega (arith, a, b, low)) e (grows_same E) i refl
+pub context_entered : (S E : State) (C D : Context) → S.level ≡ C.level → IsContext S C → Enters S E → E.level < dead_level → D ≡ record C { level = E.level } → IsContext E D
+context_entered S E C D same i e low q =
+    subst (IsContext E) (sym (context_deeper S E C D same e low q))
+    (context-inside C C.types S E E (let a = e.level in omega (arith, a, low)) e (grows_same E) i refl
     (all-entered S E C.types.tyvars e (tyvars-are S C.types.tyvars i.holds.tyvars i.known i.live)))
 
 pub begun-is : (S E T : State) (C D F : Context) (scoped : List Tyvar) → Enters S E → D ≡ deeper C C.types → Grows E T → T.next ≡ E.next → F ≡ record D { types = F.types }
-    → F.types.types ≡ D.types.types → IsFurther D.types.tyvars F.types.tyvars → Always T (λ W. CameIntoScope W (made E) scoped D.types.tyvars F.types.tyvars)
+    → F.types.types ≡ D.types.types → IsFurther D.types.tyvars F.types.tyvars → CameByName scoped D.types.tyvars F.types.tyvars → Always T (λ W. CameIntoScope W (made E) scoped D.types.tyvars F.types.tyvars)
     → IsBegun S C scoped T F
-begun-is S E T C D F scoped e d g nx q ts f came = record {
+begun-is S E T C D F scoped e d g nx q ts f named came = record {
   entered = E;
   enters = e;
   grows = g;
@@ -162,6 +176,7 @@ begun-is S E T C D F scoped e d g nx q ts f came = record {
   deep = q ∙ ap (λ (k : Context). record k { types = F.types }) d;
   types = ts ∙ ap (λ (k : Context). k.types.types) d;
   further = subst (λ (k : Context). IsFurther k.types.tyvars F.types.tyvars) d f;
+  named = subst (λ (k : Context). CameByName scoped k.types.tyvars F.types.tyvars) d named;
   tyvars = λ W c.
       subst (λ n. CameIntoScope W n scoped C.types.tyvars F.types.tyvars) (ap (λ s. length s.subst.slots.items) e.solver)
       (subst (λ (k : Context). CameIntoScope W (made E) scoped k.types.tyvars F.types.tyvars) d (came W c));

@@ -1,7 +1,9 @@
 -- A declaration that generalises: from what holds of its bindings inside to what it brings into scope.
-use Rattle.std.proofs.Common.{◌≡◌, ◌⊎◌, inl, inr, ◌<◌, ◌≤◌, ℕ, Bool, true, false, List, [], ◌∷◌, ◌++◌, map, length, take, slice_get, Some, None, Vec, Global, refl, sym, ap, ap₂, subst, ◌∙◌, arith}
+use Rattle.std.proofs.Common.{◌≡◌, ◌⊎◌, inl, inr, ◌<◌, ◌≤◌, ◌+◌, ℕ, Bool, true, false, List, [], ◌∷◌, ◌++◌, map, length, take, slice_get, Some, None, Vec, Global, refl, sym, ap, ap₂, subst, ◌∙◌, arith}
 use Rattle.std.specs.Prelude.{option_map}
 use Rattle.std.specs.List.{AllByRecursion}
+use Rattle.std.specs.Option.{option_or}
+use Rattle.std.proofs.lemmas.List.{map-append}
 use Rattle.std.specs.Map.{lookup}
 use Rattle.mlc_base.specs.declared.place.Place.{Place}
 use Rattle.ty_core.specs.Types.{Typ, var}
@@ -16,11 +18,11 @@ use Rattle.core_rules.specs.Restrictions.{distinct}
 use Rattle.core_rules.specs.Typing.{Bound, bound_in, AreDistinct, mark_of, marks_of, together}
 use Rattle.core_rules.specs.Words.{same_vid}
 use Rattle.ir_poly.specs.Prog as prog
-use Rattle.ir_poly.specs.ProgChecked.{binds_onto}
-use Rattle.ir_poly.specs.TestsChecked.{Knowns}
+use Rattle.ir_poly.specs.ProgChecked.{binds_onto, funs_onto}
+use Rattle.ir_poly.specs.TestsChecked.{Known, Knowns, declared, own}
 use Rattle.ir_poly.specs.Types.{are_new, in_scope}
 use Rattle.ir_tables.specs.Tables.{parameters_of}
-use Rattle.core_elab.specs.Resolves.{no_heads_to}
+use Rattle.core_elab.specs.Scopes.{Scope, denotes_in, empty, inside_in, plus_scope, variable}
 use Rattle.prog_tree.specs.TreeOf.{RuleTree, bind_of, binds_by, dec_of, decs_of, fun_of, funs_by}
 use Rattle.prog_tree.specs.declared.tree.Binding.{Binding}
 use Rattle.prog_tree.specs.declared.tree.Dec.{Dec}
@@ -28,8 +30,8 @@ use Rattle.prog_tree.specs.declared.tree.Dec.TheVariants as decs
 use Rattle.prog_tree.specs.declared.tree.Function.{Function}
 use Rattle.prog_tree.specs.declared.tree.Rule.{Rule}
 use Rattle.prog_tree.proofs.ExpOf.{dec_of-Val}
-use Rattle.elab_typed.specs.Contexts.{Around, generals, generic, kept_values}
-use Rattle.elab_typed.specs.Elaborates.{BindsElab, DecElab, inner, no_funs_elab, scoped_as, val_elab}
+use Rattle.elab_typed.specs.Contexts.{Around, generals, generic, kept_values, with_bound}
+use Rattle.elab_typed.specs.Elaborates.{BindsElab, DecElab, FunsElab, inner, scoped_as, val_elab}
 use Rattle.elab_state.specs.States.{all_parameters, dead_level, general_in, made}
 use Rattle.elab_state.specs.Generalising.{inside}
 use Rattle.elab_state.specs.declared.state.State.{State}
@@ -37,15 +39,17 @@ use Rattle.elab_steps.specs.Growing.{Grows}
 use Rattle.elab_steps.specs.World.{World, type_of, Comes}
 use Rattle.elab_steps.proofs.Growing.{grows_on, comes_before}
 use Rattle.elab_context.specs.Numbered.{IsBelowIf, IsNumbered}
-use Rattle.elab_context.specs.Telling.{IsFit, Tells}
+use Rattle.elab_context.specs.Telling.{IsFit, IsInUse, Tells}
 use Rattle.elab_context.specs.declared.context.Context.{Context}
 use Rattle.elab_context.specs.declared.entry.Entry.{Entry}
 use Rattle.elab_context.specs.declared.entry.Entry.TheVariants.{Constructor, Reference, Initial, Primitive, Raised, Single, Own, General}
 use Rattle.elab_context.proofs.Reading.{numbered_later}
 use Rattle.pat_elab.specs.Elaborated.{AreVariables, bound_of, scope_of}
 use Rattle.pat_elab.specs.declared.bound.BoundVariable.{BoundVariable}
+use Rattle.pat_elab.proofs.Forms.{onto-plus}
 use Rattle.exp_forms.specs.Rules.{vids_of}
 use Rattle.exp_forms.proofs.JoiningRules.{vids-bound}
+use Rattle.exp_forms.proofs.Within.{denotes-of, inside-onto, latest}
 use Rattle.general_worlds.specs.Inner.{ComesInside, IsInside, deeper, inner_world}
 use Rattle.elab_steps.specs.Tidy.{IsTidy}
 use Rattle.general_worlds.specs.Tidy.{Ends}
@@ -54,17 +58,22 @@ use Rattle.general_worlds.proofs.Telling.{tells-inside}
 use Rattle.general_worlds.proofs.Worlds.{comes-inside}
 use Rattle.general_worlds.proofs.Scoping.{last-general}
 use Rattle.dec_forms.specs.Binds.{all_plus}
-use Rattle.dec_forms.specs.Bringing.{Brings, EffectUpTo, IsBringing}
+use Rattle.dec_forms.specs.Bringing.{Brings, Effect, EffectUpTo, IsBringing}
 use Rattle.dec_forms.specs.Telling.{with_all}
 use Rattle.dec_forms.specs.declared.brought.Brought.{Brought}
 use Rattle.dec_forms.proofs.JoiningBinds.{bind_choices}
 use Rattle.dec_forms.proofs.Plain.{numbered_values, values_add, values_bring, values_effect}
 use Rattle.general_decs.specs.Entries.{AreShown, has_some}
-use Rattle.general_decs.specs.Inside.{AreInside, ElaboratesInside, Keeps, flags_of, inside_of}
+use Rattle.rec_groups.specs.Functions.{ElaborateFunctions}
+use Rattle.rec_groups.specs.Heads.{falling, rising, with_own}
+use Rattle.general_decs.specs.Whole.{IsDeclared}
+use Rattle.general_decs.specs.Inside.{AllFlagged, ElaboratesInside, IsUsedAs, Keeps, flags_of, inside_of, marked_as}
 use Rattle.general_decs.specs.Scoped.{CameIntoScope, IsBegun, ScopesThese, tyvar_parameters}
-use Rattle.general_decs.proofs.Groups.{AreKnownAs, all-plus-bound, inside-do, inside-known, together-bound}
+use Rattle.general_decs.proofs.Functions.{declared-grows, declared-have, fun_choices, functions-do, head_bounds, latest-rising, ready, reserved-used, tells-group, together-heads}
+use Rattle.general_decs.proofs.Groups.{AreKnownAs, KnownUpTo, all-plus-bound, distinct-left, distinct-right, flagged-as, flagged-both, inside-do, inside-known, onto-append, together-bound, with-functions}
 use Rattle.general_decs.proofs.Opening.{marks-tell, rest-general, scopes-tell, tyvars-keep, tyvars-tell}
 use Rattle.general_decs.proofs.Shown.{further-shown}
+use Rattle.general_decs.proofs.Together.{AreOwn, group-known, group-to, program_funs}
 
 append-nil : {A : Type 0} (xs : List A) → xs ++ [] ≡ xs
 append-nil [] = refl
@@ -119,25 +128,40 @@ below-shown k S N T l list some (b ∷ bs) (f ∷ fs) (e ∷ es) le v h = (
   below-shown k S N T l list some bs fs es le v.1 h.1,
 )
 
-module _ (S M N E T : State) (C D : Context) (p q : Place) (as_ scoped : List Tyvar) (rs : List RuleOf) (bs : List BoundVariable) (fs : List Bool) (es : List (Vid × Entry))
-    (binds : List (Binding × Rule)) (qs rest : List Quantified) (list : ℕ) (deep : C.level < dead_level) (begun : IsBegun S C scoped M D) (h : AreInside M C D.types rs N bs fs binds)
-    (ends : Ends C.level qs N E) (before-tidy : IsTidy S C.level) (tidy : IsTidy E C.level) (first : qs ≡ tyvar_parameters (made S) scoped ++ rest)
-    (found : slice_get (parameters_of E.tables) list ≡ Some qs) (scopes : ScopesThese C as_ (binds_of rs) scoped) (once : distinct same_vid (vids_of bs) ≡ true) (et : Grows E T)
-    (shown : AreShown E T C.level list (has_some qs) bs fs es) where
+module _ (S M N E T : State) (C D : Context) (p q : Place) (as_ scoped : List Tyvar) (rs gs : List RuleOf) (bs : List BoundVariable) (fs : List Bool) (es : List (Vid × Entry))
+    (binds : List (Binding × Rule)) (funs : List (Vec ℕ Global × ℕ × Function)) (qs rest : List Quantified) (list : ℕ) (deep : C.level < dead_level) (low-inside : D.level < dead_level)
+    (begun : IsBegun S C scoped M D) (h : IsDeclared M C D.types rs gs N bs fs binds funs) (ends : Ends C.level qs N E) (before-tidy : IsTidy S C.level) (tidy : IsTidy E C.level)
+    (first : qs ≡ tyvar_parameters (made S) scoped ++ rest) (found : slice_get (parameters_of E.tables) list ≡ Some qs) (scopes : ScopesThese C as_ (binds_of rs) (binds_of gs) scoped)
+    (once : distinct same_vid (vids_of bs) ≡ true) (et : Grows E T) (shown : AreShown E T C.level list (has_some qs) bs fs es) where
   abbrev source : bare.Dec
-  source = bare.val_dec p q as_ (binds_of rs) bare.no_binds
+  source = bare.val_dec p q as_ (binds_of rs) (binds_of gs)
+
+  mn : Grows M N
+  mn = declared-grows M N C D.types rs gs bs fs binds funs h
 
   grows : Grows S T
-  grows = grows_on S E T (declaration-grows C.level qs S begun.entered N E begun.enters (grows_on begun.entered M N begun.grows h.grows) ends before-tidy tidy) et
+  grows = grows_on S E T (declaration-grows C.level qs S begun.entered N E begun.enters (grows_on begun.entered M N begun.grows mn) ends before-tidy tidy) et
 
   low : (i : ℕ) → i ≤ S.next → i ≤ M.next
   low i le = let a = begun.next in omega (arith, a, le)
+
+  self : M.next ≤ M.next
+  self = omega arith
+
+  have : AreVariables N bs
+  have = declared-have M N C D.types rs gs bs fs binds funs h
+
+  -- the same identifiers are in scope inside
+  numbered-inside : {k : ℕ} → IsNumbered k C → IsNumbered k (deeper C D.types)
+  numbered-inside n [] x e f = n [] x e f
+  numbered-inside n (q ∷ []) x e f = n (q ∷ []) x e f
+  numbered-inside n (q ∷ r ∷ qs) x e f = n (q ∷ r ∷ qs) x e f
 
   general : (v : ℕ) → in_scope qs v ≡ true → in_scope (general_in E) v ≡ true
   general v i =
       subst (λ ps. in_scope (all_parameters ps) v ≡ true) (sym ends.lists) (last-general (parameters_of N.tables) qs v i)
 
-  module _ (W : World) (c : Comes T W) (A : Around) (t : Tells C W A) where
+  module _ (W : World) (c : Comes T W) (A : Around) (t : Tells C W A) (n : IsNumbered S.next C) where
     before : Comes E W
     before = comes_before E T W et c
 
@@ -148,7 +172,7 @@ module _ (S M N E T : State) (C D : Context) (p q : Place) (as_ scoped : List Ty
     V = inner_world W C.level qs inner-comes.inside
 
     came : CameIntoScope V (made S) scoped C.types.tyvars D.types.tyvars
-    came = begun.tyvars V (comes_before M N V h.grows inner-comes.comes)
+    came = begun.tyvars V (comes_before M N V mn inner-comes.comes)
 
     itself : (x : ℕ) → in_scope (tyvar_parameters (made S) scoped) x ≡ true → V.value x ≡ var x
     itself x i =
@@ -169,85 +193,196 @@ module _ (S M N E T : State) (C D : Context) (p q : Place) (as_ scoped : List Ty
         ap (λ ps. at Rattle.std.proofs.Common.nat_eq (scoped_as scoped ps ++ A.tyvars) a) first
         ∙ tyvars-tell V (made S) scoped C.types.tyvars D.types.tyvars rest A.tyvars came itself t.tyvars a
 
-    are-scoped : Rattle.core_rules.specs.Typing.scoped_in (generic A) as_ (binds_of rs) bare.no_binds ≡ scoped
-    are-scoped = scopes-tell C W A as_ (binds_of rs) scoped t scopes
+    are-scoped : Rattle.core_rules.specs.Typing.scoped_in (generic A) as_ (binds_of rs) (binds_of gs) ≡ scoped
+    are-scoped = scopes-tell C W A as_ (binds_of rs) (binds_of gs) scoped t scopes
 
-    inner-is : inner A as_ (binds_of rs) bare.no_binds qs ≡ B
+    inner-is : inner A as_ (binds_of rs) (binds_of gs) qs ≡ B
     inner-is = ap (λ z. inside_of A (scoped_as z qs ++ A.tyvars) qs) are-scoped
 
     tells-there : Tells (deeper C D.types) V B
     tells-there =
         subst (Tells (deeper C D.types) V) inner-is
-        (tells-inside C D.types W A qs inner-comes.inside as_ (binds_of rs) bare.no_binds begun.types
+        (tells-inside C D.types W A qs inner-comes.inside as_ (binds_of rs) (binds_of gs) begun.types
         (λ a. ap (λ z. at Rattle.std.proofs.Common.nat_eq (scoped_as z qs ++ A.tyvars) a) are-scoped ∙ tyvars-are a) t)
 
-    elab : ElaboratesInside V A B M.next rs (map (bind_of W.reading) binds) bs fs N.next
-    elab = h.gives V inner-comes.comes A (tells-beside C W A qs inner-comes.inside t) tyvars qs keeps tells-there
+    -- what was said comes true at each state inside
+    there-between : Comes h.between V
+    there-between = comes_before h.between N V h.functions.grows inner-comes.comes
+
+    there-behind : Comes h.behind V
+    there-behind = comes_before h.behind h.between V h.inside.grows there-between
+
+    elab : ElaboratesInside V A B h.behind.next rs (map (bind_of W.reading) binds) h.variables h.marks h.between.next
+    elab = h.inside.gives V there-between A (tells-beside C W A qs inner-comes.inside t) tyvars qs keeps tells-there
+
+    -- the functions
+
+    abbrev outer : Context
+    outer = deeper C D.types
+
+    abbrev group : Context
+    group = with_own outer h.heads
+
+    outer-deep : outer.level < dead_level
+    outer-deep = subst (λ (k : Context). k.level < dead_level) begun.deep low-inside
+
+    abbrev FS : prog.Funs
+    FS = program_funs W.reading funs
+
+    abbrev own-known : Knowns
+    own-known = funs_onto own FS A.known
+
+    abbrev functions-known : Knowns
+    functions-known = funs_onto (declared qs) FS A.known
+
+    once-bound : distinct same_vid (vids_of h.variables ++ vids_of (falling h.heads)) ≡ true
+    once-bound =
+        ap (distinct same_vid) (sym (map-append (λ (b : BoundVariable). b.vid) h.variables (falling h.heads)) ∙ ap vids_of (sym h.together)) ∙ once
+
+    once-variables : distinct same_vid (vids_of h.variables) ≡ true
+    once-variables = distinct-left (vids_of h.variables) (vids_of (falling h.heads)) once-bound
+
+    once-heads : distinct same_vid (vids_of (falling h.heads)) ≡ true
+    once-heads = distinct-right (vids_of h.variables) (vids_of (falling h.heads)) once-bound
+
+    used-heads : AllByRecursion (λ b. IsInUse B (type_of W b.ty)) (falling h.heads)
+    used-heads = reserved-used V outer B tells-there outer-deep h.reserved there-behind
+
+    known-in : (f : Typ → Known) (i : ℕ) (le : i ≤ M.next)
+        → AreOwn (type_of W) A.number i (group-to W.reading outer group N gs funs h.heads h.reserved h.functions.written i le).next f A.known (funs_onto f FS A.known) (falling h.heads)
+    known-in f i le =
+        subst (λ z. AreOwn (type_of W) z i (group-to W.reading outer group N gs funs h.heads h.reserved h.functions.written i le).next f A.known (funs_onto f FS A.known) (falling h.heads)) (sym t.number)
+        (group-known V outer group N inner-comes.comes f A.known gs funs h.heads h.reserved h.functions.written i le)
+
+    numbered-there : IsNumbered M.next outer
+    numbered-there = subst (λ k. IsNumbered k outer) (sym begun.next) (numbered-inside n)
+
+    abbrev F : Around
+    F = with_bound B (bound_of W (falling h.heads)) (scope_of (rising h.heads)) own-known
+
+    tells-group-there : Tells group V F
+    tells-group-there =
+        let k = known-in own M.next self in
+        tells-group V outer B tells-there outer-deep h.heads own-known M.next (group-to W.reading outer group N gs funs h.heads h.reserved h.functions.written M.next self).next once-heads used-heads
+        k.marked k.older numbered-there
+
+    functions : ElaborateFunctions V F h.between.next gs (map (fun_of W.reading) funs) h.heads
+    functions = h.functions.gives V inner-comes.comes F tells-group-there
 
     abbrev ys : prog.Binds
     ys = binds_by W.reading.type (map (bind_of W.reading) binds)
 
     abbrev G : Knowns
-    G = binds_onto qs ys A.known
+    G = binds_onto qs ys functions-known
 
     abbrev cs : Choices
-    cs = both (bind_choices (generic A).env rs elab.choices) no_choice
+    cs = both (bind_choices (generic A).env rs elab.choices) (fun_choices functions.choices)
 
-    dec-made : (i : ℕ) → i ≤ S.next
-        → EffectUpTo W.table A i source (prog.val_dec qs ys prog.no_funs prog.no_decs) (values_effect A (generals qs (bound_of W bs)) (scope_of bs) G) cs T.next
+    abbrev scope : Scope
+    scope = plus_scope (scope_of h.variables) (scope_of (rising h.heads))
+
+    abbrev whole-effect : Effect
+    whole-effect = values_effect A (generals qs (bound_of W bs)) scope G
+
+    abbrev tree : prog.Decs
+    tree = prog.val_dec qs ys FS prog.no_decs
+
+    dec-made : (i : ℕ) → i ≤ S.next → EffectUpTo W.table A i source tree whole-effect cs T.next
     dec-made i le =
-        let f = elab.elab i (low i le) in
+        let g = group-to W.reading outer group N gs funs h.heads h.reserved h.functions.written i (low i le) in
+        let f = elab.elab i g.next (let a = g.least in let b = g.most in omega (arith, a, b)) g.most in
         let vs = map (bound_of V) elab.groups in
+        let us = head_bounds V h.heads in
         let r = all_plus (map scope_of elab.groups) in
         let b = bind_choices (generic A).env rs elab.choices in
-        let all : together vs ++ [] ≡ bound_of W bs = append-nil (together vs) ∙ together-bound V elab.groups ∙ ap (bound_of W) elab.bound in
-        let scope-is : r ≡ scope_of bs = all-plus-bound elab.groups ∙ ap scope_of elab.bound in
-        let whole : BindsElab W.table A (inner A as_ (binds_of rs) bare.no_binds qs) i i (binds_of rs) ys vs b r f.next =
-        subst (λ Z. BindsElab W.table A Z i i (binds_of rs) ys vs b r f.next) (sym inner-is) (inside-do V A B i f.elab) in
-        let marks : map (λ (q : Quantified). q.mark) qs ≡ marks_of (generic A) as_ (binds_of rs) bare.no_binds (map (λ (q : Quantified). q.mark) rest) =
+        let d = fun_choices functions.choices in
+        let Z = inner A as_ (binds_of rs) (binds_of gs) qs in
+        let all : together vs ++ together us ≡ bound_of W bs =
+        ap₂ (λ x y. x ++ y) (together-bound V elab.groups ∙ ap (bound_of W) elab.bound) (together-heads V h.heads)
+        ∙ sym (map-append (λ (b : BoundVariable). (b.vid, type_of W b.ty)) h.variables (falling h.heads)) ∙ ap (bound_of W) (sym h.together) in
+        let scope-is : r ≡ scope_of h.variables = all-plus-bound elab.groups ∙ ap scope_of elab.bound in
+        let binds-made : BindsElab W.table A Z i g.next (binds_of rs) ys vs b r f.next =
+        subst (λ Y. BindsElab W.table A Y i g.next (binds_of rs) ys vs b r f.next) (sym inner-is) (inside-do V A B i f.elab) in
+        let upto : g.next ≤ h.between.next = let x = g.most in let y = h.inside.grows.next in omega (arith, x, y) in
+        let funs-inside : FunsElab W.table F g.next (binds_of gs) FS us d =
+        functions-do V F g.next (functions.elab g.next upto) (ready V outer F h.heads tells-group-there N gs funs h.reserved h.functions.written inner-comes.comes there-behind) in
+        let funs-made : FunsElab W.table (with_bound Z (together us) (scope_of (rising h.heads)) own-known) g.next (binds_of gs) FS us d =
+        subst (λ Y. FunsElab W.table (with_bound Y (together us) (scope_of (rising h.heads)) own-known) g.next (binds_of gs) FS us d) (sym inner-is)
+        (subst (λ l. FunsElab W.table (with_bound B l (scope_of (rising h.heads)) own-known) g.next (binds_of gs) FS us d) (sym (together-heads V h.heads)) funs-inside) in
+        let marks : map (λ (q : Quantified). q.mark) qs ≡ marks_of (generic A) as_ (binds_of rs) (binds_of gs) (map (λ (q : Quantified). q.mark) rest) =
         ap (map (λ (q : Quantified). q.mark)) first ∙ marks-tell (made S) scoped rest ∙ ap (λ z. map mark_of z ++ map (λ (q : Quantified). q.mark) rest) (sym are-scoped) in
         let new : are_new qs A.parameters ≡ true = subst (λ ps. are_new qs ps ≡ true) (sym t.parameters) inner-comes.inside.new in
-        let distinct-all : AreDistinct (bound_in (together vs ++ [])) = ap (λ l. distinct same_vid (bound_in l)) all ∙ ap (distinct same_vid) (vids-bound W bs) ∙ once in
-        let made : DecElab W.table A i source (prog.val_dec qs ys prog.no_funs prog.no_decs) 0 A.number (kept_values (generals qs (together vs ++ []))) r G (both b no_choice) f.next =
-        val_elab p q qs (map (λ (q : Quantified). q.mark) rest) {us = []} new t.over marks
-        (rest-general (made S) scoped rest [] (subst (λ ps. are_new ps [] ≡ true) first ends.generalises.declarable)) distinct-all no_heads_to no_funs_elab whole in
+        let distinct-all : AreDistinct (bound_in (together vs ++ together us)) = ap (λ l. distinct same_vid (bound_in l)) all ∙ ap (distinct same_vid) (vids-bound W bs) ∙ once in
+        let made : DecElab W.table A i source tree 0 A.number (kept_values (generals qs (together vs ++ together us))) (plus_scope r (scope_of (rising h.heads))) G (both b d) f.next =
+        val_elab p q qs (map (λ (q : Quantified). q.mark) rest) new t.over marks
+        (rest-general (made S) scoped rest [] (subst (λ ps. are_new ps [] ≡ true) first ends.generalises.declarable)) distinct-all g.to funs-made binds-made in
         record {
           next = f.next;
-          most = let a = f.most in let b = ends.next in let d = et.next in omega (arith, a, b, d);
+          most = let a = f.most in let x = h.functions.grows.next in let b = ends.next in let d = et.next in omega (arith, a, x, b, d);
           elab =
-              subst (λ s. DecElab W.table A i source (prog.val_dec qs ys prog.no_funs prog.no_decs) 0 A.number (kept_values (generals qs (bound_of W bs))) s G cs f.next) scope-is
-              (subst (λ l. DecElab W.table A i source (prog.val_dec qs ys prog.no_funs prog.no_decs) 0 A.number (kept_values (generals qs l)) r G cs f.next) all made);
+              subst (λ s. DecElab W.table A i source tree 0 A.number (kept_values (generals qs (bound_of W bs))) (plus_scope s (scope_of (rising h.heads))) G cs f.next) scope-is
+              (subst (λ l. DecElab W.table A i source tree 0 A.number (kept_values (generals qs l)) (plus_scope r (scope_of (rising h.heads))) G cs f.next) all made);
         }
 
-    are-known : (i : ℕ) → (le : i ≤ S.next) → AreKnownAs (type_of W) A.number qs i (elab.elab i (low i le)).next A.known G bs fs
+    are-known : (i : ℕ) → i ≤ S.next → KnownUpTo (type_of W) A.number qs i A.known G bs fs
     are-known i le =
-        let f = elab.elab i (low i le) in
+        let g = group-to W.reading outer group N gs funs h.heads h.reserved h.functions.written i (low i le) in
+        let f = elab.elab i g.next (let a = g.least in let b = g.most in omega (arith, a, b)) g.most in
         let xs = map (bind_of W.reading) binds in
-        subst (λ l. AreKnownAs (type_of W) A.number qs i f.next A.known G bs l) elab.flags
-        (subst (λ l. AreKnownAs (type_of W) A.number qs i f.next A.known G l (flags_of xs elab.groups)) elab.bound
-        (inside-known V A tyvars qs i f.elab (ap (λ l. distinct same_vid (vids_of l)) elab.bound ∙ once) A.known))
+        let o = known-in (declared qs) i (low i le) in
+        let k : AreKnownAs (type_of W) A.number qs g.next f.next functions-known G h.variables h.marks =
+        subst (λ l. AreKnownAs (type_of W) A.number qs g.next f.next functions-known G h.variables l) elab.flags
+        (subst (λ l. AreKnownAs (type_of W) A.number qs g.next f.next functions-known G l (flags_of xs elab.groups)) elab.bound
+        (inside-known V A tyvars qs i f.elab (ap (λ l. distinct same_vid (vids_of l)) elab.bound ∙ once-variables) functions-known)) in
+        record {
+          next = f.next;
+          known =
+              subst (λ l. AreKnownAs (type_of W) A.number qs i f.next A.known G l fs) (sym h.together)
+              (subst (λ l. AreKnownAs (type_of W) A.number qs i f.next A.known G (h.variables ++ falling h.heads) l) (sym h.flagged)
+              (with-functions (type_of W) A.number qs i g.next f.next A.known functions-known G h.variables (falling h.heads) h.marks g.least k o.older o.marked));
+        }
 
     list-is : W.reading.parameters list ≡ qs
     list-is = before.lists list qs found
 
-    brings : IsNumbered S.next C → Brings (with_all C es) W A S.next es [] (values_effect A (generals qs (bound_of W bs)) (scope_of bs) G)
-    brings n =
-        let k = are-known S.next (omega arith) in
-        values_bring C W A S.next es (generals qs (bound_of W bs)) (scope_of bs) G t
-        (further-shown C W A E T qs tyvars list t c deep ends.generalises.declarable N ends general list-is S.next (elab.elab S.next (low S.next (omega arith))).next G bs fs es h.have shown elab.used once k n)
-        k.older
+    all-used-as : AllFlagged (IsUsedAs W A B) bs fs
+    all-used-as =
+        subst (λ l. AllFlagged (IsUsedAs W A B) l fs) (sym h.together)
+        (subst (AllFlagged (IsUsedAs W A B) (h.variables ++ falling h.heads)) (sym h.flagged)
+        (flagged-both (IsUsedAs W A B) h.variables (falling h.heads) h.marks (marked_as true (falling h.heads)) elab.used (flagged-as (IsUsedAs W A B) true (falling h.heads) used-heads)))
 
-  module _ (parts : Vec (Binding × Rule) Global) (funs : Vec (Vec ℕ Global × ℕ × Function) Global) (dec : Dec) (is : parts.items ≡ binds) (none : funs.items ≡ [])
-      (made : dec ≡ decs.Val list parts funs) where
+    scope-of-all : scope ≡ scope_of (h.variables ++ rising h.heads)
+    scope-of-all = sym (onto-plus (scope_of h.variables) (rising h.heads)) ∙ sym (onto-append empty h.variables (rising h.heads))
+
+    scope-denotes : (s : Scope) (x : Vid) → denotes_in (plus_scope s scope) x ≡ option_or (option_map (λ b. variable b.number) (latest bs x)) (denotes_in s x)
+    scope-denotes s x =
+        let l = h.variables ++ rising h.heads in
+        ap (λ z. denotes_in (plus_scope s z) x) scope-of-all ∙ ap (λ z. denotes_in z x) (sym (onto-plus s l)) ∙ denotes-of s l x
+        ∙ ap (λ o. option_or (option_map (λ (b : BoundVariable). variable b.number) o) (denotes_in s x)) (latest-rising h.variables h.heads x once-heads ∙ ap (λ l. latest l x) (sym h.together))
+
+    scope-alone : (s : Scope) (q : ℕ) → inside_in (plus_scope s scope) q ≡ inside_in s q
+    scope-alone s q =
+        let l = h.variables ++ rising h.heads in
+        ap (λ z. inside_in (plus_scope s z) q) scope-of-all ∙ ap (λ z. inside_in z q) (sym (onto-plus s l)) ∙ inside-onto s l q
+
+    brings : Brings (with_all C es) W A S.next es [] whole-effect
+    brings =
+        let k = are-known S.next (omega arith) in
+        values_bring C W A S.next es (generals qs (bound_of W bs)) scope G t
+        (further-shown C W A E T qs tyvars list t c deep ends.generalises.declarable N ends general list-is S.next k.next G scope bs fs es scope-denotes scope-alone have shown all-used-as once k.known n)
+        k.known.older
+
+  module _ (parts : Vec (Binding × Rule) Global) (written : Vec (Vec ℕ Global × ℕ × Function) Global) (dec : Dec) (is : parts.items ≡ binds) (are : written.items ≡ funs)
+      (made : dec ≡ decs.Val list parts written) where
     tree-is : (W : World) → Comes T W → decs_of (map (dec_of W.reading) (dec ∷ []))
-        ≡ prog.val_dec qs (binds_by W.reading.type (map (bind_of W.reading) binds)) prog.no_funs prog.no_decs
+        ≡ prog.val_dec qs (binds_by W.reading.type (map (bind_of W.reading) binds)) (program_funs W.reading funs) prog.no_decs
     tree-is W c =
         let R = W.reading in
         ap (λ z. decs_of (z ∷ []))
-        (ap (dec_of R) made ∙ dec_of-Val R list parts funs
+        (ap (dec_of R) made ∙ dec_of-Val R list parts written
         ∙ ap₂ (λ (ps : List Quantified) (fs : List (Vec ℕ Global × ℕ × Function)). Rattle.prog_tree.specs.TreeOf.val_tree ps (binds_by R.type (map (bind_of R) parts.items)) (funs_by R.type (map (fun_of R) fs)))
-        ((comes_before E T W et c).lists list qs found) none
-        ∙ ap (λ l. Rattle.prog_tree.specs.TreeOf.val_tree qs (binds_by R.type (map (bind_of R) l)) prog.no_funs) is)
+        ((comes_before E T W et c).lists list qs found) are
+        ∙ ap (λ l. Rattle.prog_tree.specs.TreeOf.val_tree qs (binds_by R.type (map (bind_of R) l)) (program_funs R funs)) is)
 
     pub general_brings : (F : Context) (old new : Brought) → F ≡ with_all C es → new.values.items ≡ old.values.items ++ es → new.types.items ≡ old.types.items
         → IsBringing S C source T F (dec ∷ []) old new
@@ -260,12 +395,11 @@ module _ (S M N E T : State) (C D : Context) (p q : Place) (as_ scoped : List Ty
       grows = grows;
       numbered = λ n.
           numbered_values T.next C F es (numbered_later S.next T.next C grows.next n)
-          (below-shown T.next E N T C.level list (has_some qs) bs fs es (let a = ends.next in let b = et.next in omega (arith, a, b)) h.have shown) q;
+          (below-shown T.next E N T C.level list (has_some qs) bs fs es (let a = ends.next in let b = et.next in omega (arith, a, b)) have shown) q;
       gives = λ n W c A t. record {
-        effect = values_effect A (generals qs (bound_of W bs)) (scope_of bs) (G W c A t);
-        choices = cs W c A t;
-        elab = λ i le.
-            subst (λ z. EffectUpTo W.table A i source z (values_effect A (generals qs (bound_of W bs)) (scope_of bs) (G W c A t)) (cs W c A t) T.next) (sym (tree-is W c)) (dec-made W c A t i le);
-        brings = subst (λ F. Brings F W A S.next es [] (values_effect A (generals qs (bound_of W bs)) (scope_of bs) (G W c A t))) (sym q) (brings W c A t n);
+        effect = whole-effect W c A t n;
+        choices = cs W c A t n;
+        elab = λ i le. subst (λ z. EffectUpTo W.table A i source z (whole-effect W c A t n) (cs W c A t n) T.next) (sym (tree-is W c)) (dec-made W c A t n i le);
+        brings = subst (λ F. Brings F W A S.next es [] (whole-effect W c A t n)) (sym q) (brings W c A t n);
       };
     }

@@ -38,9 +38,10 @@ use Rattle.dec_forms.specs.Bringing.{IsBringing}
 use Rattle.dec_forms.specs.Telling.{with_all}
 use Rattle.dec_forms.specs.declared.brought.Brought.{Brought}
 use Rattle.general_decs.specs.Entries.{AreMade, AreShown, has_some}
-use Rattle.general_decs.specs.Inside.{AreInside}
+use Rattle.general_decs.specs.Whole.{IsDeclared}
 use Rattle.general_decs.specs.Scoped.{IsBegun, IsLedBy, ScopesThese}
 use Rattle.general_decs.proofs.Declaring.{below-shown, general_brings}
+use Rattle.general_decs.proofs.Functions.{declared-grows, declared-have}
 use Rattle.general_decs.proofs.Leading.{longer}
 
 found-at : (ps : List (List Quantified)) (k : ℕ) → k < length ps → slice_get ps k ≡ Some (parameters_at ps k)
@@ -67,8 +68,9 @@ made-ended l qs N E (b ∷ bs) e h = (
   made-ended l qs N E bs e h.1,
 )
 
-module _ (S M N E T : State) (C D : Context) (scoped : List Tyvar) (rs : List RuleOf) (bs : List BoundVariable) (fs : List Bool) (es : List (Vid × Entry)) (binds : Vec (Binding × Rule) Global)
-    (list l first : ℕ) (some : Bool) (is : l ≡ D.level - 1) (low : D.level < dead_level) (pos : 0 < D.level) (begun : IsBegun S C scoped M D) (h : AreInside M C D.types rs N bs fs binds.items)
+module _ (S M N E T : State) (C D : Context) (scoped : List Tyvar) (rs gs : List RuleOf) (bs : List BoundVariable) (fs : List Bool) (es : List (Vid × Entry)) (binds : Vec (Binding × Rule) Global)
+    (funs : Vec (Vec ℕ Global × ℕ × Function) Global)
+    (list l first : ℕ) (some : Bool) (level : N.level ≡ D.level) (is : l ≡ D.level - 1) (low : D.level < dead_level) (pos : 0 < D.level) (begun : IsBegun S C scoped M D) (h : IsDeclared M C D.types rs gs N bs fs binds.items funs.items)
     (ends : Ends l (parameters_at (parameters_of E.tables) list) N E) (held : HasList E list) (tidy : IsTidy E l) (begins : first ≡ made S) (i : IsContext S C) (et : Grows E T)
     (shown : AreShown E T l list some bs fs es) where
   abbrev qs : List Quantified
@@ -83,6 +85,23 @@ module _ (S M N E T : State) (C D : Context) (scoped : List Tyvar) (rs : List Ru
   ends-here : Ends C.level qs N E
   ends-here = subst (λ n. Ends n qs N E) same ends
 
+  inside-grows : Grows M N
+  inside-grows = declared-grows M N C D.types rs gs bs fs binds.items funs.items h
+
+  have : AreVariables N bs
+  have = declared-have M N C D.types rs gs bs fs binds.items funs.items h
+
+  level-here : S.level ≡ C.level
+  level-here =
+      let d : D.level ≡ suc C.level = ap (λ (k : Context). k.level) begun.deep in
+      let a = begun.enters.level in
+      let b = begun.grows.level in
+      let g = inside-grows.level in
+      omega (arith, d, a, b, g, level)
+
+  tidy-before : IsTidy S C.level
+  tidy-before = subst (IsTidy S) level-here i.tidy
+
   tidy-here : IsTidy E C.level
   tidy-here = subst (IsTidy E) same tidy
 
@@ -90,15 +109,15 @@ module _ (S M N E T : State) (C D : Context) (scoped : List Tyvar) (rs : List Ru
   shown-here = subst (λ n. AreShown E T n list some bs fs es) same shown
 
   grows : Grows S T
-  grows = grows_on S E T (declaration-grows C.level qs S begun.entered N E begun.enters (grows_on begun.entered M N begun.grows h.grows) ends-here i.tidy tidy-here) et
+  grows = grows_on S E T (declaration-grows C.level qs S begun.entered N E begun.enters (grows_on begun.entered M N begun.grows inside-grows) ends-here tidy-before tidy-here) et
 
-  pub finish_brings : (F : Context) (p q : Place) (as_ : List Tyvar) (funs : Vec (Vec ℕ Global × ℕ × Function) Global) (old new : Brought) → IsLedBy first scoped qs → ScopesThese C as_ (binds_of rs) scoped
-      → distinct same_vid (vids_of bs) ≡ true → some ≡ has_some qs → funs.items ≡ [] → F ≡ with_all C es → new.values.items ≡ old.values.items ++ es → new.types.items ≡ old.types.items
-      → IsBringing S C (bare.val_dec p q as_ (binds_of rs) bare.no_binds) T F (decs.Val list binds funs ∷ []) old new
-  finish_brings F p q as_ funs old new led scopes once some-is none f ev tv =
-      general_brings S M N E T C D p q as_ scoped rs bs fs es binds.items qs led.rest list deep begun h ends-here i.tidy tidy-here
+  pub finish_brings : (F : Context) (p q : Place) (as_ : List Tyvar) (old new : Brought) → IsLedBy first scoped qs → ScopesThese C as_ (binds_of rs) (binds_of gs) scoped
+      → distinct same_vid (vids_of bs) ≡ true → some ≡ has_some qs → F ≡ with_all C es → new.values.items ≡ old.values.items ++ es → new.types.items ≡ old.types.items
+      → IsBringing S C (bare.val_dec p q as_ (binds_of rs) (binds_of gs)) T F (decs.Val list binds funs ∷ []) old new
+  finish_brings F p q as_ old new led scopes once some-is f ev tv =
+      general_brings S M N E T C D p q as_ scoped rs gs bs fs es binds.items funs.items qs led.rest list deep low begun h ends-here tidy-before tidy-here
       (subst (λ v. qs ≡ Rattle.general_decs.specs.Scoped.tyvar_parameters v scoped ++ led.rest) begins led.is) (found-at (parameters_of E.tables) list held.held) scopes once et
-      (subst (λ b. AreShown E T C.level list b bs fs es) some-is shown-here) binds funs (decs.Val list binds funs) refl none refl F old new f ev tv
+      (subst (λ b. AreShown E T C.level list b bs fs es) some-is shown-here) binds funs (decs.Val list binds funs) refl refl refl F old new f ev tv
 
   -- the list is there later
   list-later : HasList T list
@@ -128,5 +147,5 @@ module _ (S M N E T : State) (C D : Context) (scoped : List Tyvar) (rs : List Ru
 
   pub finish_context : (F : Context) → F ≡ with_all C es → IsContext T F
   finish_context F q =
-      context_with T C F es (context_later S T C grows i) (held-shown bs fs es h.have shown)
-      (below-shown T.next E N T l list some bs fs es (let a = ends.next in let b = et.next in omega (arith, a, b)) h.have shown) q
+      context_with T C F es (context_later S T C grows i) (held-shown bs fs es have shown)
+      (below-shown T.next E N T l list some bs fs es (let a = ends.next in let b = et.next in omega (arith, a, b)) have shown) q

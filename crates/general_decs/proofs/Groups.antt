@@ -62,7 +62,7 @@ together-bound W [] = refl
 together-bound W (vs ∷ vss) =
     ap (λ l. bound_of W vs ++ l) (together-bound W vss) ∙ sym (map-append (λ (b : BoundVariable). (b.vid, type_of W b.ty)) vs (all_bound vss))
 
-onto-append : (s : Scope) (as_ bs : List BoundVariable) → scope_onto s (as_ ++ bs) ≡ scope_onto (scope_onto s as_) bs
+pub onto-append : (s : Scope) (as_ bs : List BoundVariable) → scope_onto s (as_ ++ bs) ≡ scope_onto (scope_onto s as_) bs
 onto-append s [] bs = refl
 onto-append s (a ∷ as_) bs = onto-append (Rattle.core_elab.specs.Scopes.scoped a.vid (Rattle.core_elab.specs.Scopes.variable a.number) s) as_ bs
 
@@ -136,13 +136,13 @@ not-in-left v (w ∷ vs) us h = by (same_vid v w) h (not-in-left v vs us)
     by true h k = cc
     by false h k = k h
 
-distinct-left : (vs us : List Vid) → distinct same_vid (vs ++ us) ≡ true → distinct same_vid vs ≡ true
+pub distinct-left : (vs us : List Vid) → distinct same_vid (vs ++ us) ≡ true → distinct same_vid vs ≡ true
 distinct-left [] us h = refl
 distinct-left (v ∷ vs) us h =
     let p = and_parts (not (is_in same_vid v (vs ++ us))) (distinct same_vid (vs ++ us)) h in
     ap₂ (λ a b. a && b) (not-in-left v vs us p.0) (distinct-left vs us p.1)
 
-distinct-right : (vs us : List Vid) → distinct same_vid (vs ++ us) ≡ true → distinct same_vid us ≡ true
+pub distinct-right : (vs us : List Vid) → distinct same_vid (vs ++ us) ≡ true → distinct same_vid us ≡ true
 distinct-right [] us h = h
 distinct-right (v ∷ vs) us h = distinct-right vs us (and_parts (not (is_in same_vid v (vs ++ us))) (distinct same_vid (vs ++ us)) h).1
 
@@ -184,6 +184,23 @@ module _ (g : ℕ → Typ) (number : ℕ → ℕ) (qs : List Quantified) where
         flagged-both (λ b f. IsMarked g number k i H (known_as qs f) b) vs us (marked_as f vs) fs
         (flagged-as (λ b f. IsMarked g number k i H (known_as qs f) b) f vs (later-all k j i M H (known_as qs f) vs r.most r.older h)) (lower-all k j i H us fs le r.known);
   }
+
+  -- bindings in front of functions, whose variables come before theirs
+  pub with-functions : (k j i : ℕ) (G M H : Knowns) (bs us : List BoundVariable) (fs : List Bool) → k ≤ j → AreKnownAs g number qs j i M H bs fs
+      → ((n : ℕ) → n < k → checked.at M n ≡ checked.at G n) → AllByRecursion (IsMarked g number k j M (declared qs)) us
+      → AreKnownAs g number qs k i G H (bs ++ us) (fs ++ marked_as true us)
+  with-functions k j i G M H bs us fs le r s h = record {
+    most = let m = r.most in omega (arith, le, m);
+    older = λ n lt. r.older n (omega (arith, lt, le)) ∙ s n lt;
+    known =
+        flagged-both (λ b f. IsMarked g number k i H (known_as qs f) b) bs us fs (marked_as true us) (lower-all k j i H bs fs le r.known)
+        (flagged-as (λ b f. IsMarked g number k i H (known_as qs f) b) true us (later-all k j i M H (declared qs) us r.most r.older h));
+  }
+
+-- up to some variable
+pub record KnownUpTo (g : ℕ → Typ) (number : ℕ → ℕ) (qs : List Quantified) (k : ℕ) (G H : Knowns) (bs : List BoundVariable) (fs : List Bool) : Type 0 where
+  pub next : ℕ
+  pub known : AreKnownAs g number qs k next G H bs fs
 
 module _ (W : World) (A : Around) (m : Map ℕ Typ) (qs : List Quantified) (h : ℕ) where
   pub inside-known : {k i : ℕ} {rs : List RuleOf} {xs : List (Binding × RuleTree)} {vss : List (List BoundVariable)} {cs : List (Choices × Choices)}

@@ -2,6 +2,8 @@ pub mod Tyvars
 pub mod Opening
 pub mod Marks
 pub mod Groups
+pub mod Together
+pub mod Functions
 pub mod Adding
 pub mod Shown
 pub mod Showing
@@ -12,3 +14,4 @@ pub mod Declaring
 pub mod Finishing
 pub mod Valued
 pub mod Making
+pub mod Stepping

@@ -1,5 +1,5 @@
 -- Steps at the end of a declaration, before it is closed.
-use Rattle.std.proofs.Common.{◌≡◌, ◌⊎◌, inl, inr, ◌<◌, ◌≤◌, ℕ, true, Bool, List, get_or, length, slice_get, Some, sym, ap, subst, arith}
+use Rattle.std.proofs.Common.{◌≡◌, ◌⊎◌, inl, inr, ◌<◌, ◌≤◌, ℕ, true, Bool, List, Vec, Global, get_or, length, slice_get, Some, sym, ap, subst, arith}
 use Rattle.std.proofs.lemmas.Bool.{eqb-true, lt-ltb}
 use Rattle.std.proofs.lemmas.Option.{slice_get_within, get_or_from_slice_get}
 use Rattle.ty_core.specs.Types.{var}
@@ -10,6 +10,7 @@ use Rattle.general_vals.proofs.Closing.{limit-get}
 use Rattle.ty_solve.specs.Substitution.{is_below, is_in}
 use Rattle.sml_tree.specs.TreeOf.{RuleOf}
 use Rattle.prog_tree.specs.declared.tree.Binding.{Binding}
+use Rattle.prog_tree.specs.declared.tree.Function.{Function}
 use Rattle.prog_tree.specs.declared.tree.Rule.{Rule}
 use Rattle.elab_types.specs.declared.scope.TypeScope.{TypeScope}
 use Rattle.elab_state.specs.States.{dead_level, limit_in, made, types_in}
@@ -20,7 +21,11 @@ use Rattle.elab_steps.proofs.Growing.{grows_on, comes_before}
 use Rattle.elab_context.specs.declared.context.Context.{Context}
 use Rattle.pat_elab.specs.declared.bound.BoundVariable.{BoundVariable}
 use Rattle.pat_elab.proofs.Forms.{all-later}
+use Rattle.rec_groups.specs.Heads.{with_own}
+use Rattle.rec_groups.proofs.Adding.{functions_later}
+use Rattle.general_worlds.specs.Inner.{deeper}
 use Rattle.general_worlds.specs.Tidy.{AreOuter}
+use Rattle.general_decs.specs.Whole.{IsDeclared}
 use Rattle.general_decs.specs.Inside.{AreInside}
 
 -- the type that is a variable
@@ -48,11 +53,27 @@ inside-later S N T C s rs bs fs binds h g = record {
       record {
         groups = e.groups;
         choices = e.choices;
-        elab = λ i le. let f = e.elab i le in record { next = f.next; most = let a = f.most in let b = g.next in omega (arith, a, b); elab = f.elab };
+        elab = λ y i l le. let f = e.elab y i l le in record { next = f.next; most = let a = f.most in let b = g.next in omega (arith, a, b); elab = f.elab };
         bound = e.bound;
         flags = e.flags;
         used = e.used;
       };
+}
+
+-- so does what was said of the whole declaration
+pub declared-later : (M N T : State) (C : Context) (s : TypeScope) (rs gs : List RuleOf) (bs : List BoundVariable) (fs : List Bool) (binds : List (Binding × Rule))
+    (funs : List (Vec ℕ Global × ℕ × Function)) → IsDeclared M C s rs gs N bs fs binds funs → Grows N T → IsDeclared M C s rs gs T bs fs binds funs
+declared-later M N T C s rs gs bs fs binds funs h g = record {
+  heads = h.heads;
+  variables = h.variables;
+  marks = h.marks;
+  behind = h.behind;
+  between = h.between;
+  reserved = h.reserved;
+  inside = h.inside;
+  functions = functions_later h.between N T (with_own (deeper C s) h.heads) gs funs h.heads h.functions g;
+  together = h.together;
+  flagged = h.flagged;
 }
 
 pub outer-later : (N T : State) (l first : ℕ) → Grows N T → first ≤ made N → AreOuter N l first → AreOuter T l first

@@ -157,10 +157,10 @@ some-same : {A B : Type 0} (f : A → B) (o : Option A) → is_some (option_map 
 some-same f None = refl
 some-same f (Some a) = refl
 
-pub scopes-tell : (C : Context) (W : World) (A : Around) (as_ : List Tyvar) (bs : bare.Binds) (scoped : List Tyvar) → Tells C W A → ScopesThese C as_ bs scoped
-    → scoped_in (generic A) as_ bs bare.no_binds ≡ scoped
-scopes-tell C W A as_ bs scoped t h =
-    ap (λ ns. scoped_at ns as_ bs bare.no_binds) (names-same var A.tyvars)
-    ∙ scoped-same (map (λ (a : ℕ × Typ). a.0) A.tyvars) (map (λ (a : ℕ × ℕ). a.0) C.types.tyvars) as_ bs bare.no_binds
+pub scopes-tell : (C : Context) (W : World) (A : Around) (as_ : List Tyvar) (bs rs : bare.Binds) (scoped : List Tyvar) → Tells C W A → ScopesThese C as_ bs rs scoped
+    → scoped_in (generic A) as_ bs rs ≡ scoped
+scopes-tell C W A as_ bs rs scoped t h =
+    ap (λ ns. scoped_at ns as_ bs rs) (names-same var A.tyvars)
+    ∙ scoped-same (map (λ (a : ℕ × Typ). a.0) A.tyvars) (map (λ (a : ℕ × ℕ). a.0) C.types.tyvars) as_ bs rs
     (λ x. in-names A.tyvars x ∙ ap is_some (t.tyvars x) ∙ some-same (type_of W) (lookup (nat_eq x) C.types.tyvars) ∙ sym (in-names C.types.tyvars x))
     ∙ h

@@ -53,12 +53,13 @@ pub data EachInside (W : World) (A B : Around) (h : ℕ) : ℕ → List RuleOf �
       → b.general ≡ false → W.reading.type b.ty ≡ as_typed B t → EachInside W A B h j rs xs vss cs i
       → EachInside W A B h k (r ∷ rs) ((b, x) ∷ xs) (vs ∷ vss) ((c, d) ∷ cs) i
 
-pub record InsideUpTo (W : World) (A B : Around) (h : ℕ) (rs : List RuleOf) (xs : List (Binding × RuleTree)) (vss : List (List BoundVariable))
+-- the expressions from the e-th variable on, the patterns from the h-th
+pub record InsideUpTo (W : World) (A B : Around) (e h : ℕ) (rs : List RuleOf) (xs : List (Binding × RuleTree)) (vss : List (List BoundVariable))
     (choices : List (Choices × Choices))
     (j : ℕ) : Type 0 where
   pub next : ℕ
   pub most : next ≤ j
-  pub elab : EachInside W A B h h rs xs vss choices next
+  pub elab : EachInside W A B e h rs xs vss choices next
 
 abbrev pub all_bound : List (List BoundVariable) → List BoundVariable
 all_bound [] = []
@@ -90,7 +91,7 @@ pub record ElaboratesInside (W : World) (A B : Around) (k : ℕ) (rs : List Rule
     : Type 0 where
   pub groups : List (List BoundVariable)
   pub choices : List (Choices × Choices)
-  pub elab : (h : ℕ) → h ≤ k → InsideUpTo W A B h rs xs groups choices j
+  pub elab : (e h : ℕ) → e ≤ k → h ≤ k → InsideUpTo W A B e h rs xs groups choices j
   pub bound : all_bound groups ≡ bs
   pub flags : flags_of xs groups ≡ fs
   pub used : AllFlagged (IsUsedAs W A B) bs fs

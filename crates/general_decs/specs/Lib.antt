@@ -1,4 +1,6 @@
-pub mod Scoped
-pub mod Inside
 pub mod Entries
+pub mod Inside
+pub mod Outside
+pub mod Scoped
 pub mod Values
+pub mod Whole

@@ -16,8 +16,8 @@ use Rattle.general_worlds.specs.Inner.{deeper}
 use Rattle.general_worlds.specs.Tidy.{Enters}
 
 -- the declaration scopes these
-abbrev pub ScopesThese : Context → List Tyvar → bare.Binds → List Tyvar → Type 0
-ScopesThese C as_ bs scoped = scoped_at (map (λ a. a.0) C.types.tyvars) as_ bs bare.no_binds ≡ scoped
+abbrev pub ScopesThese : Context → List Tyvar → bare.Binds → bare.Binds → List Tyvar → Type 0
+ScopesThese C as_ bs rs scoped = scoped_at (map (λ a. a.0) C.types.tyvars) as_ bs rs ≡ scoped
 
 -- its parameters for them, from the variable v on
 abbrev pub tyvar_parameters : ℕ → List Tyvar → List Quantified
@@ -39,6 +39,11 @@ abbrev pub CameIntoScope : World → ℕ → List Tyvar → List (ℕ × ℕ) �
 CameIntoScope W v [] old new = new ≡ old
 CameIntoScope W v (a ∷ as_) old new = (k : ℕ) × (W.raw k ≡ var v) × (lookup (nat_eq a.name) old ≡ None) × CameIntoScope W (suc v) as_ ((a.name, k) ∷ old) new
 
+-- the same of their names alone
+abbrev pub CameByName : List Tyvar → List (ℕ × ℕ) → List (ℕ × ℕ) → Type 0
+CameByName [] old new = new ≡ old
+CameByName (a ∷ as_) old new = (k : ℕ) × (lookup (nat_eq a.name) old ≡ None) × CameByName as_ ((a.name, k) ∷ old) new
+
 -- a declaration begins: the context D is one deeper than C, with these type variables
 pub record IsBegun (S : State) (C : Context) (scoped : List Tyvar) (T : State) (D : Context) : Type 0 where
   pub entered : State
@@ -48,4 +53,5 @@ pub record IsBegun (S : State) (C : Context) (scoped : List Tyvar) (T : State) (
   pub deep : D ≡ deeper C D.types
   pub types : D.types.types ≡ C.types.types
   pub further : IsFurther C.types.tyvars D.types.tyvars
+  pub named : CameByName scoped C.types.tyvars D.types.tyvars
   pub tyvars : Always T (λ W. CameIntoScope W (made S) scoped C.types.tyvars D.types.tyvars)

@@ -8,7 +8,7 @@ ghost use Rattle.elab_steps.specs.Growing.{Always, Grows, HasType};
 ghost use Rattle.elab_context.specs.Telling.{IsContext};
 ghost use Rattle.general_worlds.specs.Inner.{deeper};
 ghost use Rattle.general_worlds.specs.Tidy.{Enters};
-ghost use Rattle.general_decs.specs.Scoped.{CameIntoScope, IsBegun, IsFurther};
+ghost use Rattle.general_decs.specs.Scoped.{CameByName, CameIntoScope, IsBegun, IsFurther};
 
 use elab_context::context::Context;
 use elab_state::state::State;
@@ -93,6 +93,7 @@ fn scope_tyvar(
     ensures rest { IfOk result (λ _. context.new ≡ record context.old { types = context.new.types }) }
     ensures types { IfOk result (λ _. context.new.types.types ≡ context.old.types.types) }
     ensures further { IfOk result (λ _. IsFurther context.old.types.tyvars context.new.types.tyvars) }
+    ensures named { IfOk result (λ _. CameByName (tyvar.now ∷ []) context.old.types.tyvars context.new.types.tyvars) }
     ensures came { IfOk result (λ _. Always state.new (λ W. CameIntoScope W (made state.old)
         (tyvar.now ∷ []) context.old.types.tyvars context.new.types.tyvars)) }
 {
@@ -119,6 +120,7 @@ fn scope_tyvars(
     ensures rest { IfOk result (λ _. context.new ≡ record context.old { types = context.new.types }) }
     ensures types { IfOk result (λ _. context.new.types.types ≡ context.old.types.types) }
     ensures further { IfOk result (λ _. IsFurther context.old.types.tyvars context.new.types.tyvars) }
+    ensures named { IfOk result (λ _. CameByName scoped.now context.old.types.tyvars context.new.types.tyvars) }
     ensures came { IfOk result (λ _. Always state.new (λ W. CameIntoScope W (made state.old) scoped.now context.old.types.tyvars context.new.types.tyvars)) }
 {
     for i in 0..scoped.len() {
@@ -129,7 +131,8 @@ fn scope_tyvars(
 
 /// The state and the context are inside a declaration more; the number of the first variable that may belong to it.
 fn enter_both(state: &mut State, context: &mut Context) -> Result<usize, NoMemory>
-    requires { IsContext state.old context.old }
+    requires context { IsContext state.old context.old }
+    requires level { state.old.level ≡ context.old.level }
     ensures enters { IfOk result (λ _. Enters state.old state.new) }
     ensures first { IfOk result (λ first. first ≡ made state.old) }
     ensures deeper { IfOk result (λ _. context.new ≡ deeper context.old context.old.types) }
@@ -149,6 +152,7 @@ pub fn begin(
     scoped: &[Tyvar],
 ) -> Result<Begun, Refused>
     requires context { IsContext state.old context.old }
+    requires level { state.old.level ≡ context.old.level }
     ensures begun { IfOk result (λ _. IsBegun state.old context.old scoped.now state.new context.new) }
     ensures context { IfOk result (λ _. IsContext state.new context.new) }
     ensures first { IfOk result (λ b. b.first ≡ made state.old) }

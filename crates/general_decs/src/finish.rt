@@ -1,7 +1,7 @@
 // Where a declaration that generalises ends.
 ghost use Rattle.std.specs.Prelude.{◌≡◌, ◌<◌, ◌≤◌, ◌+◌, ◌-◌, ◌++◌, ◌∷◌, [], List, length, true, IfOk};
 ghost use Rattle.mlc_base.specs.declared.place.Place.{Place as PlaceAt};
-ghost use Rattle.sml_tree.specs.BareTree.{no_binds, val_dec};
+ghost use Rattle.sml_tree.specs.BareTree.{val_dec};
 ghost use Rattle.sml_tree.specs.TreeOf.{RuleOf, binds_of};
 ghost use Rattle.sml_tree.specs.declared.ident.Tyvar.{Tyvar as TyvarOf};
 ghost use Rattle.ir_tables.specs.Tables.{parameters_at, parameters_of};
@@ -14,7 +14,7 @@ ghost use Rattle.general_worlds.specs.Tidy.{AreOuter, Ends};
 ghost use Rattle.dec_forms.specs.Bringing.{IsBringing};
 ghost use Rattle.dec_forms.specs.Telling.{with_all};
 ghost use Rattle.general_decs.specs.Entries.{has_some};
-ghost use Rattle.general_decs.specs.Inside.{AreInside};
+ghost use Rattle.general_decs.specs.Whole.{IsDeclared};
 ghost use Rattle.general_decs.specs.Scoped.{IsBegun, IsFurther, IsLedBy, ScopesThese};
 
 use crate::begin::{Begun, mark_of};
@@ -31,7 +31,7 @@ use general_vals::close::close;
 use mlc_base::memory::NoMemory;
 use mlc_base::place::Place;
 use pat_elab::bound::BoundVariable;
-use prog_tree::tree::{Binding, Dec, Rule};
+use prog_tree::tree::{Binding, Dec, Function, Rule};
 use sml_tree::ident::{Tyvar, Vid};
 use std::alloc::Global;
 use ty_core::mark::Mark;
@@ -101,7 +101,8 @@ fn close_led(
 /// Leaves the type variables of a declaration.
 fn leave(context: &mut Context, tyvars: usize)
     requires { 0 < context.old.level }
-    ensures { (C : Context) → context.old ≡ deeper C context.old.types → context.old.types.types ≡ C.types.types
+    ensures schemes { context.new.schemes ≡ context.old.schemes }
+    ensures left { (C : Context) → context.old ≡ deeper C context.old.types → context.old.types.types ≡ C.types.types
         → IsFurther C.types.tyvars context.old.types.tyvars → tyvars ≡ length C.types.tyvars → context.new ≡ C }
 {
     context.types.tyvars.truncate(tyvars);
@@ -118,6 +119,7 @@ fn bring(
     requires { 0 < context.old.level }
     ensures context { IfOk result (λ _. (C : Context) → context.old ≡ deeper C context.old.types → context.old.types.types ≡ C.types.types
         → IsFurther C.types.tyvars context.old.types.tyvars → tyvars ≡ length C.types.tyvars → context.new ≡ with_all C values.now) }
+    ensures schemes { IfOk result (λ _. context.new.schemes ≡ context.old.schemes) }
     ensures values { IfOk result (λ _. brought.new.values.items ≡ brought.old.values.items ++ values.now) }
     ensures types { brought.new.types.items ≡ brought.old.types.items }
 {
@@ -145,22 +147,25 @@ fn finish_lowered(
     bound: &[BoundVariable],
     flags: &[bool],
     binds: Vec<(Binding, Rule)>,
+    funs: Vec<(Vec<usize>, usize, Function)>,
     brought: &mut Brought,
 ) -> Result<Dec, Refused>
     requires context { IsContext state.old context.old }
+    requires level { state.old.level ≡ context.old.level }
     requires inside { 0 < context.old.level }
     requires have { AreVariables state.old bound.now }
     requires count { length flags.now ≡ length bound.now }
     requires first { begun.first ≤ made state.old }
     requires outer { AreOuter state.old (context.old.level - 1) begun.first }
-    ensures brings { IfOk result (λ d. (S M : State) (C : Context) (p q : PlaceAt) (as_ : List TyvarOf) (rs : List RuleOf) → IsContext S C
+    ensures schemes { IfOk result (λ _. context.new.schemes ≡ context.old.schemes) }
+    ensures brings { IfOk result (λ d. (S M : State) (C : Context) (p q : PlaceAt) (as_ : List TyvarOf) (rs gs : List RuleOf) → IsContext S C
         → IsBegun S C scoped.now M context.old
-        → AreInside M C context.old.types rs state.old bound.now flags.now binds.items → begun.first ≡ made S → begun.tyvars ≡ length C.types.tyvars
-        → ScopesThese C as_ (binds_of rs) scoped.now
-        → IsBringing S C (val_dec p q as_ (binds_of rs) no_binds) state.new context.new (d ∷ []) brought.old brought.new) }
-    ensures context { IfOk result (λ _. (S M : State) (C : Context) (rs : List RuleOf) → IsContext S C → IsBegun S C scoped.now M context.old
-        → AreInside M C context.old.types rs state.old bound.now flags.now binds.items → begun.first ≡ made S → begun.tyvars ≡ length C.types.tyvars
-        → IsContext state.new context.new) }
+        → IsDeclared M C context.old.types rs gs state.old bound.now flags.now binds.items funs.items → begun.first ≡ made S
+        → begun.tyvars ≡ length C.types.tyvars → ScopesThese C as_ (binds_of rs) (binds_of gs) scoped.now
+        → IsBringing S C (val_dec p q as_ (binds_of rs) (binds_of gs)) state.new context.new (d ∷ []) brought.old brought.new) }
+    ensures context { IfOk result (λ _. (S M : State) (C : Context) (rs gs : List RuleOf) → IsContext S C → IsBegun S C scoped.now M context.old
+        → IsDeclared M C context.old.types rs gs state.old bound.now flags.now binds.items funs.items → begun.first ≡ made S
+        → begun.tyvars ≡ length C.types.tyvars → IsContext state.new context.new) }
 {
     check_once(alloc, place, bound)?;
     let level = context.level - 1;
@@ -168,7 +173,7 @@ fn finish_lowered(
     let some = has_any(state, list);
     let values = show_all(alloc, state, list, some, bound, flags)?;
     bring(context, begun.tyvars, &values, brought)?;
-    Ok(Dec::Val(list, binds, Vec::new(alloc)))
+    Ok(Dec::Val(list, binds, funs))
 }
 
 /// The end of a declaration that generalises. Its variables come into scope, each over its parameters.
@@ -182,26 +187,29 @@ pub fn finish(
     bound: &[BoundVariable],
     flags: &[bool],
     binds: Vec<(Binding, Rule)>,
+    funs: Vec<(Vec<usize>, usize, Function)>,
     brought: &mut Brought,
 ) -> Result<Dec, Refused>
     requires context { IsContext state.old context.old }
+    requires level { state.old.level ≡ context.old.level }
     requires inside { 0 < context.old.level }
     requires have { AreVariables state.old bound.now }
     requires count { length flags.now ≡ length bound.now }
     requires first { begun.first ≤ made state.old }
     requires outer { AreOuter state.old (context.old.level - 1) begun.first }
-    ensures brings { IfOk result (λ d. (S M : State) (C : Context) (p q : PlaceAt) (as_ : List TyvarOf) (rs : List RuleOf) → IsContext S C
+    ensures schemes { IfOk result (λ _. context.new.schemes ≡ context.old.schemes) }
+    ensures brings { IfOk result (λ d. (S M : State) (C : Context) (p q : PlaceAt) (as_ : List TyvarOf) (rs gs : List RuleOf) → IsContext S C
         → IsBegun S C scoped.now M context.old
-        → AreInside M C context.old.types rs state.old bound.now flags.now binds.items → begun.first ≡ made S → begun.tyvars ≡ length C.types.tyvars
-        → ScopesThese C as_ (binds_of rs) scoped.now
-        → IsBringing S C (val_dec p q as_ (binds_of rs) no_binds) state.new context.new (d ∷ []) brought.old brought.new) }
-    ensures context { IfOk result (λ _. (S M : State) (C : Context) (rs : List RuleOf) → IsContext S C → IsBegun S C scoped.now M context.old
-        → AreInside M C context.old.types rs state.old bound.now flags.now binds.items → begun.first ≡ made S → begun.tyvars ≡ length C.types.tyvars
-        → IsContext state.new context.new) }
+        → IsDeclared M C context.old.types rs gs state.old bound.now flags.now binds.items funs.items → begun.first ≡ made S
+        → begun.tyvars ≡ length C.types.tyvars → ScopesThese C as_ (binds_of rs) (binds_of gs) scoped.now
+        → IsBringing S C (val_dec p q as_ (binds_of rs) (binds_of gs)) state.new context.new (d ∷ []) brought.old brought.new) }
+    ensures context { IfOk result (λ _. (S M : State) (C : Context) (rs gs : List RuleOf) → IsContext S C → IsBegun S C scoped.now M context.old
+        → IsDeclared M C context.old.types rs gs state.old bound.now flags.now binds.items funs.items → begun.first ≡ made S
+        → begun.tyvars ≡ length C.types.tyvars → IsContext state.new context.new) }
 {
     let level = context.level - 1;
     lower_rest(alloc, state, place, level, begun.first)?;
     finish_lowered(
-        alloc, state, context, place, begun, scoped, bound, flags, binds, brought,
+        alloc, state, context, place, begun, scoped, bound, flags, binds, funs, brought,
     )
 }

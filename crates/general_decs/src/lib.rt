@@ -5,5 +5,6 @@ pub mod add;
 pub mod begin;
 pub mod finish;
 pub mod lower;
+pub mod outside;
 pub mod settle;
 pub mod values;

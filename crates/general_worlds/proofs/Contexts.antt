@@ -1,5 +1,5 @@
 -- What a state has of a context inside a declaration.
-use Rattle.std.proofs.Common.{◌≡◌, ◌<◌, ◌≤◌, ℕ, suc, true, false, List, [], ◌∷◌, length, Option, Some, None, refl, sym, ap, subst, ◌∙◌}
+use Rattle.std.proofs.Common.{◌≡◌, ◌<◌, ◌≤◌, ℕ, suc, true, false, List, [], ◌∷◌, length, Option, Some, None, refl, sym, subst, arith}
 use Rattle.std.specs.List.{AllByRecursion}
 use Rattle.ty_core.specs.Marks.{is_inhabited}
 use Rattle.ty_core.specs.declared.mark.Mark.{Mark}
@@ -18,7 +18,7 @@ use Rattle.elab_state.specs.States.{types_in, made, dead_level}
 use Rattle.elab_state.specs.declared.state.State.{State}
 use Rattle.elab_steps.specs.Growing.{Grows, HasGeneral, HasType}
 use Rattle.elab_steps.specs.Instances.{IsScheme}
-use Rattle.elab_steps.specs.Tidy.{IsLive}
+use Rattle.elab_steps.specs.Tidy.{IsLive, IsTidy}
 use Rattle.elab_context.specs.Entries.{entry_in}
 use Rattle.elab_context.specs.Numbered.{IsBelowIf}
 use Rattle.elab_context.specs.Telling.{HasList, IsContext, IsHeld, IsHeldIf}
@@ -72,10 +72,10 @@ module _ (R S : State) (e : Enters R S) where
     list-stays l h.1,
   )
 
-  entered-context : (C : Context) → suc C.level < dead_level → IsContext R C → IsContext S (deeper C C.types)
+  entered-context : (C : Context) → suc R.level < dead_level → IsContext R C → IsContext S (deeper C C.types)
   entered-context C low i = record {
     wide = i.wide;
-    deep = low;
+    deep = let a = i.level in omega (arith, a, low);
     naming = subst (λ ns. IsAmong (length ns) C.naming) (sym e.namings) i.naming;
     holds = subst (λ s. Holds s.subst.types C.types) (sym e.solver) i.holds;
     known = subst (λ s. AreKnown (length s.subst.slots.items) s.subst.types C.types) (sym e.solver) i.known;
@@ -85,8 +85,8 @@ module _ (R S : State) (e : Enters R S) where
     live =
         subst (λ s. AllByRecursion (λ b. (v : ℕ) → is_in v (type_at s.subst.types b.1) ≡ true → (limit_at s.limits.items v).level < dead_level) C.types.tyvars) (sym e.solver)
         i.live;
-    level = e.level ∙ ap suc i.level;
-    tidy = entered-tidy C.level R S low e i.tidy;
+    level = let a = e.level in let b = i.level in omega (arith, a, b);
+    tidy = subst (IsTidy S) (sym e.level) (entered-tidy R.level R S low e i.tidy);
   }
     where
       entry : (qs : List ℕ) (x : Vid) (f : Entry) → entry_in (deeper C C.types) qs x ≡ Some f → IsHeld S (deeper C C.types) f
@@ -153,6 +153,6 @@ with-tyvars T C s same are i = record {
     number (n ∷ []) x f q = i.numbered (n ∷ []) x f q
     number (n ∷ m ∷ ns) x f q = i.numbered (n ∷ m ∷ ns) x f q
 
-pub context-inside : (C : Context) (s : TypeScope) (R S T : State) → suc C.level < dead_level → Enters R S → Grows S T → IsContext R C → s.types ≡ C.types.types
+pub context-inside : (C : Context) (s : TypeScope) (R S T : State) → suc R.level < dead_level → Enters R S → Grows S T → IsContext R C → s.types ≡ C.types.types
     → AllByRecursion (λ b. HasType T b.1) s.tyvars → IsContext T (deeper C s)
 context-inside C s R S T low e g i same are = with-tyvars T C s same are (context_later S T (deeper C C.types) g (entered-context R S e C low i))

@@ -60,7 +60,7 @@ EnteredTypesStay = (R S : State) → Enters R S → (k : ℕ) → HasType R k �
 
 -- And what it has of a context it has of one inside, behind further steps, where the types of the type variables in scope there are its own.
 abbrev pub ContextsAreInside : Type 0
-ContextsAreInside = (C : Context) (s : TypeScope) (R S T : State) → suc C.level < dead_level → Enters R S → Grows S T → IsContext R C → s.types ≡ C.types.types
+ContextsAreInside = (C : Context) (s : TypeScope) (R S T : State) → suc R.level < dead_level → Enters R S → Grows S T → IsContext R C → s.types ≡ C.types.types
     → AllByRecursion (λ b. HasType T b.1) s.tyvars → IsContext T (deeper C s)
 
 -- A state without variables is tidy.

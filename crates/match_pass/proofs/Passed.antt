@@ -8,16 +8,18 @@ use Rattle.ir_plain.specs.Once.{IsOnce}
 use Rattle.ir_poly.specs.Prog.{Decs}
 use Rattle.ir_poly.specs.Tests.{Tests, poly}
 use Rattle.ir_poly.specs.TestsChecked.{exn_type}
+use Rattle.ir_poly.specs.Types.{unit_type}
 use Rattle.ir_poly.specs.WellFormed as clean
 use Rattle.ir_poly.specs.WellFormed.{meaning_of_tests, IsTests, table_of}
 use Rattle.ir_tables.specs.Tables.{program_of, initial_of, constructors_of}
 use Rattle.ir_tables.specs.declared.tables.Tables.{Tables}
 use Rattle.match_compile.specs.Compile.{compile, compiled}
-use Rattle.match_compile.specs.Laws.{StaysWellFormed, SameMeaning, BringsNoException, BindsOnce}
+use Rattle.match_compile.specs.Laws.{KeepsTyping, MakesLocal, SameMeaning, BringsNoException, BindsOnce}
 use Rattle.match_compile.specs.Exceptions.{tests_made}
 use Rattle.match_types.proofs.Seeing.{earlier-stays}
 use Rattle.monomorphise.specs.Counting.{expansion_within}
 use Rattle.monomorphise.specs.Monomorphise.{copies}
+use Rattle.match_pass.specs.Typed.{IsWellTyped}
 use Rattle.ir_prog.specs.Programs as source
 use Rattle.ir_prog.specs.declared.program.Program as from
 use Rattle.ir_tests.specs.Programs as target
@@ -48,9 +50,17 @@ module _ (p : from.Program) (q : to.Program) (built : target.tests_of q ≡ sour
   pub bound-once : BindsOnce (source.body_in p) → IsOnce {F = poly} (λ x. x) (target.body_of q)
   bound-once h = subst (λ x. IsOnce {F = poly} (λ y. y) x.body) (sym built) h
 
-  pub formed : take (length p.tables.types) q.tables.types ≡ p.tables.types → q.exn ≡ p.exn → StaysWellFormed (source.prog_of p) → source.IsWellFormed p → target.IsWellFormed q
-  formed grown same h w = record {
-    tests = subst IsTests (sym built) (h w.program);
+  pub formed : take (length p.tables.types) q.tables.types ≡ p.tables.types → q.exn ≡ p.exn → KeepsTyping (source.body_in p) → BindsOnce (source.body_in p)
+      → MakesLocal (source.body_in p) → IsWellTyped p → target.IsWellFormed q
+  formed grown same keeps once local w = record {
+    tests = subst IsTests (sym built) (record {
+      initial = w.seven;
+      table = w.table;
+      type = unit_type;
+      typed = keeps (source.prog_of p).constructors w.after w.typed;
+      once = once;
+      local = local;
+    });
     initial = ap (λ x. x.initial) built ∙ w.initial;
     exn = ap (type_at q.tables.types) same ∙ exn-stays p.tables.types q.tables.types p.exn grown w.exn;
   }

@@ -6,3 +6,4 @@ pub mod Chains
 pub mod Declaring
 pub mod Apart
 pub mod Programs
+pub mod Typed

@@ -35,3 +35,6 @@ exception-headed w1 w2 w3 s s' s'' h z u y n a name x e is next p variable stand
     ∙ ap₂ (λ i b. naming z n v (test v.scope (value_type v y) a (is_exn_of (inst n []) i b) rest)) (variable ∙ next) (stands v (sees-before w2 w3 v l sees))
     ∙ ap (λ g. heading g u y n a v rest) (sym e))
     (two-puts w1 w3 s s' s'' (naming z n) (testing y a (case.ExceptionOf name x)) (keeps-on w1 w2 w3 k l) p q)
+
+pub heading-as : (w : Work) (s s' : List Step) (h g : Head) (u y : ValueType) (n a : ℕ) → h ≡ g → Puts w s s' (heading g u y n a) → Puts w s s' (heading h u y n a)
+heading-as w s s' h g u y n a e p = puts-as (heading h u y n a) (λ v sees rest. ap (λ k. heading k u y n a v rest) (sym e)) p

@@ -4,6 +4,7 @@ ghost use Rattle.match_names.specs.Bindings.{names_of};
 ghost use Rattle.match_compile.specs.Compile.{excepted};
 ghost use Rattle.plain_tree.specs.TreeOf.{exception_of};
 ghost use Rattle.prog_tree.specs.TreeOf.{exc_of};
+ghost use Rattle.prog_tree.specs.declared.tree.Head.TheVariants.{Exception as OfException};
 ghost use Rattle.match_types.specs.Views.{View, reading, Keeps, Stands, in_view};
 ghost use Rattle.match_steps.specs.Steps.{Puts};
 ghost use Rattle.match_steps.specs.Made.{testing, naming, selecting, containing, heading, argument_after};
@@ -131,6 +132,31 @@ pub fn push_content(
     Ok(binding.variable)
 }
 
+/// A packet of an exception that holds an argument of type `u` is tested for in an atom of type `t`. Gives the argument's variable.
+fn push_exception_head(
+    alloc: Global,
+    work: &mut Work,
+    named: Named,
+    u: ValueType,
+    t: ValueType,
+    atom: usize,
+    steps: &mut Vec<Step>,
+) -> Result<usize, NoMemory>
+    ensures is { IfOk result (λ n. n ≡ suc work.old.next) }
+    ensures next { IfOk result (λ n. work.new.next ≡ suc n) }
+    ensures keeps { IfOk result (λ _. Keeps work.old work.new) }
+    ensures puts { IfOk result (λ _. Puts work.new steps.old.items steps.new.items (heading (OfException named) u t work.old.next atom)) }
+{
+    let exception = push_name(work, named, steps)?;
+    let argument = new_parameter(alloc, work, u)?;
+    let case = Case::ExceptionOf {
+        exception,
+        argument,
+    };
+    push_test(alloc, work, t, atom, case, steps)?;
+    Ok(argument.variable)
+}
+
 /// What stands before an argument of type `u` is tested in an atom of type `t`. Gives the argument's variable.
 pub fn push_head(
     alloc: Global,
@@ -161,14 +187,8 @@ pub fn push_head(
             Ok(held)
         }
         Head::Exception(named) => {
-            let exception = push_name(work, named, steps)?;
-            let argument = new_parameter(alloc, work, u)?;
-            let case = Case::ExceptionOf {
-                exception,
-                argument,
-            };
-            push_test(alloc, work, t, atom, case, steps)?;
-            Ok(argument.variable)
+            let argument = push_exception_head(alloc, work, named, u, t, atom, steps)?;
+            Ok(argument)
         }
     }
 }

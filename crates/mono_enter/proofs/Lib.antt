@@ -1,2 +1,4 @@
 pub mod Wanting
 pub mod Keeping
+pub mod Numbers
+pub mod Walking

@@ -5,13 +5,17 @@ use Rattle.ty_core.specs.Types.{Typ}
 use Rattle.ty_table.specs.TypeAt.{type_at}
 use Rattle.ir_mono.specs.Types.{Row}
 use Rattle.monomorphise.specs.Simple.{nth_part}
-use Rattle.monomorphise.specs.Table.{with_argument}
+use Rattle.monomorphise.specs.Table.{number_in, with_argument}
 use Rattle.mono_place.specs.Placing.{AreRight}
 use Rattle.mono_enter.specs.declared.constructors.Found.{Found}
 
 -- closed types that are known have their numbers
 abbrev pub Knows : List Typ → (ℕ → Option ℕ) → List Row → Type 0
 Knows closed known types = AreRight closed (nth_part []) known types
+
+-- the numbers that are known are those that types have
+abbrev pub HaveNumbers : List Typ → (ℕ → Option ℕ) → List Row → Type 0
+HaveNumbers closed known types = (k n : ℕ) → known k ≡ Some n → number_in types (type_at closed k) ≡ n
 
 -- what is known stays so, and rows that are there stay
 pub record Keeps (old new : List Row) : Type 0 where

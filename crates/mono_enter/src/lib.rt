@@ -3,4 +3,5 @@
 
 pub mod constructors;
 pub mod law;
+pub mod steps;
 pub mod walk;

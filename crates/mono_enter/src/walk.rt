@@ -33,6 +33,7 @@ pub struct Stand {
 }
 
 /// Types and constructors of a program, and the table that is made.
+#[derive(Drop)]
 pub struct Tables<'a> {
     pub closed: &'a Sources,
     pub sources: &'a Sources,

@@ -15,6 +15,7 @@ use Rattle.mono_operations.specs.Reads.{Names}
 use Rattle.mono_tree.specs.Programs.{initial_of}
 use Rattle.mono_check.specs.Walk.{fits}
 use Rattle.mono_form.specs.declared.program.Program.{Program}
+use Rattle.mono_form.specs.Parts.{HasParts}
 use Rattle.mono_form.specs.Programs.{IsTyped, IsWellFormed, NeverWrong, body_of, program_of}
 
 not-yes : {b : Bool} → b ≡ false → b ≡ true → ⊥
@@ -60,16 +61,21 @@ module _ (p : Program) where
   pub no-table : (b : Bool) → IsTrue b ↔ IsTable p.tables.types → b ≡ false → IsTrue false ↔ IsWellFormed p
   no-table b w f = ((λ g. absurd (cc)), (λ i. absurd (not-yes f (w.1 i.program.table))))
 
+  pub no-parts : (b : Bool) → IsTrue b ↔ HasParts p.tables.types → b ≡ false → IsTrue false ↔ IsWellFormed p
+  no-parts b w f = ((λ g. absurd (cc)), (λ i. absurd (not-yes f (w.1 i.parts))))
+
   pub not-once : (b : Bool) → IsTrue b ↔ IsOnce {F = mono p.tables.types} (λ x. x) (body_of p) → b ≡ false → IsTrue false ↔ IsWellFormed p
   not-once b w f = ((λ g. absurd (cc)), (λ i. absurd (not-yes f (w.1 i.program.once))))
 
-  pub well-formed : (b c d answer : Bool) → IsTrue b ↔ HasBasis → b ≡ true → IsTrue c ↔ IsTable p.tables.types → c ≡ true → IsTrue d ↔ IsOnce {F = mono p.tables.types} (λ x. x) (body_of p) → d ≡ true → IsTrue answer ↔ IsTyped p
+  pub well-formed : (b c h d answer : Bool) → IsTrue b ↔ HasBasis → b ≡ true → IsTrue c ↔ IsTable p.tables.types → c ≡ true → IsTrue h ↔ HasParts p.tables.types → h ≡ true
+      → IsTrue d ↔ IsOnce {F = mono p.tables.types} (λ x. x) (body_of p) → d ≡ true → IsTrue answer ↔ IsTyped p
       → IsTrue answer ↔ IsWellFormed p
-  well-formed b c d answer wb eb wc ec wd ed w = (
+  well-formed b c h d answer wb eb wc ec wh eh wd ed w = (
     (λ y. let t = w.0 y in let r = (fits-is-right p.tables.types p.tables.exn (wc.0 ec) (wb.0 eb).1 false (body_of p) t.0).0 t.1 in record {
       initial = (wb.0 eb).0;
       program = record { table = wc.0 ec; initial = ap length (wb.0 eb).0; type = t.0; typed = r.typed; once = wd.0 ed; local = r.local };
       exn = (wb.0 eb).1;
+      parts = wh.0 eh;
     }),
     (λ i. w.1 (
       i.program.type,

@@ -10,6 +10,7 @@ use Rattle.mono_fits.specs.Fits.{exp_fits}
 use Rattle.mono_tree.specs.Programs.{exceptions_of, initial_of}
 use Rattle.mono_tree.specs.Programs as tree
 use Rattle.mono_form.specs.declared.program.Program.{Program}
+use Rattle.mono_form.specs.Parts.{HasParts}
 
 abbrev pub body_of : (p : Program) → Mono p.tables.types
 body_of p = tree.body_of p.tables p.body
@@ -20,11 +21,12 @@ program_of p = tree.program_of p.tables p.expansion p.body
 abbrev pub meaning : Program → ℕ → Outcome
 meaning p = clean.meaning (program_of p)
 
--- the program is, its exceptions of the initial basis are those, and the type of exceptions has its number
+-- the program is, its exceptions of the initial basis are those, the type of exceptions has its number, and the table has the parts of its types
 pub record IsWellFormed (p : Program) : Type 0 where
   pub program : formed.IsWellFormed (program_of p)
   pub initial : initial_of p.tables ≡ initial_exceptions
   pub exn : IsExn p.tables.types p.tables.exn
+  pub parts : HasParts p.tables.types
 
 -- a program goes wrong at no number of turns
 abbrev pub NeverWrong : Program → Type 0

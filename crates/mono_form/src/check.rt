@@ -5,6 +5,7 @@ ghost use Rattle.ir_mono.specs.Types.{IsExn};
 ghost use Rattle.mono_tree.specs.Programs.{initial_of};
 ghost use Rattle.mono_form.specs.Programs.{IsTyped, IsWellFormed, NeverWrong};
 
+use crate::parts::has_parts;
 use crate::program::Program;
 use initial_names::are_initial;
 use ir_known::scope::Scope;
@@ -46,6 +47,9 @@ pub fn is_well_formed(alloc: Global, program: &Program) -> Result<bool, NoMemory
         return Ok(false);
     }
     if !is_table(&program.tables.types) {
+        return Ok(false);
+    }
+    if !has_parts(&program.tables.types) {
         return Ok(false);
     }
     let once = program.binds_once(alloc)?;

@@ -2,4 +2,5 @@
 #![tactic(auto)]
 
 pub mod check;
+pub mod parts;
 pub mod program;

@@ -21,6 +21,13 @@ const BOOL: TyName = TyName {
     equality: Equality::ByArguments,
 };
 
+/// A datatype of a program.
+const TREE: TyName = TyName {
+    stamp: 20,
+    arity: 0,
+    equality: Equality::Never,
+};
+
 /// The numbers of the constructors of truth values.
 const TRUE: usize = 11;
 
@@ -34,6 +41,9 @@ const INT: usize = 2;
 const EXN: usize = 3;
 
 const FUNCTION: usize = 4;
+
+/// The type that is placed behind these.
+const NEXT: usize = 5;
 
 fn enter(types: &mut Types, constructor: usize) -> Result<(), NoMemory> {
     if BOOL_TYPE < types.len() {
@@ -86,7 +96,11 @@ fn tables(alloc: Global, count: usize) -> Result<Tables, NoMemory> {
 
 /// What the check says of a program with so many exceptions of the basis.
 fn answer(alloc: Global, count: usize, body: Exp) -> Check {
-    match with(body, tables(alloc, count)) {
+    answer_with(alloc, tables(alloc, count), body)
+}
+
+fn answer_with(alloc: Global, tables: Result<Tables, NoMemory>, body: Exp) -> Check {
+    match with(body, tables) {
         Ok((body, tables)) => {
             let program = Program {
                 tables,
@@ -234,5 +248,76 @@ fn a_parameter_is_bound_once(rt: HostRuntime) -> Result<(), Fail> {
 fn no_miss_gets_out(rt: HostRuntime) -> Result<(), Fail> {
     let alloc = rt.alloc();
     assert_eq!(rt; answer(alloc, 7, Exp::Miss), Check::No);
+    Ok(())
+}
+
+/// One more type, of a part of this number.
+fn with_part(alloc: Global, part: usize) -> Result<Tables, NoMemory> {
+    let mut made = tables(alloc, 7)?;
+    place(
+        alloc,
+        &mut made.types,
+        Head::Named(TyName::REF),
+        &[part],
+        false,
+    )?;
+    Ok(made)
+}
+
+/// One more type, a datatype with a constructor of an argument of this type.
+fn with_argument(alloc: Global, argument: usize) -> Result<Tables, NoMemory> {
+    let mut made = tables(alloc, 7)?;
+    place(alloc, &mut made.types, Head::Named(TREE), &[], false)?;
+    if NEXT < made.types.len() {
+        made.types.enter(NEXT, 30, Some(argument))?;
+    }
+    Ok(made)
+}
+
+fn constant(alloc: Global) -> Result<Exp, NoMemory> {
+    ends(alloc, one(alloc, integer(0, INT)), 0)
+}
+
+#[test]
+fn a_part_is_a_type_of_the_table(rt: HostRuntime) -> Result<(), Fail> {
+    let alloc = rt.alloc();
+    let body = constant(alloc)?;
+    assert_eq!(rt;
+        answer_with(alloc, with_part(alloc, FUNCTION), body),
+        Check::Yes
+    );
+    Ok(())
+}
+
+#[test]
+fn no_part_is_in_no_table(rt: HostRuntime) -> Result<(), Fail> {
+    let alloc = rt.alloc();
+    let body = constant(alloc)?;
+    assert_eq!(rt;
+        answer_with(alloc, with_part(alloc, NEXT + 1), body),
+        Check::No
+    );
+    Ok(())
+}
+
+#[test]
+fn an_argument_is_a_type_of_the_table(rt: HostRuntime) -> Result<(), Fail> {
+    let alloc = rt.alloc();
+    let body = constant(alloc)?;
+    assert_eq!(rt;
+        answer_with(alloc, with_argument(alloc, NEXT), body),
+        Check::Yes
+    );
+    Ok(())
+}
+
+#[test]
+fn no_argument_is_in_no_table(rt: HostRuntime) -> Result<(), Fail> {
+    let alloc = rt.alloc();
+    let body = constant(alloc)?;
+    assert_eq!(rt;
+        answer_with(alloc, with_argument(alloc, NEXT + 1), body),
+        Check::No
+    );
     Ok(())
 }

@@ -1,3 +1,12 @@
 pub mod Trees
 pub mod Leaves
 pub mod Forms
+pub mod Annotated
+pub mod Matching
+pub mod Listing
+pub mod FieldsDo
+pub mod Chains
+pub mod ListsDo
+pub mod Sources
+pub mod Sizes
+pub mod Loops

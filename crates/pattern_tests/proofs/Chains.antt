@@ -2,17 +2,16 @@
 use Rattle.std.proofs.Common.{◌≡◌, ◌<◌, ℕ, zero, suc, ◌+◌, Bool, true, false, List, [], ◌∷◌, ◌++◌, map, length, take, drop, slice_index_or, Some, None, Box, Vec, Global, refl, sym, ap, ◌∙◌, arith}
 use Rattle.ir_poly.specs.Prog as t
 use Rattle.ir_poly.specs.ProgMeaning.{size_of}
-use Rattle.prog_tree.specs.TreeOf.{Reading, PatPartTree, pat_of, pat_part_of, join_pats, right_pats, left_pats, chain_pats}
+use Rattle.prog_tree.specs.TreeOf.{Reading, PatPartTree, pat_of, pat_part_of, join_pats, right_pats, left_pats}
 use Rattle.prog_tree.specs.declared.tree.PatField.{PatField}
 use Rattle.prog_tree.specs.declared.tree.PatPart.{PatPart}
 use Rattle.pattern_tests.specs.Tasks.{pattern}
-use Rattle.pattern_tests.specs.Parts.{field_patterns, field_first, record_pattern, right_chain, left_chain, joined}
+use Rattle.pattern_tests.specs.Parts.{field_patterns, field_first, record_pattern, chained, right_chain, left_chain, joined}
 use Rattle.pattern_tests.proofs.Nodes.{field_of-parts, part_of-parts}
 use Rattle.prog_tree.proofs.ExpOf.{pat_of-Record, pat_of-Chain}
 use Rattle.prog_tree.specs.declared.tree.Pat.{Pat}
 use Rattle.prog_tree.specs.declared.tree.Pat.TheVariants as patterns
 use Rattle.prog_tree.specs.declared.tree.Side.{Side}
-use Rattle.prog_tree.specs.declared.tree.Side.TheVariants as side
 
 pub fields-count : (R : Reading) (fs : List PatField) → t.pat_count (field_patterns fs R) ≡ length fs
 fields-count R [] = refl
@@ -73,11 +72,5 @@ left-next R p js j = ap (left_pats (p R)) (map-more R js j) ∙ left-append (p R
 pub record-is : (R : Reading) (P : Pat) (further : Bool) (fs : Vec PatField Global) → P ≡ patterns.Record further fs → record_pattern further (field_patterns fs.items) R ≡ pattern P R
 record-is R P further fs is = sym (ap (pat_of R) is ∙ pat_of-Record R further fs)
 
-pub right-is : (R : Reading) (P : Pat) (s : Side) (p : Box Pat Global) (js : Vec PatPart Global) → P ≡ patterns.Chain s p js → s ≡ side.Right → right_chain (pattern p.value) js.items R ≡ pattern P R
-right-is R P s p js is e = sym (ap (pat_of R) is ∙ pat_of-Chain R s p js ∙ ap (λ x. chain_pats x (pat_of R p.value) (map (pat_part_of R) js.items)) e)
-
-pub left-is : (R : Reading) (P : Pat) (s : Side) (p : Box Pat Global) (js : Vec PatPart Global) → P ≡ patterns.Chain s p js → s ≡ side.Left → left_chain (pattern p.value) js.items R ≡ pattern P R
-left-is R P s p js is e = sym (ap (pat_of R) is ∙ pat_of-Chain R s p js ∙ ap (λ x. chain_pats x (pat_of R p.value) (map (pat_part_of R) js.items)) e)
-
-pub alone-is : (R : Reading) (P : Pat) (s : Side) (p : Box Pat Global) (js : Vec PatPart Global) → P ≡ patterns.Chain s p js → s ≡ side.Right → js.items ≡ [] → pattern p.value R ≡ pattern P R
-alone-is R P s p js is e none = ap (λ l. right_chain (pattern p.value) l R) (sym none) ∙ right-is R P s p js is e
+pub chain-is : (R : Reading) (P : Pat) (s : Side) (p : Box Pat Global) (js : Vec PatPart Global) → P ≡ patterns.Chain s p js → chained s (pattern p.value) js.items R ≡ pattern P R
+chain-is R P s p js is = sym (ap (pat_of R) is ∙ pat_of-Chain R s p js)

@@ -9,6 +9,7 @@ use Rattle.prog_tree.specs.TreeOf.{Reading}
 use Rattle.prog_tree.specs.declared.tree.Pat.{Pat}
 use Rattle.prog_tree.specs.declared.tree.PatField.{PatField}
 use Rattle.prog_tree.specs.declared.tree.PatPart.{PatPart}
+use Rattle.prog_tree.specs.declared.tree.Side.{Side}
 use Rattle.match_types.specs.Views.{value_type}
 use Rattle.match_types.specs.declared.work.Work.{Work}
 use Rattle.match_types.specs.declared.work.ValueType.{ValueType}
@@ -16,8 +17,9 @@ use Rattle.match_types.specs.declared.work.ValueType.TheVariants.{Source}
 use Rattle.match_steps.specs.Steps.{stand}
 use Rattle.pattern_tests.specs.Spots.{spots_onto}
 use Rattle.pattern_tests.specs.Tasks.{Task, Done, finished, both, pat_task, pattern}
-use Rattle.pattern_tests.specs.Parts.{fields_task, field_patterns, field_first, record_pattern, component, first, second, opened, joined, right_chain, right_rest, left_chain, left_rest}
+use Rattle.pattern_tests.specs.Parts.{fields_task, field_patterns, field_first, record_pattern, component, first, second, opened, joined, chained, right_chain, right_rest, left_chain, left_rest, pairs_rest}
 use Rattle.pattern_tests.specs.declared.made.Made.{Made}
+use Rattle.pattern_tests.specs.declared.patterns.Pairs.{Pairs}
 use Rattle.pattern_tests.proofs.Doing.{done-then, done-both, done-first, done-nothing, done-pat, left-pat}
 use Rattle.pattern_tests.proofs.Chains.{next-drop, next-take, no-items, field-next, right-next, left-next}
 
@@ -62,36 +64,44 @@ right-open p j js u a joint b pair part child =
     done-pat (right_chain p (j ∷ js)) (joined j.head j.pair p q) u a (λ R. sym (right-next R (p R) j js))
     (done-then (done-then (pair p q) (done-both (second j.pair joint q) (part p))) (done-first (second j.pair joint q) child))
 
-pub right-step : {w0 w1 w2 w3 w4 w5 : Work} {m0 m1 m2 m3 m4 m5 : Made} {f : Task} (parts : List PatPart) (i : ℕ) (j k : PatPart) (joint rest later b : ℕ) → i + 1 < length parts
-    → j ≡ slice_index_or parts i j → k ≡ slice_index_or parts (i + 1) k → Done w0 w1 m0 m1 f (right_rest (drop i parts) joint)
-    → ((p : Reading → t.Pat) → Done w1 w2 m1 m2 (second j.pair joint p) (pat_task p (Source j.pair.right) rest))
-    → ((p q : Reading → t.Pat) → Done w2 w3 m2 m3 (pat_task (joined k.head k.pair p q) (Source j.pair.right) rest) (opened k.pair later p q))
-    → ((p : Reading → t.Pat) → Done w3 w4 m3 m4 (first k.pair later p) (pat_task p (Source k.pair.left) b)) → Done w4 w5 m4 m5 (pat_task (pattern j.pat) (Source k.pair.left) b) finished
-    → Done w0 w5 m0 m5 f (right_rest (drop (i + 1) parts) later)
-right-step {w0 = w0} {w1 = w1} {w5 = w5} {m0 = m0} {m1 = m1} {m5 = m5} {f = f} parts i j k joint rest later b lt is next inv right pair part child =
-    let js = drop (i + 1 + 1) parts in
+-- its second operand begins with the next pair
+pub right-inner : {w0 w1 w2 w3 w4 : Work} {m0 m1 m2 m3 m4 : Made} (j k : PatPart) (joint rest inner b : ℕ)
+    → ((p : Reading → t.Pat) → Done w0 w1 m0 m1 (second j.pair joint p) (pat_task p (Source j.pair.right) rest))
+    → ((p q : Reading → t.Pat) → Done w1 w2 m1 m2 (pat_task (joined k.head k.pair p q) (Source j.pair.right) rest) (opened k.pair inner p q))
+    → ((p : Reading → t.Pat) → Done w2 w3 m2 m3 (first k.pair inner p) (pat_task p (Source k.pair.left) b)) → Done w3 w4 m3 m4 (pat_task (pattern j.pat) (Source k.pair.left) b) finished
+    → (js : List PatPart) → Done w0 w4 m0 m4 (right_rest (j ∷ k ∷ js) joint) (right_rest (k ∷ js) inner)
+right-inner j k joint rest inner b right pair part child js =
+    done-then (right (right_chain (pattern j.pat) (k ∷ js))) (right-open (pattern j.pat) k js (Source j.pair.right) rest inner b pair part child)
+
+pub right-step : {w0 w1 w2 : Work} {m0 m1 m2 : Made} {f : Task} (parts : List PatPart) (i : ℕ) (j k : PatPart) (joint inner : ℕ) → i + 1 < length parts → j ≡ slice_index_or parts i j → k ≡ slice_index_or parts (i + 1) k
+    → Done w0 w1 m0 m1 f (right_rest (drop i parts) joint) → ((js : List PatPart) → Done w1 w2 m1 m2 (right_rest (j ∷ k ∷ js) joint) (right_rest (k ∷ js) inner))
+    → Done w0 w2 m0 m2 f (right_rest (drop (i + 1) parts) inner)
+right-step {w0 = w0} {w1 = w1} {w2 = w2} {m0 = m0} {m1 = m1} {m2 = m2} {f = f} parts i j k joint inner lt is next inv step =
     let e = next-drop parts i j (omega arith) is in let g = next-drop parts (i + 1) k lt next in
-    subst (λ l. Done w0 w5 m0 m5 f (right_rest l later)) (sym g)
-    (done-then
-    (done-then (subst (λ l. Done w0 w1 m0 m1 f (right_rest l joint)) (e ∙ ap (λ l. j ∷ l) g) inv) (right (right_chain (pattern j.pat) (k ∷ js))))
-    (right-open (pattern j.pat) k js (Source j.pair.right) rest later b pair part child))
+    subst (λ l. Done w0 w2 m0 m2 f (right_rest l inner)) (sym g)
+    (done-then (subst (λ l. Done w0 w1 m0 m1 f (right_rest l joint)) (e ∙ ap (λ l. j ∷ l) g) inv) (step (drop (i + 1 + 1) parts)))
 
-pub right-end : {w0 w1 w2 w3 : Work} {m0 m1 m2 m3 : Made} {f : Task} (parts : List PatPart) (i k : ℕ) (j : PatPart) (joint b : ℕ) → i ≡ k → k + 1 ≡ length parts → j ≡ slice_index_or parts k j
-    → Done w0 w1 m0 m1 f (right_rest (drop i parts) joint) → ((p : Reading → t.Pat) → Done w1 w2 m1 m2 (second j.pair joint p) (pat_task p (Source j.pair.right) b))
-    → Done w2 w3 m2 m3 (pat_task (pattern j.pat) (Source j.pair.right) b) finished → Done w0 w3 m0 m3 f finished
-right-end {w0 = w0} {w1 = w1} {m0 = m0} {m1 = m1} {f = f} parts i k j joint b same e is inv right child =
+pub right-end : {w0 w1 w2 : Work} {m0 m1 m2 : Made} {f : Task} (parts : List PatPart) (i k : ℕ) (j : PatPart) (joint : ℕ) → i ≡ k → k + 1 ≡ length parts → j ≡ slice_index_or parts k j
+    → Done w0 w1 m0 m1 f (right_rest (drop i parts) joint) → Done w1 w2 m1 m2 (second j.pair joint (pattern j.pat)) finished → Done w0 w2 m0 m2 f finished
+right-end {w0 = w0} {w1 = w1} {m0 = m0} {m1 = m1} {f = f} parts i k j joint same e is inv last =
     let g : drop i parts ≡ j ∷ [] = ap (λ n. drop n parts) same ∙ next-drop parts k j (omega arith) is ∙ ap (λ l. j ∷ l) (drop-past parts (k + 1) (omega arith)) in
-    done-then (done-then (subst (λ l. Done w0 w1 m0 m1 f (right_rest l joint)) g inv) (right (pattern j.pat))) child
+    done-then (subst (λ l. Done w0 w1 m0 m1 f (right_rest l joint)) g inv) last
 
--- a whole chain to the right, read as ds and es where it is opened and gone through
-pub right-all : {w0 w1 w2 w3 w4 : Work} {m0 m1 m2 m3 m4 : Made} (p : Reading → t.Pat) (js es : List PatPart) (j : PatPart) (u : ValueType) (a joint b : ℕ) → 0 < length js → j ≡ slice_index_or js 0 j → es ≡ js
+-- the first pair of a chain to the right is opened, where it has one
+pub right-none : (w : Work) (m : Made) (parts : List PatPart) (u : ValueType) (a joint : ℕ) → length parts ≡ 0 → (p : Reading → t.Pat)
+    → Done w w m m (pat_task (right_chain p parts) u a) (both (pat_task p u a) (right_rest parts joint))
+right-none w m parts u a joint none p =
+    subst (λ l. Done w w m m (pat_task (right_chain p l) u a) (both (pat_task p u a) (right_rest l joint))) (sym (no-items parts none)) (done-nothing w m (pat_task p u a))
+
+pub right-begun : {w0 w1 w2 : Work} {m0 m1 m2 : Made} (parts : List PatPart) (j : PatPart) (u : ValueType) (a joint b : ℕ) → 0 < length parts → j ≡ slice_index_or parts 0 j
     → ((p q : Reading → t.Pat) → Done w0 w1 m0 m1 (pat_task (joined j.head j.pair p q) u a) (opened j.pair joint p q))
-    → ((p : Reading → t.Pat) → Done w1 w2 m1 m2 (first j.pair joint p) (pat_task p (Source j.pair.left) b)) → Done w2 w3 m2 m3 (pat_task p (Source j.pair.left) b) finished
-    → Done w3 w4 m3 m4 (right_rest es joint) finished → Done w0 w4 m0 m4 (pat_task (right_chain p js) u a) finished
-right-all {w0 = w0} {w3 = w3} {w4 = w4} {m0 = m0} {m3 = m3} {m4 = m4} p js es j u a joint b lt is same pair part child rest =
-    done-then
-    (subst (λ l. Done w0 w3 m0 m3 (pat_task (right_chain p l) u a) (right_rest l joint)) (sym (next-drop js 0 j lt is)) (right-open p j (drop 1 js) u a joint b pair part child))
-    (subst (λ l. Done w3 w4 m3 m4 (right_rest l joint) finished) same rest)
+    → ((p : Reading → t.Pat) → Done w1 w2 m1 m2 (first j.pair joint p) (pat_task p (Source j.pair.left) b))
+    → (p : Reading → t.Pat) → Done w0 w2 m0 m2 (pat_task (right_chain p parts) u a) (both (pat_task p (Source j.pair.left) b) (right_rest parts joint))
+right-begun {w0 = w0} {w2 = w2} {m0 = m0} {m2 = m2} parts j u a joint b lt is pair part p =
+    let js = drop 1 parts in
+    let q = right_chain (pattern j.pat) js in
+    subst (λ l. Done w0 w2 m0 m2 (pat_task (right_chain p l) u a) (both (pat_task p (Source j.pair.left) b) (right_rest l joint))) (sym (next-drop parts 0 j lt is))
+    (done-pat (right_chain p (j ∷ js)) (joined j.head j.pair p q) u a (λ R. sym (right-next R (p R) j js)) (done-then (pair p q) (done-both (second j.pair joint q) (part p))))
 
 -- chains to the left
 pub left-start : (w : Work) (m : Made) (parts : List PatPart) (n : ℕ) (u : ValueType) (a : ℕ) (pairs : List ℕ) → pairs ≡ [] → n ≡ length parts → (p : Reading → t.Pat)
@@ -129,30 +139,30 @@ left-none (j ∷ js) = refl
 pub left-empty : {w0 w1 : Work} {m0 m1 : Made} {f : Task} (js : List PatPart) (pairs : List ℕ) → length pairs ≡ 0 → Done w0 w1 m0 m1 f (left_rest js (reverse pairs)) → Done w0 w1 m0 m1 f finished
 left-empty {w0 = w0} {w1 = w1} {m0 = m0} {m1 = m1} {f = f} js pairs e inv = subst (Done w0 w1 m0 m1 f) (ap (λ l. left_rest js (reverse l)) (no-items pairs e) ∙ left-none js) inv
 
-pub left-step : {w0 w1 w2 w3 : Work} {m0 m1 m2 m3 : Made} {f : Task} (parts : List PatPart) (i : ℕ) (j : PatPart) (pairs later : List ℕ) (joint b : ℕ) → i < length parts → j ≡ slice_index_or parts i j
-    → pairs ≡ later ++ joint ∷ [] → Done w0 w1 m0 m1 f (left_rest (drop i parts) (reverse pairs))
-    → ((p : Reading → t.Pat) → Done w1 w2 m1 m2 (second j.pair joint p) (pat_task p (Source j.pair.right) b)) → Done w2 w3 m2 m3 (pat_task (pattern j.pat) (Source j.pair.right) b) finished
-    → Done w0 w3 m0 m3 f (left_rest (drop (i + 1) parts) (reverse later))
-left-step {w0 = w0} {w1 = w1} {m0 = m0} {m1 = m1} {f = f} parts i j pairs later joint b lt is more inv right child =
-    let rest = left_rest (drop (i + 1) parts) (reverse later) in
+pub left-step : {w0 w1 w2 : Work} {m0 m1 m2 : Made} {f : Task} (parts : List PatPart) (i : ℕ) (j : PatPart) (pairs later : List ℕ) (joint : ℕ) → i < length parts → j ≡ slice_index_or parts i j → pairs ≡ later ++ joint ∷ []
+    → Done w0 w1 m0 m1 f (left_rest (drop i parts) (reverse pairs)) → Done w1 w2 m1 m2 (second j.pair joint (pattern j.pat)) finished → Done w0 w2 m0 m2 f (left_rest (drop (i + 1) parts) (reverse later))
+left-step {w0 = w0} {w1 = w1} {m0 = m0} {m1 = m1} {f = f} parts i j pairs later joint lt is more inv last =
     let start = subst (λ l. Done w0 w1 m0 m1 f (left_rest (drop i parts) l)) (ap reverse more ∙ reverse-append later (joint ∷ [])) inv in
-    done-then
-    (done-then (subst (λ l. Done w0 w1 m0 m1 f (left_rest l (joint ∷ reverse later))) (next-drop parts i j lt is) start) (done-both rest (right (pattern j.pat))))
-    (done-first rest child)
+    done-then (subst (λ l. Done w0 w1 m0 m1 f (left_rest l (joint ∷ reverse later))) (next-drop parts i j lt is) start) (done-first (left_rest (drop (i + 1) parts) (reverse later)) last)
 
 pub left-end : {w0 w1 : Work} {m0 m1 : Made} {f : Task} (parts : List PatPart) (i : ℕ) (pairs : List ℕ) → length parts ≤ i → Done w0 w1 m0 m1 f (left_rest (drop i parts) (reverse pairs)) → Done w0 w1 m0 m1 f finished
 left-end {w0 = w0} {w1 = w1} {m0 = m0} {m1 = m1} {f = f} parts i pairs le inv = subst (λ l. Done w0 w1 m0 m1 f (left_rest l (reverse pairs))) (drop-past parts i le) inv
 
--- a whole chain to the left, read as ds and es where it is opened and gone through
-pub left-all : {w0 w1 w2 w3 : Work} {m0 m1 m2 m3 : Made} (p : Reading → t.Pat) (js ds es : List PatPart) (pairs later : List ℕ) (u v : ValueType) (a b : ℕ) → ds ≡ js → es ≡ js → later ≡ pairs
-    → ((p : Reading → t.Pat) → Done w0 w1 m0 m1 (pat_task (left_chain p ds) u a) (both (pat_task p v b) (left_rest ds (reverse pairs)))) → Done w1 w2 m1 m2 (pat_task p v b) finished
-    → Done w2 w3 m2 m3 (left_rest es (reverse later)) finished → Done w0 w3 m0 m3 (pat_task (left_chain p js) u a) finished
-left-all {w0 = w0} {w1 = w1} {w2 = w2} {w3 = w3} {m0 = m0} {m1 = m1} {m2 = m2} {m3 = m3} p js ds es pairs later u v a b d e same start child rest =
-    let begun : Done w0 w1 m0 m1 (pat_task (left_chain p js) u a) (both (pat_task p v b) (left_rest js (reverse pairs))) =
-    subst (λ l. Done w0 w1 m0 m1 (pat_task (left_chain p l) u a) (both (pat_task p v b) (left_rest l (reverse pairs)))) d (start p) in
-    let ended : Done w2 w3 m2 m3 (left_rest js (reverse pairs)) finished =
-    subst (λ l. Done w2 w3 m2 m3 (left_rest js (reverse l)) finished) same (subst (λ l. Done w2 w3 m2 m3 (left_rest l (reverse later)) finished) e rest) in
-    done-then (done-then begun (done-first (left_rest js (reverse pairs)) child)) ended
+-- a whole chain, read as ds and es where it is opened and gone through
+pub chain-all : {w0 w1 w2 w3 : Work} {m0 m1 m2 m3 : Made} (s : Side) (p : Reading → t.Pat) (js ds es : List PatPart) (pairs : Pairs) (u v : ValueType) (a b : ℕ) → ds ≡ js → es ≡ js
+    → ((p : Reading → t.Pat) → Done w0 w1 m0 m1 (pat_task (chained s p ds) u a) (both (pat_task p v b) (pairs_rest ds pairs))) → Done w1 w2 m1 m2 (pat_task p v b) finished
+    → Done w2 w3 m2 m3 (pairs_rest es pairs) finished → Done w0 w3 m0 m3 (pat_task (chained s p js) u a) finished
+chain-all {w0 = w0} {w1 = w1} {w2 = w2} {w3 = w3} {m0 = m0} {m1 = m1} {m2 = m2} {m3 = m3} s p js ds es pairs u v a b d e start child rest =
+    done-then
+    (done-then (subst (λ l. Done w0 w1 m0 m1 (pat_task (chained s p l) u a) (both (pat_task p v b) (pairs_rest l pairs))) d (start p)) (done-first (pairs_rest js pairs) child))
+    (subst (λ l. Done w2 w3 m2 m3 (pairs_rest l pairs) finished) e rest)
+
+-- of a side that is known
+pub chain-as : {w0 w1 : Work} {m0 m1 : Made} {g : Task} (s r : Side) (p : Reading → t.Pat) (js : List PatPart) (u : ValueType) (a : ℕ) → s ≡ r → Done w0 w1 m0 m1 (pat_task (chained r p js) u a) g → Done w0 w1 m0 m1 (pat_task (chained s p js) u a) g
+chain-as {w0 = w0} {w1 = w1} {m0 = m0} {m1 = m1} {g = g} s r p js u a e h = subst (λ x. Done w0 w1 m0 m1 (pat_task (chained x p js) u a) g) (sym e) h
+
+pub pairs-as : {w0 w1 : Work} {m0 m1 : Made} {g : Task} (js : List PatPart) (o k : Pairs) → o ≡ k → Done w0 w1 m0 m1 (pairs_rest js k) g → Done w0 w1 m0 m1 (pairs_rest js o) g
+pairs-as {w0 = w0} {w1 = w1} {m0 = m0} {m1 = m1} {g = g} js o k e h = subst (λ x. Done w0 w1 m0 m1 (pairs_rest js x) g) (sym e) h
 
 -- a whole record, whose fields are read as ds and es where they are counted and gone through
 pub fields-all : {w0 w1 w2 : Work} {m0 m1 m2 : Made} (fs ds es : List PatField) (further : Bool) (size : Option ℕ) (u : ValueType) (a : ℕ) → ds ≡ fs → es ≡ fs → ((R : Reading) → size_of further (field_patterns ds R) ≡ size)

@@ -1,21 +1,24 @@
 -- What is to be done with parts of patterns.
-use Rattle.std.specs.Prelude.{ℕ, suc, Bool, false, List, [], ◌∷◌, map}
+use Rattle.std.specs.Prelude.{ℕ, suc, Bool, false, List, [], ◌∷◌, map, reverse}
 use Rattle.mlc_names.specs.declared.label.Label.{Label}
 use Rattle.mlc_names.specs.declared.label.Label.TheVariants.{Number}
 use Rattle.ir_poly.specs.Prog as t
 use Rattle.ir_tables.specs.Tables.{literal_at}
 use Rattle.ir_tables.specs.declared.tables.Constant.{Constant}
 use Rattle.match_compile.specs.Compile.{past_pat, past_pats, spots, field_spots, tests, field_tests}
-use Rattle.prog_tree.specs.TreeOf.{Reading, exc_of, pat_field_of, pat_part_of, fields_of, before, right_pats, left_pats}
+use Rattle.prog_tree.specs.TreeOf.{Reading, exc_of, pat_field_of, pat_part_of, fields_of, before, right_pats, left_pats, chain_pats}
 use Rattle.prog_tree.specs.declared.tree.Exception.{Exception}
 use Rattle.prog_tree.specs.declared.tree.Head.{Head}
 use Rattle.prog_tree.specs.declared.tree.Pair.{Pair}
 use Rattle.prog_tree.specs.declared.tree.PatField.{PatField}
 use Rattle.prog_tree.specs.declared.tree.PatPart.{PatPart}
+use Rattle.prog_tree.specs.declared.tree.Side.{Side}
 use Rattle.match_types.specs.Views.{value_type}
 use Rattle.match_types.specs.declared.work.ValueType.{ValueType}
 use Rattle.match_types.specs.declared.work.ValueType.TheVariants.{Source}
 use Rattle.match_steps.specs.Made.{selecting}
+use Rattle.pattern_tests.specs.declared.patterns.Pairs.{Pairs}
+use Rattle.pattern_tests.specs.declared.patterns.Pairs.TheVariants as pairing
 use Rattle.pattern_tests.specs.Tasks.{Task, finished, both, pattern}
 
 -- the fields of the record a of the source's type u
@@ -82,6 +85,14 @@ abbrev pub left_rest : List PatPart → (pairs : List ℕ) → Task
 left_rest [] as_ = finished
 left_rest (j ∷ js) [] = finished
 left_rest (j ∷ js) (a ∷ as_) = both (second j.pair a (pattern j.pat)) (left_rest js as_)
+
+-- what is left of a chain once the pairs around its first operand are open
+abbrev pub pairs_rest : List PatPart → Pairs → Task
+pairs_rest js (pairing.Right a) = right_rest js a
+pairs_rest js (pairing.Left as_) = left_rest js (reverse as_.items)
+
+abbrev pub chained : Side → (Reading → t.Pat) → List PatPart → Reading → t.Pat
+chained s p js R = chain_pats s (p R) (map (pat_part_of R) js)
 
 -- patterns of one node
 abbrev pub variable_pattern : ℕ → Reading → t.Pat

@@ -1,14 +1,15 @@
 // Patterns, node by node, the first first. Fields and chains are loops.
-ghost use Rattle.std.specs.Prelude.{◌≡◌, reverse, IfOk};
+ghost use Rattle.std.specs.Prelude.{◌≡◌, List, ◌∷◌, reverse, IfOk};
 ghost use Rattle.ir_poly.specs.Prog.{Pat as Prog};
 ghost use Rattle.ir_poly.specs.ProgMeaning.{size_of};
 ghost use Rattle.prog_tree.specs.TreeOf.{Reading, pat_of};
+ghost use Rattle.prog_tree.specs.declared.tree.PatPart.{PatPart as Part};
 ghost use Rattle.match_compile.specs.Compile.{no_spots, past_pat, spots};
 ghost use Rattle.match_types.specs.Views.{View, value_type, Keeps};
 ghost use Rattle.match_steps.specs.Steps.{Puts};
 ghost use Rattle.pattern_tests.specs.Spots.{spots_onto};
 ghost use Rattle.pattern_tests.specs.Tasks.{Done, finished, both, pat_task, pattern, tests_of};
-ghost use Rattle.pattern_tests.specs.Parts.{fields_task, field_patterns, right_rest, left_rest, left_chain};
+ghost use Rattle.pattern_tests.specs.Parts.{fields_task, field_patterns, second, chained, right_chain, right_rest, left_rest, left_chain, pairs_rest};
 
 use crate::made::Made;
 use crate::parts::{
@@ -43,65 +44,28 @@ fn push_pat(
 {
     match pat {
         Pat::Any => Ok(()),
-        Pat::Variable(x) => {
-            push_spot(*x, u, atom, made)?;
-            Ok(())
-        }
-        Pat::Constant(constant) => {
-            push_constant(alloc, work, *constant, u, atom, made)?;
-            Ok(())
-        }
-        Pat::Constructor(constructor) => {
-            push_constructor(alloc, work, *constructor, u, atom, made)?;
-            Ok(())
-        }
-        Pat::Exception(exception) => {
-            push_exception(alloc, work, *exception, u, atom, made)?;
-            Ok(())
-        }
+        Pat::Variable(x) => push_spot(*x, u, atom, made),
+        Pat::Constant(constant) => push_constant(alloc, work, *constant, u, atom, made),
+        Pat::Constructor(constructor) => push_constructor(alloc, work, *constructor, u, atom, made),
+        Pat::Exception(exception) => push_exception(alloc, work, *exception, u, atom, made),
         Pat::Before(head, w, argument) => {
             let a = push_before(alloc, work, *head, *w, u, atom, made)?;
-            push_pat(alloc, work, argument, ValueType::Source(*w), a, made)?;
-            Ok(())
+            push_pat(alloc, work, argument, ValueType::Source(*w), a, made)
         }
         Pat::Record(further, fields) => {
             let size = size(*further, fields);
             push_record(alloc, work, size, u, atom, made)?;
-            push_fields(alloc, work, fields, u, atom, made)?;
-            Ok(())
+            push_fields(alloc, work, fields, u, atom, made)
         }
         Pat::As(x, inner) => {
             push_spot(*x, u, atom, made)?;
-            push_pat(alloc, work, inner, u, atom, made)?;
-            Ok(())
+            push_pat(alloc, work, inner, u, atom, made)
         }
-        Pat::Chain(side, first, parts) => match side {
-            Side::Right => {
-                if parts.is_empty() {
-                    push_pat(alloc, work, first, u, atom, made)?;
-                    return Ok(());
-                }
-                let part = &parts[0];
-                let joint = push_pair(alloc, work, part.head, part.pair, u, atom, made)?;
-                let a = push_left_part(alloc, work, part.pair, joint, made)?;
-                push_pat(
-                    alloc,
-                    work,
-                    first,
-                    ValueType::Source(part.pair.left),
-                    a,
-                    made,
-                )?;
-                push_right(alloc, work, parts, joint, made)?;
-                Ok(())
-            }
-            Side::Left => {
-                let mut opened = open_left(alloc, work, parts, u, atom, made)?;
-                push_pat(alloc, work, first, opened.ty, opened.atom, made)?;
-                push_left(alloc, work, parts, &mut opened.pairs, made)?;
-                Ok(())
-            }
-        },
+        Pat::Chain(side, first, parts) => {
+            let opened = open_chain(alloc, work, *side, parts, u, atom, made)?;
+            push_pat(alloc, work, first, opened.ty, opened.atom, made)?;
+            push_parts(alloc, work, parts, opened.pairs, made)
+        }
     }
 }
 
@@ -131,6 +95,117 @@ fn push_fields(
     Ok(())
 }
 
+/// The pairs of a chain that are open: of one to the right the first, if it has one; of one to the left all, the outermost first.
+#[derive(Drop)]
+enum Pairs {
+    Right(usize),
+    Left(Vec<usize>),
+}
+
+/// The first operand of a chain with its type, and the pairs that are open.
+#[derive(Drop)]
+struct Opened {
+    ty: ValueType,
+    atom: usize,
+    pairs: Pairs,
+}
+
+/// Opens the pairs of a chain to the left.
+fn open_left(
+    alloc: Global,
+    work: &mut Work,
+    parts: &[PatPart],
+    u: ValueType,
+    atom: usize,
+    made: &mut Made,
+) -> Result<Opened, NoMemory>
+    ensures { IfOk result (λ o. (p : Reading → Prog) → Done work.old work.new made.old made.new (pat_task (left_chain p parts.now) u atom)
+        (both (pat_task p o.ty o.atom) (pairs_rest parts.now o.pairs))) }
+{
+    let mut pairs = Vec::new(alloc);
+    let mut ty = u;
+    let mut outer = atom;
+    let mut left = parts.len();
+    while left > 0 {
+        left -= 1;
+        let part = &parts[left];
+        let joint = push_pair(alloc, work, part.head, part.pair, ty, outer, made)?;
+        pairs.push(joint)?;
+        outer = push_left_part(alloc, work, part.pair, joint, made)?;
+        ty = ValueType::Source(part.pair.left);
+    }
+    Ok(Opened {
+        ty,
+        atom: outer,
+        pairs: Pairs::Left(pairs),
+    })
+}
+
+/// Opens the first pair of a chain to the right.
+fn open_right(
+    alloc: Global,
+    work: &mut Work,
+    parts: &[PatPart],
+    u: ValueType,
+    atom: usize,
+    made: &mut Made,
+) -> Result<Opened, NoMemory>
+    ensures { IfOk result (λ o. (p : Reading → Prog) → Done work.old work.new made.old made.new (pat_task (right_chain p parts.now) u atom)
+        (both (pat_task p o.ty o.atom) (pairs_rest parts.now o.pairs))) }
+{
+    if parts.is_empty() {
+        return Ok(Opened {
+            ty: u,
+            atom,
+            pairs: Pairs::Right(atom),
+        });
+    }
+    let part = &parts[0];
+    let joint = push_pair(alloc, work, part.head, part.pair, u, atom, made)?;
+    let first = push_left_part(alloc, work, part.pair, joint, made)?;
+    Ok(Opened {
+        ty: ValueType::Source(part.pair.left),
+        atom: first,
+        pairs: Pairs::Right(joint),
+    })
+}
+
+/// Opens the pairs around the first operand of a chain.
+fn open_chain(
+    alloc: Global,
+    work: &mut Work,
+    side: Side,
+    parts: &[PatPart],
+    u: ValueType,
+    atom: usize,
+    made: &mut Made,
+) -> Result<Opened, NoMemory>
+    ensures { IfOk result (λ o. (p : Reading → Prog) → Done work.old work.new made.old made.new (pat_task (chained side p parts.now) u atom)
+        (both (pat_task p o.ty o.atom) (pairs_rest parts.now o.pairs))) }
+{
+    match side {
+        Side::Right => open_right(alloc, work, parts, u, atom, made),
+        Side::Left => open_left(alloc, work, parts, u, atom, made),
+    }
+}
+
+/// The second operands of a chain whose pairs are open.
+#[cycle(patterns)]
+fn push_parts(
+    alloc: Global,
+    work: &mut Work,
+    parts: &[PatPart],
+    pairs: Pairs,
+    made: &mut Made,
+) -> Result<(), NoMemory>
+    ensures { IfOk result (λ _. Done work.old work.new made.old made.new (pairs_rest parts.now pairs) finished) }
+{
+    match pairs {
+        Pairs::Right(joint) => push_right(alloc, work, parts, joint, made),
+        Pairs::Left(joints) => push_left(alloc, work, parts, joints, made),
+    }
+}
+
 /// The first pair of a chain to the right is open: its second operand, and the pairs in it.
 #[cycle(patterns)]
 fn push_right(
@@ -148,84 +223,53 @@ fn push_right(
     let last = parts.len() - 1;
     let mut joint = first;
     for i in 0..last {
-        let part = &parts[i];
-        let next = &parts[i + 1];
-        let rest = push_right_part(alloc, work, part.pair, joint, made)?;
-        joint = push_pair(
-            alloc,
-            work,
-            next.head,
-            next.pair,
-            ValueType::Source(part.pair.right),
-            rest,
-            made,
-        )?;
-        let a = push_left_part(alloc, work, next.pair, joint, made)?;
-        push_pat(
-            alloc,
-            work,
-            &part.pat,
-            ValueType::Source(next.pair.left),
-            a,
-            made,
-        )?;
+        joint = push_inner(alloc, work, &parts[i], &parts[i + 1], joint, made)?;
     }
-    let part = &parts[last];
-    let a = push_right_part(alloc, work, part.pair, joint, made)?;
+    push_last(alloc, work, &parts[last], joint, made)
+}
+
+/// The second operand of a pair that is open, which is a pair: that one is opened. Gives its variable.
+#[cycle(patterns)]
+fn push_inner(
+    alloc: Global,
+    work: &mut Work,
+    part: &PatPart,
+    next: &PatPart,
+    joint: usize,
+    made: &mut Made,
+) -> Result<usize, NoMemory>
+    ensures { IfOk result (λ inner. (js : List Part) → Done work.old work.new made.old made.new
+        (right_rest (part.now ∷ next.now ∷ js) joint) (right_rest (next.now ∷ js) inner)) }
+{
+    let u = ValueType::Source(part.pair.right);
+    let rest = push_right_part(alloc, work, part.pair, joint, made)?;
+    let inner = push_pair(alloc, work, next.head, next.pair, u, rest, made)?;
+    let a = push_left_part(alloc, work, next.pair, inner, made)?;
     push_pat(
         alloc,
         work,
         &part.pat,
-        ValueType::Source(part.pair.right),
+        ValueType::Source(next.pair.left),
         a,
         made,
     )?;
-    Ok(())
+    Ok(inner)
 }
 
-/// The first operand of a chain to the left, its type, and the pairs that are open, the outermost first.
-#[derive(Drop)]
-struct Opened {
-    ty: ValueType,
-    atom: usize,
-    pairs: Vec<usize>,
-}
-
-/// Opens the pairs of a chain to the left.
-fn open_left(
+/// The second operand of a pair that is open, where nothing follows in it.
+#[cycle(patterns)]
+fn push_last(
     alloc: Global,
     work: &mut Work,
-    parts: &[PatPart],
-    u: ValueType,
-    atom: usize,
+    part: &PatPart,
+    joint: usize,
     made: &mut Made,
-) -> Result<Opened, NoMemory>
-    ensures { IfOk result (λ o. (p : Reading → Prog) → Done work.old work.new made.old made.new (pat_task (left_chain p parts.now) u atom)
-        (both (pat_task p o.ty o.atom) (left_rest parts.now (reverse o.pairs.items)))) }
+) -> Result<(), NoMemory>
+    ensures { IfOk result (λ _. Done work.old work.new made.old made.new (second part.now.pair joint (pattern part.now.pat)) finished) }
 {
-    let mut opened = Opened {
-        ty: u,
-        atom,
-        pairs: Vec::new(alloc),
-    };
-    let mut left = parts.len();
-    while left > 0 {
-        left -= 1;
-        let part = &parts[left];
-        let joint = push_pair(
-            alloc,
-            work,
-            part.head,
-            part.pair,
-            opened.ty,
-            opened.atom,
-            made,
-        )?;
-        opened.pairs.push(joint)?;
-        opened.atom = push_left_part(alloc, work, part.pair, joint, made)?;
-        opened.ty = ValueType::Source(part.pair.left);
-    }
-    Ok(opened)
+    let u = ValueType::Source(part.pair.right);
+    let a = push_right_part(alloc, work, part.pair, joint, made)?;
+    push_pat(alloc, work, &part.pat, u, a, made)
 }
 
 /// The second operands of the pairs that are open.
@@ -234,25 +278,16 @@ fn push_left(
     alloc: Global,
     work: &mut Work,
     parts: &[PatPart],
-    pairs: &mut Vec<usize>,
+    mut pairs: Vec<usize>,
     made: &mut Made,
 ) -> Result<(), NoMemory>
-    ensures { IfOk result (λ _. Done work.old work.new made.old made.new (left_rest parts.now (reverse pairs.old.items)) finished) }
+    ensures { IfOk result (λ _. Done work.old work.new made.old made.new (left_rest parts.now (reverse pairs.items)) finished) }
 {
     for i in 0..parts.len() {
         let Some(joint) = pairs.pop() else {
             return Ok(());
         };
-        let part = &parts[i];
-        let a = push_right_part(alloc, work, part.pair, joint, made)?;
-        push_pat(
-            alloc,
-            work,
-            &part.pat,
-            ValueType::Source(part.pair.right),
-            a,
-            made,
-        )?;
+        push_last(alloc, work, &parts[i], joint, made)?;
     }
     Ok(())
 }

@@ -268,5 +268,8 @@ refuses-admit-err n s w k a c (Err e) p h = refuses-admit-along n s w k a c p e 
 pub refuses-is : (s : ℕ → Entry) (x y : Task) (r : Result (Option Write) UnifyRefused) → x ≡ y → IfErr r (RefusesTask s y) → IfErr r (RefusesTask s x)
 refuses-is s x y r e h = subst (λ z. IfErr r (RefusesTask s z)) (sym e) h
 
+pub earlier-variable : (t : Typ) (x y : ℕ) → t ≡ var x → x < y → t ≡ var y → ⊥
+earlier-variable t x y p lt q = let e : x ≡ y = (let r : var x ≡ var y = sym p ∙ q in cc) in omega (arith, e, lt)
+
 pub applied-variable : (t : Typ) (h : Symbol) (ts : Typs) (y : ℕ) → t ≡ con h ts → t ≡ var y → ⊥
 applied-variable t h ts y p q = cc

@@ -84,7 +84,7 @@ fn compare(
     Ok(())
 }
 
-/// Makes two types equal that are no bound variables.
+/// Makes two types equal that are no bound variables. Of two variables the later one is bound, so that type variables stay what they stand for.
 fn equal_found(
     s: &Subst,
     a: usize,
@@ -110,6 +110,8 @@ fn equal_found(
             View::Var(y) => {
                 if x == y {
                     Ok(None)
+                } else if x < y {
+                    Ok(Some(Move::Bind(y, a)))
                 } else {
                     Ok(Some(Move::Bind(x, b)))
                 }

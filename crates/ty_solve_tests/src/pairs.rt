@@ -1,6 +1,6 @@
 // What unify answers on pairs of types.
 
-use crate::read::{told, variables};
+use crate::read::{told, variable, variables};
 use mlc_base::memory::NoMemory;
 use std::alloc::Global;
 use std::test::Fail;
@@ -166,5 +166,23 @@ fn pairs_have_their_answers(rt: HostRuntime) -> Result<(), Fail> {
 #[test]
 fn rows_have_their_answers(rt: HostRuntime) -> Result<(), Fail> {
     assert_eq!(rt; first_wrong(rt.alloc(), &ROWS)?, "none");
+    Ok(())
+}
+
+/// Whether the first of three variables stays itself where a pair is made equal, and the last one becomes it.
+fn first_stays(alloc: Global, pair: &str) -> Result<bool, NoMemory> {
+    let mut s = variables(alloc, "...")?;
+    let answer = told(alloc, &mut s, pair)?;
+    let first = variable(alloc, &mut s, 0)?;
+    let last = variable(alloc, &mut s, 2)?;
+    Ok(answer == "ok" && s.find(first) == first && s.find(last) == first)
+}
+
+#[test]
+fn of_two_variables_the_later_one_is_bound(rt: HostRuntime) -> Result<(), Fail> {
+    assert_eq!(rt; first_stays(rt.alloc(), "0 2")?, true);
+    assert_eq!(rt; first_stays(rt.alloc(), "2 0")?, true);
+    assert_eq!(rt; first_stays(rt.alloc(), "01p 12p")?, true);
+    assert_eq!(rt; first_stays(rt.alloc(), "12p 01p")?, true);
     Ok(())
 }

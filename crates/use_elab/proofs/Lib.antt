@@ -1,3 +1,5 @@
 pub mod Trees
 pub mod Primitives
 pub mod Uses
+pub mod Making
+pub mod Putting

@@ -45,8 +45,8 @@ use Rattle.elab_state.specs.declared.state.State.{State}
 use Rattle.elab_steps.specs.Growing.{HasType, Grows, Always, IsWithin}
 use Rattle.elab_steps.specs.World.{World, type_of, Comes}
 use Rattle.elab_steps.proofs.Growing.{grows_on, type_later, comes_before}
-use Rattle.elab_instances.specs.Fresh.{IsFresh, AreFresh, images_of}
-use Rattle.elab_instances.proofs.Making.{fresh_instance}
+use Rattle.use_elab.specs.Fresh.{IsFresh, AreFresh, images_of}
+use Rattle.use_elab.proofs.Making.{fresh_instance}
 use Rattle.elab_context.specs.Entries.{entry_in, limit_of, number_in}
 use Rattle.elab_context.specs.Telling.{Tells, IsContext, IsConstructor, IsGeneral, IsInUse, HasList, kept_of, denotes_of, scheme_at, scheme_of}
 use Rattle.elab_context.specs.declared.context.Context.{Context}
@@ -272,7 +272,7 @@ pub at_fresh_is : (S P T : State) (C : Context) (s : ℕ) (k : code.Scheme) (ms 
 at_fresh_is S P T C s k ms l r e em el g are fresh n g' h has n' = record {
   grows = grows_on S P T g g';
   next = n' ∙ n;
-  are = Rattle.elab_instances.proofs.Making.types_later P T g' r.images.items are;
+  are = Rattle.use_elab.proofs.Making.types_later P T g' r.images.items are;
   is = h;
   fresh = λ W c.
       subst (λ o. AreFresh W (limit_of C) (scheme_of W o).marks r.images.items) (sym e)
@@ -492,7 +492,7 @@ pub at_new_is : (S P T : State) (C : Context) (l k : ℕ) (qs : List Quantified)
 at_new_is S P T C l k qs ms z r list eq em ez g are fresh n g' is has n' = record {
   grows = grows_on S P T g g';
   next = n' ∙ n;
-  are = Rattle.elab_instances.proofs.Making.types_later P T g' r.images.items are;
+  are = Rattle.use_elab.proofs.Making.types_later P T g' r.images.items are;
   is = is;
   fresh = λ W c.
       let cp = comes_before P T W g' c in

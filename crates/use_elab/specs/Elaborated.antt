@@ -15,7 +15,7 @@ use Rattle.elab_typed.specs.Elaborates.{ExpElab}
 use Rattle.elab_state.specs.declared.state.State.{State}
 use Rattle.elab_steps.specs.Growing.{HasType, AreTypes, Grows, Always}
 use Rattle.elab_steps.specs.World.{World, type_of, Comes}
-use Rattle.elab_instances.specs.Fresh.{AreFresh, images_of}
+use Rattle.use_elab.specs.Fresh.{AreFresh, images_of}
 use Rattle.elab_context.specs.Entries.{limit_of}
 use Rattle.elab_context.specs.Telling.{Tells, scheme_at}
 use Rattle.elab_context.specs.declared.context.Context.{Context}

@@ -2,14 +2,19 @@ use Rattle.std.proofs.Common.{◌-◌, length, get_or, map, refl, sym, ap, subst
 use Rattle.sml_tree.specs.TreeOf.{exp_of, rule_of}
 use Rattle.sml_tree.specs.declared.tree.Exp.TheVariants as node
 use Rattle.elab_steps.specs.Growing.{HasType}
+use Rattle.elab_context.specs.declared.context.Context.{Context}
+use Rattle.elab_steps.proofs.Changing.{if-ok}
 use Rattle.elab_steps.proofs.Growing.{comes_before, grows_on, type_later}
 use Rattle.elab_steps.specs.World.{type_of}
 use Rattle.exp_forms.proofs.Nodes.{source-BuiltIn, source-Constant, source-Vid}
-use Rattle.exp_forms.proofs.Sizes.{arguments-size, exp-size, field-size, handled-size, handler-size, operand-size, operator-size, part-size, parts-size, rest-size, rule-size, rules-size}
-use Rattle.elab_exps.proofs.Loops.{calls_begin, calls_end, calls_more, context_on, elements_begin, elements_end, elements_more, exp_in, fields_end, fields_more, rows_have, tuple_end, tuple_more}
+use Rattle.exp_forms.proofs.Sizes.{arguments-size, bind-size, binds-size, body-size, dec-size, decs-size, exp-size, field-size, handled-size, handler-size, operand-size, operator-size, part-size, parts-size, rest-size, rule-size, rules-size}
+use Rattle.elab_exps.proofs.Loops.{calls_begin, calls_end, calls_more, context_on, elements_begin, elements_end, elements_more, exp_in, fields_end, fields_more, rows_have, stands_on, tuple_end, tuple_more}
 use Rattle.elab_exps.proofs.Chains.{left_done, left_first, left_next, right_done, right_first, right_next, tests_done, tests_first, tests_next}
-use Rattle.elab_exps.proofs.Rules.{applied_is, begun_grows, case_is, function_is, handle_is, rules_begin, rules_end, rules_more}
+use Rattle.elab_exps.proofs.Rules.{applied_is, begun_grows, case_is, function_is, handle_is, rules_begin, rules_end, rules_more, stands_begun}
 use Rattle.elab_exps.proofs.Whole.{apply_is, of_source, one-more, raise_is, sequence_alone, sequence_begins, sequence_done, sequence_more, some-before, typed_is}
+use Rattle.elab_exps.proofs.Sources.{first-part-size, rest-all, rest-most, second-part-size}
+use Rattle.elab_exps.proofs.Declaring.{all_declared, let_in_is, let_left, local_declared, more_declared, none_declared, sequence_declared, stands_brought}
+use Rattle.elab_exps.proofs.Binding.{all_bound, begun_stands, begun_within, bound_count, bound_have, bound_more, first_made, first_outer, none_bound, val_brings, val_context, within_on}
 use Rattle.elab_exps.proofs.exps.+exps.Goals as goal
 
 pub record_of-loop-i-init : goal.record_of-loop-i-init
@@ -18,7 +23,7 @@ record_of-loop-i-init t c = record { same = refl; are = c.no_fields-made.ensures
 pub record_of-elab_exp-requires : goal.record_of-elab_exp-requires
 record_of-elab_exp-requires t c = (
   omega (arith, c.decreases, field-size c.args.fields.now c.loop-i.i c.index-fields-i.result c.loop-i-test.true),
-  context_on c.args.state.now c.loop-i.state c.args.context.now c.loop-i.context c.requires c.loop-i.invariant.are.exps.grows c.loop-i.invariant.same,
+  stands_on c.args.state.now c.loop-i.state c.args.context.now c.loop-i.context c.requires c.loop-i.invariant.are.exps.grows c.loop-i.invariant.same,
 )
 
 pub record_of-loop-i-preserved : goal.record_of-loop-i-preserved
@@ -29,7 +34,7 @@ record_of-loop-i-preserved t c =
 
 pub record_of-record-requires-clause-context : goal.record_of-record-requires-clause-context
 record_of-record-requires-clause-context t c =
-    context_on c.args.state.now c.loop-i.state c.args.context.now c.loop-i.context c.requires c.loop-i.invariant.are.exps.grows c.loop-i.invariant.same
+    context_on c.args.state.now c.loop-i.state c.args.context.now c.loop-i.context c.requires.context c.loop-i.invariant.are.exps.grows c.loop-i.invariant.same
 
 pub record_of-record-requires-clause-row : goal.record_of-record-requires-clause-row
 record_of-record-requires-clause-row t c = rows_have c.args.state.now c.loop-i.state c.args.context.now _ _ c.loop-i.made c.loop-i.invariant.are
@@ -48,7 +53,7 @@ tuple_of-loop-i-init t c = record { same = refl; are = c.no_fields-made.ensures 
 pub tuple_of-elab_exp-requires : goal.tuple_of-elab_exp-requires
 tuple_of-elab_exp-requires t c = (
   omega (arith, c.decreases, exp-size c.args.parts.now c.loop-i.i c.index-parts-i.result c.loop-i-test.true c.index-parts-i.is),
-  context_on c.args.state.now c.loop-i.state c.args.context.now c.loop-i.context c.requires c.loop-i.invariant.are.exps.grows c.loop-i.invariant.same,
+  stands_on c.args.state.now c.loop-i.state c.args.context.now c.loop-i.context c.requires c.loop-i.invariant.are.exps.grows c.loop-i.invariant.same,
 )
 
 pub tuple_of-loop-i-preserved : goal.tuple_of-loop-i-preserved
@@ -59,7 +64,7 @@ tuple_of-loop-i-preserved t c =
 
 pub tuple_of-record-requires-clause-context : goal.tuple_of-record-requires-clause-context
 tuple_of-record-requires-clause-context t c =
-    context_on c.args.state.now c.loop-i.state c.args.context.now c.loop-i.context c.requires c.loop-i.invariant.are.exps.grows c.loop-i.invariant.same
+    context_on c.args.state.now c.loop-i.state c.args.context.now c.loop-i.context c.requires.context c.loop-i.invariant.are.exps.grows c.loop-i.invariant.same
 
 pub tuple_of-record-requires-clause-row : goal.tuple_of-record-requires-clause-row
 tuple_of-record-requires-clause-row t c = rows_have c.args.state.now c.loop-i.state c.args.context.now _ _ c.loop-i.made c.loop-i.invariant.are
@@ -78,12 +83,12 @@ calls_from-loop-i-init t c = calls_begin c.args.state.now c.args.context.now c.a
 pub calls_from-elab_exp-requires : goal.calls_from-elab_exp-requires
 calls_from-elab_exp-requires t c = (
   omega (arith, c.decreases, exp-size c.args.arguments.now c.loop-i.i c.index-arguments-i.result c.loop-i-test.true c.index-arguments-i.is),
-  context_on c.args.state.now c.loop-i.state c.args.context.now c.loop-i.context c.requires.context c.loop-i.invariant.grows c.loop-i.invariant.same,
+  stands_on c.args.state.now c.loop-i.state c.args.context.now c.loop-i.context c.requires.context c.loop-i.invariant.grows c.loop-i.invariant.same,
 )
 
 pub calls_from-add_argument-requires-clause-context : goal.calls_from-add_argument-requires-clause-context
 calls_from-add_argument-requires-clause-context t c =
-    context_on c.args.state.now c.elab_exp.new.state c.args.context.now c.elab_exp.new.context c.requires.context
+    context_on c.args.state.now c.elab_exp.new.state c.args.context.now c.elab_exp.new.context c.requires.context.context
     (grows_on c.args.state.now c.loop-i.state c.elab_exp.new.state c.loop-i.invariant.grows c.in_ok-one.ensures.is.grows) (c.in_ok-one.ensures.context ∙ c.loop-i.invariant.same)
 
 pub calls_from-add_argument-requires-clause-function : goal.calls_from-add_argument-requires-clause-function
@@ -114,7 +119,7 @@ pub apply_of-calls_from-requires : goal.apply_of-calls_from-requires
 apply_of-calls_from-requires t c = (
   omega (arith, c.decreases, arguments-size c.args.exp.now c.in-Apply.place c.in-Apply.operator c.in-Apply.arguments c.deref-4.result.now c.in-Apply.is c.deref-4.ensures.value),
   (
-    context_on c.args.state.now c.elab_exp.new.state c.args.context.now c.elab_exp.new.context c.requires c.in_ok-function.ensures.is.grows c.in_ok-function.ensures.context,
+    stands_on c.args.state.now c.elab_exp.new.state c.args.context.now c.elab_exp.new.context c.requires c.in_ok-function.ensures.is.grows c.in_ok-function.ensures.context,
     (c.in_ok-made.ensures c.args.state.now c.elab_exp.new.state c.args.context.now c.in-Apply.place (exp_of c.deref-3.result.now) c.in_ok-function.ensures.is).is,
   ),
 )
@@ -131,11 +136,11 @@ apply_of-returns-clause-is t c =
 
 pub elab_exp-with_type-requires-clause-context : goal.elab_exp-with_type-requires-clause-context
 elab_exp-with_type-requires-clause-context t c =
-    context_on c.args.state.now c.elab_exp.new.state c.args.context.now c.elab_exp.new.context c.requires c.in_ok-inner-in-Typed.ensures.is.grows c.in_ok-inner-in-Typed.ensures.context
+    context_on c.args.state.now c.elab_exp.new.state c.args.context.now c.elab_exp.new.context c.requires.context c.in_ok-inner-in-Typed.ensures.is.grows c.in_ok-inner-in-Typed.ensures.context
 
 pub elab_exp-raising-requires-clause-context : goal.elab_exp-raising-requires-clause-context
 elab_exp-raising-requires-clause-context t c =
-    context_on c.args.state.now c.elab_exp-in-Raise.new.state c.args.context.now c.elab_exp-in-Raise.new.context c.requires c.in_ok-packet-in-Raise.ensures.is.grows
+    context_on c.args.state.now c.elab_exp-in-Raise.new.state c.args.context.now c.elab_exp-in-Raise.new.context c.requires.context c.in_ok-packet-in-Raise.ensures.is.grows
     c.in_ok-packet-in-Raise.ensures.context
 
 pub elab_exp-returns-in_ok-identifier-in-Vid-clause-is : goal.elab_exp-returns-in_ok-identifier-in-Vid-clause-is
@@ -184,7 +189,7 @@ sequence_of-elab_exp-requires-in-loop-i t c = (
     rest-size c.args.exp.now c.in-Sequence.place c.in-Sequence.first c.in-Sequence.rest c.deref-rest.result.now c.in-Sequence.is c.deref-rest.ensures.value,
     exp-size c.deref-rest.result.now c.loop-i.i c.index-rest-i.result (omega (arith, c.loop-i-test.true)) c.index-rest-i.is,
   ),
-  context_on c.args.state.now c.loop-i.state c.args.context.now c.loop-i.context c.requires c.loop-i.invariant.parts.are.grows c.loop-i.invariant.parts.same,
+  stands_on c.args.state.now c.loop-i.state c.args.context.now c.loop-i.context c.requires c.loop-i.invariant.parts.are.grows c.loop-i.invariant.parts.same,
 )
 
 pub sequence_of-loop-i-preserved : goal.sequence_of-loop-i-preserved
@@ -202,12 +207,12 @@ sequence_of-elab_exp-requires-2 t c = (
     exp-size c.deref-rest.result.now (length c.deref-rest.result.now - 1) c.index-rest-end.result (some-before c.deref-rest.result.now c.is_empty.result c.is_empty.ensures c.if-is_empty.false)
         c.index-rest-end.is,
   ),
-  context_on c.args.state.now c.loop-i.state c.args.context.now c.loop-i.context c.requires c.loop-i.invariant.parts.are.grows c.loop-i.invariant.parts.same,
+  stands_on c.args.state.now c.loop-i.state c.args.context.now c.loop-i.context c.requires c.loop-i.invariant.parts.are.grows c.loop-i.invariant.parts.same,
 )
 
 pub sequence_of-sequence-requires-clause-context : goal.sequence_of-sequence-requires-clause-context
 sequence_of-sequence-requires-clause-context t c =
-    context_on c.args.state.now c.elab_exp-2.new.state c.args.context.now c.elab_exp-2.new.context c.requires
+    context_on c.args.state.now c.elab_exp-2.new.state c.args.context.now c.elab_exp-2.new.context c.requires.context
     (grows_on c.args.state.now c.loop-i.state c.elab_exp-2.new.state c.loop-i.invariant.parts.are.grows c.in_ok-last.ensures.is.grows)
     (c.in_ok-last.ensures.context ∙ c.loop-i.invariant.parts.same)
 
@@ -227,7 +232,7 @@ list_of-loop-i-init t c = elements_begin c.start_list.new.state c.args.context.n
 pub list_of-elab_exp-requires : goal.list_of-elab_exp-requires
 list_of-elab_exp-requires t c = (
   omega (arith, c.decreases, exp-size c.args.elements.now c.loop-i.i c.index-elements-i.result c.loop-i-test.true c.index-elements-i.is),
-  context_on c.args.state.now c.loop-i.state c.args.context.now c.loop-i.context c.requires
+  stands_on c.args.state.now c.loop-i.state c.args.context.now c.loop-i.context c.requires
       (grows_on c.args.state.now c.start_list.new.state c.loop-i.state c.in_ok-listed.ensures.grows c.loop-i.invariant.are.grows) c.loop-i.invariant.same,
 )
 
@@ -268,12 +273,12 @@ left_of-elab_exp-requires-in-loop-i t c = (
     parts-size c.args.exp.now c.in-Chain.place c.in-Chain.right c.in-Chain.first c.in-Chain.parts c.deref-parts.result.now c.in-Chain.is c.deref-parts.ensures.value,
     part-size c.deref-parts.result.now c.loop-i.i c.index-parts-i.result c.loop-i-test.true,
   ),
-  context_on c.args.state.now c.loop-i.state c.args.context.now c.loop-i.context c.requires c.loop-i.invariant.so_far.left.grows c.loop-i.invariant.so_far.same,
+  stands_on c.args.state.now c.loop-i.state c.args.context.now c.loop-i.context c.requires c.loop-i.invariant.so_far.left.grows c.loop-i.invariant.so_far.same,
 )
 
 pub left_of-add_left-requires-clause-context : goal.left_of-add_left-requires-clause-context
 left_of-add_left-requires-clause-context t c =
-    context_on c.args.state.now c.elab_exp-in-loop-i.new.state c.args.context.now c.elab_exp-in-loop-i.new.context c.requires
+    context_on c.args.state.now c.elab_exp-in-loop-i.new.state c.args.context.now c.elab_exp-in-loop-i.new.context c.requires.context
     (grows_on c.args.state.now c.loop-i.state c.elab_exp-in-loop-i.new.state c.loop-i.invariant.so_far.left.grows c.in_ok-one-2.ensures.is.grows)
     (c.in_ok-one-2.ensures.context ∙ c.loop-i.invariant.so_far.same)
 
@@ -301,7 +306,7 @@ rules_from-loop-i-init t c = rules_begin c.args.state.now c.args.context.now c.a
 
 pub rules_from-begin_rule-requires-clause-context : goal.rules_from-begin_rule-requires-clause-context
 rules_from-begin_rule-requires-clause-context t c =
-    context_on c.args.state.now c.loop-i.state c.args.context.now c.loop-i.context c.requires.context c.loop-i.invariant.grows c.loop-i.invariant.same
+    context_on c.args.state.now c.loop-i.state c.args.context.now c.loop-i.context c.requires.context.context c.loop-i.invariant.grows c.loop-i.invariant.same
 
 pub rules_from-begin_rule-requires-clause-domain : goal.rules_from-begin_rule-requires-clause-domain
 rules_from-begin_rule-requires-clause-domain t c =
@@ -310,7 +315,8 @@ rules_from-begin_rule-requires-clause-domain t c =
 pub rules_from-elab_exp-requires : goal.rules_from-elab_exp-requires
 rules_from-elab_exp-requires t c = (
   omega (arith, c.decreases, rule-size c.args.rules.now c.loop-i.i c.index-rules-i-in-loop-i-2.result c.loop-i-test.true),
-  c.in_ok-begun.ensures.begun.context,
+  stands_begun c.loop-i.state c.begin_rule.new.state c.loop-i.context c.begin_rule.new.context _ c.loop-i.made.domain c.in_ok-begun.begun
+      (stands_on c.args.state.now c.loop-i.state c.args.context.now c.loop-i.context c.requires.context c.loop-i.invariant.grows c.loop-i.invariant.same) c.in_ok-begun.ensures.begun,
 )
 
 pub rules_from-end_rule-requires-clause-range : goal.rules_from-end_rule-requires-clause-range
@@ -327,7 +333,7 @@ rules_from-loop-i-preserved t c =
     rules_more c.args.state.now c.loop-i.state c.begin_rule.new.state c.elab_exp.new.state c.end_rule.new.state c.args.context.now c.loop-i.context c.begin_rule.new.context
     c.elab_exp.new.context c.end_rule.new.context c.args.rules.now c.loop-i.i c.index-rules-i.result c.index-rules-i-in-loop-i.result c.index-rules-i-in-loop-i-2.result
     (get_or c.args.rules.now c.loop-i.i c.index-rules-i.result).place
-    c.in_ok-begun.begun c.in_ok-exp.exp c.args.made.now c.loop-i.made c.end_rule.new.made c.requires.context c.loop-i-test.true refl c.loop-i.invariant
+    c.in_ok-begun.begun c.in_ok-exp.exp c.args.made.now c.loop-i.made c.end_rule.new.made c.requires.context.context c.loop-i-test.true refl c.loop-i.invariant
     c.in_ok-begun.ensures.begun c.in_ok-exp.ensures.context c.in_ok-exp.ensures.is c.in_ok-end_rule.ensures.grows c.in_ok-end_rule.ensures.domain c.in_ok-end_rule.ensures.range
     c.in_ok-end_rule.ensures.left c.in_ok-end_rule.ensures.added
 
@@ -339,14 +345,14 @@ pub function_of-rules_from-requires : goal.function_of-rules_from-requires
 function_of-rules_from-requires t c = (
   omega (arith, c.decreases),
   (
-    context_on c.args.state.now c.start_function.new.state c.args.context.now c.args.context.now c.requires c.in_ok-made.ensures.grows refl,
+    stands_on c.args.state.now c.start_function.new.state c.args.context.now c.args.context.now c.requires c.in_ok-made.ensures.grows refl,
     (c.in_ok-made.ensures.domain, c.in_ok-made.ensures.range),
   ),
 )
 
 pub function_of-by_rules-requires-clause-context : goal.function_of-by_rules-requires-clause-context
 function_of-by_rules-requires-clause-context t c =
-    context_on c.args.state.now c.rules_from.new.state c.args.context.now c.rules_from.new.context c.requires
+    context_on c.args.state.now c.rules_from.new.state c.args.context.now c.rules_from.new.context c.requires.context
     (grows_on c.args.state.now c.start_function.new.state c.rules_from.new.state c.in_ok-made.ensures.grows c.in_ok-rules_from.ensures.grows) c.in_ok-rules_from.ensures.context
 
 pub function_of-by_rules-requires-clause-domain : goal.function_of-by_rules-requires-clause-domain
@@ -364,7 +370,7 @@ pub case_from-rules_from-requires : goal.case_from-rules_from-requires
 case_from-rules_from-requires t c = (
   omega (arith, c.decreases),
   (
-    context_on c.args.state.now c.start_case.new.state c.args.context.now c.args.context.now c.requires.context c.in_ok-made.ensures.grows refl,
+    stands_on c.args.state.now c.start_case.new.state c.args.context.now c.args.context.now c.requires.context c.in_ok-made.ensures.grows refl,
     (
       subst (HasType c.start_case.new.state) (sym c.in_ok-made.ensures.domain)
           (type_later c.args.state.now c.start_case.new.state c.args.taken.ty c.in_ok-made.ensures.grows c.requires.taken),
@@ -375,7 +381,7 @@ case_from-rules_from-requires t c = (
 
 pub case_from-case_of-requires-clause-context : goal.case_from-case_of-requires-clause-context
 case_from-case_of-requires-clause-context t c =
-    context_on c.args.state.now c.rules_from.new.state c.args.context.now c.rules_from.new.context c.requires.context
+    context_on c.args.state.now c.rules_from.new.state c.args.context.now c.rules_from.new.context c.requires.context.context
     (grows_on c.args.state.now c.start_case.new.state c.rules_from.new.state c.in_ok-made.ensures.grows c.in_ok-rules_from.ensures.grows) c.in_ok-rules_from.ensures.context
 
 pub case_from-case_of-requires-clause-range : goal.case_from-case_of-requires-clause-range
@@ -395,14 +401,14 @@ handle_of-elab_exp-requires t c =
 
 pub handle_of-start_handle-requires : goal.handle_of-start_handle-requires
 handle_of-start_handle-requires t c = record {
-  context = context_on c.args.state.now c.elab_exp.new.state c.args.context.now c.elab_exp.new.context c.requires c.in_ok-body.ensures.is.grows c.in_ok-body.ensures.context;
+  context = context_on c.args.state.now c.elab_exp.new.state c.args.context.now c.elab_exp.new.context c.requires.context c.in_ok-body.ensures.is.grows c.in_ok-body.ensures.context;
 }
 
 pub handle_of-rules_from-requires : goal.handle_of-rules_from-requires
 handle_of-rules_from-requires t c = (
   omega (arith, c.decreases, handler-size c.args.exp.now c.in-Handle.field-0 c.in-Handle.body c.in-Handle.rules c.deref-2.result.now c.in-Handle.is c.deref-2.ensures.value),
   (
-    context_on c.args.state.now c.start_handle.new.state c.args.context.now c.elab_exp.new.context c.requires
+    stands_on c.args.state.now c.start_handle.new.state c.args.context.now c.elab_exp.new.context c.requires
         (grows_on c.args.state.now c.elab_exp.new.state c.start_handle.new.state c.in_ok-body.ensures.is.grows c.in_ok-made.ensures.grows) c.in_ok-body.ensures.context,
     (
       c.in_ok-made.ensures.is,
@@ -414,7 +420,7 @@ handle_of-rules_from-requires t c = (
 
 pub handle_of-handling-requires-clause-context : goal.handle_of-handling-requires-clause-context
 handle_of-handling-requires-clause-context t c =
-    context_on c.args.state.now c.rules_from.new.state c.args.context.now c.rules_from.new.context c.requires
+    context_on c.args.state.now c.rules_from.new.state c.args.context.now c.rules_from.new.context c.requires.context
     (grows_on c.args.state.now c.elab_exp.new.state c.rules_from.new.state c.in_ok-body.ensures.is.grows
     (grows_on c.elab_exp.new.state c.start_handle.new.state c.rules_from.new.state c.in_ok-made.ensures.grows c.in_ok-rules_from.ensures.grows))
     (c.in_ok-rules_from.ensures.context ∙ c.in_ok-body.ensures.context)
@@ -447,7 +453,7 @@ right_of-elab_exp-requires t c =
 
 pub right_of-start_right-requires : goal.right_of-start_right-requires
 right_of-start_right-requires t c = record {
-  context = context_on c.args.state.now c.elab_exp.new.state c.args.context.now c.elab_exp.new.context c.requires c.in_ok-one.ensures.is.grows c.in_ok-one.ensures.context;
+  context = context_on c.args.state.now c.elab_exp.new.state c.args.context.now c.elab_exp.new.context c.requires.context c.in_ok-one.ensures.is.grows c.in_ok-one.ensures.context;
 }
 
 pub right_of-loop-i-init : goal.right_of-loop-i-init
@@ -464,12 +470,12 @@ right_of-elab_exp-requires-in-loop-i t c = (
     parts-size c.args.exp.now c.in-Chain.place c.in-Chain.right c.in-Chain.first c.in-Chain.parts c.deref-parts.result.now c.in-Chain.is c.deref-parts.ensures.value,
     part-size c.deref-parts.result.now c.loop-i.i c.index-parts-i.result c.loop-i-test.true,
   ),
-  context_on c.args.state.now c.loop-i.state c.args.context.now c.loop-i.context c.requires c.loop-i.invariant.so_far.right.grows c.loop-i.invariant.so_far.same,
+  stands_on c.args.state.now c.loop-i.state c.args.context.now c.loop-i.context c.requires c.loop-i.invariant.so_far.right.grows c.loop-i.invariant.so_far.same,
 )
 
 pub right_of-add_right-requires-clause-context : goal.right_of-add_right-requires-clause-context
 right_of-add_right-requires-clause-context t c =
-    context_on c.args.state.now c.elab_exp-in-loop-i.new.state c.args.context.now c.elab_exp-in-loop-i.new.context c.requires
+    context_on c.args.state.now c.elab_exp-in-loop-i.new.state c.args.context.now c.elab_exp-in-loop-i.new.context c.requires.context
     (grows_on c.args.state.now c.loop-i.state c.elab_exp-in-loop-i.new.state c.loop-i.invariant.so_far.right.grows c.in_ok-one-2.ensures.is.grows)
     (c.in_ok-one-2.ensures.context ∙ c.loop-i.invariant.so_far.same)
 
@@ -521,7 +527,7 @@ tests_of-elab_exp-requires-in-loop-i t c = (
     parts-size c.args.exp.now c.in-Chain.place c.in-Chain.right c.in-Chain.first c.in-Chain.parts c.deref-parts.result.now c.in-Chain.is c.deref-parts.ensures.value,
     part-size c.deref-parts.result.now c.loop-i.i c.index-parts-i.result (omega (arith, c.loop-i-test.true)),
   ),
-  context_on c.args.state.now c.loop-i.state c.args.context.now c.loop-i.context c.requires c.loop-i.invariant.so_far.are.parts.grows c.loop-i.invariant.so_far.same,
+  stands_on c.args.state.now c.loop-i.state c.args.context.now c.loop-i.context c.requires c.loop-i.invariant.so_far.are.parts.grows c.loop-i.invariant.so_far.same,
 )
 
 pub tests_of-add_operand-requires-in-loop-i : goal.tests_of-add_operand-requires-in-loop-i
@@ -543,12 +549,12 @@ tests_of-elab_exp-requires-2 t c = (
     part-size c.deref-parts.result.now (length c.deref-parts.result.now - 1) c.index-parts-end.result
         (some-before c.deref-parts.result.now c.is_empty.result c.is_empty.ensures c.if-is_empty.false),
   ),
-  context_on c.args.state.now c.loop-i.state c.args.context.now c.loop-i.context c.requires c.loop-i.invariant.so_far.are.parts.grows c.loop-i.invariant.so_far.same,
+  stands_on c.args.state.now c.loop-i.state c.args.context.now c.loop-i.context c.requires c.loop-i.invariant.so_far.are.parts.grows c.loop-i.invariant.so_far.same,
 )
 
 pub tests_of-choices-requires-clause-context : goal.tests_of-choices-requires-clause-context
 tests_of-choices-requires-clause-context t c =
-    context_on c.args.state.now c.elab_exp-2.new.state c.args.context.now c.elab_exp-2.new.context c.requires
+    context_on c.args.state.now c.elab_exp-2.new.state c.args.context.now c.elab_exp-2.new.context c.requires.context
     (grows_on c.args.state.now c.loop-i.state c.elab_exp-2.new.state c.loop-i.invariant.so_far.are.parts.grows c.in_ok-last.ensures.is.grows)
     (c.in_ok-last.ensures.context ∙ c.loop-i.invariant.so_far.same)
 
@@ -568,7 +574,8 @@ fn_applied-elab_exp-requires t c = (
     arith,
     c.decreases,
     arguments-size c.args.exp.now c.in-Apply.place c.in-Apply.operator c.in-Apply.arguments c.deref-arguments.result.now c.in-Apply.is c.deref-arguments.ensures.value,
-    exp-size c.deref-arguments.result.now 0 c.index-arguments-0.result (omega arith) c.index-arguments-0.is,
+    exp-size c.deref-arguments.result.now 0 c.index-arguments-0.result
+        (omega (arith, one-more c.deref-arguments.result.now c.is_empty.result c.is_empty.ensures c.if-is_empty.false)) c.index-arguments-0.is,
   ),
   c.requires,
 )
@@ -582,17 +589,227 @@ fn_applied-case_from-requires t c = (
     rules-size c.deref-operator.result.now c.in-Fn.field-0 c.in-Fn.rules c.deref.result.now c.in-Fn.is c.deref.ensures.value,
   ),
   (
-    context_on c.args.state.now c.elab_exp.new.state c.args.context.now c.elab_exp.new.context c.requires c.in_ok-taken.ensures.is.grows c.in_ok-taken.ensures.context,
+    stands_on c.args.state.now c.elab_exp.new.state c.args.context.now c.elab_exp.new.context c.requires c.in_ok-taken.ensures.is.grows c.in_ok-taken.ensures.context,
     c.in_ok-taken.ensures.is.is,
   ),
 )
 
+pub fn_applied-calls_from-requires : goal.fn_applied-calls_from-requires
+fn_applied-calls_from-requires t c =
+    let one = c.in_ok-made.ensures.is c.args.state.now c.in-Apply.place c.in-Apply.place (exp_of c.index-arguments-0.result)
+    (exp_in c.args.state.now c.elab_exp.new.state c.elab_exp.new.context c.args.context.now (exp_of c.index-arguments-0.result) c.in_ok-taken.taken
+    (sym c.in_ok-taken.ensures.context) c.in_ok-taken.ensures.is) in (
+      omega (
+        arith,
+        c.decreases,
+        arguments-size c.args.exp.now c.in-Apply.place c.in-Apply.operator c.in-Apply.arguments c.deref-arguments.result.now c.in-Apply.is c.deref-arguments.ensures.value,
+        rest-most c.deref-arguments.result.now _ (rest-all c.deref-arguments.result.now),
+      ),
+      (
+        stands_on c.args.state.now c.case_from.new.state c.args.context.now c.case_from.new.context c.requires one.grows
+            (c.in_ok-made.ensures.context ∙ c.in_ok-taken.ensures.context),
+        (c.in_ok-made-2.ensures c.args.state.now c.case_from.new.state c.elab_exp.new.context c.in-Apply.place _ one).is,
+      ),
+    )
+
 pub fn_applied-returns-clause-context : goal.fn_applied-returns-clause-context
-fn_applied-returns-clause-context t c = c.in_ok-made.ensures.context ∙ c.in_ok-taken.ensures.context
+fn_applied-returns-clause-context t c = c.in_ok-calls_from.ensures.context ∙ c.in_ok-made.ensures.context ∙ c.in_ok-taken.ensures.context
 
 pub fn_applied-returns-clause-is : goal.fn_applied-returns-clause-is
 fn_applied-returns-clause-is t c =
-    applied_is c.args.state.now c.elab_exp.new.state c.case_from.new.state c.args.context.now c.elab_exp.new.context c.args.exp.now c.in-Apply.place c.in-Apply.operator c.in-Apply.arguments
-    c.deref-operator.result.now c.in-Fn.field-0 c.in-Fn.rules c.deref.result.now c.deref-arguments.result.now c.index-arguments-0.result c.in_ok-taken.taken c.in_ok-made.made c.in-Apply.is
-    c.deref-operator.ensures c.deref-arguments.ensures.value c.in-Fn.is c.deref.ensures.value (omega arith) c.index-arguments-0.is c.in_ok-taken.ensures.context c.in_ok-taken.ensures.is
-    c.in_ok-made.ensures.is
+    applied_is c.args.state.now c.elab_exp.new.state c.case_from.new.state c.calls_from.new.state c.args.context.now c.elab_exp.new.context c.case_from.new.context c.args.exp.now
+    c.in-Apply.place c.in-Apply.operator c.in-Apply.arguments c.deref-operator.result.now c.in-Fn.field-0 c.in-Fn.rules c.deref.result.now c.deref-arguments.result.now _
+    c.index-arguments-0.result c.in_ok-taken.taken c.in_ok-made.made c.in_ok-made-2.made c.calls_from.new.made c.finish_call.result c.in-Apply.is c.deref-operator.ensures
+    c.deref-arguments.ensures.value c.in-Fn.is c.deref.ensures.value
+    (omega (arith, one-more c.deref-arguments.result.now c.is_empty.result c.is_empty.ensures c.if-is_empty.false)) c.index-arguments-0.is
+    (rest-all c.deref-arguments.result.now) c.in_ok-taken.ensures.context c.in_ok-made.ensures.context
+    c.in_ok-taken.ensures.is c.in_ok-made.ensures.is c.in_ok-made-2.ensures c.in_ok-calls_from.ensures.is c.finish_call.ensures
+
+pub let_of-decs_from-requires : goal.let_of-decs_from-requires
+let_of-decs_from-requires t c =
+    (omega (arith, c.decreases, decs-size c.args.exp.now c.in-Let.place c.in-Let.decs c.in-Let.body c.deref.result.now c.in-Let.is c.deref.ensures.value), c.requires)
+
+pub let_of-elab_exp-requires : goal.let_of-elab_exp-requires
+let_of-elab_exp-requires t c =
+    (omega (arith, c.decreases, body-size c.args.exp.now c.in-Let.place c.in-Let.decs c.in-Let.body c.deref-2.result.now c.in-Let.is c.deref-2.ensures), c.in_ok-decs_from.ensures.stands)
+
+pub let_of-block-requires-clause-context : goal.let_of-block-requires-clause-context
+let_of-block-requires-clause-context t c =
+    context_on c.args.state.now c.elab_exp.new.state c.args.context.now c.leave_block.new.context c.requires.context
+    (grows_on c.args.state.now c.decs_from.new.state c.elab_exp.new.state c.in_ok-decs_from.ensures.bring.grows c.in_ok-body.ensures.is.grows)
+    (let_left c.args.state.now c.decs_from.new.state c.args.context.now c.decs_from.new.context c.elab_exp.new.context c.leave_block.new.context _ c.begin_block-mark.result _ _ _ _
+    c.begin_block-mark.ensures c.in_ok-decs_from.ensures c.in_ok-body.ensures.context c.leave_block.ensures)
+
+pub let_of-returns-clause-context : goal.let_of-returns-clause-context
+let_of-returns-clause-context t c =
+    let_left c.args.state.now c.decs_from.new.state c.args.context.now c.decs_from.new.context c.elab_exp.new.context c.leave_block.new.context _ c.begin_block-mark.result _ _ _ _
+    c.begin_block-mark.ensures c.in_ok-decs_from.ensures c.in_ok-body.ensures.context c.leave_block.ensures
+
+pub let_of-returns-clause-is : goal.let_of-returns-clause-is
+let_of-returns-clause-is t c =
+    let_in_is c.args.state.now c.decs_from.new.state c.elab_exp.new.state c.block.new.state c.args.context.now c.decs_from.new.context c.leave_block.new.context c.args.exp.now
+    c.in-Let.place c.in-Let.decs c.in-Let.body c.deref.result.now c.deref-2.result.now _ c.decs_from.new.made.items _ _ c.in_ok-body.body _ c.in-Let.is c.deref.ensures.value
+    c.deref-2.ensures c.new-made.ensures.items c.requires c.in_ok-decs_from.ensures c.in_ok-body.ensures.is
+    (let_left c.args.state.now c.decs_from.new.state c.args.context.now c.decs_from.new.context c.elab_exp.new.context c.leave_block.new.context _ c.begin_block-mark.result _ _ _ _
+    c.begin_block-mark.ensures c.in_ok-decs_from.ensures c.in_ok-body.ensures.context c.leave_block.ensures)
+    c.in_ok-block.ensures
+
+pub decs_from-loop-i-init : goal.decs_from-loop-i-init
+decs_from-loop-i-init t c = none_declared c.args.state.now c.args.context.now c.args.made.now.items c.args.brought.now c.requires
+
+pub decs_from-elab_dec-requires : goal.decs_from-elab_dec-requires
+decs_from-elab_dec-requires t c =
+    (omega (arith, c.decreases, dec-size c.args.decs.now c.loop-i.i c.index-decs-i.result c.loop-i-test.true c.index-decs-i.is), c.loop-i.invariant.stands)
+
+pub decs_from-loop-i-preserved : goal.decs_from-loop-i-preserved
+decs_from-loop-i-preserved t c =
+    more_declared c.args.state.now c.loop-i.state c.elab_dec.new.state c.args.context.now c.loop-i.context c.elab_dec.new.context c.args.decs.now c.loop-i.i c.index-decs-i.result
+    c.args.made.now.items c.loop-i.made.items c.elab_dec.new.made.items c.args.brought.now c.loop-i.brought c.elab_dec.new.brought c.loop-i-test.true c.index-decs-i.is c.loop-i.invariant
+    c.in_ok-elab_dec.ensures
+
+pub decs_from-returns : goal.decs_from-returns
+decs_from-returns t c =
+    all_declared c.args.state.now c.loop-i.state c.args.context.now c.loop-i.context c.args.decs.now c.loop-i.i c.args.made.now.items c.loop-i.made.items c.args.brought.now c.loop-i.brought
+    (omega arith) c.loop-i.invariant
+
+pub local_of-decs_from-requires : goal.local_of-decs_from-requires
+local_of-decs_from-requires t c =
+    (omega (arith, c.decreases, first-part-size c.args.dec.now c.in-Local.field-0 c.in-Local.first c.in-Local.second c.deref.result.now c.in-Local.is c.deref.ensures.value), c.requires)
+
+pub local_of-decs_from-requires-2 : goal.local_of-decs_from-requires-2
+local_of-decs_from-requires-2 t c = (
+  omega (arith, c.decreases, second-part-size c.args.dec.now c.in-Local.field-0 c.in-Local.first c.in-Local.second c.deref-2.result.now c.in-Local.is c.deref-2.ensures.value),
+  c.in_ok-decs_from.ensures.stands,
+)
+
+pub local_of-returns : goal.local_of-returns
+local_of-returns t c =
+    local_declared c.args.state.now c.decs_from.new.state c.decs_from-2.new.state c.args.context.now c.decs_from.new.context c.decs_from-2.new.context c.end_local.new.context
+    c.args.dec.now c.in-Local.field-0 c.in-Local.first c.in-Local.second c.deref.result.now c.deref-2.result.now c.begin_local-mark.result c.args.made.now.items
+    c.decs_from.new.made.items c.decs_from-2.new.made.items _ _ _ c.decs_from-2.new.brought c.args.brought.now c.end_local.new.brought c.in-Local.is c.deref.ensures.value
+    c.deref-2.ensures.value c.requires c.begin_local-mark.ensures c.in_ok-decs_from.ensures c.new-shown.ensures.values c.new-shown.ensures.types c.in_ok-decs_from-2.ensures
+    c.in_ok-end_local.ensures.schemes c.in_ok-end_local.ensures.context c.in_ok-end_local.ensures.declared
+
+pub bindings_from-loop-i-init : goal.bindings_from-loop-i-init
+bindings_from-loop-i-init t c = record {
+  same = refl;
+  are = none_bound c.args.state.now c.args.context.now c.args.begun c.none_inside-inside.result c.none_inside-inside.ensures.bound c.none_inside-inside.ensures.flags c.none_inside-inside.ensures.binds;
+}
+
+pub bindings_from-elab_exp-requires : goal.bindings_from-elab_exp-requires
+bindings_from-elab_exp-requires t c = (
+  omega (arith, c.decreases, bind-size c.args.binds.now c.loop-i.i c.index-binds-i.result c.loop-i-test.true),
+  stands_on c.args.state.now c.loop-i.state c.args.context.now c.loop-i.context c.requires.context c.loop-i.invariant.are.grows c.loop-i.invariant.same,
+)
+
+pub bindings_from-add_binding-requires-clause-context : goal.bindings_from-add_binding-requires-clause-context
+bindings_from-add_binding-requires-clause-context t c =
+    context_on c.args.state.now c.elab_exp.new.state c.args.context.now c.elab_exp.new.context c.requires.context.context
+    (grows_on c.args.state.now c.loop-i.state c.elab_exp.new.state c.loop-i.invariant.are.grows c.in_ok-exp.ensures.is.grows)
+    (c.in_ok-exp.ensures.context ∙ c.loop-i.invariant.same)
+
+pub bindings_from-add_binding-requires-clause-within : goal.bindings_from-add_binding-requires-clause-within
+bindings_from-add_binding-requires-clause-within t c =
+    within_on c.args.context.now c.elab_exp.new.context c.args.begun c.args.scoped.now c.requires.within (c.in_ok-exp.ensures.context ∙ c.loop-i.invariant.same)
+
+pub bindings_from-loop-i-preserved : goal.bindings_from-loop-i-preserved
+bindings_from-loop-i-preserved t c =
+    bound_more c.args.state.now c.loop-i.state c.elab_exp.new.state c.add_binding.new.state c.args.context.now c.loop-i.context c.elab_exp.new.context c.add_binding.new.context c.args.begun
+    c.args.binds.now c.loop-i.i c.index-binds-i-in-loop-i.result c.index-binds-i.result c.in_ok-exp.exp c.loop-i.inside c.add_binding.new.inside c.loop-i-test.true
+    c.index-binds-i-in-loop-i.is c.loop-i.invariant c.in_ok-exp.ensures.context c.in_ok-exp.ensures.is c.in_ok-add_binding.ensures.context c.in_ok-add_binding.ensures.added
+
+pub bindings_from-returns-clause-context : goal.bindings_from-returns-clause-context
+bindings_from-returns-clause-context t c = c.loop-i.invariant.same
+
+pub bindings_from-returns-clause-are : goal.bindings_from-returns-clause-are
+bindings_from-returns-clause-are t c =
+    all_bound c.args.state.now c.loop-i.state c.args.context.now c.loop-i.context c.args.begun c.args.binds.now c.loop-i.i c.loop-i.inside (omega arith) c.loop-i.invariant
+
+pub val_of-begin-requires-clause-context : goal.val_of-begin-requires-clause-context
+val_of-begin-requires-clause-context t c = c.requires.context
+
+pub val_of-begin-requires-clause-level : goal.val_of-begin-requires-clause-level
+val_of-begin-requires-clause-level t c = c.requires.level
+
+pub val_of-bindings_from-requires : goal.val_of-bindings_from-requires
+val_of-bindings_from-requires t c = (
+  omega (arith, c.decreases, binds-size c.args.dec.now c.in-Val.place c.in-Val.tyvars c.in-Val.binds c.in-Val.functions c.deref-binds.result.now c.in-Val.is c.deref-binds.ensures.value),
+  (
+    begun_stands c.args.state.now c.begin.new.state c.args.context.now c.begin.new.context c.deref-scoped.result.now c.requires c.in_ok-begun.ensures.context c.in_ok-begun.ensures.begun,
+    begun_within c.args.state.now c.begin.new.state c.args.context.now c.begin.new.context c.in_ok-begun.begun c.deref-scoped.result.now c.in_ok-begun.ensures.tyvars
+        c.in_ok-begun.ensures.begun,
+  ),
+)
+
+pub val_of-finish-requires-clause-context : goal.val_of-finish-requires-clause-context
+val_of-finish-requires-clause-context t c =
+    context_on c.begin.new.state c.bindings_from.new.state c.begin.new.context c.bindings_from.new.context c.in_ok-begun.ensures.context c.in_ok-inside.ensures.are.grows
+    c.in_ok-inside.ensures.context
+
+pub val_of-finish-requires-clause-level : goal.val_of-finish-requires-clause-level
+val_of-finish-requires-clause-level t c =
+    (stands_on c.begin.new.state c.bindings_from.new.state c.begin.new.context c.bindings_from.new.context
+    (begun_stands c.args.state.now c.begin.new.state c.args.context.now c.begin.new.context c.deref-scoped.result.now c.requires c.in_ok-begun.ensures.context c.in_ok-begun.ensures.begun)
+    c.in_ok-inside.ensures.are.grows c.in_ok-inside.ensures.context).level
+
+pub val_of-finish-requires-clause-inside : goal.val_of-finish-requires-clause-inside
+val_of-finish-requires-clause-inside t c =
+    (within_on c.begin.new.context c.bindings_from.new.context c.in_ok-begun.begun c.deref-scoped.result.now
+    (begun_within c.args.state.now c.begin.new.state c.args.context.now c.begin.new.context c.in_ok-begun.begun c.deref-scoped.result.now c.in_ok-begun.ensures.tyvars
+    c.in_ok-begun.ensures.begun)
+    c.in_ok-inside.ensures.context).inside
+
+pub val_of-finish-requires-clause-first : goal.val_of-finish-requires-clause-first
+val_of-finish-requires-clause-first t c =
+    first_made c.args.state.now c.begin.new.state c.bindings_from.new.state c.args.context.now c.begin.new.context c.deref-scoped.result.now c.in_ok-begun.begun.first
+    c.in_ok-begun.ensures.first c.in_ok-begun.ensures.begun c.in_ok-inside.ensures.are.grows
+
+pub val_of-finish-requires-clause-outer : goal.val_of-finish-requires-clause-outer
+val_of-finish-requires-clause-outer t c =
+    first_outer c.args.state.now c.begin.new.state c.bindings_from.new.state c.args.context.now c.begin.new.context c.bindings_from.new.context c.deref-scoped.result.now
+    c.in_ok-begun.begun.first c.in_ok-begun.ensures.first c.requires c.in_ok-begun.ensures.begun c.in_ok-inside.ensures.are.grows c.in_ok-inside.ensures.context
+
+pub val_of-finish-requires-clause-have : goal.val_of-finish-requires-clause-have
+val_of-finish-requires-clause-have t c =
+    bound_have c.begin.new.state c.bindings_from.new.state c.begin.new.context c.in_ok-begun.begun _ c.in_ok-inside.inside c.deref-bound.result.now c.deref-bound.ensures.value
+    c.in_ok-inside.ensures.are
+
+pub val_of-finish-requires-clause-count : goal.val_of-finish-requires-clause-count
+val_of-finish-requires-clause-count t c =
+    bound_count c.begin.new.state c.bindings_from.new.state c.begin.new.context c.in_ok-begun.begun _ c.in_ok-inside.inside c.deref-bound.result.now c.deref-flags.result.now
+    c.deref-bound.ensures.value c.deref-flags.ensures.value c.in_ok-inside.ensures.are
+
+pub val_of-returns-clause-schemes : goal.val_of-returns-clause-schemes
+val_of-returns-clause-schemes t c =
+    c.in_ok-made.ensures.schemes ∙ ap (λ (k : Context). k.schemes) c.in_ok-inside.ensures.context ∙ ap (λ (k : Context). k.schemes) c.in_ok-begun.ensures.begun.deep
+
+pub val_of-returns-clause-brings : goal.val_of-returns-clause-brings
+val_of-returns-clause-brings t c =
+    val_brings c.args.state.now c.begin.new.state c.bindings_from.new.state c.finish.new.state c.args.context.now c.begin.new.context c.bindings_from.new.context c.finish.new.context
+    c.args.dec.now c.in-Val.place c.in-Val.tyvars c.in-Val.binds c.in-Val.functions c.deref-binds.result.now c.deref-functions.result.now c.deref-tyvars.result.now
+    c.deref-scoped.result.now c.in_ok-begun.begun c.in_ok-inside.inside c.deref-bound.result.now c.deref-flags.result.now c.in_ok-made.made c.args.brought.now c.finish.new.brought
+    c.deref-bound.ensures.value c.deref-flags.ensures.value c.in-Val.is c.deref-tyvars.ensures.value c.deref-binds.ensures.value c.deref-functions.ensures.value (omega arith) c.requires
+    (c.deref-scoped.ensures.value ∙ c.in_ok-scoped.ensures) c.in_ok-begun.ensures.first c.in_ok-begun.ensures.tyvars c.in_ok-begun.ensures.begun c.in_ok-inside.ensures.context
+    c.in_ok-inside.ensures.are _ c.new-none.ensures.items c.in_ok-made.ensures.brings
+
+pub val_of-returns-clause-stands : goal.val_of-returns-clause-stands
+val_of-returns-clause-stands t c =
+    stands_brought c.args.state.now c.finish.new.state c.args.context.now c.finish.new.context _ _ c.args.brought.now c.finish.new.brought c.requires
+    (val_context c.args.state.now c.begin.new.state c.bindings_from.new.state c.finish.new.state c.args.context.now c.begin.new.context c.bindings_from.new.context c.finish.new.context
+    c.deref-scoped.result.now c.in_ok-begun.begun _ c.in_ok-inside.inside c.deref-bound.result.now c.deref-flags.result.now c.deref-bound.ensures.value c.deref-flags.ensures.value
+    c.requires c.in_ok-begun.ensures.first c.in_ok-begun.ensures.tyvars c.in_ok-begun.ensures.begun c.in_ok-inside.ensures.context c.in_ok-inside.ensures.are _ c.new-none.ensures.items c.in_ok-made.ensures.context)
+    (val_brings c.args.state.now c.begin.new.state c.bindings_from.new.state c.finish.new.state c.args.context.now c.begin.new.context c.bindings_from.new.context c.finish.new.context
+    c.args.dec.now c.in-Val.place c.in-Val.tyvars c.in-Val.binds c.in-Val.functions c.deref-binds.result.now c.deref-functions.result.now c.deref-tyvars.result.now
+    c.deref-scoped.result.now c.in_ok-begun.begun c.in_ok-inside.inside c.deref-bound.result.now c.deref-flags.result.now c.in_ok-made.made c.args.brought.now c.finish.new.brought
+    c.deref-bound.ensures.value c.deref-flags.ensures.value c.in-Val.is c.deref-tyvars.ensures.value c.deref-binds.ensures.value c.deref-functions.ensures.value (omega arith) c.requires
+    (c.deref-scoped.ensures.value ∙ c.in_ok-scoped.ensures) c.in_ok-begun.ensures.first c.in_ok-begun.ensures.tyvars c.in_ok-begun.ensures.begun c.in_ok-inside.ensures.context
+    c.in_ok-inside.ensures.are _ c.new-none.ensures.items c.in_ok-made.ensures.brings)
+
+pub elab_dec-returns-in-Declarations : goal.elab_dec-returns-in-Declarations
+elab_dec-returns-in-Declarations t c =
+    if-ok c.decs_from.result
+    (λ r e.
+    sequence_declared c.args.state.now c.decs_from.new.state c.args.context.now c.decs_from.new.context c.args.dec.now c.in-Declarations.field-0 c.in-Declarations.decs
+    c.deref-in-Declarations.result.now c.args.made.now.items c.decs_from.new.made.items c.args.brought.now c.decs_from.new.brought c.in-Declarations.is
+    c.deref-in-Declarations.ensures.value e)
+    c.decs_from.ensures

@@ -1,9 +1,11 @@
 use Rattle.std.proofs.Common.{map, take}
-use Rattle.sml_tree.specs.TreeOf.{exp_of, rule_of}
+use Rattle.sml_tree.specs.TreeOf.{bind_of, dec_of, exp_of, rule_of}
+use Rattle.elab_exps.specs.Decs.{AreDeclared}
 use Rattle.elab_exps.proofs.Loops.{CallsSoFar, ElementsSoFar, FieldsSoFar, TupleSoFar}
 use Rattle.elab_exps.proofs.Chains.{LeftPart, RightPart, TestsPart}
 use Rattle.elab_exps.proofs.Rules.{RulesSoFar}
 use Rattle.elab_exps.proofs.Whole.{SequenceSoFar}
+use Rattle.elab_exps.proofs.Binding.{BoundSoFar}
 use Rattle.elab_exps.proofs.exps.+exps.Given as goal
 
 abbrev pub invariant-record_of-loop-i : goal.invariant-record_of-loop-i
@@ -32,3 +34,10 @@ invariant-tests_of-loop-i l = TestsPart l.fn.state l.fn.context l.fn.exp l.parts
 
 abbrev pub invariant-rules_from-loop-i : goal.invariant-rules_from-loop-i
 invariant-rules_from-loop-i l = RulesSoFar l.fn.state l.fn.context l.fn.made (map rule_of (take l.i l.rules)) l.state l.context l.made
+
+abbrev pub invariant-decs_from-loop-i : goal.invariant-decs_from-loop-i
+invariant-decs_from-loop-i l =
+    AreDeclared l.fn.state l.fn.context (map dec_of (take l.i l.decs)) l.state l.context l.fn.made.items l.made.items l.fn.brought l.brought
+
+abbrev pub invariant-bindings_from-loop-i : goal.invariant-bindings_from-loop-i
+invariant-bindings_from-loop-i l = BoundSoFar l.fn.state l.fn.context l.begun (map bind_of (take l.i l.binds)) l.state l.context l.inside

@@ -1,5 +1,5 @@
 use Rattle.std.proofs.Common.{◌≡◌, List, ℕ, refl, subst}
-use Rattle.elab_instances.specs.Fresh.{images_of}
+use Rattle.use_elab.specs.Fresh.{images_of}
 use Rattle.elab_steps.specs.Growing.{Always}
 use Rattle.elab_steps.specs.World.{type_of}
 use Rattle.exp_forms.specs.Functions.{curried}

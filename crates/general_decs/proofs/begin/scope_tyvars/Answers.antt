@@ -1,6 +1,6 @@
 use Rattle.std.proofs.Common.{◌∙◌, [], refl, arith}
 use Rattle.elab_steps.proofs.Growing.{grows_same, grows_on}
-use Rattle.general_decs.proofs.Beginning.{came-ends, came-next, further-next, rest-next}
+use Rattle.general_decs.proofs.Beginning.{came-ends, came-next, further-next, named-ends, named-next, rest-next}
 use Rattle.general_decs.proofs.begin.scope_tyvars.Goals as goal
 
 pub loop-i-init : goal.loop-i-init
@@ -12,6 +12,7 @@ loop-i-init c = record {
   rest = refl;
   types = refl;
   further = record { own = []; is = refl };
+  named = refl;
   came = λ W k. refl;
 }
 
@@ -31,9 +32,14 @@ loop-i-preserved c =
       rest = rest-next c.args.context.now c.loop-i.context c.scope_tyvar.new.context l.rest e.rest;
       types = e.types ∙ l.types;
       further = further-next c.args.context.now.types.tyvars c.loop-i.context.types.tyvars c.scope_tyvar.new.context.types.tyvars l.further e.further;
+      named = named-next c.args.scoped.now c.loop-i.i c.index-scoped-i.result c.args.context.now.types.tyvars c.loop-i.context.types.tyvars c.scope_tyvar.new.context.types.tyvars
+          c.loop-i-test.true c.index-scoped-i.is l.named e.named;
       came = came-next s c.loop-i.state c.scope_tyvar.new.state c.args.scoped.now c.loop-i.i c.index-scoped-i.result c.args.context.now.types.tyvars c.loop-i.context.types.tyvars
           c.scope_tyvar.new.context.types.tyvars c.loop-i-test.true c.index-scoped-i.is e.grows l.count l.came e.came;
     }
 
 pub returns-clause-came : goal.returns-clause-came
 returns-clause-came c = came-ends c.loop-i.state _ c.loop-i.i c.args.scoped.now c.args.context.now.types.tyvars c.loop-i.context.types.tyvars c.loop-i-test.false c.loop-i.invariant.came
+
+pub returns-clause-named : goal.returns-clause-named
+returns-clause-named c = named-ends c.loop-i.i c.args.scoped.now c.args.context.now.types.tyvars c.loop-i.context.types.tyvars c.loop-i-test.false c.loop-i.invariant.named

@@ -2,7 +2,7 @@ use Rattle.std.proofs.Common.{◌≡◌, ◌+◌, take}
 use Rattle.elab_state.specs.States.{made}
 use Rattle.elab_steps.specs.Growing.{Always, Grows}
 use Rattle.elab_context.specs.Telling.{IsContext}
-use Rattle.general_decs.specs.Scoped.{CameIntoScope, IsFurther}
+use Rattle.general_decs.specs.Scoped.{CameByName, CameIntoScope, IsFurther}
 use Rattle.general_decs.proofs.begin.scope_tyvars.Given as goal
 
 abbrev pub invariant-loop-i : goal.invariant-loop-i
@@ -14,5 +14,6 @@ invariant-loop-i l = record {
   rest : l.context ≡ record l.fn.context { types = l.context.types };
   types : l.context.types.types ≡ l.fn.context.types.types;
   further : IsFurther l.fn.context.types.tyvars l.context.types.tyvars;
+  named : CameByName (take l.i l.scoped) l.fn.context.types.tyvars l.context.types.tyvars;
   came : Always l.state (λ W. CameIntoScope W (made l.fn.state) (take l.i l.scoped) l.fn.context.types.tyvars l.context.types.tyvars);
 }

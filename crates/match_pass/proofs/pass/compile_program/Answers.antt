@@ -23,7 +23,9 @@ returns-clause-once c =
     bound-once c.args.program q (returns-clause-built c) (c.variables_are_bound.ensures.once (source.body_in c.args.program))
 
 pub returns-clause-well_formed : goal.returns-clause-well_formed
-returns-clause-well_formed c = λ w. formed c.args.program _ (returns-clause-built c) c.in_ok-made.ensures.types refl (c.programs_are_kept.ensures.well_formed (source.prog_of c.args.program)) w
+returns-clause-well_formed c = λ w.
+    formed c.args.program _ (returns-clause-built c) c.in_ok-made.ensures.types refl (c.typing_is_kept.ensures (source.body_in c.args.program))
+    (c.variables_are_bound.ensures.once (source.body_in c.args.program)) (c.variables_are_bound.ensures.local (source.body_in c.args.program)) w
 
 pub returns-clause-exceptions : goal.returns-clause-exceptions
 returns-clause-exceptions c =

@@ -1,4 +1,4 @@
-use Rattle.match_steps.proofs.Heads.{constructor-headed, reference-headed, exception-headed}
+use Rattle.match_steps.proofs.Heads.{constructor-headed, reference-headed, heading-as}
 use Rattle.match_steps.proofs.steps.push_head.Goals as goal
 
 pub returns-in_ok-push_test-in-Constructor-clause-puts : goal.returns-in_ok-push_test-in-Constructor-clause-puts
@@ -11,10 +11,6 @@ pub returns-in_ok-held-in-Reference-clause-puts : goal.returns-in_ok-held-in-Ref
 returns-in_ok-held-in-Reference-clause-puts c =
     reference-headed _ _ _ c.args.head c.args.u c.args.t c.args.work.now.next c.args.atom c.in-Reference.is c.in_ok-held-in-Reference.ensures.puts
 
-pub returns-in_ok-push_test-in-Exception-clause-puts : goal.returns-in_ok-push_test-in-Exception-clause-puts
-returns-in_ok-push_test-in-Exception-clause-puts c =
-    let e = c.in_ok-exception-in-Exception.ensures in
-    let x = c.in_ok-argument-in-Exception.ensures in
-    let p = c.in_ok-push_test-in-Exception.ensures in
-    exception-headed _ _ _ _ _ _ c.args.head c.in-Exception.named c.args.u c.args.t c.args.work.now.next c.args.atom c.in_ok-exception-in-Exception.exception c.in_ok-argument-in-Exception.argument c.in-Exception.is e.is
-    e.next e.puts x.variable x.ty x.keeps p.keeps p.puts
+pub returns-in_ok-argument-in-Exception-clause-puts : goal.returns-in_ok-argument-in-Exception-clause-puts
+returns-in_ok-argument-in-Exception-clause-puts c =
+    heading-as _ _ _ c.args.head _ c.args.u c.args.t c.args.work.now.next c.args.atom c.in-Exception.is c.in_ok-argument-in-Exception.ensures.puts

@@ -9,7 +9,7 @@ abbrev pub invariant-loop-left : goal.invariant-loop-left
 invariant-loop-left l = record {
   within : l.left ≤ length l.parts;
   done : (p : Reading → Pat) → Done l.fn.work l.work l.fn.made l.made (pat_task (left_chain p l.parts) l.fn.u l.fn.atom)
-      (both (pat_task (left_chain p (take l.left l.parts)) l.opened.ty l.opened.atom) (left_rest (drop l.left l.parts) (reverse l.opened.pairs.items)));
+      (both (pat_task (left_chain p (take l.left l.parts)) l.ty l.outer) (left_rest (drop l.left l.parts) (reverse l.pairs.items)));
 }
 
 abbrev pub decreases-loop-left : goal.decreases-loop-left

@@ -7,7 +7,7 @@ use Rattle.ty_table.specs.TypeAt.{type_at}
 use Rattle.ty_solve.specs.Substitution.{is_below}
 use Rattle.ty_core.specs.Statics.{replace}
 use Rattle.ir_poly.specs.Types.{nth_type}
-use Rattle.elab_instances.specs.Fresh.{images_of}
+use Rattle.use_elab.specs.Fresh.{images_of}
 use Rattle.elab_state.specs.States.{types_in}
 use Rattle.elab_steps.specs.Growing.{Always}
 use Rattle.elab_steps.specs.World.{type_of}

@@ -1,6 +1,6 @@
 use Rattle.std.proofs.Common.{ap, ◌∙◌}
 use Rattle.ir_poly.specs.Types.{nth_type}
-use Rattle.elab_instances.specs.Fresh.{images_of}
+use Rattle.use_elab.specs.Fresh.{images_of}
 use Rattle.elab_context.proofs.Reading.{context_later}
 use Rattle.elab_steps.proofs.Growing.{grows_on, type_later}
 use Rattle.use_elab.proofs.Uses.{primitive_is}

@@ -1,4 +1,0 @@
-pub mod Adding
-pub mod Entering
-pub mod Walking
-pub mod Whole

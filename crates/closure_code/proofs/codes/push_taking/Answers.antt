@@ -1,6 +1,0 @@
-use Rattle.closure_code.proofs.Adding.{adds-one}
-use Rattle.closure_code.proofs.codes.push_taking.Goals as goal
-
-pub returns : goal.returns
-returns c = λ strings n F T h.
-    adds-one c.args.found.now.items c.push.new.self.items c.in_ok-code.code _ c.in_ok-push.ensures.items (c.in_ok-code.ensures strings n F T h)

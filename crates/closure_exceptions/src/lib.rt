@@ -1,4 +1,0 @@
-// Exceptions that conversions make.
-#![tactic(auto)]
-
-pub mod law;

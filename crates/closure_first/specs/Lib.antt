@@ -1,0 +1,5 @@
+pub mod Codes
+pub mod Held
+pub mod Made
+pub mod Same
+pub mod Shapes

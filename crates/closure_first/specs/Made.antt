@@ -1,0 +1,18 @@
+-- The conversion of a program that has no function by itself, by any sets: functions are numbered in the order of their codes, a string by its place, names of
+-- exceptions are what is bound as one, and captures are in the order of binding.
+use Rattle.std.specs.Prelude.{ℕ, List}
+use Rattle.ir_mono.specs.Mono.{Program}
+use Rattle.ir_first.specs.Tree as out
+use Rattle.flow_sets.specs.Flow.{Flow}
+use Rattle.closure_convert.specs.Capture.{table_of}
+use Rattle.closure_meaning.specs.Convert.{program}
+use Rattle.closure_whole.specs.Converted.{numbering}
+use Rattle.closure_parts.specs.declared.setting.Setting.{Setting}
+use Rattle.closure_parts.specs.Settings.{Holds}
+
+abbrev pub converted_by : Flow → List (List ℕ) → Program → out.Program
+converted_by F strings p = program (numbering strings p) strings F (table_of p.types p.body) p
+
+-- the code has what this conversion is made with
+abbrev pub HoldsBy : Setting → (strings : List (List ℕ)) → Flow → Program → Type 0
+HoldsBy setting strings F p = Holds setting p.types strings (numbering strings p) F (table_of p.types p.body)

@@ -1,5 +1,0 @@
-// What the conversion of functions asks of programs beside their form.
-#![tactic(auto)]
-
-pub mod held;
-pub mod texts;

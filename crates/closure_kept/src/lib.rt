@@ -1,4 +1,0 @@
-// The conversion of functions to cells, with all that it keeps.
-#![tactic(auto)]
-
-pub mod convert;

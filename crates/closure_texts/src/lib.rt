@@ -1,4 +1,0 @@
-// Strings may stand behind those of a program.
-#![tactic(auto)]
-
-pub mod law;

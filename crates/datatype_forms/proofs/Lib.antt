@@ -1,0 +1,12 @@
+pub mod Going
+pub mod Alike
+pub mod Marking
+pub mod Equalities
+pub mod Stepping
+pub mod Variables
+pub mod Collecting
+pub mod InNames
+pub mod Best
+pub mod Bringing
+pub mod Declaring
+pub mod Constructing

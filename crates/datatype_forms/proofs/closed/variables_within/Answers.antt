@@ -1,0 +1,12 @@
+use Rattle.std.proofs.Common.{length, sym, ap, subst, ◌∙◌}
+use Rattle.ty_solve.specs.Limits.{limit_at, AreLimited}
+use Rattle.datatype_forms.proofs.closed.variables_within.Goals as goal
+
+pub invariant_of-solver : goal.invariant_of-solver
+invariant_of-solver c =
+    let s = c.args.solver.now in
+    record {
+      each_has_one = s.each_has_one ∙ ap length (sym c.variables_in.ensures.slots);
+      limited = subst (AreLimited (limit_at s.limits.items)) (sym c.variables_in.ensures.says) s.limited;
+      wide = s.wide;
+    }

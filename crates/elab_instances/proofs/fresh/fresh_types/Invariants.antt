@@ -1,6 +1,0 @@
-use Rattle.std.proofs.Common.{take}
-use Rattle.elab_instances.proofs.Making.{Freshly}
-use Rattle.elab_instances.proofs.fresh.fresh_types.Given as goal
-
-abbrev pub invariant-loop-mark : goal.invariant-loop-mark
-invariant-loop-mark l = Freshly l.fn.state l.state l.limit (take l.mark-index l.marks) l.types.items

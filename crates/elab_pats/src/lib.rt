@@ -1,5 +1,0 @@
-// Patterns, whatever their form.
-#![tactic(auto)]
-
-pub mod elab;
-pub mod stopped;

@@ -1,0 +1,4 @@
+pub mod Starting
+pub mod Made
+pub mod Parts
+pub mod Passed

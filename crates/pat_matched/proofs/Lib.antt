@@ -1,3 +1,0 @@
-pub mod Annotated
-pub mod Matching
-pub mod Listing

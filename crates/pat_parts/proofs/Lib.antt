@@ -1,3 +1,0 @@
-pub mod FieldsDo
-pub mod Chains
-pub mod ListsDo

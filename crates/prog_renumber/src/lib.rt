@@ -1,0 +1,4 @@
+// Other numbers for the types of a program's tree.
+#![tactic(auto)]
+
+pub mod numbers;

@@ -1,0 +1,4 @@
+pub mod Reserving
+pub mod Annotating
+pub mod Entering
+pub mod Adding

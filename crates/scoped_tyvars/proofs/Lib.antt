@@ -1,0 +1,4 @@
+mod Listing
+mod Nodes
+mod Chains
+mod New
