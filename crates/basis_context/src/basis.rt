@@ -12,6 +12,7 @@ use crate::rows::{INT_STRUCTURE, INTEGERS, Kind, ROWS, TYPES, entry_of};
 use crate::tables::{Basis, basis_of};
 use elab_context::context::Context;
 use elab_context::entry::{Entry, Scheme};
+use elab_context::schemes::Schemes;
 use elab_state::state::State;
 use elab_types::scope::{TypeEntry, TypeScope};
 use initial_types::row::Scheme as BasisScheme;
@@ -107,11 +108,7 @@ fn marks_in(alloc: Global, mark: Option<Mark>) -> Result<Vec<Mark>, NoMemory>
 }
 
 /// Adds schemes of the basis to those of a context.
-fn add_schemes(
-    alloc: Global,
-    added: &[BasisScheme],
-    schemes: &mut Vec<Scheme>,
-) -> Result<(), NoMemory>
+fn add_schemes(alloc: Global, added: &[BasisScheme], schemes: &mut Schemes) -> Result<(), NoMemory>
     ensures { IfOk result (λ _. marks_at schemes.new.items ≡ marks_at schemes.old.items ++ basis_marks added.now) }
 {
     for i in 0..added.len() {
@@ -135,7 +132,7 @@ pub fn initial_context(alloc: Global, state: &mut State) -> Result<Context, NoMe
     ensures next { state.new.next ≡ state.old.next }
 {
     let basis = basis_of(alloc, state)?;
-    let mut schemes = Vec::new(alloc);
+    let mut schemes = Schemes::new(alloc);
     add_schemes(alloc, &basis.values, &mut schemes)?;
     add_schemes(alloc, &basis.integers, &mut schemes)?;
     let values = scope_of(alloc, &ROWS, 0)?;

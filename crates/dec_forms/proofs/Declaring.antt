@@ -40,7 +40,7 @@ use Rattle.elab_state.specs.States.{all_parameters, limit_in, made}
 use Rattle.elab_state.specs.declared.state.State.{State}
 use Rattle.elab_steps.specs.Growing.{Begins, Grows}
 use Rattle.elab_steps.specs.World.{World}
-use Rattle.elab_steps.proofs.Changing.{begins-more, begins-same, same-limit, solver-makes}
+use Rattle.elab_steps.proofs.Changing.{begins-more, begins-same, constructors-stay, same-limit, solver-makes}
 use Rattle.elab_steps.proofs.Keeping.{Makes, makes-done, makes-tidy}
 use Rattle.elab_steps.proofs.Growing.{grows_on, comes_before, general-type}
 use Rattle.elab_context.specs.Numbered.{IsBelowIf}
@@ -240,6 +240,7 @@ listed_grows S T qs h = record {
   level = h.level;
   done = makes-done S T (listed-makes S T qs h);
   tidy = makes-tidy S T (listed-makes S T qs h);
+  constructors = constructors-stay S T h.types h.constructors;
 }
 
 pub listed_is : (old new : List (Vec Quantified Global)) (qs : Vec Quantified Global) (n : ℕ) → new ≡ old ++ qs ∷ [] → qs.items ≡ [] → n ≡ length old

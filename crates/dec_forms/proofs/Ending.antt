@@ -1,5 +1,5 @@
 -- The context where a `local` ends.
-use Rattle.std.proofs.Common.{◌≡◌, ◌-◌, ℕ, List, [], ◌∷◌, ◌++◌, length, drop, refl, sym, ap, ◌∙◌, arith}
+use Rattle.std.proofs.Common.{◌≡◌, ◌-◌, ℕ, List, [], ◌∷◌, ◌++◌, length, drop, take, refl, sym, ap, ◌∙◌, arith}
 use Rattle.std.proofs.lemmas.List.{append_assoc, length-append}
 use Rattle.vid_scope.specs.Entries.{Undoes, with_entries}
 use Rattle.vid_scope.specs.declared.vids.VidScope.{VidScope}
@@ -7,6 +7,7 @@ use Rattle.sml_tree.specs.declared.ident.Vid.{Vid}
 use Rattle.elab_types.specs.Reading.{left_at}
 use Rattle.elab_types.specs.declared.scope.TypeEntry.{TypeEntry}
 use Rattle.elab_types.specs.declared.scope.TypeScope.{TypeScope}
+use Rattle.elab_context.specs.Schemes.{SchemeList}
 use Rattle.elab_context.specs.declared.context.Context.{Context}
 use Rattle.elab_context.specs.declared.entry.Entry.{Entry}
 use Rattle.dec_forms.specs.Telling.{with_all}
@@ -56,18 +57,19 @@ ended C E F es ts m vs us K L b e a u tv ty k l f =
     ∙ λ i. record E { values = with_entries (v i) b.values.items; types = type_scope (x i) (types_onto (y i) b.types.items) }
 
 -- left, with all that a `let` brought
-pub block_left : (C E N : Context) (es : List (Vid × Entry)) (ts : List (ℕ × TypeEntry)) (m : BlockMark) (vs : VidScope Entry) (us : TypeScope) (ns : List (ℕ × ℕ)) → m ≡ block_mark_in C
-    → Adds C E es ts → E.schemes ≡ C.schemes → Undoes E.values m.local.values vs → us.tyvars ≡ left_at m.local.types.tyvars E.types.tyvars
+pub block_left : (C E N : Context) (es : List (Vid × Entry)) (ts : List (ℕ × TypeEntry)) (m : BlockMark) (vs : VidScope Entry) (us : TypeScope) (ns : List (ℕ × ℕ)) (ss : SchemeList)
+    → m ≡ block_mark_in C → Adds C E es ts → Undoes E.values m.local.values vs → us.tyvars ≡ left_at m.local.types.tyvars E.types.tyvars
     → us.types ≡ left_at m.local.types.types E.types.types → ns ≡ drop (length E.numbers - m.numbers) E.numbers
-    → N ≡ record E { values = vs; types = us; names = m.names; naming = m.naming; numbers = ns } → N ≡ C
-block_left C E N es ts m vs us ns e a s u tv ty nu is =
+    → ss.items ≡ take m.schemes E.schemes.items → N ≡ record E { values = vs; types = us; names = m.names; naming = m.naming; numbers = ns; schemes = ss } → N ≡ C
+block_left C E N es ts m vs us ns ss e a u tv ty nu sc is =
     let v : vs ≡ C.values = u C.values es (ap (λ (z : BlockMark). z.local.values) e) a.values in
     let x : us.tyvars ≡ C.types.tyvars = tv ∙ ap (λ (z : BlockMark). left_at z.local.types.tyvars E.types.tyvars) e ∙ tyvars-left C.types.tyvars E.types.tyvars a.tyvars in
     let y : us.types ≡ C.types.types = ty ∙ ap (λ (z : BlockMark). left_at z.local.types.types E.types.types) e ∙ types-left C.types.types ts E.types.types a.types in
     let n : ns ≡ C.numbers =
     nu ∙ ap (λ (z : BlockMark). drop (length E.numbers - z.numbers) E.numbers) e ∙ ap (λ l. drop (length l - length C.numbers) l) a.numbers.is
     ∙ drop-front a.numbers.own C.numbers in
+    let s : ss.items ≡ C.schemes.items = sc ∙ ap (λ (z : BlockMark). take z.schemes E.schemes.items) e ∙ a.schemes in
     let c : m.names ≡ C.names = ap (λ (z : BlockMark). z.names) e in
     let g : m.naming ≡ C.naming = ap (λ (z : BlockMark). z.naming) e in
-    is ∙ ap (λ (z : Context). record z { values = vs; types = us; names = m.names; naming = m.naming; numbers = ns }) a.rest
-    ∙ λ i. record C { values = v i; types = type_scope (x i) (y i); schemes = s i; names = c i; naming = g i; numbers = n i }
+    is ∙ ap (λ (z : Context). record z { values = vs; types = us; names = m.names; naming = m.naming; numbers = ns; schemes = ss }) a.rest
+    ∙ λ i. record C { values = v i; types = type_scope (x i) (y i); schemes = record { items = s i }; names = c i; naming = g i; numbers = n i }

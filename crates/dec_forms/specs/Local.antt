@@ -17,7 +17,7 @@ abbrev pub mark_in : Context → LocalMark
 mark_in C = record { values = mark_of C.values; types = record { tyvars = length C.types.tyvars; types = length C.types.types } }
 
 abbrev pub block_mark_in : Context → BlockMark
-block_mark_in C = record { local = mark_in C; names = C.names; naming = C.naming; numbers = length C.numbers }
+block_mark_in C = record { local = mark_in C; names = C.names; naming = C.naming; numbers = length C.numbers; schemes = length C.schemes.items }
 
 pub record IsEmpty (b : Brought) : Type 0 where
   pub values : b.values.items ≡ []

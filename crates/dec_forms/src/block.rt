@@ -25,13 +25,14 @@ use std::alloc::Global;
 use ty_core::mark::Mark;
 use use_elab::typed::TypedExp;
 
-/// What is in scope where a `let` begins, and how many type names there are, with their numbers in the program.
+/// What is in scope where a `let` begins, how many type names there are, with their numbers in the program, and how many schemes.
 #[derive(Clone, Copy)]
 pub struct BlockMark {
     pub local: LocalMark,
     pub names: usize,
     pub naming: Option<usize>,
     pub numbers: usize,
+    pub schemes: usize,
 }
 
 /// Where a `let` begins.
@@ -43,17 +44,18 @@ pub fn begin_block(context: &Context) -> BlockMark
         names: context.names,
         naming: context.naming,
         numbers: context.numbers.len(),
+        schemes: context.schemes.len(),
     }
 }
 
-/// Where a `let` ends: what its declarations brought goes, where they added no schemes.
+/// Where a `let` ends: what its declarations brought goes.
 pub fn leave_block(context: &mut Context, mark: BlockMark)
-    ensures { (C : Context) (es : List (Vid × Entry)) (ts : List (ℕ × TypeEntry)) → mark ≡ block_mark_in C → Adds C context.old es ts
-        → context.old.schemes ≡ C.schemes → context.new ≡ C }
+    ensures { (C : Context) (es : List (Vid × Entry)) (ts : List (ℕ × TypeEntry)) → mark ≡ block_mark_in C → Adds C context.old es ts → context.new ≡ C }
 {
     context.values.leave(mark.local.values);
     context.types.leave(mark.local.types);
     context.numbers.truncate(mark.numbers);
+    context.schemes.truncate(mark.schemes);
     context.names = mark.names;
     context.naming = mark.naming;
 }

@@ -28,7 +28,7 @@ use Rattle.elab_state.specs.States.{types_in, made}
 use Rattle.elab_steps.specs.Growing.{HasGeneral, Begins, Grows}
 use Rattle.elab_steps.specs.Instances.{IsScheme}
 use Rattle.elab_state.specs.declared.state.State.{State}
-use Rattle.elab_steps.specs.Tidy.{IsLive, IsTidy}
+use Rattle.elab_steps.specs.Tidy.{IsLive}
 use Rattle.elab_steps.specs.World.{World, type_of, Comes}
 use Rattle.elab_steps.proofs.Growing.{below-up, general_later, type_later}
 use Rattle.sml_tree.specs.Terminal.{LongVid}

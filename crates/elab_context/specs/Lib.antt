@@ -1,3 +1,4 @@
+pub mod Schemes
 pub mod Entries
 pub mod Numbered
 pub mod Telling

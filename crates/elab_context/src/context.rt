@@ -6,7 +6,8 @@ ghost use Rattle.elab_typed.specs.Numbers.{name_as};
 ghost use Rattle.elab_context.specs.Entries.{entry_in, limit_of, member_in, number_in};
 ghost use Rattle.elab_context.specs.Telling.{IsUnboundIn};
 
-use crate::entry::{Entry, Scheme};
+use crate::entry::Entry;
+use crate::schemes::Schemes;
 use elab_types::refused::Refused;
 use elab_types::scope::TypeScope;
 use mlc_base::place::Place;
@@ -24,7 +25,7 @@ pub struct Context {
     pub structures: Scoped<usize>,
     pub members: Vec<VidScope<Entry>>,
     pub types: TypeScope,
-    pub schemes: Vec<Scheme>,
+    pub schemes: Schemes,
     pub level: usize,
     pub names: usize,
     pub naming: Option<usize>,

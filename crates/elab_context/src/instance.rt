@@ -27,7 +27,7 @@ pub fn instance_at(
         (λ W. IsInstance W (limit_of context.now) (scheme_at context.now W scheme).marks (scheme_at context.now W scheme).body (type_of W r))) }
     ensures next { IfOk result (λ _. state.new.next ≡ state.old.next) }
 {
-    let found = &context.schemes[scheme];
+    let found = context.schemes.at(scheme);
     let ty = instance(alloc, state, &found.marks, found.body, context.limit())?;
     Ok(ty)
 }

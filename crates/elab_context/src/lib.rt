@@ -4,3 +4,4 @@
 pub mod context;
 pub mod entry;
 pub mod instance;
+pub mod schemes;

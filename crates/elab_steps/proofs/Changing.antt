@@ -20,7 +20,7 @@ use Rattle.ty_solve.specs.declared.subst.Slot.TheVariants.{Open}
 use Rattle.ty_solve.specs.declared.subst.Subst.{Subst}
 use Rattle.ty_instance.proofs.Going.{whole}
 use Rattle.ir_tables.specs.declared.tables.Tables.{Tables}
-use Rattle.ir_tables.specs.Tables.{parameters_of, strings_of, string_at}
+use Rattle.ir_tables.specs.Tables.{constructors_of, parameters_of, strings_of, string_at}
 use Rattle.ir_tables.specs.Rows.{constructors_at}
 use Rattle.elab_typed.specs.Numbers.{type_as}
 use Rattle.sml_tree.specs.BareTree.{Ty}
@@ -30,10 +30,10 @@ use Rattle.elab_types.specs.declared.scope.TypeScope.{TypeScope}
 use Rattle.elab_types.proofs.Knowing.{known_where}
 use Rattle.elab_state.specs.Readings.{AreWritten}
 use Rattle.elab_state.specs.Namings.{IsAmong}
-use Rattle.ir_poly.specs.Types.{in_scope}
+use Rattle.ir_poly.specs.Types.{in_scope, IsConstructor}
 use Rattle.elab_state.specs.States.{types_in, made, said_in, limit_in, general_in, all_parameters, dead_level}
 use Rattle.elab_state.proofs.Typed.{either}
-use Rattle.elab_steps.specs.Tidy.{IsLive, IsTidy}
+use Rattle.elab_steps.specs.Tidy.{AreConstructors, IsLive, IsTidy}
 use Rattle.elab_steps.specs.Growing.{HasType, AreLive, Begins, Grows, Always, IsWithin, AreTypes, types_of}
 use Rattle.elab_state.specs.declared.naming.Written.{Written}
 use Rattle.elab_state.specs.declared.state.State.{State}
@@ -123,6 +123,13 @@ pub rows-same : (a b : Tables) → b ≡ a → (y : _) (c : ℕ) (row : Rattle.i
     → Rattle.ir_poly.specs.Types.find (Rattle.ir_tables.specs.Tables.constructors_of a) y c ≡ Some row → Rattle.ir_poly.specs.Types.find (Rattle.ir_tables.specs.Tables.constructors_of b) y c ≡ Some row
 rows-same a b e y c row h = ap (λ t. Rattle.ir_poly.specs.Types.find (Rattle.ir_tables.specs.Tables.constructors_of t) y c) e ∙ h
 
+-- constructors that stay may stand in a program's table still
+pub constructors-same : (S T : State) → T.tables ≡ S.tables → AreConstructors S → AreConstructors T
+constructors-same S T e = subst (λ t. AllByRecursion IsConstructor (constructors_of t)) (sym e)
+
+pub constructors-stay : (S T : State) → T.tables.types ≡ S.tables.types → T.tables.constructors ≡ S.tables.constructors → AreConstructors S → AreConstructors T
+constructors-stay S T e f = subst (AllByRecursion IsConstructor) (sym (ap₂ constructors_at e f))
+
 -- a new variable, and its type
 pub record Freshened (S T : State) (mid : Subst) (mark : Mark) (limit : Limit) (v r : ℕ) : Type 0 where
   pub stays : Stays S T
@@ -182,6 +189,7 @@ freshened_grows S T mid mark limit v r h = record {
   level = h.stays.level;
   done = makes-done S T (freshened-makes S T mid mark limit v r h);
   tidy = makes-tidy S T (freshened-makes S T mid mark limit v r h);
+  constructors = constructors-same S T h.stays.tables;
 }
 
 pub freshened_is : (S T : State) (mid : Subst) (mark : Mark) (limit : Limit) (v r : ℕ) → Freshened S T mid mark limit v r → HasType T r
@@ -236,6 +244,7 @@ unified_grows S T a b h = record {
   done = λ v lt. unified-done S T a b h.first h.second h.rest h.rest_limits v;
   tidy = λ t. unified-tidy S T a b h.first h.second h.rest h.rest_limits T.level h.count (ap (λ t. all_parameters (parameters_of t)) h.stays.tables) h.fall
       (subst (IsTidy S) (sym h.stays.level) t);
+  constructors = constructors-same S T h.stays.tables;
 }
 
 pub unified_equal : (S T : State) (a b : ℕ) → Unified S T a b → HasType S a → HasType S b → Always T (λ W. type_of W a ≡ type_of W b)
@@ -272,6 +281,7 @@ wrote_grows S T w h = record {
   level = h.level;
   done = makes-done S T (solver-makes S T h.solver (same-general S T h.tables) h.level);
   tidy = makes-tidy S T (solver-makes S T h.solver (same-general S T h.tables) h.level);
+  constructors = constructors-same S T h.tables;
 }
 
 pub wrote_is : (S T : State) (w : Written) (k : ℕ) → Wrote S T w → k ≡ length S.written.items → Always T (λ W. W.reading.type k ≡ type_as (W.naming w.naming) (type_of W w.ty))
@@ -309,6 +319,7 @@ next_grows S T a b c d e l = record {
   level = l;
   done = makes-done S T (solver-makes S T a (same-general S T d) l);
   tidy = makes-tidy S T (solver-makes S T a (same-general S T d) l);
+  constructors = constructors-same S T d;
 }
 
 -- a type made of parts
@@ -335,6 +346,7 @@ applied_grows S T h ks r a = record {
   level = a.stays.level;
   done = makes-done S T (tables-makes S T a.stays a.slots a.limits a.says);
   tidy = makes-tidy S T (tables-makes S T a.stays a.slots a.limits a.says);
+  constructors = constructors-same S T a.stays.tables;
 }
 
 both : (a b : Bool) → a ≡ true → b ≡ true → (a && b) ≡ true
@@ -406,6 +418,7 @@ texted_grows S T s h = record {
   level = h.level;
   done = makes-done S T (solver-makes S T h.solver general h.level);
   tidy = makes-tidy S T (solver-makes S T h.solver general h.level);
+  constructors = constructors-stay S T h.types h.constructors;
 }
   where
     general : (x : ℕ) → in_scope (general_in T) x ≡ in_scope (general_in S) x
@@ -446,6 +459,7 @@ tabled_grows S T a = record {
   level = a.stays.level;
   done = makes-done S T (tables-makes S T a.stays a.slots a.limits a.says);
   tidy = makes-tidy S T (tables-makes S T a.stays a.slots a.limits a.says);
+  constructors = constructors-same S T a.stays.tables;
 }
 
 scope-live : (S : State) (xs : List (ℕ × ℕ)) → AllByRecursion (λ b. IsLive S b.1) xs

@@ -147,6 +147,7 @@ grows_same S = record {
   level = refl;
   done = λ v lt e. record { said = refl; level = e };
   tidy = λ t. t;
+  constructors = λ k. k;
 }
 
 pub grows_on : (S T U : State) → Grows S T → Grows T U → Grows S U
@@ -167,6 +168,7 @@ grows_on S T U g h = record {
   done = λ v lt e.
       let a = g.done v lt e in let b = h.done v (within v (made S) (made T) lt g.variables) a.level in record { said = b.said ∙ a.said; level = b.level };
   tidy = λ t. h.tidy (g.tidy t);
+  constructors = λ k. h.constructors (g.constructors k);
 }
 
 pub type_later : (S T : State) (k : ℕ) → Grows S T → HasType S k → HasType T k

@@ -24,7 +24,7 @@ use Rattle.elab_steps.specs.Growing.{HasType, Begins, Grows, Always}
 use Rattle.elab_steps.specs.Instances.{IsScheme, IsInstance}
 use Rattle.elab_steps.specs.World.{type_of}
 use Rattle.elab_steps.proofs.Growing.{comes_before, below-up}
-use Rattle.elab_steps.proofs.Changing.{Stays, begins-same, rows-same, same-limit}
+use Rattle.elab_steps.proofs.Changing.{Stays, begins-same, constructors-same, rows-same, same-limit}
 use Rattle.elab_steps.proofs.Keeping.{Makes, makes-done, makes-tidy, replaced-in}
 
 -- what is said of variables, where some are added
@@ -166,6 +166,7 @@ module _ (S T : State) (marks : List Mark) (body : ℕ) (limit : Limit) (r : ℕ
     level = h.stays.level;
     done = makes-done S T instanced-makes;
     tidy = makes-tidy S T instanced-makes;
+    constructors = constructors-same S T h.stays.tables;
   }
 
   renamed-live : (v x : ℕ) → v < length marks → is_in x (renamed (made S) (length marks) v) ≡ true → (limit_in T x).level < dead_level

@@ -16,7 +16,7 @@ use Rattle.elab_state.specs.States.{types_in, made, said_in, limit_in, general_i
 use Rattle.elab_state.specs.declared.state.State.{State}
 use Rattle.elab_state.proofs.Typed.{either}
 use Rattle.elab_steps.specs.Growing.{HasType}
-use Rattle.elab_steps.specs.Tidy.{IsTidy, StaysDone}
+use Rattle.elab_steps.specs.Tidy.{IsTidy, StaysDone, is_parameter}
 
 pub or-left : (a b : Bool) → a ≡ true → (a || b) ≡ true
 or-left true b e = refl
@@ -124,6 +124,7 @@ module _ (S T : State) (a b : ℕ) (ta : HasType S a) (tb : HasType S b) (rest :
       ended = λ v lt o e.
           let d = dead v (subst (λ n. v < n) same lt) e in
           subst (λ qs. in_scope qs v ≡ true) (sym general) (tidy.ended v (subst (λ n. v < n) same lt) (sym (ap is_open (unified-done v d).said) ∙ o) d);
+      parameters = λ v i. let j = subst (λ qs. in_scope qs v ≡ true) general i in ap is_parameter (said-stays v (tidy.done v j)) ∙ tidy.parameters v j;
       low = tidy.low;
     }
       where
@@ -164,6 +165,7 @@ makes-tidy S T m tidy = subst (IsTidy T) (sym m.level) (record {
   settled = λ x lt. settle x lt (nat_lt x (made S)) refl;
   done = λ x i. let j = sym (m.general x) ∙ i in ap (λ k. k.level) (m.limits x (general-made S S.level tidy x j)) ∙ tidy.done x j;
   ended = λ x lt o e. m.general x ∙ end x lt o e (nat_lt x (made S)) refl;
+  parameters = λ x i. let j = sym (m.general x) ∙ i in ap is_parameter (m.said x (general-made S S.level tidy x j)) ∙ tidy.parameters x j;
   low = tidy.low;
 })
   where
@@ -184,6 +186,7 @@ new-tidy S l low zero-made empty = record {
   settled = λ v lt. absurd (omega (arith, lt, zero-made));
   done = λ v i. absurd (nothing v i);
   ended = λ v lt o e. absurd (omega (arith, lt, zero-made));
+  parameters = λ v i. absurd (nothing v i);
   low = low;
 }
   where
@@ -195,6 +198,7 @@ deeper-tidy S l low t = record {
   settled = λ v lt. by (limit_in S v).level (t.settled v lt);
   done = t.done;
   ended = t.ended;
+  parameters = t.parameters;
   low = low;
 }
   where

@@ -14,7 +14,7 @@ use Rattle.ir_tables.specs.Tables.{parameters_of, strings_of}
 use Rattle.elab_state.specs.States.{types_in, made, said_in, limit_in, table_in, dead_level}
 use Rattle.elab_state.specs.declared.state.State.{State}
 use Rattle.elab_types.specs.declared.scope.TypeScope.{TypeScope}
-use Rattle.elab_steps.specs.Tidy.{IsLive, IsTidy, StaysDone}
+use Rattle.elab_steps.specs.Tidy.{AreConstructors, IsLive, IsTidy, StaysDone}
 use Rattle.elab_steps.specs.World.{World, type_of, Comes}
 
 -- new is old with more behind it
@@ -37,6 +37,8 @@ pub record Grows (S T : State) : Type 0 where
   pub level : T.level ≡ S.level
   pub done : (v : ℕ) → v < made S → (limit_in S v).level ≡ dead_level → StaysDone S T v
   pub tidy : IsTidy S S.level → IsTidy T T.level
+  -- and constructors may stand in a program's table where those before may
+  pub constructors : AreConstructors S → AreConstructors T
 
 -- k is a type over the variables of the state, of which none is done with
 pub record HasType (S : State) (k : ℕ) : Type 0 where

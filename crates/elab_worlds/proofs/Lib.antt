@@ -1,3 +1,4 @@
 pub mod Ground
 pub mod Coming
 pub mod Final
+pub mod Ending

@@ -1,6 +1,5 @@
 -- What variables stand for at the end of elaboration, and the world that a state tells then.
-use Rattle.std.specs.Prelude.{◌≡◌, ◌++◌, ℕ, Bool, true, false, if◌then◌else◌, List, [], refl}
-use Rattle.std.specs.List.{AllByRecursion}
+use Rattle.std.specs.Prelude.{◌≡◌, ◌++◌, ℕ, true, if◌then◌else◌, List, [], refl}
 use Rattle.ty_core.specs.Types.{Typ, var, con, none, labels, name}
 use Rattle.ty_core.specs.Marks.{overloaded}
 use Rattle.ty_core.specs.declared.mark.Class.{Class}
@@ -9,20 +8,15 @@ use Rattle.ty_core.specs.declared.scheme.Quantified.{Quantified}
 use Rattle.ty_table.specs.TypeAt.{type_at}
 pub use Rattle.ty_basis.specs.Types.{unit_type}
 use Rattle.ty_solve.specs.Substitution.{Entry, free, bound, row, sub, subs}
-use Rattle.ir_poly.specs.Types.{in_scope, is_declarable, initial_constructors, IsConstructor}
-use Rattle.elab_state.specs.States.{types_in, said_in, general_in, numbers_in, reading_in, table_in}
+use Rattle.ir_poly.specs.Types.{in_scope, initial_constructors}
+use Rattle.elab_state.specs.States.{types_in, made, said_in, general_in, numbers_in, reading_in, table_in}
 use Rattle.elab_state.specs.declared.state.State.{State}
+use Rattle.elab_steps.specs.Growing.{Grows}
+pub use Rattle.elab_steps.specs.Tidy.{AreConstructors, is_parameter}
 use Rattle.elab_steps.specs.Tidy.{IsTidy}
 use Rattle.elab_steps.specs.World.{World, Comes}
 
--- what is said of a variable that may be a parameter: it is open, and of no class
-abbrev pub is_parameter : Entry → Bool
-is_parameter (free k) = is_declarable k
-is_parameter (bound t) = false
-is_parameter (row e ks us) = false
-
--- A state that may be the last one: it is tidy, and what was generalised may be a parameter. Where a declaration ends this is so of its parameters (`Ends` of
--- `general_worlds`), and what is said of a variable that is done with stays.
+-- a state that may be the last one: it is tidy, and what was generalised may be a parameter
 pub record IsLast (S : State) (l : ℕ) : Type 0 where
   pub tidy : IsTidy S l
   pub parameters : (v : ℕ) → in_scope (general_in S) v ≡ true → is_parameter (said_in S v) ≡ true
@@ -46,10 +40,6 @@ final_at qs g v (row e ks us) = con (labels ks) (subs g us)
 -- g says what each variable of the state stands for in the end
 abbrev pub IsFinal : State → (ℕ → Typ) → Type 0
 IsFinal S g = (v : ℕ) → g v ≡ final_at (general_in S) g v (said_in S v)
-
--- the state's constructors may stand in a program's table, behind those of the basis
-abbrev pub AreConstructors : State → Type 0
-AreConstructors S = AllByRecursion IsConstructor (table_in S)
 
 -- the world of it: no parameter is in scope outside all declarations
 abbrev pub final_world : State → (ℕ → Typ) → World
@@ -78,3 +68,15 @@ StatesEnd = (S : State) (l : ℕ) → IsLast S l → AreConstructors S → HasEn
 
 abbrev pub FinalsCome : Type 0
 FinalsCome = (S : State) (l : ℕ) → IsLast S l → AreConstructors S → (g : ℕ → Typ) → IsFinal S g → Comes S (final_world S g)
+
+-- Where elaboration went on from a tidy state, the state after may be the last one; and its constructors may stand in a program's table where those before may.
+pub record MayEnd (S : State) : Type 0 where
+  pub last : IsLast S S.level
+  pub constructors : AreConstructors S
+
+abbrev pub LaterMayEnd : Type 0
+LaterMayEnd = (S T : State) → IsTidy S S.level → AreConstructors S → Grows S T → MayEnd T
+
+-- so it is from a new state on
+abbrev pub RunsMayEnd : Type 0
+RunsMayEnd = (S T : State) → made S ≡ 0 → general_in S ≡ [] → table_in S ≡ [] → S.level ≡ 0 → Grows S T → MayEnd T

@@ -1,7 +1,7 @@
 // Laws of worlds, as contracts.
 
 ghost use Rattle.elab_worlds.specs.Worlds.{ComesOf, WorldsCome};
-ghost use Rattle.elab_worlds.specs.Final.{StatesEnd, FinalsCome};
+ghost use Rattle.elab_worlds.specs.Final.{FinalsCome, LaterMayEnd, RunsMayEnd, StatesEnd};
 
 /// A later state and a generic solution tell a world in which what the state says comes true.
 pub fn comes_of()
@@ -21,4 +21,14 @@ pub fn states_end()
 /// In that world what it says comes true.
 pub fn finals_come()
     ensures { FinalsCome }
+{}
+
+/// Where elaboration went on from a tidy state, the state after may be the last one.
+pub fn later_may_end()
+    ensures { LaterMayEnd }
+{}
+
+/// So it is from a new state on.
+pub fn runs_may_end()
+    ensures { RunsMayEnd }
 {}

@@ -12,7 +12,7 @@ use Rattle.sml_tree.specs.BareTree as bare
 use Rattle.sml_tree.specs.TreeOf.{RuleOf, binds_of}
 use Rattle.sml_tree.specs.declared.ident.Tyvar.{Tyvar}
 use Rattle.sml_tree.specs.declared.ident.Vid.{Vid}
-use Rattle.core_rules.specs.Choices.{Choices, no_choice, both}
+use Rattle.core_rules.specs.Choices.{Choices, both}
 use Rattle.core_rules.specs.Objects.{Map, at}
 use Rattle.core_rules.specs.Restrictions.{distinct}
 use Rattle.core_rules.specs.Typing.{Bound, bound_in, AreDistinct, mark_of, marks_of, together}

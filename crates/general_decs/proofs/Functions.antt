@@ -1,17 +1,14 @@
 -- Functions of a group in scope of one another.
-use Rattle.std.proofs.Common.{◌≡◌, ◌⊎◌, inl, inr, ◌<◌, ◌≤◌, ◌+◌, ◌&&◌, ◌||◌, ℕ, suc, Bool, true, false, not, cond, List, [], ◌∷◌, ◌++◌, map, Option, Some, None, Vec, Global, nat_eq, refl, sym, ap, ap₂, subst, ◌∙◌, arith}
+use Rattle.std.proofs.Common.{◌≡◌, ◌⊎◌, inl, inr, ◌<◌, ◌+◌, ◌&&◌, ◌||◌, ℕ, Bool, true, false, not, cond, List, [], ◌∷◌, ◌++◌, map, Option, Some, None, Vec, Global, refl, sym, ap, ap₂, subst, ◌∙◌, arith}
 use Rattle.std.specs.Prelude.{reverse, option_map}
 use Rattle.std.specs.List.{AllByRecursion}
 use Rattle.std.specs.Map.{lookup}
 use Rattle.std.specs.Option.{option_or}
 use Rattle.std.proofs.lemmas.Bool.{and_parts, eq-eqb}
-use Rattle.std.proofs.lemmas.List.{append_assoc, map-append, reverse-append}
-use Rattle.ty_core.specs.Types.{Typ, var}
-use Rattle.ty_core.specs.declared.scheme.Quantified.{Quantified}
+use Rattle.std.proofs.lemmas.List.{map-append, reverse-append}
+use Rattle.ty_core.specs.Types.{Typ}
 use Rattle.ty_basis.specs.Types.{function_type}
 use Rattle.sml_tree.specs.BareTree as bare
-use Rattle.sml_tree.specs.Derived.{short}
-use Rattle.sml_tree.specs.Terminal.{LongVid}
 use Rattle.sml_tree.specs.TreeOf.{RuleOf, binds_of}
 use Rattle.sml_tree.specs.declared.ident.Vid.{Vid}
 use Rattle.sml_tree.specs.declared.ident.Vid.TheVariants.{Named, Equals, Fresh}
@@ -22,13 +19,12 @@ use Rattle.core_rules.specs.Typing.{Bound, is_matched_in, together}
 use Rattle.core_rules.specs.Words.{same_vid, is_in}
 use Rattle.core_rules.proofs.LookUps.{vid-tells}
 use Rattle.ir_poly.specs.Prog as prog
-use Rattle.ir_poly.specs.ProgChecked.{funs_onto}
 use Rattle.ir_poly.specs.TestsChecked.{Known, Knowns, own}
 use Rattle.ir_poly.specs.TestsChecked as checked
 use Rattle.ir_poly.specs.Types.{over}
 use Rattle.ir_poly.proofs.ReplaceLemmas.{replace-agree}
-use Rattle.core_elab.specs.Scopes.{Scope, variable, denotes_in, inside_in, plus_scope}
-use Rattle.prog_tree.specs.TreeOf.{Reading, fun_of, funs_by}
+use Rattle.core_elab.specs.Scopes.{variable, denotes_in, inside_in, plus_scope}
+use Rattle.prog_tree.specs.TreeOf.{fun_of, funs_by}
 use Rattle.prog_tree.specs.declared.tree.Function.{Function}
 use Rattle.elab_typed.specs.Contexts.{Around, KeptValues, generic, kept_values, single, singles, values_under, with_bound}
 use Rattle.elab_typed.specs.Elaborates.{FunsElab, a_fun_elab, no_funs_elab}
@@ -40,7 +36,7 @@ use Rattle.prog_tree.specs.declared.tree.Rule.{Rule}
 use Rattle.elab_types.specs.declared.scope.TypeScope.{TypeScope}
 use Rattle.elab_state.specs.States.{dead_level}
 use Rattle.elab_state.specs.declared.state.State.{State}
-use Rattle.elab_steps.specs.Growing.{Always, Grows, IsWithin}
+use Rattle.elab_steps.specs.Growing.{Grows, IsWithin}
 use Rattle.elab_steps.specs.World.{World, Comes, type_of}
 use Rattle.elab_steps.proofs.Growing.{comes_before, grows_on, grows_same}
 use Rattle.elab_context.specs.Entries.{entry_in, is_free, limit_of}
@@ -58,20 +54,19 @@ use Rattle.exp_forms.specs.Rules.{vids_of}
 use Rattle.exp_forms.proofs.Calling.{written-as}
 use Rattle.exp_forms.proofs.Entering.{number-known}
 use Rattle.exp_forms.proofs.JoiningRules.{vids-bound}
-use Rattle.exp_forms.proofs.Within.{denotes-of, inside-onto, latest, latest-among, lookup-of, or-none}
+use Rattle.exp_forms.proofs.Within.{denotes-of, inside-onto, latest, lookup-of, or-none}
 use Rattle.dec_forms.specs.Telling.{last_of}
 use Rattle.dec_forms.proofs.Listed.{last-among}
-use Rattle.dec_forms.proofs.Telling.{AreFurther, around_with, entry-among, tells_further}
-use Rattle.rec_groups.specs.Functions.{AreFunctions, AreWritten, EachFunction, no_function, one_function}
+use Rattle.dec_forms.proofs.Telling.{AreFurther, entry-among, tells_further}
+use Rattle.rec_groups.specs.Functions.{AreWritten, EachFunction, no_function, one_function}
 use Rattle.rec_groups.specs.Heads.{AreReserved, IsFitHead, IsReserved, falling, head_bound, head_vids, none_reserved, one_reserved, own_entries, rising, with_own}
 use Rattle.rec_groups.specs.declared.head.Head.{Head}
-use Rattle.rec_groups.proofs.Entering.{all-joined, all-reversed, rising-all}
+use Rattle.rec_groups.proofs.Entering.{all-joined, all-reversed}
 use Rattle.rec_groups.proofs.Reserving.{reverse-last}
 use Rattle.rec_groups.proofs.Adding.{no_functions}
 use Rattle.general_decs.specs.Whole.{IsDeclared}
 use Rattle.general_decs.specs.Inside.{AreInside}
 use Rattle.general_decs.proofs.Marks.{IsMarked}
-use Rattle.general_decs.proofs.Together.{program_funs}
 
 -- the functions elaborate
 

@@ -28,12 +28,11 @@ use Rattle.elab_context.specs.Telling.{IsFit, IsGeneral, IsInUse, Tells, kept_of
 use Rattle.elab_context.specs.declared.context.Context.{Context}
 use Rattle.elab_context.specs.declared.entry.Entry.{Entry}
 use Rattle.elab_context.specs.declared.entry.Entry.TheVariants.{General}
-use Rattle.pat_elab.specs.Elaborated.{AreVariables, HasVariable, bound_of, scope_of}
+use Rattle.pat_elab.specs.Elaborated.{AreVariables, HasVariable, bound_of}
 use Rattle.pat_elab.specs.declared.bound.BoundVariable.{BoundVariable}
-use Rattle.pat_elab.proofs.Forms.{onto-plus}
 use Rattle.exp_forms.specs.Rules.{vids_of}
 use Rattle.exp_forms.proofs.Entering.{number-known}
-use Rattle.exp_forms.proofs.Within.{latest, denotes-of, inside-onto}
+use Rattle.exp_forms.proofs.Within.{latest}
 use Rattle.general_worlds.proofs.General.{open-general}
 use Rattle.general_worlds.specs.Tidy.{Ends}
 use Rattle.general_vals.proofs.Settling.{settled-held}

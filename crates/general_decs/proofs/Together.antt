@@ -1,8 +1,7 @@
 -- Functions of a group: their numbers, and what is known of their variables.
-use Rattle.std.proofs.Common.{◌≡◌, ◌⊎◌, inl, inr, ◌<◌, ◌≤◌, ℕ, suc, Bool, true, false, cond, List, [], ◌∷◌, ◌++◌, map, Option, Some, None, Vec, Global, nat_eq, refl, sym, ap, ap₂, subst, ◌∙◌, arith}
+use Rattle.std.proofs.Common.{◌≡◌, ◌<◌, ◌≤◌, ℕ, suc, Bool, true, false, cond, List, [], ◌∷◌, map, Some, Vec, Global, nat_eq, refl, sym, ap, subst, ◌∙◌, arith}
 use Rattle.std.specs.Prelude.{reverse}
 use Rattle.std.specs.List.{AllByRecursion}
-use Rattle.std.specs.Map.{lookup}
 use Rattle.std.proofs.lemmas.Bool.{eq-eqb, eqb-true}
 use Rattle.ty_core.specs.Types.{Typ}
 use Rattle.sml_tree.specs.BareTree as bare
@@ -22,7 +21,7 @@ use Rattle.elab_context.specs.declared.context.Context.{Context}
 use Rattle.pat_elab.specs.Elaborated.{scope_of, scope_onto}
 use Rattle.pat_elab.specs.declared.bound.BoundVariable.{BoundVariable}
 use Rattle.rec_groups.specs.Functions.{AreWritten}
-use Rattle.rec_groups.specs.Heads.{AreReserved, HeadUpTo, IsReserved, falling, none_reserved, numbers_of, one_reserved, rising}
+use Rattle.rec_groups.specs.Heads.{AreReserved, HeadUpTo, falling, none_reserved, numbers_of, one_reserved, rising}
 use Rattle.rec_groups.specs.declared.head.Head.{Head}
 use Rattle.rec_groups.proofs.Entering.{all-joined, all-reversed}
 use Rattle.general_decs.proofs.Groups.{onto-append}

@@ -38,7 +38,7 @@ fn makes(state: &State, context: &Context, entry: Entry) -> bool
 {
     match entry {
         Entry::Constructor(scheme, _, name) => {
-            let function = is_function(state, context.schemes[scheme].body);
+            let function = is_function(state, context.schemes.at(scheme).body);
             !both(name.stamp == REFERENCE, function)
         }
         Entry::Reference(_) => false,

@@ -1,5 +1,5 @@
 -- What the end of a declaration leaves of a state.
-use Rattle.std.proofs.Common.{◌≡◌, ◌<◌, ◌≤◌, ◌+◌, ◌⊎◌, inl, inr, ◌&&◌, ℕ, suc, Bool, true, false, nat_lt, if◌then◌else◌, List, [], ◌∷◌, ◌++◌, map, length, get_or, Some, Vec, Global, refl, sym, ap, ap₂, subst, ◌∙◌, arith}
+use Rattle.std.proofs.Common.{◌≡◌, ◌<◌, ◌≤◌, ◌+◌, ◌⊎◌, inl, inr, ◌&&◌, ◌||◌, not, ℕ, suc, Bool, true, false, nat_eq, nat_lt, if◌then◌else◌, List, [], ◌∷◌, ◌++◌, map, length, get_or, Some, Vec, Global, refl, sym, ap, ap₂, subst, ◌∙◌, arith}
 use Rattle.std.specs.List.{AllByRecursion}
 use Rattle.std.proofs.lemmas.Bool.{ltb-true, ltb-false, lt-ltb, and_parts, and_from}
 use Rattle.std.proofs.lemmas.List.{map-append}
@@ -12,14 +12,14 @@ use Rattle.ty_solve.specs.SlotsOf.{entry_of}
 use Rattle.ty_solve.specs.declared.limit.Limit.{Limit}
 use Rattle.ty_solve.specs.declared.subst.Slot.{Slot}
 use Rattle.ty_solve.proofs.Slots.{seen-get}
-use Rattle.ir_poly.specs.Types.{in_scope}
+use Rattle.ir_poly.specs.Types.{in_scope, is_declarable, are_new}
 use Rattle.ir_tables.specs.Rows.{constructors_at}
 use Rattle.ir_tables.specs.Tables.{parameters_of, parameters_at}
 use Rattle.elab_state.specs.States.{types_in, made, said_in, limit_in, general_in, all_parameters, dead_level}
 use Rattle.elab_state.specs.declared.state.State.{State}
 use Rattle.elab_context.specs.Telling.{HasList}
-use Rattle.elab_steps.specs.Tidy.{IsTidy}
-use Rattle.general_worlds.specs.Tidy.{AreOuter, Ends}
+use Rattle.elab_steps.specs.Tidy.{IsTidy, is_parameter}
+use Rattle.general_worlds.specs.Tidy.{AreOuter, Ends, mark_in}
 use Rattle.general_worlds.proofs.Scoping.{scope-either, last-general, earlier-general}
 use Rattle.general_vals.specs.Closing.{is_inner, added, collected, ended, ended_at}
 use Rattle.general_vals.proofs.Closing.{limit-past, limit-get}
@@ -179,6 +179,17 @@ pub record Closed (S T : State) (l first k : ℕ) (qs : Vec Quantified Global) :
   pub number : k ≡ length S.tables.parameters.items
   pub found : collected (said_in S) (limit_in S) l first (made S) ≡ Some qs.items
 
+marks-declarable : (qs : List Quantified) (v : ℕ) → are_new qs [] ≡ true → in_scope qs v ≡ true → is_declarable (mark_in qs v) ≡ true
+marks-declarable [] v h i = cc
+marks-declarable (q ∷ qs) v h i =
+    let a = and_parts (is_declarable q.mark) (not (in_scope qs q.variable) && are_new qs []) h in
+    by (nat_eq q.variable v) i a.0 (marks-declarable qs v (and_parts (not (in_scope qs q.variable)) (are_new qs []) a.1).1)
+  where
+    by : (c : Bool) → (c || in_scope qs v) ≡ true → is_declarable q.mark ≡ true → (in_scope qs v ≡ true → is_declarable (mark_in qs v) ≡ true)
+        → is_declarable (if c then q.mark else mark_in qs v) ≡ true
+    by true i d again = d
+    by false i d again = again i
+
 at-last : {A : Type 0} (xs : List (List A)) (x : List A) → get_or (xs ++ x ∷ []) (length xs) [] ≡ x
 at-last [] x = refl
 at-last (y ∷ ys) x = at-last ys x
@@ -277,12 +288,10 @@ module _ (S T : State) (l first list : ℕ) (qs : Vec Quantified Global) (z : Cl
   fate-of : (v : ℕ) → Outside l (limit_in S v) (limit_in T v) ⊎ ((limit_in T v).level ≡ dead_level)
   fate-of = c-fate (limit_in S) (limit_in T) l first z.limits outer
 
-  general-now : (v : ℕ) → in_scope (general_in T) v ≡ true → (limit_in T v).level ≡ dead_level
-  general-now v i = by (fate-of v)
+  -- what is generalised then was so before, or is a parameter of the declaration
+  general-either : (v : ℕ) → in_scope (general_in T) v ≡ true → (in_scope (general_in S) v ≡ true) ⊎ (in_scope qs.items v ≡ true)
+  general-either v i = split (parameters_of S.tables) (subst (λ ps. in_scope (all_parameters ps) v ≡ true) lists-are i)
     where
-      was : in_scope (all_parameters (parameters_of S.tables ++ qs.items ∷ [])) v ≡ true
-      was = subst (λ ps. in_scope (all_parameters ps) v ≡ true) lists-are i
-
       split : (pss : List (List Quantified)) → in_scope (all_parameters (pss ++ qs.items ∷ [])) v ≡ true → (in_scope (all_parameters pss) v ≡ true) ⊎ (in_scope qs.items v ≡ true)
       split [] h = inr (at (in_scope qs.items v) refl)
         where
@@ -300,22 +309,30 @@ module _ (S T : State) (l first list : ℕ) (qs : Vec Quantified Global) (z : Cl
               go (inl k) = inl (Rattle.elab_state.proofs.Generalising.scope-behind ps (all_parameters pss) v k)
               go (inr k) = inr k
 
+  general-now : (v : ℕ) → in_scope (general_in T) v ≡ true → (limit_in T v).level ≡ dead_level
+  general-now v i = by (fate-of v)
+    where
       level : (in_scope (general_in S) v ≡ true) ⊎ (in_scope qs.items v ≡ true) → l < (limit_in S v).level
       level (inl k) = let e = tidy.done v k in omega (arith, e, low)
       level (inr k) = let e = only-is v k in omega (arith, e)
 
       by : Outside l (limit_in S v) (limit_in T v) ⊎ ((limit_in T v).level ≡ dead_level) → (limit_in T v).level ≡ dead_level
       by (inr e) = e
-      by (inl o) = absurd (let a = level (split (parameters_of S.tables) was) in let b = o.outer in omega (arith, a, b))
+      by (inl o) = absurd (let a = level (general-either v i) in let b = o.outer in omega (arith, a, b))
 
   pub closed-tidy : IsTidy T l
   closed-tidy = record {
     settled = λ v lt. settle v (fate-of v);
     done = general-now;
     ended = λ v lt o e. subst (λ ps. in_scope (all_parameters ps) v ≡ true) (sym lists-are) (end v (subst (λ n. v < n) made-is lt) (open-then v o) e);
+    parameters = λ v i. ap (λ s. is_parameter (Rattle.ty_solve.specs.Said.said s v)) z.solver ∙ parameter-now v (general-either v i);
     low = omega (arith, low);
   }
     where
+      parameter-now : (v : ℕ) → (in_scope (general_in S) v ≡ true) ⊎ (in_scope qs.items v ≡ true) → is_parameter (said_in S v) ≡ true
+      parameter-now v (inl i) = tidy.parameters v i
+      parameter-now v (inr i) = ap is_parameter (has.marks v i) ∙ marks-declarable qs.items v has.declarable i
+
       settle : (v : ℕ) → Outside l (limit_in S v) (limit_in T v) ⊎ ((limit_in T v).level ≡ dead_level) → ((limit_in T v).level ≤ l) ⊎ ((limit_in T v).level ≡ dead_level)
       settle v (inl o) = inl (subst (λ k. k.level ≤ l) (sym o.still) o.outer)
       settle v (inr e) = inr e

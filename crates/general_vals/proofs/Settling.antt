@@ -17,7 +17,7 @@ use Rattle.elab_state.specs.States.{types_in, made, said_in, limit_in, general_i
 use Rattle.elab_state.proofs.Typed.{either, in-below}
 use Rattle.elab_state.specs.declared.state.State.{State}
 use Rattle.elab_steps.specs.Growing.{Always, HasGeneral, HasType}
-use Rattle.elab_steps.specs.Tidy.{IsTidy}
+use Rattle.elab_steps.specs.Tidy.{IsTidy, is_parameter}
 use Rattle.elab_steps.specs.World.{type_of}
 use Rattle.elab_steps.proofs.Changing.{Tabled}
 use Rattle.elab_steps.proofs.Keeping.{limit-in, or-left, or-right}
@@ -124,6 +124,7 @@ tabled-tidy S T a l t = record {
   ended = λ v lt o e.
       subst (λ qs. in_scope qs v ≡ true) (sym general)
       (t.ended v (before v lt) (subst (λ s. is_open (s v) ≡ true) a.says o) (sym (ap (λ k. k.level) (limit v)) ∙ e));
+  parameters = λ v i. ap (λ s. is_parameter (s v)) a.says ∙ t.parameters v (subst (λ qs. in_scope qs v ≡ true) general i);
   low = t.low;
 }
   where

@@ -1,5 +1,6 @@
 -- A declaration from where it begins to where it has ended.
 use Rattle.std.proofs.Common.{◌≡◌, ◌<◌, ◌≤◌, ◌⊎◌, inl, inr, ℕ, suc, Bool, true, false, nat_lt, List, [], ◌∷◌, ◌++◌, length, take, refl, sym, ap, subst, ◌∙◌, arith}
+use Rattle.std.specs.List.{AllByRecursion}
 use Rattle.std.proofs.lemmas.Bool.{ltb-true, ltb-false}
 use Rattle.ty_core.specs.declared.scheme.Quantified.{Quantified}
 use Rattle.ty_table.specs.TypeAt.{type_at}
@@ -7,14 +8,14 @@ use Rattle.ty_solve.specs.Limits.{limit_at}
 use Rattle.ty_solve.specs.Said.{said}
 use Rattle.ty_solve.specs.Substitution.{Solves, is_below, is_in, is_open}
 use Rattle.ty_solve.specs.declared.limit.Limit.{Limit}
-use Rattle.ir_poly.specs.Types.{find, in_scope}
+use Rattle.ir_poly.specs.Types.{find, in_scope, IsConstructor}
 use Rattle.ir_tables.specs.Tables.{parameters_of, strings_of}
 use Rattle.elab_state.specs.States.{types_in, made, limit_in, general_in, all_parameters, dead_level}
 use Rattle.elab_state.specs.declared.state.State.{State}
 use Rattle.elab_state.proofs.Typed.{in-below}
 use Rattle.elab_steps.specs.Growing.{Begins, Grows, HasGeneral, HasType}
-use Rattle.elab_steps.specs.Tidy.{IsTidy}
-use Rattle.elab_steps.proofs.Changing.{rows-same}
+use Rattle.elab_steps.specs.Tidy.{IsTidy, is_parameter}
+use Rattle.elab_steps.proofs.Changing.{constructors-same, rows-same}
 use Rattle.general_worlds.specs.Tidy.{AreOpen, AreOuter, Ends, Enters}
 
 -- where it begins
@@ -35,6 +36,7 @@ entered-tidy l R S low e t = record {
   ended = λ v lt o d.
       same-general R S e v
       ∙ t.ended v (subst (λ n. v < n) (made-same R S e) lt) (subst (λ s. is_open (said s.subst v) ≡ true) e.solver o) (sym (ap (λ k. k.level) (limit-same R S e v)) ∙ d);
+  parameters = λ v i. ap (λ s. is_parameter (said s.subst v)) e.solver ∙ t.parameters v (sym (same-general R S e v) ∙ i);
   low = low;
 }
   where
@@ -123,4 +125,5 @@ module _ (l : ℕ) (qs : List Quantified) (R S T U : State) (e : Enters R S) (g 
         let d = g.done v (there v lt) (ap (λ k. k.level) (limit-same R S e v) ∙ h) in
         record { said = ap (λ s. s v) z.said ∙ d.said ∙ ap (λ s. said s.subst v) e.solver; level = z.stay v d.level };
     tidy = λ t. subst (IsTidy U) (sym z.level) after;
+    constructors = λ k. subst (AllByRecursion IsConstructor) (sym z.rows) (g.constructors (constructors-same R S e.tables k));
   }

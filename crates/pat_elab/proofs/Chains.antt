@@ -1,5 +1,5 @@
 -- Patterns joined by constructors.
-use Rattle.std.proofs.Common.{◌≡◌, ◌+◌, ℕ, suc, Bool, true, false, ◌&&◌, List, [], ◌∷◌, ◌++◌, map, Box, Global, refl, sym, ap, ap₂, subst, ◌∙◌, arith}
+use Rattle.std.proofs.Common.{◌≡◌, ℕ, true, false, ◌&&◌, List, [], ◌∷◌, ◌++◌, map, Box, Global, refl, sym, ap, ap₂, subst, ◌∙◌}
 use Rattle.std.proofs.lemmas.List.{append_assoc, map-append}
 use Rattle.mlc_names.specs.declared.label.Label.TheVariants.{Number}
 use Rattle.mlc_base.specs.declared.place.Place.{Place}
@@ -23,9 +23,8 @@ use Rattle.elab_typed.specs.Instances.{as_typed}
 use Rattle.elab_typed.specs.Numbers.{type_as}
 use Rattle.elab_state.specs.declared.state.State.{State}
 use Rattle.elab_steps.specs.Growing.{HasType, Grows, Always}
-use Rattle.elab_steps.specs.World.{World, type_of, Comes}
-use Rattle.elab_steps.proofs.Growing.{grows_on, grows_same, type_later, comes_before}
-use Rattle.elab_context.specs.Telling.{Tells}
+use Rattle.elab_steps.specs.World.{World, type_of}
+use Rattle.elab_steps.proofs.Growing.{grows_on, type_later, comes_before}
 use Rattle.elab_context.specs.declared.context.Context.{Context}
 use Rattle.pat_elab.proofs.Forms.{all-later}
 use Rattle.pat_elab.proofs.Leaves.{no-more}
@@ -37,7 +36,7 @@ use Rattle.pat_elab.proofs.Matching.{as-written}
 use Rattle.pat_elab.specs.Matched.{IsHead, IsHeaded}
 use Rattle.pat_elab.specs.declared.headed.Headed.{Headed}
 use Rattle.pat_elab.proofs.FieldsDo.{one-more, all-append}
-use Rattle.pat_elab.specs.Chains.{IsJoin, IsJoined, Right, none_right, one_right, AreRight, IsRight, IsLeft}
+use Rattle.pat_elab.specs.Chains.{IsJoin, IsJoined, Right, none_right, one_right, IsRight, IsLeft}
 use Rattle.pat_elab.specs.declared.parts.Joined.{Joined}
 use Rattle.pat_elab.specs.declared.parts.LeftChain.{LeftChain}
 use Rattle.pat_elab.specs.declared.parts.RightChain.{RightChain}

@@ -17,7 +17,6 @@ use Rattle.sml_tree.specs.Derived.{numbered_pats}
 use Rattle.sml_tree.specs.TreeOf.{PatFieldOf, pat_fields_of}
 use Rattle.core_rules.specs.Objects.{Over, AllOver, sorted as sorted_row}
 use Rattle.core_rules.specs.Choices.{Choices, no_choice, both}
-use Rattle.core_rules.specs.Typing.{Bound}
 use Rattle.ir_values.specs.Values.{same_label}
 use Rattle.ir_poly.specs.Prog as prog
 use Rattle.ir_poly.specs.Types.{ascend, over, all_over}
@@ -33,10 +32,9 @@ use Rattle.elab_typed.proofs.Names.{over-as}
 use Rattle.elab_state.specs.declared.state.State.{State}
 use Rattle.elab_steps.specs.Growing.{HasType, Grows, Always}
 use Rattle.elab_steps.specs.Rows.{row_of}
-use Rattle.elab_steps.specs.World.{World, type_of, Comes}
+use Rattle.elab_steps.specs.World.{World, type_of}
 use Rattle.elab_steps.proofs.Growing.{grows_on, grows_same, type_later, comes_before}
 use Rattle.elab_steps.proofs.Sorting.{Among, found-sorted, sorted-all, row-sorted}
-use Rattle.elab_context.specs.Telling.{Tells}
 use Rattle.elab_context.specs.declared.context.Context.{Context}
 use Rattle.pat_elab.proofs.Forms.{all-later, onto-plus}
 use Rattle.pat_elab.proofs.Leaves.{no-more}

@@ -1,5 +1,5 @@
 -- Lists of patterns.
-use Rattle.std.proofs.Common.{◌≡◌, ℕ, suc, List, [], ◌∷◌, ◌++◌, map, length, slice_index_or, Vec, Box, Global, refl, sym, ap, ap₂, subst, ◌∙◌, arith}
+use Rattle.std.proofs.Common.{◌≡◌, ℕ, List, [], ◌∷◌, ◌++◌, map, length, slice_index_or, Vec, Box, Global, refl, sym, ap, ap₂, subst, ◌∙◌, arith}
 use Rattle.std.specs.Prelude.{remove}
 use Rattle.std.proofs.lemmas.List.{append_assoc}
 use Rattle.mlc_base.specs.declared.place.Place.{Place}
@@ -21,10 +21,10 @@ use Rattle.elab_typed.specs.Contexts.{Around}
 use Rattle.elab_typed.specs.Numbers.{type_as}
 use Rattle.elab_state.specs.declared.state.State.{State}
 use Rattle.elab_steps.specs.Growing.{HasType, Grows, Always, IsWithin}
-use Rattle.elab_steps.specs.World.{World, type_of, Comes}
+use Rattle.elab_steps.specs.World.{World, type_of}
 use Rattle.elab_steps.proofs.Growing.{grows_on, grows_same, type_later, comes_before}
 use Rattle.elab_context.specs.Entries.{limit_of}
-use Rattle.elab_context.specs.Telling.{Tells, IsContext}
+use Rattle.elab_context.specs.Telling.{IsContext}
 use Rattle.elab_context.specs.declared.context.Context.{Context}
 use Rattle.pat_elab.proofs.Forms.{all-later}
 use Rattle.pat_elab.proofs.Leaves.{no-more, within-names, within-parameters}

@@ -50,7 +50,7 @@ fn constructor_alone(
     requires held { scheme < length context.now.schemes.items }
     ensures is { IfOk result (λ r. IsConstructorAlone state.old context.now scheme state.new r) }
 {
-    if is_function(state, context.schemes[scheme].body) {
+    if is_function(state, context.schemes.at(scheme).body) {
         return Err(Refused::Mistyped(place));
     }
     Ok(instance_at(alloc, state, context, scheme)?)

@@ -41,7 +41,7 @@ fn at_fresh(
     requires held { scheme < length context.now.schemes.items }
     ensures { IfOk result (λ r. IsAtFresh state.old context.now scheme state.new r) }
 {
-    let found = &context.schemes[scheme];
+    let found = context.schemes.at(scheme);
     let images = fresh_types(alloc, state, &found.marks, context.limit())?;
     let ty = instance_with(alloc, state, found.body, &images)?;
     Ok(Instance { images, ty })

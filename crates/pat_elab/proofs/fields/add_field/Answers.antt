@@ -1,4 +1,3 @@
-use Rattle.std.proofs.Common.{refl}
 use Rattle.pat_elab.proofs.FieldsDo.{added_are}
 use Rattle.pat_elab.proofs.fields.add_field.Goals as goal
 

@@ -1,6 +1,6 @@
-use Rattle.std.proofs.Common.{refl, sym, subst}
+use Rattle.std.proofs.Common.{refl, subst}
 use Rattle.elab_context.proofs.Reading.{context_later}
-use Rattle.elab_steps.specs.Growing.{Always, Grows, IsWithin}
+use Rattle.elab_steps.specs.Growing.{Always, IsWithin}
 use Rattle.elab_steps.proofs.Growing.{grows_on, type_later}
 use Rattle.pat_elab.proofs.ListsDo.{listed_is}
 use Rattle.pat_elab.proofs.list.start_list.Goals as goal

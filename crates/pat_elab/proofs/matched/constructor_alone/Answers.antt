@@ -1,12 +1,11 @@
-use Rattle.std.proofs.Common.{refl, sym, ◌∙◌}
-use Rattle.std.proofs.lemmas.Option.{slice_get_read}
+use Rattle.std.proofs.Common.{sym, ◌∙◌}
 use Rattle.pat_elab.proofs.Matching.{constructor_alone_is}
 use Rattle.pat_elab.proofs.matched.constructor_alone.Goals as goal
 
 pub returns : goal.returns
 returns c = record {
-  is = constructor_alone_is c.args.state.now c.instance_at.new.state c.args.context.now c.args.scheme c.in_ok-instance_at.field-0 c.index.result.now
-      (slice_get_read c.args.context.now.schemes.items _ c.args.scheme c.index.result.now refl c.requires.held c.index.ensures) c.requires.context
+  is = constructor_alone_is c.args.state.now c.instance_at.new.state c.args.context.now c.args.scheme c.in_ok-instance_at.field-0 c.at.result.now
+      c.at.ensures c.requires.context
       c.in_ok-instance_at.ensures.grows c.in_ok-instance_at.ensures.is c.in_ok-instance_at.ensures.next c.in_ok-instance_at.ensures.instance
       (sym c.is_function.ensures ∙ c.if-is_function.false);
 }

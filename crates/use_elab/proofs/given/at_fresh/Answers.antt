@@ -1,5 +1,4 @@
-use Rattle.std.proofs.Common.{◌≡◌, List, length, true, refl, sym, ap, subst, ◌∙◌}
-use Rattle.std.proofs.lemmas.Option.{slice_get_read}
+use Rattle.std.proofs.Common.{◌≡◌, List, length, true, sym, ap, subst, ◌∙◌}
 use Rattle.std.specs.List.{AllByRecursion}
 use Rattle.ty_core.specs.Marks.{is_inhabited}
 use Rattle.ty_core.specs.declared.mark.Mark.{Mark}
@@ -17,29 +16,29 @@ use Rattle.use_elab.proofs.given.at_fresh.Goals as goal
 
 pub fresh_types-requires-clause-inhabited : goal.fresh_types-requires-clause-inhabited
 fresh_types-requires-clause-inhabited c =
-    let found = c.index-found.result.now in
+    let found = c.at-found.result.now in
     subst (AllByRecursion (λ (m : Mark). is_inhabited m ≡ true)) (sym c.deref.ensures.value)
-    (c.requires.context.schemes c.args.scheme found (slice_get_read c.args.context.now.schemes.items _ c.args.scheme found refl c.requires.held c.index-found.ensures)).inhabited
+    (c.requires.context.schemes c.args.scheme found c.at-found.ensures).inhabited
 
 pub instance_with-requires-clause-body : goal.instance_with-requires-clause-body
 instance_with-requires-clause-body c =
-    let found = c.index-found.result.now in
+    let found = c.at-found.result.now in
     ((context_later c.args.state.now c.fresh_types.new.state c.args.context.now c.in_ok-images.ensures.grows c.requires.context).schemes c.args.scheme found
-    (slice_get_read c.args.context.now.schemes.items _ c.args.scheme found refl c.requires.held c.index-found.ensures)).held
+    c.at-found.ensures).held
 
 pub instance_with-requires-clause-closed : goal.instance_with-requires-clause-closed
 instance_with-requires-clause-closed c =
-    let found = c.index-found.result.now in
+    let found = c.at-found.result.now in
     subst (λ n. is_below n (type_at (types_in c.fresh_types.new.state) found.body) ≡ true)
     (sym (ap length c.deref-2.ensures.value ∙ c.in_ok-images.ensures.count ∙ ap length c.deref.ensures.value))
     ((context_later c.args.state.now c.fresh_types.new.state c.args.context.now c.in_ok-images.ensures.grows c.requires.context).schemes c.args.scheme found
-    (slice_get_read c.args.context.now.schemes.items _ c.args.scheme found refl c.requires.held c.index-found.ensures)).closed
+    c.at-found.ensures).closed
 
 pub returns : goal.returns
 returns c =
-    let found = c.index-found.result.now in
+    let found = c.at-found.result.now in
     at_fresh_is c.args.state.now c.fresh_types.new.state c.instance_with.new.state c.args.context.now c.args.scheme found c.deref.result.now c.limit.result _
-    (slice_get_read c.args.context.now.schemes.items _ c.args.scheme found refl c.requires.held c.index-found.ensures) c.deref.ensures.value c.limit.ensures c.in_ok-images.ensures.grows
+    c.at-found.ensures c.deref.ensures.value c.limit.ensures c.in_ok-images.ensures.grows
     c.in_ok-images.ensures.are c.in_ok-images.ensures.fresh c.in_ok-images.ensures.next c.in_ok-ty.ensures.grows c.in_ok-ty.ensures.is
     (subst (λ (l : List _). Always c.instance_with.new.state (λ W. type_of W c.in_ok-ty.ty ≡ replace (nth_type (images_of W l)) (W.raw found.body))) c.deref-2.ensures.value c.in_ok-ty.ensures.has)
     c.in_ok-ty.ensures.next
