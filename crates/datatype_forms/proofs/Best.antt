@@ -1,16 +1,19 @@
 -- The names of datatypes, as many of which admit equality as can.
-use Rattle.std.proofs.Common.{◌≡◌, ◌<◌, ◌≤◌, ◌+◌, ◌-◌, ℕ, zero, suc, Bool, ◌⊎◌, inl, inr, List, [], ◌∷◌, ◌++◌, length, map, drop, take, get_or, All, Contains, Option, Some, None, nat_eq, refl, sym, ap, ap₂, subst, ◌∙◌, arith}
+use Rattle.std.proofs.Common.{◌≡◌, ◌<◌, ◌≤◌, ◌+◌, ◌-◌, ℕ, zero, suc, Bool, true, ◌⊎◌, inl, inr, List, [], ◌∷◌, ◌++◌, length, map, drop, take, get_or, All, Contains, Option, Some, None, nat_eq, refl, sym, ap, ap₂, subst, ◌∙◌, arith}
 use Rattle.std.specs.Prelude.{option_map}
-use Rattle.std.proofs.lemmas.List.{append-nil, append_assoc, length-append}
+use Rattle.std.proofs.lemmas.List.{append-nil, append_assoc, length-append, length-map}
 use Rattle.std.proofs.lemmas.List.Elements.{All-contains_itself, Contains-append_cases}
 use Rattle.ty_core.specs.Types.{Typ}
 use Rattle.ty_core.specs.declared.name.TyName.{TyName}
-use Rattle.sml_tree.specs.BareTree.{DataBind}
+use Rattle.sml_tree.specs.BareTree.{DataBind, TypeBind}
+use Rattle.sml_tree.specs.Derived.{expand_bind}
 use Rattle.core_rules.specs.Objects.{Context}
 use Rattle.core_rules.specs.Elaborated.{names_of}
+use Rattle.core_rules.specs.Restrictions.{distinct}
 use Rattle.datatype_equality.specs.Respects.{AllBelow, Respects}
 use Rattle.datatype_equality.specs.declared.argument.Argument.{Argument}
 use Rattle.elab_types.specs.Reading.{Holds, left_at}
+use Rattle.elab_types.proofs.Keeping.{holds_later}
 use Rattle.elab_types.specs.declared.scope.TypeEntry.{TypeEntry}
 use Rattle.elab_types.specs.declared.scope.TypeScope.{TypeScope}
 use Rattle.elab_state.specs.States.{types_in}
@@ -19,28 +22,42 @@ use Rattle.closed_types.specs.Parameters.{ReadsTypes}
 use Rattle.dec_forms.specs.Entries.{type_scope, types_onto}
 use Rattle.dec_forms.proofs.Bodies.{scope-same}
 use Rattle.datatype_forms.specs.Arguments.{AreStanding, OverIf, RowOver, RowsOver, all_arguments, in_names, name_at, row_arguments, row_at, rows_at, rows_with}
-use Rattle.datatype_forms.specs.Best.{AreArgumentsIn, AreBestMarks, AreBestNames, AreDataArguments, AreOnce, rows_of}
+use Rattle.datatype_forms.specs.Abbreviated.{AreFunctionEntries, written_binds}
+use Rattle.datatype_forms.specs.Best.{AreArgumentsIn, AreBestMarks, AreBestNames, AreDataArguments, AreInUse, AreMarked, AreOnce, rows_of}
 use Rattle.datatype_forms.specs.Reading.{AreNameEntries, AreRead}
 use Rattle.datatype_forms.specs.Steps.{IsStep}
 use Rattle.datatype_forms.specs.declared.attributes.Arguments.{Arguments}
-use Rattle.datatype_forms.proofs.Equalities.{IsRead, nothing, row-place, best_is_greatest, best_respects, datatypes_are, datatypes_read}
-use Rattle.datatype_forms.proofs.InNames.{entries-later, reads_names}
-use Rattle.datatype_forms.proofs.Collecting.{reads_later, rows_behind}
+use Rattle.datatype_forms.proofs.Abbreviating.{entries_written, names_written, rows_behind_written, rows_written}
+use Rattle.datatype_forms.proofs.Equalities.{IsRead, names-length, nothing, row-place, best_is_greatest, best_respects, datatypes_are, datatypes_read}
+use Rattle.datatype_forms.proofs.InNames.{entries-later, names_hold, reads_names}
+use Rattle.datatype_forms.proofs.Collecting.{reads_later, rows_below, rows_counted, rows_of_binds}
 use Rattle.datatype_forms.proofs.Stepping.{step_on}
 
-pub arguments_read : (S M T : State) (s u : TypeScope) (bs : List DataBind) (ns : List TyName) (r : Arguments) → IsStep S M → AreNameEntries (types_in M) bs ns r.entries.items → Holds (types_in S) s
-    → u.types ≡ types_onto s.types r.entries.items → AreRead M u bs T (rows_of r) → AreArgumentsIn S s bs ns T r
-arguments_read S M T s u bs ns r st en h e rd = record {
-  step = step_on S M T st rd.step;
-  entries = entries-later (types_in M) (types_in T) bs ns r.entries.items rd.step.grows.types en;
-  are = λ c o rs. (behind c o rs).0;
-  below = λ c o rs. (behind c o rs).1;
+pub names_entered : (S L : State) (s u : TypeScope) (bs : List DataBind) (ns : List TyName) (es : List (ℕ × TypeEntry)) → IsStep S L → Holds (types_in S) s → AreNameEntries (types_in L) bs ns es
+    → u ≡ type_scope s.tyvars (types_onto s.types es) → Holds (types_in L) u
+names_entered S L s u bs ns es st h en e =
+    names_hold (types_in L) s u bs ns es (holds_later (types_in S) (types_in L) s st.grows.types h) en (ap (λ (z : TypeScope). z.tyvars) e) (ap (λ (z : TypeScope). z.types) e)
+
+pub arguments_read : (S L M T : State) (s u w : TypeScope) (as_ : List TypeBind) (bs : List DataBind) (ns : List TyName) (fs : List (ℕ × TypeEntry)) (r : Arguments) → IsStep S L → IsStep L M
+    → AreNameEntries (types_in L) bs ns r.entries.items → Holds (types_in S) s → u.tyvars ≡ s.tyvars → u.types ≡ types_onto s.types r.entries.items → AreFunctionEntries (types_in L) (types_in M) u as_ fs
+    → distinct nat_eq (map (λ b. b.tycon) as_) ≡ true → w.types ≡ types_onto u.types fs → AreRead M w bs T (rows_of r) → AreArgumentsIn S s (written_binds as_ bs) ns T r
+arguments_read S L M T s u w as_ bs ns fs r st next en h q e f once g rd = record {
+  step = step_on S L T st (step_on L M T next rd.step);
+  entries = entries_written (types_in T) as_ bs ns r.entries.items
+      (entries-later (types_in L) (types_in T) bs ns r.entries.items (step_on L M T next rd.step).grows.types en);
+  are = are;
+  rows = rows_written (types_in T) as_ bs (rows_of r) (rows_of_binds (types_in M) (types_in T) w bs (rows_of r) rd.are);
 }
   where
-    behind : (c : Context) → AreOnce bs → ReadsTypes (types_in S) s c
-        → Rattle.datatype_forms.specs.Arguments.AreArguments (in_names c ns bs) bs (rows_at (types_in T) (rows_of r)) × Rattle.datatype_forms.specs.Arguments.RowsBelow (types_in T) bs (rows_of r)
-    behind c o rs =
-        rows_behind (types_in M) (types_in T) u (in_names c ns bs) bs (rows_of r) (reads_names (types_in M) s u c bs ns r.entries.items (reads_later (types_in S) (types_in M) s c h st.grows.types rs) en o e) rd.are
+    are : (c : Context) → AreOnce (written_binds as_ bs) → ReadsTypes (types_in S) s c
+        → Rattle.datatype_forms.specs.Arguments.AreArguments (in_names c ns (written_binds as_ bs)) (written_binds as_ bs) (rows_at (types_in T) (rows_of r))
+    are c o rs =
+        let hold : Holds (types_in L) u = names_hold (types_in L) s u bs ns r.entries.items (holds_later (types_in S) (types_in L) s st.grows.types h) en q e in
+        let reads : ReadsTypes (types_in L) u (in_names c ns (written_binds as_ bs)) =
+        reads_names (types_in L) s u c (written_binds as_ bs) ns r.entries.items (reads_later (types_in S) (types_in L) s c h st.grows.types rs)
+        (entries_written (types_in L) as_ bs ns r.entries.items en) o e in
+        rows_behind_written (types_in L) (types_in M) (types_in T) u w (in_names c ns (written_binds as_ bs)) as_ fs (holds_later (types_in L) (types_in M) u next.grows.types hold) reads
+        (reads_later (types_in L) (types_in M) u (in_names c ns (written_binds as_ bs)) hold next.grows.types reads) f once g bs (rows_of r) rd.are
 
 -- a scope that is left
 
@@ -60,13 +77,20 @@ onto-front : (s es : List (ℕ × TypeEntry)) → Front s (types_onto s es)
 onto-front s [] = record { front = []; is = refl }
 onto-front s (e ∷ es) = let f = onto-front (e ∷ s) es in record { front = f.front ++ e ∷ []; is = f.is ∙ sym (append_assoc f.front (e ∷ []) s) }
 
-pub scope_left : (s u v w : TypeScope) (es : List (ℕ × TypeEntry)) (m n : ℕ) → u ≡ type_scope s.tyvars (types_onto s.types es) → v ≡ u → m ≡ length s.tyvars → n ≡ length s.types
-    → w.tyvars ≡ left_at m v.tyvars → w.types ≡ left_at n v.types → w ≡ s
-scope_left s u v w es m n e f em en a b =
+onto-append : (s es fs : List (ℕ × TypeEntry)) → types_onto (types_onto s es) fs ≡ types_onto s (es ++ fs)
+onto-append s [] fs = refl
+onto-append s (e ∷ es) fs = onto-append (e ∷ s) es fs
+
+-- u is s with the type constructors es, and w is u with fs
+pub scope_left : (s u v w x y : TypeScope) (es fs : List (ℕ × TypeEntry)) (m n : ℕ) → u ≡ type_scope s.tyvars (types_onto s.types es) → v ≡ u → w ≡ type_scope v.tyvars (types_onto v.types fs) → x ≡ w
+    → m ≡ length s.tyvars → n ≡ length s.types → y.tyvars ≡ left_at m x.tyvars → y.types ≡ left_at n x.types → y ≡ s
+scope_left s u v w x y es fs m n e f g h em en a b =
     let vu = f ∙ e in
-    let fr = onto-front s.types es in
-    scope-same s w (a ∙ ap₂ left_at em (ap (λ (z : TypeScope). z.tyvars) vu) ∙ front-left [] s.tyvars)
-    (b ∙ ap₂ left_at en (ap (λ (z : TypeScope). z.types) vu ∙ fr.is) ∙ front-left fr.front s.types)
+    let xs : x ≡ type_scope s.tyvars (types_onto s.types (es ++ fs)) =
+    h ∙ g ∙ ap (λ (z : TypeScope). type_scope z.tyvars (types_onto z.types fs)) vu ∙ ap (type_scope s.tyvars) (onto-append s.types es fs) in
+    let fr = onto-front s.types (es ++ fs) in
+    scope-same s y (a ∙ ap₂ left_at em (ap (λ (z : TypeScope). z.tyvars) xs) ∙ front-left [] s.tyvars)
+    (b ∙ ap₂ left_at en (ap (λ (z : TypeScope). z.types) xs ∙ fr.is) ∙ front-left fr.front s.types)
 
 -- names, one after the other
 
@@ -182,7 +206,7 @@ best_names_are S M N s first bs ts us ns ms ps a b h st fst ov lt em snd lu re g
           marks = ts;
           count = lt;
           second = subst (λ z. Rattle.datatype_forms.specs.Arguments.AreArguments (in_names c z bs) bs (rows_at (types_in N) (rows_of b))) (em ∙ ap (λ n. names_of n ts bs) (sym e)) (snd.are c o r');
-          below = snd.below c o r';
+          below = rows_below (types_in N) bs (rows_of b) snd.rows;
         } in
         let best : (rs : List Bool) → length rs ≡ length bs → Respects c.names (types_in N) (all_arguments 0 (rows_of b)) rs → AllBelow rs us =
         λ rs l k. gr rs l (subst (λ n. Respects n (types_in N) (all_arguments 0 (rows_of b)) rs) e k) in
@@ -212,4 +236,32 @@ data_arguments_are S M T s u first bs ns r h e best a = record {
       (subst (λ z. Rattle.datatype_forms.specs.Arguments.AreArguments (in_names c z bs) bs (rows_at (types_in T) (rows_of r))) same (a.are c o rd'))
       ∙ ap (λ z. Some (Rattle.datatype_forms.specs.Arguments.data_structures z bs (rows_at (types_in T) (rows_of r)))) (sym same);
   entries = a.entries;
+  rows = a.rows;
 }
+
+-- the names, where abbreviations stand beside the datatypes
+
+pub marked_are : (S T : State) (s : TypeScope) (first : ℕ) (as_ : List TypeBind) (bs : List DataBind) (qs : List Bool) (ns : List TyName) (r : Arguments) → length qs ≡ length bs → ns ≡ names_of first qs bs
+    → AreArgumentsIn S s (written_binds as_ bs) ns T r → AreMarked S s first (written_binds as_ bs) T r
+marked_are S T s first as_ bs qs ns r l e a = record {
+  marks = qs;
+  count = l ∙ sym (length-map bs (expand_bind as_));
+  read = subst (λ z. AreArgumentsIn S s (written_binds as_ bs) z T r) (e ∙ names_written as_ first qs bs) a;
+}
+
+pub marks_counted : (S T : State) (s : TypeScope) (first : ℕ) (as_ : List TypeBind) (bs : List DataBind) (r : Arguments) (n : ℕ) → AreMarked S s first (written_binds as_ bs) T r → n ≡ length r.rows.items → n ≡ length bs
+marks_counted S T s first as_ bs r n m e =
+    e ∙ sym (length-map r.rows.items (λ ks. ks.items)) ∙ rows_counted (types_in T) (written_binds as_ bs) (rows_of r) m.read.rows ∙ length-map bs (expand_bind as_)
+
+pub best_are : (S M N : State) (s : TypeScope) (first : ℕ) (as_ : List TypeBind) (bs : List DataBind) (us : List Bool) (ps : List TyName) (r : Arguments) (n : ℕ) → Holds (types_in S) s
+    → AreInUse S s first (written_binds as_ bs) M → AreMarked M s first (written_binds as_ bs) N r → n ≡ length r.rows.items → length us ≡ n
+    → Respects first (types_in N) (all_arguments 0 (rows_of r)) us → ((rs : List Bool) → length rs ≡ n → Respects first (types_in N) (all_arguments 0 (rows_of r)) rs → AllBelow rs us)
+    → ps ≡ names_of first us bs → AreBestNames S s first (written_binds as_ bs) N ps
+best_are S M N s first as_ bs us ps r n h i m e l re gr q =
+    let same : n ≡ length (written_binds as_ bs) = marks_counted M N s first as_ bs r n m e ∙ sym (length-map bs (expand_bind as_)) in
+    best_names_are S M N s first (written_binds as_ bs) m.marks us i.names (names_of first m.marks (written_binds as_ bs)) ps i.arguments r h i.standing i.read i.over m.count refl m.read (l ∙ same) re
+    (λ rs k. gr rs (k ∙ sym same)) (q ∙ names_written as_ first us bs)
+
+pub best_counted : (S T : State) (s : TypeScope) (first : ℕ) (as_ : List TypeBind) (bs : List DataBind) (ns : List TyName) → AreBestNames S s first (written_binds as_ bs) T ns → length ns ≡ length bs
+best_counted S T s first as_ bs ns b =
+    ap length b.names ∙ names-length first b.marks (written_binds as_ bs) b.count ∙ length-map bs (expand_bind as_)

@@ -23,7 +23,8 @@ use Rattle.elab_state.specs.States.{types_in}
 use Rattle.elab_state.specs.declared.state.State.{State}
 use Rattle.elab_steps.specs.Growing.{Begins}
 use Rattle.closed_types.specs.Parameters.{IsClosedType, ReadsTypes}
-use Rattle.datatype_forms.specs.Arguments.{AreArguments, AreBehind, RowBelow, RowsBelow, row_at, rows_at}
+use Rattle.elab_state.specs.Readings.{IsHeldArgument}
+use Rattle.datatype_forms.specs.Arguments.{AreArguments, AreBehind, AreRowsOf, BelowIf, RowBelow, RowHeld, RowsBelow, row_at, rows_at}
 use Rattle.datatype_forms.specs.Reading.{AreArgumentTypes, AreRead, AreRows, IsArgumentType}
 use Rattle.datatype_forms.specs.Steps.{IsStep}
 use Rattle.datatype_forms.proofs.Stepping.{step_on, step_same}
@@ -45,9 +46,9 @@ reads_later ts us s c h b r [] x = r [] x ∙ by (lookup (nat_eq x) s.types) ref
     by (Some n) q = ap (λ (t : Typ). Some (record { arity = n.arity; body = t })) (sym (type-stays ts us n.body b (body-held ts s h x n q)))
 reads_later ts us s c h b r (q ∷ qs) x = r (q ∷ qs) x
 
-closed-moved : (old mid new late : List Typ) (s : TypeScope) (as_ : List Tyvar) (ty : Ty) (k : ℕ) → Holds old s → Begins old mid → Begins new late → IsClosedType mid new s as_ ty k
+pub closed_moved : (old mid new late : List Typ) (s : TypeScope) (as_ : List Tyvar) (ty : Ty) (k : ℕ) → Holds old s → Begins old mid → Begins new late → IsClosedType mid new s as_ ty k
     → IsClosedType old late s as_ ty k
-closed-moved old mid new late s as_ ty k h b e i =
+closed_moved old mid new late s as_ ty k h b e i =
     let same = type-stays new late k e i.held in
     record {
       held = let le = longer new late e in let lt = i.held in omega (arith, le, lt);
@@ -60,7 +61,7 @@ one-moved : (old mid new late : List Typ) (s : TypeScope) (as_ : List Tyvar) (o 
 one-moved old mid new late s as_ None None h b e i = tt
 one-moved old mid new late s as_ None (Some k) h b e i = i
 one-moved old mid new late s as_ (Some ty) None h b e i = i
-one-moved old mid new late s as_ (Some ty) (Some k) h b e i = closed-moved old mid new late s as_ ty k h b e i
+one-moved old mid new late s as_ (Some ty) (Some k) h b e i = closed_moved old mid new late s as_ ty k h b e i
 
 row-moved : (old mid new late : List Typ) (s : TypeScope) (as_ : List Tyvar) (bs : List ConBind) (ks : List (Option ℕ)) → Holds old s → Begins old mid → Begins new late
     → AreArgumentTypes mid new s as_ bs ks → AreArgumentTypes old late s as_ bs ks
@@ -152,3 +153,39 @@ rows_behind old new s c (b ∷ bs) (ks ∷ kss) r h =
 pub row_entered : (old mid new : List Typ) (s : TypeScope) (as_ : List Tyvar) (bs cs : List ConBind) (ks : List (Option ℕ)) → Holds old s → Begins old mid → AreArgumentTypes mid new s as_ bs ks → bs ≡ cs
     → AreArgumentTypes old new s as_ cs ks
 row_entered old mid new s as_ bs cs ks h b i e = subst (λ z. AreArgumentTypes old new s as_ z ks) e (row-moved old mid new new s as_ bs ks h b (whole new) i)
+
+-- a type of the table for each constructor, over the parameters
+
+one-held : (old new : List Typ) (s : TypeScope) (as_ : List Tyvar) (o : Option Ty) (k : Option ℕ) → IsArgumentType old new s as_ o k → IsHeldArgument (length new) k × BelowIf (length as_) new k
+one-held old new s as_ None None i = (tt, tt)
+one-held old new s as_ None (Some k) i = absurd i
+one-held old new s as_ (Some ty) None i = absurd i
+one-held old new s as_ (Some ty) (Some k) i = (i.held, i.below)
+
+row-held : (old new : List Typ) (s : TypeScope) (as_ : List Tyvar) (bs : List ConBind) (ks : List (Option ℕ)) → AreArgumentTypes old new s as_ bs ks
+    → (length ks ≡ length bs) × (RowHeld (length new) ks) × (RowBelow (length as_) new ks)
+row-held old new s as_ [] [] h = (refl, tt, tt)
+row-held old new s as_ [] (k ∷ ks) h = absurd h
+row-held old new s as_ (b ∷ bs) [] h = absurd h
+row-held old new s as_ (b ∷ bs) (k ∷ ks) h =
+    let f = one-held old new s as_ b.of_ty k h.0 in
+    let g = row-held old new s as_ bs ks h.1 in
+    (ap suc g.0, (f.0, g.1), (f.1, g.2))
+
+pub rows_of_binds : (old new : List Typ) (s : TypeScope) (bs : List DataBind) (kss : List (List (Option ℕ))) → AreRows old new s bs kss → AreRowsOf new bs kss
+rows_of_binds old new s [] [] h = tt
+rows_of_binds old new s [] (ks ∷ kss) h = absurd h
+rows_of_binds old new s (b ∷ bs) [] h = absurd h
+rows_of_binds old new s (b ∷ bs) (ks ∷ kss) h =
+    let f = row-held old new s b.tyvars b.cons ks h.0 in (record { count = f.0; held = f.1; below = f.2 }, rows_of_binds old new s bs kss h.1)
+
+pub rows_counted : (ts : List Typ) (bs : List DataBind) (kss : List (List (Option ℕ))) → AreRowsOf ts bs kss → length kss ≡ length bs
+rows_counted ts [] [] h = refl
+rows_counted ts [] (ks ∷ kss) h = absurd h
+rows_counted ts (b ∷ bs) [] h = absurd h
+rows_counted ts (b ∷ bs) (ks ∷ kss) h = ap suc (rows_counted ts bs kss h.1)
+
+pub rows_below : (ts : List Typ) (bs : List DataBind) (kss : List (List (Option ℕ))) → AreRowsOf ts bs kss → RowsBelow ts bs kss
+rows_below ts [] kss h = tt
+rows_below ts (b ∷ bs) [] h = tt
+rows_below ts (b ∷ bs) (ks ∷ kss) h = (h.0.below, rows_below ts bs kss h.1)

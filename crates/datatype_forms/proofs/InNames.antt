@@ -71,7 +71,7 @@ onto_next s es i e lt q = sym (snoc s (take i es)) ∙ ap (types_onto s) (take-n
 
 -- what the scope tells
 
-onto-found : (s es : List (ℕ × TypeEntry)) (x : ℕ) → lookup (nat_eq x) (types_onto s es) ≡ option_or (last_at es x) (lookup (nat_eq x) s)
+pub onto-found : (s es : List (ℕ × TypeEntry)) (x : ℕ) → lookup (nat_eq x) (types_onto s es) ≡ option_or (last_at es x) (lookup (nat_eq x) s)
 onto-found s [] x = refl
 onto-found s (e ∷ es) x = onto-found (e ∷ s) es x ∙ by (nat_eq x e.0) (last_at es x)
   where
@@ -143,7 +143,7 @@ tops-variables : (v n : ℕ) → tops (variables v n) ≤ v + n
 tops-variables v Rattle.std.proofs.Common.zero = omega arith
 tops-variables v (suc n) = let h = tops-variables (suc v) n in omega (arith, h)
 
-all-onto : (P : ℕ × TypeEntry → Type 0) (s es : List (ℕ × TypeEntry)) → AllByRecursion P s → AllByRecursion P es → AllByRecursion P (types_onto s es)
+pub all-onto : (P : ℕ × TypeEntry → Type 0) (s es : List (ℕ × TypeEntry)) → AllByRecursion P s → AllByRecursion P es → AllByRecursion P (types_onto s es)
 all-onto P s [] h k = h
 all-onto P s (e ∷ es) h k = all-onto P (e ∷ s) es (k.0, h) k.1
 

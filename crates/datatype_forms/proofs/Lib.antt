@@ -2,10 +2,13 @@ pub mod Going
 pub mod Alike
 pub mod Marking
 pub mod Equalities
+pub mod StandingRows
 pub mod Stepping
 pub mod Variables
 pub mod Collecting
 pub mod InNames
+pub mod Writing
+pub mod Abbreviating
 pub mod Best
 pub mod Bringing
 pub mod Declaring

@@ -3,6 +3,7 @@ use Rattle.std.proofs.Common.{◌≡◌, ◌≤◌, ◌+◌, ◌&&◌, ℕ, Bool
 use Rattle.std.specs.Prelude.{is_some, option_map, if◌then◌else◌}
 use Rattle.std.specs.Map.{lookup}
 use Rattle.std.proofs.lemmas.Bool.{eq-eqb, eqb-true, lt-ltb, ltb-true}
+use Rattle.std.proofs.lemmas.List.{append_assoc}
 use Rattle.std.proofs.lemmas.Option.{get_or_from_slice_get, slice_get_within}
 use Rattle.ty_core.specs.Types.{Typ, var}
 use Rattle.ty_core.specs.declared.name.TyName.{TyName}
@@ -22,6 +23,7 @@ use Rattle.elab_state.specs.declared.naming.Naming.{Naming}
 use Rattle.elab_state.specs.declared.state.State.{State}
 use Rattle.elab_state.proofs.Reading.{table-finds}
 use Rattle.elab_steps.specs.Growing.{Begins}
+use Rattle.elab_steps.specs.Tidy.{AreConstructors}
 use Rattle.elab_steps.proofs.Changing.{begins-same, same-limit, solver-makes}
 use Rattle.elab_steps.proofs.Growing.{comes_before, grows_on, grows_same}
 use Rattle.elab_steps.proofs.Keeping.{Makes, makes-done, makes-tidy}
@@ -48,6 +50,7 @@ pub record Rowed (S T : State) : Type 0 where
   pub strings : strings_of T.tables ≡ strings_of S.tables
   pub next : T.next ≡ S.next
   pub level : T.level ≡ S.level
+  pub declared : AreConstructors S → AreConstructors T
 
 rowed-makes : (S T : State) → Rowed S T → Makes S T
 rowed-makes S T h = solver-makes S T h.solver (λ x. ap (λ ps. in_scope (all_parameters ps) x) h.parameters) h.level
@@ -68,6 +71,7 @@ rowed_step S T h = record {
     level = h.level;
     done = makes-done S T (rowed-makes S T h);
     tidy = makes-tidy S T (rowed-makes S T h);
+    constructors = h.declared;
   };
   next = h.next;
 }
@@ -119,6 +123,7 @@ one_named S T C D r k h st be q = subst (AreNamed S C 1 T) (sym q) (record {
   step = h.step;
   same = refl;
   among = h.among;
+  front = record { own = (C.names, r.number) ∷ []; is = refl };
   numbers = λ W c n x.
       h.is W c x ∙ ap₂ (λ s b. if nat_eq s x then r.number else W.naming b x) st be ∙ ap (λ b. if b then r.number else W.naming C.naming x) (eq-sym C.names x)
       ∙ found-by (nat_eq x C.names) r.number x (W.naming C.naming x) 0 (lookup (nat_eq x) C.numbers) (n x);
@@ -130,6 +135,7 @@ none_named S C a = record {
   step = step_same S;
   same = ap (λ n. renamed C n C.naming C.numbers) (let e : C.names ≡ C.names + 0 = omega arith in e);
   among = a;
+  front = record { own = []; is = refl };
   numbers = λ W c n x. n x;
   agree = λ W c x lt. refl;
 }
@@ -141,6 +147,7 @@ more_named S T U C D E m n h g q = record {
       g.same ∙ ap (λ (z : Context). renamed z (z.names + 1) E.naming E.numbers) h.same
       ∙ ap (λ k. renamed C k E.naming E.numbers) (let e : (C.names + m) + 1 ≡ C.names + n = omega (arith, q) in e);
   among = g.among;
+  front = record { own = g.front.own ++ h.front.own; is = g.front.is ∙ ap (λ l. g.front.own ++ l) h.front.is ∙ sym (append_assoc g.front.own h.front.own C.numbers) };
   numbers = λ W c k. g.numbers W c (h.numbers W (comes_before T U W g.step.grows c) k);
   agree = λ W c x lt.
       let a : D.names ≡ C.names + m = ap (λ (z : Context). z.names) h.same in

@@ -12,6 +12,7 @@ use Rattle.sml_tree.specs.BareTree.{ConBind, DataBind}
 use Rattle.core_rules.specs.Objects.{Context, Map, TypeStructure, Values, types_env, with_env, Over}
 use Rattle.core_rules.specs.Elaborated.{any_marks, bare_structures, behind_of, constructed, with_parameters}
 use Rattle.ty_core.specs.Statics.{named}
+use Rattle.elab_state.specs.Readings.{IsHeldArgument}
 use Rattle.datatype_equality.specs.declared.argument.Argument.{Argument}
 use Rattle.datatype_equality.specs.Respects.{type_with}
 
@@ -97,6 +98,23 @@ abbrev pub RowsBelow : List Typ → List DataBind → List (List (Option ℕ)) �
 RowsBelow ts [] kss = ⊤
 RowsBelow ts (b ∷ bs) [] = ⊤
 RowsBelow ts (b ∷ bs) (ks ∷ kss) = RowBelow (length b.tyvars) ts ks × RowsBelow ts bs kss
+
+-- they are types of a table of n types
+abbrev pub RowHeld : ℕ → List (Option ℕ) → Type 0
+RowHeld n [] = ⊤
+RowHeld n (k ∷ ks) = IsHeldArgument n k × RowHeld n ks
+
+-- a number for each constructor of a datatype, of a type over the parameters, and none where there is no argument
+pub record IsRowOf (ts : List Typ) (b : DataBind) (ks : List (Option ℕ)) : Type 0 where
+  pub count : length ks ≡ length b.cons
+  pub held : RowHeld (length ts) ks
+  pub below : RowBelow (length b.tyvars) ts ks
+
+abbrev pub AreRowsOf : List Typ → List DataBind → List (List (Option ℕ)) → Type 0
+AreRowsOf ts [] [] = ⊤
+AreRowsOf ts [] (ks ∷ kss) = ⊥
+AreRowsOf ts (b ∷ bs) [] = ⊥
+AreRowsOf ts (b ∷ bs) (ks ∷ kss) = IsRowOf ts b ks × AreRowsOf ts bs kss
 
 -- names that stand for datatypes, each with as many parameters
 abbrev pub AreStanding : List TyName → List DataBind → Type 0

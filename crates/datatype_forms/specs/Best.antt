@@ -9,7 +9,7 @@ use Rattle.elab_types.specs.declared.scope.TypeScope.{TypeScope}
 use Rattle.elab_state.specs.States.{types_in}
 use Rattle.elab_state.specs.declared.state.State.{State}
 use Rattle.closed_types.specs.Parameters.{ReadsTypes}
-use Rattle.datatype_forms.specs.Arguments.{AreArguments, RowsBelow, data_structures, in_names, rows_at}
+use Rattle.datatype_forms.specs.Arguments.{AreArguments, AreRowsOf, AreStanding, RowsOver, data_structures, in_names, rows_at}
 use Rattle.datatype_forms.specs.Reading.{AreNameEntries}
 use Rattle.datatype_forms.specs.Steps.{IsStep}
 use Rattle.datatype_forms.specs.declared.attributes.Arguments.{Arguments}
@@ -26,7 +26,21 @@ pub record AreArgumentsIn (S : State) (s : TypeScope) (bs : List DataBind) (ns :
   pub step : IsStep S T
   pub entries : AreNameEntries (types_in T) bs ns r.entries.items
   pub are : (c : Context) → AreOnce bs → ReadsTypes (types_in S) s c → AreArguments (in_names c ns bs) bs (rows_at (types_in T) (rows_of r))
-  pub below : (c : Context) → AreOnce bs → ReadsTypes (types_in S) s c → RowsBelow (types_in T) bs (rows_of r)
+  pub rows : AreRowsOf (types_in T) bs (rows_of r)
+
+-- read where each datatype is a name in use, the arguments have no names but the first so many
+pub record AreInUse (S : State) (s : TypeScope) (first : ℕ) (bs : List DataBind) (T : State) : Type 0 where
+  pub names : List TyName
+  pub standing : AreStanding names bs
+  pub arguments : Arguments
+  pub read : AreArgumentsIn S s bs names T arguments
+  pub over : RowsOver first (rows_at (types_in T) (rows_of arguments))
+
+-- read where the new names are marked in some way
+pub record AreMarked (S : State) (s : TypeScope) (first : ℕ) (bs : List DataBind) (T : State) (r : Arguments) : Type 0 where
+  pub marks : List Bool
+  pub count : length marks ≡ length bs
+  pub read : AreArgumentsIn S s bs (names_of first marks bs) T r
 
 -- marked so, the type structures are right, and with no others are there more that admit equality
 pub record AreBestMarks (c : Context) (bs : List DataBind) (qs : List Bool) : Type 0 where
@@ -53,3 +67,4 @@ pub record AreDataArguments (S : State) (s : TypeScope) (first : ℕ) (bs : List
   pub are : (c : Context) → c.names ≡ first → AreOnce bs → ReadsTypes (types_in S) s c
       → datatypes c marks bs ≡ Some (data_structures ns bs (rows_at (types_in T) (rows_of r)))
   pub entries : AreNameEntries (types_in T) bs ns r.entries.items
+  pub rows : AreRowsOf (types_in T) bs (rows_of r)

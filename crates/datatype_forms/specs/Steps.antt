@@ -16,6 +16,7 @@ use Rattle.elab_steps.specs.Growing.{Always, Grows}
 use Rattle.elab_steps.specs.World.{World, Comes}
 use Rattle.elab_context.specs.Entries.{number_in}
 use Rattle.elab_context.specs.declared.context.Context.{Context}
+use Rattle.dec_forms.specs.Entries.{HasFront}
 use Rattle.datatype_forms.specs.Arguments.{OverIf}
 use Rattle.datatype_forms.specs.ProgramTypes.{AreRight, number_by}
 use Rattle.datatype_forms.specs.declared.program_types.Names.{Names}
@@ -40,6 +41,7 @@ pub record AreNamed (S : State) (C : Context) (n : ℕ) (T : State) (D : Context
   pub step : IsStep S T
   pub same : D ≡ renamed C (C.names + n) D.naming D.numbers
   pub among : IsAmong (length T.namings.items) D.naming
+  pub front : HasFront C.numbers D.numbers
   pub numbers : (W : World) → Comes T W → ((x : ℕ) → W.naming C.naming x ≡ number_in C x) → (x : ℕ) → W.naming D.naming x ≡ number_in D x
   pub agree : (W : World) → Comes T W → AgreeBelow C.names (W.naming C.naming) (W.naming D.naming)
 

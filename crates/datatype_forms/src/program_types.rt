@@ -21,6 +21,7 @@ use ty_core::ty::{Head, copy_labels};
 use ty_table::types::{Types, View};
 
 /// The program's numbers of type names, how many names are in use, and where a type stands that may have others.
+#[derive(Drop)]
 pub struct Names<'a> {
     pub numbers: &'a Scoped<u32>,
     pub limit: usize,

@@ -5,6 +5,7 @@ ghost use Rattle.elab_state.specs.Readings.{IsHeldArgument};
 ghost use Rattle.datatype_forms.specs.Steps.{IsArgument, IsProgramRow, IsRow, KnowsTypes};
 
 use crate::program_types::{Names, program_type};
+use crate::standing::may_stand;
 use elab_state::state::State;
 use elab_types::refused::Refused;
 use indexmap::IndexMap;
@@ -13,7 +14,7 @@ use mlc_base::memory::NoMemory;
 use std::alloc::Global;
 use ty_core::name::TyName;
 
-/// One more row, where the program has none of its numbers. No other is made.
+/// One more row that may stand in the program's table, where that has none of its numbers. No other is made.
 fn push_row(state: &mut State, row: Constructor) -> Result<(), NoMemory>
     requires { IsHeldArgument (length state.old.tables.types) row.argument }
     ensures { IfOk result (λ _. IsRow state.old row state.new) }
@@ -24,6 +25,9 @@ fn push_row(state: &mut State, row: Constructor) -> Result<(), NoMemory>
         .find(row.datatype, row.number)
         .is_some()
     {
+        return Err(NoMemory);
+    }
+    if !may_stand(&state.tables.types, row) {
         return Err(NoMemory);
     }
     state.tables.constructors.push(row)?;

@@ -25,4 +25,5 @@ returns c = naming_pushed c.args.state.now _ c.args.naming c.len-number.result (
   strings = refl;
   next = refl;
   level = refl;
+  declared = λ k. k;
 }) c.in_ok-push.ensures.items (omega (arith, c.len-number.ensures, c.args.state.now.namings.ok.0))

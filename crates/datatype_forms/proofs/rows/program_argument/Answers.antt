@@ -2,6 +2,7 @@ use Rattle.std.proofs.Common.{length, nat_eq, refl}
 use Rattle.indexmap.specs.IndexMap.{get}
 use Rattle.ty_instance.proofs.Going.{longer, whole}
 use Rattle.elab_state.proofs.Reading.{rows-more}
+use Rattle.datatype_forms.proofs.StandingRows.{constructors-wider}
 use Rattle.datatype_forms.proofs.Stepping.{argument_made}
 use Rattle.datatype_forms.proofs.rows.program_argument.Goals as goal
 
@@ -26,4 +27,5 @@ returns-in_ok-number-in-Some c =
       strings = refl;
       next = refl;
       level = refl;
+      declared = constructors-wider c.args.state.now c.program_type.new.program c.program_type.ensures.earlier_stay;
     }) c.in_ok-number-in-Some.ensures.right c.in_ok-number-in-Some.ensures.is c.in_ok-number-in-Some.ensures.over

@@ -1,6 +1,7 @@
 use Rattle.std.proofs.Common.{length, refl, sym, ◌∙◌}
 use Rattle.ty_instance.proofs.Going.{whole}
 use Rattle.elab_steps.proofs.Changing.{begins-more}
+use Rattle.datatype_forms.proofs.StandingRows.{constructors-more}
 use Rattle.datatype_forms.proofs.Stepping.{none_found, row_pushed, rows_kept}
 use Rattle.datatype_forms.proofs.rows.push_row.Goals as goal
 
@@ -22,5 +23,6 @@ returns c = row_pushed c.args.state.now _ c.args.row (record {
   strings = refl;
   next = refl;
   level = refl;
+  declared = constructors-more c.args.state.now.tables.types c.args.state.now.tables.constructors _ c.args.row c.in_ok-push.ensures.ok (c.may_stand.ensures c.if-not-may_stand.false);
 }) refl c.in_ok-push.ensures.ok
     (none_found c.args.state.now.tables.types c.args.state.now.tables.constructors c.args.row c.find.result (c.find.ensures.found c.args.state.now.tables.types) (sym c.is_some.ensures ∙ c.if-is_some.false))

@@ -1,0 +1,5 @@
+pub mod Placing
+pub mod Adding
+pub mod AddingRows
+pub mod Declared
+pub mod Written
