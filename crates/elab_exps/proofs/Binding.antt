@@ -1,16 +1,9 @@
 -- Bindings inside their declaration, and the declaration of them.
-use Rattle.std.proofs.Common.{◌≡◌, ◌<◌, ◌≤◌, ◌+◌, ◌-◌, ℕ, suc, Bool, true, false, List, [], ◌∷◌, ◌++◌, map, take, length, get_or, Vec, Global, refl, sym, ap, ap₂, subst, ◌∙◌, arith}
-use Rattle.mlc_base.specs.declared.place.Place.{Place}
-use Rattle.sml_tree.specs.BareTree as bare
-use Rattle.sml_tree.specs.TreeOf.{RuleOf, bind_of, binds_of, dec_of, exp_of, pat_of}
+use Rattle.std.proofs.Common.{◌≡◌, ◌<◌, ◌≤◌, ◌+◌, ◌-◌, ℕ, suc, Bool, true, false, List, [], ◌∷◌, ◌++◌, map, take, length, get_or, refl, sym, ap, subst, ◌∙◌, arith}
+use Rattle.sml_tree.specs.TreeOf.{RuleOf, bind_of, exp_of, pat_of}
 use Rattle.sml_tree.specs.declared.ident.Tyvar.{Tyvar}
 use Rattle.sml_tree.specs.declared.tree.Bind.{Bind}
-use Rattle.sml_tree.specs.declared.tree.Dec.{Dec as SourceDec}
-use Rattle.sml_tree.specs.declared.tree.Dec.TheVariants as node
-use Rattle.sml_tree.specs.declared.tree.TyvarSeq.{TyvarSeq}
-use Rattle.core_rules.specs.Scoping.{scoped_at}
 use Rattle.prog_tree.specs.declared.tree.Binding.{Binding}
-use Rattle.prog_tree.specs.declared.tree.Dec.{Dec}
 use Rattle.prog_tree.specs.declared.tree.Rule.{Rule}
 use Rattle.elab_types.proofs.Lists.{all-map, next-map-at}
 use Rattle.elab_types.specs.declared.scope.TypeScope.{TypeScope}
@@ -21,27 +14,22 @@ use Rattle.elab_steps.specs.Tidy.{IsTidy}
 use Rattle.elab_steps.proofs.Growing.{grows_on, grows_same}
 use Rattle.elab_context.specs.Telling.{IsContext}
 use Rattle.elab_context.specs.declared.context.Context.{Context}
-use Rattle.pat_elab.specs.Elaborated.{AreVariables, IsPat}
+use Rattle.pat_elab.specs.Elaborated.{IsPat}
 use Rattle.pat_elab.specs.declared.bound.BoundVariable.{BoundVariable}
 use Rattle.pat_elab.specs.declared.bound.TypedPat.{TypedPat}
 use Rattle.use_elab.specs.Elaborated.{IsExp}
 use Rattle.use_elab.specs.declared.typed.TypedExp.{TypedExp}
-use Rattle.exp_forms.proofs.Nodes.{bind-is, source-Val}
+use Rattle.exp_forms.proofs.Nodes.{bind-is}
 use Rattle.general_worlds.specs.Inner.{deeper}
 use Rattle.general_worlds.specs.Tidy.{AreOuter, Enters}
 use Rattle.general_worlds.proofs.Declaring.{earlier-outer}
-use Rattle.dec_forms.specs.Bringing.{IsBringing}
-use Rattle.dec_forms.specs.declared.brought.Brought.{Brought}
 use Rattle.general_decs.specs.Inside.{AreInside, StandBehind}
 use Rattle.general_decs.specs.Outside.{outside}
-use Rattle.general_decs.specs.Scoped.{IsBegun, ScopesThese}
-use Rattle.general_decs.specs.Whole.{IsDeclared}
-use Rattle.general_decs.proofs.Functions.{without_functions}
-use Rattle.prog_tree.specs.declared.tree.Function.{Function}
+use Rattle.general_decs.specs.Scoped.{IsBegun}
 use Rattle.general_decs.specs.Values.{IsGeneralised}
 use Rattle.general_decs.specs.declared.begin.Begun.{Begun}
 use Rattle.general_decs.proofs.Adding.{none_are_inside}
-use Rattle.general_decs.proofs.Stepping.{deeper_is, outside_is, outside_named}
+use Rattle.general_decs.proofs.Stepping.{deeper_is, outside_named}
 use Rattle.elab_exps.specs.Decs.{StandsIn}
 use Rattle.elab_exps.specs.Inside.{AreBound, IsWithin}
 use Rattle.elab_exps.specs.declared.inside.Inside.{Inside}
@@ -179,64 +167,3 @@ first_outer S M N C D E scoped first e h b g q =
     subst (AreOuter N (E.level - 1)) (sym e)
     (subst (λ k. AreOuter N k (made_in S)) same
     (earlier-outer C.level S b.entered N b.enters (grows_on b.entered M N b.grows g) (subst (IsTidy S) h.level h.context.tidy)))
-
-pub bound_at : (S M N : State) (C D E : Context) (scoped : List Tyvar) (begun : Begun) (rs : List RuleOf) (made : Inside) (bound : List BoundVariable) (flags : List Bool)
-    → bound ≡ made.bound.items → flags ≡ made.flags.items → begun.tyvars ≡ length C.types.tyvars → IsBegun S C scoped M D → E ≡ D → AreBound M D begun rs N made
-    → AreInside M C E.types rs N bound flags made.binds.items
-bound_at S M N C D E scoped begun rs made bound flags eb ef e b q h =
-    subst (λ z. AreInside M C E.types rs N z flags made.binds.items) (sym eb)
-    (subst (λ z. AreInside M C E.types rs N made.bound.items z made.binds.items) (sym ef)
-    (subst (λ (z : Context). AreInside M C z.types rs N made.bound.items made.flags.items made.binds.items) (sym q)
-    (subst (λ z. AreInside M z D.types rs N made.bound.items made.flags.items made.binds.items) (outside_is S M C D scoped begun.tyvars e b) h)))
-
-pub bound_have : (S T : State) (D : Context) (begun : Begun) (rs : List RuleOf) (made : Inside) (bound : List BoundVariable) → bound ≡ made.bound.items → AreBound S D begun rs T made
-    → AreVariables T bound
-bound_have S T D begun rs made bound e h = subst (AreVariables T) (sym e) h.have
-
-pub bound_count : (S T : State) (D : Context) (begun : Begun) (rs : List RuleOf) (made : Inside) (bound : List BoundVariable) (flags : List Bool) → bound ≡ made.bound.items
-    → flags ≡ made.flags.items → AreBound S D begun rs T made → length flags ≡ length bound
-bound_count S T D begun rs made bound flags e f h = ap length f ∙ h.count ∙ ap length (sym e)
-
--- without functions
-declared_alone : (M N : State) (C E : Context) (rs : List RuleOf) (bound : List BoundVariable) (flags : List Bool) (made : Inside) (funs : List (Vec ℕ Global × ℕ × Function))
-    → funs ≡ [] → AreInside M C E.types rs N bound flags made.binds.items → IsDeclared M C E.types rs [] N bound flags made.binds.items funs
-declared_alone M N C E rs bound flags made funs without h =
-    subst (λ fs. IsDeclared M C E.types rs [] N bound flags made.binds.items fs) (sym without) (without_functions M N C E.types rs bound flags made.binds.items h)
-
-no-binds : (bs : List Bind) → (length bs ≤ 0) → bs ≡ []
-no-binds [] le = refl
-no-binds (b ∷ bs) le = absurd (omega (arith, le))
-
-pub val_brings : (S M N T : State) (C D E F : Context) (d : SourceDec) (place : Place) (seq : TyvarSeq) (v w : Vec Bind Global) (bs cs : List Bind) (as_ scoped : List Tyvar)
-    (begun : Begun) (made : Inside) (bound : List BoundVariable) (flags : List Bool) (x : Dec) (old new : Brought) → bound ≡ made.bound.items → flags ≡ made.flags.items
-    → d ≡ node.Val place seq v w → as_ ≡ seq.tyvars.items → bs ≡ v.items → cs ≡ w.items → length cs ≤ 0 → StandsIn S C
-    → scoped ≡ scoped_at (map (λ a. a.0) C.types.tyvars) as_ (binds_of (map bind_of bs)) (binds_of (map bind_of cs))
-    → begun.first ≡ made_in S → begun.tyvars ≡ length C.types.tyvars → IsBegun S C scoped M D → E ≡ D → AreBound M D begun (map bind_of bs) N made
-    → (funs : List (Vec ℕ Global × ℕ × Function)) → funs ≡ []
-    → ((S M : State) (C : Context) (p q : Place) (as_ : List Tyvar) (rs gs : List RuleOf) → IsContext S C → IsBegun S C scoped M E
-    → IsDeclared M C E.types rs gs N bound flags made.binds.items funs → begun.first ≡ made_in S → begun.tyvars ≡ length C.types.tyvars
-    → ScopesThese C as_ (binds_of rs) (binds_of gs) scoped → IsBringing S C (bare.val_dec p q as_ (binds_of rs) (binds_of gs)) T F (x ∷ []) old new)
-    → IsBringing S C (dec_of d) T F (x ∷ []) old new
-val_brings S M N T C D E F d place seq v w bs cs as_ scoped begun made bound flags x old new e1 e2 is ea eb ec none st sc f t b q h funs without finish =
-    let nothing : cs ≡ [] = no-binds cs none in
-    let these : ScopesThese C as_ (binds_of (map bind_of bs)) bare.no_binds scoped =
-    sym (sc ∙ ap (λ (l : List Bind). scoped_at (map (λ a. a.0) C.types.tyvars) as_ (binds_of (map bind_of bs)) (binds_of (map bind_of l))) nothing) in
-    let whole = bare.val_dec place seq.place as_ (binds_of (map bind_of bs)) bare.no_binds in
-    let tree : dec_of d ≡ whole =
-    ap dec_of is ∙ source-Val place seq v w
-    ∙ ap₂ (λ (l r : List Bind). bare.val_dec place seq.place seq.tyvars.items (binds_of (map bind_of l)) (binds_of (map bind_of r))) (sym eb) (sym ec ∙ nothing)
-    ∙ ap (λ l. bare.val_dec place seq.place l (binds_of (map bind_of bs)) bare.no_binds) (sym ea) in
-    subst (λ z. IsBringing S C z T F (x ∷ []) old new) (sym tree)
-    (finish S M C place seq.place as_ (map bind_of bs) [] st.context (subst (IsBegun S C scoped M) (sym q) b)
-    (declared_alone M N C E (map bind_of bs) bound flags made funs without (bound_at S M N C D E scoped begun (map bind_of bs) made bound flags e1 e2 t b q h)) f t these)
-
-pub val_context : (S M N T : State) (C D E F : Context) (scoped : List Tyvar) (begun : Begun) (rs : List RuleOf) (made : Inside) (bound : List BoundVariable) (flags : List Bool)
-    → bound ≡ made.bound.items → flags ≡ made.flags.items → StandsIn S C → begun.first ≡ made_in S → begun.tyvars ≡ length C.types.tyvars → IsBegun S C scoped M D → E ≡ D
-    → AreBound M D begun rs N made
-    → (funs : List (Vec ℕ Global × ℕ × Function)) → funs ≡ []
-    → ((S M : State) (C : Context) (rs gs : List RuleOf) → IsContext S C → IsBegun S C scoped M E → IsDeclared M C E.types rs gs N bound flags made.binds.items funs
-    → begun.first ≡ made_in S → begun.tyvars ≡ length C.types.tyvars → IsContext T F)
-    → IsContext T F
-val_context S M N T C D E F scoped begun rs made bound flags e1 e2 st f t b q h funs without finish =
-    finish S M C rs [] st.context (subst (IsBegun S C scoped M) (sym q) b)
-    (declared_alone M N C E rs bound flags made funs without (bound_at S M N C D E scoped begun rs made bound flags e1 e2 t b q h)) f t

@@ -5,3 +5,6 @@ pub mod Whole
 pub mod Sources
 pub mod Declaring
 pub mod Binding
+pub mod Heading
+pub mod Taking
+pub mod Grouping

@@ -3,10 +3,12 @@ use Rattle.std.proofs.Common.{◌≡◌, ◌<◌, ◌≤◌, ◌+◌, ℕ, List,
 use Rattle.mlc_base.specs.declared.place.Place.{Place}
 use Rattle.ty_basis.specs.Types.{exn_type}
 use Rattle.sml_tree.specs.BareTree as bare
-use Rattle.sml_tree.specs.Derived.{app_of}
+use Rattle.sml_tree.specs.Derived.{app_of, one_or_tuple_pat}
 use Rattle.sml_tree.specs.TreeOf.{RuleOf, exp_of, pat_of, rule_of, rules_of}
+use Rattle.sml_tree.specs.declared.tree.Clause.{Clause}
 use Rattle.sml_tree.specs.declared.tree.Exp.{Exp}
 use Rattle.sml_tree.specs.declared.tree.Exp.TheVariants as node
+use Rattle.sml_tree.specs.declared.tree.Pat.{Pat}
 use Rattle.sml_tree.specs.declared.tree.Rule.{Rule}
 use Rattle.elab_types.proofs.Lists.{all-map, next-map-at}
 use Rattle.elab_state.specs.declared.state.State.{State}
@@ -27,7 +29,9 @@ use Rattle.exp_forms.specs.declared.begun.RuleBegun.{RuleBegun}
 use Rattle.exp_forms.specs.declared.rules_made.RulesMade.{RulesMade}
 use Rattle.exp_forms.proofs.Nodes.{rule-is, source-Apply, source-Fn, source-Handle}
 use Rattle.elab_exps.specs.Decs.{StandsIn}
+use Rattle.elab_exps.specs.Groups.{clause_rule}
 use Rattle.elab_exps.proofs.Loops.{exp_in, same-at}
+use Rattle.elab_exps.proofs.Sources.{clause-is-rule}
 
 pub record RulesSoFar (S : State) (C : Context) (m : RulesMade) (rs : List RuleOf) (T : State) (D : Context) (n : RulesMade) : Type 0 where
   pub same : D ≡ C
@@ -46,23 +50,21 @@ pub stands_begun : (S T : State) (C D : Context) (a : bare.Pat) (k : ℕ) (r : R
 stands_begun S T C D a k r h b =
     record { context = b.context; level = (begun_grows S T C D a k r b).level ∙ h.level ∙ ap (λ (z : Context). z.level) (sym b.within) }
 
-rule-at : (rs : List Rule) (i : ℕ) (d e f : Rule) (place : Place) → i < length rs → place ≡ (get_or rs i d).place
+pub rule-at : (rs : List Rule) (i : ℕ) (d e f : Rule) (place : Place) → i < length rs → place ≡ (get_or rs i d).place
     → rule_of (get_or rs i d) ≡ record { place = place; pat = pat_of (get_or rs i e).pat; exp = exp_of (get_or rs i f).exp }
 rule-at rs i d e f place lt at =
     rule-is (get_or rs i d)
     ∙ ap₂ (λ p (r : Rule). record { place = p; pat = pat_of r.pat; exp = exp_of (get_or rs i d).exp }) (sym at) (same-at rs i d e lt)
     ∙ ap (λ (r : Rule). record { place = place; pat = pat_of (get_or rs i e).pat; exp = exp_of r.exp }) (same-at rs i d f lt)
 
-pub rules_more : (S M P N T : State) (C D E F G : Context) (rs : List Rule) (i : ℕ) (d e f : Rule) (place : Place) (begun : RuleBegun) (exp : TypedExp) (first old new : RulesMade)
-    → IsContext S C → i < length rs → place ≡ (get_or rs i d).place → RulesSoFar S C first (map rule_of (take i rs)) M D old
-    → IsBegun M D (pat_of (get_or rs i e).pat) old.domain P E begun → F ≡ E → IsExp P E (exp_of (get_or rs i f).exp) N exp → Grows N T → new.domain ≡ old.domain → new.range ≡ old.range
+pub each_more : {A : Type 0} (f : A → RuleOf) (S M P N T : State) (C D E F G : Context) (xs : List A) (i : ℕ) (d : A) (place : Place) (pat : bare.Pat) (body : bare.Exp) (begun : RuleBegun)
+    (exp : TypedExp) (first old new : RulesMade) → IsContext S C → i < length xs → f (get_or xs i d) ≡ record { place = place; pat = pat; exp = body }
+    → RulesSoFar S C first (map f (take i xs)) M D old → IsBegun M D pat old.domain P E begun → F ≡ E → IsExp P E body N exp → Grows N T → new.domain ≡ old.domain → new.range ≡ old.range
     → ((S T : State) (C : Context) (a : bare.Pat) (k : ℕ) → IsBegun S C a k T F begun → G ≡ C)
     → ((S M Q : State) (C : Context) (rs : List RuleOf) (p : Place) (a : bare.Pat) (e : bare.Exp) → AreRules S C rs M old → IsContext M C → IsBegun M C a old.domain Q F begun
     → IsExp Q F e N exp → AreRules S C (rs ++ record { place = p; pat = a; exp = e } ∷ []) T new)
-    → RulesSoFar S C first (map rule_of (take (i + 1) rs)) T G new
-rules_more S M P N T C D E F G rs i d e f place begun exp first old new ctx lt at h b q x g ed er left add =
-    let pat = pat_of (get_or rs i e).pat in
-    let body = exp_of (get_or rs i f).exp in
+    → RulesSoFar S C first (map f (take (i + 1) xs)) T G new
+each_more f S M P N T C D E F G xs i d place pat body begun exp first old new ctx lt at h b q x g ed er left add =
     let inside = subst (λ H. IsBegun M D pat old.domain P H begun) (sym q) b in
     let within = subst (λ H. IsBegun M H pat old.domain P F begun) h.same inside in
     record {
@@ -71,13 +73,23 @@ rules_more S M P N T C D E F G rs i d e f place begun exp first old new ctx lt a
       domain = ed ∙ h.domain;
       range = er ∙ h.range;
       rules = λ R k.
-          let whole = add R M P C (map rule_of (take i rs)) place pat body (h.rules R k) (context_later S M C h.grows ctx) within (subst (λ H. IsExp P H body N exp) (sym q) x) in
-          subst (λ l. AreRules R C l T new) (sym (next-map-at rule_of rs i d lt ∙ ap (λ r. map rule_of (take i rs) ++ r ∷ []) (rule-at rs i d e f place lt at))) whole;
+          let whole = add R M P C (map f (take i xs)) place pat body (h.rules R k) (context_later S M C h.grows ctx) within (subst (λ H. IsExp P H body N exp) (sym q) x) in
+          subst (λ l. AreRules R C l T new) (sym (next-map-at f xs i d lt ∙ ap (λ r. map f (take i xs) ++ r ∷ []) at)) whole;
     }
 
-pub rules_end : (S T : State) (C D : Context) (rs : List Rule) (i : ℕ) (first m : RulesMade) → length rs ≤ i → RulesSoFar S C first (map rule_of (take i rs)) T D m
-    → (R : State) → AreRules R C [] S first → AreRules R C (map rule_of rs) T m
-rules_end S T C D rs i first m le h R k = subst (λ l. AreRules R C l T m) (all-map rule_of rs i le) (h.rules R k)
+pub rules_end : {A : Type 0} (f : A → RuleOf) (S T : State) (C D : Context) (xs : List A) (i : ℕ) (first m : RulesMade) → length xs ≤ i → RulesSoFar S C first (map f (take i xs)) T D m
+    → (R : State) → AreRules R C [] S first → AreRules R C (map f xs) T m
+rules_end f S T C D xs i first m le h R k = subst (λ l. AreRules R C l T m) (all-map f xs i le) (h.rules R k)
+
+-- clauses
+
+pub clause-at : (cs : List Clause) (i : ℕ) (d e f : Clause) (place : Place) (as_ : List Pat) → i < length cs → place ≡ (get_or cs i d).place → as_ ≡ (get_or cs i e).pats.items
+    → clause_rule (get_or cs i d) ≡ record { place = place; pat = one_or_tuple_pat place (map pat_of as_); exp = exp_of (get_or cs i f).exp }
+clause-at cs i d e f place as_ lt at ea =
+    clause-is-rule (get_or cs i d)
+    ∙ ap₂ (λ (p : Place) (as_ : List Pat). record { place = p; pat = one_or_tuple_pat p (map pat_of as_); exp = exp_of (get_or cs i d).exp }) (sym at)
+    (ap (λ (c : Clause). c.pats.items) (same-at cs i d e lt) ∙ sym ea)
+    ∙ ap (λ (c : Clause). record { place = place; pat = one_or_tuple_pat place (map pat_of as_); exp = exp_of c.exp }) (same-at cs i d f lt)
 
 -- the whole
 

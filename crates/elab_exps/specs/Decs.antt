@@ -3,6 +3,7 @@ use Rattle.std.specs.Prelude.{◌≡◌, ◌++◌, List}
 use Rattle.sml_tree.specs.BareTree as bare
 use Rattle.prog_tree.specs.declared.tree.Dec.{Dec}
 use Rattle.elab_state.specs.declared.state.State.{State}
+use Rattle.elab_steps.specs.Growing.{Begins}
 use Rattle.elab_context.specs.Telling.{IsContext}
 use Rattle.elab_context.specs.declared.context.Context.{Context}
 use Rattle.dec_forms.specs.Bringing.{AreBringing, IsBringing}
@@ -19,7 +20,7 @@ pub record IsDeclared (S : State) (C : Context) (d : bare.Dec) (T : State) (D : 
   pub all : new ≡ old ++ decs
   pub brings : IsBringing S C d T D decs before after
   pub stands : StandsIn T D
-  pub schemes : D.schemes ≡ C.schemes
+  pub schemes : Begins C.schemes.items D.schemes.items
 
 -- the same of several, one after the other
 pub record AreDeclared (S : State) (C : Context) (ds : List bare.Dec) (T : State) (D : Context) (old new : List Dec) (before after : Brought) : Type 0 where
@@ -27,4 +28,4 @@ pub record AreDeclared (S : State) (C : Context) (ds : List bare.Dec) (T : State
   pub all : new ≡ old ++ decs
   pub bring : AreBringing S C ds T D decs before after
   pub stands : StandsIn T D
-  pub schemes : D.schemes ≡ C.schemes
+  pub schemes : Begins C.schemes.items D.schemes.items

@@ -1,3 +1,4 @@
 pub mod Shapes
 pub mod Decs
 pub mod Inside
+pub mod Groups

@@ -1,21 +1,27 @@
 // Expressions and declarations, whatever their form: recursion along nesting, loops along lists. Each expression leaves the context as it found it.
-ghost use Rattle.std.specs.Prelude.{◌≡◌, ◌∷◌, [], map, IfOk};
+ghost use Rattle.std.specs.Prelude.{◌≡◌, ◌∷◌, ℕ, [], length, map, reverse, IfOk};
 ghost use Rattle.dec_forms.specs.Bringing.{IsBringing};
 ghost use Rattle.sml_tree.specs.BareTree.{Exp as SourceExp, app, fields_exp, fn as fn_exp};
 ghost use Rattle.sml_tree.specs.Derived.{app_of, list_of as listed_exp, tuple};
 ghost use Rattle.sml_tree.specs.TreeOf.{bind_of, dec_of, exp_field_of, exp_fields_of, exp_of, rule_of, rules_of};
 ghost use Rattle.core_elab.specs.Resolves.{IsCalled};
 ghost use Rattle.elab_exps.specs.Decs.{AreDeclared, IsDeclared, StandsIn};
+ghost use Rattle.elab_exps.specs.Groups.{AreMembers, HaveHeads, IsMember, clause_rule, function_bind};
 ghost use Rattle.elab_exps.specs.Inside.{AreBound, IsWithin};
 ghost use Rattle.elab_steps.specs.Growing.{Grows, HasType};
 ghost use Rattle.use_elab.specs.Elaborated.{IsExp};
 ghost use Rattle.exp_forms.specs.Calls.{IsCall};
 ghost use Rattle.exp_forms.specs.Rules.{AreRules};
+ghost use Rattle.rec_groups.specs.Heads.{with_own};
 
 use crate::absent::{absent, absent_dec};
+use crate::heads::{enter_group, head_at, reserve_names, reserve_recs};
 use crate::inside::{Inside, add_binding, none_inside};
 use crate::made::{add_dec, add_decs};
+use crate::members::{add_member, finish_inside, no_function};
+use crate::parameters::{begin_clause, enter_parameters, parameter_count};
 use crate::shapes::{Shape, label_at, operator_of, shape_of};
+use datatype_decs::declare::{datatypes, withtypes};
 use dec_forms::block::{begin_block, block, leave_block};
 use dec_forms::brought::Brought;
 use dec_forms::declare_exceptions::exceptions;
@@ -24,13 +30,16 @@ use dec_forms::local::{begin_local, end_local};
 use elab_context::context::Context;
 use elab_state::state::State;
 use exp_forms::annotated::with_type;
+use exp_forms::bind::leave;
 use exp_forms::built::built;
 use exp_forms::call::{add_argument, finish_call, start_call};
 use exp_forms::called::{is_called, is_fn};
 use exp_forms::chain::{add_left, add_right, finish_left, finish_right, start_left, start_right};
 use exp_forms::choices::choices;
+use exp_forms::clauses::{finish_clauses, taken};
 use exp_forms::fields::{add_field, no_fields, record};
 use exp_forms::finish::{by_rules, case_of, handling};
+use exp_forms::functions_made::FunctionMade;
 use exp_forms::joints::are_joined;
 use exp_forms::leaf::constant;
 use exp_forms::list::{add_element, finish_list, start_list};
@@ -41,14 +50,16 @@ use exp_forms::rules_made::RulesMade;
 use exp_forms::series::{add_before, add_operand, sequence};
 use exp_forms::steps::{begin_rule, end_rule};
 use general_decs::begin::{Begun, begin};
-use general_decs::finish::finish;
 use mlc_base::place::Place;
-use pat_elab::bound::BoundVariable;
 use pat_elab::stopped::Stopped;
-use prog_tree::tree::Dec as ProgramDec;
-use scoped_tyvars::scoped::scoped_in_val;
+use prog_tree::tree::{Dec as ProgramDec, Function as ProgramFunction};
+use rec_groups::annotate::annotate_head;
+use rec_groups::enter::leave_heads;
+use rec_groups::functions::by_rules as function_by_rules;
+use rec_groups::head::Head;
+use scoped_tyvars::scoped::{scoped_in_fun, scoped_in_val};
 use sml_tree::ident::Tyvar;
-use sml_tree::tree::{Bind, Dec, Exp, ExpField, Part, Rule};
+use sml_tree::tree::{Bind, Clause, Dec, Exp, ExpField, Function, Part, Rule};
 use std::alloc::Global;
 use use_elab::typed::TypedExp;
 use use_elab::used::identifier;
@@ -483,7 +494,7 @@ fn let_of(
 
 /// Declarations, one after the other: each in the scope of those before.
 #[cycle(exps)]
-fn decs_from(
+pub fn decs_from(
     alloc: Global,
     state: &mut State,
     context: &mut Context,
@@ -558,7 +569,162 @@ fn bindings_from(
     Ok(inside)
 }
 
-/// `val` without `rec`.
+/// A function of `val rec`, inside its group.
+#[cycle(exps)]
+fn rec_of(
+    alloc: Global,
+    state: &mut State,
+    context: &mut Context,
+    ty: usize,
+    bind: &Bind,
+) -> Result<FunctionMade, Stopped>
+    requires context { StandsIn state.old context.old }
+    requires ty { HasType state.old ty }
+    ensures context { IfOk result (λ _. context.new ≡ context.old) }
+    ensures is { IfOk result (λ m. IsMember state.old context.old (bind_of bind.now) ty state.new m) }
+{
+    let exp = &bind.exp;
+    let Exp::Fn(place, rules) = exp else {
+        return Err(no_function(bind.place));
+    };
+    annotate_head(alloc, state, context, &bind.pat, ty)?;
+    let mut made = start_function(alloc, state, context)?;
+    rules_from(alloc, state, context, rules, &mut made)?;
+    Ok(function_by_rules(alloc, state, context, *place, made)?)
+}
+
+/// The functions of `val rec`, inside their group.
+#[cycle(exps)]
+fn recs_from(
+    alloc: Global,
+    state: &mut State,
+    context: &mut Context,
+    heads: &[Head],
+    recs: &[Bind],
+    inside: &mut Inside,
+) -> Result<Vec<(Vec<usize>, usize, ProgramFunction)>, Stopped>
+    requires context { StandsIn state.old context.old }
+    requires heads { HaveHeads state.old heads.now }
+    requires count { length heads.now ≡ length recs.now }
+    ensures context { IfOk result (λ _. context.new ≡ context.old) }
+    ensures are { IfOk result (λ fs. AreMembers state.old (with_own context.old (reverse heads.now)) (map bind_of recs.now) (reverse heads.now)
+        inside.old state.new inside.new fs.items) }
+{
+    let mark = enter_group(context, heads)?;
+    let mut funs = Vec::new(alloc);
+    for i in 0..recs.len() {
+        let place = recs[i].place;
+        let head = head_at(heads, i);
+        let made = rec_of(alloc, state, context, head.ty, &recs[i])?;
+        add_member(alloc, state, context, place, head, made, inside, &mut funs)?;
+    }
+    leave_heads(context, mark);
+    Ok(funs)
+}
+
+/// Clauses, each a rule on what the parameters take.
+#[cycle(exps)]
+fn clauses_from(
+    alloc: Global,
+    state: &mut State,
+    context: &mut Context,
+    clauses: &[Clause],
+    made: &mut RulesMade,
+) -> Result<(), Stopped>
+    requires context { StandsIn state.old context.old }
+    requires domain { HasType state.old made.old.domain }
+    requires range { HasType state.old made.old.range }
+    ensures context { IfOk result (λ _. context.new ≡ context.old) }
+    ensures grows { IfOk result (λ _. Grows state.old state.new) }
+    ensures domain { IfOk result (λ _. made.new.domain ≡ made.old.domain) }
+    ensures range { IfOk result (λ _. made.new.range ≡ made.old.range) }
+    ensures are { IfOk result (λ _. (S : State) → AreRules S context.old [] state.old made.old
+        → AreRules S context.old (map clause_rule clauses.now) state.new made.new) }
+{
+    for i in 0..clauses.len() {
+        let place = clauses[i].place;
+        let domain = made.domain;
+        let begun = begin_clause(alloc, state, context, place, domain, &clauses[i].pats)?;
+        let exp = elab_exp(alloc, state, context, &clauses[i].exp)?;
+        end_rule(alloc, state, context, place, begun, exp, made)?;
+    }
+    Ok(())
+}
+
+/// The body of a function of `fun`: clauses on what its parameters take.
+#[cycle(exps)]
+fn clauses_on(
+    alloc: Global,
+    state: &mut State,
+    context: &mut Context,
+    place: Place,
+    taken: TypedExp,
+    clauses: &[Clause],
+) -> Result<TypedExp, Stopped>
+    requires context { StandsIn state.old context.old }
+    requires taken { HasType state.old taken.ty }
+    ensures context { IfOk result (λ _. context.new ≡ context.old) }
+    ensures is { IfOk result (λ r. (S : State) (p q : Place) (e : SourceExp) → IsExp S context.old e state.old taken
+        → IsExp S context.old (app p (fn_exp q (rules_of (map clause_rule clauses.now))) e) state.new r) }
+{
+    let mut made = start_case(alloc, state, context, &taken)?;
+    clauses_from(alloc, state, context, clauses, &mut made)?;
+    Ok(case_of(alloc, state, context, place, taken, made)?)
+}
+
+/// A function of `fun`, inside its group: its parameters, and its clauses on what they take.
+#[cycle(exps)]
+fn clausal_of(
+    alloc: Global,
+    state: &mut State,
+    context: &mut Context,
+    function: &Function,
+) -> Result<FunctionMade, Stopped>
+    requires { StandsIn state.old context.old }
+    ensures context { IfOk result (λ _. context.new ≡ context.old) }
+    ensures is { IfOk result (λ m. (ty : ℕ) → IsMember state.old context.old (function_bind function.now) ty state.new m) }
+{
+    let place = function.place;
+    let clauses: &[Clause] = &function.clauses;
+    let count = parameter_count(place, clauses)?;
+    let mark = context.values.mark();
+    let entered = enter_parameters(alloc, state, context, place, count)?;
+    let operand = taken(alloc, state, context, place, count)?;
+    let body = clauses_on(alloc, state, context, place, operand, clauses)?;
+    leave(context, mark);
+    Ok(finish_clauses(alloc, state, entered, body)?)
+}
+
+/// The functions of `fun`, inside their group.
+#[cycle(exps)]
+fn functions_from(
+    alloc: Global,
+    state: &mut State,
+    context: &mut Context,
+    heads: &[Head],
+    functions: &[Function],
+    inside: &mut Inside,
+) -> Result<Vec<(Vec<usize>, usize, ProgramFunction)>, Stopped>
+    requires context { StandsIn state.old context.old }
+    requires heads { HaveHeads state.old heads.now }
+    requires count { length heads.now ≡ length functions.now }
+    ensures context { IfOk result (λ _. context.new ≡ context.old) }
+    ensures are { IfOk result (λ fs. AreMembers state.old (with_own context.old (reverse heads.now)) (map function_bind functions.now) (reverse heads.now)
+        inside.old state.new inside.new fs.items) }
+{
+    let mark = enter_group(context, heads)?;
+    let mut funs = Vec::new(alloc);
+    for i in 0..functions.len() {
+        let place = functions[i].place;
+        let head = head_at(heads, i);
+        let made = clausal_of(alloc, state, context, &functions[i])?;
+        add_member(alloc, state, context, place, head, made, inside, &mut funs)?;
+    }
+    leave_heads(context, mark);
+    Ok(funs)
+}
+
+/// `val`, with functions behind `rec` or without.
 #[cycle(exps)]
 fn val_of(
     alloc: Global,
@@ -572,29 +738,53 @@ fn val_of(
     ensures schemes { IfOk result (λ _. context.new.schemes ≡ context.old.schemes) }
     ensures brings { IfOk result (λ d. IsBringing state.old context.old (dec_of dec.now) state.new context.new (d ∷ []) brought.old brought.new) }
 {
-    let Dec::Val(place, tyvars, binds, functions) = dec else {
+    let Dec::Val(place, tyvars, binds, recs) = dec else {
         return Err(absent_dec(dec));
     };
     let binds: &[Bind] = binds;
-    let functions: &[Bind] = functions;
-    if functions.len() > 0 {
-        return Err(absent_dec(dec));
-    }
+    let recs: &[Bind] = recs;
     let tyvars: &[Tyvar] = &tyvars.tyvars;
-    let scoped = scoped_in_val(alloc, &context.types.tyvars, tyvars, binds, functions)?;
+    let scoped = scoped_in_val(alloc, &context.types.tyvars, tyvars, binds, recs)?;
     let scoped: &[Tyvar] = &scoped;
     let begun = begin(alloc, state, context, *place, scoped)?;
-    let inside = bindings_from(alloc, state, context, begun, scoped, binds)?;
-    let Inside {
-        bound,
-        flags,
-        binds,
-    } = inside;
-    let bound: &[BoundVariable] = &bound;
-    let flags: &[bool] = &flags;
-    let none = Vec::new(alloc);
-    let made = finish(
-        alloc, state, context, *place, begun, scoped, bound, flags, binds, none, brought,
+    let heads = reserve_recs(alloc, state, context, recs)?;
+    let heads: &[Head] = &heads;
+    let mut inside = bindings_from(alloc, state, context, begun, scoped, binds)?;
+    let funs = recs_from(alloc, state, context, heads, recs, &mut inside)?;
+    let made = finish_inside(
+        alloc, state, context, *place, begun, scoped, inside, funs, brought,
+    )?;
+    Ok(made)
+}
+
+/// `fun`.
+#[cycle(exps)]
+fn fun_of(
+    alloc: Global,
+    state: &mut State,
+    context: &mut Context,
+    dec: &Dec,
+    brought: &mut Brought,
+) -> Result<ProgramDec, Stopped>
+    requires { StandsIn state.old context.old }
+    ensures stands { IfOk result (λ _. StandsIn state.new context.new) }
+    ensures schemes { IfOk result (λ _. context.new.schemes ≡ context.old.schemes) }
+    ensures brings { IfOk result (λ d. IsBringing state.old context.old (dec_of dec.now) state.new context.new (d ∷ []) brought.old brought.new) }
+{
+    let Dec::Fun(place, tyvars, functions) = dec else {
+        return Err(absent_dec(dec));
+    };
+    let functions: &[Function] = functions;
+    let tyvars: &[Tyvar] = &tyvars.tyvars;
+    let scoped = scoped_in_fun(alloc, &context.types.tyvars, tyvars, functions)?;
+    let scoped: &[Tyvar] = &scoped;
+    let begun = begin(alloc, state, context, *place, scoped)?;
+    let heads = reserve_names(alloc, state, context, functions)?;
+    let heads: &[Head] = &heads;
+    let mut inside = none_inside(alloc);
+    let funs = functions_from(alloc, state, context, heads, functions, &mut inside)?;
+    let made = finish_inside(
+        alloc, state, context, *place, begun, scoped, inside, funs, brought,
     )?;
     Ok(made)
 }
@@ -617,8 +807,18 @@ pub fn elab_dec(
             let one = val_of(alloc, state, context, dec, brought)?;
             Ok(add_dec(made, one)?)
         }
+        Dec::Fun(_, _, _) => {
+            let one = fun_of(alloc, state, context, dec, brought)?;
+            Ok(add_dec(made, one)?)
+        }
         Dec::Abbreviation(place, binds) => {
             Ok(abbreviations(alloc, state, context, *place, binds, brought)?)
+        }
+        Dec::Datatype(place, binds) => {
+            Ok(datatypes(alloc, state, context, *place, binds, brought)?)
+        }
+        Dec::Withtype(place, binds, types) => {
+            Ok(withtypes(alloc, state, context, *place, binds, types, brought)?)
         }
         Dec::Exception(place, binds) => {
             let new = exceptions(alloc, state, context, *place, binds, brought)?;
@@ -626,9 +826,6 @@ pub fn elab_dec(
         }
         Dec::Local(_, _, _) => local_of(alloc, state, context, dec, made, brought),
         Dec::Declarations(_, decs) => decs_from(alloc, state, context, decs, made, brought),
-        Dec::Fun(_, _, _) => Err(absent_dec(dec)),
-        Dec::Datatype(_, _) => Err(absent_dec(dec)),
-        Dec::Withtype(_, _, _) => Err(absent_dec(dec)),
         Dec::Replicate(_, _, _) => Err(absent_dec(dec)),
         Dec::Open(_, _) => Err(absent_dec(dec)),
     }

@@ -3,6 +3,9 @@
 
 pub mod absent;
 pub mod exps;
+pub mod heads;
 pub mod inside;
 pub mod made;
+pub mod members;
+pub mod parameters;
 pub mod shapes;

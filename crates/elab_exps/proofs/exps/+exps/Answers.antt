@@ -1,20 +1,27 @@
-use Rattle.std.proofs.Common.{◌-◌, length, get_or, map, refl, sym, ap, subst, ◌∙◌, arith}
-use Rattle.sml_tree.specs.TreeOf.{exp_of, rule_of}
+use Rattle.std.proofs.Common.{◌-◌, [], ◌∷◌, length, get_or, map, refl, sym, ap, subst, ◌∙◌, arith}
+use Rattle.std.specs.Prelude.{reverse}
+use Rattle.sml_tree.specs.TreeOf.{bind_of, exp_of, rule_of}
 use Rattle.sml_tree.specs.declared.tree.Exp.TheVariants as node
+use Rattle.sml_tree.specs.declared.tree.Function.{out-Function}
 use Rattle.elab_steps.specs.Growing.{HasType}
+use Rattle.dec_forms.specs.Bringing.{IsBringing}
 use Rattle.elab_context.specs.declared.context.Context.{Context}
 use Rattle.elab_steps.proofs.Changing.{if-ok}
-use Rattle.elab_steps.proofs.Growing.{comes_before, grows_on, type_later}
+use Rattle.elab_steps.proofs.Growing.{comes_before, grows_on, grows_same, type_later}
 use Rattle.elab_steps.specs.World.{type_of}
 use Rattle.exp_forms.proofs.Nodes.{source-BuiltIn, source-Constant, source-Vid}
 use Rattle.exp_forms.proofs.Sizes.{arguments-size, bind-size, binds-size, body-size, dec-size, decs-size, exp-size, field-size, handled-size, handler-size, operand-size, operator-size, part-size, parts-size, rest-size, rule-size, rules-size}
+use Rattle.elab_exps.specs.Groups.{clause_rule, function_bind}
 use Rattle.elab_exps.proofs.Loops.{calls_begin, calls_end, calls_more, context_on, elements_begin, elements_end, elements_more, exp_in, fields_end, fields_more, rows_have, stands_on, tuple_end, tuple_more}
 use Rattle.elab_exps.proofs.Chains.{left_done, left_first, left_next, right_done, right_first, right_next, tests_done, tests_first, tests_next}
-use Rattle.elab_exps.proofs.Rules.{applied_is, begun_grows, case_is, function_is, handle_is, rules_begin, rules_end, rules_more, stands_begun}
+use Rattle.elab_exps.proofs.Rules.{applied_is, begun_grows, case_is, clause-at, each_more, function_is, handle_is, rule-at, rules_begin, rules_end, stands_begun}
 use Rattle.elab_exps.proofs.Whole.{apply_is, of_source, one-more, raise_is, sequence_alone, sequence_begins, sequence_done, sequence_more, some-before, typed_is}
-use Rattle.elab_exps.proofs.Sources.{first-part-size, rest-all, rest-most, second-part-size}
-use Rattle.elab_exps.proofs.Declaring.{all_declared, let_in_is, let_left, local_declared, more_declared, none_declared, sequence_declared, stands_brought}
-use Rattle.elab_exps.proofs.Binding.{all_bound, begun_stands, begun_within, bound_count, bound_have, bound_more, first_made, first_outer, none_bound, val_brings, val_context, within_on}
+use Rattle.elab_exps.proofs.Sources.{bind-most, clause-size, clauses-size, first-part-size, function-most, functions-size, match-size, recs-size, rest-all, rest-most, second-part-size}
+use Rattle.elab_exps.proofs.Declaring.{all_declared, let_in_is, let_left, local_declared, more_declared, none_declared, sequence_declared}
+use Rattle.elab_exps.proofs.Binding.{all_bound, begun_within, bound_more, none_bound, within_on}
+use Rattle.elab_exps.proofs.Heading.{head-held, heads_count, heads_have, mark_is}
+use Rattle.elab_exps.proofs.Grouping.{clausal_body, clausal_member, entered_stands, entered_types, fun_source, group_filled, group_ready, member_grows, members_begin, members_end, members_more, rec_member, reserved_at, reserved_stands, scopes_functions, val_source}
+use Rattle.elab_exps.proofs.Taking.{variables_left}
 use Rattle.elab_exps.proofs.exps.+exps.Goals as goal
 
 pub record_of-loop-i-init : goal.record_of-loop-i-init
@@ -330,16 +337,16 @@ rules_from-end_rule-requires-clause-range t c =
 
 pub rules_from-loop-i-preserved : goal.rules_from-loop-i-preserved
 rules_from-loop-i-preserved t c =
-    rules_more c.args.state.now c.loop-i.state c.begin_rule.new.state c.elab_exp.new.state c.end_rule.new.state c.args.context.now c.loop-i.context c.begin_rule.new.context
-    c.elab_exp.new.context c.end_rule.new.context c.args.rules.now c.loop-i.i c.index-rules-i.result c.index-rules-i-in-loop-i.result c.index-rules-i-in-loop-i-2.result
-    (get_or c.args.rules.now c.loop-i.i c.index-rules-i.result).place
-    c.in_ok-begun.begun c.in_ok-exp.exp c.args.made.now c.loop-i.made c.end_rule.new.made c.requires.context.context c.loop-i-test.true refl c.loop-i.invariant
+    each_more rule_of c.args.state.now c.loop-i.state c.begin_rule.new.state c.elab_exp.new.state c.end_rule.new.state c.args.context.now c.loop-i.context c.begin_rule.new.context
+    c.elab_exp.new.context c.end_rule.new.context c.args.rules.now c.loop-i.i c.index-rules-i.result (get_or c.args.rules.now c.loop-i.i c.index-rules-i.result).place _ _
+    c.in_ok-begun.begun c.in_ok-exp.exp c.args.made.now c.loop-i.made c.end_rule.new.made c.requires.context.context c.loop-i-test.true
+    (rule-at c.args.rules.now c.loop-i.i c.index-rules-i.result c.index-rules-i-in-loop-i.result c.index-rules-i-in-loop-i-2.result _ c.loop-i-test.true refl) c.loop-i.invariant
     c.in_ok-begun.ensures.begun c.in_ok-exp.ensures.context c.in_ok-exp.ensures.is c.in_ok-end_rule.ensures.grows c.in_ok-end_rule.ensures.domain c.in_ok-end_rule.ensures.range
     c.in_ok-end_rule.ensures.left c.in_ok-end_rule.ensures.added
 
 pub rules_from-returns-clause-are : goal.rules_from-returns-clause-are
 rules_from-returns-clause-are t c R k =
-    rules_end c.args.state.now c.loop-i.state c.args.context.now c.loop-i.context c.args.rules.now c.loop-i.i c.args.made.now c.loop-i.made (omega arith) c.loop-i.invariant R k
+    rules_end rule_of c.args.state.now c.loop-i.state c.args.context.now c.loop-i.context c.args.rules.now c.loop-i.i c.args.made.now c.loop-i.made (omega arith) c.loop-i.invariant R k
 
 pub function_of-rules_from-requires : goal.function_of-rules_from-requires
 function_of-rules_from-requires t c = (
@@ -688,7 +695,7 @@ local_of-returns t c =
     c.args.dec.now c.in-Local.field-0 c.in-Local.first c.in-Local.second c.deref.result.now c.deref-2.result.now c.begin_local-mark.result c.args.made.now.items
     c.decs_from.new.made.items c.decs_from-2.new.made.items _ _ _ c.decs_from-2.new.brought c.args.brought.now c.end_local.new.brought c.in-Local.is c.deref.ensures.value
     c.deref-2.ensures.value c.requires c.begin_local-mark.ensures c.in_ok-decs_from.ensures c.new-shown.ensures.values c.new-shown.ensures.types c.in_ok-decs_from-2.ensures
-    c.in_ok-end_local.ensures.schemes c.in_ok-end_local.ensures.context c.in_ok-end_local.ensures.declared
+    c.in_ok-end_local.ensures.context c.in_ok-end_local.ensures.declared
 
 pub bindings_from-loop-i-init : goal.bindings_from-loop-i-init
 bindings_from-loop-i-init t c = record {
@@ -725,6 +732,248 @@ pub bindings_from-returns-clause-are : goal.bindings_from-returns-clause-are
 bindings_from-returns-clause-are t c =
     all_bound c.args.state.now c.loop-i.state c.args.context.now c.loop-i.context c.args.begun c.args.binds.now c.loop-i.i c.loop-i.inside (omega arith) c.loop-i.invariant
 
+pub rec_of-annotate_head-requires-clause-context : goal.rec_of-annotate_head-requires-clause-context
+rec_of-annotate_head-requires-clause-context t c = c.requires.context.context
+
+pub rec_of-start_function-requires : goal.rec_of-start_function-requires
+rec_of-start_function-requires t c = record {
+  context = context_on c.args.state.now c.annotate_head.new.state c.args.context.now c.args.context.now c.requires.context.context c.in_ok-annotate_head.ensures.grows refl;
+}
+
+pub rec_of-rules_from-requires : goal.rec_of-rules_from-requires
+rec_of-rules_from-requires t c = (
+  omega (arith, c.decreases, match-size c.args.bind.now _ c.in-Fn.place c.in-Fn.rules c.deref.result.now refl c.in-Fn.is c.deref.ensures.value),
+  (
+    stands_on c.args.state.now c.start_function.new.state c.args.context.now c.args.context.now c.requires.context
+        (grows_on c.args.state.now c.annotate_head.new.state c.start_function.new.state c.in_ok-annotate_head.ensures.grows c.in_ok-made.ensures.grows) refl,
+    (c.in_ok-made.ensures.domain, c.in_ok-made.ensures.range),
+  ),
+)
+
+pub rec_of-by_rules-requires-clause-context : goal.rec_of-by_rules-requires-clause-context
+rec_of-by_rules-requires-clause-context t c =
+    context_on c.args.state.now c.rules_from.new.state c.args.context.now c.rules_from.new.context c.requires.context.context
+    (grows_on c.args.state.now c.annotate_head.new.state c.rules_from.new.state c.in_ok-annotate_head.ensures.grows
+    (grows_on c.annotate_head.new.state c.start_function.new.state c.rules_from.new.state c.in_ok-made.ensures.grows c.in_ok-rules_from.ensures.grows)) c.in_ok-rules_from.ensures.context
+
+pub rec_of-by_rules-requires-clause-domain : goal.rec_of-by_rules-requires-clause-domain
+rec_of-by_rules-requires-clause-domain t c = (c.in_ok-rules_from.ensures.are c.annotate_head.new.state c.in_ok-made.ensures).domain
+
+pub rec_of-by_rules-requires-clause-range : goal.rec_of-by_rules-requires-clause-range
+rec_of-by_rules-requires-clause-range t c = (c.in_ok-rules_from.ensures.are c.annotate_head.new.state c.in_ok-made.ensures).range
+
+pub rec_of-returns-clause-context : goal.rec_of-returns-clause-context
+rec_of-returns-clause-context t c = c.in_ok-rules_from.ensures.context
+
+pub rec_of-returns-clause-is : goal.rec_of-returns-clause-is
+rec_of-returns-clause-is t c =
+    rec_member c.args.state.now c.annotate_head.new.state c.rules_from.new.state c.by_rules.new.state c.args.context.now c.rules_from.new.context c.args.bind.now _ c.in-Fn.place c.in-Fn.rules
+    c.deref.result.now c.args.ty c.rules_from.new.made _ refl c.in-Fn.is c.deref.ensures.value c.in_ok-annotate_head.ensures c.in_ok-rules_from.ensures.context
+    (c.in_ok-rules_from.ensures.are c.annotate_head.new.state c.in_ok-made.ensures) c.in_ok-by_rules.ensures
+
+pub recs_from-loop-i-init : goal.recs_from-loop-i-init
+recs_from-loop-i-init t c = members_begin c.args.state.now c.enter_group.new.context c.args.inside.now _ c.new-funs.ensures.items
+
+pub recs_from-head_at-head-requires : goal.recs_from-head_at-head-requires
+recs_from-head_at-head-requires t c = omega (arith, c.requires.count, c.loop-i-test.true)
+
+pub recs_from-rec_of-requires : goal.recs_from-rec_of-requires
+recs_from-rec_of-requires t c = (
+  omega (arith, c.decreases, bind-most c.args.recs.now c.loop-i.i c.index-recs-i-in-loop-i.result c.loop-i-test.true c.index-recs-i-in-loop-i.is),
+  (
+    stands_on c.args.state.now c.loop-i.state c.enter_group.new.context c.loop-i.context (c.in_ok-mark.ensures.stands c.args.state.now c.requires.context c.requires.heads)
+        c.loop-i.invariant.are.functions.grows c.loop-i.invariant.same,
+    type_later c.args.state.now c.loop-i.state c.head_at-head.result.now.ty c.loop-i.invariant.are.functions.grows
+        (head-held c.args.state.now c.args.heads.now c.loop-i.i c.head_at-head.result.now c.requires.heads (omega (arith, c.requires.count, c.loop-i-test.true)) c.head_at-head.ensures),
+  ),
+)
+
+pub recs_from-add_member-requires-clause-context : goal.recs_from-add_member-requires-clause-context
+recs_from-add_member-requires-clause-context t c =
+    (stands_on c.args.state.now c.rec_of.new.state c.enter_group.new.context c.rec_of.new.context (c.in_ok-mark.ensures.stands c.args.state.now c.requires.context c.requires.heads)
+    (grows_on c.args.state.now c.loop-i.state c.rec_of.new.state c.loop-i.invariant.are.functions.grows
+    (member_grows c.loop-i.state c.rec_of.new.state c.loop-i.context _ c.head_at-head.result.now.ty c.in_ok-made.made c.in_ok-made.ensures.is))
+    (c.in_ok-made.ensures.context ∙ c.loop-i.invariant.same)).context
+
+pub recs_from-add_member-requires-clause-head : goal.recs_from-add_member-requires-clause-head
+recs_from-add_member-requires-clause-head t c =
+    type_later c.args.state.now c.rec_of.new.state c.head_at-head.result.now.ty
+    (grows_on c.args.state.now c.loop-i.state c.rec_of.new.state c.loop-i.invariant.are.functions.grows
+    (member_grows c.loop-i.state c.rec_of.new.state c.loop-i.context _ c.head_at-head.result.now.ty c.in_ok-made.made c.in_ok-made.ensures.is))
+    (head-held c.args.state.now c.args.heads.now c.loop-i.i c.head_at-head.result.now c.requires.heads (omega (arith, c.requires.count, c.loop-i-test.true)) c.head_at-head.ensures)
+
+pub recs_from-add_member-requires-clause-member : goal.recs_from-add_member-requires-clause-member
+recs_from-add_member-requires-clause-member t c = c.in_ok-made.ensures.is.function.is
+
+pub recs_from-loop-i-preserved : goal.recs_from-loop-i-preserved
+recs_from-loop-i-preserved t c =
+    members_more bind_of c.args.state.now c.loop-i.state c.rec_of.new.state c.add_member.new.state c.enter_group.new.context c.loop-i.context c.rec_of.new.context c.args.recs.now
+    c.args.heads.now c.loop-i.i c.index-recs-i-in-loop-i.result c.head_at-head.result.now c.args.inside.now c.loop-i.inside c.add_member.new.inside c.loop-i.funs.items c.add_member.new.funs.items
+    c.in_ok-made.made c.requires.count c.loop-i-test.true c.index-recs-i-in-loop-i.is c.head_at-head.ensures c.loop-i.invariant c.in_ok-made.ensures.context c.in_ok-made.ensures.is
+    (λ S M rs r hs first. c.in_ok-add_member.ensures.added S M rs r hs first)
+
+pub recs_from-returns-clause-context : goal.recs_from-returns-clause-context
+recs_from-returns-clause-context t c =
+    c.leave_heads.ensures c.args.context.now (reverse c.args.heads.now) c.in_ok-mark.ensures.mark (c.loop-i.invariant.same ∙ c.in_ok-mark.ensures.entered)
+
+pub recs_from-returns-clause-are : goal.recs_from-returns-clause-are
+recs_from-returns-clause-are t c =
+    members_end bind_of c.args.state.now c.loop-i.state c.args.context.now c.enter_group.new.context c.loop-i.context c.args.recs.now c.args.heads.now c.loop-i.i c.args.inside.now
+    c.loop-i.inside c.loop-i.funs.items c.requires.count (omega arith) c.in_ok-mark.ensures.entered c.loop-i.invariant
+
+pub clauses_from-loop-i-init : goal.clauses_from-loop-i-init
+clauses_from-loop-i-init t c = rules_begin c.args.state.now c.args.context.now c.args.made.now
+
+pub clauses_from-begin_clause-requires-clause-context : goal.clauses_from-begin_clause-requires-clause-context
+clauses_from-begin_clause-requires-clause-context t c =
+    context_on c.args.state.now c.loop-i.state c.args.context.now c.loop-i.context c.requires.context.context c.loop-i.invariant.grows c.loop-i.invariant.same
+
+pub clauses_from-begin_clause-requires-clause-domain : goal.clauses_from-begin_clause-requires-clause-domain
+clauses_from-begin_clause-requires-clause-domain t c =
+    subst (HasType c.loop-i.state) (sym c.loop-i.invariant.domain) (type_later c.args.state.now c.loop-i.state c.args.made.now.domain c.loop-i.invariant.grows c.requires.domain)
+
+pub clauses_from-elab_exp-requires : goal.clauses_from-elab_exp-requires
+clauses_from-elab_exp-requires t c = (
+  omega (arith, c.decreases, clause-size c.args.clauses.now c.loop-i.i c.index-clauses-i-in-loop-i-2.result c.loop-i-test.true),
+  stands_begun c.loop-i.state c.begin_clause.new.state c.loop-i.context c.begin_clause.new.context _ c.loop-i.made.domain c.in_ok-begun.begun
+      (stands_on c.args.state.now c.loop-i.state c.args.context.now c.loop-i.context c.requires.context c.loop-i.invariant.grows c.loop-i.invariant.same) c.in_ok-begun.ensures,
+)
+
+pub clauses_from-end_rule-requires-clause-range : goal.clauses_from-end_rule-requires-clause-range
+clauses_from-end_rule-requires-clause-range t c =
+    subst (HasType c.elab_exp.new.state) (sym c.loop-i.invariant.range)
+    (type_later c.args.state.now c.elab_exp.new.state c.args.made.now.range
+    (grows_on c.args.state.now c.loop-i.state c.elab_exp.new.state c.loop-i.invariant.grows
+    (grows_on c.loop-i.state c.begin_clause.new.state c.elab_exp.new.state
+    (begun_grows c.loop-i.state c.begin_clause.new.state c.loop-i.context c.begin_clause.new.context _ c.loop-i.made.domain c.in_ok-begun.begun c.in_ok-begun.ensures)
+    c.in_ok-exp.ensures.is.grows)) c.requires.range)
+
+pub clauses_from-loop-i-preserved : goal.clauses_from-loop-i-preserved
+clauses_from-loop-i-preserved t c =
+    each_more clause_rule c.args.state.now c.loop-i.state c.begin_clause.new.state c.elab_exp.new.state c.end_rule.new.state c.args.context.now c.loop-i.context c.begin_clause.new.context
+    c.elab_exp.new.context c.end_rule.new.context c.args.clauses.now c.loop-i.i c.index-clauses-i.result (get_or c.args.clauses.now c.loop-i.i c.index-clauses-i.result).place _ _
+    c.in_ok-begun.begun c.in_ok-exp.exp c.args.made.now c.loop-i.made c.end_rule.new.made c.requires.context.context c.loop-i-test.true
+    (clause-at c.args.clauses.now c.loop-i.i c.index-clauses-i.result c.index-clauses-i-in-loop-i.result c.index-clauses-i-in-loop-i-2.result _ c.deref.result.now c.loop-i-test.true refl
+    c.deref.ensures.value) c.loop-i.invariant
+    c.in_ok-begun.ensures c.in_ok-exp.ensures.context c.in_ok-exp.ensures.is c.in_ok-end_rule.ensures.grows c.in_ok-end_rule.ensures.domain c.in_ok-end_rule.ensures.range
+    c.in_ok-end_rule.ensures.left c.in_ok-end_rule.ensures.added
+
+pub clauses_from-returns-clause-are : goal.clauses_from-returns-clause-are
+clauses_from-returns-clause-are t c R k =
+    rules_end clause_rule c.args.state.now c.loop-i.state c.args.context.now c.loop-i.context c.args.clauses.now c.loop-i.i c.args.made.now c.loop-i.made (omega arith) c.loop-i.invariant R k
+
+pub clauses_on-clauses_from-requires : goal.clauses_on-clauses_from-requires
+clauses_on-clauses_from-requires t c = (
+  omega (arith, c.decreases),
+  (
+    stands_on c.args.state.now c.start_case.new.state c.args.context.now c.args.context.now c.requires.context c.in_ok-made.ensures.grows refl,
+    (
+      subst (HasType c.start_case.new.state) (sym c.in_ok-made.ensures.domain)
+          (type_later c.args.state.now c.start_case.new.state c.args.taken.ty c.in_ok-made.ensures.grows c.requires.taken),
+      c.in_ok-made.ensures.range,
+    ),
+  ),
+)
+
+pub clauses_on-case_of-requires-clause-context : goal.clauses_on-case_of-requires-clause-context
+clauses_on-case_of-requires-clause-context t c =
+    context_on c.args.state.now c.clauses_from.new.state c.args.context.now c.clauses_from.new.context c.requires.context.context
+    (grows_on c.args.state.now c.start_case.new.state c.clauses_from.new.state c.in_ok-made.ensures.grows c.in_ok-clauses_from.ensures.grows) c.in_ok-clauses_from.ensures.context
+
+pub clauses_on-case_of-requires-clause-range : goal.clauses_on-case_of-requires-clause-range
+clauses_on-case_of-requires-clause-range t c =
+    subst (HasType c.clauses_from.new.state) (sym c.in_ok-clauses_from.ensures.range)
+    (type_later c.start_case.new.state c.clauses_from.new.state c.in_ok-made.made.range c.in_ok-clauses_from.ensures.grows c.in_ok-made.ensures.range)
+
+pub clauses_on-returns-clause-is : goal.clauses_on-returns-clause-is
+clauses_on-returns-clause-is t c S p q e h =
+    case_is S c.args.state.now c.clauses_from.new.state c.case_of.new.state c.args.context.now c.clauses_from.new.context p q e (map clause_rule c.args.clauses.now) c.args.taken
+    c.clauses_from.new.made _ c.in_ok-clauses_from.ensures.context h (c.in_ok-clauses_from.ensures.are c.args.state.now (c.in_ok-made.ensures.started S e h))
+    (c.in_ok-clauses_from.ensures.domain ∙ c.in_ok-made.ensures.domain) c.in_ok-case_of.ensures
+
+pub clausal_of-enter_parameters-requires-clause-context : goal.clausal_of-enter_parameters-requires-clause-context
+clausal_of-enter_parameters-requires-clause-context t c = c.requires.context
+
+pub clausal_of-clauses_on-requires : goal.clausal_of-clauses_on-requires
+clausal_of-clauses_on-requires t c = (
+  omega (arith, c.decreases, clauses-size c.args.function.now c.deref-clauses.result.now c.deref-clauses.ensures.value),
+  (
+    entered_stands c.args.state.now c.enter_parameters.new.state c.taken.new.state c.args.context.now c.enter_parameters.new.context _ _ _ c.requires c.in_ok-entered.ensures.context
+        c.in_ok-entered.ensures.within c.in_ok-entered.ensures.entered (c.in_ok-operand.ensures _ (sym c.in_ok-count.ensures.count)).grows,
+    (c.in_ok-operand.ensures _ (sym c.in_ok-count.ensures.count)).is,
+  ),
+)
+
+pub clausal_of-finish_clauses-requires-clause-types : goal.clausal_of-finish_clauses-requires-clause-types
+clausal_of-finish_clauses-requires-clause-types t c =
+    entered_types c.args.state.now c.enter_parameters.new.state c.clauses_on.new.state c.args.context.now c.enter_parameters.new.context _ _ _ c.in_ok-entered.ensures.entered
+    (clausal_body c.enter_parameters.new.state c.taken.new.state c.clauses_on.new.state c.enter_parameters.new.context _ c.deref-clauses.result.now c.in_ok-count.count c.in_ok-operand.operand
+    c.in_ok-body.body c.in_ok-count.ensures.count c.in_ok-operand.ensures c.in_ok-body.ensures.is).grows
+
+pub clausal_of-finish_clauses-requires-clause-body : goal.clausal_of-finish_clauses-requires-clause-body
+clausal_of-finish_clauses-requires-clause-body t c =
+    (clausal_body c.enter_parameters.new.state c.taken.new.state c.clauses_on.new.state c.enter_parameters.new.context (out-Function c.args.function.now).place c.deref-clauses.result.now c.in_ok-count.count
+    c.in_ok-operand.operand c.in_ok-body.body c.in_ok-count.ensures.count c.in_ok-operand.ensures c.in_ok-body.ensures.is).is
+
+pub clausal_of-returns-clause-context : goal.clausal_of-returns-clause-context
+clausal_of-returns-clause-context t c =
+    variables_left c.args.context.now c.enter_parameters.new.context c.clauses_on.new.context c.leave.new.context c.mark-mark.result c.in_ok-entered.ensures.within c.in_ok-body.ensures.context
+    (mark_is c.args.context.now.values c.mark-mark.result c.mark-mark.ensures.named c.mark-mark.ensures.fresh c.mark-mark.ensures.equals) c.leave.ensures
+
+pub clausal_of-returns-clause-is : goal.clausal_of-returns-clause-is
+clausal_of-returns-clause-is t c ty =
+    clausal_member c.args.state.now c.enter_parameters.new.state c.clauses_on.new.state c.finish_clauses.new.state c.args.context.now c.enter_parameters.new.context c.args.function.now
+    c.deref-clauses.result.now c.in_ok-count.count ty c.in_ok-entered.entered c.in_ok-body.body _ c.deref-clauses.ensures.value c.in_ok-count.ensures.some c.in_ok-count.ensures.count
+    c.in_ok-entered.ensures.entered
+    (clausal_body c.enter_parameters.new.state c.taken.new.state c.clauses_on.new.state c.enter_parameters.new.context (out-Function c.args.function.now).place c.deref-clauses.result.now c.in_ok-count.count
+    c.in_ok-operand.operand c.in_ok-body.body c.in_ok-count.ensures.count c.in_ok-operand.ensures c.in_ok-body.ensures.is) c.in_ok-finish_clauses.ensures
+
+pub functions_from-loop-i-init : goal.functions_from-loop-i-init
+functions_from-loop-i-init t c = members_begin c.args.state.now c.enter_group.new.context c.args.inside.now _ c.new-funs.ensures.items
+
+pub functions_from-head_at-head-requires : goal.functions_from-head_at-head-requires
+functions_from-head_at-head-requires t c = omega (arith, c.requires.count, c.loop-i-test.true)
+
+pub functions_from-clausal_of-requires : goal.functions_from-clausal_of-requires
+functions_from-clausal_of-requires t c = (
+  omega (arith, c.decreases, function-most c.args.functions.now c.loop-i.i c.index-functions-i-in-loop-i.result c.loop-i-test.true c.index-functions-i-in-loop-i.is),
+  stands_on c.args.state.now c.loop-i.state c.enter_group.new.context c.loop-i.context (c.in_ok-mark.ensures.stands c.args.state.now c.requires.context c.requires.heads)
+      c.loop-i.invariant.are.functions.grows c.loop-i.invariant.same,
+)
+
+pub functions_from-add_member-requires-clause-context : goal.functions_from-add_member-requires-clause-context
+functions_from-add_member-requires-clause-context t c =
+    (stands_on c.args.state.now c.clausal_of.new.state c.enter_group.new.context c.clausal_of.new.context (c.in_ok-mark.ensures.stands c.args.state.now c.requires.context c.requires.heads)
+    (grows_on c.args.state.now c.loop-i.state c.clausal_of.new.state c.loop-i.invariant.are.functions.grows
+    (member_grows c.loop-i.state c.clausal_of.new.state c.loop-i.context _ c.head_at-head.result.now.ty c.in_ok-made.made (c.in_ok-made.ensures.is c.head_at-head.result.now.ty)))
+    (c.in_ok-made.ensures.context ∙ c.loop-i.invariant.same)).context
+
+pub functions_from-add_member-requires-clause-head : goal.functions_from-add_member-requires-clause-head
+functions_from-add_member-requires-clause-head t c =
+    type_later c.args.state.now c.clausal_of.new.state c.head_at-head.result.now.ty
+    (grows_on c.args.state.now c.loop-i.state c.clausal_of.new.state c.loop-i.invariant.are.functions.grows
+    (member_grows c.loop-i.state c.clausal_of.new.state c.loop-i.context _ c.head_at-head.result.now.ty c.in_ok-made.made (c.in_ok-made.ensures.is c.head_at-head.result.now.ty)))
+    (head-held c.args.state.now c.args.heads.now c.loop-i.i c.head_at-head.result.now c.requires.heads (omega (arith, c.requires.count, c.loop-i-test.true)) c.head_at-head.ensures)
+
+pub functions_from-add_member-requires-clause-member : goal.functions_from-add_member-requires-clause-member
+functions_from-add_member-requires-clause-member t c = (c.in_ok-made.ensures.is c.head_at-head.result.now.ty).function.is
+
+pub functions_from-loop-i-preserved : goal.functions_from-loop-i-preserved
+functions_from-loop-i-preserved t c =
+    members_more function_bind c.args.state.now c.loop-i.state c.clausal_of.new.state c.add_member.new.state c.enter_group.new.context c.loop-i.context c.clausal_of.new.context c.args.functions.now
+    c.args.heads.now c.loop-i.i c.index-functions-i-in-loop-i.result c.head_at-head.result.now c.args.inside.now c.loop-i.inside c.add_member.new.inside c.loop-i.funs.items c.add_member.new.funs.items
+    c.in_ok-made.made c.requires.count c.loop-i-test.true c.index-functions-i-in-loop-i.is c.head_at-head.ensures c.loop-i.invariant c.in_ok-made.ensures.context (c.in_ok-made.ensures.is c.head_at-head.result.now.ty)
+    (λ S M rs r hs first. c.in_ok-add_member.ensures.added S M rs r hs first)
+
+pub functions_from-returns-clause-context : goal.functions_from-returns-clause-context
+functions_from-returns-clause-context t c =
+    c.leave_heads.ensures c.args.context.now (reverse c.args.heads.now) c.in_ok-mark.ensures.mark (c.loop-i.invariant.same ∙ c.in_ok-mark.ensures.entered)
+
+pub functions_from-returns-clause-are : goal.functions_from-returns-clause-are
+functions_from-returns-clause-are t c =
+    members_end function_bind c.args.state.now c.loop-i.state c.args.context.now c.enter_group.new.context c.loop-i.context c.args.functions.now c.args.heads.now c.loop-i.i c.args.inside.now
+    c.loop-i.inside c.loop-i.funs.items c.requires.count (omega arith) c.in_ok-mark.ensures.entered c.loop-i.invariant
+
 pub val_of-begin-requires-clause-context : goal.val_of-begin-requires-clause-context
 val_of-begin-requires-clause-context t c = c.requires.context
 
@@ -733,77 +982,151 @@ val_of-begin-requires-clause-level t c = c.requires.level
 
 pub val_of-bindings_from-requires : goal.val_of-bindings_from-requires
 val_of-bindings_from-requires t c = (
-  omega (arith, c.decreases, binds-size c.args.dec.now c.in-Val.place c.in-Val.tyvars c.in-Val.binds c.in-Val.functions c.deref-binds.result.now c.in-Val.is c.deref-binds.ensures.value),
+  omega (arith, c.decreases, binds-size c.args.dec.now c.in-Val.place c.in-Val.tyvars c.in-Val.binds c.in-Val.recs c.deref-binds.result.now c.in-Val.is c.deref-binds.ensures.value),
   (
-    begun_stands c.args.state.now c.begin.new.state c.args.context.now c.begin.new.context c.deref-scoped.result.now c.requires c.in_ok-begun.ensures.context c.in_ok-begun.ensures.begun,
+    reserved_stands c.args.state.now c.begin.new.state c.reserve_recs.new.state c.args.context.now c.begin.new.context c.deref-scoped.result.now _ _ c.requires c.in_ok-begun.ensures.context
+        c.in_ok-begun.ensures.begun c.in_ok-heads.ensures,
     begun_within c.args.state.now c.begin.new.state c.args.context.now c.begin.new.context c.in_ok-begun.begun c.deref-scoped.result.now c.in_ok-begun.ensures.tyvars
         c.in_ok-begun.ensures.begun,
   ),
 )
 
-pub val_of-finish-requires-clause-context : goal.val_of-finish-requires-clause-context
-val_of-finish-requires-clause-context t c =
-    context_on c.begin.new.state c.bindings_from.new.state c.begin.new.context c.bindings_from.new.context c.in_ok-begun.ensures.context c.in_ok-inside.ensures.are.grows
-    c.in_ok-inside.ensures.context
+pub val_of-recs_from-requires : goal.val_of-recs_from-requires
+val_of-recs_from-requires t c = (
+  omega (arith, c.decreases, recs-size c.args.dec.now c.in-Val.place c.in-Val.tyvars c.in-Val.binds c.in-Val.recs c.deref-recs.result.now c.in-Val.is c.deref-recs.ensures.value),
+  (
+    stands_on c.reserve_recs.new.state c.bindings_from.new.state c.begin.new.context c.bindings_from.new.context
+        (reserved_stands c.args.state.now c.begin.new.state c.reserve_recs.new.state c.args.context.now c.begin.new.context c.deref-scoped.result.now _ _ c.requires c.in_ok-begun.ensures.context
+        c.in_ok-begun.ensures.begun c.in_ok-heads.ensures) c.in_ok-inside.ensures.are.grows c.in_ok-inside.ensures.context,
+    (
+      heads_have c.begin.new.state c.reserve_recs.new.state c.bindings_from.new.state c.begin.new.context _ c.deref-heads.result.now (reserved_at c.begin.new.state c.reserve_recs.new.state c.begin.new.context _ c.in_ok-heads.heads.items c.deref-heads.result.now c.deref-heads.ensures.value c.in_ok-heads.ensures) c.in_ok-inside.ensures.are.grows,
+      heads_count bind_of c.begin.new.state c.reserve_recs.new.state c.begin.new.context c.deref-recs.result.now c.deref-heads.result.now (reserved_at c.begin.new.state c.reserve_recs.new.state c.begin.new.context _ c.in_ok-heads.heads.items c.deref-heads.result.now c.deref-heads.ensures.value c.in_ok-heads.ensures),
+    ),
+  ),
+)
 
-pub val_of-finish-requires-clause-level : goal.val_of-finish-requires-clause-level
-val_of-finish-requires-clause-level t c =
-    (stands_on c.begin.new.state c.bindings_from.new.state c.begin.new.context c.bindings_from.new.context
-    (begun_stands c.args.state.now c.begin.new.state c.args.context.now c.begin.new.context c.deref-scoped.result.now c.requires c.in_ok-begun.ensures.context c.in_ok-begun.ensures.begun)
-    c.in_ok-inside.ensures.are.grows c.in_ok-inside.ensures.context).level
+pub val_of-finish_inside-requires-clause-stands : goal.val_of-finish_inside-requires-clause-stands
+val_of-finish_inside-requires-clause-stands t c =
+    stands_on c.reserve_recs.new.state c.recs_from.new.state c.begin.new.context c.recs_from.new.context
+    (reserved_stands c.args.state.now c.begin.new.state c.reserve_recs.new.state c.args.context.now c.begin.new.context c.deref-scoped.result.now _ _ c.requires c.in_ok-begun.ensures.context
+    c.in_ok-begun.ensures.begun c.in_ok-heads.ensures)
+    (grows_on c.reserve_recs.new.state c.bindings_from.new.state c.recs_from.new.state c.in_ok-inside.ensures.are.grows c.in_ok-funs.ensures.are.functions.grows)
+    (c.in_ok-funs.ensures.context ∙ c.in_ok-inside.ensures.context)
 
-pub val_of-finish-requires-clause-inside : goal.val_of-finish-requires-clause-inside
-val_of-finish-requires-clause-inside t c =
-    (within_on c.begin.new.context c.bindings_from.new.context c.in_ok-begun.begun c.deref-scoped.result.now
-    (begun_within c.args.state.now c.begin.new.state c.args.context.now c.begin.new.context c.in_ok-begun.begun c.deref-scoped.result.now c.in_ok-begun.ensures.tyvars
-    c.in_ok-begun.ensures.begun)
-    c.in_ok-inside.ensures.context).inside
-
-pub val_of-finish-requires-clause-first : goal.val_of-finish-requires-clause-first
-val_of-finish-requires-clause-first t c =
-    first_made c.args.state.now c.begin.new.state c.bindings_from.new.state c.args.context.now c.begin.new.context c.deref-scoped.result.now c.in_ok-begun.begun.first
-    c.in_ok-begun.ensures.first c.in_ok-begun.ensures.begun c.in_ok-inside.ensures.are.grows
-
-pub val_of-finish-requires-clause-outer : goal.val_of-finish-requires-clause-outer
-val_of-finish-requires-clause-outer t c =
-    first_outer c.args.state.now c.begin.new.state c.bindings_from.new.state c.args.context.now c.begin.new.context c.bindings_from.new.context c.deref-scoped.result.now
-    c.in_ok-begun.begun.first c.in_ok-begun.ensures.first c.requires c.in_ok-begun.ensures.begun c.in_ok-inside.ensures.are.grows c.in_ok-inside.ensures.context
-
-pub val_of-finish-requires-clause-have : goal.val_of-finish-requires-clause-have
-val_of-finish-requires-clause-have t c =
-    bound_have c.begin.new.state c.bindings_from.new.state c.begin.new.context c.in_ok-begun.begun _ c.in_ok-inside.inside c.deref-bound.result.now c.deref-bound.ensures.value
-    c.in_ok-inside.ensures.are
-
-pub val_of-finish-requires-clause-count : goal.val_of-finish-requires-clause-count
-val_of-finish-requires-clause-count t c =
-    bound_count c.begin.new.state c.bindings_from.new.state c.begin.new.context c.in_ok-begun.begun _ c.in_ok-inside.inside c.deref-bound.result.now c.deref-flags.result.now
-    c.deref-bound.ensures.value c.deref-flags.ensures.value c.in_ok-inside.ensures.are
+pub val_of-finish_inside-requires-clause-ready : goal.val_of-finish_inside-requires-clause-ready
+val_of-finish_inside-requires-clause-ready t c =
+    group_ready c.args.state.now c.recs_from.new.state c.args.context.now c.recs_from.new.context c.in_ok-begun.begun c.deref-scoped.result.now c.deref-tyvars.result.now
+    (map bind_of c.deref-binds.result.now) (map bind_of c.deref-recs.result.now) c.recs_from.new.inside c.in_ok-funs.funs.items c.requires
+    (group_filled c.args.state.now c.begin.new.state c.reserve_recs.new.state c.bindings_from.new.state c.recs_from.new.state c.args.context.now c.begin.new.context
+    c.bindings_from.new.context c.recs_from.new.context c.in_ok-begun.begun c.deref-scoped.result.now c.deref-tyvars.result.now (map bind_of c.deref-binds.result.now)
+    (map bind_of c.deref-recs.result.now) c.deref-heads.result.now c.in_ok-inside.inside c.recs_from.new.inside c.in_ok-funs.funs.items c.in_ok-begun.ensures.first c.in_ok-begun.ensures.tyvars
+    c.in_ok-begun.ensures.begun (sym (c.deref-scoped.ensures.value ∙ c.in_ok-scoped.ensures))
+    (reserved_at c.begin.new.state c.reserve_recs.new.state c.begin.new.context _ c.in_ok-heads.heads.items c.deref-heads.result.now c.deref-heads.ensures.value c.in_ok-heads.ensures)
+    c.in_ok-inside.ensures.context c.in_ok-inside.ensures.are c.in_ok-funs.ensures.context c.in_ok-funs.ensures.are)
 
 pub val_of-returns-clause-schemes : goal.val_of-returns-clause-schemes
 val_of-returns-clause-schemes t c =
-    c.in_ok-made.ensures.schemes ∙ ap (λ (k : Context). k.schemes) c.in_ok-inside.ensures.context ∙ ap (λ (k : Context). k.schemes) c.in_ok-begun.ensures.begun.deep
-
-pub val_of-returns-clause-brings : goal.val_of-returns-clause-brings
-val_of-returns-clause-brings t c =
-    val_brings c.args.state.now c.begin.new.state c.bindings_from.new.state c.finish.new.state c.args.context.now c.begin.new.context c.bindings_from.new.context c.finish.new.context
-    c.args.dec.now c.in-Val.place c.in-Val.tyvars c.in-Val.binds c.in-Val.functions c.deref-binds.result.now c.deref-functions.result.now c.deref-tyvars.result.now
-    c.deref-scoped.result.now c.in_ok-begun.begun c.in_ok-inside.inside c.deref-bound.result.now c.deref-flags.result.now c.in_ok-made.made c.args.brought.now c.finish.new.brought
-    c.deref-bound.ensures.value c.deref-flags.ensures.value c.in-Val.is c.deref-tyvars.ensures.value c.deref-binds.ensures.value c.deref-functions.ensures.value (omega arith) c.requires
-    (c.deref-scoped.ensures.value ∙ c.in_ok-scoped.ensures) c.in_ok-begun.ensures.first c.in_ok-begun.ensures.tyvars c.in_ok-begun.ensures.begun c.in_ok-inside.ensures.context
-    c.in_ok-inside.ensures.are _ c.new-none.ensures.items c.in_ok-made.ensures.brings
+    c.in_ok-made.ensures.schemes ∙ ap (λ (k : Context). k.schemes) (c.in_ok-funs.ensures.context ∙ c.in_ok-inside.ensures.context)
+    ∙ ap (λ (k : Context). k.schemes) c.in_ok-begun.ensures.begun.deep
 
 pub val_of-returns-clause-stands : goal.val_of-returns-clause-stands
 val_of-returns-clause-stands t c =
-    stands_brought c.args.state.now c.finish.new.state c.args.context.now c.finish.new.context _ _ c.args.brought.now c.finish.new.brought c.requires
-    (val_context c.args.state.now c.begin.new.state c.bindings_from.new.state c.finish.new.state c.args.context.now c.begin.new.context c.bindings_from.new.context c.finish.new.context
-    c.deref-scoped.result.now c.in_ok-begun.begun _ c.in_ok-inside.inside c.deref-bound.result.now c.deref-flags.result.now c.deref-bound.ensures.value c.deref-flags.ensures.value
-    c.requires c.in_ok-begun.ensures.first c.in_ok-begun.ensures.tyvars c.in_ok-begun.ensures.begun c.in_ok-inside.ensures.context c.in_ok-inside.ensures.are _ c.new-none.ensures.items c.in_ok-made.ensures.context)
-    (val_brings c.args.state.now c.begin.new.state c.bindings_from.new.state c.finish.new.state c.args.context.now c.begin.new.context c.bindings_from.new.context c.finish.new.context
-    c.args.dec.now c.in-Val.place c.in-Val.tyvars c.in-Val.binds c.in-Val.functions c.deref-binds.result.now c.deref-functions.result.now c.deref-tyvars.result.now
-    c.deref-scoped.result.now c.in_ok-begun.begun c.in_ok-inside.inside c.deref-bound.result.now c.deref-flags.result.now c.in_ok-made.made c.args.brought.now c.finish.new.brought
-    c.deref-bound.ensures.value c.deref-flags.ensures.value c.in-Val.is c.deref-tyvars.ensures.value c.deref-binds.ensures.value c.deref-functions.ensures.value (omega arith) c.requires
-    (c.deref-scoped.ensures.value ∙ c.in_ok-scoped.ensures) c.in_ok-begun.ensures.first c.in_ok-begun.ensures.tyvars c.in_ok-begun.ensures.begun c.in_ok-inside.ensures.context
-    c.in_ok-inside.ensures.are _ c.new-none.ensures.items c.in_ok-made.ensures.brings)
+    c.in_ok-made.ensures.stands c.args.state.now c.args.context.now c.deref-tyvars.result.now (map bind_of c.deref-binds.result.now) (map bind_of c.deref-recs.result.now) c.requires
+    (group_filled c.args.state.now c.begin.new.state c.reserve_recs.new.state c.bindings_from.new.state c.recs_from.new.state c.args.context.now c.begin.new.context
+    c.bindings_from.new.context c.recs_from.new.context c.in_ok-begun.begun c.deref-scoped.result.now c.deref-tyvars.result.now (map bind_of c.deref-binds.result.now)
+    (map bind_of c.deref-recs.result.now) c.deref-heads.result.now c.in_ok-inside.inside c.recs_from.new.inside c.in_ok-funs.funs.items c.in_ok-begun.ensures.first c.in_ok-begun.ensures.tyvars
+    c.in_ok-begun.ensures.begun (sym (c.deref-scoped.ensures.value ∙ c.in_ok-scoped.ensures))
+    (reserved_at c.begin.new.state c.reserve_recs.new.state c.begin.new.context _ c.in_ok-heads.heads.items c.deref-heads.result.now c.deref-heads.ensures.value c.in_ok-heads.ensures)
+    c.in_ok-inside.ensures.context c.in_ok-inside.ensures.are c.in_ok-funs.ensures.context c.in_ok-funs.ensures.are)
+
+pub val_of-returns-clause-brings : goal.val_of-returns-clause-brings
+val_of-returns-clause-brings t c =
+    subst (λ z. IsBringing c.args.state.now c.args.context.now z c.finish_inside.new.state c.finish_inside.new.context (c.in_ok-made.made ∷ []) c.args.brought.now c.finish_inside.new.brought)
+    (val_source c.args.dec.now c.in-Val.place c.in-Val.tyvars c.in-Val.binds c.in-Val.recs c.deref-tyvars.result.now c.deref-binds.result.now c.deref-recs.result.now c.in-Val.is
+    c.deref-tyvars.ensures.value c.deref-binds.ensures.value c.deref-recs.ensures.value)
+    (c.in_ok-made.ensures.brings c.args.state.now c.args.context.now c.in-Val.place c.in-Val.tyvars.place c.deref-tyvars.result.now (map bind_of c.deref-binds.result.now)
+    (map bind_of c.deref-recs.result.now) c.requires
+    (group_filled c.args.state.now c.begin.new.state c.reserve_recs.new.state c.bindings_from.new.state c.recs_from.new.state c.args.context.now c.begin.new.context
+    c.bindings_from.new.context c.recs_from.new.context c.in_ok-begun.begun c.deref-scoped.result.now c.deref-tyvars.result.now (map bind_of c.deref-binds.result.now)
+    (map bind_of c.deref-recs.result.now) c.deref-heads.result.now c.in_ok-inside.inside c.recs_from.new.inside c.in_ok-funs.funs.items c.in_ok-begun.ensures.first c.in_ok-begun.ensures.tyvars
+    c.in_ok-begun.ensures.begun (sym (c.deref-scoped.ensures.value ∙ c.in_ok-scoped.ensures))
+    (reserved_at c.begin.new.state c.reserve_recs.new.state c.begin.new.context _ c.in_ok-heads.heads.items c.deref-heads.result.now c.deref-heads.ensures.value c.in_ok-heads.ensures)
+    c.in_ok-inside.ensures.context c.in_ok-inside.ensures.are c.in_ok-funs.ensures.context c.in_ok-funs.ensures.are))
+
+pub fun_of-begin-requires-clause-context : goal.fun_of-begin-requires-clause-context
+fun_of-begin-requires-clause-context t c = c.requires.context
+
+pub fun_of-begin-requires-clause-level : goal.fun_of-begin-requires-clause-level
+fun_of-begin-requires-clause-level t c = c.requires.level
+
+pub fun_of-functions_from-requires : goal.fun_of-functions_from-requires
+fun_of-functions_from-requires t c = (
+  omega (arith, c.decreases, functions-size c.args.dec.now c.in-Fun.place c.in-Fun.tyvars c.in-Fun.functions c.deref-functions.result.now c.in-Fun.is c.deref-functions.ensures.value),
+  (
+    (reserved_stands c.args.state.now c.begin.new.state c.reserve_names.new.state c.args.context.now c.begin.new.context c.deref-scoped.result.now _ _ c.requires c.in_ok-begun.ensures.context
+        c.in_ok-begun.ensures.begun c.in_ok-heads.ensures),
+    (
+      heads_have c.begin.new.state c.reserve_names.new.state c.reserve_names.new.state c.begin.new.context _ c.deref-heads.result.now (reserved_at c.begin.new.state c.reserve_names.new.state c.begin.new.context _ c.in_ok-heads.heads.items c.deref-heads.result.now c.deref-heads.ensures.value c.in_ok-heads.ensures) (grows_same c.reserve_names.new.state),
+      heads_count function_bind c.begin.new.state c.reserve_names.new.state c.begin.new.context c.deref-functions.result.now c.deref-heads.result.now (reserved_at c.begin.new.state c.reserve_names.new.state c.begin.new.context _ c.in_ok-heads.heads.items c.deref-heads.result.now c.deref-heads.ensures.value c.in_ok-heads.ensures),
+    ),
+  ),
+)
+
+pub fun_of-finish_inside-requires-clause-stands : goal.fun_of-finish_inside-requires-clause-stands
+fun_of-finish_inside-requires-clause-stands t c =
+    stands_on c.reserve_names.new.state c.functions_from.new.state c.begin.new.context c.functions_from.new.context
+    (reserved_stands c.args.state.now c.begin.new.state c.reserve_names.new.state c.args.context.now c.begin.new.context c.deref-scoped.result.now _ _ c.requires c.in_ok-begun.ensures.context
+    c.in_ok-begun.ensures.begun c.in_ok-heads.ensures)
+    c.in_ok-funs.ensures.are.functions.grows c.in_ok-funs.ensures.context
+
+pub fun_of-finish_inside-requires-clause-ready : goal.fun_of-finish_inside-requires-clause-ready
+fun_of-finish_inside-requires-clause-ready t c =
+    group_ready c.args.state.now c.functions_from.new.state c.args.context.now c.functions_from.new.context c.in_ok-begun.begun c.deref-scoped.result.now c.deref-tyvars.result.now
+    [] (map function_bind c.deref-functions.result.now) c.functions_from.new.inside c.in_ok-funs.funs.items c.requires
+    (group_filled c.args.state.now c.begin.new.state c.reserve_names.new.state c.reserve_names.new.state c.functions_from.new.state c.args.context.now c.begin.new.context
+    c.begin.new.context c.functions_from.new.context c.in_ok-begun.begun c.deref-scoped.result.now c.deref-tyvars.result.now []
+    (map function_bind c.deref-functions.result.now) c.deref-heads.result.now c.none_inside-inside.result c.functions_from.new.inside c.in_ok-funs.funs.items c.in_ok-begun.ensures.first
+    c.in_ok-begun.ensures.tyvars c.in_ok-begun.ensures.begun
+    (scopes_functions c.args.context.now c.deref-tyvars.result.now c.deref-scoped.result.now c.deref-functions.result.now (c.deref-scoped.ensures.value ∙ c.in_ok-scoped.ensures))
+    (reserved_at c.begin.new.state c.reserve_names.new.state c.begin.new.context _ c.in_ok-heads.heads.items c.deref-heads.result.now c.deref-heads.ensures.value c.in_ok-heads.ensures)
+    refl (none_bound c.reserve_names.new.state c.begin.new.context c.in_ok-begun.begun c.none_inside-inside.result c.none_inside-inside.ensures.bound c.none_inside-inside.ensures.flags
+    c.none_inside-inside.ensures.binds)
+    c.in_ok-funs.ensures.context c.in_ok-funs.ensures.are)
+
+pub fun_of-returns-clause-schemes : goal.fun_of-returns-clause-schemes
+fun_of-returns-clause-schemes t c =
+    c.in_ok-made.ensures.schemes ∙ ap (λ (k : Context). k.schemes) c.in_ok-funs.ensures.context
+    ∙ ap (λ (k : Context). k.schemes) c.in_ok-begun.ensures.begun.deep
+
+pub fun_of-returns-clause-stands : goal.fun_of-returns-clause-stands
+fun_of-returns-clause-stands t c =
+    c.in_ok-made.ensures.stands c.args.state.now c.args.context.now c.deref-tyvars.result.now [] (map function_bind c.deref-functions.result.now) c.requires
+    (group_filled c.args.state.now c.begin.new.state c.reserve_names.new.state c.reserve_names.new.state c.functions_from.new.state c.args.context.now c.begin.new.context
+    c.begin.new.context c.functions_from.new.context c.in_ok-begun.begun c.deref-scoped.result.now c.deref-tyvars.result.now []
+    (map function_bind c.deref-functions.result.now) c.deref-heads.result.now c.none_inside-inside.result c.functions_from.new.inside c.in_ok-funs.funs.items c.in_ok-begun.ensures.first
+    c.in_ok-begun.ensures.tyvars c.in_ok-begun.ensures.begun
+    (scopes_functions c.args.context.now c.deref-tyvars.result.now c.deref-scoped.result.now c.deref-functions.result.now (c.deref-scoped.ensures.value ∙ c.in_ok-scoped.ensures))
+    (reserved_at c.begin.new.state c.reserve_names.new.state c.begin.new.context _ c.in_ok-heads.heads.items c.deref-heads.result.now c.deref-heads.ensures.value c.in_ok-heads.ensures)
+    refl (none_bound c.reserve_names.new.state c.begin.new.context c.in_ok-begun.begun c.none_inside-inside.result c.none_inside-inside.ensures.bound c.none_inside-inside.ensures.flags
+    c.none_inside-inside.ensures.binds)
+    c.in_ok-funs.ensures.context c.in_ok-funs.ensures.are)
+
+pub fun_of-returns-clause-brings : goal.fun_of-returns-clause-brings
+fun_of-returns-clause-brings t c =
+    subst (λ z. IsBringing c.args.state.now c.args.context.now z c.finish_inside.new.state c.finish_inside.new.context (c.in_ok-made.made ∷ []) c.args.brought.now c.finish_inside.new.brought)
+    (fun_source c.args.dec.now c.in-Fun.place c.in-Fun.tyvars c.in-Fun.functions c.deref-tyvars.result.now c.deref-functions.result.now c.in-Fun.is
+    c.deref-tyvars.ensures.value c.deref-functions.ensures.value)
+    (c.in_ok-made.ensures.brings c.args.state.now c.args.context.now c.in-Fun.place c.in-Fun.tyvars.place c.deref-tyvars.result.now []
+    (map function_bind c.deref-functions.result.now) c.requires
+    (group_filled c.args.state.now c.begin.new.state c.reserve_names.new.state c.reserve_names.new.state c.functions_from.new.state c.args.context.now c.begin.new.context
+    c.begin.new.context c.functions_from.new.context c.in_ok-begun.begun c.deref-scoped.result.now c.deref-tyvars.result.now []
+    (map function_bind c.deref-functions.result.now) c.deref-heads.result.now c.none_inside-inside.result c.functions_from.new.inside c.in_ok-funs.funs.items c.in_ok-begun.ensures.first
+    c.in_ok-begun.ensures.tyvars c.in_ok-begun.ensures.begun
+    (scopes_functions c.args.context.now c.deref-tyvars.result.now c.deref-scoped.result.now c.deref-functions.result.now (c.deref-scoped.ensures.value ∙ c.in_ok-scoped.ensures))
+    (reserved_at c.begin.new.state c.reserve_names.new.state c.begin.new.context _ c.in_ok-heads.heads.items c.deref-heads.result.now c.deref-heads.ensures.value c.in_ok-heads.ensures)
+    refl (none_bound c.reserve_names.new.state c.begin.new.context c.in_ok-begun.begun c.none_inside-inside.result c.none_inside-inside.ensures.bound c.none_inside-inside.ensures.flags
+    c.none_inside-inside.ensures.binds)
+    c.in_ok-funs.ensures.context c.in_ok-funs.ensures.are))
 
 pub elab_dec-returns-in-Declarations : goal.elab_dec-returns-in-Declarations
 elab_dec-returns-in-Declarations t c =

@@ -1,11 +1,14 @@
 use Rattle.std.proofs.Common.{map, take}
+use Rattle.std.specs.Prelude.{reverse}
 use Rattle.sml_tree.specs.TreeOf.{bind_of, dec_of, exp_of, rule_of}
 use Rattle.elab_exps.specs.Decs.{AreDeclared}
+use Rattle.elab_exps.specs.Groups.{clause_rule, function_bind}
 use Rattle.elab_exps.proofs.Loops.{CallsSoFar, ElementsSoFar, FieldsSoFar, TupleSoFar}
 use Rattle.elab_exps.proofs.Chains.{LeftPart, RightPart, TestsPart}
 use Rattle.elab_exps.proofs.Rules.{RulesSoFar}
 use Rattle.elab_exps.proofs.Whole.{SequenceSoFar}
 use Rattle.elab_exps.proofs.Binding.{BoundSoFar}
+use Rattle.elab_exps.proofs.Grouping.{MembersSoFar}
 use Rattle.elab_exps.proofs.exps.+exps.Given as goal
 
 abbrev pub invariant-record_of-loop-i : goal.invariant-record_of-loop-i
@@ -41,3 +44,14 @@ invariant-decs_from-loop-i l =
 
 abbrev pub invariant-bindings_from-loop-i : goal.invariant-bindings_from-loop-i
 invariant-bindings_from-loop-i l = BoundSoFar l.fn.state l.fn.context l.begun (map bind_of (take l.i l.binds)) l.state l.context l.inside
+
+abbrev pub invariant-recs_from-loop-i : goal.invariant-recs_from-loop-i
+invariant-recs_from-loop-i l =
+    MembersSoFar l.fn.state l.initial.context (map bind_of (take l.i l.recs)) (take l.i (reverse l.heads)) l.fn.inside l.state l.context l.inside l.funs.items
+
+abbrev pub invariant-clauses_from-loop-i : goal.invariant-clauses_from-loop-i
+invariant-clauses_from-loop-i l = RulesSoFar l.fn.state l.fn.context l.fn.made (map clause_rule (take l.i l.clauses)) l.state l.context l.made
+
+abbrev pub invariant-functions_from-loop-i : goal.invariant-functions_from-loop-i
+invariant-functions_from-loop-i l =
+    MembersSoFar l.fn.state l.initial.context (map function_bind (take l.i l.functions)) (take l.i (reverse l.heads)) l.fn.inside l.state l.context l.inside l.funs.items
