@@ -16,9 +16,10 @@ use Rattle.elab_state.specs.declared.naming.Written.{Written}
 use Rattle.elab_state.specs.declared.state.State.{State}
 use Rattle.elab_steps.specs.Tidy.{IsTidy}
 use Rattle.elab_worlds.specs.Final.{unit_type, final_at, IsFinal}
-use Rattle.elab_finish.specs.Images.{AreEntered, IsMade}
-use Rattle.elab_finish.specs.Nodes.{IsEnd, value_by}
-use Rattle.elab_finish.proofs.Imaging.{made-grown}
+use Rattle.final_types.specs.Ended.{IsEnded}
+use Rattle.final_types.specs.Nodes.{IsEnd, value_by}
+use Rattle.final_types.specs.declared.finish.Finished.{Finished}
+use Rattle.elab_finish.specs.Finished.{IsFinished}
 
 limit-past : (ls : List Limit) (x : ℕ) → length ls ≤ x → (limit_at ls x).level ≡ 0
 limit-past [] x le = refl
@@ -56,29 +57,13 @@ module _ (S : State) (l : ℕ) (t : IsTidy S l) where
       by (bound u) is = refl
       by (row e ks us) is = refl
 
--- types that are written, one after the other
-
-pub entered-none : (ts us : List Typ) (rs : List Naming) (g : ℕ → Typ) → AreEntered ts us rs g [] []
-entered-none ts us rs g = tt
-
-pub entered-grown : (ts us vs : List Typ) (rs : List Naming) (g : ℕ → Typ) (ws : List Written) (ks : List ℕ) → take (length us) vs ≡ us → AreEntered ts us rs g ws ks → AreEntered ts vs rs g ws ks
-entered-grown ts us vs rs g [] [] e h = tt
-entered-grown ts us vs rs g [] (k ∷ ks) e h = absurd h
-entered-grown ts us vs rs g (w ∷ ws) [] e h = absurd h
-entered-grown ts us vs rs g (w ∷ ws) (k ∷ ks) e h = (made-grown ts us vs rs g w.naming w.ty k e h.0, entered-grown ts us vs rs g ws ks e h.1)
-
-pub entered-more : (ts us : List Typ) (rs : List Naming) (g : ℕ → Typ) (ws : List Written) (ks : List ℕ) (w : Written) (k : ℕ) → AreEntered ts us rs g ws ks
-    → IsMade ts us rs g w.naming w.ty k → AreEntered ts us rs g (ws ++ w ∷ []) (ks ++ k ∷ [])
-entered-more ts us rs g [] [] w k h m = (m, tt)
-entered-more ts us rs g [] (j ∷ ks) w k h m = absurd h
-entered-more ts us rs g (v ∷ ws) [] w k h m = absurd h
-entered-more ts us rs g (v ∷ ws) (j ∷ ks) w k h m = (h.0, entered-more ts us rs g ws ks w k h.1 m)
-
--- what a number of the tree stands for
-pub entered-reads : (ts us : List Typ) (rs : List Naming) (g : ℕ → Typ) (ws : List Written) (ks : List ℕ) (other : ℕ) → AreEntered ts us rs g ws ks → type_at us other ≡ var 0
-    → (k : ℕ) → type_at us (slice_index_or ks k other) ≡ type_if ts g rs (slice_get ws k)
-entered-reads ts us rs g [] [] other h o k = o
-entered-reads ts us rs g [] (j ∷ ks) other h o k = absurd h
-entered-reads ts us rs g (w ∷ ws) [] other h o k = absurd h
-entered-reads ts us rs g (w ∷ ws) (j ∷ ks) other h o zero = h.0.is
-entered-reads ts us rs g (w ∷ ws) (j ∷ ks) other h o (suc k) = entered-reads ts us rs g ws ks other h.1 o k
+-- so what is said of tables for the end of the solver is so for what is final
+pub ended-finished : (S : State) (l : ℕ) → IsTidy S l → (f : Finished) → IsEnded S f → IsFinished S f
+ended-finished S l t f e = record {
+  types = λ g h. e.types g (final-end S l t g h);
+  exn = e.exn;
+  initial = e.initial;
+  constructors = e.constructors;
+  parameters = e.parameters;
+  strings = e.strings;
+}

@@ -22,8 +22,12 @@ use Rattle.dec_forms.specs.Decs.{IsDecs}
 use Rattle.dec_forms.proofs.Sequencing.{decs-do}
 use Rattle.elab_worlds.specs.Final.{AreConstructors, IsFinal, IsLast, final_world}
 use Rattle.elab_worlds.proofs.Final.{final-comes, state-ends}
+use Rattle.ir_prog.specs.Programs.{body_in}
+use Rattle.ir_prog.specs.declared.program.Program.{Program}
+use Rattle.final_types.specs.Programs.{IsProgramWith}
 use Rattle.elab_finish.specs.Finished.{IsFinished}
-use Rattle.elab_finish.specs.declared.finish.Finished.{Finished}
+use Rattle.elab_finish.proofs.Ending.{final-end}
+use Rattle.final_types.specs.declared.finish.Finished.{Finished}
 
 find-front : (ks js : List Constructor) (y : TyName) (c : ℕ) (found : Constructor) → find ks y c ≡ Some found → find (ks ++ js) y c ≡ Some found
 find-front [] js y c found e = cc
@@ -56,3 +60,9 @@ module _ (S T : State) (C D : Context) (ds : List bare.Dec) (decs : List Dec) (l
         let e = same (reading f.tables) ∙ ap (λ R. body_of R decs) (reads z.values z.final) in
         subst (λ cs. IsProgramOf (initial_constructors ++ cs) (source.decs_of ds) (body_of (reading f.tables) new)) (sym finished.constructors)
         (subst (IsProgramOf (initial_constructors ++ table_in T) (source.decs_of ds)) (sym e) (run-right z.values z.final))
+
+  pub made-right : (p : Program) → IsProgramWith T decs p → IsProgramOf (initial_constructors ++ constructors_of p.tables) (source.decs_of ds) (body_in p)
+  made-right p w =
+      let z = state-ends T l last k in
+      subst (λ cs. IsProgramOf (initial_constructors ++ cs) (source.decs_of ds) (body_in p)) (sym w.constructors)
+      (subst (IsProgramOf (initial_constructors ++ table_in T) (source.decs_of ds)) (sym (w.body z.values (final-end T l last.tidy z.values z.final))) (run-right z.values z.final))

@@ -8,7 +8,7 @@ use Rattle.prog_renumber.specs.Renumbered.{number_at}
 use Rattle.elab_state.specs.States.{table_in, reading_in}
 use Rattle.elab_state.specs.declared.state.State.{State}
 use Rattle.elab_worlds.specs.Final.{IsFinal}
-use Rattle.elab_finish.specs.declared.finish.Finished.{Finished}
+use Rattle.final_types.specs.declared.finish.Finished.{Finished}
 
 -- the tables are the state's, with the types that are written, as they are in the end
 pub record IsFinished (S : State) (f : Finished) : Type 0 where

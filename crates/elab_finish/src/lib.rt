@@ -1,5 +1,5 @@
-// The end of elaboration: a program whose types are of its own table.
+// The end of elaboration: a program whose types are of its own table, and that is right.
 #![tactic(auto)]
 
-pub mod finish;
+pub mod elaborated;
 pub mod law;

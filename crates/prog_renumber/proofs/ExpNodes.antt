@@ -3,6 +3,7 @@ use Rattle.std.proofs.Common.{◌≡◌, ℕ, Bool, List, [], ◌∷◌, map, Op
 use Rattle.std.specs.Prelude.{option_map}
 use Rattle.mlc_names.specs.declared.label.Label.{Label}
 use Rattle.mlc_base.specs.declared.place.Place.{Place}
+use Rattle.ty_core.specs.Types.{Typ}
 use Rattle.ir_poly.specs.Prog as t
 use Rattle.prog_tree.specs.TreeOf.{Reading, DecTree, exception_tree, val_tree, RuleTree, tree_of, function_of, dec_of, rule_of, pat_of, field_of, argument_of, join_of, bind_of, fun_of, decs_of, record_of, rules_of, chain_of, sequence_of, apply_by, left_joins, right_joins, joins_by, join, binds_by, funs_by, after_parameters, atom_of, use_of, types_of, node_dec, node_exp, node_function, node_rule}
 use Rattle.prog_tree.specs.declared.tree.Atom.{Atom}
@@ -22,7 +23,7 @@ use Rattle.prog_tree.specs.declared.tree.Side.TheVariants as side
 use Rattle.prog_tree.specs.declared.tree.Used.{Used}
 use Rattle.prog_tree.specs.declared.tree.Used.TheVariants as used
 use Rattle.prog_tree.proofs.ExpOf.{tree_of-Record, tree_of-Let, tree_of-Apply, tree_of-Infix, tree_of-Case, tree_of-Sequence, tree_of-Test, tree_of-Handle, function_of-Named, function_of-ByRules, dec_of-Val, rule_of-parts}
-use Rattle.prog_renumber.specs.Renumbered.{number_at, renumbered, parameter_at, join_at, binding_at, atom_at, argument_head, binding_head, member_head, argument_from, join_from, bind_from, fun_from}
+use Rattle.prog_renumber.specs.Renumbered.{number_at, renumbered, parameter_at, join_at, atom_at, argument_from, join_from, bind_from, member_of}
 use Rattle.prog_renumber.specs.declared.numbers.Numbers.{Numbers}
 
 module _ (R : Reading) where
@@ -43,6 +44,15 @@ module _ (R : Reading) where
 
   dec_of-Exception : (x i : ℕ) (a : Option ℕ) → dec_of R (dec.Exception x i a) ≡ exception_tree x i (option_map R.type a)
   dec_of-Exception x i a = ap (dec_of R) (sym (dec.rolls-Exception x i a)) ∙ fold-roll-Dec DecTree t.Exp t.Fun RuleTree (node_dec R) (node_exp R) (node_function R) (node_rule R) (Dec-F.Exception x i a)
+
+-- functions that are declared together, by what stands for each
+abbrev members_by : List (List ℕ × Typ × t.Fun) → t.Funs
+members_by [] = t.no_funs
+members_by (f ∷ fs) = t.a_fun f.0 f.1 f.2 (members_by fs)
+
+members-are : (R : Reading) (fs : List (Vec ℕ Global × ℕ × Function)) → funs_by R.type (map (fun_of R) fs) ≡ members_by (map (member_of R) fs)
+members-are R [] = refl
+members-are R (f ∷ fs) = ap (t.a_fun f.0.items (R.type f.1) (function_of R f.2)) (members-are R fs)
 
 module _ (n : Numbers) (Q : Reading) where
   abbrev R : Reading
@@ -78,9 +88,8 @@ module _ (n : Numbers) (Q : Reading) where
   binds-same [] = refl
   binds-same (b ∷ bs) = ap (t.a_bind b.0.place b.0.general (rule_of R b.1).pat (Q.type (number_at n b.0.ty)) (rule_of R b.1).exp) (binds-same bs)
 
-  funs-same : (fs : List (Vec ℕ Global × ℕ × Function)) → funs_by Q.type (map (fun_from n Q) fs) ≡ funs_by R.type (map (fun_of R) fs)
-  funs-same [] = refl
-  funs-same (f ∷ fs) = ap (t.a_fun f.0.items (Q.type (number_at n f.1)) (function_of R f.2)) (funs-same fs)
+  funs-same : (gs fs : List (Vec ℕ Global × ℕ × Function)) → map (member_of Q) gs ≡ map (member_of R) fs → funs_by Q.type (map (fun_of Q) gs) ≡ funs_by R.type (map (fun_of R) fs)
+  funs-same gs fs e = members-are Q gs ∙ ap members_by e ∙ sym (members-are R fs)
 
   -- nodes
 
@@ -177,10 +186,10 @@ module _ (n : Numbers) (Q : Reading) where
       ∙ ap (λ y. after_parameters R xs.items (t.by_rules p (R.type a) (R.type u) (rules_of y))) k ∙ sym (function_of-ByRules R xs p a u rs)
 
   pub val-renumbered : (ps ps' : ℕ) (bs bs' : Vec (Binding × Rule) Global) (fs fs' : Vec (Vec ℕ Global × ℕ × Function) Global) → ps' ≡ ps
-      → map (bind_of Q) bs'.items ≡ map (bind_from n Q) bs.items → map (fun_of Q) fs'.items ≡ map (fun_from n Q) fs.items → dec_of Q (dec.Val ps' bs' fs') ≡ dec_of R (dec.Val ps bs fs)
+      → map (bind_of Q) bs'.items ≡ map (bind_from n Q) bs.items → map (member_of Q) fs'.items ≡ map (member_of R) fs.items → dec_of Q (dec.Val ps' bs' fs') ≡ dec_of R (dec.Val ps bs fs)
   val-renumbered ps ps' bs bs' fs fs' h i j =
       dec_of-Val Q ps' bs' fs' ∙ ap₂ (λ x y. val_tree (Q.parameters x) (binds_by Q.type y) (funs_by Q.type (map (fun_of Q) fs'.items))) h i
-      ∙ ap₂ (λ x y. val_tree (Q.parameters ps) x y) (binds-same bs.items) (ap (funs_by Q.type) j ∙ funs-same fs.items) ∙ sym (dec_of-Val R ps bs fs)
+      ∙ ap₂ (λ x y. val_tree (Q.parameters ps) x y) (binds-same bs.items) (funs-same fs'.items fs.items j) ∙ sym (dec_of-Val R ps bs fs)
 
   pub exception-renumbered : (x x' i i' : ℕ) (a a' : Option ℕ) → x' ≡ x → i' ≡ i → a' ≡ option_map (number_at n) a → dec_of Q (dec.Exception x' i' a') ≡ dec_of R (dec.Exception x i a)
   exception-renumbered x x' i i' a a' e f g =
@@ -190,41 +199,6 @@ module _ (n : Numbers) (Q : Reading) where
       same : (a : Option ℕ) → option_map Q.type (option_map (number_at n) a) ≡ option_map R.type a
       same None = refl
       same (Some k) = refl
-
-  -- lists whose heads are changed behind their parts
-
-  pub arguments-renumbered : (old mid new : List (ℕ × Exp)) → map (argument_of Q) mid ≡ map (argument_of R) old → new ≡ map (argument_head n) mid → map (argument_of Q) new ≡ map (argument_from n Q) old
-  arguments-renumbered old mid new e f = ap (map (argument_of Q)) f ∙ front mid ∙ ap (map (λ (p : ℕ × t.Exp). (number_at n p.0, p.1))) e ∙ back old
-    where
-      front : (l : List (ℕ × Exp)) → map (argument_of Q) (map (argument_head n) l) ≡ map (λ (p : ℕ × t.Exp). (number_at n p.0, p.1)) (map (argument_of Q) l)
-      front [] = refl
-      front (x ∷ l) = ap (λ m. (number_at n x.0, tree_of Q x.1) ∷ m) (front l)
-
-      back : (l : List (ℕ × Exp)) → map (λ (p : ℕ × t.Exp). (number_at n p.0, p.1)) (map (argument_of R) l) ≡ map (argument_from n Q) l
-      back [] = refl
-      back (x ∷ l) = ap (λ m. (number_at n x.0, tree_of R x.1) ∷ m) (back l)
-
-  pub binds-renumbered : (old mid new : List (Binding × Rule)) → map (bind_of Q) mid ≡ map (bind_of R) old → new ≡ map (binding_head n) mid → map (bind_of Q) new ≡ map (bind_from n Q) old
-  binds-renumbered old mid new e f = ap (map (bind_of Q)) f ∙ front mid ∙ ap (map (λ (p : Binding × RuleTree). (binding_at n p.0, p.1))) e ∙ back old
-    where
-      front : (l : List (Binding × Rule)) → map (bind_of Q) (map (binding_head n) l) ≡ map (λ (p : Binding × RuleTree). (binding_at n p.0, p.1)) (map (bind_of Q) l)
-      front [] = refl
-      front (x ∷ l) = ap (λ m. (binding_at n x.0, rule_of Q x.1) ∷ m) (front l)
-
-      back : (l : List (Binding × Rule)) → map (λ (p : Binding × RuleTree). (binding_at n p.0, p.1)) (map (bind_of R) l) ≡ map (bind_from n Q) l
-      back [] = refl
-      back (x ∷ l) = ap (λ m. (binding_at n x.0, rule_of R x.1) ∷ m) (back l)
-
-  pub members-renumbered : (old mid new : List (Vec ℕ Global × ℕ × Function)) → map (fun_of Q) mid ≡ map (fun_of R) old → new ≡ map (member_head n) mid → map (fun_of Q) new ≡ map (fun_from n Q) old
-  members-renumbered old mid new e f = ap (map (fun_of Q)) f ∙ front mid ∙ ap (map (λ (p : Vec ℕ Global × ℕ × t.Fun). (p.0, number_at n p.1, p.2))) e ∙ back old
-    where
-      front : (l : List (Vec ℕ Global × ℕ × Function)) → map (fun_of Q) (map (member_head n) l) ≡ map (λ (p : Vec ℕ Global × ℕ × t.Fun). (p.0, number_at n p.1, p.2)) (map (fun_of Q) l)
-      front [] = refl
-      front (x ∷ l) = ap (λ m. (x.0, number_at n x.1, function_of Q x.2) ∷ m) (front l)
-
-      back : (l : List (Vec ℕ Global × ℕ × Function)) → map (λ (p : Vec ℕ Global × ℕ × t.Fun). (p.0, number_at n p.1, p.2)) (map (fun_of R) l) ≡ map (fun_from n Q) l
-      back [] = refl
-      back (x ∷ l) = ap (λ m. (x.0, number_at n x.1, function_of R x.2) ∷ m) (back l)
 
   pub rule-renumbered : (r r' : Rule) → pat_of Q r'.pat ≡ pat_of R r.pat → tree_of Q r'.exp ≡ tree_of R r.exp → rule_of Q r' ≡ rule_of R r
   rule-renumbered r r' e f = rule_of-parts Q r' ∙ ap₂ (λ x y. record { pat = x; exp = y }) e f ∙ sym (rule_of-parts R r)

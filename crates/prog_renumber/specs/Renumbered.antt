@@ -1,6 +1,7 @@
 -- Other numbers for the types of a tree.
-use Rattle.std.specs.Prelude.{ℕ, Vec, slice_index_or}
+use Rattle.std.specs.Prelude.{ℕ, List, Vec, slice_index_or}
 use Rattle.std.specs.Global.{Global}
+use Rattle.ty_core.specs.Types.{Typ}
 use Rattle.ir_poly.specs.Prog as t
 use Rattle.prog_tree.specs.TreeOf.{Reading, RuleTree, tree_of, function_of, rule_of}
 use Rattle.prog_tree.specs.declared.tree.Atom.{Atom}
@@ -39,16 +40,6 @@ atom_at n (atom.Own x) = atom.Own x
 atom_at n (atom.Exception x) = atom.Exception x
 atom_at n (atom.Reference b) = atom.Reference (number_at n b)
 
--- parts whose own type has its new number
-abbrev pub argument_head : Numbers → ℕ × Exp → ℕ × Exp
-argument_head n a = (number_at n a.0, a.1)
-
-abbrev pub binding_head : Numbers → Binding × Rule → Binding × Rule
-binding_head n b = (binding_at n b.0, b.1)
-
-abbrev pub member_head : Numbers → Vec ℕ Global × ℕ × Function → Vec ℕ Global × ℕ × Function
-member_head n f = (f.0, number_at n f.1, f.2)
-
 -- what parts stand for with what stands before them, at the new numbers
 abbrev pub argument_from : Numbers → Reading → ℕ × Exp → ℕ × t.Exp
 argument_from n R a = (number_at n a.0, tree_of (renumbered n R) a.1)
@@ -59,5 +50,6 @@ join_from n R j = (join_at n j.0, tree_of (renumbered n R) j.1, tree_of (renumbe
 abbrev pub bind_from : Numbers → Reading → Binding × Rule → Binding × RuleTree
 bind_from n R b = (binding_at n b.0, rule_of (renumbered n R) b.1)
 
-abbrev pub fun_from : Numbers → Reading → Vec ℕ Global × ℕ × Function → Vec ℕ Global × ℕ × t.Fun
-fun_from n R f = (f.0, number_at n f.1, function_of (renumbered n R) f.2)
+-- a function that is declared with others: its variables, its type and itself
+abbrev pub member_of : Reading → Vec ℕ Global × ℕ × Function → List ℕ × Typ × t.Fun
+member_of R f = (f.0.items, R.type f.1, function_of R f.2)

@@ -1,8 +1,10 @@
 // Which numbers stand for the types of a tree from now on.
-ghost use Rattle.std.specs.Prelude.{◌≡◌, map, option_map};
-ghost use Rattle.prog_renumber.specs.Renumbered.{number_at, parameter_at, pair_at, join_at, binding_at, atom_at, argument_head, binding_head, member_head};
+ghost use Rattle.std.specs.Prelude.{◌≡◌, map, option_map, IfOk};
+ghost use Rattle.prog_renumber.specs.Renumbered.{number_at, parameter_at, pair_at, join_at, binding_at, atom_at};
 
-use prog_tree::tree::{Atom, Binding, Exp, Function, Join, Pair, Parameter, Rule};
+use mlc_base::memory::NoMemory;
+use prog_tree::tree::{Atom, Binding, Join, Pair, Parameter};
+use std::alloc::Global;
 
 /// The new number of each type, by its old one, and that of all further ones.
 #[derive(Drop)]
@@ -88,48 +90,36 @@ impl Numbers {
         }
     }
 
-    /// Of types, in place.
-    pub fn types(&self, types: &mut [usize])
-        ensures { types.new ≡ map (number_at self.now) types.old }
+    /// Of types.
+    pub fn types(&self, alloc: Global, types: &[usize]) -> Result<Vec<usize>, NoMemory>
+        ensures { IfOk result (λ new. new.items ≡ map (number_at self.now) types.now) }
     {
+        let mut new = Vec::new(alloc);
         for i in 0..types.len() {
-            types[i] = self.at(types[i]);
+            new.push(self.at(types[i]))?;
         }
+        Ok(new)
     }
 
-    /// Of variables with their types, in place.
-    pub fn parameters(&self, parameters: &mut [Parameter])
-        ensures { parameters.new ≡ map (parameter_at self.now) parameters.old }
+    /// Of variables with their types.
+    pub fn parameters(
+        &self,
+        alloc: Global,
+        parameters: &[Parameter],
+    ) -> Result<Vec<Parameter>, NoMemory>
+        ensures { IfOk result (λ new. new.items ≡ map (parameter_at self.now) parameters.now) }
     {
+        let mut new = Vec::new(alloc);
         for i in 0..parameters.len() {
-            parameters[i] = self.parameter(parameters[i]);
+            new.push(self.parameter(parameters[i]))?;
         }
+        Ok(new)
     }
+}
 
-    /// Of applications to arguments, in place.
-    pub fn arguments(&self, arguments: &mut [(usize, Exp)])
-        ensures { arguments.new ≡ map (argument_head self.now) arguments.old }
-    {
-        for i in 0..arguments.len() {
-            arguments[i].0 = self.at(arguments[i].0);
-        }
-    }
-
-    /// Of bindings, in place.
-    pub fn bindings(&self, bindings: &mut [(Binding, Rule)])
-        ensures { bindings.new ≡ map (binding_head self.now) bindings.old }
-    {
-        for i in 0..bindings.len() {
-            bindings[i].0 = self.binding(bindings[i].0);
-        }
-    }
-
-    /// Of functions that are declared together, in place.
-    pub fn members(&self, members: &mut [(Vec<usize>, usize, Function)])
-        ensures { members.new ≡ map (member_head self.now) members.old }
-    {
-        for i in 0..members.len() {
-            members[i].1 = self.at(members[i].1);
-        }
-    }
+/// The same variables in memory of their own.
+pub fn copy_variables(alloc: Global, variables: &[usize]) -> Result<Vec<usize>, NoMemory>
+    ensures { IfOk result (λ new. new.items ≡ variables.now) }
+{
+    Ok(Vec::from_slice(alloc, variables)?)
 }

@@ -1,0 +1,9 @@
+pub mod Namings
+pub mod Jumping
+pub mod Numbering
+pub mod Viewing
+pub mod Imaging
+pub mod Bounding
+pub mod Stepping
+pub mod Entering
+pub mod Reading

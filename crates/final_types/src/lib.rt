@@ -1,0 +1,12 @@
+// The types of a solver as a program has them at the end.
+#![tactic(auto)]
+
+pub mod bound;
+pub mod enter;
+pub mod finish;
+pub mod making;
+pub mod names;
+pub mod node;
+pub mod program;
+pub mod source;
+pub mod step;
