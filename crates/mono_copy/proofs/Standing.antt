@@ -1,5 +1,5 @@
 -- Types stand for parameters while a copy is made, and are taken back then.
-use Rattle.std.proofs.Common.{◌≡◌, ◌<◌, ◌≤◌, ◌-◌, ℕ, Bool, List, [], ◌∷◌, ◌++◌, map, drop, length, get_or, nat_eq, refl, sym, ap, ap₂, subst, ◌∙◌, arith, length-append}
+use Rattle.std.proofs.Common.{◌≡◌, ◌⊎◌, inl, inr, ◌<◌, ◌≤◌, ◌-◌, ℕ, Bool, List, [], ◌∷◌, ◌++◌, map, drop, length, get_or, nat_eq, refl, sym, ap, ap₂, subst, ◌∙◌, arith, length-append}
 use Rattle.mlc_runs.specs.Passes.{greatest_expansion}
 use Rattle.indexmap.specs.IndexMap.{get}
 use Rattle.ty_core.specs.Types.{Typ}
@@ -15,22 +15,25 @@ use Rattle.plain_tree.specs.declared.tree.Binding.{Binding}
 use Rattle.plain_tree.specs.declared.tree.Function.{Function}
 use Rattle.plain_tree.specs.declared.tree.Step.{Step}
 use Rattle.monomorphise.specs.Monomorphise.{Groups, copy_of, fun_vars, group_at, funs_copy}
-use Rattle.mono_close.specs.Closing.{standing}
+use Rattle.mono_close.specs.Closing.{standing, AreRight}
 use Rattle.mono_close.proofs.Tables.{held-longer, length-longer, right-longer, right-again}
 use Rattle.mono_names.specs.Named.{types_named}
 use Rattle.mono_words.specs.Words.{Sign, function_sign, let_sign, group_sign, spell_heads}
 use Rattle.mono_words.specs.Made.{bodies_made, group_made}
 use Rattle.mono_words.specs.Seen.{Seen, with_sign, made}
 use Rattle.mono_state.specs.Seen.{Held, held_of, Longer, Later, types_in, name_in, groups_in, seen, sign_of}
-use Rattle.mono_state.specs.Going.{IsHeld, IsOpen, Goes, Stands}
+use Rattle.mono_state.specs.Going.{IsHeld, IsOpen, IsRight, Goes, Stands, slots_for}
 use Rattle.mono_state.specs.declared.copier.Copier.{Copier}
 use Rattle.mono_state.specs.declared.word.Word.TheVariants as word
-use Rattle.mono_state.proofs.Growing.{sooner, on-longer, still-own, got-or}
+use Rattle.mono_state.proofs.Growing.{sooner, same-longer, on-longer, still-own, got-or}
 use Rattle.mono_state.proofs.Going.{goes-then}
 use Rattle.mono_state.proofs.Naming.{list-at}
 use Rattle.mono_state.proofs.Standing.{stands}
 use Rattle.mono_parts.specs.Steps.{functions_in, with_own}
+use Rattle.mono_copy.specs.declared.parts.Before.{Before}
+use Rattle.mono_copy.specs.declared.parts.Before.TheVariants.{Same, Closed}
 use Rattle.mono_copy.specs.Puts.{Change, IsReady, Puts, Passes}
+use Rattle.mono_copy.specs.Standing.{StandsFor, IsBefore, stood_back}
 use Rattle.mono_copy.specs.Changes.{step_in, acted, binding_made, operation_put, bodies_put, binding_put, group_put}
 use Rattle.mono_copy.proofs.Changing.{passes-more}
 
@@ -62,7 +65,22 @@ module _ {t : Tables} {old begun : Copier} {G : Held → Groups → Groups} {S :
 
 -- the types of a list stand for parameters
 
-types-stand : (old begun : Copier) (ps : List Quantified) (list : ℕ) → Stands ps list old begun → IsHeld (held_of old) list → (H : Held) → Later (held_of begun) H
+none-stood : (ps : List Quantified) (ns : List ℕ) → ps ≡ [] → slots_for ps ns ≡ []
+none-stood ps ns e = ap (λ qs. slots_for qs ns) e
+
+pub stands-none : (ps : List Quantified) (list : ℕ) (c : Copier) → IsOpen c → ps ≡ [] → StandsFor ps list c c
+stands-none ps list c o e = record {
+  open_ = o;
+  right = λ sources r. r;
+  slots = ap (λ l. l ++ c.slots) (sym (none-stood ps (get_or c.lists list []) e));
+  own = refl;
+  longer = same-longer (held_of c);
+}
+
+pub stands-some : (ps : List Quantified) (list : ℕ) (old new : Copier) → Stands ps list old new → StandsFor ps list old new
+stands-some ps list old new s = record { open_ = s.open_; right = λ sources r. s.right sources; slots = s.slots; own = s.own; longer = s.longer }
+
+types-stand : (old begun : Copier) (ps : List Quantified) (list : ℕ) → StandsFor ps list old begun → IsHeld (held_of old) list → (H : Held) → Later (held_of begun) H
     → standing H.types begun.slots ≡ changed ps (types_in H list) (standing H.types old.slots)
 types-stand old begun ps list s h H l =
     let ns = get_or old.lists list [] in
@@ -70,7 +88,7 @@ types-stand old begun ps list s h H l =
     ap (types_named H.types) (got-or old.lists list [] h.numbers h.there) ∙ sym (list-at list h.numbers (sooner s.longer l) h.there) in
     ap (standing H.types) s.slots ∙ stands H.types ps ns old.slots ∙ ap (λ ts. changed ps ts (standing H.types old.slots)) e
 
-pub under-binding : (t : Tables) (old begun : Copier) (ps : List Quantified) (list : ℕ) → Stands ps list old begun → IsHeld (held_of old) list
+pub under-binding : (t : Tables) (old begun : Copier) (ps : List Quantified) (list : ℕ) → StandsFor ps list old begun → IsHeld (held_of old) list
     → ((ss : List (List ℕ)) (H : Held) → seen ss H begun ≡ seen ss H old) → Under t old begun (λ H g. g) (λ H s. changed ps (types_in H list) s)
 under-binding t old begun ps list s h same = record {
   longer = s.longer;
@@ -83,7 +101,7 @@ own-groups : (H : Held) (fs : Funs poly) (k : ℕ) (own : List (ℕ × ℕ)) →
 own-groups H no_funs k own = refl
 own-groups H (fun x u f fs) k own = ap (λ l. (x, types_in H k) ∷ l) (own-groups H fs k own)
 
-pub under-group : (t : Tables) (old stood begun : Copier) (ps : List Quantified) (list : ℕ) (fs : Funs poly) → Stands ps list old stood → IsHeld (held_of old) list
+pub under-group : (t : Tables) (old stood begun : Copier) (ps : List Quantified) (list : ℕ) (fs : Funs poly) → StandsFor ps list old stood → IsHeld (held_of old) list
     → ((ss : List (List ℕ)) (H : Held) → seen ss H stood ≡ seen ss H old) → begun ≡ record stood { own = with_own (fun_vars fs) list stood.own }
     → Under t old begun (λ H g. group_at fs (types_in H list) g) (λ H s. changed ps (types_in H list) s)
 under-group t old stood begun ps list fs s h same e =
@@ -113,11 +131,47 @@ own-front [] k own = refl
 own-front (x ∷ vs) k own = ap (λ l. (x, k) ∷ l) (own-front vs k own)
 
 -- where it stood before, with what was made since
-abbrev pub back_at : Copier → Copier → Copier
-back_at old now = record now { slots = old.slots; own = old.own; known = old.known }
+abbrev pub back_at : Copier → Copier → Copier → Copier
+back_at old now back = record now { slots = old.slots; own = old.own; known = back.known }
 
-pub goes-back : (sources : List Typ) (old now : Copier) → IsOpen old → IsOpen now → Longer (held_of old) (held_of now) → Goes sources old (back_at old now)
-goes-back sources old now o n g = record {
+-- what was closed before comes back, or, where nothing was put for parameters, what is closed now stays
+pub record IsBack (old now back : Copier) : Type 0 where
+  pub same : back ≡ back_at old now back
+  pub known : (back.known ≡ old.known) ⊎ ((back.known ≡ now.known) × (now.slots ≡ old.slots))
+
+pub own-stood : (n : ℕ) (before : Before) (now : Copier) → (stood_back n before now).own ≡ now.own
+own-stood n Same now = refl
+own-stood n (Closed known) now = refl
+
+-- with these functions of groups
+pub is-back : (old now mid : Copier) (ps : List Quantified) (ns : List ℕ) (n : ℕ) (before : Before) (own : List (ℕ × ℕ)) → IsBefore ps old before
+    → now.slots ≡ slots_for ps ns ++ old.slots → n ≡ length old.slots → own ≡ old.own → mid ≡ stood_back n before now → IsBack old now (record mid { own = own })
+is-back old now mid ps ns n Same own b s e w r =
+    let t : now.slots ≡ old.slots = s ∙ ap (λ l. l ++ old.slots) (none-stood ps ns b) in
+    record {
+      same = ap (λ (k : Copier). record k { own = own }) r ∙ (λ i. record now { slots = t i; own = w i; known = sym (ap (λ (k : Copier). k.known) r) i });
+      known = inr (ap (λ (k : Copier). k.known) r, t);
+    }
+is-back old now mid ps ns n (Closed known) own b s e w r = record {
+  same = ap (λ (k : Copier). record k { own = own }) r
+      ∙ (λ i. record now { slots = taken-back now.slots (slots_for ps ns) old.slots n s e i; own = w i; known = sym (ap (λ (k : Copier). k.known) r) i });
+  known = inl (ap (λ (k : Copier). k.known) r ∙ b);
+}
+
+right-back : (sources : List Typ) (old now back : Copier) → IsOpen old → Longer (held_of old) (held_of now) → IsRight sources now
+    → (back.known ≡ old.known) ⊎ ((back.known ≡ now.known) × (now.slots ≡ old.slots)) → IsRight sources old
+    → AreRight sources (standing now.closed old.slots) (get nat_eq back.known) now.closed
+right-back sources old now back o g r (inl k) before =
+    subst (λ m. AreRight sources (standing now.closed old.slots) (get nat_eq m) now.closed) (sym k)
+    (right-again sources old.closed now.closed old.slots (get nat_eq old.known) g.types o.slots
+    (right-longer sources old.closed now.closed (standing old.closed old.slots) (get nat_eq old.known) g.types before))
+right-back sources old now back o g r (inr (k, s)) before =
+    subst (λ m. AreRight sources (standing now.closed old.slots) (get nat_eq m) now.closed) (sym k)
+    (subst (λ l. AreRight sources (standing now.closed l) (get nat_eq now.known) now.closed) s r)
+
+pub goes-back : (sources : List Typ) (old now back : Copier) → IsOpen old → IsOpen now → Longer (held_of old) (held_of now) → IsRight sources now → IsBack old now back
+    → Goes sources old back
+goes-back sources old now back o n g r b = subst (λ c. Goes sources old c) (sym b.same) (record {
   open_ = record {
     scopes = n.scopes;
     within = n.within;
@@ -126,15 +180,15 @@ goes-back sources old now o n g = record {
     nothing = n.nothing;
     few = n.few;
   };
-  right = λ r. right-again sources old.closed now.closed old.slots (get nat_eq old.known) g.types o.slots
-      (right-longer sources old.closed now.closed (standing old.closed old.slots) (get nat_eq old.known) g.types r);
+  right = right-back sources old now back o g r b.known;
   slots = refl;
   own = refl;
   longer = g;
-}
+})
 
-pub home : (t : Tables) (old typed back : Copier) → IsReady t old → IsOpen typed → Longer (held_of old) (held_of typed) → back ≡ back_at old typed → Goes t.types old back
-home t old typed back r o g e = subst (λ c. Goes t.types old c) (sym e) (goes-back t.types old typed r.open_ o g)
+pub home : (t : Tables) (old typed back : Copier) → IsReady t old → IsOpen typed → Longer (held_of old) (held_of typed) → IsRight t.types typed → IsBack old typed back
+    → Goes t.types old back
+home t old typed back r o g n b = goes-back t.types old typed back r.open_ o g n b
 
 -- a copy of a binding
 
@@ -143,14 +197,15 @@ module _ (t : Tables) (old begun mid typed back named new : Copier) (list : ℕ)
       → Puts t (operation_put t strip st) begun mid
       → Goes t.types mid typed → ((ss : List (List ℕ)) (H : Held) → seen ss H typed ≡ seen ss H mid)
       → ((H : Held) → Later (held_of typed) H → type_at H.types ty ≡ replace (standing H.types mid.slots) (type_at t.types b.ty))
-      → back ≡ back_at old typed
+      → IsRight t.types begun → IsBack old typed back
       → ((sources : List Typ) → Goes sources back named) → ((ss : List (List ℕ)) (H : Held) → seen ss H named ≡ seen ss H back)
       → ((H : Held) → Later (held_of named) H → name_in H variable ≡ copy_of b.variable (types_in H list))
       → ((sources : List Typ) → Goes sources named new) → ((ss : List (List ℕ)) (H : Held) → seen ss H new ≡ with_sign (sign_of ss H (word.Let variable ty)) (seen ss H named))
       → Puts t (binding_put t strip b st list) old new
-  copy-put u strip b st variable ty e p g stays is r h same names k put =
+  copy-put u strip b st variable ty e p g stays is right taken h same names k put =
       let whole : Longer (held_of old) (held_of typed) = on-longer u.longer (on-longer p.goes.longer g.longer) in
-      let home : Goes t.types old back = subst (λ c. Goes t.types old c) (sym r) (goes-back t.types old typed ready.open_ g.open_ whole) in
+      let r : back ≡ back_at old typed back = taken.same in
+      let home : Goes t.types old back = goes-back t.types old typed back ready.open_ g.open_ whole (g.right (p.goes.right right)) taken in
       record {
         goes = goes-then t.types old back new home (goes-then t.types back named new (h t.types) (k t.types));
         sees = λ H l.
@@ -187,12 +242,13 @@ module _ (t : Tables) (old begun mid typed back new : Copier) (list : ℕ) (ps :
       → Goes t.types mid typed
       → ((ss : List (List ℕ)) (H : Held) → Later (held_of typed) H → seen ss H typed
       ≡ made (spell_heads (funs_copy (types_in H list) [] (standing H.types mid.slots) (functions_in t fs))) [] [] 0 (seen ss H mid))
-      → back ≡ back_at old typed
+      → IsRight t.types begun → IsBack old typed back
       → ((sources : List Typ) → Goes sources back new) → ((ss : List (List ℕ)) (H : Held) → seen ss H new ≡ with_sign (sign_of ss H word.Group) (seen ss H back))
       → Puts t (group_put t p fs list) old new
-  group-put u p e bodies g heads r k put =
+  group-put u p e bodies g heads right taken k put =
       let whole : Longer (held_of old) (held_of typed) = on-longer u.longer (on-longer bodies.goes.longer g.longer) in
-      let home : Goes t.types old back = subst (λ c. Goes t.types old c) (sym r) (goes-back t.types old typed ready.open_ g.open_ whole) in
+      let r : back ≡ back_at old typed back = taken.same in
+      let home : Goes t.types old back = goes-back t.types old typed back ready.open_ g.open_ whole (g.right (bodies.goes.right right)) taken in
       record {
         goes = goes-then t.types old back new home (k t.types);
         sees = λ H l.

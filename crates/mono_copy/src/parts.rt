@@ -1,13 +1,17 @@
 // What is put where no expression is copied.
-ghost use Rattle.std.specs.Prelude.{◌≡◌, Bool, IfOk, IfErr};
+ghost use Rattle.std.specs.Prelude.{◌≡◌, ℕ, List, Bool, IfOk, IfErr};
 ghost use Rattle.std.specs.Option.{option_map};
 ghost use Rattle.mlc_runs.specs.declared.pass.PassFault.TheVariants.{Expansion};
 ghost use Rattle.ir_tables.specs.declared.tables.Tables.{Tables};
 ghost use Rattle.mono_words.specs.Made.{all_bare};
 ghost use Rattle.mono_parts.specs.Steps.{steps_in};
+ghost use Rattle.mono_state.specs.Seen.{Held, held_of, seen};
+ghost use Rattle.mono_state.specs.Going.{IsHeld, IsOpen};
 ghost use Rattle.mono_copy.specs.Puts.{IsReady, Puts, Passes};
+ghost use Rattle.mono_copy.specs.Standing.{StandsFor, IsBefore, stood_back};
 ghost use Rattle.mono_copy.specs.Changes.{ret_put, packet_put, test_left, counted_left, step_in, bound_at, binding_in, step_opened, plainly_left};
 
+use indexmap::IndexMap;
 use ir_tables::tables::Tables;
 use mlc_base::memory::NoMemory;
 use mlc_runs::pass::PassFault;
@@ -17,10 +21,11 @@ use mono_parts::steps::{
     stripped,
 };
 use mono_state::copier::Copier;
-use mono_state::names::{alone, atom};
+use mono_state::names::{alone, atom, restore, stand};
 use mono_state::word::Word;
 use plain_tree::tree::{Binding, Case, Step};
 use std::alloc::Global;
+use ty_core::scheme::Quantified;
 
 /// An atom as what comes of an expression.
 pub fn put_ret(tables: &Tables, copier: &mut Copier, variable: usize) -> Result<(), NoMemory>
@@ -168,4 +173,41 @@ pub fn strips_behind(steps: &[Step], strip: bool) -> bool
     ensures { (t : Tables) → result ≡ all_bare strip (steps_in t steps.now) }
 {
     steps.len() < stripped(steps, strip)
+}
+
+/// What was closed before types were put for parameters; nothing where there are no parameters.
+#[derive(Drop)]
+pub enum Before {
+    Same,
+    Closed(IndexMap<usize, usize>),
+}
+
+/// Puts the types of a list for parameters, and hands out what was closed before. Where there are no parameters all stays as it is, with what was closed.
+pub fn stand_for(
+    alloc: Global,
+    copier: &mut Copier,
+    parameters: &[Quantified],
+    list: usize,
+) -> Result<Before, NoMemory>
+    requires is_open { IsOpen copier.old }
+    requires held { IsHeld (held_of copier.old) list }
+    ensures stands { IfOk result (λ _. StandsFor parameters.now list copier.old copier.new) }
+    ensures stays { IfOk result (λ _. (ss : List (List ℕ)) (H : Held) → seen ss H copier.new ≡ seen ss H copier.old) }
+    ensures before { IfOk result (λ before. IsBefore parameters.now copier.old before) }
+{
+    if parameters.is_empty() {
+        return Ok(Before::Same);
+    }
+    let before = stand(alloc, copier, parameters, list)?;
+    Ok(Before::Closed(before))
+}
+
+/// Takes back the types that were put for parameters: leaves all slots but the first so many, with what was closed before.
+pub fn stand_back(copier: &mut Copier, slots: usize, before: Before)
+    ensures { copier.new ≡ stood_back slots before copier.old }
+{
+    match before {
+        Before::Same => {}
+        Before::Closed(known) => restore(copier, slots, known),
+    }
 }

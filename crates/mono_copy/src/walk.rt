@@ -8,7 +8,9 @@ ghost use Rattle.mono_copy.specs.Puts.{IsReady, Puts, Passes};
 ghost use Rattle.mono_copy.specs.Changes.{each_put, exp_put, attempt_put, arms_put, arm_put, step_entered, step_left, steps_entered, steps_left};
 ghost use Rattle.mono_copy.specs.Changes.{operation_put, handler_put, function_put, bodies_put, binding_put, binding_left, group_put, group_left};
 
-use crate::parts::{binding_of, leave_plain, open_step, put_packet, put_ret, strips_behind};
+use crate::parts::{
+    binding_of, leave_plain, open_step, put_packet, put_ret, stand_back, stand_for, strips_behind,
+};
 use ir_tables::tables::Tables;
 use mlc_runs::pass::PassFault;
 use mono_parts::arms::{enter_arm, leave_arm, put_switch};
@@ -18,7 +20,7 @@ use mono_parts::steps::{
     leave_variable, own_functions, put_heads, stripped,
 };
 use mono_state::copier::Copier;
-use mono_state::names::{copy_at, restore, stand, type_of, unit_list};
+use mono_state::names::{copy_at, type_of, unit_list};
 use mono_state::word::Word;
 use plain_tree::tree::{Arm, Binding, Exp, Function, Parameter, Step};
 use std::alloc::Global;
@@ -282,10 +284,10 @@ fn put_copy(
     ensures too_large { IfErr result (λ fault. fault ≡ Expansion → Passes tables.now (binding_put tables.now strip binding step.now list) copier.old) }
 {
     let slots = copier.slots.len();
-    let before = stand(alloc, copier, tables.parameters(binding.parameters), list)?;
+    let before = stand_for(alloc, copier, tables.parameters(binding.parameters), list)?;
     put_act(alloc, tables, copier, strip, step)?;
     let ty = type_of(alloc, tables, copier, binding.ty)?;
-    restore(copier, slots, before);
+    stand_back(copier, slots, before);
     let variable = copy_at(copier, binding.variable, list)?;
     copier.put(&Word::Let { variable, ty })?;
     Ok(())
@@ -441,11 +443,11 @@ fn put_group(
 {
     let slots = copier.slots.len();
     let own = copier.own.len();
-    let before = stand(alloc, copier, tables.parameters(parameters), list)?;
+    let before = stand_for(alloc, copier, tables.parameters(parameters), list)?;
     own_functions(copier, functions, list)?;
     put_bodies(alloc, tables, copier, functions)?;
     put_heads(alloc, tables, copier, functions, list)?;
-    restore(copier, slots, before);
+    stand_back(copier, slots, before);
     copier.own.truncate(own);
     copier.put(&Word::Group)?;
     Ok(())

@@ -22,8 +22,9 @@ use Rattle.mono_state.specs.Seen.{Held, name_in}
 use Rattle.mono_enter.specs.Entering.{HaveNumbers}
 use Rattle.mono_enter.specs.Laws.{WordsAreWanted}
 use Rattle.mono_enter.specs.Scanning.{around, scan}
+use Rattle.mono_enter.specs.Walked.{Texts}
 use Rattle.mono_number.specs.Moves.{AreNumbers}
-use Rattle.mono_pass.specs.Made.{Texts, IsMade}
+use Rattle.mono_pass.specs.Made.{IsMade}
 use Rattle.mono_pass.specs.declared.make.Made.{Made}
 
 -- How many nodes there are.

@@ -2,8 +2,10 @@
 ghost use Rattle.std.specs.Prelude.{◌≡◌, ◌<◌, ℕ, Some, None, IfOk, IfErr};
 ghost use Rattle.mlc_runs.specs.Passes.{BringsNone, greatest_expansion};
 ghost use Rattle.mlc_runs.specs.declared.pass.PassFault.TheVariants.{Expansion};
+ghost use Rattle.ir_tables.specs.Tables as before;
 ghost use Rattle.ir_tests.specs.Programs as source;
 ghost use Rattle.mono_form.specs.Programs as target;
+ghost use Rattle.mono_operations.specs.Reads as after;
 ghost use Rattle.monomorphise.specs.Laws.{monomorphise};
 
 use crate::first::EXN_NUMBER;
@@ -18,8 +20,8 @@ use monomorphise::law::monomorphise_keeps;
 use std::alloc::Global;
 
 /// A program with simple types: what `monomorphise` makes. It keeps the outcome of a well formed one at every number of turns, goes wrong at none, and is well
-/// formed; it has no further exceptions, and carries its expansion. Expansion is answered only where there is no such program, its nodes being more than may
-/// be; else Err is want of memory or of numbers.
+/// formed; it has no further exceptions, the same strings, and carries its expansion. Expansion is answered only where there is no such program, its nodes being
+/// more than may be; else Err is want of memory or of numbers.
 pub fn monomorphise_program(alloc: Global, program: Source) -> Result<Target, PassFault>
     ensures made { IfOk result (λ to. monomorphise (source.tests_of program) ≡ Some (target.program_of to)) }
     ensures well_formed { source.IsWellFormed program → IfOk result (λ to. target.IsWellFormed to) }
@@ -27,6 +29,7 @@ pub fn monomorphise_program(alloc: Global, program: Source) -> Result<Target, Pa
     ensures never_wrong { source.IsWellFormed program → IfOk result (λ to. target.NeverWrong to) }
     ensures exceptions { IfOk result (λ to. BringsNone (source.exceptions program) (target.exceptions to)) }
     ensures size { IfOk result (λ to. to.expansion ≡ source.expansion program) }
+    ensures strings { IfOk result (λ to. after.strings_of to.tables ≡ before.strings_of program.tables) }
     ensures refused { IfErr result (λ fault. fault ≡ Expansion → monomorphise (source.tests_of program) ≡ None) }
     ensures too_large { IfErr result (λ fault. fault ≡ Expansion → greatest_expansion < source.expansion program) }
 {

@@ -24,7 +24,7 @@ use Rattle.mono_copy.proofs.Changing.{passed, kept, ready-then, ready-goes, puts
 use Rattle.mono_copy.proofs.Walking.{entered-more, entered-passes, entered-whole, none-behind, left-none, left-more, left-passes, left-whole, turned-more, turned-whole, part-whole, step-copied, group-copied, arms-whole, body_put, bodies-whole}
 use Rattle.mono_copy.proofs.Leaves.{arm-opens, arm-puts, switch-puts, plain-puts, later-puts, types-puts}
 use Rattle.mono_copy.proofs.Shapes.{not-test, not-group, none-acted}
-use Rattle.mono_copy.proofs.Standing.{under-binding, under-group, taken-back, own-front, home, copy-put, copy-passes, group-put, group-passes}
+use Rattle.mono_copy.proofs.Standing.{under-binding, under-group, taken-back, own-front, own-stood, is-back, home, copy-put, copy-passes, group-put, group-passes}
 use Rattle.mono_copy.proofs.Cycle.{steps-put, steps-left-passes, steps-walk-passes, steps-enter-passes, ret-exp, miss-exp, switch-exp, switch-passes, first-exp, first-attempts-passes, first-last-passes, each-begins, each-goes, each-stops, each-ends, nothing, attempt-goes, attempt-grows, attempt-passes, arm-grows, arm-passes, test-entered, test-passes, operation-acted, fn-acted, fn-passes, block-acted, block-passes, handle-acted, handle-walk-passes, handle-handler-passes, handler-passes, function-goes, function-passes, body-grows, held-at, binding-put-grows, group-put-grows}
 use Rattle.mono_copy.proofs.Copies.{further-passes, copies-put, copies-passes, further-groups-pass, groups-put, groups-pass}
 use Rattle.mono_copy.proofs.Sizes.{rest-size, steps-size, arms-size, attempts-size, exp-size, step-size, arm-size, body-size, handled-size, function-size}
@@ -308,7 +308,7 @@ put_further_groups-returns-clause-put t c =
 
 pub put_copy-put_act-requires : goal.put_copy-put_act-requires
 put_copy-put_act-requires t c =
-    (search rules, (record { open_ = c.in_ok-before.ensures.stands.open_; right = c.in_ok-before.ensures.stands.right c.args.tables.now.types }))
+    (search rules, (record { open_ = c.in_ok-before.ensures.stands.open_; right = c.in_ok-before.ensures.stands.right c.args.tables.now.types c.requires.ready.right }))
 
 pub put_copy-type_of-requires-clause-is_open : goal.put_copy-type_of-requires-clause-is_open
 put_copy-type_of-requires-clause-is_open t c =
@@ -316,15 +316,15 @@ put_copy-type_of-requires-clause-is_open t c =
 
 pub put_copy-type_of-requires-clause-right : goal.put_copy-type_of-requires-clause-right
 put_copy-type_of-requires-clause-right t c =
-    c.in_ok-put_act.ensures.put.goes.right (c.in_ok-before.ensures.stands.right c.args.tables.now.types)
+    c.in_ok-put_act.ensures.put.goes.right (c.in_ok-before.ensures.stands.right c.args.tables.now.types c.requires.ready.right)
 
 pub put_copy-returns-in_err-put_act-clause-too_large : goal.put_copy-returns-in_err-put_act-clause-too_large
 put_copy-returns-in_err-put_act-clause-too_large t c =
-    passed c.from_residual-in_err-put_act.result c.in_err-put_act.field-0.0 c.from_residual-in_err-put_act.ensures.1 _ _ (copy-passes c.args.tables.now c.args.copier.now c.stand.new.copier c.args.copier.now c.args.copier.now c.args.copier.now c.args.copier.now c.args.copier.now c.args.list c.parameters.result.now c.requires.ready (under-binding c.args.tables.now c.args.copier.now c.stand.new.copier c.parameters.result.now c.args.list c.in_ok-before.ensures.stands c.requires.held c.in_ok-before.ensures.stays) c.args.strip c.args.binding c.args.step.now c.parameters.ensures) c.in_err-put_act.ensures.too_large
+    passed c.from_residual-in_err-put_act.result c.in_err-put_act.field-0.0 c.from_residual-in_err-put_act.ensures.1 _ _ (copy-passes c.args.tables.now c.args.copier.now c.stand_for.new.copier c.args.copier.now c.args.copier.now c.args.copier.now c.args.copier.now c.args.copier.now c.args.list c.parameters.result.now c.requires.ready (under-binding c.args.tables.now c.args.copier.now c.stand_for.new.copier c.parameters.result.now c.args.list c.in_ok-before.ensures.stands c.requires.held c.in_ok-before.ensures.stays) c.args.strip c.args.binding c.args.step.now c.parameters.ensures) c.in_err-put_act.ensures.too_large
 
 pub put_copy-copy_at-requires : goal.put_copy-copy_at-requires
 put_copy-copy_at-requires t c =
-    (home c.args.tables.now c.args.copier.now c.type_of.new.copier c.restore.new.copier c.requires.ready c.in_ok-ty.ensures.goes.open_ (on-longer c.in_ok-before.ensures.stands.longer (on-longer c.in_ok-put_act.ensures.put.goes.longer c.in_ok-ty.ensures.goes.longer)) (c.restore.ensures ∙ (λ i. record c.type_of.new.copier { slots = (taken-back c.type_of.new.copier.slots _ c.args.copier.now.slots c.len-slots.result (c.in_ok-ty.ensures.goes.slots ∙ c.in_ok-put_act.ensures.put.goes.slots ∙ c.in_ok-before.ensures.stands.slots) c.len-slots.ensures) i; own = (c.in_ok-ty.ensures.goes.own ∙ c.in_ok-put_act.ensures.put.goes.own ∙ c.in_ok-before.ensures.stands.own) i; known = c.in_ok-before.ensures.before i }))).open_
+    (home c.args.tables.now c.args.copier.now c.type_of.new.copier c.stand_back.new.copier c.requires.ready c.in_ok-ty.ensures.goes.open_ (on-longer c.in_ok-before.ensures.stands.longer (on-longer c.in_ok-put_act.ensures.put.goes.longer c.in_ok-ty.ensures.goes.longer)) (c.in_ok-ty.ensures.goes.right (c.in_ok-put_act.ensures.put.goes.right (c.in_ok-before.ensures.stands.right c.args.tables.now.types c.requires.ready.right))) (is-back c.args.copier.now c.type_of.new.copier c.stand_back.new.copier c.parameters.result.now _ c.len-slots.result c.in_ok-before.before c.stand_back.new.copier.own c.in_ok-before.ensures.before (c.in_ok-ty.ensures.goes.slots ∙ c.in_ok-put_act.ensures.put.goes.slots ∙ c.in_ok-before.ensures.stands.slots) c.len-slots.ensures (ap (λ (k : Copier). k.own) c.stand_back.ensures ∙ own-stood c.len-slots.result c.in_ok-before.before c.type_of.new.copier ∙ c.in_ok-ty.ensures.goes.own ∙ c.in_ok-put_act.ensures.put.goes.own ∙ c.in_ok-before.ensures.stands.own) c.stand_back.ensures)).open_
 
 pub put_copy-put-requires : goal.put_copy-put-requires
 put_copy-put-requires t c =
@@ -332,7 +332,7 @@ put_copy-put-requires t c =
 
 pub put_copy-returns-clause-put : goal.put_copy-returns-clause-put
 put_copy-returns-clause-put t c =
-    copy-put c.args.tables.now c.args.copier.now c.stand.new.copier c.put_act.new.copier c.type_of.new.copier c.restore.new.copier c.copy_at.new.copier c.put.new.self c.args.list c.parameters.result.now c.requires.ready (under-binding c.args.tables.now c.args.copier.now c.stand.new.copier c.parameters.result.now c.args.list c.in_ok-before.ensures.stands c.requires.held c.in_ok-before.ensures.stays) c.args.strip c.args.binding c.args.step.now c.in_ok-variable.variable c.in_ok-ty.ty c.parameters.ensures c.in_ok-put_act.ensures.put c.in_ok-ty.ensures.goes c.in_ok-ty.ensures.stays c.in_ok-ty.ensures.is (c.restore.ensures ∙ (λ i. record c.type_of.new.copier { slots = (taken-back c.type_of.new.copier.slots _ c.args.copier.now.slots c.len-slots.result (c.in_ok-ty.ensures.goes.slots ∙ c.in_ok-put_act.ensures.put.goes.slots ∙ c.in_ok-before.ensures.stands.slots) c.len-slots.ensures) i; own = (c.in_ok-ty.ensures.goes.own ∙ c.in_ok-put_act.ensures.put.goes.own ∙ c.in_ok-before.ensures.stands.own) i; known = c.in_ok-before.ensures.before i })) c.in_ok-variable.ensures.goes c.in_ok-variable.ensures.stays c.in_ok-variable.ensures.is c.in_ok-put.ensures.goes c.in_ok-put.ensures.put
+    copy-put c.args.tables.now c.args.copier.now c.stand_for.new.copier c.put_act.new.copier c.type_of.new.copier c.stand_back.new.copier c.copy_at.new.copier c.put.new.self c.args.list c.parameters.result.now c.requires.ready (under-binding c.args.tables.now c.args.copier.now c.stand_for.new.copier c.parameters.result.now c.args.list c.in_ok-before.ensures.stands c.requires.held c.in_ok-before.ensures.stays) c.args.strip c.args.binding c.args.step.now c.in_ok-variable.variable c.in_ok-ty.ty c.parameters.ensures c.in_ok-put_act.ensures.put c.in_ok-ty.ensures.goes c.in_ok-ty.ensures.stays c.in_ok-ty.ensures.is (c.in_ok-before.ensures.stands.right c.args.tables.now.types c.requires.ready.right) (is-back c.args.copier.now c.type_of.new.copier c.stand_back.new.copier c.parameters.result.now _ c.len-slots.result c.in_ok-before.before c.stand_back.new.copier.own c.in_ok-before.ensures.before (c.in_ok-ty.ensures.goes.slots ∙ c.in_ok-put_act.ensures.put.goes.slots ∙ c.in_ok-before.ensures.stands.slots) c.len-slots.ensures (ap (λ (k : Copier). k.own) c.stand_back.ensures ∙ own-stood c.len-slots.result c.in_ok-before.before c.type_of.new.copier ∙ c.in_ok-ty.ensures.goes.own ∙ c.in_ok-put_act.ensures.put.goes.own ∙ c.in_ok-before.ensures.stands.own) c.stand_back.ensures) c.in_ok-variable.ensures.goes c.in_ok-variable.ensures.stays c.in_ok-variable.ensures.is c.in_ok-put.ensures.goes c.in_ok-put.ensures.put
 
 pub put_group-own_functions-requires-clause-is_open : goal.put_group-own_functions-requires-clause-is_open
 put_group-own_functions-requires-clause-is_open t c =
@@ -344,7 +344,7 @@ put_group-own_functions-requires-clause-held t c =
 
 pub put_group-put_bodies-requires : goal.put_group-put_bodies-requires
 put_group-put_bodies-requires t c =
-    (search rules, record { open_ = c.in_ok-own_functions.ensures.is_open; right = (subst (IsRight c.args.tables.now.types) (sym (c.in_ok-own_functions.ensures.own c.args.tables.now)) (c.in_ok-before.ensures.stands.right c.args.tables.now.types)) })
+    (search rules, record { open_ = c.in_ok-own_functions.ensures.is_open; right = (subst (IsRight c.args.tables.now.types) (sym (c.in_ok-own_functions.ensures.own c.args.tables.now)) (c.in_ok-before.ensures.stands.right c.args.tables.now.types c.requires.ready.right)) })
 
 pub put_group-put_heads-requires-clause-is_open : goal.put_group-put_heads-requires-clause-is_open
 put_group-put_heads-requires-clause-is_open t c =
@@ -352,19 +352,19 @@ put_group-put_heads-requires-clause-is_open t c =
 
 pub put_group-put_heads-requires-clause-right : goal.put_group-put_heads-requires-clause-right
 put_group-put_heads-requires-clause-right t c =
-    (c.in_ok-put_bodies.ensures.put c.args.list).goes.right (subst (IsRight c.args.tables.now.types) (sym (c.in_ok-own_functions.ensures.own c.args.tables.now)) (c.in_ok-before.ensures.stands.right c.args.tables.now.types))
+    (c.in_ok-put_bodies.ensures.put c.args.list).goes.right (subst (IsRight c.args.tables.now.types) (sym (c.in_ok-own_functions.ensures.own c.args.tables.now)) (c.in_ok-before.ensures.stands.right c.args.tables.now.types c.requires.ready.right))
 
 pub put_group-returns-in_err-put_bodies-clause-too_large : goal.put_group-returns-in_err-put_bodies-clause-too_large
 put_group-returns-in_err-put_bodies-clause-too_large t c =
-    passed c.from_residual-in_err-put_bodies.result c.in_err-put_bodies.field-0.0 c.from_residual-in_err-put_bodies.ensures.1 _ _ (λ h. group-passes c.args.tables.now c.args.copier.now c.own_functions.new.copier c.args.copier.now c.args.copier.now c.args.copier.now c.args.copier.now c.args.list c.parameters.result.now c.requires.ready c.args.functions.now (under-group c.args.tables.now c.args.copier.now c.stand.new.copier c.own_functions.new.copier c.parameters.result.now c.args.list (functions_in c.args.tables.now c.args.functions.now) c.in_ok-before.ensures.stands c.requires.held c.in_ok-before.ensures.stays (c.in_ok-own_functions.ensures.own c.args.tables.now)) c.args.parameters c.parameters.ensures (h c.args.list)) c.in_err-put_bodies.ensures.too_large
+    passed c.from_residual-in_err-put_bodies.result c.in_err-put_bodies.field-0.0 c.from_residual-in_err-put_bodies.ensures.1 _ _ (λ h. group-passes c.args.tables.now c.args.copier.now c.own_functions.new.copier c.args.copier.now c.args.copier.now c.args.copier.now c.args.copier.now c.args.list c.parameters.result.now c.requires.ready c.args.functions.now (under-group c.args.tables.now c.args.copier.now c.stand_for.new.copier c.own_functions.new.copier c.parameters.result.now c.args.list (functions_in c.args.tables.now c.args.functions.now) c.in_ok-before.ensures.stands c.requires.held c.in_ok-before.ensures.stays (c.in_ok-own_functions.ensures.own c.args.tables.now)) c.args.parameters c.parameters.ensures (h c.args.list)) c.in_err-put_bodies.ensures.too_large
 
 pub put_group-put-requires : goal.put_group-put-requires
 put_group-put-requires t c =
-    (home c.args.tables.now c.args.copier.now c.put_heads.new.copier (record c.restore.new.copier { own = c.truncate.new.self }) c.requires.ready c.in_ok-put_heads.ensures.goes.open_ (on-longer c.in_ok-before.ensures.stands.longer (on-longer (subst (λ k. Longer (held_of c.stand.new.copier) (held_of k)) (sym (c.in_ok-own_functions.ensures.own c.args.tables.now)) (same-longer (held_of c.stand.new.copier))) (on-longer (c.in_ok-put_bodies.ensures.put c.args.list).goes.longer c.in_ok-put_heads.ensures.goes.longer))) (ap (λ (k : Copier). record k { own = c.truncate.new.self }) c.restore.ensures ∙ (λ i. record c.put_heads.new.copier { slots = (taken-back c.put_heads.new.copier.slots _ c.args.copier.now.slots c.len-slots.result (c.in_ok-put_heads.ensures.goes.slots ∙ (c.in_ok-put_bodies.ensures.put c.args.list).goes.slots ∙ ap (λ (k : Copier). k.slots) (c.in_ok-own_functions.ensures.own c.args.tables.now) ∙ c.in_ok-before.ensures.stands.slots) c.len-slots.ensures) i; own = (c.truncate.ensures ∙ taken-back c.restore.new.copier.own _ c.args.copier.now.own c.len-own.result (ap (λ (k : Copier). k.own) c.restore.ensures ∙ c.in_ok-put_heads.ensures.goes.own ∙ (c.in_ok-put_bodies.ensures.put c.args.list).goes.own ∙ ap (λ (k : Copier). k.own) (c.in_ok-own_functions.ensures.own c.args.tables.now) ∙ ap (with_own (fun_vars (functions_in c.args.tables.now c.args.functions.now)) c.args.list) c.in_ok-before.ensures.stands.own ∙ own-front (fun_vars (functions_in c.args.tables.now c.args.functions.now)) c.args.list c.args.copier.now.own) c.len-own.ensures) i; known = c.in_ok-before.ensures.before i }))).open_
+    (home c.args.tables.now c.args.copier.now c.put_heads.new.copier (record c.stand_back.new.copier { own = c.truncate.new.self }) c.requires.ready c.in_ok-put_heads.ensures.goes.open_ (on-longer c.in_ok-before.ensures.stands.longer (on-longer (subst (λ k. Longer (held_of c.stand_for.new.copier) (held_of k)) (sym (c.in_ok-own_functions.ensures.own c.args.tables.now)) (same-longer (held_of c.stand_for.new.copier))) (on-longer (c.in_ok-put_bodies.ensures.put c.args.list).goes.longer c.in_ok-put_heads.ensures.goes.longer))) (c.in_ok-put_heads.ensures.goes.right ((c.in_ok-put_bodies.ensures.put c.args.list).goes.right (subst (IsRight c.args.tables.now.types) (sym (c.in_ok-own_functions.ensures.own c.args.tables.now)) (c.in_ok-before.ensures.stands.right c.args.tables.now.types c.requires.ready.right)))) (is-back c.args.copier.now c.put_heads.new.copier c.stand_back.new.copier c.parameters.result.now _ c.len-slots.result c.in_ok-before.before c.truncate.new.self c.in_ok-before.ensures.before (c.in_ok-put_heads.ensures.goes.slots ∙ (c.in_ok-put_bodies.ensures.put c.args.list).goes.slots ∙ ap (λ (k : Copier). k.slots) (c.in_ok-own_functions.ensures.own c.args.tables.now) ∙ c.in_ok-before.ensures.stands.slots) c.len-slots.ensures (c.truncate.ensures ∙ taken-back c.stand_back.new.copier.own _ c.args.copier.now.own c.len-own.result (ap (λ (k : Copier). k.own) c.stand_back.ensures ∙ own-stood c.len-slots.result c.in_ok-before.before c.put_heads.new.copier ∙ c.in_ok-put_heads.ensures.goes.own ∙ (c.in_ok-put_bodies.ensures.put c.args.list).goes.own ∙ ap (λ (k : Copier). k.own) (c.in_ok-own_functions.ensures.own c.args.tables.now) ∙ ap (with_own (fun_vars (functions_in c.args.tables.now c.args.functions.now)) c.args.list) c.in_ok-before.ensures.stands.own ∙ own-front (fun_vars (functions_in c.args.tables.now c.args.functions.now)) c.args.list c.args.copier.now.own) c.len-own.ensures) c.stand_back.ensures)).open_
 
 pub put_group-returns-clause-put : goal.put_group-returns-clause-put
 put_group-returns-clause-put t c =
-    group-put c.args.tables.now c.args.copier.now c.own_functions.new.copier c.put_bodies.new.copier c.put_heads.new.copier (record c.restore.new.copier { own = c.truncate.new.self }) c.put.new.self c.args.list c.parameters.result.now c.requires.ready c.args.functions.now (under-group c.args.tables.now c.args.copier.now c.stand.new.copier c.own_functions.new.copier c.parameters.result.now c.args.list (functions_in c.args.tables.now c.args.functions.now) c.in_ok-before.ensures.stands c.requires.held c.in_ok-before.ensures.stays (c.in_ok-own_functions.ensures.own c.args.tables.now)) c.args.parameters c.parameters.ensures (c.in_ok-put_bodies.ensures.put c.args.list) c.in_ok-put_heads.ensures.goes c.in_ok-put_heads.ensures.put (ap (λ (k : Copier). record k { own = c.truncate.new.self }) c.restore.ensures ∙ (λ i. record c.put_heads.new.copier { slots = (taken-back c.put_heads.new.copier.slots _ c.args.copier.now.slots c.len-slots.result (c.in_ok-put_heads.ensures.goes.slots ∙ (c.in_ok-put_bodies.ensures.put c.args.list).goes.slots ∙ ap (λ (k : Copier). k.slots) (c.in_ok-own_functions.ensures.own c.args.tables.now) ∙ c.in_ok-before.ensures.stands.slots) c.len-slots.ensures) i; own = (c.truncate.ensures ∙ taken-back c.restore.new.copier.own _ c.args.copier.now.own c.len-own.result (ap (λ (k : Copier). k.own) c.restore.ensures ∙ c.in_ok-put_heads.ensures.goes.own ∙ (c.in_ok-put_bodies.ensures.put c.args.list).goes.own ∙ ap (λ (k : Copier). k.own) (c.in_ok-own_functions.ensures.own c.args.tables.now) ∙ ap (with_own (fun_vars (functions_in c.args.tables.now c.args.functions.now)) c.args.list) c.in_ok-before.ensures.stands.own ∙ own-front (fun_vars (functions_in c.args.tables.now c.args.functions.now)) c.args.list c.args.copier.now.own) c.len-own.ensures) i; known = c.in_ok-before.ensures.before i })) c.in_ok-put.ensures.goes c.in_ok-put.ensures.put
+    group-put c.args.tables.now c.args.copier.now c.own_functions.new.copier c.put_bodies.new.copier c.put_heads.new.copier (record c.stand_back.new.copier { own = c.truncate.new.self }) c.put.new.self c.args.list c.parameters.result.now c.requires.ready c.args.functions.now (under-group c.args.tables.now c.args.copier.now c.stand_for.new.copier c.own_functions.new.copier c.parameters.result.now c.args.list (functions_in c.args.tables.now c.args.functions.now) c.in_ok-before.ensures.stands c.requires.held c.in_ok-before.ensures.stays (c.in_ok-own_functions.ensures.own c.args.tables.now)) c.args.parameters c.parameters.ensures (c.in_ok-put_bodies.ensures.put c.args.list) c.in_ok-put_heads.ensures.goes c.in_ok-put_heads.ensures.put (subst (IsRight c.args.tables.now.types) (sym (c.in_ok-own_functions.ensures.own c.args.tables.now)) (c.in_ok-before.ensures.stands.right c.args.tables.now.types c.requires.ready.right)) (is-back c.args.copier.now c.put_heads.new.copier c.stand_back.new.copier c.parameters.result.now _ c.len-slots.result c.in_ok-before.before c.truncate.new.self c.in_ok-before.ensures.before (c.in_ok-put_heads.ensures.goes.slots ∙ (c.in_ok-put_bodies.ensures.put c.args.list).goes.slots ∙ ap (λ (k : Copier). k.slots) (c.in_ok-own_functions.ensures.own c.args.tables.now) ∙ c.in_ok-before.ensures.stands.slots) c.len-slots.ensures (c.truncate.ensures ∙ taken-back c.stand_back.new.copier.own _ c.args.copier.now.own c.len-own.result (ap (λ (k : Copier). k.own) c.stand_back.ensures ∙ own-stood c.len-slots.result c.in_ok-before.before c.put_heads.new.copier ∙ c.in_ok-put_heads.ensures.goes.own ∙ (c.in_ok-put_bodies.ensures.put c.args.list).goes.own ∙ ap (λ (k : Copier). k.own) (c.in_ok-own_functions.ensures.own c.args.tables.now) ∙ ap (with_own (fun_vars (functions_in c.args.tables.now c.args.functions.now)) c.args.list) c.in_ok-before.ensures.stands.own ∙ own-front (fun_vars (functions_in c.args.tables.now c.args.functions.now)) c.args.list c.args.copier.now.own) c.len-own.ensures) c.stand_back.ensures) c.in_ok-put.ensures.goes c.in_ok-put.ensures.put
 
 pub put_act-returns-in_ok-put_operation-in-Let-clause-put : goal.put_act-returns-in_ok-put_operation-in-Let-clause-put
 put_act-returns-in_ok-put_operation-in-Let-clause-put t c =
