@@ -3,3 +3,4 @@ pub mod Funs
 pub mod SetPlaces
 pub mod Whole
 pub mod Only
+pub mod Reading

@@ -9,6 +9,7 @@ ghost use Rattle.machine_emit.specs.Contract.{Does, IsTooLong};
 ghost use Rattle.machine_emit.specs.declared.refused.EmitRefused.TheVariants.{TooLong};
 
 use crate::assemble::settled_code;
+use crate::bytes::texts_are_bytes;
 use crate::refused::EmitRefused;
 use emit_known::exceptions::exceptions_of;
 use emit_known::known::known_places;
@@ -18,6 +19,7 @@ use image_size::law::images_are_small;
 use ir_code::image::Image;
 use ir_code::instr::Instr;
 use mlc_names::names::Names;
+use ssa_exceptions::law::texts_of_made_are_enough;
 use ssa_form::form::Ssa;
 use std::alloc::Global;
 
@@ -52,9 +54,11 @@ pub fn emit(alloc: Global, names: &Names, program: &Ssa) -> Result<Image, EmitRe
 {
     image_is_right();
     images_are_small();
+    texts_of_made_are_enough();
     let found = exceptions_of(alloc, &program.tables, &program.funs)?;
     let identifiers = texts_of(alloc, names, &found)?;
     let (words, known) = known_places(alloc, &program.tables, &identifiers)?;
     let code = settled_code(alloc, program, known)?;
+    texts_are_bytes(&identifiers);
     finish(words, code)
 }

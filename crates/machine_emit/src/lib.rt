@@ -2,5 +2,6 @@
 #![tactic(auto)]
 
 pub mod assemble;
+mod bytes;
 pub mod emit;
 pub mod refused;

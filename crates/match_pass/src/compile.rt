@@ -1,6 +1,6 @@
 // Programs.
 ghost use Rattle.std.specs.Prelude.{◌≡◌, length, take, IfOk};
-ghost use Rattle.ir_tables.specs.Tables.{initial_of, constructors_of};
+ghost use Rattle.ir_tables.specs.Tables.{initial_of, constructors_of, strings_of};
 ghost use Rattle.match_compile.specs.Compile as clean;
 ghost use Rattle.plain_tree.specs.TreeOf as plain;
 ghost use Rattle.prog_tree.specs.TreeOf as source;
@@ -51,6 +51,7 @@ pub fn compile(alloc: Global, tables: Tables, decs: &[Dec]) -> Result<Compiled, 
     ensures initial { IfOk result (λ made. initial_of made.tables ≡ initial_of tables) }
     ensures constructors { IfOk result (λ made. constructors_of made.tables ≡ constructors_of tables) }
     ensures types { IfOk result (λ made. take (length tables.types) made.tables.types ≡ tables.types) }
+    ensures strings { IfOk result (λ made. strings_of made.tables ≡ strings_of tables) }
 {
     let first = tables.types.len();
     let mut tables = tables;

@@ -4,6 +4,7 @@ ghost use Rattle.mlc_runs.specs.Passes.{BringsNone};
 ghost use Rattle.mlc_runs.specs.declared.pass.PassFault.TheVariants.{Memory};
 ghost use Rattle.ir_plain.specs.Once.{IsOnce};
 ghost use Rattle.ir_poly.specs.Tests.{poly};
+ghost use Rattle.ir_tables.specs.Tables.{strings_of};
 ghost use Rattle.ir_prog.specs.Programs as source;
 ghost use Rattle.ir_tests.specs.Programs as target;
 ghost use Rattle.match_pass.specs.Typed.{IsWellTyped};
@@ -16,7 +17,8 @@ use mlc_runs::pass::{Pass, PassFault};
 use std::alloc::Global;
 
 /// The tests of a program, and what they keep: the outcome at every number of turns, whatever the program, also where it goes wrong; that each variable is bound
-/// once, whatever the program; so they are well formed where the program is well typed; its exceptions and its expansion. None only for want of memory.
+/// once, whatever the program; so they are well formed where the program is well typed; its exceptions, its expansion and its strings. None only for want of
+/// memory.
 pub fn compile_program(alloc: Global, program: Source) -> Result<Target, PassFault>
     ensures built { IfOk result (λ to. target.tests_of to ≡ source.tests_in program) }
     ensures same { IfOk result (λ to. (turns : ℕ) → target.meaning to turns ≡ source.meaning program turns) }
@@ -24,6 +26,7 @@ pub fn compile_program(alloc: Global, program: Source) -> Result<Target, PassFau
     ensures well_formed { IsWellTyped program → IfOk result (λ to. target.IsWellFormed to) }
     ensures exceptions { IfOk result (λ to. BringsNone (source.exceptions program) (target.exceptions to)) }
     ensures size { IfOk result (λ to. target.expansion to ≡ source.expansion program) }
+    ensures strings { IfOk result (λ to. strings_of to.tables ≡ strings_of program.tables) }
     ensures memory { IfErr result (λ fault. fault ≡ Memory) }
 {
     programs_are_kept();

@@ -1,4 +1,6 @@
-use Rattle.std.proofs.Common.{◌≡◌, refl, ◌<◌, ℕ, length, map, All, sym, ap, ◌∙◌, subst}
+use Rattle.std.proofs.Common.{◌≡◌, refl, true, ◌<◌, ℕ, length, map, All, sym, ap, ◌∙◌, subst}
+use Rattle.std.specs.List.{AllByRecursion}
+use Rattle.ir_code.specs.Machine.{all_bytes}
 use Rattle.ssa_tree.specs.TreeOf.{fun_of}
 use Rattle.ssa_tree.specs.Exceptions.{exceptions}
 use Rattle.ssa_form.specs.Programs.{program_of}
@@ -52,8 +54,9 @@ returns-clause-runs c =
     λ i. ap (λ l. text_of (map items_of l) i) c.deref-3.ensures.value ∙ c.in_ok-identifiers.ensures i ∙ ap (λ l. text_in names l i) c.deref-2.ensures.value in
     let ew = c.in_ok-words.ensures.words (program_of p) refl in
     let ec = c.in_ok-code.ensures texts (c.in_ok-words.ensures.places (program_of p) refl) in
-    image-does names (program_of p) found texts same told ws code ew ec c.finish.result c.image_is_right.ensures c.finish.ensures.constants
-    c.finish.ensures.code c.finish.ensures.small
+    let bytes = subst (λ l. AllByRecursion (λ t. all_bytes t ≡ true) (map items_of l)) (c.deref-4.ensures.value ∙ sym c.deref-3.ensures.value) c.texts_are_bytes.ensures in
+    image-does names (program_of p) found texts same told ws code ew ec c.finish.result c.image_is_right.ensures c.texts_of_made_are_enough.ensures bytes
+    c.finish.ensures.constants c.finish.ensures.code c.finish.ensures.small
 
 pub returns-clause-short : goal.returns-clause-short
 returns-clause-short c =

@@ -1,4 +1,4 @@
-use Rattle.std.proofs.Common.{refl, ap, ◌∙◌}
+use Rattle.std.proofs.Common.{refl, map, ap, ◌∙◌}
 use Rattle.ir_tables.specs.Rows.{constructors_at}
 use Rattle.match_pass.proofs.Bodies.{program-made, constructors-stay, lists-read, whole-grown}
 use Rattle.match_pass.proofs.compile.compile.Goals as goal
@@ -19,3 +19,6 @@ returns-clause-constructors c =
 
 pub returns-clause-types : goal.returns-clause-types
 returns-clause-types c = whole-grown c.args.tables.types _ _ c.in_ok-none.ensures.earlier_stay c.in_ok-body.ensures.grows
+
+pub returns-clause-strings : goal.returns-clause-strings
+returns-clause-strings c = ap (λ l. map (λ s. s.items) l.items) c.in_ok-body.ensures.grows.strings

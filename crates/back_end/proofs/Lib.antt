@@ -1,0 +1,4 @@
+mod Imaging
+mod Lowering
+mod Naming
+mod Refusing

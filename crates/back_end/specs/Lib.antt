@@ -1,0 +1,4 @@
+pub mod Refusals
+pub mod Lowered
+pub mod Contract
+pub mod Keeping
