@@ -1,7 +1,7 @@
 (* The prelude: what the standard basis has above the initial basis, said in the language itself.
    It alone sees `Prim`, the structure of primitives; of the rest it sees the initial basis, with the fixities of the standard basis.
    What it declares outside `local` is in scope after it. Structures follow with modules.
-   Each function on lists runs in a bounded stack, and calls its argument in the order of the list unless its name says else. *)
+   Functions on lists call their argument in the order of the list, unless their name says else. *)
 
 datatype 'a option = NONE | SOME of 'a
 datatype order = LESS | EQUAL | GREATER
@@ -15,13 +15,13 @@ exception Option
 fun not true = false
   | not false = true
 
-fun a <> b = not (a = b)
+fun x <> y = not (x = y)
 
 (* References, composition, and evaluation for the effect alone *)
 
-fun ! (ref a) = a
+fun ! (ref x) = x
 
-fun (f o g) a = f (g a)
+fun (f o g) x = f (g x)
 
 fun a before (b : unit) = a
 
@@ -29,76 +29,75 @@ fun ignore _ = ()
 
 (* Characters, strings and the output *)
 
+val op ^ = Prim.cat
+val print = Prim.print
 val ord = Prim.ord
 val chr = Prim.chr
 val str = Prim.str
 val size = Prim.size
 val substring = Prim.part
-val op ^ = Prim.cat
-val print = Prim.print
 
 (* Options *)
 
-fun getOpt (SOME a, _) = a
-  | getOpt (NONE, b) = b
+fun getOpt (SOME x, _) = x
+  | getOpt (NONE, d) = d
 
 fun isSome (SOME _) = true
   | isSome NONE = false
 
-fun valOf (SOME a) = a
+fun valOf (SOME x) = x
   | valOf NONE = raise Option
 
 (* Lists *)
 
 fun null [] = true
-  | null (_ :: _) = false
+  | null _ = false
 
-fun hd (a :: _) = a
+fun hd (x :: _) = x
   | hd [] = raise Empty
 
-fun tl (_ :: l) = l
+fun tl (_ :: r) = r
   | tl [] = raise Empty
 
-fun foldl f b [] = b
-  | foldl f b (a :: l) = foldl f (f (a, b)) l
+fun foldl f a [] = a
+  | foldl f a (x :: r) = foldl f (f (x, a)) r
 
 fun length l = foldl (fn (_, n) => n + 1) 0 l
 
 local
   (* the elements of the first list, the last one foremost, before the second *)
-  fun onto ([], m) = m
-    | onto (a :: l, m) = onto (l, a :: m)
+  fun revAppend ([], m) = m
+    | revAppend (x :: r, m) = revAppend (r, x :: m)
 in
-  fun rev l = onto (l, [])
+  fun rev l = revAppend (l, [])
 
-  fun l @ m = onto (rev l, m)
+  fun l @ m = revAppend (rev l, m)
 end
 
-fun foldr f b l = foldl f b (rev l)
+fun foldr f a l = foldl f a (rev l)
 
-fun map f l = rev (foldl (fn (a, m) => f a :: m) [] l)
+fun map f l = rev (foldl (fn (x, r) => f x :: r) [] l)
 
 fun app f [] = ()
-  | app f (a :: l) = (f a : unit; app f l)
+  | app f (x :: r) = (f x : unit; app f r)
 
-(* Strings and lists *)
+(* Strings and lists. Neighbours are joined first, so each byte is copied as often as the list can be halved. *)
 
-local
-  (* neighbours joined: so each byte is copied as often as the list can be halved *)
-  fun halve (s :: t :: l, m) = halve (l, s ^ t :: m)
-    | halve ([s], m) = rev (s :: m)
-    | halve ([], m) = rev m
-in
-  fun concat [] = ""
-    | concat [s] = s
-    | concat l = concat (halve (l, []))
-end
+fun concat [] = ""
+  | concat [s] = s
+  | concat l =
+      let
+        fun two (a :: b :: r) = a ^ b :: two r
+          | two r = r
+      in
+        concat (two l)
+      end
 
 fun explode s =
   let
-    fun from (i, l) = if i < 0 then l else from (i - 1, Prim.sub (s, i) :: l)
+    fun go (i, l) = if i < 0 then l else go (i - 1, Prim.sub (s, i) :: l)
   in
-    from (size s - 1, [])
+    go (size s - 1, [])
   end
 
 fun implode l = concat (map str l)

@@ -1,4 +1,4 @@
--- What a state has of the context of the initial basis.
+-- What a state has of the contexts of the initial basis and of the prelude.
 use Rattle.std.proofs.Common.{◌≡◌, ◌<◌, ◌≤◌, ◌+◌, ℕ, zero, suc, Bool, true, false, cond, List, [], ◌∷◌, ◌++◌, map, length, nat_eq, Option, Some, None, slice_get, refl, sym, ap, ap₂, subst, ◌∙◌, arith}
 use Rattle.std.proofs.lemmas.List.{length-map}
 use Rattle.std.specs.List.{AllByRecursion}
@@ -10,7 +10,7 @@ use Rattle.ty_solve.specs.Substitution.{is_below}
 use Rattle.sml_tree.specs.declared.ident.Vid.{Vid}
 use Rattle.sml_tree.specs.declared.ident.Vid.TheVariants.{Named, Equals, Fresh}
 use Rattle.core_rules.specs.Objects.{Scheme}
-use Rattle.core_rules.specs.Initial.{entries, integers}
+use Rattle.core_rules.specs.Initial.{entries, hidden, integers}
 use Rattle.initial_types.specs.Schemes.{schemes_in}
 use Rattle.elab_state.specs.States.{types_in, made}
 use Rattle.elab_state.specs.declared.state.State.{State}
@@ -21,25 +21,25 @@ use Rattle.elab_context.specs.Telling.{IsContext, IsHeld}
 use Rattle.elab_context.specs.declared.context.Context.{Context}
 use Rattle.elab_context.specs.declared.entry.Entry.{Entry}
 use Rattle.elab_context.specs.declared.entry.Scheme as code
-use Rattle.basis_context.specs.Basis.{Rows, scheme_in, row_list, integer_list, type_list, type_entries, arity_of, body_of, entry_at}
+use Rattle.basis_context.specs.Basis.{HasMembers, HasRows, Rows, all_marks, scheme_in, row_list, structure_list, type_list, type_entries, arity_of, body_of, entry_at, without_prim}
 use Rattle.basis_context.specs.declared.rows.Kind.{Kind}
 use Rattle.basis_context.specs.declared.rows.Kind.TheVariants.{Reference, Constructor, Exception, Primitive}
 use Rattle.core_rules.specs.Words.{same_vid}
 use Rattle.elab_state.specs.Namings.{IsAmong}
-use Rattle.basis_context.proofs.Agreeing.{row_entry, vid_of, front}
-use Rattle.vid_scope.specs.declared.vids.VidScope.{VidScope}
+use Rattle.basis_context.proofs.Agreeing.{Places, place_entry, row_entry, vid_of, front}
+use Rattle.elab_types.specs.Reading.{left_at}
 use Rattle.basis_context.specs.Basis.{HasBasis, basis_marks, marks_at}
 use Rattle.basis_context.specs.declared.tables.Basis.{Basis}
 use Rattle.basis_context.proofs.Making.{schemes-from, schemes-append, schemes-below, marks-append, below-append}
-use Rattle.basis_context.proofs.Whole.{IsBasis, HasRows, rows-found, member-of}
+use Rattle.basis_context.proofs.Whole.{IsBasis, initial_places, prelude_places, rows-found, one-placed, two-placed}
 
 -- schemes are closed, and their marks inhabited
 record IsClosed (s : Scheme) : Type 0 where
   below : is_below (length s.marks) s.body ≡ true
   marks : AllByRecursion (λ m. is_inhabited m ≡ true) s.marks
 
-closed-all : AllByRecursion IsClosed (schemes_in entries ++ schemes_in integers)
-closed-all = (record { below = refl; marks = (refl, tt) }, (record { below = refl; marks = tt }, (record { below = refl; marks = tt }, (record { below = refl; marks = (refl, tt) }, (record { below = refl; marks = (refl, tt) }, (record { below = refl; marks = tt }, (record { below = refl; marks = tt }, (record { below = refl; marks = tt }, (record { below = refl; marks = tt }, (record { below = refl; marks = tt }, (record { below = refl; marks = tt }, (record { below = refl; marks = tt }, (record { below = refl; marks = (refl, tt) }, (record { below = refl; marks = (refl, tt) }, (record { below = refl; marks = (refl, tt) }, (record { below = refl; marks = (refl, tt) }, (record { below = refl; marks = (refl, tt) }, (record { below = refl; marks = (refl, tt) }, (record { below = refl; marks = tt }, (record { below = refl; marks = (refl, tt) }, (record { below = refl; marks = (refl, tt) }, (record { below = refl; marks = (refl, tt) }, (record { below = refl; marks = (refl, tt) }, (record { below = refl; marks = (refl, tt) }, (record { below = refl; marks = (refl, tt) }, (record { below = refl; marks = tt }, (record { below = refl; marks = tt }, (record { below = refl; marks = tt }, tt))))))))))))))))))))))))))))
+closed-all : AllByRecursion IsClosed (schemes_in entries ++ (schemes_in integers ++ schemes_in hidden))
+closed-all = (record { below = refl; marks = (refl, tt) }, (record { below = refl; marks = tt }, (record { below = refl; marks = tt }, (record { below = refl; marks = (refl, tt) }, (record { below = refl; marks = (refl, tt) }, (record { below = refl; marks = tt }, (record { below = refl; marks = tt }, (record { below = refl; marks = tt }, (record { below = refl; marks = tt }, (record { below = refl; marks = tt }, (record { below = refl; marks = tt }, (record { below = refl; marks = tt }, (record { below = refl; marks = (refl, tt) }, (record { below = refl; marks = (refl, tt) }, (record { below = refl; marks = (refl, tt) }, (record { below = refl; marks = (refl, tt) }, (record { below = refl; marks = (refl, tt) }, (record { below = refl; marks = (refl, tt) }, (record { below = refl; marks = tt }, (record { below = refl; marks = (refl, tt) }, (record { below = refl; marks = (refl, tt) }, (record { below = refl; marks = (refl, tt) }, (record { below = refl; marks = (refl, tt) }, (record { below = refl; marks = (refl, tt) }, (record { below = refl; marks = (refl, tt) }, (record { below = refl; marks = tt }, (record { below = refl; marks = tt }, (record { below = refl; marks = tt }, (record { below = refl; marks = tt }, (record { below = refl; marks = tt }, (record { below = refl; marks = tt }, (record { below = refl; marks = tt }, (record { below = refl; marks = tt }, (record { below = refl; marks = tt }, (record { below = refl; marks = tt }, (record { below = refl; marks = tt }, (record { below = refl; marks = tt }, (record { below = refl; marks = tt }, (record { below = refl; marks = tt }, (record { below = refl; marks = tt }, (record { below = refl; marks = tt }, (record { below = refl; marks = tt }, (record { below = refl; marks = tt }, (record { below = refl; marks = tt }, (record { below = refl; marks = tt }, (record { below = refl; marks = tt }, (record { below = refl; marks = tt }, (record { below = refl; marks = tt }, (record { below = refl; marks = tt }, tt)))))))))))))))))))))))))))))))))))))))))))))))))
 
 closed-at : (ts : List Typ) (ks : List code.Scheme) (vs : List Scheme) (k : ℕ) (s : code.Scheme) → map (scheme_in ts) ks ≡ vs → AllByRecursion IsClosed vs → slice_get ks k ≡ Some s → IsClosed (scheme_in ts s)
 closed-at ts [] vs k s e h q = cc
@@ -106,26 +106,37 @@ rows-free j ((w, a) ∷ rs) k x e q = by (same_vid x (vid_of w)) (λ s. rows-fre
     by true f s = let same : entry_at a k ≡ e = cc in subst (IsBelowIf j) same (row-free j a k)
     by false f s = f s
 
-module _ (S : State) (C : Context) (i : IsBasis (types_in S) C) where
-  scheme-count : length C.schemes.items ≡ 28
+-- what structures have
+
+places-held : (S : State) (C : Context) (ps : Places) (q : ℕ) (x : Vid) (e : Entry) → AllByRecursion (λ p. p.1.1 + length p.1.0 ≤ length C.schemes.items) ps
+    → place_entry ps q x ≡ Some e → IsHeld S C e
+places-held S C [] q x e h f = cc
+places-held S C (p ∷ ps) q x e h f = by (nat_eq q p.0) (λ s. places-held S C ps q x e h.1 s) f
+  where
+    by : (b : Bool) → (place_entry ps q x ≡ Some e → IsHeld S C e) → cond b (row_entry p.1.0 p.1.1 x) (place_entry ps q x) ≡ Some e → IsHeld S C e
+    by true g s = rows-held S C p.1.0 p.1.1 x e h.0 s
+    by false g s = g s
+
+places-free : (j : ℕ) (ps : Places) (q : ℕ) (x : Vid) (e : Entry) → place_entry ps q x ≡ Some e → IsBelowIf j e
+places-free j [] q x e f = cc
+places-free j (p ∷ ps) q x e f = by (nat_eq q p.0) (λ s. places-free j ps q x e s) f
+  where
+    by : (b : Bool) → (place_entry ps q x ≡ Some e → IsBelowIf j e) → cond b (row_entry p.1.0 p.1.1 x) (place_entry ps q x) ≡ Some e → IsBelowIf j e
+    by true g s = rows-free j p.1.0 p.1.1 x e s
+    by false g s = g s
+
+module _ (S : State) (C : Context) (ps : Places) (i : IsBasis (types_in S) C ps) (few : AllByRecursion (λ p. p.1.1 + length p.1.0 ≤ 49) ps) where
+  scheme-count : length C.schemes.items ≡ 49
   scheme-count = sym (length-map C.schemes.items (scheme_in (types_in S))) ∙ ap length i.schemes
 
   entries-held : (qs : List ℕ) (x : Vid) (e : Entry) → entry_in C qs x ≡ Some e → IsHeld S C e
   entries-held [] x e q = let n = scheme-count in rows-held S C row_list 0 x e (omega (arith, n)) (sym (rows-found C.values row_list 0 x i.values) ∙ q)
-  entries-held (n ∷ []) x e q = by (nat_eq n 72) (sym (member-of S C i n x) ∙ q)
-    where
-      by : (b : Bool) → cond b (row_entry integer_list 25 x) None ≡ Some e → IsHeld S C e
-      by true h = let n = scheme-count in rows-held S C integer_list 25 x e (omega (arith, n)) h
-      by false h = cc
+  entries-held (n ∷ []) x e q = places-held S C ps n x e (subst (λ z. AllByRecursion (λ p. p.1.1 + length p.1.0 ≤ z) ps) (sym scheme-count) few) (sym (i.placed n x) ∙ q)
   entries-held (n ∷ m ∷ ns) x e q = cc
 
   entries-free : (j : ℕ) (qs : List ℕ) (x : Vid) (e : Entry) → entry_in C qs x ≡ Some e → IsBelowIf j e
   entries-free j [] x e q = rows-free j row_list 0 x e (sym (rows-found C.values row_list 0 x i.values) ∙ q)
-  entries-free j (n ∷ []) x e q = by (nat_eq n 72) (sym (member-of S C i n x) ∙ q)
-    where
-      by : (b : Bool) → cond b (row_entry integer_list 25 x) None ≡ Some e → IsBelowIf j e
-      by true h = rows-free j integer_list 25 x e h
-      by false h = cc
+  entries-free j (n ∷ []) x e q = places-free j ps n x e (sym (i.placed n x) ∙ q)
   entries-free j (n ∷ m ∷ ns) x e q = cc
 
   pub context_is : S.level ≡ 0 → IsTidy S 0 → IsContext S C
@@ -140,7 +151,7 @@ module _ (S : State) (C : Context) (i : IsBasis (types_in S) C) where
     };
     known = subst (AllByRecursion (λ b. is_below (made S) (type_at (types_in S) b.1) ≡ true)) (sym i.tyvars) tt;
     schemes = λ k s e.
-        let c = closed-at (types_in S) C.schemes.items (schemes_in entries ++ schemes_in integers) k s i.schemes closed-all e in
+        let c = closed-at (types_in S) C.schemes.items (schemes_in entries ++ (schemes_in integers ++ schemes_in hidden)) k s i.schemes closed-all e in
         record { held = held-at (length (types_in S)) C.schemes.items k s i.schemes_held e; closed = c.below; inhabited = c.marks };
     entries = λ qs x e q. entries-held qs x e q;
     numbered = entries-free S.next;
@@ -149,31 +160,64 @@ module _ (S : State) (C : Context) (i : IsBasis (types_in S) C) where
     tidy = subst (IsTidy S) (sym level) tidy;
   }
 
--- what the code makes is the context of the basis
-pub basis_is : (ts : List Typ) (C : Context) (b : Basis) (m : VidScope Entry) (first : List code.Scheme) → HasBasis ts b → HasRows C.values row_list 0 → C.structures ≡ (72, 0) ∷ [] → C.members.items ≡ m ∷ []
-    → HasRows m integer_list 25 → C.types.tyvars ≡ [] → C.types.types ≡ type_entries type_list b.bodies.items 0 → marks_at first ≡ basis_marks b.values.items
-    → marks_at C.schemes.items ≡ marks_at first ++ basis_marks b.integers.items → C.level ≡ 0 → C.names ≡ 8 → C.naming ≡ None → C.numbers ≡ [] → IsBasis ts C
-basis_is ts C b m first h v s ms r tv ty f g l n o ns =
-    let whole : marks_at C.schemes.items ≡ basis_marks (b.values.items ++ b.integers.items)
-    = g ∙ ap (λ z. z ++ basis_marks b.integers.items) f ∙ sym (marks-append b.values.items b.integers.items) in
+-- what the code makes are the contexts of both bases
+pub record AreBases (ts : List Typ) (C : Context) : Type 0 where
+  pub prelude : IsBasis ts C prelude_places
+  pub initial : IsBasis ts (without_prim C) initial_places
+
+pub bases_are : (ts : List Typ) (C : Context) (b : Basis) → HasBasis ts b → HasRows C.values row_list 0 → C.structures ≡ structure_list → HasMembers C.members.items
+    → C.types.tyvars ≡ [] → C.types.types ≡ type_entries type_list b.bodies.items 0 → marks_at C.schemes.items ≡ all_marks b → C.level ≡ 0 → C.names ≡ 8
+    → C.naming ≡ None → C.numbers ≡ [] → AreBases ts C
+bases_are ts C b h v s ms tv ty g l n o ns =
+    let all = b.values.items ++ (b.integers.items ++ b.hidden.items) in
+    let whole : marks_at C.schemes.items ≡ basis_marks all =
+    g ∙ ap (λ z. basis_marks b.values.items ++ z) (sym (marks-append b.integers.items b.hidden.items)) ∙ sym (marks-append b.values.items (b.integers.items ++ b.hidden.items)) in
+    let schemes : map (scheme_in ts) C.schemes.items ≡ schemes_in entries ++ (schemes_in integers ++ schemes_in hidden) =
+    schemes-from ts C.schemes.items all whole ∙ schemes-append ts b.values.items (b.integers.items ++ b.hidden.items)
+    ∙ ap₂ (λ x y. x ++ y) h.values (schemes-append ts b.integers.items b.hidden.items ∙ ap₂ (λ x y. x ++ y) h.integers h.hidden) in
+    let held : AllByRecursion (λ s. s.body < length ts) C.schemes.items =
+    schemes-below (length ts) C.schemes.items all whole
+    (below-append (length ts) b.values.items (b.integers.items ++ b.hidden.items) h.values_held (below-append (length ts) b.integers.items b.hidden.items h.integers_held h.hidden_held)) in
     record {
-      values = v;
-      structures = s;
-      member = m;
-      members = ms;
-      of_integers = r;
-      tyvars = tv;
-      bodies = b.bodies.items;
-      types = ty;
-      bodies_held = h.bodies_held;
-      bodies_are = h.bodies;
-      schemes = schemes-from ts C.schemes.items (b.values.items ++ b.integers.items) whole ∙ schemes-append ts b.values.items b.integers.items ∙ ap₂ (λ x y. x ++ y) h.values h.integers;
-      schemes_held = schemes-below (length ts) C.schemes.items (b.values.items ++ b.integers.items) whole (below-append (length ts) b.values.items b.integers.items h.values_held h.integers_held);
-      level = l;
-      names = n;
-      naming = o;
-      numbers = ns;
+      prelude = record {
+        values = v;
+        placed = two-placed C ms s;
+        tyvars = tv;
+        bodies = b.bodies.items;
+        types = ty;
+        bodies_held = h.bodies_held;
+        bodies_are = h.bodies;
+        schemes = schemes;
+        schemes_held = held;
+        level = l;
+        names = n;
+        naming = o;
+        numbers = ns;
+      };
+      initial = record {
+        values = v;
+        placed = one-placed (without_prim C) ms (ap (left_at 1) s);
+        tyvars = tv;
+        bodies = b.bodies.items;
+        types = ty;
+        bodies_held = h.bodies_held;
+        bodies_are = h.bodies;
+        schemes = schemes;
+        schemes_held = held;
+        level = l;
+        names = n;
+        naming = o;
+        numbers = ns;
+      };
     }
+
+-- and the state has what they ask
+module _ (S : State) (C : Context) (a : AreBases (types_in S) C) (level : S.level ≡ 0) (tidy : IsTidy S 0) where
+  pub prelude_is : IsContext S C
+  prelude_is = context_is S C prelude_places a.prelude (omega arith, (omega arith, tt)) level tidy
+
+  pub initial_is : IsContext S (without_prim C)
+  initial_is = context_is S (without_prim C) initial_places a.initial (omega arith, tt) level tidy
 
 pub bodies-count : (ts : List Typ) (b : Basis) (ks : List ℕ) → HasBasis ts b → ks ≡ b.bodies.items → length ks ≡ 9
 bodies-count ts b ks h e = ap length e ∙ sym (length-map b.bodies.items (type_at ts)) ∙ ap length h.bodies

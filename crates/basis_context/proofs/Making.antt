@@ -11,7 +11,7 @@ use Rattle.ty_solve.proofs.Holding.{type-stays}
 use Rattle.ty_instance.proofs.Going.{stays-on, longer, whole}
 use Rattle.elab_types.proofs.Lists.{all-map, next-map-at}
 use Rattle.core_rules.specs.Objects.{Scheme}
-use Rattle.core_rules.specs.Initial.{entries, integers}
+use Rattle.core_rules.specs.Initial.{entries, hidden, integers}
 use Rattle.initial_types.specs.Schemes.{bodies_of, marks_of, scheme_of, schemes_in, schemes_of}
 use Rattle.initial_types.specs.declared.row.Scheme as basis
 use Rattle.elab_context.specs.declared.entry.Scheme as code
@@ -67,16 +67,20 @@ made-more old T U rows i d ks js k o lt h g e is p = record {
 pub made-all : (old T : List Typ) (rows : List (ℕ × Option TyName)) (i : ℕ) (ks : List ℕ) → length rows ≤ i → Made old T (take i rows) ks → map (type_at T) ks ≡ map (λ t. body_of t.1) rows
 made-all old T rows i ks le h = h.are ∙ all-map (λ (t : ℕ × Option TyName). body_of t.1) rows i le
 
--- all three
-pub has_basis : (T U V : List Typ) (b : Basis) → AllBelow (length T) (bodies_of b.values.items) → schemes_of T b.values.items ≡ schemes_in entries → take (length T) U ≡ T
+-- all of them
+pub has_basis : (T U V X : List Typ) (b : Basis) → AllBelow (length T) (bodies_of b.values.items) → schemes_of T b.values.items ≡ schemes_in entries → take (length T) U ≡ T
     → AllBelow (length U) (bodies_of b.integers.items) → schemes_of U b.integers.items ≡ schemes_in integers → take (length U) V ≡ U
-    → AllBelow (length V) b.bodies.items → map (type_at V) b.bodies.items ≡ function_bodies → HasBasis V b
-has_basis T U V b h e g i f k j l =
-    let all = stays-on T U V g k in record {
-      values_held = below-longer (length T) (length V) (bodies_of b.values.items) (longer T V all) h;
-      values = schemes-stay T V b.values.items all h ∙ e;
-      integers_held = below-longer (length U) (length V) (bodies_of b.integers.items) (longer U V k) i;
-      integers = schemes-stay U V b.integers.items k i ∙ f;
+    → AllBelow (length V) (bodies_of b.hidden.items) → schemes_of V b.hidden.items ≡ schemes_in hidden → take (length V) X ≡ V
+    → AllBelow (length X) b.bodies.items → map (type_at X) b.bodies.items ≡ function_bodies → HasBasis X b
+has_basis T U V X b h e g i f k m n p j l =
+    let late = stays-on U V X k p in
+    let all = stays-on T U X g late in record {
+      values_held = below-longer (length T) (length X) (bodies_of b.values.items) (longer T X all) h;
+      values = schemes-stay T X b.values.items all h ∙ e;
+      integers_held = below-longer (length U) (length X) (bodies_of b.integers.items) (longer U X late) i;
+      integers = schemes-stay U X b.integers.items late i ∙ f;
+      hidden_held = below-longer (length V) (length X) (bodies_of b.hidden.items) (longer V X p) m;
+      hidden = schemes-stay V X b.hidden.items p m ∙ n;
       bodies_held = j;
       bodies = l;
     }
@@ -234,3 +238,9 @@ marks-more added i d old mid new s ms lt h em eo eb p =
 
 pub marks-all : (added : List basis.Scheme) (i : ℕ) (old mid : List code.Scheme) → length added ≤ i → marks_at mid ≡ marks_at old ++ basis_marks (take i added) → marks_at mid ≡ marks_at old ++ basis_marks added
 marks-all added i old mid le h = h ∙ ap (λ l. marks_at old ++ l) (all-map marks-in added i le)
+
+pub marks-three : (a b c d : List code.Scheme) (xs ys zs us vs ws : List basis.Scheme) → a ≡ [] → marks_at b ≡ marks_at a ++ basis_marks xs → marks_at c ≡ marks_at b ++ basis_marks ys
+    → marks_at d ≡ marks_at c ++ basis_marks zs → xs ≡ us → ys ≡ vs → zs ≡ ws → marks_at d ≡ basis_marks us ++ (basis_marks vs ++ basis_marks ws)
+marks-three a b c d xs ys zs us vs ws n e f g x y z =
+    g ∙ ap₂ (λ l s. l ++ basis_marks s) (f ∙ ap₂ (λ l s. l ++ basis_marks s) (e ∙ ap₂ (λ k s. marks_at k ++ basis_marks s) n x) y) z
+    ∙ append_assoc (basis_marks us) (basis_marks vs) (basis_marks ws)

@@ -14,7 +14,7 @@ use Rattle.mlc_prims.specs.declared.basis.BasisPrimitive.TheVariants as prim
 use Rattle.sml_tree.specs.declared.ident.Vid.TheVariants.{Named}
 use Rattle.core_rules.specs.Objects.{Scheme, Over, monomorphic}
 use Rattle.core_rules.specs.Typing.{all_general}
-use Rattle.core_rules.specs.Initial.{Entry as Row, entries, integers, ref_row}
+use Rattle.core_rules.specs.Initial.{Entry as Row, entries, hidden, integers, ref_row}
 use Rattle.ir_poly.specs.Types.{constructor_of, find, initial_constructors}
 use Rattle.ir_poly.specs.TestsChecked.{alone_type}
 use Rattle.initial_types.specs.Schemes.{schemes_in}
@@ -25,7 +25,7 @@ use Rattle.elab_steps.specs.World.{World}
 use Rattle.elab_context.specs.Telling.{denotes_of, scheme_at, scheme_of}
 use Rattle.elab_context.specs.declared.context.Context.{Context}
 use Rattle.elab_context.specs.declared.entry.Scheme as code
-use Rattle.basis_context.specs.Basis.{entry_at, row_list, integer_list}
+use Rattle.basis_context.specs.Basis.{entry_at, row_list, integer_list, hidden_list}
 use Rattle.basis_context.specs.Telling.{HasInitial}
 use Rattle.basis_context.specs.declared.rows.Kind.TheVariants.{Reference, Constructor, Exception, Primitive}
 use Rattle.basis_context.proofs.Agreeing.{vid_of, IsRow, AreRows}
@@ -100,8 +100,8 @@ nth-scheme W (s ∷ ks) zero v e = cc
 nth-scheme W (s ∷ ks) (suc k) v e = nth-scheme W ks k v e
 
 -- all rows
-module _ (C : Context) (W : World) (names : C.names ≡ 8) (naming : C.naming ≡ None) (has : HasInitial W) (are : map (λ s. scheme_of W (Some s)) C.schemes.items ≡ schemes_in entries ++ schemes_in integers) where
-  at-row : (k : ℕ) (v : Scheme) → slice_get (schemes_in entries ++ schemes_in integers) k ≡ Some v → scheme_at C W k ≡ v
+module _ (C : Context) (W : World) (names : C.names ≡ 8) (naming : C.naming ≡ None) (has : HasInitial W) (are : map (λ s. scheme_of W (Some s)) C.schemes.items ≡ schemes_in entries ++ (schemes_in integers ++ schemes_in hidden)) where
+  at-row : (k : ℕ) (v : Scheme) → slice_get (schemes_in entries ++ (schemes_in integers ++ schemes_in hidden)) k ≡ Some v → scheme_at C W k ≡ v
   at-row k v e = nth-scheme W C.schemes.items k v (ap (λ l. slice_get l k) are ∙ e)
 
   list-over : (n : ℕ) → 8 ≤ n → Over n (list_type (var 0))
@@ -198,6 +198,72 @@ module _ (C : Context) (W : World) (names : C.names ≡ 8) (naming : C.naming �
         (
           primitive-row C W names naming A _ (Some 51) prim.Remainder 27 refl refl refl refl (inr (refl, refl)) (at-row 27 _ refl),
           tt,
+        ),
+      ),
+    )
+
+    pub hidden-rows : AreRows C W A hidden hidden_list 28
+    hidden-rows = (
+      primitive-row C W names naming A _ (Some 50) prim.Quotient 28 refl refl refl refl (inr (refl, refl)) (at-row 28 _ refl),
+      (
+        primitive-row C W names naming A _ (Some 51) prim.Remainder 29 refl refl refl refl (inr (refl, refl)) (at-row 29 _ refl),
+        (
+          primitive-row C W names naming A _ (Some 52) prim.BitsAnd 30 refl refl refl refl (inr (refl, refl)) (at-row 30 _ refl),
+          (
+            primitive-row C W names naming A _ (Some 53) prim.BitsOr 31 refl refl refl refl (inr (refl, refl)) (at-row 31 _ refl),
+            (
+              primitive-row C W names naming A _ (Some 54) prim.BitsXor 32 refl refl refl refl (inr (refl, refl)) (at-row 32 _ refl),
+              (
+                primitive-row C W names naming A _ (Some 55) prim.BitsNot 33 refl refl refl refl (inr (refl, refl)) (at-row 33 _ refl),
+                (
+                  primitive-row C W names naming A _ (Some 56) prim.ShiftLeft 34 refl refl refl refl (inr (refl, refl)) (at-row 34 _ refl),
+                  (
+                    primitive-row C W names naming A _ (Some 57) prim.ShiftRight 35 refl refl refl refl (inr (refl, refl)) (at-row 35 _ refl),
+                    (
+                      primitive-row C W names naming A _ (Some 58) prim.ShiftSigned 36 refl refl refl refl (inr (refl, refl)) (at-row 36 _ refl),
+                      (
+                        primitive-row C W names naming A _ (Some 59) prim.ToInt 37 refl refl refl refl (inr (refl, refl)) (at-row 37 _ refl),
+                        (
+                          primitive-row C W names naming A _ (Some 60) prim.ToIntSigned 38 refl refl refl refl (inr (refl, refl)) (at-row 38 _ refl),
+                          (
+                            primitive-row C W names naming A _ (Some 61) prim.FromInt 39 refl refl refl refl (inr (refl, refl)) (at-row 39 _ refl),
+                            (
+                              primitive-row C W names naming A _ (Some 62) prim.CharCode 40 refl refl refl refl (inr (refl, refl)) (at-row 40 _ refl),
+                              (
+                                primitive-row C W names naming A _ (Some 63) prim.CharOf 41 refl refl refl refl (inr (refl, refl)) (at-row 41 _ refl),
+                                (
+                                  primitive-row C W names naming A _ (Some 64) prim.TextOf 42 refl refl refl refl (inr (refl, refl)) (at-row 42 _ refl),
+                                  (
+                                    primitive-row C W names naming A _ (Some 65) prim.SizeOf 43 refl refl refl refl (inr (refl, refl)) (at-row 43 _ refl),
+                                    (
+                                      primitive-row C W names naming A _ (Some 66) prim.CharAt 44 refl refl refl refl (inr (refl, refl)) (at-row 44 _ refl),
+                                      (
+                                        primitive-row C W names naming A _ (Some 67) prim.PartOf 45 refl refl refl refl (inr (refl, refl)) (at-row 45 _ refl),
+                                        (
+                                          primitive-row C W names naming A _ (Some 68) prim.Concat 46 refl refl refl refl (inr (refl, refl)) (at-row 46 _ refl),
+                                          (
+                                            primitive-row C W names naming A _ (Some 69) prim.StringOf 47 refl refl refl refl (inr (refl, refl)) (at-row 47 _ refl),
+                                            (
+                                              primitive-row C W names naming A _ (Some 70) prim.Print 48 refl refl refl refl (inr (refl, refl)) (at-row 48 _ refl),
+                                              tt,
+                                            ),
+                                          ),
+                                        ),
+                                      ),
+                                    ),
+                                  ),
+                                ),
+                              ),
+                            ),
+                          ),
+                        ),
+                      ),
+                    ),
+                  ),
+                ),
+              ),
+            ),
+          ),
         ),
       ),
     )

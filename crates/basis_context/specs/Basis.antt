@@ -1,6 +1,6 @@
 -- What the code has of the initial basis.
-use Rattle.std.specs.Prelude.{◌≡◌, ℕ, zero, suc, List, [], ◌∷◌, map, length, Option, Some, None}
-use Rattle.mlc_names.specs.StandardWords.{word_unit, word_int, word_word, word_char, word_string, word_bool, word_list, word_ref, word_exn, word_true, word_false, word_nil, word_cons, word_Match, word_Bind, word_Overflow, word_Div, word_Subscript, word_Size, word_Chr, word_plus, word_minus, word_times, word_div, word_mod, word_negate, word_abs, word_less_than, word_at_most, word_greater_than, word_at_least, word_assign, word_quot, word_rem}
+use Rattle.std.specs.Prelude.{◌≡◌, ℕ, zero, suc, List, [], ◌∷◌, ◌++◌, map, length, Option, Some, None}
+use Rattle.mlc_names.specs.StandardWords.{word_unit, word_int, word_word, word_char, word_string, word_bool, word_list, word_ref, word_exn, word_true, word_false, word_nil, word_cons, word_Match, word_Bind, word_Overflow, word_Div, word_Subscript, word_Size, word_Chr, word_plus, word_minus, word_times, word_div, word_mod, word_negate, word_abs, word_less_than, word_at_most, word_greater_than, word_at_least, word_assign, word_Prim, word_quot, word_rem, word_andb, word_orb, word_xorb, word_notb, word_shl, word_shr, word_sar, word_toInt, word_toIntX, word_fromInt, word_ord, word_chr, word_text, word_size, word_sub, word_part, word_cat, word_str, word_print}
 use Rattle.mlc_prims.specs.declared.basis.BasisPrimitive.TheVariants as prim
 use Rattle.ty_core.specs.Types.{Typ, var, con, none, more, name}
 use Rattle.ty_core.specs.declared.mark.Mark.{Mark}
@@ -8,10 +8,13 @@ use Rattle.ty_core.specs.declared.name.TyName.{TyName}
 use Rattle.ty_basis.specs.Types.{int_name, word_name, char_name, string_name, ref_name, exn_name, bool_name, list_name, unit_type}
 use Rattle.ty_table.specs.TypeAt.{type_at, AllBelow}
 use Rattle.core_rules.specs.Objects.{Scheme}
-use Rattle.core_rules.specs.Initial.{entries, integers, word_toString}
+use Rattle.core_rules.specs.Initial.{entries, hidden, integers, word_Int, word_toString}
 use Rattle.initial_types.specs.Schemes.{bodies_of, marks_of, schemes_in, schemes_of}
 use Rattle.initial_types.specs.declared.row.Scheme as basis
+use Rattle.vid_scope.specs.declared.vids.VidScope.{VidScope}
+use Rattle.elab_types.specs.Reading.{left_at}
 use Rattle.elab_types.specs.declared.scope.TypeEntry.{TypeEntry}
+use Rattle.elab_context.specs.declared.context.Context.{Context}
 use Rattle.elab_context.specs.declared.entry.Entry.{Entry}
 use Rattle.elab_context.specs.declared.entry.Entry.TheVariants as entry
 use Rattle.elab_context.specs.declared.entry.Scheme as code
@@ -61,6 +64,38 @@ row_list = (Some word_ref, Reference) ∷ (Some word_true, Constructor word_true
 abbrev pub integer_list : Rows
 integer_list = (Some word_toString, Primitive prim.TextOf) ∷ (Some word_quot, Primitive prim.Quotient) ∷ (Some word_rem, Primitive prim.Remainder) ∷ []
 
+-- the members of the structure `Prim`
+abbrev pub hidden_list : Rows
+hidden_list = (Some word_quot, Primitive prim.Quotient) ∷ (Some word_rem, Primitive prim.Remainder) ∷ (Some word_andb, Primitive prim.BitsAnd)
+    ∷ (Some word_orb, Primitive prim.BitsOr) ∷ (Some word_xorb, Primitive prim.BitsXor) ∷ (Some word_notb, Primitive prim.BitsNot)
+    ∷ (Some word_shl, Primitive prim.ShiftLeft) ∷ (Some word_shr, Primitive prim.ShiftRight) ∷ (Some word_sar, Primitive prim.ShiftSigned)
+    ∷ (Some word_toInt, Primitive prim.ToInt) ∷ (Some word_toIntX, Primitive prim.ToIntSigned) ∷ (Some word_fromInt, Primitive prim.FromInt)
+    ∷ (Some word_ord, Primitive prim.CharCode) ∷ (Some word_chr, Primitive prim.CharOf) ∷ (Some word_text, Primitive prim.TextOf)
+    ∷ (Some word_size, Primitive prim.SizeOf) ∷ (Some word_sub, Primitive prim.CharAt) ∷ (Some word_part, Primitive prim.PartOf)
+    ∷ (Some word_cat, Primitive prim.Concat) ∷ (Some word_str, Primitive prim.StringOf) ∷ (Some word_print, Primitive prim.Print) ∷ []
+
+-- structures with the numbers of what they have, the latest first
+abbrev pub structure_list : List (ℕ × ℕ)
+structure_list = (word_Prim, 1) ∷ (word_Int, 0) ∷ []
+
+-- with the structure that was the first alone
+abbrev pub without_prim : Context → Context
+without_prim C = record C { structures = left_at 1 C.structures }
+
+-- identifiers are those of rows, with schemes from the k-th on
+pub record HasRows (s : VidScope Entry) (rs : Rows) (k : ℕ) : Type 0 where
+  pub named : s.named ≡ named_rows rs k
+  pub fresh : s.fresh ≡ []
+  pub equals : s.equals ≡ equal_rows rs k
+
+-- what the structures have
+pub record HasMembers (ms : List (VidScope Entry)) : Type 0 where
+  pub of_integers : VidScope Entry
+  pub of_hidden : VidScope Entry
+  pub all : ms ≡ of_integers ∷ of_hidden ∷ []
+  pub integers : HasRows of_integers integer_list 25
+  pub hidden : HasRows of_hidden hidden_list 28
+
 -- type constructors; no name is `unit`
 abbrev pub type_list : List (ℕ × Option TyName)
 type_list = (word_unit, None) ∷ (word_int, Some int_name) ∷ (word_word, Some word_name) ∷ (word_char, Some char_name) ∷ (word_string, Some string_name)
@@ -94,6 +129,8 @@ pub record HasBasis (ts : List Typ) (b : Basis) : Type 0 where
   pub values : schemes_of ts b.values.items ≡ schemes_in entries
   pub integers_held : AllBelow (length ts) (bodies_of b.integers.items)
   pub integers : schemes_of ts b.integers.items ≡ schemes_in integers
+  pub hidden_held : AllBelow (length ts) (bodies_of b.hidden.items)
+  pub hidden : schemes_of ts b.hidden.items ≡ schemes_in hidden
   pub bodies_held : AllBelow (length ts) b.bodies.items
   pub bodies : map (type_at ts) b.bodies.items ≡ function_bodies
 
@@ -107,3 +144,6 @@ marks_at = map (λ s. (s.marks.items, s.body))
 
 abbrev pub basis_marks : List basis.Scheme → List (List Mark × ℕ)
 basis_marks = map (λ s. (marks_of s.mark, s.body))
+
+abbrev pub all_marks : Basis → List (List Mark × ℕ)
+all_marks b = basis_marks b.values.items ++ (basis_marks b.integers.items ++ basis_marks b.hidden.items)

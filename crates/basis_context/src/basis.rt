@@ -1,14 +1,15 @@
-// The context of the initial basis.
+// The context of the initial basis, and that of the prelude.
 ghost use Rattle.std.specs.Prelude.{◌≡◌, ◌≤◌, ◌+◌, ◌++◌, [], length, IfOk};
 ghost use Rattle.elab_context.specs.Telling.{IsContext};
 ghost use Rattle.elab_steps.specs.Growing.{Grows};
 ghost use Rattle.elab_steps.specs.Tidy.{IsTidy};
 ghost use Rattle.basis_context.specs.Basis.{arity_of as arity_at, basis_marks, marks_at, type_entries, type_list};
+ghost use Rattle.basis_context.specs.Basis.{all_marks, structure_list, without_prim, HasMembers};
 ghost use Rattle.basis_context.specs.Basis.{entry_at, equal_rows, equal_with, named_rows, named_with};
 ghost use Rattle.initial_types.specs.Schemes.{marks_of};
-ghost use Rattle.basis_context.specs.Telling.{TellsBasis};
+ghost use Rattle.basis_context.specs.Telling.{TellsBasis, TellsPrelude};
 
-use crate::rows::{INT_STRUCTURE, INTEGERS, Kind, ROWS, TYPES, entry_of};
+use crate::rows::{HIDDEN, INT_STRUCTURE, INTEGERS, Kind, ROWS, TYPES, entry_of};
 use crate::tables::{Basis, basis_of};
 use elab_context::context::Context;
 use elab_context::entry::{Entry, Scheme};
@@ -18,6 +19,7 @@ use elab_types::scope::{TypeEntry, TypeScope};
 use initial_types::row::Scheme as BasisScheme;
 use mlc_base::make::one;
 use mlc_base::memory::NoMemory;
+use mlc_names::words;
 use scoped_map::scoped::Scoped;
 use std::alloc::Global;
 use ty_core::mark::Mark;
@@ -121,26 +123,56 @@ fn add_schemes(alloc: Global, added: &[BasisScheme], schemes: &mut Schemes) -> R
     Ok(())
 }
 
-/// The context before any declaration.
-pub fn initial_context(alloc: Global, state: &mut State) -> Result<Context, NoMemory>
+/// The schemes of the basis, one behind the other.
+fn all_schemes(alloc: Global, basis: &Basis) -> Result<Schemes, NoMemory>
+    ensures { IfOk result (λ schemes. marks_at schemes.items ≡ all_marks basis.now) }
+{
+    let mut schemes = Schemes::new(alloc);
+    add_schemes(alloc, &basis.values, &mut schemes)?;
+    add_schemes(alloc, &basis.integers, &mut schemes)?;
+    add_schemes(alloc, &basis.hidden, &mut schemes)?;
+    Ok(schemes)
+}
+
+/// What the structures have.
+fn members_of(alloc: Global) -> Result<Vec<VidScope<Entry>>, NoMemory>
+    ensures { IfOk result (λ members. HasMembers members.items) }
+{
+    let integers = scope_of(alloc, &INTEGERS, ROWS.len())?;
+    let hidden = scope_of(alloc, &HIDDEN, ROWS.len() + INTEGERS.len())?;
+    let mut members = Vec::new(alloc);
+    members.push(integers)?;
+    members.push(hidden)?;
+    Ok(members)
+}
+
+/// The structures, `Prim` the latest.
+fn structures_of(alloc: Global) -> Result<Scoped<usize>, NoMemory>
+    ensures { IfOk result (λ structures. structures ≡ structure_list) }
+{
+    let mut structures = Scoped::new(alloc);
+    structures.bind(INT_STRUCTURE as usize, 0)?;
+    structures.bind(words::PRIM as usize, 1)?;
+    Ok(structures)
+}
+
+/// The context that the prelude's declarations begin with: the initial basis, with the structure `Prim`.
+pub fn prelude_context(alloc: Global, state: &mut State) -> Result<Context, NoMemory>
     requires level { state.old.level ≡ 0 }
     requires tidy { IsTidy state.old 0 }
     ensures is { IfOk result (λ c. IsContext state.new c) }
-    ensures tells { IfOk result (λ c. TellsBasis state.new c) }
+    ensures tells { IfOk result (λ c. TellsPrelude state.new c) }
+    ensures without_prim { IfOk result (λ c. IsContext state.new (without_prim c)) }
+    ensures tells_without { IfOk result (λ c. TellsBasis state.new (without_prim c)) }
     ensures grows { IfOk result (λ _. Grows state.old state.new) }
     ensures tables { state.new.tables ≡ state.old.tables }
     ensures next { state.new.next ≡ state.old.next }
 {
     let basis = basis_of(alloc, state)?;
-    let mut schemes = Schemes::new(alloc);
-    add_schemes(alloc, &basis.values, &mut schemes)?;
-    add_schemes(alloc, &basis.integers, &mut schemes)?;
+    let schemes = all_schemes(alloc, &basis)?;
     let values = scope_of(alloc, &ROWS, 0)?;
-    let integers = scope_of(alloc, &INTEGERS, ROWS.len())?;
-    let mut members = Vec::new(alloc);
-    members.push(integers)?;
-    let mut structures = Scoped::new(alloc);
-    structures.bind(INT_STRUCTURE as usize, 0)?;
+    let members = members_of(alloc)?;
+    let structures = structures_of(alloc)?;
     let types = types_of(alloc, &basis.bodies)?;
     Ok(Context {
         values,
@@ -153,4 +185,26 @@ pub fn initial_context(alloc: Global, state: &mut State) -> Result<Context, NoMe
         naming: None,
         numbers: Scoped::new(alloc),
     })
+}
+
+/// Takes the structure `Prim` out of scope.
+pub fn hide_prim(context: &mut Context)
+    ensures { context.new ≡ without_prim context.old }
+{
+    context.structures.truncate(1);
+}
+
+/// The context before any declaration.
+pub fn initial_context(alloc: Global, state: &mut State) -> Result<Context, NoMemory>
+    requires level { state.old.level ≡ 0 }
+    requires tidy { IsTidy state.old 0 }
+    ensures is { IfOk result (λ c. IsContext state.new c) }
+    ensures tells { IfOk result (λ c. TellsBasis state.new c) }
+    ensures grows { IfOk result (λ _. Grows state.old state.new) }
+    ensures tables { state.new.tables ≡ state.old.tables }
+    ensures next { state.new.next ≡ state.old.next }
+{
+    let mut context = prelude_context(alloc, state)?;
+    hide_prim(&mut context);
+    Ok(context)
 }

@@ -90,6 +90,43 @@ pub const INTEGERS: [(Option<u32>, Kind); 3] = [
     (Some(words::REM), Kind::Primitive(BasisPrimitive::Remainder)),
 ];
 
+/// The members of the structure `Prim`, which only the prelude sees.
+pub const HIDDEN: [(Option<u32>, Kind); 21] = [
+    (Some(words::QUOT), Kind::Primitive(BasisPrimitive::Quotient)),
+    (Some(words::REM), Kind::Primitive(BasisPrimitive::Remainder)),
+    (Some(words::ANDB), Kind::Primitive(BasisPrimitive::BitsAnd)),
+    (Some(words::ORB), Kind::Primitive(BasisPrimitive::BitsOr)),
+    (Some(words::XORB), Kind::Primitive(BasisPrimitive::BitsXor)),
+    (Some(words::NOTB), Kind::Primitive(BasisPrimitive::BitsNot)),
+    (Some(words::SHL), Kind::Primitive(BasisPrimitive::ShiftLeft)),
+    (
+        Some(words::SHR),
+        Kind::Primitive(BasisPrimitive::ShiftRight),
+    ),
+    (
+        Some(words::SAR),
+        Kind::Primitive(BasisPrimitive::ShiftSigned),
+    ),
+    (Some(words::TO_INT), Kind::Primitive(BasisPrimitive::ToInt)),
+    (
+        Some(words::TO_INT_X),
+        Kind::Primitive(BasisPrimitive::ToIntSigned),
+    ),
+    (
+        Some(words::FROM_INT),
+        Kind::Primitive(BasisPrimitive::FromInt),
+    ),
+    (Some(words::ORD), Kind::Primitive(BasisPrimitive::CharCode)),
+    (Some(words::CHR), Kind::Primitive(BasisPrimitive::CharOf)),
+    (Some(words::TEXT), Kind::Primitive(BasisPrimitive::TextOf)),
+    (Some(words::SIZE), Kind::Primitive(BasisPrimitive::SizeOf)),
+    (Some(words::SUB), Kind::Primitive(BasisPrimitive::CharAt)),
+    (Some(words::PART), Kind::Primitive(BasisPrimitive::PartOf)),
+    (Some(words::CAT), Kind::Primitive(BasisPrimitive::Concat)),
+    (Some(words::STR), Kind::Primitive(BasisPrimitive::StringOf)),
+    (Some(words::PRINT), Kind::Primitive(BasisPrimitive::Print)),
+];
+
 /// Type constructors, by the numbers of their words; no name is `unit`.
 pub const TYPES: [(u32, Option<TyName>); 9] = [
     (words::UNIT, None),

@@ -10,7 +10,7 @@ ghost use Rattle.basis_context.specs.Basis.{body_of, body_with, function_bodies,
 use crate::rows::TYPES;
 use elab_state::state::State;
 use initial_types::row::Scheme;
-use initial_types::schemes::{initial_schemes, integer_schemes};
+use initial_types::schemes::{hidden_schemes, initial_schemes, integer_schemes};
 use initial_types::shapes::{applied, shape_in};
 use ir_uses::shape::Shape;
 use mlc_base::memory::NoMemory;
@@ -20,11 +20,12 @@ use ty_solve::solver::Solver;
 use ty_solve::subst::Subst;
 use ty_table::types::Types;
 
-/// Schemes of values, of the members of `Int`, and bodies of type functions, by number.
+/// Schemes of values, of the members of `Int` and of `Prim`, and bodies of type functions, by number.
 #[derive(Drop)]
 pub struct Basis {
     pub values: Vec<Scheme>,
     pub integers: Vec<Scheme>,
+    pub hidden: Vec<Scheme>,
     pub bodies: Vec<usize>,
 }
 
@@ -72,10 +73,12 @@ fn basis_in(alloc: Global, types: &mut Types) -> Result<Basis, NoMemory>
 {
     let values = initial_schemes(alloc, types)?;
     let integers = integer_schemes(alloc, types)?;
+    let hidden = hidden_schemes(alloc, types)?;
     let bodies = bodies_in(alloc, types)?;
     Ok(Basis {
         values,
         integers,
+        hidden,
         bodies,
     })
 }

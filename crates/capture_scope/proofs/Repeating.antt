@@ -130,20 +130,23 @@ times-kept k p (x ∷ xs) = by (p x) (times-kept k p xs)
 pub added-twice : (xs : List ℕ) (c x : ℕ) (ms : List Member) → IsSeen xs c ms → Repeats (xs ++ x ∷ []) → Repeats (visible (scope_in xs c ms) ++ x ∷ [])
 added-twice xs c x ms s = subst (λ l. Repeats (l ++ x ∷ [])) (sym (visible-is xs c ms s))
 
-module _ (cs : List ℕ) (ms : List Member) (x : ℕ) (none first second : List ℕ) (z : none ≡ []) where
-  abbrev Entered : Type 0
-  Entered = Repeats ((cs ++ names ms) ++ x ∷ [])
+-- of what was captured and the group, before anything is bound
+module _ (cs : List ℕ) (ms : List Member) (none first : List ℕ) (z : none ≡ []) where
+  pub captured-twice : Repeats (none ++ cs) → Repeats (cs ++ names ms)
+  captured-twice r = repeats-within cs (cs ++ names ms) (λ k. let a = times-append k cs (names ms) in omega (arith, a)) (subst (λ l. Repeats (l ++ cs)) z r)
 
-  within : (xs : List ℕ) → ((k : ℕ) → times_in k xs ≤ times_in k cs + (times_in k (names ms) + (hit k x + 0))) → Repeats xs → Entered
-  within xs h = repeats-within xs ((cs ++ names ms) ++ x ∷ []) (λ k.
-      let a = h k in let b = times-append k (cs ++ names ms) (x ∷ []) in let c = times-append k cs (names ms) in omega (arith, a, b, c))
+  pub group-twice : first ≡ none ++ cs → Repeats (first ++ names ms) → Repeats (cs ++ names ms)
+  group-twice f = subst (λ l. Repeats (l ++ names ms)) (f ∙ ap (λ l. l ++ cs) z)
 
-  pub captured-twice : Repeats (none ++ cs) → Entered
-  captured-twice r = within cs (λ k. omega arith) (subst (λ l. Repeats (l ++ cs)) z r)
+pub front-repeats : (xs ys : List ℕ) → Repeats xs → Repeats (xs ++ ys)
+front-repeats xs ys = repeats-within xs (xs ++ ys) (λ k. let a = times-append k xs ys in omega (arith, a))
 
-  pub group-twice : first ≡ none ++ cs → Repeats (first ++ names ms) → Entered
-  group-twice f = within (first ++ names ms) (λ k.
-      let a = times-append k first (names ms) in let b : times_in k first ≡ times_in k cs = ap (times_in k) (f ∙ ap (λ l. l ++ cs) z) in omega (arith, a, b))
-
-  pub parameter-twice : first ≡ none ++ cs → second ≡ first ++ names ms → Repeats (second ++ x ∷ []) → Entered
-  parameter-twice f s = subst (λ l. Repeats (l ++ x ∷ [])) (s ∙ ap (λ l. l ++ names ms) (f ∙ ap (λ l. l ++ cs) z))
+-- a parameter that is bound first
+pub parameter-twice : (cs : List ℕ) (ms : List Member) (x : ℕ) (s : Scope) → s ≡ record { locals = []; group = ms; captured = cs } → Repeats (visible s ++ x ∷ []) → Repeats ((cs ++ names ms) ++ x ∷ [])
+parameter-twice cs ms x s e r = repeats-within (visible s ++ x ∷ []) ((cs ++ names ms) ++ x ∷ []) (λ k.
+    let a = times-append k (visible s) (x ∷ []) in
+    let b : times_in k (visible s) ≡ times_in k (visible (record { locals = []; group = ms; captured = cs })) = ap (λ v. times_in k (visible v)) e in
+    let c = visible-times k (record { locals = []; group = ms; captured = cs }) in
+    let d = times-append k (cs ++ names ms) (x ∷ []) in
+    let f = times-append k cs (names ms) in
+    omega (arith, a, b, c, d, f)) r

@@ -43,32 +43,36 @@ pub names-long : (ms : List Member) → length (names ms) ≡ length ms
 names-long [] = refl
 names-long (m ∷ ms) = ap suc (names-long ms)
 
+take-whole : {A : Type 0} (xs : List A) → take (length xs) xs ≡ xs
+take-whole [] = refl
+take-whole (x ∷ xs) = ap (λ l. x ∷ l) (take-whole xs)
+
 take-all : {A : Type 0} (xs ys : List A) → take (length xs) (xs ++ ys) ≡ xs
 take-all [] ys = refl
 take-all (x ∷ xs) ys = ap (λ l. x ∷ l) (take-all xs ys)
+
+drop-whole : {A : Type 0} (xs : List A) → drop (length xs) xs ≡ []
+drop-whole [] = refl
+drop-whole (x ∷ xs) = drop-whole xs
 
 drop-all : {A : Type 0} (xs ys : List A) → drop (length xs) (xs ++ ys) ≡ ys
 drop-all [] ys = refl
 drop-all (x ∷ xs) ys = drop-all xs ys
 
-module _ (cs : List ℕ) (ms : List Member) (x : ℕ) where
-  abbrev all : List ℕ
-  all = (cs ++ names ms) ++ x ∷ []
-
-  behind : drop (length cs) all ≡ names ms ++ x ∷ []
-  behind = ap (drop (length cs)) (assoc cs (names ms) (x ∷ [])) ∙ drop-all cs (names ms ++ x ∷ [])
-
-  left : drop (length cs + length ms) all ≡ x ∷ []
-  left = drop-add (length cs) (length ms) all ∙ ap (drop (length ms)) behind ∙ ap (λ n. drop n (names ms ++ x ∷ [])) (sym (names-long ms)) ∙ drop-all (names ms) (x ∷ [])
-
-  pub entered-seen : IsSeen all (length cs) ms
-  entered-seen = record {
-    within = let a = length-append (cs ++ names ms) (x ∷ []) in let b = length-append cs (names ms) in let n = names-long ms in omega (arith, a, b, n);
-    names_stand = ap (take (length ms)) behind ∙ ap (λ n. take n (names ms ++ x ∷ [])) (sym (names-long ms)) ∙ take-all (names ms) (x ∷ []);
+-- before anything is bound
+module _ (cs : List ℕ) (ms : List Member) where
+  pub unbound-seen : IsSeen (cs ++ names ms) (length cs) ms
+  unbound-seen = record {
+    within = let a = length-append cs (names ms) in let n = names-long ms in omega (arith, a, n);
+    names_stand = ap (take (length ms)) (drop-all cs (names ms)) ∙ ap (λ n. take n (names ms)) (sym (names-long ms)) ∙ take-whole (names ms);
   }
 
-  pub entered : scope_in all (length cs) ms ≡ scope_of cs ms x
-  entered = ap₂ (λ l c. record { locals = reverse l; group = ms; captured = c }) left (ap (take (length cs)) (assoc cs (names ms) (x ∷ [])) ∙ take-all cs (names ms ++ x ∷ []))
+  none-bound : drop (length cs + length ms) (cs ++ names ms) ≡ []
+  none-bound =
+      drop-add (length cs) (length ms) (cs ++ names ms) ∙ ap (drop (length ms)) (drop-all cs (names ms)) ∙ ap (λ n. drop n (names ms)) (sym (names-long ms)) ∙ drop-whole (names ms)
+
+  pub unbound : scope_in (cs ++ names ms) (length cs) ms ≡ record { locals = []; group = ms; captured = cs }
+  unbound = ap₂ (λ l c. record { locals = reverse l; group = ms; captured = c }) none-bound (take-all cs (names ms))
 
 pub top-seen : IsSeen [] 0 []
 top-seen = record { within = omega arith; names_stand = refl }
@@ -175,6 +179,25 @@ module _ (xs : List ℕ) (c : ℕ) (ms : List Member) (s : IsSeen xs c ms) where
       let r = length-reverse (drop (c + length ms) xs) in
       sym (ap (λ n. scope_in (take n xs) c ms) e) ∙ cut-is 0 len (drop-past (length xs - len) (reverse (drop (c + length ms) xs)) (omega (arith, d, h, w, r)))
 
+-- Leaving all that is bound
+
+onto-long : (xs ys : List ℕ) → length (onto xs ys) ≡ length xs + length ys
+onto-long [] ys = omega arith
+onto-long (x ∷ xs) ys = let r = onto-long xs (x ∷ ys) in omega (arith, r)
+
+none-left : (s : Scope) → drop (length (visible s) - 0) s.locals ≡ []
+none-left s =
+    let a = length-append s.captured (names s.group ++ onto s.locals []) in
+    let b = length-append (names s.group) (onto s.locals []) in
+    let c = onto-long s.locals [] in
+    drop-past (length (visible s) - 0) s.locals (omega (arith, a, b, c))
+
+pub all-left : (s now : Scope) → now ≡ left_to 0 s → now ≡ record { locals = []; group = s.group; captured = s.captured }
+all-left s now e = e ∙ ap (λ l. record { locals = l; group = s.group; captured = s.captured }) (none-left s)
+
+pub begun : (x : ℕ) (s now new : Scope) → now ≡ left_to 0 s → new ≡ add x now → new ≡ scope_of s.captured s.group x
+begun x s now new e n = n ∙ ap (add x) (all-left s now e)
+
 -- What an index has
 
 pub inserted : (ks new : List ℕ) (x : ℕ) (b : Bool) → b ≡ Rattle.std.specs.Prelude.not (list_any (nat_eq x) ks) → b ≡ true → new ≡ insert_key nat_eq ks x → new ≡ ks ++ x ∷ []
@@ -214,8 +237,8 @@ members-long (m ∷ ms) = ap suc (members-long ms)
 pub seen-visible : (xs : List ℕ) (c : ℕ) (ms : List Member) (s : Scope) → IsSeen xs c ms → scope_in xs c ms ≡ s → visible s ≡ xs
 seen-visible xs c ms s h e = sym (ap visible e) ∙ visible-is xs c ms h
 
-pub entered-keys : (captured : List ℕ) (group : List code.Member) (x : ℕ) (none ks ks' new : List ℕ) → none ≡ [] → ks ≡ none ++ captured → ks' ≡ ks ++ names (members_of group) → new ≡ ks' ++ x ∷ [] → new ≡ (captured ++ names (members_of group)) ++ x ∷ []
-entered-keys captured group x none ks ks' new n a b e = e ∙ ap (λ l. l ++ x ∷ []) (b ∙ ap (λ l. l ++ names (members_of group)) (a ∙ ap (λ l. l ++ captured) n))
+pub unbound-keys : (captured : List ℕ) (group : List code.Member) (none ks new : List ℕ) → none ≡ [] → ks ≡ none ++ captured → new ≡ ks ++ names (members_of group) → new ≡ captured ++ names (members_of group)
+unbound-keys captured group none ks new n a b = b ∙ ap (λ l. l ++ names (members_of group)) (a ∙ ap (λ l. l ++ captured) n)
 
 pub no-keys : (ks : List ℕ) → length ks ≡ 0 → ks ≡ []
 no-keys [] e = refl

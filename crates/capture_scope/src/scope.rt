@@ -145,6 +145,26 @@ impl Scope {
         }
     }
 
+    /// That of the functions of a group, of what they captured, before one of them binds its parameter. A function alone has no group.
+    pub fn of_group(
+        alloc: Global,
+        captured: &[usize],
+        group: &[Member],
+    ) -> Result<Scope, ScopeFault>
+        ensures ok { IfOk result (λ scope. scope ≡ record { locals = []; group = members_of group.now; captured = captured.now }) }
+        ensures twice { IfErr result (λ fault. fault ≡ BoundTwice → Repeats (captured.now ++ names (members_of group.now))) }
+    {
+        let mut seen = IndexSet::new(alloc);
+        see_all(&mut seen, captured)?;
+        see_names(&mut seen, group)?;
+        let members = Vec::from_slice(alloc, group)?;
+        Ok(Scope {
+            seen,
+            captured: captured.len(),
+            group: members,
+        })
+    }
+
     /// That of the body of a function with this parameter, of what it captured, and of its group.
     pub fn enter(
         alloc: Global,
@@ -155,16 +175,19 @@ impl Scope {
         ensures ok { IfOk result (λ scope. scope ≡ scope_of captured.now (members_of group.now) parameter) }
         ensures twice { IfErr result (λ fault. fault ≡ BoundTwice → Repeats ((captured.now ++ names (members_of group.now)) ++ parameter ∷ [])) }
     {
-        let mut seen = IndexSet::new(alloc);
-        see_all(&mut seen, captured)?;
-        see_names(&mut seen, group)?;
-        see(&mut seen, parameter)?;
-        let members = Vec::from_slice(alloc, group)?;
-        Ok(Scope {
-            seen,
-            captured: captured.len(),
-            group: members,
-        })
+        let mut scope = Scope::of_group(alloc, captured, group)?;
+        scope.add(parameter)?;
+        Ok(scope)
+    }
+
+    /// Leaves all that is bound, for the body of a function of the same group, with this parameter.
+    pub fn begin(&mut self, parameter: usize) -> Result<(), ScopeFault>
+        ensures ok { IfOk result (λ _. self.new ≡ scope_of self.old.captured self.old.group parameter) }
+        ensures twice { IfErr result (λ fault. fault ≡ BoundTwice → Repeats ((self.old.captured ++ names self.old.group) ++ parameter ∷ [])) }
+    {
+        self.leave_to(0);
+        self.add(parameter)?;
+        Ok(())
     }
 
     /// How many variables are seen.

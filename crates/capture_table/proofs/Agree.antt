@@ -1,5 +1,5 @@
 -- What is told along the code's tree is what `closure_convert` has of its clean tree.
-use Rattle.std.proofs.Common.{◌≡◌, ℕ, Bool, true, false, ◌||◌, List, [], ◌∷◌, ◌++◌, map, Option, nat_eq, if◌then◌else◌, refl, sym, ap, ap₂, ◌∙◌, subst}
+use Rattle.std.proofs.Common.{◌≡◌, ℕ, Bool, true, false, ◌||◌, List, [], ◌∷◌, ◌++◌, map, nat_eq, if◌then◌else◌, refl, sym, ap, ap₂, ◌∙◌, subst}
 use Rattle.std.proofs.lemmas.List.{append-nil}
 use Rattle.ir_plain.specs.Tree as t
 use Rattle.ir_mono.specs.Types as table
@@ -23,7 +23,7 @@ use Rattle.flow_sets.specs.Member.{is_in}
 use Rattle.flow_sets.specs.Flow.{number_of}
 use Rattle.closure_convert.specs.Scope.{Member, names, Scope, add, add_all, Piece, top}
 use Rattle.closure_convert.specs.Closed.{scope_of, members, case_scope}
-use Rattle.closure_convert.specs.Capture.{visible, kept, cut, Entry, occurs_name, occurs, occurs_arms, occurs_op, occurs_fun, occurs_funs, wanted, wanted_all, tabulate, tabulate_arms, tabulate_op, tabulate_fun, tabulate_funs, table_of, table_in}
+use Rattle.closure_convert.specs.Capture.{visible, kept, cut, Entry, occurs_name, occurs, occurs_arms, occurs_op, occurs_fun, occurs_funs, wanted, tabulate, tabulate_arms, tabulate_op, tabulate_fun, tabulate_funs}
 use Rattle.capture_table.specs.Told.{operation_uses, name_uses, more, case_binds, Entries, used_in, Told, StepTold, FunctionTold, uses_of, steps_use, functions_use, all_tables, steps_table, members_told, functions_table, first_parameter, entry, function_table, exp_told, step_told, arm_told, function_told, node_exp, node_step, node_arm, node_function}
 use Rattle.mono_bound.specs.Reads.{reading}
 

@@ -1,11 +1,8 @@
 -- What each node binds.
-use Rattle.std.proofs.Common.{◌≡◌, ℕ, List, [], ◌∷◌, ◌++◌, map, Vec, Box, Option, Global, sym, ap, ◌∙◌}
-use Rattle.mlc_names.specs.declared.names.Name.{Name}
+use Rattle.std.proofs.Common.{◌≡◌, ℕ, ◌∷◌, ◌++◌, map, Vec, Box, Global, sym, ap, ◌∙◌}
 use Rattle.plain_tree.specs.declared.tree.Parameter.{Parameter}
 use Rattle.plain_tree.specs.declared.tree.Binding.{Binding}
 use Rattle.plain_tree.specs.declared.tree.Case.{Case}
-use Rattle.plain_tree.specs.declared.tree.Operation.{Operation}
-use Rattle.plain_tree.specs.declared.tree.Exception.{Exception}
 use Rattle.plain_tree.specs.declared.tree.Exp.{Exp, Exp-F, fold-roll-Exp}
 use Rattle.plain_tree.specs.declared.tree.Exp.TheVariants as exp
 use Rattle.plain_tree.specs.declared.tree.Step.{Step, Step-F, fold-roll-Step}

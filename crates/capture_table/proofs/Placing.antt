@@ -1,5 +1,5 @@
 -- Entries, and where they are found.
-use Rattle.std.proofs.Common.{◌≡◌, ℕ, zero, suc, ◌+◌, ◌-◌, ◌<◌, ◌≤◌, Bool, true, false, List, [], ◌∷◌, ◌++◌, map, take, drop, length, Option, Some, None, nat_eq, if◌then◌else◌, get_or, slice_get, refl, sym, ap, ap₂, subst, ◌∙◌, arith}
+use Rattle.std.proofs.Common.{◌≡◌, ℕ, zero, suc, ◌+◌, ◌-◌, ◌<◌, ◌≤◌, Bool, true, false, List, [], ◌∷◌, drop, length, Some, None, nat_eq, if◌then◌else◌, get_or, slice_get, refl, sym, ap, ap₂, ◌∙◌, arith}
 use Rattle.std.specs.Map.{lookup}
 use Rattle.std.proofs.lemmas.Bool.{eqb-true, eq-eqb}
 use Rattle.std.proofs.lemmas.List.{drop_more}
@@ -7,7 +7,7 @@ use Rattle.closure_convert.specs.Scope.{index_of}
 use Rattle.closure_convert.specs.Capture as clean
 use Rattle.closure_convert.specs.Capture.{entry_of}
 use Rattle.capture_table.specs.declared.walk.Entry.{Entry}
-use Rattle.capture_table.specs.Tables.{entry_is, entries_are, numbers_of, place_from, IsIndex}
+use Rattle.capture_table.specs.Tables.{entries_are, numbers_of, place_from, IsIndex}
 
 pub place-more : (es : List Entry) (n i : ℕ) (e d : Entry) (k : ℕ) → n ≡ i + 1 → i < length es → e ≡ get_or es i d → (if nat_eq k e.number then Some i else place_from n k (entries_are (drop n es))) ≡ place_from i k (entries_are (drop i es))
 place-more es n i e d k m lt is =

@@ -8,7 +8,7 @@ use Rattle.plain_tree.specs.declared.tree.Step.{Step, Step-F, fold-roll-Step}
 use Rattle.plain_tree.specs.declared.tree.Step.TheVariants as step
 use Rattle.plain_tree.specs.declared.tree.Arm.{Arm}
 use Rattle.plain_tree.specs.declared.tree.Function.{Function}
-use Rattle.closure_convert.specs.Scope.{Member, names}
+use Rattle.closure_convert.specs.Scope.{names}
 use Rattle.capture_scope.specs.Repeats.{Repeats}
 use Rattle.capture_table.specs.Told.{Told, StepTold, FunctionTold, node_exp, node_step, node_arm, node_function, case_binds, members_told, step_told, function_told}
 

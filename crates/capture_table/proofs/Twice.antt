@@ -1,5 +1,5 @@
 -- Where the walk stops for a variable that is bound twice, it is twice among those that are seen and those that the text binds.
-use Rattle.std.proofs.Common.{◌≡◌, ℕ, zero, suc, ◌+◌, ◌-◌, ◌<◌, ◌≤◌, List, [], ◌∷◌, ◌++◌, map, take, drop, length, get_or, Vec, Box, Global, refl, sym, ap, ap₂, subst, ◌∙◌, arith}
+use Rattle.std.proofs.Common.{◌≡◌, ℕ, zero, suc, ◌+◌, ◌<◌, ◌≤◌, List, [], ◌∷◌, ◌++◌, map, take, drop, length, get_or, Vec, Box, Global, refl, sym, ap, ap₂, subst, ◌∙◌, arith}
 use Rattle.ir_plain.specs.Once.{hit, IsOnce}
 use Rattle.ir_mono.specs.Types as table
 use Rattle.ir_mono.specs.Mono.{mono}
@@ -25,7 +25,7 @@ use Rattle.closure_convert.specs.Closed.{scope_of}
 use Rattle.closure_convert.specs.Capture.{visible}
 use Rattle.flow_sets.specs.Member.{is_in}
 use Rattle.capture_scope.specs.Repeats.{times_in, Repeats}
-use Rattle.capture_scope.proofs.Repeating.{times-append, repeats-within, visible-times, times-kept}
+use Rattle.capture_scope.proofs.Repeating.{times-append, repeats-within, front-repeats, visible-times, times-kept}
 use Rattle.capture_table.specs.Told.{Told, StepTold, FunctionTold, node_exp, node_step, node_arm, node_function, more, case_binds, used_in, members_told, after, exp_told, step_told, arm_told, function_told}
 use Rattle.capture_table.specs.Inner.{inner_binders}
 use Rattle.capture_table.proofs.Binders.{of-steps, of-switch, of-first, of-fn, of-block, of-handle, of-group, of-test, of-arm, of-function}
@@ -252,6 +252,10 @@ body-twice cs cs' ms x ys s c e r = twice-in (visible (scope_of cs ms x)) ys (cs
 
 pub entered-twice : (cs cs' : List ℕ) (ms : List Member) (x : ℕ) (ys : List ℕ) → cs' ≡ cs → Repeats ((cs' ++ names ms) ++ x ∷ []) → Repeats ((cs ++ names ms) ++ x ∷ ys)
 entered-twice cs cs' ms x ys c r = front-twice (cs ++ names ms) (x ∷ []) ys (x ∷ ys) refl (subst (λ l. Repeats ((l ++ names ms) ++ x ∷ [])) c r)
+
+-- before a parameter is bound
+pub unbound-twice : (cs cs' : List ℕ) (ms : List Member) (ys : List ℕ) → cs' ≡ cs → Repeats (cs' ++ names ms) → Repeats ((cs ++ names ms) ++ ys)
+unbound-twice cs cs' ms ys c r = front-repeats (cs ++ names ms) ys (subst (λ l. Repeats (l ++ names ms)) c r)
 
 -- by the kind of node
 

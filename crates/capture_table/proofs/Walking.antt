@@ -1,6 +1,6 @@
 -- The walk, one part after the other.
-use Rattle.std.proofs.Common.{◌≡◌, ℕ, zero, suc, ◌+◌, ◌-◌, ◌<◌, ◌≤◌, Bool, true, false, List, [], ◌∷◌, ◌++◌, map, take, drop, length, Option, Some, None, nat_eq, if◌then◌else◌, get_or, refl, sym, ap, ap₂, subst, ◌∙◌, arith}
-use Rattle.std.proofs.lemmas.List.{append-nil, length-append, take_more, drop_more}
+use Rattle.std.proofs.Common.{◌≡◌, ℕ, zero, suc, ◌+◌, ◌-◌, ◌<◌, ◌≤◌, List, [], ◌∷◌, ◌++◌, map, take, drop, length, get_or, refl, sym, ap, ap₂, ◌∙◌, arith}
+use Rattle.std.proofs.lemmas.List.{length-append, drop_more}
 use Rattle.plain_tree.specs.declared.tree.Parameter.{Parameter}
 use Rattle.closure_convert.specs.Scope.{Member, names, Scope, Piece}
 use Rattle.closure_convert.specs.Closed.{scope_of}
@@ -77,8 +77,10 @@ module _ {A : Type 0} (f : A → FunctionTold) (xs : List A) (i : ℕ) (ps : Lis
   abbrev pub FunctionsSoFar : Entries → (n : ℕ) → Type 0
   FunctionsSoFar l n = (es : Entries) → old ++ functions_table (map f xs) ps cs ms es ≡ l ++ functions_table (map f (drop n xs)) ps cs ms es
 
-  pub functions-next : (x d : A) (new : Entries) → i < length xs → x ≡ get_or xs i d → ((es : Entries) → now ++ (f x).table ps cs ms es ≡ new ++ es) → FunctionsSoFar now i → FunctionsSoFar new (i + 1)
-  functions-next x d new lt is h inv es = inv es ∙ ap (λ ts. now ++ functions_table ts ps cs ms es) (ahead f xs i x d lt is) ∙ h (functions_table (map f (drop (i + 1) xs)) ps cs ms es)
+  pub functions-next : (x d : A) (ks : List Member) (new : Entries) → i < length xs → x ≡ get_or xs i d → ks ≡ ms → ((es : Entries) → now ++ (f x).table ps cs ks es ≡ new ++ es) → FunctionsSoFar now i → FunctionsSoFar new (i + 1)
+  functions-next x d ks new lt is k h inv es =
+      inv es ∙ ap (λ ts. now ++ functions_table ts ps cs ms es) (ahead f xs i x d lt is) ∙ ap (λ m. now ++ (f x).table ps cs m (functions_table (map f (drop (i + 1) xs)) ps cs ms es)) (sym k)
+      ∙ h (functions_table (map f (drop (i + 1) xs)) ps cs ms es)
 
   pub functions-done : length xs ≤ i → FunctionsSoFar now i → (es : Entries) → old ++ functions_table (map f xs) ps cs ms es ≡ now ++ es
   functions-done h inv es = inv es ∙ ap (λ l. now ++ functions_table (map f l) ps cs ms es) (all-behind xs i h)

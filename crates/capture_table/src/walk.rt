@@ -55,22 +55,44 @@ fn same_as(alloc: Global, shared: &Entry, number: usize) -> Result<Entry, ScopeF
     })
 }
 
-/// What the function captures that one gives when it isn't given all its arguments.
+/// What the function captures that one alone gives when it isn't given all its arguments.
 fn capture_next(
     alloc: Global,
     before: &Entry,
-    group: &[Member],
     uses: &[usize],
     number: usize,
 ) -> Result<Entry, ScopeFault>
     ensures table { IfOk result (λ made. entry_is made
-        ≡ entry number (cut (scope_of before.now.captured.items (members_of group.now) before.now.number) (used_in (scope_of before.now.captured.items (members_of group.now) before.now.number) uses.now))
-        (used_in (scope_of before.now.captured.items (members_of group.now) before.now.number) uses.now)) }
+        ≡ entry number (cut (scope_of before.now.captured.items [] before.now.number)
+        (used_in (scope_of before.now.captured.items [] before.now.number) uses.now))
+        (used_in (scope_of before.now.captured.items [] before.now.number) uses.now)) }
     ensures twice { IfErr result (λ fault. fault ≡ BoundTwice
-        → Repeats ((before.now.captured.items ++ names (members_of group.now)) ++ before.now.number ∷ [])) }
+        → Repeats ((before.now.captured.items ++ names []) ++ before.now.number ∷ [])) }
 {
-    let scope = Scope::enter(alloc, &before.captured, group, before.number)?;
+    let scope = Scope::enter(alloc, &before.captured, &[], before.number)?;
     capture(alloc, &scope, uses, number)
+}
+
+/// What the function captures that one of a group gives, whose scope this is, when it isn't given all its arguments.
+fn capture_in(
+    alloc: Global,
+    scope: &mut Scope,
+    before: &Entry,
+    uses: &[usize],
+    number: usize,
+) -> Result<Entry, ScopeFault>
+    requires { before.now.captured.items ≡ scope.old.captured }
+    ensures table { IfOk result (λ made. entry_is made
+        ≡ entry number (cut (scope_of before.now.captured.items scope.old.group before.now.number)
+        (used_in (scope_of before.now.captured.items scope.old.group before.now.number) uses.now))
+        (used_in (scope_of before.now.captured.items scope.old.group before.now.number) uses.now)) }
+    ensures scope { IfOk result (λ _. scope.new ≡ scope_of scope.old.captured scope.old.group before.now.number) }
+    ensures twice { IfErr result (λ fault. fault ≡ BoundTwice
+        → Repeats ((before.now.captured.items ++ names scope.old.group) ++ before.now.number ∷ [])) }
+{
+    scope.begin(before.number)?;
+    let made = capture(alloc, scope, uses, number)?;
+    Ok(made)
 }
 
 fn number_of(parameters: &[Parameter], last: Parameter) -> usize
@@ -126,7 +148,7 @@ fn push_curried(
     let mut entry = first;
     for i in 0..parameters.len() {
         let number = number_at(parameters, i + 1, last);
-        let inner = capture_next(alloc, &entry, &[], uses, number)?;
+        let inner = capture_next(alloc, &entry, uses, number)?;
         found.push(entry)?;
         entry = inner;
     }
@@ -305,7 +327,7 @@ fn walk_step(
             let mut uses = Vec::new(alloc);
             push_uses(body, &mut uses)?;
             let entry = capture(alloc, scope, &uses, number_of(parameters, *last))?;
-            walk_function(alloc, entry, &[], parameters, *last, body, &uses, found)
+            walk_alone(alloc, entry, parameters, *last, body, &uses, found)
         }
         Step::Block(_, body) => walk(alloc, scope, body, found),
         Step::Handle {
@@ -490,7 +512,7 @@ fn walk_arm(
     Ok(())
 }
 
-/// The entries of the functions of a group, which captures as the entry says.
+/// The entries of the functions of a group, which captures as the entry says. The scope of its functions is entered once.
 #[cycle(walk)]
 fn walk_functions(
     alloc: Global,
@@ -505,34 +527,39 @@ fn walk_functions(
     ensures twice { IfErr result (λ fault. fault ≡ BoundTwice
         → Repeats ((entry.now.captured.items ++ names (members_of group.now)) ++ joined (map inner_binders functions.now))) }
 {
+    let mut scope = Scope::of_group(alloc, &entry.captured, group)?;
     for i in 0..functions.len() {
         let function = &functions[i];
-        walk_member(alloc, entry, group, function, found)?;
+        walk_member(alloc, &mut scope, entry, function, found)?;
     }
     Ok(())
 }
 
+/// The entries of a function of the group whose scope this is, and which captures as the entry says.
 #[cycle(walk)]
 fn walk_member(
     alloc: Global,
+    scope: &mut Scope,
     entry: &Entry,
-    group: &[Member],
     function: &Function,
     found: &mut Vec<Entry>,
 ) -> Result<(), ScopeFault>
+    requires { entry.now.captured.items ≡ scope.old.captured }
     ensures table { IfOk result (λ _. (es : Entries) → entries_are found.old.items
-        ++ (function_told function.now).table (pieces_of entry.now.pieces.items) entry.now.captured.items (members_of group.now) es
+        ++ (function_told function.now).table (pieces_of entry.now.pieces.items) entry.now.captured.items scope.old.group es
         ≡ entries_are found.new.items ++ es) }
+    ensures captured { IfOk result (λ _. scope.new.captured ≡ scope.old.captured) }
+    ensures group { IfOk result (λ _. scope.new.group ≡ scope.old.group) }
     ensures twice { IfErr result (λ fault. fault ≡ BoundTwice
-        → Repeats ((entry.now.captured.items ++ names (members_of group.now)) ++ inner_binders function.now)) }
+        → Repeats ((entry.now.captured.items ++ names scope.old.group) ++ inner_binders function.now)) }
 {
     let mut uses = Vec::new(alloc);
     push_uses(&function.body, &mut uses)?;
     let own = same_as(alloc, entry, number_of(&function.parameters, function.last))?;
     walk_function(
         alloc,
+        scope,
         own,
-        group,
         &function.parameters,
         function.last,
         &function.body,
@@ -541,12 +568,11 @@ fn walk_member(
     )
 }
 
-/// The entries of a function that uses these variables, the first of which is given.
+/// The entries of a function alone that uses these variables, the first of which is given.
 #[cycle(walk)]
-fn walk_function(
+fn walk_alone(
     alloc: Global,
     first: Entry,
-    group: &[Member],
     parameters: &[Parameter],
     last: Parameter,
     body: &Exp,
@@ -555,42 +581,74 @@ fn walk_function(
 ) -> Result<(), ScopeFault>
     requires { first.number ≡ first_parameter parameters.now last }
     ensures table { IfOk result (λ _. (es : Entries) → entries_are found.old.items
-        ++ function_table uses.now parameters.now last (exp_told body.now).table (pieces_of first.pieces.items) first.captured.items (members_of group.now) es
+        ++ function_table uses.now parameters.now last (exp_told body.now).table (pieces_of first.pieces.items) first.captured.items [] es
         ≡ entries_are found.new.items ++ es) }
     ensures twice { IfErr result (λ fault. fault ≡ BoundTwice
-        → Repeats ((first.captured.items ++ names (members_of group.now)) ++ (variables_of parameters.now ++ last.variable ∷ binders_of body.now))) }
+        → Repeats ((first.captured.items ++ names []) ++ (variables_of parameters.now ++ last.variable ∷ binders_of body.now))) }
+{
+    let mut scope = Scope::of_group(alloc, &first.captured, &[])?;
+    walk_function(
+        alloc, &mut scope, first, parameters, last, body, uses, found,
+    )
+}
+
+/// The entries of a function of the group whose scope this is, or of one alone, that uses these variables. The first of them is given.
+#[cycle(walk)]
+fn walk_function(
+    alloc: Global,
+    scope: &mut Scope,
+    first: Entry,
+    parameters: &[Parameter],
+    last: Parameter,
+    body: &Exp,
+    uses: &[usize],
+    found: &mut Vec<Entry>,
+) -> Result<(), ScopeFault>
+    requires number { first.number ≡ first_parameter parameters.now last }
+    requires captured { first.captured.items ≡ scope.old.captured }
+    ensures table { IfOk result (λ _. (es : Entries) → entries_are found.old.items
+        ++ function_table uses.now parameters.now last (exp_told body.now).table (pieces_of first.pieces.items) first.captured.items scope.old.group es
+        ≡ entries_are found.new.items ++ es) }
+    ensures captured { IfOk result (λ _. scope.new.captured ≡ scope.old.captured) }
+    ensures group { IfOk result (λ _. scope.new.group ≡ scope.old.group) }
+    ensures twice { IfErr result (λ fault. fault ≡ BoundTwice
+        → Repeats ((first.captured.items ++ names scope.old.group) ++ (variables_of parameters.now ++ last.variable ∷ binders_of body.now))) }
 {
     if parameters.is_empty() {
-        return walk_body(alloc, first, group, last, body, found);
+        return walk_body(alloc, scope, first, last, body, found);
     }
     let rest = rest_of(parameters);
     let number = number_of(rest, last);
-    let inner = capture_next(alloc, &first, group, uses, number)?;
+    let inner = capture_in(alloc, scope, &first, uses, number)?;
     found.push(first)?;
     let innermost = push_curried(alloc, inner, rest, last, uses, found)?;
-    walk_body(alloc, innermost, &[], last, body, found)?;
+    let mut own = Scope::of_group(alloc, &innermost.captured, &[])?;
+    walk_body(alloc, &mut own, innermost, last, body, found)?;
     Ok(())
 }
 
-/// The entry of a function of one parameter, and those of its body.
+/// The entry of a function of one parameter, of the group whose scope this is, or alone, and those of its body.
 #[cycle(walk)]
 fn walk_body(
     alloc: Global,
+    scope: &mut Scope,
     entry: Entry,
-    group: &[Member],
     last: Parameter,
     body: &Exp,
     found: &mut Vec<Entry>,
 ) -> Result<(), ScopeFault>
-    requires { entry.number ≡ last.variable }
+    requires number { entry.number ≡ last.variable }
+    requires captured { entry.captured.items ≡ scope.old.captured }
     ensures table { IfOk result (λ _. (es : Entries) → entries_are found.old.items
-        ++ function_table [] [] last (exp_told body.now).table (pieces_of entry.pieces.items) entry.captured.items (members_of group.now) es
+        ++ function_table [] [] last (exp_told body.now).table (pieces_of entry.pieces.items) entry.captured.items scope.old.group es
         ≡ entries_are found.new.items ++ es) }
+    ensures captured { IfOk result (λ _. scope.new.captured ≡ scope.old.captured) }
+    ensures group { IfOk result (λ _. scope.new.group ≡ scope.old.group) }
     ensures twice { IfErr result (λ fault. fault ≡ BoundTwice
-        → Repeats ((entry.captured.items ++ names (members_of group.now)) ++ last.variable ∷ binders_of body.now)) }
+        → Repeats ((entry.captured.items ++ names scope.old.group) ++ last.variable ∷ binders_of body.now)) }
 {
-    let mut scope = Scope::enter(alloc, &entry.captured, group, last.variable)?;
+    scope.begin(last.variable)?;
     found.push(entry)?;
-    walk(alloc, &mut scope, body, found)?;
+    walk(alloc, scope, body, found)?;
     Ok(())
 }

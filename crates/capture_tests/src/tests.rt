@@ -17,10 +17,9 @@ fn value(variable: usize, ty: usize) -> Binding {
     }
 }
 
-/// In the body of a function of a group that captured 20 and 21.
-fn in_a_group(alloc: Global) -> Result<Scope, ScopeFault> {
-    let captured = two(alloc, 20, 21)?;
-    let group = two(
+/// The functions 30 and 31.
+fn pair(alloc: Global) -> Result<Vec<Member>, NoMemory> {
+    two(
         alloc,
         Member {
             name: 30,
@@ -30,8 +29,25 @@ fn in_a_group(alloc: Global) -> Result<Scope, ScopeFault> {
             name: 31,
             number: 2,
         },
-    )?;
+    )
+}
+
+/// In the body of a function of a group that captured 20 and 21.
+fn in_a_group(alloc: Global) -> Result<Scope, ScopeFault> {
+    let captured = two(alloc, 20, 21)?;
+    let group = pair(alloc)?;
     Scope::enter(alloc, &captured, &group, 40)
+}
+
+/// The same, with 50 bound in it, and then in the body of the other function.
+fn in_the_other(alloc: Global) -> Result<Scope, ScopeFault> {
+    let captured = two(alloc, 20, 21)?;
+    let group = pair(alloc)?;
+    let mut scope = Scope::of_group(alloc, &captured, &group)?;
+    scope.begin(40)?;
+    scope.add(50)?;
+    scope.begin(41)?;
+    Ok(scope)
 }
 
 fn is_local(found: Found) -> bool {
@@ -78,6 +94,21 @@ fn a_body_finds_its_variables(rt: HostRuntime) -> Result<(), Fail> {
             assert!(rt; leads(scope.find(30)));
             assert!(rt; follows(scope.find(31), 2));
             assert!(rt; is_local(scope.find(40)));
+            assert!(rt; is_nowhere(scope.find(50)));
+        }
+        Err(_) => assert!(rt; false),
+    }
+    Ok(())
+}
+
+#[test]
+fn what_one_function_binds_the_other_does_not_find(rt: HostRuntime) -> Result<(), Fail> {
+    match in_the_other(rt.alloc()) {
+        Ok(scope) => {
+            assert!(rt; is_captured(scope.find(21), 1));
+            assert!(rt; leads(scope.find(30)));
+            assert!(rt; is_local(scope.find(41)));
+            assert!(rt; is_nowhere(scope.find(40)));
             assert!(rt; is_nowhere(scope.find(50)));
         }
         Err(_) => assert!(rt; false),

@@ -1,20 +1,20 @@
-use Rattle.std.proofs.Common.{◌≡◌, ◌+◌, ◌-◌, ◌<◌, ◌∙◌, ◌++◌, ◌∷◌, [], map, take, length, get_or, ap, sym, refl, subst, rules, arith}
+use Rattle.std.proofs.Common.{◌≡◌, ◌+◌, ◌-◌, ◌<◌, ◌∙◌, ◌++◌, ◌∷◌, [], map, take, length, get_or, ap, sym, refl, subst, arith}
 use Rattle.closure_convert.specs.Scope.{Scope}
 use Rattle.capture_scope.specs.Seen.{members_of}
 use Rattle.capture_scope.specs.Found.{pieces_of}
 use Rattle.closure_convert.specs.Capture as clean
 use Rattle.capture_scope.specs.Repeats.{Repeats}
-use Rattle.capture_table.specs.Told.{more, case_binds, backs, after, marks, members_told, first_parameter, exp_told, step_told, arm_told, function_told}
+use Rattle.capture_table.specs.Told.{more, case_binds, backs, after, marks, members_told, first_parameter, function_table, exp_told, step_told, arm_told, function_told}
 use Rattle.capture_table.specs.Tables.{entry_is, entries_are}
 use Rattle.capture_table.proofs.Growing.{map-last}
 use Rattle.capture_table.proofs.Curried.{curried-parts, curried-told}
-use Rattle.capture_table.proofs.Walking.{left-is, body-told, marked-long, all-next, all-done, functions-next, functions-done, steps-next, after-next, marks-next, steps-done, after-done, marks-done, back-scope, back-next}
-use Rattle.plain_tree.specs.Sums.{joined, variables_of, binders_of, step_binders, arm_binders}
+use Rattle.capture_table.proofs.Walking.{left-is, body-told, all-next, all-done, functions-next, functions-done, steps-next, after-next, marks-next, steps-done, after-done, marks-done, back-scope, back-next}
+use Rattle.plain_tree.specs.Sums.{joined, variables_of, binders_of, arm_binders}
 use Rattle.closure_convert.specs.Scope.{names}
 use Rattle.closure_convert.specs.Capture.{visible}
 use Rattle.capture_scope.proofs.Repeating.{twice-passed, twice-kept, fault-passed, fault-kept}
 use Rattle.capture_table.specs.Inner.{inner_binders}
-use Rattle.capture_table.proofs.Twice.{first-twice, inner-twice, innermost-twice, step-fn-twice, step-group-twice, handled-twice, handler-twice, block-twice, others-twice, last-twice, steps-twice, rest-twice, switch-twice, attempts-twice, front-twice, bound-twice, part-at, part-twice, step-twice, binds-twice, arm-binds, body-twice, entered-twice}
+use Rattle.capture_table.proofs.Twice.{first-twice, inner-twice, innermost-twice, step-fn-twice, step-group-twice, handled-twice, handler-twice, block-twice, others-twice, last-twice, steps-twice, rest-twice, switch-twice, attempts-twice, front-twice, bound-twice, part-at, part-twice, step-twice, binds-twice, arm-binds, body-twice, entered-twice, unbound-twice}
 use Rattle.capture_table.proofs.walk.+walk.Goals as goal
 
 pub walk_all-loop-i-preserved : goal.walk_all-loop-i-preserved
@@ -32,9 +32,12 @@ walk_arms-loop-i-preserved t c = record {
 }
 
 pub walk_functions-loop-i-preserved : goal.walk_functions-loop-i-preserved
-walk_functions-loop-i-preserved t c =
-    functions-next function_told c.args.functions.now c.loop-i.i (pieces_of c.args.entry.now.pieces.items) c.args.entry.now.captured.items (members_of c.args.group.now) (entries_are c.args.found.now.items) (entries_are c.loop-i.found.items)
-    c.index-functions-i.result c.index-functions-i.result (entries_are c.walk_member.new.found.items) c.loop-i-test.true c.index-functions-i.is c.in_ok-walk_member.ensures.table c.loop-i.invariant
+walk_functions-loop-i-preserved t c = record {
+  table = functions-next function_told c.args.functions.now c.loop-i.i (pieces_of c.args.entry.now.pieces.items) c.args.entry.now.captured.items (members_of c.args.group.now) (entries_are c.args.found.now.items) (entries_are c.loop-i.found.items)
+      c.index-functions-i.result c.index-functions-i.result c.loop-i.scope.group (entries_are c.walk_member.new.found.items) c.loop-i-test.true c.index-functions-i.is c.loop-i.invariant.group c.in_ok-walk_member.ensures.table c.loop-i.invariant.table;
+  captured = c.in_ok-walk_member.ensures.captured ∙ c.loop-i.invariant.captured;
+  group = c.in_ok-walk_member.ensures.group ∙ c.loop-i.invariant.group;
+}
 
 pub walk_steps-loop-i-preserved : goal.walk_steps-loop-i-preserved
 walk_steps-loop-i-preserved t c =
@@ -89,7 +92,7 @@ walk_arms-returns-clause-table t c = all-done arm_told c.args.arms.now c.loop-i.
 pub walk_functions-returns-clause-table : goal.walk_functions-returns-clause-table
 walk_functions-returns-clause-table t c =
     functions-done function_told c.args.functions.now c.loop-i.i (pieces_of c.args.entry.now.pieces.items) c.args.entry.now.captured.items (members_of c.args.group.now) (entries_are c.args.found.now.items) (entries_are c.loop-i.found.items)
-    c.loop-i-test.false c.loop-i.invariant
+    c.loop-i-test.false c.loop-i.invariant.table
 
 pub walk_handler-returns-clause-scope : goal.walk_handler-returns-clause-scope
 walk_handler-returns-clause-scope t c = left-is (c.args.packet ∷ []) c.args.scope.now c.walk.new.scope c.leave_to.new.self c.len-len.result c.len-len.ensures (c.in_ok-walk.ensures.scope ∙ c.in_ok-add.ensures.ok) c.leave_to.ensures
@@ -99,8 +102,8 @@ walk_arm-returns-clause-scope t c = left-is (case_binds c.args.arm.now.case) c.a
 
 pub walk_body-returns-clause-table : goal.walk_body-returns-clause-table
 walk_body-returns-clause-table t c =
-    body-told (exp_told c.args.body.now).table c.args.found.now.items c.push.new.self.items c.walk.new.found.items c.args.entry c.args.last.variable c.deref.result.now c.in_ok-scope.scope (members_of c.args.group.now) c.requires c.deref.ensures.value
-    c.in_ok-scope.ensures.ok c.in_ok-push.ensures.items c.in_ok-walk.ensures.table
+    body-told (exp_told c.args.body.now).table c.args.found.now.items c.push.new.self.items c.walk.new.found.items c.args.entry c.args.last.variable c.args.scope.now.captured c.begin.new.self c.args.scope.now.group c.requires.number
+    (sym c.requires.captured) c.in_ok-begin.ensures.ok c.in_ok-push.ensures.items c.in_ok-walk.ensures.table
 
 -- Where the walk stops for a variable that is bound twice
 
@@ -158,18 +161,29 @@ walk_handler-returns-in_err-walk-clause-twice t c =
 
 pub walk_functions-returns-in_err-walk_member-clause-twice : goal.walk_functions-returns-in_err-walk_member-clause-twice
 walk_functions-returns-in_err-walk_member-clause-twice t c =
-    twice-passed c.from_residual.result c.in_err-walk_member.field-0.0 c.from_residual.ensures.1 _ _
-    (part-twice inner_binders (c.args.entry.now.captured.items ++ names (members_of c.args.group.now)) c.args.functions.now c.loop-i.i c.index-functions-i.result c.index-functions-i.result c.loop-i-test.true c.index-functions-i.is) c.in_err-walk_member.ensures.twice
+    twice-passed c.from_residual-in_err-walk_member.result c.in_err-walk_member.field-0.0 c.from_residual-in_err-walk_member.ensures.1 _ _
+    (λ r. part-twice inner_binders (c.args.entry.now.captured.items ++ names (members_of c.args.group.now)) c.args.functions.now c.loop-i.i c.index-functions-i.result c.index-functions-i.result c.loop-i-test.true c.index-functions-i.is
+    (subst (λ m. Repeats ((c.args.entry.now.captured.items ++ names m) ++ inner_binders c.index-functions-i.result)) c.loop-i.invariant.group r)) c.in_err-walk_member.ensures.twice
 
-pub walk_body-returns-in_err-scope-clause-twice : goal.walk_body-returns-in_err-scope-clause-twice
-walk_body-returns-in_err-scope-clause-twice t c =
+pub walk_functions-returns-in_err-scope-clause-twice : goal.walk_functions-returns-in_err-scope-clause-twice
+walk_functions-returns-in_err-scope-clause-twice t c =
     twice-passed c.from_residual.result c.in_err-scope.field-0.0 c.from_residual.ensures.1 _ _
-    (entered-twice c.args.entry.captured.items c.deref.result.now (members_of c.args.group.now) c.args.last.variable (binders_of c.args.body.now) c.deref.ensures.value) c.in_err-scope.ensures.twice
+    (unbound-twice c.args.entry.now.captured.items c.deref.result.now (members_of c.args.group.now) (joined (map inner_binders c.args.functions.now)) c.deref.ensures.value) c.in_err-scope.ensures.twice
+
+pub walk_alone-returns-in_err-scope-clause-twice : goal.walk_alone-returns-in_err-scope-clause-twice
+walk_alone-returns-in_err-scope-clause-twice t c =
+    twice-passed c.from_residual.result c.in_err-scope.field-0.0 c.from_residual.ensures.1 _ _
+    (unbound-twice c.args.first.captured.items c.deref.result.now [] (variables_of c.args.parameters.now ++ c.args.last.variable ∷ binders_of c.args.body.now) c.deref.ensures.value) c.in_err-scope.ensures.twice
+
+pub walk_body-returns-in_err-begin-clause-twice : goal.walk_body-returns-in_err-begin-clause-twice
+walk_body-returns-in_err-begin-clause-twice t c =
+    twice-passed c.from_residual.result c.in_err-begin.field-0.0 c.from_residual.ensures.1 _ _
+    (entered-twice c.args.entry.captured.items c.args.scope.now.captured c.args.scope.now.group c.args.last.variable (binders_of c.args.body.now) (sym c.requires.captured)) c.in_err-begin.ensures.twice
 
 pub walk_body-returns-in_err-walk-clause-twice : goal.walk_body-returns-in_err-walk-clause-twice
 walk_body-returns-in_err-walk-clause-twice t c =
     twice-passed c.from_residual-in_err-walk.result c.in_err-walk.field-0.0 c.from_residual-in_err-walk.ensures.1 _ _
-    (body-twice c.args.entry.captured.items c.deref.result.now (members_of c.args.group.now) c.args.last.variable (binders_of c.args.body.now) c.in_ok-scope.scope c.deref.ensures.value c.in_ok-scope.ensures.ok) c.in_err-walk.ensures.twice
+    (body-twice c.args.entry.captured.items c.args.scope.now.captured c.args.scope.now.group c.args.last.variable (binders_of c.args.body.now) c.begin.new.self (sym c.requires.captured) c.in_ok-begin.ensures.ok) c.in_err-walk.ensures.twice
 
 pub walk-returns-in_err-walk_steps-in-Steps-clause-twice : goal.walk-returns-in_err-walk_steps-in-Steps-clause-twice
 walk-returns-in_err-walk_steps-in-Steps-clause-twice t c =
@@ -226,9 +240,9 @@ walk_step-returns-in_ok-walk-in-Handle-clause-twice t c =
 
 pub walk_step-returns-in_ok-entry-in-Fn-clause-twice : goal.walk_step-returns-in_ok-entry-in-Fn-clause-twice
 walk_step-returns-in_ok-entry-in-Fn-clause-twice t c =
-    twice-kept c.walk_function.result _ _
+    twice-kept c.walk_alone.result _ _
     (step-fn-twice c.args.scope.now c.args.step.now _ c.in_ok-entry-in-Fn.entry.captured.items c.in-Fn.binding c.in-Fn.parameters c.in-Fn.last c.in-Fn.body c.deref-in-Fn-3.result.now c.deref-in-Fn-4.result.now c.in-Fn.is
-    c.deref-in-Fn-3.ensures.value c.deref-in-Fn-4.ensures (ap (λ (v : clean.Entry). v.captured) c.in_ok-entry-in-Fn.ensures.table)) c.walk_function.ensures.twice
+    c.deref-in-Fn-3.ensures.value c.deref-in-Fn-4.ensures (ap (λ (v : clean.Entry). v.captured) c.in_ok-entry-in-Fn.ensures.table)) c.walk_alone.ensures.twice
 
 pub walk_step-returns-in_ok-entry-in-Group-clause-twice : goal.walk_step-returns-in_ok-entry-in-Group-clause-twice
 walk_step-returns-in_ok-entry-in-Group-clause-twice t c =
@@ -239,33 +253,46 @@ walk_step-returns-in_ok-entry-in-Group-clause-twice t c =
 
 pub walk_function-returns-in_err-inner-clause-twice : goal.walk_function-returns-in_err-inner-clause-twice
 walk_function-returns-in_err-inner-clause-twice t c =
-    let vs = c.args.first.captured.items ++ names (members_of c.args.group.now) in
+    let vs = c.args.first.captured.items ++ names c.args.scope.now.group in
     let zs = c.args.last.variable ∷ binders_of c.args.body.now in
     let a = curried-parts c.args.parameters.now c.rest_of-rest.result.now c.args.last c.is_empty.result c.is_empty.ensures c.if-is_empty.false c.rest_of-rest.ensures in
     twice-passed c.from_residual.result c.in_err-inner.field-0.0 c.from_residual.ensures.1 _ _
     (λ r. subst (λ l. Repeats (vs ++ (variables_of l ++ zs))) (sym a)
-    (first-twice vs (get_or c.args.parameters.now 0 c.args.last) c.args.last c.rest_of-rest.result.now zs c.args.first.number (c.requires ∙ ap (λ l. first_parameter l c.args.last) a) r)) c.in_err-inner.ensures.twice
+    (first-twice vs (get_or c.args.parameters.now 0 c.args.last) c.args.last c.rest_of-rest.result.now zs c.args.first.number (c.requires.number ∙ ap (λ l. first_parameter l c.args.last) a) r)) c.in_err-inner.ensures.twice
 
 pub walk_function-returns-in_err-innermost-clause-twice : goal.walk_function-returns-in_err-innermost-clause-twice
 walk_function-returns-in_err-innermost-clause-twice t c =
     let a = curried-parts c.args.parameters.now c.rest_of-rest.result.now c.args.last c.is_empty.result c.is_empty.ensures c.if-is_empty.false c.rest_of-rest.ensures in
     twice-passed c.from_residual-in_err-innermost.result c.in_err-innermost.field-0.0 c.from_residual-in_err-innermost.ensures.1 _ _
-    (inner-twice [] c.args.first.captured.items (members_of c.args.group.now) (get_or c.args.parameters.now 0 c.args.last) c.args.last c.rest_of-rest.result.now c.args.parameters.now c.args.first.number c.args.uses.now (binders_of c.args.body.now)
-    c.in_ok-inner.inner.captured.items a (c.requires ∙ ap (λ l. first_parameter l c.args.last) a) (ap (λ (v : clean.Entry). v.captured) c.in_ok-inner.ensures.table)) c.in_err-innermost.ensures.twice
+    (inner-twice [] c.args.first.captured.items c.args.scope.now.group (get_or c.args.parameters.now 0 c.args.last) c.args.last c.rest_of-rest.result.now c.args.parameters.now c.args.first.number c.args.uses.now (binders_of c.args.body.now)
+    c.in_ok-inner.inner.captured.items a (c.requires.number ∙ ap (λ l. first_parameter l c.args.last) a) (ap (λ (v : clean.Entry). v.captured) c.in_ok-inner.ensures.table)) c.in_err-innermost.ensures.twice
+
+pub walk_function-returns-in_err-own-clause-twice : goal.walk_function-returns-in_err-own-clause-twice
+walk_function-returns-in_err-own-clause-twice t c =
+    let a = curried-parts c.args.parameters.now c.rest_of-rest.result.now c.args.last c.is_empty.result c.is_empty.ensures c.if-is_empty.false c.rest_of-rest.ensures in
+    twice-passed c.from_residual-in_err-own.result c.in_err-own.field-0.0 c.from_residual-in_err-own.ensures.1 _ _
+    (λ r. innermost-twice [] c.args.first.captured.items c.args.scope.now.group (get_or c.args.parameters.now 0 c.args.last) c.args.last c.rest_of-rest.result.now c.args.parameters.now c.args.first.number c.args.uses.now (binders_of c.args.body.now)
+    c.in_ok-inner.inner.captured.items a (c.requires.number ∙ ap (λ l. first_parameter l c.args.last) a) (ap (λ (v : clean.Entry). v.captured) c.in_ok-inner.ensures.table) c.in_ok-innermost.innermost.captured.items c.in_ok-innermost.ensures.within
+    (unbound-twice c.in_ok-innermost.innermost.captured.items c.deref.result.now [] (c.args.last.variable ∷ binders_of c.args.body.now) c.deref.ensures.value r))
+    c.in_err-own.ensures.twice
 
 pub walk_function-returns-in_err-walk_body-clause-twice : goal.walk_function-returns-in_err-walk_body-clause-twice
 walk_function-returns-in_err-walk_body-clause-twice t c =
     let a = curried-parts c.args.parameters.now c.rest_of-rest.result.now c.args.last c.is_empty.result c.is_empty.ensures c.if-is_empty.false c.rest_of-rest.ensures in
     twice-passed c.from_residual-in_err-walk_body.result c.in_err-walk_body.field-0.0 c.from_residual-in_err-walk_body.ensures.1 _ _
-    (innermost-twice [] c.args.first.captured.items (members_of c.args.group.now) (get_or c.args.parameters.now 0 c.args.last) c.args.last c.rest_of-rest.result.now c.args.parameters.now c.args.first.number c.args.uses.now (binders_of c.args.body.now)
-    c.in_ok-inner.inner.captured.items a (c.requires ∙ ap (λ l. first_parameter l c.args.last) a) (ap (λ (v : clean.Entry). v.captured) c.in_ok-inner.ensures.table) c.in_ok-innermost.innermost.captured.items c.in_ok-innermost.ensures.within)
+    (λ r. innermost-twice [] c.args.first.captured.items c.args.scope.now.group (get_or c.args.parameters.now 0 c.args.last) c.args.last c.rest_of-rest.result.now c.args.parameters.now c.args.first.number c.args.uses.now (binders_of c.args.body.now)
+    c.in_ok-inner.inner.captured.items a (c.requires.number ∙ ap (λ l. first_parameter l c.args.last) a) (ap (λ (v : clean.Entry). v.captured) c.in_ok-inner.ensures.table) c.in_ok-innermost.innermost.captured.items c.in_ok-innermost.ensures.within
+    (subst (λ m. Repeats ((c.in_ok-innermost.innermost.captured.items ++ names m) ++ c.args.last.variable ∷ binders_of c.args.body.now)) (ap (λ (s : Scope). s.group) c.in_ok-own.ensures.ok) r))
     c.in_err-walk_body.ensures.twice
 
 pub walk_function-returns-clause-table : goal.walk_function-returns-clause-table
 walk_function-returns-clause-table t c = λ es.
     let a = curried-parts c.args.parameters.now c.rest_of-rest.result.now c.args.last c.is_empty.result c.is_empty.ensures c.if-is_empty.false c.rest_of-rest.ensures in
-    curried-told c.args.uses.now c.args.last (exp_told c.args.body.now).table c.args.parameters.now c.rest_of-rest.result.now (get_or c.args.parameters.now 0 c.args.last) a c.args.first.number (c.requires ∙ ap (λ l. first_parameter l c.args.last) a)
-    (pieces_of c.args.first.pieces.items) (pieces_of c.in_ok-inner.inner.pieces.items) c.args.first.captured.items c.in_ok-inner.inner.captured.items (members_of c.args.group.now)
+    curried-told c.args.uses.now c.args.last (exp_told c.args.body.now).table c.args.parameters.now c.rest_of-rest.result.now (get_or c.args.parameters.now 0 c.args.last) a c.args.first.number (c.requires.number ∙ ap (λ l. first_parameter l c.args.last) a)
+    (pieces_of c.args.first.pieces.items) (pieces_of c.in_ok-inner.inner.pieces.items) c.args.first.captured.items c.in_ok-inner.inner.captured.items c.args.scope.now.group
     (ap (λ (v : clean.Entry). v.captured) c.in_ok-inner.ensures.table) (ap (λ (v : clean.Entry). v.pieces) c.in_ok-inner.ensures.table)
     (entries_are c.args.found.now.items) (entries_are c.push.new.self.items) _ (ap entries_are c.in_ok-push.ensures.items ∙ map-last entry_is c.args.found.now.items c.args.first) es
-    (c.in_ok-innermost.ensures.table (exp_told c.args.body.now).table es ∙ c.in_ok-walk_body.ensures.table es)
+    (c.in_ok-innermost.ensures.table (exp_told c.args.body.now).table es
+    ∙ ap (λ m. entries_are c.push_curried.new.found.items ++ function_table [] [] c.args.last (exp_told c.args.body.now).table (pieces_of c.in_ok-innermost.innermost.pieces.items) c.in_ok-innermost.innermost.captured.items m es)
+    (sym (ap (λ (s : Scope). s.group) c.in_ok-own.ensures.ok))
+    ∙ c.in_ok-walk_body.ensures.table es)

@@ -1,4 +1,4 @@
-use Rattle.std.proofs.Common.{◌≡◌, ◌≤◌, ◌++◌, length, map, take, drop}
+use Rattle.std.proofs.Common.{◌≡◌, ◌≤◌, ◌++◌, length, map, take}
 use Rattle.closure_convert.specs.Scope.{Scope}
 use Rattle.capture_scope.specs.Seen.{members_of}
 use Rattle.capture_scope.specs.Found.{pieces_of}
@@ -20,8 +20,11 @@ invariant-walk_arms-loop-i l = record {
 }
 
 abbrev pub invariant-walk_functions-loop-i : goal.invariant-walk_functions-loop-i
-invariant-walk_functions-loop-i l =
-    FunctionsSoFar function_told l.functions l.i (pieces_of l.entry.pieces.items) l.entry.captured.items (members_of l.group) (entries_are l.fn.found.items) (entries_are l.found.items) (entries_are l.found.items) l.i
+invariant-walk_functions-loop-i l = record {
+  table : FunctionsSoFar function_told l.functions l.i (pieces_of l.entry.pieces.items) l.entry.captured.items (members_of l.group) (entries_are l.fn.found.items) (entries_are l.found.items) (entries_are l.found.items) l.i;
+  captured : l.scope.captured ≡ l.entry.captured.items;
+  group : l.scope.group ≡ members_of l.group;
+}
 
 abbrev pub invariant-walk_steps-loop-i : goal.invariant-walk_steps-loop-i
 invariant-walk_steps-loop-i l = record {

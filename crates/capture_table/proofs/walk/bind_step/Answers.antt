@@ -1,4 +1,4 @@
-use Rattle.std.proofs.Common.{◌≡◌, map, ap, refl, ◌∙◌}
+use Rattle.std.proofs.Common.{map, ap, refl, ◌∙◌}
 use Rattle.closure_convert.specs.Scope.{names}
 use Rattle.closure_convert.specs.Capture.{visible}
 use Rattle.capture_scope.specs.Seen.{members_of}

@@ -1,4 +1,4 @@
-use Rattle.std.proofs.Common.{◌≡◌, ◌++◌, ◌∷◌, [], drop, sym, ap, refl, ◌∙◌}
+use Rattle.std.proofs.Common.{◌++◌, [], sym, ap, refl, ◌∙◌}
 use Rattle.closure_convert.specs.Capture as clean
 use Rattle.capture_scope.specs.Found.{pieces_of}
 use Rattle.capture_table.specs.Told.{first_parameter, function_table}

@@ -1,8 +1,7 @@
-use Rattle.std.proofs.Common.{◌≡◌, [], List, ℕ, slice_get, sym, ap, ◌∙◌}
-use Rattle.closure_convert.specs.Scope.{index_of}
-use Rattle.closure_convert.specs.Capture.{Entry, entry_of, captured_in, pieces_in}
-use Rattle.capture_table.specs.Tables.{entries_are, numbers_of}
-use Rattle.capture_table.proofs.Placing.{entry-some, entry-none, place-some, place-none, entries-long}
+use Rattle.std.proofs.Common.{List, slice_get, sym, ap, ◌∙◌}
+use Rattle.closure_convert.specs.Capture.{Entry, entry_of, captured_in}
+use Rattle.capture_table.specs.Tables.{entries_are}
+use Rattle.capture_table.proofs.Placing.{entry-some, entry-none}
 use Rattle.capture_table.proofs.table.Captures.captured.Goals as goal
 
 pub returns-in-Some : goal.returns-in-Some

@@ -1,8 +1,8 @@
-use Rattle.std.proofs.Common.{◌≡◌, [], List, ℕ, length, sym, ap, ◌∙◌, arith}
+use Rattle.std.proofs.Common.{◌≡◌, List, length, sym, ap, ◌∙◌, arith}
 use Rattle.closure_convert.specs.Scope.{index_of}
-use Rattle.closure_convert.specs.Capture.{Entry, entry_of, captured_in, pieces_in}
+use Rattle.closure_convert.specs.Capture.{Entry}
 use Rattle.capture_table.specs.Tables.{entries_are, numbers_of}
-use Rattle.capture_table.proofs.Placing.{entry-some, entry-none, place-some, place-none, entries-long}
+use Rattle.capture_table.proofs.Placing.{place-some, place-none, entries-long}
 use Rattle.capture_table.proofs.table.Captures.place.Goals as goal
 
 pub returns-in-Some : goal.returns-in-Some

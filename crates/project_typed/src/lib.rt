@@ -1,0 +1,4 @@
+// What a project elaborates to, with types: a relation, and that it gives all that is claimed of elaboration.
+#![tactic(auto)]
+
+pub mod law;
