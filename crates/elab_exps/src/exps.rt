@@ -49,6 +49,8 @@ use exp_forms::rules::{start_case, start_function, start_handle};
 use exp_forms::rules_made::RulesMade;
 use exp_forms::series::{add_before, add_operand, sequence};
 use exp_forms::steps::{begin_rule, end_rule};
+use exp_weights::counted::counted;
+use exp_weights::exps::{bound_nodes, clause_nodes};
 use general_decs::begin::{Begun, begin};
 use mlc_base::place::Place;
 use pat_elab::stopped::Stopped;
@@ -333,7 +335,9 @@ fn rules_from(
         let domain = made.domain;
         let begun = begin_rule(alloc, state, context, place, domain, &rules[i].pat)?;
         let exp = elab_exp(alloc, state, context, &rules[i].exp)?;
-        end_rule(alloc, state, context, place, begun, exp, made)?;
+        let nodes = bound_nodes(&rules[i].pat, &rules[i].exp);
+        let side = counted(alloc, state, context, nodes, exp)?;
+        end_rule(alloc, state, context, place, begun, side, made)?;
     }
     Ok(())
 }
@@ -555,6 +559,8 @@ fn bindings_from(
     let mut inside = none_inside(alloc);
     for i in 0..binds.len() {
         let exp = elab_exp(alloc, state, context, &binds[i].exp)?;
+        let nodes = bound_nodes(&binds[i].pat, &binds[i].exp);
+        let side = counted(alloc, state, context, nodes, exp)?;
         add_binding(
             alloc,
             state,
@@ -562,7 +568,7 @@ fn bindings_from(
             begun,
             scoped,
             &binds[i],
-            exp,
+            side,
             &mut inside,
         )?;
     }
@@ -646,7 +652,9 @@ fn clauses_from(
         let domain = made.domain;
         let begun = begin_clause(alloc, state, context, place, domain, &clauses[i].pats)?;
         let exp = elab_exp(alloc, state, context, &clauses[i].exp)?;
-        end_rule(alloc, state, context, place, begun, exp, made)?;
+        let nodes = clause_nodes(&clauses[i].pats, &clauses[i].exp);
+        let side = counted(alloc, state, context, nodes, exp)?;
+        end_rule(alloc, state, context, place, begun, side, made)?;
     }
     Ok(())
 }

@@ -20,8 +20,8 @@ use Rattle.elab_context.specs.declared.context.Context.{Context}
 use Rattle.basis_context.specs.Telling.{TellsBasis, around_in}
 use Rattle.dec_forms.specs.Decs.{IsDecs}
 use Rattle.dec_forms.proofs.Sequencing.{decs-do}
-use Rattle.elab_worlds.specs.Final.{AreConstructors, IsFinal, IsLast, final_world}
-use Rattle.elab_worlds.proofs.Final.{final-comes, state-ends}
+use Rattle.elab_worlds.specs.Final.{AreConstructors, IsFinal, IsLast, IsOrdered, final_world}
+use Rattle.elab_worlds.proofs.Final.{final-comes, finals-ordered, state-ends}
 use Rattle.ir_prog.specs.Programs.{body_in}
 use Rattle.ir_prog.specs.declared.program.Program.{Program}
 use Rattle.final_types.specs.Programs.{IsProgramWith}
@@ -38,12 +38,15 @@ find-front (k ∷ ks) js y c found e = by (nat_eq k.datatype.stamp y.stamp && na
     by true e again = e
     by false e again = again e
 
-module _ (S T : State) (C D : Context) (ds : List bare.Dec) (decs : List Dec) (l : ℕ) (tells : TellsBasis S C) (is : IsDecs S C ds T D decs) (last : IsLast T l) (k : AreConstructors T) where
+module _ (S T : State) (C D : Context) (ds : List bare.Dec) (decs : List Dec) (l : ℕ) (tells : TellsBasis S C) (is : IsDecs S C ds T D decs) (last : IsLast T l) (k : AreConstructors T)
+    (ordered : IsOrdered T) where
   run-right : (g : ℕ → Typ) → IsFinal T g → IsProgramOf (initial_constructors ++ table_in T) (source.decs_of ds) (body_of (reading_in T g) decs)
   run-right g h =
-      let c = final-comes T l last k g h in
-      let told = tells (final_world T g) (comes_before S T (final_world T g) is.grows c) (λ y n found. find-front initial_constructors (table_in T) y n found) refl in
-      let e = is.gives (final_world T g) c (around_in (final_world T g)) told in
+      let up = finals-ordered T ordered g h in
+      let W = final_world T g up in
+      let c = final-comes T l last k g h up in
+      let told = tells W (comes_before S T W is.grows c) (λ y n found. find-front initial_constructors (table_in T) y n found) refl in
+      let e = is.gives W c (around_in W) told in
       let u = e.elab 0 (omega arith) in
       let d = decs-do u.elab in
       subst (IsProgramOf (initial_constructors ++ table_in T) (source.decs_of ds)) e.whole
@@ -56,13 +59,13 @@ module _ (S T : State) (C D : Context) (ds : List bare.Dec) (decs : List Dec) (l
 
     pub right : IsProgramOf (initial_constructors ++ constructors_of f.tables) (source.decs_of ds) (body_of (reading f.tables) new)
     right =
-        let z = state-ends T l last k in
+        let z = state-ends T l last k ordered in
         let e = same (reading f.tables) ∙ ap (λ R. body_of R decs) (reads z.values z.final) in
         subst (λ cs. IsProgramOf (initial_constructors ++ cs) (source.decs_of ds) (body_of (reading f.tables) new)) (sym finished.constructors)
         (subst (IsProgramOf (initial_constructors ++ table_in T) (source.decs_of ds)) (sym e) (run-right z.values z.final))
 
   pub made-right : (p : Program) → IsProgramWith T decs p → IsProgramOf (initial_constructors ++ constructors_of p.tables) (source.decs_of ds) (body_in p)
   made-right p w =
-      let z = state-ends T l last k in
+      let z = state-ends T l last k ordered in
       subst (λ cs. IsProgramOf (initial_constructors ++ cs) (source.decs_of ds) (body_in p)) (sym w.constructors)
       (subst (IsProgramOf (initial_constructors ++ table_in T) (source.decs_of ds)) (sym (w.body z.values (final-end T l last.tidy z.values z.final))) (run-right z.values z.final))

@@ -16,25 +16,25 @@ use Rattle.elab_context.specs.declared.context.Context.{Context}
 use Rattle.basis_context.specs.Telling.{TellsBasis}
 use Rattle.dec_forms.specs.Decs.{IsDecs}
 use Rattle.elab_steps.specs.Tidy.{AreConstructors, IsTidy}
-use Rattle.elab_worlds.specs.Final.{IsLast}
+use Rattle.elab_worlds.specs.Final.{IsLast, IsOrdered}
 use Rattle.final_types.specs.Programs.{IsProgramWith}
 use Rattle.elab_finish.specs.Finished.{IsFinished}
 use Rattle.final_types.specs.declared.finish.Finished.{Finished}
 
--- Declarations were elaborated in the initial basis, and the state's tables finished. The tree with the new numbers for its types is a program of these
+-- Declarations were elaborated in the initial basis, the fields of all records are settled, and the state's tables finished. The tree with the new numbers for its types is a program of these
 -- tables that is well typed; the declarations have a typing; and it does what they do at every number of turns.
 abbrev pub ProgramsAreRight : Type 0
 ProgramsAreRight = (S T : State) (C D : Context) (ds : List bare.Dec) (old new : List Dec) (l : ℕ) (f : Finished) → TellsBasis S C → IsDecs S C ds T D old
-    → IsLast T l → AreConstructors T → IsFinished T f → ((Q : Reading) → body_of Q new ≡ body_of (renumbered f.numbers Q) old)
+    → IsLast T l → AreConstructors T → IsOrdered T → IsFinished T f → ((Q : Reading) → body_of Q new ≡ body_of (renumbered f.numbers Q) old)
     → IsProgramOf (initial_constructors ++ constructors_of f.tables) (source.decs_of ds) (body_of (reading f.tables) new)
 
 -- So it is where the state was tidy before them, and its constructors might stand in a program's table, as those of a new state may.
 abbrev pub RunsAreRight : Type 0
 RunsAreRight = (S T : State) (C D : Context) (ds : List bare.Dec) (old new : List Dec) (f : Finished) → TellsBasis S C → IsDecs S C ds T D old → IsTidy S S.level → AreConstructors S
-    → IsFinished T f → ((Q : Reading) → body_of Q new ≡ body_of (renumbered f.numbers Q) old)
+    → IsOrdered T → IsFinished T f → ((Q : Reading) → body_of Q new ≡ body_of (renumbered f.numbers Q) old)
     → IsProgramOf (initial_constructors ++ constructors_of f.tables) (source.decs_of ds) (body_of (reading f.tables) new)
 
 -- so does the program that is made of the last state and the tree
 abbrev pub MadeProgramsAreRight : Type 0
 MadeProgramsAreRight = (S T : State) (C D : Context) (ds : List bare.Dec) (old : List Dec) (l : ℕ) (p : Program) → TellsBasis S C → IsDecs S C ds T D old → IsLast T l
-    → AreConstructors T → IsProgramWith T old p → IsProgramOf (initial_constructors ++ constructors_of p.tables) (source.decs_of ds) (body_in p)
+    → AreConstructors T → IsOrdered T → IsProgramWith T old p → IsProgramOf (initial_constructors ++ constructors_of p.tables) (source.decs_of ds) (body_in p)

@@ -11,7 +11,7 @@ ghost use Rattle.elab_context.specs.declared.context.Context.{Context};
 ghost use Rattle.basis_context.specs.Telling.{TellsBasis};
 ghost use Rattle.dec_forms.specs.Decs.{IsDecs};
 ghost use Rattle.elab_steps.specs.Tidy.{AreConstructors};
-ghost use Rattle.elab_worlds.specs.Final.{IsLast};
+ghost use Rattle.elab_worlds.specs.Final.{IsLast, IsOrdered};
 ghost use Rattle.final_types.specs.Programs.{IsProgramWith};
 
 use elab_state::state::State;
@@ -25,7 +25,7 @@ use std::alloc::Global;
 pub fn elaborated_program(alloc: Global, state: State, body: &[Dec]) -> Result<Program, NoMemory>
     ensures is { IfOk result (IsProgramWith state body.now) }
     ensures right { IfOk result (λ p. (S : State) (C D : Context) (ds : List bare.Dec) (l : ℕ) → TellsBasis S C → IsDecs S C ds state D body.now
-        → IsLast state l → AreConstructors state
+        → IsLast state l → AreConstructors state → IsOrdered state
         → IsProgramOf (initial_constructors ++ constructors_of p.tables) (source.decs_of ds) (body_in p)) }
 {
     program_of(alloc, state, body)

@@ -7,16 +7,17 @@ use Rattle.std.proofs.lemmas.Bool.{eqb-true, lt-ltb, ltb-true}
 use Rattle.std.specs.Prelude.{Vec}
 use Rattle.std.specs.Global.{Global}
 use Rattle.ty_core.specs.Types.{Typ, var, con, more, Symbol}
-use Rattle.ty_core.specs.declared.mark.Mark.{Mark}
 use Rattle.ty_table.specs.TypeAt.{type_at, types_at, AllBelow}
-use Rattle.ty_solve.specs.Substitution.{Entry, sub, subs, Solves, is_below, are_below, is_in, are_in, Meets, free}
+use Rattle.ty_solve.specs.Substitution.{Entry, sub, subs, Solves, is_below, are_below, is_in, are_in, Meets}
 use Rattle.ty_solve.specs.SlotsOf.{look, entries, entry_of, seen}
 use Rattle.ty_solve.specs.Said.{said}
 use Rattle.ty_solve.specs.Solve.{IsMostGeneral, LeavesRest}
-use Rattle.ty_solve.specs.Limits.{limit_at, Fall, LeavesLimits, NoFurther}
+use Rattle.ty_solve.specs.Limits.{limit_at, Fall, LeavesLimits, Limited, NoFurther}
 use Rattle.ty_solve.specs.declared.limit.Limit.{Limit}
 use Rattle.ty_solve.specs.declared.subst.Slot.{Slot}
-use Rattle.ty_solve.specs.declared.subst.Slot.TheVariants.{Open}
+use Rattle.ty_solve.specs.declared.subst.Slot.TheVariants.{Partial}
+use Rattle.ty_solve.specs.declared.row.Row.{Row}
+use Rattle.ty_solve.specs.Rows.{Extends}
 use Rattle.ty_solve.specs.declared.subst.Subst.{Subst}
 use Rattle.ty_instance.proofs.Going.{whole}
 use Rattle.ir_tables.specs.declared.tables.Tables.{Tables}
@@ -37,6 +38,7 @@ use Rattle.elab_steps.specs.Tidy.{AreConstructors, IsLive, IsTidy}
 use Rattle.elab_steps.specs.Growing.{HasType, AreLive, Begins, Grows, Always, IsWithin, AreTypes, types_of}
 use Rattle.elab_state.specs.declared.naming.Written.{Written}
 use Rattle.elab_state.specs.declared.state.State.{State}
+use Rattle.elab_steps.specs.Ordered.{is_ordered}
 use Rattle.elab_steps.specs.World.{World, type_of, Comes}
 use Rattle.elab_steps.proofs.Growing.{comes_before}
 use Rattle.elab_steps.proofs.Keeping.{Makes, makes-done, makes-tidy, unified-done, unified-tidy}
@@ -59,22 +61,22 @@ begins-same xs ys e = ap (take (length xs)) e ∙ whole xs
 
 -- one variable more
 
-look-snoc : (es : List Entry) (k : Mark) (m : ℕ → Bool) (f : ℕ → Typ) (v : ℕ) → Meets m f (f v) (look (es ++ free k ∷ []) v) → Meets m f (f v) (look es v)
-look-snoc [] k m f v h = tt
-look-snoc (e ∷ es) k m f zero h = h
-look-snoc (e ∷ es) k m f (suc v) h = go es v h
+look-snoc : (es : List Entry) (o : Entry) (m : ℕ → Bool) (f : ℕ → Typ) (v : ℕ) → Meets m f (f v) (look (es ++ o ∷ []) v) → Meets m f (f v) (look es v)
+look-snoc [] o m f v h = tt
+look-snoc (e ∷ es) o m f zero h = h
+look-snoc (e ∷ es) o m f (suc v) h = go es v h
   where
-    go : (es : List Entry) (x : ℕ) → Meets m f (f (suc v)) (look (es ++ free k ∷ []) x) → Meets m f (f (suc v)) (look es x)
+    go : (es : List Entry) (x : ℕ) → Meets m f (f (suc v)) (look (es ++ o ∷ []) x) → Meets m f (f (suc v)) (look es x)
     go [] x h = tt
     go (e ∷ es) zero h = h
     go (e ∷ es) (suc x) h = go es x h
 
-entries-snoc : (ts : List Typ) (os : List Slot) (k : Mark) → entries ts (os ++ Open k ∷ []) ≡ entries ts os ++ free k ∷ []
-entries-snoc ts [] k = refl
-entries-snoc ts (o ∷ os) k = ap (λ l. entry_of ts o ∷ l) (entries-snoc ts os k)
+entries-snoc : (ts : List Typ) (os : List Slot) (o : Slot) → entries ts (os ++ o ∷ []) ≡ entries ts os ++ entry_of ts o ∷ []
+entries-snoc ts [] o = refl
+entries-snoc ts (p ∷ os) o = ap (λ l. entry_of ts p ∷ l) (entries-snoc ts os o)
 
-solves-fresh : (ts : List Typ) (os : List Slot) (k : Mark) (m : ℕ → Bool) (f : ℕ → Typ) → Solves m f (seen ts (os ++ Open k ∷ [])) → Solves m f (seen ts os)
-solves-fresh ts os k m f s v = look-snoc (entries ts os) k m f v (subst (λ es. Meets m f (f v) (look es v)) (entries-snoc ts os k) (s v))
+solves-fresh : (ts : List Typ) (os : List Slot) (o : Slot) (m : ℕ → Bool) (f : ℕ → Typ) → Solves m f (seen ts (os ++ o ∷ [])) → Solves m f (seen ts os)
+solves-fresh ts os o m f s v = look-snoc (entries ts os) (entry_of ts o) m f v (subst (λ es. Meets m f (f v) (look es v)) (entries-snoc ts os o) (s v))
 
 limit-front : (ls : List Limit) (l : Limit) (v : ℕ) → v < length ls → limit_at (ls ++ l ∷ []) v ≡ limit_at ls v
 limit-front [] l v lt = absurd (omega arith)
@@ -130,11 +132,15 @@ constructors-same S T e = subst (λ t. AllByRecursion IsConstructor (constructor
 pub constructors-stay : (S T : State) → T.tables.types ≡ S.tables.types → T.tables.constructors ≡ S.tables.constructors → AreConstructors S → AreConstructors T
 constructors-stay S T e f = subst (AllByRecursion IsConstructor) (sym (ap₂ constructors_at e f))
 
+numbers-come : (S : State) (W : World) (ks : List ℕ) → Comes S W → AllBelow (length (types_in S)) ks → subs W.value (types_at (types_in S) ks) ≡ types_of W ks
+numbers-come S W [] c h = refl
+numbers-come S W (k ∷ ks) c h = ap₂ more (ap (sub W.value) (sym (c.types k h.0))) (numbers-come S W ks c h.1)
+
 -- a new variable, and its type
-pub record Freshened (S T : State) (mid : Subst) (mark : Mark) (limit : Limit) (v r : ℕ) : Type 0 where
+pub record Freshened (S T : State) (mid : Subst) (slot : Slot) (limit : Limit) (v r : ℕ) : Type 0 where
   pub stays : Stays S T
   pub mid_types : mid.types ≡ types_in S
-  pub mid_slots : mid.slots.items ≡ S.solver.subst.slots.items ++ Open mark ∷ []
+  pub mid_slots : mid.slots.items ≡ S.solver.subst.slots.items ++ slot ∷ []
   pub limits : T.solver.limits.items ≡ S.solver.limits.items ++ limit ∷ []
   pub types : Begins mid.types (types_in T)
   pub slots : T.solver.subst.slots.items ≡ mid.slots.items
@@ -145,76 +151,110 @@ pub record Freshened (S T : State) (mid : Subst) (mark : Mark) (limit : Limit) (
   pub deep : limit.level < dead_level
   pub inside : limit.level ≤ S.level
 
-pub made-fresh : (S T : State) (mid : Subst) (mark : Mark) (limit : Limit) (v r : ℕ) → Freshened S T mid mark limit v r → made T ≡ made S + 1
-made-fresh S T mid mark limit v r h = ap length (h.slots ∙ h.mid_slots) ∙ length-append S.solver.subst.slots.items (Open mark ∷ [])
+pub made-fresh : (S T : State) (mid : Subst) (slot : Slot) (limit : Limit) (v r : ℕ) → Freshened S T mid slot limit v r → made T ≡ made S + 1
+made-fresh S T mid slot limit v r h = ap length (h.slots ∙ h.mid_slots) ∙ length-append S.solver.subst.slots.items (slot ∷ [])
 
-freshened-limit : (S T : State) (mid : Subst) (mark : Mark) (limit : Limit) (v r : ℕ) → Freshened S T mid mark limit v r → limit_in T v ≡ limit
-freshened-limit S T mid mark limit v r h =
+freshened-limit : (S T : State) (mid : Subst) (slot : Slot) (limit : Limit) (v r : ℕ) → Freshened S T mid slot limit v r → limit_in T v ≡ limit
+freshened-limit S T mid slot limit v r h =
     ap (limit_at T.solver.limits.items) (h.number ∙ sym S.solver.each_has_one) ∙ ap (λ ls. limit_at ls (length S.solver.limits.items)) h.limits
     ∙ limit-last S.solver.limits.items limit
 
-look-first : (es : List Entry) (k : Mark) (v : ℕ) → v < length es → look (es ++ free k ∷ []) v ≡ look es v
-look-first [] k v lt = absurd (omega (arith, lt))
-look-first (e ∷ es) k zero lt = refl
-look-first (e ∷ es) k (suc v) lt = look-first es k v (omega (arith, lt))
+look-first : (es : List Entry) (o : Entry) (v : ℕ) → v < length es → look (es ++ o ∷ []) v ≡ look es v
+look-first [] o v lt = absurd (omega (arith, lt))
+look-first (e ∷ es) o zero lt = refl
+look-first (e ∷ es) o (suc v) lt = look-first es o v (omega (arith, lt))
 
-freshened-makes : (S T : State) (mid : Subst) (mark : Mark) (limit : Limit) (v r : ℕ) → Freshened S T mid mark limit v r → Makes S T
-freshened-makes S T mid mark limit v r h = record {
+look-last : (es : List Entry) (o : Entry) → look (es ++ o ∷ []) (length es) ≡ o
+look-last [] o = refl
+look-last (e ∷ es) o = look-last es o
+
+freshened-makes : (S T : State) (mid : Subst) (slot : Slot) (limit : Limit) (v r : ℕ) → Freshened S T mid slot limit v r → Makes S T
+freshened-makes S T mid slot limit v r h = record {
   said = λ x lt.
       let ts = types_in S in let os = S.solver.subst.slots.items in
-      ap (λ f. f x) h.says ∙ ap (λ l. seen l mid.slots.items x) h.mid_types ∙ ap (λ l. seen ts l x) h.mid_slots ∙ ap (λ l. look l x) (entries-snoc ts os mark)
-      ∙ look-first (entries ts os) mark x (let n = length-map os (entry_of ts) in omega (arith, lt, n));
+      ap (λ f. f x) h.says ∙ ap (λ l. seen l mid.slots.items x) h.mid_types ∙ ap (λ l. seen ts l x) h.mid_slots ∙ ap (λ l. look l x) (entries-snoc ts os slot)
+      ∙ look-first (entries ts os) (entry_of ts slot) x (let n = length-map os (entry_of ts) in omega (arith, lt, n));
   limits = λ x lt. ap (λ ls. limit_at ls x) h.limits ∙ limit-front S.solver.limits.items limit x (let e = S.solver.each_has_one in omega (arith, e, lt));
   new = λ x le lt.
-      let n = made-fresh S T mid mark limit v r h in let k = h.number in let s : v ≡ x = omega (arith, n, k, le, lt) in let i = h.inside in
-      subst (λ y. (limit_in T y).level ≤ S.level) s (subst (λ (l : Limit). l.level ≤ S.level) (sym (freshened-limit S T mid mark limit v r h)) i);
+      let n = made-fresh S T mid slot limit v r h in let k = h.number in let s : v ≡ x = omega (arith, n, k, le, lt) in let i = h.inside in
+      subst (λ y. (limit_in T y).level ≤ S.level) s (subst (λ (l : Limit). l.level ≤ S.level) (sym (freshened-limit S T mid slot limit v r h)) i);
   general = same-general S T h.stays.tables;
   level = h.stays.level;
 }
 
-pub freshened_grows : (S T : State) (mid : Subst) (mark : Mark) (limit : Limit) (v r : ℕ) → Freshened S T mid mark limit v r → Grows S T
-freshened_grows S T mid mark limit v r h = record {
+pub freshened_grows : (S T : State) (mid : Subst) (slot : Slot) (limit : Limit) (v r : ℕ) → Freshened S T mid slot limit v r → Grows S T
+freshened_grows S T mid slot limit v r h = record {
   types = subst (λ l. Begins l (types_in T)) h.mid_types h.types;
   written = begins-same _ _ h.stays.written;
   namings = begins-same _ _ h.stays.namings;
   lists = begins-same _ _ (ap parameters_of h.stays.tables);
   strings = begins-same _ _ (ap strings_of h.stays.tables);
   rows = rows-same S.tables T.tables h.stays.tables;
-  variables = let e = made-fresh S T mid mark limit v r h in omega (arith, e);
-  solves = λ m f s. solves-fresh (types_in S) S.solver.subst.slots.items mark m f
+  variables = let e = made-fresh S T mid slot limit v r h in omega (arith, e);
+  solves = λ m f s. solves-fresh (types_in S) S.solver.subst.slots.items slot m f
       (subst (λ os. Solves m f (seen (types_in S) os)) h.mid_slots (subst (λ ts. Solves m f (seen ts mid.slots.items)) h.mid_types (subst (Solves m f) h.says s)));
   limits = λ x lt. same-limit (limit_in T x) (limit_in S x)
       (ap (λ ls. limit_at ls x) h.limits ∙ limit-front S.solver.limits.items limit x (let e = S.solver.each_has_one in omega (arith, e, lt)));
   next = let e = h.stays.next in omega (arith, e);
   level = h.stays.level;
-  done = makes-done S T (freshened-makes S T mid mark limit v r h);
-  tidy = makes-tidy S T (freshened-makes S T mid mark limit v r h);
+  done = makes-done S T (freshened-makes S T mid slot limit v r h);
+  tidy = makes-tidy S T (freshened-makes S T mid slot limit v r h);
   constructors = constructors-same S T h.stays.tables;
 }
 
-pub freshened_is : (S T : State) (mid : Subst) (mark : Mark) (limit : Limit) (v r : ℕ) → Freshened S T mid mark limit v r → HasType T r
-freshened_is S T mid mark limit v r h = record {
+pub freshened_is : (S T : State) (mid : Subst) (slot : Slot) (limit : Limit) (v r : ℕ) → Freshened S T mid slot limit v r → HasType T r
+freshened_is S T mid slot limit v r h = record {
   held = slice_get_within (types_in T) r (var v) h.is;
   below =
-      let e = made-fresh S T mid mark limit v r h in let n = h.number in let lt : v < made T = omega (arith, e, n) in
+      let e = made-fresh S T mid slot limit v r h in let n = h.number in let lt : v < made T = omega (arith, e, n) in
       subst (λ t. is_below (made T) t ≡ true) (sym (get_or_from_slice_get (types_in T) r (var v) (var 0) h.is)) (lt-ltb v (made T) lt);
   live = λ x i.
       let same : v ≡ x = eqb-true v x (subst (λ t. is_in x t ≡ true) (get_or_from_slice_get (types_in T) r (var v) (var 0) h.is) i) in
-      subst (λ y. (limit_in T y).level < dead_level) same (subst (λ (l : Limit). l.level < dead_level) (sym (freshened-limit S T mid mark limit v r h)) h.deep);
+      subst (λ y. (limit_in T y).level < dead_level) same (subst (λ (l : Limit). l.level < dead_level) (sym (freshened-limit S T mid slot limit v r h)) h.deep);
 }
 
-pub freshened_within : (S T : State) (mid : Subst) (mark : Mark) (limit : Limit) (v r : ℕ) → Freshened S T mid mark limit v r → Always T (λ W. IsWithin W limit r)
-freshened_within S T mid mark limit v r h W c =
-    let e = made-fresh S T mid mark limit v r h in
+pub freshened_within : (S T : State) (mid : Subst) (slot : Slot) (limit : Limit) (v r : ℕ) → Freshened S T mid slot limit v r → Always T (λ W. IsWithin W limit r)
+freshened_within S T mid slot limit v r h W c =
+    let e = made-fresh S T mid slot limit v r h in
     let n = h.number in
     let lt : v < made T = omega (arith, e, n) in
-    let same = freshened-limit S T mid mark limit v r h in
+    let same = freshened-limit S T mid slot limit v r h in
     let is : type_of W r ≡ W.value v = ap (sub W.value) (c.types r (slice_get_within (types_in T) r (var v) h.is) ∙ get_or_from_slice_get (types_in T) r (var v) (var 0) h.is) in
     record {
       names = subst (Rattle.core_rules.specs.Objects.Over limit.names) (sym is) (subst (λ l. Rattle.core_rules.specs.Objects.Over l.names (W.value v)) same (c.names v lt));
       parameters = λ deep. subst (λ t. Rattle.ir_poly.specs.Types.over (W.parameters limit.level) t ≡ true) (sym is)
           (subst (λ l. l.level < dead_level → Rattle.ir_poly.specs.Types.over (W.parameters l.level) (W.value v) ≡ true) same (c.within v lt) deep);
     }
+
+-- of it is said what was put into its slot
+freshened-said : (S T : State) (mid : Subst) (slot : Slot) (limit : Limit) (v r : ℕ) → Freshened S T mid slot limit v r → said_in T v ≡ entry_of (types_in S) slot
+freshened-said S T mid slot limit v r h =
+    let ts = types_in S in let os = S.solver.subst.slots.items in
+    ap (λ f. f v) h.says ∙ ap (λ l. seen l mid.slots.items v) h.mid_types ∙ ap (λ l. seen ts l v) h.mid_slots ∙ ap (λ l. look l v) (entries-snoc ts os slot)
+    ∙ ap (look (entries ts os ++ entry_of ts slot ∷ [])) (h.number ∙ sym (length-map os (entry_of ts))) ∙ look-last (entries ts os) (entry_of ts slot)
+
+freshened-var : (S T : State) (mid : Subst) (slot : Slot) (limit : Limit) (v r : ℕ) → Freshened S T mid slot limit v r → type_at (types_in T) r ≡ var v
+freshened-var S T mid slot limit v r h = get_or_from_slice_get (types_in T) r (var v) (var 0) h.is
+
+-- and it reaches as far as its limit
+pub new-limited : (ls new : List Limit) (ts : List Typ) (limit : Limit) (n v r : ℕ) → new ≡ ls ++ limit ∷ [] → length ls ≡ n → v ≡ n → slice_get ts r ≡ Some (var v)
+    → Limited (limit_at new) limit (type_at ts r)
+new-limited ls new ts limit n v r e m w is =
+    let same : limit_at new v ≡ limit = ap (limit_at new) (w ∙ sym m) ∙ ap (λ l. limit_at l (length ls)) e ∙ limit-last ls limit in
+    subst (Limited (limit_at new) limit) (sym (get_or_from_slice_get ts r (var v) (var 0) is)) (same-limit (limit_at new v) limit same)
+
+pub freshened_ordered : (S T : State) (mid : Subst) (slot : Slot) (limit : Limit) (v r : ℕ) → Freshened S T mid slot limit v r → Always T (λ W. is_ordered (type_of W r) ≡ true)
+freshened_ordered S T mid slot limit v r h W c =
+    ap (λ t. is_ordered (sub W.value t)) (c.types r (slice_get_within (types_in T) r (var v) h.is) ∙ freshened-var S T mid slot limit v r h) ∙ W.ordered v
+
+-- it stands for a record that has the fields of its row
+pub freshened_extends : (S T : State) (mid : Subst) (row : Row) (limit : Limit) (v r : ℕ) → Freshened S T mid (Partial row) limit v r → AllBelow (length (types_in S)) row.types.items
+    → Always T (λ W. Extends W.admits row.equality row.labels.items (types_of W row.types.items) (type_of W r))
+freshened_extends S T mid row limit v r h held W c =
+    let is : type_of W r ≡ W.value v = ap (sub W.value) (c.types r (slice_get_within (types_in T) r (var v) h.is) ∙ freshened-var S T mid (Partial row) limit v r h) in
+    subst (Extends W.admits row.equality row.labels.items (types_of W row.types.items)) (sym is)
+    (subst (λ us. Extends W.admits row.equality row.labels.items us (W.value v)) (numbers-come S W row.types.items (comes_before S T W (freshened_grows S T mid (Partial row) limit v r h) c) held)
+    (subst (Meets W.admits W.value (W.value v)) (freshened-said S T mid (Partial row) limit v r h) (c.solves v)))
 
 -- two types made equal
 pub record Unified (S T : State) (a b : ℕ) : Type 0 where
@@ -352,7 +392,7 @@ applied_grows S T h ks r a = record {
 both : (a b : Bool) → a ≡ true → b ≡ true → (a && b) ≡ true
 both a b e q = ap₂ (λ a b. a && b) e q
 
-parts-below : (S : State) (ks : List ℕ) → AreTypes S ks → are_below (made S) (types_at (types_in S) ks) ≡ true
+pub parts-below : (S : State) (ks : List ℕ) → AreTypes S ks → are_below (made S) (types_at (types_in S) ks) ≡ true
 parts-below S [] h = refl
 parts-below S (k ∷ ks) h = both (is_below (made S) (type_at (types_in S) k)) (are_below (made S) (types_at (types_in S) ks)) h.0.below (parts-below S ks h.1)
 
@@ -377,14 +417,10 @@ applied_is S T h ks r a ts = record {
       (parts-live S ks ts v (subst (λ t. is_in v t ≡ true) (get_or_from_slice_get (types_in T) r (con h (types_at (types_in S) ks)) (var 0) a.is) i));
 }
 
-parts-come : (S : State) (W : World) (ks : List ℕ) → Comes S W → AreTypes S ks → subs W.value (types_at (types_in S) ks) ≡ types_of W ks
-parts-come S W [] c h = refl
-parts-come S W (k ∷ ks) c h = ap₂ more (ap (sub W.value) (sym (c.types k h.0.held))) (parts-come S W ks c h.1)
-
 pub applied_made : (S T : State) (h : Symbol) (ks : List ℕ) (r : ℕ) → Applied S T h ks r → AreTypes S ks → Always T (λ W. type_of W r ≡ con h (types_of W ks))
 applied_made S T h ks r a ts W c =
     ap (sub W.value) (c.types r (slice_get_within (types_in T) r (con h (types_at (types_in S) ks)) a.is) ∙ get_or_from_slice_get (types_in T) r (con h (types_at (types_in S) ks)) (var 0) a.is)
-    ∙ ap (con h) (parts-come S W ks (comes_before S T W (applied_grows S T h ks r a) c) ts)
+    ∙ ap (con h) (numbers-come S W ks (comes_before S T W (applied_grows S T h ks r a) c) (parts_held S ks ts))
 
 -- a string more
 pub record Texted (S T : State) (s : Vec ℕ Global) : Type 0 where

@@ -4,3 +4,5 @@ pub mod Growing
 pub mod Changing
 pub mod Instancing
 pub mod Sorting
+pub mod Opening
+pub mod Bounding

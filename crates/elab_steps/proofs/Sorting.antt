@@ -65,11 +65,11 @@ among-sorted z (x ∷ xs) (inr h) = put-stays z x (sorted xs) (among-sorted z xs
 
 -- labels that ascend
 
-same-itself : (l : Label) → same_label l l ≡ true
+pub same-itself : (l : Label) → same_label l l ≡ true
 same-itself (Number n) = grind (arith, nat_tests)
 same-itself (Word x) = grind (arith, nat_tests)
 
-before-differs : (l k : Label) → label_before l k ≡ true → same_label k l ≡ false
+pub before-differs : (l k : Label) → label_before l k ≡ true → same_label k l ≡ false
 before-differs (Number m) (Number n) e = let lt = ltb-true m n e in grind (arith, nat_tests)
 before-differs (Number m) (Word x) e = refl
 before-differs (Word x) (Number n) e = refl
@@ -108,7 +108,7 @@ pub found-sorted : (W : World) (x : Field) (xs : List Field) → ascend (labels-
 found-sorted W x xs e h = ap (lookup (same_label x.label)) (sym (row-sorted W xs)) ∙ found-among W x (sorted xs) e (among-sorted x xs h)
 
 -- its type
-labels-of : (W : World) (xs : List Field) → labels_in (row_of W xs) ≡ labels-at xs
+pub labels-of : (W : World) (xs : List Field) → labels_in (row_of W xs) ≡ labels-at xs
 labels-of W [] = refl
 labels-of W (x ∷ xs) = ap (λ l. x.label ∷ l) (labels-of W xs)
 

@@ -6,7 +6,7 @@ use Rattle.ty_core.specs.declared.name.TyName.{TyName}
 use Rattle.ty_table.specs.TypeAt.{type_at}
 use Rattle.ty_core.specs.declared.scheme.Quantified.{Quantified}
 use Rattle.ty_solve.specs.Substitution.{Solves, is_below, is_in}
-use Rattle.ty_solve.specs.Limits.{NoFurther}
+use Rattle.ty_solve.specs.Limits.{Limited, NoFurther}
 use Rattle.ty_solve.specs.declared.limit.Limit.{Limit}
 use Rattle.core_rules.specs.Objects.{Over}
 use Rattle.ir_poly.specs.Types.{over, find, in_scope, Constructor}
@@ -64,6 +64,10 @@ Always S P = (W : World) → Comes S W → P W
 pub record IsWithin (W : World) (limit : Limit) (k : ℕ) : Type 0 where
   pub names : Over limit.names (type_of W k)
   pub parameters : limit.level < dead_level → over (W.parameters limit.level) (type_of W k) ≡ true
+
+-- no variable of it reaches further than a limit
+abbrev pub IsLimited : State → Limit → ℕ → Type 0
+IsLimited S limit k = Limited (limit_in S) limit (type_at (types_in S) k)
 
 abbrev pub types_of : World → List ℕ → Typs
 types_of W [] = none

@@ -1,4 +1,5 @@
 pub mod Tidy
+pub mod Ordered
 pub mod World
 pub mod Growing
 pub mod Instances

@@ -14,6 +14,7 @@ use Rattle.elab_state.specs.States.{types_in, made, said_in, limit_in, general_i
 use Rattle.elab_state.specs.declared.naming.Naming.{Naming}
 use Rattle.elab_state.specs.declared.naming.Written.{Written}
 use Rattle.elab_state.specs.declared.state.State.{State}
+use Rattle.elab_steps.specs.Ordered.{is_ordered}
 
 pub record World : Type 0 where
   -- of numbers of the table of types, and of variables in them
@@ -30,6 +31,8 @@ pub record World : Type 0 where
   pub initial : (x : ℕ) → naming None x ≡ x
   pub nested : (l v : ℕ) → in_scope (parameters l) v ≡ true → in_scope (parameters (suc l)) v ≡ true
   pub admitted : (l v : ℕ) → in_scope (parameters l) v ≡ true → admits_in (parameters l) v ≡ admits v
+  -- in what variables stand for, the labels of records stand in order
+  pub ordered : (v : ℕ) → is_ordered (value v) ≡ true
 
 -- what a type stands for
 abbrev pub type_of : World → ℕ → Typ

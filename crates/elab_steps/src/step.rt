@@ -6,11 +6,16 @@ ghost use Rattle.ty_core.specs.Marks.{is_inhabited};
 ghost use Rattle.ir_tables.specs.Tables.{string_at};
 ghost use Rattle.elab_typed.specs.Numbers.{type_as};
 ghost use Rattle.elab_state.specs.Namings.{IsAmong};
-ghost use Rattle.elab_state.specs.States.{dead_level, types_in};
-ghost use Rattle.elab_steps.specs.Growing.{HasType, Always, AreTypes, Grows, IsWithin, types_of};
+ghost use Rattle.elab_state.specs.States.{dead_level, limit_in, made, types_in};
+ghost use Rattle.elab_steps.specs.Growing.{HasType, Always, AreTypes, Grows, IsLimited, IsWithin, types_of};
 ghost use Rattle.elab_steps.specs.Instances.{begins_as_function};
+ghost use Rattle.elab_steps.specs.Ordered.{is_ordered};
 ghost use Rattle.elab_steps.specs.World.{type_of};
-ghost use Rattle.ty_table.specs.TypeAt.{type_at};
+ghost use Rattle.ty_table.specs.TypeAt.{AllBelow, type_at, types_at};
+ghost use Rattle.ty_solve.specs.Changes.{IsFitRow};
+ghost use Rattle.ty_solve.specs.Limits.{AllLimited};
+ghost use Rattle.ty_solve.specs.Rows.{Extends};
+ghost use Rattle.ty_solve.specs.SlotsOf.{row_in};
 
 use elab_state::naming::Written;
 use elab_state::state::State;
@@ -22,6 +27,7 @@ use ty_core::mark::Mark;
 use ty_core::ty::Head;
 use ty_solve::limit::Limit;
 use ty_solve::refused::UnifyRefused;
+use ty_solve::row::Row;
 use ty_table::types::View;
 
 /// A new variable of types, as a type.
@@ -38,9 +44,34 @@ pub fn fresh_type(
     ensures grows { IfOk result (λ _. Grows state.old state.new) }
     ensures is { IfOk result (λ r. HasType state.new r) }
     ensures within { IfOk result (λ r. Always state.new (λ W. IsWithin W limit r)) }
+    ensures limited { IfOk result (λ r. IsLimited state.new limit r) }
     ensures next { IfOk result (λ _. state.new.next ≡ state.old.next) }
 {
     let v = state.solver.fresh(mark, limit)?;
+    state.solver.variable(alloc, v)
+}
+
+/// A new variable that stands for a record with the fields of a row and perhaps others, as a type.
+pub fn fresh_row(
+    alloc: Global,
+    state: &mut State,
+    row: Row,
+    limit: Limit,
+) -> Result<usize, NoMemory>
+    requires held { AllBelow (length (types_in state.old)) row.types.items }
+    requires fit { IsFitRow (made state.old) (row_in (types_in state.old) row) }
+    requires limited { AllLimited (limit_in state.old) limit (types_at (types_in state.old) row.types.items) }
+    requires wide { 4 ≤ limit.names }
+    requires deep { limit.level < dead_level }
+    requires inside { limit.level ≤ state.old.level }
+    ensures grows { IfOk result (λ _. Grows state.old state.new) }
+    ensures is { IfOk result (λ r. HasType state.new r) }
+    ensures within { IfOk result (λ r. Always state.new (λ W. IsWithin W limit r)) }
+    ensures extends { IfOk result (λ r. Always state.new (λ W. Extends W.admits row.equality row.labels.items (types_of W row.types.items) (type_of W r))) }
+    ensures ordered { IfOk result (λ r. Always state.new (λ W. is_ordered (type_of W r) ≡ true)) }
+    ensures next { IfOk result (λ _. state.new.next ≡ state.old.next) }
+{
+    let v = state.solver.fresh_row(row, limit)?;
     state.solver.variable(alloc, v)
 }
 

@@ -4,16 +4,11 @@ use Rattle.std.proofs.lemmas.Option.{get_or_from_slice_get}
 use Rattle.std.proofs.lemmas.List.{append_assoc, append-nil, length-append}
 use Rattle.ty_core.specs.Types.{Typ}
 use Rattle.ty_core.specs.declared.scheme.Quantified.{Quantified}
-use Rattle.ty_solve.specs.Limits.{limit_at, IsSolvableOver}
-use Rattle.ty_solve.specs.Said.{said}
 use Rattle.ty_solve.proofs.Holding.{type-stays}
-use Rattle.ty_solve.proofs.Solvable.{solvable-over}
-use Rattle.ty_instance.proofs.Going.{whole}
-use Rattle.ir_poly.specs.Types.{in_scope}
 use Rattle.ir_tables.specs.Tables.{parameters_of, strings_of}
 use Rattle.elab_state.specs.Namings.{number_in, IsAbove, ComesBefore, IsNext, AreNext, AreNamings, IsAmong}
 use Rattle.elab_state.specs.Readings.{type_if}
-use Rattle.elab_state.specs.States.{types_in, said_in, limit_in, general_in}
+use Rattle.elab_state.specs.States.{types_in, limit_in}
 use Rattle.elab_state.specs.Generic.{IsGeneric}
 use Rattle.elab_state.specs.Steps.{Grows}
 use Rattle.elab_state.specs.declared.naming.Naming.{Naming}
@@ -21,9 +16,10 @@ use Rattle.elab_state.specs.declared.state.State.{State}
 use Rattle.elab_state.proofs.Begins.{begins-get, begins-push}
 use Rattle.elab_state.proofs.Numbering.{number-stays, new-number}
 use Rattle.elab_state.proofs.Reading.{table-finds}
+use Rattle.elab_steps.specs.Ordered.{is_ordered}
 use Rattle.elab_steps.specs.World.{Comes}
-use Rattle.elab_worlds.specs.Worlds.{world_of, HasWorld}
-use Rattle.elab_worlds.proofs.Ground.{grounded, ground-over, names-over, over-static, solves-ground}
+use Rattle.elab_worlds.specs.Worlds.{world_of}
+use Rattle.elab_worlds.proofs.Names.{over-static}
 
 -- the numbers of a row of namings
 
@@ -70,8 +66,9 @@ numbers-at rs k r x h e =
 
 -- where a later state tells the world
 
-pub comes-of : (S later : State) → Grows S later → (D : ℕ → List Quantified) (g : ℕ → Typ) (h : IsGeneric S D g) → Comes S (world_of S later D g h)
-comes-of S later e D g h = record {
+pub comes-of : (S later : State) → Grows S later → (D : ℕ → List Quantified) (g : ℕ → Typ) (h : IsGeneric S D g) (o : (v : ℕ) → is_ordered (g v) ≡ true)
+    → Comes S (world_of S later D g h o)
+comes-of S later e D g h o = record {
   solves = h.solves;
   names = λ v l. over-static (limit_in S v).names (g v) (h.names v l);
   within = h.within;
@@ -83,47 +80,4 @@ comes-of S later e D g h = record {
   lists = λ k qs s. get_or_from_slice_get (parameters_of later.tables) k qs [] (begins-get (parameters_of S.tables) (parameters_of later.tables) k qs e.parameters s);
   strings = λ k t s. get_or_from_slice_get (strings_of later.tables) k t [] (begins-get (strings_of S.tables) (strings_of later.tables) k t e.strings s);
   rows = λ y c row s. table-finds S.tables.types later.tables.types S.tables.constructors later.tables.constructors y c row e.table_types e.constructors S.rows s;
-}
-
--- and some world comes
-
-grows-same : (S : State) → Grows S S
-grows-same S = record {
-  types = whole (types_in S);
-  written = whole S.written.items;
-  namings = whole S.namings.items;
-  table_types = whole S.tables.types;
-  constructors = whole S.tables.constructors;
-  parameters = whole (parameters_of S.tables);
-  strings = whole (strings_of S.tables);
-  exceptions = refl;
-}
-
--- what the solver keeps has a solution
-solved : (S : State) → IsSolvableOver (said_in S) (limit_in S)
-solved S = solvable-over (said S.solver.subst) S.solver.subst.acyclic S.solver.subst.inhabited (limit_at S.solver.limits.items) S.solver.limited S.solver.wide
-
-generic-ground : (S : State) → general_in S ≡ [] → IsGeneric S (λ l. []) (grounded (solved S).1)
-generic-ground S e =
-    let f = (solved S).1 in
-    record {
-      equality = (solved S).0;
-      solves = solves-ground (solved S).0 f (said_in S) (solved S).2;
-      names = λ v l. names-over (limit_in S v).names (f v) ((solved S).3 v);
-      within = λ v l i. ground-over (f v);
-      itself = λ v i. absurd (nothing v i);
-      marked = λ v i. absurd (nothing v i);
-      nested = λ l v i. cc;
-      admitted = λ l v i. cc;
-      apart = λ l v i. cc;
-    }
-  where
-    nothing : (v : ℕ) → in_scope (general_in S) v ≡ true → ⊥
-    nothing v i = let b = sym (ap (λ qs. in_scope qs v) e) ∙ i in cc
-
-pub worlds-come : (S : State) → general_in S ≡ [] → HasWorld S
-worlds-come S e = record {
-  world = world_of S S (λ l. []) (grounded (solved S).1) (generic-ground S e);
-  comes = comes-of S S (grows-same S) (λ l. []) (grounded (solved S).1) (generic-ground S e);
-  closed = λ l. refl;
 }

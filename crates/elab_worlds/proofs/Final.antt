@@ -1,7 +1,7 @@
 -- Variables at the end: there is just one solution, it keeps all limits, and what the state says comes true in its world.
 use Rattle.std.proofs.Common.{◌≡◌, ◌<◌, ◌≤◌, ◌&&◌, ◌||◌, ℕ, zero, suc, Bool, true, false, nat_eq, nat_lt, if◌then◌else◌, List, [], ◌∷◌, ◌++◌, Some, None, refl, sym, ap, subst, ◌∙◌, arith}
 use Rattle.std.specs.List.{AllByRecursion}
-use Rattle.std.proofs.lemmas.Bool.{and_from, eqb-true, lt-ltb, ltb-false}
+use Rattle.std.proofs.lemmas.Bool.{and_from, and_parts, eqb-true, lt-ltb, ltb-false}
 use Rattle.std.proofs.lemmas.Option.{get_or_from_slice_get}
 use Rattle.mlc_names.specs.declared.label.Label.{Label}
 use Rattle.ty_core.specs.Types.{Typ, var, con, Typs, none, more, labels, admits}
@@ -14,7 +14,11 @@ use Rattle.ty_solve.specs.Limits.{Over, AllOver, Limited, AllLimited, LimitedAt,
 use Rattle.ty_solve.specs.Rows.{Extends}
 use Rattle.ty_solve.specs.Substitution.{Entry, free, bound, row, sub, subs, Meets, Solves, resolved}
 use Rattle.ty_solve.specs.Weight.{weight, weights, WeighsAt, IsAcyclic, InhabitedAt, AreInhabited}
+use Rattle.ty_solve.specs.SlotsOf.{seen}
 use Rattle.ty_solve.specs.declared.limit.Limit.{Limit}
+use Rattle.ty_solve.specs.declared.subst.Slot.{Slot}
+use Rattle.ty_solve.specs.declared.subst.Slot.TheVariants.{Open, Partial, Full}
+use Rattle.ty_table.specs.TypeAt.{type_at}
 use Rattle.ty_solve.proofs.Labels.{proper-subs, at-among}
 use Rattle.ty_solve.proofs.Lowered.{over-more}
 use Rattle.ty_solve.proofs.Sigma.{sigma_of, sigma-resolves, sub-light, subs-light}
@@ -26,10 +30,11 @@ use Rattle.ir_tables.specs.Tables.{parameters_of, strings_of}
 use Rattle.elab_state.specs.Readings.{type_if}
 use Rattle.elab_state.specs.States.{types_in, said_in, limit_in, general_in, table_in, dead_level}
 use Rattle.elab_state.specs.declared.state.State.{State}
+use Rattle.elab_steps.specs.Ordered.{begins_in_order, is_ordered, are_ordered}
 use Rattle.elab_steps.specs.World.{Comes}
-use Rattle.elab_worlds.specs.Final.{unit_type, default_of, open_at, final_at, is_parameter, AreConstructors, IsFinal, IsLast, final_world, HasEnd}
+use Rattle.elab_worlds.specs.Final.{unit_type, default_of, open_at, final_at, is_parameter, AreConstructors, AreOrdered, IsFinal, IsLast, IsOrdered, is_row, final_world, HasEnd}
 use Rattle.elab_worlds.proofs.Coming.{numbers-at}
-use Rattle.elab_worlds.proofs.Ground.{over-static}
+use Rattle.elab_worlds.proofs.Names.{over-static}
 
 -- the default is of its class
 default-has : (c : Class) → is_inhabited (Mark.Class c) ≡ true → has c (default_of c) ≡ true
@@ -81,6 +86,21 @@ open-itself : (qs : List Quantified) (v : ℕ) (k : Mark) → is_declarable k �
 open-itself qs v Mark.Any d i = ap (λ b. if b then var v else unit_type) i
 open-itself qs v Mark.Equality d i = ap (λ b. if b then var v else unit_type) i
 open-itself qs v (Mark.Class c) d i = cc
+
+either-ordered : (b : Bool) (v : ℕ) → is_ordered (if b then var v else unit_type) ≡ true
+either-ordered true v = refl
+either-ordered false v = refl
+
+open-ordered : (qs : List Quantified) (v : ℕ) (k : Mark) → is_ordered (open_at qs v k) ≡ true
+open-ordered qs v Mark.Any = either-ordered (in_scope qs v) v
+open-ordered qs v Mark.Equality = either-ordered (in_scope qs v) v
+open-ordered qs v (Mark.Class c) = refl
+
+-- what is said of a variable that is no row has its labels in order
+abbrev is_in_order : Entry → Bool
+is_in_order (free k) = true
+is_in_order (bound t) = is_ordered t
+is_in_order (row e ks us) = false
 
 module _ (s : ℕ → Entry) (a : IsAcyclic s) (qs : List Quantified) where
   -- There is one
@@ -198,6 +218,34 @@ module _ (s : ℕ → Entry) (a : IsAcyclic s) (qs : List Quantified) where
         pub ending-closed : (v : ℕ) → (b v).level < dead_level → over [] (g v) ≡ true
         ending-closed v lt = closed-by (suc (a.0 v)) v (omega arith) lt
 
+  -- where no variable is a row, and what is said of them is in order, so is it
+
+  module _ (g : ℕ → Typ) (h : (v : ℕ) → g v ≡ final_at qs g v (s v)) (o : (v : ℕ) → is_in_order (s v) ≡ true) where
+    mutual
+      ordered-type : (k : ℕ) → ((x : ℕ) → a.0 x < k → is_ordered (g x) ≡ true) → (t : Typ) → weight a.0 t ≤ k → is_ordered t ≡ true → is_ordered (sub g t) ≡ true
+      ordered-type k again (var x) le i = again x (omega (arith, le))
+      ordered-type k again (con c ts) le i =
+          let p = and_parts (begins_in_order c) (are_ordered ts) i in
+          and_from (begins_in_order c) (are_ordered (subs g ts)) p.0 (all-ordered-type k again ts (omega (arith, le)) p.1)
+
+      all-ordered-type : (k : ℕ) → ((x : ℕ) → a.0 x < k → is_ordered (g x) ≡ true) → (ts : Typs) → weights a.0 ts ≤ k → are_ordered ts ≡ true → are_ordered (subs g ts) ≡ true
+      all-ordered-type k again none le i = refl
+      all-ordered-type k again (more t ts) le i =
+          let p = and_parts (is_ordered t) (are_ordered ts) i in
+          and_from (is_ordered (sub g t)) (are_ordered (subs g ts)) (ordered-type k again t (omega (arith, le)) p.0) (all-ordered-type k again ts (omega (arith, le)) p.1)
+
+    ordered-entry : (k v : ℕ) (e : Entry) → WeighsAt a.0 (a.0 v) e → is_in_order e ≡ true → a.0 v ≤ k → ((x : ℕ) → a.0 x < k → is_ordered (g x) ≡ true) → is_ordered (final_at qs g v e) ≡ true
+    ordered-entry k v (free j) w i le again = open-ordered qs v j
+    ordered-entry k v (bound t) w i le again = ordered-type k again t (omega (arith, w, le)) i
+    ordered-entry k v (row d ks us) w i le again = cc
+
+    ordered-by : (k v : ℕ) → a.0 v < k → is_ordered (g v) ≡ true
+    ordered-by zero v lt = absurd (omega (arith, lt))
+    ordered-by (suc k) v lt = ap is_ordered (h v) ∙ ordered-entry k v (s v) (a.1 v) (o v) (omega (arith, lt)) (λ x. ordered-by k x)
+
+    pub ending-ordered : (v : ℕ) → is_ordered (g v) ≡ true
+    ending-ordered v = ordered-by (suc (a.0 v)) v (omega arith)
+
   -- what was generalised is itself
   pub ending-itself : (g : ℕ → Typ) → ((v : ℕ) → g v ≡ final_at qs g v (s v)) → (v : ℕ) → is_parameter (s v) ≡ true → in_scope qs v ≡ true → g v ≡ var v
   ending-itself g h v p i = h v ∙ by (s v) p
@@ -245,8 +293,8 @@ behind-initial ks y c found h e = past (stamp-is ks h e)
 
 -- of a state
 
-pub final-comes : (S : State) (l : ℕ) → IsLast S l → AreConstructors S → (g : ℕ → Typ) → IsFinal S g → Comes S (final_world S g)
-final-comes S l t k g h = record {
+pub final-comes : (S : State) (l : ℕ) → IsLast S l → AreConstructors S → (g : ℕ → Typ) → IsFinal S g → (o : AreOrdered g) → Comes S (final_world S g o)
+final-comes S l t k g h o = record {
   solves = ending-solves (said_in S) acyclic (general_in S) g h S.solver.subst.inhabited;
   names = λ v lt. over-static (limit_in S v).names (g v)
       (ending-over (said_in S) acyclic (general_in S) g h S.solver.subst.inhabited (limit_in S) S.solver.limited S.solver.wide v);
@@ -264,13 +312,27 @@ final-comes S l t k g h = record {
     acyclic : IsAcyclic (said_in S)
     acyclic = S.solver.subst.acyclic
 
-pub state-ends : (S : State) (l : ℕ) → IsLast S l → AreConstructors S → HasEnd S
-state-ends S l t k =
+-- what the slots say
+said-in-order : (ts : List Typ) → ((k : ℕ) → is_ordered (type_at ts k) ≡ true) → (os : List Slot) → ((v : ℕ) → is_row (seen ts os v) ≡ false) → (v : ℕ) → is_in_order (seen ts os v) ≡ true
+said-in-order ts h [] n v = refl
+said-in-order ts h (Open k ∷ os) n zero = refl
+said-in-order ts h (Full k ∷ os) n zero = h k
+said-in-order ts h (Partial r ∷ os) n zero = let e = n 0 in cc
+said-in-order ts h (o ∷ os) n (suc v) = said-in-order ts h os (λ x. n (suc x)) v
+
+pub finals-ordered : (S : State) → IsOrdered S → (g : ℕ → Typ) → IsFinal S g → AreOrdered g
+finals-ordered S o g h =
+    ending-ordered (said_in S) S.solver.subst.acyclic (general_in S) g h (said-in-order (types_in S) o.types S.solver.subst.slots.items o.settled)
+
+pub state-ends : (S : State) (l : ℕ) → IsLast S l → AreConstructors S → IsOrdered S → HasEnd S
+state-ends S l t k o =
     let g = ending (said_in S) S.solver.subst.acyclic (general_in S) in
     let h = ending-is (said_in S) S.solver.subst.acyclic (general_in S) in
+    let up = finals-ordered S o g h in
     record {
       values = g;
       final = h;
       only = λ f i. endings-same (said_in S) S.solver.subst.acyclic (general_in S) f g i h;
-      comes = final-comes S l t k g h;
+      ordered = up;
+      comes = final-comes S l t k g h up;
     }

@@ -1,4 +1,5 @@
-pub mod Ground
+pub mod Names
 pub mod Coming
 pub mod Final
 pub mod Ending
+pub mod Ordering

@@ -1,5 +1,5 @@
 -- What variables stand for at the end of elaboration, and the world that a state tells then.
-use Rattle.std.specs.Prelude.{◌≡◌, ◌++◌, ℕ, true, if◌then◌else◌, List, [], refl}
+use Rattle.std.specs.Prelude.{◌≡◌, ◌++◌, ℕ, Bool, true, false, if◌then◌else◌, List, [], refl}
 use Rattle.ty_core.specs.Types.{Typ, var, con, none, labels, name}
 use Rattle.ty_core.specs.Marks.{overloaded}
 use Rattle.ty_core.specs.declared.mark.Class.{Class}
@@ -12,6 +12,7 @@ use Rattle.ir_poly.specs.Types.{in_scope, initial_constructors}
 use Rattle.elab_state.specs.States.{types_in, made, said_in, general_in, numbers_in, reading_in, table_in}
 use Rattle.elab_state.specs.declared.state.State.{State}
 use Rattle.elab_steps.specs.Growing.{Grows}
+use Rattle.elab_steps.specs.Ordered.{is_ordered}
 pub use Rattle.elab_steps.specs.Tidy.{AreConstructors, is_parameter}
 use Rattle.elab_steps.specs.Tidy.{IsTidy}
 use Rattle.elab_steps.specs.World.{World, Comes}
@@ -41,9 +42,22 @@ final_at qs g v (row e ks us) = con (labels ks) (subs g us)
 abbrev pub IsFinal : State → (ℕ → Typ) → Type 0
 IsFinal S g = (v : ℕ) → g v ≡ final_at (general_in S) g v (said_in S v)
 
+abbrev pub is_row : Entry → Bool
+is_row (free k) = false
+is_row (bound t) = false
+is_row (row e ks us) = true
+
+-- the fields of each record are settled, and in each type of the table the labels of records stand in order
+pub record IsOrdered (S : State) : Type 0 where
+  pub settled : (v : ℕ) → is_row (said_in S v) ≡ false
+  pub types : (k : ℕ) → is_ordered (type_at (types_in S) k) ≡ true
+
+abbrev pub AreOrdered : (ℕ → Typ) → Type 0
+AreOrdered g = (v : ℕ) → is_ordered (g v) ≡ true
+
 -- the world of it: no parameter is in scope outside all declarations
-abbrev pub final_world : State → (ℕ → Typ) → World
-final_world S g = record {
+abbrev pub final_world : State → (g : ℕ → Typ) → AreOrdered g → World
+final_world S g h = record {
   raw = type_at (types_in S);
   value = g;
   naming = numbers_in S;
@@ -54,6 +68,7 @@ final_world S g = record {
   initial = λ x. refl;
   nested = λ l v i. i;
   admitted = λ l v i. i;
+  ordered = h;
 }
 
 -- there is just one such g, and in its world what the state says comes true
@@ -61,13 +76,17 @@ pub record HasEnd (S : State) : Type 0 where
   pub values : ℕ → Typ
   pub final : IsFinal S values
   pub only : (g : ℕ → Typ) → IsFinal S g → (v : ℕ) → g v ≡ values v
-  pub comes : Comes S (final_world S values)
+  pub ordered : AreOrdered values
+  pub comes : Comes S (final_world S values ordered)
 
 abbrev pub StatesEnd : Type 0
-StatesEnd = (S : State) (l : ℕ) → IsLast S l → AreConstructors S → HasEnd S
+StatesEnd = (S : State) (l : ℕ) → IsLast S l → AreConstructors S → IsOrdered S → HasEnd S
 
 abbrev pub FinalsCome : Type 0
-FinalsCome = (S : State) (l : ℕ) → IsLast S l → AreConstructors S → (g : ℕ → Typ) → IsFinal S g → Comes S (final_world S g)
+FinalsCome = (S : State) (l : ℕ) → IsLast S l → AreConstructors S → (g : ℕ → Typ) → IsFinal S g → (h : AreOrdered g) → Comes S (final_world S g h)
+
+abbrev pub FinalsAreOrdered : Type 0
+FinalsAreOrdered = (S : State) → IsOrdered S → (g : ℕ → Typ) → IsFinal S g → AreOrdered g
 
 -- Where elaboration went on from a tidy state, the state after may be the last one; and its constructors may stand in a program's table where those before may.
 pub record MayEnd (S : State) : Type 0 where

@@ -1,17 +1,18 @@
 -- Worlds in which what a state says comes true.
-use Rattle.std.proofs.Common.{◌≡◌, ℕ, List, [], refl, sym}
+use Rattle.std.proofs.Common.{◌≡◌, ℕ, true, List, refl, sym}
 use Rattle.ty_core.specs.Types.{Typ}
 use Rattle.ty_core.specs.declared.scheme.Quantified.{Quantified}
 use Rattle.ty_table.specs.TypeAt.{type_at}
-use Rattle.elab_state.specs.States.{types_in, general_in, numbers_in, reading_in, table_in}
+use Rattle.elab_state.specs.States.{types_in, numbers_in, reading_in, table_in}
 use Rattle.elab_state.specs.Generic.{IsGeneric}
 use Rattle.elab_state.specs.Steps.{Grows}
 use Rattle.elab_state.specs.declared.state.State.{State}
+use Rattle.elab_steps.specs.Ordered.{is_ordered}
 use Rattle.elab_steps.specs.World.{World, Comes}
 
 -- the world that a later state tells, where g says what variables stand for
-abbrev pub world_of : (S later : State) (D : ℕ → List Quantified) (g : ℕ → Typ) → IsGeneric S D g → World
-world_of S later D g h = record {
+abbrev pub world_of : (S later : State) (D : ℕ → List Quantified) (g : ℕ → Typ) → IsGeneric S D g → ((v : ℕ) → is_ordered (g v) ≡ true) → World
+world_of S later D g h ordered = record {
   raw = type_at (types_in later);
   value = g;
   naming = numbers_in later;
@@ -22,16 +23,9 @@ world_of S later D g h = record {
   initial = λ x. refl;
   nested = h.nested;
   admitted = λ l v i. sym (h.admitted l v i);
+  ordered = ordered;
 }
 
 abbrev pub ComesOf : Type 0
-ComesOf = (S later : State) → Grows S later → (D : ℕ → List Quantified) (g : ℕ → Typ) (h : IsGeneric S D g) → Comes S (world_of S later D g h)
-
--- a world in which what the state says comes true, with no parameters in scope
-pub record HasWorld (S : State) : Type 0 where
-  pub world : World
-  pub comes : Comes S world
-  pub closed : (l : ℕ) → world.parameters l ≡ []
-
-abbrev pub WorldsCome : Type 0
-WorldsCome = (S : State) → general_in S ≡ [] → HasWorld S
+ComesOf = (S later : State) → Grows S later → (D : ℕ → List Quantified) (g : ℕ → Typ) (h : IsGeneric S D g) (ordered : (v : ℕ) → is_ordered (g v) ≡ true)
+    → Comes S (world_of S later D g h ordered)

@@ -33,6 +33,7 @@ inner_world W l qs h = record {
   initial = W.initial;
   nested = h.nested;
   admitted = h.admitted;
+  ordered = W.ordered;
 }
 
 -- what the state says comes true inside

@@ -1,7 +1,7 @@
 // Reading projects: ML Basis files and the sources that they name.
 #![tactic(auto)]
 
-mod basis;
+pub mod basis;
 mod counts;
 mod fault;
 pub mod law;
@@ -10,5 +10,5 @@ pub mod mlb;
 pub mod path;
 pub mod project;
 pub mod refused;
-mod source;
+pub mod source;
 mod tops;

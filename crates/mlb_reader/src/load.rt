@@ -309,6 +309,7 @@ pub fn load<S: Store>(
     ensures reads_kept { S.read_faults store.old ≤ S.read_faults store.new }
     ensures kept { Keeps names.old names.new }
     ensures project { IfOk result (λ project. IfTold (S.files store.old) (λ f. ProjectOf f path.now names.new (parts_of project) files.new)) }
+    ensures count { IfOk result (λ project. project.reads ≡ length files.new) }
     ensures table { OnOk result (IsTable names.new) }
     ensures held { IfOk result (λ project. HoldsAll (length names.new) (parts_phrases (parts_of project))) }
     ensures placed { IfOk result (λ project. AllPlacedIn (λ place. LiesIn place files.new) (parts_phrases (parts_of project))) }
@@ -340,5 +341,6 @@ pub fn load<S: Store>(
     }
     Ok(Project {
         parts: loading.parts,
+        reads: loading.counts.reads,
     })
 }

@@ -13,8 +13,9 @@ pub enum Part {
     Cut(Vec<Dec>, Place),
 }
 
-/// The parts of a project, in order.
+/// The parts of a project, in order, and how many files were read.
 #[derive(Drop)]
 pub struct Project {
     pub parts: Vec<Part>,
+    pub reads: u32,
 }

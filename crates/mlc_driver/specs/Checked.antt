@@ -1,51 +1,48 @@
 -- A checked project, and why a project is refused.
-use Rattle.std.specs.Prelude.{◌≡◌, ℕ, ◌+◌, ◌<◌, min, List, Option, Some, None}
-use Rattle.std.specs.Option.{ForSome}
+use Rattle.std.specs.Prelude.{◌≡◌, ℕ, ◌<◌, true, List, length, Option, Some, None, IsSomeAnd}
 use Rattle.mlc_faults.specs.File.{File}
-use Rattle.mlc_faults.specs.declared.code.Code.TheVariants.{NotCompiled}
+use Rattle.mlc_faults.specs.declared.code.Code.TheVariants.{ExpansionTooLarge, ImageTooLarge}
 use Rattle.mlc_faults.specs.declared.fault.Fault.{Fault}
-use Rattle.mlc_base.specs.declared.place.Place.{Place}
 use Rattle.mlc_outside.specs.Files.{Files}
-use Rattle.mlb_reader.specs.Broken.{IsBroken}
-use Rattle.mlb_reader.specs.Project.{ProjectOf}
-use Rattle.mlb_reader.specs.Within.{HoldsAll}
-use Rattle.sml_rules.specs.Broken.{Checks, IsRefused, FirstBroken, max_nodes}
-use Rattle.sml_rules.specs.Phrases.{Phrase, parts_phrases, nodes_in, first_foreign}
+use Rattle.mlc_runs.specs.Passes.{greatest_expansion}
+use Rattle.sml_lexer.specs.NameTable.{Keeps}
+use Rattle.sml_tree.specs.BareTree.{Decs}
 use Rattle.sml_rules.specs.Project.{Part}
-use Rattle.mlc_driver.specs.Statics.{Statics, Taped, nothing_known}
-use Rattle.mlc_driver.specs.Tape.{Op}
+use Rattle.mlb_reader.specs.Broken.{IsBroken, fault_at}
+use Rattle.mlb_reader.specs.Project.{ProjectOf}
+use Rattle.mlb_reader.specs.Refusals.{IfTold}
+use Rattle.ir_prog.specs.Programs.{expansion}
+use Rattle.ir_prog.specs.declared.program.Program.{Program}
+use Rattle.machine_emit.specs.Contract.{IsTooLong}
+use Rattle.back_end.specs.Lowered.{ssa_of}
+use Rattle.mlc_driver.specs.Fault.{is_of_elaboration}
+use Rattle.mlc_driver.specs.Parts.{IsProgramOfParts}
+use Rattle.mlc_driver.specs.Preludes.{IsPrelude}
 
--- what a checked project holds: its parts, its tape, and how many nodes it has, up to one more than the limit
-pub record Project : Type 0 where
+-- the program of parts that were loaded, over the prelude: `before` is the table of names behind the sources, of so many files
+pub record IsChecked (before : List (List ℕ)) (files : ℕ) (parts : List Part) (names : List (List ℕ)) (p : Program) : Type 0 where
+  pub prelude : Decs
+  pub is_prelude : IsPrelude before files prelude names
+  pub program : IsProgramOfParts prelude parts p
+
+-- the program is that of the project at a path, which the files give where they are told; these were read of them
+pub record IsOfProject (files : Option Files) (input : List ℕ) (reads : List File) (names : List (List ℕ)) (p : Program) : Type 0 where
+  pub before : List (List ℕ)
   pub parts : List Part
-  pub tape : List Op
-  pub nodes : ℕ
+  pub is_project : IfTold files (λ f. ProjectOf f input before parts reads)
+  pub checked : IsChecked before (length reads) parts names p
 
--- the project is of the language that is compiled so far and elaborates; its phrases gave the tape
-pub record IsChecked (p : Project) : Type 0 where
-  pub checks : Checks p.parts
-  pub known : Statics
-  pub taped : Taped nothing_known (parts_phrases p.parts) p.tape known
-  pub nodes : p.nodes ≡ min (nodes_in (parts_phrases p.parts)) (max_nodes + 1)
+-- why a program has no image
+pub data Outgrows (names : List (List ℕ)) (p : Program) : Fault → Type 0 where
+  too_large : greatest_expansion < expansion p → Outgrows names p (fault_at ExpansionTooLarge 0 0)
+  too_long : IsSomeAnd (ssa_of p) (IsTooLong names) → Outgrows names p (fault_at ImageTooLarge 0 0)
 
 -- why the project of the files at a path is refused, with the table of names and the files that were read: in loading, by a fault that names no identifier;
--- or by the static rules and limits, where the table is the project's
+-- when it is elaborated, where nothing more is claimed than that it was loaded and that the code is one of elaboration; or since its program has no image
 pub data Breaks (files : Files) (input : List ℕ) : List (List ℕ) → Fault → List File → Type 0 where
-  in_loading : {names : List (List ℕ)} {f : Fault} {reads : List File} → IsBroken files input f reads → f.name ≡ None → Breaks files input names f reads
-  in_project : {names : List (List ℕ)} {f : Fault} {reads : List File} (parts : List Part) → ProjectOf files input names parts reads → IsRefused parts f →
-      Breaks files input names f reads
-
--- phrases of the language that is compiled so far all pass, and give this tape
-pub record Passes (xs : List Phrase) (ops : List Op) : Type 0 where
-  pub native : first_foreign xs ≡ None
-  pub known : Statics
-  pub taped : Taped nothing_known xs ops known
-
--- the first fault of phrases: that of a foreign one, or of the first that breaks a rule
-pub data Stops (xs : List Phrase) : Fault → Type 0 where
-  by_form : {p : Place} → first_foreign xs ≡ Some p → Stops xs (record { code = NotCompiled; place = p; name = None })
-  by_rule : {f : Fault} → first_foreign xs ≡ None → FirstBroken xs f → Stops xs f
-
--- wherever so many names are held that the phrases' are, this one is
-abbrev pub IsHeldWith : Option ℕ → List Phrase → Type 0
-IsHeldWith name xs = (count : ℕ) → HoldsAll count xs → ForSome name (λ n. n < count)
+  in_loading : {names : List (List ℕ)} {f : Fault} {reads : List File} → IsBroken files input f reads → f.name ≡ None
+      → Breaks files input names f reads
+  in_project : {before names : List (List ℕ)} {f : Fault} {parts : List Part} {reads : List File} → ProjectOf files input before parts reads
+      → Keeps before names → is_of_elaboration f.code ≡ true → Breaks files input names f reads
+  in_size : {names : List (List ℕ)} {f : Fault} {reads : List File} {p : Program} → IsOfProject (Some files) input reads names p → Outgrows names p f
+      → Breaks files input names f reads

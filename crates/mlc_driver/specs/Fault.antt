@@ -1,5 +1,10 @@
 -- What a refusal tells.
-use Rattle.std.specs.Prelude.{Result, Ok, Err, ⊤}
+use Rattle.std.specs.Prelude.{◌≡◌, ℕ, ◌<◌, Bool, true, false, List, length, Result, Ok, Err, ⊤}
+use Rattle.std.specs.Option.{ForSome}
+use Rattle.mlc_faults.specs.File.{File}
+use Rattle.mlc_faults.specs.Files.{LiesIn}
+use Rattle.mlc_faults.specs.declared.code.Code.{Code}
+use Rattle.mlc_faults.specs.declared.code.Code.TheVariants.{Unbound, NoTyping, NoPrincipalTyping, Restriction, TypeTooLarge, NotCompiled}
 use Rattle.mlc_faults.specs.declared.fault.Fault as base
 use Rattle.mlc_faults.specs.declared.refused.Refused.{Refused}
 use Rattle.mlc_faults.specs.declared.refused.Refused.TheVariants as refusal
@@ -12,3 +17,19 @@ OnFault refusal.Memory P = ⊤
 abbrev pub IfFault : {T : Type 0} → Result T Refused → (base.Fault → Type 0) → Type 0
 IfFault (Ok x) P = ⊤
 IfFault (Err r) P = OnFault r P
+
+-- the codes of what elaboration refuses a project for
+abbrev pub is_of_elaboration : Code → Bool
+is_of_elaboration Unbound = true
+is_of_elaboration NoTyping = true
+is_of_elaboration NoPrincipalTyping = true
+is_of_elaboration Restriction = true
+is_of_elaboration TypeTooLarge = true
+is_of_elaboration NotCompiled = true
+is_of_elaboration _ = false
+
+-- a fault that elaboration tells: it lies in the files that were read, and its name is held
+pub record IsTold (names : List (List ℕ)) (reads : List File) (f : base.Fault) : Type 0 where
+  pub code : is_of_elaboration f.code ≡ true
+  pub lies : LiesIn f.place reads
+  pub held : ForSome f.name (λ n. n < length names)

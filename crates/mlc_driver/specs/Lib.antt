@@ -1,12 +1,5 @@
 pub mod Checked
-pub mod CheckedOf
-pub mod Checker
-pub mod Code
-pub mod CodeLaws
-pub mod CodeOf
 pub mod Fault
-pub mod PhraseOf
+pub mod Parts
+pub mod Preludes
 pub mod Same
-pub mod Statics
-pub mod Tape
-pub mod TapeOf

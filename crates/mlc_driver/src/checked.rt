@@ -1,12 +1,10 @@
-// Checked projects.
+// A checked project.
 
-use crate::tape::Op;
-use mlb_reader::project::Part;
+use ir_prog::program::Program;
 
-/// A checked project.
+/// The program of a project that was elaborated, and how many names are known to be held.
 #[derive(Drop)]
 pub struct Checked {
-    pub(crate) parts: Vec<Part>,
-    pub(crate) tape: Vec<Op>,
-    pub(crate) nodes: u32,
+    pub program: Program,
+    pub known: u32,
 }

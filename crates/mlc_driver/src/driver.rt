@@ -1,38 +1,36 @@
 // Checking a project, and compiling it.
 
-ghost use Rattle.std.specs.Prelude.{◌≡◌, ◌≤◌, ◌<◌, ◌+◌, ◌*◌, [], ℕ, length, map, max, None, IfOk};
+ghost use Rattle.std.specs.Prelude.{◌≡◌, ◌≤◌, ◌<◌, [], List, length, None, IfOk};
 ghost use Rattle.std.specs.Option.{ForSome};
 ghost use Rattle.std.specs.String.{string_bytes};
 ghost use Rattle.mlc_faults.specs.Files.{LiesIn};
 ghost use Rattle.mlc_names.specs.StandardWords.{standard_words};
-ghost use Rattle.mlc_faults.specs.declared.code.Code.TheVariants.{ExpansionTooLarge};
 ghost use Rattle.mlc_outside.specs.Faults.{Rose};
-ghost use Rattle.ir_code.specs.ImageBytes.{IsProgram};
-ghost use Rattle.sml_rules.specs.Broken.{IsAccepted, IsRefused};
-ghost use Rattle.sml_rules.specs.Phrases.{parts_phrases, nodes_in};
-ghost use Rattle.mlb_reader.specs.Broken.{IsMissing};
-ghost use Rattle.mlb_reader.specs.PartOf.{part_of};
-ghost use Rattle.mlb_reader.specs.Project.{ProjectOf, IsNeeded};
-ghost use Rattle.mlb_reader.specs.Refusals.{IfTold, IfLoadFault, IfNoFile, IfReadFault};
+ghost use Rattle.sml_lexer.specs.NameTable.{Keeps};
+ghost use Rattle.sml_tree.specs.BareTree.{Decs};
 ghost use Rattle.sml_rules.specs.Basis.{IsTable};
-ghost use Rattle.mlc_driver.specs.Checked.{IsChecked, Breaks, Passes, Stops, IsHeldWith};
-ghost use Rattle.mlc_driver.specs.CheckedOf.{checked_of};
-ghost use Rattle.mlc_driver.specs.PhraseOf.{phrases_of};
-ghost use Rattle.mlc_driver.specs.TapeOf.{ops_of};
-ghost use Rattle.mlc_driver.specs.Fault.{IfFault};
+ghost use Rattle.mlb_reader.specs.Broken.{IsMissing, fault_at};
+ghost use Rattle.mlc_faults.specs.declared.refused.Refused.TheVariants as refusal;
+ghost use Rattle.mlb_reader.specs.PartOf.{parts_of};
+ghost use Rattle.mlb_reader.specs.Project.{IsNeeded};
+ghost use Rattle.mlb_reader.specs.Refusals.{IfTold, IfLoadFault, IfNoFile, IfReadFault};
+ghost use Rattle.core_rules.specs.Project.{Part};
+ghost use Rattle.match_pass.specs.Typed.{IsWellTyped};
+ghost use Rattle.mlc_driver.specs.Checked.{Breaks, IsChecked, IsOfProject, Outgrows};
+ghost use Rattle.mlc_driver.specs.Fault.{IfFault, IsTold};
+ghost use Rattle.mlc_driver.specs.Parts.{IsProgramOver};
 ghost use Rattle.mlc_driver.specs.Same.{Same};
 
-use crate::check::check;
 use crate::checked::Checked;
-use crate::emit::emit;
-use crate::image_law::{image_has_size, image_is_right, image_is_small};
-use crate::parts::phrases;
-use crate::phrase::Phrase;
-use crate::survey::{MAX_NODES, count_nodes, first_foreign};
-use crate::tape::Op;
+use crate::elaborate::elaborate;
+use crate::fault::refused_of;
+use crate::prelude::read_prelude;
+use back_end::compile::compile as image_of;
+use back_end::named::is_named;
+use back_end::refused::CompileRefused;
 use ir_code::image::Image;
 use mlb_reader::load::load;
-use mlb_reader::project::Part;
+use mlb_reader::project::Project;
 use mlb_reader::refused::LoadRefused;
 use mlc_base::place::Place;
 use mlc_faults::code::Code;
@@ -41,44 +39,38 @@ use mlc_faults::files::Files;
 use mlc_faults::refused::Refused;
 use mlc_names::names::Names;
 use mlc_outside::store::Store;
-use sml_rules::law as rules;
 use std::alloc::Global;
 
-/// The tape of phrases of the language that is compiled so far, or the first fault.
-fn check_phrases(alloc: Global, phrases: &[Phrase]) -> Result<Vec<Op>, Refused>
-    ensures checked { IfOk result (λ ops. Passes (phrases_of phrases.now) (ops_of ops.items)) }
-    ensures broken { IfFault result (λ fault. Stops (phrases_of phrases.now) fault) }
-    ensures name { IfFault result (λ fault. IsHeldWith fault.name (phrases_of phrases.now)) }
+/// The program of a project that was loaded, over the prelude, which is read as one file more. A text that is no identifier is put behind all names, so that
+/// its number says how many there are.
+fn check_loaded(
+    alloc: Global,
+    names: &mut Names,
+    files: &Files,
+    project: &Project,
+) -> Result<Checked, Refused>
+    requires table { IsTable names.old }
+    requires count { project.now.reads ≡ length files.now }
+    requires some { LiesIn (record { file = 0; byte = 0 }) files.now }
+    ensures kept { Keeps names.old names.new }
+    ensures checked { IfOk result (λ c. IsChecked names.old (length files.now) (parts_of project.now) names.new c.program) }
+    ensures well_typed { IfOk result (λ c. IsWellTyped c.program) }
+    ensures known { IfOk result (λ c. c.known ≤ length names.new) }
+    ensures told { IfFault result (λ fault. IsTold names.new files.now fault) }
 {
-    match first_foreign(phrases) {
-        Some(place) => Err(Refused::Fault(Fault {
-            code: Code::NotCompiled,
-            place,
-            name: None,
-        })),
-        None => check(alloc, phrases),
-    }
-}
-
-/// Checks the parts of a project.
-fn check_parts(alloc: Global, parts: Vec<Part>) -> Result<Checked, Refused>
-    ensures parts { IfOk result (λ c. (checked_of c).parts ≡ map part_of parts.items) }
-    ensures checked { IfOk result (λ c. IsChecked (checked_of c)) }
-    ensures broken { IfFault result (λ fault. Stops (parts_phrases (map part_of parts.items)) fault) }
-    ensures name { IfFault result (λ fault. IsHeldWith fault.name (parts_phrases (map part_of parts.items))) }
-{
-    rules::phrases_are_typed();
-    let phrases = phrases(alloc, &parts)?;
-    match check_phrases(alloc, &phrases) {
+    match read_prelude(alloc, names, project.reads) {
         Err(refused) => Err(refused),
-        Ok(tape) => {
-            let nodes = count_nodes(&phrases);
-            Ok(Checked { parts, tape, nodes })
+        Ok(prelude) => {
+            let known = names.intern(alloc, b" ")?.number();
+            match elaborate(alloc, &prelude, &project.parts) {
+                Ok(program) => Ok(Checked { program, known }),
+                Err(stopped) => Err(refused_of(alloc, names, files, project.reads, stopped)),
+            }
         }
     }
 }
 
-/// Loads the project of the ML Basis file at a path, and checks it.
+/// Loads the project of the ML Basis file at a path, and elaborates it.
 pub fn check_project<S: Store>(
     alloc: Global,
     names: &mut Names,
@@ -91,10 +83,10 @@ pub fn check_project<S: Store>(
     ensures files_same { S.files store.new ≡ S.files store.old }
     ensures writes_same { S.write_faults store.new ≡ S.write_faults store.old }
     ensures reads_kept { S.read_faults store.old ≤ S.read_faults store.new }
-    ensures project { IfOk result (λ c. IfTold (S.files store.old) (λ f. ProjectOf f path.now names.new (checked_of c).parts files.new)) }
-    ensures table { IfOk result (λ _. IsTable names.new) }
-    ensures checked { IfOk result (λ c. IsChecked (checked_of c)) }
-    ensures some { IfOk result (λ _. 0 < length files.new) }
+    ensures project { IfOk result (λ c. IsOfProject (S.files store.old) path.now files.new names.new c.program) }
+    ensures well_typed { IfOk result (λ c. IsWellTyped c.program) }
+    ensures known { IfOk result (λ c. c.known ≤ length names.new) }
+    ensures some { IfOk result (λ _. LiesIn (record { file = 0; byte = 0 }) files.new) }
     ensures broken { IfLoadFault result (λ fault. IfTold (S.files store.old) (λ f. Breaks f path.now names.new fault files.new)) }
     ensures fault_lies { IfLoadFault result (λ fault. LiesIn fault.place files.new) }
     ensures fault_name { IfLoadFault result (λ fault. ForSome fault.name (λ name. name < length names.new)) }
@@ -104,7 +96,7 @@ pub fn check_project<S: Store>(
 {
     match load(alloc, names, files, store, path) {
         Err(refused) => Err(refused),
-        Ok(project) => match check_parts(alloc, project.parts) {
+        Ok(project) => match check_loaded(alloc, names, files, &project) {
             Ok(checked) => Ok(checked),
             Err(Refused::Fault(fault)) => Err(LoadRefused::Fault(fault)),
             Err(Refused::Memory) => Err(LoadRefused::Memory),
@@ -112,29 +104,34 @@ pub fn check_project<S: Store>(
     }
 }
 
+/// The refusal of a program that is too large for an image.
+fn outgrown(code: Code) -> Refused
+    ensures { result ≡ refusal.Fault (fault_at code 0 0) }
+{
+    Refused::Fault(Fault {
+        code,
+        place: Place { file: 0, byte: 0 },
+        name: None,
+    })
+}
+
 /// Compiles a checked project.
 pub fn compile(alloc: Global, names: &Names, checked: Checked) -> Result<Image, Refused>
-    requires table { IsTable names.now }
-    requires checked { IsChecked (checked_of checked) }
-    ensures same { IfOk result (λ image. Same names.now (checked_of checked).parts image) }
-    ensures program { IfOk result (λ image. IsProgram image) }
-    ensures accepted { IfOk result (λ _. IsAccepted (checked_of checked).parts) }
-    ensures size { IfOk result (λ image. length image.constants + 4 * length image.code ≤ 128 * max 1 (nodes_in (parts_phrases (checked_of checked).parts))) }
-    ensures refused { IfFault result (λ fault. IsRefused (checked_of checked).parts fault) }
-    ensures fault_is { IfFault result (λ fault. fault ≡ record { code = ExpansionTooLarge; place = record { file = 0; byte = 0 }; name = None }) }
+    requires known { checked.known ≤ length names.now }
+    requires well_typed { IsWellTyped checked.program }
+    ensures same { IfOk result (λ image. (prelude : Decs) (parts : List Part) → IsProgramOver prelude parts checked.program
+        → Same names.now prelude parts image) }
+    ensures refused { IfFault result (λ fault. Outgrows names.now checked.program fault) }
+    ensures place { IfFault result (λ fault. fault.place ≡ record { file = 0; byte = 0 }) }
+    ensures unnamed { IfFault result (λ fault. fault.name ≡ None) }
 {
-    let _ = names;
-    rules::never_wrong();
-    rules::meaning_grows();
-    image_is_right();
-    image_has_size();
-    image_is_small();
-    if checked.nodes > MAX_NODES {
-        return Err(Refused::Fault(Fault {
-            code: Code::ExpansionTooLarge,
-            place: Place { file: 0, byte: 0 },
-            name: None,
-        }));
+    if !is_named(checked.known, &checked.program) {
+        return Err(Refused::Memory);
     }
-    Ok(emit(alloc, &checked.tape)?)
+    match image_of(alloc, names, checked.program) {
+        Ok(image) => Ok(image),
+        Err(CompileRefused::TooLarge) => Err(outgrown(Code::ExpansionTooLarge)),
+        Err(CompileRefused::TooLong) => Err(outgrown(Code::ImageTooLarge)),
+        Err(CompileRefused::NoWord) | Err(CompileRefused::Memory) => Err(Refused::Memory),
+    }
 }

@@ -1,9 +1,9 @@
-// Tests of the order of phrases, and of images.
+// Tests of the prelude, and of what refusals tell.
 #![tactic(auto)]
 
 #[cfg(test)]
-mod image;
+mod identifiers;
 #[cfg(test)]
-mod phrases;
+mod prelude;
 #[cfg(test)]
-mod trees;
+mod refusals;

@@ -1,19 +1,27 @@
 -- The statuses of a command that was carried out.
 use Rattle.std.proofs.Common.{◌≡◌, ◌≢◌, ℕ, ◌⊎◌, inl, inr, List, Option, Some, refl, subst, sym, ◌∙◌, arith, codes, [], ◌∷◌}
 use Rattle.std.specs.String.{string_bytes}
+use Rattle.mlc_faults.specs.File.{File}
+use Rattle.mlc_faults.specs.declared.fault.Fault.{Fault}
 use Rattle.mlc_outside.specs.Faults.{Rose}
 use Rattle.mlc_outside.specs.Files.{Files}
 use Rattle.ir_code.specs.Run.{ended, no_heap, no_stack, going}
 use Rattle.heap_vm.specs.Loaded.{told_name}
-use Rattle.mlb_reader.specs.Broken.{IsMissing}
+use Rattle.mlb_reader.specs.Broken.{IsBroken, IsMissing}
 use Rattle.mlb_reader.specs.Refusals.{IfTold}
-use Rattle.mlc_driver.specs.Checked.{Breaks}
+use Rattle.mlc_driver.specs.Checked.{Breaks, in_loading, in_project, in_size}
 use Rattle.mlc_program.specs.Command.{Command, IsCommand}
 use Rattle.mlc_program.specs.Exits.{Exited, status_of, line_of}
 use Rattle.mlc_program.specs.Outside.{Disk, Stream}
-use Rattle.mlc_program.specs.Statuses.{ByCommand, Built, RanTo, ToldUncaught, WriteFailed, Unwritten, Refuses, Misses, Told, Says, says_nothing, says_uncaught, says_refused, says_step_limit, says_out_of_heap, says_out_of_stack, says_missing, says_read_failed, says_write_failed, says_no_memory, IsBeforeRun, IsBeforeWrite, IsReady, IsRunOrMemory}
+use Rattle.mlc_program.specs.Statuses.{ByCommand, Built, RanTo, ToldUncaught, WriteFailed, Unwritten, Refuses, Misses, Told, Says, says_nothing, says_uncaught, says_refused, says_step_limit, says_out_of_heap, says_out_of_stack, says_missing, says_read_failed, says_write_failed, says_no_memory, IsBeforeRun, IsBeforeWrite, IsReady, IsLoaded, IsRunMemoryOrRefused}
 use Rattle.mlc_program.specs.declared.exit.Exit.{Exit}
 use Rattle.mlc_program.specs.declared.exit.Exit.TheVariants.{Ended, Uncaught, StepLimit, OutOfHeap, OutOfStack, Refused, Missing, ReadFailed, StoreFailed as Store_failed, OutFailed as Out_failed, NoMemory}
+
+-- a refusal that is none of loading comes after it
+loaded-at : (f : Files) (c : Command) (names : List (List ℕ)) (fault : Fault) (reads : List File) → ¬ (IsBroken f c.input fault reads) → Breaks f c.input names fault reads → IsLoaded (Some f) c
+loaded-at f c names fault reads none (in_loading b e) = absurd (none b)
+loaded-at f c names fault reads none (in_project {before = before} {parts = parts} p k e) = record { names = before; parts = parts; reads = reads; is_project = p }
+loaded-at f c names fault reads none (in_size {p = p} o g) = record { names = o.before; parts = o.parts; reads = reads; is_project = o.is_project }
 
 module _ (words : List (List ℕ)) (c : Command) (is : IsCommand words c) (old new : Disk) (out out' : Stream) where
   pub says : (usage : List ℕ) (e : Exit) → Exited e old new out out' c → Says usage words old.files old.read_faults new.read_faults (status_of e) (line_of e)
@@ -173,25 +181,26 @@ module _ (words : List (List ℕ)) (c : Command) (is : IsCommand words c) (old n
       let input : is.input ≡ other.input = cc in
       is.numbers.input_is ∙ input ∙ sym other.numbers.input_is
 
-  not_refused : (line : List ℕ) → IsReady words old.files → Refuses old.files c line → ⊥
-  not_refused line ready r =
+  is_loaded : (line : List ℕ) → IsReady words old.files → Refuses old.files c line → IsLoaded old.files c
+  is_loaded line ready r =
       let breaks = told (λ f. Breaks f c.input r.names r.fault r.reads) ready.told ready.are r.breaks in
-      ready.unbroken r.names r.fault r.reads (subst (λ i. Breaks ready.told i r.names r.fault r.reads) (same_input ready.command ready.is_command) breaks)
+      let none = subst (λ i. ¬ (IsBroken ready.told i r.fault r.reads)) (sym (same_input ready.command ready.is_command)) (ready.unbroken r.fault r.reads) in
+      subst (λ o. IsLoaded o c) (sym ready.are) (loaded-at ready.told c r.names r.fault r.reads none breaks)
 
   not_missing : (path : List ℕ) → IsReady words old.files → Misses old.files c path → ⊥
   not_missing path ready m =
       let missing = told (λ f. IsMissing f c.input path) ready.told ready.are m in
       ready.there path (subst (λ i. IsMissing ready.told i path) (same_input ready.command ready.is_command) missing)
 
-  pub when_ready : (e : Exit) → Exited e old new out out' c → IsReady words old.files → ¬ (Rose old.read_faults new.read_faults) → ¬ (Rose old.write_faults new.write_faults) → ¬ (Rose out.faults out'.faults) → IsRunOrMemory (status_of e)
-  when_ready Ended x ready r w o = inl refl
-  when_ready (Uncaught vm) x ready r w o = inr (inl refl)
-  when_ready StepLimit x ready r w o = inr (inr (inl refl))
-  when_ready OutOfHeap x ready r w o = inr (inr (inr (inl refl)))
-  when_ready OutOfStack x ready r w o = inr (inr (inr (inr (inl refl))))
-  when_ready (Refused line) x ready r w o = absurd (not_refused (string_bytes line) ready x.0.1)
+  pub when_ready : (e : Exit) → Exited e old new out out' c → IsReady words old.files → ¬ (Rose old.read_faults new.read_faults) → ¬ (Rose old.write_faults new.write_faults) → ¬ (Rose out.faults out'.faults) → IsRunMemoryOrRefused words old.files (status_of e)
+  when_ready Ended x ready r w o = inl (inl refl)
+  when_ready (Uncaught vm) x ready r w o = inl (inr (inl refl))
+  when_ready StepLimit x ready r w o = inl (inr (inr (inl refl)))
+  when_ready OutOfHeap x ready r w o = inl (inr (inr (inr (inl refl))))
+  when_ready OutOfStack x ready r w o = inl (inr (inr (inr (inr (inl refl)))))
+  when_ready (Refused line) x ready r w o = inr (refl, (c, is, is_loaded (string_bytes line) ready x.0.1))
   when_ready (Missing path) x ready r w o = absurd (not_missing (string_bytes path) ready x.0.1)
   when_ready (ReadFailed path) x ready r w o = absurd (r x.0.2)
   when_ready Store_failed x ready r w o = absurd (w x.0.rose)
   when_ready Out_failed x ready r w o = absurd (o x.rose)
-  when_ready NoMemory x ready r w o = inr (inr (inr (inr (inr refl))))
+  when_ready NoMemory x ready r w o = inl (inr (inr (inr (inr (inr refl)))))

@@ -1,5 +1,5 @@
 -- The statuses of the program: what each says of the files, of what was written, and of the line on err.
-use Rattle.std.specs.Prelude.{◌≡◌, ℕ, ◌+◌, ◌*◌, ◌≤◌, ◌⊎◌, max, List, [], ◌++◌, length, Option, Some, codes}
+use Rattle.std.specs.Prelude.{◌≡◌, ℕ, ◌⊎◌, List, [], ◌++◌, length, map, Option, Some, codes}
 use Rattle.mlc_faults.specs.File.{File}
 use Rattle.mlc_faults.specs.FaultLine.{fault_text}
 use Rattle.mlc_faults.specs.declared.fault.Fault.{Fault}
@@ -11,14 +11,18 @@ use Rattle.mlc_outside.specs.declared.sink.Put.{Put}
 use Rattle.ir_code.specs.Program.{Program}
 use Rattle.ir_code.specs.ImageBytes.{image_bytes, IsProgram}
 use Rattle.ir_code.specs.Run.{RunResult, run_of, End, uncaught}
-use Rattle.sml_rules.specs.Broken.{IsAccepted}
+use Rattle.sml_tree.specs.BareTree.{Decs}
 use Rattle.sml_rules.specs.Laws.{IsPrefix}
-use Rattle.sml_rules.specs.Phrases.{parts_phrases, nodes_in}
-use Rattle.sml_rules.specs.Project.{Part}
-use Rattle.mlb_reader.specs.Broken.{IsMissing}
+use Rattle.sml_rules.specs.Project as read
+use Rattle.core_rules.specs.Objects.{Context}
+use Rattle.core_rules.specs.Project.{Part}
+use Rattle.project_typed.specs.Typing.{ProjectHas}
+use Rattle.mlb_reader.specs.Broken.{IsBroken, IsMissing}
 use Rattle.mlb_reader.specs.Project.{ProjectOf, IsNeeded}
 use Rattle.mlb_reader.specs.Refusals.{IfTold}
 use Rattle.mlc_driver.specs.Checked.{Breaks}
+use Rattle.mlc_driver.specs.Parts.{part_of_core}
+use Rattle.mlc_driver.specs.Preludes.{IsPrelude}
 use Rattle.mlc_driver.specs.Same.{Same}
 use Rattle.mlc_program.specs.Command.{Command, IsCommand}
 
@@ -30,20 +34,19 @@ NoCommand words = (command : Command) → ¬ (IsCommand words command)
 abbrev pub ByCommand : List (List ℕ) → (Command → Type 0) → Type 0
 ByCommand words P = (command : Command) × IsCommand words command × P command
 
--- how many words an image has after its header
-abbrev pub words_in : Program → ℕ
-words_in image = length image.constants + 4 * length image.code
-
--- the files at the command's path are an accepted project, with this table of names, and this image ends as it does
+-- the files at the command's path are a project of the core, which has a typing over the prelude, and this image does what the project does; `before` is the
+-- table of names behind its sources, and `names` has that behind the prelude
 pub record Compiles (files : Option Files) (command : Command) (image : Program) : Type 0 where
+  pub before : List (List ℕ)
   pub names : List (List ℕ)
+  pub prelude : Decs
   pub parts : List Part
   pub reads : List File
-  pub is_project : IfTold files (λ f. ProjectOf f command.input names parts reads)
-  pub accepted : IsAccepted parts
-  pub is_program : IsProgram image
-  pub same : Same names parts image
-  pub small : words_in image ≤ 128 * max 1 (nodes_in (parts_phrases parts))
+  pub is_project : IfTold files (λ f. ProjectOf f command.input before (map part_of_core parts) reads)
+  pub is_prelude : IsPrelude before (length reads) prelude names
+  pub context : Context
+  pub typed : ProjectHas prelude parts context
+  pub same : Same names prelude parts image
 
 -- the run of the image, as the command asks for it
 abbrev pub run_by : Command → Program → RunResult
@@ -52,6 +55,7 @@ run_by command image = run_of image command.heap command.stack command.steps
 -- one image was compiled and is in its file, and all other files are as they were
 pub record Built (old new : Option Files) (command : Command) : Type 0 where
   pub image : Program
+  pub is_program : IsProgram image
   pub compiles : Compiles old command image
   pub holds : new ≡ with_file old command.output (image_bytes image)
 
@@ -64,6 +68,7 @@ pub record RanTo (end : End) (old new : Option Files) (before after : Option (Li
 -- the write of the image failed, and may have changed its file alone
 pub record StoreFailed (old new : Option Files) (faults_before faults_after : ℕ) (command : Command) : Type 0 where
   pub image : Program
+  pub is_program : IsProgram image
   pub compiles : Compiles old command image
   pub rose : Rose faults_before faults_after
   pub others : OthersStay command.output old new
@@ -145,15 +150,26 @@ IsBeforeRun status = (status ≡ 2) ⊎ ((status ≡ 6) ⊎ ((status ≡ 7) ⊎ 
 abbrev pub IsBeforeWrite : ℕ → Type 0
 IsBeforeWrite status = (status ≡ 2) ⊎ ((status ≡ 6) ⊎ ((status ≡ 7) ⊎ (status ≡ 64)))
 
--- the words are a command, the files are told, nothing breaks the project, and no path that it needs has no file
+-- the words are a command, the files are told, nothing is broken in loading the project, and no path that it needs has no file
 pub record IsReady (words : List (List ℕ)) (files : Option Files) : Type 0 where
   pub command : Command
   pub is_command : IsCommand words command
   pub told : Files
   pub are : files ≡ Some told
-  pub unbroken : (names : List (List ℕ)) (fault : Fault) (reads : List File) → ¬ (Breaks told command.input names fault reads)
+  pub unbroken : (fault : Fault) (reads : List File) → ¬ (IsBroken told command.input fault reads)
   pub there : (path : List ℕ) → ¬ (IsMissing told command.input path)
 
 -- the program ran, or memory was wanting
 abbrev pub IsRunOrMemory : ℕ → Type 0
 IsRunOrMemory status = (status ≡ 0) ⊎ ((status ≡ 1) ⊎ ((status ≡ 3) ⊎ ((status ≡ 4) ⊎ ((status ≡ 5) ⊎ (status ≡ 11)))))
+
+-- the files at the command's path are a project
+pub record IsLoaded (files : Option Files) (command : Command) : Type 0 where
+  pub names : List (List ℕ)
+  pub parts : List read.Part
+  pub reads : List File
+  pub is_project : IfTold files (λ f. ProjectOf f command.input names parts reads)
+
+-- or the files are a project that is refused after it was loaded: that one that has a typing isn't refused then is claimed nowhere
+abbrev pub IsRunMemoryOrRefused : List (List ℕ) → Option Files → ℕ → Type 0
+IsRunMemoryOrRefused words files status = IsRunOrMemory status ⊎ ((status ≡ 2) × ByCommand words (IsLoaded files))

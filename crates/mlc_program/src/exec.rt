@@ -2,7 +2,7 @@
 
 ghost use Rattle.std.specs.Prelude.{◌≡◌, ◌≢◌, ◌^◌, ◌≤◌, IfOk, IfErr};
 ghost use Rattle.mlc_outside.specs.Store.{with_file};
-ghost use Rattle.ir_code.specs.ImageBytes.{image_bytes};
+ghost use Rattle.ir_code.specs.ImageBytes.{IsProgram, image_bytes};
 ghost use Rattle.ir_code.specs.Run.{stuck};
 ghost use Rattle.mlc_program.specs.CommandOf.{command_of};
 ghost use Rattle.mlc_program.specs.Exits.{Exited, Unbuilt};
@@ -50,6 +50,7 @@ fn run<O: Sink>(alloc: Global, command: &Command, image: Image, out: &mut O) -> 
 /// Compiles the project of a command, and writes its image.
 fn build<S: Store>(alloc: Global, command: &Command, store: &mut S) -> Result<Image, Exit>
     ensures compiled { IfOk result (λ image. Compiles (S.files store.old) (command_of command.now) image) }
+    ensures program { IfOk result (λ image. IsProgram image) }
     ensures written { IfOk result (λ image. S.files store.new
         ≡ with_file (S.files store.old) command.now.output.now (image_bytes image)) }
     ensures exit { IfErr result (λ exit. Unbuilt exit

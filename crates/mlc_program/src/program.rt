@@ -4,7 +4,7 @@ ghost use Rattle.std.specs.Prelude.{◌≡◌, ◌⊎◌, ◌↔◌, ℕ, List};
 ghost use Rattle.mlc_outside.specs.Faults.{Rose};
 ghost use Rattle.ir_code.specs.Run.{ended, going, no_heap, no_stack};
 ghost use Rattle.mlc_program.specs.CommandOf.{words_of};
-ghost use Rattle.mlc_program.specs.Statuses.{NoCommand, ByCommand, Built, RanTo, ToldUncaught, WriteFailed, Unwritten, Says, Told, IsBeforeRun, IsBeforeWrite, IsReady, IsRunOrMemory};
+ghost use Rattle.mlc_program.specs.Statuses.{NoCommand, ByCommand, Built, RanTo, ToldUncaught, WriteFailed, Unwritten, Says, Told, IsBeforeRun, IsBeforeWrite, IsReady, IsRunMemoryOrRefused};
 
 use crate::command::{USAGE, read_command};
 use crate::exec::exec;
@@ -50,12 +50,12 @@ pub fn mlc_main<S: Store, O: Sink, E: Sink>(
     ensures nothing_written { IsBeforeRun result →
         Unwritten (O.written out.old) (O.written out.new) (O.faults out.old) (O.faults out.new) }
 
-    // Where nothing stands against it, the program runs.
+    // Where nothing stands against loading the project, the program runs, or the project is refused after it was loaded.
     ensures complete { IsReady (words_of words.now) (S.files store.old)
         → ¬ (Rose (S.read_faults store.old) (S.read_faults store.new))
         → ¬ (Rose (S.write_faults store.old) (S.write_faults store.new))
         → ¬ (Rose (O.faults out.old) (O.faults out.new))
-        → IsRunOrMemory result }
+        → IsRunMemoryOrRefused (words_of words.now) (S.files store.old) result }
 {
     match read_command(words) {
         None => {

@@ -4,6 +4,10 @@
 #[cfg(test)]
 mod calls;
 #[cfg(test)]
+mod core_examples;
+#[cfg(test)]
+mod core_rows;
+#[cfg(test)]
 mod edge;
 #[cfg(test)]
 mod limits;
@@ -11,5 +15,7 @@ mod limits;
 mod refusals;
 #[cfg(test)]
 mod runs;
+#[cfg(test)]
+mod sources;
 #[cfg(test)]
 mod statuses;

@@ -1,4 +1,4 @@
-// Limits at their edges, machines that are too small, and large sources.
+// Limits at their edges, and large sources.
 
 use crate::calls::{NOTHING, REFUSED, Row, check, followed};
 use mlc_base::memory::NoMemory;
@@ -36,65 +36,6 @@ fn check_mlb(
     check(rt, alloc, &row)
 }
 
-/// A text and another one so many times behind it, on a small machine.
-#[derive(Clone, Copy)]
-struct Small {
-    text: &'static str,
-    again: &'static str,
-    times: usize,
-    row: Row<'static>,
-}
-
-const SMALL: Row = Row {
-    words: "exec p.mlb p.mlx 1024 256 1000000",
-    ..NOTHING
-};
-
-const MACHINES: [Small; 4] = [
-    Small {
-        text: "val () = print \"a\" val a = \"12345678\"",
-        again: " val a = a ^ a",
-        times: 5,
-        row: Row { out: "a", ..SMALL },
-    },
-    Small {
-        text: "val () = print \"a\" val a = \"12345678\"",
-        again: " val a = a ^ a",
-        times: 7,
-        row: Row {
-            status: 4,
-            out: "a",
-            err: "out of heap\n",
-            ..SMALL
-        },
-    },
-    Small {
-        text: "",
-        again: "val x = 1 ",
-        times: 200,
-        row: SMALL,
-    },
-    Small {
-        text: "val () = print \"a\" ",
-        again: "val x = 1 ",
-        times: 300,
-        row: Row {
-            status: 5,
-            err: "out of stack\n",
-            ..SMALL
-        },
-    },
-];
-
-#[test]
-fn small_machines_are_exhausted(rt: HostRuntime) -> Result<(), Fail> {
-    for small in MACHINES.iter() {
-        let sml = followed(rt.alloc(), small.text, small.again, small.times);
-        check_sml(&rt, rt.alloc(), sml, small.row)?;
-    }
-    Ok(())
-}
-
 /// `val x = ` and `1` in so many brackets.
 fn brackets(alloc: Global, count: usize) -> Result<String, NoMemory> {
     let opened = followed(alloc, "val x = ", "(", count)?;
@@ -115,34 +56,15 @@ fn brackets_have_their_limit(rt: HostRuntime) -> Result<(), Fail> {
     Ok(())
 }
 
-/// A declaration of a string of so many bytes.
-fn long_string(alloc: Global, count: usize) -> Result<String, NoMemory> {
-    let opened = followed(alloc, "val x = \"", "a", count)?;
-    followed(alloc, opened.as_str(), "\"", 1)
-}
-
-const TOO_MANY_NODES: Row = Row {
-    err: "p.mlb:1.1: E41 expansion over 1048576 nodes\n",
-    ..REFUSED
-};
-
-#[test]
-fn nodes_have_their_limit(rt: HostRuntime) -> Result<(), Fail> {
-    for (count, row) in [(1_048_573, NOTHING), (1_048_574, TOO_MANY_NODES)] {
-        check_sml(&rt, rt.alloc(), long_string(rt.alloc(), count), row)?;
-    }
-    Ok(())
-}
-
 const TOO_MANY_FILES: Row = Row {
-    err: "p.mlb:4096.1: E24 more than 4096 files\n",
+    err: "p.mlb:4097.1: E24 more than 4096 files\n",
     ..REFUSED
 };
 
 #[test]
 fn files_have_their_limit(rt: HostRuntime) -> Result<(), Fail> {
     for (count, row) in [(4095, NOTHING), (4096, TOO_MANY_FILES)] {
-        let mlb = followed(rt.alloc(), "", "e.sml\n", count);
+        let mlb = followed(rt.alloc(), "$(SML_LIB)/basis/basis.mlb\n", "e.sml\n", count);
         check_mlb(&rt, rt.alloc(), mlb, row)?;
     }
     Ok(())
@@ -193,6 +115,7 @@ fn chain(alloc: Global, count: usize) -> Result<String, NoMemory> {
 #[test]
 fn a_long_chain_runs(rt: HostRuntime) -> Result<(), Fail> {
     let row = Row {
+        words: "exec p.mlb p.mlx 4194304 1048576 1000000000",
         out: "a",
         ..NOTHING
     };

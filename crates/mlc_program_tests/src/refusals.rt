@@ -4,7 +4,7 @@ use crate::calls::{REFUSED, Row, bad_mlb, bad_sml, check, check_all};
 use std::test::Fail;
 
 // Sources, and the lines that tell why they are refused.
-const SOURCES: [(&str, &str); 16] = [
+const SOURCES: [(&str, &str); 20] = [
     ("val () = print \"a", "p.sml:1.16: E10 no token\n"),
     ("val () = print \"\x7f\"", "p.sml:1.16: E10 no token\n"),
     ("val x = 1 (* open", "p.sml:1.11: E10 no token\n"),
@@ -24,17 +24,30 @@ const SOURCES: [(&str, &str); 16] = [
         "val y = 1\nval x = x + y",
         "p.sml:2.9: E30 unbound identifier x\n",
     ),
+    (
+        "infix +++ val x = 1 +++ 2",
+        "p.sml:1.21: E30 unbound identifier +++\n",
+    ),
+    ("val x : t = 1", "p.sml:1.9: E30 unbound identifier t\n"),
+    ("fun f (C x) = x", "p.sml:1.8: E30 unbound identifier C\n"),
+    (
+        "val x = Prim.cat",
+        "p.sml:1.9: E30 unbound identifier Prim\n",
+    ),
     ("val x = 1 + \"a\"", "p.sml:1.1: E31 no typing\n"),
+    ("fun f x = x x", "p.sml:1.1: E31 no typing\n"),
+    ("val (x, y) = 1", "p.sml:1.1: E31 no typing\n"),
     (
         "val () = print \"a\"\nval () = 1",
         "p.sml:2.1: E31 no typing\n",
     ),
-    ("val nil = 1", "p.sml:1.5: E33 restriction broken\n"),
-    ("fun f x = x", "p.sml:1.1: E90 not compiled yet\n"),
-    ("val (x, y) = 1", "p.sml:1.5: E90 not compiled yet\n"),
     (
-        "val x = 1 + \"a\" val y = (1, 2)",
-        "p.sml:1.25: E90 not compiled yet\n",
+        "val {a = x, ...} = {a = 1}",
+        "p.sml:1.5: E90 not compiled yet\n",
+    ),
+    (
+        "datatype t = datatype bool",
+        "p.sml:1.1: E90 not compiled yet\n",
     ),
 ];
 
@@ -47,11 +60,16 @@ fn other_sources_are_refused(rt: HostRuntime) -> Result<(), Fail> {
 }
 
 // The same of ML Basis files.
-const MLB_FILES: [(&str, &str); 9] = [
-    ("p.sml", "p.sml:1.10: E30 unbound identifier print\n"),
+const MLB_FILES: [(&str, &str); 11] = [
+    ("", "p.mlb:1.1: E90 not compiled yet\n"),
+    ("p.sml", "p.sml:1.1: E90 not compiled yet\n"),
     (
         "p.sml $(SML_LIB)/basis/basis.mlb",
-        "p.sml:1.10: E30 unbound identifier print\n",
+        "p.sml:1.1: E90 not compiled yet\n",
+    ),
+    (
+        "$(SML_LIB)/basis/basis.mlb p.sml $(SML_LIB)/basis/basis.mlb",
+        "p.mlb:1.1: E90 not compiled yet\n",
     ),
     ("\"p.sml\"", "p.mlb:1.1: E20 mlb syntax error\n"),
     ("local a.sml in", "p.mlb:1.1: E20 mlb syntax error\n"),
@@ -79,15 +97,14 @@ fn other_mlb_files_are_refused(rt: HostRuntime) -> Result<(), Fail> {
     Ok(())
 }
 
-// Sources with modules, of which none is compiled yet, and where the first phrase stands that isn't.
-const MODULES: [(&str, &str); 12] = [
+// Sources with modules, of which none is compiled yet, and where the first declaration stands that isn't of the core.
+const MODULES: [(&str, &str); 11] = [
     ("structure A = struct end", "1.1"),
     ("val x = 1 structure A = B", "1.11"),
-    ("fun f x = x structure A = B", "1.1"),
-    ("val x = 0w1 structure A = B", "1.9"),
-    ("val x = y structure A = B fun f x = x", "1.11"),
+    ("fun f x = x structure A = B", "1.13"),
+    ("val x = 0w1 structure A = B", "1.13"),
     ("val x = 1\nlocal structure S = T in val y = 2 end", "2.1"),
-    ("local val x = 1 in val y = x end structure A = B", "1.1"),
+    ("local val x = 1 in val y = x end structure A = B", "1.34"),
     ("signature S = sig end structure A = B", "1.1"),
     ("functor F (X : S) = X", "1.1"),
     ("print \"a\" ; functor F () = A", "1.13"),
@@ -105,7 +122,7 @@ fn modules_are_not_compiled(rt: HostRuntime) -> Result<(), Fail> {
 }
 
 // Sources with modules or with expressions at their top that are refused otherwise.
-const MODULES_REFUSED: [(&str, &str); 10] = [
+const MODULES_REFUSED: [(&str, &str); 11] = [
     ("structure A = sig end", "p.sml:1.15: E11 syntax error\n"),
     (
         "fun f x = x signature S =",
@@ -119,6 +136,10 @@ const MODULES_REFUSED: [(&str, &str); 10] = [
     ("structure A = B 1 ;", "p.sml:1.17: E11 syntax error\n"),
     ("1 + 1", "p.sml:1.6: E11 syntax error\n"),
     ("1 ; 2 val x = 3", "p.sml:1.7: E11 syntax error\n"),
+    (
+        "val x = y structure A = B fun f x = x",
+        "p.sml:1.9: E30 unbound identifier y\n",
+    ),
     ("1 ; x ;", "p.sml:1.5: E30 unbound identifier x\n"),
     ("it ; 1 ;", "p.sml:1.1: E30 unbound identifier it\n"),
     ("1 ; it ^ \"a\" ;", "p.sml:1.5: E31 no typing\n"),
@@ -132,7 +153,7 @@ fn modules_are_refused(rt: HostRuntime) -> Result<(), Fail> {
     Ok(())
 }
 
-// Projects of several sources: what can't be read comes before modules, and of modules the first are told.
+// Projects of several sources: what can't be read comes first, and then the first that doesn't elaborate.
 const PROJECTS: [Row; 3] = [
     Row {
         mlb: "$(SML_LIB)/basis/basis.mlb p.sml token.sml",
@@ -149,7 +170,7 @@ const PROJECTS: [Row; 3] = [
     Row {
         mlb: "$(SML_LIB)/basis/basis.mlb p.sml module.sml",
         sml: "val x = 1 + \"a\"",
-        err: "module.sml:2.1: E90 not compiled yet\n",
+        err: "p.sml:1.1: E31 no typing\n",
         ..REFUSED
     },
 ];

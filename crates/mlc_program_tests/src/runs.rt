@@ -28,6 +28,61 @@ fn sources_run(rt: HostRuntime) -> Result<(), Fail> {
     Ok(())
 }
 
+// Sources of the core.
+const CORE: [(&str, &str); 12] = [
+    ("fun f x = x val () = print (f \"a\")", "a"),
+    (
+        "fun f 0 = \"\" | f n = \"a\" ^ f (n - 1) val () = print (f 3)",
+        "aaa",
+    ),
+    ("val (x, y) = (\"a\", \"b\") val () = print (y ^ x)", "ba"),
+    (
+        "datatype t = A | B of string fun f A = \"a\" | f (B s) = s val () = print (f A ^ f (B \"b\"))",
+        "ab",
+    ),
+    (
+        "fun map f [] = [] | map f (x :: l) = f x :: map f l \
+            val _ = map print [\"a\", \"b\"] val _ = map (fn x => x + 1) [1]",
+        "ab",
+    ),
+    (
+        "exception E of string val () = (raise E \"a\") handle E s => print s",
+        "a",
+    ),
+    (
+        "val r = ref \"a\" val () = r := !r ^ \"b\" val () = print (!r)",
+        "ab",
+    ),
+    (
+        "val () = print (case SOME \"a\" of NONE => \"n\" | SOME s => s)",
+        "a",
+    ),
+    (
+        "val () = if not (1 = 2) andalso 1 <> 2 then print \"a\" else ()",
+        "a",
+    ),
+    (
+        "fun twice f = f o f val () = print (twice (fn s => s ^ s) \"a\")",
+        "aaaa",
+    ),
+    (
+        "val n = ref 0 val () = while !n < 3 do (print \"a\" before n := !n + 1)",
+        "aaa",
+    ),
+    (
+        "local val x = \"a\" in val y = x end val x = let val z = y in z ^ y end val () = print x",
+        "aa",
+    ),
+];
+
+#[test]
+fn the_core_runs(rt: HostRuntime) -> Result<(), Fail> {
+    for (sml, out) in CORE.iter() {
+        check(&rt, rt.alloc(), &good(sml, out))?;
+    }
+    Ok(())
+}
+
 // Sources with expressions at their top.
 const EXPRESSIONS: [(&str, &str); 7] = [
     ("print \"a\" ;", "a"),
@@ -53,9 +108,9 @@ fn expressions_run(rt: HostRuntime) -> Result<(), Fail> {
     Ok(())
 }
 
-const PROJECTS: [Row; 7] = [
+const PROJECTS: [Row; 6] = [
     Row {
-        words: "exec dir/q.mlb p.mlx 1024 256 +9",
+        words: "exec dir/q.mlb p.mlx 1024 256 +1000",
         out: "q",
         ..NOTHING
     },
@@ -68,7 +123,6 @@ const PROJECTS: [Row; 7] = [
         out: "hello, world\n",
         ..NOTHING
     },
-    Row { mlb: "", ..NOTHING },
     Row {
         mlb: "$(SML_LIB)/basis/basis.mlb",
         ..NOTHING
@@ -93,7 +147,7 @@ fn projects_run(rt: HostRuntime) -> Result<(), Fail> {
 }
 
 const LARGEST: Row = Row {
-    words: "exec dir/r.mlb p.mlx 268435456 16777216 9",
+    words: "exec dir/r.mlb p.mlx 268435456 16777216 1000",
     out: "r",
     ..NOTHING
 };

@@ -75,7 +75,7 @@ fn paths_and_images_that_fail_have_their_statuses(rt: HostRuntime) -> Result<(),
 
 const THREE: &str = "val () = print \"a\" val () = print \"b\" val () = print \"c\"";
 
-const RUNS: [Row; 7] = [
+const RUNS: [Row; 9] = [
     Row {
         sml: THREE,
         out_fails: 3,
@@ -85,24 +85,40 @@ const RUNS: [Row; 7] = [
         ..NOTHING
     },
     Row {
-        words: "exec p.mlb p.mlx 1024 256 0",
+        words: "exec p.mlb p.mlx 65536 4096 0",
         sml: THREE,
         status: 3,
         err: "step limit\n",
         ..NOTHING
     },
     Row {
-        words: "exec p.mlb p.mlx 1024 256 3",
-        sml: THREE,
+        words: "exec p.mlb p.mlx 65536 16777216 100000",
+        sml: "val () = print \"a\" fun f x = f x val () = f ()",
         status: 3,
         out: "a",
         err: "step limit\n",
         ..NOTHING
     },
     Row {
-        words: "exec p.mlb p.mlx 1024 256 8",
-        sml: THREE,
-        out: "abc",
+        words: "exec p.mlb p.mlx 4096 16777216 1000000000",
+        sml: "val () = print \"a\" fun f l = f (1 :: l) val () = f nil",
+        status: 4,
+        out: "a",
+        err: "out of heap\n",
+        ..NOTHING
+    },
+    Row {
+        sml: "val () = print \"a\" fun f n = f n + 1 val _ = f 0",
+        status: 5,
+        out: "a",
+        err: "out of stack\n",
+        ..NOTHING
+    },
+    Row {
+        sml: "exception E of int val () = print \"a\" val () = raise E 1",
+        status: 1,
+        out: "a",
+        err: "unhandled exception: E\n",
         ..NOTHING
     },
     Row {

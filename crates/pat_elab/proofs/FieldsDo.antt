@@ -8,7 +8,7 @@ use Rattle.mlc_names.specs.declared.label.Label.{Label}
 use Rattle.mlc_names.specs.declared.label.Label.TheVariants.{Number}
 use Rattle.mlc_base.specs.declared.place.Place.{Place}
 use Rattle.ty_core.specs.Types.{Typ, typs_of}
-use Rattle.ty_basis.specs.Types.{Row, row_type}
+use Rattle.ty_basis.specs.Types.{Row, labels_in, row_type}
 use Rattle.label_rows.specs.declared.sort.Field.{Field}
 use Rattle.label_rows.specs.Order.{label_before, put_by, sorted_by}
 use Rattle.label_rows.specs.Sorting.{sorted}
@@ -16,7 +16,7 @@ use Rattle.sml_tree.specs.BareTree as bare
 use Rattle.sml_tree.specs.Derived.{numbered_pats}
 use Rattle.sml_tree.specs.TreeOf.{PatFieldOf, pat_fields_of}
 use Rattle.core_rules.specs.Objects.{Over, AllOver, sorted as sorted_row}
-use Rattle.core_rules.specs.Choices.{Choices, no_choice, both}
+use Rattle.core_rules.specs.Choices.{Choices, no_choice, both, further}
 use Rattle.ir_values.specs.Values.{same_label}
 use Rattle.ir_poly.specs.Prog as prog
 use Rattle.ir_poly.specs.Types.{ascend, over, all_over}
@@ -25,19 +25,22 @@ use Rattle.prog_tree.specs.TreeOf.{pat_of, pat_field_of, fields_of}
 use Rattle.prog_tree.specs.declared.tree.PatField.{PatField}
 use Rattle.prog_tree.specs.declared.tree.Pat.TheVariants as tree
 use Rattle.elab_typed.specs.Contexts.{Around}
-use Rattle.elab_typed.specs.Elaborates.{PatElab, PatsElab, no_pats_elab, a_pat_elab, fields_elab}
+use Rattle.elab_typed.specs.Elaborates.{PatElab, PatsElab, no_pats_elab, a_pat_elab, fields_elab, open_elab}
 use Rattle.elab_typed.specs.Instances.{as_typed}
 use Rattle.elab_typed.specs.Numbers.{type_as, row_as}
 use Rattle.elab_typed.proofs.Names.{over-as}
 use Rattle.elab_state.specs.declared.state.State.{State}
-use Rattle.elab_steps.specs.Growing.{HasType, Grows, Always}
-use Rattle.elab_steps.specs.Rows.{row_of}
+use Rattle.elab_steps.specs.Growing.{HasType, Grows, Always, IsWithin}
+use Rattle.elab_steps.specs.Rows.{HasFields, row_of}
 use Rattle.elab_steps.specs.World.{World, type_of}
 use Rattle.elab_steps.proofs.Growing.{grows_on, grows_same, type_later, comes_before}
+use Rattle.elab_steps.proofs.Opening.{open-found, open-once}
 use Rattle.elab_steps.proofs.Sorting.{Among, found-sorted, sorted-all, row-sorted}
+use Rattle.elab_context.specs.Entries.{limit_of}
+use Rattle.elab_context.specs.Telling.{IsContext}
 use Rattle.elab_context.specs.declared.context.Context.{Context}
 use Rattle.pat_elab.proofs.Forms.{all-later, onto-plus}
-use Rattle.pat_elab.proofs.Leaves.{no-more}
+use Rattle.pat_elab.proofs.Leaves.{no-more, within-names, within-parameters}
 use Rattle.pat_elab.proofs.Trees.{pat_field_of-is}
 use Rattle.prog_tree.proofs.ExpOf.{pat_of-Record}
 use Rattle.pat_elab.specs.Elaborated.{bound_of, scope_of, scope_onto, AreVariables, Elaborates, IsPat}
@@ -182,6 +185,37 @@ record_is S M T C place fs before after m r h g is up w n p = record {
         parameters =
             ap (over A.parameters) type ∙ ap (λ row. all_over A.parameters (typs_of (map (λ f. f.1) row))) (sym (row-sorted W rs))
             ∙ row-over W A.parameters (sorted rs) (sorted-all (λ x. over A.parameters (type_of W x.part) ≡ true) rs (each-over f));
+      };
+}
+
+-- a record of these fields and perhaps others
+pub open_is : (S M T : State) (C : Context) (place : Place) (fs : List PatFieldOf) (before after : List BoundVariable) (m : Fields) (r : TypedPat) → AreFields S C fs M before after m
+    → IsContext M C → Grows M T → HasType T r.ty → Always T (λ W. IsWithin W (limit_of C) r.ty) → Always T (λ W. HasFields W m.row.items (type_of W r.ty))
+    → T.next ≡ M.next → r.pat ≡ tree.Record true m.pats → IsPat S C (bare.fields_pat place (pat_fields_of fs) true) T before after r
+open_is S M T C place fs before after m r h i g is within has n p = record {
+  added = h.added;
+  bound = h.bound;
+  grows = grows_on S M T h.grows g;
+  is = is;
+  have = all-later M T g h.added h.have;
+  gives = λ W c A t.
+      let rs = m.row.items in
+      let x = has W c in
+      let whole = sorted_row (row_of W rs ++ x.others) in
+      let d = pats-do W A whole (h.gives W (comes_before M T W g c) A t) (λ y a. open-found W y rs x.others x.once a) in
+      let names = within-names C W A r.ty t (within W c) in
+      let gs = fields_of (map (pat_field_of W.reading) m.pats.items) in
+      let choices = both d.choices (further (labels_in (sorted_row x.others))) in
+      record {
+        choices = choices;
+        elab =
+            subst (λ q. PatElab W.table A S.next (bare.fields_pat place (pat_fields_of fs) true) q (type_of W r.ty) (bound_of W h.added) choices (scope_of h.added) T.next)
+            (sym (ap (pat_of W.reading) p ∙ pat_of-Record W.reading true m.pats))
+            (subst (λ u. PatElab W.table A S.next (bare.fields_pat place (pat_fields_of fs) true) (prog.fields_pat true gs) u (bound_of W h.added) choices (scope_of h.added) T.next) (sym x.is)
+            (subst (λ j. PatElab W.table A S.next (bare.fields_pat place (pat_fields_of fs) true) (prog.fields_pat true gs) (row_type whole) (bound_of W h.added) choices (scope_of h.added) j) (sym n)
+            (open_elab place x.others d.elab (open-once (row_of W rs) x.others x.once) (subst (Over A.names) x.is names))));
+        names = names;
+        parameters = within-parameters M C W A r.ty i t (within W c);
       };
 }
 

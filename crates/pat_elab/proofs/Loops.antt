@@ -55,12 +55,11 @@ field_more S T C fields i d e before after m lt h =
     subst (λ l. AreFields S C l T before after m) (sym (next-map-at pat_field_of fields i d lt))
     (subst (λ f. AreFields S C (map pat_field_of (take i fields) ++ f ∷ []) T before after m) one h)
 
-pub fields_end : (S T U : State) (C : Context) (place : Place) (fields : List PatField) (i : ℕ) (b : Bool) (before after : List BoundVariable) (m : Fields) (r : TypedPat) → length fields ≤ i → b ≡ false
-    → ((S : State) (before after : List BoundVariable) (fs : List PatFieldOf) (place : Place) → AreFields S C fs T before after m → IsPat S C (bare.fields_pat place (pat_fields_of fs) false) U before after r)
+pub fields_end : (S T U : State) (C : Context) (place : Place) (fields : List PatField) (i : ℕ) (b : Bool) (before after : List BoundVariable) (m : Fields) (r : TypedPat) → length fields ≤ i
+    → ((S : State) (before after : List BoundVariable) (fs : List PatFieldOf) (place : Place) → AreFields S C fs T before after m → IsPat S C (bare.fields_pat place (pat_fields_of fs) b) U before after r)
     → AreFields S C (map pat_field_of (take i fields)) T before after m → IsPat S C (bare.fields_pat place (pat_fields_of (map pat_field_of fields)) b) U before after r
-fields_end S T U C place fields i b before after m r le e made h =
-    subst (λ b. IsPat S C (bare.fields_pat place (pat_fields_of (map pat_field_of fields)) b) U before after r) (sym e)
-    (made S before after (map pat_field_of fields) place (subst (λ l. AreFields S C l T before after m) (all-map pat_field_of fields i le) h))
+fields_end S T U C place fields i b before after m r le made h =
+    made S before after (map pat_field_of fields) place (subst (λ l. AreFields S C l T before after m) (all-map pat_field_of fields i le) h)
 
 -- the parts of a tuple
 

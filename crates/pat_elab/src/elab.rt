@@ -13,7 +13,7 @@ use crate::built::built_alone;
 use crate::chain::{
     add_left, add_right, finish_left, finish_right, join_new, start_left, start_right,
 };
-use crate::fields::{add_field, no_fields, record};
+use crate::fields::{add_field, no_fields, record, record_by};
 use crate::form::{built_of, constructed, identifier, with_name, with_type};
 use crate::leaf::{bind_variable, constant, wild};
 use crate::list::{add_element, finish_list, start_list};
@@ -26,7 +26,7 @@ use mlc_names::label::Label;
 use sml_tree::tree::{Pat, PatField, PatPart};
 use std::alloc::Global;
 
-/// A record pattern; one that ends in `...` isn't compiled yet.
+/// A record pattern, and whether it ends in `...`.
 #[cycle(pats)]
 fn record_of(
     alloc: Global,
@@ -41,15 +41,12 @@ fn record_of(
     ensures is { IfOk result (λ r. IsPat state.old context.now (fields_pat place (pat_fields_of (map pat_field_of fields.now)) is_open) state.new
         bound.old.items bound.new.items r) }
 {
-    if is_open {
-        return Err(Stopped::Foreign(place));
-    }
     let mut made = no_fields(alloc, state, context);
     for i in 0..fields.len() {
         let one = elab_pat(alloc, state, context, bound, &fields[i].pat)?;
         add_field(state, context, &fields[i].label, one, &mut made)?;
     }
-    Ok(record(alloc, state, context, place, made)?)
+    Ok(record_by(alloc, state, context, place, made, is_open)?)
 }
 
 /// The label of the part of a tuple behind so many others.

@@ -1,5 +1,5 @@
 // Fields of patterns.
-ghost use Rattle.std.specs.Prelude.{◌≡◌, ◌++◌, ◌∷◌, [], List, IfOk, false};
+ghost use Rattle.std.specs.Prelude.{◌≡◌, ◌++◌, ◌∷◌, [], List, IfOk, true, false};
 ghost use Rattle.std.specs.List.{AllByRecursion};
 ghost use Rattle.sml_tree.specs.BareTree.{Pat as SourcePat, fields_pat};
 ghost use Rattle.sml_tree.specs.TreeOf.{PatFieldOf, pat_fields_of};
@@ -12,7 +12,7 @@ use crate::bound::{BoundVariable, TypedPat};
 use crate::parts::Fields;
 use elab_context::context::Context;
 use elab_state::state::State;
-use elab_steps::rows::record_type;
+use elab_steps::rows::{open_record_type, record_type};
 use elab_steps::step::write;
 use elab_types::refused::Refused;
 use label_rows::sort::Field;
@@ -82,4 +82,47 @@ pub fn record(
         pat: Pat::Record(false, fields.pats),
         ty,
     })
+}
+
+/// A record pattern of these fields that ends in `...`.
+pub fn open_record(
+    alloc: Global,
+    state: &mut State,
+    context: &Context,
+    place: Place,
+    fields: Fields,
+) -> Result<TypedPat, Refused>
+    requires context { IsContext state.old context.now }
+    requires row { AllByRecursion (λ f. HasType state.old f.part) fields.row.items }
+    ensures { IfOk result (λ r. (S : State) (before after : List BoundVariable) (fs : List PatFieldOf) (place : Place)
+        → AreFields S context.now fs state.old before after fields
+        → IsPat S context.now (fields_pat place (pat_fields_of fs) true) state.new before after r) }
+{
+    let ty = open_record_type(alloc, state, place, &fields.row, context.limit())?;
+    Ok(TypedPat {
+        pat: Pat::Record(true, fields.pats),
+        ty,
+    })
+}
+
+/// A record pattern of these fields, and whether it ends in `...`.
+pub fn record_by(
+    alloc: Global,
+    state: &mut State,
+    context: &Context,
+    place: Place,
+    fields: Fields,
+    is_open: bool,
+) -> Result<TypedPat, Refused>
+    requires context { IsContext state.old context.now }
+    requires row { AllByRecursion (λ f. HasType state.old f.part) fields.row.items }
+    ensures { IfOk result (λ r. (S : State) (before after : List BoundVariable) (fs : List PatFieldOf) (place : Place)
+        → AreFields S context.now fs state.old before after fields
+        → IsPat S context.now (fields_pat place (pat_fields_of fs) is_open) state.new before after r) }
+{
+    if is_open {
+        open_record(alloc, state, context, place, fields)
+    } else {
+        record(alloc, state, context, place, fields)
+    }
 }

@@ -7,10 +7,11 @@ use elab_types::refused::Refused;
 use mlc_base::memory::NoMemory;
 use mlc_base::place::Place;
 
-/// A refusal, or the place of a phrase that isn't compiled yet.
+/// A refusal, that there is no principal typing, or the place of a phrase that isn't compiled yet.
 #[derive(Clone, Copy, PartialEq, Eq, Debug)]
 pub enum Stopped {
     Refuses(Refused),
+    NotPrincipal(Place),
     Foreign(Place),
 }
 

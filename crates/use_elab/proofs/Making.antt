@@ -51,7 +51,7 @@ entries-count : (ts : List Typ) (os : List Slot) → length (entries ts os) ≡ 
 entries-count ts [] = refl
 entries-count ts (o ∷ os) = ap suc (entries-count ts os)
 
-pub freshened_fresh : (S T : State) (mid : Subst) (mark : Mark) (limit : Limit) (v r : ℕ) → Freshened S T mid mark limit v r → Always T (λ W. IsFresh W limit mark r)
+pub freshened_fresh : (S T : State) (mid : Subst) (mark : Mark) (limit : Limit) (v r : ℕ) → Freshened S T mid (Open mark) limit v r → Always T (λ W. IsFresh W limit mark r)
 freshened_fresh S T mid mark limit v r h W c =
     let os = S.solver.subst.slots.items in
     let said : said_in T v ≡ free mark =
@@ -60,7 +60,7 @@ freshened_fresh S T mid mark limit v r h W c =
     let is : type_of W r ≡ W.value v = ap (sub W.value) (c.types r (slice_get_within (types_in T) r (var v) h.is) ∙ get_or_from_slice_get (types_in T) r (var v) (var 0) h.is) in
     record {
       allowed = subst (Allows mark W.admits) (sym is) (subst (Meets W.admits W.value (W.value v)) said (c.solves v));
-      within = freshened_within S T mid mark limit v r h W c;
+      within = freshened_within S T mid (Open mark) limit v r h W c;
     }
 
 -- and all of them

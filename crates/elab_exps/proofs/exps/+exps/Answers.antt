@@ -326,22 +326,29 @@ rules_from-elab_exp-requires t c = (
       (stands_on c.args.state.now c.loop-i.state c.args.context.now c.loop-i.context c.requires.context c.loop-i.invariant.grows c.loop-i.invariant.same) c.in_ok-begun.ensures.begun,
 )
 
+pub rules_from-counted-requires-clause-context : goal.rules_from-counted-requires-clause-context
+rules_from-counted-requires-clause-context t c =
+    (stands_on c.begin_rule.new.state c.elab_exp.new.state c.begin_rule.new.context c.elab_exp.new.context
+    (stands_begun c.loop-i.state c.begin_rule.new.state c.loop-i.context c.begin_rule.new.context _ c.loop-i.made.domain c.in_ok-begun.begun
+    (stands_on c.args.state.now c.loop-i.state c.args.context.now c.loop-i.context c.requires.context c.loop-i.invariant.grows c.loop-i.invariant.same) c.in_ok-begun.ensures.begun)
+    c.in_ok-exp.ensures.is.grows c.in_ok-exp.ensures.context).context
+
 pub rules_from-end_rule-requires-clause-range : goal.rules_from-end_rule-requires-clause-range
 rules_from-end_rule-requires-clause-range t c =
-    subst (HasType c.elab_exp.new.state) (sym c.loop-i.invariant.range)
-    (type_later c.args.state.now c.elab_exp.new.state c.args.made.now.range
-    (grows_on c.args.state.now c.loop-i.state c.elab_exp.new.state c.loop-i.invariant.grows
-    (grows_on c.loop-i.state c.begin_rule.new.state c.elab_exp.new.state
+    subst (HasType c.counted.new.state) (sym c.loop-i.invariant.range)
+    (type_later c.args.state.now c.counted.new.state c.args.made.now.range
+    (grows_on c.args.state.now c.loop-i.state c.counted.new.state c.loop-i.invariant.grows
+    (grows_on c.loop-i.state c.begin_rule.new.state c.counted.new.state
     (begun_grows c.loop-i.state c.begin_rule.new.state c.loop-i.context c.begin_rule.new.context _ c.loop-i.made.domain c.in_ok-begun.begun c.in_ok-begun.ensures.begun)
-    c.in_ok-exp.ensures.is.grows)) c.requires.range)
+    (c.in_ok-side.ensures c.begin_rule.new.state c.begin_rule.new.context _ (sym c.in_ok-exp.ensures.context) c.in_ok-exp.ensures.is).grows)) c.requires.range)
 
 pub rules_from-loop-i-preserved : goal.rules_from-loop-i-preserved
 rules_from-loop-i-preserved t c =
-    each_more rule_of c.args.state.now c.loop-i.state c.begin_rule.new.state c.elab_exp.new.state c.end_rule.new.state c.args.context.now c.loop-i.context c.begin_rule.new.context
+    each_more rule_of c.args.state.now c.loop-i.state c.begin_rule.new.state c.counted.new.state c.end_rule.new.state c.args.context.now c.loop-i.context c.begin_rule.new.context
     c.elab_exp.new.context c.end_rule.new.context c.args.rules.now c.loop-i.i c.index-rules-i.result (get_or c.args.rules.now c.loop-i.i c.index-rules-i.result).place _ _
-    c.in_ok-begun.begun c.in_ok-exp.exp c.args.made.now c.loop-i.made c.end_rule.new.made c.requires.context.context c.loop-i-test.true
+    c.in_ok-begun.begun c.in_ok-side.side c.args.made.now c.loop-i.made c.end_rule.new.made c.requires.context.context c.loop-i-test.true
     (rule-at c.args.rules.now c.loop-i.i c.index-rules-i.result c.index-rules-i-in-loop-i.result c.index-rules-i-in-loop-i-2.result _ c.loop-i-test.true refl) c.loop-i.invariant
-    c.in_ok-begun.ensures.begun c.in_ok-exp.ensures.context c.in_ok-exp.ensures.is c.in_ok-end_rule.ensures.grows c.in_ok-end_rule.ensures.domain c.in_ok-end_rule.ensures.range
+    c.in_ok-begun.ensures.begun c.in_ok-exp.ensures.context (c.in_ok-side.ensures c.begin_rule.new.state c.begin_rule.new.context _ (sym c.in_ok-exp.ensures.context) c.in_ok-exp.ensures.is) c.in_ok-end_rule.ensures.grows c.in_ok-end_rule.ensures.domain c.in_ok-end_rule.ensures.range
     c.in_ok-end_rule.ensures.left c.in_ok-end_rule.ensures.added
 
 pub rules_from-returns-clause-are : goal.rules_from-returns-clause-are
@@ -709,21 +716,30 @@ bindings_from-elab_exp-requires t c = (
   stands_on c.args.state.now c.loop-i.state c.args.context.now c.loop-i.context c.requires.context c.loop-i.invariant.are.grows c.loop-i.invariant.same,
 )
 
-pub bindings_from-add_binding-requires-clause-context : goal.bindings_from-add_binding-requires-clause-context
-bindings_from-add_binding-requires-clause-context t c =
+pub bindings_from-counted-requires-clause-context : goal.bindings_from-counted-requires-clause-context
+bindings_from-counted-requires-clause-context t c =
     context_on c.args.state.now c.elab_exp.new.state c.args.context.now c.elab_exp.new.context c.requires.context.context
     (grows_on c.args.state.now c.loop-i.state c.elab_exp.new.state c.loop-i.invariant.are.grows c.in_ok-exp.ensures.is.grows)
+    (c.in_ok-exp.ensures.context ∙ c.loop-i.invariant.same)
+
+pub bindings_from-add_binding-requires-clause-context : goal.bindings_from-add_binding-requires-clause-context
+bindings_from-add_binding-requires-clause-context t c =
+    context_on c.args.state.now c.counted.new.state c.args.context.now c.elab_exp.new.context c.requires.context.context
+    (grows_on c.args.state.now c.loop-i.state c.counted.new.state c.loop-i.invariant.are.grows (c.in_ok-side.ensures c.loop-i.state c.loop-i.context _ (sym c.in_ok-exp.ensures.context) c.in_ok-exp.ensures.is).grows)
     (c.in_ok-exp.ensures.context ∙ c.loop-i.invariant.same)
 
 pub bindings_from-add_binding-requires-clause-within : goal.bindings_from-add_binding-requires-clause-within
 bindings_from-add_binding-requires-clause-within t c =
     within_on c.args.context.now c.elab_exp.new.context c.args.begun c.args.scoped.now c.requires.within (c.in_ok-exp.ensures.context ∙ c.loop-i.invariant.same)
 
+pub bindings_from-add_binding-requires-clause-exp : goal.bindings_from-add_binding-requires-clause-exp
+bindings_from-add_binding-requires-clause-exp t c = (c.in_ok-side.ensures c.loop-i.state c.loop-i.context _ (sym c.in_ok-exp.ensures.context) c.in_ok-exp.ensures.is).is
+
 pub bindings_from-loop-i-preserved : goal.bindings_from-loop-i-preserved
 bindings_from-loop-i-preserved t c =
-    bound_more c.args.state.now c.loop-i.state c.elab_exp.new.state c.add_binding.new.state c.args.context.now c.loop-i.context c.elab_exp.new.context c.add_binding.new.context c.args.begun
-    c.args.binds.now c.loop-i.i c.index-binds-i-in-loop-i.result c.index-binds-i.result c.in_ok-exp.exp c.loop-i.inside c.add_binding.new.inside c.loop-i-test.true
-    c.index-binds-i-in-loop-i.is c.loop-i.invariant c.in_ok-exp.ensures.context c.in_ok-exp.ensures.is c.in_ok-add_binding.ensures.context c.in_ok-add_binding.ensures.added
+    bound_more c.args.state.now c.loop-i.state c.counted.new.state c.add_binding.new.state c.args.context.now c.loop-i.context c.elab_exp.new.context c.add_binding.new.context c.args.begun
+    c.args.binds.now c.loop-i.i c.index-binds-i-in-loop-i-3.result c.index-binds-i.result c.in_ok-side.side c.loop-i.inside c.add_binding.new.inside c.loop-i-test.true
+    c.index-binds-i-in-loop-i-3.is c.loop-i.invariant c.in_ok-exp.ensures.context (c.in_ok-side.ensures c.loop-i.state c.loop-i.context _ (sym c.in_ok-exp.ensures.context) c.in_ok-exp.ensures.is) c.in_ok-add_binding.ensures.context c.in_ok-add_binding.ensures.added
 
 pub bindings_from-returns-clause-context : goal.bindings_from-returns-clause-context
 bindings_from-returns-clause-context t c = c.loop-i.invariant.same
@@ -839,23 +855,30 @@ clauses_from-elab_exp-requires t c = (
       (stands_on c.args.state.now c.loop-i.state c.args.context.now c.loop-i.context c.requires.context c.loop-i.invariant.grows c.loop-i.invariant.same) c.in_ok-begun.ensures,
 )
 
+pub clauses_from-counted-requires-clause-context : goal.clauses_from-counted-requires-clause-context
+clauses_from-counted-requires-clause-context t c =
+    (stands_on c.begin_clause.new.state c.elab_exp.new.state c.begin_clause.new.context c.elab_exp.new.context
+    (stands_begun c.loop-i.state c.begin_clause.new.state c.loop-i.context c.begin_clause.new.context _ c.loop-i.made.domain c.in_ok-begun.begun
+    (stands_on c.args.state.now c.loop-i.state c.args.context.now c.loop-i.context c.requires.context c.loop-i.invariant.grows c.loop-i.invariant.same) c.in_ok-begun.ensures)
+    c.in_ok-exp.ensures.is.grows c.in_ok-exp.ensures.context).context
+
 pub clauses_from-end_rule-requires-clause-range : goal.clauses_from-end_rule-requires-clause-range
 clauses_from-end_rule-requires-clause-range t c =
-    subst (HasType c.elab_exp.new.state) (sym c.loop-i.invariant.range)
-    (type_later c.args.state.now c.elab_exp.new.state c.args.made.now.range
-    (grows_on c.args.state.now c.loop-i.state c.elab_exp.new.state c.loop-i.invariant.grows
-    (grows_on c.loop-i.state c.begin_clause.new.state c.elab_exp.new.state
+    subst (HasType c.counted.new.state) (sym c.loop-i.invariant.range)
+    (type_later c.args.state.now c.counted.new.state c.args.made.now.range
+    (grows_on c.args.state.now c.loop-i.state c.counted.new.state c.loop-i.invariant.grows
+    (grows_on c.loop-i.state c.begin_clause.new.state c.counted.new.state
     (begun_grows c.loop-i.state c.begin_clause.new.state c.loop-i.context c.begin_clause.new.context _ c.loop-i.made.domain c.in_ok-begun.begun c.in_ok-begun.ensures)
-    c.in_ok-exp.ensures.is.grows)) c.requires.range)
+    (c.in_ok-side.ensures c.begin_clause.new.state c.begin_clause.new.context _ (sym c.in_ok-exp.ensures.context) c.in_ok-exp.ensures.is).grows)) c.requires.range)
 
 pub clauses_from-loop-i-preserved : goal.clauses_from-loop-i-preserved
 clauses_from-loop-i-preserved t c =
-    each_more clause_rule c.args.state.now c.loop-i.state c.begin_clause.new.state c.elab_exp.new.state c.end_rule.new.state c.args.context.now c.loop-i.context c.begin_clause.new.context
+    each_more clause_rule c.args.state.now c.loop-i.state c.begin_clause.new.state c.counted.new.state c.end_rule.new.state c.args.context.now c.loop-i.context c.begin_clause.new.context
     c.elab_exp.new.context c.end_rule.new.context c.args.clauses.now c.loop-i.i c.index-clauses-i.result (get_or c.args.clauses.now c.loop-i.i c.index-clauses-i.result).place _ _
-    c.in_ok-begun.begun c.in_ok-exp.exp c.args.made.now c.loop-i.made c.end_rule.new.made c.requires.context.context c.loop-i-test.true
+    c.in_ok-begun.begun c.in_ok-side.side c.args.made.now c.loop-i.made c.end_rule.new.made c.requires.context.context c.loop-i-test.true
     (clause-at c.args.clauses.now c.loop-i.i c.index-clauses-i.result c.index-clauses-i-in-loop-i.result c.index-clauses-i-in-loop-i-2.result _ c.deref.result.now c.loop-i-test.true refl
     c.deref.ensures.value) c.loop-i.invariant
-    c.in_ok-begun.ensures c.in_ok-exp.ensures.context c.in_ok-exp.ensures.is c.in_ok-end_rule.ensures.grows c.in_ok-end_rule.ensures.domain c.in_ok-end_rule.ensures.range
+    c.in_ok-begun.ensures c.in_ok-exp.ensures.context (c.in_ok-side.ensures c.begin_clause.new.state c.begin_clause.new.context _ (sym c.in_ok-exp.ensures.context) c.in_ok-exp.ensures.is) c.in_ok-end_rule.ensures.grows c.in_ok-end_rule.ensures.domain c.in_ok-end_rule.ensures.range
     c.in_ok-end_rule.ensures.left c.in_ok-end_rule.ensures.added
 
 pub clauses_from-returns-clause-are : goal.clauses_from-returns-clause-are

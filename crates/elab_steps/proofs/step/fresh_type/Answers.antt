@@ -1,7 +1,8 @@
 use Rattle.std.proofs.Common.{length, refl, ◌∙◌}
+use Rattle.ty_solve.specs.declared.subst.Slot.TheVariants.{Open}
 use Rattle.ty_instance.proofs.Going.{longer}
 use Rattle.ty_instance.proofs.Putting.{on-ok}
-use Rattle.elab_steps.proofs.Changing.{freshened_grows, freshened_is, freshened_within, written_later, begins-of}
+use Rattle.elab_steps.proofs.Changing.{freshened_grows, freshened_is, freshened_within, new-limited, written_later, begins-of}
 use Rattle.elab_steps.proofs.step.fresh_type.Goals as goal
 
 pub invariant_of-state-2 : goal.invariant_of-state-2
@@ -17,7 +18,7 @@ invariant_of-state-2 c =
 
 pub returns-clause-grows : goal.returns-clause-grows
 returns-clause-grows c =
-    on-ok c.variable.result (λ r e. freshened_grows c.args.state.now _ c.fresh.new.self.subst c.args.mark c.args.limit c.in_ok-v.v r (record {
+    on-ok c.variable.result (λ r e. freshened_grows c.args.state.now _ c.fresh.new.self.subst (Open c.args.mark) c.args.limit c.in_ok-v.v r (record {
       stays = record { written = refl; namings = refl; tables = refl; next = refl; level = refl };
       mid_types = c.in_ok-v.ensures.types;
       mid_slots = c.in_ok-v.ensures.marked;
@@ -33,7 +34,7 @@ returns-clause-grows c =
 
 pub returns-clause-is : goal.returns-clause-is
 returns-clause-is c =
-    on-ok c.variable.result (λ r e. freshened_is c.args.state.now _ c.fresh.new.self.subst c.args.mark c.args.limit c.in_ok-v.v r (record {
+    on-ok c.variable.result (λ r e. freshened_is c.args.state.now _ c.fresh.new.self.subst (Open c.args.mark) c.args.limit c.in_ok-v.v r (record {
       stays = record { written = refl; namings = refl; tables = refl; next = refl; level = refl };
       mid_types = c.in_ok-v.ensures.types;
       mid_slots = c.in_ok-v.ensures.marked;
@@ -49,7 +50,7 @@ returns-clause-is c =
 
 pub returns-clause-within : goal.returns-clause-within
 returns-clause-within c =
-    on-ok c.variable.result (λ r e. freshened_within c.args.state.now _ c.fresh.new.self.subst c.args.mark c.args.limit c.in_ok-v.v r (record {
+    on-ok c.variable.result (λ r e. freshened_within c.args.state.now _ c.fresh.new.self.subst (Open c.args.mark) c.args.limit c.in_ok-v.v r (record {
       stays = record { written = refl; namings = refl; tables = refl; next = refl; level = refl };
       mid_types = c.in_ok-v.ensures.types;
       mid_slots = c.in_ok-v.ensures.marked;
@@ -62,3 +63,9 @@ returns-clause-within c =
       deep = c.requires.deep;
       inside = c.requires.inside;
     })) c.variable.ensures.held
+
+pub returns-clause-limited : goal.returns-clause-limited
+returns-clause-limited c =
+    let s = c.args.state.now.solver in
+    on-ok c.variable.result (λ r e. new-limited s.limits.items c.variable.new.self.limits.items c.variable.new.self.subst.types c.args.limit (length s.subst.slots.items) c.in_ok-v.v r
+    (c.variable.ensures.limits ∙ c.in_ok-v.ensures.limited) s.each_has_one c.in_ok-v.ensures.next e) c.variable.ensures.held

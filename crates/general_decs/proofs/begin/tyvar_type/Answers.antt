@@ -1,4 +1,5 @@
 use Rattle.std.proofs.Common.{length, refl, ◌∙◌}
+use Rattle.ty_solve.specs.declared.subst.Slot.TheVariants.{Open}
 use Rattle.general_decs.proofs.Leading.{longer}
 use Rattle.elab_steps.proofs.Changing.{if-ok, freshened_grows, freshened_is, written_later, begins-of}
 use Rattle.general_decs.proofs.begin.tyvar_type.Goals as goal
@@ -16,7 +17,7 @@ invariant_of-state-2 c =
 
 pub returns-clause-grows : goal.returns-clause-grows
 returns-clause-grows c =
-    if-ok c.variable.result (λ r e. freshened_grows c.args.state.now _ c.fresh.new.self.subst c.mark_of-mark.result c.args.limit c.in_ok-v.v r (record {
+    if-ok c.variable.result (λ r e. freshened_grows c.args.state.now _ c.fresh.new.self.subst (Open c.mark_of-mark.result) c.args.limit c.in_ok-v.v r (record {
       stays = record { written = refl; namings = refl; tables = refl; next = refl; level = refl };
       mid_types = c.in_ok-v.ensures.types;
       mid_slots = c.in_ok-v.ensures.marked;
@@ -32,7 +33,7 @@ returns-clause-grows c =
 
 pub returns-clause-is : goal.returns-clause-is
 returns-clause-is c =
-    if-ok c.variable.result (λ r e. freshened_is c.args.state.now _ c.fresh.new.self.subst c.mark_of-mark.result c.args.limit c.in_ok-v.v r (record {
+    if-ok c.variable.result (λ r e. freshened_is c.args.state.now _ c.fresh.new.self.subst (Open c.mark_of-mark.result) c.args.limit c.in_ok-v.v r (record {
       stays = record { written = refl; namings = refl; tables = refl; next = refl; level = refl };
       mid_types = c.in_ok-v.ensures.types;
       mid_slots = c.in_ok-v.ensures.marked;

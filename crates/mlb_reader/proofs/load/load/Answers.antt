@@ -198,3 +198,6 @@ returns-clause-project g c =
     let i = c.loop-item.item-index in
     let all : length items ≤ i = omega (arith, c.loop-item-test.false, length-map xs item_of) in
     project mlb items first reads input same files begun_ start (loaded_of c.loop-item.names c.loop-item.loading c.loop-item.files) i all c.loop-item.invariant.loaded
+
+pub returns-clause-count : goal.returns-clause-count
+returns-clause-count g c = c.loop-item.invariant.count.reads_are

@@ -1,18 +1,34 @@
-use Rattle.std.proofs.Common.{◌≡◌, sym, subst}
-use Rattle.mlc_driver.specs.CheckedOf.{checked_of}
-use Rattle.mlc_driver.specs.Code.{AllFit, image_of}
-use Rattle.mlc_driver.specs.Same.{Same}
-use Rattle.mlc_driver.proofs.Drives.{size-refused, checked-same, small-tape}
+use Rattle.std.proofs.Common.{◌≡◌, ◌<◌, refl, sym, subst, arith}
+use Rattle.mlc_faults.specs.declared.refused.Refused.{Refused}
+use Rattle.mlc_driver.specs.Checked.{Outgrows, too_large, too_long}
+use Rattle.mlc_driver.specs.Fault.{OnFault}
+use Rattle.mlc_driver.proofs.Running.{same_as}
 use Rattle.mlc_driver.proofs.driver.compile.Goals as goal
 
-pub returns-then-checked-gt-MAX_NODES-clause-refused : goal.returns-then-checked-gt-MAX_NODES-clause-refused
-returns-then-checked-gt-MAX_NODES-clause-refused c = size-refused (checked_of c.args.checked) c.requires.checked c.if-checked-gt-MAX_NODES.true
+pub compile-requires : goal.compile-requires
+compile-requires c =
+    let held = c.if-not-is_named.ensures refl in
+    record { named = λ k d lt. (let a = held k d lt in let b = c.requires.known in omega (arith, a, b)) }
 
-pub returns-clause-same : goal.returns-clause-same
-returns-clause-same c =
-    let p = checked_of c.args.checked in
-    let fit : AllFit p.tape = rw (← c.deref.ensures.value) c.in_ok-emit.ensures.fit in
-    let image : c.in_ok-emit.field-0 ≡ image_of p.tape = rw (← c.deref.ensures.value) c.in_ok-emit.ensures.image in
-    subst (Same c.args.names.now p.parts) (sym image)
-    (checked-same c.never_wrong.ensures c.meaning_grows.ensures c.image_is_right.ensures c.args.names.now p c.requires.table c.requires.checked fit
-    (small-tape c.image_is_small.ensures p c.requires.checked c.if-checked-gt-MAX_NODES.false))
+pub returns-in-Ok-clause-same : goal.returns-in-Ok-clause-same
+returns-in-Ok-clause-same c = same_as c.args.names.now c.args.checked.program c.in-Ok.image c.requires.well_typed c.in-Ok.ensures.short (c.in-Ok.ensures.runs c.requires.well_typed)
+
+pub returns-in-Err-TooLarge-clause-refused : goal.returns-in-Err-TooLarge-clause-refused
+returns-in-Err-TooLarge-clause-refused c =
+    subst (λ (r : Refused). OnFault r (λ f. Outgrows c.args.names.now c.args.checked.program f)) (sym c.outgrown.ensures) (too_large (c.in-Err-TooLarge.ensures.expansion c.in-Err-TooLarge.field-0-is))
+
+pub returns-in-Err-TooLarge-clause-place : goal.returns-in-Err-TooLarge-clause-place
+returns-in-Err-TooLarge-clause-place c = subst (λ (r : Refused). OnFault r (λ f. f.place ≡ record { file = 0; byte = 0 })) (sym c.outgrown.ensures) refl
+
+pub returns-in-Err-TooLarge-clause-unnamed : goal.returns-in-Err-TooLarge-clause-unnamed
+returns-in-Err-TooLarge-clause-unnamed c = subst (λ (r : Refused). OnFault r (λ f. f.name ≡ Rattle.std.proofs.Common.None)) (sym c.outgrown.ensures) refl
+
+pub returns-in-Err-TooLong-clause-refused : goal.returns-in-Err-TooLong-clause-refused
+returns-in-Err-TooLong-clause-refused c =
+    subst (λ (r : Refused). OnFault r (λ f. Outgrows c.args.names.now c.args.checked.program f)) (sym c.outgrown-in-Err-TooLong.ensures) (too_long (c.in-Err-TooLong.ensures.too_long c.in-Err-TooLong.field-0-is))
+
+pub returns-in-Err-TooLong-clause-place : goal.returns-in-Err-TooLong-clause-place
+returns-in-Err-TooLong-clause-place c = subst (λ (r : Refused). OnFault r (λ f. f.place ≡ record { file = 0; byte = 0 })) (sym c.outgrown-in-Err-TooLong.ensures) refl
+
+pub returns-in-Err-TooLong-clause-unnamed : goal.returns-in-Err-TooLong-clause-unnamed
+returns-in-Err-TooLong-clause-unnamed c = subst (λ (r : Refused). OnFault r (λ f. f.name ≡ Rattle.std.proofs.Common.None)) (sym c.outgrown-in-Err-TooLong.ensures) refl

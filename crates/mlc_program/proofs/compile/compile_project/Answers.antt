@@ -1,8 +1,7 @@
-use Rattle.std.proofs.Common.{ap, subst, sym}
+use Rattle.std.proofs.Common.{subst, sym}
 use Rattle.mlc_faults.specs.Files.{LiesIn}
-use Rattle.mlc_driver.specs.CheckedOf.{checked_of}
 use Rattle.mlc_program.specs.CommandOf.{command_of}
-use Rattle.mlc_program.proofs.Compiling.{first-byte, refused-project}
+use Rattle.mlc_program.proofs.Compiling.{compiled-project, refused-project}
 use Rattle.mlc_program.proofs.compile.compile_project.Goals as goal
 
 pub returns-in-NoFile-clause-exit : goal.returns-in-NoFile-clause-exit
@@ -14,8 +13,8 @@ returns-in-ReadFault-clause-exit g c =
 
 pub refusal_line-requires-in-Fault-refused-clause-place : goal.refusal_line-requires-in-Fault-refused-clause-place
 refusal_line-requires-in-Fault-refused-clause-place g c =
-    let is = rw c.in-Fault-refused.is at c.in-Err-compile.ensures.fault_is in
-    subst (λ p. LiesIn p c.check_project.new.files) (sym (ap (λ f. f.place) is)) (first-byte c.check_project.new.files c.in-Ok.ensures.some)
+    let is = rw c.in-Fault-refused.is at c.in-Err-compile.ensures.place in
+    subst (λ p. LiesIn p c.check_project.new.files) (sym is) c.in-Ok.ensures.some
 
 pub returns-in-Fault-refused-clause-exit : goal.returns-in-Fault-refused-clause-exit
 returns-in-Fault-refused-clause-exit g c =
@@ -23,15 +22,4 @@ returns-in-Fault-refused-clause-exit g c =
     (c.in-Ok.ensures.files_same, refused-project _ (command_of c.args.command.now) _ _ _ _ _ c.in-Ok.ensures.project refused c.in_ok-line-in-Fault-refused.ensures)
 
 pub returns-clause-compiled : goal.returns-clause-compiled
-returns-clause-compiled g c =
-    let compiled = c.in-Ok-compile.ensures in
-    record {
-      names = c.check_project.new.names;
-      parts = (checked_of c.in-Ok.checked).parts;
-      reads = c.check_project.new.files;
-      is_project = c.in-Ok.ensures.project;
-      accepted = compiled.accepted;
-      is_program = compiled.program;
-      same = compiled.same;
-      small = compiled.size;
-    }
+returns-clause-compiled g c = compiled-project _ (command_of c.args.command.now) _ _ _ _ c.in-Ok.ensures.project c.in-Ok-compile.ensures.same

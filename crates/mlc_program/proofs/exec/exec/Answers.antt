@@ -9,4 +9,4 @@ run-requires-clause-goes g c =
     runs.never_stuck c.args.command.now.steps
 
 pub returns-in-Ok : goal.returns-in-Ok
-returns-in-Ok g c = run-exit _ _ _ _ (command_of c.args.command.now) c.in-Ok.image c.in-Ok.ensures.compiled c.in-Ok.ensures.written c.run.result c.run.ensures
+returns-in-Ok g c = run-exit _ _ _ _ (command_of c.args.command.now) c.in-Ok.image c.in-Ok.ensures.program c.in-Ok.ensures.compiled c.in-Ok.ensures.written c.run.result c.run.ensures

@@ -147,13 +147,13 @@ record_of-loop-i-preserved t c =
     (c.in_ok-add_field.ensures c.args.state.now c.loop-i.state c.args.bound.now.items c.loop-i.bound.items c.elab_pat.new.bound.items (map pat_field_of (take c.loop-i.i c.args.fields.now))
     (pat_of (get_or c.args.fields.now c.loop-i.i c.index-fields-i.result).pat) c.loop-i.invariant c.in_ok-one.ensures)
 
-pub record_of-record-requires-clause-context : goal.record_of-record-requires-clause-context
-record_of-record-requires-clause-context t c = context_later c.args.state.now c.loop-i.state c.args.context.now c.loop-i.invariant.grows c.requires
+pub record_of-record_by-requires-clause-context : goal.record_of-record_by-requires-clause-context
+record_of-record_by-requires-clause-context t c = context_later c.args.state.now c.loop-i.state c.args.context.now c.loop-i.invariant.grows c.requires
 
 pub record_of-returns : goal.record_of-returns
 record_of-returns t c = record {
-  is = fields_end c.args.state.now c.loop-i.state c.record.new.state c.args.context.now c.args.place c.args.fields.now c.loop-i.i c.args.is_open c.args.bound.now.items c.loop-i.bound.items c.loop-i.made _ (omega arith)
-      c.if-is_open.false c.in_ok-record.ensures c.loop-i.invariant;
+  is = fields_end c.args.state.now c.loop-i.state c.record_by.new.state c.args.context.now c.args.place c.args.fields.now c.loop-i.i c.args.is_open c.args.bound.now.items c.loop-i.bound.items c.loop-i.made _ (omega arith)
+      c.in_ok-record_by.ensures c.loop-i.invariant;
 }
 
 pub right_of-loop-i-init : goal.right_of-loop-i-init

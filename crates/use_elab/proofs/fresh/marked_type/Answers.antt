@@ -1,4 +1,5 @@
 use Rattle.std.proofs.Common.{length, refl, ◌∙◌}
+use Rattle.ty_solve.specs.declared.subst.Slot.TheVariants.{Open}
 use Rattle.ty_instance.proofs.Going.{longer}
 use Rattle.ty_instance.proofs.Putting.{on-ok}
 use Rattle.elab_steps.proofs.Changing.{freshened_grows, freshened_is, written_later, begins-of}
@@ -18,7 +19,7 @@ invariant_of-state-2 c =
 
 pub returns-clause-grows : goal.returns-clause-grows
 returns-clause-grows c =
-    on-ok c.variable.result (λ r e. freshened_grows c.args.state.now _ c.fresh.new.self.subst c.args.mark c.args.limit c.in_ok-v.v r (record {
+    on-ok c.variable.result (λ r e. freshened_grows c.args.state.now _ c.fresh.new.self.subst (Open c.args.mark) c.args.limit c.in_ok-v.v r (record {
       stays = record { written = refl; namings = refl; tables = refl; next = refl; level = refl };
       mid_types = c.in_ok-v.ensures.types;
       mid_slots = c.in_ok-v.ensures.marked;
@@ -34,7 +35,7 @@ returns-clause-grows c =
 
 pub returns-clause-is : goal.returns-clause-is
 returns-clause-is c =
-    on-ok c.variable.result (λ r e. freshened_is c.args.state.now _ c.fresh.new.self.subst c.args.mark c.args.limit c.in_ok-v.v r (record {
+    on-ok c.variable.result (λ r e. freshened_is c.args.state.now _ c.fresh.new.self.subst (Open c.args.mark) c.args.limit c.in_ok-v.v r (record {
       stays = record { written = refl; namings = refl; tables = refl; next = refl; level = refl };
       mid_types = c.in_ok-v.ensures.types;
       mid_slots = c.in_ok-v.ensures.marked;

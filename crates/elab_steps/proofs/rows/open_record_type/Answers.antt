@@ -1,0 +1,43 @@
+use Rattle.std.proofs.Common.{false, map, sym, ap, subst, ◌∙◌}
+use Rattle.std.specs.List.{AllByRecursion}
+use Rattle.label_rows.specs.declared.sort.Field.{Field}
+use Rattle.ty_solve.specs.Rows.{Extends}
+use Rattle.ir_poly.specs.Types.{ascend}
+use Rattle.elab_steps.specs.Growing.{HasType, types_of}
+use Rattle.elab_steps.specs.Rows.{AreBounded}
+use Rattle.elab_steps.specs.World.{type_of}
+use Rattle.elab_steps.proofs.Bounding.{row-fits}
+use Rattle.elab_steps.proofs.Changing.{parts_held}
+use Rattle.elab_steps.proofs.Growing.{comes_before, grows_on}
+use Rattle.elab_steps.proofs.Opening.{opened}
+use Rattle.elab_steps.proofs.Sorting.{sorted-all}
+use Rattle.elab_steps.proofs.rows.open_record_type.Goals as goal
+
+pub bounded_parts-requires-clause-parts : goal.bounded_parts-requires-clause-parts
+bounded_parts-requires-clause-parts c =
+    let S = c.args.state.now in
+    subst (AllByRecursion (λ (f : Field). HasType S f.part)) (sym (c.deref-3.ensures.value ∙ c.in_ok-fields.ensures)) (sorted-all (λ f. HasType S f.part) c.args.fields.now c.requires.parts)
+
+pub fresh_row-requires-clause-held : goal.fresh_row-requires-clause-held
+fresh_row-requires-clause-held c = parts_held c.bounded_parts.new.state c.in_ok-types.types.items c.in_ok-types.ensures.are
+
+pub fresh_row-requires-clause-fit : goal.fresh_row-requires-clause-fit
+fresh_row-requires-clause-fit c =
+    row-fits c.args.state.now c.bounded_parts.new.state c.args.limit c.in_ok-fields.fields.items (record { equality = false; labels = c.in_ok-labels.labels; types = c.in_ok-types.types })
+    (subst (λ l. AreBounded c.args.state.now c.args.limit l c.bounded_parts.new.state c.in_ok-types.types.items) c.deref-3.ensures.value c.in_ok-types.ensures)
+    (c.in_ok-labels.ensures ∙ ap (map (λ (f : Field). f.label)) c.deref-2.ensures.value)
+    (ap (λ l. ascend (map (λ (f : Field). f.label) l)) (sym c.deref.ensures.value) ∙ sym c.are_ascending.ensures ∙ c.if-not-are_ascending.false)
+
+pub returns-clause-grows : goal.returns-clause-grows
+returns-clause-grows c = grows_on c.args.state.now c.bounded_parts.new.state c.fresh_row.new.state c.in_ok-types.ensures.grows c.in_ok-fresh_row.ensures.grows
+
+pub returns-clause-has : goal.returns-clause-has
+returns-clause-has c W w =
+    let ys = c.in_ok-fields.fields.items in
+    let t = type_of W c.in_ok-fresh_row.field-0 in
+    let us = types_of W c.in_ok-types.types.items in
+    let same = subst (λ l. AreBounded c.args.state.now c.args.limit l c.bounded_parts.new.state c.in_ok-types.types.items) c.deref-3.ensures.value c.in_ok-types.ensures in
+    opened W W.admits false c.args.fields.now ys us t c.in_ok-fields.ensures
+    (ap (λ l. ascend (map (λ (f : Field). f.label) l)) (sym c.deref.ensures.value) ∙ sym c.are_ascending.ensures ∙ c.if-not-are_ascending.false)
+    (same.same W (comes_before c.bounded_parts.new.state c.fresh_row.new.state W c.in_ok-fresh_row.ensures.grows w)) (c.in_ok-fresh_row.ensures.ordered W w)
+    (subst (λ ls. Extends W.admits false ls us t) (c.in_ok-labels.ensures ∙ ap (map (λ (f : Field). f.label)) c.deref-2.ensures.value) (c.in_ok-fresh_row.ensures.extends W w))

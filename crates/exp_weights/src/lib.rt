@@ -1,0 +1,6 @@
+// How many nodes of the source an expression stands for, written into the program.
+#![tactic(auto)]
+
+pub mod counted;
+pub mod exps;
+pub mod pats;

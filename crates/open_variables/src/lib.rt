@@ -1,0 +1,4 @@
+// Variables of types that stand for nothing yet.
+#![tactic(auto)]
+
+pub mod done;

@@ -1,0 +1,23 @@
+-- What is left open at the end of a source, and what becomes of it.
+use Rattle.std.specs.Prelude.{◌≡◌, ◌↔◌, Bool, List, [], IsTrue}
+use Rattle.sml_tree.specs.BareTree as bare
+use Rattle.elab_state.specs.States.{made}
+use Rattle.elab_state.specs.declared.state.State.{State}
+use Rattle.elab_steps.specs.Growing.{Grows}
+use Rattle.dec_forms.specs.declared.brought.Brought.{Brought}
+use Rattle.elab_exps.specs.Decs.{AreDeclared}
+use Rattle.run_end.specs.Chosen.{AreChosen}
+use Rattle.run_end.specs.Settled.{IsSettled}
+use Rattle.project_elab.specs.declared.project.Elaborating.{Elaborating}
+
+-- The declarations of a source were elaborated, the variables that they made got the defaults of their classes, and the flag says whether all that they brought
+-- into scope is settled then.
+pub record IsClosed (e : Elaborating) (ds : List bare.Dec) (f : Elaborating) (settled : Bool) : Type 0 where
+  pub between : State
+  pub nothing : Brought
+  pub brought : Brought
+  pub empty : nothing.values.items ≡ []
+  pub declared : AreDeclared e.state e.context ds between f.context e.body.items f.body.items nothing brought
+  pub grows : Grows between f.state
+  pub chosen : AreChosen between f.state (made e.state)
+  pub answer : IsTrue settled ↔ IsSettled f.state brought

@@ -1,0 +1,3 @@
+pub mod Closed
+pub mod Elaborated
+pub mod Standard

@@ -1,0 +1,16 @@
+mod Standing
+mod Levels
+mod Noting
+mod ByKeys
+mod TyNodes
+mod ExpNodes
+mod DecNodes
+mod Walking
+mod Functions
+mod Types
+mod Put
+mod Abbreviated
+mod Lists
+mod Marks
+mod Firsts
+mod Declared

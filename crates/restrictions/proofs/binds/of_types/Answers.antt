@@ -1,0 +1,14 @@
+use Rattle.std.proofs.Common.{ap, ◌++◌}
+use Rattle.std.specs.Prelude.{flat_map}
+use Rattle.core_rules.specs.Restrictions.{unless}
+use Rattle.restrictions.specs.Nodes.{type_bind_places}
+use Rattle.restrictions.proofs.Standing.{adds-both, if-ok, stand-are}
+use Rattle.restrictions.proofs.binds.of_types.Goals as goal
+
+pub returns : goal.returns
+returns c =
+    if-ok c.find_unless.result
+    (λ u k.
+    adds-both c.args.found.now.items _ _ _ _ _ c.in_ok-of_type_binds.ensures k
+    (stand-are _ _ (ap (λ z. flat_map type_bind_places c.args.binds.now ++ unless z c.args.place) c.in_ok-once.ensures)))
+    c.find_unless.ensures

@@ -1,0 +1,3 @@
+pub mod Chosen
+pub mod Settled
+pub mod Laws
