@@ -4,25 +4,28 @@ use Rattle.std.proofs.lemmas.List.{map-append}
 use Rattle.sml_tree.specs.BareTree.{Decs}
 use Rattle.sml_rules.specs.Project.{Part, source}
 use Rattle.core_rules.specs.Project as core
+use Rattle.core_rules.specs.Restrictions.{broken_in}
+use Rattle.mlb_reader.proofs.WithinChains.{each-append}
 use Rattle.project_elab.specs.Elaborated.{HasElaborated}
 use Rattle.project_elab.specs.declared.project.Elaborating.{Elaborating}
-use Rattle.mlc_driver.specs.Parts.{part_of_core, HasParts}
+use Rattle.mlc_driver.specs.Parts.{part_of_core, IsLawful, HasParts}
 
 -- a source is joined
-source_joins : (prelude : Decs) (parts : List Part) (ds : Decs) (e e' : Elaborating)
+source_joins : (prelude : Decs) (parts : List Part) (ds : Decs) (e e' : Elaborating) → broken_in ds ≡ []
     → ((prelude : Decs) (parts : List core.Part) → HasElaborated prelude parts e → HasElaborated prelude (parts ++ core.source ds ∷ []) e')
     → HasParts prelude parts e → HasParts prelude (parts ++ source ds ∷ []) e'
-source_joins prelude parts ds e e' joins h = record {
+source_joins prelude parts ds e e' lawful joins h = record {
   core = h.core ++ core.source ds ∷ [];
   parts_are = ap (λ l. l ++ source ds ∷ []) h.parts_are ∙ sym (map-append part_of_core h.core (core.source ds ∷ []));
+  lawful = each-append IsLawful h.core (core.source ds ∷ []) h.lawful (lawful, tt);
   elaborated = joins prelude h.core h.elaborated;
 }
 
-pub joins_if : {T E : Type 0} (r : Result T E) (part : Part) (ds : Decs) (e e' : Elaborating) → part ≡ source ds
+pub joins_if : {T E : Type 0} (r : Result T E) (part : Part) (ds : Decs) (e e' : Elaborating) → part ≡ source ds → IfOk r (λ _. broken_in ds ≡ [])
     → IfOk r (λ _. (prelude : Decs) (parts : List core.Part) → HasElaborated prelude parts e → HasElaborated prelude (parts ++ core.source ds ∷ []) e')
     → IfOk r (λ _. (prelude : Decs) (parts : List Part) → HasParts prelude parts e → HasParts prelude (parts ++ part ∷ []) e')
-joins_if (Ok x) part ds e e' is h = λ prelude parts p. subst (λ q. HasParts prelude (parts ++ q ∷ []) e') (sym is) (source_joins prelude parts ds e e' h p)
-joins_if (Err x) part ds e e' is h = tt
+joins_if (Ok x) part ds e e' is lawful h = λ prelude parts p. subst (λ q. HasParts prelude (parts ++ q ∷ []) e') (sym is) (source_joins prelude parts ds e e' lawful h p)
+joins_if (Err x) part ds e e' is lawful h = tt
 
 -- an Err says nothing of Ok
 pub no-ok : {T E : Type 0} (P : E → Type 0) (Q : T → Type 0) (r : Result T E) → IsErrAnd r P → IfOk r Q

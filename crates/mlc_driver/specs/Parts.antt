@@ -1,8 +1,10 @@
 -- The parts of a project, as those of the rules of the core.
-use Rattle.std.specs.Prelude.{◌≡◌, List, map}
+use Rattle.std.specs.Prelude.{◌≡◌, [], List, map, ⊤}
+use Rattle.std.specs.List.{AllByRecursion}
 use Rattle.sml_tree.specs.BareTree.{Decs}
 use Rattle.sml_rules.specs.Project.{Part, standard_basis, source}
 use Rattle.core_rules.specs.Project as core
+use Rattle.core_rules.specs.Restrictions.{broken_in}
 use Rattle.ir_poly.specs.WellFormed.{table_of}
 use Rattle.ir_prog.specs.Programs.{body_in, prog_of}
 use Rattle.ir_prog.specs.declared.program.Program.{Program}
@@ -15,6 +17,11 @@ abbrev pub part_of_core : core.Part → Part
 part_of_core core.standard_basis = standard_basis
 part_of_core (core.source decs) = source decs
 
+-- no phrase of a source breaks a syntactic restriction
+abbrev pub IsLawful : core.Part → Type 0
+IsLawful core.standard_basis = ⊤
+IsLawful (core.source decs) = broken_in decs ≡ []
+
 -- the program is that of these parts, over the prelude: they are of the core, have a typing, and it does what they do
 abbrev pub IsProgramOver : Decs → List core.Part → Program → Type 0
 IsProgramOver prelude parts p = IsProgramOfProject (table_of (prog_of p)) prelude parts (body_in p)
@@ -22,10 +29,12 @@ IsProgramOver prelude parts p = IsProgramOfProject (table_of (prog_of p)) prelud
 pub record IsProgramOfParts (prelude : Decs) (parts : List Part) (p : Program) : Type 0 where
   pub core : List core.Part
   pub parts_are : parts ≡ map part_of_core core
+  pub lawful : AllByRecursion IsLawful core
   pub program : IsProgramOver prelude core p
 
 -- these parts were elaborated
 pub record HasParts (prelude : Decs) (parts : List Part) (e : Elaborating) : Type 0 where
   pub core : List core.Part
   pub parts_are : parts ≡ map part_of_core core
+  pub lawful : AllByRecursion IsLawful core
   pub elaborated : HasElaborated prelude core e

@@ -5,6 +5,7 @@ ghost use Rattle.sml_tree.specs.BareTree.{Decs};
 ghost use Rattle.sml_tree.specs.TreeOf.{dec_of, decs_of};
 ghost use Rattle.sml_rules.specs.Project.{Part as Told};
 ghost use Rattle.core_rules.specs.Project.{Part as CorePart, source as core_source};
+ghost use Rattle.core_rules.specs.Restrictions.{broken_in};
 ghost use Rattle.mlb_reader.specs.PartOf.{part_of};
 ghost use Rattle.mlb_reader.specs.declared.project.Part.{Part as Read};
 ghost use Rattle.mlb_reader.specs.declared.project.Part.TheVariants as read;
@@ -18,6 +19,7 @@ use mlb_reader::project::Part;
 use mlc_base::place::Place;
 use pat_elab::stopped::Stopped;
 use project_elab::project::{Elaborating, begin};
+use restrictions::first::first_broken;
 use sml_tree::tree::Dec;
 use std::alloc::Global;
 
@@ -87,21 +89,58 @@ fn at_declaration(declarations: &[Dec], stopped: Stopped) -> Stopped {
     }
 }
 
-/// One source more, and what it leaves open is closed: what isn't settled then has no principal typing.
-fn elaborate_source(
+/// Declarations more, and whether all that they bring is settled once what they leave open is closed.
+fn elaborate_declarations(
     alloc: Global,
     elaborating: &mut Elaborating,
     declarations: &[Dec],
-) -> Result<(), Stopped>
+) -> Result<bool, Stopped>
     requires { StandsIn elaborating.old.state elaborating.old.context }
     ensures { IfOk result (λ _. (prelude : Decs) (parts : List CorePart) → HasElaborated prelude parts elaborating.old
         → HasElaborated prelude (parts ++ core_source (decs_of (map dec_of declarations.now)) ∷ []) elaborating.new) }
 {
     let place = first_place(declarations, Place { file: 1, byte: 0 });
     match elaborating.source(alloc, place, declarations) {
-        Ok(true) => Ok(()),
-        Ok(false) => Err(Stopped::NotPrincipal(place)),
+        Ok(settled) => Ok(settled),
         Err(stopped) => Err(at_declaration(declarations, stopped)),
+    }
+}
+
+/// How many declarations stand before the one that holds a place.
+fn count_before(declarations: &[Dec], place: Place) -> usize {
+    let mut count = 0;
+    for i in 0..declarations.len() {
+        if declaration_place(&declarations[i]).byte <= place.byte {
+            count = i;
+        }
+    }
+    count
+}
+
+/// One source more: what isn't settled at its end has no principal typing. A restriction that a declaration breaks is told where those before it elaborate.
+fn elaborate_source(
+    alloc: Global,
+    elaborating: &mut Elaborating,
+    declarations: &[Dec],
+) -> Result<(), Stopped>
+    requires { StandsIn elaborating.old.state elaborating.old.context }
+    ensures lawful { IfOk result (λ _. broken_in (decs_of (map dec_of declarations.now)) ≡ []) }
+    ensures elaborated { IfOk result (λ _. (prelude : Decs) (parts : List CorePart) → HasElaborated prelude parts elaborating.old
+        → HasElaborated prelude (parts ++ core_source (decs_of (map dec_of declarations.now)) ∷ []) elaborating.new) }
+{
+    match first_broken(alloc, declarations)? {
+        None => {
+            if elaborate_declarations(alloc, elaborating, declarations)? {
+                Ok(())
+            } else {
+                Err(Stopped::NotPrincipal(first_place(declarations, Place { file: 1, byte: 0 })))
+            }
+        }
+        Some(place) => {
+            let count = count_before(declarations, place);
+            elaborate_declarations(alloc, elaborating, &declarations[..count])?;
+            Err(Stopped::Refuses(Cause::Broken(place)))
+        }
     }
 }
 

@@ -4,7 +4,7 @@ use Rattle.mlc_driver.proofs.elaborate.elaborate.Goals as goal
 pub returns-clause-program : goal.returns-clause-program
 returns-clause-program c =
     let h = c.in_ok-elaborating.ensures in
-    record { core = h.core; parts_are = h.parts_are; program = c.in_ok-program.ensures.program _ h.core h.elaborated }
+    record { core = h.core; parts_are = h.parts_are; lawful = h.lawful; program = c.in_ok-program.ensures.program _ h.core h.elaborated }
 
 pub returns-clause-well_typed : goal.returns-clause-well_typed
 returns-clause-well_typed c =
