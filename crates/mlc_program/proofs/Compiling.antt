@@ -40,6 +40,7 @@ compiled-project files c names reads p image is same =
       reads = reads;
       is_project = subst (λ parts. IfTold files (λ f. ProjectOf f c.input is.before parts reads)) of.parts_are is.is_project;
       is_prelude = is.checked.is_prelude;
+      lawful = of.lawful;
       context = of.program.context;
       typed = of.program.typed;
       same = same is.checked.prelude of.core of.program;

@@ -1,5 +1,6 @@
 -- The statuses of the program: what each says of the files, of what was written, and of the line on err.
 use Rattle.std.specs.Prelude.{◌≡◌, ℕ, ◌⊎◌, List, [], ◌++◌, length, map, Option, Some, codes}
+use Rattle.std.specs.List.{AllByRecursion}
 use Rattle.mlc_faults.specs.File.{File}
 use Rattle.mlc_faults.specs.FaultLine.{fault_text}
 use Rattle.mlc_faults.specs.declared.fault.Fault.{Fault}
@@ -21,7 +22,7 @@ use Rattle.mlb_reader.specs.Broken.{IsBroken, IsMissing}
 use Rattle.mlb_reader.specs.Project.{ProjectOf, IsNeeded}
 use Rattle.mlb_reader.specs.Refusals.{IfTold}
 use Rattle.mlc_driver.specs.Checked.{Breaks}
-use Rattle.mlc_driver.specs.Parts.{part_of_core}
+use Rattle.mlc_driver.specs.Parts.{part_of_core, IsLawful}
 use Rattle.mlc_driver.specs.Preludes.{IsPrelude}
 use Rattle.mlc_driver.specs.Same.{Same}
 use Rattle.mlc_program.specs.Command.{Command, IsCommand}
@@ -34,8 +35,8 @@ NoCommand words = (command : Command) → ¬ (IsCommand words command)
 abbrev pub ByCommand : List (List ℕ) → (Command → Type 0) → Type 0
 ByCommand words P = (command : Command) × IsCommand words command × P command
 
--- the files at the command's path are a project of the core, which has a typing over the prelude, and this image does what the project does; `before` is the
--- table of names behind its sources, and `names` has that behind the prelude
+-- the files at the command's path are a project of the core, which breaks no syntactic restriction and has a typing over the prelude, and this image does
+-- what the project does; `before` is the table of names behind its sources, and `names` has that behind the prelude
 pub record Compiles (files : Option Files) (command : Command) (image : Program) : Type 0 where
   pub before : List (List ℕ)
   pub names : List (List ℕ)
@@ -44,6 +45,7 @@ pub record Compiles (files : Option Files) (command : Command) (image : Program)
   pub reads : List File
   pub is_project : IfTold files (λ f. ProjectOf f command.input before (map part_of_core parts) reads)
   pub is_prelude : IsPrelude before (length reads) prelude names
+  pub lawful : AllByRecursion IsLawful parts
   pub context : Context
   pub typed : ProjectHas prelude parts context
   pub same : Same names prelude parts image

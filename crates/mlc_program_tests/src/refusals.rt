@@ -4,7 +4,7 @@ use crate::calls::{REFUSED, Row, bad_mlb, bad_sml, check, check_all};
 use std::test::Fail;
 
 // Sources, and the lines that tell why they are refused.
-const SOURCES: [(&str, &str); 20] = [
+const SOURCES: [(&str, &str); 23] = [
     ("val () = print \"a", "p.sml:1.16: E10 no token\n"),
     ("val () = print \"\x7f\"", "p.sml:1.16: E10 no token\n"),
     ("val x = 1 (* open", "p.sml:1.11: E10 no token\n"),
@@ -32,7 +32,7 @@ const SOURCES: [(&str, &str); 20] = [
     ("fun f (C x) = x", "p.sml:1.8: E30 unbound identifier C\n"),
     (
         "val x = Prim.cat",
-        "p.sml:1.9: E30 unbound identifier Prim\n",
+        "p.sml:1.9: E30 unbound identifier Prim.cat\n",
     ),
     ("val x = 1 + \"a\"", "p.sml:1.1: E31 no typing\n"),
     ("fun f x = x x", "p.sml:1.1: E31 no typing\n"),
@@ -42,8 +42,20 @@ const SOURCES: [(&str, &str); 20] = [
         "p.sml:2.1: E31 no typing\n",
     ),
     (
-        "val {a = x, ...} = {a = 1}",
-        "p.sml:1.5: E90 not compiled yet\n",
+        "type t = {a : int, a : int}",
+        "p.sml:1.10: E33 restriction broken\n",
+    ),
+    (
+        "val x = 1\ndatatype t = A | B of t | A",
+        "p.sml:2.1: E33 restriction broken\n",
+    ),
+    (
+        "val x = y datatype t = A | A",
+        "p.sml:1.9: E30 unbound identifier y\n",
+    ),
+    (
+        "val r = ref nil datatype t = A | A val () = r := [1]",
+        "p.sml:1.17: E33 restriction broken\n",
     ),
     (
         "datatype t = datatype bool",
