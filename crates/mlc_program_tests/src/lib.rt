@@ -12,6 +12,8 @@ mod edge;
 #[cfg(test)]
 mod limits;
 #[cfg(test)]
+mod nesting;
+#[cfg(test)]
 mod refusals;
 #[cfg(test)]
 mod runs;

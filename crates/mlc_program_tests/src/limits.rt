@@ -36,26 +36,6 @@ fn check_mlb(
     check(rt, alloc, &row)
 }
 
-/// `val x = ` and `1` in so many brackets.
-fn brackets(alloc: Global, count: usize) -> Result<String, NoMemory> {
-    let opened = followed(alloc, "val x = ", "(", count)?;
-    let one = followed(alloc, opened.as_str(), "1", 1)?;
-    followed(alloc, one.as_str(), ")", count)
-}
-
-const TOO_DEEP: Row = Row {
-    err: "p.sml:1.409: E14 nested deeper than 400\n",
-    ..REFUSED
-};
-
-#[test]
-fn brackets_have_their_limit(rt: HostRuntime) -> Result<(), Fail> {
-    for (count, row) in [(100, NOTHING), (500, TOO_DEEP)] {
-        check_sml(&rt, rt.alloc(), brackets(rt.alloc(), count), row)?;
-    }
-    Ok(())
-}
-
 const TOO_MANY_FILES: Row = Row {
     err: "p.mlb:4097.1: E24 more than 4096 files\n",
     ..REFUSED
