@@ -12,7 +12,15 @@ use Rattle.first_tree.specs.TreeOf.{tree_of}
 use Rattle.closure_meaning.specs.Convert.{Numbering, given, var, convert, making, self_name, opening}
 use Rattle.closure_parts.specs.Puts.{before, Puts}
 use Rattle.closure_parts.proofs.Rolls.{tree-ret}
-use Rattle.closure_first.specs.Codes.{entered, giving, taking}
+use Rattle.closure_first.specs.Codes.{entered, giving, taking, IsSameGroup}
+
+-- a body is begun in the scope of its group
+
+pub begun-same : (s r : Scope) (x : ℕ) → r ≡ scope_of s.captured s.group x → IsSameGroup s r
+begun-same s r x e = (ap (λ (v : Scope). v.captured) e, ap (λ (v : Scope). v.group) e)
+
+pub begun-in : (s r : Scope) (ms : List Member) (x : ℕ) → r ≡ scope_of s.captured s.group x → s.group ≡ ms → r ≡ scope_of s.captured ms x
+begun-in s r ms x e k = e ∙ ap (λ l. scope_of s.captured l x) k
 
 module _ (n : Numbering) (types : List table.Row) (F : Flow) (T : Table) where
   pub entered-is : (q : Bool) (x name self : ℕ) (params : List ℕ) (none now : List Step) (e b : out.Exp) → params ≡ self ∷ name ∷ [] → self ≡ self_name n types F T q → name ≡ var x

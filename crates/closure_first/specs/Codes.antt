@@ -10,7 +10,7 @@ use Rattle.flow_sets.specs.Flow.{Flow, number_of}
 use Rattle.plain_tree.specs.declared.tree.Parameter.{Parameter}
 use Rattle.plain_tree.specs.TreeOf.{fun_of, StepTree, let_step, exception_step, name_step, rec_step, test_step, counted_step}
 use Rattle.mono_bound.specs.Reads.{reading}
-use Rattle.closure_convert.specs.Scope.{Member, Table, top}
+use Rattle.closure_convert.specs.Scope.{Member, Scope, Table, top}
 use Rattle.closure_convert.specs.Closed.{scope_of, members, leader}
 use Rattle.capture_table.specs.Told.{first_parameter}
 use Rattle.first_tree.specs.declared.tree.Fun as made
@@ -23,6 +23,14 @@ Before = List out.Fun → List out.Fun
 -- behind the old functions, the new ones have these
 abbrev pub Adds : (old new : List made.Fun) → Before → Type 0
 Adds old new put = (cs : List out.Fun) → map made_tree.fun_of old ++ put cs ≡ map made_tree.fun_of new ++ cs
+
+-- a scope of what the function g captured, and of the functions of this group
+abbrev pub IsOf : Table → Scope → (g : ℕ) → List Member → Type 0
+IsOf T s g ms = (s.captured ≡ T.captured g) × (s.group ≡ ms)
+
+-- the same but for what is bound
+abbrev pub IsSameGroup : Scope → Scope → Type 0
+IsSameGroup s r = (r.captured ≡ s.captured) × (r.group ≡ s.group)
 
 -- one after the other
 abbrev pub in_order : {A : Type 0} → (A → Before) → List A → Before

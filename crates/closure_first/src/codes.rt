@@ -5,17 +5,17 @@ ghost use Rattle.ir_first.specs.Tree as out;
 ghost use Rattle.flow_sets.specs.Flow.{Flow};
 ghost use Rattle.plain_tree.specs.TreeOf.{fun_of as mono_fun_of};
 ghost use Rattle.mono_bound.specs.Reads.{reading, mono_of};
-ghost use Rattle.closure_convert.specs.Scope.{Table};
+ghost use Rattle.closure_convert.specs.Scope.{Member as CleanMember, Table};
 ghost use Rattle.capture_scope.specs.Seen.{members_of};
 ghost use Rattle.capture_table.specs.Told.{first_parameter};
 ghost use Rattle.first_tree.specs.TreeOf.{fun_of};
 ghost use Rattle.closure_meaning.specs.Convert.{Numbering, codes, codes_arms, codes_fun, codes_funs};
 ghost use Rattle.closure_parts.specs.Settings.{Row, Texts, Holds};
 ghost use Rattle.closure_steps.specs.Reads.{mono_step, arms_in, mono_function, functions_in};
-ghost use Rattle.closure_first.specs.Codes.{Adds, in_order, last_first, lead, giving as giving_of, taking as taking_of, heads, alone, group_codes, front, back};
+ghost use Rattle.closure_first.specs.Codes.{Adds, IsOf, IsSameGroup, in_order, last_first, lead, giving as giving_of, taking as taking_of, heads, alone, group_codes, front, back};
 
-use crate::functions::{giving, taking};
-use capture_scope::scope::{Member, ScopeFault};
+use crate::functions::{giving, group_scope, taking};
+use capture_scope::scope::{Member, Scope, ScopeFault};
 use closure_parts::setting::Setting;
 use closure_steps::scope::{members_of_group, number_of};
 use first_tree::tree::Fun;
@@ -64,18 +64,18 @@ fn push_taking(
     alloc: Global,
     types: &Types,
     setting: &Setting,
+    scope: &mut Scope,
     first: bool,
-    leader: usize,
-    group: &[Member],
     parameter: usize,
     body: &Exp,
     found: &mut Vec<Fun>,
 ) -> Result<(), ScopeFault>
-    ensures { IfOk result (λ _. (strings : Texts) (n : Numbering) (F : Flow) (T : Table) → Holds setting.now types.now strings n F T
-        → Adds found.old.items found.new.items
-        (λ cs. taking_of n types.now F T first leader (members_of group.now) parameter (mono_of types.now strings body.now) ∷ cs)) }
+    ensures scope { IfOk result (λ _. IsSameGroup scope.old scope.new) }
+    ensures codes { IfOk result (λ _. (strings : Texts) (n : Numbering) (F : Flow) (T : Table) → Holds setting.now types.now strings n F T
+        → (g : ℕ) (ms : List CleanMember) → IsOf T scope.old g ms → Adds found.old.items found.new.items
+        (λ cs. taking_of n types.now F T first g ms parameter (mono_of types.now strings body.now) ∷ cs)) }
 {
-    let code = taking(alloc, types, setting, first, leader, group, parameter, body)?;
+    let code = taking(alloc, types, setting, scope, first, parameter, body)?;
     found.push(code)?;
     Ok(())
 }
@@ -84,17 +84,18 @@ fn push_taking(
 fn push_giving(
     alloc: Global,
     setting: &Setting,
+    scope: &mut Scope,
     first: bool,
-    leader: usize,
-    group: &[Member],
     parameter: usize,
     next: usize,
     found: &mut Vec<Fun>,
 ) -> Result<(), ScopeFault>
-    ensures { IfOk result (λ _. (types : List Row) (strings : Texts) (n : Numbering) (F : Flow) (T : Table) → Holds setting.now types strings n F T
-        → Adds found.old.items found.new.items (λ cs. giving_of n types F T first leader (members_of group.now) parameter next ∷ cs)) }
+    ensures scope { IfOk result (λ _. IsSameGroup scope.old scope.new) }
+    ensures codes { IfOk result (λ _. (types : List Row) (strings : Texts) (n : Numbering) (F : Flow) (T : Table) → Holds setting.now types strings n F T
+        → (g : ℕ) (ms : List CleanMember) → IsOf T scope.old g ms
+        → Adds found.old.items found.new.items (λ cs. giving_of n types F T first g ms parameter next ∷ cs)) }
 {
-    let code = giving(alloc, setting, first, leader, group, parameter, next)?;
+    let code = giving(alloc, setting, scope, first, parameter, next)?;
     found.push(code)?;
     Ok(())
 }
@@ -114,26 +115,27 @@ fn push_curried(
     for i in 0..parameters.len() {
         let parameter = parameters[i].variable;
         let next = number_at(parameters, i + 1, last);
-        push_giving(alloc, setting, true, parameter, &[], parameter, next, found)?;
+        let mut scope = group_scope(alloc, setting, parameter, &[])?;
+        push_giving(alloc, setting, &mut scope, true, parameter, next, found)?;
     }
     Ok(())
 }
 
-/// The codes of a function, but for those of the functions in its body.
+/// The codes of a function in the scope of its group, but for those of the functions in its body.
 fn push_heads(
     alloc: Global,
     types: &Types,
     setting: &Setting,
+    scope: &mut Scope,
     first: bool,
-    leader: usize,
-    group: &[Member],
     parameters: &[Parameter],
     last: Parameter,
     body: &Exp,
     found: &mut Vec<Fun>,
 ) -> Result<(), ScopeFault>
-    ensures { IfOk result (λ _. (strings : Texts) (n : Numbering) (F : Flow) (T : Table) → Holds setting.now types.now strings n F T
-        → Adds found.old.items found.new.items (heads n types.now F T first leader (members_of group.now)
+    ensures scope { IfOk result (λ _. IsSameGroup scope.old scope.new) }
+    ensures codes { IfOk result (λ _. (strings : Texts) (n : Numbering) (F : Flow) (T : Table) → Holds setting.now types.now strings n F T
+        → (g : ℕ) (ms : List CleanMember) → IsOf T scope.old g ms → Adds found.old.items found.new.items (heads n types.now F T first g ms
         (mono_fun_of (reading types.now strings) parameters.now last (mono_of types.now strings body.now)))) }
 {
     if parameters.is_empty() {
@@ -141,9 +143,8 @@ fn push_heads(
             alloc,
             types,
             setting,
+            scope,
             first,
-            leader,
-            group,
             last.variable,
             body,
             found,
@@ -152,15 +153,15 @@ fn push_heads(
     let parameter = number_of(parameters, last);
     let rest = rest_of(parameters);
     let next = number_of(rest, last);
-    push_giving(alloc, setting, first, leader, group, parameter, next, found)?;
+    push_giving(alloc, setting, scope, first, parameter, next, found)?;
     push_curried(alloc, setting, rest, last, found)?;
+    let mut own = group_scope(alloc, setting, last.variable, &[])?;
     push_taking(
         alloc,
         types,
         setting,
+        &mut own,
         true,
-        last.variable,
-        &[],
         last.variable,
         body,
         found,
@@ -383,22 +384,14 @@ fn push_alone(
         (mono_fun_of (reading types.now strings) parameters.now last (mono_of types.now strings body.now)))) }
 {
     let leader = number_of(parameters, last);
+    let mut scope = group_scope(alloc, setting, leader, &[])?;
     push_heads(
-        alloc,
-        types,
-        setting,
-        true,
-        leader,
-        &[],
-        parameters,
-        last,
-        body,
-        found,
+        alloc, types, setting, &mut scope, true, parameters, last, body, found,
     )?;
     push_codes(alloc, types, setting, body, found)
 }
 
-/// The codes of the functions of a group, and of those in their bodies.
+/// The codes of the functions of a group, which is entered once, and of those in their bodies.
 #[cycle(codes)]
 fn push_group(
     alloc: Global,
@@ -412,15 +405,15 @@ fn push_group(
 {
     let group = members_of_group(alloc, functions)?;
     let leader = leader_of(&group);
+    let mut scope = group_scope(alloc, setting, leader, &group)?;
     for i in 0..functions.len() {
         let function = &functions[i];
         push_member(
             alloc,
             types,
             setting,
+            &mut scope,
             is_first(i),
-            leader,
-            &group,
             function,
             found,
         )?;
@@ -428,28 +421,28 @@ fn push_group(
     Ok(())
 }
 
-/// The codes of a function of a group, and of those in its body.
+/// The codes of a function in the scope of its group, and of those in its body.
 #[cycle(codes)]
 fn push_member(
     alloc: Global,
     types: &Types,
     setting: &Setting,
+    scope: &mut Scope,
     first: bool,
-    leader: usize,
-    group: &[Member],
     function: &Function,
     found: &mut Vec<Fun>,
 ) -> Result<(), ScopeFault>
-    ensures { IfOk result (λ _. (strings : Texts) (n : Numbering) (F : Flow) (T : Table) → Holds setting.now types.now strings n F T
-        → Adds found.old.items found.new.items (codes_fun n types.now F T first leader (members_of group.now) (mono_function types.now strings function.now).function)) }
+    ensures scope { IfOk result (λ _. IsSameGroup scope.old scope.new) }
+    ensures codes { IfOk result (λ _. (strings : Texts) (n : Numbering) (F : Flow) (T : Table) → Holds setting.now types.now strings n F T
+        → (g : ℕ) (ms : List CleanMember) → IsOf T scope.old g ms
+        → Adds found.old.items found.new.items (codes_fun n types.now F T first g ms (mono_function types.now strings function.now).function)) }
 {
     push_heads(
         alloc,
         types,
         setting,
+        scope,
         first,
-        leader,
-        group,
         &function.parameters,
         function.last,
         &function.body,

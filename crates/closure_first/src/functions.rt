@@ -4,7 +4,7 @@ ghost use Rattle.ir_plain.specs.Tree.{Fun as CleanFun};
 ghost use Rattle.flow_sets.specs.Flow.{Flow};
 ghost use Rattle.plain_tree.specs.TreeOf.{fun_of as mono_fun_of};
 ghost use Rattle.mono_bound.specs.Reads.{reading, mono_of};
-ghost use Rattle.closure_convert.specs.Scope.{Table};
+ghost use Rattle.closure_convert.specs.Scope.{Member as CleanMember, Table};
 ghost use Rattle.capture_scope.specs.Seen.{members_of};
 ghost use Rattle.first_tree.specs.TreeOf.{tree_of, fun_of};
 ghost use Rattle.closure_meaning.specs.Convert as clean;
@@ -12,6 +12,7 @@ ghost use Rattle.closure_meaning.specs.Convert.{Numbering, opening};
 ghost use Rattle.closure_parts.specs.Puts.{Puts};
 ghost use Rattle.closure_parts.specs.Settings.{Row, Texts, Holds};
 ghost use Rattle.closure_first.specs.Codes as codes;
+ghost use Rattle.closure_first.specs.Codes.{IsOf, IsSameGroup};
 
 use capture_scope::scope::{Member, Scope, ScopeFault};
 use closure_bodies::convert::convert;
@@ -60,43 +61,57 @@ fn entered(alloc: Global, first: bool, parameter: usize, body: Exp) -> Result<Fu
     Ok(Fun { params, body })
 }
 
-/// The code of a function of several parameters, whose first this is: it gives the closure of the next function.
+/// The scope of the functions of a group, of which this is the number of the first, before one of them binds its parameter.
+pub fn group_scope(
+    alloc: Global,
+    setting: &Setting,
+    leader: usize,
+    group: &[Member],
+) -> Result<Scope, ScopeFault>
+    ensures { IfOk result (λ scope. (types : List Row) (strings : Texts) (n : Numbering) (F : Flow) (T : Table) → Holds setting.now types strings n F T
+        → IsOf T scope leader (members_of group.now)) }
+{
+    let captured = setting.captures.captured(leader);
+    let scope = Scope::of_group(alloc, captured, group)?;
+    Ok(scope)
+}
+
+/// The code of a function of several parameters, whose first this is, in the scope of its group: it gives the closure of the next function.
 pub fn giving(
     alloc: Global,
     setting: &Setting,
+    scope: &mut Scope,
     first: bool,
-    leader: usize,
-    group: &[Member],
     parameter: usize,
     next: usize,
 ) -> Result<Fun, ScopeFault>
-    ensures { IfOk result (λ made. (types : List Row) (strings : Texts) (n : Numbering) (F : Flow) (T : Table) → Holds setting.now types strings n F T
-        → fun_of made ≡ codes.giving n types F T first leader (members_of group.now) parameter next) }
+    ensures scope { IfOk result (λ _. IsSameGroup scope.old scope.new) }
+    ensures code { IfOk result (λ made. (types : List Row) (strings : Texts) (n : Numbering) (F : Flow) (T : Table) → Holds setting.now types strings n F T
+        → (g : ℕ) (ms : List CleanMember) → IsOf T scope.old g ms → fun_of made ≡ codes.giving n types F T first g ms parameter next) }
 {
-    let captured = setting.captures.captured(leader);
-    let scope = Scope::enter(alloc, captured, group, parameter)?;
+    scope.begin(parameter)?;
     let mut steps = Vec::new(alloc);
-    push_making(alloc, setting, &scope, &mut steps, GIVEN, next)?;
+    push_making(alloc, setting, scope, &mut steps, GIVEN, next)?;
     let body = onto(alloc, steps, Exp::Ret(GIVEN))?;
     Ok(entered(alloc, first, parameter, body)?)
 }
 
-/// The code of a function of one parameter.
+/// The code of a function of one parameter, in the scope of its group.
 pub fn taking(
     alloc: Global,
     types: &Types,
     setting: &Setting,
+    scope: &mut Scope,
     first: bool,
-    leader: usize,
-    group: &[Member],
     parameter: usize,
     body: &Mono,
 ) -> Result<Fun, ScopeFault>
-    ensures { IfOk result (λ made. (strings : Texts) (n : Numbering) (F : Flow) (T : Table) → Holds setting.now types.now strings n F T
-        → fun_of made ≡ codes.taking n types.now F T first leader (members_of group.now) parameter (mono_of types.now strings body.now)) }
+    ensures scope { IfOk result (λ _. IsSameGroup scope.old scope.new) }
+    ensures code { IfOk result (λ made. (strings : Texts) (n : Numbering) (F : Flow) (T : Table) → Holds setting.now types.now strings n F T
+        → (g : ℕ) (ms : List CleanMember) → IsOf T scope.old g ms
+        → fun_of made ≡ codes.taking n types.now F T first g ms parameter (mono_of types.now strings body.now)) }
 {
-    let captured = setting.captures.captured(leader);
-    let mut scope = Scope::enter(alloc, captured, group, parameter)?;
-    let made = convert(alloc, types, setting, &mut scope, body)?;
+    scope.begin(parameter)?;
+    let made = convert(alloc, types, setting, scope, body)?;
     Ok(entered(alloc, first, parameter, made)?)
 }

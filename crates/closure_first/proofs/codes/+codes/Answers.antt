@@ -1,4 +1,4 @@
-use Rattle.std.proofs.Common.{◌-◌, arith, ap}
+use Rattle.std.proofs.Common.{◌-◌, [], refl, arith, ap, ◌∙◌}
 use Rattle.capture_scope.specs.Seen.{members_of}
 use Rattle.closure_meaning.specs.Convert.{codes_arms}
 use Rattle.closure_parts.proofs.Operating.{if-ok}
@@ -84,27 +84,43 @@ push_alone-returns t c =
     if-ok _ _ c.push_codes.result
     (λ u p strings n F T h.
     alone-pushed n c.args.types.now strings F T c.number_of-leader.result c.args.parameters.now c.args.last c.args.body.now c.args.found.now.items c.push_heads.new.found.items c.push_codes.new.found.items
-    c.number_of-leader.ensures (c.in_ok-push_heads.ensures strings n F T h) (p strings n F T h))
+    c.number_of-leader.ensures
+    (c.in_ok-push_heads.ensures.codes strings n F T h c.number_of-leader.result [] (c.in_ok-scope.ensures c.args.types.now strings n F T h)) (p strings n F T h))
     c.push_codes.ensures
 
-pub push_member-returns : goal.push_member-returns
-push_member-returns t c =
+pub push_member-returns-clause-scope : goal.push_member-returns-clause-scope
+push_member-returns-clause-scope t c = if-ok _ _ c.push_codes.result (λ u p. c.in_ok-push_heads.ensures.scope) c.push_codes.ensures
+
+pub push_member-returns-clause-codes : goal.push_member-returns-clause-codes
+push_member-returns-clause-codes t c =
     if-ok _ _ c.push_codes.result
-    (λ u p strings n F T h.
-    member-pushed n c.args.types.now strings F T c.args.first c.args.leader (members_of c.args.group.now) c.args.function.now c.deref.result.now c.args.found.now.items c.push_heads.new.found.items
-    c.push_codes.new.found.items c.deref.ensures.value (c.in_ok-push_heads.ensures strings n F T h) (p strings n F T h))
+    (λ u p strings n F T h g ms k.
+    member-pushed n c.args.types.now strings F T c.args.first g ms c.args.function.now c.deref.result.now c.args.found.now.items c.push_heads.new.found.items
+    c.push_codes.new.found.items c.deref.ensures.value (c.in_ok-push_heads.ensures.codes strings n F T h g ms k) (p strings n F T h))
     c.push_codes.ensures
+
+pub push_group-loop-i-init : goal.push_group-loop-i-init
+push_group-loop-i-init t c = record {
+  of = λ strings n F T h. (let k = c.in_ok-scope.ensures c.args.types.now strings n F T h in (k.0, k.1 ∙ ap members_of c.deref.ensures.value));
+  found = λ strings n F T h cs. refl;
+}
 
 pub push_group-loop-i-preserved : goal.push_group-loop-i-preserved
-push_group-loop-i-preserved t c = λ strings n F T h.
-    group-next n c.args.types.now strings F T c.args.functions.now c.leader_of-leader.result (members_of c.in_ok-group.group.items) (members_of c.deref-in-loop-i.result.now) c.loop-i.i c.index-functions-i.result
-    c.index-functions-i.result c.is_first.result c.args.found.now.items c.loop-i.found.items c.push_member.new.found.items c.loop-i-test.true c.index-functions-i.is c.is_first.ensures
-    (ap members_of c.deref-in-loop-i.ensures.value) (c.in_ok-push_member.ensures strings n F T h) (c.loop-i.invariant strings n F T h)
+push_group-loop-i-preserved t c =
+    let s = c.in_ok-push_member.ensures.scope in
+    record {
+      of = λ strings n F T h. (let k = c.loop-i.invariant.of strings n F T h in (s.0 ∙ k.0, s.1 ∙ k.1));
+      found = λ strings n F T h.
+          group-next n c.args.types.now strings F T c.args.functions.now c.leader_of-leader.result (members_of c.in_ok-group.group.items) (members_of c.in_ok-group.group.items) c.loop-i.i c.index-functions-i.result
+          c.index-functions-i.result c.is_first.result c.args.found.now.items c.loop-i.found.items c.push_member.new.found.items c.loop-i-test.true c.index-functions-i.is c.is_first.ensures
+          refl (c.in_ok-push_member.ensures.codes strings n F T h c.leader_of-leader.result (members_of c.in_ok-group.group.items) (c.loop-i.invariant.of strings n F T h))
+          (c.loop-i.invariant.found strings n F T h);
+    }
 
 pub push_group-returns : goal.push_group-returns
 push_group-returns t c = λ strings n F T h.
     group-done n c.args.types.now strings F T c.args.functions.now c.leader_of-leader.result (members_of c.in_ok-group.group.items) (members_of c.deref.result.now) c.loop-i.i c.args.found.now.items c.loop-i.found.items
-    c.loop-i-test.false (c.in_ok-group.ensures c.args.types.now strings) c.leader_of-leader.ensures (ap members_of c.deref.ensures.value) (c.loop-i.invariant strings n F T h)
+    c.loop-i-test.false (c.in_ok-group.ensures c.args.types.now strings) c.leader_of-leader.ensures (ap members_of c.deref.ensures.value) (c.loop-i.invariant.found strings n F T h)
 
 -- Steps
 

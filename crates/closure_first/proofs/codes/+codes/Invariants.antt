@@ -4,6 +4,7 @@ use Rattle.closure_convert.specs.Scope.{Table}
 use Rattle.capture_scope.specs.Seen.{members_of}
 use Rattle.closure_meaning.specs.Convert.{Numbering}
 use Rattle.closure_parts.specs.Settings.{Texts, Holds}
+use Rattle.closure_first.specs.Codes.{IsOf}
 use Rattle.closure_first.proofs.Adding.{SoFar, BackTo}
 use Rattle.closure_first.proofs.Walking.{of_exp, of_front, of_back, of_arm, GroupSoFar}
 use Rattle.closure_first.proofs.codes.+codes.Given as goal
@@ -30,6 +31,8 @@ abbrev pub decreases-push_backs-loop-left : goal.decreases-push_backs-loop-left
 decreases-push_backs-loop-left l = l.left
 
 abbrev pub invariant-push_group-loop-i : goal.invariant-push_group-loop-i
-invariant-push_group-loop-i l =
-    (strings : Texts) (n : Numbering) (F : Flow) (T : Table) → Holds l.setting l.types strings n F T
-    → GroupSoFar n l.types strings F T l.functions l.leader (members_of l.group.items) l.fn.found.items l.found.items l.i
+invariant-push_group-loop-i l = record {
+  of : (strings : Texts) (n : Numbering) (F : Flow) (T : Table) → Holds l.setting l.types strings n F T → IsOf T l.scope l.leader (members_of l.group.items);
+  found : (strings : Texts) (n : Numbering) (F : Flow) (T : Table) → Holds l.setting l.types strings n F T
+      → GroupSoFar n l.types strings F T l.functions l.leader (members_of l.group.items) l.fn.found.items l.found.items l.i;
+}
