@@ -101,7 +101,7 @@ push_member-returns-clause-codes t c =
 
 pub push_group-loop-i-init : goal.push_group-loop-i-init
 push_group-loop-i-init t c = record {
-  of = λ strings n F T h. (let k = c.in_ok-scope.ensures c.args.types.now strings n F T h in (k.0, k.1 ∙ ap members_of c.deref.ensures.value));
+  of = λ strings n F T h. (let k = c.in_ok-scope.ensures c.args.types.now strings n F T h in (k.0, k.1 ∙ ap members_of c.deref-2.ensures.value));
   found = λ strings n F T h cs. refl;
 }
 
