@@ -1,14 +1,23 @@
 -- Parts that are elaborated one after the other.
-use Rattle.std.proofs.Common.{◌≡◌, List, [], ◌∷◌, ◌++◌, Result, Ok, Err, IfOk, IsErrAnd, sym, ap, subst, ◌∙◌}
+use Rattle.std.proofs.Common.{◌≡◌, refl, map, take, List, [], ◌∷◌, ◌++◌, Result, Ok, Err, IfOk, IsErrAnd, sym, ap, subst, ◌∙◌}
 use Rattle.std.proofs.lemmas.List.{map-append}
 use Rattle.sml_tree.specs.BareTree.{Decs}
 use Rattle.sml_rules.specs.Project.{Part, source}
 use Rattle.core_rules.specs.Project as core
 use Rattle.core_rules.specs.Restrictions.{broken_in}
 use Rattle.mlb_reader.proofs.WithinChains.{each-append}
+use Rattle.mlb_reader.specs.PartOf.{part_of}
+use Rattle.mlb_reader.specs.declared.project.Part.{Part as Read}
+use Rattle.mlb_reader.specs.declared.project.Part.TheVariants as read
 use Rattle.project_elab.specs.Elaborated.{HasElaborated}
 use Rattle.project_elab.specs.declared.project.Elaborating.{Elaborating}
 use Rattle.mlc_driver.specs.Parts.{part_of_core, IsLawful, HasParts}
+
+-- the standard basis stands first
+pub basis_joins : (prelude : Decs) (parts : List Read) (e : Elaborating) → (rest : List Read) × (parts ≡ read.StandardBasis ∷ rest)
+    → HasElaborated prelude (core.standard_basis ∷ []) e → HasParts prelude (map part_of (take 1 parts)) e
+basis_joins prelude parts e begins h =
+    subst (λ l. HasParts prelude (map part_of (take 1 l)) e) (sym begins.1) (record { core = core.standard_basis ∷ []; parts_are = refl; lawful = (tt, tt); elaborated = h })
 
 -- a source is joined
 source_joins : (prelude : Decs) (parts : List Part) (ds : Decs) (e e' : Elaborating) → broken_in ds ≡ []

@@ -138,7 +138,9 @@ fn elaborate_source(
         }
         Some(place) => {
             let count = count_before(declarations, place);
-            elaborate_declarations(alloc, elaborating, &declarations[..count])?;
+            if count < declarations.len() {
+                elaborate_declarations(alloc, elaborating, &declarations[..count])?;
+            }
             Err(Stopped::Refuses(Cause::Broken(place)))
         }
     }
@@ -176,6 +178,7 @@ fn elaborate_part(alloc: Global, elaborating: &mut Elaborating, part: &Part) -> 
 }
 
 /// A project's parts, over the prelude.
+#[tactic(auto, using(crate::proofs::Joining::basis_joins))]
 fn elaborate_parts(alloc: Global, prelude: &[Dec], parts: &[Part]) -> Result<Elaborating, Stopped>
     ensures { IfOk result (λ e. HasParts (decs_of (map dec_of prelude.now)) (map part_of parts.now) e) }
 {
