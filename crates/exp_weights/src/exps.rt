@@ -1,10 +1,19 @@
-// The nodes of expressions, but for those of rules and bindings inside them, which are counted where these are.
+// The nodes of expressions, but for those of rules, clauses and bindings inside them, which are counted where these are.
+ghost use Rattle.std.specs.Prelude.{◌≡◌, ◌∷◌, [], length, map, sum_by};
+ghost use Rattle.mlc_base.specs.declared.place.Place.{Place as SourcePlace};
+ghost use Rattle.sml_tree.specs.Derived.{clause_rules, first_pats};
+ghost use Rattle.sml_tree.specs.TreeOf.{pat_of};
+ghost use Rattle.exp_weights.specs.Nodes.{bound_count, capped, exp_count, rules_count};
+ghost use Rattle.exp_weights.specs.Own.{own_of};
+ghost use Rattle.exp_weights.specs.Sums.{bind_nodes, dec_nodes, exp_field_nodes, exp_nodes, function_nodes, joint_nodes, own_clause_of, part_nodes};
 
-use crate::pats::{constant_nodes, pat_nodes};
-use sml_tree::tree::{Exp, ExpField, Joint, Part, Pat};
+use crate::pats::{constant_nodes, pat_nodes, pats_nodes};
+use sml_tree::tree::{Bind, Clause, Dec, Exp, ExpField, Function, Joint, Part, Pat};
 
 #[cycle(exps)]
-fn fields_nodes(fields: &[ExpField]) -> usize {
+fn fields_nodes(fields: &[ExpField]) -> usize
+    ensures { result ≡ capped (sum_by exp_field_nodes fields.now) }
+{
     let mut nodes: usize = 0;
     for i in 0..fields.len() {
         nodes = nodes.saturating_add(exp_nodes(&fields[i].exp));
@@ -13,7 +22,9 @@ fn fields_nodes(fields: &[ExpField]) -> usize {
 }
 
 #[cycle(exps)]
-fn parts_nodes(parts: &[Exp]) -> usize {
+fn parts_nodes(parts: &[Exp]) -> usize
+    ensures { result ≡ capped (sum_by exp_nodes parts.now) }
+{
     let mut nodes: usize = 0;
     for i in 0..parts.len() {
         nodes = nodes.saturating_add(exp_nodes(&parts[i]));
@@ -22,7 +33,9 @@ fn parts_nodes(parts: &[Exp]) -> usize {
 }
 
 /// What an operand of a chain makes besides: an application of an identifier to a record, or a function of two rules that is applied.
-fn joint_nodes(joint: &Joint) -> usize {
+fn joint_nodes(joint: &Joint) -> usize
+    ensures { result ≡ joint_nodes joint.now }
+{
     match joint {
         Joint::Infix(_, _) => 3,
         Joint::AndAlso | Joint::OrElse => 7,
@@ -30,7 +43,9 @@ fn joint_nodes(joint: &Joint) -> usize {
 }
 
 #[cycle(exps)]
-fn chain_nodes(parts: &[Part]) -> usize {
+fn chain_nodes(parts: &[Part]) -> usize
+    ensures { result ≡ capped (sum_by part_nodes parts.now) }
+{
     let mut nodes: usize = 0;
     for i in 0..parts.len() {
         let operand = exp_nodes(&parts[i].exp);
@@ -41,45 +56,133 @@ fn chain_nodes(parts: &[Part]) -> usize {
     nodes
 }
 
-/// The nodes of an expression, without those of its rules' and bindings' right sides.
+/// How many parameters the clauses of a function have.
+fn first_count(clauses: &[Clause]) -> usize
+    ensures { result ≡ length (first_pats (map own_clause_of clauses.now)) }
+{
+    if clauses.is_empty() {
+        return 0;
+    }
+    let pats: &[Pat] = &clauses[0].pats;
+    pats.len()
+}
+
+/// A function of `fun` without its clauses: its binding and its name, and a function of one rule for each parameter, the last of which applies a function
+/// to the parameters' record, or to the one parameter.
+fn function_nodes(function: &Function) -> usize
+    ensures { result ≡ capped (function_nodes function.now) }
+{
+    let count = first_count(&function.clauses);
+    if count == 1 {
+        return 8;
+    }
+    count.saturating_mul(4).saturating_add(5)
+}
+
+fn functions_nodes(functions: &[Function]) -> usize
+    ensures { result ≡ capped (sum_by function_nodes functions.now) }
+{
+    let mut nodes: usize = 0;
+    for i in 0..functions.len() {
+        nodes = nodes.saturating_add(function_nodes(&functions[i]));
+    }
+    nodes
+}
+
 #[cycle(exps)]
-pub fn exp_nodes(exp: &Exp) -> usize {
-    let inside = match exp {
-        Exp::Constant(_, constant) => return constant_nodes(constant),
-        Exp::Vid(_, _) | Exp::BuiltIn(_, _) | Exp::Fn(_, _) => 0,
-        Exp::Record(_, fields) => fields_nodes(fields),
-        Exp::Tuple(_, parts) => parts_nodes(parts),
-        // Each element makes an application of a constructor to a record.
-        Exp::List(_, parts) => parts_nodes(parts).saturating_add(parts.len().saturating_mul(3)),
-        // Each makes a function of one rule that is applied.
+fn recs_nodes(recs: &[Bind]) -> usize
+    ensures { result ≡ capped (sum_by bind_nodes recs.now) }
+{
+    let mut nodes: usize = 0;
+    for i in 0..recs.len() {
+        nodes = nodes
+            .saturating_add(exp_nodes(&recs[i].exp))
+            .saturating_add(pat_nodes(&recs[i].pat))
+            .saturating_add(1);
+    }
+    nodes
+}
+
+/// A declaration, and those inside it: bindings before `rec` are counted for themselves, and so are the rules and clauses of functions.
+#[cycle(exps)]
+fn dec_nodes(dec: &Dec) -> usize
+    ensures { result ≡ capped (dec_nodes dec.now) }
+{
+    match dec {
+        Dec::Val(_, _, _, recs) => recs_nodes(recs).saturating_add(1),
+        Dec::Fun(_, _, functions) => functions_nodes(functions).saturating_add(1),
+        Dec::Abbreviation(_, _)
+        | Dec::Datatype(_, _)
+        | Dec::Replicate(_, _, _)
+        | Dec::Exception(_, _)
+        | Dec::Open(_, _) => 1,
+        // Two declarations in a sequence.
+        Dec::Withtype(_, _, _) => 3,
+        Dec::Local(_, inner, outer) => decs_nodes(inner)
+            .saturating_add(decs_nodes(outer))
+            .saturating_add(1),
+        Dec::Declarations(_, inside) => decs_nodes(inside).saturating_add(1),
+    }
+}
+
+#[cycle(exps)]
+fn decs_nodes(decs: &[Dec]) -> usize
+    ensures { result ≡ capped (sum_by dec_nodes decs.now) }
+{
+    let mut nodes: usize = 0;
+    for i in 0..decs.len() {
+        nodes = nodes.saturating_add(dec_nodes(&decs[i]));
+    }
+    nodes
+}
+
+/// The nodes of an expression, without those of rules and bindings that have counts of their own.
+#[cycle(exps)]
+pub fn exp_nodes(exp: &Exp) -> usize
+    ensures { result ≡ capped (exp_count (own_of exp.now)) }
+{
+    match exp {
+        Exp::Constant(_, constant) => constant_nodes(constant),
+        Exp::Vid(_, _) | Exp::BuiltIn(_, _) | Exp::Fn(_, _) => 1,
+        Exp::Record(_, fields) => fields_nodes(fields).saturating_add(1),
+        Exp::Tuple(_, parts) => parts_nodes(parts).saturating_add(1),
+        // Each element makes an application of a constructor to a record, and `nil` is at the end.
+        Exp::List(_, parts) => parts_nodes(parts)
+            .saturating_add(parts.len().saturating_mul(3))
+            .saturating_add(1),
+        // Each after the first is the right side of a function of one rule that is applied.
         Exp::Sequence(_, first, rest) => exp_nodes(first)
             .saturating_add(parts_nodes(rest))
-            .saturating_add(rest.len().saturating_mul(3)),
-        // Bindings of declarations are counted for themselves.
-        Exp::Let(_, decs, body) => exp_nodes(body).saturating_add(decs.len()),
+            .saturating_add(rest.len().saturating_mul(4)),
+        Exp::Let(_, decs, body) => decs_nodes(decs)
+            .saturating_add(exp_nodes(body))
+            .saturating_add(1),
         Exp::Apply(_, operator, arguments) => exp_nodes(operator)
             .saturating_add(parts_nodes(arguments))
-            .saturating_add(arguments.len().saturating_sub(1)),
+            .saturating_add(arguments.len()),
         Exp::Chain(_, _, first, parts) => exp_nodes(first).saturating_add(chain_nodes(parts)),
-        Exp::Typed(_, inner, _) => exp_nodes(inner),
-        Exp::Handle(_, body, _) => exp_nodes(body),
-        Exp::Raise(_, packet) => exp_nodes(packet),
-    };
-    inside.saturating_add(1)
+        Exp::Typed(_, inner, _) => exp_nodes(inner).saturating_add(1),
+        Exp::Handle(_, body, _) => exp_nodes(body).saturating_add(1),
+        Exp::Raise(_, packet) => exp_nodes(packet).saturating_add(1),
+    }
 }
 
 /// A rule or a binding: itself, its pattern, and its right side.
-pub fn bound_nodes(pat: &Pat, exp: &Exp) -> usize {
+pub fn bound_nodes(pat: &Pat, exp: &Exp) -> usize
+    ensures { result ≡ capped (bound_count (pat_of pat.now) (own_of exp.now)) }
+{
     exp_nodes(exp)
         .saturating_add(pat_nodes(pat))
         .saturating_add(1)
 }
 
-/// A clause: a rule on a tuple of its patterns, where it has several.
-pub fn clause_nodes(pats: &[Pat], exp: &Exp) -> usize {
-    let mut nodes = exp_nodes(exp).saturating_add(2);
-    for i in 0..pats.len() {
-        nodes = nodes.saturating_add(pat_nodes(&pats[i]));
+/// A clause: a rule, on a tuple of its patterns unless it has one.
+pub fn clause_nodes(pats: &[Pat], exp: &Exp) -> usize
+    ensures { (p : SourcePlace) → result ≡ capped (rules_count (clause_rules (record { place = p; pats = map pat_of pats.now; body = own_of exp.now } ∷ []))) }
+{
+    let inside = pats_nodes(pats).saturating_add(exp_nodes(exp));
+    if pats.len() == 1 {
+        return inside.saturating_add(1);
     }
-    nodes
+    inside.saturating_add(2)
 }
