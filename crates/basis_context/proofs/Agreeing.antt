@@ -13,13 +13,8 @@ use Rattle.elab_steps.specs.World.{World}
 use Rattle.elab_context.specs.Telling.{IsFit, kept_of, denotes_of, known_of}
 use Rattle.elab_context.specs.declared.context.Context.{Context}
 use Rattle.elab_context.specs.declared.entry.Entry.{Entry}
-use Rattle.basis_context.specs.Basis.{Rows, entry_at, named_rows, equal_rows}
+use Rattle.basis_context.specs.Basis.{Rows, entry_at, named_rows, equal_rows, vid_at}
 use Rattle.basis_context.specs.declared.rows.Kind.{Kind}
-
--- the identifier of a row
-abbrev pub vid_of : Option ℕ → Vid
-vid_of (Some w) = Named w
-vid_of None = Equals
 
 -- what the rows have, the first in front
 abbrev pub row_entry : Rows → ℕ → Vid → Option Entry
@@ -29,14 +24,14 @@ row_entry rs k Equals = lookup (nat_eq 0) (equal_rows rs k)
 
 -- a row of the table and one of the code say the same
 pub record IsRow (C : Context) (W : World) (A : Around) (r : Row) (w : Option ℕ) (a : Kind) (k : ℕ) : Type 0 where
-  pub vid : r.vid ≡ vid_of w
+  pub vid : r.vid ≡ vid_at w
   pub kept : kept_of C W (entry_at a k) ≡ given (record { scheme = r.scheme; status = r.status })
   pub denotes : denotes_of (entry_at a k) ≡ row_denotes r.value
   pub fit : IsFit C W A (entry_at a k)
   pub unknown : known_of W A (entry_at a k) ≡ None
 
 -- one row more in front
-pub front : (cs : Rows) (k : ℕ) (w : Option ℕ) (a : Kind) (x : Vid) → row_entry ((w, a) ∷ cs) k x ≡ cond (same_vid x (vid_of w)) (Some (entry_at a k)) (row_entry cs (suc k) x)
+pub front : (cs : Rows) (k : ℕ) (w : Option ℕ) (a : Kind) (x : Vid) → row_entry ((w, a) ∷ cs) k x ≡ cond (same_vid x (vid_at w)) (Some (entry_at a k)) (row_entry cs (suc k) x)
 front cs k (Some w) a (Named x) = refl
 front cs k (Some w) a (Fresh x) = refl
 front cs k (Some w) a Equals = refl
@@ -91,7 +86,7 @@ module _ (C : Context) (W : World) (A : Around) where
   found-rows [] [] k Equals e h q = cc
   found-rows [] (c ∷ cs) k x e h q = absurd h
   found-rows (r ∷ rs) [] k x e h q = absurd h
-  found-rows (r ∷ rs) ((w, a) ∷ cs) k x e h q = by (same_vid x (vid_of w)) (λ s. found-rows rs cs (suc k) x e h.1 s) (sym (front cs k w a x) ∙ q)
+  found-rows (r ∷ rs) ((w, a) ∷ cs) k x e h q = by (same_vid x (vid_at w)) (λ s. found-rows rs cs (suc k) x e h.1 s) (sym (front cs k w a x) ∙ q)
     where
       by : (b : Bool) → (row_entry cs (suc k) x ≡ Some e → IsFound e) → cond b (Some (entry_at a k)) (row_entry cs (suc k) x) ≡ Some e → IsFound e
       by true f s = let same : entry_at a k ≡ e = cc in subst IsFound same (record { fit = h.0.fit; unknown = h.0.unknown })
@@ -180,7 +175,7 @@ none-deeper (m ∷ ms) q r qs x = by (nat_eq q m.0) (none-deeper ms q r qs x)
     by true e = refl
     by false e = e
 
-rows-alone : (rs : List Row) (r : ℕ) → inside_in (rows_scope rs) r ≡ None
+pub rows-alone : (rs : List Row) (r : ℕ) → inside_in (rows_scope rs) r ≡ None
 rows-alone [] r = refl
 rows-alone (x ∷ rs) r = rows-alone rs r
 

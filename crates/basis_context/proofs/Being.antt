@@ -1,17 +1,16 @@
 -- What a state has of the contexts of the initial basis and of the prelude.
-use Rattle.std.proofs.Common.{◌≡◌, ◌<◌, ◌≤◌, ◌+◌, ℕ, zero, suc, Bool, true, false, cond, List, [], ◌∷◌, ◌++◌, map, length, nat_eq, Option, Some, None, slice_get, refl, sym, ap, ap₂, subst, ◌∙◌, arith}
+use Rattle.std.proofs.Common.{◌≡◌, ◌<◌, ◌≤◌, ◌+◌, ℕ, zero, suc, Bool, true, false, cond, List, [], ◌∷◌, ◌++◌, map, length, nat_eq, Some, None, slice_get, refl, sym, ap, ap₂, subst, ◌∙◌, arith}
 use Rattle.std.proofs.lemmas.List.{length-map}
 use Rattle.std.specs.List.{AllByRecursion}
 use Rattle.ty_core.specs.Types.{Typ}
 use Rattle.ty_core.specs.Marks.{is_inhabited}
-use Rattle.ty_core.specs.declared.name.TyName.{TyName}
 use Rattle.ty_table.specs.TypeAt.{type_at, top, AllBelow}
 use Rattle.ty_solve.specs.Substitution.{is_below}
 use Rattle.sml_tree.specs.declared.ident.Vid.{Vid}
 use Rattle.sml_tree.specs.declared.ident.Vid.TheVariants.{Named, Equals, Fresh}
 use Rattle.core_rules.specs.Objects.{Scheme}
 use Rattle.core_rules.specs.Initial.{entries, hidden, integers}
-use Rattle.initial_types.specs.Schemes.{schemes_in}
+use Rattle.initial_types.specs.Schemes.{scheme_of, schemes_in}
 use Rattle.elab_state.specs.States.{types_in, made}
 use Rattle.elab_state.specs.declared.state.State.{State}
 use Rattle.elab_steps.specs.Tidy.{IsLive, IsTidy}
@@ -21,17 +20,17 @@ use Rattle.elab_context.specs.Telling.{IsContext, IsHeld}
 use Rattle.elab_context.specs.declared.context.Context.{Context}
 use Rattle.elab_context.specs.declared.entry.Entry.{Entry}
 use Rattle.elab_context.specs.declared.entry.Scheme as code
-use Rattle.basis_context.specs.Basis.{HasMembers, HasRows, Rows, all_marks, scheme_in, row_list, structure_list, type_list, type_entries, arity_of, body_of, entry_at, without_prim}
+use Rattle.basis_context.specs.Basis.{HasMembers, HasRows, Rows, NamedType, all_constructors, all_contents, all_marks, constructors_at, scheme_in, row_list, structure_list, type_list, type_entries, arity_of, body_of, entry_at, vid_at, without_prim}
 use Rattle.basis_context.specs.declared.rows.Kind.{Kind}
 use Rattle.basis_context.specs.declared.rows.Kind.TheVariants.{Reference, Constructor, Exception, Primitive}
 use Rattle.core_rules.specs.Words.{same_vid}
 use Rattle.elab_state.specs.Namings.{IsAmong}
-use Rattle.basis_context.proofs.Agreeing.{Places, place_entry, row_entry, vid_of, front}
+use Rattle.basis_context.proofs.Agreeing.{Places, place_entry, row_entry, front}
 use Rattle.elab_types.specs.Reading.{left_at}
 use Rattle.basis_context.specs.Basis.{HasBasis, basis_marks, marks_at}
 use Rattle.basis_context.specs.declared.tables.Basis.{Basis}
 use Rattle.basis_context.proofs.Making.{schemes-from, schemes-append, schemes-below, marks-append, below-append}
-use Rattle.basis_context.proofs.Whole.{IsBasis, initial_places, prelude_places, rows-found, one-placed, two-placed}
+use Rattle.basis_context.proofs.Whole.{IsBasis, initial_places, prelude_places, rows-found, one-placed, two-placed, one-listed, scheme-count, two-listed}
 
 -- schemes are closed, and their marks inhabited
 record IsClosed (s : Scheme) : Type 0 where
@@ -54,21 +53,21 @@ held-at n (x ∷ ks) (suc k) s h q = held-at n ks k s h.1 q
 
 -- type constructors
 
-types-held : (n : ℕ) (ts : List (ℕ × Option TyName)) (bs : List ℕ) (k : ℕ) → AllBelow n bs → AllByRecursion (λ b. b.1.body < n) (type_entries ts bs k)
-types-held n [] bs k h = tt
-types-held n (t ∷ ts) [] k h = tt
-types-held n (t ∷ ts) (b ∷ bs) k h = (h.0, types-held n ts bs (suc k) h.1)
+types-held : (n : ℕ) (ts : List NamedType) (bs : List ℕ) → AllBelow n bs → AllByRecursion (λ b. b.1.body < n) (type_entries ts bs)
+types-held n [] bs h = tt
+types-held n (t ∷ ts) [] h = tt
+types-held n (t ∷ ts) (b ∷ bs) h = (h.0, types-held n ts bs h.1)
 
 few-variables : AllByRecursion (λ t. top (body_of t.1) ≤ arity_of t.1) type_list
 few-variables = (omega arith, (omega arith, (omega arith, (omega arith, (omega arith, (omega arith, (omega arith, (omega arith, (omega arith, tt)))))))))
 
-types-closed : (us : List Typ) (ts : List (ℕ × Option TyName)) (bs : List ℕ) (k : ℕ) → map (type_at us) bs ≡ map (λ t. body_of t.1) ts → AllByRecursion (λ t. top (body_of t.1) ≤ arity_of t.1) ts
-    → AllByRecursion (λ b. top (type_at us b.1.body) ≤ b.1.arity) (type_entries ts bs k)
-types-closed us [] bs k e h = tt
-types-closed us (t ∷ ts) [] k e h = tt
-types-closed us (t ∷ ts) (b ∷ bs) k e h =
+types-closed : (us : List Typ) (ts : List NamedType) (bs : List ℕ) → map (type_at us) bs ≡ map (λ t. body_of t.1) ts → AllByRecursion (λ t. top (body_of t.1) ≤ arity_of t.1) ts
+    → AllByRecursion (λ b. top (type_at us b.1.body) ≤ b.1.arity) (type_entries ts bs)
+types-closed us [] bs e h = tt
+types-closed us (t ∷ ts) [] e h = tt
+types-closed us (t ∷ ts) (b ∷ bs) e h =
     let body : type_at us b ≡ body_of t.1 = cc in
-    (subst (λ z. top z ≤ arity_of t.1) (sym body) h.0, types-closed us ts bs (suc k) (cc) h.1)
+    (subst (λ z. top z ≤ arity_of t.1) (sym body) h.0, types-closed us ts bs (cc) h.1)
 
 -- identifiers
 
@@ -82,7 +81,7 @@ rows-held : (S : State) (C : Context) (rs : Rows) (k : ℕ) (x : Vid) (e : Entry
 rows-held S C [] k (Named x) e le q = cc
 rows-held S C [] k (Fresh x) e le q = cc
 rows-held S C [] k Equals e le q = cc
-rows-held S C ((w, a) ∷ rs) k x e le q = by (same_vid x (vid_of w)) (λ s. rows-held S C rs (suc k) x e (omega (arith, le)) s) (sym (front rs k w a x) ∙ q)
+rows-held S C ((w, a) ∷ rs) k x e le q = by (same_vid x (vid_at w)) (λ s. rows-held S C rs (suc k) x e (omega (arith, le)) s) (sym (front rs k w a x) ∙ q)
   where
     by : (b : Bool) → (row_entry rs (suc k) x ≡ Some e → IsHeld S C e) → cond b (Some (entry_at a k)) (row_entry rs (suc k) x) ≡ Some e → IsHeld S C e
     by true f s = let same : entry_at a k ≡ e = cc in subst (IsHeld S C) same (row-held S C a k (omega (arith, le)))
@@ -100,7 +99,7 @@ rows-free : (j : ℕ) (rs : Rows) (k : ℕ) (x : Vid) (e : Entry) → row_entry 
 rows-free j [] k (Named x) e q = cc
 rows-free j [] k (Fresh x) e q = cc
 rows-free j [] k Equals e q = cc
-rows-free j ((w, a) ∷ rs) k x e q = by (same_vid x (vid_of w)) (λ s. rows-free j rs (suc k) x e s) (sym (front rs k w a x) ∙ q)
+rows-free j ((w, a) ∷ rs) k x e q = by (same_vid x (vid_at w)) (λ s. rows-free j rs (suc k) x e s) (sym (front rs k w a x) ∙ q)
   where
     by : (b : Bool) → (row_entry rs (suc k) x ≡ Some e → IsBelowIf j e) → cond b (Some (entry_at a k)) (row_entry rs (suc k) x) ≡ Some e → IsBelowIf j e
     by true f s = let same : entry_at a k ≡ e = cc in subst (IsBelowIf j) same (row-free j a k)
@@ -126,12 +125,9 @@ places-free j (p ∷ ps) q x e f = by (nat_eq q p.0) (λ s. places-free j ps q x
     by false g s = g s
 
 module _ (S : State) (C : Context) (ps : Places) (i : IsBasis (types_in S) C ps) (few : AllByRecursion (λ p. p.1.1 + length p.1.0 ≤ 49) ps) where
-  scheme-count : length C.schemes.items ≡ 49
-  scheme-count = sym (length-map C.schemes.items (scheme_in (types_in S))) ∙ ap length i.schemes
-
   entries-held : (qs : List ℕ) (x : Vid) (e : Entry) → entry_in C qs x ≡ Some e → IsHeld S C e
-  entries-held [] x e q = let n = scheme-count in rows-held S C row_list 0 x e (omega (arith, n)) (sym (rows-found C.values row_list 0 x i.values) ∙ q)
-  entries-held (n ∷ []) x e q = places-held S C ps n x e (subst (λ z. AllByRecursion (λ p. p.1.1 + length p.1.0 ≤ z) ps) (sym scheme-count) few) (sym (i.placed n x) ∙ q)
+  entries-held [] x e q = let n = scheme-count (types_in S) C ps i in rows-held S C row_list 0 x e (omega (arith, n)) (sym (rows-found C.values row_list 0 x i.values) ∙ q)
+  entries-held (n ∷ []) x e q = places-held S C ps n x e (subst (λ z. AllByRecursion (λ p. p.1.1 + length p.1.0 ≤ z) ps) (sym (scheme-count (types_in S) C ps i)) few) (sym (i.placed n x) ∙ q)
   entries-held (n ∷ m ∷ ns) x e q = cc
 
   entries-free : (j : ℕ) (qs : List ℕ) (x : Vid) (e : Entry) → entry_in C qs x ≡ Some e → IsBelowIf j e
@@ -146,8 +142,8 @@ module _ (S : State) (C : Context) (ps : Places) (i : IsBasis (types_in S) C ps)
     naming = subst (IsAmong (length S.namings.items)) (sym i.naming) tt;
     holds = record {
       tyvars = subst (AllByRecursion (λ b. b.1 < length (types_in S))) (sym i.tyvars) tt;
-      bodies = subst (AllByRecursion (λ b. b.1.body < length (types_in S))) (sym i.types) (types-held (length (types_in S)) type_list i.bodies 0 i.bodies_held);
-      closed = subst (AllByRecursion (λ b. top (type_at (types_in S) b.1.body) ≤ b.1.arity)) (sym i.types) (types-closed (types_in S) type_list i.bodies 0 i.bodies_are few-variables);
+      bodies = subst (AllByRecursion (λ b. b.1.body < length (types_in S))) (sym i.types) (types-held (length (types_in S)) type_list i.bodies i.bodies_held);
+      closed = subst (AllByRecursion (λ b. top (type_at (types_in S) b.1.body) ≤ b.1.arity)) (sym i.types) (types-closed (types_in S) type_list i.bodies i.bodies_are few-variables);
     };
     known = subst (AllByRecursion (λ b. is_below (made S) (type_at (types_in S) b.1) ≡ true)) (sym i.tyvars) tt;
     schemes = λ k s e.
@@ -166,9 +162,9 @@ pub record AreBases (ts : List Typ) (C : Context) : Type 0 where
   pub initial : IsBasis ts (without_prim C) initial_places
 
 pub bases_are : (ts : List Typ) (C : Context) (b : Basis) → HasBasis ts b → HasRows C.values row_list 0 → C.structures ≡ structure_list → HasMembers C.members.items
-    → C.types.tyvars ≡ [] → C.types.types ≡ type_entries type_list b.bodies.items 0 → marks_at C.schemes.items ≡ all_marks b → C.level ≡ 0 → C.names ≡ 8
+    → map (λ es. es.items) C.contents.items ≡ all_contents → C.types.tyvars ≡ [] → C.types.types ≡ type_entries type_list b.bodies.items → marks_at C.schemes.items ≡ all_marks b → constructors_at C.schemes.items ≡ all_constructors → C.level ≡ 0 → C.names ≡ 8
     → C.naming ≡ None → C.numbers ≡ [] → AreBases ts C
-bases_are ts C b h v s ms tv ty g l n o ns =
+bases_are ts C b h v s ms cs tv ty g bs l n o ns =
     let all = b.values.items ++ (b.integers.items ++ b.hidden.items) in
     let whole : marks_at C.schemes.items ≡ basis_marks all =
     g ∙ ap (λ z. basis_marks b.values.items ++ z) (sym (marks-append b.integers.items b.hidden.items)) ∙ sym (marks-append b.values.items (b.integers.items ++ b.hidden.items)) in
@@ -182,6 +178,7 @@ bases_are ts C b h v s ms tv ty g l n o ns =
       prelude = record {
         values = v;
         placed = two-placed C ms s;
+        listed = two-listed C cs s;
         tyvars = tv;
         bodies = b.bodies.items;
         types = ty;
@@ -189,6 +186,7 @@ bases_are ts C b h v s ms tv ty g l n o ns =
         bodies_are = h.bodies;
         schemes = schemes;
         schemes_held = held;
+        constructors = bs;
         level = l;
         names = n;
         naming = o;
@@ -197,6 +195,7 @@ bases_are ts C b h v s ms tv ty g l n o ns =
       initial = record {
         values = v;
         placed = one-placed (without_prim C) ms (ap (left_at 1) s);
+        listed = one-listed (without_prim C) cs (ap (left_at 1) s);
         tyvars = tv;
         bodies = b.bodies.items;
         types = ty;
@@ -204,6 +203,7 @@ bases_are ts C b h v s ms tv ty g l n o ns =
         bodies_are = h.bodies;
         schemes = schemes;
         schemes_held = held;
+        constructors = bs;
         level = l;
         names = n;
         naming = o;
@@ -221,3 +221,12 @@ module _ (S : State) (C : Context) (a : AreBases (types_in S) C) (level : S.leve
 
 pub bodies-count : (ts : List Typ) (b : Basis) (ks : List ℕ) → HasBasis ts b → ks ≡ b.bodies.items → length ks ≡ 9
 bodies-count ts b ks h e = ap length e ∙ sym (length-map b.bodies.items (type_at ts)) ∙ ap length h.bodies
+
+pub values-count : (ts : List Typ) (b : Basis) → HasBasis ts b → length b.values.items ≡ 25
+values-count ts b h = sym (length-map b.values.items (scheme_of ts)) ∙ ap length h.values
+
+pub integers-count : (ts : List Typ) (b : Basis) → HasBasis ts b → length b.integers.items ≡ 3
+integers-count ts b h = sym (length-map b.integers.items (scheme_of ts)) ∙ ap length h.integers
+
+pub hidden-count : (ts : List Typ) (b : Basis) → HasBasis ts b → length b.hidden.items ≡ 21
+hidden-count ts b h = sym (length-map b.hidden.items (scheme_of ts)) ∙ ap length h.hidden

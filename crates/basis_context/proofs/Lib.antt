@@ -1,4 +1,5 @@
 pub mod Agreeing
+pub mod Listing
 pub mod Telling
 pub mod Whole
 pub mod Being

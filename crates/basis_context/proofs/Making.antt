@@ -1,7 +1,7 @@
 -- What is made of the basis, one step after the other.
 use Rattle.std.proofs.Common.{◌≡◌, ◌<◌, ◌≤◌, ◌+◌, ℕ, zero, suc, List, [], ◌∷◌, ◌++◌, map, take, drop, length, get_or, Option, Some, slice_get, refl, sym, ap, ap₂, subst, ◌∙◌, arith}
 use Rattle.std.specs.List.{AllByRecursion}
-use Rattle.std.proofs.lemmas.List.{append_assoc, map-append}
+use Rattle.std.proofs.lemmas.List.{append_assoc, map-append, take_all}
 use Rattle.std.proofs.lemmas.Option.{slice_get_within, get_or_from_slice_get}
 use Rattle.ty_core.specs.Types.{Typ, var, con, none, more, name}
 use Rattle.ty_core.specs.declared.mark.Mark.{Mark}
@@ -15,10 +15,12 @@ use Rattle.core_rules.specs.Initial.{entries, hidden, integers}
 use Rattle.initial_types.specs.Schemes.{bodies_of, marks_of, scheme_of, schemes_in, schemes_of}
 use Rattle.initial_types.specs.declared.row.Scheme as basis
 use Rattle.elab_context.specs.declared.entry.Scheme as code
-use Rattle.basis_context.specs.Basis.{Rows, HasBasis, arity_of, body_of, body_with, entry_at, equal_rows, equal_with, function_bodies, basis_marks, marks_at, named_rows, named_with, scheme_in, type_entries, type_list}
+use Rattle.basis_context.specs.Basis.{Rows, HasBasis, arity_of, body_of, body_with, entry_at, equal_rows, equal_with, function_bodies, basis_marks, marks_at, named_rows, named_with, scheme_in, type_entries, type_list, vid_at, IsStandard, NamedType, constructors_at, built_at, listed_rows, row_constructors}
 use Rattle.elab_types.specs.declared.scope.TypeEntry.{TypeEntry}
 use Rattle.basis_context.specs.declared.rows.Kind.{Kind}
+use Rattle.elab_context.specs.declared.entry.Built.{Built}
 use Rattle.elab_context.specs.declared.entry.Entry.{Entry}
+use Rattle.sml_tree.specs.declared.ident.Vid.{Vid}
 use Rattle.vid_scope.specs.declared.vids.VidScope.{VidScope}
 use Rattle.basis_context.specs.declared.tables.Basis.{Basis}
 
@@ -45,7 +47,7 @@ body-one y zero h = absurd (h refl)
 body-one y (suc n) h = refl
 
 -- bodies that are made so far
-pub record Made (old T : List Typ) (rows : List (ℕ × Option TyName)) (ks : List ℕ) : Type 0 where
+pub record Made (old T : List Typ) (rows : List NamedType) (ks : List ℕ) : Type 0 where
   pub kept : take (length old) T ≡ old
   pub held : AllBelow (length T) ks
   pub are : map (type_at T) ks ≡ map (λ t. body_of t.1) rows
@@ -53,7 +55,7 @@ pub record Made (old T : List Typ) (rows : List (ℕ × Option TyName)) (ks : Li
 pub made-none : (old : List Typ) (ks : List ℕ) → ks ≡ [] → Made old old [] ks
 made-none old ks e = subst (Made old old []) (sym e) (record { kept = whole old; held = tt; are = refl })
 
-pub made-more : (old T U : List Typ) (rows : List (ℕ × Option TyName)) (i : ℕ) (d : ℕ × Option TyName) (ks js : List ℕ) (k : ℕ) (o : Option TyName) → i < length rows → Made old T (take i rows) ks
+pub made-more : (old T U : List Typ) (rows : List NamedType) (i : ℕ) (d : NamedType) (ks js : List ℕ) (k : ℕ) (o : Option TyName) → i < length rows → Made old T (take i rows) ks
     → take (length T) U ≡ T → o ≡ (get_or rows i d).1 → slice_get U k ≡ Some (body_of o) → js ≡ ks ++ k ∷ [] → Made old U (take (i + 1) rows) js
 made-more old T U rows i d ks js k o lt h g e is p = record {
   kept = stays-on old T U h.kept g;
@@ -61,11 +63,11 @@ made-more old T U rows i d ks js k o lt h g e is p = record {
   are =
       ap (map (type_at U)) p ∙ map-append (type_at U) ks (k ∷ [])
       ∙ ap₂ (λ (l : List Typ) (t : Typ). l ++ t ∷ []) (types-stay T U ks g h.held ∙ h.are) (get_or_from_slice_get U k (body_of o) (var 0) is ∙ ap body_of e)
-      ∙ sym (next-map-at (λ (t : ℕ × Option TyName). body_of t.1) rows i d lt);
+      ∙ sym (next-map-at (λ (t : NamedType). body_of t.1) rows i d lt);
 }
 
-pub made-all : (old T : List Typ) (rows : List (ℕ × Option TyName)) (i : ℕ) (ks : List ℕ) → length rows ≤ i → Made old T (take i rows) ks → map (type_at T) ks ≡ map (λ t. body_of t.1) rows
-made-all old T rows i ks le h = h.are ∙ all-map (λ (t : ℕ × Option TyName). body_of t.1) rows i le
+pub made-all : (old T : List Typ) (rows : List NamedType) (i : ℕ) (ks : List ℕ) → length rows ≤ i → Made old T (take i rows) ks → map (type_at T) ks ≡ map (λ t. body_of t.1) rows
+made-all old T rows i ks le h = h.are ∙ all-map (λ (t : NamedType). body_of t.1) rows i le
 
 -- all of them
 pub has_basis : (T U V X : List Typ) (b : Basis) → AllBelow (length T) (bodies_of b.values.items) → schemes_of T b.values.items ≡ schemes_in entries → take (length T) U ≡ T
@@ -164,36 +166,35 @@ named-none rs k = ap (λ l. named_rows l k) (drop-all rs)
 pub equal-none : (rs : Rows) (k : ℕ) → equal_rows (drop (length rs) rs) k ≡ []
 equal-none rs k = ap (λ l. equal_rows l k) (drop-all rs)
 
-pub types-more : (ts : List (ℕ × Option TyName)) (bs : List ℕ) (i j : ℕ) (d : ℕ × Option TyName) (b : ℕ) → i < length ts → i < length bs → j ≡ suc i
-    → type_entries (drop i ts) (drop i bs) i
-    ≡ ((get_or ts i d).0, record { arity = arity_of (get_or ts i d).1; body = get_or bs i b; constructors = i }) ∷ type_entries (drop j ts) (drop j bs) j
+pub types-more : (ts : List NamedType) (bs : List ℕ) (i j : ℕ) (d : NamedType) (b : ℕ) → i < length ts → i < length bs → j ≡ suc i
+    → type_entries (drop i ts) (drop i bs)
+    ≡ ((get_or ts i d).0, record { arity = arity_of (get_or ts i d).1; body = get_or bs i b; constructors = (get_or ts i d).2 }) ∷ type_entries (drop j ts) (drop j bs)
 types-more ts bs i j d b lt lb e =
-    ap₂ (λ l m. type_entries l m i) (drop-one ts i (get_or ts i d) d lt refl ∙ ap (λ n. get_or ts i d ∷ drop n ts) (sym e)) (drop-one bs i (get_or bs i b) b lb refl ∙ ap (λ n. get_or bs i b ∷ drop n bs) (sym e))
-    ∙ ap (λ n. ((get_or ts i d).0, record { arity = arity_of (get_or ts i d).1; body = get_or bs i b; constructors = i }) ∷ type_entries (drop j ts) (drop j bs) n) (sym e)
+    ap₂ type_entries (drop-one ts i (get_or ts i d) d lt refl ∙ ap (λ n. get_or ts i d ∷ drop n ts) (sym e)) (drop-one bs i (get_or bs i b) b lb refl ∙ ap (λ n. get_or bs i b ∷ drop n bs) (sym e))
 
 -- type constructors that are bound, from the end of the rows on
 
 pub record TypesSoFar (bs : List ℕ) (i : ℕ) (s : List (ℕ × TypeEntry)) : Type 0 where
-  pub are : s ≡ type_entries (drop i type_list) (drop i bs) i
+  pub are : s ≡ type_entries (drop i type_list) (drop i bs)
   pub within : i ≤ 9
 
 pub types-none : (bs : List ℕ) (i : ℕ) (s : List (ℕ × TypeEntry)) → i ≡ 9 → s ≡ [] → TypesSoFar bs i s
-types-none bs i s e n = record { are = n ∙ sym (ap (λ j. type_entries (drop j type_list) (drop j bs) j) e); within = omega (arith, e) }
+types-none bs i s e n = record { are = n ∙ sym (ap (λ j. type_entries (drop j type_list) (drop j bs)) e); within = omega (arith, e) }
 
-pub types-so-far : (bs : List ℕ) (i j : ℕ) (d : ℕ × Option TyName) (b n : ℕ) (old new : List (ℕ × TypeEntry)) → length bs ≡ 9 → TypesSoFar bs j old → j ≡ suc i
-    → n ≡ arity_of (get_or type_list i d).1 → new ≡ ((get_or type_list i d).0, record { arity = n; body = get_or bs i b; constructors = i }) ∷ old → TypesSoFar bs i new
+pub types-so-far : (bs : List ℕ) (i j : ℕ) (d : NamedType) (b n : ℕ) (old new : List (ℕ × TypeEntry)) → length bs ≡ 9 → TypesSoFar bs j old → j ≡ suc i → n ≡ arity_of (get_or type_list i d).1
+    → new ≡ ((get_or type_list i d).0, record { arity = n; body = get_or bs i b; constructors = (get_or type_list i d).2 }) ∷ old → TypesSoFar bs i new
 types-so-far bs i j d b n old new count h next en is =
     let le = h.within in
     let lt : i < 9 = omega (arith, le, next) in
     record {
       are =
-          is ∙ ap₂ (λ (m : ℕ) l. ((get_or type_list i d).0, record { arity = m; body = get_or bs i b; constructors = i }) ∷ l) en h.are
+          is ∙ ap₂ (λ (m : ℕ) l. ((get_or type_list i d).0, record { arity = m; body = get_or bs i b; constructors = (get_or type_list i d).2 }) ∷ l) en h.are
           ∙ sym (types-more type_list bs i j d b lt (omega (arith, lt, count)) next);
       within = omega (arith, lt);
     }
 
-pub types-all : (bs : List ℕ) (i : ℕ) (s : List (ℕ × TypeEntry)) → i ≡ 0 → TypesSoFar bs i s → s ≡ type_entries type_list bs 0
-types-all bs i s e h = h.are ∙ ap (λ j. type_entries (drop j type_list) (drop j bs) j) e
+pub types-all : (bs : List ℕ) (i : ℕ) (s : List (ℕ × TypeEntry)) → i ≡ 0 → TypesSoFar bs i s → s ≡ type_entries type_list bs
+types-all bs i s e h = h.are ∙ ap (λ j. type_entries (drop j type_list) (drop j bs)) e
 
 -- what the code has bound, from the end of the rows on
 
@@ -244,3 +245,47 @@ pub marks-three : (a b c d : List code.Scheme) (xs ys zs us vs ws : List basis.S
 marks-three a b c d xs ys zs us vs ws n e f g x y z =
     g ∙ ap₂ (λ l s. l ++ basis_marks s) (f ∙ ap₂ (λ l s. l ++ basis_marks s) (e ∙ ap₂ (λ k s. marks_at k ++ basis_marks s) n x) y) z
     ∙ append_assoc (basis_marks us) (basis_marks vs) (basis_marks ws)
+
+-- the constructors that they are of
+
+pub constructors-more : (rows : Rows) (i : ℕ) (d : Option ℕ × Kind) (old mid new : List code.Scheme) (s : code.Scheme) → i < length rows
+    → constructors_at mid ≡ constructors_at old ++ row_constructors (take i rows) → s.constructor ≡ built_at (get_or rows i d).1 → new ≡ mid ++ s ∷ []
+    → constructors_at new ≡ constructors_at old ++ row_constructors (take (i + 1) rows)
+constructors-more rows i d old mid new s lt h e p =
+    ap constructors_at p ∙ map-append (λ (s : code.Scheme). s.constructor) mid (s ∷ []) ∙ ap₂ (λ (l : List (Option Built)) c. l ++ c ∷ []) h e
+    ∙ append_assoc (constructors_at old) (row_constructors (take i rows)) (built_at (get_or rows i d).1 ∷ [])
+    ∙ ap (λ l. constructors_at old ++ l) (sym (next-map-at (λ (r : Option ℕ × Kind). built_at r.1) rows i d lt))
+
+pub constructors-all : (rows : Rows) (i : ℕ) (old mid : List code.Scheme) → length rows ≤ i → constructors_at mid ≡ constructors_at old ++ row_constructors (take i rows)
+    → constructors_at mid ≡ constructors_at old ++ row_constructors rows
+constructors-all rows i old mid le h = h ∙ ap (λ l. constructors_at old ++ l) (all-map (λ (r : Option ℕ × Kind). built_at r.1) rows i le)
+
+pub constructors-three : (a b c d : List code.Scheme) (xs ys zs : List (Option Built)) → a ≡ [] → constructors_at b ≡ constructors_at a ++ xs → constructors_at c ≡ constructors_at b ++ ys
+    → constructors_at d ≡ constructors_at c ++ zs → constructors_at d ≡ xs ++ (ys ++ zs)
+constructors-three a b c d xs ys zs n e f g =
+    g ∙ ap (λ l. l ++ zs) (f ∙ ap (λ l. l ++ ys) (e ∙ ap (λ k. constructors_at k ++ xs) n)) ∙ append_assoc xs ys zs
+
+-- what is listed so far
+
+pub standard-at : (rs : Rows) (i : ℕ) (d : Option ℕ × Kind) → AllByRecursion (λ r. IsStandard r.0) rs → i < length rs → IsStandard (get_or rs i d).0
+standard-at [] i d h lt = absurd (omega (arith, lt))
+standard-at (r ∷ rs) zero d h lt = h.0
+standard-at (r ∷ rs) (suc i) d h lt = standard-at rs i d h.1 (omega (arith, lt))
+
+listed-next : (rs : Rows) (k i : ℕ) (d : Option ℕ × Kind) → i < length rs
+    → listed_rows (take (suc i) rs) k ≡ listed_rows (take i rs) k ++ (vid_at (get_or rs i d).0, entry_at (get_or rs i d).1 (k + i)) ∷ []
+listed-next [] k i d lt = absurd (omega (arith, lt))
+listed-next (r ∷ rs) k zero d lt = let e : k ≡ k + 0 = omega arith in ap (λ n. (vid_at r.0, entry_at r.1 n) ∷ []) e
+listed-next (r ∷ rs) k (suc i) d lt =
+    let e : suc k + i ≡ k + suc i = omega arith in
+    ap (λ l. (vid_at r.0, entry_at r.1 k) ∷ l)
+    (listed-next rs (suc k) i d (omega (arith, lt)) ∙ ap (λ n. listed_rows (take i rs) (suc k) ++ (vid_at (get_or rs i d).0, entry_at (get_or rs i d).1 n) ∷ []) e)
+
+pub listed-more : (rs : Rows) (k i : ℕ) (d : Option ℕ × Kind) (es ds : List (Vid × Entry)) (e : Vid × Entry) → i < length rs → es ≡ listed_rows (take i rs) k
+    → e ≡ (vid_at (get_or rs i d).0, entry_at (get_or rs i d).1 (k + i)) → ds ≡ es ++ e ∷ [] → ds ≡ listed_rows (take (i + 1) rs) k
+listed-more rs k i d es ds e lt h is p =
+    let n : suc i ≡ i + 1 = omega arith in
+    p ∙ ap₂ (λ (l : List (Vid × Entry)) z. l ++ z ∷ []) h is ∙ sym (listed-next rs k i d lt) ∙ ap (λ j. listed_rows (take j rs) k) n
+
+pub listed-all : (rs : Rows) (k i : ℕ) (es : List (Vid × Entry)) → length rs ≤ i → es ≡ listed_rows (take i rs) k → es ≡ listed_rows rs k
+listed-all rs k i es le h = h ∙ ap (λ l. listed_rows l k) (take_all i rs le)

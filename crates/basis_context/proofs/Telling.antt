@@ -11,6 +11,8 @@ use Rattle.ty_basis.specs.Types.{bool_name, list_name, list_type, pair_type, exn
 use Rattle.ty_basis.specs.Primitives.{prim_type, primitive_type}
 use Rattle.mlc_prims.specs.declared.basis.BasisPrimitive.{BasisPrimitive}
 use Rattle.mlc_prims.specs.declared.basis.BasisPrimitive.TheVariants as prim
+use Rattle.sml_tree.specs.declared.ident.BuiltIn.{BuiltIn}
+use Rattle.sml_tree.specs.declared.ident.BuiltIn.TheVariants.{True, False, Nil, Cons}
 use Rattle.sml_tree.specs.declared.ident.Vid.TheVariants.{Named}
 use Rattle.core_rules.specs.Objects.{Scheme, Over, monomorphic}
 use Rattle.core_rules.specs.Typing.{all_general}
@@ -18,17 +20,17 @@ use Rattle.core_rules.specs.Initial.{Entry as Row, entries, hidden, integers, re
 use Rattle.ir_poly.specs.Types.{constructor_of, find, initial_constructors}
 use Rattle.ir_poly.specs.TestsChecked.{alone_type}
 use Rattle.initial_types.specs.Schemes.{schemes_in}
-use Rattle.core_elab.specs.Scopes.{denotes_of as row_denotes}
+use Rattle.core_elab.specs.Scopes.{built_number, denotes_of as row_denotes}
 use Rattle.elab_typed.specs.Contexts.{Around, given}
 use Rattle.elab_typed.specs.Numbers.{name_as, type_as}
 use Rattle.elab_steps.specs.World.{World}
 use Rattle.elab_context.specs.Telling.{denotes_of, scheme_at, scheme_of}
 use Rattle.elab_context.specs.declared.context.Context.{Context}
 use Rattle.elab_context.specs.declared.entry.Scheme as code
-use Rattle.basis_context.specs.Basis.{entry_at, row_list, integer_list, hidden_list}
+use Rattle.basis_context.specs.Basis.{entry_at, row_list, integer_list, hidden_list, vid_at}
 use Rattle.basis_context.specs.Telling.{HasInitial}
 use Rattle.basis_context.specs.declared.rows.Kind.TheVariants.{Reference, Constructor, Exception, Primitive}
-use Rattle.basis_context.proofs.Agreeing.{vid_of, IsRow, AreRows}
+use Rattle.basis_context.proofs.Agreeing.{IsRow, AreRows}
 
 -- names of the basis have their own numbers in every world
 module _ (C : Context) (W : World) (names : C.names ≡ 8) (naming : C.naming ≡ None) where
@@ -58,7 +60,7 @@ module _ (C : Context) (W : World) (names : C.names ≡ 8) (naming : C.naming �
     unknown = refl;
   }
 
-  primitive-row : (A : Around) (r : Row) (w : Option ℕ) (q : BasisPrimitive) (s : ℕ) → r.vid ≡ vid_of w → r.status ≡ status.Variable → row_denotes r.value ≡ denotes_of (entry_at (Primitive q) s)
+  primitive-row : (A : Around) (r : Row) (w : Option ℕ) (q : BasisPrimitive) (s : ℕ) → r.vid ≡ vid_at w → r.status ≡ status.Variable → row_denotes r.value ≡ denotes_of (entry_at (Primitive q) s)
       → r.scheme.body ≡ primitive_type q → (r.scheme.marks ≡ (prim_type q).mark ∷ []) ⊎ ((r.scheme.marks ≡ []) × ((prim_type q).mark ≡ Any)) → scheme_at C W s ≡ r.scheme
       → IsRow C W A r w (Primitive q) s
   primitive-row A r w q s v et ed eb em e = record {
@@ -72,11 +74,11 @@ module _ (C : Context) (W : World) (names : C.names ≡ 8) (naming : C.naming �
     unknown = refl;
   }
 
-  constructor-row : (A : Around) (r : Row) (w n : ℕ) (y : TyName) (s : ℕ) (o : Option Typ) → HasInitial W → r.vid ≡ Named w → r.status ≡ status.Constructor
-      → row_denotes r.value ≡ denotes_of (entry_at (Constructor n y) s) → all_general r.scheme.marks ≡ true
-      → r.scheme.body ≡ alone_type o (con (name y) (variables 0 (length r.scheme.marks))) → Over 8 r.scheme.body → find initial_constructors y n ≡ Some (constructor_of y n o)
-      → option_map (type_as (W.naming C.naming)) o ≡ o → scheme_at C W s ≡ r.scheme → IsRow C W A r (Some w) (Constructor n y) s
-  constructor-row A r w n y s o has v et ed g eb ov f eo e = record {
+  constructor-row : (A : Around) (r : Row) (w : ℕ) (b : BuiltIn) (y : TyName) (s : ℕ) (o : Option Typ) → HasInitial W → r.vid ≡ Named w → r.status ≡ status.Constructor
+      → row_denotes r.value ≡ denotes_of (entry_at (Constructor b y) s) → all_general r.scheme.marks ≡ true
+      → r.scheme.body ≡ alone_type o (con (name y) (variables 0 (length r.scheme.marks))) → Over 8 r.scheme.body → find initial_constructors y (built_number b) ≡ Some (constructor_of y (built_number b) o)
+      → option_map (type_as (W.naming C.naming)) o ≡ o → scheme_at C W s ≡ r.scheme → IsRow C W A r (Some w) (Constructor b y) s
+  constructor-row A r w b y s o has v et ed g eb ov f eo e = record {
     vid = v;
     kept = ap₂ (λ z t. given (record { scheme = z; status = t })) e (sym et);
     denotes = sym ed;
@@ -86,8 +88,8 @@ module _ (C : Context) (W : World) (names : C.names ≡ 8) (naming : C.naming �
       body = subst (λ (z : Scheme). z.body ≡ alone_type o (con (name y) (variables 0 (length z.marks)))) (sym e) eb;
       names = subst (λ (z : Scheme). Over C.names z.body) (sym e) (subst (λ k. Over k r.scheme.body) (sym names) ov);
       row =
-          subst (λ z. find W.table z n ≡ Some (constructor_of z n (option_map (type_as (W.naming C.naming)) o))) (sym (own-name y))
-          (has y n (constructor_of y n o) f ∙ ap (λ z. Some (constructor_of y n z)) (sym eo));
+          subst (λ z. find W.table z (built_number b) ≡ Some (constructor_of z (built_number b) (option_map (type_as (W.naming C.naming)) o))) (sym (own-name y))
+          (has y (built_number b) (constructor_of y (built_number b) o) f ∙ ap (λ z. Some (constructor_of y (built_number b) z)) (sym eo));
     };
     unknown = refl;
   }
@@ -115,13 +117,13 @@ module _ (C : Context) (W : World) (names : C.names ≡ 8) (naming : C.naming �
     value-rows = (
       reference-row C W names naming A 0 (at-row 0 ref_row.scheme refl),
       (
-        constructor-row C W names naming A _ 11 11 bool_name 1 None has refl refl refl refl refl (refl, tt) refl refl (at-row 1 _ refl),
+        constructor-row C W names naming A _ 11 True bool_name 1 None has refl refl refl refl refl (refl, tt) refl refl (at-row 1 _ refl),
         (
-          constructor-row C W names naming A _ 12 12 bool_name 2 None has refl refl refl refl refl (refl, tt) refl refl (at-row 2 _ refl),
+          constructor-row C W names naming A _ 12 False bool_name 2 None has refl refl refl refl refl (refl, tt) refl refl (at-row 2 _ refl),
           (
-            constructor-row C W names naming A _ 13 13 list_name 3 None has refl refl refl refl refl (list-over 8 (omega arith)) refl refl (at-row 3 _ refl),
+            constructor-row C W names naming A _ 13 Nil list_name 3 None has refl refl refl refl refl (list-over 8 (omega arith)) refl refl (at-row 3 _ refl),
             (
-              constructor-row C W names naming A _ 14 14 list_name 4 (Some (pair_type (var 0) (list_type (var 0)))) has refl refl refl refl refl
+              constructor-row C W names naming A _ 14 Cons list_name 4 (Some (pair_type (var 0) (list_type (var 0)))) has refl refl refl refl refl
                   (tt, ((tt, (tt, (list-over 8 (omega arith), tt))), (list-over 8 (omega arith), tt))) refl kept-cons (at-row 4 _ refl),
               (
                 exception-row C W names naming A _ 20 0 5 refl refl refl refl refl (at-row 5 _ refl),

@@ -1,7 +1,10 @@
 -- What the code has of the initial basis.
-use Rattle.std.specs.Prelude.{◌≡◌, ℕ, zero, suc, List, [], ◌∷◌, ◌++◌, map, length, Option, Some, None}
-use Rattle.mlc_names.specs.StandardWords.{word_unit, word_int, word_word, word_char, word_string, word_bool, word_list, word_ref, word_exn, word_true, word_false, word_nil, word_cons, word_Match, word_Bind, word_Overflow, word_Div, word_Subscript, word_Size, word_Chr, word_plus, word_minus, word_times, word_div, word_mod, word_negate, word_abs, word_less_than, word_at_most, word_greater_than, word_at_least, word_assign, word_Prim, word_quot, word_rem, word_andb, word_orb, word_xorb, word_notb, word_shl, word_shr, word_sar, word_toInt, word_toIntX, word_fromInt, word_ord, word_chr, word_text, word_size, word_sub, word_part, word_cat, word_str, word_print}
+use Rattle.std.specs.Prelude.{◌≡◌, ◌<◌, ℕ, zero, suc, List, [], ◌∷◌, ◌++◌, map, length, Option, Some, None, ⊤}
+use Rattle.mlc_names.specs.StandardWords.{standard_words, word_unit, word_int, word_word, word_char, word_string, word_bool, word_list, word_ref, word_exn, word_true, word_false, word_nil, word_cons, word_Match, word_Bind, word_Overflow, word_Div, word_Subscript, word_Size, word_Chr, word_plus, word_minus, word_times, word_div, word_mod, word_negate, word_abs, word_less_than, word_at_most, word_greater_than, word_at_least, word_assign, word_Prim, word_quot, word_rem, word_andb, word_orb, word_xorb, word_notb, word_shl, word_shr, word_sar, word_toInt, word_toIntX, word_fromInt, word_ord, word_chr, word_text, word_size, word_sub, word_part, word_cat, word_str, word_print}
 use Rattle.mlc_prims.specs.declared.basis.BasisPrimitive.TheVariants as prim
+use Rattle.sml_tree.specs.declared.ident.Vid.{Vid}
+use Rattle.sml_tree.specs.declared.ident.Vid.TheVariants.{Named, Equals}
+use Rattle.sml_tree.specs.declared.ident.BuiltIn.TheVariants.{True, False, Nil, Cons}
 use Rattle.ty_core.specs.Types.{Typ, var, con, none, more, name}
 use Rattle.ty_core.specs.declared.mark.Mark.{Mark}
 use Rattle.ty_core.specs.declared.name.TyName.{TyName}
@@ -9,12 +12,16 @@ use Rattle.ty_basis.specs.Types.{int_name, word_name, char_name, string_name, re
 use Rattle.ty_table.specs.TypeAt.{type_at, AllBelow}
 use Rattle.core_rules.specs.Objects.{Scheme}
 use Rattle.core_rules.specs.Initial.{entries, hidden, integers, word_Int, word_toString}
+use Rattle.core_elab.specs.Scopes.{built_number}
 use Rattle.initial_types.specs.Schemes.{bodies_of, marks_of, schemes_in, schemes_of}
 use Rattle.initial_types.specs.declared.row.Scheme as basis
 use Rattle.vid_scope.specs.declared.vids.VidScope.{VidScope}
 use Rattle.elab_types.specs.Reading.{left_at}
+use Rattle.elab_types.specs.declared.scope.SchemeRange.{SchemeRange}
 use Rattle.elab_types.specs.declared.scope.TypeEntry.{TypeEntry}
 use Rattle.elab_context.specs.declared.context.Context.{Context}
+use Rattle.elab_context.specs.declared.entry.Built.{Built}
+use Rattle.elab_context.specs.declared.entry.Built.TheVariants.{Ref, Declared}
 use Rattle.elab_context.specs.declared.entry.Entry.{Entry}
 use Rattle.elab_context.specs.declared.entry.Entry.TheVariants as entry
 use Rattle.elab_context.specs.declared.entry.Scheme as code
@@ -25,13 +32,28 @@ use Rattle.basis_context.specs.declared.tables.Basis.{Basis}
 -- what an identifier with the scheme of a number is
 abbrev pub entry_at : Kind → ℕ → Entry
 entry_at Reference s = entry.Reference s
-entry_at (Constructor n y) s = entry.Constructor s n y
+entry_at (Constructor b y) s = entry.Constructor s (built_number b) y
 entry_at (Exception n) s = entry.Initial s n
 entry_at (Primitive q) s = entry.Primitive s q
+
+-- the constructor that it is, if it is one
+abbrev pub built_at : Kind → Option Built
+built_at Reference = Some Ref
+built_at (Constructor b y) = Some (Declared (built_number b) y)
+built_at (Exception n) = None
+built_at (Primitive q) = None
 
 -- identifiers by the numbers of their words; no word is `=`
 abbrev pub Rows : Type 0
 Rows = List (Option ℕ × Kind)
+
+abbrev pub vid_at : Option ℕ → Vid
+vid_at (Some w) = Named w
+vid_at None = Equals
+
+abbrev pub IsStandard : Option ℕ → Type 0
+IsStandard (Some w) = w < length standard_words
+IsStandard None = ⊤
 
 -- a word's entry in front, and that of `=`
 abbrev pub named_with : Option ℕ → Entry → List (ℕ × Entry) → List (ℕ × Entry)
@@ -51,9 +73,18 @@ abbrev pub equal_rows : Rows → ℕ → List (ℕ × Entry)
 equal_rows [] k = []
 equal_rows (r ∷ rs) k = equal_with r.0 (entry_at r.1 k) (equal_rows rs (suc k))
 
+-- what rows have in their order, with schemes from the k-th on
+abbrev pub listed_rows : Rows → ℕ → List (Vid × Entry)
+listed_rows [] k = []
+listed_rows (r ∷ rs) k = (vid_at r.0, entry_at r.1 k) ∷ listed_rows rs (suc k)
+
+-- which of them are constructors
+abbrev pub row_constructors : Rows → List (Option Built)
+row_constructors = map (λ r. built_at r.1)
+
 abbrev pub row_list : Rows
-row_list = (Some word_ref, Reference) ∷ (Some word_true, Constructor word_true bool_name) ∷ (Some word_false, Constructor word_false bool_name)
-    ∷ (Some word_nil, Constructor word_nil list_name) ∷ (Some word_cons, Constructor word_cons list_name) ∷ (Some word_Match, Exception 0)
+row_list = (Some word_ref, Reference) ∷ (Some word_true, Constructor True bool_name) ∷ (Some word_false, Constructor False bool_name)
+    ∷ (Some word_nil, Constructor Nil list_name) ∷ (Some word_cons, Constructor Cons list_name) ∷ (Some word_Match, Exception 0)
     ∷ (Some word_Bind, Exception 1) ∷ (Some word_Overflow, Exception 2) ∷ (Some word_Div, Exception 3) ∷ (Some word_Subscript, Exception 4)
     ∷ (Some word_Size, Exception 5) ∷ (Some word_Chr, Exception 6) ∷ (Some word_plus, Primitive prim.Add) ∷ (Some word_minus, Primitive prim.Subtract)
     ∷ (Some word_times, Primitive prim.Multiply) ∷ (Some word_div, Primitive prim.Divide) ∷ (Some word_mod, Primitive prim.Modulo)
@@ -73,6 +104,10 @@ hidden_list = (Some word_quot, Primitive prim.Quotient) ∷ (Some word_rem, Prim
     ∷ (Some word_ord, Primitive prim.CharCode) ∷ (Some word_chr, Primitive prim.CharOf) ∷ (Some word_text, Primitive prim.TextOf)
     ∷ (Some word_size, Primitive prim.SizeOf) ∷ (Some word_sub, Primitive prim.CharAt) ∷ (Some word_part, Primitive prim.PartOf)
     ∷ (Some word_cat, Primitive prim.Concat) ∷ (Some word_str, Primitive prim.StringOf) ∷ (Some word_print, Primitive prim.Print) ∷ []
+
+-- what the structures have, by number
+abbrev pub all_contents : List (List (Vid × Entry))
+all_contents = listed_rows integer_list 25 ∷ listed_rows hidden_list 28 ∷ []
 
 -- structures with the numbers of what they have, the latest first
 abbrev pub structure_list : List (ℕ × ℕ)
@@ -96,10 +131,18 @@ pub record HasMembers (ms : List (VidScope Entry)) : Type 0 where
   pub integers : HasRows of_integers integer_list 25
   pub hidden : HasRows of_hidden hidden_list 28
 
--- type constructors; no name is `unit`
-abbrev pub type_list : List (ℕ × Option TyName)
-type_list = (word_unit, None) ∷ (word_int, Some int_name) ∷ (word_word, Some word_name) ∷ (word_char, Some char_name) ∷ (word_string, Some string_name)
-    ∷ (word_exn, Some exn_name) ∷ (word_ref, Some ref_name) ∷ (word_bool, Some bool_name) ∷ (word_list, Some list_name) ∷ []
+-- so many schemes, from one on
+abbrev pub range : ℕ → ℕ → SchemeRange
+range k n = record { first = k; count = n }
+
+-- type constructors, with the schemes of their constructors; no name is `unit`
+abbrev pub NamedType : Type 0
+NamedType = ℕ × Option TyName × SchemeRange
+
+abbrev pub type_list : List NamedType
+type_list = (word_unit, None, range 0 0) ∷ (word_int, Some int_name, range 0 0) ∷ (word_word, Some word_name, range 0 0)
+    ∷ (word_char, Some char_name, range 0 0) ∷ (word_string, Some string_name, range 0 0) ∷ (word_exn, Some exn_name, range 0 0)
+    ∷ (word_ref, Some ref_name, range 0 1) ∷ (word_bool, Some bool_name, range 1 2) ∷ (word_list, Some list_name, range 3 2) ∷ []
 
 -- the body of its function, which has one parameter at most
 abbrev pub body_with : TyName → ℕ → Typ
@@ -117,11 +160,11 @@ arity_of (Some y) = y.arity
 abbrev pub function_bodies : List Typ
 function_bodies = map (λ t. body_of t.1) type_list
 
--- with bodies by number, and numbered from k on
-abbrev pub type_entries : List (ℕ × Option TyName) → List ℕ → ℕ → List (ℕ × TypeEntry)
-type_entries [] bs k = []
-type_entries (t ∷ ts) [] k = []
-type_entries (t ∷ ts) (b ∷ bs) k = (t.0, record { arity = arity_of t.1; body = b; constructors = k }) ∷ type_entries ts bs (suc k)
+-- with bodies by number
+abbrev pub type_entries : List NamedType → List ℕ → List (ℕ × TypeEntry)
+type_entries [] bs = []
+type_entries (t ∷ ts) [] = []
+type_entries (t ∷ ts) (b ∷ bs) = (t.0, record { arity = arity_of t.1; body = b; constructors = t.2 }) ∷ type_entries ts bs
 
 -- the types of the basis are in a table
 pub record HasBasis (ts : List Typ) (b : Basis) : Type 0 where
@@ -147,3 +190,10 @@ basis_marks = map (λ s. (marks_of s.mark, s.body))
 
 abbrev pub all_marks : Basis → List (List Mark × ℕ)
 all_marks b = basis_marks b.values.items ++ (basis_marks b.integers.items ++ basis_marks b.hidden.items)
+
+-- the constructors that schemes are of
+abbrev pub constructors_at : List code.Scheme → List (Option Built)
+constructors_at = map (λ s. s.constructor)
+
+abbrev pub all_constructors : List (Option Built)
+all_constructors = row_constructors row_list ++ (row_constructors integer_list ++ row_constructors hidden_list)

@@ -1,15 +1,19 @@
 // The context of the initial basis, and that of the prelude.
-ghost use Rattle.std.specs.Prelude.{◌≡◌, ◌≤◌, ◌+◌, ◌++◌, [], length, IfOk};
+ghost use Rattle.std.specs.Prelude.{◌≡◌, ◌≤◌, ◌+◌, ◌++◌, [], length, map, IfOk};
+ghost use Rattle.std.specs.List.{AllByRecursion};
 ghost use Rattle.elab_context.specs.Telling.{IsContext};
 ghost use Rattle.elab_steps.specs.Growing.{Grows};
 ghost use Rattle.elab_steps.specs.Tidy.{IsTidy};
 ghost use Rattle.basis_context.specs.Basis.{arity_of as arity_at, basis_marks, marks_at, type_entries, type_list};
-ghost use Rattle.basis_context.specs.Basis.{all_marks, structure_list, without_prim, HasMembers};
-ghost use Rattle.basis_context.specs.Basis.{entry_at, equal_rows, equal_with, named_rows, named_with};
+ghost use Rattle.basis_context.specs.Basis.{all_constructors, all_contents, all_marks, structure_list, without_prim, HasMembers, IsStandard};
+ghost use Rattle.basis_context.specs.Basis.{constructors_at, row_constructors};
+ghost use Rattle.basis_context.specs.Basis.{entry_at, equal_rows, equal_with, listed_rows, named_rows, named_with};
 ghost use Rattle.initial_types.specs.Schemes.{marks_of};
 ghost use Rattle.basis_context.specs.Telling.{TellsBasis, TellsPrelude};
 
-use crate::rows::{HIDDEN, INT_STRUCTURE, INTEGERS, Kind, ROWS, TYPES, entry_of};
+use crate::rows::{
+    HIDDEN, INT_STRUCTURE, INTEGERS, Kind, ROWS, TYPES, constructor_of, entry_of, vid_of,
+};
 use crate::tables::{Basis, basis_of};
 use elab_context::context::Context;
 use elab_context::entry::{Entry, Scheme};
@@ -21,6 +25,7 @@ use mlc_base::make::one;
 use mlc_base::memory::NoMemory;
 use mlc_names::words;
 use scoped_map::scoped::Scoped;
+use sml_tree::ident::Vid;
 use std::alloc::Global;
 use ty_core::mark::Mark;
 use ty_core::name::TyName;
@@ -80,7 +85,7 @@ fn arity_of(name: Option<TyName>) -> usize
 fn types_of(alloc: Global, bodies: &[usize]) -> Result<TypeScope, NoMemory>
     requires { length bodies.now ≡ 9 }
     ensures tyvars { IfOk result (λ s. s.tyvars ≡ []) }
-    ensures types { IfOk result (λ s. s.types ≡ type_entries type_list bodies.now 0) }
+    ensures types { IfOk result (λ s. s.types ≡ type_entries type_list bodies.now) }
 {
     let mut types = Scoped::new(alloc);
     let mut i = TYPES.len();
@@ -89,7 +94,7 @@ fn types_of(alloc: Global, bodies: &[usize]) -> Result<TypeScope, NoMemory>
         let entry = TypeEntry {
             arity: arity_of(TYPES[i].1),
             body: bodies[i],
-            constructors: i,
+            constructors: TYPES[i].2,
         };
         types.bind(TYPES[i].0 as usize, entry)?;
     }
@@ -109,15 +114,23 @@ fn marks_in(alloc: Global, mark: Option<Mark>) -> Result<Vec<Mark>, NoMemory>
     }
 }
 
-/// Adds schemes of the basis to those of a context.
-fn add_schemes(alloc: Global, added: &[BasisScheme], schemes: &mut Schemes) -> Result<(), NoMemory>
-    ensures { IfOk result (λ _. marks_at schemes.new.items ≡ marks_at schemes.old.items ++ basis_marks added.now) }
+/// Adds the schemes of rows to those of a context.
+fn add_schemes(
+    alloc: Global,
+    rows: &[(Option<u32>, Kind)],
+    added: &[BasisScheme],
+    schemes: &mut Schemes,
+) -> Result<(), NoMemory>
+    requires { length added.now ≡ length rows.now }
+    ensures marks { IfOk result (λ _. marks_at schemes.new.items ≡ marks_at schemes.old.items ++ basis_marks added.now) }
+    ensures constructors { IfOk result (λ _. constructors_at schemes.new.items ≡ constructors_at schemes.old.items ++ row_constructors rows.now) }
 {
     for i in 0..added.len() {
         let marks = marks_in(alloc, added[i].mark)?;
         schemes.push(Scheme {
             marks,
             body: added[i].body,
+            constructor: constructor_of(rows[i].1),
         })?;
     }
     Ok(())
@@ -125,12 +138,16 @@ fn add_schemes(alloc: Global, added: &[BasisScheme], schemes: &mut Schemes) -> R
 
 /// The schemes of the basis, one behind the other.
 fn all_schemes(alloc: Global, basis: &Basis) -> Result<Schemes, NoMemory>
-    ensures { IfOk result (λ schemes. marks_at schemes.items ≡ all_marks basis.now) }
+    requires values { length basis.now.values.items ≡ 25 }
+    requires integers { length basis.now.integers.items ≡ 3 }
+    requires hidden { length basis.now.hidden.items ≡ 21 }
+    ensures marks { IfOk result (λ schemes. marks_at schemes.items ≡ all_marks basis.now) }
+    ensures constructors { IfOk result (λ schemes. constructors_at schemes.items ≡ all_constructors) }
 {
     let mut schemes = Schemes::new(alloc);
-    add_schemes(alloc, &basis.values, &mut schemes)?;
-    add_schemes(alloc, &basis.integers, &mut schemes)?;
-    add_schemes(alloc, &basis.hidden, &mut schemes)?;
+    add_schemes(alloc, &ROWS, &basis.values, &mut schemes)?;
+    add_schemes(alloc, &INTEGERS, &basis.integers, &mut schemes)?;
+    add_schemes(alloc, &HIDDEN, &basis.hidden, &mut schemes)?;
     Ok(schemes)
 }
 
@@ -144,6 +161,35 @@ fn members_of(alloc: Global) -> Result<Vec<VidScope<Entry>>, NoMemory>
     members.push(integers)?;
     members.push(hidden)?;
     Ok(members)
+}
+
+/// The identifiers of rows in their order; their schemes are numbered from the first on.
+fn listed(
+    alloc: Global,
+    rows: &[(Option<u32>, Kind)],
+    first: usize,
+) -> Result<Vec<(Vid, Entry)>, NoMemory>
+    requires words { AllByRecursion (λ r. IsStandard r.0) rows.now }
+    requires few { first + length rows.now ≤ 100 }
+    ensures { IfOk result (λ entries. entries.items ≡ listed_rows rows.now first) }
+{
+    let mut entries = Vec::new(alloc);
+    for i in 0..rows.len() {
+        entries.push((vid_of(rows[i].0), entry_of(rows[i].1, first + i)))?;
+    }
+    Ok(entries)
+}
+
+/// What the structures have, in the order of its rows.
+fn contents_of(alloc: Global) -> Result<Vec<Vec<(Vid, Entry)>>, NoMemory>
+    ensures { IfOk result (λ contents. map (λ es. es.items) contents.items ≡ all_contents) }
+{
+    let integers = listed(alloc, &INTEGERS, ROWS.len())?;
+    let hidden = listed(alloc, &HIDDEN, ROWS.len() + INTEGERS.len())?;
+    let mut contents = Vec::new(alloc);
+    contents.push(integers)?;
+    contents.push(hidden)?;
+    Ok(contents)
 }
 
 /// The structures, `Prim` the latest.
@@ -172,12 +218,14 @@ pub fn prelude_context(alloc: Global, state: &mut State) -> Result<Context, NoMe
     let schemes = all_schemes(alloc, &basis)?;
     let values = scope_of(alloc, &ROWS, 0)?;
     let members = members_of(alloc)?;
+    let contents = contents_of(alloc)?;
     let structures = structures_of(alloc)?;
     let types = types_of(alloc, &basis.bodies)?;
     Ok(Context {
         values,
         structures,
         members,
+        contents,
         types,
         schemes,
         level: 0,

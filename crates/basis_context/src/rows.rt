@@ -1,18 +1,22 @@
 // The identifiers of the initial basis: what each is, in the order of its table.
 ghost use Rattle.std.specs.Prelude.{◌≡◌};
-ghost use Rattle.basis_context.specs.Basis.{entry_at};
+ghost use Rattle.core_elab.specs.Scopes.{built_number};
+ghost use Rattle.basis_context.specs.Basis.{built_at, entry_at, IsStandard, vid_at};
 
-use elab_context::entry::Entry;
+use elab_context::entry::{Built, Entry};
+use elab_types::scope::{NO_CONSTRUCTORS, SchemeRange};
+use mlc_names::names::Name;
 use mlc_names::words;
 use mlc_prims::basis::BasisPrimitive;
+use sml_tree::ident::{BuiltIn, Vid};
 use ty_core::name::{Equality, TyName};
 
 /// What an identifier of the basis is.
 #[derive(Clone, Copy)]
 pub enum Kind {
     Reference,
-    /// A constructor: the number of its identifier, and its datatype.
-    Constructor(usize, TyName),
+    /// A constructor, and its datatype.
+    Constructor(BuiltIn, TyName),
     /// An exception, by its number.
     Exception(usize),
     Primitive(BasisPrimitive),
@@ -39,10 +43,10 @@ pub const TO_STRING: u32 = 96;
 /// Identifiers, by the numbers of their words; no word is `=`.
 pub const ROWS: [(Option<u32>, Kind); 25] = [
     (Some(words::REF), Kind::Reference),
-    (Some(words::TRUE), Kind::Constructor(11, BOOL)),
-    (Some(words::FALSE), Kind::Constructor(12, BOOL)),
-    (Some(words::NIL), Kind::Constructor(13, LIST)),
-    (Some(words::CONS), Kind::Constructor(14, LIST)),
+    (Some(words::TRUE), Kind::Constructor(BuiltIn::True, BOOL)),
+    (Some(words::FALSE), Kind::Constructor(BuiltIn::False, BOOL)),
+    (Some(words::NIL), Kind::Constructor(BuiltIn::Nil, LIST)),
+    (Some(words::CONS), Kind::Constructor(BuiltIn::Cons, LIST)),
     (Some(words::MATCH), Kind::Exception(0)),
     (Some(words::BIND), Kind::Exception(1)),
     (Some(words::OVERFLOW), Kind::Exception(2)),
@@ -127,18 +131,45 @@ pub const HIDDEN: [(Option<u32>, Kind); 21] = [
     (Some(words::PRINT), Kind::Primitive(BasisPrimitive::Print)),
 ];
 
-/// Type constructors, by the numbers of their words; no name is `unit`.
-pub const TYPES: [(u32, Option<TyName>); 9] = [
-    (words::UNIT, None),
-    (words::INT, Some(TyName::INT)),
-    (words::WORD, Some(TyName::WORD)),
-    (words::CHAR, Some(TyName::CHAR)),
-    (words::STRING, Some(TyName::STRING)),
-    (words::EXN, Some(TyName::EXN)),
-    (words::REF, Some(TyName::REF)),
-    (words::BOOL, Some(BOOL)),
-    (words::LIST, Some(LIST)),
+/// Type constructors, by the numbers of their words; no name is `unit`. With the schemes of their constructors, which are numbered in the order of `ROWS`.
+pub const TYPES: [(u32, Option<TyName>, SchemeRange); 9] = [
+    (words::UNIT, None, NO_CONSTRUCTORS),
+    (words::INT, Some(TyName::INT), NO_CONSTRUCTORS),
+    (words::WORD, Some(TyName::WORD), NO_CONSTRUCTORS),
+    (words::CHAR, Some(TyName::CHAR), NO_CONSTRUCTORS),
+    (words::STRING, Some(TyName::STRING), NO_CONSTRUCTORS),
+    (words::EXN, Some(TyName::EXN), NO_CONSTRUCTORS),
+    (
+        words::REF,
+        Some(TyName::REF),
+        SchemeRange { first: 0, count: 1 },
+    ),
+    (words::BOOL, Some(BOOL), SchemeRange { first: 1, count: 2 }),
+    (words::LIST, Some(LIST), SchemeRange { first: 3, count: 2 }),
 ];
+
+/// The name of a constructor.
+fn name_of(constructor: BuiltIn) -> Name
+    ensures { result ≡ built_number constructor }
+{
+    match constructor {
+        BuiltIn::True => Name::standard(words::TRUE),
+        BuiltIn::False => Name::standard(words::FALSE),
+        BuiltIn::Nil => Name::standard(words::NIL),
+        BuiltIn::Cons => Name::standard(words::CONS),
+    }
+}
+
+/// The identifier of a row.
+pub fn vid_of(word: Option<u32>) -> Vid
+    requires { IsStandard word }
+    ensures { result ≡ vid_at word }
+{
+    match word {
+        Some(word) => Vid::Named(Name::standard(word)),
+        None => Vid::Equals,
+    }
+}
 
 /// What is kept of an identifier with the scheme of a number.
 pub fn entry_of(kind: Kind, scheme: usize) -> Entry
@@ -146,8 +177,22 @@ pub fn entry_of(kind: Kind, scheme: usize) -> Entry
 {
     match kind {
         Kind::Reference => Entry::Reference(scheme),
-        Kind::Constructor(number, name) => Entry::Constructor(scheme, number, name),
+        Kind::Constructor(constructor, name) => {
+            Entry::Constructor(scheme, name_of(constructor).number() as usize, name)
+        }
         Kind::Exception(number) => Entry::Initial(scheme, number),
         Kind::Primitive(primitive) => Entry::Primitive(scheme, primitive),
+    }
+}
+
+/// The constructor that an identifier is, if it is one.
+pub fn constructor_of(kind: Kind) -> Option<Built>
+    ensures { result ≡ built_at kind }
+{
+    match kind {
+        Kind::Reference => Some(Built::Ref),
+        Kind::Constructor(constructor, name) => Some(Built::Declared(name_of(constructor), name)),
+        Kind::Exception(_) => None,
+        Kind::Primitive(_) => None,
     }
 }

@@ -26,6 +26,8 @@ use Rattle.elab_steps.specs.Instances.{IsScheme}
 use Rattle.elab_steps.proofs.Changing.{begins-more}
 use Rattle.elab_steps.proofs.Growing.{found-later}
 use Rattle.elab_context.specs.declared.context.Context.{Context}
+use Rattle.elab_context.specs.declared.entry.Built.{Built}
+use Rattle.elab_context.specs.declared.entry.Built.TheVariants.{Declared}
 use Rattle.elab_context.specs.declared.entry.Entry.{Entry}
 use Rattle.elab_context.specs.declared.entry.Entry.TheVariants.{Constructor}
 use Rattle.elab_context.specs.declared.entry.Scheme as code
@@ -72,6 +74,10 @@ type_found (t ∷ ts) (suc k) lt = type_found ts k (omega (arith, lt))
 
 -- schemes
 
+longer-by-one : {A : Type 0} (xs : List A) (a : A) → length (xs ++ a ∷ []) ≡ suc (length xs)
+longer-by-one [] a = refl
+longer-by-one (x ∷ xs) a = ap suc (longer-by-one xs a)
+
 last-found : {A : Type 0} (xs : List A) (a : A) → slice_get (xs ++ a ∷ []) (length xs) ≡ Some a
 last-found [] a = refl
 last-found (x ∷ xs) a = last-found xs a
@@ -100,25 +106,27 @@ new-scheme S T y o s b m h = subst (λ l. IsScheme T l s.body) (sym m) (record {
   inhabited = any-inhabited y.arity;
 })
 
-pub one_more : (S T : State) (C D : Context) (y : TyName) (b : ConBind) (o : Option ℕ) (ty r k n : ℕ) (e : Vid × Entry) → slice_get (types_in S) ty ≡ Some (con (name y) (variables 0 y.arity))
-    → BelowIf y.arity (types_in S) o → IsStep S T → slice_get (types_in T) r ≡ Some (from_argument (option_map (type_at (types_in S)) o) (type_at (types_in S) ty)) → HasOneMore C y.arity r D k
+pub one_more : (S T : State) (C D : Context) (y : TyName) (b : ConBind) (o : Option ℕ) (ty r k n : ℕ) (c : Built) (e : Vid × Entry)
+    → slice_get (types_in S) ty ≡ Some (con (name y) (variables 0 y.arity)) → BelowIf y.arity (types_in S) o → IsStep S T
+    → slice_get (types_in T) r ≡ Some (from_argument (option_map (type_at (types_in S)) o) (type_at (types_in S) ty)) → HasOneMore C y.arity r c D k → c ≡ Declared n y
     → constructing_name b.vid ≡ Some n → e ≡ (b.vid, Constructor k n y) → IsMore S C y b o T D e
-one_more S T C D y b o ty r k n e q be st h m may is =
+one_more S T C D y b o ty r k n c e q be st h m of may is =
     let body : slice_get (types_in T) m.scheme.body ≡ Some (constructed y (option_map (type_at (types_in S)) o)) =
     ap (slice_get (types_in T)) m.of ∙ type_made (types_in S) (types_in T) o y ty r q h in
     record {
       added = record {
         step = st;
         context = (m.rest, begins-more C.schemes.items (m.scheme ∷ []) D.schemes.items m.is);
+        counted = ap length m.is ∙ longer-by-one C.schemes.items m.scheme;
         has = record {
-          scheme = k;
           number = n;
-          is = is;
+          is = is ∙ ap (λ j. (b.vid, Constructor j n y)) m.number;
           may = may;
           code = m.scheme;
-          found = ap₂ slice_get m.is m.number ∙ last-found C.schemes.items m.scheme;
+          found = ap (λ l. slice_get l (length C.schemes.items)) m.is ∙ last-found C.schemes.items m.scheme;
           marks = m.marks;
           body = body;
+          built = m.built ∙ ap Some of;
         };
       };
       schemes = λ a j s f. by a j s body (found-either C.schemes.items m.scheme s j (ap (λ l. slice_get l j) (sym m.is) ∙ f));
@@ -131,25 +139,26 @@ one_more S T C D y b o ty r k n e q be st h m may is =
 
 -- they stay
 
-has-later : (ts us : List Typ) (ss rs : List code.Scheme) (y : TyName) (b : ConBind) (o : Option Typ) (e : Vid × Entry) → Begins ts us → Begins ss rs → HasScheme ts ss y b o e → HasScheme us rs y b o e
-has-later ts us ss rs y b o e g f h = record {
-  scheme = h.scheme;
+has-later : (ts us : List Typ) (ss rs : List code.Scheme) (y : TyName) (k : ℕ) (b : ConBind) (o : Option Typ) (e : Vid × Entry) → Begins ts us → Begins ss rs → HasScheme ts ss y k b o e
+    → HasScheme us rs y k b o e
+has-later ts us ss rs y k b o e g f h = record {
   number = h.number;
   is = h.is;
   may = h.may;
   code = h.code;
-  found = found-later ss rs h.scheme h.code f h.found;
+  found = found-later ss rs k h.code f h.found;
   marks = h.marks;
   body = found-later ts us h.code.body (constructed y o) g h.body;
+  built = h.built;
 }
 
-pub each_later : (ts us : List Typ) (ss rs : List code.Scheme) (y : TyName) {bs : List ConBind} {os : List (Option Typ)} {es : List (Vid × Entry)} → Begins ts us → Begins ss rs
-    → EachScheme ts ss y bs os es → EachScheme us rs y bs os es
+pub each_later : (ts us : List Typ) (ss rs : List code.Scheme) (y : TyName) {k j : ℕ} {bs : List ConBind} {os : List (Option Typ)} {es : List (Vid × Entry)} → Begins ts us → Begins ss rs
+    → EachScheme ts ss y k bs os es j → EachScheme us rs y k bs os es j
 each_later ts us ss rs y g f no_scheme = no_scheme
-each_later ts us ss rs y g f (a_scheme {b = b} {o = o} {e = e} h hs) = a_scheme (has-later ts us ss rs y b o e g f h) (each_later ts us ss rs y g f hs)
+each_later ts us ss rs y g f (a_scheme {k = k} {b = b} {o = o} {e = e} h hs) = a_scheme (has-later ts us ss rs y k b o e g f h) (each_later ts us ss rs y g f hs)
 
-pub all_later : (ts us : List Typ) (ss rs : List code.Scheme) {ys : List TyName} {bs : List DataBind} {oss : List (List (Option Typ))} {es : List (Vid × Entry)} → Begins ts us → Begins ss rs
-    → AllSchemes ts ss ys bs oss es → AllSchemes us rs ys bs oss es
+pub all_later : (ts us : List Typ) (ss rs : List code.Scheme) {k i : ℕ} {ys : List TyName} {bs : List DataBind} {oss : List (List (Option Typ))} {es : List (Vid × Entry)} → Begins ts us → Begins ss rs
+    → AllSchemes ts ss k ys bs oss es i → AllSchemes us rs k ys bs oss es i
 all_later ts us ss rs g f no_schemes = no_schemes
 all_later ts us ss rs g f (more_schemes {y = y} h hs) = more_schemes (each_later ts us ss rs y g f h) (all_later ts us ss rs g f hs)
 
@@ -158,8 +167,8 @@ more-on C E D h g = (g.0 ∙ ap (λ (z : Context). record z { schemes = D.scheme
 
 -- one after the other
 
-each-snoc : (ts : List Typ) (ss : List code.Scheme) (y : TyName) {bs : List ConBind} {os : List (Option Typ)} {es : List (Vid × Entry)} (b : ConBind) (o : Option Typ) (e : Vid × Entry)
-    → EachScheme ts ss y bs os es → HasScheme ts ss y b o e → EachScheme ts ss y (bs ++ b ∷ []) (os ++ o ∷ []) (es ++ e ∷ [])
+each-snoc : (ts : List Typ) (ss : List code.Scheme) (y : TyName) {k j : ℕ} {bs : List ConBind} {os : List (Option Typ)} {es : List (Vid × Entry)} (b : ConBind) (o : Option Typ) (e : Vid × Entry)
+    → EachScheme ts ss y k bs os es j → HasScheme ts ss y j b o e → EachScheme ts ss y k (bs ++ b ∷ []) (os ++ o ∷ []) (es ++ e ∷ []) (suc j)
 each-snoc ts ss y b o e no_scheme h = a_scheme h no_scheme
 each-snoc ts ss y b o e (a_scheme g gs) h = a_scheme g (each-snoc ts ss y b o e gs h)
 
@@ -183,17 +192,21 @@ more_next S M T C E D y bs cs ks js old mid new b k e h g held q p r =
       entries = h.entries ++ e ∷ [];
       is = q ∙ ap (λ l. l ++ e ∷ []) h.is ∙ append_assoc old h.entries (e ∷ []);
       each =
-          subst (λ os. EachScheme (types_in T) D.schemes.items y (bs ++ b ∷ []) os (h.entries ++ e ∷ [])) (sym (map-append (option_map (type_at (types_in S))) ks (k ∷ [])))
+          subst (λ os. EachScheme (types_in T) D.schemes.items y (length C.schemes.items) (bs ++ b ∷ []) os (h.entries ++ e ∷ []) (length D.schemes.items))
+          (sym (map-append (option_map (type_at (types_in S))) ks (k ∷ [])))
+          (subst (EachScheme (types_in T) D.schemes.items y (length C.schemes.items) (bs ++ b ∷ []) (row_at (types_in S) ks ++ option_map (type_at (types_in S)) k ∷ []) (h.entries ++ e ∷ []))
+          (sym g.added.counted)
           (each-snoc (types_in T) D.schemes.items y b (option_map (type_at (types_in S)) k) e
           (each_later (types_in M) (types_in T) E.schemes.items D.schemes.items y g.added.step.grows.types g.added.context.1 h.each)
-          (subst (λ o. HasScheme (types_in T) D.schemes.items y b o e) (same_argument (types_in S) (types_in M) k h.step.grows.types held) g.added.has));
+          (subst (λ o. HasScheme (types_in T) D.schemes.items y (length E.schemes.items) b o e) (same_argument (types_in S) (types_in M) k h.step.grows.types held) g.added.has)));
     }))
 
-all-snoc : (ts : List Typ) (ss : List code.Scheme) {ys : List TyName} {bs : List DataBind} {oss : List (List (Option Typ))} {es : List (Vid × Entry)} (y : TyName) (b : DataBind) (os : List (Option Typ))
-    (fs : List (Vid × Entry)) → AllSchemes ts ss ys bs oss es → EachScheme ts ss y b.cons os fs → AllSchemes ts ss (ys ++ y ∷ []) (bs ++ b ∷ []) (oss ++ os ∷ []) (es ++ fs)
-all-snoc ts ss y b os fs no_schemes h = subst (AllSchemes ts ss (y ∷ []) (b ∷ []) (os ∷ [])) (append-nil fs) (more_schemes h no_schemes)
-all-snoc ts ss y b os fs (more_schemes {y = x} {b = c} {os = ps} {es = es} {ys = ys} {bs = bs} {oss = oss} {fs = gs} g gs') h =
-    subst (AllSchemes ts ss (x ∷ (ys ++ y ∷ [])) (c ∷ (bs ++ b ∷ [])) (ps ∷ (oss ++ os ∷ []))) (sym (append_assoc es gs fs)) (more_schemes g (all-snoc ts ss y b os fs gs' h))
+all-snoc : (ts : List Typ) (ss : List code.Scheme) {k j i : ℕ} {ys : List TyName} {bs : List DataBind} {oss : List (List (Option Typ))} {es : List (Vid × Entry)} (y : TyName) (b : DataBind)
+    (os : List (Option Typ)) (fs : List (Vid × Entry)) → AllSchemes ts ss k ys bs oss es j → EachScheme ts ss y j b.cons os fs i
+    → AllSchemes ts ss k (ys ++ y ∷ []) (bs ++ b ∷ []) (oss ++ os ∷ []) (es ++ fs) i
+all-snoc ts ss {i = i} y b os fs (no_schemes {k = k}) h = subst (λ l. AllSchemes ts ss k (y ∷ []) (b ∷ []) (os ∷ []) l i) (append-nil fs) (more_schemes h no_schemes)
+all-snoc ts ss {i = i} y b os fs (more_schemes {k = k} {y = x} {b = c} {os = ps} {es = es} {ys = ys} {bs = bs} {oss = oss} {fs = gs} g gs') h =
+    subst (λ l. AllSchemes ts ss k (x ∷ (ys ++ y ∷ [])) (c ∷ (bs ++ b ∷ [])) (ps ∷ (oss ++ os ∷ [])) l i) (sym (append_assoc es gs fs)) (more_schemes g (all-snoc ts ss y b os fs gs' h))
 
 pub no_datatypes_more : (S : State) (C : Context) (es : List (Vid × Entry)) → es ≡ [] → AreAllMore S C [] [] [] S C es
 no_datatypes_more S C es e = subst (AreAllMore S C [] [] [] S C) (sym e) (record { step = step_same S; context = (refl, whole C.schemes.items); schemes = λ a. a; all = no_schemes })
@@ -207,9 +220,11 @@ all_more_next S M T C E D ys zs bs cs kss jss es fs y b ks h g held o p q =
       context = more-on C E D h.context g.context;
       schemes = λ a. g.schemes (h.schemes a);
       all =
-          subst (AllSchemes (types_in T) D.schemes.items (ys ++ y ∷ []) (bs ++ b ∷ []) (rows_at (types_in S) (kss ++ ks ∷ []))) (sym g.is)
-          (subst (λ oss. AllSchemes (types_in T) D.schemes.items (ys ++ y ∷ []) (bs ++ b ∷ []) oss (es ++ g.entries)) (sym (map-append (row_at (types_in S)) kss (ks ∷ [])))
+          subst (λ l. AllSchemes (types_in T) D.schemes.items (length C.schemes.items) (ys ++ y ∷ []) (bs ++ b ∷ []) (rows_at (types_in S) (kss ++ ks ∷ [])) l (length D.schemes.items)) (sym g.is)
+          (subst (λ oss. AllSchemes (types_in T) D.schemes.items (length C.schemes.items) (ys ++ y ∷ []) (bs ++ b ∷ []) oss (es ++ g.entries) (length D.schemes.items))
+          (sym (map-append (row_at (types_in S)) kss (ks ∷ [])))
           (all-snoc (types_in T) D.schemes.items y b (row_at (types_in S) ks) g.entries
           (all_later (types_in M) (types_in T) E.schemes.items D.schemes.items g.step.grows.types g.context.1 h.all)
-          (subst (λ os. EachScheme (types_in T) D.schemes.items y b.cons os g.entries) (same_row (types_in S) (types_in M) ks h.step.grows.types held) g.each)));
+          (subst (λ os. EachScheme (types_in T) D.schemes.items y (length E.schemes.items) b.cons os g.entries (length D.schemes.items)) (same_row (types_in S) (types_in M) ks h.step.grows.types held)
+          g.each)));
     })))

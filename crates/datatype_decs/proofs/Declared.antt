@@ -1,5 +1,5 @@
 -- A declaration of datatypes, from its parts.
-use Rattle.std.proofs.Common.{◌≡◌, ◌+◌, ℕ, suc, true, Bool, List, [], ◌∷◌, ◌++◌, length, Option, Some, None, slice_get, refl, sym, ap, ap₂, subst, ◌∙◌, arith}
+use Rattle.std.proofs.Common.{◌≡◌, ◌≤◌, ◌+◌, ℕ, suc, true, Bool, List, [], ◌∷◌, ◌++◌, length, Option, Some, None, slice_get, refl, sym, ap, ap₂, subst, ◌∙◌, arith}
 use Rattle.std.specs.List.{AllByRecursion}
 use Rattle.std.proofs.lemmas.Option.{slice_get_within}
 use Rattle.ty_core.specs.Types.{Typ}
@@ -17,24 +17,26 @@ use Rattle.elab_state.specs.declared.state.State.{State}
 use Rattle.elab_steps.specs.Growing.{Begins}
 use Rattle.elab_steps.proofs.Growing.{comes_before}
 use Rattle.elab_context.specs.Entries.{number_in}
-use Rattle.elab_context.specs.Telling.{IsContext, IsHeld}
+use Rattle.elab_context.specs.Telling.{IsContext, IsHeld, vids_in}
 use Rattle.elab_context.specs.declared.context.Context.{Context}
 use Rattle.elab_context.specs.declared.entry.Entry.{Entry}
 use Rattle.elab_context.specs.declared.entry.Scheme as code
 use Rattle.mlc_base.specs.declared.place.Place.{Place}
 use Rattle.dec_forms.specs.Bringing.{IsBringing}
 use Rattle.dec_forms.specs.declared.brought.Brought.{Brought}
-use Rattle.dec_forms.specs.Entries.{types_onto, vids_in, with_types}
+use Rattle.dec_forms.specs.Entries.{types_onto, with_types}
 use Rattle.dec_forms.specs.Telling.{with_all}
 use Rattle.datatype_forms.specs.Arguments.{AreRowsOf, AreStanding, rows_at}
 use Rattle.datatype_forms.specs.Best.{AreDataArguments, AreOnce, rows_of}
-use Rattle.datatype_forms.specs.Constructed.{AllRows, AllSchemes, no_schemes, more_schemes, EachScheme, no_scheme, a_scheme, HasScheme}
+use Rattle.datatype_forms.specs.Constructed.{AllRows, AllSchemes, no_schemes, more_schemes, EachScheme, no_scheme, a_scheme, HasScheme, ranged}
 use Rattle.datatype_forms.specs.Declaration.{AreDeclared, HasNew}
+use Rattle.datatype_forms.specs.Reading.{AreNameEntries}
 use Rattle.datatype_forms.specs.Steps.{AreNamed, IsStep}
 use Rattle.datatype_forms.specs.declared.attributes.Arguments.{Arguments}
 use Rattle.datatype_forms.proofs.Constructing.{constructors_are, constructors_made}
 use Rattle.datatype_forms.proofs.Declaring.{datatypes_declared, datatypes_in_context}
 use Rattle.datatype_forms.proofs.InNames.{entries-later}
+use Rattle.datatype_forms.proofs.Ranges.{ranged_entries}
 use Rattle.datatype_forms.proofs.Stepping.{longer-than, step_on}
 use Rattle.datatype_decs.specs.Adding.{AreAllMore}
 use Rattle.datatype_decs.specs.Whole.{AreConstructed}
@@ -83,29 +85,30 @@ are_constructed S M N T C E D ns bs kss es n l h g st same rows fit =
           (g.schemes (subst (λ l. (k : ℕ) (s : code.Scheme) → slice_get l k ≡ Some s → Rattle.elab_steps.specs.Instances.IsScheme M s.marks.items s.body) (ap (λ (z : Context). z.schemes.items) (sym h.same))
           (schemes_later S M C h.step.grows a)));
       all =
-          subst (λ oss. AllSchemes (types_in T) D.schemes.items ns bs oss es)
+          subst (λ oss. AllSchemes (types_in T) D.schemes.items (length C.schemes.items) ns bs oss es (length D.schemes.items))
           (sym (ap (λ ts. rows_at ts kss) same ∙ same_rows (types_in M) (types_in N) bs kss g.step.grows.types fit'))
-          (subst (λ ts. AllSchemes ts D.schemes.items ns bs (rows_at (types_in M) kss) es) (sym same) g.all);
+          (subst (λ ts. AllSchemes ts D.schemes.items (length C.schemes.items) ns bs (rows_at (types_in M) kss) es (length D.schemes.items)) (sym same)
+          (subst (λ k. AllSchemes (types_in N) D.schemes.items k ns bs (rows_at (types_in M) kss) es (length D.schemes.items)) (ap (λ (z : Context). length z.schemes.items) h.same) g.all));
       rows = subst (λ ts. AllRows T (number_in D) D.names ns bs (rows_at ts kss)) (sym same) rows;
     }
 
 -- what comes into scope is held
 
 module _ (T : State) (D : Context) where
-  scheme-held : (ts : List Typ) (y : TyName) (b : ConBind) (o : Option Typ) (e : Vid × Entry) → HasScheme ts D.schemes.items y b o e → IsHeld T D e.1
-  scheme-held ts y b o e h = subst (λ (z : Vid × Entry). IsHeld T D z.1) (sym h.is) (slice_get_within D.schemes.items h.scheme h.code h.found)
+  scheme-held : (ts : List Typ) (y : TyName) (k : ℕ) (b : ConBind) (o : Option Typ) (e : Vid × Entry) → HasScheme ts D.schemes.items y k b o e → IsHeld T D e.1
+  scheme-held ts y k b o e h = subst (λ (z : Vid × Entry). IsHeld T D z.1) (sym h.is) (slice_get_within D.schemes.items k h.code h.found)
 
-  each-held : {ts : List Typ} {y : TyName} {bs : List ConBind} {os : List (Option Typ)} {es : List (Vid × Entry)} → EachScheme ts D.schemes.items y bs os es
+  each-held : {ts : List Typ} {y : TyName} {k j : ℕ} {bs : List ConBind} {os : List (Option Typ)} {es : List (Vid × Entry)} → EachScheme ts D.schemes.items y k bs os es j
       → AllByRecursion (λ (e : Vid × Entry). IsHeld T D e.1) es
   each-held no_scheme = tt
-  each-held {ts = ts} {y = y} (a_scheme {b = b} {o = o} {e = e} h hs) = (scheme-held ts y b o e h, each-held hs)
+  each-held {ts = ts} {y = y} (a_scheme {k = k} {b = b} {o = o} {e = e} h hs) = (scheme-held ts y k b o e h, each-held hs)
 
   all-append : (es fs : List (Vid × Entry)) → AllByRecursion (λ (e : Vid × Entry). IsHeld T D e.1) es → AllByRecursion (λ (e : Vid × Entry). IsHeld T D e.1) fs
       → AllByRecursion (λ (e : Vid × Entry). IsHeld T D e.1) (es ++ fs)
   all-append [] fs h g = g
   all-append (e ∷ es) fs h g = (h.0, all-append es fs h.1 g)
 
-  all-held : {ts : List Typ} {ys : List TyName} {bs : List DataBind} {oss : List (List (Option Typ))} {es : List (Vid × Entry)} → AllSchemes ts D.schemes.items ys bs oss es
+  all-held : {ts : List Typ} {k i : ℕ} {ys : List TyName} {bs : List DataBind} {oss : List (List (Option Typ))} {es : List (Vid × Entry)} → AllSchemes ts D.schemes.items k ys bs oss es i
       → AllByRecursion (λ (e : Vid × Entry). IsHeld T D e.1) es
   all-held no_schemes = tt
   all-held (more_schemes {es = es} {fs = fs} h hs) = all-append es fs (each-held h) (all-held hs)
@@ -115,10 +118,13 @@ module _ (T : State) (D : Context) where
 module _ (S M T : State) (C E : Context) (bs : List DataBind) (ns : List TyName) (r : Arguments) (es : List (Vid × Entry)) (i : IsContext S C) (once : AreOnce bs)
     (a : AreDataArguments S C.types C.names bs M ns r) (k : AreConstructed M C ns bs (rows_of r) T E es) where
   abbrev ts : List (ℕ × TypeEntry)
-  ts = r.entries.items
+  ts = ranged (length C.schemes.items) bs r.entries.items
 
   abbrev D : Context
   D = with_types (with_all E es) ts
+
+  named : AreNameEntries (types_in T) bs (names_of C.names a.marks bs) r.entries.items
+  named = subst (λ z. AreNameEntries (types_in T) bs z r.entries.items) a.names (entries-later (types_in M) (types_in T) bs ns r.entries.items k.step.grows.types a.entries)
 
   rows-same : rows_at (types_in T) (rows_of r) ≡ rows_at (types_in M) (rows_of r)
   rows-same = same_rows (types_in M) (types_in T) bs (rows_of r) k.step.grows.types a.rows
@@ -151,9 +157,10 @@ module _ (S M T : State) (C E : Context) (bs : List DataBind) (ns : List TyName)
     are = λ c n rd.
         a.are c n once rd
         ∙ ap₂ (λ (z : List TyName) oss. Some (Rattle.datatype_forms.specs.Arguments.data_structures z bs oss)) a.names (sym rows-same);
-    entries = subst (λ z. Rattle.datatype_forms.specs.Reading.AreNameEntries (types_in T) bs z ts) a.names (entries-later (types_in M) (types_in T) bs ns ts k.step.grows.types a.entries);
-    made = constructors_made T C D a.marks bs (rows_at (types_in T) (rows_of r)) es k.names
-        (subst (λ z. AllSchemes (types_in T) E.schemes.items z bs (rows_at (types_in T) (rows_of r)) es) a.names k.all)
+    entries = ranged_entries (types_in T) (length C.schemes.items) bs (names_of C.names a.marks bs) r.entries.items named;
+    made = constructors_made T C D a.marks bs (rows_at (types_in T) (rows_of r)) es (types_in T) r.entries.items (length C.schemes.items) (length E.schemes.items) k.names named
+        (longer-than C.schemes.items E.schemes.items k.more)
+        (subst (λ z. AllSchemes (types_in T) E.schemes.items (length C.schemes.items) z bs (rows_at (types_in T) (rows_of r)) es (length E.schemes.items)) a.names k.all)
         (subst (λ z. AllRows T (number_in E) E.names z bs (rows_at (types_in T) (rows_of r))) a.names k.rows);
   }
 

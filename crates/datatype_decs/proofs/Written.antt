@@ -1,6 +1,5 @@
 -- A declaration with abbreviations written out has the same names, parameters and constructors.
-use Rattle.std.proofs.Common.{◌≡◌, ◌&&◌, ◌||◌, ℕ, suc, Bool, true, false, not, List, [], ◌∷◌, ◌++◌, length, map, Option, Some, None, nat_eq, refl, sym, ap, ap₂, subst, ◌∙◌}
-use Rattle.std.proofs.lemmas.Bool.{and_parts}
+use Rattle.std.proofs.Common.{◌≡◌, ◌+◌, ℕ, List, [], ◌∷◌, length, map, Option, Some, None, refl, sym, ap, ap₂, ◌∙◌}
 use Rattle.std.proofs.lemmas.List.{length-map}
 use Rattle.ty_core.specs.Types.{Typ}
 use Rattle.ty_core.specs.declared.name.TyName.{TyName}
@@ -8,8 +7,6 @@ use Rattle.sml_tree.specs.declared.ident.Vid.{Vid}
 use Rattle.sml_tree.specs.BareTree.{ConBind, DataBind, Ty, Tys, no_tys, ty, TyFields, no_ty_fields, ty_field, TypeBind}
 use Rattle.sml_tree.specs.BareTree as bare
 use Rattle.sml_tree.specs.Derived.{expand_bind, expand_con, expand_some, expand_ty, expand_tys, expand_ty_fields, unqualified, written_out}
-use Rattle.core_rules.specs.Restrictions.{distinct}
-use Rattle.core_rules.specs.Words.{is_in}
 use Rattle.elab_types.specs.declared.scope.TypeEntry.{TypeEntry}
 use Rattle.elab_state.specs.declared.state.State.{State}
 use Rattle.elab_context.specs.declared.context.Context.{Context}
@@ -17,7 +14,7 @@ use Rattle.elab_context.specs.declared.entry.Entry.{Entry}
 use Rattle.elab_context.specs.declared.entry.Scheme as code
 use Rattle.datatype_forms.specs.Abbreviated.{written_binds}
 use Rattle.datatype_forms.specs.Arguments.{AreRowsOf, AreStanding}
-use Rattle.datatype_forms.specs.Constructed.{AllRows, no_rows, more_rows, EachRow, no_row, a_row, AllSchemes, no_schemes, more_schemes, EachScheme, no_scheme, a_scheme}
+use Rattle.datatype_forms.specs.Constructed.{AllRows, no_rows, more_rows, EachRow, no_row, a_row, AllSchemes, no_schemes, more_schemes, EachScheme, no_scheme, a_scheme, ranged}
 use Rattle.datatype_forms.specs.Reading.{AreNameEntries}
 use Rattle.datatype_decs.specs.Whole.{AreConstructed}
 
@@ -44,13 +41,22 @@ rows_unwritten ts as_ (b ∷ bs) [] h = absurd h
 rows_unwritten ts as_ (b ∷ bs) (ks ∷ kss) h =
     (record { count = h.0.count ∙ length-map b.cons (expand_con as_); held = h.0.held; below = h.0.below }, rows_unwritten ts as_ bs kss h.1)
 
+pub ranged_written : (as_ : List TypeBind) (k : ℕ) (bs : List DataBind) (ts : List (ℕ × TypeEntry)) → ranged k (written_binds as_ bs) ts ≡ ranged k bs ts
+ranged_written as_ k [] ts = refl
+ranged_written as_ k (b ∷ bs) [] = refl
+ranged_written as_ k (b ∷ bs) (t ∷ ts) =
+    ap (λ n. (t.0, record { arity = t.1.arity; body = t.1.body; constructors = record { first = k; count = n } }) ∷ ranged (k + n) (written_binds as_ bs) ts) (length-map b.cons (expand_con as_))
+    ∙ ap (λ l. (t.0, record { arity = t.1.arity; body = t.1.body; constructors = record { first = k; count = length b.cons } }) ∷ l) (ranged_written as_ (k + length b.cons) bs ts)
+
+pub types_ranged : (as_ : List TypeBind) (k n : ℕ) (bs : List DataBind) (ts us vs : List (ℕ × TypeEntry)) → vs ≡ ranged n bs us → n ≡ k → us ≡ ts → vs ≡ ranged k (written_binds as_ bs) ts
+types_ranged as_ k n bs ts us vs h e q = h ∙ ap₂ (λ m l. ranged m bs l) e q ∙ sym (ranged_written as_ k bs ts)
+
 -- and back
 
-each-written : (ts : List Typ) (ss : List code.Scheme) (as_ : List TypeBind) (y : TyName) {bs : List ConBind} {os : List (Option Typ)} {es : List (Vid × Entry)} → EachScheme ts ss y bs os es
-    → EachScheme ts ss y (map (expand_con as_) bs) os es
+each-written : (ts : List Typ) (ss : List code.Scheme) (as_ : List TypeBind) (y : TyName) {k j : ℕ} {bs : List ConBind} {os : List (Option Typ)} {es : List (Vid × Entry)} → EachScheme ts ss y k bs os es j
+    → EachScheme ts ss y k (map (expand_con as_) bs) os es j
 each-written ts ss as_ y no_scheme = no_scheme
 each-written ts ss as_ y (a_scheme {b = b} {o = o} {e = e} h hs) = a_scheme {b = expand_con as_ b} (record {
-  scheme = h.scheme;
   number = h.number;
   is = h.is;
   may = h.may;
@@ -58,10 +64,11 @@ each-written ts ss as_ y (a_scheme {b = b} {o = o} {e = e} h hs) = a_scheme {b =
   found = h.found;
   marks = h.marks;
   body = h.body;
+  built = h.built;
 }) (each-written ts ss as_ y hs)
 
-all-written : (ts : List Typ) (ss : List code.Scheme) (as_ : List TypeBind) {ys : List TyName} {bs : List DataBind} {oss : List (List (Option Typ))} {es : List (Vid × Entry)} → AllSchemes ts ss ys bs oss es
-    → AllSchemes ts ss ys (written_binds as_ bs) oss es
+all-written : (ts : List Typ) (ss : List code.Scheme) (as_ : List TypeBind) {k i : ℕ} {ys : List TyName} {bs : List DataBind} {oss : List (List (Option Typ))} {es : List (Vid × Entry)}
+    → AllSchemes ts ss k ys bs oss es i → AllSchemes ts ss k ys (written_binds as_ bs) oss es i
 all-written ts ss as_ no_schemes = no_schemes
 all-written ts ss as_ (more_schemes {y = y} {b = b} h hs) = more_schemes {b = expand_bind as_ b} (each-written ts ss as_ y h) (all-written ts ss as_ hs)
 
@@ -80,7 +87,7 @@ pub constructed_written : (S T : State) (C D : Context) (as_ : List TypeBind) (n
 constructed_written S T C D as_ ns bs kss es k = record {
   step = k.step;
   rest = k.rest;
-  names = k.names ∙ ap (λ n. Rattle.std.proofs.Common.◌+◌ C.names n) (sym (length-map bs (expand_bind as_)));
+  names = k.names ∙ ap (λ n. C.names + n) (sym (length-map bs (expand_bind as_)));
   naming = k.naming;
   front = k.front;
   numbers = k.numbers;
@@ -124,24 +131,3 @@ same-cons (b ∷ bs) = ap₂ (λ x l. x ∷ l) (λ i. record b { of_ty = same-so
 pub none_written : (bs : List DataBind) → written_binds [] bs ≡ bs
 none_written [] = refl
 none_written (b ∷ bs) = ap₂ (λ x l. x ∷ l) (λ i. record b { cons = same-cons b.cons i }) (none_written bs)
-
--- what comes once of several comes once of each part
-
-not-either : (a b : Bool) → not (a || b) ≡ true → not a ≡ true
-not-either true b e = cc
-not-either false b e = refl
-
-among-append : (x : ℕ) (xs ys : List ℕ) → is_in nat_eq x (xs ++ ys) ≡ (is_in nat_eq x xs || is_in nat_eq x ys)
-among-append x [] ys = refl
-among-append x (z ∷ xs) ys = by (nat_eq x z) (among-append x xs ys)
-  where
-    by : (c : Bool) → is_in nat_eq x (xs ++ ys) ≡ (is_in nat_eq x xs || is_in nat_eq x ys) → (c || is_in nat_eq x (xs ++ ys)) ≡ ((c || is_in nat_eq x xs) || is_in nat_eq x ys)
-    by true h = refl
-    by false h = h
-
-pub distinct_parts : (xs ys : List ℕ) → distinct nat_eq (xs ++ ys) ≡ true → (distinct nat_eq xs ≡ true) × (distinct nat_eq ys ≡ true)
-distinct_parts [] ys d = (refl, d)
-distinct_parts (x ∷ xs) ys d =
-    let p = and_parts (not (is_in nat_eq x (xs ++ ys))) (distinct nat_eq (xs ++ ys)) d in
-    let q = distinct_parts xs ys p.1 in
-    (ap₂ (λ a b. a && b) (not-either (is_in nat_eq x xs) (is_in nat_eq x ys) (ap not (sym (among-append x xs ys)) ∙ p.0)) q.0, q.1)

@@ -8,6 +8,7 @@ use Rattle.elab_state.specs.States.{types_in}
 use Rattle.elab_state.specs.declared.state.State.{State}
 use Rattle.elab_steps.specs.Instances.{IsScheme}
 use Rattle.elab_context.specs.declared.context.Context.{Context}
+use Rattle.elab_context.specs.declared.entry.Built.{Built}
 use Rattle.elab_context.specs.declared.entry.Entry.{Entry}
 use Rattle.elab_context.specs.declared.entry.Scheme as code
 use Rattle.datatype_forms.specs.Arguments.{row_at, rows_at}
@@ -20,11 +21,12 @@ use Rattle.datatype_forms.specs.declared.program_types.Names.{Names}
 abbrev pub AreSchemes : State → Context → Type 0
 AreSchemes S C = (k : ℕ) (s : code.Scheme) → slice_get C.schemes.items k ≡ Some s → IsScheme S s.marks.items s.body
 
--- one scheme more: the k-th, over so many parameters of any types, with this body
-pub record HasOneMore (C : Context) (n body : ℕ) (D : Context) (k : ℕ) : Type 0 where
+-- one scheme more: the k-th, over so many parameters of any types, with this body, of this constructor
+pub record HasOneMore (C : Context) (n body : ℕ) (c : Built) (D : Context) (k : ℕ) : Type 0 where
   pub scheme : code.Scheme
   pub marks : scheme.marks.items ≡ any_of n
   pub of : scheme.body ≡ body
+  pub built : scheme.constructor ≡ Some c
   pub is : D.schemes.items ≡ C.schemes.items ++ scheme ∷ []
   pub number : k ≡ length C.schemes.items
   pub rest : D ≡ record C { schemes = D.schemes }
@@ -42,7 +44,7 @@ pub record AreMore (S : State) (C : Context) (y : TyName) (bs : List ConBind) (k
   pub schemes : AreSchemes S C → AreSchemes T D
   pub entries : List (Vid × Entry)
   pub is : new ≡ old ++ entries
-  pub each : EachScheme (types_in T) D.schemes.items y bs (row_at (types_in S) ks) entries
+  pub each : EachScheme (types_in T) D.schemes.items y (length C.schemes.items) bs (row_at (types_in S) ks) entries (length D.schemes.items)
 
 -- those of all datatypes
 pub record AreAllMore (S : State) (C : Context) (ys : List TyName) (bs : List DataBind) (kss : List (List (Option ℕ))) (T : State) (D : Context)
@@ -50,7 +52,7 @@ pub record AreAllMore (S : State) (C : Context) (ys : List TyName) (bs : List Da
   pub step : IsStep S T
   pub context : HasMoreSchemes C D
   pub schemes : AreSchemes S C → AreSchemes T D
-  pub all : AllSchemes (types_in T) D.schemes.items ys bs (rows_at (types_in S) kss) es
+  pub all : AllSchemes (types_in T) D.schemes.items (length C.schemes.items) ys bs (rows_at (types_in S) kss) es (length D.schemes.items)
 
 -- the rows of a datatype that is z in the program
 pub record HaveRows (S : State) (ns : Names) (z : TyName) (bs : List ConBind) (ks : List (Option ℕ)) (T : State) (known : ℕ → Option ℕ) : Type 0 where

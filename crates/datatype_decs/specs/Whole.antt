@@ -37,5 +37,5 @@ pub record AreConstructed (S : State) (C : Context) (ns : List TyName) (bs : Lis
   pub agree : (W : World) → Comes T W → AgreeBelow C.names (W.naming C.naming) (W.naming D.naming)
   pub more : Begins C.schemes.items D.schemes.items
   pub schemes : AreSchemes S C → AreSchemes T D
-  pub all : AllSchemes (types_in T) D.schemes.items ns bs (rows_at (types_in T) kss) es
+  pub all : AllSchemes (types_in T) D.schemes.items (length C.schemes.items) ns bs (rows_at (types_in T) kss) es (length D.schemes.items)
   pub rows : AllRows T (number_in D) D.names ns bs (rows_at (types_in T) kss)

@@ -19,7 +19,7 @@ use datatype_forms::attributes::Datatypes;
 use datatype_forms::closed::closed_apply;
 use dec_forms::once::constructing;
 use elab_context::context::Context;
-use elab_context::entry::{Entry, Scheme};
+use elab_context::entry::{Built, Entry, Scheme};
 use elab_state::state::State;
 use elab_types::refused::Refused;
 use mlc_base::memory::NoMemory;
@@ -37,18 +37,23 @@ fn any_marks(alloc: Global, count: u32) -> Result<Vec<Mark>, NoMemory>
     Ok(marks)
 }
 
-/// One scheme more in the context, over so many parameters; and its number.
+/// One scheme more in the context, over so many parameters, of a constructor; and its number.
 fn add_scheme(
     alloc: Global,
     context: &mut Context,
     arity: u32,
     body: usize,
+    built: Built,
 ) -> Result<usize, NoMemory>
-    ensures { IfOk result (HasOneMore context.old arity body context.new) }
+    ensures { IfOk result (HasOneMore context.old arity body built context.new) }
 {
     let marks = any_marks(alloc, arity)?;
     let number = context.schemes.len();
-    context.schemes.push(Scheme { marks, body })?;
+    context.schemes.push(Scheme {
+        marks,
+        body,
+        constructor: Some(built),
+    })?;
     Ok(number)
 }
 
@@ -90,7 +95,8 @@ fn add_constructor(
 {
     let name = constructing(bind.place, bind.vid)?;
     let body = constructor_type(alloc, state, of.ty, argument)?;
-    let scheme = add_scheme(alloc, context, of.name.arity, body)?;
+    let built = Built::Declared(name, of.name);
+    let scheme = add_scheme(alloc, context, of.name.arity, body, built)?;
     let number = name.number() as usize;
     Ok((bind.vid, Entry::Constructor(scheme, number, of.name)))
 }

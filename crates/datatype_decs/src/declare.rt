@@ -21,6 +21,7 @@ use crate::constructors::all_constructors;
 use crate::rows::add_rows;
 use datatype_forms::attributes::Datatypes;
 use datatype_forms::chosen::data_arguments;
+use datatype_forms::entries::with_constructors;
 use datatype_forms::naming::add_names;
 use dec_forms::bring::{bring_types, bring_values};
 use dec_forms::brought::Brought;
@@ -131,12 +132,14 @@ fn datatypes_with(
         binds,
         abbreviations,
     )?;
+    let scheme = context.schemes.len();
+    let types = with_constructors(alloc, scheme, binds, &made.arguments.entries)?;
     let values = constructors(alloc, state, context, place, binds, &made)?;
     check_values(alloc, place, &values)?;
     bring_values(context, &values)?;
-    bring_types(context, &made.arguments.entries)?;
+    bring_types(context, &types)?;
     brought.add_values(&values)?;
-    brought.add_types(&made.arguments.entries)?;
+    brought.add_types(&types)?;
     Ok(())
 }
 

@@ -15,6 +15,7 @@ use Rattle.core_rules.specs.Elaborated.{any_marks, constructed}
 use Rattle.core_rules.specs.Objects.{AllOver, Over}
 use Rattle.ir_poly.specs.Types.{constructor_of, find}
 use Rattle.elab_typed.specs.Numbers.{name_as, type_as}
+use Rattle.elab_types.specs.declared.scope.TypeEntry.{TypeEntry}
 use Rattle.elab_state.specs.States.{types_in}
 use Rattle.elab_state.specs.declared.state.State.{State}
 use Rattle.elab_steps.specs.World.{World, Comes}
@@ -23,9 +24,12 @@ use Rattle.elab_context.specs.Telling.{scheme_of}
 use Rattle.elab_context.specs.declared.context.Context.{Context}
 use Rattle.elab_context.specs.declared.entry.Entry.{Entry}
 use Rattle.elab_context.specs.declared.entry.Scheme as code
+use Rattle.dec_forms.specs.Entries.{constructing_name}
 use Rattle.datatype_forms.specs.Arguments.{OverIf}
-use Rattle.datatype_forms.specs.Constructed.{HasScheme, EachScheme, no_scheme, a_scheme, AllSchemes, no_schemes, more_schemes, HasRow, EachRow, no_row, a_row, AllRows, no_rows, more_rows, any_of}
+use Rattle.datatype_forms.specs.Constructed.{HasScheme, EachScheme, no_scheme, a_scheme, AllSchemes, no_schemes, more_schemes, HasRow, EachRow, no_row, a_row, AllRows, no_rows, more_rows, any_of, ranged}
 use Rattle.datatype_forms.specs.Made.{IsMade, EachMade, none_made, one_made, AllMade, no_datatype, a_datatype}
+use Rattle.datatype_forms.specs.Reading.{AreNameEntries}
+use Rattle.datatype_forms.proofs.Ranges.{each-ends, each-named, each-within}
 
 any-same : (as_ : List Tyvar) → any_of (length as_) ≡ any_marks as_
 any-same [] = refl
@@ -42,11 +46,11 @@ constructed-over m y (Some t) lt h = (tt, (h, ((lt, variables-over m 0 y.arity),
 some-same : {A : Type 0} {x y : A} → Some x ≡ Some y → x ≡ y
 some-same e = cc
 
-one-is : (T : State) (D : Context) (W : World) (number : ℕ → ℕ) (as_ : List Tyvar) (y : TyName) (b : ConBind) (o : Option Typ) (e : Vid × Entry) (n : ℕ) → Comes T W
-    → number ≡ W.naming D.naming → y.arity ≡ length as_ → Rattle.std.specs.Prelude.nat_lt y.stamp D.names ≡ true → HasScheme (types_in T) D.schemes.items y b o e
-    → Rattle.dec_forms.specs.Entries.constructing_name b.vid ≡ Some n → HasRow T number D.names y n o → IsMade D W as_ y b o e
-one-is T D W number as_ y b o e n c f a lt h q r = record {
-  scheme = h.scheme;
+one-is : (T : State) (D : Context) (W : World) (number : ℕ → ℕ) (as_ : List Tyvar) (y : TyName) (b : ConBind) (o : Option Typ) (e : Vid × Entry) (n k : ℕ) → Comes T W
+    → number ≡ W.naming D.naming → y.arity ≡ length as_ → Rattle.std.specs.Prelude.nat_lt y.stamp D.names ≡ true → HasScheme (types_in T) D.schemes.items y k b o e
+    → constructing_name b.vid ≡ Some n → HasRow T number D.names y n o → IsMade D W as_ y b o e
+one-is T D W number as_ y b o e n k c f a lt h q r = record {
+  scheme = k;
   number = h.number;
   is = h.is;
   may = h.may;
@@ -58,12 +62,13 @@ one-is T D W number as_ y b o e n c f a lt h q r = record {
       (subst (λ (g : ℕ → ℕ). find W.table (name_as g y) n ≡ Some (constructor_of (name_as g y) n (option_map (type_as g) o))) f (r.found W c));
 }
 
-each-is : (T : State) (D : Context) (W : World) (number : ℕ → ℕ) (as_ : List Tyvar) (y : TyName) {bs : List ConBind} {os : List (Option Typ)} {es : List (Vid × Entry)} → Comes T W
-    → number ≡ W.naming D.naming → y.arity ≡ length as_ → Rattle.std.specs.Prelude.nat_lt y.stamp D.names ≡ true → EachScheme (types_in T) D.schemes.items y bs os es → EachRow T number D.names y bs os
+each-is : (T : State) (D : Context) (W : World) (number : ℕ → ℕ) (as_ : List Tyvar) (y : TyName) {k j : ℕ} {bs : List ConBind} {os : List (Option Typ)} {es : List (Vid × Entry)} → Comes T W
+    → number ≡ W.naming D.naming → y.arity ≡ length as_ → Rattle.std.specs.Prelude.nat_lt y.stamp D.names ≡ true → EachScheme (types_in T) D.schemes.items y k bs os es j
+    → EachRow T number D.names y bs os
     → EachMade D W as_ y bs os es
 each-is T D W number as_ y c f a lt no_scheme no_row = none_made
-each-is T D W number as_ y c f a lt (a_scheme {b = b} {o = o} {e = e} h hs) (a_row n q x rs) =
-    one_made (one-is T D W number as_ y b o e n c f a lt h q x) (each-is T D W number as_ y c f a lt hs rs)
+each-is T D W number as_ y c f a lt (a_scheme {k = k} {b = b} {o = o} {e = e} h hs) (a_row n q x rs) =
+    one_made (one-is T D W number as_ y b o e n k c f a lt h q x) (each-is T D W number as_ y c f a lt hs rs)
 
 -- the names of the declaration
 
@@ -77,34 +82,43 @@ names-fit m k [] bs le = tt
 names-fit m k (q ∷ qs) [] le = tt
 names-fit m k (q ∷ qs) (b ∷ bs) le = ((refl, lt-ltb k m (omega (arith, le))), names-fit m (suc k) qs bs (omega (arith, le)))
 
-all-made : (T : State) (D : Context) (W : World) (number : ℕ → ℕ) {ys : List TyName} {bs : List DataBind} {oss : List (List (Option Typ))} {es : List (Vid × Entry)} → Comes T W
-    → number ≡ W.naming D.naming → NamesFit D.names ys bs → AllSchemes (types_in T) D.schemes.items ys bs oss es → AllRows T number D.names ys bs oss → AllMade D W ys bs oss es
-all-made T D W number c f n no_schemes no_rows = no_datatype
-all-made T D W number c f n (more_schemes {y = y} {b = b} s ss) (more_rows r rs) =
-    a_datatype n.0.0 (each-is T D W number b.tyvars y c f n.0.0 n.0.1 s r) (all-made T D W number c f n.1 ss rs)
+all-made : (T : State) (D : Context) (W : World) (number : ℕ → ℕ) {k i : ℕ} {ys : List TyName} {bs : List DataBind} {oss : List (List (Option Typ))} {es : List (Vid × Entry)} (us : List Typ)
+    (ts : List (ℕ × TypeEntry)) → Comes T W → number ≡ W.naming D.naming → NamesFit D.names ys bs → AreNameEntries us bs ys ts → k ≤ length D.schemes.items
+    → AllSchemes (types_in T) D.schemes.items k ys bs oss es i → AllRows T number D.names ys bs oss → AllMade D W ys bs oss es (ranged k bs ts)
+all-made T D W number us ts c f n e le no_schemes no_rows = no_datatype
+all-made T D W number us [] c f n e le (more_schemes s ss) (more_rows r rs) = absurd e
+all-made T D W number us (t ∷ ts) c f n e le (more_schemes {j = j} {y = y} {b = b} {ys = ys} {bs = bs} {oss = oss} {fs = fs} s ss) (more_rows r rs) =
+    let ends = each-ends s in
+    let within = each-within D.schemes.items le s in
+    a_datatype n.0.0 (each-is T D W number b.tyvars y c f n.0.0 n.0.1 s r)
+    (record { tycon = e.0.0; are = each-named D.schemes.items s; within = within })
+    (subst (λ z. AllMade D W ys bs oss fs (ranged z bs ts)) ends (all-made T D W number us ts c f n.1 e.1 (omega (arith, ends, within)) ss rs))
 
-pub constructors_made : (T : State) (C D : Context) (qs : List Rattle.std.specs.Prelude.Bool) (bs : List DataBind) (oss : List (List (Option Typ))) (es : List (Vid × Entry)) → D.names ≡ C.names + length bs
-    → AllSchemes (types_in T) D.schemes.items (Rattle.core_rules.specs.Elaborated.names_of C.names qs bs) bs oss es
+pub constructors_made : (T : State) (C D : Context) (qs : List Rattle.std.specs.Prelude.Bool) (bs : List DataBind) (oss : List (List (Option Typ))) (es : List (Vid × Entry)) (us : List Typ)
+    (ts : List (ℕ × TypeEntry)) (k i : ℕ) → D.names ≡ C.names + length bs → AreNameEntries us bs (Rattle.core_rules.specs.Elaborated.names_of C.names qs bs) ts → k ≤ length D.schemes.items
+    → AllSchemes (types_in T) D.schemes.items k (Rattle.core_rules.specs.Elaborated.names_of C.names qs bs) bs oss es i
     → AllRows T (number_in D) D.names (Rattle.core_rules.specs.Elaborated.names_of C.names qs bs) bs oss → (W : World) → Comes T W → ((x : ℕ) → W.naming D.naming x ≡ number_in D x)
-    → AllMade D W (Rattle.core_rules.specs.Elaborated.names_of C.names qs bs) bs oss es
-constructors_made T C D qs bs oss es l s r W c h =
-    all-made T D W (number_in D) c (λ i x. sym (h x) i) (names-fit D.names C.names qs bs (omega (arith, l))) s r
+    → AllMade D W (Rattle.core_rules.specs.Elaborated.names_of C.names qs bs) bs oss es (ranged k bs ts)
+constructors_made T C D qs bs oss es us ts k i l e le s r W c h =
+    all-made T D W (number_in D) us ts c (λ i x. sym (h x) i) (names-fit D.names C.names qs bs (omega (arith, l))) e le s r
 
 -- their entries
 
-scheme-held : (ts : List Typ) (ss : List code.Scheme) (y : TyName) (b : ConBind) (o : Option Typ) (e : Vid × Entry) → HasScheme ts ss y b o e → Rattle.datatype_forms.specs.Declaration.is_constructor e.1 ≡ true
-scheme-held ts ss y b o e h = subst (λ (e : Vid × Entry). Rattle.datatype_forms.specs.Declaration.is_constructor e.1 ≡ true) (sym h.is) refl
+scheme-held : (ts : List Typ) (ss : List code.Scheme) (y : TyName) (k : ℕ) (b : ConBind) (o : Option Typ) (e : Vid × Entry) → HasScheme ts ss y k b o e
+    → Rattle.datatype_forms.specs.Declaration.is_constructor e.1 ≡ true
+scheme-held ts ss y k b o e h = subst (λ (e : Vid × Entry). Rattle.datatype_forms.specs.Declaration.is_constructor e.1 ≡ true) (sym h.is) refl
 
-each-constructor : {ts : List Typ} {ss : List code.Scheme} {y : TyName} {bs : List ConBind} {os : List (Option Typ)} {es : List (Vid × Entry)} → EachScheme ts ss y bs os es
+each-constructor : {ts : List Typ} {ss : List code.Scheme} {y : TyName} {k j : ℕ} {bs : List ConBind} {os : List (Option Typ)} {es : List (Vid × Entry)} → EachScheme ts ss y k bs os es j
     → AllByRecursion (λ (e : Vid × Entry). Rattle.datatype_forms.specs.Declaration.is_constructor e.1 ≡ true) es
 each-constructor no_scheme = tt
-each-constructor {ts = ts} {ss = ss} {y = y} (a_scheme {b = b} {o = o} {e = e} h hs) = (scheme-held ts ss y b o e h, each-constructor hs)
+each-constructor {ts = ts} {ss = ss} {y = y} (a_scheme {k = k} {b = b} {o = o} {e = e} h hs) = (scheme-held ts ss y k b o e h, each-constructor hs)
 
 all-append : (P : Vid × Entry → Type 0) (es fs : List (Vid × Entry)) → AllByRecursion P es → AllByRecursion P fs → AllByRecursion P (es ++ fs)
 all-append P [] fs h g = g
 all-append P (e ∷ es) fs h g = (h.0, all-append P es fs h.1 g)
 
-pub constructors_are : {ts : List Typ} {ss : List code.Scheme} {ys : List TyName} {bs : List DataBind} {oss : List (List (Option Typ))} {es : List (Vid × Entry)} → AllSchemes ts ss ys bs oss es
+pub constructors_are : {ts : List Typ} {ss : List code.Scheme} {k i : ℕ} {ys : List TyName} {bs : List DataBind} {oss : List (List (Option Typ))} {es : List (Vid × Entry)}
+    → AllSchemes ts ss k ys bs oss es i
     → AllByRecursion (λ (e : Vid × Entry). Rattle.datatype_forms.specs.Declaration.is_constructor e.1 ≡ true) es
 constructors_are no_schemes = tt
 constructors_are (more_schemes {es = es} {fs = fs} h hs) =

@@ -18,7 +18,7 @@ use Rattle.core_rules.specs.Elaborated.{all_constructors, datatypes, names_of, r
 use Rattle.core_rules.specs.Objects.{Map, TypeStructure, Values, env, no_structures}
 use Rattle.core_rules.specs.Restrictions.{distinct}
 use Rattle.core_rules.specs.Words.{same_vid}
-use Rattle.core_elab.specs.Scopes.{Scope, denotes_in}
+use Rattle.core_elab.specs.Scopes.{Scope, denotes_in, typed_in}
 use Rattle.elab_typed.specs.Contexts.{Around, generic, given_values, values_under}
 use Rattle.elab_typed.specs.Elaborates.{datatype_elab}
 use Rattle.elab_typed.specs.Numbers.{AgreeBelow, KeepsInitial}
@@ -28,9 +28,9 @@ use Rattle.elab_state.specs.States.{types_in}
 use Rattle.elab_state.specs.declared.state.State.{State}
 use Rattle.elab_steps.specs.World.{World, Comes}
 use Rattle.elab_steps.proofs.Growing.{comes_before}
-use Rattle.elab_context.specs.Entries.{entry_in, member_in}
+use Rattle.elab_context.specs.Entries.{entry_in, member_in, last_of}
 use Rattle.elab_context.specs.Numbered.{IsBelowIf, IsNumbered}
-use Rattle.elab_context.specs.Telling.{IsContext, IsFit, IsHeld, Tells, denotes_of, function_of, kept_of, known_of}
+use Rattle.elab_context.specs.Telling.{HasConstructors, IsContext, IsFit, IsHeld, Tells, denotes_of, function_of, kept_of, known_of}
 use Rattle.elab_context.specs.declared.context.Context.{Context}
 use Rattle.elab_context.specs.declared.entry.Entry.{Entry}
 use Rattle.elab_context.specs.declared.entry.Entry.TheVariants.{Constructor, Reference, Initial, Primitive, Raised, Single, Own, General}
@@ -43,7 +43,8 @@ use Rattle.dec_forms.proofs.Telling.{entry-among}
 use Rattle.datatype_forms.proofs.Stepping.{longer-than}
 use Rattle.vid_scope.specs.Entries.{entry_of}
 use Rattle.dec_forms.specs.Bringing.{Brings, Effect, IsBringing, past}
-use Rattle.dec_forms.specs.Telling.{last_of, with_all}
+use Rattle.dec_forms.specs.Entries.{last_at}
+use Rattle.dec_forms.specs.Telling.{with_all}
 use Rattle.dec_forms.specs.declared.brought.Brought.{Brought}
 use Rattle.dec_forms.proofs.Bodies.{reads-types}
 use Rattle.dec_forms.proofs.DeclaringTypes as tycons
@@ -53,7 +54,7 @@ use Rattle.datatype_forms.specs.Arguments.{data_structures, rows_at}
 use Rattle.datatype_forms.specs.Declaration.{AreDeclared, HasNew, is_constructor}
 use Rattle.datatype_forms.specs.Made.{EachMade, none_made, one_made, AllMade, no_datatype, a_datatype}
 use Rattle.datatype_forms.specs.Reading.{AreNameEntries}
-use Rattle.datatype_forms.proofs.Bringing.{Scoped, all_fit, all_kept, scope_made}
+use Rattle.datatype_forms.proofs.Bringing.{Scoped, all_fit, all_kept, found_made, scope_made, scope_of}
 use Rattle.datatype_forms.proofs.InNames.{names_hold, tycons-same}
 
 -- no constructor has a variable of the program
@@ -84,10 +85,10 @@ all-append : (P : Vid × Entry → Type 0) (es fs : List (Vid × Entry)) → All
 all-append P [] fs h g = g
 all-append P (e ∷ es) fs h g = (h.0, all-append P es fs h.1 g)
 
-all-unknown : {D : Context} {W : World} {ns : List TyName} {bs : List DataBind} {oss : List _} {es : List (Vid × Entry)} (A : Around) → AllMade D W ns bs oss es
+all-unknown : {D : Context} {W : World} {ns : List TyName} {bs : List DataBind} {oss : List _} {es : List (Vid × Entry)} {ts : List (ℕ × TypeEntry)} (A : Around) → AllMade D W ns bs oss es ts
     → AllByRecursion (λ (e : Vid × Entry). Unknown W A e.1) es
 all-unknown A no_datatype = tt
-all-unknown {W = W} A (a_datatype {es = es} {fs = fs} a m h) = all-append (λ (e : Vid × Entry). Unknown W A e.1) es fs (each-unknown A m) (all-unknown A h)
+all-unknown {W = W} A (a_datatype {es = es} {fs = fs} a m n h) = all-append (λ (e : Vid × Entry). Unknown W A e.1) es fs (each-unknown A m) (all-unknown A h)
 
 -- type constructors
 
@@ -115,9 +116,10 @@ types-found W ts (b ∷ bs) (n ∷ ns) (os ∷ oss) (e ∷ es) x l r h =
     by true k = ap Some (λ i. record { arity = sym h.0.1.arity i; body = sym raw i })
     by false k = k
 
-rows-made : {D : Context} {W : World} {ns : List TyName} {bs : List DataBind} {oss : List (List (Option Typ))} {es : List (Vid × Entry)} → AllMade D W ns bs oss es → length oss ≡ length bs
+rows-made : {D : Context} {W : World} {ns : List TyName} {bs : List DataBind} {oss : List (List (Option Typ))} {es : List (Vid × Entry)} {ts : List (ℕ × TypeEntry)} → AllMade D W ns bs oss es ts
+    → length oss ≡ length bs
 rows-made no_datatype = refl
-rows-made (a_datatype a m h) = ap ℕ.suc (rows-made h)
+rows-made (a_datatype a m n h) = ap ℕ.suc (rows-made h)
 
 -- nothing is said of parameters
 
@@ -149,8 +151,11 @@ module _ (S T : State) (C D : Context) (bs : List DataBind) (es : List (Vid × E
     numbers : (x : ℕ) → W.naming D.naming x ≡ Rattle.elab_context.specs.Entries.number_in D x
     numbers = d.numbers W c t.numbers
 
-    made : AllMade D W ns bs (rows_at (types_in T) d.rows) es
+    made : AllMade D W ns bs (rows_at (types_in T) d.rows) es ts
     made = d.made W c numbers
+
+    first-at : (x : ℕ) → last_at ts x ≡ lookup (nat_eq x) ts
+    first-at x = tycons.last-first ts x (ap (distinct nat_eq) (tycons-same (types_in T) bs ns ts d.entries) ∙ d.tycons)
 
     agrees : AgreeBelow A.names A.number (W.naming D.naming)
     agrees x lt = d.agree W c x (subst (λ n. nat_lt x n ≡ true) t.names lt) ∙ ap (λ (f : ℕ → ℕ). f x) (sym t.number)
@@ -160,15 +165,20 @@ module _ (S T : State) (C D : Context) (bs : List DataBind) (es : List (Vid × E
         let w = d.wide in let l = ltb-true x name_count lt in let n = t.names in
         agrees x (lt-ltb x A.names (omega (arith, w, l, n))) ∙ t.initial x lt
 
-    pub datatypes_bring : (r : Scoped bs es) → Brings D W A S.next es ts (effect W A r.scope)
+    pub datatypes_bring : (r : Scoped D bs es ts) → Brings D W A S.next es ts (effect W A r.scope)
     datatypes_bring r = record {
       values = λ x. ap (lookup (same_vid x)) (all_kept made) ∙ kept-listed D W es x ∙ ap (option_map (kept_of D W)) (sym (last-first es x d.vids));
       types = λ x.
           types-found W (types_in T) bs ns (rows_at (types_in T) d.rows) ts x (rows-made made) c.types d.entries
-          ∙ ap (option_map (function_of W)) (sym (tycons.last-first ts x (ap (distinct nat_eq) (tycons-same (types_in T) bs ns ts d.entries) ∙ d.tycons)));
+          ∙ ap (option_map (function_of W)) (sym (first-at x));
       structures = refl;
       denotes = λ s x. r.denotes s x ∙ ap (λ o. option_or (option_map denotes_of o) (denotes_in s x)) (sym (last-first es x d.vids));
       alone = r.alone;
+      retyped = λ s x h. r.typed s x ∙ ap (λ o. option_or (option_map (scope_of D) o) (typed_in s x)) (sym (first-at x) ∙ h);
+      constructors = λ s x e h.
+          let found : lookup (nat_eq x) ts ≡ Some e = sym (first-at x) ∙ h in
+          subst (HasConstructors D W (past A (effect W A r.scope)) e (lookup (nat_eq x) structures)) (sym (r.typed s x ∙ ap (λ o. option_or (option_map (scope_of D) o) (typed_in s x)) found))
+          (found_made (past A (effect W A r.scope)) x e made d.vids found);
       fit = λ x e h. last-among (IsFit D W (past A (effect W A r.scope))) es x e (all_fit (past A (effect W A r.scope)) made) h;
       new = λ x e n v h q. let u = last-among (Unknown W (past A (effect W A r.scope))) es x e (all-unknown (past A (effect W A r.scope)) made) h in cc;
       older = λ n lt. refl;

@@ -12,4 +12,5 @@ pub mod Abbreviating
 pub mod Best
 pub mod Bringing
 pub mod Declaring
+pub mod Ranges
 pub mod Constructing

@@ -20,13 +20,13 @@ use Rattle.elab_context.specs.declared.context.Context.{Context}
 use Rattle.elab_context.specs.declared.entry.Entry.{Entry}
 use Rattle.elab_context.specs.declared.entry.Entry.TheVariants.{Constructor, Reference, Initial, Primitive, Raised, Single, Own, General}
 use Rattle.elab_context.specs.declared.entry.Scheme as code
-use Rattle.elab_context.specs.Telling.{IsContext, IsHeld}
+use Rattle.elab_context.specs.Telling.{IsContext, IsHeld, vids_in}
 use Rattle.closed_types.specs.Parameters.{ReadsTypes}
 use Rattle.mlc_base.specs.declared.place.Place.{Place}
 use Rattle.sml_tree.specs.BareTree as bare
 use Rattle.elab_types.specs.Reading.{Holds}
 use Rattle.dec_forms.specs.Bringing.{IsBringing}
-use Rattle.dec_forms.specs.Entries.{Adds, vids_in}
+use Rattle.dec_forms.specs.Entries.{Adds}
 use Rattle.dec_forms.specs.declared.brought.Brought.{Brought}
 use Rattle.datatype_forms.specs.Arguments.{data_structures, rows_at}
 use Rattle.datatype_forms.specs.Best.{AreBestMarks, AreOnce}
@@ -64,10 +64,10 @@ pub record AreDeclared (S : State) (C : Context) (bs : List DataBind) (T : State
   pub best : (c : static.Context) → c.names ≡ C.names → ReadsTypes (types_in S) C.types c → AreBestMarks c bs marks
   pub are : (c : static.Context) → c.names ≡ C.names → ReadsTypes (types_in S) C.types c
       → datatypes c marks bs ≡ Some (data_structures (names_of C.names marks bs) bs (rows_at (types_in T) rows))
-  -- each type constructor is its type name, and each constructor has its scheme and its row
+  -- each type constructor is its type name and names its constructors, and each constructor has its scheme and its row
   pub entries : AreNameEntries (types_in T) bs (names_of C.names marks bs) ts
   pub made : (W : World) → Comes T W → ((x : ℕ) → W.naming D.naming x ≡ number_in D x)
-      → AllMade D W (names_of C.names marks bs) bs (rows_at (types_in T) rows) es
+      → AllMade D W (names_of C.names marks bs) bs (rows_at (types_in T) rows) es ts
 
 -- the state has what is new in the context
 pub record HasNew (T : State) (D : Context) (es : List (Vid × Entry)) : Type 0 where

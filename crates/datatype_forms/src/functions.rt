@@ -12,13 +12,10 @@ use dec_forms::bindings::names_of;
 use dec_forms::once::check_names;
 use elab_state::state::State;
 use elab_types::refused::Refused;
-use elab_types::scope::{TypeEntry, TypeScope};
+use elab_types::scope::{NO_CONSTRUCTORS, TypeEntry, TypeScope};
 use mlc_names::names::Name;
 use sml_tree::tree::TypeBind;
 use std::alloc::Global;
-
-/// What stands for the list of constructors of a type that has none.
-const NO_LIST: usize = usize::MAX;
 
 /// The type function of an abbreviation, over its own parameters.
 fn function_entry(
@@ -41,7 +38,7 @@ fn function_entry(
     Ok(TypeEntry {
         arity: bind.tyvars.len(),
         body,
-        constructors: NO_LIST,
+        constructors: NO_CONSTRUCTORS,
     })
 }
 

@@ -36,14 +36,14 @@ use Rattle.elab_steps.specs.Growing.{Grows}
 use Rattle.elab_steps.specs.World.{World, type_of}
 use Rattle.elab_steps.proofs.Growing.{grows_same, grows_on, comes_before, type_later}
 use Rattle.elab_context.specs.Entries.{entry_in}
-use Rattle.elab_context.specs.Telling.{IsContext, IsFit, IsHeld, IsHeldIf, IsInUseIf, denotes_of, kept_of, known_of}
+use Rattle.elab_context.specs.Telling.{IsContext, IsFit, IsHeld, IsHeldIf, IsInUseIf, denotes_of, kept_of, known_of, kept_entries, scope_of_entries, vids_in}
 use Rattle.elab_context.specs.declared.context.Context.{Context}
 use Rattle.elab_context.specs.declared.entry.Entry.{Entry}
 use Rattle.elab_context.specs.declared.entry.Entry.TheVariants.{Constructor, Reference, Initial, Primitive, Raised, Single, Own, General}
 use Rattle.elab_context.specs.Numbered.{IsBelowIf}
 use Rattle.elab_context.proofs.Reading.{below-later}
 use Rattle.exp_forms.proofs.Entering.{number-known}
-use Rattle.dec_forms.specs.Entries.{constructing_name, kept_entries, scope_of_entries, vids_in}
+use Rattle.dec_forms.specs.Entries.{constructing_name}
 use Rattle.dec_forms.proofs.Listed.{all-append, all-map, constructing-is, constructing-may, scope-append}
 use Rattle.dec_forms.proofs.Several.{decs-append}
 use Rattle.dec_forms.specs.Exceptions.{AreExns, ElaboratesExns, IsArgumentOf, IsBehind, IsNoExceptionIn, is_raised}

@@ -32,7 +32,7 @@ use Rattle.elab_context.specs.Telling.{Tells, function_of}
 use Rattle.elab_context.specs.declared.context.Context.{Context}
 use Rattle.closed_types.specs.Parameters.{AreParameters, IsClosedType, ReadsTypes}
 use Rattle.closed_types.proofs.Entering.{top-below}
-use Rattle.dec_forms.specs.Abbreviations.{AreTypeFunctions, IsClosedEntry, IsTypeFunction, type_map}
+use Rattle.dec_forms.specs.Abbreviations.{AreTypeFunctions, IsClosedEntry, IsTypeFunction, no_schemes, type_map}
 
 -- in a world a scope tells of the type constructors that are around a phrase
 pub reads-types : (S : State) (s : TypeScope) (C : Context) (W : World) (A : Around) → Holds (types_in S) s → Comes S W → C.types.types ≡ s.types → Tells C W A
@@ -46,13 +46,14 @@ reads-types S s C W A h c e t (q ∷ qs) x = t.types (q ∷ qs) x
 
 pub function_is : (S M T : State) (outer s : TypeScope) (b : TypeBind) (e : TypeEntry) → Holds (types_in S) outer → Grows S M → M.next ≡ S.next → s.types ≡ outer.types
     → AreParameters (types_in M) 0 b.tyvars s.tyvars → Grows M T → T.next ≡ M.next → IsClosedType (types_in M) (types_in T) outer b.tyvars b.ty e.body → e.arity ≡ length b.tyvars
-    → no_repetition b.tyvars ≡ true → IsTypeFunction S outer b T e
-function_is S M T outer s b e h g n et p gt nt is ar once = record {
+    → no_repetition b.tyvars ≡ true → e.constructors ≡ no_schemes → IsTypeFunction S outer b T e
+function_is S M T outer s b e h g n et p gt nt is ar once bare = record {
   grows = grows_on S M T g gt;
   next = nt ∙ n;
   entry = record {
     held = is.held;
     closed = subst (λ k. top (type_at (types_in T) e.body) ≤ k) (sym ar) (top-below (length b.tyvars) (type_at (types_in T) e.body) is.below);
+    bare = bare;
   };
   arity = ar;
   unrepeated = once;
@@ -67,6 +68,7 @@ pub closed_later : (S T : State) (e : TypeEntry) → Grows S T → IsClosedEntry
 closed_later S T e g h = record {
   held = let le = longer (types_in S) (types_in T) g.types in let lt = h.held in omega (arith, le, lt);
   closed = subst (λ t. top t ≤ e.arity) (sym (type-stays (types_in S) (types_in T) e.body g.types h.held)) h.closed;
+  bare = h.bare;
 }
 
 all-append : {A : Type 0} (P Q : A → Type 0) (xs : List A) (x : A) → ((y : A) → P y → Q y) → AllByRecursion P xs → Q x → AllByRecursion Q (xs ++ x ∷ [])

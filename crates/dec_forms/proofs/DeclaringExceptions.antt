@@ -26,7 +26,7 @@ use Rattle.elab_typed.specs.Contexts.{Around, KeptValues, value_under, values_un
 use Rattle.elab_typed.specs.Elaborates.{DecElab, ExnsElab, exception_elab, no_exns_elab, new_exn_elab, same_exn_elab}
 use Rattle.elab_state.specs.declared.state.State.{State}
 use Rattle.elab_steps.specs.World.{World, type_of}
-use Rattle.elab_context.specs.Telling.{IsContext, IsFit, IsInUseIf, Tells, denotes_of, known_of, kept_of}
+use Rattle.elab_context.specs.Telling.{IsContext, IsFit, IsInUseIf, Tells, denotes_of, known_of, kept_of, kept_entries, scope_of_entries, vids_in}
 use Rattle.elab_context.specs.declared.context.Context.{Context}
 use Rattle.elab_context.specs.declared.entry.Entry.{Entry}
 use Rattle.elab_context.specs.declared.entry.Entry.TheVariants.{Constructor, Reference, Initial, Primitive, Raised, Single, Own, General}
@@ -36,9 +36,8 @@ use Rattle.exp_forms.proofs.Entering.{context_with, number-known}
 use Rattle.dec_forms.specs.Telling.{with_all}
 use Rattle.dec_forms.proofs.Telling.{AreFurther}
 use Rattle.dec_forms.specs.Bringing.{Brings, IsBringing}
-use Rattle.dec_forms.specs.Entries.{kept_entries, scope_of_entries, vids_in}
 use Rattle.dec_forms.specs.declared.brought.Brought.{Brought}
-use Rattle.dec_forms.proofs.Listed.{alone-listed, denotes-listed, kept-listed, last-among, last-first}
+use Rattle.dec_forms.proofs.Listed.{alone-listed, denotes-listed, kept-listed, last-among, last-first, untyped-listed}
 use Rattle.dec_forms.proofs.Plain.{numbered_values, values_add, values_bring, values_effect}
 use Rattle.dec_forms.specs.Exceptions.{AreExns, ElaboratesExns, is_raised}
 use Rattle.dec_forms.specs.declared.made.ExnsMade.{ExnsMade}
@@ -90,6 +89,7 @@ exns-further C W A k j bs x es t num d r e = record {
   denotes = λ s y.
       denotes-listed s es y ∙ ap (λ o. option_or (option_map denotes_of o) (denotes_in s y)) (sym (last-first es y d));
   alone = λ s q. alone-listed s es q;
+  untyped = λ s x. untyped-listed s es x;
   fit = λ y v h. last-among (IsFit C W A) es y v e.fit h;
   new = λ y v n u h q. last-among (λ z. (i : ℕ) (w : Known) → known_of W A z ≡ Some (i, w) → checked.at e.known i ≡ Some w) es y v e.newer h n u q;
   over = values-same C W A es e.fit r;

@@ -1,6 +1,6 @@
 -- The declaration of abbreviations.
-use Rattle.std.proofs.Common.{◌≡◌, ◌⊎◌, inl, inr, ◌<◌, ◌≤◌, ◌||◌, ℕ, Bool, true, false, not, cond, List, [], ◌∷◌, ◌++◌, map, length, Option, Some, None, nat_eq, refl, sym, ap, ap₂, subst, ◌∙◌, arith}
-use Rattle.std.specs.Prelude.{option_map}
+use Rattle.std.proofs.Common.{◌≡◌, ◌⊎◌, inl, inr, ◌<◌, ◌≤◌, ◌||◌, ◌+◌, ℕ, Bool, true, false, not, cond, List, [], ◌∷◌, ◌++◌, map, length, Option, Some, None, nat_eq, refl, sym, ap, ap₂, subst, ◌∙◌, arith}
+use Rattle.std.specs.Prelude.{option_map, is_some, take, drop}
 use Rattle.std.specs.Option.{option_or}
 use Rattle.std.specs.List.{AllByRecursion}
 use Rattle.std.specs.Map.{lookup}
@@ -10,40 +10,52 @@ use Rattle.ty_table.specs.TypeAt.{top, type_at}
 use Rattle.sml_tree.specs.BareTree.{TypeBind, type_dec}
 use Rattle.sml_tree.specs.declared.ident.Vid.{Vid}
 use Rattle.core_rules.specs.Choices.{no_choice}
+use Rattle.core_rules.specs.Objects.{TypeStructure}
 use Rattle.core_rules.specs.Restrictions.{distinct}
-use Rattle.core_rules.specs.Words.{is_in}
+use Rattle.core_rules.specs.Words.{is_in, same_vid}
 use Rattle.core_rules.proofs.LookUps.{nat-tells}
-use Rattle.core_elab.specs.Scopes.{Scope, denotes_in, inside_in, plus_scope, types_scope}
+use Rattle.core_elab.specs.Scopes.{Scope, empty, denotes_in, inside_in, typed_in, plus_scope, types_scope}
 use Rattle.prog_tree.specs.declared.tree.Dec.{Dec}
+use Rattle.elab_typed.specs.Contexts.{Around, given_values}
 use Rattle.elab_typed.specs.Elaborates.{type_elab}
+use Rattle.elab_types.specs.declared.scope.SchemeRange.{SchemeRange}
 use Rattle.elab_types.specs.declared.scope.TypeEntry.{TypeEntry}
 use Rattle.elab_state.specs.States.{types_in}
 use Rattle.elab_state.specs.declared.state.State.{State}
 use Rattle.elab_steps.specs.World.{World}
-use Rattle.elab_context.specs.Entries.{entry_in}
-use Rattle.elab_context.specs.Telling.{IsContext, IsHeld, function_of}
+use Rattle.elab_context.specs.Entries.{constructors_in, constructors_of, entry_in}
+use Rattle.elab_context.specs.Telling.{HasConstructors, IsContext, IsFit, IsHeld, function_of, kept_entries, scope_of_entries, vids_in}
 use Rattle.elab_context.specs.declared.context.Context.{Context}
 use Rattle.elab_context.specs.declared.entry.Entry.{Entry}
 use Rattle.elab_context.specs.declared.entry.Entry.TheVariants.{Constructor, Reference, Initial, Primitive, Raised, Single, Own, General}
 use Rattle.elab_context.proofs.Reading.{context_later, numbered_later}
 use Rattle.elab_context.specs.Numbered.{IsNumbered}
-use Rattle.dec_forms.specs.Bringing.{Brings, IsBringing}
+use Rattle.dec_forms.specs.Bringing.{Brings, IsBringing, past}
 use Rattle.dec_forms.specs.Entries.{last_at, types_onto, with_types}
 use Rattle.dec_forms.specs.declared.brought.Brought.{Brought}
 use Rattle.dec_forms.proofs.Plain.{types_add, types_bring, types_effect}
-use Rattle.dec_forms.specs.Abbreviations.{AreTypeFunctions, IsClosedEntry, type_map}
+use Rattle.dec_forms.specs.Abbreviations.{AreTypeFunctions, IsClosedEntry, no_schemes, type_map}
 
 -- what is found among them
 
-function-found : (W : World) (ts : List (ℕ × TypeEntry)) (x : ℕ) → option_map (λ y. y.function) (lookup (nat_eq x) (type_map W ts)) ≡ option_map (function_of W) (lookup (nat_eq x) ts)
-function-found W [] x = refl
-function-found W (t ∷ ts) x = by (nat_eq x t.0) (function-found W ts x)
+abbrev bare : World → TypeEntry → TypeStructure
+bare W e = record { function = function_of W e; constructors = [] }
+
+structure-found : (W : World) (ts : List (ℕ × TypeEntry)) (x : ℕ) → lookup (nat_eq x) (type_map W ts) ≡ option_map (bare W) (lookup (nat_eq x) ts)
+structure-found W [] x = refl
+structure-found W (t ∷ ts) x = by (nat_eq x t.0) (structure-found W ts x)
   where
-    by : (b : Bool) → option_map (λ y. y.function) (lookup (nat_eq x) (type_map W ts)) ≡ option_map (function_of W) (lookup (nat_eq x) ts)
-        → option_map (λ y. y.function) (cond b (Some (record { function = function_of W t.1; constructors = [] })) (lookup (nat_eq x) (type_map W ts)))
-        ≡ option_map (function_of W) (cond b (Some t.1) (lookup (nat_eq x) ts))
+    by : (b : Bool) → lookup (nat_eq x) (type_map W ts) ≡ option_map (bare W) (lookup (nat_eq x) ts)
+        → cond b (Some (bare W t.1)) (lookup (nat_eq x) (type_map W ts)) ≡ option_map (bare W) (cond b (Some t.1) (lookup (nat_eq x) ts))
     by true h = refl
     by false h = h
+
+function-found : (W : World) (ts : List (ℕ × TypeEntry)) (x : ℕ) → option_map (λ y. y.function) (lookup (nat_eq x) (type_map W ts)) ≡ option_map (function_of W) (lookup (nat_eq x) ts)
+function-found W ts x = ap (option_map (λ y. y.function)) (structure-found W ts x) ∙ by (lookup (nat_eq x) ts)
+  where
+    by : (o : Option TypeEntry) → option_map (λ y. y.function) (option_map (bare W) o) ≡ option_map (function_of W) o
+    by None = refl
+    by (Some e) = refl
 
 not-so : (b : Bool) → not b ≡ true → b ≡ false
 not-so true h = cc
@@ -85,6 +97,56 @@ inside-same : (s : Scope) (bs : List TypeBind) (q : ℕ) → inside_in (plus_sco
 inside-same s [] q = refl
 inside-same s (b ∷ bs) q = inside-same s bs q
 
+-- type constructors come into scope, with no constructors
+
+either : (b c : Bool) (o p : Option Scope) → cond (b || c) o p ≡ cond b o (cond c o p)
+either true c o p = refl
+either false c o p = refl
+
+typed-among : (s : Scope) (bs : List TypeBind) (x : ℕ)
+    → typed_in (plus_scope s (types_scope bs)) x ≡ cond (is_in nat_eq x (map (λ b. b.tycon) bs)) (Some empty) (typed_in s x)
+typed-among s [] x = refl
+typed-among s (b ∷ bs) x =
+    ap (cond (nat_eq x b.tycon) (Some empty)) (typed-among s bs x) ∙ sym (either (nat_eq x b.tycon) (is_in nat_eq x (map (λ b. b.tycon) bs)) (Some empty) (typed_in s x))
+
+in-last : (ts : List (ℕ × TypeEntry)) (x : ℕ) → is_in nat_eq x (map (λ e. e.0) ts) ≡ is_some (last_at ts x)
+in-last [] x = refl
+in-last (t ∷ ts) x = ap (λ c. nat_eq x t.0 || c) (in-last ts x) ∙ by (nat_eq x t.0) (last_at ts x)
+  where
+    by : (b : Bool) (o : Option TypeEntry) → (b || is_some o) ≡ is_some (option_or o (cond b (Some t.1) None))
+    by true None = refl
+    by true (Some d) = refl
+    by false None = refl
+    by false (Some d) = refl
+
+typed-last : (s : Scope) (bs : List TypeBind) (ts : List (ℕ × TypeEntry)) (x : ℕ) → map (λ e. e.0) ts ≡ map (λ b. b.tycon) bs
+    → typed_in (plus_scope s (types_scope bs)) x ≡ cond (is_some (last_at ts x)) (Some empty) (typed_in s x)
+typed-last s bs ts x e = typed-among s bs x ∙ ap (λ c. cond c (Some empty) (typed_in s x)) (ap (is_in nat_eq x) (sym e) ∙ in-last ts x)
+
+-- a type constructor that has no constructors, told as such
+pub bare_constructors : (C : Context) (W : World) (A : Around) (e : TypeEntry) (y : TypeStructure) (o : Option TypeStructure) (r : Option Scope) → e.constructors ≡ no_schemes
+    → y.constructors ≡ [] → o ≡ Some y → r ≡ Some empty → HasConstructors C W A e o r
+bare_constructors C W A e y o r n p is scope =
+    let none : constructors_of C e ≡ [] = ap (λ (z : SchemeRange). constructors_in z.first (take z.count (drop z.first C.schemes.items))) n in
+    record {
+      structure = y;
+      is = is;
+      values = ap given_values p ∙ sym (ap (kept_entries C W) none);
+      scopes = scope ∙ sym (ap (λ l. Some (scope_of_entries l)) none);
+      once = ap (λ l. distinct same_vid (vids_in l)) none;
+      fit = subst (AllByRecursion (λ c. IsFit C W A c.1)) (sym none) tt;
+      within = subst (λ (z : SchemeRange). z.first + z.count ≤ length C.schemes.items) (sym n) (omega arith);
+    }
+
+entry-among : (P : ℕ × TypeEntry → Type 0) (Q : TypeEntry → Type 0) (ts : List (ℕ × TypeEntry)) (x : ℕ) (e : TypeEntry) → ((t : ℕ × TypeEntry) → P t → Q t.1) → AllByRecursion P ts
+    → lookup (nat_eq x) ts ≡ Some e → Q e
+entry-among P Q [] x e f h q = cc
+entry-among P Q (t ∷ ts) x e f h q = by (nat_eq x t.0) q (entry-among P Q ts x e f h.1)
+  where
+    by : (b : Bool) → cond b (Some t.1) (lookup (nat_eq x) ts) ≡ Some e → (lookup (nat_eq x) ts ≡ Some e → Q e) → Q e
+    by true q k = let same : t.1 ≡ e = cc in subst Q same (f t h.0)
+    by false q k = k q
+
 append-nil : {A : Type 0} (xs : List A) → xs ≡ xs ++ []
 append-nil [] = refl
 append-nil (x ∷ xs) = ap (λ l. x ∷ l) (append-nil xs)
@@ -114,7 +176,14 @@ types_declared S T C D p bs ts decs old new h d q ed et ev = subst (λ l. IsBrin
         brings =
             subst (λ D. Brings D W A S.next [] ts (types_effect A (type_map W ts) (types_scope bs))) (sym q)
             (types_bring C W A S.next ts (type_map W ts) (types_scope bs) t (λ x. function-found W ts x ∙ ap (option_map (function_of W)) (sym (last-first ts x d)))
-            (λ s x. denotes-same s bs x) (λ s q. inside-same s bs q));
+            (λ s x. denotes-same s bs x) (λ s q. inside-same s bs q)
+            (λ s x l. typed-last s bs ts x h.tycons ∙ ap (λ o. cond (is_some o) (Some empty) (typed_in s x)) l)
+            (λ s x e l.
+            let found = sym (last-first ts x d) ∙ l in
+            bare_constructors (with_types C ts) W (past A (types_effect A (type_map W ts) (types_scope bs))) e (bare W e) (lookup (nat_eq x) (type_map W ts))
+            (typed_in (plus_scope s (types_scope bs)) x)
+            (entry-among (λ t. IsClosedEntry T t.1) (λ e. e.constructors ≡ no_schemes) ts x e (λ t c. c.bare) h.entries found) refl
+            (structure-found W ts x ∙ ap (option_map (bare W)) found) (typed-last s bs ts x h.tycons ∙ ap (λ o. cond (is_some o) (Some empty) (typed_in s x)) l)));
       };
 })
 

@@ -14,26 +14,26 @@ use Rattle.core_rules.specs.Objects.{joined, Structures, no_structures, structur
 use Rattle.core_rules.proofs.LookUps.{vid-tells, nat-tells, at-joined}
 use Rattle.ir_poly.specs.TestsChecked.{Known}
 use Rattle.ir_poly.specs.TestsChecked as checked
-use Rattle.core_elab.specs.Scopes.{plus_scope, denotes_in, inside_in}
+use Rattle.core_elab.specs.Scopes.{Scope, plus_scope, denotes_in, inside_in, typed_in}
 use Rattle.elab_typed.specs.Contexts.{Around}
 use Rattle.elab_typed.specs.Numbers.{AgreeBelow}
 use Rattle.elab_typed.proofs.Under.{plus-under}
 use Rattle.elab_types.specs.declared.scope.TypeEntry.{TypeEntry}
 use Rattle.elab_steps.proofs.Changing.{begins-same}
 use Rattle.elab_steps.specs.World.{World}
-use Rattle.elab_context.specs.Entries.{entry_in}
-use Rattle.elab_context.specs.Telling.{Tells, IsFit, kept_of, denotes_of, known_of, function_of}
+use Rattle.elab_context.specs.Entries.{entry_in, last_of}
+use Rattle.elab_context.proofs.Contents.{has_constructors_still}
+use Rattle.elab_context.specs.Telling.{Tells, HasConstructors, IsFit, kept_of, denotes_of, known_of, function_of}
 use Rattle.elab_context.specs.declared.context.Context.{Context}
 use Rattle.elab_context.specs.declared.entry.Entry.{Entry}
 use Rattle.elab_context.specs.Numbered.{IsNumbered}
 use Rattle.exp_forms.proofs.Entering.{number-known}
-use Rattle.dec_forms.specs.Telling.{last_of}
 use Rattle.dec_forms.proofs.After.{after-after, plus-plus}
 use Rattle.dec_forms.proofs.Telling.{entry-among}
 use Rattle.dec_forms.specs.Entries.{Adds, last_at, types_onto}
 use Rattle.dec_forms.specs.Bringing.{Brings, Effect, past, joint_effect, last_effect}
 use Rattle.dec_forms.proofs.Wider.{Wider, fit-later, kept-later, known-later}
-use Rattle.dec_forms.proofs.TellingScope.{tells_past, wider_past, none-joined}
+use Rattle.dec_forms.proofs.TellingScope.{mapped-none, tells_past, wider_past, none-joined}
 
 or-assoc : {A : Type 0} (o p q : Option A) → option_or o (option_or p q) ≡ option_or (option_or o p) q
 or-assoc None p q = refl
@@ -116,6 +116,41 @@ module _ (C D E : Context) (W : World) (A : Around) (k i : ℕ) (es ds : List (V
       by None q h = old e h
       by (Some d) q h = let same : d ≡ e = cc in subst P same (new d q)
 
+  typed-both : (s : Scope) (x : ℕ) → last_at us x ≡ None → typed_in (plus_scope s both.scope) x ≡ typed_in (plus_scope s m.scope) x
+  typed-both s x l = ap (λ y. typed_in y x) (sym (plus-plus s m.scope q.scope)) ∙ f.retyped (plus_scope s m.scope) x l
+
+  retyped-both : (s : Scope) (x : ℕ) → last_at (ts ++ us) x ≡ None → typed_in (plus_scope s both.scope) x ≡ typed_in s x
+  retyped-both s x h = by (last_at us x) refl (sym (last-at-append ts us x) ∙ h)
+    where
+      by : (o : Option TypeEntry) → last_at us x ≡ o → option_or o (last_at ts x) ≡ None → typed_in (plus_scope s both.scope) x ≡ typed_in s x
+      by None l h = typed-both s x l ∙ b.retyped s x h
+      by (Some d) l h = cc
+
+  fit-both : (e : Entry) → IsFit E W (past (past A m) q) e → IsFit E W (past A both) e
+  fit-both e = subst (λ B. IsFit E W B e) same-around
+
+  constructors-both : (s : Scope) (x : ℕ) (e : TypeEntry) → last_at (ts ++ us) x ≡ Some e
+      → HasConstructors E W (past A both) e (lookup (nat_eq x) both.env.types) (typed_in (plus_scope s both.scope) x)
+  constructors-both s x e h = by (last_at us x) refl (sym (last-at-append ts us x) ∙ h)
+    where
+      types-is : lookup (nat_eq x) both.env.types ≡ option_or (lookup (nat_eq x) q.env.types) (lookup (nat_eq x) m.env.types)
+      types-is = at-joined nat_eq nat-tells m.env.types q.env.types x
+
+      by : (o : Option TypeEntry) → last_at us x ≡ o → option_or o (last_at ts x) ≡ Some e
+          → HasConstructors E W (past A both) e (lookup (nat_eq x) both.env.types) (typed_in (plus_scope s both.scope) x)
+      by None l h =
+          let none = mapped-none (λ (y : TypeStructure). y.function) (lookup (nat_eq x) q.env.types) (f.types x ∙ ap (option_map (function_of W)) l) in
+          has_constructors_still D E W W (past A m) (past A both) e (lookup (nat_eq x) m.env.types) (lookup (nat_eq x) both.env.types) (typed_in (plus_scope s m.scope) x)
+          (typed_in (plus_scope s both.scope) x) c.schemes (kept-later D E W (past A m) (past (past A m) q) wider)
+          (λ d i. fit-both d (fit-later D E W (past A m) (past (past A m) q) wider d i)) (types-is ∙ ap (λ o. option_or o (lookup (nat_eq x) m.env.types)) none) (typed-both s x l)
+          (b.constructors s x e h)
+      by (Some d) l h =
+          let same : d ≡ e = cc in
+          let new = f.constructors (plus_scope s m.scope) x e (l ∙ ap Some same) in
+          has_constructors_still E E W W (past (past A m) q) (past A both) e (lookup (nat_eq x) q.env.types) (lookup (nat_eq x) both.env.types)
+          (typed_in (plus_scope (plus_scope s m.scope) q.scope) x) (typed_in (plus_scope s both.scope) x) (begins-same E.schemes.items E.schemes.items refl) (λ d i. refl) fit-both
+          (types-is ∙ ap (λ o. option_or o (lookup (nat_eq x) m.env.types)) new.is ∙ sym new.is) (ap (λ y. typed_in y x) (sym (plus-plus s m.scope q.scope))) new
+
   pub brings_then : Brings E W A k (es ++ ds) (ts ++ us) both
   brings_then = record {
     values = λ x.
@@ -131,8 +166,10 @@ module _ (C D E : Context) (W : World) (A : Around) (k i : ℕ) (es ds : List (V
         ∙ or-assoc (option_map denotes_of (last_of ds x)) (option_map denotes_of (last_of es x)) (denotes_in s x)
         ∙ ap (λ o. option_or o (denotes_in s x)) (sym (map-or denotes_of (last_of ds x) (last_of es x)) ∙ ap (option_map denotes_of) (sym (last-append es ds x)));
     alone = λ s z. ap (λ y. inside_in y z) (sym (plus-plus s m.scope q.scope)) ∙ f.alone (plus_scope s m.scope) z ∙ b.alone s z;
+    retyped = retyped-both;
+    constructors = constructors-both;
     fit = λ x e h.
-        subst (λ B. IsFit E W B e) same-around
+        fit-both e
         (from-last x e (IsFit E W (past (past A m) q)) h (λ d l. f.fit x d l) (λ d l. fit-later D E W (past A m) (past (past A m) q) wider d (b.fit x d l)));
     new = λ x e j v h s.
         from-last x e (λ d. known_of W (past (past A m) q) d ≡ Some (j, v) → checked.at q.known j ≡ Some v) h (λ d l s. f.new x d j v l s)
@@ -181,6 +218,10 @@ module _ (D E F : Context) (W : World) (A : Around) (k i : ℕ) (es ds : List (V
     structures = f.structures;
     denotes = f.denotes;
     alone = f.alone;
+    retyped = f.retyped;
+    constructors = λ s x e h.
+        has_constructors_still E F W W from to e (lookup (nat_eq x) q.env.types) (lookup (nat_eq x) q.env.types) (typed_in (plus_scope s q.scope) x) (typed_in (plus_scope s q.scope) x)
+        same.schemes (kept-later E F W from to same) (fit-later E F W from to same) refl refl (f.constructors s x e h);
     fit = λ x e h. fit-later E F W from to same e (f.fit x e h);
     new = λ x e j v h s. f.new x e j v h (sym (known-later E F W from to same e (f.fit x e h)) ∙ s);
     older = λ j lt. f.older j (omega (arith, lt, le)) ∙ b.older j lt;

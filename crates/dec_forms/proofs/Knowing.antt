@@ -18,18 +18,18 @@ use Rattle.ir_poly.specs.ProgChecked.{binds_onto, parameters_if, pat_onto}
 use Rattle.ir_poly.specs.TestsChecked.{Known, Knowns, declared, of_type}
 use Rattle.ir_poly.specs.TestsChecked as checked
 use Rattle.ir_poly.specs.Types.{Constructor}
-use Rattle.core_elab.specs.Scopes.{Scope, empty, variable, denotes_in, inside_in, plus_scope}
+use Rattle.core_elab.specs.Scopes.{Scope, empty, scoped, variable, denotes_in, inside_in, typed_in, plus_scope}
 use Rattle.prog_tree.specs.TreeOf.{RuleTree, binds_by}
 use Rattle.prog_tree.specs.declared.tree.Binding.{Binding}
 use Rattle.elab_typed.specs.Contexts.{Around, general, generals}
 use Rattle.elab_typed.specs.Instances.{as_typed}
 use Rattle.elab_steps.specs.World.{World, type_of}
-use Rattle.elab_context.specs.Entries.{entry_in}
+use Rattle.elab_context.specs.Entries.{entry_in, last_of}
 use Rattle.elab_context.specs.Telling.{IsFit, IsGeneral, IsInUse, kept_of, denotes_of, known_of}
 use Rattle.elab_context.specs.declared.context.Context.{Context}
 use Rattle.elab_context.specs.declared.entry.Entry.{Entry}
 use Rattle.elab_context.specs.declared.entry.Entry.TheVariants.{General}
-use Rattle.pat_elab.specs.Elaborated.{bound_of, scope_of}
+use Rattle.pat_elab.specs.Elaborated.{bound_of, scope_of, scope_onto}
 use Rattle.pat_elab.specs.declared.bound.BoundVariable.{BoundVariable}
 use Rattle.pat_elab.proofs.Forms.{onto-plus}
 use Rattle.exp_forms.specs.Binding.{Binding as Binds, IsKnown}
@@ -37,7 +37,6 @@ use Rattle.exp_forms.proofs.Knowing.{both-bound, none-bound, pattern-binds}
 use Rattle.exp_forms.proofs.Within.{latest, latest-among, lookup-of, denotes-of, inside-onto}
 use Rattle.elab_context.specs.Numbered.{IsNumbered}
 use Rattle.exp_forms.proofs.Entering.{number-known}
-use Rattle.dec_forms.specs.Telling.{last_of}
 use Rattle.dec_forms.proofs.Over.{generals-same}
 use Rattle.dec_forms.proofs.Telling.{AreFurther}
 use Rattle.dec_forms.specs.Binds.{EachBind, no_bind, one_bind, all_plus, plain_entries}
@@ -114,6 +113,14 @@ entry-of-last l bs x e h P f = by (latest bs x) refl (sym (last-plain l bs x) �
     by None q h = cc
     by (Some b) q h = let same : General l b.ty b.number false ≡ e = cc in subst P same (f b q)
 
+-- no type constructor comes into scope
+typed-onto : (s : Scope) (bs : List BoundVariable) (x : ℕ) → typed_in (scope_onto s bs) x ≡ typed_in s x
+typed-onto s [] x = refl
+typed-onto s (b ∷ bs) x = typed-onto (scoped b.vid (variable b.number) s) bs x
+
+pub untyped-bound : (s : Scope) (bs : List BoundVariable) (x : ℕ) → typed_in (plus_scope s (scope_of bs)) x ≡ typed_in s x
+untyped-bound s bs x = ap (λ z. typed_in z x) (sym (onto-plus s bs)) ∙ typed-onto s bs x
+
 -- all that the variables ask
 module _ (C : Context) (W : World) (A : Around) (l : ℕ) (bs : List BoundVariable) (k j : ℕ) (G : Knowns) (list : W.reading.parameters l ≡ []) (d : AreDistinct (bound_in (bound_of W bs)))
     (b : Binds A k j A.known G (bound_of W bs) (scope_of bs)) (uses : AllByRecursion (λ b. IsInUse A (type_of W b.ty)) bs) (n : IsNumbered k C)
@@ -147,6 +154,7 @@ module _ (C : Context) (W : World) (A : Around) (l : ℕ) (bs : List BoundVariab
     kept = kept-at;
     denotes = denotes-after;
     alone = λ s q. ap (λ z. inside_in z q) (sym (onto-plus s bs)) ∙ inside-onto s bs q;
+    untyped = λ s x. untyped-bound s bs x;
     fit = λ x e h.
         entry-of-last l bs x e h (IsFit C W A)
         (λ a q. subst (λ qs. IsGeneral W A qs a.ty false) (sym list) (plain-general W A a.ty (latest-among (λ b. IsInUse A (type_of W b.ty)) bs x a uses q)));

@@ -10,13 +10,13 @@ use Rattle.sml_tree.specs.declared.ident.Vid.TheVariants.{Named, Equals, Fresh}
 use Rattle.core_rules.specs.Restrictions.{distinct, may_construct}
 use Rattle.core_rules.specs.Words.{same_vid, is_in}
 use Rattle.core_rules.proofs.LookUps.{vid-tells}
-use Rattle.core_elab.specs.Scopes.{Scope, empty, scoped, plus_scope, denotes_in, inside_in}
+use Rattle.core_elab.specs.Scopes.{Scope, empty, scoped, plus_scope, denotes_in, inside_in, typed_in}
 use Rattle.elab_steps.specs.World.{World}
-use Rattle.elab_context.specs.Telling.{kept_of, denotes_of}
+use Rattle.elab_context.specs.Telling.{kept_of, denotes_of, kept_entries, scope_of_entries, vids_in}
 use Rattle.elab_context.specs.declared.context.Context.{Context}
 use Rattle.elab_context.specs.declared.entry.Entry.{Entry}
-use Rattle.dec_forms.specs.Telling.{last_of}
-use Rattle.dec_forms.specs.Entries.{constructing_name, kept_entries, scope_of_entries, named_vids, vids_in}
+use Rattle.elab_context.specs.Entries.{last_of}
+use Rattle.dec_forms.specs.Entries.{constructing_name, named_vids}
 
 -- what holds of each
 
@@ -62,6 +62,10 @@ denotes-listed s (e ∷ es) x = by (same_vid x e.0) (denotes-listed s es x)
 pub alone-listed : (s : Scope) (es : List (Vid × Entry)) (q : ℕ) → inside_in (plus_scope s (scope_of_entries es)) q ≡ inside_in s q
 alone-listed s [] q = refl
 alone-listed s (e ∷ es) q = alone-listed s es q
+
+pub untyped-listed : (s : Scope) (es : List (Vid × Entry)) (x : ℕ) → typed_in (plus_scope s (scope_of_entries es)) x ≡ typed_in s x
+untyped-listed s [] x = refl
+untyped-listed s (e ∷ es) x = untyped-listed s es x
 
 pub scope-append : (es : List (Vid × Entry)) (e : Vid × Entry) → scope_of_entries (es ++ e ∷ []) ≡ plus_scope (scoped e.0 (denotes_of e.1) empty) (scope_of_entries es)
 scope-append [] e = refl

@@ -9,16 +9,17 @@ use Rattle.vid_scope.specs.Entries.{entry_of, with_entries}
 use Rattle.core_rules.specs.Objects.{Map, TypeStructure, env, no_structures}
 use Rattle.ir_poly.specs.TestsChecked.{Knowns}
 use Rattle.ir_poly.specs.TestsChecked as checked
-use Rattle.core_elab.specs.Scopes.{Scope, denotes_in, inside_in, plus_scope}
+use Rattle.core_elab.specs.Scopes.{Scope, denotes_in, inside_in, typed_in, plus_scope}
 use Rattle.elab_typed.specs.Contexts.{Around, KeptValues, kept_values}
 use Rattle.elab_types.specs.declared.scope.TypeEntry.{TypeEntry}
 use Rattle.elab_steps.specs.World.{World}
 use Rattle.elab_steps.proofs.Changing.{begins-same}
 use Rattle.elab_context.specs.Numbered.{IsBelowIf, IsNumbered}
-use Rattle.elab_context.specs.Telling.{Tells, function_of, kept_of}
+use Rattle.elab_context.specs.Telling.{HasConstructors, Tells, function_of, kept_of}
 use Rattle.elab_context.specs.declared.context.Context.{Context}
 use Rattle.elab_context.specs.declared.entry.Entry.{Entry}
-use Rattle.dec_forms.specs.Telling.{last_of, with_all}
+use Rattle.elab_context.specs.Entries.{last_of}
+use Rattle.dec_forms.specs.Telling.{with_all}
 use Rattle.dec_forms.proofs.Telling.{AreFurther, entry-among}
 use Rattle.dec_forms.specs.Bringing.{Brings, Effect, past}
 use Rattle.dec_forms.specs.Entries.{Adds, last_at, with_types}
@@ -79,6 +80,8 @@ module _ (C : Context) (W : World) (A : Around) (k : ℕ) (es : List (Vid × Ent
     structures = refl;
     denotes = f.denotes;
     alone = f.alone;
+    retyped = λ s x h. f.untyped s x;
+    constructors = λ s x e h. cc;
     fit = λ x e h. fit-later C D W A B wider e (f.fit x e h);
     new = λ x e n v h q. f.new x e n v h (sym (known-later C D W A B wider e (f.fit x e h)) ∙ q);
     older = older;
@@ -111,13 +114,18 @@ types_add C D ts q = subst (λ D. Adds C D [] ts) (sym q) (record {
 pub types_bring : (C : Context) (W : World) (A : Around) (k : ℕ) (ts : List (ℕ × TypeEntry)) (us : Map ℕ TypeStructure) (r : Scope) → Tells C W A
     → ((x : ℕ) → option_map (λ y. y.function) (lookup (nat_eq x) us) ≡ option_map (function_of W) (last_at ts x))
     → ((s : Scope) (x : Vid) → denotes_in (plus_scope s r) x ≡ denotes_in s x) → ((s : Scope) (q : ℕ) → inside_in (plus_scope s r) q ≡ inside_in s q)
+    → ((s : Scope) (x : ℕ) → last_at ts x ≡ None → typed_in (plus_scope s r) x ≡ typed_in s x)
+    → ((s : Scope) (x : ℕ) (e : TypeEntry) → last_at ts x ≡ Some e
+    → HasConstructors (with_types C ts) W (past A (types_effect A us r)) e (lookup (nat_eq x) us) (typed_in (plus_scope s r) x))
     → Brings (with_types C ts) W A k [] ts (types_effect A us r)
-types_bring C W A k ts us r t are denotes alone = record {
+types_bring C W A k ts us r t are denotes alone retyped constructors = record {
   values = λ x. refl;
   types = are;
   structures = refl;
   denotes = denotes;
   alone = alone;
+  retyped = retyped;
+  constructors = constructors;
   fit = λ x e h. cc;
   new = λ x e n v h q. cc;
   older = λ n lt. refl;

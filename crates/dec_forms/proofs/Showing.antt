@@ -20,7 +20,7 @@ use Rattle.elab_state.specs.States.{types_in}
 use Rattle.elab_state.specs.declared.state.State.{State}
 use Rattle.elab_steps.specs.Growing.{Begins, Grows}
 use Rattle.elab_steps.proofs.Growing.{comes_before, grows_on}
-use Rattle.elab_context.specs.Entries.{entry_in}
+use Rattle.elab_context.specs.Entries.{entry_in, last_of}
 use Rattle.elab_context.specs.Telling.{IsContext, IsHeld}
 use Rattle.elab_context.specs.declared.context.Context.{Context}
 use Rattle.elab_context.specs.declared.entry.Entry.{Entry}
@@ -28,7 +28,6 @@ use Rattle.elab_context.specs.declared.entry.Entry.TheVariants.{Constructor, Ref
 use Rattle.elab_context.proofs.Reading.{context_later, numbered_later}
 use Rattle.elab_context.specs.Numbered.{IsBelowIf, IsNumbered}
 use Rattle.dec_forms.specs.Decs.{all_joined}
-use Rattle.dec_forms.specs.Telling.{last_of}
 use Rattle.dec_forms.proofs.Telling.{entry-among}
 use Rattle.dec_forms.specs.Bringing.{AreBringing, IsBringing, all_effects, last_effect, past}
 use Rattle.dec_forms.specs.Entries.{Adds, type_scope, types_onto}

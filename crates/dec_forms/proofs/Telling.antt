@@ -16,15 +16,17 @@ use Rattle.core_rules.specs.Objects as static
 use Rattle.core_rules.proofs.LookUps.{vid-tells, at-joined}
 use Rattle.ir_poly.specs.TestsChecked.{Knowns, Known}
 use Rattle.ir_poly.specs.TestsChecked as checked
-use Rattle.core_elab.specs.Scopes.{Scope, plus_scope, denotes_in, inside_in, along_scope, long_denotes_in}
+use Rattle.core_elab.specs.Scopes.{Scope, plus_scope, denotes_in, inside_in, typed_in, along_scope, long_denotes_in}
 use Rattle.elab_typed.specs.Contexts.{given, KeptValues, kept_in, kept_values, values_under, Around, after}
+use Rattle.elab_steps.proofs.Changing.{begins-same}
 use Rattle.elab_steps.specs.World.{World, type_of}
-use Rattle.elab_context.specs.Entries.{entry_in}
+use Rattle.elab_context.specs.Entries.{contents_at, entry_in, last_of}
+use Rattle.elab_context.proofs.Contents.{has_constructors_still, has_contents_still}
 use Rattle.elab_context.specs.Telling.{Tells, IsFit, IsInUse, kept_of, denotes_of, known_of}
 use Rattle.elab_context.specs.declared.context.Context.{Context}
 use Rattle.elab_context.specs.declared.entry.Entry.{Entry}
 use Rattle.elab_context.specs.declared.entry.Entry.TheVariants.{Constructor, Reference, Initial, Primitive, Raised, Single, Own, General}
-use Rattle.dec_forms.specs.Telling.{last_of, with_all}
+use Rattle.dec_forms.specs.Telling.{with_all}
 use Rattle.dec_forms.proofs.Over.{Agree, over_after}
 
 or-else : {A : Type 0} (o : Option A) (b : Bool) (a : A) (p : Option A) → option_or o (cond b (Some a) p) ≡ option_or (option_or o (cond b (Some a) None)) p
@@ -106,6 +108,7 @@ pub record AreFurther (C : Context) (W : World) (A : Around) (es : List (Vid × 
   pub kept : (x : Vid) → lookup (same_vid x) ks ≡ option_map (kept_of C W) (last_of es x)
   pub denotes : (s : Scope) (x : Vid) → denotes_in (plus_scope s r) x ≡ option_or (option_map denotes_of (last_of es x)) (denotes_in s x)
   pub alone : (s : Scope) (q : ℕ) → inside_in (plus_scope s r) q ≡ inside_in s q
+  pub untyped : (s : Scope) (x : ℕ) → typed_in (plus_scope s r) x ≡ typed_in s x
   pub fit : (x : Vid) (e : Entry) → last_of es x ≡ Some e → IsFit C W A e
   pub new : (x : Vid) (e : Entry) (n : ℕ) (v : Known) → last_of es x ≡ Some e → known_of W A e ≡ Some (n, v) → checked.at G n ≡ Some v
   pub over : (s f : ℕ → Typ) → Agree A.parameters s f → values_under s ks ≡ values_under f ks
@@ -189,5 +192,14 @@ module _ (C : Context) (W : World) (A : Around) (es : List (Vid × Entry)) (ks :
         ap₂ (λ ts ss. option_map (λ y. y.function) (type_in (static.env (values_under var (joined same_vid A.env.values ks)) ts ss) qs x)) (joined-none nat_eq A.env.types)
         (ap structures_of (joined-none nat_eq (structure_map A.env.structures)) ∙ structures-same A.env.structures)
         ∙ types-apart (values_under var (joined same_vid A.env.values ks)) (values_under var A.env.values) A.env.types A.env.structures qs x ∙ t.types qs x;
+    constructors = λ x e h.
+        has_constructors_still C whole W W A there e (lookup (nat_eq x) A.env.types) (lookup (nat_eq x) there.env.types) (typed_in A.scope x) (typed_in there.scope x)
+        (begins-same C.schemes.items C.schemes.items refl) (λ d i. kept-same C es W d) (λ d i. fit-same C es W A ks r G d i) (ap (lookup (nat_eq x)) (joined-none nat_eq A.env.types))
+        (f.untyped A.scope x) (t.constructors x e h);
+    structures = λ q k h.
+        let ss = A.env.structures in
+        has_contents_still C whole q (contents_at C k) (contents_at C k) (lookup (nat_eq q) (structure_map ss)) (lookup (nat_eq q) (structure_map there.env.structures))
+        (inside_in A.scope q) (inside_in there.scope q) refl (λ x. refl)
+        (ap (λ l. lookup (nat_eq q) (structure_map l)) (ap structures_of (joined-none nat_eq (structure_map ss)) ∙ structures-same ss)) (f.alone A.scope q) (t.structures q k h);
     over = over_after A 0 A.number (kept_values ks) r G t.over (λ s g a. ap (λ l. static.env l [] static.no_structures) (f.over s g a));
   }

@@ -13,18 +13,18 @@ use Rattle.core_rules.specs.Objects as static
 use Rattle.core_rules.proofs.LookUps.{vid-tells, nat-tells, at-joined}
 use Rattle.ir_poly.specs.TestsChecked.{Knowns, Known}
 use Rattle.ir_poly.specs.TestsChecked as checked
-use Rattle.core_elab.specs.Scopes.{denotes_in, along_scope, long_denotes_in}
+use Rattle.core_elab.specs.Scopes.{denotes_in, inside_in, typed_in, along_scope, long_denotes_in}
 use Rattle.elab_typed.specs.Contexts.{given, kept_in, Around, generic}
 use Rattle.elab_types.specs.Reading.{entry_of as type_entry_of}
 use Rattle.elab_types.specs.declared.scope.TypeEntry.{TypeEntry}
 use Rattle.elab_steps.specs.World.{World, type_of}
-use Rattle.elab_context.specs.Entries.{entry_in, member_in}
-use Rattle.elab_context.specs.Telling.{Tells, IsFit, kept_of, denotes_of, known_of, function_of}
+use Rattle.elab_context.specs.Entries.{contents_at, entry_in, member_in, last_of}
+use Rattle.elab_context.proofs.Contents.{has_constructors_still, has_contents_still}
+use Rattle.elab_context.specs.Telling.{Tells, HasConstructors, HasContents, IsFit, kept_of, denotes_of, known_of, function_of}
 use Rattle.elab_context.specs.declared.context.Context.{Context}
 use Rattle.elab_context.specs.declared.entry.Entry.{Entry}
 use Rattle.elab_context.specs.Numbered.{IsNumbered}
 use Rattle.exp_forms.proofs.Entering.{number-known}
-use Rattle.dec_forms.specs.Telling.{last_of}
 use Rattle.dec_forms.proofs.Over.{over_after}
 use Rattle.dec_forms.proofs.Telling.{entry-among}
 use Rattle.dec_forms.specs.Entries.{Adds, last_at, types_onto}
@@ -45,6 +45,10 @@ type-among s (t ∷ ts) x = type-among (t ∷ s) ts x ∙ or-else (last_at ts x)
 map-or : {A B : Type 0} (f : A → B) (o p : Option A) → option_map f (option_or o p) ≡ option_or (option_map f o) (option_map f p)
 map-or f None p = refl
 map-or f (Some a) p = refl
+
+pub mapped-none : {A B : Type 0} (f : A → B) (o : Option A) → option_map f o ≡ None → o ≡ None
+mapped-none f None e = refl
+mapped-none f (Some a) e = cc
 
 -- structures
 
@@ -152,6 +156,34 @@ module _ (C D : Context) (W : World) (A : Around) (k : ℕ) (es : List (Vid × E
       ap (λ ss. option_map (λ y. y.function) (type_in (static.env [] A.env.types ss) (q ∷ qs) x)) (none-joined A.env.structures m.env.structures b.structures)
       ∙ t.types (q ∷ qs) x
 
+  -- a type constructor is new or as before
+
+  type-is : (x : ℕ) → lookup (nat_eq x) there.env.types ≡ option_or (lookup (nat_eq x) m.env.types) (lookup (nat_eq x) A.env.types)
+  type-is x = at-joined nat_eq nat-tells A.env.types m.env.types x
+
+  constructors-at : (x : ℕ) (e : TypeEntry) → type_entry_of D.types [] x ≡ Some e → HasConstructors D W there e (lookup (nat_eq x) there.env.types) (typed_in there.scope x)
+  constructors-at x e h = by (last_at ts x) refl (sym (ap (lookup (nat_eq x)) a.types ∙ type-among C.types.types ts x) ∙ h)
+    where
+      by : (o : Option TypeEntry) → last_at ts x ≡ o → option_or o (lookup (nat_eq x) C.types.types) ≡ Some e
+          → HasConstructors D W there e (lookup (nat_eq x) there.env.types) (typed_in there.scope x)
+      by None l q =
+          let none = mapped-none (λ (y : TypeStructure). y.function) (lookup (nat_eq x) m.env.types) (b.types x ∙ ap (option_map (function_of W)) l) in
+          has_constructors_still C D W W A there e (lookup (nat_eq x) A.env.types) (lookup (nat_eq x) there.env.types) (typed_in A.scope x) (typed_in there.scope x) a.schemes
+          (kept-later C D W A there wider) (fit-later C D W A there wider) (type-is x ∙ ap (λ o. option_or o (lookup (nat_eq x) A.env.types)) none) (b.retyped A.scope x l)
+          (t.constructors x e q)
+      by (Some d) l q =
+          let same : d ≡ e = cc in
+          let new = b.constructors A.scope x e (l ∙ ap Some same) in
+          subst (λ o. HasConstructors D W there e o (typed_in there.scope x)) (new.is ∙ sym (type-is x ∙ ap (λ o. option_or o (lookup (nat_eq x) A.env.types)) new.is)) new
+
+  structures-at : (q k : ℕ) → lookup (nat_eq q) D.structures ≡ Some k
+      → HasContents D q (contents_at D k) (lookup (nat_eq q) (structure_map there.env.structures)) (inside_in there.scope q)
+  structures-at q k h =
+      has_contents_still C D q (contents_at C k) (contents_at D k) (lookup (nat_eq q) (structure_map A.env.structures)) (lookup (nat_eq q) (structure_map there.env.structures))
+      (inside_in A.scope q) (inside_in there.scope q) (ap (λ (z : Context). contents_at z k) a.rest) (long-is q)
+      (ap (λ ss. lookup (nat_eq q) (structure_map ss)) (none-joined A.env.structures m.env.structures b.structures)) (b.alone A.scope q)
+      (t.structures q k (sym (ap (lookup (nat_eq q)) a.structures) ∙ h))
+
   pub tells_past : Tells D W there
   tells_past = record {
     names = b.names;
@@ -166,5 +198,7 @@ module _ (C D : Context) (W : World) (A : Around) (k : ℕ) (es : List (Vid × E
     known = λ x e i v h. known-at x.qualifiers x.vid e i v h;
     tyvars = λ x. t.tyvars x ∙ ap (λ l. option_map (type_of W) (lookup (nat_eq x) l)) (sym a.tyvars);
     types = types-at;
+    constructors = constructors-at;
+    structures = structures-at;
     over = over_after A m.made m.number m.env m.scope m.known t.over b.over;
   }

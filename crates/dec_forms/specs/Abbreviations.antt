@@ -7,6 +7,7 @@ use Rattle.core_rules.specs.Elaborated.{type_of, types_bound, with_parameters}
 use Rattle.core_rules.specs.Objects.{Map, TypeStructure}
 use Rattle.core_rules.specs.Restrictions.{no_repetition}
 use Rattle.elab_typed.specs.Contexts.{Around, generic}
+use Rattle.elab_types.specs.declared.scope.SchemeRange.{SchemeRange}
 use Rattle.elab_types.specs.declared.scope.TypeEntry.{TypeEntry}
 use Rattle.elab_types.specs.declared.scope.TypeScope.{TypeScope}
 use Rattle.elab_state.specs.States.{types_in}
@@ -16,10 +17,15 @@ use Rattle.elab_steps.specs.World.{World, Comes}
 use Rattle.elab_context.specs.Telling.{Tells, function_of}
 use Rattle.elab_context.specs.declared.context.Context.{Context}
 
--- the body is a type of the table, and its variables are the parameters
+-- the schemes of no constructors
+abbrev pub no_schemes : SchemeRange
+no_schemes = record { first = 0; count = 0 }
+
+-- the body is a type of the table, its variables are the parameters, and there are no constructors
 pub record IsClosedEntry (S : State) (e : TypeEntry) : Type 0 where
   pub held : e.body < length (types_in S)
   pub closed : top (type_at (types_in S) e.body) ≤ e.arity
+  pub bare : e.constructors ≡ no_schemes
 
 -- e is the type function of a binding, in whatever has the type constructors of the scope
 pub record IsTypeFunction (S : State) (s : TypeScope) (b : TypeBind) (T : State) (e : TypeEntry) : Type 0 where

@@ -1,6 +1,6 @@
 -- What the elaborator says of declarations whose parts come into scope: that they elaborate, and what each identifier and type constructor is that they
 -- bring. So what a context tells behind them is known, also where only some of them are shown, as behind a `local`.
-use Rattle.std.specs.Prelude.{◌≡◌, ◌<◌, ◌≤◌, ◌+◌, ◌++◌, ℕ, true, List, [], ◌∷◌, map, Some, option_map, nat_eq}
+use Rattle.std.specs.Prelude.{◌≡◌, ◌<◌, ◌≤◌, ◌+◌, ◌++◌, ℕ, true, List, [], ◌∷◌, map, Some, None, option_map, nat_eq}
 use Rattle.std.specs.Option.{option_or}
 use Rattle.std.specs.Map.{lookup}
 use Rattle.sml_tree.specs.BareTree as bare
@@ -12,7 +12,7 @@ use Rattle.ir_poly.specs.Prog as prog
 use Rattle.ir_poly.specs.TestsChecked.{Known, Knowns}
 use Rattle.ir_poly.specs.TestsChecked as checked
 use Rattle.ir_poly.specs.Types.{Constructor, in_scope}
-use Rattle.core_elab.specs.Scopes.{Scope, empty, denotes_in, inside_in, plus_scope}
+use Rattle.core_elab.specs.Scopes.{Scope, empty, denotes_in, inside_in, plus_scope, typed_in}
 use Rattle.prog_tree.specs.TreeOf.{dec_of, decs_of}
 use Rattle.prog_tree.specs.declared.tree.Dec.{Dec}
 use Rattle.ty_core.specs.Types.{Typ}
@@ -23,13 +23,12 @@ use Rattle.elab_types.specs.declared.scope.TypeEntry.{TypeEntry}
 use Rattle.elab_state.specs.declared.state.State.{State}
 use Rattle.elab_steps.specs.Growing.{Grows}
 use Rattle.elab_steps.specs.World.{World, Comes}
-use Rattle.elab_context.specs.Entries.{number_in}
-use Rattle.elab_context.specs.Telling.{Tells, IsFit, kept_of, denotes_of, known_of, function_of}
+use Rattle.elab_context.specs.Entries.{number_in, last_of}
+use Rattle.elab_context.specs.Telling.{Tells, HasConstructors, IsFit, kept_of, denotes_of, known_of, function_of}
 use Rattle.elab_context.specs.declared.context.Context.{Context}
 use Rattle.elab_context.specs.declared.entry.Entry.{Entry}
 use Rattle.elab_context.specs.Numbered.{IsNumbered}
 use Rattle.dec_forms.specs.Decs.{IsDecs, all_joined}
-use Rattle.dec_forms.specs.Telling.{last_of}
 use Rattle.dec_forms.specs.Entries.{Adds, last_at}
 use Rattle.dec_forms.specs.declared.brought.Brought.{Brought}
 
@@ -63,6 +62,9 @@ pub record Brings (D : Context) (W : World) (A : Around) (k : ℕ) (es : List (V
   pub structures : m.env.structures ≡ no_structures
   pub denotes : (s : Scope) (x : Vid) → denotes_in (plus_scope s m.scope) x ≡ option_or (option_map denotes_of (last_of es x)) (denotes_in s x)
   pub alone : (s : Scope) (q : ℕ) → inside_in (plus_scope s m.scope) q ≡ inside_in s q
+  pub retyped : (s : Scope) (x : ℕ) → last_at ts x ≡ None → typed_in (plus_scope s m.scope) x ≡ typed_in s x
+  pub constructors : (s : Scope) (x : ℕ) (e : TypeEntry) → last_at ts x ≡ Some e
+      → HasConstructors D W (past A m) e (lookup (nat_eq x) m.env.types) (typed_in (plus_scope s m.scope) x)
   pub fit : (x : Vid) (e : Entry) → last_of es x ≡ Some e → IsFit D W (past A m) e
   pub new : (x : Vid) (e : Entry) (n : ℕ) (v : Known) → last_of es x ≡ Some e → known_of W (past A m) e ≡ Some (n, v) → checked.at m.known n ≡ Some v
   pub older : (n : ℕ) → n < k → checked.at m.known n ≡ checked.at A.known n

@@ -5,29 +5,15 @@ use Rattle.sml_tree.specs.declared.ident.Vid.{Vid}
 use Rattle.sml_tree.specs.declared.ident.Vid.TheVariants.{Named, Equals, Fresh}
 use Rattle.vid_scope.specs.Entries.{with_entries}
 use Rattle.core_rules.specs.Restrictions.{may_construct}
-use Rattle.core_elab.specs.Scopes.{Scope, empty, scoped}
 use Rattle.elab_types.specs.declared.scope.TypeEntry.{TypeEntry}
 use Rattle.elab_types.specs.declared.scope.TypeScope.{TypeScope}
-use Rattle.elab_typed.specs.Contexts.{KeptValues}
 use Rattle.elab_steps.specs.Growing.{Begins}
-use Rattle.elab_steps.specs.World.{World}
-use Rattle.elab_context.specs.Telling.{kept_of, denotes_of}
 use Rattle.elab_context.specs.declared.context.Context.{Context}
 use Rattle.elab_context.specs.declared.entry.Entry.{Entry}
 
--- the identifiers of entries, what is kept of them, and the scope that they make, the first of them in front
-abbrev pub vids_in : List (Vid × Entry) → List Vid
-vids_in = map (λ e. e.0)
-
+-- identifiers by their names
 abbrev pub named_vids : List ℕ → List Vid
 named_vids = map Named
-
-abbrev pub kept_entries : Context → World → List (Vid × Entry) → KeptValues
-kept_entries C W = map (λ e. (e.0, kept_of C W e.1))
-
-abbrev pub scope_of_entries : List (Vid × Entry) → Scope
-scope_of_entries [] = empty
-scope_of_entries (e ∷ es) = scoped e.0 (denotes_of e.1) (scope_of_entries es)
 
 -- the name of an identifier that a constructor or an exception may have
 abbrev pub constructing_name : Vid → Option ℕ

@@ -21,12 +21,12 @@ use Rattle.elab_types.specs.declared.refused.Refused.TheVariants.{Broken, Memory
 use Rattle.elab_state.specs.declared.state.State.{State}
 use Rattle.elab_steps.specs.Growing.{Grows}
 use Rattle.elab_steps.specs.World.{World, type_of, Comes}
-use Rattle.elab_context.specs.Telling.{IsFit, IsHeld, IsHeldIf, IsInUseIf, IsUnboundIn, Tells, known_of}
+use Rattle.elab_context.specs.Telling.{IsFit, IsHeld, IsHeldIf, IsInUseIf, IsUnboundIn, Tells, known_of, kept_entries, scope_of_entries, vids_in}
 use Rattle.elab_context.specs.declared.context.Context.{Context}
 use Rattle.elab_context.specs.declared.entry.Entry.{Entry}
 use Rattle.elab_context.specs.declared.entry.Entry.TheVariants.{Constructor, Reference, Initial, Primitive, Raised, Single, Own, General}
 use Rattle.elab_context.specs.Numbered.{IsBelowIf, IsNumbered}
-use Rattle.dec_forms.specs.Entries.{constructing_name, kept_entries, scope_of_entries, vids_in}
+use Rattle.dec_forms.specs.Entries.{constructing_name}
 use Rattle.dec_forms.specs.declared.made.Argument.{Argument}
 use Rattle.dec_forms.specs.declared.made.ExnsMade.{ExnsMade}
 

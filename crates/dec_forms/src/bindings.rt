@@ -10,15 +10,12 @@ use closed_types::annotate::closed_type;
 use closed_types::parameters::enter_parameters;
 use elab_state::state::State;
 use elab_types::refused::Refused;
-use elab_types::scope::{TypeEntry, TypeScope};
+use elab_types::scope::{NO_CONSTRUCTORS, TypeEntry, TypeScope};
 use mlc_base::memory::NoMemory;
 use mlc_names::names::Name;
 use sml_tree::ident::Tyvar;
 use sml_tree::tree::TypeBind;
 use std::alloc::Global;
-
-/// What stands for the list of constructors of a type that has none.
-const NO_LIST: usize = usize::MAX;
 
 /// The names of type variables.
 pub fn names_of(alloc: Global, tyvars: &[Tyvar]) -> Result<Vec<Name>, NoMemory>
@@ -52,7 +49,7 @@ fn type_function(
     Ok(TypeEntry {
         arity: bind.tyvars.len(),
         body,
-        constructors: NO_LIST,
+        constructors: NO_CONSTRUCTORS,
     })
 }
 

@@ -4,7 +4,8 @@ ghost use Rattle.core_rules.specs.Restrictions.{distinct};
 ghost use Rattle.core_rules.specs.Words.{same_vid};
 ghost use Rattle.elab_types.specs.declared.refused.Refused.TheVariants.{Broken, Memory};
 ghost use Rattle.exp_forms.specs.Rules.{vids_of};
-ghost use Rattle.dec_forms.specs.Entries.{constructing_name, named_vids, vids_in};
+ghost use Rattle.elab_context.specs.Telling.{vids_in};
+ghost use Rattle.dec_forms.specs.Entries.{constructing_name, named_vids};
 
 use elab_context::entry::{Entry, is_kept};
 use elab_types::refused::Refused;

@@ -1,5 +1,5 @@
 -- What a context of the code tells of what is around a phrase, in a world.
-use Rattle.std.specs.Prelude.{◌≡◌, ◌⊎◌, ◌<◌, ◌≤◌, ℕ, Bool, true, false, List, [], ◌∷◌, ◌++◌, map, length, Option, Some, None, option_map, nat_eq, nat_lt, slice_get, ⊤}
+use Rattle.std.specs.Prelude.{◌≡◌, ◌⊎◌, ◌<◌, ◌≤◌, ◌+◌, ℕ, Bool, true, false, List, [], ◌∷◌, ◌++◌, map, length, Option, Some, None, option_map, nat_eq, nat_lt, slice_get, ⊤}
 use Rattle.std.specs.List.{AllByRecursion}
 use Rattle.std.specs.Map.{lookup}
 use Rattle.mlc_prims.specs.declared.basis.BasisPrimitive.{BasisPrimitive}
@@ -15,7 +15,9 @@ use Rattle.ty_basis.specs.Primitives.{prim_type, primitive_type}
 use Rattle.ty_core.specs.declared.env.Status.TheVariants as status
 use Rattle.sml_tree.specs.Terminal.{LongVid}
 use Rattle.sml_tree.specs.declared.ident.Vid.{Vid}
-use Rattle.core_rules.specs.Objects.{at, monomorphic, Scheme, Over}
+use Rattle.core_rules.specs.Objects.{at, monomorphic, Scheme, Over, Env, env, Values, no_structures, structure_map, TypeStructure}
+use Rattle.core_rules.specs.Restrictions.{distinct}
+use Rattle.core_rules.specs.Words.{same_vid}
 use Rattle.core_rules.specs.Elaborated.{type_in}
 use Rattle.core_rules.specs.Initial.{ref_row}
 use Rattle.core_rules.specs.Typing.{all_general}
@@ -23,10 +25,10 @@ use Rattle.ir_poly.specs.Prog.{fixed, held}
 use Rattle.ir_poly.specs.Types.{over, changed, find, constructor_of, initial_constructors, Constructor as ConRow}
 use Rattle.ir_poly.specs.TestsChecked.{Known, of_type, own, alone_type, exception as exception_known}
 use Rattle.ir_poly.specs.TestsChecked as checked
-use Rattle.core_elab.specs.Scopes.{Denotes, variable, constructor, reference, exception, primitive, long_denotes_in}
+use Rattle.core_elab.specs.Scopes.{Denotes, variable, constructor, reference, exception, primitive, Scope, empty, scoped, long_denotes_in, inside_in, typed_in}
 use Rattle.ir_tables.specs.Tables.{parameters_of, parameters_at}
 use Rattle.elab_typed.specs.Numbers.{name_as, type_as, KeepsInitial}
-use Rattle.elab_typed.specs.Contexts.{Kept, given, general, single, raised, kept_in, Around, IsOver, generic}
+use Rattle.elab_typed.specs.Contexts.{Kept, KeptValues, given, given_values, general, single, raised, kept_in, Around, IsOver, generic}
 use Rattle.elab_types.specs.declared.scope.TypeEntry.{TypeEntry}
 use Rattle.elab_types.specs.Reading.{entry_of as type_entry_of, AreKnown, Holds}
 use Rattle.elab_state.specs.Namings.{IsAmong}
@@ -36,7 +38,7 @@ use Rattle.elab_steps.specs.Growing.{AreLive, HasGeneral, HasType}
 use Rattle.elab_steps.specs.Instances.{IsScheme}
 use Rattle.elab_steps.specs.Tidy.{IsTidy}
 use Rattle.elab_steps.specs.World.{World, type_of}
-use Rattle.elab_context.specs.Entries.{entry_in, number_in}
+use Rattle.elab_context.specs.Entries.{constructors_of, contents_at, entry_in, last_of, number_in}
 use Rattle.elab_context.specs.Numbered.{IsNumbered}
 use Rattle.elab_context.specs.declared.context.Context.{Context}
 use Rattle.elab_context.specs.declared.entry.Entry.{Entry}
@@ -131,6 +133,38 @@ IsFit C W A (Single t n) = IsInUse A (type_of W t)
 IsFit C W A (Own t n) = IsInUse A (type_of W t)
 IsFit C W A (General l t n o) = IsGeneral W A (W.reading.parameters l) t o
 
+-- Identifiers with what they are, each in front of the next: the identifiers, what is kept of them, and the scope that they make.
+abbrev pub vids_in : List (Vid × Entry) → List Vid
+vids_in = map (λ e. e.0)
+
+abbrev pub kept_entries : Context → World → List (Vid × Entry) → KeptValues
+kept_entries C W = map (λ e. (e.0, kept_of C W e.1))
+
+abbrev pub scope_of_entries : List (Vid × Entry) → Scope
+scope_of_entries [] = empty
+scope_of_entries (e ∷ es) = scoped e.0 (denotes_of e.1) (scope_of_entries es)
+
+-- a type constructor that has this type structure, and in the program this scope, has these constructors
+pub record HasConstructors (C : Context) (W : World) (A : Around) (e : TypeEntry) (found : Option TypeStructure) (scope : Option Scope) : Type 0 where
+  pub structure : TypeStructure
+  pub is : found ≡ Some structure
+  pub values : given_values structure.constructors ≡ kept_entries C W (constructors_of C e)
+  pub scopes : scope ≡ Some (scope_of_entries (constructors_of C e))
+  pub once : distinct same_vid (vids_in (constructors_of C e)) ≡ true
+  pub fit : AllByRecursion (λ c. IsFit C W A c.1) (constructors_of C e)
+  -- they have schemes of the context
+  pub within : e.constructors.first + e.constructors.count ≤ length C.schemes.items
+
+-- a structure with this environment, and in the program this scope, has value identifiers alone, the last of each as it is found
+pub record HasContents (C : Context) (q : ℕ) (es : List (Vid × Entry)) (found : Option Env) (scope : Option Scope) : Type 0 where
+  pub values : Values
+  pub is : found ≡ Some (env values [] no_structures)
+  pub inner : Scope
+  pub scopes : scope ≡ Some inner
+  pub untyped : (x : ℕ) → typed_in inner x ≡ None
+  pub alone : (x : ℕ) → inside_in inner x ≡ None
+  pub entries : (x : Vid) → last_of es x ≡ entry_in C (q ∷ []) x
+
 pub record Tells (C : Context) (W : World) (A : Around) : Type 0 where
   pub names : A.names ≡ C.names
   pub number : A.number ≡ W.naming C.naming
@@ -146,6 +180,9 @@ pub record Tells (C : Context) (W : World) (A : Around) : Type 0 where
       → checked.at A.known n ≡ Some k
   pub tyvars : (a : ℕ) → at nat_eq A.tyvars a ≡ option_map (type_of W) (lookup (nat_eq a) C.types.tyvars)
   pub types : (qs : List ℕ) (x : ℕ) → option_map (λ y. y.function) (type_in (generic A).env qs x) ≡ option_map (function_of W) (type_entry_of C.types qs x)
+  pub constructors : (x : ℕ) (e : TypeEntry) → type_entry_of C.types [] x ≡ Some e → HasConstructors C W A e (at nat_eq A.env.types x) (typed_in A.scope x)
+  pub structures : (q k : ℕ) → lookup (nat_eq q) C.structures ≡ Some k
+      → HasContents C q (contents_at C k) (at nat_eq (structure_map A.env.structures) q) (inside_in A.scope q)
   -- what is around speaks of no parameters but those in scope
   pub over : IsOver A
 

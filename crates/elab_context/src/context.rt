@@ -3,27 +3,30 @@ ghost use Rattle.std.specs.Prelude.{◌≡◌, Some, None, IfOk, IfErr};
 ghost use Rattle.sml_tree.specs.TreeOf.{long_vid_of};
 ghost use Rattle.elab_types.specs.declared.refused.Refused.TheVariants.{Unbound};
 ghost use Rattle.elab_typed.specs.Numbers.{name_as};
-ghost use Rattle.elab_context.specs.Entries.{entry_in, limit_of, member_in, number_in};
+ghost use Rattle.elab_context.specs.Entries.{constructors_of, contents_at, entry_in, limit_of, member_in, number_in};
 ghost use Rattle.elab_context.specs.Telling.{IsUnboundIn};
 
-use crate::entry::Entry;
+use crate::entry::{Entry, constructor_with};
 use crate::schemes::Schemes;
 use elab_types::refused::Refused;
-use elab_types::scope::TypeScope;
+use elab_types::scope::{TypeEntry, TypeScope};
+use mlc_base::memory::NoMemory;
 use mlc_base::place::Place;
 use scoped_map::scoped::Scoped;
 use sml_tree::ident::{LongVid, Vid};
+use std::alloc::Global;
 use ty_core::name::TyName;
 use ty_solve::limit::Limit;
 use vid_scope::vids::VidScope;
 
-/// Identifiers of values, those in structures, type constructors and type variables; how deep the `val` declaration is, how many type names there are, and the
-/// naming that is in force, with the program's numbers of the type names that it has.
+/// Identifiers of values; structures, with the identifiers in them, for look-ups and in their order; type constructors and type variables; schemes; how deep the
+/// `val` declaration is, how many type names there are, and the naming that is in force, with the program's numbers of the type names that it has.
 #[derive(Drop)]
 pub struct Context {
     pub values: VidScope<Entry>,
     pub structures: Scoped<usize>,
     pub members: Vec<VidScope<Entry>>,
+    pub contents: Vec<Vec<(Vid, Entry)>>,
     pub types: TypeScope,
     pub schemes: Schemes,
     pub level: usize,
@@ -80,6 +83,34 @@ impl Context {
             }
             _ => None,
         }
+    }
+
+    /// What a structure has, in order.
+    pub fn contents(&self, structure: usize) -> &[(Vid, Entry)]
+        ensures { result.now ≡ contents_at self.now structure }
+    {
+        if structure < self.contents.len() {
+            &self.contents[structure]
+        } else {
+            &[]
+        }
+    }
+
+    /// The constructors of a type constructor.
+    pub fn constructors(&self, alloc: Global, of: TypeEntry) -> Result<Vec<(Vid, Entry)>, NoMemory>
+        ensures { IfOk result (λ es. es.items ≡ constructors_of self.now of) }
+    {
+        let first = of.constructors.first;
+        let end = first
+            .saturating_add(of.constructors.count)
+            .min(self.schemes.len());
+        let mut made = Vec::new(alloc);
+        for number in first..end {
+            if let Some(built) = self.schemes.at(number).constructor {
+                made.push(constructor_with(number, built))?;
+            }
+        }
+        Ok(made)
     }
 
     /// What a long identifier is that has to be bound.

@@ -1,19 +1,28 @@
 // What is kept of identifiers.
 ghost use Rattle.std.specs.Prelude.{◌≡◌};
 ghost use Rattle.core_rules.specs.Restrictions.{is_kept as is_kept_vid};
-ghost use Rattle.elab_context.specs.Entries.{is_free as is_free_entry};
+ghost use Rattle.elab_context.specs.Entries.{constructor_entry, is_free as is_free_entry};
 
+use mlc_names::names::Name;
 use mlc_names::words;
 use mlc_prims::basis::BasisPrimitive;
 use sml_tree::ident::Vid;
 use ty_core::mark::Mark;
 use ty_core::name::TyName;
 
-/// A closed scheme: its parameters are the first variables of its body.
+/// A constructor: `ref`, or one of a datatype, by its name.
+#[derive(Clone, Copy)]
+pub enum Built {
+    Ref,
+    Declared(Name, TyName),
+}
+
+/// A closed scheme: its parameters are the first variables of its body. And the constructor that it is of, if it is of one.
 #[derive(Drop)]
 pub struct Scheme {
     pub marks: Vec<Mark>,
     pub body: usize,
+    pub constructor: Option<Built>,
 }
 
 /// What an identifier is, and what it is in the program. Schemes, types and lists of parameters are numbers.
@@ -35,6 +44,22 @@ pub enum Entry {
     Own(usize, usize),
     /// A variable of a declaration with a list of parameters: the list, its type, the variable, and whether the program's variable is over the list.
     General(usize, usize, usize, bool),
+}
+
+/// The identifier of a constructor, and what it is with the scheme of a number.
+pub fn constructor_with(scheme: usize, built: Built) -> (Vid, Entry)
+    ensures { result ≡ constructor_entry scheme built }
+{
+    match built {
+        Built::Ref => (
+            Vid::Named(Name::standard(words::REF)),
+            Entry::Reference(scheme),
+        ),
+        Built::Declared(name, datatype) => (
+            Vid::Named(name),
+            Entry::Constructor(scheme, name.number() as usize, datatype),
+        ),
+    }
 }
 
 /// Whether a pattern binds an identifier, and doesn't match it.

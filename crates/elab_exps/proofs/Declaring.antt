@@ -3,7 +3,7 @@ use Rattle.std.proofs.Common.{◌≡◌, ◌<◌, ◌≤◌, ◌+◌, ℕ, List,
 use Rattle.mlc_base.specs.declared.place.Place.{Place}
 use Rattle.sml_tree.specs.BareTree as bare
 use Rattle.sml_tree.specs.Derived.{withtype_of}
-use Rattle.sml_tree.specs.TreeOf.{data_bind_of, dec_of, decs_of, ex_bind_of, exp_of, type_bind_of}
+use Rattle.sml_tree.specs.TreeOf.{data_bind_of, dec_of, decs_of, ex_bind_of, exp_of, long_id_at_of, type_bind_of}
 use Rattle.sml_tree.specs.declared.ident.Vid.{Vid}
 use Rattle.sml_tree.specs.declared.tree.DataBind.{DataBind}
 use Rattle.sml_tree.specs.declared.tree.Dec.{Dec as SourceDec}
@@ -11,6 +11,7 @@ use Rattle.sml_tree.specs.declared.tree.Dec.TheVariants as node
 use Rattle.sml_tree.specs.declared.tree.ExBind.{ExBind}
 use Rattle.sml_tree.specs.declared.tree.Exp.{Exp}
 use Rattle.sml_tree.specs.declared.tree.Exp.TheVariants as exps
+use Rattle.sml_tree.specs.declared.tree.LongIdAt.{LongIdAt}
 use Rattle.sml_tree.specs.declared.tree.TypeBind.{TypeBind}
 use Rattle.prog_tree.specs.declared.tree.Dec.{Dec}
 use Rattle.elab_types.proofs.Lists.{all-map, next-map-at}
@@ -35,7 +36,7 @@ use Rattle.dec_forms.proofs.Several.{more_brought, none_brought}
 use Rattle.dec_forms.proofs.Sequence.{sequence_is}
 use Rattle.elab_exps.specs.Decs.{AreDeclared, IsDeclared, StandsIn}
 use Rattle.elab_exps.proofs.Loops.{exp_in}
-use Rattle.elab_exps.proofs.Sources.{source-Abbreviation, source-Datatype, source-Declarations, source-Exception, source-Local, source-Withtype}
+use Rattle.elab_exps.proofs.Sources.{source-Abbreviation, source-Datatype, source-Declarations, source-Exception, source-Local, source-Open, source-Replicate, source-Withtype}
 use Rattle.elab_exps.proofs.Whole.{of_source}
 
 append-nil : {A : Type 0} (xs : List A) → xs ≡ xs ++ []
@@ -114,6 +115,21 @@ withtypes_declared S T C D d place v w bs ts xs a b is eb et h i k =
     declared_by S T C D d (node.Withtype place v w) x xs xs a b is
     (source-Withtype place v w ∙ ap₂ (λ (l : List DataBind) (r : List TypeBind). withtype_of place (map data_bind_of l) (map type_bind_of r)) (sym eb) (sym et))
     (brought_declared S T C D x [] xs xs a b h i k (append-nil xs))
+
+pub replication_declared : (S : State) (C D : Context) (d : SourceDec) (place : Place) (x : ℕ) (y : LongIdAt) (xs : List Dec) (a b : Brought) → d ≡ node.Replicate place x y
+    → StandsIn S C → ((S : State) → IsContext S C → IsContext S D) → D.schemes ≡ C.schemes
+    → ((S : State) → IsBringing S C (bare.replicate_dec place x (long_id_at_of y)) S D [] a b) → IsDeclared S C (dec_of d) S D xs xs a b
+replication_declared S C D d place x y xs a b is h i s k =
+    let r = bare.replicate_dec place x (long_id_at_of y) in
+    declared_by S S C D d (node.Replicate place x y) r xs xs a b is (source-Replicate place x y) (one_declared S S C D r [] xs xs a b h (i S h.context) s (k S) (append-nil xs))
+
+pub opening_declared : (S : State) (C D : Context) (d : SourceDec) (place : Place) (v : Vec LongIdAt Global) (ys : List LongIdAt) (xs : List Dec) (a b : Brought) → d ≡ node.Open place v
+    → ys ≡ v.items → StandsIn S C → ((S : State) → IsContext S C → IsContext S D) → D.schemes ≡ C.schemes
+    → ((S : State) → IsBringing S C (bare.open_dec place (map long_id_at_of ys)) S D [] a b) → IsDeclared S C (dec_of d) S D xs xs a b
+opening_declared S C D d place v ys xs a b is ey h i s k =
+    let r = bare.open_dec place (map long_id_at_of ys) in
+    declared_by S S C D d (node.Open place v) r xs xs a b is (source-Open place v ∙ ap (λ (l : List LongIdAt). bare.open_dec place (map long_id_at_of l)) (sym ey))
+    (one_declared S S C D r [] xs xs a b h (i S h.context) s (k S) (append-nil xs))
 
 pub sequence_declared : (S T : State) (C D : Context) (d : SourceDec) (place : Place) (v : Vec SourceDec Global) (ds : List SourceDec) (xs ys : List Dec) (a b : Brought)
     → d ≡ node.Declarations place v → ds ≡ v.items → AreDeclared S C (map dec_of ds) T D xs ys a b → IsDeclared S C (dec_of d) T D xs ys a b

@@ -5,7 +5,7 @@ use Rattle.mlc_base.specs.declared.place.Place.{Place}
 use Rattle.sml_tree.specs.BareTree as bare
 use Rattle.sml_tree.specs.Derived.{Operand, clause_rules, fun_dec_of, fun_of, function_binds, one_or_tuple_pat, short}
 use Rattle.sml_tree.specs.Derived as derived
-use Rattle.sml_tree.specs.TreeOf.{ExpFieldOf, RuleOf, binds_of, clause_of, data_bind_of, dec_of, decs_of, ex_bind_of, exp_of, function_of, pat_of, rules_of, type_bind_of}
+use Rattle.sml_tree.specs.TreeOf.{ExpFieldOf, RuleOf, binds_of, clause_of, data_bind_of, dec_of, decs_of, ex_bind_of, exp_of, function_of, long_id_at_of, pat_of, rules_of, type_bind_of}
 use Rattle.sml_tree.specs.TreeOf.{node_bind, node_clause, node_dec, node_exp, node_exp_field, node_function, node_part, node_rule}
 use Rattle.sml_tree.specs.declared.tree.Bind.{Bind, size-Bind, size_is-Bind}
 use Rattle.sml_tree.specs.declared.tree.Clause.{Clause, fold_out-Clause, size-Clause, size_is-Clause}
@@ -18,6 +18,7 @@ use Rattle.sml_tree.specs.declared.tree.Exp.{Exp, size-Exp}
 use Rattle.sml_tree.specs.declared.tree.Exp.TheVariants as exps
 use Rattle.sml_tree.specs.declared.tree.Function.{Function, fold_out-Function, out-Function, size-Function, size_is-Function}
 use Rattle.sml_tree.specs.declared.tree.Joint.{Joint}
+use Rattle.sml_tree.specs.declared.tree.LongIdAt.{LongIdAt}
 use Rattle.sml_tree.specs.declared.tree.Rule.{Rule, size-Rule}
 use Rattle.sml_tree.specs.declared.tree.TypeBind.{TypeBind}
 use Rattle.sml_tree.specs.declared.tree.TyvarSeq.{TyvarSeq}
@@ -45,6 +46,16 @@ pub source-Exception : (p : Place) (bs : Vec ExBind Global) → dec_of (decs.Exc
 source-Exception p bs =
     ap dec_of (sym (decs.rolls-Exception p bs))
     ∙ fold-roll-Dec bare.Dec bare.Exp RuleOf derived.Clause ExpFieldOf derived.Function (Operand Joint bare.Exp) RuleOf node_dec node_exp node_bind node_clause node_exp_field node_function node_part node_rule (Dec-F.Exception p bs)
+
+pub source-Replicate : (p : Place) (x : ℕ) (y : LongIdAt) → dec_of (decs.Replicate p x y) ≡ bare.replicate_dec p x (long_id_at_of y)
+source-Replicate p x y =
+    ap dec_of (sym (decs.rolls-Replicate p x y))
+    ∙ fold-roll-Dec bare.Dec bare.Exp RuleOf derived.Clause ExpFieldOf derived.Function (Operand Joint bare.Exp) RuleOf node_dec node_exp node_bind node_clause node_exp_field node_function node_part node_rule (Dec-F.Replicate p x y)
+
+pub source-Open : (p : Place) (xs : Vec LongIdAt Global) → dec_of (decs.Open p xs) ≡ bare.open_dec p (map long_id_at_of xs.items)
+source-Open p xs =
+    ap dec_of (sym (decs.rolls-Open p xs))
+    ∙ fold-roll-Dec bare.Dec bare.Exp RuleOf derived.Clause ExpFieldOf derived.Function (Operand Joint bare.Exp) RuleOf node_dec node_exp node_bind node_clause node_exp_field node_function node_part node_rule (Dec-F.Open p xs)
 
 pub source-Local : (p : Place) (ds es : Vec Dec Global) → dec_of (decs.Local p ds es) ≡ bare.local_dec p (decs_of (map dec_of ds.items)) (decs_of (map dec_of es.items))
 source-Local p ds es =

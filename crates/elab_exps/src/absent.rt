@@ -1,4 +1,4 @@
-// What isn't compiled yet.
+// What no source has.
 ghost use Rattle.std.specs.Prelude.{◌≡◌};
 ghost use Rattle.mlc_base.specs.declared.place.Place.{Place as PlaceAt};
 ghost use Rattle.pat_elab.specs.declared.stopped.Stopped.TheVariants.{Foreign};
@@ -27,7 +27,7 @@ fn place_of(exp: &Exp) -> Place {
     }
 }
 
-/// An expression that isn't compiled yet, with its place.
+/// An expression that the parser never makes, with its place.
 pub fn absent(exp: &Exp) -> Stopped
     ensures { (p : PlaceAt) × (result ≡ Foreign p) }
 {
@@ -50,7 +50,7 @@ fn place_of_dec(dec: &Dec) -> Place {
     }
 }
 
-/// A declaration that isn't compiled yet, with its place.
+/// A declaration that the parser never makes, with its place.
 pub fn absent_dec(dec: &Dec) -> Stopped
     ensures { (p : PlaceAt) × (result ≡ Foreign p) }
 {

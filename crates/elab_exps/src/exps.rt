@@ -17,15 +17,13 @@ ghost use Rattle.rec_groups.specs.Heads.{with_own};
 use crate::absent::{absent, absent_dec};
 use crate::heads::{enter_group, head_at, reserve_names, reserve_recs};
 use crate::inside::{Inside, add_binding, none_inside};
-use crate::made::{add_dec, add_decs};
+use crate::made::add_dec;
 use crate::members::{add_member, finish_inside, no_function};
 use crate::parameters::{begin_clause, enter_parameters, parameter_count};
+use crate::plain::plain_dec;
 use crate::shapes::{Shape, label_at, operator_of, shape_of};
-use datatype_decs::declare::{datatypes, withtypes};
 use dec_forms::block::{begin_block, block, leave_block};
 use dec_forms::brought::Brought;
-use dec_forms::declare_exceptions::exceptions;
-use dec_forms::declare_types::abbreviations;
 use dec_forms::local::{begin_local, end_local};
 use elab_context::context::Context;
 use elab_state::state::State;
@@ -819,22 +817,8 @@ pub fn elab_dec(
             let one = fun_of(alloc, state, context, dec, brought)?;
             Ok(add_dec(made, one)?)
         }
-        Dec::Abbreviation(place, binds) => {
-            Ok(abbreviations(alloc, state, context, *place, binds, brought)?)
-        }
-        Dec::Datatype(place, binds) => {
-            Ok(datatypes(alloc, state, context, *place, binds, brought)?)
-        }
-        Dec::Withtype(place, binds, types) => {
-            Ok(withtypes(alloc, state, context, *place, binds, types, brought)?)
-        }
-        Dec::Exception(place, binds) => {
-            let new = exceptions(alloc, state, context, *place, binds, brought)?;
-            Ok(add_decs(made, new)?)
-        }
         Dec::Local(_, _, _) => local_of(alloc, state, context, dec, made, brought),
         Dec::Declarations(_, decs) => decs_from(alloc, state, context, decs, made, brought),
-        Dec::Replicate(_, _, _) => Err(absent_dec(dec)),
-        Dec::Open(_, _) => Err(absent_dec(dec)),
+        _ => Ok(plain_dec(alloc, state, context, dec, made, brought)?),
     }
 }

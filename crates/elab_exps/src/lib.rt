@@ -8,4 +8,5 @@ pub mod inside;
 pub mod made;
 pub mod members;
 pub mod parameters;
+pub mod plain;
 pub mod shapes;

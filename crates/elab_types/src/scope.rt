@@ -10,13 +10,23 @@ use scoped_map::scoped::Scoped;
 use sml_tree::ident::LongId;
 use std::alloc::Global;
 
-/// A type function: so many parameters, which are the first variables of its body. And the number of the constructors' list.
+/// Schemes one after the other: so many, from a number on.
+#[derive(Clone, Copy)]
+pub struct SchemeRange {
+    pub first: usize,
+    pub count: usize,
+}
+
+/// A type function: so many parameters, which are the first variables of its body. And its constructors, which have these schemes.
 #[derive(Clone, Copy)]
 pub struct TypeEntry {
     pub arity: usize,
     pub body: usize,
-    pub constructors: usize,
+    pub constructors: SchemeRange,
 }
+
+/// No constructors.
+pub const NO_CONSTRUCTORS: SchemeRange = SchemeRange { first: 0, count: 0 };
 
 /// How much is in scope.
 #[derive(Clone, Copy)]

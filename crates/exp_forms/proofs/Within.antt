@@ -22,11 +22,13 @@ use Rattle.core_rules.specs.Typing.{Bound, bound_in, AreDistinct}
 use Rattle.core_rules.proofs.LookUps.{vid-tells, at-joined}
 use Rattle.ir_poly.specs.TestsChecked.{Knowns, Known, of_type}
 use Rattle.ir_poly.specs.TestsChecked as checked
-use Rattle.core_elab.specs.Scopes.{variable, Scope, empty, scoped, denotes_in, inside_in, along_scope, long_denotes_in}
+use Rattle.core_elab.specs.Scopes.{variable, Scope, empty, scoped, denotes_in, inside_in, typed_in, along_scope, long_denotes_in}
 use Rattle.elab_typed.specs.Contexts.{given, single, kept_in, singles, values_under, with_bound, Around}
 use Rattle.elab_typed.specs.Instances.{as_typed}
 use Rattle.elab_steps.specs.World.{World, type_of}
-use Rattle.elab_context.specs.Entries.{entry_in}
+use Rattle.elab_steps.proofs.Changing.{begins-same}
+use Rattle.elab_context.specs.Entries.{contents_at, entry_in}
+use Rattle.elab_context.proofs.Contents.{has_constructors_still, has_contents_still}
 use Rattle.elab_context.specs.Telling.{Tells, IsFit, IsInUse, kept_of, denotes_of, known_of}
 use Rattle.elab_context.specs.declared.context.Context.{Context}
 use Rattle.elab_context.specs.declared.entry.Entry.{Entry}
@@ -172,6 +174,10 @@ types-apart : (vs us : static.Values) (ts : Map ℕ static.TypeStructure) (ss : 
 types-apart vs us ts ss [] x = refl
 types-apart vs us ts ss (q ∷ qs) x = refl
 
+typed-onto : (s : Scope) (bs : List BoundVariable) (x : ℕ) → typed_in (scope_onto s bs) x ≡ typed_in s x
+typed-onto s [] x = refl
+typed-onto s (b ∷ bs) x = typed-onto (scoped b.vid (variable b.number) s) bs x
+
 pub inside-onto : (s : Scope) (bs : List BoundVariable) (q : ℕ) → inside_in (scope_onto s bs) q ≡ inside_in s q
 inside-onto s [] q = refl
 inside-onto s (b ∷ bs) q = inside-onto (scoped b.vid (variable b.number) s) bs q
@@ -277,6 +283,16 @@ module _ (C : Context) (W : World) (A : Around) (bs : List BoundVariable) (k j :
         ap₂ (λ ts ss. option_map (λ y. y.function) (type_in (static.env (values_under var (joined same_vid A.env.values (singles (bound_of W bs)))) ts ss) qs x)) (joined-none nat_eq A.env.types)
         (ap structures_of (joined-none nat_eq (structure_map A.env.structures)) ∙ structures-same A.env.structures)
         ∙ types-apart (values_under var (joined same_vid A.env.values (singles (bound_of W bs)))) (values_under var A.env.values) A.env.types A.env.structures qs x ∙ t.types qs x;
+    constructors = λ x e h.
+        has_constructors_still C (within C bs) W W A there e (lookup (nat_eq x) A.env.types) (lookup (nat_eq x) there.env.types) (typed_in A.scope x) (typed_in there.scope x)
+        (begins-same C.schemes.items C.schemes.items refl) (λ d f. kept-same C bs W d) (λ d f. fit-same C bs W A (bound_of W bs) (scope_of bs) G d f) (ap (lookup (nat_eq x)) (joined-none nat_eq A.env.types))
+        (ap (λ s. typed_in s x) (sym (onto-plus A.scope bs)) ∙ typed-onto A.scope bs x) (t.constructors x e h);
+    structures = λ q k h.
+        let ss = A.env.structures in
+        has_contents_still C (within C bs) q (contents_at C k) (contents_at C k) (lookup (nat_eq q) (structure_map ss)) (lookup (nat_eq q) (structure_map there.env.structures))
+        (inside_in A.scope q) (inside_in there.scope q) refl (λ x. refl)
+        (ap (λ l. lookup (nat_eq q) (structure_map l)) (ap structures_of (joined-none nat_eq (structure_map ss)) ∙ structures-same ss))
+        (ap (λ s. inside_in s q) (sym (onto-plus A.scope bs)) ∙ inside-onto A.scope bs q) (t.structures q k h);
     over = over_within W A bs (scope_of bs) G t.over uses;
   }
 

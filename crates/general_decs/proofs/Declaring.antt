@@ -22,7 +22,7 @@ use Rattle.ir_poly.specs.ProgChecked.{binds_onto, funs_onto}
 use Rattle.ir_poly.specs.TestsChecked.{Known, Knowns, declared, own}
 use Rattle.ir_poly.specs.Types.{are_new, in_scope}
 use Rattle.ir_tables.specs.Tables.{parameters_of}
-use Rattle.core_elab.specs.Scopes.{Scope, denotes_in, empty, inside_in, plus_scope, variable}
+use Rattle.core_elab.specs.Scopes.{Scope, denotes_in, empty, inside_in, plus_scope, typed_in, variable}
 use Rattle.prog_tree.specs.TreeOf.{RuleTree, bind_of, binds_by, dec_of, decs_of, fun_of, funs_by}
 use Rattle.prog_tree.specs.declared.tree.Binding.{Binding}
 use Rattle.prog_tree.specs.declared.tree.Dec.{Dec}
@@ -37,12 +37,14 @@ use Rattle.elab_state.specs.Generalising.{inside}
 use Rattle.elab_state.specs.declared.state.State.{State}
 use Rattle.elab_steps.specs.Growing.{Grows}
 use Rattle.elab_steps.specs.World.{World, type_of, Comes}
+use Rattle.elab_steps.proofs.Changing.{begins-same}
 use Rattle.elab_steps.proofs.Growing.{grows_on, comes_before}
 use Rattle.elab_context.specs.Numbered.{IsBelowIf, IsNumbered}
 use Rattle.elab_context.specs.Telling.{IsFit, IsInUse, Tells}
 use Rattle.elab_context.specs.declared.context.Context.{Context}
 use Rattle.elab_context.specs.declared.entry.Entry.{Entry}
 use Rattle.elab_context.specs.declared.entry.Entry.TheVariants.{Constructor, Reference, Initial, Primitive, Raised, Single, Own, General}
+use Rattle.elab_context.proofs.Contents.{has_constructors_still}
 use Rattle.elab_context.proofs.Reading.{numbered_later}
 use Rattle.pat_elab.specs.Elaborated.{AreVariables, bound_of, scope_of}
 use Rattle.pat_elab.specs.declared.bound.BoundVariable.{BoundVariable}
@@ -62,6 +64,7 @@ use Rattle.dec_forms.specs.Bringing.{Brings, Effect, EffectUpTo, IsBringing}
 use Rattle.dec_forms.specs.Telling.{with_all}
 use Rattle.dec_forms.specs.declared.brought.Brought.{Brought}
 use Rattle.dec_forms.proofs.JoiningBinds.{bind_choices}
+use Rattle.dec_forms.proofs.Knowing.{untyped-bound}
 use Rattle.dec_forms.proofs.Plain.{numbered_values, values_add, values_bring, values_effect}
 use Rattle.general_decs.specs.Entries.{AreShown, has_some}
 use Rattle.rec_groups.specs.Functions.{ElaborateFunctions}
@@ -112,6 +115,11 @@ module _ (C : Context) (W : World) (A : Around) (qs : List Quantified) (h : IsIn
     known = t.known;
     tyvars = t.tyvars;
     types = t.types;
+    constructors = λ x e f.
+        let o = lookup (Rattle.std.proofs.Common.nat_eq x) A.env.types in
+        has_constructors_still C C W (inner_world W C.level qs h) A A e o o (typed_in A.scope x) (typed_in A.scope x) (begins-same C.schemes.items C.schemes.items refl)
+        (λ d g. refl) (λ d g. fit-beside d g) refl refl (t.constructors x e f);
+    structures = t.structures;
     over = t.over;
   }
 
@@ -365,11 +373,14 @@ module _ (S M N E T : State) (C D : Context) (p q : Place) (as_ scoped : List Ty
         let l = h.variables ++ rising h.heads in
         ap (λ z. inside_in (plus_scope s z) q) scope-of-all ∙ ap (λ z. inside_in z q) (sym (onto-plus s l)) ∙ inside-onto s l q
 
+    scope-untyped : (s : Scope) (x : ℕ) → typed_in (plus_scope s scope) x ≡ typed_in s x
+    scope-untyped s x = ap (λ z. typed_in (plus_scope s z) x) scope-of-all ∙ untyped-bound s (h.variables ++ rising h.heads) x
+
     brings : Brings (with_all C es) W A S.next es [] whole-effect
     brings =
         let k = are-known S.next (omega arith) in
         values_bring C W A S.next es (generals qs (bound_of W bs)) scope G t
-        (further-shown C W A E T qs tyvars list t c deep ends.generalises.declarable N ends general list-is S.next k.next G scope bs fs es scope-denotes scope-alone have shown all-used-as once k.known n)
+        (further-shown C W A E T qs tyvars list t c deep ends.generalises.declarable N ends general list-is S.next k.next G scope bs fs es scope-denotes scope-alone scope-untyped have shown all-used-as once k.known n)
         k.known.older
 
   module _ (parts : Vec (Binding × Rule) Global) (written : Vec (Vec ℕ Global × ℕ × Function) Global) (dec : Dec) (is : parts.items ≡ binds) (are : written.items ≡ funs)

@@ -39,7 +39,7 @@ use Rattle.elab_state.specs.declared.state.State.{State}
 use Rattle.elab_steps.specs.Growing.{Grows, IsWithin}
 use Rattle.elab_steps.specs.World.{World, Comes, type_of}
 use Rattle.elab_steps.proofs.Growing.{comes_before, grows_on, grows_same}
-use Rattle.elab_context.specs.Entries.{entry_in, is_free, limit_of}
+use Rattle.elab_context.specs.Entries.{entry_in, is_free, limit_of, last_of}
 use Rattle.elab_context.specs.Numbered.{IsNumbered}
 use Rattle.elab_context.specs.Telling.{IsFit, IsInUse, Tells, denotes_of, kept_of, known_of}
 use Rattle.elab_context.specs.declared.context.Context.{Context}
@@ -55,7 +55,7 @@ use Rattle.exp_forms.proofs.Calling.{written-as}
 use Rattle.exp_forms.proofs.Entering.{number-known}
 use Rattle.exp_forms.proofs.JoiningRules.{vids-bound}
 use Rattle.exp_forms.proofs.Within.{denotes-of, inside-onto, latest, lookup-of, or-none}
-use Rattle.dec_forms.specs.Telling.{last_of}
+use Rattle.dec_forms.proofs.Knowing.{untyped-bound}
 use Rattle.dec_forms.proofs.Listed.{last-among}
 use Rattle.dec_forms.proofs.Telling.{AreFurther, entry-among, tells_further}
 use Rattle.rec_groups.specs.Functions.{AreWritten, EachFunction, no_function, one_function}
@@ -387,6 +387,7 @@ module _ (W : World) (D : Context) (B : Around) (t : Tells D W B) (deep : D.leve
           ap (λ z. denotes_in z x) (sym (onto-plus s (rising hs))) ∙ denotes-of s (rising hs) x
           ∙ ap (λ o. option_or o (denotes_in s x)) (denotes-own (latest (rising hs) x) ∙ sym (ap (option_map denotes_of) (last-own (rising hs) x)));
       alone = λ s q. ap (λ z. inside_in z q) (sym (onto-plus s (rising hs))) ∙ inside-onto s (rising hs) q;
+      untyped = λ s x. untyped-bound s (rising hs) x;
       fit = λ x e q. last-among (IsFit D W B) es x e (each-own (IsFit D W B) (rising hs) (turned (λ b. IsInUse B (type_of W b.ty)) used)) q;
       new = λ x e n v q s.
           last-among IsNew es x e

@@ -14,7 +14,7 @@ use Rattle.ir_poly.specs.TestsChecked.{Known, Knowns}
 use Rattle.ir_poly.specs.TestsChecked as checked
 use Rattle.ir_poly.specs.Types.{are_new, in_scope, over}
 use Rattle.ir_tables.specs.Tables.{parameters_of}
-use Rattle.core_elab.specs.Scopes.{Scope, denotes_in, inside_in, plus_scope, variable}
+use Rattle.core_elab.specs.Scopes.{Scope, denotes_in, inside_in, plus_scope, typed_in, variable}
 use Rattle.elab_typed.specs.Contexts.{Around, general, generals}
 use Rattle.elab_typed.specs.Numbers.{type_as}
 use Rattle.elab_state.specs.States.{dead_level, general_in}
@@ -24,7 +24,7 @@ use Rattle.elab_state.proofs.Solving.{over-more}
 use Rattle.elab_steps.specs.World.{World, type_of, Comes}
 use Rattle.elab_steps.proofs.Growing.{comes_before, general-later}
 use Rattle.elab_context.specs.Numbered.{IsNumbered}
-use Rattle.elab_context.specs.Telling.{IsFit, IsGeneral, IsInUse, Tells, kept_of, denotes_of, known_of}
+use Rattle.elab_context.specs.Telling.{IsFit, IsGeneral, IsInUse, Tells, kept_of, denotes_of, known_of, kept_entries, vids_in}
 use Rattle.elab_context.specs.declared.context.Context.{Context}
 use Rattle.elab_context.specs.declared.entry.Entry.{Entry}
 use Rattle.elab_context.specs.declared.entry.Entry.TheVariants.{General}
@@ -36,8 +36,7 @@ use Rattle.exp_forms.proofs.Within.{latest}
 use Rattle.general_worlds.proofs.General.{open-general}
 use Rattle.general_worlds.specs.Tidy.{Ends}
 use Rattle.general_vals.proofs.Settling.{settled-held}
-use Rattle.dec_forms.specs.Entries.{kept_entries, vids_in}
-use Rattle.dec_forms.specs.Telling.{last_of}
+use Rattle.elab_context.specs.Entries.{last_of}
 use Rattle.dec_forms.proofs.Listed.{kept-listed, last-among, last-first}
 use Rattle.dec_forms.proofs.Over.{generals-same}
 use Rattle.dec_forms.proofs.Telling.{AreFurther}
@@ -175,16 +174,17 @@ module _ (C : Context) (W : World) (A : Around) (S T : State) (qs : List Quantif
 
   pub further-shown : (k j : ℕ) (G : Knowns) (q : Scope) (bs : List BoundVariable) (fs : List Bool) (es : List (Vid × Entry))
       → ((s : Scope) (x : Vid) → denotes_in (plus_scope s q) x ≡ option_or (option_map (λ b. variable b.number) (latest bs x)) (denotes_in s x))
-      → ((s : Scope) (x : ℕ) → inside_in (plus_scope s q) x ≡ inside_in s x) → AreVariables N bs → AreShown S T C.level list some bs fs es
-      → AllFlagged (IsUsedAs W A B) bs fs → distinct same_vid (vids_of bs) ≡ true → AreKnownAs (type_of W) A.number qs k j A.known G bs fs → IsNumbered k C
+      → ((s : Scope) (x : ℕ) → inside_in (plus_scope s q) x ≡ inside_in s x) → ((s : Scope) (x : ℕ) → typed_in (plus_scope s q) x ≡ typed_in s x)
+      → AreVariables N bs → AreShown S T C.level list some bs fs es → AllFlagged (IsUsedAs W A B) bs fs → distinct same_vid (vids_of bs) ≡ true → AreKnownAs (type_of W) A.number qs k j A.known G bs fs → IsNumbered k C
       → AreFurther C W A es (generals qs (bound_of W bs)) q G
-  further-shown k j G q bs fs es denotes alone v h u d r n =
+  further-shown k j G q bs fs es denotes alone untyped v h u d r n =
       let once : distinct same_vid (vids_in es) ≡ true = ap (distinct same_vid) (vids-shown S T C.level list some bs fs es h) ∙ d in
       record {
         kept = λ x.
             ap (lookup (same_vid x)) (kept-shown bs fs es h) ∙ kept-listed C W es x ∙ ap (option_map (kept_of C W)) (sym (last-first es x once));
         denotes = λ s x. denotes s x ∙ ap (λ o. option_or o (denotes_in s x)) (sym (last-shown S T C.level list some x bs fs es h));
         alone = alone;
+        untyped = untyped;
         fit = λ x e q. last-among (IsFit C W A) es x e (fits-shown bs fs es v h u) q;
         new = λ x e i w q s. last-among (IsNew G) es x e (news-shown k j G bs fs es h r.known) q i w s;
         over = λ s f a. generals-same qs A.parameters (bound_of W bs) s f (all-over-inside bs fs u) a;

@@ -19,6 +19,9 @@ use Rattle.elab_state.specs.Generalising.{inside}
 use Rattle.elab_state.proofs.Generalising.{scope-front, scope-behind}
 use Rattle.elab_state.proofs.Solving.{over-more}
 use Rattle.elab_steps.specs.World.{World, type_of}
+use Rattle.elab_steps.proofs.Changing.{begins-same}
+use Rattle.elab_context.specs.Entries.{entry_in}
+use Rattle.elab_context.proofs.Contents.{has_constructors_still, has_contents_still}
 use Rattle.elab_context.specs.Telling.{Tells, IsFit, IsInUse, kept_of, known_of, function_of}
 use Rattle.elab_context.specs.declared.context.Context.{Context}
 use Rattle.elab_context.specs.declared.entry.Entry.{Entry}
@@ -123,12 +126,16 @@ module _ (C : Context) (s : TypeScope) (W : World) (A : Around) (qs : List Quant
     initial = t.initial;
     built = t.built;
     parameters = ap (λ ps. qs ++ ps) t.parameters ∙ sym inside-here;
-    values = λ x. t.values x ∙ kept-same-if (Rattle.elab_context.specs.Entries.entry_in C x.qualifiers x.vid);
+    values = λ x. t.values x ∙ kept-same-if (entry_in C x.qualifiers x.vid);
     denotes = t.denotes;
     fit = λ x e f. fit-same e (t.fit x e f);
     known = λ x e n k f g. t.known x e n k f (sym (known-same e) ∙ g);
     tyvars = tyvars;
     types = λ ps x. t.types ps x ∙ ap (option_map (function_of W)) (entry-same ps x);
+    constructors = λ x e f.
+        has_constructors_still C (deeper C s) W V A B e _ _ _ _ (begins-same C.schemes.items C.schemes.items refl) (λ d g. kept-same d) (λ d g. fit-same d g) refl refl
+        (t.constructors x e (entry-same [] x ∙ f));
+    structures = λ q k f. has_contents_still C (deeper C s) q _ _ _ _ _ _ refl (λ x. refl) refl refl (t.structures q k f);
     over = inner-over A qs as_ bs rs t.over;
   }
     where

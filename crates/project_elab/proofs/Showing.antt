@@ -7,15 +7,17 @@ use Rattle.ty_core.specs.declared.scheme.Quantified.{Quantified}
 use Rattle.ir_poly.specs.TestsChecked.{Knowns}
 use Rattle.ir_poly.specs.TestsChecked as checked
 use Rattle.ir_poly.specs.Types.{in_scope}
+use Rattle.core_elab.specs.Scopes.{plus_scope, typed_in}
 use Rattle.elab_typed.specs.Contexts.{Around}
 use Rattle.elab_typed.specs.Numbers.{AgreeBelow}
 use Rattle.elab_types.specs.declared.scope.TypeEntry.{TypeEntry}
 use Rattle.elab_steps.proofs.Changing.{begins-same}
 use Rattle.elab_steps.specs.World.{World}
+use Rattle.elab_context.proofs.Contents.{has_constructors_still}
+use Rattle.elab_context.specs.Entries.{last_of}
 use Rattle.elab_context.specs.Telling.{kept_of}
 use Rattle.elab_context.specs.declared.context.Context.{Context}
 use Rattle.elab_context.specs.declared.entry.Entry.{Entry}
-use Rattle.dec_forms.specs.Telling.{last_of}
 use Rattle.dec_forms.specs.Bringing.{Brings, Effect, past}
 use Rattle.dec_forms.proofs.Wider.{Wider, fit-later, kept-later, known-later}
 
@@ -49,6 +51,11 @@ module _ (D F : Context) (W : World) (A B : Around) (k : ℕ) (es : List (Vid ×
     structures = f.structures;
     denotes = f.denotes;
     alone = f.alone;
+    retyped = f.retyped;
+    constructors = λ s x e h.
+        let o = lookup (nat_eq x) m.env.types in
+        has_constructors_still D F W W (past A m) (past B m) e o o (typed_in (plus_scope s m.scope) x) (typed_in (plus_scope s m.scope) x)
+        same.schemes (kept-later D F W (past A m) (past B m) same) (fit-later D F W (past A m) (past B m) same) refl refl (f.constructors s x e h);
     fit = λ x e h. fit-later D F W (past A m) (past B m) same e (f.fit x e h);
     new = λ x e j v h s. f.new x e j v h (sym (known-later D F W (past A m) (past B m) same e (f.fit x e h)) ∙ s);
     older = λ j lt. f.older j lt ∙ sym (ap (λ (K : Knowns). checked.at K j) known);

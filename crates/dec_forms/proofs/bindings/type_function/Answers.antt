@@ -1,4 +1,4 @@
-use Rattle.std.proofs.Common.{◌≡◌, List, length, map, nat_eq, true, sym, ap, subst, ◌∙◌, arith}
+use Rattle.std.proofs.Common.{◌≡◌, List, length, map, nat_eq, true, refl, sym, ap, subst, ◌∙◌, arith}
 use Rattle.sml_tree.specs.TreeOf.{ty_of, type_bind_of}
 use Rattle.sml_tree.specs.declared.ident.Tyvar.{Tyvar}
 use Rattle.core_rules.specs.Restrictions.{distinct, no_repetition}
@@ -27,7 +27,7 @@ returns-clause-is c =
     c.in_ok-enter_parameters.ensures.grows c.in_ok-enter_parameters.ensures.next c.in_ok-enter_parameters.ensures.types are c.in_ok-body.ensures.grows c.in_ok-body.ensures.next
     (closed-is (types_in c.enter_parameters.new.state) (types_in c.closed_type.new.state) c.args.bind.now.tyvars.items c.args.scope.now c.enter_parameters.new.scope (ty_of c.args.bind.now.ty)
     c.in_ok-body.body c.in_ok-enter_parameters.ensures.types are c.in_ok-body.ensures.is c.in_ok-body.ensures.known)
-    arity once
+    arity once refl
 
 pub returns-clause-scope : goal.returns-clause-scope
 returns-clause-scope c =

@@ -5,7 +5,7 @@ use Rattle.core_rules.specs.Restrictions.{distinct}
 use Rattle.core_rules.specs.Words.{same_vid}
 use Rattle.elab_context.specs.declared.entry.Entry.{Entry}
 use Rattle.dec_forms.specs.Telling.{with_all}
-use Rattle.dec_forms.specs.Entries.{vids_in}
+use Rattle.elab_context.specs.Telling.{vids_in}
 use Rattle.dec_forms.proofs.DeclaringExceptions.{context_of_exns, exns_bring}
 use Rattle.dec_forms.proofs.declare_exceptions.exceptions.Goals as goal
 

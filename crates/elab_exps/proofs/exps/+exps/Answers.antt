@@ -1156,6 +1156,6 @@ elab_dec-returns-in-Declarations t c =
     if-ok c.decs_from.result
     (λ r e.
     sequence_declared c.args.state.now c.decs_from.new.state c.args.context.now c.decs_from.new.context c.args.dec.now c.in-Declarations.field-0 c.in-Declarations.decs
-    c.deref-in-Declarations.result.now c.args.made.now.items c.decs_from.new.made.items c.args.brought.now c.decs_from.new.brought c.in-Declarations.is
-    c.deref-in-Declarations.ensures.value e)
+    c.deref.result.now c.args.made.now.items c.decs_from.new.made.items c.args.brought.now c.decs_from.new.brought c.in-Declarations.is
+    c.deref.ensures.value e)
     c.decs_from.ensures

@@ -1,0 +1,5 @@
+pub mod Scoping
+pub mod Opening
+pub mod Opened
+pub mod Replicating
+pub mod Refusing
