@@ -1,0 +1,23 @@
+// Tests of the program: calls of `mlc_main` over a store and sinks in memory, and its edge.
+#![tactic(auto)]
+
+#[cfg(test)]
+mod calls;
+#[cfg(test)]
+mod core_examples;
+#[cfg(test)]
+mod core_rows;
+#[cfg(test)]
+mod edge;
+#[cfg(test)]
+mod limits;
+#[cfg(test)]
+mod nesting;
+#[cfg(test)]
+mod refusals;
+#[cfg(test)]
+mod runs;
+#[cfg(test)]
+mod sources;
+#[cfg(test)]
+mod statuses;
