@@ -58,8 +58,8 @@ const SOURCES: [(&str, &str); 23] = [
         "p.sml:1.17: E33 restriction broken\n",
     ),
     (
-        "datatype t = datatype bool",
-        "p.sml:1.1: E90 not compiled yet\n",
+        "datatype t = datatype nothing",
+        "p.sml:1.23: E30 unbound identifier nothing\n",
     ),
 ];
 
