@@ -5,8 +5,8 @@ use Rattle.ir_code.specs.Program as machine
 use Rattle.ir_code.specs.Run.{run_of}
 use Rattle.same_runs.specs.SameRuns.{SameRuns}
 use Rattle.machine_code.specs.Image.{text_of}
-use Rattle.ir_prog.specs.Programs.{meaning}
-use Rattle.ir_prog.specs.declared.program.Program.{Program}
+use Rattle.match_pass.specs.of_ir_prog.Programs.{meaning}
+use Rattle.match_pass.specs.of_ir_prog.declared.program.Program.{Program}
 use Rattle.ir_ssa.specs.Tree as out
 use Rattle.ir_ssa.specs.Meaning as after
 use Rattle.ir_ssa.specs.WellFormed.{IsWellFormed}

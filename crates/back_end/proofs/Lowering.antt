@@ -9,8 +9,8 @@ use Rattle.ir_mono.specs.Mono as mono
 use Rattle.ir_first.specs.Tree as first
 use Rattle.ir_ssa.specs.Tree as out
 use Rattle.ir_tables.specs.Tables.{initial_of, strings_of}
-use Rattle.ir_prog.specs.Programs.{body_in, exceptions, expansion, tests_in}
-use Rattle.ir_prog.specs.declared.program.Program.{Program}
+use Rattle.match_pass.specs.of_ir_prog.Programs.{body_in, exceptions, expansion, tests_in}
+use Rattle.match_pass.specs.of_ir_prog.declared.program.Program.{Program}
 use Rattle.match_compile.specs.Exceptions.{tests_made}
 use Rattle.match_compile.specs.Laws.{KeepsExceptions}
 use Rattle.monomorphise.specs.Counting.{expansion_within}

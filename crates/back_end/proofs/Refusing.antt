@@ -31,11 +31,9 @@ module _ {T : Type 0} where
   pub long-by-emit : (r : Result T CompileRefused) (e : EmitRefused) → IsErrAnd r (λ x. x ≡ of_emit e) → (Q : Type 0) → (e ≡ emit.TooLong → Q) → IfErr r (λ x. x ≡ TooLong → Q)
   long-by-emit (Ok x) e g Q h = absurd g
   long-by-emit (Err x) emit.TooLong g Q h = λ b. h refl
-  long-by-emit (Err x) emit.NoWord g Q h = λ b. absurd (cc)
   long-by-emit (Err x) emit.Memory g Q h = λ b. absurd (cc)
 
   pub not-large-by-emit : (r : Result T CompileRefused) (e : EmitRefused) → IsErrAnd r (λ x. x ≡ of_emit e) → (Q : Type 0) → IfErr r (λ x. x ≡ TooLarge → Q)
   not-large-by-emit (Ok x) e g Q = absurd g
   not-large-by-emit (Err x) emit.TooLong g Q = λ b. absurd (cc)
-  not-large-by-emit (Err x) emit.NoWord g Q = λ b. absurd (cc)
   not-large-by-emit (Err x) emit.Memory g Q = λ b. absurd (cc)

@@ -4,8 +4,8 @@ use Rattle.ir_code.specs.Program as machine
 use Rattle.ir_code.specs.Run.{run_of}
 use Rattle.same_runs.specs.SameRuns.{SameRuns}
 use Rattle.machine_code.specs.Image.{text_of}
-use Rattle.ir_prog.specs.Programs.{meaning}
-use Rattle.ir_prog.specs.declared.program.Program.{Program}
+use Rattle.match_pass.specs.of_ir_prog.Programs.{meaning}
+use Rattle.match_pass.specs.of_ir_prog.declared.program.Program.{Program}
 
 -- the runs of the image and the program's meaning do the same, in every heap and stack that a machine may have
 abbrev pub Does : List (List ℕ) → Program → machine.Program → Type 0

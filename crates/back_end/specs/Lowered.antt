@@ -1,8 +1,8 @@
 -- What a program becomes before its image is made, by the definitions of the passes.
 use Rattle.std.specs.Prelude.{ℕ, List, ◌++◌, Option, option_map}
 use Rattle.ir_tables.specs.Tables.{initial_of, strings_of}
-use Rattle.ir_prog.specs.Programs.{exceptions, tests_in}
-use Rattle.ir_prog.specs.declared.program.Program.{Program}
+use Rattle.match_pass.specs.of_ir_prog.Programs.{exceptions, tests_in}
+use Rattle.match_pass.specs.of_ir_prog.declared.program.Program.{Program}
 use Rattle.monomorphise.specs.Laws.{monomorphise}
 use Rattle.closure_whole.specs.Whole.{without_functions}
 use Rattle.closure_pass.specs.Given.{texts}

@@ -3,7 +3,7 @@
 ghost use Rattle.std.specs.Prelude.{◌≡◌, ◌≢◌, ◌+◌, ◌*◌, ◌^◌, ◌<◌, ◌≤◌, ℕ, length, All, IfOk, IfErr, IsSomeAnd};
 ghost use Rattle.mlc_runs.specs.Outcome.{wrong};
 ghost use Rattle.mlc_runs.specs.Passes.{greatest_expansion};
-ghost use Rattle.ir_prog.specs.Programs.{expansion, meaning};
+ghost use Rattle.match_pass.specs.of_ir_prog.Programs.{expansion, meaning};
 ghost use Rattle.match_pass.specs.Typed.{IsWellTyped};
 ghost use Rattle.image_law.specs.ImageOf.{IsImageOf};
 ghost use Rattle.image_size.specs.Size.{parts, words};
@@ -16,8 +16,8 @@ use crate::lower::lower;
 use crate::refused::CompileRefused;
 use image_size::law::images_are_small;
 use ir_code::image::Image;
-use ir_prog::program::Program;
 use machine_emit::emit::emit;
+use match_pass::ir_prog::program::Program;
 use mlc_names::names::Names;
 use std::alloc::Global;
 

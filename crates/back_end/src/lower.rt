@@ -3,7 +3,7 @@
 ghost use Rattle.std.specs.Prelude.{◌≡◌, ◌≢◌, ◌<◌, ◌≤◌, ℕ, Some, All, Contains, IfOk, IfErr};
 ghost use Rattle.mlc_runs.specs.Outcome.{wrong};
 ghost use Rattle.mlc_runs.specs.Passes.{greatest_expansion};
-ghost use Rattle.ir_prog.specs.Programs as source;
+ghost use Rattle.match_pass.specs.of_ir_prog.Programs as source;
 ghost use Rattle.match_pass.specs.Typed.{IsWellTyped};
 ghost use Rattle.ir_ssa.specs.Meaning.{meaning};
 ghost use Rattle.ir_ssa.specs.WellFormed.{IsWellFormed};
@@ -15,8 +15,8 @@ ghost use Rattle.back_end.specs.declared.refused.CompileRefused.TheVariants.{Too
 use crate::refused::CompileRefused;
 use closure_pass::exceptions::conversions_make_no_more;
 use closure_pass::pass::convert_program;
-use ir_prog::program::Program;
 use match_compile::law::counts_are_kept;
+use match_pass::ir_prog::program::Program;
 use match_pass::pass::compile_program;
 use mono_exceptions::law::copies_make_no_more;
 use mono_pass::pass::monomorphise_program;

@@ -4,7 +4,7 @@ ghost use Rattle.std.specs.Prelude.{◌≡◌, ◌<◌, ◌&&◌, true, All};
 ghost use Rattle.back_end.specs.Lowered.{identifiers};
 ghost use Rattle.back_end.specs.Keeping.{exp_keeps, field_keeps, argument_keeps, join_keeps, rule_keeps, bind_keeps, function_keeps, member_keeps, dec_keeps};
 
-use ir_prog::program::Program;
+use match_pass::ir_prog::program::Program;
 use mlc_names::label::Label;
 use mlc_names::names::Name;
 use prog_tree::tree::{Binding, Dec, Exp, Function, Join, Rule};

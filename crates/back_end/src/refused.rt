@@ -10,9 +10,7 @@ pub enum CompileRefused {
     TooLarge,
     #[error("image over 134217728 words")]
     TooLong,
-    /// A number or a place that the code would name is no word.
-    #[error("number over 4294967295")]
-    NoWord,
+    /// Want of memory, or a number or a place that the code would name and no word holds.
     #[error("out of memory")]
     Memory,
 }
@@ -40,7 +38,6 @@ impl From<EmitRefused> for CompileRefused {
     fn from(fault: EmitRefused) -> CompileRefused {
         match fault {
             EmitRefused::TooLong => CompileRefused::TooLong,
-            EmitRefused::NoWord => CompileRefused::NoWord,
             EmitRefused::Memory => CompileRefused::Memory,
         }
     }

@@ -5,11 +5,11 @@ ghost use Rattle.ty_solve.specs.Said.{said};
 ghost use Rattle.sml_tree.specs.TreeOf.{ty_of};
 ghost use Rattle.elab_types.specs.Annotations.{IsTypeOf};
 ghost use Rattle.elab_types.specs.Reading.{Holds};
-ghost use Rattle.elab_state.specs.States.{types_in};
+ghost use Rattle.elab_steps.specs.of_elab_state.States.{types_in};
 ghost use Rattle.elab_steps.specs.Growing.{Grows};
 ghost use Rattle.closed_types.specs.Parameters.{IsOverKnown};
 
-use elab_state::state::State;
+use elab_steps::elab_state::state::State;
 use elab_types::refused::Refused;
 use elab_types::scope::TypeScope;
 use elab_types::whole::annotation;

@@ -2,11 +2,11 @@
 ghost use Rattle.std.specs.Prelude.{◌≡◌, [], length, take, IfOk};
 ghost use Rattle.ty_solve.specs.Said.{said};
 ghost use Rattle.ty_solve.specs.SlotsOf.{seen};
-ghost use Rattle.elab_state.specs.States.{types_in};
+ghost use Rattle.elab_steps.specs.of_elab_state.States.{types_in};
 ghost use Rattle.elab_steps.specs.Growing.{Grows};
 ghost use Rattle.closed_types.specs.Parameters.{AreParameters};
 
-use elab_state::state::State;
+use elab_steps::elab_state::state::State;
 use elab_types::scope::TypeScope;
 use mlc_base::memory::NoMemory;
 use sml_tree::ident::Tyvar;

@@ -18,9 +18,9 @@ use Rattle.first_tree.specs.TreeOf.{tree_of, arm_of, arms_of, ArmTree as MadeTre
 use Rattle.closure_meaning.specs.Convert.{Numbering, var, cases, con_arms}
 use Rattle.closure_steps.specs.Reads.{arms_in}
 use Rattle.closure_steps.proofs.Rolls.{arm-parts}
-use Rattle.closure_parts.specs.Puts.{before, Puts}
-use Rattle.closure_parts.proofs.Rolls.{tree-switch, tree-miss, arm-parts as made-parts}
-use Rattle.closure_parts.proofs.Putting.{map-last, all-behind}
+use Rattle.closure_steps.specs.of_closure_parts.Puts.{before, Puts}
+use Rattle.closure_steps.proofs.of_closure_parts.Rolls.{tree-switch, tree-miss, arm-parts as made-parts}
+use Rattle.closure_steps.proofs.of_closure_parts.Putting.{map-last, all-behind}
 use Rattle.closure_steps.specs.Cases.{is_test, is_constructor, tests_before, test_in, tested_in, tag_in}
 use Rattle.closure_steps.proofs.Leading.{none-first}
 use Rattle.closure_steps.proofs.Switching.{cases-first, switched-test, switched-constructor, switched-all, arms-first, arms-end}

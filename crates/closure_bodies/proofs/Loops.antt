@@ -13,8 +13,8 @@ use Rattle.closure_convert.specs.Scope.{Scope, Table}
 use Rattle.first_tree.specs.declared.tree.Step.{Step as MadeStep}
 use Rattle.closure_meaning.specs.Convert.{Numbering, convert}
 use Rattle.closure_steps.specs.Reads.{mono_step, steps_in}
-use Rattle.closure_parts.specs.Puts.{before, Puts}
-use Rattle.closure_parts.proofs.Putting.{map-last, seen, all-before, all-behind}
+use Rattle.closure_steps.specs.of_closure_parts.Puts.{before, Puts}
+use Rattle.closure_steps.proofs.of_closure_parts.Putting.{map-last, seen, all-before, all-behind}
 use Rattle.closure_steps.specs.Steps.{behind, all_behind, stepped, all_stepped}
 
 ahead : {A : Type 0} (xs : List A) (i : ℕ) (x d : A) → i < length xs → x ≡ get_or xs i d → drop i xs ≡ x ∷ drop (i + 1) xs

@@ -22,7 +22,7 @@ use Rattle.plain_tree.specs.TreeOf.{StepTree, onto, firsts, case_of, fun_of, exc
 use Rattle.mono_bound.specs.Reads.{reading, mono_of}
 use Rattle.closure_convert.specs.Scope.{Scope, Table, add}
 use Rattle.closure_convert.specs.Closed.{members, case_scope}
-use Rattle.capture_table.specs.Told.{first_parameter}
+use Rattle.closure_steps.specs.of_capture_table.Told.{first_parameter}
 use Rattle.first_tree.specs.declared.tree.Exp.{Exp as Made}
 use Rattle.first_tree.specs.declared.tree.Exp.TheVariants as made
 use Rattle.first_tree.specs.declared.tree.Step.{Step as MadeStep}
@@ -30,9 +30,9 @@ use Rattle.first_tree.specs.TreeOf.{tree_of}
 use Rattle.closure_meaning.specs.Convert.{Numbering, var, convert, cases, con_arms, convert_op, making, name_of, group_in}
 use Rattle.closure_steps.specs.Reads.{mono_step, steps_in, arms_in, functions_in}
 use Rattle.closure_steps.proofs.Rolls as mono_rolls
-use Rattle.closure_parts.specs.Puts.{before, Puts}
-use Rattle.closure_parts.proofs.Rolls.{tree-steps, tree-ret, tree-miss}
-use Rattle.closure_parts.proofs.Putting.{puts-as}
+use Rattle.closure_steps.specs.of_closure_parts.Puts.{before, Puts}
+use Rattle.closure_steps.proofs.of_closure_parts.Rolls.{tree-steps, tree-ret, tree-miss}
+use Rattle.closure_steps.proofs.of_closure_parts.Putting.{puts-as}
 use Rattle.closure_steps.specs.Cases.{is_test, is_constructor, test_in, tested_in, tag_in, opened}
 use Rattle.closure_steps.specs.Steps.{all_behind, switched, stepped, all_stepped}
 use Rattle.closure_steps.proofs.Switching.{switched-test, switched-constructor, switched-all}

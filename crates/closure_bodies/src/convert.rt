@@ -9,19 +9,19 @@ ghost use Rattle.first_tree.specs.TreeOf.{tree_of, arm_of, arms_of};
 ghost use Rattle.ir_first.specs.Tree as out;
 ghost use Rattle.closure_meaning.specs.Convert.{Numbering, var, convert, cases, con_arms};
 ghost use Rattle.closure_steps.specs.Reads.{mono_step, steps_in, arms_in};
-ghost use Rattle.closure_parts.specs.Puts.{before, Puts};
-ghost use Rattle.closure_parts.specs.Settings.{Row, Texts, Holds};
+ghost use Rattle.closure_steps.specs.of_closure_parts.Puts.{before, Puts};
+ghost use Rattle.closure_steps.specs.of_closure_parts.Settings.{Row, Texts, Holds};
 ghost use Rattle.closure_steps.specs.Cases.{tests_before};
 ghost use Rattle.closure_steps.specs.Steps.{all_behind, switched, stepped, all_stepped};
 ghost use Rattle.closure_bodies.specs.Made.{body_made};
 
 use capture_scope::scope::{Scope, ScopeFault};
-use closure_parts::access::named;
-use closure_parts::operation::push_operation;
-use closure_parts::setting::Setting;
 use closure_steps::cases::{
     is_constructor, is_test, onto, push_case, push_opened, push_unless, push_when, tag_of,
 };
+use closure_steps::closure_parts::access::named;
+use closure_steps::closure_parts::operation::push_operation;
+use closure_steps::closure_parts::setting::Setting;
 use closure_steps::scope::{bind_case, bind_step, number_of};
 use closure_steps::steps::{
     push_block, push_exception, push_group, push_handle, push_making, push_name, push_try,

@@ -1,4 +1,7 @@
 // Expressions of a program with simple types as expressions without function values.
 #![tactic(auto)]
 
+pub use closure_steps;
+pub use closure_steps::{closure_parts, flow_types};
+
 pub mod convert;

@@ -7,8 +7,8 @@ use Rattle.ir_plain.specs.Scoped as sc
 use Rattle.ir_plain.specs.Scoped.{IsAmong, among_here, among_there, group_onto, AtomsScoped, no_atoms_scoped, an_atom_scoped, RowScoped, no_row_scoped, a_row_scoped, CaseScoped, literal_scoped, con_scoped, con_of_scoped, exn_scoped, exn_of_scoped, record_scoped}
 use Rattle.ir_plain.specs.Unique as un
 use Rattle.ir_plain.specs.Unique.{IsOutside, outside_none, outside_more, funs_onto, AreNew, none_new, one_new}
-use Rattle.ir_mono.specs.Types as table
-use Rattle.ir_mono.specs.Mono.{mono, Mono}
+use Rattle.flow_sets.specs.of_ir_mono.Types as table
+use Rattle.flow_sets.specs.of_ir_mono.Mono.{mono, Mono}
 use Rattle.flow_sets.specs.Member.{is_in}
 use Rattle.flow_sets.specs.Flow.{number_of}
 use Rattle.flow_sets.proofs.Member.{nat_eq-to, nat_eq-same, or_left}

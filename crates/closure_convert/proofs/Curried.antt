@@ -2,8 +2,8 @@
 use Rattle.std.proofs.Common.{◌≡◌, ◌≤◌, ℕ, zero, suc, ◌+◌, List, [], ◌∷◌, ◌++◌, length, Bool, true, false, ◌||◌, if◌then◌else◌, nat_eq, refl, sym, ap, subst, ◌∙◌, arith}
 use Rattle.std.specs.Prelude.{⊤}
 use Rattle.ir_plain.specs.Tree.{Fun, last, more}
-use Rattle.ir_mono.specs.Types as table
-use Rattle.ir_mono.specs.Mono.{mono}
+use Rattle.flow_sets.specs.of_ir_mono.Types as table
+use Rattle.flow_sets.specs.of_ir_mono.Mono.{mono}
 use Rattle.flow_sets.specs.Member.{is_in}
 use Rattle.flow_sets.proofs.Member.{nat_eq-to, nat_eq-same, or_left}
 use Rattle.closure_convert.specs.Scope.{Member, names, Scope, way, is_way, index_of}

@@ -3,10 +3,10 @@ use Rattle.std.proofs.Common.{◌≡◌, ℕ, zero, suc, ◌+◌, ◌≤◌, Boo
 use Rattle.ir_plain.specs.Once.{hit, case_times, times, arms_times, op_times, fun_times, funs_times, IsOnce}
 use Rattle.ir_plain.specs.Tree.{Exp, ret, let_in, exception_in, name_in, rec_in, switch, first, miss, counted, Arms, no_arms, arm, Op, use_of, const, con_alone, construct, ref_alone, refer, content, pack, make_record, select, prim_alone, prim, app, fn, block, handle, raise, raise_initial, Fun, last, more, Funs, no_funs, fun}
 use Rattle.ir_plain.proofs.UniqueLemmas.{once-unique}
-use Rattle.ir_mono.specs.Types as table
-use Rattle.ir_mono.specs.Mono.{mono, Mono, Program}
-use Rattle.ir_mono.specs.WellFormed.{IsWellFormed}
-use Rattle.ir_mono.proofs.Bound.{well-formed-bound}
+use Rattle.flow_sets.specs.of_ir_mono.Types as table
+use Rattle.flow_sets.specs.of_ir_mono.Mono.{mono, Mono, Program}
+use Rattle.flow_sets.specs.of_ir_mono.WellFormed.{IsWellFormed}
+use Rattle.flow_sets.proofs.of_ir_mono.Bound.{well-formed-bound}
 use Rattle.flow_sets.proofs.Member.{nat_eq-to, nat_eq-same}
 use Rattle.closure_convert.specs.Scope.{Member, names, Scope, add, add_all, Piece, top}
 use Rattle.closure_convert.specs.Closed.{scope_of, members, case_scope, IsClosed}

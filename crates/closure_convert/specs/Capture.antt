@@ -1,8 +1,8 @@
 -- The table of captures: in the order of binding, so that what is captured of what the function around captured is in few runs.
 use Rattle.std.specs.Prelude.{ℕ, zero, suc, Bool, false, ◌||◌, List, [], ◌∷◌, ◌++◌, Option, Some, None, nat_eq, if◌then◌else◌}
 use Rattle.ir_plain.specs.Tree.{Exception, fixed, held, ret, let_in, exception_in, name_in, rec_in, switch, first, miss, counted, Arms, no_arms, arm, Op, use_of, const, con_alone, construct, ref_alone, refer, content, pack, make_record, select, prim_alone, prim, app, fn, block, handle, raise, raise_initial, Fun, last, more, Funs, no_funs, fun}
-use Rattle.ir_mono.specs.Types as table
-use Rattle.ir_mono.specs.Mono.{mono, Mono}
+use Rattle.flow_sets.specs.of_ir_mono.Types as table
+use Rattle.flow_sets.specs.of_ir_mono.Mono.{mono, Mono}
 use Rattle.flow_sets.specs.Member.{is_in}
 use Rattle.closure_convert.specs.Scope.{Member, names, Scope, add, add_all, is_way, way, index_of, Piece, alone, those, Table, top}
 use Rattle.closure_convert.specs.Closed.{scope_of, members, case_scope}

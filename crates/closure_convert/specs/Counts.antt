@@ -1,8 +1,8 @@
 -- Of how many pieces closures are made.
 use Rattle.std.specs.Prelude.{◌≡◌, ℕ, zero, suc, ◌+◌, Bool, true, false, List, [], ◌∷◌, length, if◌then◌else◌, ⊤}
 use Rattle.ir_plain.specs.Tree.{Fun, last, more}
-use Rattle.ir_mono.specs.Types as table
-use Rattle.ir_mono.specs.Mono.{mono}
+use Rattle.flow_sets.specs.of_ir_mono.Types as table
+use Rattle.flow_sets.specs.of_ir_mono.Mono.{mono}
 use Rattle.flow_sets.specs.Member.{is_in}
 use Rattle.closure_convert.specs.Scope.{Member, names, Scope, index_of}
 use Rattle.closure_convert.specs.Closed.{scope_of}

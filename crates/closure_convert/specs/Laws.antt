@@ -1,9 +1,9 @@
 -- What is claimed of the table of captures.
 use Rattle.std.specs.Prelude.{ℕ, suc, ◌+◌, ◌≤◌, List, [], ◌++◌, length}
 use Rattle.ir_plain.specs.Tree.{Fun}
-use Rattle.ir_mono.specs.Types as table
-use Rattle.ir_mono.specs.Mono.{mono, Program}
-use Rattle.ir_mono.specs.WellFormed.{IsWellFormed}
+use Rattle.flow_sets.specs.of_ir_mono.Types as table
+use Rattle.flow_sets.specs.of_ir_mono.Mono.{mono, Program}
+use Rattle.flow_sets.specs.of_ir_mono.WellFormed.{IsWellFormed}
 use Rattle.closure_convert.specs.Scope.{Member, names, Scope, top}
 use Rattle.closure_convert.specs.Closed.{IsClosed}
 use Rattle.closure_convert.specs.Capture.{onto, kept, cut, occurs_fun, wanted, table_of}

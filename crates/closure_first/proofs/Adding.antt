@@ -4,7 +4,7 @@ use Rattle.std.proofs.lemmas.List.{take_more, drop_more}
 use Rattle.ir_first.specs.Tree as out
 use Rattle.first_tree.specs.declared.tree.Fun.{Fun}
 use Rattle.first_tree.specs.TreeOf.{fun_of}
-use Rattle.closure_parts.proofs.Putting.{map-last, all-before, all-behind}
+use Rattle.closure_bodies.proofs.of_closure_parts.Putting.{map-last, all-before, all-behind}
 use Rattle.closure_first.specs.Codes.{Before, Adds, in_order, last_first}
 
 behind-last : (xs : List out.Fun) (y : out.Fun) (cs : List out.Fun) → (xs ++ y ∷ []) ++ cs ≡ xs ++ y ∷ cs

@@ -10,8 +10,8 @@ use Rattle.first_tree.specs.declared.tree.Step.{Step}
 use Rattle.first_tree.specs.declared.tree.Exp.TheVariants as made
 use Rattle.first_tree.specs.TreeOf.{tree_of}
 use Rattle.closure_meaning.specs.Convert.{Numbering, given, var, convert, making, self_name, opening}
-use Rattle.closure_parts.specs.Puts.{before, Puts}
-use Rattle.closure_parts.proofs.Rolls.{tree-ret}
+use Rattle.closure_bodies.specs.of_closure_parts.Puts.{before, Puts}
+use Rattle.closure_bodies.proofs.of_closure_parts.Rolls.{tree-ret}
 use Rattle.closure_first.specs.Codes.{entered, giving, taking, IsSameGroup}
 
 -- a body is begun in the scope of its group

@@ -20,10 +20,10 @@ use Rattle.plain_tree.specs.declared.tree.Case.{Case}
 use Rattle.plain_tree.specs.declared.tree.Exception.{Exception}
 use Rattle.plain_tree.specs.TreeOf.{StepTree, let_step, exception_step, name_step, rec_step, test_step, counted_step, put, onto, firsts, arms_of, funs_of, fun_of, operation_of, case_of}
 use Rattle.mono_bound.specs.Reads.{reading, mono_of}
-use Rattle.closure_whole.specs.Constants.{IsHeld, CaseHeld, AreHeld, ArmsHeld, OpHeld, FunHeld, FunsHeld}
-use Rattle.closure_steps.specs.Reads.{mono_step, mono_arm, mono_function}
-use Rattle.closure_steps.proofs.Rolls.{tree-steps, tree-ret, tree-switch, tree-first, tree-miss, step-let, step-fn, step-block, step-handle, step-exception, step-name, step-group, step-test, step-counted, arm-parts, function-parts}
-use Rattle.closure_parts.proofs.Putting.{all-before}
+use Rattle.closure_bodies.specs.of_closure_whole.Constants.{IsHeld, CaseHeld, AreHeld, ArmsHeld, OpHeld, FunHeld, FunsHeld}
+use Rattle.closure_bodies.specs.of_closure_steps.Reads.{mono_step, mono_arm, mono_function}
+use Rattle.closure_bodies.proofs.of_closure_steps.Rolls.{tree-steps, tree-ret, tree-switch, tree-first, tree-miss, step-let, step-fn, step-block, step-handle, step-exception, step-name, step-group, step-test, step-counted, arm-parts, function-parts}
+use Rattle.closure_bodies.proofs.of_closure_parts.Putting.{all-before}
 use Rattle.closure_first.specs.Held.{IsByte, AreBytes, HasEmpty, StepHeld, ArmHeld, MemberHeld}
 
 -- lists

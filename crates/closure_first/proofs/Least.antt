@@ -7,7 +7,7 @@ use Rattle.flow_sets.specs.ByType.{bound}
 use Rattle.mono_bound.specs.declared.bound.Bound.{Bound}
 use Rattle.mono_bound.specs.Bound.{bound_of, exp_bound}
 use Rattle.mono_bound.specs.Reads.{mono_of}
-use Rattle.closure_whole.specs.Rising.{larger, above}
+use Rattle.closure_bodies.specs.of_closure_whole.Rising.{larger, above}
 
 pub above-next : (xs : List Bound) (n i : ℕ) (x d : Bound) (now new : ℕ) → n ≡ i + 1 → i < length xs → x ≡ get_or xs i d → new ≡ larger x.variable now → now ≡ above (map bound_of (drop n xs))
     → new ≡ above (map bound_of (drop i xs))

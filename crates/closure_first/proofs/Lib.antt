@@ -1,3 +1,4 @@
+pub use Rattle.closure_bodies.proofs.of_closure_parts as of_closure_parts
 pub mod Adding
 pub mod Entering
 pub mod Holding

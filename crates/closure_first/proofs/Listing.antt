@@ -15,7 +15,7 @@ use Rattle.first_tree.specs.declared.tree.Exp.{Exp as Made}
 use Rattle.first_tree.specs.declared.tree.Fun.{Fun}
 use Rattle.first_tree.specs.TreeOf.{tree_of, fun_of}
 use Rattle.closure_meaning.specs.Convert.{Numbering, convert, set_of}
-use Rattle.closure_parts.proofs.Putting.{map-last, all-before}
+use Rattle.closure_bodies.proofs.of_closure_parts.Putting.{map-last, all-before}
 use Rattle.closure_first.specs.Codes.{Before, Adds}
 
 pub main-is : (n : Numbering) (types : List table.Row) (strings : List (List ℕ)) (F : Flow) (T : Table) (e : Exp) (s : Scope) (b : Made) (params : Vec ℕ Global) → s ≡ top → params.items ≡ []

@@ -8,15 +8,15 @@ use Rattle.first_values.specs.Operations.{Member}
 use Rattle.flow_sets.specs.Flow.{Flow}
 use Rattle.closure_convert.specs.Scope.{Table}
 use Rattle.closure_meaning.specs.Convert.{Numbering, shapes, set_of, program}
-use Rattle.flow_types.specs.Flows.{Has, program_with}
-use Rattle.flow_types.specs.declared.flow.Flow as code
+use Rattle.closure_bodies.specs.of_flow_types.Flows.{Has, program_with}
+use Rattle.closure_bodies.specs.of_flow_types.declared.flow.Flow as code
 use Rattle.plain_tree.specs.declared.tree.Exp.{Exp}
 use Rattle.mono_bound.specs.Reads.{mono_of}
 use Rattle.closure_convert.specs.Capture.{table_of}
-use Rattle.closure_whole.specs.Converted.{numbering}
-use Rattle.closure_parts.specs.Indexed.{Kept, texts_of}
-use Rattle.closure_parts.specs.Settings.{Holds}
-use Rattle.closure_parts.specs.declared.setting.Setting.{Setting}
+use Rattle.closure_bodies.specs.of_closure_whole.Converted.{numbering}
+use Rattle.closure_bodies.specs.of_closure_parts.Indexed.{Kept, texts_of}
+use Rattle.closure_bodies.specs.of_closure_parts.Settings.{Holds}
+use Rattle.closure_bodies.specs.of_closure_parts.declared.setting.Setting.{Setting}
 use Rattle.closure_first.specs.Codes.{functions_of}
 use Rattle.closure_first.specs.Made.{HoldsBy, converted_by}
 

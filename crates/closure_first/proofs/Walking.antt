@@ -27,10 +27,10 @@ use Rattle.capture_table.specs.Told.{first_parameter}
 use Rattle.first_tree.specs.declared.tree.Fun as made
 use Rattle.first_tree.specs.TreeOf as made_tree
 use Rattle.closure_meaning.specs.Convert.{Numbering, codes, codes_arms, codes_op, codes_fun, codes_funs}
-use Rattle.closure_steps.specs.Reads.{mono_step, arms_in, mono_function, functions_in}
-use Rattle.closure_steps.proofs.Rolls.{tree-steps, tree-ret, tree-switch, tree-first, tree-miss, step-let, step-fn, step-block, step-handle, step-exception, step-name, step-group, step-test, step-counted, arm-parts, function-parts}
-use Rattle.closure_steps.proofs.Members.{number-first}
-use Rattle.closure_parts.proofs.Putting.{all-behind}
+use Rattle.closure_bodies.specs.of_closure_steps.Reads.{mono_step, arms_in, mono_function, functions_in}
+use Rattle.closure_bodies.proofs.of_closure_steps.Rolls.{tree-steps, tree-ret, tree-switch, tree-first, tree-miss, step-let, step-fn, step-block, step-handle, step-exception, step-name, step-group, step-test, step-counted, arm-parts, function-parts}
+use Rattle.closure_bodies.proofs.of_closure_steps.Members.{number-first}
+use Rattle.closure_bodies.proofs.of_closure_parts.Putting.{all-behind}
 use Rattle.closure_first.specs.Codes.{Before, Adds, in_order, last_first, lead, giving, taking, heads, alone, group_codes, front, back}
 use Rattle.closure_first.proofs.Adding.{adds-then, adds-as}
 

@@ -3,7 +3,7 @@ use Rattle.std.specs.Prelude.{◌≡◌, ℕ, true, List, [], Some, nat_lt, slic
 use Rattle.std.specs.List.{AllByRecursion}
 use Rattle.ir_plain.specs.Kind.{Kind}
 use Rattle.plain_tree.specs.TreeOf.{StepTree, ArmTree, FunctionTree, let_step, exception_step, name_step, rec_step, test_step, counted_step}
-use Rattle.closure_whole.specs.Constants.{CaseHeld, AreHeld, ArmsHeld, OpHeld, FunHeld, FunsHeld}
+use Rattle.closure_bodies.specs.of_closure_whole.Constants.{CaseHeld, AreHeld, ArmsHeld, OpHeld, FunHeld, FunsHeld}
 
 -- an empty string is there, which stands for all those that aren't
 abbrev pub HasEmpty : List (List ℕ) → Type 0

@@ -6,9 +6,9 @@ use Rattle.ir_first.specs.Tree as out
 use Rattle.flow_sets.specs.Flow.{Flow}
 use Rattle.closure_convert.specs.Capture.{table_of}
 use Rattle.closure_meaning.specs.Convert.{program}
-use Rattle.closure_whole.specs.Converted.{numbering}
-use Rattle.closure_parts.specs.declared.setting.Setting.{Setting}
-use Rattle.closure_parts.specs.Settings.{Holds}
+use Rattle.closure_bodies.specs.of_closure_whole.Converted.{numbering}
+use Rattle.closure_bodies.specs.of_closure_parts.declared.setting.Setting.{Setting}
+use Rattle.closure_bodies.specs.of_closure_parts.Settings.{Holds}
 
 abbrev pub converted_by : Flow → List (List ℕ) → Program → out.Program
 converted_by F strings p = program (numbering strings p) strings F (table_of p.types p.body) p

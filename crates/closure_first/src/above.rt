@@ -3,8 +3,8 @@ ghost use Rattle.std.specs.Prelude.{◌≡◌, ℕ, List, map, IfOk};
 ghost use Rattle.flow_sets.specs.ByType.{bound};
 ghost use Rattle.mono_bound.specs.Bound.{bound_of};
 ghost use Rattle.mono_bound.specs.Reads.{mono_of};
-ghost use Rattle.closure_whole.specs.Rising.{larger as larger_of, above as above_of};
-ghost use Rattle.closure_parts.specs.Settings.{Texts};
+ghost use Rattle.closure_bodies.specs.of_closure_whole.Rising.{larger as larger_of, above as above_of};
+ghost use Rattle.closure_bodies.specs.of_closure_parts.Settings.{Texts};
 
 use mlc_base::memory::NoMemory;
 use mono_bound::bound::{Bound, push_bound};

@@ -10,14 +10,14 @@ ghost use Rattle.capture_scope.specs.Seen.{members_of};
 ghost use Rattle.capture_table.specs.Told.{first_parameter};
 ghost use Rattle.first_tree.specs.TreeOf.{fun_of};
 ghost use Rattle.closure_meaning.specs.Convert.{Numbering, codes, codes_arms, codes_fun, codes_funs};
-ghost use Rattle.closure_parts.specs.Settings.{Row, Texts, Holds};
-ghost use Rattle.closure_steps.specs.Reads.{mono_step, arms_in, mono_function, functions_in};
+ghost use Rattle.closure_bodies.specs.of_closure_parts.Settings.{Row, Texts, Holds};
+ghost use Rattle.closure_bodies.specs.of_closure_steps.Reads.{mono_step, arms_in, mono_function, functions_in};
 ghost use Rattle.closure_first.specs.Codes.{Adds, IsOf, IsSameGroup, in_order, last_first, lead, giving as giving_of, taking as taking_of, heads, alone, group_codes, front, back};
 
 use crate::functions::{giving, group_scope, taking};
 use capture_scope::scope::{Member, Scope, ScopeFault};
-use closure_parts::setting::Setting;
-use closure_steps::scope::{members_of_group, number_of};
+use closure_bodies::closure_parts::setting::Setting;
+use closure_bodies::closure_steps::scope::{members_of_group, number_of};
 use first_tree::tree::Fun;
 use mono_types::types::Types;
 use plain_tree::tree::{Arm, Exp, Function, Parameter, Step};

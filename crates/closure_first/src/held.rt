@@ -4,9 +4,9 @@ ghost use Rattle.std.specs.List.{AllByRecursion};
 ghost use Rattle.ir_tables.specs.Tables.{literal_at};
 ghost use Rattle.plain_tree.specs.TreeOf.{operation_of, case_of};
 ghost use Rattle.mono_bound.specs.Reads.{reading, mono_of};
-ghost use Rattle.closure_whole.specs.Constants.{IsHeld, CaseHeld, OpHeld, AreHeld};
-ghost use Rattle.closure_parts.specs.Settings.{Row, Texts};
-ghost use Rattle.closure_steps.specs.Reads.{mono_step, mono_arm, mono_function};
+ghost use Rattle.closure_bodies.specs.of_closure_whole.Constants.{IsHeld, CaseHeld, OpHeld, AreHeld};
+ghost use Rattle.closure_bodies.specs.of_closure_parts.Settings.{Row, Texts};
+ghost use Rattle.closure_bodies.specs.of_closure_steps.Reads.{mono_step, mono_arm, mono_function};
 ghost use Rattle.closure_first.specs.Held.{HasEmpty, StepHeld, ArmHeld, MemberHeld};
 
 use ir_tables::tables::Constant;

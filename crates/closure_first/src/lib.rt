@@ -1,6 +1,8 @@
 // Programs with simple types as programs without function values.
 #![tactic(auto)]
 
+pub use closure_bodies::flow_types;
+
 pub mod above;
 pub mod codes;
 pub mod functions;

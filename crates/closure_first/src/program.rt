@@ -6,13 +6,13 @@ ghost use Rattle.closure_convert.specs.Scope.{Table, top};
 ghost use Rattle.first_tables.specs.TablesOf.{member_of, set_of as made_set};
 ghost use Rattle.first_tree.specs.TreeOf.{fun_of};
 ghost use Rattle.closure_meaning.specs.Convert.{Numbering, convert as converted, set_of};
-ghost use Rattle.closure_parts.specs.Settings.{Row, Texts, Holds};
+ghost use Rattle.closure_bodies.specs.of_closure_parts.Settings.{Row, Texts, Holds};
 ghost use Rattle.closure_first.specs.Codes.{functions_of};
 
 use crate::codes::push_codes;
 use capture_scope::scope::{Scope, ScopeFault};
+use closure_bodies::closure_parts::setting::Setting;
 use closure_bodies::convert::convert;
-use closure_parts::setting::Setting;
 use first_tables::tables::Member;
 use first_tree::tree::Fun;
 use mlc_base::make::one;

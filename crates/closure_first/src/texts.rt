@@ -1,7 +1,7 @@
 // Strings. To know that a byte is one, it is read.
 ghost use Rattle.std.specs.Prelude.{◌≡◌, map};
 ghost use Rattle.std.specs.List.{AllByRecursion};
-ghost use Rattle.closure_parts.specs.Indexed.{texts_of};
+ghost use Rattle.closure_bodies.specs.of_closure_parts.Indexed.{texts_of};
 ghost use Rattle.closure_first.specs.Held.{IsByte, AreBytes};
 
 fn is_byte(byte: u8)

@@ -15,7 +15,7 @@ use Rattle.first_values.specs.Operations as op
 use Rattle.first_values.specs.Values as cells
 use Rattle.ir_first.specs.Tree as out
 use Rattle.closure_meaning.specs.Convert.{holder, var, outer, access, label_index, constructor_index, constructors_in, tag_among, con_tag}
-use Rattle.closure_whole.specs.Converted.{text_index}
+use Rattle.flow_types.specs.of_closure_whole.Converted.{text_index}
 use Rattle.capture_scope.specs.declared.scope.Found.{Found}
 use Rattle.capture_scope.specs.declared.scope.Found.TheVariants.{Local, Captured, Leads, Follows, Nowhere}
 use Rattle.capture_scope.specs.Found.{Place, local, captured, leading, following, nowhere, found_of, found_in, found_around}

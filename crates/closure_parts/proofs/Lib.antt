@@ -1,3 +1,4 @@
+pub use Rattle.capture_table.proofs as of_capture_table
 pub mod Rolls
 pub mod Putting
 pub mod Finding

@@ -4,7 +4,7 @@ use Rattle.std.proofs.lemmas.List.{drop_more}
 use Rattle.std.specs.Map.{lookup}
 use Rattle.flow_sets.specs.ByType as by
 use Rattle.flow_sets.specs.ByType.{bound_in}
-use Rattle.closure_whole.specs.Converted.{bound_as_name, names_exception}
+use Rattle.flow_types.specs.of_closure_whole.Converted.{bound_as_name, names_exception}
 use Rattle.mono_bound.specs.declared.bound.What.{What}
 use Rattle.mono_bound.specs.declared.bound.What.TheVariants as what
 use Rattle.mono_bound.specs.declared.bound.Bound.{Bound}

@@ -7,8 +7,8 @@ use Rattle.flow_sets.specs.ByType.{bound_in, bound}
 use Rattle.closure_convert.specs.Scope.{index_of, top}
 use Rattle.closure_convert.specs.Capture as capture
 use Rattle.closure_convert.specs.Capture.{entry_of, captured_in, pieces_in, tabulate}
-use Rattle.closure_whole.specs.Converted.{bound_as_name}
-use Rattle.closure_whole.specs.Rising.{rising}
+use Rattle.flow_types.specs.of_closure_whole.Converted.{bound_as_name}
+use Rattle.flow_types.specs.of_closure_whole.Rising.{rising}
 use Rattle.mono_bound.specs.declared.bound.Bound.{Bound}
 use Rattle.mono_bound.specs.Bound.{bound_of, exp_bound}
 use Rattle.mono_bound.specs.Reads.{mono_of, BoundIsBound}

@@ -10,7 +10,7 @@ use Rattle.ir_mono.specs.Types as table
 use Rattle.ir_mono.specs.Types.{node_at}
 use Rattle.closure_convert.specs.Scope.{index_of}
 use Rattle.closure_meaning.specs.Convert.{constructors_in, labels_in}
-use Rattle.closure_whole.specs.Converted.{text_index}
+use Rattle.flow_types.specs.of_closure_whole.Converted.{text_index}
 use Rattle.ir_tables.specs.Tables.{string_at}
 use Rattle.closure_parts.specs.declared.places.Index.{Index}
 use Rattle.closure_parts.specs.declared.places.Places.{Places}

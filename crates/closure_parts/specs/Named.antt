@@ -2,7 +2,7 @@
 use Rattle.std.specs.Prelude.{◌≡◌, ℕ, Bool, true, false, List, Option, nat_eq, unwrap_or}
 use Rattle.std.specs.Map.{lookup}
 use Rattle.flow_sets.specs.ByType.{Bound, bound_in}
-use Rattle.closure_whole.specs.Converted.{bound_as_name}
+use Rattle.flow_types.specs.of_closure_whole.Converted.{bound_as_name}
 use Rattle.mono_bound.specs.declared.bound.What.{What}
 use Rattle.mono_bound.specs.declared.bound.What.TheVariants as what
 

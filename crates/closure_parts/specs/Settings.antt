@@ -6,8 +6,8 @@ use Rattle.flow_sets.specs.Flow.{Flow}
 use Rattle.closure_convert.specs.Scope.{Table, index_of}
 use Rattle.closure_convert.specs.Capture.{entry_of, captured_in, pieces_in, table_of}
 use Rattle.closure_meaning.specs.Convert.{Numbering}
-use Rattle.closure_whole.specs.Converted.{numbering}
-use Rattle.closure_whole.specs.Rising.{rising}
+use Rattle.flow_types.specs.of_closure_whole.Converted.{numbering}
+use Rattle.flow_types.specs.of_closure_whole.Rising.{rising}
 use Rattle.ir_tables.specs.Tables.{string_at}
 use Rattle.flow_types.specs.Flows.{Has}
 use Rattle.capture_table.specs.Tables.{numbers_of}

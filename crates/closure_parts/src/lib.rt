@@ -1,6 +1,8 @@
 // Steps of single operations, with closures as cells.
 #![tactic(auto)]
 
+pub use flow_types;
+
 pub mod access;
 pub mod making;
 mod names;

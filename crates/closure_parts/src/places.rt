@@ -4,7 +4,7 @@ ghost use Rattle.ty_core.specs.TypesOf.{head_of};
 ghost use Rattle.ir_mono.specs.Types.{Row, node_at};
 ghost use Rattle.closure_convert.specs.Scope.{index_of};
 ghost use Rattle.closure_meaning.specs.Convert.{con_tag, label_index, labels_in};
-ghost use Rattle.closure_whole.specs.Converted.{text_index};
+ghost use Rattle.flow_types.specs.of_closure_whole.Converted.{text_index};
 ghost use Rattle.closure_parts.specs.Indexed.{Finds, place_in, number_next, constructor_numbers, label_key, label_keys, keys_by, AreFound};
 ghost use Rattle.closure_parts.specs.Indexed.{ArePlaces, AreTexts, FindsTexts, text_in, texts_of};
 

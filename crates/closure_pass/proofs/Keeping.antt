@@ -21,7 +21,7 @@ use Rattle.mono_form.specs.Parts as parts
 use Rattle.mono_form.specs.Parts.{parts_of, TakesBelow, HasParts}
 use Rattle.flow_sets.specs.Flow.{Flow, SolvesProgram}
 use Rattle.flow_sets.proofs.Known.{once-known}
-use Rattle.flow_types.specs.Flows.{program_with}
+use Rattle.closure_first.specs.of_flow_types.Flows.{program_with}
 use Rattle.closure_convert.specs.Capture.{table_of}
 use Rattle.closure_convert.proofs.Numbered.{captures-are-right}
 use Rattle.closure_meaning.specs.Convert.{part_types}

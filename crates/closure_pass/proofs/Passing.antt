@@ -11,7 +11,7 @@ use Rattle.first_tree.specs.Exceptions.{exceptions, funs_make}
 use Rattle.plain_tree.specs.declared.tree.Exp.{Exp}
 use Rattle.mono_bound.specs.Reads.{mono_of}
 use Rattle.flow_sets.specs.ByType.{bound}
-use Rattle.flow_types.specs.Flows.{program_with}
+use Rattle.closure_first.specs.of_flow_types.Flows.{program_with}
 use Rattle.eta_expand.specs.Expand.{expand}
 use Rattle.eta_expand.proofs.Formed.{expanded-explicit}
 use Rattle.eta_expand.proofs.Keeps.{expanded-same}

@@ -6,7 +6,7 @@ use Rattle.ir_mono.specs.Explicit.{IsExplicit}
 use Rattle.ir_mono.specs.WellFormed.{IsWellFormed}
 use Rattle.plain_tree.specs.declared.tree.Exp.{Exp}
 use Rattle.mono_bound.specs.Reads.{mono_of}
-use Rattle.flow_types.specs.Flows.{program_with}
+use Rattle.closure_first.specs.of_flow_types.Flows.{program_with}
 
 abbrev pub given : (initial : List ℕ) → List Row → (expansion : ℕ) → (strings : List (List ℕ)) → Exp → Program
 given initial types expansion strings body = program_with initial types expansion (mono_of types strings body)

@@ -1,2 +1,3 @@
+pub use Rattle.mono_form.specs as of_mono_form
 pub mod Given
 pub mod Laws

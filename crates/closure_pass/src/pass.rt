@@ -13,10 +13,10 @@ ghost use Rattle.closure_pass.specs.Given.{texts};
 
 use crate::convert::convert;
 use crate::exceptions::conversions_make_no_more;
+use closure_first::flow_types::flow::flows;
 use closure_first::whole::explicit;
 use closure_formed::law::conversions_are_well_formed;
 use first_form::form::First;
-use flow_types::flow::flows;
 use mlc_runs::pass::{Pass, PassFault};
 use mono_form::program::Program;
 use std::alloc::Global;

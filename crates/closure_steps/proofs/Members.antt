@@ -14,7 +14,7 @@ use Rattle.closure_convert.specs.Scope.{Member, names, Scope, add, add_all}
 use Rattle.closure_convert.specs.Closed.{members}
 use Rattle.capture_scope.specs.declared.scope.Member as code
 use Rattle.capture_scope.specs.Seen.{member_of, members_of}
-use Rattle.capture_table.specs.Told.{first_parameter}
+use Rattle.closure_parts.specs.of_capture_table.Told.{first_parameter}
 use Rattle.closure_steps.specs.Reads.{mono_step, functions_in}
 use Rattle.closure_steps.proofs.Rolls.{step-group, function-parts}
 use Rattle.closure_parts.proofs.Putting.{map-last, seen, all-before}

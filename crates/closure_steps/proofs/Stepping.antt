@@ -10,9 +10,9 @@ use Rattle.closure_convert.specs.Closed.{members, case_scope}
 use Rattle.closure_convert.specs.Capture.{visible}
 use Rattle.closure_meaning.specs.Convert.{Numbering, convert}
 use Rattle.capture_scope.specs.Found.{left_to}
-use Rattle.capture_table.specs.Told.{more}
-use Rattle.capture_table.proofs.Growing.{assoc}
-use Rattle.capture_table.proofs.Walking.{left-is}
+use Rattle.closure_parts.specs.of_capture_table.Told.{more}
+use Rattle.closure_parts.proofs.of_capture_table.Growing.{assoc}
+use Rattle.closure_parts.proofs.of_capture_table.Walking.{left-is}
 use Rattle.closure_steps.specs.Steps.{behind, all_behind, stepped, all_stepped}
 use Rattle.closure_steps.proofs.Switching.{cases-first}
 

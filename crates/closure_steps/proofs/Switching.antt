@@ -12,7 +12,7 @@ use Rattle.mono_bound.specs.Reads.{reading}
 use Rattle.closure_convert.specs.Scope.{Scope, Table}
 use Rattle.closure_convert.specs.Closed.{case_scope}
 use Rattle.closure_meaning.specs.Convert.{Numbering, var, convert, cases, con_arms}
-use Rattle.capture_table.specs.Told.{more, case_binds}
+use Rattle.closure_parts.specs.of_capture_table.Told.{more, case_binds}
 use Rattle.closure_steps.specs.Cases.{is_test, is_constructor, test_in, tested_in, tag_in, opened}
 use Rattle.closure_steps.specs.Steps.{switched}
 

@@ -5,7 +5,7 @@ ghost use Rattle.mono_bound.specs.Reads.{reading};
 ghost use Rattle.closure_convert.specs.Scope.{names, add_all};
 ghost use Rattle.closure_convert.specs.Closed.{members, case_scope};
 ghost use Rattle.capture_scope.specs.Seen.{members_of};
-ghost use Rattle.capture_table.specs.Told.{first_parameter};
+ghost use Rattle.closure_parts.specs.of_capture_table.Told.{first_parameter};
 ghost use Rattle.closure_steps.specs.Reads.{mono_step, functions_in};
 ghost use Rattle.closure_parts.specs.Settings.{Row, Texts};
 ghost use Rattle.closure_steps.specs.Steps.{behind};

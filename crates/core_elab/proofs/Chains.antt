@@ -8,10 +8,10 @@ use Rattle.sml_tree.specs.declared.ident.BuiltIn.TheVariants.{True, False}
 use Rattle.core_rules.specs.Values.{Con, built, Value, con, con_of, Env, nothing}
 use Rattle.core_rules.specs.Match.{binds, fails, misfits, con_in, same_con, tagged}
 use Rattle.core_rules.specs.Eval.{match_packet, on_match}
-use Rattle.ir_values.specs.Tags.{untagged}
-use Rattle.ir_values.specs.Values as made
-use Rattle.ir_values.specs.Match.{matches, no_match, mismatch, after_match}
-use Rattle.ir_values.specs.Primitives.{packet, match_name}
+use Rattle.ir_poly.specs.of_ir_values.Tags.{untagged}
+use Rattle.ir_poly.specs.of_ir_values.Values as made
+use Rattle.ir_poly.specs.of_ir_values.Match.{matches, no_match, mismatch, after_match}
+use Rattle.ir_poly.specs.of_ir_values.Primitives.{packet, match_name}
 use Rattle.ir_poly.specs.ProgMeaning.{V, on_operand}
 use Rattle.core_elab.specs.Scopes.{con_number, built_number}
 use Rattle.core_elab.proofs.Agreeing.{both_give, both_raise, both_stop}

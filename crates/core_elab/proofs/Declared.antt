@@ -9,8 +9,8 @@ use Rattle.ty_core.specs.declared.env.Status.TheVariants.{Variable, Exception}
 use Rattle.core_rules.specs.Values.{declared, Value, Env, value, exn, Found}
 use Rattle.core_rules.specs.Match.{match}
 use Rattle.core_rules.specs.Eval.{each_bound, unrolled, recursive, all_fns, cons_env, types_env, datatypes_env, eval_exns}
-use Rattle.ir_values.specs.Values as made
-use Rattle.ir_values.specs.Match.{matches}
+use Rattle.ir_poly.specs.of_ir_values.Values as made
+use Rattle.ir_poly.specs.of_ir_values.Match.{matches}
 use Rattle.ir_poly.specs.Prog as prog
 use Rattle.ir_poly.specs.ProgMeaning.{V, Scope as Bound, Apply, bind_all, members_from, members}
 use Rattle.ir_poly.specs.ProgMeaning as run

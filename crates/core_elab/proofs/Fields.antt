@@ -3,8 +3,8 @@ use Rattle.std.proofs.Common.{◌≡◌, ℕ, Bool, true, false, cond, nat_eq, n
 use Rattle.mlc_names.specs.declared.label.Label.{Label}
 use Rattle.mlc_names.specs.declared.label.Label.TheVariants.{Number, Word}
 use Rattle.label_rows.specs.Order.{label_before}
-use Rattle.ir_values.specs.Values.{same_label}
-use Rattle.ir_values.specs.Values as made
+use Rattle.ir_poly.specs.of_ir_values.Values.{same_label}
+use Rattle.ir_poly.specs.of_ir_values.Values as made
 use Rattle.ir_poly.specs.ProgMeaning.{V, Parts, put_part}
 use Rattle.core_elab.proofs.Related.{Among, among_here, among_past}
 

@@ -2,7 +2,7 @@
 use Rattle.std.proofs.Common.{ℕ, List, [], ◌∷◌, Option, None, refl, sym, subst, arith}
 use Rattle.std.specs.Prelude.{⊤}
 use Rattle.core_rules.specs.Initial.{Entry, TypeEntry, Members, entries, type_rows, initial_members, prelude_members, dynamic_env, dynamic_values, dynamic_types, dynamic_structures}
-use Rattle.ir_values.specs.Values as made
+use Rattle.ir_poly.specs.of_ir_values.Values as made
 use Rattle.core_elab.specs.Scopes.{Scope, denotes_of, rows_scope, type_rows_scope, members_scope, basis_scope, plus_scope, initial_scope}
 use Rattle.core_elab.specs.Laws.{MeaningKept, ProjectKept}
 use Rattle.core_elab.proofs.Related.{Rel, Stored, Known, known_constructor, known_reference, known_fixed, known_primitive, Covers, covers_nothing, covers_value, covers_tycon, covers_structure, covers-plus, covers-more, Anew, anew-scope}

@@ -11,10 +11,10 @@ use Rattle.core_rules.specs.Values.{built, Value, literal, Fields, exn, Env, plu
 use Rattle.core_rules.specs.Match.{constant_of, Matching}
 use Rattle.core_rules.specs.Eval.{recursive, with_recursive, Apply, on_match, opened, long_tycon_in, eval, eval_fields, eval_rules, eval_decs, eval_dec, eval_binds, enter, apply, match_packet}
 use Rattle.core_rules.specs.Meaning.{packet_identifier, begin, meaning_in}
-use Rattle.ir_values.specs.Tags.{untagged}
-use Rattle.ir_values.specs.Values as made
-use Rattle.ir_values.specs.Match.{after_match}
-use Rattle.ir_values.specs.Primitives as call
+use Rattle.ir_poly.specs.of_ir_values.Tags.{untagged}
+use Rattle.ir_poly.specs.of_ir_values.Values as made
+use Rattle.ir_poly.specs.of_ir_values.Match.{after_match}
+use Rattle.ir_poly.specs.of_ir_values.Primitives as call
 use Rattle.ir_poly.specs.Prog.{fixed, held, Fun}
 use Rattle.ir_poly.specs.Prog as prog
 use Rattle.ir_poly.specs.ProgMeaning.{V, Code, Scope as Bound, Fits, Parts, sorted_parts, only_name, members, run_fun, body, identifier_of}

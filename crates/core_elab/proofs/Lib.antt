@@ -1,3 +1,5 @@
+pub use Rattle.core_rules.proofs as of_core_rules
+pub use Rattle.ir_poly.proofs as of_ir_poly
 pub mod Agreeing
 pub mod Related
 pub mod LookUps

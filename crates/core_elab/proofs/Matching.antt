@@ -11,10 +11,10 @@ use Rattle.sml_tree.specs.declared.ident.Vid.{Vid}
 use Rattle.sml_tree.specs.BareTree as bare
 use Rattle.core_rules.specs.Values.{Con, built, Value, Fields, Env, nothing, plus, Found}
 use Rattle.core_rules.specs.Match.{constant_of, literal_in, fields_in, con_in, exn_in, address_in, same_con, Matching, binds, fails, misfits, then_match, where_same, on_found, behind, tagged, match_vid, match_con, on_fields, pat_count, match, match_fields}
-use Rattle.ir_values.specs.Tags.{untagged}
-use Rattle.ir_values.specs.Values as made
-use Rattle.ir_values.specs.Match.{matches, no_match, mismatch, against_literal, against_con, under_con, against_exn, under_exn, under_record, under_cell, under_ref, of_size}
-use Rattle.ir_values.specs.Match as made_match
+use Rattle.ir_poly.specs.of_ir_values.Tags.{untagged}
+use Rattle.ir_poly.specs.of_ir_values.Values as made
+use Rattle.ir_poly.specs.of_ir_values.Match.{matches, no_match, mismatch, against_literal, against_con, under_con, against_exn, under_exn, under_record, under_cell, under_ref, of_size}
+use Rattle.ir_poly.specs.of_ir_values.Match as made_match
 use Rattle.ir_poly.specs.Prog.{Exc, fixed, held}
 use Rattle.ir_poly.specs.Prog as prog
 use Rattle.ir_poly.specs.ProgMeaning.{V, Scope as Bound, Fits, Parts, only_name, exception_in, size_of, match_pat}

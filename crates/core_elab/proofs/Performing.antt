@@ -16,10 +16,10 @@ use Rattle.sml_tree.specs.declared.ident.BuiltIn.TheVariants.{True, False}
 use Rattle.core_rules.specs.Values.{built, Value, Fields, count}
 use Rattle.core_rules.specs.Match.{same_value}
 use Rattle.core_rules.specs.Eval.{packet_of, raise_value, truth_value, value_of, giving, parts, arguments, literals, perform_equals, perform_assign, perform_print, perform}
-use Rattle.ir_values.specs.Tags.{untagged}
-use Rattle.ir_values.specs.Values as made
-use Rattle.ir_values.specs.Primitives as call
-use Rattle.ir_values.proofs.PrimitiveLemmas.{untagged-row}
+use Rattle.ir_poly.specs.of_ir_values.Tags.{untagged}
+use Rattle.ir_poly.specs.of_ir_values.Values as made
+use Rattle.ir_poly.specs.of_ir_values.Primitives as call
+use Rattle.ir_poly.proofs.of_ir_values.PrimitiveLemmas.{untagged-row}
 use Rattle.ir_poly.specs.ProgMeaning.{V, Parts}
 use Rattle.core_elab.proofs.Agreeing.{Agree, both_give, both_raise, both_stop, assign-agree}
 use Rattle.core_elab.proofs.Related.{Rel, rel_literal, rel_record, rel_con, rel_con_of, rel_ref, rel_address, rel_exn, rel_exn_of, rel_primitive, rel_alone, rel_one_of, RelFields, rel_no_fields, Stored, in_cell}

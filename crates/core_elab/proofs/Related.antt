@@ -10,8 +10,8 @@ use Rattle.ty_core.specs.declared.env.Status.{Status}
 use Rattle.ty_core.specs.declared.env.Status.TheVariants as status
 use Rattle.core_rules.specs.Values.{Con, Value, literal, record_of, con, con_of, ref, address, exn, exn_of, primitive, closure, Fields, no_fields, field, Env, nothing, value, tycon, structure, plus}
 use Rattle.core_rules.specs.Match.{bound_to}
-use Rattle.ir_values.specs.Values as made
-use Rattle.ir_values.specs.Values.{bind}
+use Rattle.ir_poly.specs.of_ir_values.Values as made
+use Rattle.ir_poly.specs.of_ir_values.Values.{bind}
 use Rattle.ir_poly.specs.Prog.{fixed, held, Fun, Funs}
 use Rattle.ir_poly.specs.ProgMeaning.{V, Scope as Bound, Parts, alone, one_of, look_up}
 use Rattle.core_elab.specs.Scopes.{Denotes, variable, constructor, reference, exception, primitive as performed, Scope, empty, scoped, typed_by, inside, plus_scope, con_number}

@@ -12,9 +12,9 @@ use Rattle.core_rules.specs.Words as words
 use Rattle.core_rules.specs.Restrictions.{is_kept}
 use Rattle.core_rules.specs.Values.{Con, built, declared, Value, Fields, field_in, count}
 use Rattle.core_rules.specs.Match.{literal_in, address_in, same_built, same_con, same_value, same_fields, both_equal}
-use Rattle.ir_values.specs.Tags.{untagged}
-use Rattle.ir_values.specs.Values as made
-use Rattle.ir_values.specs.Equality as made_same
+use Rattle.ir_poly.specs.of_ir_values.Tags.{untagged}
+use Rattle.ir_poly.specs.of_ir_values.Values as made
+use Rattle.ir_poly.specs.of_ir_values.Equality as made_same
 use Rattle.ir_poly.specs.ProgMeaning.{V, Parts}
 use Rattle.core_elab.specs.Scopes.{built_number, con_number}
 use Rattle.core_elab.proofs.Related.{Among, among_here, among_past, Rel, rel_literal, rel_record, rel_con, rel_con_of, rel_ref, rel_address, rel_exn, rel_exn_of, rel_primitive, rel_alone, rel_one_of, RelFields, rel_no_fields, rel_field}

@@ -31,7 +31,7 @@ use Rattle.elab_context.specs.declared.entry.Built.TheVariants.{Declared}
 use Rattle.elab_context.specs.declared.entry.Entry.{Entry}
 use Rattle.elab_context.specs.declared.entry.Entry.TheVariants.{Constructor}
 use Rattle.elab_context.specs.declared.entry.Scheme as code
-use Rattle.dec_forms.specs.Entries.{constructing_name}
+use Rattle.datatype_forms.specs.of_dec_forms.Entries.{constructing_name}
 use Rattle.datatype_forms.specs.Arguments.{BelowIf, RowHeld, row_at, rows_at}
 use Rattle.datatype_forms.specs.Constructed.{AllSchemes, no_schemes, more_schemes, EachScheme, no_scheme, a_scheme, HasMoreSchemes, HasScheme, any_of}
 use Rattle.datatype_forms.specs.Steps.{IsStep}

@@ -22,10 +22,10 @@ use Rattle.elab_context.specs.declared.context.Context.{Context}
 use Rattle.elab_context.specs.declared.entry.Entry.{Entry}
 use Rattle.elab_context.specs.declared.entry.Scheme as code
 use Rattle.mlc_base.specs.declared.place.Place.{Place}
-use Rattle.dec_forms.specs.Bringing.{IsBringing}
-use Rattle.dec_forms.specs.declared.brought.Brought.{Brought}
-use Rattle.dec_forms.specs.Entries.{types_onto, with_types}
-use Rattle.dec_forms.specs.Telling.{with_all}
+use Rattle.datatype_forms.specs.of_dec_forms.Bringing.{IsBringing}
+use Rattle.datatype_forms.specs.of_dec_forms.declared.brought.Brought.{Brought}
+use Rattle.datatype_forms.specs.of_dec_forms.Entries.{types_onto, with_types}
+use Rattle.datatype_forms.specs.of_dec_forms.Telling.{with_all}
 use Rattle.datatype_forms.specs.Arguments.{AreRowsOf, AreStanding, rows_at}
 use Rattle.datatype_forms.specs.Best.{AreDataArguments, AreOnce, rows_of}
 use Rattle.datatype_forms.specs.Constructed.{AllRows, AllSchemes, no_schemes, more_schemes, EachScheme, no_scheme, a_scheme, HasScheme, ranged}

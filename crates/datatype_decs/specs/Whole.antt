@@ -15,7 +15,7 @@ use Rattle.elab_steps.specs.World.{World, Comes}
 use Rattle.elab_context.specs.Entries.{number_in}
 use Rattle.elab_context.specs.declared.context.Context.{Context}
 use Rattle.elab_context.specs.declared.entry.Entry.{Entry}
-use Rattle.dec_forms.specs.Entries.{HasFront}
+use Rattle.datatype_forms.specs.of_dec_forms.Entries.{HasFront}
 use Rattle.datatype_forms.specs.Arguments.{rows_at}
 use Rattle.datatype_forms.specs.Constructed.{AllRows, AllSchemes}
 use Rattle.datatype_forms.specs.Steps.{IsStep}

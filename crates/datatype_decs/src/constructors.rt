@@ -17,7 +17,7 @@ ghost use Rattle.datatype_decs.specs.Adding.{AreAllMore, AreMore, HasOneMore, Is
 use crate::of::Datatype;
 use datatype_forms::attributes::Datatypes;
 use datatype_forms::closed::closed_apply;
-use dec_forms::once::constructing;
+use datatype_forms::dec_forms::once::constructing;
 use elab_context::context::Context;
 use elab_context::entry::{Built, Entry, Scheme};
 use elab_state::state::State;

@@ -9,9 +9,9 @@ ghost use Rattle.datatype_forms.specs.Constructed.{AllRows};
 ghost use Rattle.datatype_forms.specs.Steps.{IsStep, KnowsTypes};
 ghost use Rattle.datatype_decs.specs.Adding.{HaveRows};
 
+use datatype_forms::dec_forms::once::constructing;
 use datatype_forms::program_types::Names;
 use datatype_forms::rows::add_row;
-use dec_forms::once::constructing;
 use elab_context::context::Context;
 use elab_state::state::State;
 use elab_types::refused::Refused;

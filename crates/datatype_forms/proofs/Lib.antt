@@ -1,3 +1,4 @@
+pub use Rattle.dec_forms.proofs as of_dec_forms
 pub mod Going
 pub mod Alike
 pub mod Marking

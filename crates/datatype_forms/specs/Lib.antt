@@ -1,3 +1,4 @@
+pub use Rattle.dec_forms.specs as of_dec_forms
 pub mod ProgramTypes
 pub mod Arguments
 pub mod Steps

@@ -1,6 +1,8 @@
 // Declarations of datatypes.
 #![tactic(auto)]
 
+pub use dec_forms;
+
 pub mod attributes;
 pub mod chosen;
 pub mod closed;

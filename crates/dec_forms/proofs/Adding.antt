@@ -31,17 +31,17 @@ use Rattle.elab_typed.specs.Contexts.{Around, Kept, KeptValues, context_under, k
 use Rattle.elab_typed.specs.Elaborates.{ExnsElab, no_exns_elab, new_exn_elab, same_exn_elab}
 use Rattle.elab_typed.specs.Instances.{as_typed}
 use Rattle.elab_typed.proofs.Names.{over-as}
-use Rattle.elab_state.specs.declared.state.State.{State}
-use Rattle.elab_steps.specs.Growing.{Grows}
-use Rattle.elab_steps.specs.World.{World, type_of}
-use Rattle.elab_steps.proofs.Growing.{grows_same, grows_on, comes_before, type_later}
-use Rattle.elab_context.specs.Entries.{entry_in}
-use Rattle.elab_context.specs.Telling.{IsContext, IsFit, IsHeld, IsHeldIf, IsInUseIf, denotes_of, kept_of, known_of, kept_entries, scope_of_entries, vids_in}
-use Rattle.elab_context.specs.declared.context.Context.{Context}
-use Rattle.elab_context.specs.declared.entry.Entry.{Entry}
-use Rattle.elab_context.specs.declared.entry.Entry.TheVariants.{Constructor, Reference, Initial, Primitive, Raised, Single, Own, General}
-use Rattle.elab_context.specs.Numbered.{IsBelowIf}
-use Rattle.elab_context.proofs.Reading.{below-later}
+use Rattle.closed_types.specs.of_elab_state.declared.state.State.{State}
+use Rattle.closed_types.specs.of_elab_steps.Growing.{Grows}
+use Rattle.closed_types.specs.of_elab_steps.World.{World, type_of}
+use Rattle.closed_types.proofs.of_elab_steps.Growing.{grows_same, grows_on, comes_before, type_later}
+use Rattle.exp_forms.specs.of_elab_context.Entries.{entry_in}
+use Rattle.exp_forms.specs.of_elab_context.Telling.{IsContext, IsFit, IsHeld, IsHeldIf, IsInUseIf, denotes_of, kept_of, known_of, kept_entries, scope_of_entries, vids_in}
+use Rattle.exp_forms.specs.of_elab_context.declared.context.Context.{Context}
+use Rattle.exp_forms.specs.of_elab_context.declared.entry.Entry.{Entry}
+use Rattle.exp_forms.specs.of_elab_context.declared.entry.Entry.TheVariants.{Constructor, Reference, Initial, Primitive, Raised, Single, Own, General}
+use Rattle.exp_forms.specs.of_elab_context.Numbered.{IsBelowIf}
+use Rattle.exp_forms.proofs.of_elab_context.Reading.{below-later}
 use Rattle.exp_forms.proofs.Entering.{number-known}
 use Rattle.dec_forms.specs.Entries.{constructing_name}
 use Rattle.dec_forms.proofs.Listed.{all-append, all-map, constructing-is, constructing-may, scope-append}

@@ -4,14 +4,14 @@ use Rattle.std.specs.Prelude.{option_map}
 use Rattle.ty_solve.specs.declared.limit.Limit.{Limit}
 use Rattle.sml_tree.specs.BareTree.{Ty}
 use Rattle.elab_typed.specs.Numbers.{type_as}
-use Rattle.elab_state.specs.declared.state.State.{State}
-use Rattle.elab_steps.specs.Growing.{HasType, Grows, Always, IsWithin}
-use Rattle.elab_steps.specs.World.{type_of}
-use Rattle.elab_steps.proofs.Growing.{grows_same, grows_on, type_later, comes_before}
-use Rattle.elab_context.specs.Entries.{limit_of}
-use Rattle.elab_context.specs.Telling.{IsContext}
-use Rattle.elab_context.specs.declared.context.Context.{Context}
-use Rattle.pat_elab.specs.Elaborated.{IsAnnotated}
+use Rattle.closed_types.specs.of_elab_state.declared.state.State.{State}
+use Rattle.closed_types.specs.of_elab_steps.Growing.{HasType, Grows, Always, IsWithin}
+use Rattle.closed_types.specs.of_elab_steps.World.{type_of}
+use Rattle.closed_types.proofs.of_elab_steps.Growing.{grows_same, grows_on, type_later, comes_before}
+use Rattle.exp_forms.specs.of_elab_context.Entries.{limit_of}
+use Rattle.exp_forms.specs.of_elab_context.Telling.{IsContext}
+use Rattle.exp_forms.specs.of_elab_context.declared.context.Context.{Context}
+use Rattle.exp_forms.specs.of_pat_elab.Elaborated.{IsAnnotated}
 use Rattle.exp_forms.proofs.Calling.{new-names, new-parameters, written-as}
 use Rattle.dec_forms.specs.Exceptions.{IsArgumentOf}
 

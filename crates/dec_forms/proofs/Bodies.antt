@@ -23,13 +23,13 @@ use Rattle.elab_types.specs.declared.scope.TypeEntry.{TypeEntry}
 use Rattle.elab_types.specs.declared.scope.TypeScope.{TypeScope}
 use Rattle.elab_types.proofs.Holding.{body-held}
 use Rattle.elab_types.proofs.Keeping.{holds_later}
-use Rattle.elab_state.specs.States.{types_in}
-use Rattle.elab_state.specs.declared.state.State.{State}
-use Rattle.elab_steps.specs.Growing.{Grows}
-use Rattle.elab_steps.specs.World.{World, Comes}
-use Rattle.elab_steps.proofs.Growing.{comes_before, grows_on, grows_same}
-use Rattle.elab_context.specs.Telling.{Tells, function_of}
-use Rattle.elab_context.specs.declared.context.Context.{Context}
+use Rattle.closed_types.specs.of_elab_state.States.{types_in}
+use Rattle.closed_types.specs.of_elab_state.declared.state.State.{State}
+use Rattle.closed_types.specs.of_elab_steps.Growing.{Grows}
+use Rattle.closed_types.specs.of_elab_steps.World.{World, Comes}
+use Rattle.closed_types.proofs.of_elab_steps.Growing.{comes_before, grows_on, grows_same}
+use Rattle.exp_forms.specs.of_elab_context.Telling.{Tells, function_of}
+use Rattle.exp_forms.specs.of_elab_context.declared.context.Context.{Context}
 use Rattle.closed_types.specs.Parameters.{AreParameters, IsClosedType, ReadsTypes}
 use Rattle.closed_types.proofs.Entering.{top-below}
 use Rattle.dec_forms.specs.Abbreviations.{AreTypeFunctions, IsClosedEntry, IsTypeFunction, no_schemes, type_map}

@@ -6,8 +6,8 @@ use Rattle.vid_scope.specs.Entries.{with_entry, with_entries}
 use Rattle.vid_scope.specs.declared.vids.VidScope.{VidScope}
 use Rattle.elab_types.specs.declared.scope.TypeEntry.{TypeEntry}
 use Rattle.elab_types.specs.declared.scope.TypeScope.{TypeScope}
-use Rattle.elab_context.specs.declared.context.Context.{Context}
-use Rattle.elab_context.specs.declared.entry.Entry.{Entry}
+use Rattle.exp_forms.specs.of_elab_context.declared.context.Context.{Context}
+use Rattle.exp_forms.specs.of_elab_context.declared.entry.Entry.{Entry}
 use Rattle.dec_forms.specs.Telling.{with_all}
 use Rattle.dec_forms.specs.Entries.{types_onto, type_scope, with_types}
 

@@ -36,22 +36,22 @@ use Rattle.prog_tree.proofs.ExpOf.{dec_of-Val}
 use Rattle.elab_typed.specs.Contexts.{Around, IsOver, after, generals, generic, kept_values}
 use Rattle.elab_typed.specs.Elaborates.{BindsElab, DecElab, inner, no_funs_elab, scoped_as, val_elab}
 use Rattle.elab_scoped.proofs.Phrases.{none_is_new}
-use Rattle.elab_state.specs.States.{all_parameters, limit_in, made}
-use Rattle.elab_state.specs.declared.state.State.{State}
-use Rattle.elab_steps.specs.Growing.{Begins, Grows}
-use Rattle.elab_steps.specs.World.{World}
-use Rattle.elab_steps.proofs.Changing.{begins-more, begins-same, constructors-stay, same-limit, solver-makes}
-use Rattle.elab_steps.proofs.Keeping.{Makes, makes-done, makes-tidy}
-use Rattle.elab_steps.proofs.Growing.{grows_on, comes_before, general-type}
-use Rattle.elab_context.specs.Numbered.{IsBelowIf}
-use Rattle.elab_context.specs.Telling.{HasList, IsContext, IsHeld, Tells}
-use Rattle.elab_context.specs.declared.context.Context.{Context}
-use Rattle.elab_context.specs.declared.entry.Entry.{Entry}
-use Rattle.elab_context.specs.declared.entry.Entry.TheVariants.{General}
-use Rattle.elab_context.proofs.Reading.{context_later}
-use Rattle.pat_elab.specs.Elaborated.{AreVariables, bound_of, scope_of}
-use Rattle.pat_elab.specs.declared.bound.BoundVariable.{BoundVariable}
-use Rattle.pat_elab.proofs.Forms.{all-later}
+use Rattle.closed_types.specs.of_elab_state.States.{all_parameters, limit_in, made}
+use Rattle.closed_types.specs.of_elab_state.declared.state.State.{State}
+use Rattle.closed_types.specs.of_elab_steps.Growing.{Begins, Grows}
+use Rattle.closed_types.specs.of_elab_steps.World.{World}
+use Rattle.closed_types.proofs.of_elab_steps.Changing.{begins-more, begins-same, constructors-stay, same-limit, solver-makes}
+use Rattle.closed_types.proofs.of_elab_steps.Keeping.{Makes, makes-done, makes-tidy}
+use Rattle.closed_types.proofs.of_elab_steps.Growing.{grows_on, comes_before, general-type}
+use Rattle.exp_forms.specs.of_elab_context.Numbered.{IsBelowIf}
+use Rattle.exp_forms.specs.of_elab_context.Telling.{HasList, IsContext, IsHeld, Tells}
+use Rattle.exp_forms.specs.of_elab_context.declared.context.Context.{Context}
+use Rattle.exp_forms.specs.of_elab_context.declared.entry.Entry.{Entry}
+use Rattle.exp_forms.specs.of_elab_context.declared.entry.Entry.TheVariants.{General}
+use Rattle.exp_forms.proofs.of_elab_context.Reading.{context_later}
+use Rattle.exp_forms.specs.of_pat_elab.Elaborated.{AreVariables, bound_of, scope_of}
+use Rattle.exp_forms.specs.of_pat_elab.declared.bound.BoundVariable.{BoundVariable}
+use Rattle.exp_forms.proofs.of_pat_elab.Forms.{all-later}
 use Rattle.exp_forms.specs.Binding.{Binding as Binds}
 use Rattle.exp_forms.specs.Rules.{vids_of}
 use Rattle.exp_forms.proofs.Entering.{context_with}

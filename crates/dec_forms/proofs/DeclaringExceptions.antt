@@ -24,14 +24,14 @@ use Rattle.prog_tree.specs.TreeOf.{dec_of, decs_of}
 use Rattle.prog_tree.specs.declared.tree.Dec.{Dec}
 use Rattle.elab_typed.specs.Contexts.{Around, KeptValues, value_under, values_under}
 use Rattle.elab_typed.specs.Elaborates.{DecElab, ExnsElab, exception_elab, no_exns_elab, new_exn_elab, same_exn_elab}
-use Rattle.elab_state.specs.declared.state.State.{State}
-use Rattle.elab_steps.specs.World.{World, type_of}
-use Rattle.elab_context.specs.Telling.{IsContext, IsFit, IsInUseIf, Tells, denotes_of, known_of, kept_of, kept_entries, scope_of_entries, vids_in}
-use Rattle.elab_context.specs.declared.context.Context.{Context}
-use Rattle.elab_context.specs.declared.entry.Entry.{Entry}
-use Rattle.elab_context.specs.declared.entry.Entry.TheVariants.{Constructor, Reference, Initial, Primitive, Raised, Single, Own, General}
-use Rattle.elab_context.proofs.Reading.{context_later, numbered_later}
-use Rattle.elab_context.specs.Numbered.{IsNumbered}
+use Rattle.closed_types.specs.of_elab_state.declared.state.State.{State}
+use Rattle.closed_types.specs.of_elab_steps.World.{World, type_of}
+use Rattle.exp_forms.specs.of_elab_context.Telling.{IsContext, IsFit, IsInUseIf, Tells, denotes_of, known_of, kept_of, kept_entries, scope_of_entries, vids_in}
+use Rattle.exp_forms.specs.of_elab_context.declared.context.Context.{Context}
+use Rattle.exp_forms.specs.of_elab_context.declared.entry.Entry.{Entry}
+use Rattle.exp_forms.specs.of_elab_context.declared.entry.Entry.TheVariants.{Constructor, Reference, Initial, Primitive, Raised, Single, Own, General}
+use Rattle.exp_forms.proofs.of_elab_context.Reading.{context_later, numbered_later}
+use Rattle.exp_forms.specs.of_elab_context.Numbered.{IsNumbered}
 use Rattle.exp_forms.proofs.Entering.{context_with, number-known}
 use Rattle.dec_forms.specs.Telling.{with_all}
 use Rattle.dec_forms.proofs.Telling.{AreFurther}

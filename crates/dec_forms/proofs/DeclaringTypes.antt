@@ -20,16 +20,16 @@ use Rattle.elab_typed.specs.Contexts.{Around, given_values}
 use Rattle.elab_typed.specs.Elaborates.{type_elab}
 use Rattle.elab_types.specs.declared.scope.SchemeRange.{SchemeRange}
 use Rattle.elab_types.specs.declared.scope.TypeEntry.{TypeEntry}
-use Rattle.elab_state.specs.States.{types_in}
-use Rattle.elab_state.specs.declared.state.State.{State}
-use Rattle.elab_steps.specs.World.{World}
-use Rattle.elab_context.specs.Entries.{constructors_in, constructors_of, entry_in}
-use Rattle.elab_context.specs.Telling.{HasConstructors, IsContext, IsFit, IsHeld, function_of, kept_entries, scope_of_entries, vids_in}
-use Rattle.elab_context.specs.declared.context.Context.{Context}
-use Rattle.elab_context.specs.declared.entry.Entry.{Entry}
-use Rattle.elab_context.specs.declared.entry.Entry.TheVariants.{Constructor, Reference, Initial, Primitive, Raised, Single, Own, General}
-use Rattle.elab_context.proofs.Reading.{context_later, numbered_later}
-use Rattle.elab_context.specs.Numbered.{IsNumbered}
+use Rattle.closed_types.specs.of_elab_state.States.{types_in}
+use Rattle.closed_types.specs.of_elab_state.declared.state.State.{State}
+use Rattle.closed_types.specs.of_elab_steps.World.{World}
+use Rattle.exp_forms.specs.of_elab_context.Entries.{constructors_in, constructors_of, entry_in}
+use Rattle.exp_forms.specs.of_elab_context.Telling.{HasConstructors, IsContext, IsFit, IsHeld, function_of, kept_entries, scope_of_entries, vids_in}
+use Rattle.exp_forms.specs.of_elab_context.declared.context.Context.{Context}
+use Rattle.exp_forms.specs.of_elab_context.declared.entry.Entry.{Entry}
+use Rattle.exp_forms.specs.of_elab_context.declared.entry.Entry.TheVariants.{Constructor, Reference, Initial, Primitive, Raised, Single, Own, General}
+use Rattle.exp_forms.proofs.of_elab_context.Reading.{context_later, numbered_later}
+use Rattle.exp_forms.specs.of_elab_context.Numbered.{IsNumbered}
 use Rattle.dec_forms.specs.Bringing.{Brings, IsBringing, past}
 use Rattle.dec_forms.specs.Entries.{last_at, types_onto, with_types}
 use Rattle.dec_forms.specs.declared.brought.Brought.{Brought}

@@ -7,9 +7,9 @@ use Rattle.sml_tree.specs.declared.ident.Vid.{Vid}
 use Rattle.elab_types.specs.Reading.{left_at}
 use Rattle.elab_types.specs.declared.scope.TypeEntry.{TypeEntry}
 use Rattle.elab_types.specs.declared.scope.TypeScope.{TypeScope}
-use Rattle.elab_context.specs.Schemes.{SchemeList}
-use Rattle.elab_context.specs.declared.context.Context.{Context}
-use Rattle.elab_context.specs.declared.entry.Entry.{Entry}
+use Rattle.exp_forms.specs.of_elab_context.Schemes.{SchemeList}
+use Rattle.exp_forms.specs.of_elab_context.declared.context.Context.{Context}
+use Rattle.exp_forms.specs.of_elab_context.declared.entry.Entry.{Entry}
 use Rattle.dec_forms.specs.Telling.{with_all}
 use Rattle.dec_forms.specs.Entries.{Adds, type_scope, types_onto, with_types}
 use Rattle.dec_forms.specs.declared.brought.Brought.{Brought}

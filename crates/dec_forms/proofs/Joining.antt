@@ -19,14 +19,14 @@ use Rattle.elab_typed.specs.Contexts.{Around}
 use Rattle.elab_typed.specs.Numbers.{AgreeBelow}
 use Rattle.elab_typed.proofs.Under.{plus-under}
 use Rattle.elab_types.specs.declared.scope.TypeEntry.{TypeEntry}
-use Rattle.elab_steps.proofs.Changing.{begins-same}
-use Rattle.elab_steps.specs.World.{World}
-use Rattle.elab_context.specs.Entries.{entry_in, last_of}
-use Rattle.elab_context.proofs.Contents.{has_constructors_still}
-use Rattle.elab_context.specs.Telling.{Tells, HasConstructors, IsFit, kept_of, denotes_of, known_of, function_of}
-use Rattle.elab_context.specs.declared.context.Context.{Context}
-use Rattle.elab_context.specs.declared.entry.Entry.{Entry}
-use Rattle.elab_context.specs.Numbered.{IsNumbered}
+use Rattle.closed_types.proofs.of_elab_steps.Changing.{begins-same}
+use Rattle.closed_types.specs.of_elab_steps.World.{World}
+use Rattle.exp_forms.specs.of_elab_context.Entries.{entry_in, last_of}
+use Rattle.exp_forms.proofs.of_elab_context.Contents.{has_constructors_still}
+use Rattle.exp_forms.specs.of_elab_context.Telling.{Tells, HasConstructors, IsFit, kept_of, denotes_of, known_of, function_of}
+use Rattle.exp_forms.specs.of_elab_context.declared.context.Context.{Context}
+use Rattle.exp_forms.specs.of_elab_context.declared.entry.Entry.{Entry}
+use Rattle.exp_forms.specs.of_elab_context.Numbered.{IsNumbered}
 use Rattle.exp_forms.proofs.Entering.{number-known}
 use Rattle.dec_forms.proofs.After.{after-after, plus-plus}
 use Rattle.dec_forms.proofs.Telling.{entry-among}

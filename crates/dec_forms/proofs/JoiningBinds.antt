@@ -22,18 +22,18 @@ use Rattle.elab_typed.specs.Contexts.{Around, generic}
 use Rattle.elab_typed.specs.Elaborates.{BindsElab, ExpElab, PatElab, no_binds_elab, plain_elab}
 use Rattle.elab_typed.specs.Instances.{as_typed}
 use Rattle.elab_typed.proofs.Names.{over-as}
-use Rattle.elab_state.specs.declared.state.State.{State}
-use Rattle.elab_steps.specs.Growing.{Grows, Always}
-use Rattle.elab_steps.specs.World.{World, type_of}
-use Rattle.elab_steps.proofs.Growing.{grows_same, grows_on, comes_before}
-use Rattle.elab_context.specs.Telling.{IsInUse}
-use Rattle.elab_context.specs.declared.context.Context.{Context}
-use Rattle.pat_elab.specs.Elaborated.{AreVariables, Elaborates, HasVariable, IsPat, bound_of, scope_of, scope_onto}
-use Rattle.pat_elab.specs.declared.bound.BoundVariable.{BoundVariable}
-use Rattle.pat_elab.specs.declared.bound.TypedPat.{TypedPat}
-use Rattle.pat_elab.proofs.Forms.{all-later, onto-plus}
-use Rattle.use_elab.specs.Elaborated.{ElaboratesExp, IsExp}
-use Rattle.use_elab.specs.declared.typed.TypedExp.{TypedExp}
+use Rattle.closed_types.specs.of_elab_state.declared.state.State.{State}
+use Rattle.closed_types.specs.of_elab_steps.Growing.{Grows, Always}
+use Rattle.closed_types.specs.of_elab_steps.World.{World, type_of}
+use Rattle.closed_types.proofs.of_elab_steps.Growing.{grows_same, grows_on, comes_before}
+use Rattle.exp_forms.specs.of_elab_context.Telling.{IsInUse}
+use Rattle.exp_forms.specs.of_elab_context.declared.context.Context.{Context}
+use Rattle.exp_forms.specs.of_pat_elab.Elaborated.{AreVariables, Elaborates, HasVariable, IsPat, bound_of, scope_of, scope_onto}
+use Rattle.exp_forms.specs.of_pat_elab.declared.bound.BoundVariable.{BoundVariable}
+use Rattle.exp_forms.specs.of_pat_elab.declared.bound.TypedPat.{TypedPat}
+use Rattle.exp_forms.proofs.of_pat_elab.Forms.{all-later, onto-plus}
+use Rattle.exp_forms.specs.of_use_elab.Elaborated.{ElaboratesExp, IsExp}
+use Rattle.exp_forms.specs.of_use_elab.declared.typed.TypedExp.{TypedExp}
 use Rattle.exp_forms.proofs.Calling.{written-as}
 use Rattle.exp_forms.proofs.Lowering.{lowered}
 use Rattle.exp_forms.proofs.Using.{variables-used}

@@ -23,19 +23,19 @@ use Rattle.prog_tree.specs.TreeOf.{RuleTree, binds_by}
 use Rattle.prog_tree.specs.declared.tree.Binding.{Binding}
 use Rattle.elab_typed.specs.Contexts.{Around, general, generals}
 use Rattle.elab_typed.specs.Instances.{as_typed}
-use Rattle.elab_steps.specs.World.{World, type_of}
-use Rattle.elab_context.specs.Entries.{entry_in, last_of}
-use Rattle.elab_context.specs.Telling.{IsFit, IsGeneral, IsInUse, kept_of, denotes_of, known_of}
-use Rattle.elab_context.specs.declared.context.Context.{Context}
-use Rattle.elab_context.specs.declared.entry.Entry.{Entry}
-use Rattle.elab_context.specs.declared.entry.Entry.TheVariants.{General}
-use Rattle.pat_elab.specs.Elaborated.{bound_of, scope_of, scope_onto}
-use Rattle.pat_elab.specs.declared.bound.BoundVariable.{BoundVariable}
-use Rattle.pat_elab.proofs.Forms.{onto-plus}
+use Rattle.closed_types.specs.of_elab_steps.World.{World, type_of}
+use Rattle.exp_forms.specs.of_elab_context.Entries.{entry_in, last_of}
+use Rattle.exp_forms.specs.of_elab_context.Telling.{IsFit, IsGeneral, IsInUse, kept_of, denotes_of, known_of}
+use Rattle.exp_forms.specs.of_elab_context.declared.context.Context.{Context}
+use Rattle.exp_forms.specs.of_elab_context.declared.entry.Entry.{Entry}
+use Rattle.exp_forms.specs.of_elab_context.declared.entry.Entry.TheVariants.{General}
+use Rattle.exp_forms.specs.of_pat_elab.Elaborated.{bound_of, scope_of, scope_onto}
+use Rattle.exp_forms.specs.of_pat_elab.declared.bound.BoundVariable.{BoundVariable}
+use Rattle.exp_forms.proofs.of_pat_elab.Forms.{onto-plus}
 use Rattle.exp_forms.specs.Binding.{Binding as Binds, IsKnown}
 use Rattle.exp_forms.proofs.Knowing.{both-bound, none-bound, pattern-binds}
 use Rattle.exp_forms.proofs.Within.{latest, latest-among, lookup-of, denotes-of, inside-onto}
-use Rattle.elab_context.specs.Numbered.{IsNumbered}
+use Rattle.exp_forms.specs.of_elab_context.Numbered.{IsNumbered}
 use Rattle.exp_forms.proofs.Entering.{number-known}
 use Rattle.dec_forms.proofs.Over.{generals-same}
 use Rattle.dec_forms.proofs.Telling.{AreFurther}

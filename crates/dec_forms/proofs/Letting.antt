@@ -14,15 +14,15 @@ use Rattle.prog_tree.proofs.ExpOf.{tree_of-Let}
 use Rattle.elab_typed.specs.Numbers.{type_as}
 use Rattle.elab_typed.specs.Elaborates.{ExpElab, let_elab}
 use Rattle.elab_typed.specs.Instances.{as_typed}
-use Rattle.elab_state.specs.declared.state.State.{State}
-use Rattle.elab_steps.specs.Growing.{HasType, Grows, Always, IsWithin}
-use Rattle.elab_steps.specs.World.{type_of}
-use Rattle.elab_steps.proofs.Growing.{grows_on, type_later, comes_before}
-use Rattle.elab_context.specs.Entries.{limit_of}
-use Rattle.elab_context.specs.Telling.{IsContext}
-use Rattle.elab_context.specs.declared.context.Context.{Context}
-use Rattle.use_elab.specs.Elaborated.{ElaboratesExp, IsExp}
-use Rattle.use_elab.specs.declared.typed.TypedExp.{TypedExp}
+use Rattle.closed_types.specs.of_elab_state.declared.state.State.{State}
+use Rattle.closed_types.specs.of_elab_steps.Growing.{HasType, Grows, Always, IsWithin}
+use Rattle.closed_types.specs.of_elab_steps.World.{type_of}
+use Rattle.closed_types.proofs.of_elab_steps.Growing.{grows_on, type_later, comes_before}
+use Rattle.exp_forms.specs.of_elab_context.Entries.{limit_of}
+use Rattle.exp_forms.specs.of_elab_context.Telling.{IsContext}
+use Rattle.exp_forms.specs.of_elab_context.declared.context.Context.{Context}
+use Rattle.exp_forms.specs.of_use_elab.Elaborated.{ElaboratesExp, IsExp}
+use Rattle.exp_forms.specs.of_use_elab.declared.typed.TypedExp.{TypedExp}
 use Rattle.exp_forms.proofs.Calling.{new-names, new-parameters, written-as}
 use Rattle.dec_forms.specs.Decs.{IsDecs}
 use Rattle.dec_forms.proofs.Sequencing.{choices_of, decs-do}

@@ -1,3 +1,5 @@
+pub use Rattle.exp_forms.proofs as of_exp_forms
+pub use Rattle.exp_forms.proofs.of_pat_elab as of_pat_elab
 pub mod After
 pub mod Over
 pub mod Telling

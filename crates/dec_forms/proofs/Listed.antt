@@ -11,11 +11,11 @@ use Rattle.core_rules.specs.Restrictions.{distinct, may_construct}
 use Rattle.core_rules.specs.Words.{same_vid, is_in}
 use Rattle.core_rules.proofs.LookUps.{vid-tells}
 use Rattle.core_elab.specs.Scopes.{Scope, empty, scoped, plus_scope, denotes_in, inside_in, typed_in}
-use Rattle.elab_steps.specs.World.{World}
-use Rattle.elab_context.specs.Telling.{kept_of, denotes_of, kept_entries, scope_of_entries, vids_in}
-use Rattle.elab_context.specs.declared.context.Context.{Context}
-use Rattle.elab_context.specs.declared.entry.Entry.{Entry}
-use Rattle.elab_context.specs.Entries.{last_of}
+use Rattle.closed_types.specs.of_elab_steps.World.{World}
+use Rattle.exp_forms.specs.of_elab_context.Telling.{kept_of, denotes_of, kept_entries, scope_of_entries, vids_in}
+use Rattle.exp_forms.specs.of_elab_context.declared.context.Context.{Context}
+use Rattle.exp_forms.specs.of_elab_context.declared.entry.Entry.{Entry}
+use Rattle.exp_forms.specs.of_elab_context.Entries.{last_of}
 use Rattle.dec_forms.specs.Entries.{constructing_name, named_vids}
 
 -- what holds of each

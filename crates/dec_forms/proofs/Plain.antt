@@ -12,13 +12,13 @@ use Rattle.ir_poly.specs.TestsChecked as checked
 use Rattle.core_elab.specs.Scopes.{Scope, denotes_in, inside_in, typed_in, plus_scope}
 use Rattle.elab_typed.specs.Contexts.{Around, KeptValues, kept_values}
 use Rattle.elab_types.specs.declared.scope.TypeEntry.{TypeEntry}
-use Rattle.elab_steps.specs.World.{World}
-use Rattle.elab_steps.proofs.Changing.{begins-same}
-use Rattle.elab_context.specs.Numbered.{IsBelowIf, IsNumbered}
-use Rattle.elab_context.specs.Telling.{HasConstructors, Tells, function_of, kept_of}
-use Rattle.elab_context.specs.declared.context.Context.{Context}
-use Rattle.elab_context.specs.declared.entry.Entry.{Entry}
-use Rattle.elab_context.specs.Entries.{last_of}
+use Rattle.closed_types.specs.of_elab_steps.World.{World}
+use Rattle.closed_types.proofs.of_elab_steps.Changing.{begins-same}
+use Rattle.exp_forms.specs.of_elab_context.Numbered.{IsBelowIf, IsNumbered}
+use Rattle.exp_forms.specs.of_elab_context.Telling.{HasConstructors, Tells, function_of, kept_of}
+use Rattle.exp_forms.specs.of_elab_context.declared.context.Context.{Context}
+use Rattle.exp_forms.specs.of_elab_context.declared.entry.Entry.{Entry}
+use Rattle.exp_forms.specs.of_elab_context.Entries.{last_of}
 use Rattle.dec_forms.specs.Telling.{with_all}
 use Rattle.dec_forms.proofs.Telling.{AreFurther, entry-among}
 use Rattle.dec_forms.specs.Bringing.{Brings, Effect, past}

@@ -13,9 +13,9 @@ use Rattle.prog_tree.specs.TreeOf.{DecTree, val_tree, exception_tree, counted_tr
 use Rattle.prog_tree.specs.declared.tree.Dec.{Dec}
 use Rattle.elab_typed.specs.Contexts.{Around, KeptEnv, kept_values, after}
 use Rattle.elab_typed.specs.Elaborates.{DecElab, DecsElab, no_decs_elab, a_dec_elab}
-use Rattle.elab_state.specs.declared.state.State.{State}
-use Rattle.elab_steps.proofs.Growing.{grows_same, grows_on, comes_before}
-use Rattle.elab_context.specs.declared.context.Context.{Context}
+use Rattle.closed_types.specs.of_elab_state.declared.state.State.{State}
+use Rattle.closed_types.proofs.of_elab_steps.Growing.{grows_same, grows_on, comes_before}
+use Rattle.exp_forms.specs.of_elab_context.declared.context.Context.{Context}
 use Rattle.dec_forms.specs.Decs.{EachDec, no_dec, one_dec, all_joined, IsDec, IsDecs}
 use Rattle.dec_forms.proofs.After.{after-none, after-after}
 

@@ -8,13 +8,13 @@ use Rattle.prog_tree.specs.TreeOf.{DecTree, val_tree, exception_tree, counted_tr
 use Rattle.prog_tree.specs.declared.tree.Dec.{Dec}
 use Rattle.elab_typed.specs.Contexts.{Around}
 use Rattle.elab_typed.specs.Elaborates.{DecElab}
-use Rattle.elab_state.specs.declared.state.State.{State}
-use Rattle.elab_steps.specs.World.{World}
-use Rattle.elab_steps.proofs.Changing.{begins-same}
-use Rattle.elab_steps.proofs.Growing.{grows_same, grows_on, comes_before}
-use Rattle.elab_context.specs.Telling.{Tells}
-use Rattle.elab_context.specs.declared.context.Context.{Context}
-use Rattle.elab_context.specs.Numbered.{IsNumbered}
+use Rattle.closed_types.specs.of_elab_state.declared.state.State.{State}
+use Rattle.closed_types.specs.of_elab_steps.World.{World}
+use Rattle.closed_types.proofs.of_elab_steps.Changing.{begins-same}
+use Rattle.closed_types.proofs.of_elab_steps.Growing.{grows_same, grows_on, comes_before}
+use Rattle.exp_forms.specs.of_elab_context.Telling.{Tells}
+use Rattle.exp_forms.specs.of_elab_context.declared.context.Context.{Context}
+use Rattle.exp_forms.specs.of_elab_context.Numbered.{IsNumbered}
 use Rattle.dec_forms.specs.Decs.{IsDec, all_joined}
 use Rattle.dec_forms.proofs.Sequencing.{more_decs, no_decs_are}
 use Rattle.dec_forms.specs.Entries.{Adds}

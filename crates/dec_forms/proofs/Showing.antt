@@ -16,17 +16,17 @@ use Rattle.prog_tree.specs.TreeOf.{dec_of, decs_of}
 use Rattle.prog_tree.specs.declared.tree.Dec.{Dec}
 use Rattle.elab_typed.specs.Elaborates.{DecElab, local_elab}
 use Rattle.elab_types.specs.declared.scope.TypeEntry.{TypeEntry}
-use Rattle.elab_state.specs.States.{types_in}
-use Rattle.elab_state.specs.declared.state.State.{State}
-use Rattle.elab_steps.specs.Growing.{Begins, Grows}
-use Rattle.elab_steps.proofs.Growing.{comes_before, grows_on}
-use Rattle.elab_context.specs.Entries.{entry_in, last_of}
-use Rattle.elab_context.specs.Telling.{IsContext, IsHeld}
-use Rattle.elab_context.specs.declared.context.Context.{Context}
-use Rattle.elab_context.specs.declared.entry.Entry.{Entry}
-use Rattle.elab_context.specs.declared.entry.Entry.TheVariants.{Constructor, Reference, Initial, Primitive, Raised, Single, Own, General}
-use Rattle.elab_context.proofs.Reading.{context_later, numbered_later}
-use Rattle.elab_context.specs.Numbered.{IsBelowIf, IsNumbered}
+use Rattle.closed_types.specs.of_elab_state.States.{types_in}
+use Rattle.closed_types.specs.of_elab_state.declared.state.State.{State}
+use Rattle.closed_types.specs.of_elab_steps.Growing.{Begins, Grows}
+use Rattle.closed_types.proofs.of_elab_steps.Growing.{comes_before, grows_on}
+use Rattle.exp_forms.specs.of_elab_context.Entries.{entry_in, last_of}
+use Rattle.exp_forms.specs.of_elab_context.Telling.{IsContext, IsHeld}
+use Rattle.exp_forms.specs.of_elab_context.declared.context.Context.{Context}
+use Rattle.exp_forms.specs.of_elab_context.declared.entry.Entry.{Entry}
+use Rattle.exp_forms.specs.of_elab_context.declared.entry.Entry.TheVariants.{Constructor, Reference, Initial, Primitive, Raised, Single, Own, General}
+use Rattle.exp_forms.proofs.of_elab_context.Reading.{context_later, numbered_later}
+use Rattle.exp_forms.specs.of_elab_context.Numbered.{IsBelowIf, IsNumbered}
 use Rattle.dec_forms.specs.Decs.{all_joined}
 use Rattle.dec_forms.proofs.Telling.{entry-among}
 use Rattle.dec_forms.specs.Bringing.{AreBringing, IsBringing, all_effects, last_effect, past}

@@ -18,14 +18,14 @@ use Rattle.ir_poly.specs.TestsChecked.{Knowns, Known}
 use Rattle.ir_poly.specs.TestsChecked as checked
 use Rattle.core_elab.specs.Scopes.{Scope, plus_scope, denotes_in, inside_in, typed_in, along_scope, long_denotes_in}
 use Rattle.elab_typed.specs.Contexts.{given, KeptValues, kept_in, kept_values, values_under, Around, after}
-use Rattle.elab_steps.proofs.Changing.{begins-same}
-use Rattle.elab_steps.specs.World.{World, type_of}
-use Rattle.elab_context.specs.Entries.{contents_at, entry_in, last_of}
-use Rattle.elab_context.proofs.Contents.{has_constructors_still, has_contents_still}
-use Rattle.elab_context.specs.Telling.{Tells, IsFit, IsInUse, kept_of, denotes_of, known_of}
-use Rattle.elab_context.specs.declared.context.Context.{Context}
-use Rattle.elab_context.specs.declared.entry.Entry.{Entry}
-use Rattle.elab_context.specs.declared.entry.Entry.TheVariants.{Constructor, Reference, Initial, Primitive, Raised, Single, Own, General}
+use Rattle.closed_types.proofs.of_elab_steps.Changing.{begins-same}
+use Rattle.closed_types.specs.of_elab_steps.World.{World, type_of}
+use Rattle.exp_forms.specs.of_elab_context.Entries.{contents_at, entry_in, last_of}
+use Rattle.exp_forms.proofs.of_elab_context.Contents.{has_constructors_still, has_contents_still}
+use Rattle.exp_forms.specs.of_elab_context.Telling.{Tells, IsFit, IsInUse, kept_of, denotes_of, known_of}
+use Rattle.exp_forms.specs.of_elab_context.declared.context.Context.{Context}
+use Rattle.exp_forms.specs.of_elab_context.declared.entry.Entry.{Entry}
+use Rattle.exp_forms.specs.of_elab_context.declared.entry.Entry.TheVariants.{Constructor, Reference, Initial, Primitive, Raised, Single, Own, General}
 use Rattle.dec_forms.specs.Telling.{with_all}
 use Rattle.dec_forms.proofs.Over.{Agree, over_after}
 

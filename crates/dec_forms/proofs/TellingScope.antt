@@ -17,13 +17,13 @@ use Rattle.core_elab.specs.Scopes.{denotes_in, inside_in, typed_in, along_scope,
 use Rattle.elab_typed.specs.Contexts.{given, kept_in, Around, generic}
 use Rattle.elab_types.specs.Reading.{entry_of as type_entry_of}
 use Rattle.elab_types.specs.declared.scope.TypeEntry.{TypeEntry}
-use Rattle.elab_steps.specs.World.{World, type_of}
-use Rattle.elab_context.specs.Entries.{contents_at, entry_in, member_in, last_of}
-use Rattle.elab_context.proofs.Contents.{has_constructors_still, has_contents_still}
-use Rattle.elab_context.specs.Telling.{Tells, HasConstructors, HasContents, IsFit, kept_of, denotes_of, known_of, function_of}
-use Rattle.elab_context.specs.declared.context.Context.{Context}
-use Rattle.elab_context.specs.declared.entry.Entry.{Entry}
-use Rattle.elab_context.specs.Numbered.{IsNumbered}
+use Rattle.closed_types.specs.of_elab_steps.World.{World, type_of}
+use Rattle.exp_forms.specs.of_elab_context.Entries.{contents_at, entry_in, member_in, last_of}
+use Rattle.exp_forms.proofs.of_elab_context.Contents.{has_constructors_still, has_contents_still}
+use Rattle.exp_forms.specs.of_elab_context.Telling.{Tells, HasConstructors, HasContents, IsFit, kept_of, denotes_of, known_of, function_of}
+use Rattle.exp_forms.specs.of_elab_context.declared.context.Context.{Context}
+use Rattle.exp_forms.specs.of_elab_context.declared.entry.Entry.{Entry}
+use Rattle.exp_forms.specs.of_elab_context.Numbered.{IsNumbered}
 use Rattle.exp_forms.proofs.Entering.{number-known}
 use Rattle.dec_forms.proofs.Over.{over_after}
 use Rattle.dec_forms.proofs.Telling.{entry-among}

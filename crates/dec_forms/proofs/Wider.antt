@@ -17,14 +17,14 @@ use Rattle.ir_poly.specs.Types.{constructor_of, find, over}
 use Rattle.elab_typed.specs.Contexts.{Around, given}
 use Rattle.elab_typed.specs.Numbers.{AgreeBelow, name_as, type_as}
 use Rattle.elab_typed.proofs.Names.{type-agrees}
-use Rattle.elab_steps.specs.Growing.{Begins}
-use Rattle.elab_steps.specs.World.{World, type_of}
-use Rattle.elab_steps.proofs.Growing.{found-later}
-use Rattle.elab_context.specs.Telling.{IsConstructor, IsFit, IsInUse, kept_of, known_of, scheme_at, scheme_of}
-use Rattle.elab_context.specs.declared.context.Context.{Context}
-use Rattle.elab_context.specs.declared.entry.Entry.{Entry}
-use Rattle.elab_context.specs.declared.entry.Entry.TheVariants.{Constructor, Reference, Initial, Primitive, Raised, Single, Own, General}
-use Rattle.elab_context.specs.declared.entry.Scheme as code
+use Rattle.closed_types.specs.of_elab_steps.Growing.{Begins}
+use Rattle.closed_types.specs.of_elab_steps.World.{World, type_of}
+use Rattle.closed_types.proofs.of_elab_steps.Growing.{found-later}
+use Rattle.exp_forms.specs.of_elab_context.Telling.{IsConstructor, IsFit, IsInUse, kept_of, known_of, scheme_at, scheme_of}
+use Rattle.exp_forms.specs.of_elab_context.declared.context.Context.{Context}
+use Rattle.exp_forms.specs.of_elab_context.declared.entry.Entry.{Entry}
+use Rattle.exp_forms.specs.of_elab_context.declared.entry.Entry.TheVariants.{Constructor, Reference, Initial, Primitive, Raised, Single, Own, General}
+use Rattle.exp_forms.specs.of_elab_context.declared.entry.Scheme as code
 
 -- D and B have all schemes, names and numbers of C and A
 pub record Wider (C D : Context) (W : World) (A B : Around) : Type 0 where

@@ -10,12 +10,12 @@ use Rattle.elab_typed.specs.Contexts.{Around, generic}
 use Rattle.elab_types.specs.declared.scope.SchemeRange.{SchemeRange}
 use Rattle.elab_types.specs.declared.scope.TypeEntry.{TypeEntry}
 use Rattle.elab_types.specs.declared.scope.TypeScope.{TypeScope}
-use Rattle.elab_state.specs.States.{types_in}
-use Rattle.elab_state.specs.declared.state.State.{State}
-use Rattle.elab_steps.specs.Growing.{Grows}
-use Rattle.elab_steps.specs.World.{World, Comes}
-use Rattle.elab_context.specs.Telling.{Tells, function_of}
-use Rattle.elab_context.specs.declared.context.Context.{Context}
+use Rattle.closed_types.specs.of_elab_state.States.{types_in}
+use Rattle.closed_types.specs.of_elab_state.declared.state.State.{State}
+use Rattle.closed_types.specs.of_elab_steps.Growing.{Grows}
+use Rattle.closed_types.specs.of_elab_steps.World.{World, Comes}
+use Rattle.exp_forms.specs.of_elab_context.Telling.{Tells, function_of}
+use Rattle.exp_forms.specs.of_elab_context.declared.context.Context.{Context}
 
 -- the schemes of no constructors
 abbrev pub no_schemes : SchemeRange

@@ -14,15 +14,15 @@ use Rattle.prog_tree.specs.declared.tree.Rule.{Rule}
 use Rattle.elab_typed.specs.Contexts.{Around}
 use Rattle.elab_typed.specs.Elaborates.{ExpElab, PatElab}
 use Rattle.elab_typed.specs.Instances.{as_typed}
-use Rattle.elab_state.specs.declared.state.State.{State}
-use Rattle.elab_steps.specs.Growing.{Grows}
-use Rattle.elab_steps.specs.World.{World, type_of, Comes}
-use Rattle.elab_context.specs.Telling.{Tells, IsInUse}
-use Rattle.elab_context.specs.declared.context.Context.{Context}
-use Rattle.elab_context.specs.declared.entry.Entry.{Entry}
-use Rattle.elab_context.specs.declared.entry.Entry.TheVariants.{General}
-use Rattle.pat_elab.specs.Elaborated.{AreVariables, bound_of, scope_of}
-use Rattle.pat_elab.specs.declared.bound.BoundVariable.{BoundVariable}
+use Rattle.closed_types.specs.of_elab_state.declared.state.State.{State}
+use Rattle.closed_types.specs.of_elab_steps.Growing.{Grows}
+use Rattle.closed_types.specs.of_elab_steps.World.{World, type_of, Comes}
+use Rattle.exp_forms.specs.of_elab_context.Telling.{Tells, IsInUse}
+use Rattle.exp_forms.specs.of_elab_context.declared.context.Context.{Context}
+use Rattle.exp_forms.specs.of_elab_context.declared.entry.Entry.{Entry}
+use Rattle.exp_forms.specs.of_elab_context.declared.entry.Entry.TheVariants.{General}
+use Rattle.exp_forms.specs.of_pat_elab.Elaborated.{AreVariables, bound_of, scope_of}
+use Rattle.exp_forms.specs.of_pat_elab.declared.bound.BoundVariable.{BoundVariable}
 
 -- their variables in scope, over the parameters of the list l, which the program's variables don't have
 abbrev pub plain_entries : ℕ → List BoundVariable → List (Vid × Entry)

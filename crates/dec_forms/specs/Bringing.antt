@@ -20,14 +20,14 @@ use Rattle.elab_typed.specs.Contexts.{Around, KeptEnv, after, env_under, kept_va
 use Rattle.elab_typed.specs.Elaborates.{DecElab}
 use Rattle.elab_typed.specs.Numbers.{AgreeBelow, KeepsInitial}
 use Rattle.elab_types.specs.declared.scope.TypeEntry.{TypeEntry}
-use Rattle.elab_state.specs.declared.state.State.{State}
-use Rattle.elab_steps.specs.Growing.{Grows}
-use Rattle.elab_steps.specs.World.{World, Comes}
-use Rattle.elab_context.specs.Entries.{number_in, last_of}
-use Rattle.elab_context.specs.Telling.{Tells, HasConstructors, IsFit, kept_of, denotes_of, known_of, function_of}
-use Rattle.elab_context.specs.declared.context.Context.{Context}
-use Rattle.elab_context.specs.declared.entry.Entry.{Entry}
-use Rattle.elab_context.specs.Numbered.{IsNumbered}
+use Rattle.closed_types.specs.of_elab_state.declared.state.State.{State}
+use Rattle.closed_types.specs.of_elab_steps.Growing.{Grows}
+use Rattle.closed_types.specs.of_elab_steps.World.{World, Comes}
+use Rattle.exp_forms.specs.of_elab_context.Entries.{number_in, last_of}
+use Rattle.exp_forms.specs.of_elab_context.Telling.{Tells, HasConstructors, IsFit, kept_of, denotes_of, known_of, function_of}
+use Rattle.exp_forms.specs.of_elab_context.declared.context.Context.{Context}
+use Rattle.exp_forms.specs.of_elab_context.declared.entry.Entry.{Entry}
+use Rattle.exp_forms.specs.of_elab_context.Numbered.{IsNumbered}
 use Rattle.dec_forms.specs.Decs.{IsDecs, all_joined}
 use Rattle.dec_forms.specs.Entries.{Adds, last_at}
 use Rattle.dec_forms.specs.declared.brought.Brought.{Brought}

@@ -12,11 +12,11 @@ use Rattle.prog_tree.specs.TreeOf.{dec_of, decs_of}
 use Rattle.prog_tree.specs.declared.tree.Dec.{Dec}
 use Rattle.elab_typed.specs.Contexts.{Around, KeptEnv, after}
 use Rattle.elab_typed.specs.Elaborates.{DecElab}
-use Rattle.elab_state.specs.declared.state.State.{State}
-use Rattle.elab_steps.specs.Growing.{Grows}
-use Rattle.elab_steps.specs.World.{World, Comes}
-use Rattle.elab_context.specs.Telling.{Tells}
-use Rattle.elab_context.specs.declared.context.Context.{Context}
+use Rattle.closed_types.specs.of_elab_state.declared.state.State.{State}
+use Rattle.closed_types.specs.of_elab_steps.Growing.{Grows}
+use Rattle.closed_types.specs.of_elab_steps.World.{World, Comes}
+use Rattle.exp_forms.specs.of_elab_context.Telling.{Tells}
+use Rattle.exp_forms.specs.of_elab_context.declared.context.Context.{Context}
 
 -- a declaration elaborates, and the next variable is at most the j-th
 pub record DecUpTo (table : List Constructor) (A : Around) (h : ℕ) (d : bare.Dec) (x : prog.Decs) (made : ℕ) (number : ℕ → ℕ) (env : KeptEnv) (scope : Scope) (known : Knowns)

@@ -7,9 +7,9 @@ use Rattle.vid_scope.specs.Entries.{with_entries}
 use Rattle.core_rules.specs.Restrictions.{may_construct}
 use Rattle.elab_types.specs.declared.scope.TypeEntry.{TypeEntry}
 use Rattle.elab_types.specs.declared.scope.TypeScope.{TypeScope}
-use Rattle.elab_steps.specs.Growing.{Begins}
-use Rattle.elab_context.specs.declared.context.Context.{Context}
-use Rattle.elab_context.specs.declared.entry.Entry.{Entry}
+use Rattle.closed_types.specs.of_elab_steps.Growing.{Begins}
+use Rattle.exp_forms.specs.of_elab_context.declared.context.Context.{Context}
+use Rattle.exp_forms.specs.of_elab_context.declared.entry.Entry.{Entry}
 
 -- identifiers by their names
 abbrev pub named_vids : List ℕ → List Vid

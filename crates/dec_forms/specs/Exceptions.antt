@@ -18,14 +18,14 @@ use Rattle.elab_typed.specs.Elaborates.{ExnsElab}
 use Rattle.elab_typed.specs.Instances.{as_typed}
 use Rattle.elab_types.specs.declared.refused.Refused.{Refused}
 use Rattle.elab_types.specs.declared.refused.Refused.TheVariants.{Broken, Memory, Mistyped, Unbound}
-use Rattle.elab_state.specs.declared.state.State.{State}
-use Rattle.elab_steps.specs.Growing.{Grows}
-use Rattle.elab_steps.specs.World.{World, type_of, Comes}
-use Rattle.elab_context.specs.Telling.{IsFit, IsHeld, IsHeldIf, IsInUseIf, IsUnboundIn, Tells, known_of, kept_entries, scope_of_entries, vids_in}
-use Rattle.elab_context.specs.declared.context.Context.{Context}
-use Rattle.elab_context.specs.declared.entry.Entry.{Entry}
-use Rattle.elab_context.specs.declared.entry.Entry.TheVariants.{Constructor, Reference, Initial, Primitive, Raised, Single, Own, General}
-use Rattle.elab_context.specs.Numbered.{IsBelowIf, IsNumbered}
+use Rattle.closed_types.specs.of_elab_state.declared.state.State.{State}
+use Rattle.closed_types.specs.of_elab_steps.Growing.{Grows}
+use Rattle.closed_types.specs.of_elab_steps.World.{World, type_of, Comes}
+use Rattle.exp_forms.specs.of_elab_context.Telling.{IsFit, IsHeld, IsHeldIf, IsInUseIf, IsUnboundIn, Tells, known_of, kept_entries, scope_of_entries, vids_in}
+use Rattle.exp_forms.specs.of_elab_context.declared.context.Context.{Context}
+use Rattle.exp_forms.specs.of_elab_context.declared.entry.Entry.{Entry}
+use Rattle.exp_forms.specs.of_elab_context.declared.entry.Entry.TheVariants.{Constructor, Reference, Initial, Primitive, Raised, Single, Own, General}
+use Rattle.exp_forms.specs.of_elab_context.Numbered.{IsBelowIf, IsNumbered}
 use Rattle.dec_forms.specs.Entries.{constructing_name}
 use Rattle.dec_forms.specs.declared.made.Argument.{Argument}
 use Rattle.dec_forms.specs.declared.made.ExnsMade.{ExnsMade}

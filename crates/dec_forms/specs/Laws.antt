@@ -2,9 +2,9 @@
 use Rattle.std.specs.Prelude.{◌++◌, List, [], ◌∷◌}
 use Rattle.sml_tree.specs.BareTree as bare
 use Rattle.prog_tree.specs.declared.tree.Dec.{Dec}
-use Rattle.elab_state.specs.declared.state.State.{State}
-use Rattle.elab_context.specs.declared.context.Context.{Context}
-use Rattle.elab_context.specs.Numbered.{IsNumbered}
+use Rattle.closed_types.specs.of_elab_state.declared.state.State.{State}
+use Rattle.exp_forms.specs.of_elab_context.declared.context.Context.{Context}
+use Rattle.exp_forms.specs.of_elab_context.Numbered.{IsNumbered}
 use Rattle.dec_forms.specs.Decs.{IsDec}
 use Rattle.dec_forms.specs.Bringing.{AreBringing, IsBringing}
 use Rattle.dec_forms.specs.declared.brought.Brought.{Brought}

@@ -5,8 +5,8 @@ use Rattle.sml_tree.specs.BareTree as bare
 use Rattle.sml_tree.specs.TreeOf.{decs_of}
 use Rattle.vid_scope.specs.Entries.{mark_of, with_entries}
 use Rattle.prog_tree.specs.declared.tree.Dec.{Dec}
-use Rattle.elab_state.specs.declared.state.State.{State}
-use Rattle.elab_context.specs.declared.context.Context.{Context}
+use Rattle.closed_types.specs.of_elab_state.declared.state.State.{State}
+use Rattle.exp_forms.specs.of_elab_context.declared.context.Context.{Context}
 use Rattle.dec_forms.specs.Bringing.{AreBringing, IsBringing}
 use Rattle.dec_forms.specs.Entries.{type_scope, types_onto}
 use Rattle.dec_forms.specs.declared.brought.Brought.{Brought}

@@ -1,17 +1,17 @@
 // Arguments of exceptions.
 ghost use Rattle.std.specs.Prelude.{◌≡◌, IfOk};
 ghost use Rattle.sml_tree.specs.TreeOf.{some_ty_of, ty_of};
-ghost use Rattle.elab_context.specs.Telling.{IsContext};
+ghost use Rattle.exp_forms.specs.of_elab_context.Telling.{IsContext};
 ghost use Rattle.dec_forms.specs.Exceptions.{IsArgumentOf};
 ghost use Rattle.std.specs.Prelude.{Some};
 
 use crate::made::Argument;
-use elab_context::context::Context;
-use elab_state::state::State;
-use elab_steps::step::{fresh_type, write};
+use closed_types::elab_state::state::State;
+use closed_types::elab_steps::step::{fresh_type, write};
 use elab_types::refused::Refused;
+use exp_forms::elab_context::context::Context;
+use exp_forms::pat_elab::annotate::annotate;
 use mlc_base::place::Place;
-use pat_elab::annotate::annotate;
 use sml_tree::tree::Ty;
 use std::alloc::Global;
 use ty_core::mark::Mark;

@@ -2,21 +2,21 @@
 ghost use Rattle.std.specs.Prelude.{◌++◌, ◌∷◌, [], List, IfOk};
 ghost use Rattle.sml_tree.specs.BareTree.{Exp as SourceExp, Pat as SourcePat};
 ghost use Rattle.sml_tree.specs.TreeOf.{RuleOf};
-ghost use Rattle.elab_context.specs.Telling.{IsContext};
-ghost use Rattle.elab_steps.specs.Growing.{Grows, HasType};
-ghost use Rattle.pat_elab.specs.Elaborated.{IsPat};
-ghost use Rattle.use_elab.specs.Elaborated.{IsExp};
+ghost use Rattle.exp_forms.specs.of_elab_context.Telling.{IsContext};
+ghost use Rattle.closed_types.specs.of_elab_steps.Growing.{Grows, HasType};
+ghost use Rattle.exp_forms.specs.of_pat_elab.Elaborated.{IsPat};
+ghost use Rattle.exp_forms.specs.of_use_elab.Elaborated.{IsExp};
 ghost use Rattle.dec_forms.specs.Binds.{AreBinds};
 
-use elab_context::context::Context;
-use elab_state::state::State;
-use elab_steps::step::{unify, write};
+use closed_types::elab_state::state::State;
+use closed_types::elab_steps::step::{unify, write};
 use elab_types::refused::Refused;
+use exp_forms::elab_context::context::Context;
+use exp_forms::pat_elab::bound::{BoundVariable, TypedPat};
+use exp_forms::use_elab::typed::TypedExp;
 use mlc_base::place::Place;
-use pat_elab::bound::{BoundVariable, TypedPat};
 use prog_tree::tree::{Binding, Rule};
 use std::alloc::Global;
-use use_elab::typed::TypedExp;
 
 /// One binding more: its pattern and its expression have one type.
 pub fn add_bind(

@@ -3,27 +3,27 @@ ghost use Rattle.std.specs.Prelude.{◌≡◌, ℕ, List, IfOk};
 ghost use Rattle.sml_tree.specs.declared.ident.Vid.{Vid};
 ghost use Rattle.sml_tree.specs.BareTree.{Dec as SourceDec, Exp as SourceExp, let_in};
 ghost use Rattle.sml_tree.specs.TreeOf.{decs_of};
-ghost use Rattle.elab_context.specs.Telling.{IsContext};
-ghost use Rattle.elab_context.specs.declared.context.Context.{Context};
-ghost use Rattle.elab_context.specs.declared.entry.Entry.{Entry};
+ghost use Rattle.exp_forms.specs.of_elab_context.Telling.{IsContext};
+ghost use Rattle.exp_forms.specs.of_elab_context.declared.context.Context.{Context};
+ghost use Rattle.exp_forms.specs.of_elab_context.declared.entry.Entry.{Entry};
 ghost use Rattle.elab_types.specs.declared.scope.TypeEntry.{TypeEntry};
-ghost use Rattle.elab_steps.specs.Growing.{HasType};
-ghost use Rattle.use_elab.specs.Elaborated.{IsExp};
+ghost use Rattle.closed_types.specs.of_elab_steps.Growing.{HasType};
+ghost use Rattle.exp_forms.specs.of_use_elab.Elaborated.{IsExp};
 ghost use Rattle.dec_forms.specs.Decs.{IsDecs};
 ghost use Rattle.dec_forms.specs.Entries.{Adds};
 ghost use Rattle.dec_forms.specs.Local.{block_mark_in};
 
 use crate::local::{LocalMark, begin_local};
-use elab_context::context::Context;
-use elab_state::state::State;
-use elab_steps::step::{fresh_type, unify, write};
+use closed_types::elab_state::state::State;
+use closed_types::elab_steps::step::{fresh_type, unify, write};
 use elab_types::refused::Refused;
+use exp_forms::elab_context::context::Context;
+use exp_forms::use_elab::typed::TypedExp;
 use mlc_base::make::boxed;
 use mlc_base::place::Place;
 use prog_tree::tree::{Dec, Exp};
 use std::alloc::Global;
 use ty_core::mark::Mark;
-use use_elab::typed::TypedExp;
 
 /// What is in scope where a `let` begins, how many type names there are, with their numbers in the program, and how many schemes.
 #[derive(Clone, Copy)]

@@ -3,9 +3,9 @@ ghost use Rattle.std.specs.Prelude.{◌≡◌, IfOk};
 ghost use Rattle.dec_forms.specs.Telling.{with_all};
 ghost use Rattle.dec_forms.specs.Entries.{with_types};
 
-use elab_context::context::Context;
-use elab_context::entry::Entry;
 use elab_types::scope::TypeEntry;
+use exp_forms::elab_context::context::Context;
+use exp_forms::elab_context::entry::Entry;
 use mlc_base::memory::NoMemory;
 use mlc_names::names::Name;
 use sml_tree::ident::Vid;

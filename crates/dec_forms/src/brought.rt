@@ -1,8 +1,8 @@
 // What came into scope.
 ghost use Rattle.std.specs.Prelude.{◌≡◌, ◌++◌, [], IfOk};
 
-use elab_context::entry::Entry;
 use elab_types::scope::TypeEntry;
+use exp_forms::elab_context::entry::Entry;
 use mlc_base::memory::NoMemory;
 use mlc_names::names::Name;
 use sml_tree::ident::Vid;

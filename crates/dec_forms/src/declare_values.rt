@@ -3,21 +3,21 @@ ghost use Rattle.std.specs.Prelude.{◌≡◌, ◌<◌, ◌∷◌, [], List, len
 ghost use Rattle.sml_tree.specs.BareTree.{no_binds, val_dec};
 ghost use Rattle.sml_tree.specs.TreeOf.{RuleOf, binds_of};
 ghost use Rattle.ir_tables.specs.Tables.{parameters_of};
-ghost use Rattle.elab_context.specs.Telling.{IsContext};
-ghost use Rattle.elab_steps.specs.Growing.{Grows};
-ghost use Rattle.pat_elab.specs.Elaborated.{AreVariables};
+ghost use Rattle.exp_forms.specs.of_elab_context.Telling.{IsContext};
+ghost use Rattle.closed_types.specs.of_elab_steps.Growing.{Grows};
+ghost use Rattle.exp_forms.specs.of_pat_elab.Elaborated.{AreVariables};
 ghost use Rattle.dec_forms.specs.Decs.{IsDec};
 ghost use Rattle.dec_forms.specs.Telling.{HasFurther, with_all};
 ghost use Rattle.dec_forms.specs.Binds.{AreBinds, plain_entries};
 
-use elab_context::context::Context;
-use elab_context::entry::Entry;
-use elab_state::state::State;
+use closed_types::elab_state::state::State;
 use elab_types::refused::Refused;
 use exp_forms::distinct::check_once;
+use exp_forms::elab_context::context::Context;
+use exp_forms::elab_context::entry::Entry;
+use exp_forms::pat_elab::bound::BoundVariable;
 use mlc_base::memory::NoMemory;
 use mlc_base::place::Place;
-use pat_elab::bound::BoundVariable;
 use prog_tree::tree::{Binding, Dec, Rule};
 use std::alloc::Global;
 

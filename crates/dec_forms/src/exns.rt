@@ -3,19 +3,19 @@ ghost use Rattle.std.specs.Prelude.{◌≡◌, ◌⊎◌, ◌++◌, ◌∷◌, [
 ghost use Rattle.sml_tree.specs.BareTree.{ExBind as SourceBind, new_exn, same_exn};
 ghost use Rattle.sml_tree.specs.TreeOf.{ex_bind_of, long_vid_of, some_ty_of};
 ghost use Rattle.elab_types.specs.declared.refused.Refused.TheVariants.{Broken, Mistyped, Unbound};
-ghost use Rattle.elab_context.specs.Entries.{entry_in};
-ghost use Rattle.elab_context.specs.Telling.{IsContext, IsUnboundIn};
+ghost use Rattle.exp_forms.specs.of_elab_context.Entries.{entry_in};
+ghost use Rattle.exp_forms.specs.of_elab_context.Telling.{IsContext, IsUnboundIn};
 ghost use Rattle.dec_forms.specs.Entries.{constructing_name};
 ghost use Rattle.dec_forms.specs.Exceptions.{is_raised, AreExns, IsNoExceptionIn, IsSameRefused};
 
 use crate::argument::argument_of;
 use crate::made::ExnsMade;
 use crate::once::constructing;
-use elab_context::context::Context;
-use elab_context::entry::Entry;
-use elab_state::state::State;
-use elab_steps::step::next_variable;
+use closed_types::elab_state::state::State;
+use closed_types::elab_steps::step::next_variable;
 use elab_types::refused::Refused;
+use exp_forms::elab_context::context::Context;
+use exp_forms::elab_context::entry::Entry;
 use mlc_base::place::Place;
 use prog_tree::tree::Dec;
 use sml_tree::ident::{LongVid, Vid};

@@ -1,6 +1,9 @@
 // Declarations, each from its parts, one after the other, and what they bring into scope.
 #![tactic(auto)]
 
+pub use exp_forms;
+pub use exp_forms::{pat_elab, use_elab};
+
 pub mod argument;
 pub mod bindings;
 pub mod binds;

@@ -4,17 +4,17 @@ ghost use Rattle.mlc_base.specs.declared.place.Place.{Place};
 ghost use Rattle.sml_tree.specs.BareTree.{Dec as SourceDec, local_dec};
 ghost use Rattle.sml_tree.specs.TreeOf.{decs_of};
 ghost use Rattle.prog_tree.specs.declared.tree.Dec.{Dec};
-ghost use Rattle.elab_state.specs.declared.state.State.{State};
-ghost use Rattle.elab_context.specs.Telling.{IsContext};
-ghost use Rattle.elab_context.specs.declared.context.Context.{Context};
+ghost use Rattle.closed_types.specs.of_elab_state.declared.state.State.{State};
+ghost use Rattle.exp_forms.specs.of_elab_context.Telling.{IsContext};
+ghost use Rattle.exp_forms.specs.of_elab_context.declared.context.Context.{Context};
 ghost use Rattle.dec_forms.specs.Bringing.{AreBringing, IsBringing};
 ghost use Rattle.dec_forms.specs.declared.brought.Brought.{Brought};
 ghost use Rattle.dec_forms.specs.Local.{mark_in, IsEmpty};
 
 use crate::bring::{bring_types, bring_values};
 use crate::brought::Brought;
-use elab_context::context::Context;
 use elab_types::scope::ScopeMark;
+use exp_forms::elab_context::context::Context;
 use mlc_base::memory::NoMemory;
 use vid_scope::vids::VidMark;
 

@@ -1,6 +1,6 @@
 // Exceptions while they are made.
 
-use elab_context::entry::Entry;
+use exp_forms::elab_context::entry::Entry;
 use prog_tree::tree::Dec;
 use sml_tree::ident::Vid;
 

@@ -4,17 +4,17 @@ ghost use Rattle.core_rules.specs.Restrictions.{distinct};
 ghost use Rattle.core_rules.specs.Words.{same_vid};
 ghost use Rattle.elab_types.specs.declared.refused.Refused.TheVariants.{Broken, Memory};
 ghost use Rattle.exp_forms.specs.Rules.{vids_of};
-ghost use Rattle.elab_context.specs.Telling.{vids_in};
+ghost use Rattle.exp_forms.specs.of_elab_context.Telling.{vids_in};
 ghost use Rattle.dec_forms.specs.Entries.{constructing_name, named_vids};
 
-use elab_context::entry::{Entry, is_kept};
 use elab_types::refused::Refused;
 use exp_forms::distinct::check_once;
+use exp_forms::elab_context::entry::{Entry, is_kept};
+use exp_forms::pat_elab::bound::BoundVariable;
 use mlc_base::memory::NoMemory;
 use mlc_base::place::Place;
 use mlc_names::names::Name;
 use mlc_names::words;
-use pat_elab::bound::BoundVariable;
 use sml_tree::ident::Vid;
 use std::alloc::Global;
 

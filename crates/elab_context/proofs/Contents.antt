@@ -3,12 +3,12 @@ use Rattle.std.proofs.Common.{◌≡◌, ◌⊎◌, inl, inr, slice_get, append-
 use Rattle.std.specs.List.{AllByRecursion}
 use Rattle.std.proofs.lemmas.Bool.{ltb-false, ltb-true}
 use Rattle.sml_tree.specs.declared.ident.Vid.{Vid}
-use Rattle.core_rules.specs.Objects.{Env, TypeStructure}
-use Rattle.core_rules.specs.Restrictions.{distinct}
-use Rattle.core_rules.specs.Words.{same_vid}
-use Rattle.core_elab.specs.Scopes.{Scope}
-use Rattle.elab_typed.specs.Contexts.{Around}
-use Rattle.elab_types.specs.declared.scope.TypeEntry.{TypeEntry}
+use Rattle.vid_scope.specs.of_core_rules.Objects.{Env, TypeStructure}
+use Rattle.vid_scope.specs.of_core_rules.Restrictions.{distinct}
+use Rattle.vid_scope.specs.of_core_rules.Words.{same_vid}
+use Rattle.elab_steps.specs.of_core_elab.Scopes.{Scope}
+use Rattle.elab_steps.specs.of_elab_typed.Contexts.{Around}
+use Rattle.elab_steps.specs.of_elab_types.declared.scope.TypeEntry.{TypeEntry}
 use Rattle.elab_steps.specs.Growing.{Begins}
 use Rattle.elab_steps.specs.World.{World}
 use Rattle.elab_context.specs.Entries.{constructor_entry, constructors_in, constructors_of, entry_in, last_of}

@@ -11,17 +11,17 @@ use Rattle.ty_core.specs.declared.name.TyName.{TyName}
 use Rattle.ty_core.specs.declared.scheme.Quantified.{Quantified}
 use Rattle.ty_solve.specs.Substitution.{is_below, are_below}
 use Rattle.ty_solve.specs.declared.limit.Limit.{Limit}
-use Rattle.core_rules.specs.Objects.{AllAllowed, Over, AllOver, Value, put}
-use Rattle.core_rules.specs.Choices.{Choices}
-use Rattle.core_rules.specs.Typing.{Chosen}
-use Rattle.ir_poly.specs.Types.{nth_type, in_scope, admits_in, over, all_over, find, argument_at, Constructor, constructor_of}
-use Rattle.ir_poly.specs.TestsChecked.{HasConstructor}
-use Rattle.elab_typed.specs.Numbers.{name_as, type_as, types_as}
-use Rattle.elab_typed.specs.Contexts.{Around}
-use Rattle.elab_typed.specs.Instances.{IsGivenAt}
-use Rattle.elab_typed.proofs.Names.{replace-as, typs_of-as}
-use Rattle.elab_typed.proofs.Under.{over-under}
-use Rattle.elab_state.specs.declared.state.State.{State}
+use Rattle.vid_scope.specs.of_core_rules.Objects.{AllAllowed, Over, AllOver, Value, put}
+use Rattle.vid_scope.specs.of_core_rules.Choices.{Choices}
+use Rattle.vid_scope.specs.of_core_rules.Typing.{Chosen}
+use Rattle.elab_steps.specs.of_ir_poly.Types.{nth_type, in_scope, admits_in, over, all_over, find, argument_at, Constructor, constructor_of}
+use Rattle.elab_steps.specs.of_ir_poly.TestsChecked.{HasConstructor}
+use Rattle.elab_steps.specs.of_elab_typed.Numbers.{name_as, type_as, types_as}
+use Rattle.elab_steps.specs.of_elab_typed.Contexts.{Around}
+use Rattle.elab_steps.specs.of_elab_typed.Instances.{IsGivenAt}
+use Rattle.elab_steps.proofs.of_elab_typed.Names.{replace-as, typs_of-as}
+use Rattle.elab_steps.proofs.of_elab_typed.Under.{over-under}
+use Rattle.elab_steps.specs.of_elab_state.declared.state.State.{State}
 use Rattle.elab_steps.specs.Growing.{Always}
 use Rattle.elab_steps.specs.Instances.{IsInstance}
 use Rattle.elab_steps.specs.World.{World, type_of}

@@ -11,23 +11,23 @@ use Rattle.ty_core.specs.Statics.{TypeFunction, replace, replace_all}
 use Rattle.ty_table.specs.TypeAt.{type_at}
 use Rattle.ty_solve.specs.Substitution.{sub, subs, is_below}
 use Rattle.ty_solve.proofs.Holding.{type-stays}
-use Rattle.ty_instance.proofs.Going.{longer}
+use Rattle.elab_steps.proofs.of_ty_instance.Going.{longer}
 use Rattle.sml_tree.specs.BareTree.{Ty}
-use Rattle.core_rules.specs.Objects.{at}
-use Rattle.elab_typed.specs.Contexts.{Around, context_under}
-use Rattle.elab_typed.specs.Elaborates.{Stands}
-use Rattle.elab_typed.proofs.Closed.{types-under}
-use Rattle.elab_types.specs.Reading.{entry_of, function_in, Reads}
-use Rattle.elab_types.specs.Annotations.{IsTypeOf}
-use Rattle.elab_types.specs.declared.scope.TypeEntry.{TypeEntry}
-use Rattle.elab_types.proofs.Holding.{tyvar-held}
-use Rattle.elab_types.proofs.Keeping.{holds_later, entry-held}
-use Rattle.ir_tables.specs.Tables.{parameters_at, parameters_of}
-use Rattle.elab_state.specs.Namings.{IsAmong}
-use Rattle.elab_state.specs.States.{types_in, made}
+use Rattle.vid_scope.specs.of_core_rules.Objects.{at}
+use Rattle.elab_steps.specs.of_elab_typed.Contexts.{Around, context_under}
+use Rattle.elab_steps.specs.of_elab_typed.Elaborates.{Stands}
+use Rattle.elab_steps.proofs.of_elab_typed.Closed.{types-under}
+use Rattle.elab_steps.specs.of_elab_types.Reading.{entry_of, function_in, Reads}
+use Rattle.elab_steps.specs.of_elab_types.Annotations.{IsTypeOf}
+use Rattle.elab_steps.specs.of_elab_types.declared.scope.TypeEntry.{TypeEntry}
+use Rattle.elab_steps.proofs.of_elab_types.Holding.{tyvar-held}
+use Rattle.elab_steps.proofs.of_elab_types.Keeping.{holds_later, entry-held}
+use Rattle.elab_steps.specs.of_ir_tables.Tables.{parameters_at, parameters_of}
+use Rattle.elab_steps.specs.of_elab_state.Namings.{IsAmong}
+use Rattle.elab_steps.specs.of_elab_state.States.{types_in, made}
 use Rattle.elab_steps.specs.Growing.{HasGeneral, Begins, Grows}
 use Rattle.elab_steps.specs.Instances.{IsScheme}
-use Rattle.elab_state.specs.declared.state.State.{State}
+use Rattle.elab_steps.specs.of_elab_state.declared.state.State.{State}
 use Rattle.elab_steps.specs.Tidy.{IsLive}
 use Rattle.elab_steps.specs.World.{World, type_of, Comes}
 use Rattle.elab_steps.proofs.Growing.{below-up, general_later, type_later}

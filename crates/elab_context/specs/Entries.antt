@@ -5,11 +5,11 @@ use Rattle.std.specs.Map.{lookup}
 use Rattle.mlc_names.specs.StandardWords.{word_ref}
 use Rattle.sml_tree.specs.declared.ident.Vid.{Vid}
 use Rattle.sml_tree.specs.declared.ident.Vid.TheVariants.{Named}
-use Rattle.core_rules.specs.Words.{same_vid}
+use Rattle.vid_scope.specs.of_core_rules.Words.{same_vid}
 use Rattle.ty_solve.specs.declared.limit.Limit.{Limit}
 use Rattle.vid_scope.specs.Entries.{entry_of}
 use Rattle.vid_scope.specs.declared.vids.VidScope.{VidScope}
-use Rattle.elab_types.specs.declared.scope.TypeEntry.{TypeEntry}
+use Rattle.elab_steps.specs.of_elab_types.declared.scope.TypeEntry.{TypeEntry}
 use Rattle.elab_context.specs.declared.context.Context.{Context}
 use Rattle.elab_context.specs.declared.entry.Scheme.{Scheme}
 use Rattle.elab_context.specs.declared.entry.Built.TheVariants.{Ref, Declared}

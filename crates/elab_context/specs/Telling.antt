@@ -15,25 +15,25 @@ use Rattle.ty_basis.specs.Primitives.{prim_type, primitive_type}
 use Rattle.ty_core.specs.declared.env.Status.TheVariants as status
 use Rattle.sml_tree.specs.Terminal.{LongVid}
 use Rattle.sml_tree.specs.declared.ident.Vid.{Vid}
-use Rattle.core_rules.specs.Objects.{at, monomorphic, Scheme, Over, Env, env, Values, no_structures, structure_map, TypeStructure}
-use Rattle.core_rules.specs.Restrictions.{distinct}
-use Rattle.core_rules.specs.Words.{same_vid}
-use Rattle.core_rules.specs.Elaborated.{type_in}
-use Rattle.core_rules.specs.Initial.{ref_row}
-use Rattle.core_rules.specs.Typing.{all_general}
-use Rattle.ir_poly.specs.Prog.{fixed, held}
-use Rattle.ir_poly.specs.Types.{over, changed, find, constructor_of, initial_constructors, Constructor as ConRow}
-use Rattle.ir_poly.specs.TestsChecked.{Known, of_type, own, alone_type, exception as exception_known}
-use Rattle.ir_poly.specs.TestsChecked as checked
-use Rattle.core_elab.specs.Scopes.{Denotes, variable, constructor, reference, exception, primitive, Scope, empty, scoped, long_denotes_in, inside_in, typed_in}
-use Rattle.ir_tables.specs.Tables.{parameters_of, parameters_at}
-use Rattle.elab_typed.specs.Numbers.{name_as, type_as, KeepsInitial}
-use Rattle.elab_typed.specs.Contexts.{Kept, KeptValues, given, given_values, general, single, raised, kept_in, Around, IsOver, generic}
-use Rattle.elab_types.specs.declared.scope.TypeEntry.{TypeEntry}
-use Rattle.elab_types.specs.Reading.{entry_of as type_entry_of, AreKnown, Holds}
-use Rattle.elab_state.specs.Namings.{IsAmong}
-use Rattle.elab_state.specs.States.{types_in, made, dead_level}
-use Rattle.elab_state.specs.declared.state.State.{State}
+use Rattle.vid_scope.specs.of_core_rules.Objects.{at, monomorphic, Scheme, Over, Env, env, Values, no_structures, structure_map, TypeStructure}
+use Rattle.vid_scope.specs.of_core_rules.Restrictions.{distinct}
+use Rattle.vid_scope.specs.of_core_rules.Words.{same_vid}
+use Rattle.vid_scope.specs.of_core_rules.Elaborated.{type_in}
+use Rattle.vid_scope.specs.of_core_rules.Initial.{ref_row}
+use Rattle.vid_scope.specs.of_core_rules.Typing.{all_general}
+use Rattle.elab_steps.specs.of_ir_poly.Prog.{fixed, held}
+use Rattle.elab_steps.specs.of_ir_poly.Types.{over, changed, find, constructor_of, initial_constructors, Constructor as ConRow}
+use Rattle.elab_steps.specs.of_ir_poly.TestsChecked.{Known, of_type, own, alone_type, exception as exception_known}
+use Rattle.elab_steps.specs.of_ir_poly.TestsChecked as checked
+use Rattle.elab_steps.specs.of_core_elab.Scopes.{Denotes, variable, constructor, reference, exception, primitive, Scope, empty, scoped, long_denotes_in, inside_in, typed_in}
+use Rattle.elab_steps.specs.of_ir_tables.Tables.{parameters_of, parameters_at}
+use Rattle.elab_steps.specs.of_elab_typed.Numbers.{name_as, type_as, KeepsInitial}
+use Rattle.elab_steps.specs.of_elab_typed.Contexts.{Kept, KeptValues, given, given_values, general, single, raised, kept_in, Around, IsOver, generic}
+use Rattle.elab_steps.specs.of_elab_types.declared.scope.TypeEntry.{TypeEntry}
+use Rattle.elab_steps.specs.of_elab_types.Reading.{entry_of as type_entry_of, AreKnown, Holds}
+use Rattle.elab_steps.specs.of_elab_state.Namings.{IsAmong}
+use Rattle.elab_steps.specs.of_elab_state.States.{types_in, made, dead_level}
+use Rattle.elab_steps.specs.of_elab_state.declared.state.State.{State}
 use Rattle.elab_steps.specs.Growing.{AreLive, HasGeneral, HasType}
 use Rattle.elab_steps.specs.Instances.{IsScheme}
 use Rattle.elab_steps.specs.Tidy.{IsTidy}

@@ -1,15 +1,15 @@
 // What is in scope.
 ghost use Rattle.std.specs.Prelude.{◌≡◌, Some, None, IfOk, IfErr};
 ghost use Rattle.sml_tree.specs.TreeOf.{long_vid_of};
-ghost use Rattle.elab_types.specs.declared.refused.Refused.TheVariants.{Unbound};
-ghost use Rattle.elab_typed.specs.Numbers.{name_as};
+ghost use Rattle.elab_steps.specs.of_elab_types.declared.refused.Refused.TheVariants.{Unbound};
+ghost use Rattle.elab_steps.specs.of_elab_typed.Numbers.{name_as};
 ghost use Rattle.elab_context.specs.Entries.{constructors_of, contents_at, entry_in, limit_of, member_in, number_in};
 ghost use Rattle.elab_context.specs.Telling.{IsUnboundIn};
 
 use crate::entry::{Entry, constructor_with};
 use crate::schemes::Schemes;
-use elab_types::refused::Refused;
-use elab_types::scope::{TypeEntry, TypeScope};
+use elab_steps::elab_types::refused::Refused;
+use elab_steps::elab_types::scope::{TypeEntry, TypeScope};
 use mlc_base::memory::NoMemory;
 use mlc_base::place::Place;
 use scoped_map::scoped::Scoped;

@@ -1,6 +1,6 @@
 // What is kept of identifiers.
 ghost use Rattle.std.specs.Prelude.{◌≡◌};
-ghost use Rattle.core_rules.specs.Restrictions.{is_kept as is_kept_vid};
+ghost use Rattle.vid_scope.specs.of_core_rules.Restrictions.{is_kept as is_kept_vid};
 ghost use Rattle.elab_context.specs.Entries.{constructor_entry, is_free as is_free_entry};
 
 use mlc_names::names::Name;

@@ -7,7 +7,7 @@ ghost use Rattle.elab_context.specs.Entries.{limit_of};
 ghost use Rattle.elab_context.specs.Telling.{scheme_at, IsContext};
 
 use crate::context::Context;
-use elab_state::state::State;
+use elab_steps::elab_state::state::State;
 use elab_steps::instance::instance;
 use mlc_base::memory::NoMemory;
 use std::alloc::Global;

@@ -19,10 +19,10 @@ use Rattle.pat_elab.specs.declared.bound.BoundVariable.{BoundVariable}
 use Rattle.pat_elab.specs.declared.bound.TypedPat.{TypedPat}
 use Rattle.use_elab.specs.Elaborated.{IsExp}
 use Rattle.use_elab.specs.declared.typed.TypedExp.{TypedExp}
-use Rattle.exp_forms.proofs.Nodes.{bind-is}
-use Rattle.general_worlds.specs.Inner.{deeper}
-use Rattle.general_worlds.specs.Tidy.{AreOuter, Enters}
-use Rattle.general_worlds.proofs.Declaring.{earlier-outer}
+use Rattle.scope_decs.proofs.of_exp_forms.Nodes.{bind-is}
+use Rattle.general_decs.specs.of_general_worlds.Inner.{deeper}
+use Rattle.general_decs.specs.of_general_worlds.Tidy.{AreOuter, Enters}
+use Rattle.general_decs.proofs.of_general_worlds.Declaring.{earlier-outer}
 use Rattle.general_decs.specs.Inside.{AreInside, StandBehind}
 use Rattle.general_decs.specs.Outside.{outside}
 use Rattle.general_decs.specs.Scoped.{IsBegun}

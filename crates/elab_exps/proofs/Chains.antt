@@ -17,16 +17,16 @@ use Rattle.elab_state.specs.declared.state.State.{State}
 use Rattle.elab_context.specs.declared.context.Context.{Context}
 use Rattle.use_elab.specs.Elaborated.{IsExp}
 use Rattle.use_elab.specs.declared.typed.TypedExp.{TypedExp}
-use Rattle.exp_forms.specs.Chains.{IsLeft, IsRight, Operands}
-use Rattle.exp_forms.specs.Choices.{AreJoined, none_joined, one_joined}
-use Rattle.exp_forms.specs.Joints.{joint_of}
-use Rattle.exp_forms.specs.Choices as choice
-use Rattle.exp_forms.specs.Parts.{AreExpsOf}
-use Rattle.exp_forms.specs.declared.parts.LeftChain.{LeftChain}
-use Rattle.exp_forms.specs.declared.parts.Operator.{Operator}
-use Rattle.exp_forms.specs.declared.parts.RightChain.{RightChain}
-use Rattle.exp_forms.proofs.Joining.{none_are}
-use Rattle.exp_forms.proofs.Nodes.{part-is, source-Chain}
+use Rattle.scope_decs.specs.of_exp_forms.Chains.{IsLeft, IsRight, Operands}
+use Rattle.scope_decs.specs.of_exp_forms.Choices.{AreJoined, none_joined, one_joined}
+use Rattle.scope_decs.specs.of_exp_forms.Joints.{joint_of}
+use Rattle.scope_decs.specs.of_exp_forms.Choices as choice
+use Rattle.scope_decs.specs.of_exp_forms.Parts.{AreExpsOf}
+use Rattle.scope_decs.specs.of_exp_forms.declared.parts.LeftChain.{LeftChain}
+use Rattle.scope_decs.specs.of_exp_forms.declared.parts.Operator.{Operator}
+use Rattle.scope_decs.specs.of_exp_forms.declared.parts.RightChain.{RightChain}
+use Rattle.scope_decs.proofs.of_exp_forms.Joining.{none_are}
+use Rattle.scope_decs.proofs.of_exp_forms.Nodes.{part-is, source-Chain}
 use Rattle.elab_exps.proofs.Loops.{exp_in, same-at}
 
 -- the operand of a part

@@ -24,16 +24,16 @@ use Rattle.elab_context.specs.declared.context.Context.{Context}
 use Rattle.elab_context.specs.declared.entry.Entry.{Entry}
 use Rattle.use_elab.specs.Elaborated.{IsExp}
 use Rattle.use_elab.specs.declared.typed.TypedExp.{TypedExp}
-use Rattle.exp_forms.proofs.Nodes.{source-Let}
-use Rattle.dec_forms.specs.Bringing.{AreBringing, IsBringing}
-use Rattle.dec_forms.specs.Decs.{IsDecs}
-use Rattle.dec_forms.specs.Entries.{Adds}
-use Rattle.dec_forms.specs.Local.{IsEmpty, block_mark_in, mark_in}
-use Rattle.dec_forms.specs.declared.block.BlockMark.{BlockMark}
-use Rattle.dec_forms.specs.declared.brought.Brought.{Brought}
-use Rattle.dec_forms.specs.declared.local.LocalMark.{LocalMark}
-use Rattle.dec_forms.proofs.Several.{more_brought, none_brought}
-use Rattle.dec_forms.proofs.Sequence.{sequence_is}
+use Rattle.scope_decs.proofs.of_exp_forms.Nodes.{source-Let}
+use Rattle.scope_decs.specs.of_dec_forms.Bringing.{AreBringing, IsBringing}
+use Rattle.scope_decs.specs.of_dec_forms.Decs.{IsDecs}
+use Rattle.scope_decs.specs.of_dec_forms.Entries.{Adds}
+use Rattle.scope_decs.specs.of_dec_forms.Local.{IsEmpty, block_mark_in, mark_in}
+use Rattle.scope_decs.specs.of_dec_forms.declared.block.BlockMark.{BlockMark}
+use Rattle.scope_decs.specs.of_dec_forms.declared.brought.Brought.{Brought}
+use Rattle.scope_decs.specs.of_dec_forms.declared.local.LocalMark.{LocalMark}
+use Rattle.scope_decs.proofs.of_dec_forms.Several.{more_brought, none_brought}
+use Rattle.scope_decs.proofs.of_dec_forms.Sequence.{sequence_is}
 use Rattle.elab_exps.specs.Decs.{AreDeclared, IsDeclared, StandsIn}
 use Rattle.elab_exps.proofs.Loops.{exp_in}
 use Rattle.elab_exps.proofs.Sources.{source-Abbreviation, source-Datatype, source-Declarations, source-Exception, source-Local, source-Open, source-Replicate, source-Withtype}

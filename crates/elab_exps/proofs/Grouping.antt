@@ -32,24 +32,24 @@ use Rattle.elab_context.specs.declared.context.Context.{Context}
 use Rattle.pat_elab.specs.declared.bound.BoundVariable.{BoundVariable}
 use Rattle.use_elab.specs.Elaborated.{IsExp}
 use Rattle.use_elab.specs.declared.typed.TypedExp.{TypedExp}
-use Rattle.exp_forms.specs.Clauses.{body_of, fresh_from}
-use Rattle.exp_forms.specs.Functions.{IsFunction}
-use Rattle.exp_forms.specs.Functions as curried
-use Rattle.exp_forms.specs.Parameters.{AreEntered, Takes}
-use Rattle.exp_forms.specs.Rules.{AreRules}
-use Rattle.exp_forms.specs.declared.functions_made.Entered.{Entered}
-use Rattle.exp_forms.specs.declared.functions_made.FunctionMade.{FunctionMade}
-use Rattle.exp_forms.specs.declared.rules_made.RulesMade.{RulesMade}
-use Rattle.exp_forms.proofs.Clausing.{fun-is, fun-rules}
-use Rattle.exp_forms.proofs.EnteringFunctions.{entered-grows, entered-types}
-use Rattle.exp_forms.proofs.Nodes.{bind-is, source-Fn, source-Val}
-use Rattle.dec_forms.specs.Bringing.{IsBringing}
-use Rattle.dec_forms.specs.declared.brought.Brought.{Brought}
-use Rattle.rec_groups.specs.Functions.{AreFunctions}
-use Rattle.rec_groups.specs.Heads.{AreReserved, IsAnnotatedHead, falling, with_own}
-use Rattle.rec_groups.specs.declared.head.Head.{Head}
-use Rattle.rec_groups.proofs.Adding.{no_functions}
-use Rattle.rec_groups.proofs.Annotating.{vid_annotated}
+use Rattle.scope_decs.specs.of_exp_forms.Clauses.{body_of, fresh_from}
+use Rattle.scope_decs.specs.of_exp_forms.Functions.{IsFunction}
+use Rattle.scope_decs.specs.of_exp_forms.Functions as curried
+use Rattle.scope_decs.specs.of_exp_forms.Parameters.{AreEntered, Takes}
+use Rattle.scope_decs.specs.of_exp_forms.Rules.{AreRules}
+use Rattle.scope_decs.specs.of_exp_forms.declared.functions_made.Entered.{Entered}
+use Rattle.scope_decs.specs.of_exp_forms.declared.functions_made.FunctionMade.{FunctionMade}
+use Rattle.scope_decs.specs.of_exp_forms.declared.rules_made.RulesMade.{RulesMade}
+use Rattle.scope_decs.proofs.of_exp_forms.Clausing.{fun-is, fun-rules}
+use Rattle.scope_decs.proofs.of_exp_forms.EnteringFunctions.{entered-grows, entered-types}
+use Rattle.scope_decs.proofs.of_exp_forms.Nodes.{bind-is, source-Fn, source-Val}
+use Rattle.scope_decs.specs.of_dec_forms.Bringing.{IsBringing}
+use Rattle.scope_decs.specs.of_dec_forms.declared.brought.Brought.{Brought}
+use Rattle.general_decs.specs.of_rec_groups.Functions.{AreFunctions}
+use Rattle.general_decs.specs.of_rec_groups.Heads.{AreReserved, IsAnnotatedHead, falling, with_own}
+use Rattle.general_decs.specs.of_rec_groups.declared.head.Head.{Head}
+use Rattle.general_decs.proofs.of_rec_groups.Adding.{no_functions}
+use Rattle.general_decs.proofs.of_rec_groups.Annotating.{vid_annotated}
 use Rattle.general_decs.specs.Inside.{AreInside, marked_as}
 use Rattle.general_decs.specs.Scoped.{IsBegun, ScopesThese}
 use Rattle.general_decs.specs.Whole.{IsDeclared}

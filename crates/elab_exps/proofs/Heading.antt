@@ -16,10 +16,10 @@ use Rattle.elab_context.specs.declared.context.Context.{Context}
 use Rattle.elab_context.proofs.Reading.{context_later}
 use Rattle.pat_elab.specs.Elaborated.{AreVariables}
 use Rattle.pat_elab.proofs.Forms.{all-later}
-use Rattle.rec_groups.specs.Heads.{AreReserved, IsReserved, none_reserved, one_reserved, with_own}
-use Rattle.rec_groups.specs.declared.head.Head.{Head}
-use Rattle.rec_groups.proofs.Entering.{all-reversed}
-use Rattle.rec_groups.proofs.Reserving.{reverse-last}
+use Rattle.general_decs.specs.of_rec_groups.Heads.{AreReserved, IsReserved, none_reserved, one_reserved, with_own}
+use Rattle.general_decs.specs.of_rec_groups.declared.head.Head.{Head}
+use Rattle.general_decs.proofs.of_rec_groups.Entering.{all-reversed}
+use Rattle.general_decs.proofs.of_rec_groups.Reserving.{reverse-last}
 use Rattle.general_decs.proofs.Functions.{reserved-grows}
 use Rattle.elab_exps.specs.Decs.{StandsIn}
 use Rattle.elab_exps.specs.Groups.{HasHead, HaveHeads}

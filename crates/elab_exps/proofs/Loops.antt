@@ -22,16 +22,16 @@ use Rattle.elab_context.specs.declared.context.Context.{Context}
 use Rattle.elab_context.proofs.Reading.{context_later}
 use Rattle.use_elab.specs.Elaborated.{IsExp}
 use Rattle.use_elab.specs.declared.typed.TypedExp.{TypedExp}
-use Rattle.exp_forms.specs.Calls.{IsCall}
-use Rattle.exp_forms.specs.Clauses.{labels_from}
-use Rattle.exp_forms.specs.Lists.{AreElements, IsListed, no_elements}
-use Rattle.exp_forms.specs.Parts.{AreExps, AreFields, before_last, with_labels}
-use Rattle.exp_forms.specs.declared.made.Called.{Called}
-use Rattle.exp_forms.specs.declared.made.FieldsMade.{FieldsMade}
-use Rattle.exp_forms.specs.declared.parts.Listed.{Listed}
-use Rattle.exp_forms.proofs.Joining.{none_are}
-use Rattle.exp_forms.proofs.Nodes.{field-is}
-use Rattle.exp_forms.proofs.Turns.{sequence-is}
+use Rattle.scope_decs.specs.of_exp_forms.Calls.{IsCall}
+use Rattle.scope_decs.specs.of_exp_forms.Clauses.{labels_from}
+use Rattle.scope_decs.specs.of_exp_forms.Lists.{AreElements, IsListed, no_elements}
+use Rattle.scope_decs.specs.of_exp_forms.Parts.{AreExps, AreFields, before_last, with_labels}
+use Rattle.scope_decs.specs.of_exp_forms.declared.made.Called.{Called}
+use Rattle.scope_decs.specs.of_exp_forms.declared.made.FieldsMade.{FieldsMade}
+use Rattle.scope_decs.specs.of_exp_forms.declared.parts.Listed.{Listed}
+use Rattle.scope_decs.proofs.of_exp_forms.Joining.{none_are}
+use Rattle.scope_decs.proofs.of_exp_forms.Nodes.{field-is}
+use Rattle.scope_decs.proofs.of_exp_forms.Turns.{sequence-is}
 use Rattle.elab_exps.specs.Decs.{StandsIn}
 
 -- the context is as it was

@@ -21,13 +21,13 @@ use Rattle.elab_context.proofs.Reading.{context_later}
 use Rattle.use_elab.specs.Elaborated.{IsExp}
 use Rattle.use_elab.specs.declared.typed.TypedExp.{TypedExp}
 use Rattle.core_elab.specs.Resolves.{IsCalled, called_app}
-use Rattle.exp_forms.specs.Calls.{IsCall}
-use Rattle.exp_forms.specs.declared.made.Called.{Called}
-use Rattle.exp_forms.specs.Begun.{IsBegun}
-use Rattle.exp_forms.specs.Rules.{AreRules}
-use Rattle.exp_forms.specs.declared.begun.RuleBegun.{RuleBegun}
-use Rattle.exp_forms.specs.declared.rules_made.RulesMade.{RulesMade}
-use Rattle.exp_forms.proofs.Nodes.{rule-is, source-Apply, source-Fn, source-Handle}
+use Rattle.scope_decs.specs.of_exp_forms.Calls.{IsCall}
+use Rattle.scope_decs.specs.of_exp_forms.declared.made.Called.{Called}
+use Rattle.scope_decs.specs.of_exp_forms.Begun.{IsBegun}
+use Rattle.scope_decs.specs.of_exp_forms.Rules.{AreRules}
+use Rattle.scope_decs.specs.of_exp_forms.declared.begun.RuleBegun.{RuleBegun}
+use Rattle.scope_decs.specs.of_exp_forms.declared.rules_made.RulesMade.{RulesMade}
+use Rattle.scope_decs.proofs.of_exp_forms.Nodes.{rule-is, source-Apply, source-Fn, source-Handle}
 use Rattle.elab_exps.specs.Decs.{StandsIn}
 use Rattle.elab_exps.specs.Groups.{clause_rule}
 use Rattle.elab_exps.proofs.Loops.{exp_in, same-at}

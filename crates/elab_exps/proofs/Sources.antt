@@ -22,8 +22,8 @@ use Rattle.sml_tree.specs.declared.tree.LongIdAt.{LongIdAt}
 use Rattle.sml_tree.specs.declared.tree.Rule.{Rule, size-Rule}
 use Rattle.sml_tree.specs.declared.tree.TypeBind.{TypeBind}
 use Rattle.sml_tree.specs.declared.tree.TyvarSeq.{TyvarSeq}
-use Rattle.exp_forms.specs.Clauses as clauses
-use Rattle.exp_forms.proofs.Clausing.{clause_rules-are}
+use Rattle.scope_decs.specs.of_exp_forms.Clauses as clauses
+use Rattle.scope_decs.proofs.of_exp_forms.Clausing.{clause_rules-are}
 use Rattle.elab_exps.specs.Groups.{clause_rule, function_bind}
 
 pub source-Abbreviation : (p : Place) (bs : Vec TypeBind Global) → dec_of (decs.Abbreviation p bs) ≡ bare.type_dec p (map type_bind_of bs.items)

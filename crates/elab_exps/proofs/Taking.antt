@@ -15,11 +15,11 @@ use Rattle.elab_state.specs.declared.state.State.{State}
 use Rattle.elab_context.specs.declared.context.Context.{Context}
 use Rattle.elab_context.specs.declared.entry.Entry.TheVariants.{Single}
 use Rattle.pat_elab.specs.declared.bound.BoundVariable.{BoundVariable}
-use Rattle.exp_forms.specs.Within.{entries_of, within}
-use Rattle.exp_forms.specs.declared.functions_made.Entered.{Entered}
-use Rattle.exp_forms.proofs.Clausing.{SoFar}
-use Rattle.dec_forms.specs.Telling.{with_all}
-use Rattle.rec_groups.proofs.Entering.{all-both}
+use Rattle.scope_decs.specs.of_exp_forms.Within.{entries_of, within}
+use Rattle.scope_decs.specs.of_exp_forms.declared.functions_made.Entered.{Entered}
+use Rattle.scope_decs.proofs.of_exp_forms.Clausing.{SoFar}
+use Rattle.scope_decs.specs.of_dec_forms.Telling.{with_all}
+use Rattle.general_decs.proofs.of_rec_groups.Entering.{all-both}
 use Rattle.elab_exps.specs.Groups.{HasVariables}
 use Rattle.elab_exps.proofs.Sources.{clause-is}
 

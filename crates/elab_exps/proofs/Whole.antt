@@ -14,10 +14,10 @@ use Rattle.elab_state.specs.declared.state.State.{State}
 use Rattle.elab_context.specs.declared.context.Context.{Context}
 use Rattle.use_elab.specs.Elaborated.{IsExp}
 use Rattle.use_elab.specs.declared.typed.TypedExp.{TypedExp}
-use Rattle.exp_forms.specs.Calls.{IsCall}
-use Rattle.exp_forms.specs.Parts.{AreExps, before_last}
-use Rattle.exp_forms.specs.declared.made.Called.{Called}
-use Rattle.exp_forms.proofs.Nodes.{source-Apply, source-Raise, source-Sequence, source-Typed}
+use Rattle.scope_decs.specs.of_exp_forms.Calls.{IsCall}
+use Rattle.scope_decs.specs.of_exp_forms.Parts.{AreExps, before_last}
+use Rattle.scope_decs.specs.of_exp_forms.declared.made.Called.{Called}
+use Rattle.scope_decs.proofs.of_exp_forms.Nodes.{source-Apply, source-Raise, source-Sequence, source-Typed}
 use Rattle.elab_exps.proofs.Loops.{ExpsSoFar, exp_in, exps_begin, exps_more, sequence_end}
 
 pub of_source : (S T : State) (C : Context) (r : TypedExp) (p q : Exp) (a : bare.Exp) → p ≡ q → exp_of q ≡ a → IsExp S C a T r → IsExp S C (exp_of p) T r

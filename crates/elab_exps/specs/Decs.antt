@@ -6,8 +6,8 @@ use Rattle.elab_state.specs.declared.state.State.{State}
 use Rattle.elab_steps.specs.Growing.{Begins}
 use Rattle.elab_context.specs.Telling.{IsContext}
 use Rattle.elab_context.specs.declared.context.Context.{Context}
-use Rattle.dec_forms.specs.Bringing.{AreBringing, IsBringing}
-use Rattle.dec_forms.specs.declared.brought.Brought.{Brought}
+use Rattle.scope_decs.specs.of_dec_forms.Bringing.{AreBringing, IsBringing}
+use Rattle.scope_decs.specs.of_dec_forms.declared.brought.Brought.{Brought}
 
 -- a state stands in a context: it has what the context speaks of, and is as deep
 pub record StandsIn (S : State) (C : Context) : Type 0 where

@@ -16,14 +16,14 @@ use Rattle.elab_steps.specs.Growing.{HasType}
 use Rattle.elab_context.specs.declared.context.Context.{Context}
 use Rattle.pat_elab.specs.Elaborated.{AreVariables}
 use Rattle.pat_elab.specs.declared.bound.BoundVariable.{BoundVariable}
-use Rattle.exp_forms.specs.Clauses as clauses
-use Rattle.exp_forms.specs.Functions.{IsFunction}
-use Rattle.exp_forms.specs.Within.{within}
-use Rattle.exp_forms.specs.declared.functions_made.FunctionMade.{FunctionMade}
-use Rattle.rec_groups.specs.Functions.{AreFunctions}
-use Rattle.rec_groups.specs.Heads.{IsAnnotatedHead, falling}
-use Rattle.rec_groups.specs.declared.head.Head.{Head}
-use Rattle.general_worlds.specs.Tidy.{AreOuter}
+use Rattle.scope_decs.specs.of_exp_forms.Clauses as clauses
+use Rattle.scope_decs.specs.of_exp_forms.Functions.{IsFunction}
+use Rattle.scope_decs.specs.of_exp_forms.Within.{within}
+use Rattle.scope_decs.specs.of_exp_forms.declared.functions_made.FunctionMade.{FunctionMade}
+use Rattle.general_decs.specs.of_rec_groups.Functions.{AreFunctions}
+use Rattle.general_decs.specs.of_rec_groups.Heads.{IsAnnotatedHead, falling}
+use Rattle.general_decs.specs.of_rec_groups.declared.head.Head.{Head}
+use Rattle.general_decs.specs.of_general_worlds.Tidy.{AreOuter}
 use Rattle.general_decs.specs.Inside.{marked_as}
 use Rattle.general_decs.specs.Scoped.{IsBegun, ScopesThese}
 use Rattle.general_decs.specs.Whole.{IsDeclared}

@@ -1,6 +1,8 @@
 // Expressions, whatever their form.
 #![tactic(auto)]
 
+pub use general_decs::general_worlds;
+
 pub mod absent;
 pub mod exps;
 pub mod heads;

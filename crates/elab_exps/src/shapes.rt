@@ -6,10 +6,10 @@ ghost use Rattle.elab_exps.specs.declared.shapes.Shape.TheVariants.{Left};
 ghost use Rattle.mlc_names.specs.declared.label.Label.TheVariants.{Number};
 ghost use Rattle.sml_tree.specs.declared.tree.Joint.TheVariants.{Infix};
 
-use exp_forms::parts::Operator;
 use mlc_base::memory::NoMemory;
 use mlc_names::label::Label;
 use pat_elab::stopped::Stopped;
+use scope_decs::exp_forms::parts::Operator;
 use sml_tree::tree::{Joint, Part};
 
 /// The label of the part of a tuple behind so many others.

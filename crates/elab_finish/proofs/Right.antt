@@ -22,8 +22,8 @@ use Rattle.dec_forms.specs.Decs.{IsDecs}
 use Rattle.dec_forms.proofs.Sequencing.{decs-do}
 use Rattle.elab_worlds.specs.Final.{AreConstructors, IsFinal, IsLast, IsOrdered, final_world}
 use Rattle.elab_worlds.proofs.Final.{final-comes, finals-ordered, state-ends}
-use Rattle.ir_prog.specs.Programs.{body_in}
-use Rattle.ir_prog.specs.declared.program.Program.{Program}
+use Rattle.final_types.specs.of_ir_prog.Programs.{body_in}
+use Rattle.final_types.specs.of_ir_prog.declared.program.Program.{Program}
 use Rattle.final_types.specs.Programs.{IsProgramWith}
 use Rattle.elab_finish.specs.Finished.{IsFinished}
 use Rattle.elab_finish.proofs.Ending.{final-end}

@@ -7,8 +7,8 @@ use Rattle.ir_tables.specs.Tables.{constructors_of}
 use Rattle.prog_tree.specs.Readings.{reading}
 use Rattle.prog_tree.specs.TreeOf.{Reading, body_of}
 use Rattle.prog_tree.specs.declared.tree.Dec.{Dec}
-use Rattle.ir_prog.specs.Programs.{body_in}
-use Rattle.ir_prog.specs.declared.program.Program.{Program}
+use Rattle.final_types.specs.of_ir_prog.Programs.{body_in}
+use Rattle.final_types.specs.of_ir_prog.declared.program.Program.{Program}
 use Rattle.prog_renumber.specs.Renumbered.{renumbered}
 use Rattle.elab_typed.specs.Laws.{IsProgramOf}
 use Rattle.elab_state.specs.declared.state.State.{State}

@@ -4,7 +4,7 @@ ghost use Rattle.sml_tree.specs.BareTree as bare;
 ghost use Rattle.sml_tree.specs.TreeOf as source;
 ghost use Rattle.ir_poly.specs.Types.{initial_constructors};
 ghost use Rattle.ir_tables.specs.Tables.{constructors_of};
-ghost use Rattle.ir_prog.specs.Programs.{body_in};
+ghost use Rattle.final_types.specs.of_ir_prog.Programs.{body_in};
 ghost use Rattle.elab_typed.specs.Laws.{IsProgramOf};
 ghost use Rattle.elab_state.specs.declared.state.State.{State};
 ghost use Rattle.elab_context.specs.declared.context.Context.{Context};
@@ -15,8 +15,8 @@ ghost use Rattle.elab_worlds.specs.Final.{IsLast, IsOrdered};
 ghost use Rattle.final_types.specs.Programs.{IsProgramWith};
 
 use elab_state::state::State;
+use final_types::ir_prog::program::Program;
 use final_types::program::program_of;
-use ir_prog::program::Program;
 use mlc_base::memory::NoMemory;
 use prog_tree::tree::Dec;
 use std::alloc::Global;

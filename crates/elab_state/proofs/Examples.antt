@@ -4,13 +4,13 @@ use Rattle.std.proofs.lemmas.Bool.{eqb-true, lt-ltb}
 use Rattle.ty_core.specs.Types.{Typ, var, con, none, name}
 use Rattle.ty_core.specs.declared.mark.Mark.TheVariants.{Any}
 use Rattle.ty_core.specs.declared.scheme.Quantified.{Quantified}
-use Rattle.ty_solve.specs.Substitution.{Entry, Meets, Solves}
-use Rattle.ty_solve.specs.SlotsOf.{seen}
-use Rattle.ty_solve.specs.Limits.{Over, limit_at}
-use Rattle.ty_solve.specs.declared.limit.Limit.{Limit}
-use Rattle.ty_solve.specs.declared.subst.Slot.{Slot}
-use Rattle.ty_solve.specs.declared.subst.Slot.TheVariants.{Open, Full}
-use Rattle.ir_poly.specs.Types.{int_name, function_type, over, in_scope, admits_in}
+use Rattle.ty_instance.specs.of_ty_solve.Substitution.{Entry, Meets, Solves}
+use Rattle.ty_instance.specs.of_ty_solve.SlotsOf.{seen}
+use Rattle.ty_instance.specs.of_ty_solve.Limits.{Over, limit_at}
+use Rattle.ty_instance.specs.of_ty_solve.declared.limit.Limit.{Limit}
+use Rattle.ty_instance.specs.of_ty_solve.declared.subst.Slot.{Slot}
+use Rattle.ty_instance.specs.of_ty_solve.declared.subst.Slot.TheVariants.{Open, Full}
+use Rattle.prog_tree.specs.of_ir_poly.Types.{int_name, function_type, over, in_scope, admits_in}
 use Rattle.elab_state.specs.Readings.{type_of}
 use Rattle.elab_state.specs.States.{dead_level}
 use Rattle.elab_state.specs.Generic.{Generic}

@@ -6,11 +6,11 @@ use Rattle.ty_core.specs.declared.mark.Mark.{Mark}
 use Rattle.ty_core.specs.declared.mark.Mark.TheVariants.{Any, Equality}
 use Rattle.ty_core.specs.declared.scheme.Quantified.{Quantified}
 use Rattle.ty_table.specs.TypeAt.{top}
-use Rattle.ty_solve.specs.Substitution.{Entry, Solves, is_below, are_below}
-use Rattle.ty_solve.specs.Limits.{IsOver, IsSolvableOver}
-use Rattle.ty_solve.specs.declared.limit.Limit.{Limit}
-use Rattle.ty_solve.proofs.Tops.{top-below}
-use Rattle.ir_poly.specs.Types.{in_scope, admits_in, is_equality, over, all_over}
+use Rattle.ty_instance.specs.of_ty_solve.Substitution.{Entry, Solves, is_below, are_below}
+use Rattle.ty_instance.specs.of_ty_solve.Limits.{IsOver, IsSolvableOver}
+use Rattle.ty_instance.specs.of_ty_solve.declared.limit.Limit.{Limit}
+use Rattle.ty_instance.proofs.of_ty_solve.Tops.{top-below}
+use Rattle.prog_tree.specs.of_ir_poly.Types.{in_scope, admits_in, is_equality, over, all_over}
 use Rattle.elab_state.specs.States.{made, said_in, limit_in, general_in}
 use Rattle.elab_state.specs.Generic.{Generic, GenericSolution}
 use Rattle.elab_state.specs.declared.state.State.{State}

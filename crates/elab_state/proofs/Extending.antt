@@ -1,10 +1,10 @@
 -- States that grow from one another, and steps one after the other.
 use Rattle.std.proofs.Common.{◌≡◌, ◌<◌, ◌≤◌, ℕ, refl, sym, ap, subst, ◌∙◌, arith}
-use Rattle.ty_solve.specs.Limits.{NoFurther}
-use Rattle.ty_solve.specs.declared.limit.Limit.{Limit}
+use Rattle.ty_instance.specs.of_ty_solve.Limits.{NoFurther}
+use Rattle.ty_instance.specs.of_ty_solve.declared.limit.Limit.{Limit}
 use Rattle.ty_instance.proofs.Going.{stays-on, whole}
 use Rattle.elab_state.specs.States.{types_in, made, limit_in}
-use Rattle.ir_tables.specs.Tables.{initial_of, parameters_of, strings_of}
+use Rattle.prog_tree.specs.of_ir_tables.Tables.{initial_of, parameters_of, strings_of}
 use Rattle.elab_state.specs.Steps.{Begins, Grows, Narrows, Extends}
 use Rattle.elab_state.specs.declared.state.State.{State}
 

@@ -3,11 +3,11 @@ use Rattle.std.proofs.Common.{◌≡◌, ◌<◌, ◌≤◌, ◌⊎◌, inl, inr
 use Rattle.std.proofs.lemmas.Bool.{ltb-true, ltb-false, lt-ltb, and_parts, and_from}
 use Rattle.ty_core.specs.Types.{Typ, Typs, var, con, none, more}
 use Rattle.ty_core.specs.declared.scheme.Quantified.{Quantified}
-use Rattle.ty_solve.specs.Limits.{NoFurther, Limited, AllLimited, LimitedAt, AreLimited, Over}
-use Rattle.ty_solve.specs.Substitution.{Entry, free, bound, row, Meets, is_in, are_in, is_open}
-use Rattle.ty_solve.specs.Weight.{weight, weights, WeighsAt, IsAcyclic, AreBelow, BelowAt}
-use Rattle.ty_solve.specs.declared.limit.Limit.{Limit}
-use Rattle.ir_poly.specs.Types.{in_scope, admits_in, is_equality, is_declarable, are_new, over}
+use Rattle.ty_instance.specs.of_ty_solve.Limits.{NoFurther, Limited, AllLimited, LimitedAt, AreLimited, Over}
+use Rattle.ty_instance.specs.of_ty_solve.Substitution.{Entry, free, bound, row, Meets, is_in, are_in, is_open}
+use Rattle.ty_instance.specs.of_ty_solve.Weight.{weight, weights, WeighsAt, IsAcyclic, AreBelow, BelowAt}
+use Rattle.ty_instance.specs.of_ty_solve.declared.limit.Limit.{Limit}
+use Rattle.prog_tree.specs.of_ir_poly.Types.{in_scope, admits_in, is_equality, is_declarable, are_new, over}
 use Rattle.elab_state.specs.States.{dead_level}
 use Rattle.elab_state.specs.Generic.{Generic}
 use Rattle.elab_state.specs.Generalising.{inside, Generalises, InnerSolution}

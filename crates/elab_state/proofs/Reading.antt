@@ -7,12 +7,12 @@ use Rattle.ty_core.specs.Types.{Typ}
 use Rattle.ty_core.specs.declared.name.TyName.{TyName}
 use Rattle.ty_core.specs.declared.scheme.Quantified.{Quantified}
 use Rattle.ty_table.specs.TypeAt.{type_at}
-use Rattle.ty_solve.specs.Substitution.{sub}
-use Rattle.ty_solve.proofs.Holding.{type-stays}
-use Rattle.ir_poly.specs.Types as clean
-use Rattle.ir_tables.specs.Rows.{constructor_at, constructors_at}
-use Rattle.ir_tables.specs.Tables.{parameters_at}
-use Rattle.ir_tables.specs.declared.constructors.Constructor.{Constructor}
+use Rattle.ty_instance.specs.of_ty_solve.Substitution.{sub}
+use Rattle.ty_instance.proofs.of_ty_solve.Holding.{type-stays}
+use Rattle.prog_tree.specs.of_ir_poly.Types as clean
+use Rattle.prog_tree.specs.of_ir_tables.Rows.{constructor_at, constructors_at}
+use Rattle.prog_tree.specs.of_ir_tables.Tables.{parameters_at}
+use Rattle.prog_tree.specs.of_ir_tables.declared.constructors.Constructor.{Constructor}
 use Rattle.elab_typed.specs.Numbers.{type_as}
 use Rattle.elab_state.specs.Namings.{number_in, IsAmong}
 use Rattle.elab_state.specs.Readings.{type_of, type_if, AreWritten, IsHeldArgument, AreHeldRows}

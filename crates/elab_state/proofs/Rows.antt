@@ -1,8 +1,8 @@
 -- Rows of constructors.
 use Rattle.std.proofs.Common.{◌≡◌, ℕ, List, [], ◌∷◌}
 use Rattle.ty_core.specs.Types.{Typ}
-use Rattle.ir_tables.specs.Rows.{constructors_at}
-use Rattle.ir_tables.specs.declared.constructors.Constructor.{Constructor}
+use Rattle.prog_tree.specs.of_ir_tables.Rows.{constructors_at}
+use Rattle.prog_tree.specs.of_ir_tables.declared.constructors.Constructor.{Constructor}
 use Rattle.elab_state.specs.Readings.{AreHeldRows}
 
 -- where there are none, all are held

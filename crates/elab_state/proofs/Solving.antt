@@ -4,21 +4,21 @@ use Rattle.std.proofs.lemmas.Bool.{ltb-true, ltb-false, lt-ltb, and_parts, and_f
 use Rattle.ty_core.specs.Types.{Typ, Typs, var, con, none, more, labels}
 use Rattle.ty_core.specs.declared.mark.Mark.{Mark}
 use Rattle.ty_core.specs.declared.scheme.Quantified.{Quantified}
-use Rattle.ty_solve.specs.Rows.{Extends}
-use Rattle.ty_solve.specs.Substitution.{Entry, free, bound, row, Meets, Solves, sub, subs, is_below, are_below}
-use Rattle.ty_solve.specs.Limits.{Over, IsOver, NoFurther, Fall, AskTheSame}
-use Rattle.ty_solve.specs.Solve.{IsMostGeneral}
-use Rattle.ty_solve.specs.Weight.{BelowAt, AreBelow}
-use Rattle.ty_solve.specs.declared.limit.Limit.{Limit}
-use Rattle.ir_poly.specs.Types.{in_scope, over, all_over}
+use Rattle.ty_instance.specs.of_ty_solve.Rows.{Extends}
+use Rattle.ty_instance.specs.of_ty_solve.Substitution.{Entry, free, bound, row, Meets, Solves, sub, subs, is_below, are_below}
+use Rattle.ty_instance.specs.of_ty_solve.Limits.{Over, IsOver, NoFurther, Fall, AskTheSame}
+use Rattle.ty_instance.specs.of_ty_solve.Solve.{IsMostGeneral}
+use Rattle.ty_instance.specs.of_ty_solve.Weight.{BelowAt, AreBelow}
+use Rattle.ty_instance.specs.of_ty_solve.declared.limit.Limit.{Limit}
+use Rattle.prog_tree.specs.of_ir_poly.Types.{in_scope, over, all_over}
 use Rattle.std.proofs.lemmas.List.{length-append}
 use Rattle.ty_table.specs.TypeAt.{type_at}
-use Rattle.ty_solve.specs.Limits.{limit_at}
-use Rattle.ty_solve.specs.SlotsOf.{seen, look, entries}
-use Rattle.ty_solve.specs.declared.subst.Slot.{Slot}
-use Rattle.ty_solve.specs.declared.subst.Slot.TheVariants.{Open}
-use Rattle.ty_solve.proofs.Look.{look-grow-here, look-grow-other}
-use Rattle.ty_solve.proofs.Slots.{entries-length, entries-snoc, seen-past}
+use Rattle.ty_instance.specs.of_ty_solve.Limits.{limit_at}
+use Rattle.ty_instance.specs.of_ty_solve.SlotsOf.{seen, look, entries}
+use Rattle.ty_instance.specs.of_ty_solve.declared.subst.Slot.{Slot}
+use Rattle.ty_instance.specs.of_ty_solve.declared.subst.Slot.TheVariants.{Open}
+use Rattle.ty_instance.proofs.of_ty_solve.Look.{look-grow-here, look-grow-other}
+use Rattle.ty_instance.proofs.of_ty_solve.Slots.{entries-length, entries-snoc, seen-past}
 use Rattle.elab_state.specs.States.{dead_level}
 use Rattle.elab_state.specs.Generic.{Generic}
 

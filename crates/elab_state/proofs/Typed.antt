@@ -4,13 +4,13 @@ use Rattle.std.proofs.lemmas.Bool.{eqb-true, eq-eqb, ltb-true, and_parts, and_fr
 use Rattle.ty_core.specs.Types.{Typ, Typs, var, con, none, more}
 use Rattle.ty_core.specs.declared.scheme.Quantified.{Quantified}
 use Rattle.ty_table.specs.TypeAt.{type_at}
-use Rattle.ty_solve.specs.Limits.{NoFurther}
-use Rattle.ty_solve.specs.Substitution.{sub, subs, is_in, are_in, is_below, are_below}
-use Rattle.ty_solve.specs.declared.limit.Limit.{Limit}
-use Rattle.ty_solve.proofs.Holding.{type-stays}
-use Rattle.ty_solve.proofs.Look.{below-more}
+use Rattle.ty_instance.specs.of_ty_solve.Limits.{NoFurther}
+use Rattle.ty_instance.specs.of_ty_solve.Substitution.{sub, subs, is_in, are_in, is_below, are_below}
+use Rattle.ty_instance.specs.of_ty_solve.declared.limit.Limit.{Limit}
+use Rattle.ty_instance.proofs.of_ty_solve.Holding.{type-stays}
+use Rattle.ty_instance.proofs.of_ty_solve.Look.{below-more}
 use Rattle.ty_instance.proofs.Going.{longer}
-use Rattle.ir_poly.specs.Types.{over, all_over}
+use Rattle.prog_tree.specs.of_ir_poly.Types.{over, all_over}
 use Rattle.elab_state.specs.States.{types_in, made, limit_in, value_in, dead_level, IsType}
 use Rattle.elab_state.specs.Generic.{IsGeneric}
 use Rattle.elab_state.specs.Steps.{Grows, Extends, Always}

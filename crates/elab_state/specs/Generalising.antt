@@ -2,11 +2,11 @@
 use Rattle.std.specs.Prelude.{◌≡◌, ◌⊎◌, ℕ, suc, ◌<◌, ◌≤◌, true, nat_lt, List, [], ◌++◌, if◌then◌else◌}
 use Rattle.ty_core.specs.Types.{Typ}
 use Rattle.ty_core.specs.declared.scheme.Quantified.{Quantified}
-use Rattle.ty_solve.specs.Substitution.{Entry, is_open}
-use Rattle.ty_solve.specs.Weight.{IsAcyclic, AreBelow}
-use Rattle.ty_solve.specs.Limits.{AreLimited}
-use Rattle.ty_solve.specs.declared.limit.Limit.{Limit}
-use Rattle.ir_poly.specs.Types.{in_scope, are_new}
+use Rattle.ty_instance.specs.of_ty_solve.Substitution.{Entry, is_open}
+use Rattle.ty_instance.specs.of_ty_solve.Weight.{IsAcyclic, AreBelow}
+use Rattle.ty_instance.specs.of_ty_solve.Limits.{AreLimited}
+use Rattle.ty_instance.specs.of_ty_solve.declared.limit.Limit.{Limit}
+use Rattle.prog_tree.specs.of_ir_poly.Types.{in_scope, are_new}
 use Rattle.elab_state.specs.States.{dead_level}
 use Rattle.elab_state.specs.Generic.{Generic}
 

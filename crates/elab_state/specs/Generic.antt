@@ -2,10 +2,10 @@
 use Rattle.std.specs.Prelude.{◌≡◌, ℕ, suc, ◌<◌, Bool, true, false, List}
 use Rattle.ty_core.specs.Types.{Typ, var}
 use Rattle.ty_core.specs.declared.scheme.Quantified.{Quantified}
-use Rattle.ty_solve.specs.Substitution.{Entry, Solves}
-use Rattle.ty_solve.specs.Limits.{Over}
-use Rattle.ty_solve.specs.declared.limit.Limit.{Limit}
-use Rattle.ir_poly.specs.Types.{in_scope, admits_in, over}
+use Rattle.ty_instance.specs.of_ty_solve.Substitution.{Entry, Solves}
+use Rattle.ty_instance.specs.of_ty_solve.Limits.{Over}
+use Rattle.ty_instance.specs.of_ty_solve.declared.limit.Limit.{Limit}
+use Rattle.prog_tree.specs.of_ir_poly.Types.{in_scope, admits_in, over}
 use Rattle.elab_state.specs.States.{made, said_in, limit_in, general_in, dead_level}
 use Rattle.elab_state.specs.declared.state.State.{State}
 

@@ -3,9 +3,9 @@ use Rattle.std.specs.Prelude.{◌≡◌, ℕ, ◌<◌, ◌≤◌, true, List, []
 use Rattle.ty_core.specs.Types.{Typ}
 use Rattle.ty_core.specs.declared.name.TyName.{TyName}
 use Rattle.ty_core.specs.declared.scheme.Quantified.{Quantified}
-use Rattle.ty_solve.specs.Limits.{IsSolvableOver}
-use Rattle.ir_poly.specs.Types.{Constructor, find, over}
-use Rattle.ir_tables.specs.Tables.{parameters_of}
+use Rattle.ty_instance.specs.of_ty_solve.Limits.{IsSolvableOver}
+use Rattle.prog_tree.specs.of_ir_poly.Types.{Constructor, find, over}
+use Rattle.prog_tree.specs.of_ir_tables.Tables.{parameters_of}
 use Rattle.elab_state.specs.States.{said_in, limit_in, general_in, table_in, reading_in, value_in, dead_level, IsType}
 use Rattle.elab_state.specs.Generic.{IsGeneric, GenericSolution}
 use Rattle.elab_state.specs.Steps.{Grows, Extends}

@@ -2,7 +2,7 @@
 use Rattle.std.specs.Prelude.{ℕ, List, [], ◌∷◌, ◌++◌, Option, Some, None, slice_get}
 use Rattle.std.proofs.Props.{props}
 use mathlib.Core.HLevel.{×_prop, Unit-prop}
-use Rattle.ir_tables.specs.declared.constructors.Constructor.{Constructor}
+use Rattle.prog_tree.specs.of_ir_tables.declared.constructors.Constructor.{Constructor}
 use Rattle.elab_state.specs.Namings.{IsAbove, ComesBefore, IsNext, AreNext, IsAmong}
 use Rattle.elab_state.specs.Readings.{AreWritten, IsHeldArgument, AreHeldRows}
 use Rattle.elab_state.specs.declared.naming.Naming.{Naming}

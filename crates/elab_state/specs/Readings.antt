@@ -3,9 +3,9 @@ use Rattle.std.specs.Prelude.{ℕ, ◌<◌, List, [], ◌∷◌, Option, Some, N
 use Rattle.ty_core.specs.Types.{Typ, var}
 use Rattle.ty_core.specs.declared.scheme.Quantified.{Quantified}
 use Rattle.ty_table.specs.TypeAt.{type_at}
-use Rattle.ty_solve.specs.Substitution.{sub}
-use Rattle.ir_tables.specs.Tables.{parameters_at}
-use Rattle.ir_tables.specs.declared.constructors.Constructor.{Constructor}
+use Rattle.ty_instance.specs.of_ty_solve.Substitution.{sub}
+use Rattle.prog_tree.specs.of_ir_tables.Tables.{parameters_at}
+use Rattle.prog_tree.specs.of_ir_tables.declared.constructors.Constructor.{Constructor}
 use Rattle.prog_tree.specs.TreeOf.{Reading}
 use Rattle.elab_typed.specs.Numbers.{type_as}
 use Rattle.elab_state.specs.Namings.{number_in, IsAmong}

@@ -3,12 +3,12 @@ use Rattle.std.specs.Prelude.{◌≡◌, ℕ, ◌<◌, ◌≤◌, ◌^◌, ◌-�
 use Rattle.ty_core.specs.Types.{Typ}
 use Rattle.ty_core.specs.declared.scheme.Quantified.{Quantified}
 use Rattle.ty_table.specs.TypeAt.{type_at}
-use Rattle.ty_solve.specs.Substitution.{Entry, is_below, is_in, sub}
-use Rattle.ty_solve.specs.Said.{said}
-use Rattle.ty_solve.specs.Limits.{limit_at}
-use Rattle.ty_solve.specs.declared.limit.Limit.{Limit}
-use Rattle.ir_poly.specs.Types.{Constructor}
-use Rattle.ir_tables.specs.Tables.{constructors_of, parameters_of, strings_of}
+use Rattle.ty_instance.specs.of_ty_solve.Substitution.{Entry, is_below, is_in, sub}
+use Rattle.ty_instance.specs.of_ty_solve.Said.{said}
+use Rattle.ty_instance.specs.of_ty_solve.Limits.{limit_at}
+use Rattle.ty_instance.specs.of_ty_solve.declared.limit.Limit.{Limit}
+use Rattle.prog_tree.specs.of_ir_poly.Types.{Constructor}
+use Rattle.prog_tree.specs.of_ir_tables.Tables.{constructors_of, parameters_of, strings_of}
 use Rattle.prog_tree.specs.TreeOf.{Reading}
 use Rattle.elab_state.specs.Namings.{number_in}
 use Rattle.elab_state.specs.Readings.{reading_of}

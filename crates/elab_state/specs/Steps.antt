@@ -3,8 +3,8 @@
 use Rattle.std.specs.Prelude.{◌≡◌, ℕ, ◌<◌, ◌≤◌, List, length, take}
 use Rattle.ty_core.specs.Types.{Typ}
 use Rattle.ty_core.specs.declared.scheme.Quantified.{Quantified}
-use Rattle.ty_solve.specs.Limits.{NoFurther}
-use Rattle.ir_tables.specs.Tables.{initial_of, parameters_of, strings_of}
+use Rattle.ty_instance.specs.of_ty_solve.Limits.{NoFurther}
+use Rattle.prog_tree.specs.of_ir_tables.Tables.{initial_of, parameters_of, strings_of}
 use Rattle.elab_state.specs.States.{types_in, made, limit_in}
 use Rattle.elab_state.specs.Generic.{IsGeneric}
 use Rattle.elab_state.specs.declared.state.State.{State}

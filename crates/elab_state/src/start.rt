@@ -1,13 +1,13 @@
 // The state before anything is elaborated.
 ghost use Rattle.std.specs.Prelude.{◌≡◌, [], IfOk};
-ghost use Rattle.ir_tables.specs.Tables.{initial_of, constructors_of, parameters_of, strings_of};
+ghost use Rattle.prog_tree.specs.of_ir_tables.Tables.{initial_of, constructors_of, parameters_of, strings_of};
 ghost use Rattle.elab_state.specs.States.{made, general_in};
 
 use crate::state::State;
-use ir_tables::tables::Tables;
 use mlc_base::memory::NoMemory;
+use prog_tree::ir_tables::tables::Tables;
 use std::alloc::Global;
-use ty_solve::solver::Solver;
+use ty_instance::ty_solve::solver::Solver;
 
 impl State {
     /// Nothing was made or written.

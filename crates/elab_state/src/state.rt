@@ -5,8 +5,8 @@ ghost use Rattle.elab_state.specs.Readings.{AreWritten, AreHeldRows};
 ghost use Rattle.elab_state.specs.Props.{AreNamings-prop, AreWritten-prop, AreHeldRows-prop};
 
 use crate::naming::{Naming, Written};
-use ir_tables::tables::Tables;
-use ty_solve::solver::Solver;
+use prog_tree::ir_tables::tables::Tables;
+use ty_instance::ty_solve::solver::Solver;
 
 /// What variables stand for; the types that the tree writes, by number, and the namings that are in force in it; the program's tables and its next variable;
 /// and inside how many `val` declarations that generalise all of this is.

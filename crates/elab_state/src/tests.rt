@@ -5,7 +5,7 @@ use mlc_base::memory::NoMemory;
 use std::alloc::Global;
 use std::test::Fail;
 use ty_core::mark::Mark;
-use ty_solve::limit::Limit;
+use ty_instance::ty_solve::limit::Limit;
 
 const OUTSIDE: Limit = Limit { names: 8, level: 0 };
 

@@ -7,9 +7,9 @@ ghost use Rattle.ty_core.specs.Marks.{is_inhabited};
 ghost use Rattle.ty_core.specs.Statics.{replace};
 ghost use Rattle.ty_core.specs.declared.scheme.Quantified.{Quantified};
 ghost use Rattle.ty_table.specs.TypeAt.{type_at, types_at, AllBelow};
-ghost use Rattle.ty_solve.specs.Substitution.{free, is_below};
-ghost use Rattle.ty_solve.specs.Limits.{IsSolvableOver, IsCauseWithin, LeavesLimits, Fall};
-ghost use Rattle.ty_solve.specs.Solve.{IsMostGeneral, IsSmall, LeavesRest};
+ghost use Rattle.ty_instance.specs.of_ty_solve.Substitution.{free, is_below};
+ghost use Rattle.ty_instance.specs.of_ty_solve.Limits.{IsSolvableOver, IsCauseWithin, LeavesLimits, Fall};
+ghost use Rattle.ty_instance.specs.of_ty_solve.Solve.{IsMostGeneral, IsSmall, LeavesRest};
 ghost use Rattle.elab_state.specs.States.{types_in, made, said_in, limit_in, value_in, IsType};
 ghost use Rattle.elab_state.specs.Generic.{IsGeneric};
 ghost use Rattle.elab_state.specs.Steps.{Extends};
@@ -19,8 +19,8 @@ use mlc_base::memory::NoMemory;
 use std::alloc::Global;
 use ty_core::mark::Mark;
 use ty_core::ty::Head;
-use ty_solve::limit::Limit;
-use ty_solve::refused::UnifyRefused;
+use ty_instance::ty_solve::limit::Limit;
+use ty_instance::ty_solve::refused::UnifyRefused;
 
 impl State {
     /// A new variable.

@@ -7,10 +7,10 @@ use Rattle.std.proofs.lemmas.Bool.{eqb-true, eq-eqb}
 use Rattle.ty_core.specs.Types.{Typ, var, con, Typs, none, more, arrow}
 use Rattle.ty_core.specs.Statics.{replace, replace_all}
 use Rattle.ty_table.specs.TypeAt.{type_at}
-use Rattle.ty_solve.specs.Substitution.{are_in, is_in}
+use Rattle.elab_types.specs.of_ty_solve.Substitution.{are_in, is_in}
 use Rattle.sml_tree.specs.BareTree.{Ty}
-use Rattle.core_rules.specs.Objects.{Context, TypeStructure, env, no_structures}
-use Rattle.core_rules.specs.Elaborated.{type_in, type_of}
+use Rattle.elab_types.specs.of_core_rules.Objects.{Context, TypeStructure, env, no_structures}
+use Rattle.elab_types.specs.of_core_rules.Elaborated.{type_in, type_of}
 use Rattle.elab_types.specs.Reading.{entry_of, function_in, Reads}
 use Rattle.elab_types.specs.Annotations.{IsTypeOf}
 use Rattle.elab_types.specs.declared.scope.TypeEntry.{TypeEntry}

@@ -6,18 +6,18 @@ use Rattle.std.specs.List.{AllByRecursion}
 use Rattle.mlc_names.specs.declared.label.Label.{Label}
 use Rattle.ty_core.specs.Types.{Typ, Typs, var, con, none, more}
 use Rattle.ty_table.specs.TypeAt.{type_at, types_at}
-use Rattle.ty_solve.specs.Changes.{IsFitRow}
-use Rattle.ty_solve.specs.Limits.{AllLimited, Limited, NoFurther}
-use Rattle.ty_solve.specs.Rows.{Among, IsProper}
-use Rattle.ty_solve.specs.SlotsOf.{row_in}
-use Rattle.ty_solve.specs.Substitution.{is_below, are_below}
-use Rattle.ty_solve.specs.declared.limit.Limit.{Limit}
-use Rattle.ty_solve.specs.declared.row.Row.{Row}
-use Rattle.ty_solve.proofs.Holding.{type-stays}
+use Rattle.elab_types.specs.of_ty_solve.Changes.{IsFitRow}
+use Rattle.elab_types.specs.of_ty_solve.Limits.{AllLimited, Limited, NoFurther}
+use Rattle.elab_types.specs.of_ty_solve.Rows.{Among, IsProper}
+use Rattle.elab_types.specs.of_ty_solve.SlotsOf.{row_in}
+use Rattle.elab_types.specs.of_ty_solve.Substitution.{is_below, are_below}
+use Rattle.elab_types.specs.of_ty_solve.declared.limit.Limit.{Limit}
+use Rattle.elab_types.specs.of_ty_solve.declared.row.Row.{Row}
+use Rattle.elab_types.proofs.of_ty_solve.Holding.{type-stays}
 use Rattle.label_rows.specs.Order.{label_before}
 use Rattle.label_rows.specs.declared.sort.Field.{Field}
 use Rattle.label_rows.proofs.Merging.{before-trans}
-use Rattle.ir_poly.specs.Types.{ascend}
+use Rattle.elab_state.specs.of_ir_poly.Types.{ascend}
 use Rattle.elab_state.specs.States.{types_in, made, limit_in}
 use Rattle.elab_state.specs.declared.state.State.{State}
 use Rattle.elab_steps.specs.Growing.{Always, AreTypes, Grows, HasType, IsLimited, types_of}

@@ -8,22 +8,22 @@ use Rattle.std.specs.Prelude.{Vec}
 use Rattle.std.specs.Global.{Global}
 use Rattle.ty_core.specs.Types.{Typ, var, con, more, Symbol}
 use Rattle.ty_table.specs.TypeAt.{type_at, types_at, AllBelow}
-use Rattle.ty_solve.specs.Substitution.{Entry, sub, subs, Solves, is_below, are_below, is_in, are_in, Meets}
-use Rattle.ty_solve.specs.SlotsOf.{look, entries, entry_of, seen}
-use Rattle.ty_solve.specs.Said.{said}
-use Rattle.ty_solve.specs.Solve.{IsMostGeneral, LeavesRest}
-use Rattle.ty_solve.specs.Limits.{limit_at, Fall, LeavesLimits, Limited, NoFurther}
-use Rattle.ty_solve.specs.declared.limit.Limit.{Limit}
-use Rattle.ty_solve.specs.declared.subst.Slot.{Slot}
-use Rattle.ty_solve.specs.declared.subst.Slot.TheVariants.{Partial}
-use Rattle.ty_solve.specs.declared.row.Row.{Row}
-use Rattle.ty_solve.specs.Rows.{Extends}
-use Rattle.ty_solve.specs.declared.subst.Subst.{Subst}
-use Rattle.ty_instance.proofs.Going.{whole}
-use Rattle.ir_tables.specs.declared.tables.Tables.{Tables}
-use Rattle.ir_tables.specs.Tables.{constructors_of, parameters_of, strings_of, string_at}
-use Rattle.ir_tables.specs.Rows.{constructors_at}
-use Rattle.elab_typed.specs.Numbers.{type_as}
+use Rattle.elab_types.specs.of_ty_solve.Substitution.{Entry, sub, subs, Solves, is_below, are_below, is_in, are_in, Meets}
+use Rattle.elab_types.specs.of_ty_solve.SlotsOf.{look, entries, entry_of, seen}
+use Rattle.elab_types.specs.of_ty_solve.Said.{said}
+use Rattle.elab_types.specs.of_ty_solve.Solve.{IsMostGeneral, LeavesRest}
+use Rattle.elab_types.specs.of_ty_solve.Limits.{limit_at, Fall, LeavesLimits, Limited, NoFurther}
+use Rattle.elab_types.specs.of_ty_solve.declared.limit.Limit.{Limit}
+use Rattle.elab_types.specs.of_ty_solve.declared.subst.Slot.{Slot}
+use Rattle.elab_types.specs.of_ty_solve.declared.subst.Slot.TheVariants.{Partial}
+use Rattle.elab_types.specs.of_ty_solve.declared.row.Row.{Row}
+use Rattle.elab_types.specs.of_ty_solve.Rows.{Extends}
+use Rattle.elab_types.specs.of_ty_solve.declared.subst.Subst.{Subst}
+use Rattle.elab_state.proofs.of_ty_instance.Going.{whole}
+use Rattle.elab_state.specs.of_ir_tables.declared.tables.Tables.{Tables}
+use Rattle.elab_state.specs.of_ir_tables.Tables.{constructors_of, parameters_of, strings_of, string_at}
+use Rattle.elab_state.specs.of_ir_tables.Rows.{constructors_at}
+use Rattle.elab_state.specs.of_elab_typed.Numbers.{type_as}
 use Rattle.sml_tree.specs.BareTree.{Ty}
 use Rattle.elab_types.specs.Reading.{AreKnown}
 use Rattle.elab_types.specs.Annotations.{IsTypeOf}
@@ -31,7 +31,7 @@ use Rattle.elab_types.specs.declared.scope.TypeScope.{TypeScope}
 use Rattle.elab_types.proofs.Knowing.{known_where}
 use Rattle.elab_state.specs.Readings.{AreWritten}
 use Rattle.elab_state.specs.Namings.{IsAmong}
-use Rattle.ir_poly.specs.Types.{in_scope, IsConstructor}
+use Rattle.elab_state.specs.of_ir_poly.Types.{in_scope, IsConstructor}
 use Rattle.elab_state.specs.States.{types_in, made, said_in, limit_in, general_in, all_parameters, dead_level}
 use Rattle.elab_state.proofs.Typed.{either}
 use Rattle.elab_steps.specs.Tidy.{AreConstructors, IsLive, IsTidy}
@@ -121,9 +121,9 @@ tables-makes S T h slots limits says = record {
   level = h.level;
 }
 
-pub rows-same : (a b : Tables) → b ≡ a → (y : _) (c : ℕ) (row : Rattle.ir_poly.specs.Types.Constructor)
-    → Rattle.ir_poly.specs.Types.find (Rattle.ir_tables.specs.Tables.constructors_of a) y c ≡ Some row → Rattle.ir_poly.specs.Types.find (Rattle.ir_tables.specs.Tables.constructors_of b) y c ≡ Some row
-rows-same a b e y c row h = ap (λ t. Rattle.ir_poly.specs.Types.find (Rattle.ir_tables.specs.Tables.constructors_of t) y c) e ∙ h
+pub rows-same : (a b : Tables) → b ≡ a → (y : _) (c : ℕ) (row : Rattle.elab_state.specs.of_ir_poly.Types.Constructor)
+    → Rattle.elab_state.specs.of_ir_poly.Types.find (Rattle.elab_state.specs.of_ir_tables.Tables.constructors_of a) y c ≡ Some row → Rattle.elab_state.specs.of_ir_poly.Types.find (Rattle.elab_state.specs.of_ir_tables.Tables.constructors_of b) y c ≡ Some row
+rows-same a b e y c row h = ap (λ t. Rattle.elab_state.specs.of_ir_poly.Types.find (Rattle.elab_state.specs.of_ir_tables.Tables.constructors_of t) y c) e ∙ h
 
 -- constructors that stay may stand in a program's table still
 pub constructors-same : (S T : State) → T.tables ≡ S.tables → AreConstructors S → AreConstructors T
@@ -221,9 +221,9 @@ freshened_within S T mid slot limit v r h W c =
     let same = freshened-limit S T mid slot limit v r h in
     let is : type_of W r ≡ W.value v = ap (sub W.value) (c.types r (slice_get_within (types_in T) r (var v) h.is) ∙ get_or_from_slice_get (types_in T) r (var v) (var 0) h.is) in
     record {
-      names = subst (Rattle.core_rules.specs.Objects.Over limit.names) (sym is) (subst (λ l. Rattle.core_rules.specs.Objects.Over l.names (W.value v)) same (c.names v lt));
-      parameters = λ deep. subst (λ t. Rattle.ir_poly.specs.Types.over (W.parameters limit.level) t ≡ true) (sym is)
-          (subst (λ l. l.level < dead_level → Rattle.ir_poly.specs.Types.over (W.parameters l.level) (W.value v) ≡ true) same (c.within v lt) deep);
+      names = subst (Rattle.elab_types.specs.of_core_rules.Objects.Over limit.names) (sym is) (subst (λ l. Rattle.elab_types.specs.of_core_rules.Objects.Over l.names (W.value v)) same (c.names v lt));
+      parameters = λ deep. subst (λ t. Rattle.elab_state.specs.of_ir_poly.Types.over (W.parameters limit.level) t ≡ true) (sym is)
+          (subst (λ l. l.level < dead_level → Rattle.elab_state.specs.of_ir_poly.Types.over (W.parameters l.level) (W.value v) ≡ true) same (c.within v lt) deep);
     }
 
 -- of it is said what was put into its slot
@@ -446,7 +446,7 @@ texted_grows S T s h = record {
   namings = begins-same _ _ h.namings;
   lists = begins-same _ _ (ap (λ v. map (λ p. p.items) v.items) h.lists);
   strings = begins-map (λ s. s.items) S.tables.strings.items T.tables.strings.items (begins-more _ (s ∷ []) _ h.strings);
-  rows = λ y c row e. ap₂ (λ ts ks. Rattle.ir_poly.specs.Types.find (constructors_at ts ks) y c) h.types h.constructors ∙ e;
+  rows = λ y c row e. ap₂ (λ ts ks. Rattle.elab_state.specs.of_ir_poly.Types.find (constructors_at ts ks) y c) h.types h.constructors ∙ e;
   variables = let e : made T ≡ made S = ap (λ s. length s.subst.slots.items) h.solver in omega (arith, e);
   solves = λ m f s. subst (λ x. Solves m f (said x.subst)) h.solver s;
   limits = λ v lt. same-limit (limit_in T v) (limit_in S v) (ap (λ s. limit_at s.limits.items v) h.solver);

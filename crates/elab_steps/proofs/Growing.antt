@@ -4,13 +4,13 @@ use Rattle.std.proofs.lemmas.Bool.{ltb-true, lt-ltb}
 use Rattle.ty_core.specs.Types.{Typ, var, con, Typs, none, more}
 use Rattle.ty_core.specs.declared.scheme.Quantified.{Quantified}
 use Rattle.ty_table.specs.TypeAt.{type_at}
-use Rattle.ty_solve.specs.Substitution.{is_below, are_below, is_in}
-use Rattle.ty_solve.proofs.Holding.{type-stays}
-use Rattle.ty_instance.proofs.Going.{stays-on, longer, whole}
-use Rattle.core_rules.specs.Objects.{Over}
-use Rattle.ir_poly.specs.Types.{in_scope, over, all_over}
-use Rattle.ir_tables.specs.Tables.{parameters_of, strings_of}
-use Rattle.elab_typed.proofs.Under.{over-more}
+use Rattle.elab_types.specs.of_ty_solve.Substitution.{is_below, are_below, is_in}
+use Rattle.elab_types.proofs.of_ty_solve.Holding.{type-stays}
+use Rattle.elab_state.proofs.of_ty_instance.Going.{stays-on, longer, whole}
+use Rattle.elab_types.specs.of_core_rules.Objects.{Over}
+use Rattle.elab_state.specs.of_ir_poly.Types.{in_scope, over, all_over}
+use Rattle.elab_state.specs.of_ir_tables.Tables.{parameters_of, strings_of}
+use Rattle.elab_state.proofs.of_elab_typed.Under.{over-more}
 use Rattle.elab_state.specs.States.{types_in, made, limit_in, general_in, all_parameters, dead_level}
 use Rattle.elab_state.proofs.Typed.{in-below}
 use Rattle.elab_steps.specs.Growing.{HasType, HasGeneral, Begins, Grows, Always}

@@ -8,15 +8,15 @@ use Rattle.ty_core.specs.Marks.{Allows}
 use Rattle.ty_core.specs.Statics.{replace, replace_all}
 use Rattle.ty_core.specs.declared.mark.Mark.{Mark}
 use Rattle.ty_table.specs.TypeAt.{type_at}
-use Rattle.ty_solve.specs.Substitution.{Entry, free, sub, subs, Meets, is_below, are_below, is_in}
-use Rattle.ty_solve.specs.SlotsOf.{look, entries, entry_of}
-use Rattle.ty_solve.specs.Limits.{limit_at}
-use Rattle.ty_solve.specs.declared.limit.Limit.{Limit}
-use Rattle.ty_solve.specs.declared.subst.Slot.TheVariants.{Open}
-use Rattle.ty_instance.specs.Renamed.{renamed}
-use Rattle.ir_tables.specs.Tables.{parameters_of, strings_of}
-use Rattle.core_rules.specs.Objects.{AllAllowed, Over, AllOver}
-use Rattle.ir_poly.specs.Types.{in_scope, nth_type, over, all_over}
+use Rattle.elab_types.specs.of_ty_solve.Substitution.{Entry, free, sub, subs, Meets, is_below, are_below, is_in}
+use Rattle.elab_types.specs.of_ty_solve.SlotsOf.{look, entries, entry_of}
+use Rattle.elab_types.specs.of_ty_solve.Limits.{limit_at}
+use Rattle.elab_types.specs.of_ty_solve.declared.limit.Limit.{Limit}
+use Rattle.elab_types.specs.of_ty_solve.declared.subst.Slot.TheVariants.{Open}
+use Rattle.elab_state.specs.of_ty_instance.Renamed.{renamed}
+use Rattle.elab_state.specs.of_ir_tables.Tables.{parameters_of, strings_of}
+use Rattle.elab_types.specs.of_core_rules.Objects.{AllAllowed, Over, AllOver}
+use Rattle.elab_state.specs.of_ir_poly.Types.{in_scope, nth_type, over, all_over}
 use Rattle.elab_state.specs.States.{types_in, made, said_in, limit_in, all_parameters, dead_level}
 use Rattle.elab_state.proofs.Typed.{in-below}
 use Rattle.elab_state.specs.declared.state.State.{State}

@@ -5,13 +5,13 @@ use Rattle.mlc_names.specs.declared.label.Label.{Label}
 use Rattle.ty_core.specs.Types.{Typ, Typs, var, con, none, more}
 use Rattle.ty_core.specs.Statics.{replace, replace_all}
 use Rattle.ty_table.specs.TypeAt.{type_at}
-use Rattle.ty_solve.specs.Forces.{Beside, Met, LeftAt}
-use Rattle.ty_solve.specs.Limits.{AllLimited, AreLimited, Fall, LeavesLimits, Limited, LimitedAt, NoFurther, limit_at}
-use Rattle.ty_solve.specs.Rows.{At}
-use Rattle.ty_solve.specs.Solve.{LeavesRest, problem}
-use Rattle.ty_solve.specs.Substitution.{Entry, bound, row, are_in, is_in, is_open}
-use Rattle.ty_solve.specs.declared.limit.Limit.{Limit}
-use Rattle.ir_poly.specs.Types.{in_scope}
+use Rattle.elab_types.specs.of_ty_solve.Forces.{Beside, Met, LeftAt}
+use Rattle.elab_types.specs.of_ty_solve.Limits.{AllLimited, AreLimited, Fall, LeavesLimits, Limited, LimitedAt, NoFurther, limit_at}
+use Rattle.elab_types.specs.of_ty_solve.Rows.{At}
+use Rattle.elab_types.specs.of_ty_solve.Solve.{LeavesRest, problem}
+use Rattle.elab_types.specs.of_ty_solve.Substitution.{Entry, bound, row, are_in, is_in, is_open}
+use Rattle.elab_types.specs.of_ty_solve.declared.limit.Limit.{Limit}
+use Rattle.elab_state.specs.of_ir_poly.Types.{in_scope}
 use Rattle.elab_state.specs.States.{types_in, made, said_in, limit_in, general_in, dead_level}
 use Rattle.elab_state.specs.declared.state.State.{State}
 use Rattle.elab_state.proofs.Typed.{either}

@@ -8,16 +8,16 @@ use Rattle.mlc_names.specs.declared.label.Label.{Label}
 use Rattle.mlc_names.specs.declared.label.Label.TheVariants.{Number, Word}
 use Rattle.ty_core.specs.Types.{Typ, Typs, con, labels, none, more, typs_of}
 use Rattle.ty_basis.specs.Types.{Row, labels_in, row_type}
-use Rattle.ty_solve.specs.Rows.{At, Extends, IsProper}
+use Rattle.elab_types.specs.of_ty_solve.Rows.{At, Extends, IsProper}
 use Rattle.label_rows.specs.declared.sort.Field.{Field}
 use Rattle.label_rows.specs.Order.{label_before}
 use Rattle.label_rows.specs.Sorting.{sorted as sorted_fields}
 use Rattle.label_rows.proofs.Merging.{before-trans}
-use Rattle.core_rules.specs.Words.{same_label, is_in}
-use Rattle.core_rules.specs.Restrictions.{distinct}
-use Rattle.core_rules.specs.Objects.{sorted, put_field}
+use Rattle.elab_types.specs.of_core_rules.Words.{same_label, is_in}
+use Rattle.elab_types.specs.of_core_rules.Restrictions.{distinct}
+use Rattle.elab_types.specs.of_core_rules.Objects.{sorted, put_field}
 use Rattle.ir_values.specs.Values as values
-use Rattle.ir_poly.specs.Types.{ascend}
+use Rattle.elab_state.specs.of_ir_poly.Types.{ascend}
 use Rattle.elab_steps.specs.Growing.{types_of}
 use Rattle.elab_steps.specs.Ordered.{is_ordered, are_ordered}
 use Rattle.elab_steps.specs.Rows.{HasFields, row_of}

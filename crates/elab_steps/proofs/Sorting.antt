@@ -14,9 +14,9 @@ use Rattle.label_rows.specs.Order.{label_before}
 use Rattle.label_rows.specs.Sorting.{sorted, put_field}
 use Rattle.label_rows.proofs.Mapped.{sorted-map}
 use Rattle.label_rows.proofs.Merging.{before-trans}
-use Rattle.core_rules.specs.Objects.{sorted as sorted_row}
+use Rattle.elab_types.specs.of_core_rules.Objects.{sorted as sorted_row}
 use Rattle.ir_values.specs.Values.{same_label}
-use Rattle.ir_poly.specs.Types.{ascend}
+use Rattle.elab_state.specs.of_ir_poly.Types.{ascend}
 use Rattle.elab_state.specs.declared.state.State.{State}
 use Rattle.elab_steps.specs.Growing.{HasType, AreTypes, types_of}
 use Rattle.elab_steps.specs.Rows.{row_of}

@@ -5,12 +5,12 @@ use Rattle.ty_core.specs.Types.{Typ, Typs, none, more}
 use Rattle.ty_core.specs.declared.name.TyName.{TyName}
 use Rattle.ty_table.specs.TypeAt.{type_at}
 use Rattle.ty_core.specs.declared.scheme.Quantified.{Quantified}
-use Rattle.ty_solve.specs.Substitution.{Solves, is_below, is_in}
-use Rattle.ty_solve.specs.Limits.{Limited, NoFurther}
-use Rattle.ty_solve.specs.declared.limit.Limit.{Limit}
-use Rattle.core_rules.specs.Objects.{Over}
-use Rattle.ir_poly.specs.Types.{over, find, in_scope, Constructor}
-use Rattle.ir_tables.specs.Tables.{parameters_of, strings_of}
+use Rattle.elab_types.specs.of_ty_solve.Substitution.{Solves, is_below, is_in}
+use Rattle.elab_types.specs.of_ty_solve.Limits.{Limited, NoFurther}
+use Rattle.elab_types.specs.of_ty_solve.declared.limit.Limit.{Limit}
+use Rattle.elab_types.specs.of_core_rules.Objects.{Over}
+use Rattle.elab_state.specs.of_ir_poly.Types.{over, find, in_scope, Constructor}
+use Rattle.elab_state.specs.of_ir_tables.Tables.{parameters_of, strings_of}
 use Rattle.elab_state.specs.States.{types_in, made, said_in, limit_in, table_in, dead_level}
 use Rattle.elab_state.specs.declared.state.State.{State}
 use Rattle.elab_types.specs.declared.scope.TypeScope.{TypeScope}

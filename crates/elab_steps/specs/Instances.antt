@@ -6,10 +6,10 @@ use Rattle.ty_core.specs.Marks.{is_inhabited}
 use Rattle.ty_core.specs.Statics.{replace}
 use Rattle.ty_core.specs.declared.mark.Mark.{Mark}
 use Rattle.ty_table.specs.TypeAt.{type_at}
-use Rattle.ty_solve.specs.Substitution.{is_below}
-use Rattle.ty_solve.specs.declared.limit.Limit.{Limit}
-use Rattle.core_rules.specs.Objects.{AllAllowed, AllOver}
-use Rattle.ir_poly.specs.Types.{nth_type, all_over}
+use Rattle.elab_types.specs.of_ty_solve.Substitution.{is_below}
+use Rattle.elab_types.specs.of_ty_solve.declared.limit.Limit.{Limit}
+use Rattle.elab_types.specs.of_core_rules.Objects.{AllAllowed, AllOver}
+use Rattle.elab_state.specs.of_ir_poly.Types.{nth_type, all_over}
 use Rattle.elab_state.specs.States.{types_in, dead_level}
 use Rattle.elab_state.specs.declared.state.State.{State}
 use Rattle.elab_steps.specs.World.{World}

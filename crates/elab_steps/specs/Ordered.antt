@@ -1,7 +1,7 @@
 -- Types whose records have their labels in order.
 use Rattle.std.specs.Prelude.{Bool, true, ◌&&◌}
 use Rattle.ty_core.specs.Types.{Symbol, arrow, labels, name, Typ, var, con, Typs, none, more}
-use Rattle.ir_poly.specs.Types.{ascend}
+use Rattle.elab_state.specs.of_ir_poly.Types.{ascend}
 
 abbrev pub begins_in_order : Symbol → Bool
 begins_in_order arrow = true

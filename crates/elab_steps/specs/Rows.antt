@@ -2,12 +2,12 @@
 use Rattle.std.specs.Prelude.{◌≡◌, true, ℕ, List, ◌++◌, length, map}
 use Rattle.ty_core.specs.Types.{Typ}
 use Rattle.ty_basis.specs.Types.{Row, labels_in, row_type}
-use Rattle.ty_solve.specs.Limits.{AllLimited}
-use Rattle.ty_solve.specs.declared.limit.Limit.{Limit}
+use Rattle.elab_types.specs.of_ty_solve.Limits.{AllLimited}
+use Rattle.elab_types.specs.of_ty_solve.declared.limit.Limit.{Limit}
 use Rattle.ty_table.specs.TypeAt.{types_at}
 use Rattle.label_rows.specs.declared.sort.Field.{Field}
-use Rattle.core_rules.specs.Objects.{sorted}
-use Rattle.ir_poly.specs.Types.{ascend}
+use Rattle.elab_types.specs.of_core_rules.Objects.{sorted}
+use Rattle.elab_state.specs.of_ir_poly.Types.{ascend}
 use Rattle.elab_state.specs.States.{types_in, limit_in}
 use Rattle.elab_state.specs.declared.state.State.{State}
 use Rattle.elab_steps.specs.Growing.{Always, AreTypes, Grows, types_of}

@@ -2,8 +2,8 @@
 use Rattle.std.specs.Prelude.{◌≡◌, ◌<◌, ℕ, Bool, true, false}
 use Rattle.std.specs.List.{AllByRecursion}
 use Rattle.ty_table.specs.TypeAt.{type_at}
-use Rattle.ty_solve.specs.Substitution.{Entry, free, bound, row, is_in, is_open}
-use Rattle.ir_poly.specs.Types.{in_scope, is_declarable, IsConstructor}
+use Rattle.elab_types.specs.of_ty_solve.Substitution.{Entry, free, bound, row, is_in, is_open}
+use Rattle.elab_state.specs.of_ir_poly.Types.{in_scope, is_declarable, IsConstructor}
 use Rattle.elab_state.specs.States.{types_in, made, said_in, limit_in, general_in, table_in, dead_level, IsSettled}
 use Rattle.elab_state.specs.declared.state.State.{State}
 

@@ -4,12 +4,12 @@ use Rattle.ty_core.specs.Types.{Typ, var}
 use Rattle.ty_core.specs.declared.name.TyName.{TyName}
 use Rattle.ty_core.specs.declared.scheme.Quantified.{Quantified}
 use Rattle.ty_table.specs.TypeAt.{type_at}
-use Rattle.ty_solve.specs.Substitution.{sub, Solves}
-use Rattle.core_rules.specs.Objects.{Over}
-use Rattle.ir_poly.specs.Types.{in_scope, admits_in, over, find, Constructor}
-use Rattle.ir_tables.specs.Tables.{parameters_of, strings_of, string_at}
-use Rattle.prog_tree.specs.TreeOf.{Reading}
-use Rattle.elab_typed.specs.Numbers.{type_as}
+use Rattle.elab_types.specs.of_ty_solve.Substitution.{sub, Solves}
+use Rattle.elab_types.specs.of_core_rules.Objects.{Over}
+use Rattle.elab_state.specs.of_ir_poly.Types.{in_scope, admits_in, over, find, Constructor}
+use Rattle.elab_state.specs.of_ir_tables.Tables.{parameters_of, strings_of, string_at}
+use Rattle.elab_state.specs.of_prog_tree.TreeOf.{Reading}
+use Rattle.elab_state.specs.of_elab_typed.Numbers.{type_as}
 use Rattle.elab_state.specs.States.{types_in, made, said_in, limit_in, general_in, table_in, dead_level}
 use Rattle.elab_state.specs.declared.naming.Naming.{Naming}
 use Rattle.elab_state.specs.declared.naming.Written.{Written}

@@ -1,7 +1,7 @@
 // Types that are written in a program, in the state.
 ghost use Rattle.std.specs.Prelude.{◌≡◌, length, take, IfOk};
-ghost use Rattle.ty_solve.specs.SlotsOf.{seen};
-ghost use Rattle.ty_solve.specs.Said.{said};
+ghost use Rattle.elab_types.specs.of_ty_solve.SlotsOf.{seen};
+ghost use Rattle.elab_types.specs.of_ty_solve.Said.{said};
 ghost use Rattle.sml_tree.specs.TreeOf.{ty_of};
 ghost use Rattle.elab_types.specs.Annotations.{IsTypeOf};
 ghost use Rattle.elab_types.specs.Reading.{AreKnown, Holds};
@@ -11,12 +11,12 @@ ghost use Rattle.elab_steps.specs.Growing.{AreLive, HasType, Grows};
 use elab_state::state::State;
 use elab_types::refused::Refused;
 use elab_types::scope::TypeScope;
+use elab_types::ty_solve::solver::Solver;
+use elab_types::ty_solve::subst::Subst;
 use elab_types::whole::annotation;
 use mlc_base::place::Place;
 use sml_tree::tree::Ty;
 use std::alloc::Global;
-use ty_solve::solver::Solver;
-use ty_solve::subst::Subst;
 
 /// In the table of a substitution. What is said of variables stays.
 fn annotation_in(

@@ -6,11 +6,11 @@ ghost use Rattle.elab_steps.specs.Instances.{IsInstance, IsScheme};
 ghost use Rattle.elab_steps.specs.World.{type_of};
 
 use elab_state::state::State;
+use elab_state::ty_instance::fresh::instantiate_fresh;
+use elab_types::ty_solve::limit::Limit;
 use mlc_base::memory::NoMemory;
 use std::alloc::Global;
 use ty_core::mark::Mark;
-use ty_instance::fresh::instantiate_fresh;
-use ty_solve::limit::Limit;
 
 /// The body of a scheme with new variables for its parameters.
 pub fn instance(

@@ -1,6 +1,9 @@
 // Steps of the elaborator on its state.
 #![tactic(auto)]
 
+pub use elab_state;
+pub use elab_types;
+
 pub mod annotate;
 pub mod instance;
 pub mod rows;

@@ -2,8 +2,8 @@
 ghost use Rattle.std.specs.Prelude.{◌≡◌, ◌<◌, ◌≤◌, ℕ, true, map, IfOk};
 ghost use Rattle.std.specs.List.{AllByRecursion};
 ghost use Rattle.ty_basis.specs.Types.{row_type};
-ghost use Rattle.core_rules.specs.Objects.{sorted as sorted_row};
-ghost use Rattle.ir_poly.specs.Types.{ascend};
+ghost use Rattle.elab_types.specs.of_core_rules.Objects.{sorted as sorted_row};
+ghost use Rattle.elab_state.specs.of_ir_poly.Types.{ascend};
 ghost use Rattle.label_rows.specs.Sorting.{sorted};
 ghost use Rattle.elab_state.specs.States.{dead_level};
 ghost use Rattle.elab_steps.specs.Growing.{HasType, Always, Grows, IsLimited, IsWithin};
@@ -13,6 +13,8 @@ ghost use Rattle.elab_steps.specs.World.{type_of};
 use crate::step::{apply, fresh_row, fresh_type, unify};
 use elab_state::state::State;
 use elab_types::refused::Refused;
+use elab_types::ty_solve::limit::Limit;
+use elab_types::ty_solve::row::Row;
 use label_rows::sort::{Field, sort_fields, stands_before};
 use mlc_base::memory::NoMemory;
 use mlc_base::place::Place;
@@ -20,8 +22,6 @@ use mlc_names::label::Label;
 use std::alloc::Global;
 use ty_core::mark::Mark;
 use ty_core::ty::Head;
-use ty_solve::limit::Limit;
-use ty_solve::row::Row;
 
 /// Whether each label stands before the next.
 fn are_ascending(fields: &[Field]) -> bool

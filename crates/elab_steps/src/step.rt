@@ -3,8 +3,8 @@ ghost use Rattle.std.specs.Prelude.{◌≡◌, ◌<◌, ◌≤◌, ◌+◌, true
 ghost use Rattle.ty_core.specs.Types.{con};
 ghost use Rattle.ty_core.specs.TypesOf.{head_of};
 ghost use Rattle.ty_core.specs.Marks.{is_inhabited};
-ghost use Rattle.ir_tables.specs.Tables.{string_at};
-ghost use Rattle.elab_typed.specs.Numbers.{type_as};
+ghost use Rattle.elab_state.specs.of_ir_tables.Tables.{string_at};
+ghost use Rattle.elab_state.specs.of_elab_typed.Numbers.{type_as};
 ghost use Rattle.elab_state.specs.Namings.{IsAmong};
 ghost use Rattle.elab_state.specs.States.{dead_level, limit_in, made, types_in};
 ghost use Rattle.elab_steps.specs.Growing.{HasType, Always, AreTypes, Grows, IsLimited, IsWithin, types_of};
@@ -12,22 +12,22 @@ ghost use Rattle.elab_steps.specs.Instances.{begins_as_function};
 ghost use Rattle.elab_steps.specs.Ordered.{is_ordered};
 ghost use Rattle.elab_steps.specs.World.{type_of};
 ghost use Rattle.ty_table.specs.TypeAt.{AllBelow, type_at, types_at};
-ghost use Rattle.ty_solve.specs.Changes.{IsFitRow};
-ghost use Rattle.ty_solve.specs.Limits.{AllLimited};
-ghost use Rattle.ty_solve.specs.Rows.{Extends};
-ghost use Rattle.ty_solve.specs.SlotsOf.{row_in};
+ghost use Rattle.elab_types.specs.of_ty_solve.Changes.{IsFitRow};
+ghost use Rattle.elab_types.specs.of_ty_solve.Limits.{AllLimited};
+ghost use Rattle.elab_types.specs.of_ty_solve.Rows.{Extends};
+ghost use Rattle.elab_types.specs.of_ty_solve.SlotsOf.{row_in};
 
 use elab_state::naming::Written;
 use elab_state::state::State;
 use elab_types::refused::Refused;
+use elab_types::ty_solve::limit::Limit;
+use elab_types::ty_solve::refused::UnifyRefused;
+use elab_types::ty_solve::row::Row;
 use mlc_base::memory::NoMemory;
 use mlc_base::place::Place;
 use std::alloc::Global;
 use ty_core::mark::Mark;
 use ty_core::ty::Head;
-use ty_solve::limit::Limit;
-use ty_solve::refused::UnifyRefused;
-use ty_solve::row::Row;
 use ty_table::types::View;
 
 /// A new variable of types, as a type.

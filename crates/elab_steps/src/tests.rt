@@ -2,12 +2,12 @@
 
 use crate::step::{apply, fresh_type, next_variable, text, unify, write};
 use elab_state::state::State;
+use elab_types::ty_solve::limit::Limit;
 use mlc_base::place::Place;
 use std::test::Fail;
 use ty_core::mark::Mark;
 use ty_core::name::TyName;
 use ty_core::ty::Head;
-use ty_solve::limit::Limit;
 
 const OUTSIDE: Limit = Limit { names: 8, level: 0 };
 

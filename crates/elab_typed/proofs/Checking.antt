@@ -7,19 +7,19 @@ use Rattle.ty_basis.specs.Types.{Row, labels_in, int_name, word_name, char_name,
 use Rattle.sml_tree.specs.Terminal as term
 use Rattle.sml_tree.specs.BareTree.{ExBind}
 use Rattle.sml_tree.specs.BareTree as bare
-use Rattle.core_rules.specs.Match.{constant_of}
-use Rattle.core_rules.specs.Choices.{Choices}
-use Rattle.core_rules.specs.Elaborated.{exception_type}
-use Rattle.core_rules.specs.Objects.{sorted}
-use Rattle.core_rules.specs.Typing.{Bound, constant_type}
+use Rattle.core_elab.specs.of_core_rules.Match.{constant_of}
+use Rattle.core_elab.specs.of_core_rules.Choices.{Choices}
+use Rattle.core_elab.specs.of_core_rules.Elaborated.{exception_type}
+use Rattle.core_elab.specs.of_core_rules.Objects.{sorted}
+use Rattle.core_elab.specs.of_core_rules.Typing.{Bound, constant_type}
 use Rattle.core_elab.specs.Scopes.{Denotes, Scope}
 use Rattle.core_elab.specs.Resolves.{joined}
 use Rattle.ty_core.specs.declared.scheme.Quantified.{Quantified}
 use Rattle.ir_values.specs.Values.{same_label}
-use Rattle.ir_poly.specs.Prog as prog
-use Rattle.ir_poly.specs.Types.{ascend, over, Constructor}
-use Rattle.ir_poly.specs.TestsChecked.{HasLiteral, has_int, has_word, has_char, has_string, Knowns, value_type}
-use Rattle.ir_poly.specs.ProgChecked.{PatChecked, any_checked, variable_checked, constant_checked, con_checked, con_of_checked, ref_of_checked, exn_checked, exn_of_checked, fields_checked, as_checked, PatsChecked, no_pats_checked, a_pat_checked, Checked, c_constant, c_variable, c_variable_one, c_own, c_con, c_ref, c_exn, c_prim, c_fields, c_let, c_app, c_case, c_handle, c_raise, c_fn, c_counted, c_chain, ChainChecked, c_only, c_link, FieldsChecked, c_no_fields, c_field, RulesChecked, c_no_rules, c_rule, FunChecked, c_last, c_by_rules, c_more, DecsChecked, c_no_decs, c_val, c_exception, c_exception_alone, c_counted_dec, BindsChecked, c_no_binds, c_general, c_plain, FunsChecked, c_no_funs, c_fun}
+use Rattle.core_elab.specs.of_ir_poly.Prog as prog
+use Rattle.core_elab.specs.of_ir_poly.Types.{ascend, over, Constructor}
+use Rattle.core_elab.specs.of_ir_poly.TestsChecked.{HasLiteral, has_int, has_word, has_char, has_string, Knowns, value_type}
+use Rattle.core_elab.specs.of_ir_poly.ProgChecked.{PatChecked, any_checked, variable_checked, constant_checked, con_checked, con_of_checked, ref_of_checked, exn_checked, exn_of_checked, fields_checked, as_checked, PatsChecked, no_pats_checked, a_pat_checked, Checked, c_constant, c_variable, c_variable_one, c_own, c_con, c_ref, c_exn, c_prim, c_fields, c_let, c_app, c_case, c_handle, c_raise, c_fn, c_counted, c_chain, ChainChecked, c_only, c_link, FieldsChecked, c_no_fields, c_field, RulesChecked, c_no_rules, c_rule, FunChecked, c_last, c_by_rules, c_more, DecsChecked, c_no_decs, c_val, c_exception, c_exception_alone, c_counted_dec, BindsChecked, c_no_binds, c_general, c_plain, FunsChecked, c_no_funs, c_fun}
 use Rattle.elab_typed.specs.Numbers.{type_as, row_as, KeepsInitial, AgreeBelow}
 use Rattle.elab_typed.specs.Contexts.{Kept, KeptValues, KeptEnv, Around}
 use Rattle.elab_typed.specs.Instances.{as_typed, UseElab, use_general, use_plain, use_single, use_own, use_constructor, use_reference, use_exception, use_given_exception, use_primitive, AloneElab, alone_constructor, alone_exception, alone_given_exception, BeforeElab, before_constructor, before_reference, before_exception}

@@ -10,8 +10,8 @@ use Rattle.ty_basis.specs.Types.{Row, function_type, row_type}
 use Rattle.sml_tree.specs.declared.ident.Tyvar.{Tyvar}
 use Rattle.sml_tree.specs.BareTree.{Ty, Tys, no_tys, ty, TyFields, no_ty_fields, ty_field, TypeBind, ConBind, DataBind}
 use Rattle.sml_tree.specs.BareTree as bare
-use Rattle.core_rules.specs.Objects.{sorted, Map, TypeStructure, Value, Env, types_env, Context, with_env}
-use Rattle.core_rules.specs.Elaborated.{type_in, type_of, types_of, row_of, with_parameters, types_bound, behind_of, constructors_of, structures_of, new_names, bare_structures, datatypes, constructed, any_marks}
+use Rattle.core_elab.specs.of_core_rules.Objects.{sorted, Map, TypeStructure, Value, Env, types_env, Context, with_env}
+use Rattle.core_elab.specs.of_core_rules.Elaborated.{type_in, type_of, types_of, row_of, with_parameters, types_bound, behind_of, constructors_of, structures_of, new_names, bare_structures, datatypes, constructed, any_marks}
 use Rattle.ty_core.specs.declared.env.Status.TheVariants.{Constructor}
 use Rattle.elab_typed.specs.Contexts.{Around, env_under, context_under, generic}
 
@@ -23,7 +23,7 @@ record SameTypes (c d : Context) : Type 0 where
 module _ (c d : Context) (same : SameTypes c d) where
   mutual
     type-same : (t : Ty) → type_of c t ≡ type_of d t
-    type-same (bare.var p a) = ap (λ vs. Rattle.core_rules.specs.Objects.at nat_eq vs a.name) same.tyvars
+    type-same (bare.var p a) = ap (λ vs. Rattle.core_elab.specs.of_core_rules.Objects.at nat_eq vs a.name) same.tyvars
     type-same (bare.fields p fs) = ap (option_map (λ r. row_type (sorted r))) (row-same fs)
     type-same (bare.con p ts q x) =
         λ i. option_and_then (λ us. option_and_then (λ (s : TypeStructure). apply s.function us) (same.types x.qualifiers x.id i)) (types-same ts i)

@@ -9,11 +9,11 @@ use Rattle.sml_tree.specs.Derived.{short}
 use Rattle.sml_tree.specs.declared.ident.Vid.TheVariants.{Named}
 use Rattle.sml_tree.specs.BareTree.{DataBind, no_tys}
 use Rattle.sml_tree.specs.BareTree as bare
-use Rattle.core_rules.specs.Choices.{Choices}
-use Rattle.core_rules.specs.Elaborated.{AllBelow}
-use Rattle.ir_poly.specs.Prog as prog
-use Rattle.ir_poly.specs.Types.{Constructor, constructor_of, initial_constructors}
-use Rattle.ir_poly.specs.TestsChecked.{Knowns, HasConstructor}
+use Rattle.core_elab.specs.of_core_rules.Choices.{Choices}
+use Rattle.core_elab.specs.of_core_rules.Elaborated.{AllBelow}
+use Rattle.core_elab.specs.of_ir_poly.Prog as prog
+use Rattle.core_elab.specs.of_ir_poly.Types.{Constructor, constructor_of, initial_constructors}
+use Rattle.core_elab.specs.of_ir_poly.TestsChecked.{Knowns, HasConstructor}
 use Rattle.core_elab.specs.Scopes.{Scope}
 use Rattle.core_elab.specs.Resolves.{called_vid, no_heads_to, a_con_to, no_cons_to, a_datatype_to, no_datatypes_to}
 use Rattle.elab_typed.specs.Contexts.{KeptEnv}

@@ -7,12 +7,12 @@ use Rattle.sml_tree.specs.Terminal as term
 use Rattle.sml_tree.specs.declared.ident.Vid.TheVariants.{Named}
 use Rattle.sml_tree.specs.BareTree.{new_exn}
 use Rattle.sml_tree.specs.BareTree as bare
-use Rattle.core_rules.specs.Choices.{Choices}
-use Rattle.ir_poly.specs.Prog.{held}
-use Rattle.ir_poly.specs.Prog as prog
-use Rattle.ir_poly.specs.Types.{initial_constructors}
-use Rattle.ir_poly.specs.TestsChecked.{Knowns}
-use Rattle.ir_poly.specs.ProgChecked.{held_checked}
+use Rattle.core_elab.specs.of_core_rules.Choices.{Choices}
+use Rattle.core_elab.specs.of_ir_poly.Prog.{held}
+use Rattle.core_elab.specs.of_ir_poly.Prog as prog
+use Rattle.core_elab.specs.of_ir_poly.Types.{initial_constructors}
+use Rattle.core_elab.specs.of_ir_poly.TestsChecked.{Knowns}
+use Rattle.core_elab.specs.of_ir_poly.ProgChecked.{held_checked}
 use Rattle.core_elab.specs.Scopes.{Scope}
 use Rattle.core_elab.specs.Resolves.{no_heads_to}
 use Rattle.elab_typed.specs.Contexts.{KeptEnv}

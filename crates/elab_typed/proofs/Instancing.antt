@@ -9,16 +9,16 @@ use Rattle.ty_core.specs.declared.mark.Mark.{Mark}
 use Rattle.ty_core.specs.declared.mark.Mark.TheVariants.{Any, Equality, Class}
 use Rattle.ty_core.specs.declared.scheme.Quantified.{Quantified}
 use Rattle.ty_basis.specs.Types.{exn_type, function_type, ref_type}
-use Rattle.core_rules.specs.Objects.{Scheme, monomorphic, put, AllAllowed, Value, Context, Over}
-use Rattle.core_rules.specs.Closing.{place_in, scheme_under}
-use Rattle.core_rules.specs.Choices.{Choices, no_choice}
-use Rattle.core_rules.specs.Elaborated.{exception_type}
-use Rattle.core_rules.specs.Typing.{IsInstance, Chosen, all_general}
-use Rattle.core_rules.proofs.Basics.{put-none}
-use Rattle.core_rules.proofs.Closing.{instances-are-solutions}
-use Rattle.ir_poly.specs.Prog as prog
-use Rattle.ir_poly.specs.Types.{admits_in, changed, AreAllowed, nth_type, Constructor}
-use Rattle.ir_poly.proofs.ReplaceLemmas as lemmas
+use Rattle.core_elab.specs.of_core_rules.Objects.{Scheme, monomorphic, put, AllAllowed, Value, Context, Over}
+use Rattle.core_elab.specs.of_core_rules.Closing.{place_in, scheme_under}
+use Rattle.core_elab.specs.of_core_rules.Choices.{Choices, no_choice}
+use Rattle.core_elab.specs.of_core_rules.Elaborated.{exception_type}
+use Rattle.core_elab.specs.of_core_rules.Typing.{IsInstance, Chosen, all_general}
+use Rattle.core_elab.proofs.of_core_rules.Basics.{put-none}
+use Rattle.core_elab.proofs.of_core_rules.Closing.{instances-are-solutions}
+use Rattle.core_elab.specs.of_ir_poly.Prog as prog
+use Rattle.core_elab.specs.of_ir_poly.Types.{admits_in, changed, AreAllowed, nth_type, Constructor}
+use Rattle.core_elab.proofs.of_ir_poly.ReplaceLemmas as lemmas
 use Rattle.core_elab.specs.Scopes.{Denotes}
 use Rattle.elab_typed.specs.Contexts.{Kept, given, general, single, raised, value_under, Around, context_under}
 use Rattle.elab_typed.specs.Instances.{IsGivenAt, IsInstanceAt, UseElab, use_general, use_plain, use_single, use_own, use_constructor, use_reference, use_exception, use_given_exception, use_primitive}

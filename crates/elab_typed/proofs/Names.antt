@@ -11,9 +11,9 @@ use Rattle.ty_core.specs.declared.mark.Mark.TheVariants.{Any, Equality, Class}
 use Rattle.ty_core.specs.declared.scheme.Quantified.{Quantified}
 use Rattle.ty_basis.specs.Types.{Row, ref_name, of_name, labels_in, row_type}
 use Rattle.label_rows.proofs.Mapped.{sorted-map}
-use Rattle.core_rules.specs.Objects.{sorted, Over, AllOver, SymbolOver}
-use Rattle.core_rules.specs.Typing.{all_general}
-use Rattle.ir_poly.specs.Types.{over, all_over, changed, AreAllowed}
+use Rattle.core_elab.specs.of_core_rules.Objects.{sorted, Over, AllOver, SymbolOver}
+use Rattle.core_elab.specs.of_core_rules.Typing.{all_general}
+use Rattle.core_elab.specs.of_ir_poly.Types.{over, all_over, changed, AreAllowed}
 use Rattle.elab_typed.specs.Numbers.{name_as, symbol_as, type_as, types_as, row_as, KeepsInitial, AgreeBelow}
 
 -- a name of the initial basis is itself

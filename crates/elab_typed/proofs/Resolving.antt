@@ -3,12 +3,12 @@ use Rattle.std.proofs.Common.{ℕ, Bool, List}
 use Rattle.ty_core.specs.Types.{Typ}
 use Rattle.sml_tree.specs.BareTree.{ExBind}
 use Rattle.sml_tree.specs.BareTree as bare
-use Rattle.core_rules.specs.Choices.{Choices}
-use Rattle.core_rules.specs.Typing.{Bound}
+use Rattle.core_elab.specs.of_core_rules.Choices.{Choices}
+use Rattle.core_elab.specs.of_core_rules.Typing.{Bound}
 use Rattle.ty_basis.specs.Types.{Row}
-use Rattle.ir_poly.specs.Prog as prog
-use Rattle.ir_poly.specs.Types.{Constructor}
-use Rattle.ir_poly.specs.TestsChecked.{Knowns}
+use Rattle.core_elab.specs.of_ir_poly.Prog as prog
+use Rattle.core_elab.specs.of_ir_poly.Types.{Constructor}
+use Rattle.core_elab.specs.of_ir_poly.TestsChecked.{Knowns}
 use Rattle.core_elab.specs.Scopes.{Denotes, Scope}
 use Rattle.core_elab.specs.Resolves as to
 use Rattle.core_elab.specs.Resolves.{UseTo, AloneTo, BeforeTo, PatTo, PatFieldsTo, ParameterTo, ExnsTo, ExpTo, FieldsTo, ChainTo, RulesTo, FunTo, DecsTo, DecTo, BindsTo, FunsTo}

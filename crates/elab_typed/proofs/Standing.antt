@@ -8,9 +8,9 @@ use Rattle.ty_core.specs.Statics.{TypeFunction, apply, count, argument, replace,
 use Rattle.ty_basis.specs.Types.{Row, function_type, row_type}
 use Rattle.sml_tree.specs.BareTree.{Ty, Tys, no_tys, ty, TyFields, no_ty_fields, ty_field}
 use Rattle.sml_tree.specs.BareTree as bare
-use Rattle.core_rules.specs.Objects.{sorted, Map, at, TypeStructure}
-use Rattle.core_rules.specs.Elaborated.{type_in, type_of, types_of, row_of}
-use Rattle.ir_poly.proofs.ReplaceLemmas.{replace-replace, row_read, row_type-read}
+use Rattle.core_elab.specs.of_core_rules.Objects.{sorted, Map, at, TypeStructure}
+use Rattle.core_elab.specs.of_core_rules.Elaborated.{type_in, type_of, types_of, row_of}
+use Rattle.core_elab.proofs.of_ir_poly.ReplaceLemmas.{replace-replace, row_read, row_type-read}
 use Rattle.elab_typed.specs.Contexts.{Around, context_under, generic}
 use Rattle.elab_typed.specs.Laws.{IsClosed, TypesAreClosed, AnnotationsStand}
 use Rattle.elab_typed.proofs.Under.{sorted-under}

@@ -14,22 +14,22 @@ use Rattle.sml_tree.specs.Terminal as term
 use Rattle.sml_tree.specs.declared.ident.Tyvar.{Tyvar}
 use Rattle.sml_tree.specs.BareTree.{Ty, ExBind, new_exn, same_exn}
 use Rattle.sml_tree.specs.BareTree as bare
-use Rattle.core_rules.specs.Words.{same_label, same_vid}
-use Rattle.core_rules.specs.Restrictions.{distinct}
-use Rattle.core_rules.specs.Objects.{sorted, monomorphic, env, no_structures, AllAllowed, long_value_in, Context, Over}
-use Rattle.core_rules.specs.Choices.{Choices, no_choice, both, further}
-use Rattle.core_rules.specs.Elaborated.{exceptions_of, exception_type, is_exception, if_exception, all_constructors}
-use Rattle.core_rules.specs.Eval.{all_fns}
-use Rattle.core_rules.specs.Initial.{built_scheme}
+use Rattle.core_elab.specs.of_core_rules.Words.{same_label, same_vid}
+use Rattle.core_elab.specs.of_core_rules.Restrictions.{distinct}
+use Rattle.core_elab.specs.of_core_rules.Objects.{sorted, monomorphic, env, no_structures, AllAllowed, long_value_in, Context, Over}
+use Rattle.core_elab.specs.of_core_rules.Choices.{Choices, no_choice, both, further}
+use Rattle.core_elab.specs.of_core_rules.Elaborated.{exceptions_of, exception_type, is_exception, if_exception, all_constructors}
+use Rattle.core_elab.specs.of_core_rules.Eval.{all_fns}
+use Rattle.core_elab.specs.of_core_rules.Initial.{built_scheme}
 use Rattle.sml_tree.specs.declared.ident.BuiltIn.{BuiltIn}
 use Rattle.sml_tree.specs.declared.ident.BuiltIn.TheVariants.{True, False}
-use Rattle.core_rules.specs.Typing.{all_general, Bound, bound_in, AreDistinct, constant_type, is_non_expansive, scoping, marks_of, IsInstance, settles, together, put_bound, closed, Annotated, IsChoiceOf, PatHas, PatsHave, no_field_has, field_has, wild_has, constant_has, variable_has, constructor_has, built_has, fields_has, con_has, built_con_has, typed_has, as_has, HasType, constant_exp_has, vid_has, built_exp_has, record_has, let_has, app_has, typed_exp_has, handle_has, raise_has, fn_has, HaveTypes, no_exp_field_has, exp_field_has, RulesHave, no_rule_has, rule_has, DecHas, val_has, type_has, datatype_has, replicate_has, exception_has, local_has, sequence_has, DecsHave, no_dec_has, dec_has, BindsHave, no_bind_has, bind_has}
-use Rattle.core_rules.specs.Typing as rules
+use Rattle.core_elab.specs.of_core_rules.Typing.{all_general, Bound, bound_in, AreDistinct, constant_type, is_non_expansive, scoping, marks_of, IsInstance, settles, together, put_bound, closed, Annotated, IsChoiceOf, PatHas, PatsHave, no_field_has, field_has, wild_has, constant_has, variable_has, constructor_has, built_has, fields_has, con_has, built_con_has, typed_has, as_has, HasType, constant_exp_has, vid_has, built_exp_has, record_has, let_has, app_has, typed_exp_has, handle_has, raise_has, fn_has, HaveTypes, no_exp_field_has, exp_field_has, RulesHave, no_rule_has, rule_has, DecHas, val_has, type_has, datatype_has, replicate_has, exception_has, local_has, sequence_has, DecsHave, no_dec_has, dec_has, BindsHave, no_bind_has, bind_has}
+use Rattle.core_elab.specs.of_core_rules.Typing as rules
 use Rattle.core_elab.specs.Scopes.{Denotes, Scope}
-use Rattle.ir_poly.specs.Prog as prog
-use Rattle.ir_poly.specs.Types.{are_new, Constructor}
-use Rattle.ir_poly.specs.TestsChecked.{Knowns}
-use Rattle.ir_poly.proofs.ReplaceLemmas.{row_read, row_type-read}
+use Rattle.core_elab.specs.of_ir_poly.Prog as prog
+use Rattle.core_elab.specs.of_ir_poly.Types.{are_new, Constructor}
+use Rattle.core_elab.specs.of_ir_poly.TestsChecked.{Knowns}
+use Rattle.core_elab.proofs.of_ir_poly.ReplaceLemmas.{row_read, row_type-read}
 use Rattle.elab_typed.specs.Contexts.{Kept, given, general, single, raised, value_under, KeptValues, KeptEnv, values_under, env_under, kept_values, kept_in, Around, context_under, generic, IsOver, generals, with_bound, after}
 use Rattle.elab_typed.specs.Instances.{AloneElab, alone_constructor, alone_exception, alone_given_exception, BeforeElab, before_constructor, before_reference, before_exception}
 use Rattle.elab_typed.specs.Elaborates.{StandsIf, PatElab, wild_elab, constant_elab, variable_elab, alone_elab, built_elab, fields_elab, open_elab, con_elab, built_con_elab, typed_elab, as_elab, PatsElab, no_pats_elab, a_pat_elab, ParameterElab, any_elab, named_elab, annotated_elab, HeadElab, head_wild, head_variable, head_typed, head_as, ExnsElab, no_exns_elab, new_exn_elab, same_exn_elab, inner, without, ExpElab, chain_elab, ChainElab, only_elab, and_elab, or_elab, constant_exp_elab, vid_elab, built_exp_elab, record_elab, let_elab, case_elab, app_elab, typed_exp_elab, handle_elab, raise_elab, fn_elab, counted_elab, FieldsElab, no_fields_elab, a_field_elab, RulesElab, no_rules_elab, a_rule_elab, FunElab, by_rules_elab, last_elab, more_elab, DecsElab, no_decs_elab, a_dec_elab, counted_decs_elab, DecElab, val_elab, type_elab, datatype_elab, replicate_elab, exception_elab, local_elab, open_dec_elab, sequence_elab, counted_dec_elab, BindsElab, no_binds_elab, general_elab, plain_elab, FunsElab, no_funs_elab, a_fun_elab}

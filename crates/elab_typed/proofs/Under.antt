@@ -11,14 +11,14 @@ use Rattle.ty_core.specs.Statics.{replace, replace_all}
 use Rattle.ty_core.specs.declared.env.Status.TheVariants.{Variable}
 use Rattle.ty_basis.specs.Types.{Row, labels_in}
 use Rattle.label_rows.proofs.Mapped.{sorted-map}
-use Rattle.core_rules.specs.Words.{same_vid}
-use Rattle.core_rules.specs.Objects as static
-use Rattle.core_rules.specs.Objects.{sorted, Map, at, joined, Value, Values, TypeStructure, Env, env, Structures, no_structures, structure, structures_of, structure_map, values_env, plus, value_in, long_value_in, Context, with_env, monomorphic, Over, AllOver, SymbolOver}
-use Rattle.core_rules.specs.Elaborated.{replicated, opened}
-use Rattle.core_rules.specs.Typing.{Bound, bound_in, is_matched, is_matched_in, gives_reference, is_conexp_in, is_conexp, is_non_expansive, all_non_expansive}
-use Rattle.core_rules.specs.Typing as rules
-use Rattle.ir_poly.specs.TestsChecked.{Knowns}
-use Rattle.ir_poly.proofs.ReplaceLemmas.{row_read}
+use Rattle.core_elab.specs.of_core_rules.Words.{same_vid}
+use Rattle.core_elab.specs.of_core_rules.Objects as static
+use Rattle.core_elab.specs.of_core_rules.Objects.{sorted, Map, at, joined, Value, Values, TypeStructure, Env, env, Structures, no_structures, structure, structures_of, structure_map, values_env, plus, value_in, long_value_in, Context, with_env, monomorphic, Over, AllOver, SymbolOver}
+use Rattle.core_elab.specs.of_core_rules.Elaborated.{replicated, opened}
+use Rattle.core_elab.specs.of_core_rules.Typing.{Bound, bound_in, is_matched, is_matched_in, gives_reference, is_conexp_in, is_conexp, is_non_expansive, all_non_expansive}
+use Rattle.core_elab.specs.of_core_rules.Typing as rules
+use Rattle.core_elab.specs.of_ir_poly.TestsChecked.{Knowns}
+use Rattle.core_elab.proofs.of_ir_poly.ReplaceLemmas.{row_read}
 use Rattle.core_elab.specs.Scopes.{Scope}
 use Rattle.elab_typed.specs.Contexts.{Kept, given, general, single, raised, value_under, KeptValues, KeptEnv, values_under, env_under, kept_values, given_values, kept_env, plus_kept, kept_in, Around, context_under, singles, with_bound, after}
 

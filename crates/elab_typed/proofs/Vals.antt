@@ -12,14 +12,14 @@ use Rattle.ty_core.specs.Statics.{replace, replace_all}
 use Rattle.ty_core.specs.declared.mark.Mark.{Mark}
 use Rattle.ty_core.specs.declared.scheme.Quantified.{Quantified}
 use Rattle.ty_core.specs.declared.env.Status.TheVariants.{Variable}
-use Rattle.core_rules.specs.Objects.{put, AllAllowed, Map, Context, Over}
-use Rattle.core_rules.specs.Closing.{place_in, behind, scheme_under}
-use Rattle.core_rules.specs.Elaborated.{scope}
-use Rattle.core_rules.specs.Typing.{Bound, bound_in, mark_of, scoped_in, scoping, marks_of, put_bound, together, has_none, have_none, bound_have_none, closed, IsChoiceOf}
-use Rattle.core_rules.proofs.Closing.{instances-are-solutions}
-use Rattle.ir_poly.specs.Types.{in_scope, is_declarable, is_equality, admits_in, over, all_over, are_new, changed, AreAllowed}
-use Rattle.ir_poly.proofs.ReplaceLemmas as lemmas
-use Rattle.ir_poly.proofs.ReplaceLemmas.{left-true, right-true}
+use Rattle.core_elab.specs.of_core_rules.Objects.{put, AllAllowed, Map, Context, Over}
+use Rattle.core_elab.specs.of_core_rules.Closing.{place_in, behind, scheme_under}
+use Rattle.core_elab.specs.of_core_rules.Elaborated.{scope}
+use Rattle.core_elab.specs.of_core_rules.Typing.{Bound, bound_in, mark_of, scoped_in, scoping, marks_of, put_bound, together, has_none, have_none, bound_have_none, closed, IsChoiceOf}
+use Rattle.core_elab.proofs.of_core_rules.Closing.{instances-are-solutions}
+use Rattle.core_elab.specs.of_ir_poly.Types.{in_scope, is_declarable, is_equality, admits_in, over, all_over, are_new, changed, AreAllowed}
+use Rattle.core_elab.proofs.of_ir_poly.ReplaceLemmas as lemmas
+use Rattle.core_elab.proofs.of_ir_poly.ReplaceLemmas.{left-true, right-true}
 use Rattle.elab_typed.specs.Contexts.{Around, context_under, generic, IsOver, env_under, values_under, kept_values, generals}
 use Rattle.elab_typed.specs.Elaborates.{scoped_as, inner, without}
 use Rattle.elab_typed.specs.Laws.{Fits}
@@ -152,7 +152,7 @@ tyvar-names s (a ∷ m) = ap (λ ns. a.0 ∷ ns) (tyvar-names s m)
 
 pub scoped-same : (s : ℕ → Typ) (A : Around) (as_ : List Tyvar) (bs rs : bare.Binds) → scoped_in (context_under s A) as_ bs rs ≡ scoped_in (generic A) as_ bs rs
 scoped-same s A as_ bs rs =
-    ap (λ ns. Rattle.core_rules.specs.Scoping.scoped_at ns as_ bs rs) (tyvar-names s A.tyvars ∙ sym (tyvar-names var A.tyvars))
+    ap (λ ns. Rattle.core_elab.specs.of_core_rules.Scoping.scoped_at ns as_ bs rs) (tyvar-names s A.tyvars ∙ sym (tyvar-names var A.tyvars))
 
 pub marks-same : (s : ℕ → Typ) (A : Around) (as_ : List Tyvar) (bs rs : bare.Binds) (extra : List Mark)
     → marks_of (context_under s A) as_ bs rs extra ≡ marks_of (generic A) as_ bs rs extra
@@ -200,7 +200,7 @@ closing-together s qs (v ∷ vs) = ap (λ r. closing s qs v ++ r) (closing-toget
 pub closed-under : (s : ℕ → Typ) (qs : List Quantified) (marks : List Mark) (vs : Bound) → map (λ q. q.mark) qs ≡ marks
     → closed marks (closing s qs vs) ≡ env_under s (kept_values (generals qs vs))
 closed-under s qs marks vs e = subst (λ m. closed m (closing s qs vs) ≡ env_under s (kept_values (generals qs vs))) e
-    (ap Rattle.core_rules.specs.Objects.values_env (go vs))
+    (ap Rattle.core_elab.specs.of_core_rules.Objects.values_env (go vs))
   where
     go : (vs : Bound) → map (λ b. (b.0, record { scheme = record { marks = map (λ q. q.mark) qs; body = b.1 }; status = Variable })) (closing s qs vs)
         ≡ values_under s (generals qs vs)

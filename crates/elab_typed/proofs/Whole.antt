@@ -1,9 +1,9 @@
 -- In the initial basis.
 use Rattle.std.proofs.Common.{◌≡◌, ℕ, false, true, subst, refl}
 use Rattle.ty_core.specs.Types.{var, no_variable}
-use Rattle.core_rules.specs.Initial.{initial_context}
-use Rattle.core_rules.specs.Objects.{Context}
-use Rattle.core_rules.specs.Typing.{DecsHave}
+use Rattle.core_elab.specs.of_core_rules.Initial.{initial_context}
+use Rattle.core_elab.specs.of_core_rules.Objects.{Context}
+use Rattle.core_elab.specs.of_core_rules.Typing.{DecsHave}
 use Rattle.core_elab.proofs.Initial.{meaning-kept-initial}
 use Rattle.elab_typed.specs.Contexts.{env_under, context_under, initial_around}
 use Rattle.elab_typed.specs.Laws.{Fits, IsProgramOf, ElaborationIsRight}

@@ -8,15 +8,15 @@ use Rattle.ty_core.specs.Statics.{replace}
 use Rattle.ty_core.specs.declared.env.Status.{Status}
 use Rattle.ty_core.specs.declared.env.Status.TheVariants.{Variable, Exception}
 use Rattle.ty_core.specs.declared.scheme.Quantified.{Quantified}
-use Rattle.core_rules.specs.Closing.{scheme_under}
-use Rattle.core_rules.specs.Words.{same_vid}
-use Rattle.core_rules.specs.Objects.{monomorphic, Map, at, joined, Value, Values, TypeStructure, Env, env, Structures, structures_of, structure_map, Context}
-use Rattle.core_rules.specs.Objects as static
-use Rattle.core_rules.specs.Elaborated.{exception_type}
-use Rattle.core_rules.specs.Typing.{Bound}
-use Rattle.ir_poly.specs.Types.{in_scope}
-use Rattle.ir_poly.specs.TestsChecked.{Knowns}
-use Rattle.core_rules.specs.Initial.{initial_context}
+use Rattle.core_elab.specs.of_core_rules.Closing.{scheme_under}
+use Rattle.core_elab.specs.of_core_rules.Words.{same_vid}
+use Rattle.core_elab.specs.of_core_rules.Objects.{monomorphic, Map, at, joined, Value, Values, TypeStructure, Env, env, Structures, structures_of, structure_map, Context}
+use Rattle.core_elab.specs.of_core_rules.Objects as static
+use Rattle.core_elab.specs.of_core_rules.Elaborated.{exception_type}
+use Rattle.core_elab.specs.of_core_rules.Typing.{Bound}
+use Rattle.core_elab.specs.of_ir_poly.Types.{in_scope}
+use Rattle.core_elab.specs.of_ir_poly.TestsChecked.{Knowns}
+use Rattle.core_elab.specs.of_core_rules.Initial.{initial_context}
 use Rattle.core_elab.specs.Scopes.{Scope, plus_scope, initial_scope}
 
 pub data Kept : Type 0 where

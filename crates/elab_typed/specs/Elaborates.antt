@@ -19,21 +19,21 @@ use Rattle.sml_tree.specs.declared.ident.Vid.{Vid}
 use Rattle.sml_tree.specs.declared.ident.BuiltIn.{BuiltIn}
 use Rattle.sml_tree.specs.BareTree.{Ty, LongIdAt, TypeBind, DataBind, ExBind, new_exn, same_exn}
 use Rattle.sml_tree.specs.BareTree as bare
-use Rattle.core_rules.specs.Words.{same_label as same_source_label}
-use Rattle.core_rules.specs.Objects.{sorted, Map, Value, TypeStructure, Env, no_structures, value_in, Over}
-use Rattle.core_rules.specs.Restrictions.{distinct, is_kept}
-use Rattle.core_rules.specs.Match.{constant_of}
-use Rattle.core_rules.specs.Eval.{identifier}
-use Rattle.core_rules.specs.Initial.{built_scheme}
-use Rattle.core_rules.specs.Choices.{Choices, no_choice, both, further, settled}
-use Rattle.core_rules.specs.Elaborated.{type_of, types_bound, behind_of, datatypes, all_constructors, respects_equality, AllBelow, is_exception, replicated, opened}
-use Rattle.core_rules.specs.Typing.{Bound, bound_in, AreDistinct, constant_type, is_matched_in, is_non_expansive, all_general, scoped_in, marks_of, settles, together}
+use Rattle.core_elab.specs.of_core_rules.Words.{same_label as same_source_label}
+use Rattle.core_elab.specs.of_core_rules.Objects.{sorted, Map, Value, TypeStructure, Env, no_structures, value_in, Over}
+use Rattle.core_elab.specs.of_core_rules.Restrictions.{distinct, is_kept}
+use Rattle.core_elab.specs.of_core_rules.Match.{constant_of}
+use Rattle.core_elab.specs.of_core_rules.Eval.{identifier}
+use Rattle.core_elab.specs.of_core_rules.Initial.{built_scheme}
+use Rattle.core_elab.specs.of_core_rules.Choices.{Choices, no_choice, both, further, settled}
+use Rattle.core_elab.specs.of_core_rules.Elaborated.{type_of, types_bound, behind_of, datatypes, all_constructors, respects_equality, AllBelow, is_exception, replicated, opened}
+use Rattle.core_elab.specs.of_core_rules.Typing.{Bound, bound_in, AreDistinct, constant_type, is_matched_in, is_non_expansive, all_general, scoped_in, marks_of, settles, together}
 use Rattle.ir_values.specs.Values.{same_label}
-use Rattle.ir_poly.specs.Prog.{held, is_value}
-use Rattle.ir_poly.specs.Prog as prog
-use Rattle.ir_poly.specs.Types.{ascend, over, are_new, Constructor as ConRow}
-use Rattle.ir_poly.specs.TestsChecked.{of_type, own, exception as exception_known, Knowns, declared, HasConstructor}
-use Rattle.ir_poly.specs.ProgChecked.{pat_onto, funs_onto, binds_onto}
+use Rattle.core_elab.specs.of_ir_poly.Prog.{held, is_value}
+use Rattle.core_elab.specs.of_ir_poly.Prog as prog
+use Rattle.core_elab.specs.of_ir_poly.Types.{ascend, over, are_new, Constructor as ConRow}
+use Rattle.core_elab.specs.of_ir_poly.TestsChecked.{of_type, own, exception as exception_known, Knowns, declared, HasConstructor}
+use Rattle.core_elab.specs.of_ir_poly.ProgChecked.{pat_onto, funs_onto, binds_onto}
 use Rattle.core_elab.specs.Scopes.{Denotes, variable, exception, Scope, empty, scoped, typed_by, plus_scope, denotes_in, long_denotes_in, long_typed_in, opened_scope, is_free_in, built_number, types_scope}
 use Rattle.core_elab.specs.Resolves.{HeadsTo, DatatypesTo, IsCalled, joined}
 use Rattle.elab_typed.specs.Numbers.{row_as, KeepsInitial, AgreeBelow}

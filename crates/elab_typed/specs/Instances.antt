@@ -7,17 +7,17 @@ use Rattle.ty_core.specs.Statics.{replace}
 use Rattle.ty_core.specs.declared.name.TyName.{TyName}
 use Rattle.ty_core.specs.declared.scheme.Quantified.{Quantified}
 use Rattle.ty_basis.specs.Types.{exn_type, function_type, ref_type}
-use Rattle.core_rules.specs.Objects.{AllAllowed, put, Value, Over}
-use Rattle.core_rules.specs.Choices.{Choices, no_choice}
-use Rattle.core_rules.specs.Elaborated.{exception_type}
-use Rattle.core_rules.specs.Typing.{Chosen, all_general, is_matched}
-use Rattle.ir_poly.specs.Prog.{Exc}
-use Rattle.ir_poly.specs.Prog as prog
-use Rattle.ir_poly.specs.Types as program
-use Rattle.ir_poly.specs.Types.{admits_in, over, all_over, changed, AreAllowed, nth_type, Constructor, find, argument_at, prim_type, arguments_at, result_at, tuple_type}
-use Rattle.ir_poly.specs.TestsChecked.{of_type, own, at, alone_type, HasConstructor}
-use Rattle.ir_poly.specs.TestsChecked as checked
-use Rattle.ir_poly.specs.ProgChecked.{ExcChecked}
+use Rattle.core_elab.specs.of_core_rules.Objects.{AllAllowed, put, Value, Over}
+use Rattle.core_elab.specs.of_core_rules.Choices.{Choices, no_choice}
+use Rattle.core_elab.specs.of_core_rules.Elaborated.{exception_type}
+use Rattle.core_elab.specs.of_core_rules.Typing.{Chosen, all_general, is_matched}
+use Rattle.core_elab.specs.of_ir_poly.Prog.{Exc}
+use Rattle.core_elab.specs.of_ir_poly.Prog as prog
+use Rattle.core_elab.specs.of_ir_poly.Types as program
+use Rattle.core_elab.specs.of_ir_poly.Types.{admits_in, over, all_over, changed, AreAllowed, nth_type, Constructor, find, argument_at, prim_type, arguments_at, result_at, tuple_type}
+use Rattle.core_elab.specs.of_ir_poly.TestsChecked.{of_type, own, at, alone_type, HasConstructor}
+use Rattle.core_elab.specs.of_ir_poly.TestsChecked as checked
+use Rattle.core_elab.specs.of_ir_poly.ProgChecked.{ExcChecked}
 use Rattle.core_elab.specs.Scopes.{Denotes, variable, constructor, reference, exception, primitive}
 use Rattle.elab_typed.specs.Numbers.{type_as}
 use Rattle.elab_typed.specs.Contexts.{Kept, given, general, single, raised, Around}

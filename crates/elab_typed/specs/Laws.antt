@@ -3,17 +3,17 @@ use Rattle.std.specs.Prelude.{◌≡◌, ℕ, true, nat_lt, List, [], Some}
 use Rattle.ty_core.specs.Types.{Typ, no_variable, admits}
 use Rattle.ty_core.specs.Statics.{TypeFunction, replace}
 use Rattle.sml_tree.specs.BareTree.{Ty, Decs}
-use Rattle.core_rules.specs.Objects.{TypeStructure, Env, Over}
-use Rattle.core_rules.specs.Elaborated.{type_in, type_of}
-use Rattle.core_rules.specs.Initial.{initial_context}
-use Rattle.core_rules.specs.Meaning.{meaning}
-use Rattle.core_rules.specs.Choices.{Choices}
-use Rattle.core_rules.specs.Typing.{DecsHave}
-use Rattle.ir_poly.specs.Prog as prog
-use Rattle.ir_poly.specs.ProgMeaning.{run}
-use Rattle.ir_poly.specs.Types.{Constructor, admits_in}
-use Rattle.ir_poly.specs.TestsChecked.{Knowns}
-use Rattle.ir_poly.specs.ProgChecked.{DecsChecked}
+use Rattle.core_elab.specs.of_core_rules.Objects.{TypeStructure, Env, Over}
+use Rattle.core_elab.specs.of_core_rules.Elaborated.{type_in, type_of}
+use Rattle.core_elab.specs.of_core_rules.Initial.{initial_context}
+use Rattle.core_elab.specs.of_core_rules.Meaning.{meaning}
+use Rattle.core_elab.specs.of_core_rules.Choices.{Choices}
+use Rattle.core_elab.specs.of_core_rules.Typing.{DecsHave}
+use Rattle.core_elab.specs.of_ir_poly.Prog as prog
+use Rattle.core_elab.specs.of_ir_poly.ProgMeaning.{run}
+use Rattle.core_elab.specs.of_ir_poly.Types.{Constructor, admits_in}
+use Rattle.core_elab.specs.of_ir_poly.TestsChecked.{Knowns}
+use Rattle.core_elab.specs.of_ir_poly.ProgChecked.{DecsChecked}
 use Rattle.core_elab.specs.Scopes.{Scope}
 use Rattle.core_elab.specs.Laws.{initial_identifiers}
 use Rattle.core_elab.specs.Resolves.{DecsTo}

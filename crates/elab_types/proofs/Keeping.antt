@@ -8,7 +8,7 @@ use Rattle.std.specs.Map.{lookup}
 use Rattle.ty_core.specs.Types.{Typ}
 use Rattle.ty_core.specs.Statics.{TypeFunction, replace}
 use Rattle.ty_table.specs.TypeAt.{type_at, top, AllBelow}
-use Rattle.ty_solve.proofs.Holding.{type-stays}
+use Rattle.ty_instance.proofs.of_ty_solve.Holding.{type-stays}
 use Rattle.ty_instance.proofs.Going.{stays-on, longer, below-grown, whole}
 use Rattle.sml_tree.specs.BareTree.{Ty}
 use Rattle.core_rules.specs.Objects.{Context}

@@ -1,3 +1,4 @@
+pub use Rattle.ty_instance.proofs.of_ty_solve as of_ty_solve
 pub mod Lists
 pub mod Keeping
 pub mod Trees

@@ -14,7 +14,7 @@ use Rattle.ty_core.specs.Types.{Typ, var, con, Typs, none, more, typs_of, labels
 use Rattle.ty_core.specs.Statics.{TypeFunction, apply, argument, count, replace, replace_all}
 use Rattle.ty_basis.specs.Types.{Row, function_type, row_type}
 use Rattle.ty_table.specs.TypeAt.{type_at, types_at, top, tops}
-use Rattle.ty_solve.proofs.Holding.{type-stays}
+use Rattle.ty_instance.proofs.of_ty_solve.Holding.{type-stays}
 use Rattle.sml_tree.specs.BareTree as bare
 use Rattle.sml_tree.specs.BareTree.{Ty}
 use Rattle.sml_tree.specs.Terminal.{LongId}

@@ -5,7 +5,7 @@ use Rattle.mlc_names.specs.declared.label.Label.TheVariants.{Number}
 use Rattle.ty_core.specs.Types.{Typ, var, con, arrow}
 use Rattle.ty_basis.specs.Types.{function_type}
 use Rattle.ty_table.specs.TypeAt.{type_at, types_at, AllBelow}
-use Rattle.ty_solve.proofs.Holding.{type-stays}
+use Rattle.ty_instance.proofs.of_ty_solve.Holding.{type-stays}
 use Rattle.ty_instance.proofs.Going.{stays-on, longer, whole}
 use Rattle.label_rows.specs.Sorting.{label_before, put_field, sorted}
 use Rattle.label_rows.specs.declared.sort.Field.{Field}

@@ -5,7 +5,7 @@ use Rattle.std.specs.Map.{lookup}
 use Rattle.ty_core.specs.Types.{Typ}
 use Rattle.ty_core.specs.Statics.{TypeFunction, replace}
 use Rattle.ty_table.specs.TypeAt.{type_at, top}
-use Rattle.ty_solve.specs.Substitution.{is_below}
+use Rattle.ty_instance.specs.of_ty_solve.Substitution.{is_below}
 use Rattle.core_rules.specs.Objects.{at, Context}
 use Rattle.core_rules.specs.Elaborated.{type_in}
 use Rattle.elab_types.specs.declared.scope.TypeEntry.{TypeEntry}

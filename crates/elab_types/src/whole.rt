@@ -3,7 +3,7 @@ ghost use Rattle.std.specs.Prelude.{◌≡◌, ◌≤◌, ℕ, true, length, tak
 ghost use Rattle.ty_core.specs.Types.{nodes};
 ghost use Rattle.ty_table.specs.TypeAt.{type_at};
 ghost use Rattle.sml_tree.specs.TreeOf.{ty_of};
-ghost use Rattle.ty_solve.specs.Substitution.{is_below};
+ghost use Rattle.ty_instance.specs.of_ty_solve.Substitution.{is_below};
 ghost use Rattle.elab_types.specs.Reading.{AreKnown, Holds};
 ghost use Rattle.elab_types.specs.Annotations.{IsTypeOf};
 ghost use Rattle.elab_types.specs.Whole.{annotation_limit, IsAnnotationRefused};

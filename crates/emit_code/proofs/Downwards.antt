@@ -2,7 +2,7 @@
 use Rattle.std.proofs.Common.{◌≡◌, ℕ, suc, ◌+◌, ◌-◌, ◌<◌, List, [], ◌∷◌, ◌++◌, sym, ap, ◌∙◌, arith, append_assoc}
 use Rattle.ir_code.specs.declared.instr.Instr.{Instr}
 use Rattle.ir_code.specs.declared.instr.Instr.TheVariants.{Mov}
-use Rattle.machine_code.specs.Code.{down_code, slot}
+use Rattle.emit_rows.specs.of_machine_code.Code.{down_code, slot}
 
 pub down-next : (o n r : List Instr) (i : Instr) (to from left to1 from1 a b : ℕ) → o ++ down_code to from left ≡ r → 0 < left → n ≡ o ++ i ∷ [] → i ≡ Mov a b → a ≡ slot to
     → b ≡ slot from → to1 ≡ to + 1 → from1 ≡ from + 1 → n ++ down_code to1 from1 (left - 1) ≡ r

@@ -2,7 +2,7 @@
 use Rattle.std.proofs.Common.{◌≡◌, refl, ℕ, zero, suc, ◌≤◌, ◌<◌, List, [], ◌∷◌, length, Bool, true, false, Option, Some, None, ap, ◌∙◌, arith, get_or}
 use Rattle.std.specs.Prelude.{nat_eq, if◌then◌else◌}
 use Rattle.std.specs.Map.{lookup}
-use Rattle.machine_code.specs.Code.{Scope, depth_in, depths_in}
+use Rattle.emit_rows.specs.of_machine_code.Code.{Scope, depth_in, depths_in}
 
 -- with the value or 0
 abbrev or_none : Option ℕ → ℕ

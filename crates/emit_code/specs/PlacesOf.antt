@@ -2,8 +2,8 @@
 use Rattle.std.specs.Prelude.{◌+◌, get_or}
 use Rattle.first_tables.specs.TablesOf.{tables_of}
 use Rattle.first_tables.specs.declared.tables.Tables.{Tables}
-use Rattle.machine_code.specs.Code as code
-use Rattle.machine_rows.specs.Table.{rows}
+use Rattle.emit_rows.specs.of_machine_code.Code as code
+use Rattle.emit_rows.specs.of_machine_rows.Table.{rows}
 use Rattle.emit_rows.specs.Shapes.{packet_in}
 use Rattle.emit_code.specs.declared.places.Places.{Places}
 

@@ -1,7 +1,7 @@
 -- Targets, and how a switch finds its arm, by the tags of its arms alone.
 use Rattle.std.specs.Prelude.{ℕ, suc, ◌*◌, max, List, [], ◌∷◌, length, Bool, true, false, ◌&&◌, nat_lt, nat_le, if◌then◌else◌}
 use Rattle.machine_routines.specs.FindCode as find
-use Rattle.machine_code.specs.Code as code
+use Rattle.emit_rows.specs.of_machine_code.Code as code
 use Rattle.emit_code.specs.declared.choice.Target.{Target}
 use Rattle.emit_code.specs.declared.choice.Choice.{Choice}
 use Rattle.emit_code.specs.declared.choice.Choice.TheVariants as choice

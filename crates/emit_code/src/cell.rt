@@ -4,7 +4,7 @@ ghost use Rattle.std.specs.Prelude.{◌≡◌, suc, ◌+◌, [], List, ◌∷◌
 ghost use Rattle.ir_code.specs.declared.instr.Instr.TheVariants.{Li, Alloc, St, WAdd, Copy};
 ghost use Rattle.first_values.specs.Values.{Piece as ValuePiece};
 ghost use Rattle.first_tables.specs.TablesOf.{piece_of};
-ghost use Rattle.machine_code.specs.Code.{make_code, pieces_code, pieces_count, slot};
+ghost use Rattle.emit_rows.specs.of_machine_code.Code.{make_code, pieces_code, pieces_count, slot};
 
 use crate::fault::EmitFault;
 use crate::plain::put_three;

@@ -2,7 +2,7 @@
 
 ghost use Rattle.std.specs.Prelude.{◌≡◌, ◌++◌, IfOk, OnOk};
 ghost use Rattle.first_tables.specs.TablesOf.{callee_of};
-ghost use Rattle.machine_code.specs.Code.{args_of, down_code, in_order as in_order_, leave_code, move_code, push_code, straight_code};
+ghost use Rattle.emit_rows.specs.of_machine_code.Code.{args_of, down_code, in_order as in_order_, leave_code, move_code, push_code, straight_code};
 
 use crate::fault::EmitFault;
 use crate::put::{depth_of, put, slot_at, sum};

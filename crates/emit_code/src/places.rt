@@ -4,7 +4,7 @@ ghost use Rattle.std.specs.Prelude.{◌≡◌, ◌+◌, IfOk, get_or};
 ghost use Rattle.first_values.specs.Equality.{opaque};
 ghost use Rattle.first_tables.specs.TablesOf.{callee_of, constant_of, shape_of, tables_of};
 ghost use Rattle.machine_routines.specs.EqualCode.{is_word};
-ghost use Rattle.machine_code.specs.Code.{callee_at, constant_word};
+ghost use Rattle.emit_rows.specs.of_machine_code.Code.{callee_at, constant_word};
 ghost use Rattle.emit_code.specs.PlacesOf.{places_of};
 
 use crate::fault::EmitFault;

@@ -4,11 +4,11 @@ ghost use Rattle.std.specs.Prelude.{◌≡◌, ℕ, suc, ◌+◌, ◌<◌, ◌^�
 ghost use Rattle.ir_code.specs.declared.instr.Instr.TheVariants.{Li, Brz, Alloc, St, Eq, SCmp};
 ghost use Rattle.first_values.specs.Equality.{opaque};
 ghost use Rattle.machine_routines.specs.EqualCode.{is_word};
-ghost use Rattle.machine_code.specs.Code as code_;
+ghost use Rattle.emit_rows.specs.of_machine_code.Code as code_;
 ghost use Rattle.first_tables.specs.TablesOf.{constant_of, operands_of, plain_of, tables_of, test_of};
-ghost use Rattle.machine_code.specs.Code.{depths_in, slot, equal_call, is_code, plain_code, test_code, word_test_code};
-ghost use Rattle.machine_code.specs.Rows.{late_code};
-ghost use Rattle.machine_rows.specs.Table.{rows};
+ghost use Rattle.emit_rows.specs.of_machine_code.Code.{depths_in, slot, equal_call, is_code, plain_code, test_code, word_test_code};
+ghost use Rattle.emit_rows.specs.of_machine_code.Rows.{late_code};
+ghost use Rattle.emit_rows.specs.of_machine_rows.Table.{rows};
 ghost use Rattle.emit_rows.specs.Shapes.{packet_in};
 ghost use Rattle.emit_code.specs.PlacesOf.{places_of};
 

@@ -1,7 +1,7 @@
 // Instructions behind the code so far, and the slots of variables.
 
 ghost use Rattle.std.specs.Prelude.{◌≡◌, ◌+◌, ◌∷◌, [], ◌++◌, length, map, IfOk, OnOk, get_or};
-ghost use Rattle.machine_code.specs.Code.{depth_in, depths_in, slot};
+ghost use Rattle.emit_rows.specs.of_machine_code.Code.{depth_in, depths_in, slot};
 
 use crate::fault::EmitFault;
 use ir_code::instr::Instr;

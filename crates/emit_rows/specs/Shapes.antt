@@ -4,8 +4,8 @@ use Rattle.ir_code.specs.declared.instr.Instr.{Instr}
 use Rattle.ir_code.specs.declared.instr.Instr.TheVariants.{Add, Sub, Mul, IDiv, IMod, IQuot, IRem, WAdd, WSub, WMul, WDiv, WMod, And, Or, Xor, Shl, Shr, Sar, ILt, ULt, Eq, SCmp}
 use Rattle.mlc_prims.specs.declared.prim.PrimExn.{PrimExn}
 use Rattle.mlc_prims.specs.declared.prim.PrimExn.TheVariants.{Overflow, Div, Subscript, Size, Chr}
-use Rattle.machine_primitives.specs.RowLaws.{Code, TestCode}
-use Rattle.machine_primitives.specs.RowCode.{total, partial, negated, moved, from_word, limited, loaded, contrary, holds, swapped, fails, divided, magnitude, against, are_same, byte_of, part_of, join_of, text_of_one, text_of_int}
+use Rattle.machine_rows.specs.of_machine_primitives.RowLaws.{Code, TestCode}
+use Rattle.machine_rows.specs.of_machine_primitives.RowCode.{total, partial, negated, moved, from_word, limited, loaded, contrary, holds, swapped, fails, divided, magnitude, against, are_same, byte_of, part_of, join_of, text_of_one, text_of_int}
 use Rattle.emit_rows.specs.declared.shape.Operation.{Operation}
 use Rattle.emit_rows.specs.declared.shape.Operation.TheVariants as operation
 use Rattle.emit_rows.specs.declared.shape.Shape.{Shape}

@@ -2,7 +2,7 @@
 
 ghost use Rattle.std.specs.Prelude.{◌≡◌, ℕ, suc, ◌+◌, ◌<◌, ◌^◌, List, [], ◌∷◌, ◌++◌, OnOk, get_or};
 ghost use Rattle.ir_code.specs.declared.instr.Instr.TheVariants.{Li, Mov, Jmp, Brz, ULt};
-ghost use Rattle.machine_primitives.specs.RowCode.{are_same, byte_of, join_of, magnitude, negated, part_of, text_of_one};
+ghost use Rattle.machine_rows.specs.of_machine_primitives.RowCode.{are_same, byte_of, join_of, magnitude, negated, part_of, text_of_one};
 ghost use Rattle.first_tables.specs.TablesOf.{operands_of};
 ghost use Rattle.machine_rows.specs.Table.{rows};
 ghost use Rattle.emit_rows.specs.Shapes.{code_of, operation_of, packet_in, test_code_of};

@@ -1,3 +1,4 @@
+pub use Rattle.emit_parts.proofs as of_emit_parts
 pub mod Steps
 pub mod Walking
 pub mod Parts

@@ -1,2 +1,3 @@
+pub use Rattle.emit_parts.specs as of_emit_parts
 pub mod Walk
 pub mod Marks

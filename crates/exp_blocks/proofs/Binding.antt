@@ -18,8 +18,8 @@ use Rattle.plain_tree.specs.declared.tree.Parameter.{Parameter}
 use Rattle.prog_tree.specs.TreeOf.{Reading, after_parameters, pat_of}
 use Rattle.prog_tree.specs.declared.tree.Parameter as source
 use Rattle.prog_tree.specs.declared.tree.Pat.{Pat}
-use Rattle.match_types.specs.Views.{View, reading, Sees}
-use Rattle.match_types.specs.declared.work.Work.{Work}
+use Rattle.exp_steps.specs.of_match_types.Views.{View, reading, Sees}
+use Rattle.exp_steps.specs.of_match_types.declared.work.Work.{Work}
 use Rattle.exp_blocks.specs.Giving.{Grows, Ends, over, parameters_before}
 use Rattle.exp_blocks.specs.Binding.{InScope, Bound, AllBound, Fits}
 use Rattle.exp_blocks.proofs.Growing.{grows-same, grows-on, ends-same, ends-more, ends-on, ends-as, sees-named}

@@ -8,10 +8,10 @@ use Rattle.ir_poly.specs.Types.{in_scope}
 use Rattle.ir_known.specs.Knows.{marks_of}
 use Rattle.match_compile.specs.Compile.{Names}
 use Rattle.match_names.specs.Bindings.{names_of}
-use Rattle.match_types.specs.Views.{View, Sees, Keeps, Stands, in_view}
-use Rattle.match_types.specs.declared.work.Work.{Work}
-use Rattle.match_types.specs.declared.work.ValueType.{ValueType}
-use Rattle.match_types.specs.declared.work.ValueType.TheVariants as value
+use Rattle.exp_steps.specs.of_match_types.Views.{View, Sees, Keeps, Stands, in_view}
+use Rattle.exp_steps.specs.of_match_types.declared.work.Work.{Work}
+use Rattle.exp_steps.specs.of_match_types.declared.work.ValueType.{ValueType}
+use Rattle.exp_steps.specs.of_match_types.declared.work.ValueType.TheVariants as value
 use Rattle.exp_blocks.specs.Giving.{Grows, Ends, over}
 
 pub grows-same : (w : Work) → Grows w w

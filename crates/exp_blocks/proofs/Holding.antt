@@ -16,13 +16,13 @@ use Rattle.plain_tree.specs.declared.tree.Exp.{Exp}
 use Rattle.plain_tree.specs.declared.tree.Function.{Function}
 use Rattle.plain_tree.specs.declared.tree.Step.{Step}
 use Rattle.plain_tree.specs.declared.tree.Step.TheVariants.{Test, Group}
-use Rattle.match_types.specs.Views.{View, reading, Sees, Keeps, Stands, in_view, Binds}
-use Rattle.match_types.specs.declared.work.ValueType.{ValueType}
-use Rattle.match_types.specs.declared.work.ValueType.TheVariants as value
-use Rattle.match_types.specs.declared.work.Work.{Work}
-use Rattle.match_types.proofs.Seeing.{sees-before}
-use Rattle.match_steps.specs.Steps.{Puts}
-use Rattle.match_steps.proofs.Pushed.{pushed, puts-as, leads-nowhere, step_of-Test}
+use Rattle.exp_steps.specs.of_match_types.Views.{View, reading, Sees, Keeps, Stands, in_view, Binds}
+use Rattle.exp_steps.specs.of_match_types.declared.work.ValueType.{ValueType}
+use Rattle.exp_steps.specs.of_match_types.declared.work.ValueType.TheVariants as value
+use Rattle.exp_steps.specs.of_match_types.declared.work.Work.{Work}
+use Rattle.exp_steps.proofs.of_match_types.Seeing.{sees-before}
+use Rattle.exp_steps.specs.of_match_steps.Steps.{Puts}
+use Rattle.exp_steps.proofs.of_match_steps.Pushed.{pushed, puts-as, leads-nowhere, step_of-Test}
 use Rattle.exp_steps.specs.Making.{Pushed, putting}
 use Rattle.exp_steps.proofs.Nodes.{step_of-Group}
 use Rattle.exp_blocks.specs.Giving.{Gives, linking}

@@ -12,9 +12,9 @@ use Rattle.plain_tree.specs.declared.tree.Parameter.{Parameter}
 use Rattle.prog_tree.specs.TreeOf.{Reading, after_parameters, pat_of}
 use Rattle.prog_tree.specs.declared.tree.Parameter as source
 use Rattle.prog_tree.specs.declared.tree.Pat.{Pat}
-use Rattle.match_types.specs.Views.{View, reading, Sees, Stands, in_view}
-use Rattle.match_types.specs.declared.work.Work.{Work}
-use Rattle.match_types.specs.declared.work.ValueType.TheVariants.{Source}
+use Rattle.exp_steps.specs.of_match_types.Views.{View, reading, Sees, Stands, in_view}
+use Rattle.exp_steps.specs.of_match_types.declared.work.Work.{Work}
+use Rattle.exp_steps.specs.of_match_types.declared.work.ValueType.TheVariants.{Source}
 use Rattle.exp_blocks.specs.Giving.{Grows, Ends, parameters_before}
 
 -- a list of parameters is in scope, before those that were

@@ -9,8 +9,8 @@ use Rattle.match_compile.specs.Compile.{Names, Otherwise, again, initial, atom, 
 use Rattle.plain_tree.specs.TreeOf.{Reading, tree_of, fun_of}
 use Rattle.plain_tree.specs.declared.tree.Exp.{Exp}
 use Rattle.plain_tree.specs.declared.tree.Parameter.{Parameter}
-use Rattle.match_types.specs.Views.{View, reading, Sees}
-use Rattle.match_types.specs.declared.work.Work.{Work}
+use Rattle.exp_steps.specs.of_match_types.Views.{View, reading, Sees}
+use Rattle.exp_steps.specs.of_match_types.declared.work.Work.{Work}
 use Rattle.exp_blocks.specs.declared.blocks.Otherwise as code
 use Rattle.exp_blocks.specs.declared.blocks.Otherwise.TheVariants as others
 use Rattle.exp_blocks.specs.declared.blocks.Lambda.{Lambda}

@@ -5,10 +5,10 @@ ghost use Rattle.exp_blocks.specs.Binding.{InScope, Bound, AllBound, Fits};
 ghost use Rattle.match_names.specs.Bindings.{names_of};
 ghost use Rattle.match_compile.specs.Compile.{each_named};
 
+use exp_steps::match_steps::steps::new_parameter;
+use exp_steps::match_types::work::{ValueType, Work};
 use ir_known::stack::Stack;
 use match_names::names::Names;
-use match_steps::steps::new_parameter;
-use match_types::work::{ValueType, Work};
 use mlc_base::memory::NoMemory;
 use plain_tree::tree::Parameter;
 use prog_tree::tree::{Parameter as Named, Pat};

@@ -15,11 +15,11 @@ use Rattle.prog_tree.specs.declared.tree.Join.{Join}
 use Rattle.prog_tree.specs.declared.tree.Side.TheVariants as side
 use Rattle.prog_tree.proofs.ExpOf.{tree_of-Infix}
 use Rattle.elab_typed.specs.Contexts.{Around}
-use Rattle.elab_state.specs.declared.state.State.{State}
-use Rattle.elab_steps.specs.Growing.{HasType, Grows, Always}
-use Rattle.elab_steps.specs.World.{World, type_of}
-use Rattle.elab_steps.proofs.Growing.{grows_on, type_later, comes_before}
-use Rattle.elab_context.specs.declared.context.Context.{Context}
+use Rattle.pat_elab.specs.of_elab_state.declared.state.State.{State}
+use Rattle.pat_elab.specs.of_elab_steps.Growing.{HasType, Grows, Always}
+use Rattle.pat_elab.specs.of_elab_steps.World.{World, type_of}
+use Rattle.pat_elab.proofs.of_elab_steps.Growing.{grows_on, type_later, comes_before}
+use Rattle.pat_elab.specs.of_elab_context.declared.context.Context.{Context}
 use Rattle.use_elab.specs.Elaborated.{ElaboratesExp, IsExp}
 use Rattle.use_elab.specs.declared.typed.TypedExp.{TypedExp}
 use Rattle.exp_forms.proofs.Joining.{fewer}

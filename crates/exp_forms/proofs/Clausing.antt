@@ -10,10 +10,10 @@ use Rattle.sml_tree.specs.Derived.{Clause, clause_rules, first_pats, fn_for, fre
 use Rattle.sml_tree.specs.TreeOf as source
 use Rattle.sml_tree.specs.declared.ident.Vid.TheVariants.{Fresh}
 use Rattle.prog_tree.specs.declared.tree.Parameter.{Parameter}
-use Rattle.elab_state.specs.declared.state.State.{State}
-use Rattle.elab_steps.specs.Growing.{HasType, AreTypes}
-use Rattle.elab_context.specs.Telling.{IsContext}
-use Rattle.elab_context.specs.declared.context.Context.{Context}
+use Rattle.pat_elab.specs.of_elab_state.declared.state.State.{State}
+use Rattle.pat_elab.specs.of_elab_steps.Growing.{HasType, AreTypes}
+use Rattle.pat_elab.specs.of_elab_context.Telling.{IsContext}
+use Rattle.pat_elab.specs.of_elab_context.declared.context.Context.{Context}
 use Rattle.use_elab.specs.Elaborated.{IsExp}
 use Rattle.use_elab.specs.declared.typed.TypedExp.{TypedExp}
 use Rattle.exp_forms.specs.Parts.{with_labels, AreFields}

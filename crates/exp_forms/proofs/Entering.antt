@@ -9,19 +9,19 @@ use Rattle.vid_scope.specs.declared.vids.VidScope.{VidScope}
 use Rattle.vid_scope.proofs.Latest.{latest_found}
 use Rattle.ir_poly.specs.TestsChecked.{Known}
 use Rattle.elab_typed.specs.Contexts.{Around}
-use Rattle.elab_state.specs.declared.state.State.{State}
-use Rattle.elab_steps.specs.Growing.{Grows}
-use Rattle.elab_steps.specs.World.{World}
-use Rattle.elab_context.specs.Entries.{entry_in}
-use Rattle.elab_context.specs.Telling.{IsContext, IsHeld, known_of}
-use Rattle.elab_context.specs.declared.context.Context.{Context}
-use Rattle.elab_context.specs.declared.entry.Entry.{Entry}
-use Rattle.elab_context.specs.declared.entry.Entry.TheVariants.{Constructor, Reference, Initial, Primitive, Raised, Single, Own, General}
-use Rattle.elab_context.proofs.Reading.{context_later}
+use Rattle.pat_elab.specs.of_elab_state.declared.state.State.{State}
+use Rattle.pat_elab.specs.of_elab_steps.Growing.{Grows}
+use Rattle.pat_elab.specs.of_elab_steps.World.{World}
+use Rattle.pat_elab.specs.of_elab_context.Entries.{entry_in}
+use Rattle.pat_elab.specs.of_elab_context.Telling.{IsContext, IsHeld, known_of}
+use Rattle.pat_elab.specs.of_elab_context.declared.context.Context.{Context}
+use Rattle.pat_elab.specs.of_elab_context.declared.entry.Entry.{Entry}
+use Rattle.pat_elab.specs.of_elab_context.declared.entry.Entry.TheVariants.{Constructor, Reference, Initial, Primitive, Raised, Single, Own, General}
+use Rattle.pat_elab.proofs.of_elab_context.Reading.{context_later}
 use Rattle.pat_elab.specs.Elaborated.{AreVariables}
 use Rattle.pat_elab.specs.declared.bound.BoundVariable.{BoundVariable}
 use Rattle.exp_forms.specs.Within.{entries_of, within}
-use Rattle.elab_context.specs.Numbered.{number_of, IsBelowIf}
+use Rattle.pat_elab.specs.of_elab_context.Numbered.{number_of, IsBelowIf}
 
 -- what holds of all that is in scope holds with one more
 

@@ -10,20 +10,20 @@ use Rattle.elab_typed.specs.Contexts.{Around}
 use Rattle.elab_typed.specs.Elaborates.{Binds, named_elab, variable_elab}
 use Rattle.elab_typed.specs.Instances.{as_typed}
 use Rattle.elab_typed.specs.Numbers.{type_as}
-use Rattle.elab_state.specs.declared.state.State.{State}
-use Rattle.elab_steps.specs.Growing.{AreTypes, Grows, Always}
-use Rattle.elab_steps.specs.World.{World, type_of}
-use Rattle.elab_steps.proofs.Growing.{grows_on, grows_same, type_later, comes_before}
-use Rattle.elab_context.specs.Telling.{Tells, IsContext, IsInUse}
-use Rattle.elab_context.specs.declared.context.Context.{Context}
+use Rattle.pat_elab.specs.of_elab_state.declared.state.State.{State}
+use Rattle.pat_elab.specs.of_elab_steps.Growing.{AreTypes, Grows, Always}
+use Rattle.pat_elab.specs.of_elab_steps.World.{World, type_of}
+use Rattle.pat_elab.proofs.of_elab_steps.Growing.{grows_on, grows_same, type_later, comes_before}
+use Rattle.pat_elab.specs.of_elab_context.Telling.{Tells, IsContext, IsInUse}
+use Rattle.pat_elab.specs.of_elab_context.declared.context.Context.{Context}
 use Rattle.pat_elab.specs.Elaborated.{AreVariables, IsBound}
 use Rattle.pat_elab.specs.declared.bound.BoundVariable.{BoundVariable}
 use Rattle.exp_forms.specs.Within.{within}
 use Rattle.exp_forms.proofs.Knowing.{pattern-binds}
 use Rattle.exp_forms.proofs.Within.{tells_within}
-use Rattle.elab_context.specs.Numbered.{IsNumbered}
+use Rattle.pat_elab.specs.of_elab_context.Numbered.{IsNumbered}
 use Rattle.exp_forms.proofs.Entering.{context_within, number-known}
-use Rattle.elab_context.proofs.Reading.{context_later}
+use Rattle.pat_elab.proofs.of_elab_context.Reading.{context_later}
 use Rattle.exp_forms.specs.Parameters.{Enters, IsEntered, Takes, AreEntered, none_entered, one_entered}
 
 -- an identifier that a pattern binds

@@ -19,13 +19,13 @@ use Rattle.elab_typed.specs.Elaborates.{fn_elab, last_elab, more_elab}
 use Rattle.elab_typed.specs.Instances.{as_typed}
 use Rattle.elab_typed.specs.Numbers.{type_as}
 use Rattle.elab_typed.proofs.Names.{over-as}
-use Rattle.elab_state.specs.declared.state.State.{State}
+use Rattle.pat_elab.specs.of_elab_state.declared.state.State.{State}
 use Rattle.use_elab.specs.Fresh.{images_of}
-use Rattle.elab_steps.specs.Growing.{HasType, AreTypes, Grows, Always}
-use Rattle.elab_steps.specs.World.{World, type_of, Comes}
-use Rattle.elab_steps.proofs.Growing.{grows_on, grows_same, type_later, comes_before}
-use Rattle.elab_context.specs.Telling.{Tells}
-use Rattle.elab_context.specs.declared.context.Context.{Context}
+use Rattle.pat_elab.specs.of_elab_steps.Growing.{HasType, AreTypes, Grows, Always}
+use Rattle.pat_elab.specs.of_elab_steps.World.{World, type_of, Comes}
+use Rattle.pat_elab.proofs.of_elab_steps.Growing.{grows_on, grows_same, type_later, comes_before}
+use Rattle.pat_elab.specs.of_elab_context.Telling.{Tells}
+use Rattle.pat_elab.specs.of_elab_context.declared.context.Context.{Context}
 use Rattle.pat_elab.specs.Elaborated.{bound_of, scope_of}
 use Rattle.use_elab.specs.Elaborated.{ElaboratesExp, IsExp}
 use Rattle.use_elab.specs.declared.typed.TypedExp.{TypedExp}

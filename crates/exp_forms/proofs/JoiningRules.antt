@@ -23,13 +23,13 @@ use Rattle.prog_tree.proofs.ExpOf.{rule_of-parts}
 use Rattle.elab_typed.specs.Contexts.{Around, with_bound}
 use Rattle.elab_typed.specs.Elaborates.{ExpElab, PatElab, RulesElab, a_rule_elab, no_rules_elab}
 use Rattle.elab_typed.specs.Instances.{as_typed}
-use Rattle.elab_state.specs.declared.state.State.{State}
-use Rattle.elab_steps.specs.Growing.{HasType, Grows, Always, IsWithin}
-use Rattle.elab_steps.specs.World.{World, type_of, Comes}
-use Rattle.elab_steps.proofs.Growing.{grows_on, type_later, comes_before}
-use Rattle.elab_context.specs.Entries.{limit_of}
-use Rattle.elab_context.specs.Telling.{Tells, IsContext, IsInUse}
-use Rattle.elab_context.specs.declared.context.Context.{Context}
+use Rattle.pat_elab.specs.of_elab_state.declared.state.State.{State}
+use Rattle.pat_elab.specs.of_elab_steps.Growing.{HasType, Grows, Always, IsWithin}
+use Rattle.pat_elab.specs.of_elab_steps.World.{World, type_of, Comes}
+use Rattle.pat_elab.proofs.of_elab_steps.Growing.{grows_on, type_later, comes_before}
+use Rattle.pat_elab.specs.of_elab_context.Entries.{limit_of}
+use Rattle.pat_elab.specs.of_elab_context.Telling.{Tells, IsContext, IsInUse}
+use Rattle.pat_elab.specs.of_elab_context.declared.context.Context.{Context}
 use Rattle.pat_elab.specs.Elaborated.{Elaborates, IsPat, bound_of, scope_of}
 use Rattle.pat_elab.specs.declared.bound.BoundVariable.{BoundVariable}
 use Rattle.pat_elab.specs.declared.bound.TypedPat.{TypedPat}
@@ -40,7 +40,7 @@ use Rattle.exp_forms.specs.Within.{within}
 use Rattle.exp_forms.proofs.Knowing.{pattern-binds}
 use Rattle.exp_forms.proofs.Lowering.{lowered}
 use Rattle.exp_forms.proofs.Within.{tells_within}
-use Rattle.elab_context.specs.Numbered.{IsNumbered}
+use Rattle.pat_elab.specs.of_elab_context.Numbered.{IsNumbered}
 use Rattle.exp_forms.specs.Rules.{EachRule, no_rule, one_rule, ElaboratesRules, AreRules, IsEntered, vids_of}
 use Rattle.exp_forms.specs.declared.rules_made.RulesMade.{RulesMade}
 use Rattle.exp_forms.proofs.Using.{variables-used}

@@ -1,3 +1,5 @@
+pub use Rattle.pat_elab.proofs as of_pat_elab
+pub use Rattle.pat_elab.proofs.of_elab_context as of_elab_context
 pub mod Knowing
 pub mod Over
 pub mod Within

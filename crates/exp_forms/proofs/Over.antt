@@ -11,8 +11,8 @@ use Rattle.ir_poly.proofs.ReplaceLemmas.{replace-agree}
 use Rattle.core_elab.specs.Scopes.{Scope}
 use Rattle.elab_typed.specs.Contexts.{Around, IsOver, with_bound}
 use Rattle.elab_typed.proofs.Under.{bound_under, with-bound-under}
-use Rattle.elab_steps.specs.World.{World, type_of}
-use Rattle.elab_context.specs.Telling.{IsInUse}
+use Rattle.pat_elab.specs.of_elab_steps.World.{World, type_of}
+use Rattle.pat_elab.specs.of_elab_context.Telling.{IsInUse}
 use Rattle.pat_elab.specs.Elaborated.{bound_of}
 use Rattle.pat_elab.specs.declared.bound.BoundVariable.{BoundVariable}
 

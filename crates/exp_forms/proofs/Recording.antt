@@ -22,14 +22,14 @@ use Rattle.elab_typed.specs.Numbers.{type_as}
 use Rattle.elab_typed.specs.Contexts.{Around}
 use Rattle.elab_typed.specs.Elaborates.{ExpElab, FieldsElab, no_fields_elab, a_field_elab, record_elab}
 use Rattle.elab_typed.specs.Instances.{as_typed}
-use Rattle.elab_state.specs.declared.state.State.{State}
-use Rattle.elab_steps.specs.Growing.{HasType, Grows, Always}
-use Rattle.elab_steps.specs.Rows.{row_of}
-use Rattle.elab_steps.specs.World.{World, type_of}
-use Rattle.elab_steps.proofs.Growing.{grows_on, type_later, comes_before}
-use Rattle.elab_steps.proofs.Sorting.{row-sorted}
+use Rattle.pat_elab.specs.of_elab_state.declared.state.State.{State}
+use Rattle.pat_elab.specs.of_elab_steps.Growing.{HasType, Grows, Always}
+use Rattle.pat_elab.specs.of_elab_steps.Rows.{row_of}
+use Rattle.pat_elab.specs.of_elab_steps.World.{World, type_of}
+use Rattle.pat_elab.proofs.of_elab_steps.Growing.{grows_on, type_later, comes_before}
+use Rattle.pat_elab.proofs.of_elab_steps.Sorting.{row-sorted}
 use Rattle.use_elab.specs.Fresh.{images_of}
-use Rattle.elab_context.specs.declared.context.Context.{Context}
+use Rattle.pat_elab.specs.of_elab_context.declared.context.Context.{Context}
 use Rattle.use_elab.specs.Elaborated.{ElaboratesExp, IsExp}
 use Rattle.use_elab.specs.declared.typed.TypedExp.{TypedExp}
 use Rattle.exp_forms.specs.Parts.{ExpsElab, no_exps, an_exp, AreExps, AreFields, with_labels}

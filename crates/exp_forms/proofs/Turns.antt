@@ -20,12 +20,12 @@ use Rattle.elab_typed.specs.Contexts.{Around, with_bound, KeptEnv, plus_kept, ke
 use Rattle.elab_typed.specs.Elaborates.{ExpElab, ChainElab, case_elab, chain_elab, a_rule_elab, no_rules_elab, wild_elab, only_elab, and_elab, or_elab}
 use Rattle.elab_typed.specs.Instances.{as_typed}
 use Rattle.elab_typed.proofs.Names.{over-as}
-use Rattle.elab_state.specs.declared.state.State.{State}
-use Rattle.elab_steps.specs.Growing.{HasType, Grows, Always}
-use Rattle.elab_steps.specs.World.{World, type_of}
-use Rattle.elab_steps.proofs.Growing.{grows_on, type_later, comes_before}
-use Rattle.elab_context.specs.Telling.{IsContext}
-use Rattle.elab_context.specs.declared.context.Context.{Context}
+use Rattle.pat_elab.specs.of_elab_state.declared.state.State.{State}
+use Rattle.pat_elab.specs.of_elab_steps.Growing.{HasType, Grows, Always}
+use Rattle.pat_elab.specs.of_elab_steps.World.{World, type_of}
+use Rattle.pat_elab.proofs.of_elab_steps.Growing.{grows_on, type_later, comes_before}
+use Rattle.pat_elab.specs.of_elab_context.Telling.{IsContext}
+use Rattle.pat_elab.specs.of_elab_context.declared.context.Context.{Context}
 use Rattle.use_elab.specs.Elaborated.{ElaboratesExp, IsExp}
 use Rattle.use_elab.specs.declared.typed.TypedExp.{TypedExp}
 use Rattle.exp_forms.specs.Parts.{ExpsElab, no_exps, an_exp, AreExps, AreExpsOf, AllAre, before_last, tests_of}

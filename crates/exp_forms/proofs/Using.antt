@@ -14,8 +14,8 @@ use Rattle.elab_typed.specs.Contexts.{Around}
 use Rattle.elab_typed.specs.Elaborates.{PatElab, PatsElab, wild_elab, constant_elab, variable_elab, alone_elab, built_elab, fields_elab, open_elab, con_elab, built_con_elab, typed_elab, as_elab, no_pats_elab, a_pat_elab}
 use Rattle.elab_typed.specs.Instances.{as_typed, before_constructor, before_reference, before_exception}
 use Rattle.elab_typed.proofs.Names.{over-as}
-use Rattle.elab_steps.specs.World.{World, type_of}
-use Rattle.elab_context.specs.Telling.{IsInUse}
+use Rattle.pat_elab.specs.of_elab_steps.World.{World, type_of}
+use Rattle.pat_elab.specs.of_elab_context.Telling.{IsInUse}
 use Rattle.pat_elab.specs.Elaborated.{bound_of}
 use Rattle.pat_elab.specs.declared.bound.BoundVariable.{BoundVariable}
 

@@ -25,14 +25,14 @@ use Rattle.ir_poly.specs.TestsChecked as checked
 use Rattle.core_elab.specs.Scopes.{variable, Scope, empty, scoped, denotes_in, inside_in, typed_in, along_scope, long_denotes_in}
 use Rattle.elab_typed.specs.Contexts.{given, single, kept_in, singles, values_under, with_bound, Around}
 use Rattle.elab_typed.specs.Instances.{as_typed}
-use Rattle.elab_steps.specs.World.{World, type_of}
-use Rattle.elab_steps.proofs.Changing.{begins-same}
-use Rattle.elab_context.specs.Entries.{contents_at, entry_in}
-use Rattle.elab_context.proofs.Contents.{has_constructors_still, has_contents_still}
-use Rattle.elab_context.specs.Telling.{Tells, IsFit, IsInUse, kept_of, denotes_of, known_of}
-use Rattle.elab_context.specs.declared.context.Context.{Context}
-use Rattle.elab_context.specs.declared.entry.Entry.{Entry}
-use Rattle.elab_context.specs.declared.entry.Entry.TheVariants.{Constructor, Reference, Initial, Primitive, Raised, Single, Own, General}
+use Rattle.pat_elab.specs.of_elab_steps.World.{World, type_of}
+use Rattle.pat_elab.proofs.of_elab_steps.Changing.{begins-same}
+use Rattle.pat_elab.specs.of_elab_context.Entries.{contents_at, entry_in}
+use Rattle.pat_elab.proofs.of_elab_context.Contents.{has_constructors_still, has_contents_still}
+use Rattle.pat_elab.specs.of_elab_context.Telling.{Tells, IsFit, IsInUse, kept_of, denotes_of, known_of}
+use Rattle.pat_elab.specs.of_elab_context.declared.context.Context.{Context}
+use Rattle.pat_elab.specs.of_elab_context.declared.entry.Entry.{Entry}
+use Rattle.pat_elab.specs.of_elab_context.declared.entry.Entry.TheVariants.{Constructor, Reference, Initial, Primitive, Raised, Single, Own, General}
 use Rattle.pat_elab.specs.Elaborated.{bound_of, scope_of, scope_onto}
 use Rattle.pat_elab.specs.declared.bound.BoundVariable.{BoundVariable}
 use Rattle.pat_elab.proofs.Forms.{onto-plus}

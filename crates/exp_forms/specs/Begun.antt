@@ -2,9 +2,9 @@
 use Rattle.std.specs.Prelude.{◌≡◌, ℕ, List, []}
 use Rattle.sml_tree.specs.BareTree as bare
 use Rattle.vid_scope.specs.Entries.{mark_of}
-use Rattle.elab_state.specs.declared.state.State.{State}
-use Rattle.elab_context.specs.Telling.{IsContext}
-use Rattle.elab_context.specs.declared.context.Context.{Context}
+use Rattle.pat_elab.specs.of_elab_state.declared.state.State.{State}
+use Rattle.pat_elab.specs.of_elab_context.Telling.{IsContext}
+use Rattle.pat_elab.specs.of_elab_context.declared.context.Context.{Context}
 use Rattle.pat_elab.specs.Elaborated.{IsPat}
 use Rattle.pat_elab.specs.declared.bound.BoundVariable.{BoundVariable}
 use Rattle.exp_forms.specs.Within.{within}

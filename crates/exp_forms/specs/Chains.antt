@@ -11,11 +11,11 @@ use Rattle.prog_tree.specs.TreeOf.{join, join_of, left_joins, tree_of}
 use Rattle.prog_tree.specs.declared.tree.Exp.{Exp}
 use Rattle.prog_tree.specs.declared.tree.Join.{Join}
 use Rattle.elab_typed.specs.Contexts.{Around}
-use Rattle.elab_state.specs.declared.state.State.{State}
-use Rattle.elab_steps.specs.Growing.{HasType, Grows}
-use Rattle.elab_steps.specs.World.{World, type_of, Comes}
-use Rattle.elab_context.specs.Telling.{Tells}
-use Rattle.elab_context.specs.declared.context.Context.{Context}
+use Rattle.pat_elab.specs.of_elab_state.declared.state.State.{State}
+use Rattle.pat_elab.specs.of_elab_steps.Growing.{HasType, Grows}
+use Rattle.pat_elab.specs.of_elab_steps.World.{World, type_of, Comes}
+use Rattle.pat_elab.specs.of_elab_context.Telling.{Tells}
+use Rattle.pat_elab.specs.of_elab_context.declared.context.Context.{Context}
 use Rattle.use_elab.specs.Elaborated.{ElaboratesExp}
 use Rattle.exp_forms.specs.declared.parts.Joined.{Joined}
 use Rattle.exp_forms.specs.declared.parts.LeftChain.{LeftChain}

@@ -1,11 +1,11 @@
 -- The constructors of lists, over new types.
 use Rattle.std.specs.Prelude.{◌≡◌}
 use Rattle.ty_basis.specs.Types.{function_type, list_type, pair_type}
-use Rattle.elab_state.specs.declared.state.State.{State}
-use Rattle.elab_steps.specs.Growing.{HasType, Grows, Always, IsWithin}
-use Rattle.elab_steps.specs.World.{type_of}
-use Rattle.elab_context.specs.Entries.{limit_of}
-use Rattle.elab_context.specs.declared.context.Context.{Context}
+use Rattle.pat_elab.specs.of_elab_state.declared.state.State.{State}
+use Rattle.pat_elab.specs.of_elab_steps.Growing.{HasType, Grows, Always, IsWithin}
+use Rattle.pat_elab.specs.of_elab_steps.World.{type_of}
+use Rattle.pat_elab.specs.of_elab_context.Entries.{limit_of}
+use Rattle.pat_elab.specs.of_elab_context.declared.context.Context.{Context}
 use Rattle.exp_forms.specs.declared.parts.ListTypes.{ListTypes}
 
 -- a new type of elements, that of lists of such, that of a pair of both, and that of `::`

@@ -8,11 +8,11 @@ use Rattle.ir_poly.specs.Prog as prog
 use Rattle.prog_tree.specs.TreeOf.{function_of}
 use Rattle.elab_typed.specs.Contexts.{Around}
 use Rattle.elab_typed.specs.Elaborates.{FunElab}
-use Rattle.elab_state.specs.declared.state.State.{State}
-use Rattle.elab_steps.specs.Growing.{HasType, Grows}
-use Rattle.elab_steps.specs.World.{World, type_of, Comes}
-use Rattle.elab_context.specs.Telling.{Tells, IsInUse}
-use Rattle.elab_context.specs.declared.context.Context.{Context}
+use Rattle.pat_elab.specs.of_elab_state.declared.state.State.{State}
+use Rattle.pat_elab.specs.of_elab_steps.Growing.{HasType, Grows}
+use Rattle.pat_elab.specs.of_elab_steps.World.{World, type_of, Comes}
+use Rattle.pat_elab.specs.of_elab_context.Telling.{Tells, IsInUse}
+use Rattle.pat_elab.specs.of_elab_context.declared.context.Context.{Context}
 use Rattle.exp_forms.specs.Parameters.{Takes}
 use Rattle.exp_forms.specs.declared.functions_made.FunctionMade.{FunctionMade}
 

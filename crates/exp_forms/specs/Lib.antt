@@ -1,3 +1,6 @@
+pub use Rattle.pat_elab.specs as of_pat_elab
+pub use Rattle.pat_elab.specs.of_elab_context as of_elab_context
+pub use Rattle.use_elab.specs as of_use_elab
 pub mod Binding
 pub mod Within
 pub mod Parts

@@ -9,11 +9,11 @@ use Rattle.elab_typed.specs.Contexts.{Around, with_bound}
 use Rattle.elab_typed.specs.Elaborates.{ParameterElab}
 use Rattle.elab_typed.specs.Instances.{as_typed}
 use Rattle.elab_typed.specs.Numbers.{type_as}
-use Rattle.elab_state.specs.declared.state.State.{State}
-use Rattle.elab_steps.specs.Growing.{HasType, Grows, Always}
-use Rattle.elab_steps.specs.World.{World, type_of, Comes}
-use Rattle.elab_context.specs.Telling.{Tells, IsInUse}
-use Rattle.elab_context.specs.declared.context.Context.{Context}
+use Rattle.pat_elab.specs.of_elab_state.declared.state.State.{State}
+use Rattle.pat_elab.specs.of_elab_steps.Growing.{HasType, Grows, Always}
+use Rattle.pat_elab.specs.of_elab_steps.World.{World, type_of, Comes}
+use Rattle.pat_elab.specs.of_elab_context.Telling.{Tells, IsInUse}
+use Rattle.pat_elab.specs.of_elab_context.declared.context.Context.{Context}
 use Rattle.pat_elab.specs.Elaborated.{bound_of, scope_of}
 use Rattle.pat_elab.specs.declared.bound.BoundVariable.{BoundVariable}
 

@@ -13,12 +13,12 @@ use Rattle.prog_tree.specs.TreeOf.{tree_of}
 use Rattle.prog_tree.specs.declared.tree.Exp.{Exp}
 use Rattle.elab_typed.specs.Contexts.{Around}
 use Rattle.elab_typed.specs.Elaborates.{ExpElab}
-use Rattle.elab_state.specs.declared.state.State.{State}
-use Rattle.elab_steps.specs.Growing.{AreTypes, Grows, Always}
-use Rattle.elab_steps.specs.World.{World, Comes}
+use Rattle.pat_elab.specs.of_elab_state.declared.state.State.{State}
+use Rattle.pat_elab.specs.of_elab_steps.Growing.{AreTypes, Grows, Always}
+use Rattle.pat_elab.specs.of_elab_steps.World.{World, Comes}
 use Rattle.use_elab.specs.Fresh.{images_of}
-use Rattle.elab_context.specs.Telling.{Tells}
-use Rattle.elab_context.specs.declared.context.Context.{Context}
+use Rattle.pat_elab.specs.of_elab_context.Telling.{Tells}
+use Rattle.pat_elab.specs.of_elab_context.declared.context.Context.{Context}
 use Rattle.exp_forms.specs.declared.made.FieldsMade.{FieldsMade}
 
 -- each elaborates, with its type and its choices

@@ -15,11 +15,11 @@ use Rattle.prog_tree.specs.TreeOf.{RuleTree, rule_of}
 use Rattle.elab_typed.specs.Contexts.{Around, with_bound}
 use Rattle.elab_typed.specs.Elaborates.{ExpElab, PatElab}
 use Rattle.elab_typed.specs.Instances.{as_typed}
-use Rattle.elab_state.specs.declared.state.State.{State}
-use Rattle.elab_steps.specs.Growing.{HasType, Grows, Always}
-use Rattle.elab_steps.specs.World.{World, type_of, Comes}
-use Rattle.elab_context.specs.Telling.{Tells, IsInUse}
-use Rattle.elab_context.specs.declared.context.Context.{Context}
+use Rattle.pat_elab.specs.of_elab_state.declared.state.State.{State}
+use Rattle.pat_elab.specs.of_elab_steps.Growing.{HasType, Grows, Always}
+use Rattle.pat_elab.specs.of_elab_steps.World.{World, type_of, Comes}
+use Rattle.pat_elab.specs.of_elab_context.Telling.{Tells, IsInUse}
+use Rattle.pat_elab.specs.of_elab_context.declared.context.Context.{Context}
 use Rattle.pat_elab.specs.declared.bound.BoundVariable.{BoundVariable}
 use Rattle.exp_forms.specs.declared.rules_made.RulesMade.{RulesMade}
 

@@ -2,9 +2,9 @@
 use Rattle.std.specs.Prelude.{List, map}
 use Rattle.sml_tree.specs.declared.ident.Vid.{Vid}
 use Rattle.vid_scope.specs.Entries.{with_entries}
-use Rattle.elab_context.specs.declared.context.Context.{Context}
-use Rattle.elab_context.specs.declared.entry.Entry.{Entry}
-use Rattle.elab_context.specs.declared.entry.Entry.TheVariants.{Single}
+use Rattle.pat_elab.specs.of_elab_context.declared.context.Context.{Context}
+use Rattle.pat_elab.specs.of_elab_context.declared.entry.Entry.{Entry}
+use Rattle.pat_elab.specs.of_elab_context.declared.entry.Entry.TheVariants.{Single}
 use Rattle.pat_elab.specs.declared.bound.BoundVariable.{BoundVariable}
 
 abbrev pub entries_of : List BoundVariable → List (Vid × Entry)

@@ -2,15 +2,15 @@
 ghost use Rattle.std.specs.Prelude.{IfOk};
 ghost use Rattle.sml_tree.specs.BareTree.{Exp as SourceExp, typed};
 ghost use Rattle.sml_tree.specs.TreeOf.{ty_of};
-ghost use Rattle.elab_context.specs.Telling.{IsContext};
-ghost use Rattle.elab_steps.specs.Growing.{HasType};
+ghost use Rattle.pat_elab.specs.of_elab_context.Telling.{IsContext};
+ghost use Rattle.pat_elab.specs.of_elab_steps.Growing.{HasType};
 ghost use Rattle.use_elab.specs.Elaborated.{IsExp};
 
-use elab_context::context::Context;
-use elab_state::state::State;
 use elab_types::refused::Refused;
 use mlc_base::place::Place;
 use pat_elab::annotate::annotate;
+use pat_elab::elab_context::context::Context;
+use pat_elab::elab_state::state::State;
 use sml_tree::tree::Ty;
 use std::alloc::Global;
 use use_elab::typed::TypedExp;

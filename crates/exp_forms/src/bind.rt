@@ -3,10 +3,10 @@ ghost use Rattle.std.specs.Prelude.{◌≡◌, List, IfOk};
 ghost use Rattle.vid_scope.specs.Entries.{mark_of};
 ghost use Rattle.exp_forms.specs.Within.{within};
 
-use elab_context::context::Context;
-use elab_context::entry::Entry;
 use mlc_base::memory::NoMemory;
 use pat_elab::bound::BoundVariable;
+use pat_elab::elab_context::context::Context;
+use pat_elab::elab_context::entry::Entry;
 use vid_scope::vids::VidMark;
 
 /// Brings the variables of a pattern into scope, each with its one type.

@@ -1,19 +1,19 @@
 // The beginning of a rule: its pattern takes what the rules take, and its variables come into scope.
 ghost use Rattle.std.specs.Prelude.{◌≡◌, IfOk};
-ghost use Rattle.elab_context.specs.Telling.{IsContext};
-ghost use Rattle.elab_steps.specs.Growing.{HasType};
+ghost use Rattle.pat_elab.specs.of_elab_context.Telling.{IsContext};
+ghost use Rattle.pat_elab.specs.of_elab_steps.Growing.{HasType};
 ghost use Rattle.exp_forms.specs.Within.{within};
 ghost use Rattle.pat_elab.specs.Elaborated.{AreVariables};
 ghost use Rattle.exp_forms.specs.Rules.{IsEntered};
 
 use crate::bind::bind_all;
 use crate::distinct::check_once;
-use elab_context::context::Context;
-use elab_state::state::State;
-use elab_steps::step::unify;
 use elab_types::refused::Refused;
 use mlc_base::place::Place;
 use pat_elab::bound::BoundVariable;
+use pat_elab::elab_context::context::Context;
+use pat_elab::elab_state::state::State;
+use pat_elab::elab_steps::step::unify;
 use std::alloc::Global;
 
 /// The type of a pattern is made that of what the rules take, and its variables come into scope.

@@ -2,21 +2,21 @@
 ghost use Rattle.std.specs.Prelude.{◌≡◌, ◌++◌, ◌∷◌, [], List, IfOk};
 ghost use Rattle.std.specs.List.{AllByRecursion};
 ghost use Rattle.sml_tree.specs.BareTree.{Exp as SourceExp, fields_exp};
-ghost use Rattle.elab_context.specs.Telling.{IsContext};
-ghost use Rattle.elab_steps.specs.Growing.{HasType};
+ghost use Rattle.pat_elab.specs.of_elab_context.Telling.{IsContext};
+ghost use Rattle.pat_elab.specs.of_elab_steps.Growing.{HasType};
 ghost use Rattle.use_elab.specs.Elaborated.{IsExp};
 ghost use Rattle.exp_forms.specs.Parts.{AreFields, with_labels};
 
 use crate::made::FieldsMade;
-use elab_context::context::Context;
-use elab_state::state::State;
-use elab_steps::rows::record_type;
-use elab_steps::step::write;
 use elab_types::refused::Refused;
 use label_rows::sort::Field;
 use mlc_base::memory::NoMemory;
 use mlc_base::place::Place;
 use mlc_names::label::Label;
+use pat_elab::elab_context::context::Context;
+use pat_elab::elab_state::state::State;
+use pat_elab::elab_steps::rows::record_type;
+use pat_elab::elab_steps::step::write;
 use prog_tree::tree::Exp;
 use std::alloc::Global;
 use use_elab::typed::TypedExp;

@@ -1,21 +1,21 @@
 // Functions of parameters and a body.
 ghost use Rattle.std.specs.Prelude.{◌≡◌, ◌++◌, ◌∷◌, [], IfOk, List};
 ghost use Rattle.sml_tree.specs.BareTree.{Exp as SourceExp, Rules, fn as function_exp};
-ghost use Rattle.elab_context.specs.Telling.{IsContext};
+ghost use Rattle.pat_elab.specs.of_elab_context.Telling.{IsContext};
 ghost use Rattle.use_elab.specs.Fresh.{images_of};
-ghost use Rattle.elab_steps.specs.Growing.{HasType, AreTypes, Always, Grows};
-ghost use Rattle.elab_steps.specs.World.{type_of};
+ghost use Rattle.pat_elab.specs.of_elab_steps.Growing.{HasType, AreTypes, Always, Grows};
+ghost use Rattle.pat_elab.specs.of_elab_steps.World.{type_of};
 ghost use Rattle.use_elab.specs.Elaborated.{IsExp};
 ghost use Rattle.exp_forms.specs.Functions.{IsFunction, curried, rules_of};
 ghost use Rattle.exp_forms.specs.Parameters.{AreEntered, Takes};
 
 use crate::functions_made::{Entered, FunctionMade};
-use elab_context::context::Context;
-use elab_state::state::State;
-use elab_steps::step::write;
 use mlc_base::make::boxed;
 use mlc_base::memory::NoMemory;
 use mlc_base::place::Place;
+use pat_elab::elab_context::context::Context;
+use pat_elab::elab_state::state::State;
+use pat_elab::elab_steps::step::write;
 use prog_tree::tree::{Exp, Function};
 use std::alloc::Global;
 use use_elab::given::functions;

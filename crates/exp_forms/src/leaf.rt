@@ -2,13 +2,13 @@
 ghost use Rattle.std.specs.Prelude.{IfOk};
 ghost use Rattle.sml_tree.specs.TreeOf.{constant_of};
 ghost use Rattle.sml_tree.specs.BareTree.{constant_exp};
-ghost use Rattle.elab_context.specs.Telling.{IsContext};
+ghost use Rattle.pat_elab.specs.of_elab_context.Telling.{IsContext};
 ghost use Rattle.use_elab.specs.Elaborated.{IsExp};
 
-use elab_context::context::Context;
-use elab_state::state::State;
 use mlc_base::memory::NoMemory;
 use mlc_base::place::Place;
+use pat_elab::elab_context::context::Context;
+use pat_elab::elab_state::state::State;
 use pat_elab::leaf::{program_constant, type_of_constant};
 use prog_tree::tree::Atom;
 use sml_tree::ident::Constant;

@@ -1,6 +1,10 @@
 // Forms of expressions, rules and functions, each from its parts.
 #![tactic(auto)]
 
+pub use pat_elab;
+pub use pat_elab::elab_context;
+pub use use_elab;
+
 pub mod annotated;
 pub mod begun;
 pub mod bind;

@@ -3,20 +3,20 @@ ghost use Rattle.std.specs.Prelude.{◌≡◌, ◌++◌, ◌∷◌, [], List, If
 ghost use Rattle.sml_tree.specs.BareTree.{Exp as SourceExp};
 ghost use Rattle.sml_tree.specs.Derived.{list_of};
 ghost use Rattle.prog_tree.specs.TreeOf.{Reading, tree_of};
-ghost use Rattle.elab_context.specs.Telling.{IsContext};
-ghost use Rattle.elab_steps.specs.Growing.{HasType};
+ghost use Rattle.pat_elab.specs.of_elab_context.Telling.{IsContext};
+ghost use Rattle.pat_elab.specs.of_elab_steps.Growing.{HasType};
 ghost use Rattle.use_elab.specs.Elaborated.{IsExp};
 ghost use Rattle.exp_forms.specs.Lists.{AreElements, IsListed, cons_of, nil_of};
 
 use crate::built::{LIST, list_types, number_of};
 use crate::parts::Listed;
-use elab_context::context::Context;
-use elab_state::state::State;
-use elab_steps::step::{unify, write};
 use elab_types::refused::Refused;
 use mlc_base::make::{boxed, one};
 use mlc_base::memory::NoMemory;
 use mlc_base::place::Place;
+use pat_elab::elab_context::context::Context;
+use pat_elab::elab_state::state::State;
+use pat_elab::elab_steps::step::{unify, write};
 use prog_tree::tree::{Exp, Join, Side, Used};
 use sml_tree::ident::BuiltIn;
 use std::alloc::Global;

@@ -3,22 +3,22 @@ ghost use Rattle.std.specs.Prelude.{◌≡◌, ◌++◌, ◌∷◌, [], List, If
 ghost use Rattle.sml_tree.specs.BareTree.{Exp as SourceExp, Pat as SourcePat};
 ghost use Rattle.sml_tree.specs.TreeOf.{RuleOf};
 ghost use Rattle.ty_basis.specs.Types.{exn_type};
-ghost use Rattle.elab_context.specs.Telling.{IsContext};
-ghost use Rattle.elab_steps.specs.Growing.{Always, Grows, HasType};
-ghost use Rattle.elab_steps.specs.World.{type_of};
+ghost use Rattle.pat_elab.specs.of_elab_context.Telling.{IsContext};
+ghost use Rattle.pat_elab.specs.of_elab_steps.Growing.{Always, Grows, HasType};
+ghost use Rattle.pat_elab.specs.of_elab_steps.World.{type_of};
 ghost use Rattle.pat_elab.specs.Elaborated.{IsPat};
 ghost use Rattle.use_elab.specs.Elaborated.{IsExp};
 ghost use Rattle.exp_forms.specs.Within.{within};
 ghost use Rattle.exp_forms.specs.Rules.{AreRules, IsEntered};
 
 use crate::rules_made::RulesMade;
-use elab_context::context::Context;
-use elab_state::state::State;
-use elab_steps::step::{fresh_type, unify};
 use elab_types::refused::Refused;
 use mlc_base::memory::NoMemory;
 use mlc_base::place::Place;
 use pat_elab::bound::{BoundVariable, TypedPat};
+use pat_elab::elab_context::context::Context;
+use pat_elab::elab_state::state::State;
+use pat_elab::elab_steps::step::{fresh_type, unify};
 use prog_tree::tree::Rule;
 use std::alloc::Global;
 use ty_core::mark::Mark;

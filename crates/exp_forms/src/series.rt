@@ -2,19 +2,19 @@
 ghost use Rattle.std.specs.Prelude.{◌≡◌, ◌++◌, ◌∷◌, ℕ, [], List, map, IfOk};
 ghost use Rattle.ty_basis.specs.Types.{bool_type};
 ghost use Rattle.sml_tree.specs.BareTree.{Exp as SourceExp};
-ghost use Rattle.elab_context.specs.Telling.{IsContext};
-ghost use Rattle.elab_steps.specs.Growing.{HasType, Always, Grows};
-ghost use Rattle.elab_steps.specs.World.{type_of};
+ghost use Rattle.pat_elab.specs.of_elab_context.Telling.{IsContext};
+ghost use Rattle.pat_elab.specs.of_elab_steps.Growing.{HasType, Always, Grows};
+ghost use Rattle.pat_elab.specs.of_elab_steps.World.{type_of};
 ghost use Rattle.use_elab.specs.Elaborated.{IsExp};
 ghost use Rattle.exp_forms.specs.Parts.{AreExps, AreExpsOf, before_last, tests_of};
 
-use elab_context::context::Context;
-use elab_state::state::State;
-use elab_steps::step::{apply, unify, write};
 use elab_types::refused::Refused;
 use mlc_base::make::boxed;
 use mlc_base::memory::NoMemory;
 use mlc_base::place::Place;
+use pat_elab::elab_context::context::Context;
+use pat_elab::elab_state::state::State;
+use pat_elab::elab_steps::step::{apply, unify, write};
 use prog_tree::tree::Exp;
 use std::alloc::Global;
 use ty_core::name::{Equality, TyName};

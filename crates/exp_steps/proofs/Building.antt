@@ -13,11 +13,11 @@ use Rattle.plain_tree.specs.TreeOf as plain
 use Rattle.plain_tree.specs.declared.tree.Field.{Field}
 use Rattle.plain_tree.specs.declared.tree.Step.{Step}
 use Rattle.prog_tree.specs.TreeOf.{Reading}
-use Rattle.match_types.specs.Views.{View, reading, Sees, Keeps}
-use Rattle.match_types.specs.declared.work.ValueType.{ValueType}
-use Rattle.match_types.specs.declared.work.ValueType.TheVariants.{Source}
-use Rattle.match_types.specs.declared.work.Work.{Work}
-use Rattle.match_types.proofs.Seeing.{keeps-on, keeps-same, sees-before}
+use Rattle.match_steps.specs.of_match_types.Views.{View, reading, Sees, Keeps}
+use Rattle.match_steps.specs.of_match_types.declared.work.ValueType.{ValueType}
+use Rattle.match_steps.specs.of_match_types.declared.work.ValueType.TheVariants.{Source}
+use Rattle.match_steps.specs.of_match_types.declared.work.Work.{Work}
+use Rattle.match_steps.proofs.of_match_types.Seeing.{keeps-on, keeps-same, sees-before}
 use Rattle.match_steps.proofs.Pushed.{two-puts, puts-as}
 use Rattle.exp_steps.specs.Making.{Makes, MakesAll, MakesTuple, Weighs, Begun, Pushed, putting, atoms_in}
 use Rattle.exp_steps.specs.Made.{applied, recorded}

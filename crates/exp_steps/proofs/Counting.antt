@@ -8,9 +8,9 @@ use Rattle.plain_tree.specs.declared.tree.Field.{Field}
 use Rattle.plain_tree.specs.declared.tree.Step.{Step}
 use Rattle.plain_tree.specs.declared.tree.Step.TheVariants as steps
 use Rattle.prog_tree.specs.TreeOf.{Reading}
-use Rattle.match_types.specs.Views.{reading}
-use Rattle.match_types.specs.declared.work.Work.{Work}
-use Rattle.match_types.proofs.Seeing.{keeps-same}
+use Rattle.match_steps.specs.of_match_types.Views.{reading}
+use Rattle.match_steps.specs.of_match_types.declared.work.Work.{Work}
+use Rattle.match_steps.proofs.of_match_types.Seeing.{keeps-same}
 use Rattle.match_steps.specs.Steps.{Puts}
 use Rattle.match_steps.proofs.Pushed.{pushed, two-puts, puts-as, leads-nowhere}
 use Rattle.exp_steps.specs.Making.{Makes, MakesTuple, Weighs, counting, atoms_in}

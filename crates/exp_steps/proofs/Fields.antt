@@ -10,9 +10,9 @@ use Rattle.plain_tree.specs.TreeOf as plain
 use Rattle.plain_tree.specs.declared.tree.Field.{Field}
 use Rattle.plain_tree.specs.declared.tree.Step.{Step}
 use Rattle.prog_tree.specs.TreeOf.{Reading}
-use Rattle.match_types.specs.Views.{View, reading, Sees}
-use Rattle.match_types.specs.declared.work.Work.{Work}
-use Rattle.match_types.proofs.Seeing.{keeps-same, keeps-on, sees-before}
+use Rattle.match_steps.specs.of_match_types.Views.{View, reading, Sees}
+use Rattle.match_steps.specs.of_match_types.declared.work.Work.{Work}
+use Rattle.match_steps.proofs.of_match_types.Seeing.{keeps-same, keeps-on, sees-before}
 use Rattle.match_steps.proofs.Pushed.{two-puts, puts-as}
 use Rattle.exp_steps.specs.Making.{Makes, MakesAll, MakesTuple, atoms_in}
 use Rattle.exp_steps.specs.Made.{with_field, one_more, recorded}

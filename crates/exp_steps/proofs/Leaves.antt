@@ -16,10 +16,10 @@ use Rattle.prog_tree.specs.TreeOf.{Reading, exc_of}
 use Rattle.prog_tree.specs.declared.tree.Exception.{Exception}
 use Rattle.prog_tree.specs.declared.tree.Atom.TheVariants as atoms
 use Rattle.match_names.specs.Bindings.{names_of}
-use Rattle.match_types.specs.Views.{View, Sees, Keeps, Stands}
-use Rattle.match_types.specs.declared.work.ValueType.TheVariants.{Source}
-use Rattle.match_types.specs.declared.work.Work.{Work}
-use Rattle.match_types.proofs.Seeing.{keeps-on, sees-before, earlier-stays, stands-at, held-within, held-is}
+use Rattle.match_steps.specs.of_match_types.Views.{View, Sees, Keeps, Stands}
+use Rattle.match_steps.specs.of_match_types.declared.work.ValueType.TheVariants.{Source}
+use Rattle.match_steps.specs.of_match_types.declared.work.Work.{Work}
+use Rattle.match_steps.proofs.of_match_types.Seeing.{keeps-on, sees-before, earlier-stays, stands-at, held-within, held-is}
 use Rattle.match_steps.specs.Steps.{Puts}
 use Rattle.match_steps.specs.Made.{naming}
 use Rattle.match_steps.proofs.Pushed.{two-puts, puts-as}

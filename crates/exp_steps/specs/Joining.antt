@@ -9,7 +9,7 @@ use Rattle.match_compile.specs.Compile.{Way, way, by_call, by_building, by_perfo
 use Rattle.plain_tree.specs.declared.tree.Step.{Step}
 use Rattle.prog_tree.specs.TreeOf.{Reading, join}
 use Rattle.prog_tree.specs.declared.tree.Join.{Join}
-use Rattle.match_types.specs.declared.work.Work.{Work}
+use Rattle.match_steps.specs.of_match_types.declared.work.Work.{Work}
 use Rattle.exp_steps.specs.Making.{Makes, Weighs, Begun}
 use Rattle.exp_steps.specs.Ways.{built_of, type_or_unit, operands}
 use Rattle.exp_steps.specs.declared.ways.Built.{Built}

@@ -8,9 +8,9 @@ use Rattle.plain_tree.specs.TreeOf.{row_of, atoms_of}
 use Rattle.plain_tree.specs.declared.tree.Field.{Field}
 use Rattle.plain_tree.specs.declared.tree.Step.{Step}
 use Rattle.prog_tree.specs.TreeOf.{Reading}
-use Rattle.match_types.specs.Views.{View, reading, Sees, Keeps, value_type}
-use Rattle.match_types.specs.declared.work.ValueType.{ValueType}
-use Rattle.match_types.specs.declared.work.Work.{Work}
+use Rattle.match_steps.specs.of_match_types.Views.{View, reading, Sees, Keeps, value_type}
+use Rattle.match_steps.specs.of_match_types.declared.work.ValueType.{ValueType}
+use Rattle.match_steps.specs.of_match_types.declared.work.Work.{Work}
 use Rattle.match_steps.specs.Steps.{Puts}
 use Rattle.exp_steps.specs.Ways.{built_of}
 use Rattle.exp_steps.specs.declared.ways.Built.{Built}

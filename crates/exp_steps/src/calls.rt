@@ -10,9 +10,9 @@ ghost use Rattle.match_compile.specs.Compile.{way, by_call, by_building, by_perf
 ghost use Rattle.plain_tree.specs.TreeOf.{operation_of};
 ghost use Rattle.plain_tree.specs.declared.tree.Step.{Step as Row};
 ghost use Rattle.prog_tree.specs.TreeOf.{Reading, tree_of};
-ghost use Rattle.match_types.specs.Views.{View, reading, Keeps, Stands};
-ghost use Rattle.match_types.specs.declared.work.Work.{Work as State};
-ghost use Rattle.match_types.specs.declared.work.ValueType.TheVariants.{Source as OfSource, Unit as OfUnit};
+ghost use Rattle.match_steps.specs.of_match_types.Views.{View, reading, Keeps, Stands};
+ghost use Rattle.match_steps.specs.of_match_types.declared.work.Work.{Work as State};
+ghost use Rattle.match_steps.specs.of_match_types.declared.work.ValueType.TheVariants.{Source as OfSource, Unit as OfUnit};
 ghost use Rattle.exp_steps.specs.Making.{Makes, MakesAll, MakesTuple, Weighs, Begun, Pushed, atoms_in};
 ghost use Rattle.exp_steps.specs.Made.{raised, applied, recorded};
 ghost use Rattle.exp_steps.specs.Ways.{built_of, made_at, type_or_unit as known_type};
@@ -20,9 +20,9 @@ ghost use Rattle.exp_steps.specs.Ways.{built_of, made_at, type_or_unit as known_
 use crate::operations::push_operation;
 use crate::records::in_order;
 use crate::ways::{Built, push_weights};
+use match_steps::match_types::types::scoped_type;
+use match_steps::match_types::work::{ValueType, Work};
 use match_steps::steps::push_name;
-use match_types::types::scoped_type;
-use match_types::work::{ValueType, Work};
 use mlc_base::memory::NoMemory;
 use mlc_base::place::Place;
 use mlc_prims::basis::BasisPrimitive;

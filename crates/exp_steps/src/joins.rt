@@ -4,7 +4,7 @@ ghost use Rattle.mlc_names.specs.declared.label.Label.TheVariants.{Number};
 ghost use Rattle.ir_poly.specs.Prog.{Exp as Source};
 ghost use Rattle.plain_tree.specs.declared.tree.Step.{Step as Row};
 ghost use Rattle.prog_tree.specs.TreeOf.{Reading};
-ghost use Rattle.match_types.specs.declared.work.Work.{Work as State};
+ghost use Rattle.match_steps.specs.of_match_types.declared.work.Work.{Work as State};
 ghost use Rattle.exp_steps.specs.Making.{Makes, MakesAll};
 ghost use Rattle.exp_steps.specs.Made.{recorded};
 ghost use Rattle.exp_steps.specs.Joining.{Opens, joined};
@@ -12,7 +12,7 @@ ghost use Rattle.exp_steps.specs.Joining.{pair_fields as both_fields, pair_row};
 
 use crate::calls::{push_built, push_call, push_performed, push_record};
 use crate::ways::Built;
-use match_types::work::Work;
+use match_steps::match_types::work::Work;
 use mlc_base::make::two;
 use mlc_base::memory::NoMemory;
 use mlc_names::label::Label;

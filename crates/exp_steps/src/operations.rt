@@ -3,13 +3,13 @@ ghost use Rattle.std.specs.Prelude.{◌≡◌, suc, IfOk};
 ghost use Rattle.ir_plain.specs.Tree.{Op};
 ghost use Rattle.ir_poly.specs.Tests.{poly};
 ghost use Rattle.plain_tree.specs.TreeOf.{operation_of};
-ghost use Rattle.match_types.specs.Views.{View, reading, Keeps};
-ghost use Rattle.match_types.specs.declared.work.Work.{Work as State};
+ghost use Rattle.match_steps.specs.of_match_types.Views.{View, reading, Keeps};
+ghost use Rattle.match_steps.specs.of_match_types.declared.work.Work.{Work as State};
 ghost use Rattle.match_steps.specs.Steps.{Puts};
 ghost use Rattle.exp_steps.specs.Making.{putting, counting, Reads};
 
-use match_types::types::new_binding;
-use match_types::work::{ValueType, Work};
+use match_steps::match_types::types::new_binding;
+use match_steps::match_types::work::{ValueType, Work};
 use mlc_base::memory::NoMemory;
 use plain_tree::tree::{Operation, Step};
 use std::alloc::Global;

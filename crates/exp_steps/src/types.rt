@@ -3,10 +3,10 @@ ghost use Rattle.std.specs.Prelude.{◌≡◌, IfOk, length, map};
 ghost use Rattle.ty_core.specs.Types.{con, name as symbol, typs_of};
 ghost use Rattle.ty_table.specs.TypeAt.{type_at, AllBelow};
 ghost use Rattle.match_compile.specs.Compile.{all_scoped, scoped, used_at};
-ghost use Rattle.match_types.specs.Views.{View, Sees, Keeps, Stands};
+ghost use Rattle.match_steps.specs.of_match_types.Views.{View, Sees, Keeps, Stands};
 
-use match_types::types::scoped_type;
-use match_types::work::{ValueType, Work};
+use match_steps::match_types::types::scoped_type;
+use match_steps::match_types::work::{ValueType, Work};
 use mlc_base::memory::NoMemory;
 use std::alloc::Global;
 use ty_core::name::TyName;

@@ -6,7 +6,7 @@ ghost use Rattle.ty_core.specs.Types.{Typ};
 ghost use Rattle.ir_poly.specs.Prog.{Exp as Source};
 ghost use Rattle.match_compile.specs.Compile as clean;
 ghost use Rattle.prog_tree.specs.TreeOf.{Reading, tree_of, pat_of, atom_of, use_of};
-ghost use Rattle.match_types.specs.declared.work.Work.{Work as State};
+ghost use Rattle.match_steps.specs.of_match_types.declared.work.Work.{Work as State};
 ghost use Rattle.exp_steps.specs.Ways.{way_of, headed, operands, type_or_unit, labels_from};
 ghost use Rattle.exp_steps.specs.Making.{Weighs};
 

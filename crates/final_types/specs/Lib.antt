@@ -1,3 +1,4 @@
+pub use Rattle.ir_prog.specs as of_ir_prog
 pub mod Names
 pub mod Nodes
 pub mod Bounds

@@ -1,6 +1,8 @@
 // The types of a solver as a program has them at the end.
 #![tactic(auto)]
 
+pub use ir_prog;
+
 pub mod bound;
 pub mod enter;
 pub mod finish;

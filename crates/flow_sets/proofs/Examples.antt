@@ -2,9 +2,9 @@
 use Rattle.std.proofs.Common.{◌≡◌, true, false, List, [], ◌∷◌, None, refl}
 use Rattle.mlc_names.specs.declared.label.Label.TheVariants.{Number}
 use Rattle.ty_core.specs.Types.{arrow, labels, name}
-use Rattle.ir_values.specs.Values.{true_number, false_number}
-use Rattle.ir_plain.specs.Tree.{ret, let_in, fn, use_of, make_record, select, no_row, a_row, last}
-use Rattle.ir_poly.specs.Types.{bool_name}
+use Rattle.ir_mono.specs.of_ir_values.Values.{true_number, false_number}
+use Rattle.ir_mono.specs.of_ir_plain.Tree.{ret, let_in, fn, use_of, make_record, select, no_row, a_row, last}
+use Rattle.ir_mono.specs.of_ir_poly.Types.{bool_name}
 use Rattle.ir_mono.specs.Types.{Row, Node, node}
 use Rattle.ir_mono.specs.Mono.{Mono, Program}
 use Rattle.flow_sets.specs.Flow.{variable, result, field, content, Flow, at, SolvesProgram}

@@ -1,3 +1,4 @@
+pub use Rattle.ir_mono.proofs as of_ir_mono
 pub mod Member
 pub mod Sets
 pub mod Solved

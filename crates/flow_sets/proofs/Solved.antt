@@ -6,11 +6,11 @@ use Rattle.mlc_names.specs.declared.label.Label.TheVariants.{Number, Word}
 use Rattle.mlc_prims.specs.declared.basis.BasisPrimitive.{BasisPrimitive}
 use Rattle.mlc_prims.specs.declared.basis.BasisPrimitive.TheVariants.{Assign}
 use Rattle.ty_core.specs.Types.{labels, typs_of}
-use Rattle.ir_values.specs.Primitives as prims
-use Rattle.ir_values.specs.Primitives.{compares, assigns, prints, computes}
-use Rattle.ir_values.specs.Values.{same_label}
-use Rattle.ir_plain.specs.Tree.{Case, Atoms, Row, Exp, Arms, Op, Fun, last, more, Funs, no_funs, fun}
-use Rattle.ir_poly.specs.Types.{prim_type}
+use Rattle.ir_mono.specs.of_ir_values.Primitives as prims
+use Rattle.ir_mono.specs.of_ir_values.Primitives.{compares, assigns, prints, computes}
+use Rattle.ir_mono.specs.of_ir_values.Values.{same_label}
+use Rattle.ir_mono.specs.of_ir_plain.Tree.{Case, Atoms, Row, Exp, Arms, Op, Fun, last, more, Funs, no_funs, fun}
+use Rattle.ir_mono.specs.of_ir_poly.Types.{prim_type}
 use Rattle.ir_mono.specs.Types as table
 use Rattle.ir_mono.specs.Types.{Node, node, node_at, Is, IsFunction, part, part_of, AreDistinct, distinct_none, distinct_more, IsOther, other_none, other_more, AllStand, stand_none, stand_more, stands_var}
 use Rattle.ir_mono.specs.Mono.{mono}

@@ -1,8 +1,8 @@
 -- The coarse sets: at each spot all functions of its type. The set's number is the type's.
 use Rattle.std.specs.Prelude.{ℕ, zero, suc, Bool, false, List, [], ◌∷◌, ◌++◌, length, Option, Some, None, option_and_then, nat_eq, if◌then◌else◌}
 use Rattle.ty_core.specs.Types.{arrow}
-use Rattle.ir_plain.specs.Tree.{Case, is_literal, is_con, is_con_of, is_exn, is_exn_of, is_record, ret, let_in, exception_in, name_in, rec_in, switch, first, miss, counted, Arms, no_arms, arm, Op, use_of, const, con_alone, construct, ref_alone, refer, pack, make_record, select, prim_alone, prim, app, fn, block, handle, raise, raise_initial, Fun, last, more, Funs, no_funs, fun}
-use Rattle.ir_plain.specs.Tree as tree
+use Rattle.ir_mono.specs.of_ir_plain.Tree.{Case, is_literal, is_con, is_con_of, is_exn, is_exn_of, is_record, ret, let_in, exception_in, name_in, rec_in, switch, first, miss, counted, Arms, no_arms, arm, Op, use_of, const, con_alone, construct, ref_alone, refer, pack, make_record, select, prim_alone, prim, app, fn, block, handle, raise, raise_initial, Fun, last, more, Funs, no_funs, fun}
+use Rattle.ir_mono.specs.of_ir_plain.Tree as tree
 use Rattle.ir_mono.specs.Types.{Node, node, node_at, constructor_at, part_of}
 use Rattle.ir_mono.specs.Types as table
 use Rattle.ir_mono.specs.Mono.{mono, Mono, Program}

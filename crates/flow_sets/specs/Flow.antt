@@ -2,9 +2,9 @@
 -- variable; what is a function by itself (a constructor, `ref`, a primitive, an exception's name) has no number.
 use Rattle.std.specs.Prelude.{◌≡◌, ℕ, true, List, [], get_or, ⊤}
 use Rattle.mlc_names.specs.declared.label.Label.{Label}
-use Rattle.ir_values.specs.Primitives.{Sort, assigns, sort_of}
-use Rattle.ir_plain.specs.Tree.{Case, is_literal, is_con, is_con_of, is_exn, is_exn_of, is_record, Atoms, no_atoms, an_atom, Row, no_row, a_row, ret, let_in, exception_in, name_in, rec_in, switch, first, miss, counted, Arms, no_arms, arm, Op, use_of, const, con_alone, construct, ref_alone, refer, pack, make_record, select, prim_alone, prim, app, fn, block, handle, raise, raise_initial, Fun, last, more, Funs, no_funs, fun}
-use Rattle.ir_plain.specs.Tree as tree
+use Rattle.ir_mono.specs.of_ir_values.Primitives.{Sort, assigns, sort_of}
+use Rattle.ir_mono.specs.of_ir_plain.Tree.{Case, is_literal, is_con, is_con_of, is_exn, is_exn_of, is_record, Atoms, no_atoms, an_atom, Row, no_row, a_row, ret, let_in, exception_in, name_in, rec_in, switch, first, miss, counted, Arms, no_arms, arm, Op, use_of, const, con_alone, construct, ref_alone, refer, pack, make_record, select, prim_alone, prim, app, fn, block, handle, raise, raise_initial, Fun, last, more, Funs, no_funs, fun}
+use Rattle.ir_mono.specs.of_ir_plain.Tree as tree
 use Rattle.ir_mono.specs.Types as table
 use Rattle.ir_mono.specs.Mono.{mono, Mono}
 use Rattle.flow_sets.specs.Member.{is_in, Within}

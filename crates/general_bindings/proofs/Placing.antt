@@ -20,10 +20,10 @@ use Rattle.match_types.specs.Views.{View, reading, Sees, Keeps, Stands, value_ty
 use Rattle.match_types.specs.declared.work.ValueType.{ValueType}
 use Rattle.match_types.specs.declared.work.Work.{Work}
 use Rattle.match_types.proofs.Seeing.{sees-before, none-past, keeps-on, stands-on}
-use Rattle.match_steps.specs.Steps.{Puts, stand}
-use Rattle.match_steps.proofs.Pushed.{pushed, step_of-Let}
-use Rattle.exp_steps.specs.Making.{Reads}
-use Rattle.exp_steps.proofs.Nodes.{step_of-Block}
+use Rattle.pattern_tests.specs.of_match_steps.Steps.{Puts, stand}
+use Rattle.pattern_tests.proofs.of_match_steps.Pushed.{pushed, step_of-Let}
+use Rattle.exp_blocks.specs.of_exp_steps.Making.{Reads}
+use Rattle.exp_blocks.proofs.of_exp_steps.Nodes.{step_of-Block}
 use Rattle.exp_blocks.specs.Giving.{Gives}
 use Rattle.general_bindings.specs.General.{listed, over_scope, placing, general}
 

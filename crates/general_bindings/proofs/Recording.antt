@@ -19,12 +19,12 @@ use Rattle.match_types.specs.Views.{View, reading, Sees, Keeps, Stands, value_ty
 use Rattle.match_types.specs.declared.work.Work.{Work}
 use Rattle.match_types.specs.declared.work.ValueType.{ValueType}
 use Rattle.match_types.proofs.Seeing.{keeps-on, sees-before, stands-on}
-use Rattle.match_steps.specs.Steps.{Puts, stand}
-use Rattle.match_steps.proofs.Pushed.{pushed}
+use Rattle.pattern_tests.specs.of_match_steps.Steps.{Puts, stand}
+use Rattle.pattern_tests.proofs.of_match_steps.Pushed.{pushed}
 use Rattle.pattern_tests.specs.Spots.{spots_onto}
 use Rattle.pattern_tests.specs.Tasks.{tests_of}
 use Rattle.pattern_tests.specs.declared.spots.Spot.{Spot}
-use Rattle.exp_steps.proofs.Nodes.{step_of-Exception}
+use Rattle.exp_blocks.proofs.of_exp_steps.Nodes.{step_of-Exception}
 use Rattle.exp_blocks.specs.Giving.{Gives, Grows, over}
 use Rattle.exp_blocks.proofs.Growing.{grows-on, grows-by, sees-named}
 use Rattle.general_bindings.specs.General.{listed, over_scope, placing, general, spots_of, whole, splitting, found, past, recording, separate, made_of}

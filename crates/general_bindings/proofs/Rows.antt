@@ -22,7 +22,7 @@ use Rattle.prog_tree.specs.declared.tree.PatPart.{PatPart}
 use Rattle.prog_tree.specs.declared.tree.Side.{Side}
 use Rattle.prog_tree.specs.declared.tree.Side.TheVariants as side
 use Rattle.prog_tree.proofs.ExpOf.{pat_of-Chain}
-use Rattle.exp_steps.proofs.Heads.{items-counted}
+use Rattle.exp_blocks.proofs.of_exp_steps.Heads.{items-counted}
 use Rattle.match_types.specs.Views.{View, reading, Sees, Keeps, Stands, value_type, in_view}
 use Rattle.match_types.specs.declared.work.Work.{Work}
 use Rattle.match_types.specs.declared.work.ValueType.{ValueType}
@@ -30,7 +30,7 @@ use Rattle.match_types.proofs.Seeing.{sees-before, stands-at, held-within, held-
 use Rattle.pattern_tests.specs.Spots.{spots_onto}
 use Rattle.pattern_tests.specs.declared.spots.Spot.{Spot}
 use Rattle.exp_blocks.proofs.Binding.{take-next}
-use Rattle.exp_steps.proofs.Leaves.{map-stays, replace-typs}
+use Rattle.exp_blocks.proofs.of_exp_steps.Leaves.{map-stays, replace-typs}
 use Rattle.general_bindings.specs.General.{spots_before, spots_of, types_of, whole, labels_from, fields_from, over_scope}
 
 -- Labels and fields

@@ -6,7 +6,7 @@ use Rattle.plain_tree.specs.declared.tree.Step.{Step}
 use Rattle.match_types.specs.Views.{View, Keeps, Stands, value_type}
 use Rattle.match_types.specs.declared.work.Work.{Work}
 use Rattle.match_types.proofs.Seeing.{keeps-same, keeps-on, sees-before, stands-on}
-use Rattle.match_steps.specs.Steps.{Puts, Leads, stand}
+use Rattle.pattern_tests.specs.of_match_steps.Steps.{Puts, Leads, stand}
 use Rattle.pattern_tests.specs.declared.spots.Spot.{Spot}
 use Rattle.pattern_tests.proofs.Chains.{next-drop}
 use Rattle.general_bindings.specs.General.{listed, over_scope, general, spots_before, spots_of, splitting}

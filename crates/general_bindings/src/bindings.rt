@@ -5,7 +5,7 @@ ghost use Rattle.ir_poly.specs.Tests.{Tests};
 ghost use Rattle.match_compile.specs.Compile.{atom, past_split, split_spots, spot, no_spots, general_shape};
 ghost use Rattle.prog_tree.specs.TreeOf.{Reading, pat_of};
 ghost use Rattle.match_types.specs.Views.{View, Keeps, Stands, value_type, in_view};
-ghost use Rattle.match_steps.specs.Steps.{Puts};
+ghost use Rattle.pattern_tests.specs.of_match_steps.Steps.{Puts};
 ghost use Rattle.pattern_tests.specs.Spots.{spots_onto};
 ghost use Rattle.pattern_tests.specs.Tasks.{tests_of};
 ghost use Rattle.exp_blocks.specs.Giving.{Gives};

@@ -5,7 +5,7 @@ ghost use Rattle.ir_plain.specs.Tree.{exception_in};
 ghost use Rattle.match_compile.specs.Compile.{option_scoped};
 ghost use Rattle.match_types.specs.Views.{View, Sees, Keeps};
 ghost use Rattle.ty_table.specs.TypeAt.{type_at};
-ghost use Rattle.match_steps.specs.Steps.{Puts};
+ghost use Rattle.pattern_tests.specs.of_match_steps.Steps.{Puts};
 ghost use Rattle.exp_blocks.specs.Giving.{Grows};
 
 use match_types::types::{fresh, scoped_type};

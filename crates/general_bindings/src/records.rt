@@ -10,8 +10,8 @@ ghost use Rattle.match_compile.specs.Compile as clean;
 ghost use Rattle.match_compile.specs.Compile.{atom, all_scoped, scoped, spots_row, part, past_split, split_spots, no_spots};
 ghost use Rattle.plain_tree.specs.TreeOf.{operation_of};
 ghost use Rattle.match_types.specs.Views.{View, reading, Sees, Keeps, Stands, value_type};
-ghost use Rattle.match_steps.specs.Steps.{Puts};
-ghost use Rattle.exp_steps.specs.Making.{Reads};
+ghost use Rattle.pattern_tests.specs.of_match_steps.Steps.{Puts};
+ghost use Rattle.exp_blocks.specs.of_exp_steps.Making.{Reads};
 ghost use Rattle.exp_blocks.specs.Giving.{Gives};
 ghost use Rattle.general_bindings.specs.General.{listed, over_scope, placing, general, spots_of, types_of, whole, labels_from, fields_from, splitting};
 

@@ -23,17 +23,17 @@ use Rattle.elab_steps.specs.Growing.{Grows, Always}
 use Rattle.elab_steps.specs.World.{World, type_of}
 use Rattle.elab_steps.proofs.Growing.{grows_same, grows_on, comes_before}
 use Rattle.elab_context.specs.declared.context.Context.{Context}
-use Rattle.pat_elab.specs.Elaborated.{AreVariables, Elaborates, HasVariable, IsPat}
-use Rattle.pat_elab.specs.declared.bound.BoundVariable.{BoundVariable}
-use Rattle.pat_elab.specs.declared.bound.TypedPat.{TypedPat}
-use Rattle.pat_elab.proofs.Forms.{all-later}
-use Rattle.use_elab.specs.Elaborated.{ElaboratesExp, IsExp}
-use Rattle.use_elab.specs.declared.typed.TypedExp.{TypedExp}
-use Rattle.exp_forms.proofs.Calling.{written-as}
-use Rattle.exp_forms.proofs.Lowering.{lowered}
-use Rattle.exp_forms.proofs.Using.{variables-used}
-use Rattle.dec_forms.proofs.JoiningBinds.{all-over}
-use Rattle.general_worlds.specs.Inner.{deeper}
+use Rattle.rec_groups.specs.of_pat_elab.Elaborated.{AreVariables, Elaborates, HasVariable, IsPat}
+use Rattle.rec_groups.specs.of_pat_elab.declared.bound.BoundVariable.{BoundVariable}
+use Rattle.rec_groups.specs.of_pat_elab.declared.bound.TypedPat.{TypedPat}
+use Rattle.rec_groups.proofs.of_pat_elab.Forms.{all-later}
+use Rattle.rec_groups.specs.of_use_elab.Elaborated.{ElaboratesExp, IsExp}
+use Rattle.rec_groups.specs.of_use_elab.declared.typed.TypedExp.{TypedExp}
+use Rattle.rec_groups.proofs.of_exp_forms.Calling.{written-as}
+use Rattle.rec_groups.proofs.of_exp_forms.Lowering.{lowered}
+use Rattle.rec_groups.proofs.of_exp_forms.Using.{variables-used}
+use Rattle.rec_groups.proofs.of_dec_forms.JoiningBinds.{all-over}
+use Rattle.general_vals.specs.of_general_worlds.Inner.{deeper}
 use Rattle.general_decs.specs.Inside.{AreInside, ElaboratesInside, StandBehind, none_inside, IsUsedAs, Keeps, inside_of, marked_as}
 use Rattle.general_decs.specs.Values.{IsGeneralised}
 use Rattle.general_decs.proofs.Groups.{bound-snoc, flagged-as, flagged-both, flags-snoc, general-snoc, plain-snoc}

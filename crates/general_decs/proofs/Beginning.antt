@@ -1,8 +1,8 @@
 -- Where a declaration begins: its type variables come into scope, and its context is one deeper.
-use Rattle.general_worlds.proofs.Declaring.{entered-type}
-use Rattle.general_worlds.proofs.Contexts.{context-inside}
-use Rattle.general_worlds.specs.Inner.{deeper}
-use Rattle.general_worlds.specs.Tidy.{Enters}
+use Rattle.general_vals.proofs.of_general_worlds.Declaring.{entered-type}
+use Rattle.general_vals.proofs.of_general_worlds.Contexts.{context-inside}
+use Rattle.general_vals.specs.of_general_worlds.Inner.{deeper}
+use Rattle.general_vals.specs.of_general_worlds.Tidy.{Enters}
 use Rattle.std.proofs.Common.{◌≡◌, ◌<◌, ◌≤◌, ◌+◌, ℕ, suc, Bool, true, false, List, [], ◌∷◌, ◌++◌, length, take, get_or, Option, Some, None, slice_get, nat_eq, refl, sym, ap, subst, ◌∙◌, arith}
 use Rattle.std.specs.Prelude.{is_some}
 use Rattle.std.specs.List.{AllByRecursion}

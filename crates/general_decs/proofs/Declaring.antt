@@ -46,26 +46,26 @@ use Rattle.elab_context.specs.declared.entry.Entry.{Entry}
 use Rattle.elab_context.specs.declared.entry.Entry.TheVariants.{Constructor, Reference, Initial, Primitive, Raised, Single, Own, General}
 use Rattle.elab_context.proofs.Contents.{has_constructors_still}
 use Rattle.elab_context.proofs.Reading.{numbered_later}
-use Rattle.pat_elab.specs.Elaborated.{AreVariables, bound_of, scope_of}
-use Rattle.pat_elab.specs.declared.bound.BoundVariable.{BoundVariable}
-use Rattle.pat_elab.proofs.Forms.{onto-plus}
-use Rattle.exp_forms.specs.Rules.{vids_of}
-use Rattle.exp_forms.proofs.JoiningRules.{vids-bound}
-use Rattle.exp_forms.proofs.Within.{denotes-of, inside-onto, latest}
-use Rattle.general_worlds.specs.Inner.{ComesInside, IsInside, deeper, inner_world}
+use Rattle.rec_groups.specs.of_pat_elab.Elaborated.{AreVariables, bound_of, scope_of}
+use Rattle.rec_groups.specs.of_pat_elab.declared.bound.BoundVariable.{BoundVariable}
+use Rattle.rec_groups.proofs.of_pat_elab.Forms.{onto-plus}
+use Rattle.rec_groups.specs.of_exp_forms.Rules.{vids_of}
+use Rattle.rec_groups.proofs.of_exp_forms.JoiningRules.{vids-bound}
+use Rattle.rec_groups.proofs.of_exp_forms.Within.{denotes-of, inside-onto, latest}
+use Rattle.general_vals.specs.of_general_worlds.Inner.{ComesInside, IsInside, deeper, inner_world}
 use Rattle.elab_steps.specs.Tidy.{IsTidy}
-use Rattle.general_worlds.specs.Tidy.{Ends}
-use Rattle.general_worlds.proofs.Declaring.{declaration-grows}
-use Rattle.general_worlds.proofs.Telling.{tells-inside}
-use Rattle.general_worlds.proofs.Worlds.{comes-inside}
-use Rattle.general_worlds.proofs.Scoping.{last-general}
-use Rattle.dec_forms.specs.Binds.{all_plus}
-use Rattle.dec_forms.specs.Bringing.{Brings, Effect, EffectUpTo, IsBringing}
-use Rattle.dec_forms.specs.Telling.{with_all}
-use Rattle.dec_forms.specs.declared.brought.Brought.{Brought}
-use Rattle.dec_forms.proofs.JoiningBinds.{bind_choices}
-use Rattle.dec_forms.proofs.Knowing.{untyped-bound}
-use Rattle.dec_forms.proofs.Plain.{numbered_values, values_add, values_bring, values_effect}
+use Rattle.general_vals.specs.of_general_worlds.Tidy.{Ends}
+use Rattle.general_vals.proofs.of_general_worlds.Declaring.{declaration-grows}
+use Rattle.general_vals.proofs.of_general_worlds.Telling.{tells-inside}
+use Rattle.general_vals.proofs.of_general_worlds.Worlds.{comes-inside}
+use Rattle.general_vals.proofs.of_general_worlds.Scoping.{last-general}
+use Rattle.rec_groups.specs.of_dec_forms.Binds.{all_plus}
+use Rattle.rec_groups.specs.of_dec_forms.Bringing.{Brings, Effect, EffectUpTo, IsBringing}
+use Rattle.rec_groups.specs.of_dec_forms.Telling.{with_all}
+use Rattle.rec_groups.specs.of_dec_forms.declared.brought.Brought.{Brought}
+use Rattle.rec_groups.proofs.of_dec_forms.JoiningBinds.{bind_choices}
+use Rattle.rec_groups.proofs.of_dec_forms.Knowing.{untyped-bound}
+use Rattle.rec_groups.proofs.of_dec_forms.Plain.{numbered_values, values_add, values_bring, values_effect}
 use Rattle.general_decs.specs.Entries.{AreShown, has_some}
 use Rattle.rec_groups.specs.Functions.{ElaborateFunctions}
 use Rattle.rec_groups.specs.Heads.{falling, rising, with_own}

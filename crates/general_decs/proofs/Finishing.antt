@@ -26,17 +26,17 @@ use Rattle.elab_context.specs.Telling.{HasList, IsContext, IsHeld}
 use Rattle.elab_context.specs.declared.context.Context.{Context}
 use Rattle.elab_context.specs.declared.entry.Entry.{Entry}
 use Rattle.elab_context.proofs.Reading.{context_later}
-use Rattle.pat_elab.specs.Elaborated.{AreVariables}
-use Rattle.pat_elab.specs.declared.bound.BoundVariable.{BoundVariable}
-use Rattle.exp_forms.specs.Rules.{vids_of}
-use Rattle.exp_forms.proofs.Entering.{context_with}
+use Rattle.rec_groups.specs.of_pat_elab.Elaborated.{AreVariables}
+use Rattle.rec_groups.specs.of_pat_elab.declared.bound.BoundVariable.{BoundVariable}
+use Rattle.rec_groups.specs.of_exp_forms.Rules.{vids_of}
+use Rattle.rec_groups.proofs.of_exp_forms.Entering.{context_with}
 use Rattle.elab_steps.specs.Tidy.{IsTidy}
-use Rattle.general_worlds.specs.Tidy.{Ends}
-use Rattle.general_worlds.proofs.Declaring.{declaration-grows}
+use Rattle.general_vals.specs.of_general_worlds.Tidy.{Ends}
+use Rattle.general_vals.proofs.of_general_worlds.Declaring.{declaration-grows}
 use Rattle.general_vals.proofs.Settling.{settled-held}
-use Rattle.dec_forms.specs.Bringing.{IsBringing}
-use Rattle.dec_forms.specs.Telling.{with_all}
-use Rattle.dec_forms.specs.declared.brought.Brought.{Brought}
+use Rattle.rec_groups.specs.of_dec_forms.Bringing.{IsBringing}
+use Rattle.rec_groups.specs.of_dec_forms.Telling.{with_all}
+use Rattle.rec_groups.specs.of_dec_forms.declared.brought.Brought.{Brought}
 use Rattle.general_decs.specs.Entries.{AreMade, AreShown, has_some}
 use Rattle.general_decs.specs.Whole.{IsDeclared}
 use Rattle.general_decs.specs.Scoped.{IsBegun, IsLedBy, ScopesThese}

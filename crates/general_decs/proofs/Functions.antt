@@ -46,18 +46,18 @@ use Rattle.elab_context.specs.declared.context.Context.{Context}
 use Rattle.elab_context.specs.declared.entry.Entry.{Entry}
 use Rattle.elab_context.specs.declared.entry.Entry.TheVariants.{Own}
 use Rattle.vid_scope.specs.Entries.{entry_of}
-use Rattle.pat_elab.specs.Elaborated.{AreVariables, HasVariable, bound_of, scope_of}
-use Rattle.pat_elab.specs.declared.bound.BoundVariable.{BoundVariable}
-use Rattle.pat_elab.proofs.Forms.{all-later, onto-plus}
-use Rattle.pat_elab.proofs.Leaves.{binds, within-names}
-use Rattle.exp_forms.specs.Rules.{vids_of}
-use Rattle.exp_forms.proofs.Calling.{written-as}
-use Rattle.exp_forms.proofs.Entering.{number-known}
-use Rattle.exp_forms.proofs.JoiningRules.{vids-bound}
-use Rattle.exp_forms.proofs.Within.{denotes-of, inside-onto, latest, lookup-of, or-none}
-use Rattle.dec_forms.proofs.Knowing.{untyped-bound}
-use Rattle.dec_forms.proofs.Listed.{last-among}
-use Rattle.dec_forms.proofs.Telling.{AreFurther, entry-among, tells_further}
+use Rattle.rec_groups.specs.of_pat_elab.Elaborated.{AreVariables, HasVariable, bound_of, scope_of}
+use Rattle.rec_groups.specs.of_pat_elab.declared.bound.BoundVariable.{BoundVariable}
+use Rattle.rec_groups.proofs.of_pat_elab.Forms.{all-later, onto-plus}
+use Rattle.rec_groups.proofs.of_pat_elab.Leaves.{binds, within-names}
+use Rattle.rec_groups.specs.of_exp_forms.Rules.{vids_of}
+use Rattle.rec_groups.proofs.of_exp_forms.Calling.{written-as}
+use Rattle.rec_groups.proofs.of_exp_forms.Entering.{number-known}
+use Rattle.rec_groups.proofs.of_exp_forms.JoiningRules.{vids-bound}
+use Rattle.rec_groups.proofs.of_exp_forms.Within.{denotes-of, inside-onto, latest, lookup-of, or-none}
+use Rattle.rec_groups.proofs.of_dec_forms.Knowing.{untyped-bound}
+use Rattle.rec_groups.proofs.of_dec_forms.Listed.{last-among}
+use Rattle.rec_groups.proofs.of_dec_forms.Telling.{AreFurther, entry-among, tells_further}
 use Rattle.rec_groups.specs.Functions.{AreWritten, EachFunction, no_function, one_function}
 use Rattle.rec_groups.specs.Heads.{AreReserved, IsFitHead, IsReserved, falling, head_bound, head_vids, none_reserved, one_reserved, own_entries, rising, with_own}
 use Rattle.rec_groups.specs.declared.head.Head.{Head}
@@ -370,7 +370,7 @@ module _ (W : World) (D : Context) (B : Around) (t : Tells D W B) (deep : D.leve
         let inner : (b.number, own (type_as B.number (type_of W b.ty))) ≡ (n, v) = cc in
         subst (λ i. checked.at G i ≡ Some v) (ap (λ (z : ℕ × Known). z.0) inner) (m.known ∙ ap Some (ap (λ (z : ℕ × Known). z.1) inner))
 
-    under-same : (bs : List BoundVariable) (s f : ℕ → Typ) → AllByRecursion (λ b. IsInUse B (type_of W b.ty)) bs → Rattle.dec_forms.proofs.Over.Agree B.parameters s f
+    under-same : (bs : List BoundVariable) (s f : ℕ → Typ) → AllByRecursion (λ b. IsInUse B (type_of W b.ty)) bs → Rattle.rec_groups.proofs.of_dec_forms.Over.Agree B.parameters s f
         → values_under s (singles (bound_of W bs)) ≡ values_under f (singles (bound_of W bs))
     under-same [] s f u a = refl
     under-same (b ∷ bs) s f u a =
@@ -428,7 +428,7 @@ without_functions M N C s rs bs fs binds h = record {
   between = N;
   reserved = none_reserved;
   inside = h;
-  functions = no_functions N (with_own (Rattle.general_worlds.specs.Inner.deeper C s) []);
+  functions = no_functions N (with_own (Rattle.general_vals.specs.of_general_worlds.Inner.deeper C s) []);
   together = sym (append-nil bs);
   flagged = sym (append-nil fs);
 }

@@ -24,12 +24,12 @@ use Rattle.elab_typed.specs.Contexts.{Around, generic}
 use Rattle.elab_typed.specs.Elaborates.{BindsElab, ExpElab, PatElab, no_binds_elab, general_elab, plain_elab, without}
 use Rattle.elab_typed.specs.Instances.{as_typed}
 use Rattle.elab_steps.specs.World.{World, type_of}
-use Rattle.pat_elab.specs.Elaborated.{bound_of, scope_of, scope_onto}
-use Rattle.pat_elab.specs.declared.bound.BoundVariable.{BoundVariable}
-use Rattle.pat_elab.proofs.Forms.{onto-plus}
-use Rattle.exp_forms.specs.Rules.{vids_of}
-use Rattle.dec_forms.specs.Binds.{all_plus}
-use Rattle.dec_forms.proofs.JoiningBinds.{bind_choices}
+use Rattle.rec_groups.specs.of_pat_elab.Elaborated.{bound_of, scope_of, scope_onto}
+use Rattle.rec_groups.specs.of_pat_elab.declared.bound.BoundVariable.{BoundVariable}
+use Rattle.rec_groups.proofs.of_pat_elab.Forms.{onto-plus}
+use Rattle.rec_groups.specs.of_exp_forms.Rules.{vids_of}
+use Rattle.rec_groups.specs.of_dec_forms.Binds.{all_plus}
+use Rattle.rec_groups.proofs.of_dec_forms.JoiningBinds.{bind_choices}
 use Rattle.general_decs.specs.Inside.{EachInside, none_inside, general_inside, plain_inside, AllFlagged, all_bound, flags_of, inside_of, marked_as}
 use Rattle.general_decs.proofs.Marks.{IsMarked, marks-most, marks-older, all-marked}
 

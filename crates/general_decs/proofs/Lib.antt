@@ -1,3 +1,5 @@
+pub use Rattle.general_vals.proofs.of_general_worlds as of_general_worlds
+pub use Rattle.rec_groups.proofs as of_rec_groups
 pub mod Tyvars
 pub mod Opening
 pub mod Marks

@@ -19,12 +19,12 @@ use Rattle.elab_steps.specs.Growing.{Grows, HasType}
 use Rattle.elab_steps.proofs.Changing.{Tabled}
 use Rattle.elab_steps.proofs.Growing.{grows_on, comes_before}
 use Rattle.elab_context.specs.declared.context.Context.{Context}
-use Rattle.pat_elab.specs.declared.bound.BoundVariable.{BoundVariable}
-use Rattle.pat_elab.proofs.Forms.{all-later}
+use Rattle.rec_groups.specs.of_pat_elab.declared.bound.BoundVariable.{BoundVariable}
+use Rattle.rec_groups.proofs.of_pat_elab.Forms.{all-later}
 use Rattle.rec_groups.specs.Heads.{with_own}
 use Rattle.rec_groups.proofs.Adding.{functions_later}
-use Rattle.general_worlds.specs.Inner.{deeper}
-use Rattle.general_worlds.specs.Tidy.{AreOuter}
+use Rattle.general_vals.specs.of_general_worlds.Inner.{deeper}
+use Rattle.general_vals.specs.of_general_worlds.Tidy.{AreOuter}
 use Rattle.general_decs.specs.Whole.{IsDeclared}
 use Rattle.general_decs.specs.Inside.{AreInside}
 

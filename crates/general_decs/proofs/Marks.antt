@@ -23,13 +23,13 @@ use Rattle.elab_typed.specs.Elaborates.{PatElab}
 use Rattle.elab_typed.specs.Instances.{as_typed}
 use Rattle.elab_typed.specs.Numbers.{type_as}
 use Rattle.elab_steps.specs.World.{World, type_of}
-use Rattle.pat_elab.specs.Elaborated.{bound_of, scope_of}
-use Rattle.pat_elab.specs.declared.bound.BoundVariable.{BoundVariable}
-use Rattle.exp_forms.specs.Binding.{Binding, IsKnown}
-use Rattle.exp_forms.specs.Rules.{vids_of}
-use Rattle.exp_forms.proofs.JoiningRules.{vids-bound}
-use Rattle.exp_forms.proofs.Knowing.{pattern-binds}
-use Rattle.exp_forms.proofs.Within.{latest, lookup-of, denotes-of}
+use Rattle.rec_groups.specs.of_pat_elab.Elaborated.{bound_of, scope_of}
+use Rattle.rec_groups.specs.of_pat_elab.declared.bound.BoundVariable.{BoundVariable}
+use Rattle.rec_groups.specs.of_exp_forms.Binding.{Binding, IsKnown}
+use Rattle.rec_groups.specs.of_exp_forms.Rules.{vids_of}
+use Rattle.rec_groups.proofs.of_exp_forms.JoiningRules.{vids-bound}
+use Rattle.rec_groups.proofs.of_exp_forms.Knowing.{pattern-binds}
+use Rattle.rec_groups.proofs.of_exp_forms.Within.{latest, lookup-of, denotes-of}
 
 -- the variables of a pattern, with their types, in front of others
 

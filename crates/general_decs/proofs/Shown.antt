@@ -28,18 +28,18 @@ use Rattle.elab_context.specs.Telling.{IsFit, IsGeneral, IsInUse, Tells, kept_of
 use Rattle.elab_context.specs.declared.context.Context.{Context}
 use Rattle.elab_context.specs.declared.entry.Entry.{Entry}
 use Rattle.elab_context.specs.declared.entry.Entry.TheVariants.{General}
-use Rattle.pat_elab.specs.Elaborated.{AreVariables, HasVariable, bound_of}
-use Rattle.pat_elab.specs.declared.bound.BoundVariable.{BoundVariable}
-use Rattle.exp_forms.specs.Rules.{vids_of}
-use Rattle.exp_forms.proofs.Entering.{number-known}
-use Rattle.exp_forms.proofs.Within.{latest}
-use Rattle.general_worlds.proofs.General.{open-general}
-use Rattle.general_worlds.specs.Tidy.{Ends}
+use Rattle.rec_groups.specs.of_pat_elab.Elaborated.{AreVariables, HasVariable, bound_of}
+use Rattle.rec_groups.specs.of_pat_elab.declared.bound.BoundVariable.{BoundVariable}
+use Rattle.rec_groups.specs.of_exp_forms.Rules.{vids_of}
+use Rattle.rec_groups.proofs.of_exp_forms.Entering.{number-known}
+use Rattle.rec_groups.proofs.of_exp_forms.Within.{latest}
+use Rattle.general_vals.proofs.of_general_worlds.General.{open-general}
+use Rattle.general_vals.specs.of_general_worlds.Tidy.{Ends}
 use Rattle.general_vals.proofs.Settling.{settled-held}
 use Rattle.elab_context.specs.Entries.{last_of}
-use Rattle.dec_forms.proofs.Listed.{kept-listed, last-among, last-first}
-use Rattle.dec_forms.proofs.Over.{generals-same}
-use Rattle.dec_forms.proofs.Telling.{AreFurther}
+use Rattle.rec_groups.proofs.of_dec_forms.Listed.{kept-listed, last-among, last-first}
+use Rattle.rec_groups.proofs.of_dec_forms.Over.{generals-same}
+use Rattle.rec_groups.proofs.of_dec_forms.Telling.{AreFurther}
 use Rattle.general_decs.specs.Entries.{AreShown, IsShown, has_some}
 use Rattle.general_decs.specs.Inside.{AllFlagged, IsUsedAs, inside_of}
 use Rattle.general_decs.proofs.Groups.{AreKnownAs, known_as}

@@ -19,8 +19,8 @@ use Rattle.elab_context.specs.Numbered.{IsBelowIf}
 use Rattle.elab_context.specs.Telling.{IsContext, IsHeld}
 use Rattle.elab_context.specs.declared.context.Context.{Context}
 use Rattle.elab_context.specs.declared.entry.Entry.{Entry}
-use Rattle.general_worlds.specs.Inner.{deeper}
-use Rattle.dec_forms.specs.Entries.{type_scope}
+use Rattle.general_vals.specs.of_general_worlds.Inner.{deeper}
+use Rattle.rec_groups.specs.of_dec_forms.Entries.{type_scope}
 use Rattle.general_decs.specs.Outside.{outside, types_found, tyvars_onto}
 use Rattle.general_decs.specs.Scoped.{CameByName, IsBegun, IsFurther}
 use Rattle.general_decs.proofs.Beginning.{held-as}

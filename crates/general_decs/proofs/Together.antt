@@ -18,8 +18,8 @@ use Rattle.elab_typed.specs.Numbers.{type_as}
 use Rattle.elab_state.specs.declared.state.State.{State}
 use Rattle.elab_steps.specs.World.{World, Comes, type_of}
 use Rattle.elab_context.specs.declared.context.Context.{Context}
-use Rattle.pat_elab.specs.Elaborated.{scope_of, scope_onto}
-use Rattle.pat_elab.specs.declared.bound.BoundVariable.{BoundVariable}
+use Rattle.rec_groups.specs.of_pat_elab.Elaborated.{scope_of, scope_onto}
+use Rattle.rec_groups.specs.of_pat_elab.declared.bound.BoundVariable.{BoundVariable}
 use Rattle.rec_groups.specs.Functions.{AreWritten}
 use Rattle.rec_groups.specs.Heads.{AreReserved, HeadUpTo, falling, none_reserved, numbers_of, one_reserved, rising}
 use Rattle.rec_groups.specs.declared.head.Head.{Head}

@@ -13,7 +13,7 @@ use Rattle.sml_tree.specs.declared.tree.Part.{Part}
 use Rattle.core_rules.specs.Objects.{Env}
 use Rattle.core_rules.specs.Typing.{all_non_expansive, is_conexp, is_non_expansive}
 use Rattle.prog_known.specs.Lists.{all_hold}
-use Rattle.exp_forms.proofs.Nodes.{field-is, part-is}
+use Rattle.rec_groups.proofs.of_exp_forms.Nodes.{field-is, part-is}
 use Rattle.general_decs.specs.Values.{applied_is, exp_is, field_is, is_nil, joint_makes, part_is}
 
 and-true : (a : Bool) → (a && true) ≡ a

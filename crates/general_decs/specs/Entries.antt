@@ -8,9 +8,9 @@ use Rattle.elab_steps.specs.Growing.{Always, Grows}
 use Rattle.elab_steps.specs.World.{type_of}
 use Rattle.elab_context.specs.declared.entry.Entry.{Entry}
 use Rattle.elab_context.specs.declared.entry.Entry.TheVariants.{General}
-use Rattle.pat_elab.specs.declared.bound.BoundVariable.{BoundVariable}
+use Rattle.rec_groups.specs.of_pat_elab.declared.bound.BoundVariable.{BoundVariable}
 use Rattle.elab_steps.specs.Tidy.{IsTidy}
-use Rattle.general_worlds.specs.Tidy.{AreOpen}
+use Rattle.general_vals.specs.of_general_worlds.Tidy.{AreOpen}
 use Rattle.general_vals.specs.Settling.{IsMade, KeepsVariables, Settles}
 
 -- types of what is bound, also over variables that are done with

@@ -21,12 +21,12 @@ use Rattle.elab_steps.specs.Growing.{Grows}
 use Rattle.elab_steps.specs.World.{World, type_of, Comes}
 use Rattle.elab_context.specs.Telling.{Tells, IsInUse}
 use Rattle.elab_context.specs.declared.context.Context.{Context}
-use Rattle.pat_elab.specs.Elaborated.{AreVariables, IsPat, bound_of, scope_of}
-use Rattle.pat_elab.specs.declared.bound.BoundVariable.{BoundVariable}
-use Rattle.pat_elab.specs.declared.bound.TypedPat.{TypedPat}
-use Rattle.use_elab.specs.Elaborated.{IsExp}
-use Rattle.use_elab.specs.declared.typed.TypedExp.{TypedExp}
-use Rattle.general_worlds.specs.Inner.{deeper}
+use Rattle.rec_groups.specs.of_pat_elab.Elaborated.{AreVariables, IsPat, bound_of, scope_of}
+use Rattle.rec_groups.specs.of_pat_elab.declared.bound.BoundVariable.{BoundVariable}
+use Rattle.rec_groups.specs.of_pat_elab.declared.bound.TypedPat.{TypedPat}
+use Rattle.rec_groups.specs.of_use_elab.Elaborated.{IsExp}
+use Rattle.rec_groups.specs.of_use_elab.declared.typed.TypedExp.{TypedExp}
+use Rattle.general_vals.specs.of_general_worlds.Inner.{deeper}
 
 -- what is around inside: these type variables, and these parameters in front
 abbrev pub inside_of : Around → Map ℕ Typ → List Quantified → Around

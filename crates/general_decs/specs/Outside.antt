@@ -4,7 +4,7 @@ use Rattle.std.specs.Map.{lookup}
 use Rattle.sml_tree.specs.declared.ident.Tyvar.{Tyvar}
 use Rattle.elab_types.specs.Reading.{left_at}
 use Rattle.elab_context.specs.declared.context.Context.{Context}
-use Rattle.dec_forms.specs.Entries.{type_scope}
+use Rattle.rec_groups.specs.of_dec_forms.Entries.{type_scope}
 
 -- where so many type variables are in scope
 abbrev pub outside : Context → ℕ → Context

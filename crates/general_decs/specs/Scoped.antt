@@ -12,8 +12,8 @@ use Rattle.elab_state.specs.declared.state.State.{State}
 use Rattle.elab_steps.specs.Growing.{Always, Grows}
 use Rattle.elab_steps.specs.World.{World}
 use Rattle.elab_context.specs.declared.context.Context.{Context}
-use Rattle.general_worlds.specs.Inner.{deeper}
-use Rattle.general_worlds.specs.Tidy.{Enters}
+use Rattle.general_vals.specs.of_general_worlds.Inner.{deeper}
+use Rattle.general_vals.specs.of_general_worlds.Tidy.{Enters}
 
 -- the declaration scopes these
 abbrev pub ScopesThese : Context → List Tyvar → bare.Binds → bare.Binds → List Tyvar → Type 0

@@ -8,11 +8,11 @@ use Rattle.prog_tree.specs.declared.tree.Rule.{Rule}
 use Rattle.elab_types.specs.declared.scope.TypeScope.{TypeScope}
 use Rattle.elab_state.specs.declared.state.State.{State}
 use Rattle.elab_context.specs.declared.context.Context.{Context}
-use Rattle.pat_elab.specs.declared.bound.BoundVariable.{BoundVariable}
+use Rattle.rec_groups.specs.of_pat_elab.declared.bound.BoundVariable.{BoundVariable}
 use Rattle.rec_groups.specs.Functions.{AreFunctions}
 use Rattle.rec_groups.specs.Heads.{AreReserved, falling, with_own}
 use Rattle.rec_groups.specs.declared.head.Head.{Head}
-use Rattle.general_worlds.specs.Inner.{deeper}
+use Rattle.general_vals.specs.of_general_worlds.Inner.{deeper}
 use Rattle.general_decs.specs.Inside.{AreInside, marked_as}
 
 -- The functions gs are in scope in one another, and in none of the bindings rs. What the functions bind stands behind what the bindings do, and is

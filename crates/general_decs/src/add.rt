@@ -4,7 +4,7 @@ ghost use Rattle.sml_tree.specs.TreeOf.{RuleOf};
 ghost use Rattle.elab_types.specs.declared.scope.TypeScope.{TypeScope};
 ghost use Rattle.elab_context.specs.Telling.{IsContext};
 ghost use Rattle.elab_steps.specs.Growing.{Grows, HasType};
-ghost use Rattle.general_worlds.specs.Inner.{deeper};
+ghost use Rattle.general_vals.specs.of_general_worlds.Inner.{deeper};
 ghost use Rattle.general_decs.specs.Inside.{AreInside, StandBehind, marked_as};
 ghost use Rattle.general_decs.specs.Values.{IsGeneralised};
 
@@ -14,10 +14,10 @@ use elab_steps::step::{unify, write};
 use elab_types::refused::Refused;
 use mlc_base::memory::NoMemory;
 use mlc_base::place::Place;
-use pat_elab::bound::{BoundVariable, TypedPat};
 use prog_tree::tree::{Binding, Rule};
+use rec_groups::pat_elab::bound::{BoundVariable, TypedPat};
+use rec_groups::use_elab::typed::TypedExp;
 use std::alloc::Global;
-use use_elab::typed::TypedExp;
 
 /// Notes of the variables that came last whether their binding is generalised.
 fn flag(flags: &mut Vec<bool>, general: bool, bound: &[BoundVariable]) -> Result<(), NoMemory>

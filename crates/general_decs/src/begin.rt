@@ -6,8 +6,8 @@ ghost use Rattle.core_rules.specs.Typing.{mark_of as mark_of_tyvar};
 ghost use Rattle.elab_state.specs.States.{dead_level, made, types_in};
 ghost use Rattle.elab_steps.specs.Growing.{Always, Grows, HasType};
 ghost use Rattle.elab_context.specs.Telling.{IsContext};
-ghost use Rattle.general_worlds.specs.Inner.{deeper};
-ghost use Rattle.general_worlds.specs.Tidy.{Enters};
+ghost use Rattle.general_vals.specs.of_general_worlds.Inner.{deeper};
+ghost use Rattle.general_vals.specs.of_general_worlds.Tidy.{Enters};
 ghost use Rattle.general_decs.specs.Scoped.{CameByName, CameIntoScope, IsBegun, IsFurther};
 
 use elab_context::context::Context;

@@ -9,8 +9,8 @@ use elab_context::entry::Entry;
 use elab_state::state::State;
 use general_vals::settle::settled_type;
 use mlc_base::memory::NoMemory;
-use pat_elab::bound::BoundVariable;
 use prog_known::answers::both;
+use rec_groups::pat_elab::bound::BoundVariable;
 use sml_tree::ident::Vid;
 use std::alloc::Global;
 

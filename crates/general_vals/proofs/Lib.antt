@@ -1,3 +1,4 @@
+pub use Rattle.general_worlds.proofs as of_general_worlds
 pub mod Collecting
 pub mod Closing
 pub mod Ending

@@ -3,8 +3,8 @@ use Rattle.std.proofs.Common.{◌≡◌, ◌≢◌, ◌↔◌, ℕ, suc, Bool, f
 use Rattle.mlc_names.specs.declared.label.Label.{Label}
 use Rattle.ty_core.specs.Types.{Typ, con, Typs, none, more, name, labels, arrow, Symbol}
 use Rattle.ty_core.specs.declared.name.TyName.{TyName}
-use Rattle.ty_table.specs.TypeAt.{type_at, types_at}
-use Rattle.ir_poly.specs.Types.{of_name, ref_type, ref_name, unit_type, function_type}
+use Rattle.ir_tables.specs.of_ty_table.TypeAt.{type_at, types_at}
+use Rattle.ir_tables.specs.of_ir_poly.Types.{of_name, ref_type, ref_name, unit_type, function_type}
 
 parts-are : {h k : Symbol} {ts us : Typs} → con h ts ≡ con k us → ts ≡ us
 parts-are e = cc

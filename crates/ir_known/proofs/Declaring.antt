@@ -4,7 +4,7 @@ use Rattle.std.proofs.lemmas.Bool.{and_parts, and_from, both_ways, eqb-true, eq-
 use Rattle.std.specs.Map.{lookup}
 use Rattle.ty_core.specs.declared.mark.Mark.{Mark}
 use Rattle.ty_core.specs.declared.scheme.Quantified.{Quantified}
-use Rattle.ir_poly.specs.Types.{in_scope, is_declarable, are_new}
+use Rattle.ir_tables.specs.of_ir_poly.Types.{in_scope, is_declarable, are_new}
 use Rattle.ir_known.specs.Knows.{marks_of}
 
 pub nat_eq-turned : (x y : ℕ) → nat_eq x y ≡ nat_eq y x

@@ -3,11 +3,11 @@ use Rattle.std.proofs.Common.{◌≡◌, ◌↔◌, ℕ, Bool, true, false, ◌&
 use Rattle.std.proofs.lemmas.Bool.{eqb-true, false≢true}
 use Rattle.ty_core.specs.Types.{Typ, var, con, Typs, none, more, admits, all_admit, attribute, no_variable}
 use Rattle.ty_core.specs.declared.scheme.Quantified.{Quantified}
-use Rattle.ty_table.specs.declared.variables.Few.{Few}
-use Rattle.ty_table.specs.declared.variables.Few.TheVariants.{Empty, One, Two, Three, Four, Many}
-use Rattle.ty_table.specs.TypeAt.{every_variable}
-use Rattle.ty_table.specs.Variables.{has, longer, with_one, with_few, few_of, few_with}
-use Rattle.ir_poly.specs.Types.{over, all_over, in_scope}
+use Rattle.ir_tables.specs.of_ty_table.declared.variables.Few.{Few}
+use Rattle.ir_tables.specs.of_ty_table.declared.variables.Few.TheVariants.{Empty, One, Two, Three, Four, Many}
+use Rattle.ir_tables.specs.of_ty_table.TypeAt.{every_variable}
+use Rattle.ir_tables.specs.of_ty_table.Variables.{has, longer, with_one, with_few, few_of, few_with}
+use Rattle.ir_tables.specs.of_ir_poly.Types.{over, all_over, in_scope}
 use Rattle.ir_known.specs.Few.{few_so}
 use Rattle.ir_known.proofs.Opening.{both-are, and-true, allowed-more, admits-more}
 

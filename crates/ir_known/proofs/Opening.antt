@@ -11,8 +11,8 @@ use Rattle.ty_core.specs.Types.{Symbol, Typ, var, con, Typs, none, more, nodes, 
 use Rattle.ty_core.specs.declared.name.Equality.{Equality}
 use Rattle.ty_core.specs.declared.name.Equality.TheVariants.{Always, ByArguments, Never}
 use Rattle.ty_core.specs.declared.scheme.Quantified.{Quantified}
-use Rattle.ty_table.specs.TypeAt.{type_at, types_at}
-use Rattle.ir_poly.specs.Types.{over, all_over, admits_in, in_scope, is_equality}
+use Rattle.ir_tables.specs.of_ty_table.TypeAt.{type_at, types_at}
+use Rattle.ir_tables.specs.of_ir_poly.Types.{over, all_over, admits_in, in_scope, is_equality}
 use Rattle.ir_known.specs.declared.walk.Question.{Question}
 use Rattle.ir_known.specs.declared.walk.Question.TheVariants.{Over, Admits}
 use Rattle.ir_known.specs.Asked.{Asked, rule_of, so_in, All, total, Opens}

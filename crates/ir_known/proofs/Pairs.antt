@@ -7,7 +7,7 @@ use Rattle.indexmap.specs.IndexSet.{insert_key}
 use mathlib.Core.Logic.{inl, inr}
 use Rattle.ty_core.specs.Types.{Symbol, Typ, var, con, Typs, none, more, nodes, all_nodes}
 use Rattle.ty_core.specs.Statics.{replace, replace_all}
-use Rattle.ty_table.specs.TypeAt.{type_at, types_at, top, tops}
+use Rattle.ir_tables.specs.of_ty_table.TypeAt.{type_at, types_at, top, tops}
 use Rattle.ir_known.specs.Asked.{All, total}
 use Rattle.ir_known.specs.Images.{Pair, IsImage, OpensImage}
 use Rattle.ir_known.proofs.Walks.{Has, Walked, walk-passes, walk-fails, walk-ends}

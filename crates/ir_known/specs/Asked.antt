@@ -4,8 +4,8 @@ use Rattle.ty_core.specs.Types.{Symbol, Typ, admits, attribute, nodes}
 use Rattle.ty_core.specs.declared.name.Equality.{Equality}
 use Rattle.ty_core.specs.declared.name.Equality.TheVariants.{ByArguments}
 use Rattle.ty_core.specs.declared.scheme.Quantified.{Quantified}
-use Rattle.ty_table.specs.TypeAt.{type_at}
-use Rattle.ir_poly.specs.Types.{over, in_scope, admits_in}
+use Rattle.ir_tables.specs.of_ty_table.TypeAt.{type_at}
+use Rattle.ir_tables.specs.of_ir_poly.Types.{over, in_scope, admits_in}
 use Rattle.ir_known.specs.declared.walk.Question.{Question}
 use Rattle.ir_known.specs.declared.walk.Question.TheVariants.{Over, Admits}
 

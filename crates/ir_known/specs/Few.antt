@@ -1,7 +1,7 @@
 -- Few variables, asked one by one.
 use Rattle.std.specs.Prelude.{ℕ, Bool, true, ◌&&◌, Option, Some, None}
-use Rattle.ty_table.specs.declared.variables.Few.{Few}
-use Rattle.ty_table.specs.declared.variables.Few.TheVariants.{Empty, One, Two, Three, Four, Many}
+use Rattle.ir_tables.specs.of_ty_table.declared.variables.Few.{Few}
+use Rattle.ir_tables.specs.of_ty_table.declared.variables.Few.TheVariants.{Empty, One, Two, Three, Four, Many}
 
 -- whether each is so, unless they are many
 abbrev pub few_so : (ℕ → Bool) → Few → Option Bool

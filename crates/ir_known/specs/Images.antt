@@ -3,8 +3,8 @@ use Rattle.std.specs.Prelude.{◌≡◌, ℕ, List, Option, Some, None, nat_eq}
 use Rattle.std.specs.Map.{lookup}
 use Rattle.ty_core.specs.Types.{Typ, var, nodes}
 use Rattle.ty_core.specs.Statics.{replace}
-use Rattle.ty_table.specs.TypeAt.{type_at}
-use Rattle.ir_poly.specs.Types.{unit_type}
+use Rattle.ir_tables.specs.of_ty_table.TypeAt.{type_at}
+use Rattle.ir_tables.specs.of_ir_poly.Types.{unit_type}
 use Rattle.ir_known.specs.declared.image.Rest.{Rest}
 use Rattle.ir_known.specs.declared.image.Rest.TheVariants.{Itself, Unit}
 use Rattle.ir_known.specs.Asked.{OpensBy}

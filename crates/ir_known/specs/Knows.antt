@@ -4,9 +4,9 @@ use Rattle.std.specs.Option.{option_map}
 use Rattle.ty_core.specs.Types.{Typ, var}
 use Rattle.ty_core.specs.declared.mark.Mark.{Mark}
 use Rattle.ty_core.specs.declared.scheme.Quantified.{Quantified}
-use Rattle.ty_table.specs.TypeAt.{type_at}
+use Rattle.ir_tables.specs.of_ty_table.TypeAt.{type_at}
 use Rattle.ir_tables.specs.Tables.{parameters_at}
-use Rattle.ir_poly.specs.TestsChecked as clean
+use Rattle.ir_tables.specs.of_ir_poly.TestsChecked as clean
 use Rattle.ir_known.specs.declared.known.Known.{Known}
 use Rattle.ir_known.specs.declared.known.Known.TheVariants as known
 

@@ -2,16 +2,16 @@
 ghost use Rattle.std.specs.Prelude.{◌≡◌, ◌↔◌, ◌++◌, ℕ, List, zip, length, true, false, IsTrue, IfOk};
 ghost use Rattle.ty_core.specs.Types.{var};
 ghost use Rattle.ty_core.specs.Statics.{replace};
-ghost use Rattle.ty_table.specs.TypeAt.{type_at};
+ghost use Rattle.ir_tables.specs.of_ty_table.TypeAt.{type_at};
 ghost use Rattle.ir_known.specs.Images.{image_of, IsImage, OpensImage};
 
 use crate::ask::{is_unit, same_type};
 use crate::stack::Stack;
 use indexmap::IndexSet;
+use ir_tables::ty_table::types::{Types, View};
 use mlc_base::memory::NoMemory;
 use std::alloc::Global;
 use ty_core::ty::same_head;
-use ty_table::types::{Types, View};
 
 /// What stands for a variable for which no type is put.
 #[derive(Clone, Copy)]

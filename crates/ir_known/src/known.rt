@@ -1,8 +1,8 @@
 // What a variable is.
 ghost use Rattle.std.specs.Prelude.{◌≡◌};
-ghost use Rattle.ty_table.specs.TypeAt.{type_at};
+ghost use Rattle.ir_tables.specs.of_ty_table.TypeAt.{type_at};
 ghost use Rattle.ir_tables.specs.Tables.{parameters_of, parameters_at};
-ghost use Rattle.ir_poly.specs.TestsChecked.{declared};
+ghost use Rattle.ir_tables.specs.of_ir_poly.TestsChecked.{declared};
 ghost use Rattle.ir_known.specs.Knows.{known_of};
 
 use ir_tables::tables::Tables;

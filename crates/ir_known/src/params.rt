@@ -1,6 +1,6 @@
 // Parameters in scope.
 ghost use Rattle.std.specs.Prelude.{◌≡◌, ◌↔◌, ◌++◌, true, false, IsTrue, IfOk, OnErr};
-ghost use Rattle.ir_poly.specs.Types.{are_new, is_declarable};
+ghost use Rattle.ir_tables.specs.of_ir_poly.Types.{are_new, is_declarable};
 ghost use Rattle.ir_known.specs.Knows.{marks_of};
 
 use crate::stack::Stack;

@@ -2,13 +2,13 @@
 use Rattle.std.proofs.Common.{◌≡◌, ℕ, List, [], ◌∷◌, Bool, true, false, Option, Some, None, if◌then◌else◌, nat_eq, nat_lt, option_map, option_and_then, refl, sym, subst, ap, ◌∙◌}
 use Rattle.std.proofs.lemmas.Bool.{eq-eqb, eqb-true}
 use Rattle.mlc_names.specs.declared.label.Label.{Label}
-use Rattle.mlc_prims.specs.LitOf.{Literal}
-use Rattle.mlc_prims.specs.Table.{literal_eq}
-use Rattle.ty_core.specs.Types.{labels, name}
-use Rattle.ty_core.specs.declared.name.TyName.{TyName}
-use Rattle.ir_values.specs.Values.{literal, record_of, con, con_of, address, same_label}
-use Rattle.ir_values.specs.Equality.{both_equal, where_holds, if_equal, Constructed, same_part, same_at, same_fields}
-use Rattle.ir_plain.specs.Meaning.{V, Parts}
+use Rattle.ir_poly.specs.of_mlc_prims.LitOf.{Literal}
+use Rattle.ir_poly.specs.of_mlc_prims.Table.{literal_eq}
+use Rattle.ir_poly.specs.of_ty_core.Types.{labels, name}
+use Rattle.ir_poly.specs.of_ty_core.declared.name.TyName.{TyName}
+use Rattle.ir_poly.specs.of_ir_values.Values.{literal, record_of, con, con_of, address, same_label}
+use Rattle.ir_poly.specs.of_ir_values.Equality.{both_equal, where_holds, if_equal, Constructed, same_part, same_at, same_fields}
+use Rattle.ir_poly.specs.of_ir_plain.Meaning.{V, Parts}
 use Rattle.ir_poly.specs.Types.{int_name, word_name, char_name, string_name, ref_name, exn_name}
 use Rattle.ir_mono.specs.Types.{Row, Node, node, node_at, constructor_at, admits, part, part_of, holds, has_literal, is_named, by_number, Is, IsRef, HasLiteral, has_int, has_word, has_char, has_string, IsOther, other_none, other_more, AreDistinct, distinct_none, distinct_more, AllAdmit, admit_none, admit_more, IsComparable, records_are, named_are, IsTable}
 use Rattle.ir_mono.specs.Mono.{mono}

@@ -1,14 +1,14 @@
 -- Small programs in simple types, by computation: each value keeps the number of its type, and what was made at one type goes wrong at another.
 use Rattle.std.proofs.Common.{◌≡◌, ℕ, List, [], ◌∷◌, Some, None, true, false, pos, refl}
-use Rattle.mlc_runs.specs.Outcome.{End, ended, wrong, Outcome}
+use Rattle.ir_poly.specs.of_mlc_runs.Outcome.{End, ended, wrong, Outcome}
 use Rattle.mlc_names.specs.declared.label.Label.TheVariants.{Number}
-use Rattle.mlc_prims.specs.LitOf.{int}
-use Rattle.mlc_prims.specs.declared.basis.BasisPrimitive.TheVariants.{Equals}
-use Rattle.ty_core.specs.Types.{labels, name}
-use Rattle.ir_values.specs.Values.{literal, con, con_of, record_of, no_fields, field, nil_number, cons_number}
-use Rattle.ir_values.specs.Equality.{same_at}
-use Rattle.ir_plain.specs.Tree.{is_con, no_atoms, an_atom, no_row, a_row, ret, let_in, switch, first, no_arms, arm, Op, const, con_alone, content, refer, make_record, select, prim}
-use Rattle.ir_plain.specs.Meaning.{V, run}
+use Rattle.ir_poly.specs.of_mlc_prims.LitOf.{int}
+use Rattle.ir_poly.specs.of_mlc_prims.declared.basis.BasisPrimitive.TheVariants.{Equals}
+use Rattle.ir_poly.specs.of_ty_core.Types.{labels, name}
+use Rattle.ir_poly.specs.of_ir_values.Values.{literal, con, con_of, record_of, no_fields, field, nil_number, cons_number}
+use Rattle.ir_poly.specs.of_ir_values.Equality.{same_at}
+use Rattle.ir_poly.specs.of_ir_plain.Tree.{is_con, no_atoms, an_atom, no_row, a_row, ret, let_in, switch, first, no_arms, arm, Op, const, con_alone, content, refer, make_record, select, prim}
+use Rattle.ir_poly.specs.of_ir_plain.Meaning.{V, run}
 use Rattle.ir_poly.specs.Types.{bool_name, int_name, exn_name, list_name}
 use Rattle.ir_mono.specs.Types.{Row, node, by_number}
 use Rattle.ir_mono.specs.Mono.{mono, Mono}

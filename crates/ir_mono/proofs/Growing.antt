@@ -4,10 +4,10 @@ use Rattle.std.specs.Prelude.{slice_set}
 use Rattle.std.proofs.lemmas.Bool.{eqb-true, eq-eqb}
 use Rattle.std.specs.Map.{lookup}
 use Rattle.mlc_names.specs.declared.label.Label.{Label}
-use Rattle.mlc_prims.specs.LitOf.{Literal}
-use Rattle.ty_core.specs.Types.{labels, name, Typ, Typs}
-use Rattle.ty_core.specs.declared.name.TyName.{TyName}
-use Rattle.ir_values.specs.Values.{truth_number}
+use Rattle.ir_poly.specs.of_mlc_prims.LitOf.{Literal}
+use Rattle.ir_poly.specs.of_ty_core.Types.{labels, name, Typ, Typs}
+use Rattle.ir_poly.specs.of_ty_core.declared.name.TyName.{TyName}
+use Rattle.ir_poly.specs.of_ir_values.Values.{truth_number}
 use Rattle.ir_mono.specs.Types.{Row, Node, node, node_at, constructor_at, admits, unit_number, bool_number, HasLiteral, has_int, has_word, has_char, has_string, AllAdmit, admit_none, admit_more, Stands, stands_var, stands_con, AllStand, stand_none, stand_more, IsComparable, records_are, named_are, IsTable}
 use Rattle.ir_mono.specs.Growing.{MayCompare, records_may, names_may, IsNewRow, IsNewConstructor, with_constructor}
 

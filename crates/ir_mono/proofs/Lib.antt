@@ -1,3 +1,5 @@
+pub use Rattle.ir_poly.proofs as of_ir_poly
+pub use Rattle.ir_poly.proofs.of_ir_plain as of_ir_plain
 pub mod Values
 pub mod Comparing
 pub mod Rows

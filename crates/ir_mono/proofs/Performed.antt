@@ -2,21 +2,21 @@
 use Rattle.std.proofs.Common.{◌≡◌, ℕ, zero, suc, ◌<◌, List, [], ◌∷◌, ◌++◌, length, Bool, true, false, Option, Some, None, slice_get, if◌then◌else◌, nat_eq, nat_lt, option_map, option_and_then, subst, refl, sym, ap, arith, ◌∙◌}
 use Rattle.std.specs.Prelude.{slice_set, not, ◌||◌}
 use Rattle.std.proofs.lemmas.Bool.{lt-ltb, eq-eqb, eqb-true}
-use Rattle.mlc_runs.specs.Run.{World, Answer, gives, raises, stops, out_of_turns, then_do, or_handle, or_fail, fail, turn_from}
+use Rattle.ir_poly.specs.of_mlc_runs.Run.{World, Answer, gives, raises, stops, out_of_turns, then_do, or_handle, or_fail, fail, turn_from}
 use Rattle.mlc_names.specs.declared.label.Label.{Label}
 use Rattle.mlc_names.specs.declared.label.Label.TheVariants.{Number}
-use Rattle.mlc_prims.specs.LitOf.{Literal, int, word, char, string}
-use Rattle.mlc_prims.specs.PrimOf.{Gives, made}
-use Rattle.mlc_prims.specs.Table.{row_of}
-use Rattle.mlc_prims.specs.declared.prim.PrimExn.{PrimExn}
-use Rattle.mlc_prims.specs.declared.prim.PrimExn.TheVariants.{Overflow, Div, Subscript, Size, Chr}
-use Rattle.mlc_prims.specs.declared.basis.BasisPrimitive.{BasisPrimitive}
-use Rattle.mlc_prims.specs.declared.basis.BasisPrimitive.TheVariants.{Add, Subtract, Multiply, Divide, Modulo, Negate, Less, LessEqual, Greater, GreaterEqual, Equals, Assign, Print}
-use Rattle.ty_core.specs.Types.{Typ, var, name, typs_of}
-use Rattle.ty_core.specs.Marks.{overloaded}
-use Rattle.ir_values.specs.Values.{literal, record_of, cell, address, exn, con, no_fields, field, Fields, field_in, truth_number}
-use Rattle.ir_values.specs.Primitives.{is_overloaded, Sort, compares, assigns, prints, computes, sort_of, begin_at, row_at, literals, parts, arguments, giving, raised_name, perform, perform_as}
-use Rattle.ir_plain.specs.Meaning.{V, Parts}
+use Rattle.ir_poly.specs.of_mlc_prims.LitOf.{Literal, int, word, char, string}
+use Rattle.ir_poly.specs.of_mlc_prims.PrimOf.{Gives, made}
+use Rattle.ir_poly.specs.of_mlc_prims.Table.{row_of}
+use Rattle.ir_poly.specs.of_mlc_prims.declared.prim.PrimExn.{PrimExn}
+use Rattle.ir_poly.specs.of_mlc_prims.declared.prim.PrimExn.TheVariants.{Overflow, Div, Subscript, Size, Chr}
+use Rattle.ir_poly.specs.of_mlc_prims.declared.basis.BasisPrimitive.{BasisPrimitive}
+use Rattle.ir_poly.specs.of_mlc_prims.declared.basis.BasisPrimitive.TheVariants.{Add, Subtract, Multiply, Divide, Modulo, Negate, Less, LessEqual, Greater, GreaterEqual, Equals, Assign, Print}
+use Rattle.ir_poly.specs.of_ty_core.Types.{Typ, var, name, typs_of}
+use Rattle.ir_poly.specs.of_ty_core.Marks.{overloaded}
+use Rattle.ir_poly.specs.of_ir_values.Values.{literal, record_of, cell, address, exn, con, no_fields, field, Fields, field_in, truth_number}
+use Rattle.ir_poly.specs.of_ir_values.Primitives.{is_overloaded, Sort, compares, assigns, prints, computes, sort_of, begin_at, row_at, literals, parts, arguments, giving, raised_name, perform, perform_as}
+use Rattle.ir_poly.specs.of_ir_plain.Meaning.{V, Parts}
 use Rattle.ir_poly.specs.Types.{int_name, word_name, char_name, string_name, bool_name, prim_type}
 use Rattle.ir_mono.specs.Types.{Row, Is, IsRef, HasLiteral, has_int, has_word, has_char, has_string, distinct_none, Stands, stands_var, stands_con, AllStand, stand_none, stand_more, IsTable, IsTuple, nothing, alone, together, by_number, numbered, bool_number, unit_number}
 use Rattle.ir_mono.specs.Mono.{mono}
@@ -91,7 +91,7 @@ module _ (types : List Row) where
   pushed {S} {w} {v} {t} k h = record { store = push-stored (store-grows (more-stored S t) k.store) (value-grows types (more-stored S t) h); exceptions = k.exceptions }
 
   -- a new reference
-  pub reference-fine : {S : Shape} {v : W} {a n : ℕ} (w : World W) → IsRef types n a → ValueTyped types S v a → WorldTyped types S w → Fine (OfType n) S (Rattle.ir_values.specs.Primitives.make_reference (by_number types) a v w)
+  pub reference-fine : {S : Shape} {v : W} {a n : ℕ} (w : World W) → IsRef types n a → ValueTyped types S v a → WorldTyped types S w → Fine (OfType n) S (Rattle.ir_poly.specs.of_ir_values.Primitives.make_reference (by_number types) a v w)
   reference-fine {S} {a = a} w e h k = fine_gives (more-stored S a) (pushed k h) (address_is (at-end a k.store) e)
 
   if-true : {A : Type 0} {Q : Shape → A → Type 0} {S : Shape} (b : Bool) (r q : Answer W A) → b ≡ true → Fine Q S r → Fine Q S (if b then r else q)
@@ -236,7 +236,7 @@ module _ (types : List Row) where
         go (stand_more stands_var (stand_more stands_var stand_none)) (a_value_is x (a_value_is y no_values_are)) = compared-fine w (same-answers types table S x y (table.comparable u a.mark)) (truth-result a.result) k
 
     assign-fine : {S : Shape} {u n : ℕ} (i : ℕ) {v : W} (w : World W) → slice_get S.store i ≡ Some u → ValueTyped types S v u → Stands types (λ x. u) n Rattle.ir_poly.specs.Types.unit_type → WorldTyped types S w
-        → Fine (OfType n) S (Rattle.mlc_runs.specs.Run.assign i (cell u v) w (gives (Rattle.ir_values.specs.Values.unit_value (by_number types))))
+        → Fine (OfType n) S (Rattle.ir_poly.specs.of_mlc_runs.Run.assign i (cell u v) w (gives (Rattle.ir_poly.specs.of_ir_values.Values.unit_value (by_number types))))
     assign-fine i w e h r k = if-true (nat_lt i (length w.store)) _ _ (lt-ltb i (length w.store) (in-store i k.store e)) (here (record { store = set-stored i k.store e h; exceptions = k.exceptions }) (unit-typed r))
 
     assigns-fine : {S : Shape} {u n : ℕ} {ns : List ℕ} {vs : List W} (w : World W) → PrimAt types Assign u ns n → ValuesTyped types S vs ns → WorldTyped types S w → Fine (OfType n) S (perform_as (by_number types) assigns u Assign vs w)

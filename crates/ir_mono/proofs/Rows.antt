@@ -2,16 +2,16 @@
 use Rattle.std.proofs.Common.{◌≡◌, ℕ, zero, suc, Bool, true, false, List, [], ◌∷◌, Option, Some, None, if◌then◌else◌, refl, ℤ, pos, negsuc}
 use Rattle.std.specs.Prelude.{◌==◌, ◌+ℤ◌, ◌-ℤ◌, ◌*ℤ◌, neg_ℤ, int_lt, int_div, nat_lt}
 use Rattle.word_arithmetic.specs.Arithmetic.{floor_div}
-use Rattle.mlc_prims.specs.LitOf.{Literal, int, word, char, string, truth}
-use Rattle.mlc_prims.specs.PrimOf.{Gives, made, raised, exact, int_result, fits_int, joined}
-use Rattle.mlc_prims.specs.Table.{row_of, unless_zero, unless_none, or_subscript, character, byte_at, bytes_from}
-use Rattle.mlc_prims.specs.declared.prim.PrimExn.{PrimExn}
-use Rattle.mlc_prims.specs.declared.basis.BasisPrimitive.{BasisPrimitive}
-use Rattle.mlc_prims.specs.declared.basis.BasisPrimitive.TheVariants.{Add, Subtract, Multiply, Divide, Modulo, Negate, Absolute, Less, LessEqual, Greater, GreaterEqual, Equals, Assign, Quotient, Remainder, BitsAnd, BitsOr, BitsXor, BitsNot, ShiftLeft, ShiftRight, ShiftSigned, ToInt, ToIntSigned, FromInt, CharCode, CharOf, TextOf, SizeOf, CharAt, PartOf, Concat, StringOf, Print}
-use Rattle.ty_core.specs.Types.{Typ, var, name}
-use Rattle.ty_core.specs.Marks.{has, overloaded}
-use Rattle.ty_core.specs.declared.mark.Class.{Class}
-use Rattle.ir_values.specs.Primitives.{sort_of, computes}
+use Rattle.ir_poly.specs.of_mlc_prims.LitOf.{Literal, int, word, char, string, truth}
+use Rattle.ir_poly.specs.of_mlc_prims.PrimOf.{Gives, made, raised, exact, int_result, fits_int, joined}
+use Rattle.ir_poly.specs.of_mlc_prims.Table.{row_of, unless_zero, unless_none, or_subscript, character, byte_at, bytes_from}
+use Rattle.ir_poly.specs.of_mlc_prims.declared.prim.PrimExn.{PrimExn}
+use Rattle.ir_poly.specs.of_mlc_prims.declared.basis.BasisPrimitive.{BasisPrimitive}
+use Rattle.ir_poly.specs.of_mlc_prims.declared.basis.BasisPrimitive.TheVariants.{Add, Subtract, Multiply, Divide, Modulo, Negate, Absolute, Less, LessEqual, Greater, GreaterEqual, Equals, Assign, Quotient, Remainder, BitsAnd, BitsOr, BitsXor, BitsNot, ShiftLeft, ShiftRight, ShiftSigned, ToInt, ToIntSigned, FromInt, CharCode, CharOf, TextOf, SizeOf, CharAt, PartOf, Concat, StringOf, Print}
+use Rattle.ir_poly.specs.of_ty_core.Types.{Typ, var, name}
+use Rattle.ir_poly.specs.of_ty_core.Marks.{has, overloaded}
+use Rattle.ir_poly.specs.of_ty_core.declared.mark.Class.{Class}
+use Rattle.ir_poly.specs.of_ir_values.Primitives.{sort_of, computes}
 use Rattle.ir_poly.specs.Types.{of_name, bool_name, prim_type}
 use Rattle.ir_mono.specs.Types.{Row, Is}
 use Rattle.ir_mono.specs.Typing.{IsOf, Allows}

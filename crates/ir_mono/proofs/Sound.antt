@@ -1,15 +1,15 @@
 -- A well formed program goes wrong at no number of turns.
 use Rattle.std.proofs.Common.{◌≡◌, ℕ, zero, suc, List, [], ◌∷◌, ◌++◌, length, Bool, true, false, Option, Some, None, slice_get, if◌then◌else◌, nat_eq, subst, refl, sym, ap, ◌∙◌, arith}
 use Rattle.std.proofs.lemmas.Bool.{eq-eqb, ltb-true}
-use Rattle.mlc_runs.specs.Outcome.{wrong}
-use Rattle.mlc_runs.specs.Run.{World, Answer, gives, start, then_do, or_handle, or_fail, fail, turn_from, outcome_of}
+use Rattle.ir_poly.specs.of_mlc_runs.Outcome.{wrong}
+use Rattle.ir_poly.specs.of_mlc_runs.Run.{World, Answer, gives, start, then_do, or_handle, or_fail, fail, turn_from, outcome_of}
 use Rattle.mlc_names.specs.declared.label.Label.{Label}
 use Rattle.mlc_base.specs.declared.place.Place.{Place}
-use Rattle.ir_values.specs.Values.{Value, cell, exn, closure, empty, record_of, packet_name}
-use Rattle.ir_values.specs.Match.{after_match}
-use Rattle.ir_values.specs.Primitives.{marked, content_of, raise_value}
-use Rattle.ir_plain.specs.Tree.{Exp, Arms, Op, Fun, Row, Atoms, Exception}
-use Rattle.ir_plain.specs.Meaning.{alone, V, Scope, Fits, Parts, Apply, look_all, look_row, in_front, field_in_front, on_name, exception_of, pack_value, select_from, read_reference, eval, eval_arms, eval_op, run_fun, enter, apply, identifier_of, run}
+use Rattle.ir_poly.specs.of_ir_values.Values.{Value, cell, exn, closure, empty, record_of, packet_name}
+use Rattle.ir_poly.specs.of_ir_values.Match.{after_match}
+use Rattle.ir_poly.specs.of_ir_values.Primitives.{marked, content_of, raise_value}
+use Rattle.ir_poly.specs.of_ir_plain.Tree.{Exp, Arms, Op, Fun, Row, Atoms, Exception}
+use Rattle.ir_poly.specs.of_ir_plain.Meaning.{alone, V, Scope, Fits, Parts, Apply, look_all, look_row, in_front, field_in_front, on_name, exception_of, pack_value, select_from, read_reference, eval, eval_arms, eval_op, run_fun, enter, apply, identifier_of, run}
 use Rattle.ir_mono.specs.Types as table
 use Rattle.ir_mono.specs.Types.{part, by_number, Is, IsFunction, IsRef, IsExn, IsTable}
 use Rattle.ir_mono.specs.Mono.{mono, Program, meaning}
@@ -94,7 +94,7 @@ module _ (types : List table.Row) (sound : IsTable types) (bare : Bool) where
   packed-fine : {S : Shape} {o : Option W} {a n : ℕ} {v : W} (m : Option Place) (w : World W) → Found types S (exception (Some a)) o → ValueTyped types S v a → IsExn types n → WorldTyped types S w → Fine types (OfType types n) S (or_fail o w (pack_value m a v w))
   packed-fine m w (found (name_is e)) h i k = marked-fine m w _ k (λ w' l. here types l (exn_of_is e h i))
 
-  alone-typed : {S : Shape} {c u t : ℕ} {a : Option ℕ} → table.constructor_at types u c ≡ Some a → tt.AloneAt types a u t → S.bare ≡ bare → Unless bare (table.constructor_at types u c ≡ Some None) → ValueTyped types S (Rattle.ir_values.specs.Values.con u c) t
+  alone-typed : {S : Shape} {c u t : ℕ} {a : Option ℕ} → table.constructor_at types u c ≡ Some a → tt.AloneAt types a u t → S.bare ≡ bare → Unless bare (table.constructor_at types u c ≡ Some None) → ValueTyped types S (Rattle.ir_poly.specs.of_ir_values.Values.con u c) t
   alone-typed e value_at z y = con_is e
   alone-typed {c = c} {u = u} e (function_at {a = a} h) z y = con_function_is (z ∙ bare-holds bare y (λ q. let p : table.constructor_at types u c ≡ Some (Some a) = e in cc)) e h
 
@@ -227,7 +227,7 @@ module _ (types : List table.Row) (sound : IsTable types) (bare : Bool) where
   enter-fine go h S place f v w n a b beg i (con_function_is {c = c} {g = g} {a = a'} z_ d j) q k =
       let arg : a ≡ a' = cc in
       let res : g ≡ b = cc in
-      subst (λ z. Fine types (OfType types z) S (enter go place (Rattle.ir_values.specs.Values.con g c) v w)) res (turn-fine w.left place w _ k (λ w' l. here types l (con_of_is d (moved arg q))))
+      subst (λ z. Fine types (OfType types z) S (enter go place (Rattle.ir_poly.specs.of_ir_values.Values.con g c) v w)) res (turn-fine w.left place w _ k (λ w' l. here types l (con_of_is d (moved arg q))))
   enter-fine go h S place f v w n a b beg i (exn_function_is {i = x} {a = a'} {e = e} z_ d j z) q k =
       let arg : a ≡ a' = cc in
       let res : e ≡ b = cc in
@@ -235,11 +235,11 @@ module _ (types : List table.Row) (sound : IsTable types) (bare : Bool) where
   enter-fine go h S place f v w n a b beg i (ref_is {a = a'} {r = r} z_ j z) q k =
       let arg : a ≡ a' = cc in
       let res : r ≡ b = cc in
-      subst (λ z. Fine types (OfType types z) S (enter go place (Rattle.ir_values.specs.Values.ref a') v w)) res (turn-fine w.left place w _ k (λ w' l. reference-fine types w' z (moved arg q) l))
+      subst (λ z. Fine types (OfType types z) S (enter go place (Rattle.ir_poly.specs.of_ir_values.Values.ref a') v w)) res (turn-fine w.left place w _ k (λ w' l. reference-fine types w' z (moved arg q) l))
   enter-fine go h S place f v w n a b beg i (primitive_is {p = p} {u = u} {a = a'} {r = r} z_ d t j) q k =
       let arg : a ≡ a' = cc in
       let res : r ≡ b = cc in
-      subst (λ z. Fine types (OfType types z) S (enter go place (Rattle.ir_values.specs.Values.primitive u p) v w)) res
+      subst (λ z. Fine types (OfType types z) S (enter go place (Rattle.ir_poly.specs.of_ir_values.Values.primitive u p) v w)) res
       (turn-fine w.left place w _ k (λ w' l. perform-fine types sound p w' beg.begun d (arguments-typed types sound p d t (moved arg q)) l))
   enter-fine go h S place f v w n a b beg i (closure_is {f = g} {G = G} env d x z) q k = turn-fine w.left place w _ k (λ w' l. h S _ _ v _ w' n a b beg i x (asked-out (FunExplicit types G g) beg z) q env l)
   enter-fine go h S place f v w n a b beg i (group_is {f = g} {fs = gs} {G = G} env fs d x y z) q k = turn-fine w.left place w _ k (λ w' l. h S _ _ v _ w' n a b beg i x (asked-out (FunExplicit types (group_sorts types gs G) g) beg z) q (members-typed types S env fs fs refl y y) l)

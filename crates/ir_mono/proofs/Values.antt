@@ -1,16 +1,16 @@
 -- What is stored and which exceptions are made only grows; what a typed value is, and what arms find of it.
 use Rattle.std.proofs.Common.{◌≡◌, ℕ, suc, List, [], ◌∷◌, length, Bool, true, false, Option, Some, None, slice_get, if◌then◌else◌, nat_eq, nat_lt, subst, sym, refl, ap, ◌∙◌, arith}
 use Rattle.std.proofs.lemmas.Bool.{eqb-true, eq-eqb, ltb-true}
-use Rattle.mlc_runs.specs.Run.{World}
+use Rattle.ir_poly.specs.of_mlc_runs.Run.{World}
 use Rattle.mlc_names.specs.declared.label.Label.{Label}
-use Rattle.mlc_prims.specs.LitOf.{Literal}
-use Rattle.mlc_prims.specs.Table.{literal_eq}
-use Rattle.ty_core.specs.Types.{labels, name}
-use Rattle.ty_core.specs.declared.name.TyName.{TyName}
-use Rattle.ir_values.specs.Values.{record_of, con, con_of, exn, exn_of, cell, closure, same_label, field_in, count}
-use Rattle.ir_values.specs.Match.{matches, no_match, mismatch, where_same, against_literal, against_con, under_con, against_exn, under_exn, under_record, match_at, of_size}
-use Rattle.ir_plain.specs.Tree.{Fun, Funs, Case}
-use Rattle.ir_plain.specs.Meaning.{V, Scope, Fits, Parts, one_of, look_up, members_from, check}
+use Rattle.ir_poly.specs.of_mlc_prims.LitOf.{Literal}
+use Rattle.ir_poly.specs.of_mlc_prims.Table.{literal_eq}
+use Rattle.ir_poly.specs.of_ty_core.Types.{labels, name}
+use Rattle.ir_poly.specs.of_ty_core.declared.name.TyName.{TyName}
+use Rattle.ir_poly.specs.of_ir_values.Values.{record_of, con, con_of, exn, exn_of, cell, closure, same_label, field_in, count}
+use Rattle.ir_poly.specs.of_ir_values.Match.{matches, no_match, mismatch, where_same, against_literal, against_con, under_con, against_exn, under_exn, under_record, match_at, of_size}
+use Rattle.ir_poly.specs.of_ir_plain.Tree.{Fun, Funs, Case}
+use Rattle.ir_poly.specs.of_ir_plain.Meaning.{V, Scope, Fits, Parts, one_of, look_up, members_from, check}
 use Rattle.ir_poly.specs.Types.{int_name, word_name, char_name, string_name, ref_name, exn_name}
 use Rattle.ir_poly.specs.TestsChecked.{is_size}
 use Rattle.ir_mono.specs.Types.{Row, constructor_at, part, by_number, Is, IsExn, HasLiteral, has_int, has_word, has_char, has_string, IsTable}

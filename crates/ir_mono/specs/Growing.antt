@@ -2,8 +2,8 @@
 use Rattle.std.specs.Prelude.{◌≡◌, ℕ, true, List, [], ◌∷◌, ◌++◌, length, Option, Some, None, nat_eq, nat_lt, slice_get, slice_set}
 use Rattle.std.specs.Map.{lookup}
 use Rattle.mlc_names.specs.declared.label.Label.{Label}
-use Rattle.ty_core.specs.Types.{labels, name, Typ}
-use Rattle.ty_core.specs.declared.name.TyName.{TyName}
+use Rattle.ir_poly.specs.of_ty_core.Types.{labels, name, Typ}
+use Rattle.ir_poly.specs.of_ty_core.declared.name.TyName.{TyName}
 use Rattle.ir_poly.specs.Types.{exn_name}
 use Rattle.ir_mono.specs.Types.{Row, Node, node, node_at, constructor_at, admits, AllAdmit, Stands, IsTable}
 

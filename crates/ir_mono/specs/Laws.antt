@@ -1,9 +1,9 @@
 -- What simple types give.
 use Rattle.std.specs.Prelude.{◌≡◌, ℕ, Bool, true, List, [], Some}
-use Rattle.mlc_runs.specs.Outcome.{wrong}
-use Rattle.ir_plain.specs.Scoped.{IsBound}
-use Rattle.ir_values.specs.Equality.{same_at}
-use Rattle.ir_plain.specs.Meaning.{V}
+use Rattle.ir_poly.specs.of_mlc_runs.Outcome.{wrong}
+use Rattle.ir_poly.specs.of_ir_plain.Scoped.{IsBound}
+use Rattle.ir_poly.specs.of_ir_values.Equality.{same_at}
+use Rattle.ir_poly.specs.of_ir_plain.Meaning.{V}
 use Rattle.ir_mono.specs.Types.{Row, IsTable, admits, by_number}
 use Rattle.ir_mono.specs.Mono.{mono, Program, meaning}
 use Rattle.ir_mono.specs.Values.{Shape, ValueTyped}

@@ -1,9 +1,9 @@
 -- The plain-order tree with simple types: a variable is a number, a type its number in the program's table, and values keep the numbers of their types.
 use Rattle.std.specs.Prelude.{ℕ, List, nat_eq, ⊤}
-use Rattle.mlc_runs.specs.Outcome.{Outcome}
-use Rattle.ir_plain.specs.Kind.{Kind}
-use Rattle.ir_plain.specs.Tree.{Exp}
-use Rattle.ir_plain.specs.Meaning as plain
+use Rattle.ir_poly.specs.of_mlc_runs.Outcome.{Outcome}
+use Rattle.ir_poly.specs.of_ir_plain.Kind.{Kind}
+use Rattle.ir_poly.specs.of_ir_plain.Tree.{Exp}
+use Rattle.ir_poly.specs.of_ir_plain.Meaning as plain
 use Rattle.ir_mono.specs.Types.{Row, by_number}
 
 abbrev pub mono : List Row → Kind

@@ -5,11 +5,11 @@ use Rattle.std.specs.Map.{lookup}
 use Rattle.std.specs.Prelude.{slice_get}
 use Rattle.mlc_names.specs.declared.label.Label.{Label}
 use Rattle.mlc_names.specs.declared.label.Label.TheVariants.{Number}
-use Rattle.mlc_prims.specs.LitOf.{Literal, int, word, char, string, truth}
-use Rattle.ty_core.specs.Types.{Symbol, arrow, labels, name, Typ, var, con, Typs, none, more}
-use Rattle.ty_core.specs.declared.name.TyName.{TyName}
-use Rattle.ir_values.specs.Tags.{Tagging}
-use Rattle.ir_values.specs.Values.{same_label, truth_number}
+use Rattle.ir_poly.specs.of_mlc_prims.LitOf.{Literal, int, word, char, string, truth}
+use Rattle.ir_poly.specs.of_ty_core.Types.{Symbol, arrow, labels, name, Typ, var, con, Typs, none, more}
+use Rattle.ir_poly.specs.of_ty_core.declared.name.TyName.{TyName}
+use Rattle.ir_poly.specs.of_ir_values.Tags.{Tagging}
+use Rattle.ir_poly.specs.of_ir_values.Values.{same_label, truth_number}
 use Rattle.ir_poly.specs.Types.{int_name, word_name, char_name, string_name, ref_name, exn_name, bool_name}
 
 pub data Node : Type 0 where

@@ -2,12 +2,12 @@
 -- and a primitive are functions too.
 use Rattle.std.specs.Prelude.{◌≡◌, ℕ, Bool, true, List, [], ◌∷◌, Option, Some, None, slice_get}
 use Rattle.mlc_names.specs.declared.label.Label.{Label}
-use Rattle.mlc_prims.specs.LitOf.{Literal}
-use Rattle.mlc_prims.specs.declared.basis.BasisPrimitive.{BasisPrimitive}
-use Rattle.ty_core.specs.Types.{labels}
-use Rattle.ir_values.specs.Values.{literal, record_of, con, con_of, exn, exn_of, ref, address, primitive, closure, no_fields, field, empty, bind}
-use Rattle.ir_plain.specs.Tree.{Fun, Funs}
-use Rattle.ir_plain.specs.Meaning.{V, Scope, Parts, alone, one_of, argument_tag}
+use Rattle.ir_poly.specs.of_mlc_prims.LitOf.{Literal}
+use Rattle.ir_poly.specs.of_mlc_prims.declared.basis.BasisPrimitive.{BasisPrimitive}
+use Rattle.ir_poly.specs.of_ty_core.Types.{labels}
+use Rattle.ir_poly.specs.of_ir_values.Values.{literal, record_of, con, con_of, exn, exn_of, ref, address, primitive, closure, no_fields, field, empty, bind}
+use Rattle.ir_poly.specs.of_ir_plain.Tree.{Fun, Funs}
+use Rattle.ir_poly.specs.of_ir_plain.Meaning.{V, Scope, Parts, alone, one_of, argument_tag}
 use Rattle.ir_mono.specs.Types.{Row, constructor_at, Is, IsFunction, IsRef, IsExn, HasLiteral, AreDistinct, IsTuple}
 use Rattle.ir_mono.specs.Mono.{mono}
 use Rattle.ir_mono.specs.Explicit.{Unless, FunExplicit, FunsExplicit}

@@ -1,7 +1,7 @@
 -- Which programs are well formed: typed, each variable bound once, and only a use and an exception's name that is brought in reach into functions around.
 use Rattle.std.specs.Prelude.{◌≡◌, ℕ, false, [], length}
-use Rattle.ir_plain.specs.Once.{IsOnce}
-use Rattle.ir_plain.specs.Scoped.{IsLocal}
+use Rattle.ir_poly.specs.of_ir_plain.Once.{IsOnce}
+use Rattle.ir_poly.specs.of_ir_plain.Scoped.{IsLocal}
 use Rattle.ir_mono.specs.Types.{IsTable}
 use Rattle.ir_mono.specs.Mono.{mono, Program}
 use Rattle.ir_mono.specs.Typing.{Typed}

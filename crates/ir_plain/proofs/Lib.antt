@@ -1,3 +1,4 @@
+pub use Rattle.ir_values.proofs as of_ir_values
 pub mod CopiesLemmas
 pub mod UniqueLemmas
 pub mod WeightLemmas

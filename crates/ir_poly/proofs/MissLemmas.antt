@@ -1,10 +1,10 @@
 -- What a checker accepts where no miss goes on doesn't miss.
 use Rattle.std.proofs.Common.{◌≡◌, false, List, Option, Some, refl, ap}
 use mathlib.Core.Path.{fun_ext}
-use Rattle.mlc_runs.specs.Run.{World, Answer, gives, raises, stops, then_do}
+use Rattle.ir_plain.specs.of_mlc_runs.Run.{World, Answer, gives, raises, stops, then_do}
 use Rattle.ty_core.specs.Types.{Typ}
 use Rattle.ty_core.specs.declared.scheme.Quantified.{Quantified}
-use Rattle.ir_values.specs.Values.{exn, bind}
+use Rattle.ir_plain.specs.of_ir_values.Values.{exn, bind}
 use Rattle.ir_plain.specs.Tree.{Exp}
 use Rattle.ir_plain.specs.Meaning.{V, Scope, Apply, Go, members, on_name, exception_of, eval, eval_op}
 use Rattle.ir_poly.specs.Tests.{poly}

@@ -1,10 +1,10 @@
 -- What a checker accepts of a program with source matches is typed whatever its parameters stand for.
 use Rattle.std.proofs.Common.{◌≡◌, ℕ, true, List, [], ◌∷◌, ◌++◌, Option, refl, sym, ap, subst, ◌∙◌}
-use Rattle.mlc_names.specs.declared.label.Label.{Label}
+use Rattle.ir_plain.specs.of_mlc_names.declared.label.Label.{Label}
 use Rattle.ty_core.specs.Types.{Typ, con, name, typs_of}
 use Rattle.ty_core.specs.Statics.{replace}
 use Rattle.ty_core.specs.declared.scheme.Quantified.{Quantified}
-use Rattle.ir_values.specs.Values.{same_label}
+use Rattle.ir_plain.specs.of_ir_values.Values.{same_label}
 use Rattle.ir_poly.specs.Prog.{Exc, Pat, PatFields, Exp, type_of, Fields, Chain, Rules, Fun, Decs, Binds, Funs}
 use Rattle.ir_poly.specs.ProgMeaning.{size_of}
 use Rattle.ir_poly.specs.ProgChecked.{pat_onto, pats_onto, each_onto, funs_onto, binds_onto, ExcChecked, fixed_checked, held_checked, PatChecked, any_checked, variable_checked, constant_checked, con_checked, con_of_checked, ref_of_checked, exn_checked, exn_of_checked, fields_checked, as_checked, PatsChecked, no_pats_checked, a_pat_checked, Checked, c_constant, c_variable, c_variable_one, c_own, c_con, c_ref, c_exn, c_prim, c_fields, c_let, c_app, c_case, c_chain, c_handle, c_raise, c_fn, c_counted, FieldsChecked, c_no_fields, c_field, ChainChecked, c_only, c_link, RulesChecked, c_no_rules, c_rule, FunChecked, c_last, c_by_rules, c_more, DecsChecked, c_no_decs, c_val, c_exception, c_exception_alone, c_counted_dec, BindsChecked, c_no_binds, c_general, c_plain, FunsChecked, c_no_funs, c_fun}

@@ -2,9 +2,9 @@
 use Rattle.std.proofs.Common.{◌≡◌, ℕ, zero, suc, Bool, true, false, not, ◌&&◌, ◌||◌, List, [], ◌∷◌, ◌++◌, map, length, Option, Some, None, nat_eq, if◌then◌else◌, refl, sym, ap, subst, ◌∙◌}
 use Rattle.std.proofs.lemmas.Bool.{eqb-true}
 use Rattle.std.specs.Map.{lookup}
-use Rattle.mlc_names.specs.declared.label.Label.{Label}
-use Rattle.mlc_names.specs.declared.label.Label.TheVariants.{Number}
-use Rattle.mlc_prims.specs.declared.basis.BasisPrimitive.{BasisPrimitive}
+use Rattle.ir_plain.specs.of_mlc_names.declared.label.Label.{Label}
+use Rattle.ir_plain.specs.of_mlc_names.declared.label.Label.TheVariants.{Number}
+use Rattle.ir_plain.specs.of_mlc_prims.declared.basis.BasisPrimitive.{BasisPrimitive}
 use Rattle.ty_core.specs.Types.{Typ, var, con, Typs, none, more, typs_of, admits, all_admit, attribute, allowed, no_variable}
 use Rattle.ty_core.specs.Marks.{Allows}
 use Rattle.ty_core.specs.Statics.{replace, replace_all}

@@ -1,9 +1,9 @@
 -- Tests: a generalised function at two types, well typed and run; and for each rule of typing a program that it refuses.
 use Rattle.std.proofs.Common.{◌≡◌, ℕ, Bool, false, List, [], ◌∷◌, Option, Some, None, pos, ap, refl, arith}
-use Rattle.mlc_runs.specs.Outcome.{ended, going}
+use Rattle.ir_plain.specs.of_mlc_runs.Outcome.{ended, going}
 use Rattle.mlc_base.specs.declared.place.Place.{Place}
-use Rattle.mlc_prims.specs.LitOf.{int, string}
-use Rattle.mlc_prims.specs.declared.basis.BasisPrimitive.TheVariants.{Equals, Print}
+use Rattle.ir_plain.specs.of_mlc_prims.LitOf.{int, string}
+use Rattle.ir_plain.specs.of_mlc_prims.declared.basis.BasisPrimitive.TheVariants.{Equals, Print}
 use Rattle.ty_core.specs.Types.{Typ, var}
 use Rattle.ty_core.specs.declared.mark.Mark.TheVariants.{Any}
 use Rattle.ty_core.specs.declared.scheme.Quantified.{Quantified}

@@ -1,11 +1,11 @@
 -- What a checker accepts is typed whatever its parameters stand for.
 use Rattle.std.proofs.Common.{◌≡◌, ℕ, Bool, true, false, List, [], ◌∷◌, ◌++◌, map, Option, Some, None, nat_eq, if◌then◌else◌, refl, ap, subst, ◌∙◌}
-use Rattle.mlc_names.specs.declared.label.Label.{Label}
-use Rattle.mlc_prims.specs.LitOf.{Literal}
+use Rattle.ir_plain.specs.of_mlc_names.declared.label.Label.{Label}
+use Rattle.ir_plain.specs.of_mlc_prims.LitOf.{Literal}
 use Rattle.ty_core.specs.Types.{Typ, var, con, name}
 use Rattle.ty_core.specs.Statics.{replace}
 use Rattle.ty_core.specs.declared.scheme.Quantified.{Quantified}
-use Rattle.ir_values.specs.Values.{same_label}
+use Rattle.ir_plain.specs.of_ir_values.Values.{same_label}
 use Rattle.ir_plain.specs.Tree.{Case, Exception, Atoms, Row, Exp, Arms, Op, Fun, Funs}
 use Rattle.ir_poly.specs.Tests.{Use, poly}
 use Rattle.ir_poly.specs.Types.{ascend, in_scope, over, are_new, changed, AreAllowed, Constructor, prim_type, arguments_at}

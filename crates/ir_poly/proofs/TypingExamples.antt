@@ -1,11 +1,11 @@
 -- Small programs that are well typed, and for each rule one that it refuses.
 use Rattle.std.proofs.Common.{◌≡◌, ℕ, Bool, true, false, List, [], ◌∷◌, Some, None, pos, length, ap, refl, arith}
 use Rattle.std.proofs.lemmas.Bool.{eqb-true}
-use Rattle.mlc_names.specs.declared.label.Label.{Label}
-use Rattle.mlc_names.specs.declared.label.Label.TheVariants.{Number}
+use Rattle.ir_plain.specs.of_mlc_names.declared.label.Label.{Label}
+use Rattle.ir_plain.specs.of_mlc_names.declared.label.Label.TheVariants.{Number}
 use Rattle.mlc_base.specs.declared.place.Place.{Place}
-use Rattle.mlc_prims.specs.LitOf.{int, string}
-use Rattle.mlc_prims.specs.declared.basis.BasisPrimitive.TheVariants.{Add, Equals}
+use Rattle.ir_plain.specs.of_mlc_prims.LitOf.{int, string}
+use Rattle.ir_plain.specs.of_mlc_prims.declared.basis.BasisPrimitive.TheVariants.{Add, Equals}
 use Rattle.ty_core.specs.Types.{Typ, con, var, none, more, name}
 use Rattle.ty_core.specs.declared.mark.Mark.TheVariants.{Any, Class}
 use Rattle.ty_core.specs.declared.name.Equality.TheVariants.{Always}
@@ -14,7 +14,7 @@ use Rattle.ir_poly.specs.Prog.{fixed, held, any_pat, variable_pat, con_pat, con_
 use Rattle.ir_poly.specs.ProgOnce.{IsOnce}
 use Rattle.ir_poly.specs.ProgChecked.{fixed_checked, held_checked, PatChecked, any_checked, variable_checked, con_checked, con_of_checked, exn_checked, exn_of_checked, fields_checked, no_pats_checked, a_pat_checked, Checked, c_constant, c_variable, c_variable_one, c_own, c_con, c_exn, c_prim, c_fields, c_let, c_app, c_case, c_chain, c_handle, c_raise, c_fn, c_no_fields, c_field, c_only, c_link, c_no_rules, c_rule, c_last, DecsChecked, c_no_decs, c_val, c_exception, c_no_binds, c_general, c_plain, c_no_funs, c_fun}
 use Rattle.ir_poly.specs.TestsChecked.{of_type, general, exception, Knowns, exn_type, HasLiteral, has_int, has_string, is_size}
-use Rattle.ir_values.specs.Values.{true_number, nil_number, cons_number}
+use Rattle.ir_plain.specs.of_ir_values.Values.{true_number, nil_number, cons_number}
 use Rattle.ir_poly.specs.Types.{int_name, string_name, exn_name, bool_name, list_name, of_name, function_type, ref_type, row_type, pair_type, Constructor, constructor_of, initial_constructors, IsConstructor}
 use Rattle.ir_poly.specs.WellFormed.{IsProg}
 

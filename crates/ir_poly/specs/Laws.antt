@@ -1,6 +1,6 @@
 -- What is claimed of the two shapes.
 use Rattle.std.specs.Prelude.{◌≡◌, ℕ, Bool, true, false, List, []}
-use Rattle.mlc_runs.specs.Run.{World}
+use Rattle.ir_plain.specs.of_mlc_runs.Run.{World}
 use Rattle.ty_core.specs.Types.{Typ, admits, no_variable}
 use Rattle.ty_core.specs.Statics.{replace}
 use Rattle.ty_core.specs.declared.scheme.Quantified.{Quantified}

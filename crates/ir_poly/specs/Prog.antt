@@ -2,10 +2,10 @@
 -- `ty_core`: their variables are the parameters of declarations. A type stands at each expression, and at each part of a pattern that of what it is matched
 -- with.
 use Rattle.std.specs.Prelude.{ℕ, suc, Bool, true, false, ◌&&◌, List, Option}
-use Rattle.mlc_names.specs.declared.label.Label.{Label}
+use Rattle.ir_plain.specs.of_mlc_names.declared.label.Label.{Label}
 use Rattle.mlc_base.specs.declared.place.Place.{Place}
-use Rattle.mlc_prims.specs.LitOf.{Literal}
-use Rattle.mlc_prims.specs.declared.basis.BasisPrimitive.{BasisPrimitive}
+use Rattle.ir_plain.specs.of_mlc_prims.LitOf.{Literal}
+use Rattle.ir_plain.specs.of_mlc_prims.declared.basis.BasisPrimitive.{BasisPrimitive}
 use Rattle.ty_core.specs.Types.{Typ}
 use Rattle.ty_core.specs.declared.name.TyName.{TyName}
 use Rattle.ty_core.specs.declared.scheme.Quantified.{Quantified}

@@ -1,17 +1,17 @@
 -- What a program with source matches does. [Definition 6.7] Types and weights are ignored. A phrase is evaluated left to right in an environment; calls go
 -- through `apply`, which takes the turns. Where no case applies the run goes wrong.
 use Rattle.std.specs.Prelude.{ℕ, zero, suc, Bool, true, false, not, List, [], ◌∷◌, Option, Some, None, nat_eq, if◌then◌else◌, option_and_then, slice_get, ⊤}
-use Rattle.mlc_runs.specs.Outcome.{Outcome}
-use Rattle.mlc_runs.specs.Run.{World, Answer, gives, raises, stops, out_of_turns, start, then_do, or_handle, or_fail, new_exception, outcome_of}
-use Rattle.mlc_names.specs.declared.label.Label.{Label}
+use Rattle.ir_plain.specs.of_mlc_runs.Outcome.{Outcome}
+use Rattle.ir_plain.specs.of_mlc_runs.Run.{World, Answer, gives, raises, stops, out_of_turns, start, then_do, or_handle, or_fail, new_exception, outcome_of}
+use Rattle.ir_plain.specs.of_mlc_names.declared.label.Label.{Label}
 use Rattle.mlc_base.specs.declared.place.Place.{Place}
 use Rattle.label_rows.specs.Order.{label_before}
-use Rattle.ir_values.specs.Tags.{untagged}
-use Rattle.ir_values.specs.Values.{Value, record_of, con, exn, ref, primitive, closure, no_fields, field, Env, empty, bind, look_by, field_in, packet_name, value_of, truth_number}
-use Rattle.ir_values.specs.Values as values
-use Rattle.ir_values.specs.Match.{Matched, matches, then_match, after_match, on_found, against_literal, against_con, under_con, against_exn, under_exn, under_record, under_ref}
-use Rattle.ir_values.specs.Primitives.{packet, match_name, bind_name, raise_value}
-use Rattle.ir_values.specs.Primitives as call
+use Rattle.ir_plain.specs.of_ir_values.Tags.{untagged}
+use Rattle.ir_plain.specs.of_ir_values.Values.{Value, record_of, con, exn, ref, primitive, closure, no_fields, field, Env, empty, bind, look_by, field_in, packet_name, value_of, truth_number}
+use Rattle.ir_plain.specs.of_ir_values.Values as values
+use Rattle.ir_plain.specs.of_ir_values.Match.{Matched, matches, then_match, after_match, on_found, against_literal, against_con, under_con, against_exn, under_exn, under_record, under_ref}
+use Rattle.ir_plain.specs.of_ir_values.Primitives.{packet, match_name, bind_name, raise_value}
+use Rattle.ir_plain.specs.of_ir_values.Primitives as call
 use Rattle.ir_poly.specs.Prog.{Exc, fixed, held, Pat, any_pat, variable_pat, constant_pat, con_pat, con_of_pat, ref_of_pat, exn_pat, exn_of_pat, fields_pat, as_pat, PatFields, no_pats, a_pat, Exp, constant_exp, variable_exp, own_exp, con_exp, ref_exp, exn_exp, prim_exp, fields_exp, let_exp, app_exp, case_exp, chain_exp, handle_exp, raise_exp, fn_exp, counted_exp, Fields, a_field, Chain, only, link, Rules, no_rules, a_rule, Fun, last, by_rules, more, Decs, no_decs, val_dec, exception_dec, counted_dec, Binds, no_binds, a_bind, Funs, no_funs, a_fun, pat_count}
 use Rattle.ir_poly.specs.Prog as tree
 

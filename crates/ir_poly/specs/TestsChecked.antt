@@ -2,17 +2,17 @@
 -- goes on somewhere: only there may an expression miss, and a miss has any type.
 use Rattle.std.specs.Prelude.{◌≡◌, ℕ, Bool, true, false, List, [], ◌∷◌, ◌++◌, length, Option, Some, None, nat_eq, nat_lt}
 use Rattle.std.specs.Map.{lookup}
-use Rattle.mlc_names.specs.declared.label.Label.{Label}
+use Rattle.ir_plain.specs.of_mlc_names.declared.label.Label.{Label}
 use Rattle.mlc_base.specs.declared.place.Place.{Place}
-use Rattle.mlc_prims.specs.LitOf.{Literal, int, word, char, string}
-use Rattle.mlc_prims.specs.declared.basis.BasisPrimitive.{BasisPrimitive}
+use Rattle.ir_plain.specs.of_mlc_prims.LitOf.{Literal, int, word, char, string}
+use Rattle.ir_plain.specs.of_mlc_prims.declared.basis.BasisPrimitive.{BasisPrimitive}
 use Rattle.ty_core.specs.Types.{Typ, name, var, con, typs_of}
 use Rattle.ty_core.specs.Marks.{Allows}
 use Rattle.ty_core.specs.Statics.{replace}
 use Rattle.ty_core.specs.declared.name.TyName.{TyName}
 use Rattle.ty_core.specs.declared.scheme.Quantified.{Quantified}
 use Rattle.ir_plain.specs.Tree.{Case, is_literal, is_con, is_con_of, is_exn, is_exn_of, is_record, Exception, fixed, held, Atoms, no_atoms, an_atom, Row, no_row, a_row, Exp, ret, let_in, exception_in, name_in, rec_in, switch, first, miss, counted, Arms, no_arms, arm, Op, use_of, const, con_alone, construct, ref_alone, refer, content, pack, make_record, select, prim_alone, prim, app, fn, block, handle, raise, raise_initial, Fun, last, more, Funs, no_funs, fun, is_value_op}
-use Rattle.ir_values.specs.Values.{same_label}
+use Rattle.ir_plain.specs.of_ir_values.Values.{same_label}
 use Rattle.ir_poly.specs.Tests.{Use, inst, poly}
 use Rattle.ir_poly.specs.Types.{int_name, word_name, char_name, string_name, exn_name, of_name, function_type, ref_type, row_type, labels_in, ascend, admits_in, over, all_over, are_new, changed, AreAllowed, Constructor, find, argument_at, prim_type, arguments_at, result_at, tuple_type}
 

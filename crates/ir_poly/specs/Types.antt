@@ -1,8 +1,8 @@
 -- Types of the program: parameters of declarations in scope, instances, the program's table of constructors, and the types of primitives at instances.
 -- [Definition 4.2 to 4.5] Type names and the types of primitives are those of the initial basis.
 use Rattle.std.specs.Prelude.{◌≡◌, ℕ, zero, suc, Bool, true, false, not, ◌&&◌, ◌||◌, List, [], ◌∷◌, map, Option, Some, None, nat_eq, nat_lt, if◌then◌else◌, ⊤}
-use Rattle.mlc_names.specs.declared.label.Label.{Label}
-use Rattle.mlc_prims.specs.declared.basis.BasisPrimitive.{BasisPrimitive}
+use Rattle.ir_plain.specs.of_mlc_names.declared.label.Label.{Label}
+use Rattle.ir_plain.specs.of_mlc_prims.declared.basis.BasisPrimitive.{BasisPrimitive}
 use Rattle.ty_core.specs.Types.{Typ, var, con, Typs, none, more, admits}
 use Rattle.ty_core.specs.Marks.{Allows}
 use Rattle.ty_core.specs.Statics.{replace}
@@ -11,7 +11,7 @@ use Rattle.ty_core.specs.declared.mark.Mark.TheVariants.{Any, Equality, Class}
 use Rattle.ty_core.specs.declared.name.TyName.{TyName}
 use Rattle.ty_core.specs.declared.name.Equality.TheVariants.{Always, ByArguments}
 use Rattle.ty_core.specs.declared.scheme.Quantified.{Quantified}
-use Rattle.ir_values.specs.Values.{true_number, false_number, nil_number, cons_number}
+use Rattle.ir_plain.specs.of_ir_values.Values.{true_number, false_number, nil_number, cons_number}
 use Rattle.label_rows.specs.Order.{sorted_by}
 pub use Rattle.label_rows.specs.Order.{label_before}
 pub use Rattle.ty_basis.specs.Types.{int_name, word_name, char_name, string_name, ref_name, exn_name, bool_name, list_name, of_name, function_type, ref_type, list_type, row_type, labels_in, unit_type, pair_type, name_count}

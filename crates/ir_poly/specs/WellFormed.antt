@@ -1,7 +1,7 @@
 -- Programs, and which of them are well formed: typed, each variable bound once, the basis' seven exceptions named. The tables stand beside the body.
 use Rattle.std.specs.Prelude.{◌≡◌, ℕ, false, List, [], ◌++◌, length}
 use Rattle.std.specs.List.{AllByRecursion}
-use Rattle.mlc_runs.specs.Outcome.{Outcome}
+use Rattle.ir_plain.specs.of_mlc_runs.Outcome.{Outcome}
 use Rattle.ty_core.specs.Types.{Typ}
 use Rattle.ir_plain.specs.Once as plain
 use Rattle.ir_plain.specs.Scoped.{IsLocal}

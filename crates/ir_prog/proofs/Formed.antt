@@ -21,11 +21,11 @@ use Rattle.prog_known.specs.Lists.{hold}
 use Rattle.prog_tree.specs.Readings.{reading}
 use Rattle.prog_tree.specs.TreeOf.{body_of}
 use Rattle.prog_tree.specs.declared.tree.Dec.{Dec}
-use Rattle.prog_parts.specs.Expressions as parts
-use Rattle.prog_parts.specs.Expressions.{dec_onto}
-use Rattle.prog_parts.proofs.Checks as checks
-use Rattle.prog_parts.proofs.Truths.{as-decided}
-use Rattle.prog_leaves.specs.Right.{decs_right}
+use Rattle.prog_exps.specs.of_prog_parts.Expressions as parts
+use Rattle.prog_exps.specs.of_prog_parts.Expressions.{dec_onto}
+use Rattle.prog_exps.proofs.of_prog_parts.Checks as checks
+use Rattle.prog_exps.proofs.of_prog_parts.Truths.{as-decided}
+use Rattle.prog_exps.specs.of_prog_leaves.Right.{decs_right}
 use Rattle.ir_prog.specs.Programs.{prog_of, IsWellFormed}
 use Rattle.ir_prog.specs.declared.program.Program.{Program}
 

@@ -3,8 +3,8 @@ use Rattle.std.proofs.Common.{◌≡◌, ℕ, Bool, true, false, ◌&&◌, List,
 use Rattle.std.proofs.lemmas.Bool.{eqb-true}
 use Rattle.std.specs.Option.{option_map, option_or}
 use Rattle.std.specs.Map.{lookup}
-use Rattle.ty_core.specs.Types.{Typ}
-use Rattle.ty_core.specs.declared.name.TyName.{TyName}
+use Rattle.ir_poly.specs.of_ty_core.Types.{Typ}
+use Rattle.ir_poly.specs.of_ty_core.declared.name.TyName.{TyName}
 use Rattle.ir_poly.specs.Types.{find}
 use Rattle.ir_tables.specs.Rows.{constructor_at, constructors_at, find_row, same_key, IsIndex}
 use Rattle.ir_tables.specs.declared.constructors.Constructor.{Constructor}

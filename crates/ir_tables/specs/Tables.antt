@@ -1,7 +1,7 @@
 -- What the tables of a program say.
 use Rattle.std.specs.Prelude.{ℕ, List, [], map, slice_index_or}
-use Rattle.mlc_prims.specs.LitOf.{Literal, int, word, char, string}
-use Rattle.ty_core.specs.declared.scheme.Quantified.{Quantified}
+use Rattle.ir_poly.specs.of_mlc_prims.LitOf.{Literal, int, word, char, string}
+use Rattle.ir_poly.specs.of_ty_core.declared.scheme.Quantified.{Quantified}
 use Rattle.ir_poly.specs.Types as clean
 use Rattle.ir_poly.specs.WellFormed.{Program}
 use Rattle.ir_tables.specs.Rows.{constructors_at}

@@ -1,15 +1,15 @@
 // Constructors of a program's datatypes.
 ghost use Rattle.std.specs.Prelude.{◌≡◌, ◌++◌, ◌∷◌, [], List, length, slice_get, option_copied, OnOk, OnErr};
 ghost use Rattle.std.specs.Option.{option_map};
-ghost use Rattle.ty_core.specs.Types.{Typ};
+ghost use Rattle.ir_poly.specs.of_ty_core.Types.{Typ};
 ghost use Rattle.ir_poly.specs.Types.{find};
 ghost use Rattle.ir_tables.specs.Rows.{find_row, constructor_at, constructors_at};
 
 use indexmap::IndexMap;
+use ir_poly::ty_core::name::TyName;
 use mlc_base::memory::NoMemory;
 use std::alloc::Global;
 use std::marker::Model;
-use ty_core::name::TyName;
 
 /// A constructor: its datatype, its number, and the type of its argument, if it has one.
 #[derive(Clone, Copy)]

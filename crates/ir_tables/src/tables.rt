@@ -3,10 +3,10 @@ ghost use Rattle.std.specs.Prelude.{◌≡◌, [], IfOk};
 ghost use Rattle.ir_tables.specs.Tables.{initial_of, constructors_of, parameters_of, strings_of, parameters_at, string_at};
 
 use crate::constructors::Constructors;
+use ir_poly::ty_core::scheme::Quantified;
 use mlc_base::memory::NoMemory;
 use mlc_names::names::Name;
 use std::alloc::Global;
-use ty_core::scheme::Quantified;
 use ty_table::types::Types;
 
 /// A constant. A string is that of its number in the tables.

@@ -8,11 +8,11 @@ use Rattle.ty_core.specs.Statics.{replace}
 use Rattle.ty_core.specs.declared.name.TyName.{TyName}
 use Rattle.ty_core.specs.declared.scheme.Quantified.{Quantified}
 use Rattle.ty_table.specs.TypeAt.{type_at, types_at}
-use Rattle.ir_poly.specs.Types as clean
-use Rattle.ir_poly.specs.Types.{find, argument_at, nth_type, unit_type, list_name, list_type, pair_type, function_type, all_over}
-use Rattle.ir_poly.specs.TestsChecked.{HasConstructor, alone_type}
-use Rattle.ir_tables.specs.declared.constructors.Constructor.{Constructor}
-use Rattle.ir_tables.specs.Rows.{constructor_at}
+use Rattle.ir_known.specs.of_ir_poly.Types as clean
+use Rattle.ir_known.specs.of_ir_poly.Types.{find, argument_at, nth_type, unit_type, list_name, list_type, pair_type, function_type, all_over}
+use Rattle.ir_known.specs.of_ir_poly.TestsChecked.{HasConstructor, alone_type}
+use Rattle.ir_known.specs.of_ir_tables.declared.constructors.Constructor.{Constructor}
+use Rattle.ir_known.specs.of_ir_tables.Rows.{constructor_at}
 use Rattle.prog_check.specs.Same.{same_name, same_type}
 use Rattle.prog_check.specs.Deciding.{list_of, argument_of, row_argument, takes, is_con}
 use Rattle.prog_check.proofs.SameLemmas.{name-same, same-name, type-same, same-since}

@@ -1,11 +1,11 @@
 -- An answer in one way of speaking, from the answer in another.
 use Rattle.std.proofs.Common.{◌≡◌, ◌↔◌, ℕ, Bool, true, false, List, IsTrue, refl, sym, ◌∙◌}
 use Rattle.ty_core.specs.Types.{Typ}
-use Rattle.ir_poly.specs.Types.{of_name, int_name, word_name, char_name, string_name}
-use Rattle.ir_poly.specs.TestsChecked.{HasLiteral}
-use Rattle.ir_tables.specs.declared.tables.Constant.{Constant}
-use Rattle.ir_tables.specs.declared.tables.Constant.TheVariants as constant
-use Rattle.ir_tables.specs.Tables.{literal_at}
+use Rattle.ir_known.specs.of_ir_poly.Types.{of_name, int_name, word_name, char_name, string_name}
+use Rattle.ir_known.specs.of_ir_poly.TestsChecked.{HasLiteral}
+use Rattle.ir_known.specs.of_ir_tables.declared.tables.Constant.{Constant}
+use Rattle.ir_known.specs.of_ir_tables.declared.tables.Constant.TheVariants as constant
+use Rattle.ir_known.specs.of_ir_tables.Tables.{literal_at}
 use Rattle.prog_check.specs.Same.{same_type}
 use Rattle.prog_check.specs.Deciding.{is_literal}
 use Rattle.prog_check.proofs.SameLemmas.{type-same, same-since}

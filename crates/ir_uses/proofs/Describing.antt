@@ -8,7 +8,7 @@ use Rattle.ty_core.specs.Types.{Symbol, labels, Typ, con, Typs, typs_of}
 use Rattle.ty_core.specs.Marks.{Allows}
 use Rattle.ty_core.specs.declared.scheme.Quantified.{Quantified}
 use Rattle.ty_table.specs.TypeAt.{type_at, types_at}
-use Rattle.ir_poly.specs.Types.{over, admits_in, row_type, numbered, prim_type, put, function_type, tuple_type, arguments_at, result_at}
+use Rattle.ir_known.specs.of_ir_poly.Types.{over, admits_in, row_type, numbered, prim_type, put, function_type, tuple_type, arguments_at, result_at}
 use Rattle.prog_check.specs.Same.{same_type}
 use Rattle.prog_check.specs.Deciding.{allows, is_prim}
 use Rattle.prog_check.proofs.SameLemmas.{type-same, same-since}

@@ -4,7 +4,7 @@ use Rattle.std.specs.Option.{option_map}
 use Rattle.std.specs.Map.{lookup}
 use Rattle.ty_core.specs.Types.{Typ}
 use Rattle.ty_core.specs.declared.scheme.Quantified.{Quantified}
-use Rattle.ir_poly.specs.TestsChecked as clean
+use Rattle.ir_known.specs.of_ir_poly.TestsChecked as clean
 use Rattle.ir_known.specs.declared.known.Known.{Known}
 use Rattle.ir_known.specs.Knows.{known_of, knowns_of}
 

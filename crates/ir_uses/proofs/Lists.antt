@@ -6,7 +6,7 @@ use Rattle.ty_core.specs.Types.{Typ, typs_of}
 use Rattle.ty_core.specs.Marks.{Allows}
 use Rattle.ty_core.specs.declared.scheme.Quantified.{Quantified}
 use Rattle.ty_table.specs.TypeAt.{type_at}
-use Rattle.ir_poly.specs.Types.{over, all_over, AreAllowed}
+use Rattle.ir_known.specs.of_ir_poly.Types.{over, all_over, AreAllowed}
 
 one-more : (i : ℕ) → suc i ≡ i + 1
 one-more i = omega arith

@@ -9,7 +9,7 @@ use Rattle.ty_core.specs.Types.{Typ, var, con, Typs, none, more}
 use Rattle.ty_core.specs.Statics.{replace, replace_all}
 use Rattle.ty_core.specs.declared.scheme.Quantified.{Quantified}
 use Rattle.ty_table.specs.TypeAt.{type_at}
-use Rattle.ir_poly.specs.Types.{changed, nth_type}
+use Rattle.ir_known.specs.of_ir_poly.Types.{changed, nth_type}
 use Rattle.ir_known.specs.declared.image.Rest.TheVariants.{Itself, Unit}
 use Rattle.ir_known.specs.Images.{image_of, found_or_rest}
 use Rattle.ir_known.proofs.Declaring.{nat_eq-turned}

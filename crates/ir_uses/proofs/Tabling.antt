@@ -7,10 +7,10 @@ use Rattle.std.specs.Option.{option_map}
 use Rattle.ty_core.specs.Types.{Typ, var, con, Typs, none, more}
 use Rattle.ty_core.specs.declared.name.Equality.{Equality}
 use Rattle.ty_table.specs.TypeAt.{type_at, top, tops}
-use Rattle.ir_poly.specs.Types.{IsConstructor}
-use Rattle.ir_poly.specs.Types as clean
-use Rattle.ir_tables.specs.declared.constructors.Constructor.{Constructor}
-use Rattle.ir_tables.specs.Rows.{constructor_at, constructors_at}
+use Rattle.ir_known.specs.of_ir_poly.Types.{IsConstructor}
+use Rattle.ir_known.specs.of_ir_poly.Types as clean
+use Rattle.ir_known.specs.of_ir_tables.declared.constructors.Constructor.{Constructor}
+use Rattle.ir_known.specs.of_ir_tables.Rows.{constructor_at, constructors_at}
 use Rattle.prog_check.specs.Program.{below, all_below, check_argument, check_constructor, check_table, respects}
 use Rattle.prog_check.proofs.ProgramLemmas.{table-sound, table-complete}
 use Rattle.ir_uses.proofs.Deciding.{from-decided}

@@ -6,9 +6,9 @@ use Rattle.ty_core.specs.Types.{Typ, var, typs_of}
 use Rattle.ty_core.specs.Statics.{replace}
 use Rattle.ty_core.specs.declared.scheme.Quantified.{Quantified}
 use Rattle.ty_table.specs.TypeAt.{type_at}
-use Rattle.ir_poly.specs.Types.{all_over, admits_in, changed}
-use Rattle.ir_poly.specs.TestsChecked as clean
-use Rattle.ir_tables.specs.Tables.{parameters_at}
+use Rattle.ir_known.specs.of_ir_poly.Types.{all_over, admits_in, changed}
+use Rattle.ir_known.specs.of_ir_poly.TestsChecked as clean
+use Rattle.ir_known.specs.of_ir_tables.Tables.{parameters_at}
 use Rattle.ir_known.specs.declared.known.Known.{Known}
 use Rattle.ir_known.specs.declared.known.Known.TheVariants as known
 use Rattle.ir_known.specs.Knows.{known_of}

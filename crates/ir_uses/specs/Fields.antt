@@ -5,8 +5,8 @@ use Rattle.mlc_names.specs.declared.label.Label.{Label}
 use Rattle.ty_core.specs.Types.{Typ}
 use Rattle.ty_table.specs.TypeAt.{type_at}
 use Rattle.ir_values.specs.Values.{same_label}
-use Rattle.ir_poly.specs.Types.{row_type}
-use Rattle.ir_poly.specs.TestsChecked.{is_size}
+use Rattle.ir_known.specs.of_ir_poly.Types.{row_type}
+use Rattle.ir_known.specs.of_ir_poly.TestsChecked.{is_size}
 
 -- fields whose types are given by number
 abbrev pub field_types : List Typ → List (Label × ℕ) → List (Label × Typ)

@@ -3,9 +3,9 @@ use Rattle.std.specs.Prelude.{◌≡◌, ℕ, List, Option, Some, None}
 use Rattle.ty_core.specs.Types.{Typ, var}
 use Rattle.ty_core.specs.declared.name.TyName.{TyName}
 use Rattle.ty_table.specs.TypeAt.{type_at}
-use Rattle.ir_poly.specs.Types as clean
-use Rattle.ir_poly.specs.Types.{list_type, pair_type}
-use Rattle.ir_poly.specs.TestsChecked.{HasConstructor, alone_type}
+use Rattle.ir_known.specs.of_ir_poly.Types as clean
+use Rattle.ir_known.specs.of_ir_poly.Types.{list_type, pair_type}
+use Rattle.ir_known.specs.of_ir_poly.TestsChecked.{HasConstructor, alone_type}
 use Rattle.ir_uses.specs.declared.constructor.Argument.{Argument}
 use Rattle.ir_uses.specs.declared.constructor.Argument.TheVariants as argument
 use Rattle.ir_uses.specs.declared.constructor.Row.{Row}

@@ -1,7 +1,7 @@
 -- The types of primitives.
 use Rattle.std.specs.Prelude.{List, [], ◌∷◌, map}
 use Rattle.ty_core.specs.Types.{Typ, var}
-use Rattle.ir_poly.specs.Types.{of_name, ref_type, unit_type, PrimType}
+use Rattle.ir_known.specs.of_ir_poly.Types.{of_name, ref_type, unit_type, PrimType}
 use Rattle.ir_uses.specs.declared.shape.Shape.{Shape}
 use Rattle.ir_uses.specs.declared.shape.Shape.TheVariants as shape
 use Rattle.ir_uses.specs.declared.shape.Arguments.{Arguments}

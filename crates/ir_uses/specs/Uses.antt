@@ -5,12 +5,12 @@ use Rattle.ty_core.specs.Statics.{replace}
 use Rattle.ty_core.specs.declared.name.TyName.{TyName}
 use Rattle.ty_core.specs.declared.scheme.Quantified.{Quantified}
 use Rattle.mlc_prims.specs.declared.basis.BasisPrimitive.{BasisPrimitive}
-use Rattle.ir_poly.specs.Types.{Constructor, initial_constructors, int_name, word_name, char_name, string_name, over, all_over, admits_in, changed, AreAllowed, arguments_at, result_at, function_type, tuple_type}
-use Rattle.ir_poly.specs.TestsChecked.{Known, of_type, general, own, exception, value_type}
-use Rattle.ir_tables.specs.declared.tables.Tables.{Tables}
-use Rattle.ir_tables.specs.declared.tables.Constant.{Constant}
-use Rattle.ir_tables.specs.declared.tables.Constant.TheVariants as constant
-use Rattle.ir_tables.specs.Tables.{constructors_of}
+use Rattle.ir_known.specs.of_ir_poly.Types.{Constructor, initial_constructors, int_name, word_name, char_name, string_name, over, all_over, admits_in, changed, AreAllowed, arguments_at, result_at, function_type, tuple_type}
+use Rattle.ir_known.specs.of_ir_poly.TestsChecked.{Known, of_type, general, own, exception, value_type}
+use Rattle.ir_known.specs.of_ir_tables.declared.tables.Tables.{Tables}
+use Rattle.ir_known.specs.of_ir_tables.declared.tables.Constant.{Constant}
+use Rattle.ir_known.specs.of_ir_tables.declared.tables.Constant.TheVariants as constant
+use Rattle.ir_known.specs.of_ir_tables.Tables.{constructors_of}
 
 -- the constructors that a program of these tables has
 abbrev pub table_at : Tables → List Constructor

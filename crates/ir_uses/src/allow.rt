@@ -2,7 +2,7 @@
 ghost use Rattle.std.specs.Prelude.{◌≡◌, ◌↔◌, [], IsTrue, IfOk};
 ghost use Rattle.ty_core.specs.Marks.{Allows, IsOf};
 ghost use Rattle.ty_table.specs.TypeAt.{type_at};
-ghost use Rattle.ir_poly.specs.Types.{admits_in};
+ghost use Rattle.ir_known.specs.of_ir_poly.Types.{admits_in};
 ghost use Rattle.ir_known.specs.Knows.{marks_of};
 ghost use Rattle.prog_check.specs.Deciding.{allows};
 

@@ -3,8 +3,8 @@ ghost use Rattle.std.specs.Prelude.{◌≡◌, ◌≢◌, ◌↔◌, ◌&&◌, L
 ghost use Rattle.std.specs.Option.{option_map};
 ghost use Rattle.ty_core.specs.Types.{Typ, con, name, typs_of};
 ghost use Rattle.ty_table.specs.TypeAt.{type_at};
-ghost use Rattle.ir_poly.specs.Types.{argument_at, find, initial_constructors, list_type, nth_type, pair_type, function_type};
-ghost use Rattle.ir_poly.specs.TestsChecked.{HasConstructor, alone_type};
+ghost use Rattle.ir_known.specs.of_ir_poly.Types.{argument_at, find, initial_constructors, list_type, nth_type, pair_type, function_type};
+ghost use Rattle.ir_known.specs.of_ir_poly.TestsChecked.{HasConstructor, alone_type};
 ghost use Rattle.ir_known.specs.Knows.{marks_of};
 ghost use Rattle.prog_check.specs.Deciding.{argument_of, row_argument, takes, is_con};
 ghost use Rattle.ir_uses.specs.Uses.{table_at};
@@ -15,8 +15,8 @@ use crate::parts::{are_pair, function_parts, named_parts, record_parts, same_typ
 use crate::using::are_over;
 use ir_known::ask::{BOOL, is_unit, same_type};
 use ir_known::image::{Rest, is_image};
+use ir_known::ir_tables::tables::Tables;
 use ir_known::stack::Stack;
-use ir_tables::tables::Tables;
 use mlc_base::memory::NoMemory;
 use std::alloc::Global;
 use ty_core::mark::Mark;

@@ -2,10 +2,10 @@
 ghost use Rattle.std.specs.Prelude.{◌≡◌, ◌↔◌, List, Some, IsTrue, nat_lt};
 ghost use Rattle.std.specs.Option.{option_map};
 ghost use Rattle.ty_core.specs.Types.{Typ};
-ghost use Rattle.ir_poly.specs.Types.{function_type};
+ghost use Rattle.ir_known.specs.of_ir_poly.Types.{function_type};
 ghost use Rattle.ty_core.specs.declared.scheme.Quantified.{Quantified};
 ghost use Rattle.ty_table.specs.TypeAt.{type_at};
-ghost use Rattle.ir_poly.specs.TestsChecked.{exception, exn_type, value_type};
+ghost use Rattle.ir_known.specs.of_ir_poly.TestsChecked.{exception, exn_type, value_type};
 ghost use Rattle.ir_known.specs.Knows.{known_of};
 ghost use Rattle.prog_check.specs.Deciding.{known_argument, is_exception as is_value};
 

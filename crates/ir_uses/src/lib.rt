@@ -1,6 +1,8 @@
 // What a checker asks of constants, constructors, uses, primitives, records, exceptions and of the table.
 #![tactic(auto)]
 
+pub use ir_known;
+
 pub mod allow;
 pub mod constructor;
 pub mod exception;

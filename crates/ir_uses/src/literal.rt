@@ -1,13 +1,13 @@
 // Constants.
 ghost use Rattle.std.specs.Prelude.{◌≡◌, ◌↔◌, List, ℕ, IsTrue};
 ghost use Rattle.ty_table.specs.TypeAt.{type_at};
-ghost use Rattle.ir_tables.specs.Tables.{literal_at};
-ghost use Rattle.ir_poly.specs.TestsChecked.{HasLiteral};
+ghost use Rattle.ir_known.specs.of_ir_tables.Tables.{literal_at};
+ghost use Rattle.ir_known.specs.of_ir_poly.TestsChecked.{HasLiteral};
 ghost use Rattle.prog_check.specs.Deciding.{is_literal};
 ghost use Rattle.ir_uses.specs.Uses.{name_of};
 
 use ir_known::ask::is_named;
-use ir_tables::tables::Constant;
+use ir_known::ir_tables::tables::Constant;
 use ty_core::name::TyName;
 use ty_table::types::Types;
 

@@ -3,7 +3,7 @@ ghost use Rattle.std.specs.Prelude.{◌≡◌, ◌↔◌, List, [], ◌∷◌, m
 ghost use Rattle.mlc_names.specs.declared.label.Label.{Label};
 ghost use Rattle.ty_core.specs.Types.{Typ, Typs, con, name, labels as labels_symbol};
 ghost use Rattle.ty_table.specs.TypeAt.{type_at, types_at};
-ghost use Rattle.ir_poly.specs.Types.{function_type};
+ghost use Rattle.ir_known.specs.of_ir_poly.Types.{function_type};
 
 use ir_known::ask::same_type;
 use mlc_names::label::Label;

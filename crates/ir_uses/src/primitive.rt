@@ -2,7 +2,7 @@
 ghost use Rattle.std.specs.Prelude.{◌≡◌, ◌↔◌, [], ◌∷◌, map, IsTrue, IfOk};
 ghost use Rattle.ty_core.specs.Marks.{Allows};
 ghost use Rattle.ty_table.specs.TypeAt.{type_at};
-ghost use Rattle.ir_poly.specs.Types.{admits_in, arguments_at, prim_type, put, result_at, row_type, numbered, tuple_type};
+ghost use Rattle.ir_known.specs.of_ir_poly.Types.{admits_in, arguments_at, prim_type, put, result_at, row_type, numbered, tuple_type};
 ghost use Rattle.ir_known.specs.Knows.{marks_of};
 ghost use Rattle.prog_check.specs.Deciding.{is_prim};
 ghost use Rattle.ir_uses.specs.Uses.{value_at};

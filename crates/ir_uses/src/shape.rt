@@ -1,6 +1,6 @@
 // The types of primitives.
 ghost use Rattle.std.specs.Prelude.{◌≡◌};
-ghost use Rattle.ir_poly.specs.Types.{prim_type};
+ghost use Rattle.ir_known.specs.of_ir_poly.Types.{prim_type};
 ghost use Rattle.ty_basis.specs.Primitives.{one_to_one, two_to_one};
 ghost use Rattle.ir_uses.specs.Shapes.{prim_type_of, shape_type};
 

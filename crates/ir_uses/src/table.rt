@@ -3,13 +3,13 @@ ghost use Rattle.std.specs.Prelude.{◌≡◌, ◌↔◌, ◌≤◌, IsTrue};
 ghost use Rattle.std.specs.List.{AllByRecursion};
 ghost use Rattle.std.specs.Option.{option_map};
 ghost use Rattle.ty_table.specs.TypeAt.{type_at, top};
-ghost use Rattle.ir_poly.specs.Types.{IsConstructor};
-ghost use Rattle.ir_tables.specs.Rows.{constructor_at, constructors_at};
-ghost use Rattle.ir_tables.specs.Tables.{constructors_of};
+ghost use Rattle.ir_known.specs.of_ir_poly.Types.{IsConstructor};
+ghost use Rattle.ir_known.specs.of_ir_tables.Rows.{constructor_at, constructors_at};
+ghost use Rattle.ir_known.specs.of_ir_tables.Tables.{constructors_of};
 ghost use Rattle.prog_check.specs.Program.{check_argument, check_constructor, check_datatype, check_table, respects};
 
-use ir_tables::constructors::Constructor;
-use ir_tables::tables::Tables;
+use ir_known::ir_tables::constructors::Constructor;
+use ir_known::ir_tables::tables::Tables;
 use ty_core::name::{Equality, TyName};
 use ty_table::types::Types;
 

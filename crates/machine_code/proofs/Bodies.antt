@@ -15,8 +15,8 @@ use Rattle.mlc_runs.proofs.MoreTurnsLaws.{prefix-refl as prefix_refl, prefix-tra
 use Rattle.mlc_prims.specs.LitOf.{Literal}
 use Rattle.mlc_prims.specs.PrimOf.{Gives, made, raised}
 use Rattle.mlc_prims.specs.declared.basis.BasisPrimitive.{BasisPrimitive}
-use Rattle.first_values.specs.Values.{Value, literal, cell, reference, name, packet, Values, no_values, Run, Env, unit, bind, look_up, look_all, bind_all, values_of, value_of, tag_of, gather, Piece}
-use Rattle.first_values.specs.Operations.{Tables, Operands, Plain, Test, Callee, known, one_of, Called, literals, row_at, attempted, either_way, perform, decide, called, of_closure, member_at, raised_from}
+use Rattle.ir_ssa.specs.of_first_values.Values.{Value, literal, cell, reference, name, packet, Values, no_values, Run, Env, unit, bind, look_up, look_all, bind_all, values_of, value_of, tag_of, gather, Piece}
+use Rattle.ir_ssa.specs.of_first_values.Operations.{Tables, Operands, Plain, Test, Callee, known, one_of, Called, literals, row_at, attempted, either_way, perform, decide, called, of_closure, member_at, raised_from}
 use Rattle.ir_ssa.specs.Tree.{Body, Bodies, plain, make, attempt, turn, call, label, again, guard, goto, jump, branch, switch, tail, ret, raise, last, arm}
 use Rattle.ir_ssa.specs.Meaning.{Onward, Handler, Calls, throw, then_go, go_to, may_turn, must_turn, spin, eval, eval_arm}
 use Rattle.machine_routines.specs.Layout.{Word, stays, Is}

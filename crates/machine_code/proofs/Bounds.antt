@@ -5,9 +5,9 @@ use Rattle.std.proofs.lemmas.Bool.{leb-true}
 use Rattle.std.proofs.lemmas.List.{length-map}
 use Rattle.ir_code.specs.Words.{word_of, one_if}
 use Rattle.mlc_prims.specs.declared.prim.PrimExn.{PrimExn}
-use Rattle.first_values.specs.Equality.{Shape, opaque}
-use Rattle.first_values.specs.Values.{Piece, one as a_value, run as a_run}
-use Rattle.first_values.specs.Operations.{Member, Constant, an_int, a_word, a_char, a_text, a_truth, Plain, same, constant, field, refer, content, assign, exception, initial, pack, argument, compute, equal, print, Test, is, is_of, holds, Callee, known, one_of}
+use Rattle.ir_ssa.specs.of_first_values.Equality.{Shape, opaque}
+use Rattle.ir_ssa.specs.of_first_values.Values.{Piece, one as a_value, run as a_run}
+use Rattle.ir_ssa.specs.of_first_values.Operations.{Member, Constant, an_int, a_word, a_char, a_text, a_truth, Plain, same, constant, field, refer, content, assign, exception, initial, pack, argument, compute, equal, print, Test, is, is_of, holds, Callee, known, one_of}
 use Rattle.ir_ssa.specs.Tree.{Body, Bodies, Fun, plain, make, attempt, turn, call, label, again, guard, goto, jump, branch, switch, tail, ret, raise, last, arm}
 use Rattle.ir_ssa.specs.Size.{nodes, nodes_bodies, nodes_funs}
 use Rattle.machine_routines.specs.EqualCode.{is_word, equal_code}

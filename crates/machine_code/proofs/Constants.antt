@@ -8,7 +8,7 @@ use Rattle.ir_code.specs.Machine.{all_bytes}
 use Rattle.ir_values.specs.Primitives.{raised_name}
 use Rattle.mlc_prims.specs.declared.prim.PrimExn.{PrimExn}
 use Rattle.mlc_prims.specs.declared.prim.PrimExn.TheVariants.{Overflow, Div, Subscript, Size, Chr}
-use Rattle.first_values.specs.Values.{packet, unit}
+use Rattle.ir_ssa.specs.of_first_values.Values.{packet, unit}
 use Rattle.ir_ssa.specs.Tree.{Program}
 use Rattle.machine_routines.specs.Layout.{Word, stays, names, is_name, after_one, nth_at, BytesAt, TextAt, Is}
 use Rattle.machine_routines.proofs.Seams.{get_right, get_here}

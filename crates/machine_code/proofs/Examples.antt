@@ -10,9 +10,9 @@ use Rattle.ir_code.specs.Run as machine
 use Rattle.mlc_prims.specs.declared.prim.PrimExn.TheVariants.{Overflow}
 use Rattle.mlc_prims.specs.declared.basis.BasisPrimitive.{BasisPrimitive}
 use Rattle.mlc_prims.specs.declared.basis.BasisPrimitive.TheVariants.{Add, Subtract, Less}
-use Rattle.first_values.specs.Values.{one as a_value, run as a_run}
-use Rattle.first_values.specs.Equality.{Shape, numbers, texts, cells}
-use Rattle.first_values.specs.Operations.{Member, Operands, an_int, a_text, ints, constant, field, exception, initial, pack, argument, equal, print, is, is_of, holds, known, one_of}
+use Rattle.ir_ssa.specs.of_first_values.Values.{one as a_value, run as a_run}
+use Rattle.ir_ssa.specs.of_first_values.Equality.{Shape, numbers, texts, cells}
+use Rattle.ir_ssa.specs.of_first_values.Operations.{Member, Operands, an_int, a_text, ints, constant, field, exception, initial, pack, argument, equal, print, is, is_of, holds, known, one_of}
 use Rattle.ir_ssa.specs.Tree.{Body, Bodies, Fun, Program, plain, make, attempt, turn, call, label, again, guard, goto, jump, branch, switch, tail, ret, raise, last, arm}
 use Rattle.ir_ssa.specs.Meaning.{meaning}
 use Rattle.machine_code.specs.Rows.{Rows, Packets}

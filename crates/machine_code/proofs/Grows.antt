@@ -7,9 +7,9 @@ use Rattle.mlc_runs.proofs.MoreTurnsLaws.{prefix-refl as prefix_refl, prefix-tra
 use Rattle.mlc_prims.specs.LitOf.{string}
 use Rattle.mlc_prims.specs.PrimOf.{Gives, made, raised}
 use Rattle.ir_values.specs.Primitives.{raised_name}
-use Rattle.first_values.specs.Values.{Value, literal, cell, reference, name, packet, values_of, value_of, at, Run, Env, unit, bind, look_up, look_all, bind_all, gather, tag_of}
-use Rattle.first_values.specs.Equality.{opaque, equal_at}
-use Rattle.first_values.specs.Operations.{Tables, Plain, same, constant, field, refer, content, assign, exception, initial, pack, argument, compute, equal, print, literal_at, attempted, either_way, perform, decide, called, raised_from, none, one, two, field_from, read, write, print_value, packet_of, argument_of, made_in}
+use Rattle.ir_ssa.specs.of_first_values.Values.{Value, literal, cell, reference, name, packet, values_of, value_of, at, Run, Env, unit, bind, look_up, look_all, bind_all, gather, tag_of}
+use Rattle.ir_ssa.specs.of_first_values.Equality.{opaque, equal_at}
+use Rattle.ir_ssa.specs.of_first_values.Operations.{Tables, Plain, same, constant, field, refer, content, assign, exception, initial, pack, argument, compute, equal, print, literal_at, attempted, either_way, perform, decide, called, raised_from, none, one, two, field_from, read, write, print_value, packet_of, argument_of, made_in}
 use Rattle.ir_ssa.specs.Tree.{Body, Bodies, Fun, Program, plain, make, attempt, turn, call, label, again, guard, goto, jump, branch, switch, tail, ret, raise, last, arm}
 use Rattle.ir_ssa.specs.Meaning.{Onward, Handler, Calls, throw, then_go, at_top, go_to, may_turn, must_turn, spin, eval, eval_arm, Evaluator, enter, idle, apply}
 use Rattle.same_runs.specs.SameRuns.{IsPrefix}

@@ -6,7 +6,7 @@ use Rattle.ir_code.specs.declared.instr.Instr.TheVariants.{Raise, PopHandler}
 use Rattle.ir_code.specs.Machine.{State, Goes, act, run}
 use Rattle.ir_code.specs.Laws.{ControlLaws, MemoryLaws, ArithmeticLaws}
 use Rattle.mlc_runs.specs.Run.{World, stops, went_wrong, turn_from}
-use Rattle.first_values.specs.Values.{Value, Run, Env}
+use Rattle.ir_ssa.specs.of_first_values.Values.{Value, Run, Env}
 use Rattle.mlc_base.specs.declared.place.Place.{Place}
 use Rattle.ir_ssa.specs.Meaning.{Onward, Handler, throw, go_to, at_top}
 use Rattle.machine_routines.specs.Layout.{Word, Is}

@@ -2,7 +2,7 @@
 use Rattle.std.proofs.Common.{◌≡◌, ℕ, zero, suc, ◌+◌, ◌<◌, ◌≤◌, List, [], ◌∷◌, ◌++◌, length, map, Option, Some, None, Bool, true, false, refl, sym, ap, ◌∙◌, subst, arith, append_assoc, append-nil, length-append}
 use Rattle.std.specs.Prelude.{slice_get, slice_set}
 use Rattle.mlc_prims.specs.LitOf.{Literal, int, word as word_literal, char, string, truth}
-use Rattle.first_values.specs.Values.{Value, literal, cell, reference, name, packet, Values, no_values, value, values_of, at}
+use Rattle.ir_ssa.specs.of_first_values.Values.{Value, literal, cell, reference, name, packet, Values, no_values, value, values_of, at}
 use Rattle.machine_routines.specs.Layout.{IsLiteral, Word, stays, changes, names, is_reference, is_name, after_one, nth_step, nth_at, BytesAt, TextAt, Is, AreAt}
 use Rattle.machine_routines.proofs.Seams.{get_left, get_here}
 use Rattle.machine_routines.proofs.LayoutLemmas.{after_is}

@@ -11,9 +11,9 @@ use Rattle.mlc_runs.specs.Run.{World, gives, fail, or_fail, writes}
 use Rattle.mlc_prims.specs.LitOf.{Literal, string}
 use Rattle.mlc_prims.specs.PrimOf.{Gives, made, raised}
 use Rattle.mlc_prims.specs.declared.basis.BasisPrimitive.{BasisPrimitive}
-use Rattle.first_values.specs.Values.{Value, literal, cell, reference, name, packet, value_of, at, Run, unit, truth_value}
-use Rattle.first_values.specs.Equality.{opaque, equal_at}
-use Rattle.first_values.specs.Operations.{Tables, Operands, Constant, Plain, same, constant, field, refer, content, assign, exception, initial, pack, argument, compute, equal, print, literal_at, literals, row_at, made_in, perform}
+use Rattle.ir_ssa.specs.of_first_values.Values.{Value, literal, cell, reference, name, packet, value_of, at, Run, unit, truth_value}
+use Rattle.ir_ssa.specs.of_first_values.Equality.{opaque, equal_at}
+use Rattle.ir_ssa.specs.of_first_values.Operations.{Tables, Operands, Constant, Plain, same, constant, field, refer, content, assign, exception, initial, pack, argument, compute, equal, print, literal_at, literals, row_at, made_in, perform}
 use Rattle.ir_ssa.specs.Meaning.{Handler, then_go}
 use Rattle.machine_routines.specs.Layout.{Word, stays, changes, names, is_reference, is_name, nth_at, TextAt, Is, Shows}
 use Rattle.machine_routines.specs.EqualCode.{is_word}

@@ -8,7 +8,7 @@ use Rattle.ir_code.specs.declared.halt.Halt.TheVariants.{NoHeap, NoStack}
 use Rattle.ir_code.specs.Machine.{State, Goes}
 use Rattle.ir_code.specs.Laws.{ControlLaws, MemoryLaws, ArithmeticLaws}
 use Rattle.mlc_runs.specs.Run.{World}
-use Rattle.first_values.specs.Values.{Value, Run}
+use Rattle.ir_ssa.specs.of_first_values.Values.{Value, Run}
 use Rattle.machine_routines.specs.Layout.{Word}
 use Rattle.machine_routines.specs.Runs.{HasAt}
 use Rattle.machine_routines.proofs.Seams.{get_left, get_here, get_within, set_here, cut_at, has_front, has_back}

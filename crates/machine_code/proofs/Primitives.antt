@@ -12,8 +12,8 @@ use Rattle.mlc_prims.specs.LitOf.{Literal, int, word, char, string, truth}
 use Rattle.mlc_prims.specs.PrimOf.{Gives, made, raised, fits_int}
 use Rattle.mlc_prims.specs.declared.basis.BasisPrimitive.{BasisPrimitive}
 use Rattle.mlc_prims.specs.declared.prim.PrimExn.{PrimExn}
-use Rattle.first_values.specs.Values.{Value, literal, packet, unit, truth_value, value_of, Run}
-use Rattle.first_values.specs.Operations.{Operands, Tables, Constant, an_int, a_word, a_char, a_text, a_truth, literal_at, literals, row_at}
+use Rattle.ir_ssa.specs.of_first_values.Values.{Value, literal, packet, unit, truth_value, value_of, Run}
+use Rattle.ir_ssa.specs.of_first_values.Operations.{Operands, Tables, Constant, an_int, a_word, a_char, a_text, a_truth, literal_at, literals, row_at}
 use Rattle.machine_routines.specs.Layout.{Word, stays, is_name, nth_at, TextAt, Is}
 use Rattle.machine_routines.specs.Runs.{HasAt, Frame}
 use Rattle.machine_routines.specs.EqualCode.{offset_of, place, equal_code}

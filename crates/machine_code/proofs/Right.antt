@@ -13,9 +13,9 @@ use Rattle.ir_code.specs.Run.{RunResult, end_of, result_of, run_of}
 use Rattle.mlc_runs.specs.Run.{World, gives, raises, stops, out_of_turns, went_wrong, fail, or_fail, take_turn, outcome_of, uncaught_end}
 use Rattle.mlc_runs.specs.Run as world
 use Rattle.mlc_base.specs.declared.place.Place.{Place}
-use Rattle.first_values.specs.Values.{Value, literal, cell, reference, name, packet, Run, Env, bind_all, identifier_of}
-use Rattle.first_values.specs.Equality.{Shape}
-use Rattle.first_values.specs.Operations.{Member, Tables, member_at}
+use Rattle.ir_ssa.specs.of_first_values.Values.{Value, literal, cell, reference, name, packet, Run, Env, bind_all, identifier_of}
+use Rattle.ir_ssa.specs.of_first_values.Equality.{Shape}
+use Rattle.ir_ssa.specs.of_first_values.Operations.{Member, Tables, member_at}
 use Rattle.ir_ssa.specs.Tree.{Fun, Program}
 use Rattle.ir_ssa.specs.Meaning.{Evaluator, enter, idle, eval, apply, body_of, begin, meaning}
 use Rattle.ir_ssa.specs.WellFormed.{IsWellFormed, arity}

@@ -9,7 +9,7 @@ use Rattle.ir_code.specs.Words.{word_sum, write_at}
 use Rattle.ir_code.specs.Machine.{State, Goes, may_copy, next}
 use Rattle.ir_code.specs.Laws.{ControlLaws, MemoryLaws, ArithmeticLaws}
 use Rattle.mlc_runs.specs.Run.{World}
-use Rattle.first_values.specs.Values.{Value, cell, Values, Run, Env, at, look_up, first_some, parts_from, parts_of, gather, Piece, one as a_value, run as a_run}
+use Rattle.ir_ssa.specs.of_first_values.Values.{Value, cell, Values, Run, Env, at, look_up, first_some, parts_from, parts_of, gather, Piece, one as a_value, run as a_run}
 use Rattle.machine_routines.specs.Layout.{Word, AreAt, Shows}
 use Rattle.machine_routines.specs.Runs.{HasAt, Frame}
 use Rattle.machine_routines.proofs.Seams.{get_left, get_right, get_here, set_here, get_within, cut_at}

@@ -8,9 +8,9 @@ use Rattle.ir_code.specs.declared.instr.Instr.TheVariants.{Li, Ld}
 use Rattle.ir_code.specs.declared.halt.Halt.TheVariants.{NoStack}
 use Rattle.ir_code.specs.Machine.{State, Goes, Halts, act, run}
 use Rattle.ir_code.specs.Laws.{ControlLaws, MemoryLaws, ArithmeticLaws}
-use Rattle.first_values.specs.Operations.{Member}
-use Rattle.first_values.specs.Operations as values
-use Rattle.first_values.specs.WellFormed.{Rise}
+use Rattle.ir_ssa.specs.of_first_values.Operations.{Member}
+use Rattle.ir_ssa.specs.of_first_values.Operations as values
+use Rattle.ir_ssa.specs.of_first_values.WellFormed.{Rise}
 use Rattle.machine_routines.specs.FindCode.{Target, member_at, way_code, Rises, Below}
 use Rattle.machine_routines.specs.Runs.{HasAt, Frame, Leads, CutBy}
 use Rattle.machine_routines.proofs.Seams.{cut_at}

@@ -7,7 +7,7 @@ use Rattle.ir_code.specs.declared.halt.Halt.{Halt}
 use Rattle.ir_code.specs.declared.halt.Halt.TheVariants.{NoHeap, NoStack}
 use Rattle.ir_code.specs.Machine.{State, Goes, Prints, Halts, act, step, then_on, run}
 use Rattle.mlc_runs.specs.Run.{World, gives, raises, stops, out_of_turns, went_wrong, writes}
-use Rattle.first_values.specs.Values.{Value, Run}
+use Rattle.ir_ssa.specs.of_first_values.Values.{Value, Run}
 use Rattle.ir_ssa.specs.Meaning.{Handler, throw, then_go}
 use Rattle.machine_routines.specs.Layout.{Word, Is}
 use Rattle.machine_routines.specs.Runs.{inside, returned, Leads, CutBy}

@@ -4,9 +4,9 @@ use Rattle.std.specs.Prelude.{nat_lt, nat_le, if◌then◌else◌}
 use Rattle.std.proofs.lemmas.Bool.{ltb-true}
 use Rattle.ir_code.specs.declared.instr.Instr.TheVariants.{Li, Alloc, St, Jmp, Call as CallRow, Acc}
 use Rattle.mlc_prims.specs.declared.prim.PrimExn.{PrimExn}
-use Rattle.first_values.specs.Values.{Piece, one as a_value, run as a_run}
-use Rattle.first_values.specs.Equality.{opaque}
-use Rattle.first_values.specs.Operations.{Constant, an_int, a_word, a_char, a_text, a_truth, Plain, same, constant, field, refer, content, assign, exception, initial, pack, argument, compute, equal, print, Test, is, is_of, holds, Callee, known, one_of}
+use Rattle.ir_ssa.specs.of_first_values.Values.{Piece, one as a_value, run as a_run}
+use Rattle.ir_ssa.specs.of_first_values.Equality.{opaque}
+use Rattle.ir_ssa.specs.of_first_values.Operations.{Constant, an_int, a_word, a_char, a_text, a_truth, Plain, same, constant, field, refer, content, assign, exception, initial, pack, argument, compute, equal, print, Test, is, is_of, holds, Callee, known, one_of}
 use Rattle.ir_ssa.specs.Tree.{Body, Bodies, plain, make, attempt, turn, call, label, again, guard, goto, jump, branch, switch, tail, ret, raise, last, arm}
 use Rattle.machine_routines.specs.EqualCode.{is_word}
 use Rattle.machine_routines.specs.FindCode.{Target, Search, only, exactly, node, search_size, search_code, half, joined, search_of, jumps}

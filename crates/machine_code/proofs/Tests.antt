@@ -15,9 +15,9 @@ use Rattle.mlc_prims.specs.LitOf.{Literal, int, word, char, string, truth}
 use Rattle.mlc_prims.specs.PrimOf.{Gives, made, fitting}
 use Rattle.mlc_prims.specs.Table.{literal_eq}
 use Rattle.mlc_prims.specs.declared.basis.BasisPrimitive.{BasisPrimitive}
-use Rattle.first_values.specs.Values.{Value, literal, name, packet, value_of, Run}
-use Rattle.first_values.specs.Equality.{is_text}
-use Rattle.first_values.specs.Operations.{Operands, Tables, Constant, an_int, a_word, a_char, a_text, a_truth, Test, is, is_of, holds, below, literal_at, literals, row_at, truth_in, decide}
+use Rattle.ir_ssa.specs.of_first_values.Values.{Value, literal, name, packet, value_of, Run}
+use Rattle.ir_ssa.specs.of_first_values.Equality.{is_text}
+use Rattle.ir_ssa.specs.of_first_values.Operations.{Operands, Tables, Constant, an_int, a_word, a_char, a_text, a_truth, Test, is, is_of, holds, below, literal_at, literals, row_at, truth_in, decide}
 use Rattle.machine_routines.specs.Layout.{Word, is_name, nth_at, IsLiteral, TextAt, Is}
 use Rattle.machine_routines.specs.Runs.{HasAt}
 use Rattle.machine_routines.proofs.LayoutLemmas.{nth_apart, texts_compare}

@@ -1,7 +1,7 @@
 -- Variables by name, at depths of the frame.
 use Rattle.std.proofs.Common.{◌≡◌, ℕ, suc, ◌+◌, List, [], ◌∷◌, ◌++◌, length, Option, Some, None, Bool, true, false, refl, sym, ap, subst, arith, append_assoc, append-nil, length-append}
 use Rattle.std.specs.Prelude.{slice_get, nat_eq, if◌then◌else◌}
-use Rattle.first_values.specs.Values.{Value, Env, bind, look_up, look_all, bind_all, first_some}
+use Rattle.ir_ssa.specs.of_first_values.Values.{Value, Env, bind, look_up, look_all, bind_all, first_some}
 use Rattle.machine_routines.specs.Layout.{Word, Is}
 use Rattle.machine_routines.proofs.Seams.{get_left, get_here}
 use Rattle.machine_code.specs.Agrees.{AreAll, none, more, Begins}

@@ -1,6 +1,6 @@
 -- The memory in use, as it is laid out: words that stay, the words of references, and those of exception names.
 use Rattle.std.specs.Prelude.{◌≡◌, ℕ, List, [], ◌∷◌, ◌++◌}
-use Rattle.first_values.specs.Values.{Value}
+use Rattle.ir_ssa.specs.of_first_values.Values.{Value}
 use Rattle.machine_routines.specs.Layout.{Word, stays, changes, names, TextAt, Is}
 
 -- the text that each identifier of an exception is, and the whole layout

@@ -4,9 +4,9 @@ use Rattle.ir_code.specs.declared.instr.Instr.{Instr}
 use Rattle.ir_code.specs.declared.instr.Instr.TheVariants.{Li, Mov, Jmp, Brz, Call as CallRow, Ret, Acc, PushHandler, PopHandler, Raise as RaiseRow, Alloc, Ld, St, WAdd, Copy, Eq, SCmp, Print as PrintRow}
 use Rattle.ir_code.specs.Words.{word_of, one_if}
 use Rattle.mlc_prims.specs.declared.prim.PrimExn.{PrimExn}
-use Rattle.first_values.specs.Equality.{Shape, opaque}
-use Rattle.first_values.specs.Values.{Piece, one as a_value, run as a_run}
-use Rattle.first_values.specs.Operations.{Constant, an_int, a_word, a_char, a_text, a_truth, Plain, same, constant, field, refer, content, assign, exception, initial, pack, argument, compute, equal, print, Test, is, is_of, holds, Callee, known, one_of}
+use Rattle.ir_ssa.specs.of_first_values.Equality.{Shape, opaque}
+use Rattle.ir_ssa.specs.of_first_values.Values.{Piece, one as a_value, run as a_run}
+use Rattle.ir_ssa.specs.of_first_values.Operations.{Constant, an_int, a_word, a_char, a_text, a_truth, Plain, same, constant, field, refer, content, assign, exception, initial, pack, argument, compute, equal, print, Test, is, is_of, holds, Callee, known, one_of}
 use Rattle.ir_ssa.specs.Tree.{Body, Bodies, plain, make, attempt, turn, call, label, again, guard, goto, jump, branch, switch, tail, ret, raise, last, arm}
 use Rattle.machine_routines.specs.EqualCode.{is_word}
 use Rattle.machine_routines.specs.FindCode.{Target, table_code, search_of, search_code}

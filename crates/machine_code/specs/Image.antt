@@ -4,8 +4,8 @@ use Rattle.ir_code.specs.declared.instr.Instr.{Instr}
 use Rattle.ir_code.specs.declared.instr.Instr.TheVariants.{Li, Call as CallRow, End, Ld}
 use Rattle.ir_code.specs.Program as machine
 use Rattle.ir_values.specs.Primitives.{raised_name}
-use Rattle.first_values.specs.Equality.{Shape}
-use Rattle.first_values.specs.Operations.{Member}
+use Rattle.ir_ssa.specs.of_first_values.Equality.{Shape}
+use Rattle.ir_ssa.specs.of_first_values.Operations.{Member}
 use Rattle.ir_ssa.specs.Tree.{Fun, Program}
 use Rattle.machine_routines.specs.EqualCode.{offset_of, place, shape_size, equal_code}
 use Rattle.machine_routines.specs.FindCode.{Target, Way, way_of, way_size, way_code}

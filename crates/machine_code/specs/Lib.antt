@@ -1,3 +1,4 @@
+pub use Rattle.machine_routines.specs as of_machine_routines
 pub mod Rows
 pub mod Agrees
 pub mod Code

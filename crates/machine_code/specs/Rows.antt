@@ -9,8 +9,8 @@ use Rattle.mlc_prims.specs.LitOf.{Literal, truth}
 use Rattle.mlc_prims.specs.PrimOf.{Gives, made, raised}
 use Rattle.mlc_prims.specs.declared.basis.BasisPrimitive.{BasisPrimitive}
 use Rattle.mlc_prims.specs.declared.prim.PrimExn.{PrimExn}
-use Rattle.first_values.specs.Values.{Value, packet, unit, truth_value, value_of}
-use Rattle.first_values.specs.Operations.{Operands, row_at}
+use Rattle.ir_ssa.specs.of_first_values.Values.{Value, packet, unit, truth_value, value_of}
+use Rattle.ir_ssa.specs.of_first_values.Operations.{Operands, row_at}
 use Rattle.machine_routines.specs.Layout.{Word, stays, IsLiteral, Is, Shows}
 use Rattle.machine_routines.specs.Runs.{HasAt, Frame, inside, Leads, RunsOut, NoRoom}
 

@@ -1,4 +1,6 @@
 // The code of images as a function on programs in SSA form, and that it does what the program does. Definitions, and laws of them.
 #![tactic(auto)]
 
+pub use machine_routines;
+
 pub mod law;

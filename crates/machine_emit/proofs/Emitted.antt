@@ -85,6 +85,13 @@ module _ (names : List (List ℕ)) (p : Program) (found : List ℕ) (texts : Lis
         at (Ok image) h = tt
         at (Err e) h = λ _. long h
 
+    pub short-enough : (¬ IsTooLong names p) → IfErr r (λ e. 2 ^ 27 < length ws + 4 * length c) → IfErr r P
+    short-enough fits = at r
+      where
+        at : (r : Result machine.Program E) → IfErr r (λ e. 2 ^ 27 < length ws + 4 * length c) → IfErr r P
+        at (Ok image) h = tt
+        at (Err e) h = absurd (fits (long h))
+
     pub too-large : LongMeansLarge → IfErr r (λ e. 2 ^ 27 < length ws + 4 * length c) → IfErr r (λ e. P e → 2 ^ 20 < parts names p)
     too-large law = at r
       where

@@ -5,7 +5,7 @@ use Rattle.first_values.specs.Operations.{Member}
 use Rattle.ir_ssa.specs.Tree.{Fun}
 use Rattle.machine_routines.specs.FindCode.{by_table, by_search, search_of, search_size, way_of, way_size}
 use Rattle.machine_code.specs.Image.{placed, set_place, set_size, tags_end}
-use Rattle.emit_parts.proofs.Searches.{search-long}
+use Rattle.emit_walk.proofs.of_emit_parts.Searches.{search-long}
 
 module _ (f g : ℕ → ℕ) where
   same-count : (ms : List Member) → length (placed f ms) ≡ length (placed g ms)

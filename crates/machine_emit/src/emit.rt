@@ -6,7 +6,7 @@ ghost use Rattle.ssa_form.specs.Programs.{program_of};
 ghost use Rattle.image_law.specs.ImageOf.{IsImageOf};
 ghost use Rattle.image_size.specs.Size.{parts};
 ghost use Rattle.machine_emit.specs.Contract.{Does, IsTooLong};
-ghost use Rattle.machine_emit.specs.declared.refused.EmitRefused.TheVariants.{TooLong};
+ghost use Rattle.machine_emit.specs.declared.refused.EmitRefused.TheVariants.{Memory, TooLong};
 
 use crate::assemble::settled_code;
 use crate::bytes::texts_are_bytes;
@@ -51,6 +51,7 @@ pub fn emit(alloc: Global, names: &Names, program: &Ssa) -> Result<Image, EmitRe
     ensures short { IfOk result (λ image. ¬ IsTooLong names.now (program_of program.now)) }
     ensures too_long { IfErr result (λ refused. refused ≡ TooLong → IsTooLong names.now (program_of program.now)) }
     ensures large { IfErr result (λ refused. refused ≡ TooLong → 2 ^ 20 < parts names.now (program_of program.now)) }
+    ensures memory { ¬ IsTooLong names.now (program_of program.now) → IfErr result (λ refused. refused ≡ Memory) }
 {
     image_is_right();
     images_are_small();

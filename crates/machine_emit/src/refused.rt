@@ -1,7 +1,7 @@
 // Why a program has no image here.
 
-ghost use Rattle.std.specs.Prelude.{◌≡◌, ◌≢◌};
-ghost use Rattle.machine_emit.specs.declared.refused.EmitRefused.TheVariants.{Memory, TooLong};
+ghost use Rattle.std.specs.Prelude.{◌≡◌};
+ghost use Rattle.machine_emit.specs.declared.refused.EmitRefused.TheVariants.{Memory};
 
 use emit_code::fault::EmitFault;
 use mlc_base::memory::NoMemory;
@@ -10,20 +10,15 @@ use mlc_base::memory::NoMemory;
 pub enum EmitRefused {
     /// The image would have more than 2^27 words.
     TooLong,
-    /// A number or a place that the code names is no word.
-    NoWord,
+    /// Want of memory, or a number or a place that the code would name and no word holds.
     Memory,
 }
 
 impl From<EmitFault> for EmitRefused {
-    ghost from_gives = { λ _ refused. refused ≢ TooLong };
+    ghost from_gives = { λ _ refused. refused ≡ Memory };
 
-    fn from(fault: EmitFault) -> EmitRefused {
-        match fault {
-            // Nothing in emit_code answers Unsettled.
-            EmitFault::NoWord | EmitFault::Unsettled => EmitRefused::NoWord,
-            EmitFault::Memory => EmitRefused::Memory,
-        }
+    fn from(_fault: EmitFault) -> EmitRefused {
+        EmitRefused::Memory
     }
 }
 

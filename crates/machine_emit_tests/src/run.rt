@@ -47,7 +47,7 @@ fn machine(alloc: Global, given: &Given, ops: &[Op], size: Size) -> Result<Vm, E
     let names = Names::new(alloc)?;
     let found = exceptions_of(alloc, &program.tables, &program.funs)?;
     if !are_standard(&found) {
-        return Err(EmitRefused::NoWord);
+        return Err(EmitRefused::Memory);
     }
     let image = emit(alloc, &names, &program)?;
     Ok(Vm::new(alloc, image, size.heap, size.stack)?)

@@ -18,9 +18,9 @@ use Rattle.mlc_prims.specs.LitOf.{word}
 use Rattle.mlc_prims.specs.declared.basis.BasisPrimitive.TheVariants.{Divide, Modulo, Quotient, Absolute}
 use Rattle.mlc_prims.specs.declared.prim.PrimExn.TheVariants.{Overflow, Div}
 use Rattle.first_values.specs.Operations.{ints, row_at}
-use Rattle.machine_routines.specs.Layout.{Word, Is}
-use Rattle.machine_routines.specs.Runs.{HasAt, Frame, inside, Leads}
-use Rattle.machine_routines.proofs.Leads.{trans, cut}
+use Rattle.machine_code.specs.of_machine_routines.Layout.{Word, Is}
+use Rattle.machine_code.specs.of_machine_routines.Runs.{HasAt, Frame, inside, Leads}
+use Rattle.machine_code.proofs.of_machine_routines.Leads.{trans, cut}
 use Rattle.machine_code.specs.Rows.{Packets, HoldAll, Comes, given, way_on}
 use Rattle.machine_code.specs.Rows as rows
 use Rattle.machine_primitives.specs.RowCode.{divided, magnitude}

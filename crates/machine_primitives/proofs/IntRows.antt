@@ -17,11 +17,11 @@ use Rattle.mlc_prims.specs.Table.{one, two, unless_zero, wrapped}
 use Rattle.mlc_prims.specs.declared.basis.BasisPrimitive.TheVariants.{Negate, Remainder}
 use Rattle.mlc_prims.specs.declared.prim.PrimExn.TheVariants.{Overflow, Div}
 use Rattle.first_values.specs.Operations.{ints as int_operands, row_at}
-use Rattle.machine_routines.specs.Layout.{Word, Is}
-use Rattle.machine_routines.specs.Runs.{HasAt, Frame, inside, Leads}
-use Rattle.machine_routines.proofs.Seams.{set_right, set_here}
-use Rattle.machine_routines.proofs.Leads.{trans, step_to, cut, out_after}
-use Rattle.machine_routines.proofs.Steps as steps
+use Rattle.machine_code.specs.of_machine_routines.Layout.{Word, Is}
+use Rattle.machine_code.specs.of_machine_routines.Runs.{HasAt, Frame, inside, Leads}
+use Rattle.machine_code.proofs.of_machine_routines.Seams.{set_right, set_here}
+use Rattle.machine_code.proofs.of_machine_routines.Leads.{trans, step_to, cut, out_after}
+use Rattle.machine_code.proofs.of_machine_routines.Steps as steps
 use Rattle.machine_code.specs.Rows.{Packets, HoldAll, no_operand, an_operand, Comes, given, way_on, WhenRaised}
 use Rattle.machine_code.specs.Rows as rows
 use Rattle.machine_primitives.specs.RowCode.{partial, negated}

@@ -17,10 +17,10 @@ use Rattle.mlc_prims.specs.declared.prim.PrimExn.{PrimExn}
 use Rattle.mlc_prims.specs.declared.prim.PrimExn.TheVariants.{Overflow, Chr}
 use Rattle.first_values.specs.Values.{literal, truth_value, value_of}
 use Rattle.first_values.specs.Operations.{Operands, ints, words, chars, texts, row_at}
-use Rattle.machine_routines.specs.Layout.{Word, TextAt, Is}
-use Rattle.machine_routines.specs.Runs.{HasAt, Frame, inside}
-use Rattle.machine_routines.proofs.Seams.{get_within}
-use Rattle.machine_routines.proofs.LayoutLemmas.{bytes_in, bytes_end}
+use Rattle.machine_code.specs.of_machine_routines.Layout.{Word, TextAt, Is}
+use Rattle.machine_code.specs.of_machine_routines.Runs.{HasAt, Frame, inside}
+use Rattle.machine_code.proofs.of_machine_routines.Seams.{get_within}
+use Rattle.machine_code.proofs.of_machine_routines.LayoutLemmas.{bytes_in, bytes_end}
 use Rattle.machine_code.specs.Rows.{Packets, HoldAll, no_operand, an_operand, Ready, Comes, given, way_on}
 use Rattle.machine_primitives.specs.RowLaws.{RowIsRight}
 use Rattle.machine_primitives.specs.RowCode.{limited, contrary, loaded, swapped}

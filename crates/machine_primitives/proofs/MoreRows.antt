@@ -18,8 +18,8 @@ use Rattle.mlc_prims.specs.declared.basis.BasisPrimitive.{BasisPrimitive}
 use Rattle.mlc_prims.specs.declared.basis.BasisPrimitive.TheVariants.{Negate, BitsAnd, BitsOr, BitsXor, BitsNot, ShiftLeft, ShiftRight, ShiftSigned, FromInt, CharCode, Less, Greater, Equals}
 use Rattle.first_values.specs.Values.{literal, truth_value, value_of}
 use Rattle.first_values.specs.Operations.{Operands, ints, words, chars, is_at, row_at}
-use Rattle.machine_routines.specs.Layout.{Word, Is}
-use Rattle.machine_routines.specs.Runs.{HasAt, Frame, inside}
+use Rattle.machine_code.specs.of_machine_routines.Layout.{Word, Is}
+use Rattle.machine_code.specs.of_machine_routines.Runs.{HasAt, Frame, inside}
 use Rattle.machine_code.specs.Rows.{Packets, HoldAll, no_operand, an_operand, Ready, Comes, given, way_on}
 use Rattle.machine_primitives.specs.RowLaws.{RowIsRight}
 use Rattle.machine_primitives.specs.RowCode.{total, moved, from_word, swapped}

@@ -9,11 +9,11 @@ use Rattle.ir_code.specs.Words.{one_if, same_word, word_less}
 use Rattle.ir_code.specs.Machine.{State, StepResult, Goes, Halts, act, check, on_slot}
 use Rattle.ir_code.specs.Laws.{ControlLaws, MemoryLaws, ArithmeticLaws, NextLaws, Total}
 use Rattle.first_values.specs.Values.{Value}
-use Rattle.machine_routines.specs.Layout.{Word, Is}
-use Rattle.machine_routines.specs.Runs.{HasAt, Frame, inside, Leads}
-use Rattle.machine_routines.proofs.Seams.{get_right, set_right, get_here}
-use Rattle.machine_routines.proofs.Leads.{trans, step_to, cut, out_after}
-use Rattle.machine_routines.proofs.Steps as steps
+use Rattle.machine_code.specs.of_machine_routines.Layout.{Word, Is}
+use Rattle.machine_code.specs.of_machine_routines.Runs.{HasAt, Frame, inside, Leads}
+use Rattle.machine_code.proofs.of_machine_routines.Seams.{get_right, set_right, get_here}
+use Rattle.machine_code.proofs.of_machine_routines.Leads.{trans, step_to, cut, out_after}
+use Rattle.machine_code.proofs.of_machine_routines.Steps as steps
 use Rattle.machine_code.specs.Rows.{Comes}
 use Rattle.machine_code.specs.Rows as rows
 use Rattle.machine_primitives.proofs.Shapes.{Short, past, short, room, written, there, does_li, does_mov, does_two, same_comes}

@@ -9,10 +9,10 @@ use Rattle.word_arithmetic.specs.Arithmetic.{signed_text}
 use Rattle.ir_code.specs.Machine.{State, all_bytes}
 use Rattle.mlc_prims.specs.LitOf.{string}
 use Rattle.first_values.specs.Values.{literal}
-use Rattle.machine_routines.specs.Layout.{Word, stays, BytesAt, TextAt, Shows}
-use Rattle.machine_routines.specs.Runs.{Frame, inside, Leads}
-use Rattle.machine_routines.proofs.Seams.{get_here, get_within}
-use Rattle.machine_routines.proofs.LayoutLemmas.{BytesIn, bytes_in, bytes_end}
+use Rattle.machine_code.specs.of_machine_routines.Layout.{Word, stays, BytesAt, TextAt, Shows}
+use Rattle.machine_code.specs.of_machine_routines.Runs.{Frame, inside, Leads}
+use Rattle.machine_code.proofs.of_machine_routines.Seams.{get_here, get_within}
+use Rattle.machine_code.proofs.of_machine_routines.LayoutLemmas.{BytesIn, bytes_in, bytes_end}
 use Rattle.machine_code.specs.Rows.{Comes, comes}
 use Rattle.ir_code.specs.declared.instr.Instr.{Instr}
 

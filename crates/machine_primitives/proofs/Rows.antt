@@ -19,9 +19,9 @@ use Rattle.mlc_prims.specs.declared.basis.BasisPrimitive.TheVariants.{Add, Subtr
 use Rattle.mlc_prims.specs.declared.prim.PrimExn.TheVariants.{Overflow, Div}
 use Rattle.first_values.specs.Operations.{Operands, ints, words, chars, is_at, row_at}
 use Rattle.first_values.specs.Values.{literal}
-use Rattle.machine_routines.specs.Layout.{Word, Is}
-use Rattle.machine_routines.specs.Runs.{HasAt, Frame, inside}
-use Rattle.machine_routines.proofs.Compares.{numbers_equal}
+use Rattle.machine_code.specs.of_machine_routines.Layout.{Word, Is}
+use Rattle.machine_code.specs.of_machine_routines.Runs.{HasAt, Frame, inside}
+use Rattle.machine_code.proofs.of_machine_routines.Compares.{numbers_equal}
 use Rattle.machine_code.specs.Rows.{Packets, HoldAll, no_operand, an_operand, Comes, Passes, given, way_on, WhenRaised}
 use Rattle.machine_primitives.specs.RowLaws.{LateIsRight, RowIsRight, TestIsRight}
 use Rattle.machine_primitives.specs.RowCode.{total, partial, holds, swapped, fails}

@@ -11,11 +11,11 @@ use Rattle.ir_code.specs.Laws.{ControlLaws, MemoryLaws, ArithmeticLaws, NextLaws
 use Rattle.mlc_prims.specs.PrimOf.{Gives, made, raised}
 use Rattle.mlc_prims.specs.declared.prim.PrimExn.{PrimExn}
 use Rattle.first_values.specs.Values.{Value}
-use Rattle.machine_routines.specs.Layout.{Word, Is}
-use Rattle.machine_routines.specs.Runs.{HasAt, Frame, inside, Leads}
-use Rattle.machine_routines.proofs.Seams.{get_left, get_here, set_here, set_right}
-use Rattle.machine_routines.proofs.Leads.{trans, step_to, cut}
-use Rattle.machine_routines.proofs.Steps as steps
+use Rattle.machine_code.specs.of_machine_routines.Layout.{Word, Is}
+use Rattle.machine_code.specs.of_machine_routines.Runs.{HasAt, Frame, inside, Leads}
+use Rattle.machine_code.proofs.of_machine_routines.Seams.{get_left, get_here, set_here, set_right}
+use Rattle.machine_code.proofs.of_machine_routines.Leads.{trans, step_to, cut}
+use Rattle.machine_code.proofs.of_machine_routines.Steps as steps
 use Rattle.machine_code.specs.Rows.{Comes, comes, Passes, passes, WhenRaised}
 use Rattle.machine_code.specs.Rows as rows
 

@@ -11,11 +11,11 @@ use Rattle.mlc_prims.specs.LitOf.{string}
 use Rattle.mlc_prims.specs.PrimOf.{Gives, made, raised, joined, max_size}
 use Rattle.mlc_prims.specs.declared.prim.PrimExn.TheVariants.{Size}
 use Rattle.first_values.specs.Values.{literal}
-use Rattle.machine_routines.specs.Layout.{Word, Is}
-use Rattle.machine_routines.specs.Runs.{HasAt, Frame, inside, Leads}
-use Rattle.machine_routines.proofs.Seams.{get_left, cut_at}
-use Rattle.machine_routines.proofs.LayoutLemmas.{BytesIn}
-use Rattle.machine_routines.proofs.Leads.{trans, cut, out_after}
+use Rattle.machine_code.specs.of_machine_routines.Layout.{Word, Is}
+use Rattle.machine_code.specs.of_machine_routines.Runs.{HasAt, Frame, inside, Leads}
+use Rattle.machine_code.proofs.of_machine_routines.Seams.{get_left, cut_at}
+use Rattle.machine_code.proofs.of_machine_routines.LayoutLemmas.{BytesIn}
+use Rattle.machine_code.proofs.of_machine_routines.Leads.{trans, cut, out_after}
 use Rattle.machine_code.specs.Rows.{Packets, Ready, Comes, given, way_on}
 use Rattle.machine_code.specs.Rows as rows
 use Rattle.machine_primitives.specs.RowCode.{join_of}

@@ -21,9 +21,9 @@ use Rattle.mlc_prims.specs.declared.basis.BasisPrimitive.{BasisPrimitive}
 use Rattle.mlc_prims.specs.declared.basis.BasisPrimitive.TheVariants.{Less, LessEqual, Greater, GreaterEqual, Equals}
 use Rattle.first_values.specs.Values.{truth_value}
 use Rattle.first_values.specs.Operations.{texts, row_at}
-use Rattle.machine_routines.specs.Layout.{Word, TextAt, Shows, Is}
-use Rattle.machine_routines.specs.Runs.{HasAt, Frame, inside, Leads}
-use Rattle.machine_routines.proofs.Leads.{trans, cut}
+use Rattle.machine_code.specs.of_machine_routines.Layout.{Word, TextAt, Shows, Is}
+use Rattle.machine_code.specs.of_machine_routines.Runs.{HasAt, Frame, inside, Leads}
+use Rattle.machine_code.proofs.of_machine_routines.Leads.{trans, cut}
 use Rattle.machine_code.specs.Rows.{Packets, HoldAll, no_operand, an_operand, Ready, Comes, Passes, passes, given, way_on}
 use Rattle.machine_code.specs.Rows as rows
 use Rattle.machine_primitives.specs.RowLaws.{RowIsRight, TestIsRight}

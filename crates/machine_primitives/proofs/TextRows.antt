@@ -16,10 +16,10 @@ use Rattle.mlc_prims.specs.declared.basis.BasisPrimitive.TheVariants.{CharAt, St
 use Rattle.mlc_prims.specs.declared.prim.PrimExn.TheVariants.{Subscript}
 use Rattle.first_values.specs.Values.{literal}
 use Rattle.first_values.specs.Operations.{ints, chars, texts, row_at}
-use Rattle.machine_routines.specs.Layout.{Word, TextAt, Is}
-use Rattle.machine_routines.specs.Runs.{HasAt, Frame, inside, Leads}
-use Rattle.machine_routines.proofs.Seams.{cut_at}
-use Rattle.machine_routines.proofs.Leads.{trans, cut, out_after}
+use Rattle.machine_code.specs.of_machine_routines.Layout.{Word, TextAt, Is}
+use Rattle.machine_code.specs.of_machine_routines.Runs.{HasAt, Frame, inside, Leads}
+use Rattle.machine_code.proofs.of_machine_routines.Seams.{cut_at}
+use Rattle.machine_code.proofs.of_machine_routines.Leads.{trans, cut, out_after}
 use Rattle.machine_code.specs.Rows.{Packets, HoldAll, no_operand, an_operand, Ready, Comes, given, way_on}
 use Rattle.machine_code.specs.Rows as rows
 use Rattle.machine_primitives.specs.RowLaws.{RowIsRight}

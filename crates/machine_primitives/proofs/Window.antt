@@ -13,12 +13,12 @@ use Rattle.ir_code.specs.Words.{order_code, word_sum, word_difference, int_text,
 use Rattle.ir_code.specs.Machine.{State, StepResult, Goes, Halts, act, check, on_slot, with_word, with_slot, grow, may_copy, next, put}
 use Rattle.ir_code.specs.Laws.{ControlLaws, MemoryLaws, ArithmeticLaws, NextLaws, Total}
 use Rattle.first_values.specs.Values.{Value}
-use Rattle.machine_routines.specs.Layout.{Word, TextAt, Shows}
-use Rattle.machine_routines.specs.Runs.{Frame, inside, Leads, RunsOut}
-use Rattle.machine_routines.proofs.Seams.{get_left, get_right, set_right}
-use Rattle.machine_routines.proofs.LayoutLemmas.{BytesIn, take_bytes, bytes_more, bytes_end}
-use Rattle.machine_routines.proofs.Leads.{trans, step_to, cut, out_after}
-use Rattle.machine_routines.proofs.Steps as steps
+use Rattle.machine_code.specs.of_machine_routines.Layout.{Word, TextAt, Shows}
+use Rattle.machine_code.specs.of_machine_routines.Runs.{Frame, inside, Leads, RunsOut}
+use Rattle.machine_code.proofs.of_machine_routines.Seams.{get_left, get_right, set_right}
+use Rattle.machine_code.proofs.of_machine_routines.LayoutLemmas.{BytesIn, take_bytes, bytes_more, bytes_end}
+use Rattle.machine_code.proofs.of_machine_routines.Leads.{trans, step_to, cut, out_after}
+use Rattle.machine_code.proofs.of_machine_routines.Steps as steps
 use Rattle.machine_code.specs.Rows.{Comes, comes, Passes, passes}
 use Rattle.machine_code.specs.Rows as rows
 

@@ -8,8 +8,8 @@ use Rattle.mlc_prims.specs.declared.basis.BasisPrimitive.{BasisPrimitive}
 use Rattle.mlc_prims.specs.declared.prim.PrimExn.{PrimExn}
 use Rattle.first_values.specs.Values.{packet, unit}
 use Rattle.first_values.specs.Operations.{Operands, row_at}
-use Rattle.machine_routines.specs.Layout.{Word, Is}
-use Rattle.machine_routines.specs.Runs.{HasAt, Frame, inside}
+use Rattle.machine_code.specs.of_machine_routines.Layout.{Word, Is}
+use Rattle.machine_code.specs.of_machine_routines.Runs.{HasAt, Frame, inside}
 use Rattle.machine_code.specs.Rows.{Packets, HoldAll, Ready, Comes, Passes, given, way_on, later, WithLate}
 
 -- the code of a primitive at a place, with its result to a slot and the place to go on with a packet, of operands in slots

@@ -11,7 +11,7 @@ use Rattle.mlc_prims.specs.declared.basis.BasisPrimitive.{BasisPrimitive}
 use Rattle.mlc_prims.specs.declared.basis.BasisPrimitive.TheVariants.{Add, Subtract, Multiply, Divide, Modulo, Negate, Absolute, Less, LessEqual, Greater, GreaterEqual, Equals, Assign, Quotient, Remainder, BitsAnd, BitsOr, BitsXor, BitsNot, ShiftLeft, ShiftRight, ShiftSigned, ToInt, ToIntSigned, FromInt, CharCode, CharOf, TextOf, SizeOf, CharAt, PartOf, Concat, StringOf, Print}
 use Rattle.mlc_prims.specs.declared.prim.PrimExn.TheVariants.{Div, Chr, Size}
 use Rattle.first_values.specs.Operations.{Operands, ints, words, chars, texts, is_at, row_at}
-use Rattle.machine_code.specs.Rows.{AreRight}
+use Rattle.machine_primitives.specs.of_machine_code.Rows.{AreRight}
 use Rattle.machine_primitives.specs.RowLaws.{LateIsRight, RowIsRight, TestIsRight}
 use Rattle.machine_primitives.specs.Laws.{SumsAreRight, WordQuotientsAreRight, IntRowsAreRight, DivisionsAreRight, BitsAreRight, ConversionsAreRight, TruthsAreRight, LimitsAreRight, SizesAreRight, ContrariesAreRight, ComparisonsAreRight, TextOrdersAreRight, TextsAreRight}
 use Rattle.machine_rows.specs.Table.{int_row, word_row, char_row, text_row, int_test, word_test, text_test, no_row, no_test, rows}

@@ -7,14 +7,14 @@ use Rattle.first_values.specs.Equality.{Shape, opaque}
 use Rattle.first_values.specs.Operations.{Member, Plain, same, constant, field, refer, content, assign, exception, initial, pack, argument, compute, equal, print, Test, is, is_of, holds, Operands, ints, words, chars, texts}
 use Rattle.ir_ssa.specs.Tree.{Body, Bodies, Fun, plain, make, attempt, turn, call, label, again, guard, goto, jump, branch, switch, tail, ret, raise, last, arm}
 use Rattle.ir_ssa.specs.Size.{nodes, nodes_bodies, nodes_funs}
-use Rattle.machine_routines.specs.EqualCode.{is_word, equal_code}
-use Rattle.machine_routines.specs.Sizes.{EqualIsShort, FindIsShort}
-use Rattle.machine_code.specs.Rows.{AreRight}
-use Rattle.machine_code.specs.Code.{Places, Scope, Exit, no_exit, exit_at, left, plain_size, test_size, count, Choice, choice_of, size, arms_size, with_params, code_at}
-use Rattle.machine_code.specs.Image.{funs_code, widest, placed, tags_end, set_code, set_size, sets_code, fun_size, most_code, funs_at, sets_at, fun_at, places_of}
-use Rattle.machine_code.specs.Sizes.{sets_nodes}
-use Rattle.machine_code.proofs.Bounds.{is_bound, callee_bound, make_bound, late_bound, equal_bound, goto_bound, args_bound, tests_of, one_more_test, choice_bound}
-use Rattle.machine_code.proofs.Sizes.{code_length}
+use Rattle.machine_primitives.specs.of_machine_routines.EqualCode.{is_word, equal_code}
+use Rattle.machine_primitives.specs.of_machine_routines.Sizes.{EqualIsShort, FindIsShort}
+use Rattle.machine_primitives.specs.of_machine_code.Rows.{AreRight}
+use Rattle.machine_primitives.specs.of_machine_code.Code.{Places, Scope, Exit, no_exit, exit_at, left, plain_size, test_size, count, Choice, choice_of, size, arms_size, with_params, code_at}
+use Rattle.machine_primitives.specs.of_machine_code.Image.{funs_code, widest, placed, tags_end, set_code, set_size, sets_code, fun_size, most_code, funs_at, sets_at, fun_at, places_of}
+use Rattle.machine_primitives.specs.of_machine_code.Sizes.{sets_nodes}
+use Rattle.machine_primitives.proofs.of_machine_code.Bounds.{is_bound, callee_bound, make_bound, late_bound, equal_bound, goto_bound, args_bound, tests_of, one_more_test, choice_bound}
+use Rattle.machine_primitives.proofs.of_machine_code.Sizes.{code_length}
 use Rattle.machine_rows.specs.Table.{int_row, word_row, char_row, text_row, int_test, word_test, text_test, rows}
 use Rattle.machine_rows.specs.Law.{RowsAreShort, ImagesAreShort}
 

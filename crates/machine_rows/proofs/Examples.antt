@@ -12,8 +12,8 @@ use Rattle.ir_ssa.specs.Tree.{Body, Program, plain, attempt, branch, ret, raise}
 use Rattle.ir_ssa.specs.Meaning.{meaning}
 use Rattle.ir_ssa.specs.WellFormed.{IsWellFormed}
 use Rattle.same_runs.specs.SameRuns.{SameRuns}
-use Rattle.machine_code.specs.Image.{text_of, image_of}
-use Rattle.machine_code.specs.Law.{IsFit}
+use Rattle.machine_primitives.specs.of_machine_code.Image.{text_of, image_of}
+use Rattle.machine_primitives.specs.of_machine_code.Law.{IsFit}
 use Rattle.machine_rows.specs.Table.{rows}
 use Rattle.machine_rows.specs.Law.{ImagesAreRight}
 

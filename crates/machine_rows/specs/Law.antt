@@ -8,11 +8,11 @@ use Rattle.ir_ssa.specs.Tree.{Program}
 use Rattle.ir_ssa.specs.Meaning.{meaning}
 use Rattle.ir_ssa.specs.Size.{nodes_funs}
 use Rattle.ir_ssa.specs.WellFormed.{IsWellFormed}
-use Rattle.machine_routines.specs.Sizes.{shapes_nodes}
+use Rattle.machine_primitives.specs.of_machine_routines.Sizes.{shapes_nodes}
 use Rattle.same_runs.specs.SameRuns.{SameRuns}
-use Rattle.machine_code.specs.Image.{text_of, constants_of, code_of, image_of}
-use Rattle.machine_code.specs.Law.{IsFit}
-use Rattle.machine_code.specs.Sizes.{sets_nodes}
+use Rattle.machine_primitives.specs.of_machine_code.Image.{text_of, constants_of, code_of, image_of}
+use Rattle.machine_primitives.specs.of_machine_code.Law.{IsFit}
+use Rattle.machine_primitives.specs.of_machine_code.Sizes.{sets_nodes}
 use Rattle.machine_rows.specs.Table.{rows}
 
 -- whatever the heap and the stack

@@ -6,7 +6,7 @@ use Rattle.mlc_prims.specs.declared.basis.BasisPrimitive.TheVariants.{Add, Subtr
 use Rattle.mlc_prims.specs.declared.prim.PrimExn.{PrimExn}
 use Rattle.mlc_prims.specs.declared.prim.PrimExn.TheVariants.{Overflow, Div, Chr}
 use Rattle.first_values.specs.Operations.{Operands, ints, words, chars, texts}
-use Rattle.machine_code.specs.Rows.{Rows}
+use Rattle.machine_primitives.specs.of_machine_code.Rows.{Rows}
 use Rattle.machine_primitives.specs.RowLaws.{Code, TestCode}
 use Rattle.machine_primitives.specs.RowCode.{total, partial, negated, moved, from_word, limited, loaded, contrary, holds, swapped, fails, divided, magnitude, against, are_same, byte_of, part_of, join_of, text_of_one, text_of_int}
 

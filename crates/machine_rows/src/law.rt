@@ -1,6 +1,6 @@
 // That images do what their programs do, and how long they are, as contracts.
 
-ghost use Rattle.machine_code.specs.Rows.{AreRight};
+ghost use Rattle.machine_primitives.specs.of_machine_code.Rows.{AreRight};
 ghost use Rattle.machine_rows.specs.Table.{rows};
 ghost use Rattle.machine_rows.specs.Law.{ImagesAreRight, ImagesAreShort, RowsAreShort};
 
@@ -28,7 +28,7 @@ pub fn images_are_right()
     ensures { ImagesAreRight }
 {
     rows_are_right();
-    machine_code::law::code_is_right();
+    machine_primitives::machine_code::law::code_is_right();
 }
 
 /// An image has at most ten instructions a node.
@@ -37,5 +37,5 @@ pub fn images_are_short()
     ensures code { ImagesAreShort }
 {
     rows_are_right();
-    machine_routines::law::short();
+    machine_primitives::machine_routines::law::short();
 }

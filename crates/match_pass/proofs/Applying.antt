@@ -7,10 +7,10 @@ use Rattle.plain_tree.specs.declared.tree.Step.{Step}
 use Rattle.prog_tree.specs.TreeOf.{Reading}
 use Rattle.prog_tree.specs.declared.tree.Exp.{Exp}
 use Rattle.match_types.specs.declared.work.Work.{Work}
-use Rattle.pattern_tests.proofs.Chains.{next-take}
-use Rattle.exp_steps.specs.Making.{Makes}
-use Rattle.exp_steps.specs.Made.{applied}
-use Rattle.exp_steps.proofs.Counting.{makes-as}
+use Rattle.general_bindings.proofs.of_pattern_tests.Chains.{next-take}
+use Rattle.general_bindings.specs.of_exp_steps.Making.{Makes}
+use Rattle.general_bindings.specs.of_exp_steps.Made.{applied}
+use Rattle.general_bindings.proofs.of_exp_steps.Counting.{makes-as}
 use Rattle.match_pass.specs.Reading.{expression, applied_to}
 use Rattle.match_pass.proofs.Lists.{arguments-taken, some-called, take-past}
 

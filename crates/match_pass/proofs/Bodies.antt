@@ -25,9 +25,9 @@ use Rattle.match_types.specs.Views.{View, reading, Sees, Keeps}
 use Rattle.match_types.specs.declared.work.Work.{Work}
 use Rattle.match_types.specs.declared.work.ValueType.TheVariants.{Unit}
 use Rattle.match_types.proofs.Seeing.{sees-before, earlier-stays, longer-by, held-within, held-is}
-use Rattle.match_steps.specs.Steps.{stand}
-use Rattle.exp_steps.specs.Making.{Pushed}
-use Rattle.exp_blocks.specs.Giving.{Gives, Grows}
+use Rattle.general_bindings.specs.of_match_steps.Steps.{stand}
+use Rattle.general_bindings.specs.of_exp_steps.Making.{Pushed}
+use Rattle.general_bindings.specs.of_exp_blocks.Giving.{Gives, Grows}
 use Rattle.match_pass.specs.Reading.{decs_read}
 use Rattle.match_pass.specs.Going.{Declares}
 use Rattle.match_pass.specs.Programs.{program}

@@ -11,10 +11,10 @@ use Rattle.match_types.specs.declared.work.Work.{Work}
 use Rattle.match_types.specs.declared.work.ValueType.{ValueType}
 use Rattle.match_types.specs.declared.work.ValueType.TheVariants as kind
 use Rattle.match_types.proofs.Seeing.{keeps-on, sees-before}
-use Rattle.match_steps.specs.Steps.{stand}
-use Rattle.match_steps.proofs.Pushed.{puts-as}
-use Rattle.exp_steps.specs.Making.{Pushed}
-use Rattle.exp_blocks.specs.Giving.{Gives}
+use Rattle.general_bindings.specs.of_match_steps.Steps.{stand}
+use Rattle.general_bindings.proofs.of_match_steps.Pushed.{puts-as}
+use Rattle.general_bindings.specs.of_exp_steps.Making.{Pushed}
+use Rattle.general_bindings.specs.of_exp_blocks.Giving.{Gives}
 use Rattle.match_pass.specs.Going.{Ending, Chosen}
 
 pub choice-made : {w0 w1 w2 : Work} {s a : List Step} {y : ℕ} (u : ℕ) (t : ValueType) (x : ℕ) (o : Otherwise) (inner : List Step) (value : ℕ) (body last all : Exp) → Keeps w0 w1 → w1.next ≡ suc w0.next

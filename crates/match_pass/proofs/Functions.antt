@@ -19,16 +19,16 @@ use Rattle.match_types.specs.declared.work.Work.{Work}
 use Rattle.match_types.specs.declared.work.ValueType.{ValueType}
 use Rattle.match_types.specs.declared.work.ValueType.TheVariants as kind
 use Rattle.match_types.proofs.Seeing.{sees-before}
-use Rattle.match_steps.specs.Steps.{stand, Puts}
-use Rattle.pattern_tests.specs.Spots.{spots_onto, names_onto}
-use Rattle.pattern_tests.specs.Tasks.{tests_of}
-use Rattle.pattern_tests.specs.declared.spots.Spot.{Spot}
-use Rattle.exp_steps.specs.Making.{Makes}
-use Rattle.exp_blocks.specs.Giving.{Grows, over, parameters_before, lambda_of}
-use Rattle.exp_blocks.specs.Binding.{Fits}
-use Rattle.exp_blocks.specs.declared.blocks.Lambda.{Lambda}
-use Rattle.exp_blocks.proofs.Growing.{grows-on, grows-by, keeps-grown, sees-named, sees-through, ends-same, ends-as}
-use Rattle.exp_blocks.proofs.Binding.{fun-before}
+use Rattle.general_bindings.specs.of_match_steps.Steps.{stand, Puts}
+use Rattle.general_bindings.specs.of_pattern_tests.Spots.{spots_onto, names_onto}
+use Rattle.general_bindings.specs.of_pattern_tests.Tasks.{tests_of}
+use Rattle.general_bindings.specs.of_pattern_tests.declared.spots.Spot.{Spot}
+use Rattle.general_bindings.specs.of_exp_steps.Making.{Makes}
+use Rattle.general_bindings.specs.of_exp_blocks.Giving.{Grows, over, parameters_before, lambda_of}
+use Rattle.general_bindings.specs.of_exp_blocks.Binding.{Fits}
+use Rattle.general_bindings.specs.of_exp_blocks.declared.blocks.Lambda.{Lambda}
+use Rattle.general_bindings.proofs.of_exp_blocks.Growing.{grows-on, grows-by, keeps-grown, sees-named, sees-through, ends-same, ends-as}
+use Rattle.general_bindings.proofs.of_exp_blocks.Binding.{fun-before}
 use Rattle.match_pass.specs.Reading.{named_read, by_rules_read, rules_read}
 use Rattle.match_pass.specs.Going.{GivesFunction, GivesRules, Matched, MakesTested, MakesRule}
 use Rattle.match_pass.specs.Heads.{Headed, Unnamed}

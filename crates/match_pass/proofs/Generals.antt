@@ -17,15 +17,15 @@ use Rattle.match_types.specs.Views.{View, Sees, Keeps, in_view}
 use Rattle.match_types.specs.declared.work.Work.{Work}
 use Rattle.match_types.specs.declared.work.ValueType.TheVariants.{Source}
 use Rattle.match_types.proofs.Seeing.{keeps-same, keeps-on, sees-before}
-use Rattle.match_steps.specs.Steps.{Puts, stand}
-use Rattle.pattern_tests.specs.Spots.{spots_onto}
-use Rattle.pattern_tests.specs.Tasks.{tests_of}
-use Rattle.pattern_tests.specs.declared.spots.Spot.{Spot}
-use Rattle.pattern_tests.proofs.Chains.{next-drop}
-use Rattle.exp_steps.specs.Making.{Makes}
-use Rattle.exp_blocks.specs.Giving.{Grows}
-use Rattle.exp_blocks.specs.Binding.{InScope}
-use Rattle.exp_blocks.proofs.Growing.{grows-on, keeps-grown}
+use Rattle.general_bindings.specs.of_match_steps.Steps.{Puts, stand}
+use Rattle.general_bindings.specs.of_pattern_tests.Spots.{spots_onto}
+use Rattle.general_bindings.specs.of_pattern_tests.Tasks.{tests_of}
+use Rattle.general_bindings.specs.of_pattern_tests.declared.spots.Spot.{Spot}
+use Rattle.general_bindings.proofs.of_pattern_tests.Chains.{next-drop}
+use Rattle.general_bindings.specs.of_exp_steps.Making.{Makes}
+use Rattle.general_bindings.specs.of_exp_blocks.Giving.{Grows}
+use Rattle.general_bindings.specs.of_exp_blocks.Binding.{InScope}
+use Rattle.general_bindings.proofs.of_exp_blocks.Growing.{grows-on, keeps-grown}
 use Rattle.general_bindings.specs.General.{listed, general, separate, splitting, found, past, shape_of, past_of, found_of, made_of}
 use Rattle.match_pass.specs.Reading.{expression}
 use Rattle.match_pass.specs.Declaring.{Binds, Generalises, bind_before, binds_read}

@@ -20,12 +20,12 @@ use Rattle.match_types.specs.Views.{View, reading, Sees, Keeps, Stands, in_view}
 use Rattle.match_types.specs.declared.work.Work.{Work}
 use Rattle.match_types.specs.declared.work.ValueType.TheVariants.{Source}
 use Rattle.match_types.proofs.Seeing.{keeps-same, keeps-on, sees-before}
-use Rattle.match_steps.specs.Steps.{Puts, stand}
-use Rattle.pattern_tests.proofs.Chains.{next-drop}
-use Rattle.exp_blocks.specs.Giving.{Grows, Ends, over, lambda_of}
-use Rattle.exp_blocks.specs.Binding.{InScope}
-use Rattle.exp_blocks.specs.declared.blocks.Lambda.{Lambda}
-use Rattle.exp_blocks.proofs.Growing.{grows-on, grows-by, keeps-grown, sees-through}
+use Rattle.general_bindings.specs.of_match_steps.Steps.{Puts, stand}
+use Rattle.general_bindings.proofs.of_pattern_tests.Chains.{next-drop}
+use Rattle.general_bindings.specs.of_exp_blocks.Giving.{Grows, Ends, over, lambda_of}
+use Rattle.general_bindings.specs.of_exp_blocks.Binding.{InScope}
+use Rattle.general_bindings.specs.of_exp_blocks.declared.blocks.Lambda.{Lambda}
+use Rattle.general_bindings.proofs.of_exp_blocks.Growing.{grows-on, grows-by, keeps-grown, sees-through}
 use Rattle.general_bindings.specs.General.{listed}
 use Rattle.match_pass.specs.Reading.{function_read}
 use Rattle.match_pass.specs.Going.{GivesFunction}

@@ -8,9 +8,9 @@ use Rattle.match_compile.specs.Compile.{way, by_call}
 use Rattle.prog_tree.specs.TreeOf.{Reading, tree_of, field_of, argument_of, join_of, record_of, apply_by, left_joins, join}
 use Rattle.prog_tree.specs.declared.tree.Exp.{Exp}
 use Rattle.prog_tree.specs.declared.tree.Join.{Join}
-use Rattle.pattern_tests.proofs.Chains.{next-take}
-use Rattle.exp_steps.specs.Made.{with_field, one_more, applied}
-use Rattle.exp_steps.specs.Joining.{joined}
+use Rattle.general_bindings.proofs.of_pattern_tests.Chains.{next-take}
+use Rattle.general_bindings.specs.of_exp_steps.Made.{with_field, one_more, applied}
+use Rattle.general_bindings.specs.of_exp_steps.Joining.{joined}
 use Rattle.match_pass.specs.Reading.{expression, fields_read, applied_to, left_chain}
 
 field-behind : (R : Reading) (fs : List (Label × Exp)) (f : Label × Exp) → record_of (map (field_of R) (fs ++ f ∷ [])) ≡ with_field (record_of (map (field_of R) fs)) f.0 (tree_of R f.1)

@@ -11,14 +11,14 @@ use Rattle.prog_tree.specs.declared.tree.Exp.{Exp}
 use Rattle.match_types.specs.Views.{View, Sees, Keeps}
 use Rattle.match_types.specs.declared.work.Work.{Work}
 use Rattle.match_types.proofs.Seeing.{keeps-same, keeps-on, sees-before}
-use Rattle.match_steps.specs.Steps.{Puts, stand}
-use Rattle.pattern_tests.proofs.Chains.{next-drop}
-use Rattle.exp_steps.specs.Making.{Makes, MakesAll}
-use Rattle.exp_steps.specs.Made.{one_more}
-use Rattle.exp_steps.proofs.Leaves.{then-makes}
-use Rattle.exp_steps.proofs.Fields.{all-more, all-as, all-made-as}
-use Rattle.exp_steps.proofs.Counting.{makes-as}
-use Rattle.exp_blocks.specs.Giving.{linking}
+use Rattle.general_bindings.specs.of_match_steps.Steps.{Puts, stand}
+use Rattle.general_bindings.proofs.of_pattern_tests.Chains.{next-drop}
+use Rattle.general_bindings.specs.of_exp_steps.Making.{Makes, MakesAll}
+use Rattle.general_bindings.specs.of_exp_steps.Made.{one_more}
+use Rattle.general_bindings.proofs.of_exp_steps.Leaves.{then-makes}
+use Rattle.general_bindings.proofs.of_exp_steps.Fields.{all-more, all-as, all-made-as}
+use Rattle.general_bindings.proofs.of_exp_steps.Counting.{makes-as}
+use Rattle.general_bindings.specs.of_exp_blocks.Giving.{linking}
 use Rattle.match_pass.specs.Reading.{expression, fields_read, sequence_read, chain_read}
 use Rattle.match_pass.specs.Going.{Linked}
 use Rattle.match_pass.proofs.Lists.{fields-taken, drop-past, take-past}

@@ -15,12 +15,12 @@ use Rattle.match_types.specs.Views.{View, Sees}
 use Rattle.match_types.specs.declared.work.Work.{Work}
 use Rattle.match_types.specs.declared.work.ValueType.TheVariants as kind
 use Rattle.match_types.proofs.Seeing.{keeps-on, sees-before}
-use Rattle.match_steps.specs.Steps.{stand}
-use Rattle.match_steps.proofs.Pushed.{puts-as}
-use Rattle.exp_steps.specs.Making.{Makes, Pushed}
-use Rattle.exp_steps.proofs.Counting.{makes-as}
-use Rattle.exp_blocks.specs.Giving.{GivesFun}
-use Rattle.exp_blocks.specs.declared.blocks.Lambda.{Lambda}
+use Rattle.general_bindings.specs.of_match_steps.Steps.{stand}
+use Rattle.general_bindings.proofs.of_match_steps.Pushed.{puts-as}
+use Rattle.general_bindings.specs.of_exp_steps.Making.{Makes, Pushed}
+use Rattle.general_bindings.proofs.of_exp_steps.Counting.{makes-as}
+use Rattle.general_bindings.specs.of_exp_blocks.Giving.{GivesFun}
+use Rattle.general_bindings.specs.of_exp_blocks.declared.blocks.Lambda.{Lambda}
 use Rattle.match_pass.specs.Reading.{rules_read}
 use Rattle.match_pass.specs.Going.{GivesFunction, MakesRule}
 

@@ -17,13 +17,13 @@ use Rattle.prog_tree.specs.declared.tree.Rule.{Rule}
 use Rattle.prog_tree.proofs.ExpOf.{dec_of-Val}
 use Rattle.match_types.specs.Views.{View, Sees, Keeps}
 use Rattle.match_types.specs.declared.work.Work.{Work}
-use Rattle.match_steps.specs.Steps.{Puts, stand}
-use Rattle.pattern_tests.specs.Spots.{spots_onto, names_onto}
-use Rattle.pattern_tests.specs.declared.spots.Spot.{Spot}
-use Rattle.pattern_tests.proofs.Chains.{next-drop}
-use Rattle.exp_steps.specs.Making.{counting}
-use Rattle.exp_blocks.specs.Giving.{Grows, Ends, over}
-use Rattle.exp_blocks.proofs.Growing.{grows-same, grows-on, grows-by, ends-same, ends-more, ends-on, ends-as, sees-named}
+use Rattle.general_bindings.specs.of_match_steps.Steps.{Puts, stand}
+use Rattle.general_bindings.specs.of_pattern_tests.Spots.{spots_onto, names_onto}
+use Rattle.general_bindings.specs.of_pattern_tests.declared.spots.Spot.{Spot}
+use Rattle.general_bindings.proofs.of_pattern_tests.Chains.{next-drop}
+use Rattle.general_bindings.specs.of_exp_steps.Making.{counting}
+use Rattle.general_bindings.specs.of_exp_blocks.Giving.{Grows, Ends, over}
+use Rattle.general_bindings.proofs.of_exp_blocks.Growing.{grows-same, grows-on, grows-by, ends-same, ends-more, ends-on, ends-as, sees-named}
 use Rattle.general_bindings.specs.General.{listed}
 use Rattle.match_pass.specs.Reading.{decs_read, dec_before}
 use Rattle.match_pass.specs.Going.{Declares}

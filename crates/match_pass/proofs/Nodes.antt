@@ -17,8 +17,8 @@ use Rattle.prog_tree.specs.declared.tree.Rule.{Rule}
 use Rattle.prog_tree.specs.declared.tree.Side.{Side}
 use Rattle.prog_tree.specs.declared.tree.Side.TheVariants as side
 use Rattle.prog_tree.proofs.ExpOf.{tree_of-Record, tree_of-Let, tree_of-Apply, tree_of-Infix, tree_of-Case, tree_of-Sequence, tree_of-Test, tree_of-Handle, function_of-Named, function_of-ByRules}
-use Rattle.exp_steps.specs.Made.{atomic, used, recorded, raised, counted}
-use Rattle.exp_steps.proofs.Heads.{counted-node}
+use Rattle.general_bindings.specs.of_exp_steps.Made.{atomic, used, recorded, raised, counted}
+use Rattle.general_bindings.proofs.of_exp_steps.Heads.{counted-node}
 use Rattle.match_pass.specs.Reading.{expression, fields_read, let_read, applied_to, left_chain, right_chain, case_read, sequence_read, chain_exp_read, handle_read, function_read, named_read, by_rules_read}
 
 module _ (R : Reading) (P : Exp) where

@@ -7,10 +7,10 @@ use Rattle.prog_tree.specs.TreeOf.{Reading}
 use Rattle.prog_tree.specs.declared.tree.Exp.{Exp}
 use Rattle.prog_tree.specs.declared.tree.Join.{Join}
 use Rattle.match_types.specs.declared.work.Work.{Work}
-use Rattle.pattern_tests.proofs.Chains.{next-drop}
-use Rattle.exp_steps.specs.Making.{Makes, MakesTuple}
-use Rattle.exp_steps.specs.Joining.{Opens}
-use Rattle.exp_steps.specs.declared.joins.Opening.{Opening}
+use Rattle.general_bindings.proofs.of_pattern_tests.Chains.{next-drop}
+use Rattle.general_bindings.specs.of_exp_steps.Making.{Makes, MakesTuple}
+use Rattle.general_bindings.specs.of_exp_steps.Joining.{Opens}
+use Rattle.general_bindings.specs.of_exp_steps.declared.joins.Opening.{Opening}
 use Rattle.match_pass.specs.Reading.{expression, right_chain}
 use Rattle.match_pass.specs.Chains.{RightOpen, RightMade, last_first}
 use Rattle.match_pass.proofs.Lists.{drop-past}

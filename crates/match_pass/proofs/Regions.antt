@@ -3,10 +3,10 @@ use Rattle.std.proofs.Common.{◌≡◌, ◌-◌, ℕ, List, [], ◌∷◌, leng
 use Rattle.match_compile.specs.Compile.{Spots, spot, spots_named, named, Names}
 use Rattle.match_names.specs.Bindings.{names_of}
 use Rattle.match_types.specs.Views.{View, value_type}
-use Rattle.pattern_tests.specs.Spots.{spots_onto, names_onto}
-use Rattle.pattern_tests.specs.declared.spots.Spot.{Spot}
-use Rattle.exp_blocks.specs.Giving.{Ends}
-use Rattle.exp_blocks.proofs.Growing.{ends-more}
+use Rattle.general_bindings.specs.of_pattern_tests.Spots.{spots_onto, names_onto}
+use Rattle.general_bindings.specs.of_pattern_tests.declared.spots.Spot.{Spot}
+use Rattle.general_bindings.specs.of_exp_blocks.Giving.{Ends}
+use Rattle.general_bindings.proofs.of_exp_blocks.Growing.{ends-more}
 
 -- what was bound is taken back
 pub names-back : (old now back : List (ℕ × ℕ)) (len : ℕ) → len ≡ length old → Ends old now → back ≡ drop (length now - len) now → back ≡ old

@@ -7,11 +7,11 @@ use Rattle.prog_tree.specs.TreeOf.{Reading}
 use Rattle.prog_tree.specs.declared.tree.Exp.{Exp}
 use Rattle.prog_tree.specs.declared.tree.Join.{Join}
 use Rattle.match_types.specs.declared.work.Work.{Work}
-use Rattle.pattern_tests.proofs.Chains.{next-drop, next-take}
-use Rattle.exp_steps.specs.Making.{Makes}
-use Rattle.exp_steps.specs.Joining.{Opens, joined}
-use Rattle.exp_steps.specs.declared.joins.Opening.{Opening}
-use Rattle.exp_steps.proofs.Counting.{makes-as}
+use Rattle.general_bindings.proofs.of_pattern_tests.Chains.{next-drop, next-take}
+use Rattle.general_bindings.specs.of_exp_steps.Making.{Makes}
+use Rattle.general_bindings.specs.of_exp_steps.Joining.{Opens, joined}
+use Rattle.general_bindings.specs.of_exp_steps.declared.joins.Opening.{Opening}
+use Rattle.general_bindings.proofs.of_exp_steps.Counting.{makes-as}
 use Rattle.match_pass.specs.Reading.{expression, left_chain, right_chain}
 use Rattle.match_pass.specs.Chains.{LeftOpen, LeftMade, RightOpen, RightMade, last_first}
 use Rattle.match_pass.proofs.Lists.{drop-past, take-past}

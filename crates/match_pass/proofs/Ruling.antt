@@ -19,11 +19,11 @@ use Rattle.match_types.specs.declared.work.Work.{Work}
 use Rattle.match_types.specs.declared.work.ValueType.{ValueType}
 use Rattle.match_types.specs.declared.work.ValueType.TheVariants as kind
 use Rattle.match_types.proofs.Seeing.{keeps-same, keeps-on, sees-before}
-use Rattle.match_steps.specs.Steps.{stand}
-use Rattle.match_steps.proofs.Pushed.{puts-as, two-puts}
-use Rattle.pattern_tests.proofs.Chains.{next-drop}
-use Rattle.exp_steps.specs.Making.{Makes, Pushed, putting}
-use Rattle.exp_blocks.specs.Giving.{Gives}
+use Rattle.general_bindings.specs.of_match_steps.Steps.{stand}
+use Rattle.general_bindings.proofs.of_match_steps.Pushed.{puts-as, two-puts}
+use Rattle.general_bindings.proofs.of_pattern_tests.Chains.{next-drop}
+use Rattle.general_bindings.specs.of_exp_steps.Making.{Makes, Pushed, putting}
+use Rattle.general_bindings.specs.of_exp_blocks.Giving.{Gives}
 use Rattle.match_pass.specs.Reading.{rules_read}
 use Rattle.match_pass.specs.Going.{GivesRules, MakesTested, Attempted, Attempts, rule_tests}
 use Rattle.match_pass.proofs.Lists.{drop-past}

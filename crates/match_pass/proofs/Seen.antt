@@ -6,7 +6,7 @@ use Rattle.ir_poly.specs.Prog as t
 use Rattle.match_compile.specs.Compile.{Names, shape, plain, general_shape, funs_named, each_named}
 use Rattle.prog_tree.specs.TreeOf.{Reading}
 use Rattle.prog_tree.specs.declared.tree.Function.{Function}
-use Rattle.pattern_tests.proofs.Chains.{next-drop}
+use Rattle.general_bindings.proofs.of_pattern_tests.Chains.{next-drop}
 use Rattle.match_pass.specs.Declaring.{funs_read}
 use Rattle.match_pass.proofs.Lists.{drop-past}
 

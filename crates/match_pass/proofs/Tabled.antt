@@ -9,8 +9,8 @@ use Rattle.ir_tables.specs.Rows.{constructor_at, constructors_at}
 use Rattle.ir_tables.specs.Tables.{parameters_at}
 use Rattle.ir_tables.specs.declared.constructors.Constructor.{Constructor}
 use Rattle.match_compile.specs.Compile as clean
-use Rattle.pattern_tests.proofs.Chains.{next-take}
-use Rattle.exp_blocks.proofs.Binding.{take-next}
+use Rattle.general_bindings.proofs.of_pattern_tests.Chains.{next-take}
+use Rattle.general_bindings.proofs.of_exp_blocks.Binding.{take-next}
 use Rattle.match_pass.proofs.Lists.{take-past}
 
 unclassed-more : (qs : List Quantified) (q : Quantified) → clean.unclassed (qs ++ q ∷ []) ≡ clean.unclassed qs ++ record { variable = q.variable; mark = clean.opened q.mark } ∷ []

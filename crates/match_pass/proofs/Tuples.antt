@@ -5,9 +5,9 @@ use Rattle.plain_tree.specs.declared.tree.Step.{Step}
 use Rattle.prog_tree.specs.TreeOf.{Reading, tree_of}
 use Rattle.prog_tree.specs.declared.tree.Exp.{Exp}
 use Rattle.match_types.specs.declared.work.Work.{Work}
-use Rattle.exp_steps.specs.Making.{MakesTuple}
-use Rattle.exp_steps.proofs.Counting.{tuple-as, tuple-none}
-use Rattle.exp_steps.proofs.Heads.{IsAlone}
+use Rattle.general_bindings.specs.of_exp_steps.Making.{MakesTuple}
+use Rattle.general_bindings.proofs.of_exp_steps.Counting.{tuple-as, tuple-none}
+use Rattle.general_bindings.proofs.of_exp_steps.Heads.{IsAlone}
 use Rattle.match_pass.specs.Reading.{expression}
 
 -- no tuple

@@ -16,11 +16,11 @@ use Rattle.match_types.specs.Views.{View, Sees, Keeps}
 use Rattle.match_types.specs.declared.work.Work.{Work}
 use Rattle.match_types.specs.declared.work.ValueType.TheVariants as kind
 use Rattle.match_types.proofs.Seeing.{keeps-on, sees-before}
-use Rattle.match_steps.specs.Steps.{stand}
-use Rattle.match_steps.proofs.Pushed.{puts-as}
-use Rattle.exp_steps.specs.Making.{Makes, Pushed}
-use Rattle.exp_blocks.specs.Giving.{Gives, Grows, over}
-use Rattle.exp_blocks.proofs.Growing.{grows-on, grows-by, keeps-grown, sees-through}
+use Rattle.general_bindings.specs.of_match_steps.Steps.{stand}
+use Rattle.general_bindings.proofs.of_match_steps.Pushed.{puts-as}
+use Rattle.general_bindings.specs.of_exp_steps.Making.{Makes, Pushed}
+use Rattle.general_bindings.specs.of_exp_blocks.Giving.{Gives, Grows, over}
+use Rattle.general_bindings.proofs.of_exp_blocks.Growing.{grows-on, grows-by, keeps-grown, sees-through}
 use Rattle.match_pass.specs.Reading.{chain_read}
 use Rattle.match_pass.specs.Going.{Declares, Linked, GivesRules, MakesScoped, MakesChain, Ending, Chosen}
 

@@ -10,11 +10,11 @@ use Rattle.prog_tree.specs.declared.tree.Exp.{Exp}
 use Rattle.prog_tree.specs.declared.tree.Function.{Function}
 use Rattle.prog_tree.specs.declared.tree.Join.{Join}
 use Rattle.match_types.specs.declared.work.Work.{Work}
-use Rattle.exp_steps.specs.Making.{Makes, Weighs, Begun}
-use Rattle.exp_steps.specs.Joining.{Opens}
-use Rattle.exp_steps.specs.Ways.{built_of, type_or_unit}
-use Rattle.exp_steps.specs.declared.joins.Opening.{Opening}
-use Rattle.exp_steps.specs.declared.joins.Opening.TheVariants as openings
+use Rattle.general_bindings.specs.of_exp_steps.Making.{Makes, Weighs, Begun}
+use Rattle.general_bindings.specs.of_exp_steps.Joining.{Opens}
+use Rattle.general_bindings.specs.of_exp_steps.Ways.{built_of, type_or_unit}
+use Rattle.general_bindings.specs.of_exp_steps.declared.joins.Opening.{Opening}
+use Rattle.general_bindings.specs.of_exp_steps.declared.joins.Opening.TheVariants as openings
 use Rattle.match_pass.specs.Reading.{expression}
 use Rattle.match_pass.specs.Declaring.{MemberMade}
 

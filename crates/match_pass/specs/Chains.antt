@@ -6,9 +6,9 @@ use Rattle.prog_tree.specs.TreeOf.{Reading}
 use Rattle.prog_tree.specs.declared.tree.Exp.{Exp}
 use Rattle.prog_tree.specs.declared.tree.Join.{Join}
 use Rattle.match_types.specs.declared.work.Work.{Work}
-use Rattle.exp_steps.specs.Making.{Makes}
-use Rattle.exp_steps.specs.Joining.{Opens, joined}
-use Rattle.exp_steps.specs.declared.joins.Opening.{Opening}
+use Rattle.general_bindings.specs.of_exp_steps.Making.{Makes}
+use Rattle.general_bindings.specs.of_exp_steps.Joining.{Opens, joined}
+use Rattle.general_bindings.specs.of_exp_steps.declared.joins.Opening.{Opening}
 use Rattle.match_pass.specs.Reading.{expression, left_chain}
 
 -- the operators of a chain, the last first

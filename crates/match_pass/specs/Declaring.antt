@@ -14,9 +14,9 @@ use Rattle.prog_tree.specs.declared.tree.Function as source
 use Rattle.prog_tree.specs.declared.tree.Rule.{Rule}
 use Rattle.match_types.specs.Views.{View, reading, Sees, Keeps}
 use Rattle.match_types.specs.declared.work.Work.{Work}
-use Rattle.match_steps.specs.Steps.{Leads, Puts}
-use Rattle.pattern_tests.specs.Spots.{spots_onto}
-use Rattle.pattern_tests.specs.declared.spots.Spot.{Spot}
+use Rattle.general_bindings.specs.of_match_steps.Steps.{Leads, Puts}
+use Rattle.general_bindings.specs.of_pattern_tests.Spots.{spots_onto}
+use Rattle.general_bindings.specs.of_pattern_tests.declared.spots.Spot.{Spot}
 use Rattle.general_bindings.specs.General.{listed}
 use Rattle.match_pass.specs.Reading.{function_read}
 

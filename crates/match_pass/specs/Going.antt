@@ -15,9 +15,9 @@ use Rattle.prog_tree.specs.declared.tree.Rule.{Rule}
 use Rattle.match_types.specs.Views.{View, reading, Sees, Keeps, value_type}
 use Rattle.match_types.specs.declared.work.ValueType.{ValueType}
 use Rattle.match_types.specs.declared.work.Work.{Work}
-use Rattle.match_steps.specs.Steps.{Leads, Puts, stand}
-use Rattle.exp_blocks.specs.Giving.{Grows, Ends, Gives, GivesFun}
-use Rattle.exp_blocks.specs.declared.blocks.Lambda.{Lambda}
+use Rattle.general_bindings.specs.of_match_steps.Steps.{Leads, Puts, stand}
+use Rattle.general_bindings.specs.of_exp_blocks.Giving.{Grows, Ends, Gives, GivesFun}
+use Rattle.general_bindings.specs.of_exp_blocks.declared.blocks.Lambda.{Lambda}
 
 -- rules for the value of type m in the variable a, with results of the source's type u
 pub record GivesRules (old new : Work) (rs : Reading → t.Rules) (m : ValueType) (u a : ℕ) (o : Otherwise) (made : Exp) : Type 0 where

@@ -5,7 +5,7 @@ use Rattle.prog_tree.specs.declared.tree.Parameter as source
 use Rattle.match_types.specs.Views.{Keeps, Stands, in_view}
 use Rattle.match_types.specs.declared.work.Work.{Work}
 use Rattle.match_types.specs.declared.work.ValueType.TheVariants.{Source}
-use Rattle.exp_blocks.specs.Binding.{Bound, AllBound}
+use Rattle.general_bindings.specs.of_exp_blocks.Binding.{Bound, AllBound}
 
 -- all of a list, and then the last one
 pub record Headed (old new : Work) (xs : List source.Parameter) (z : source.Parameter) (made : List Parameter) (p : Parameter) : Type 0 where

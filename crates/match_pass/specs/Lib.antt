@@ -1,3 +1,4 @@
+pub use Rattle.ir_prog.specs as of_ir_prog
 pub mod Kinds
 pub mod Reading
 pub mod Going

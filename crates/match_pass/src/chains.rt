@@ -4,10 +4,10 @@ ghost use Rattle.ir_poly.specs.Prog.{Exp as Clean};
 ghost use Rattle.plain_tree.specs.declared.tree.Step.{Step as Row};
 ghost use Rattle.prog_tree.specs.TreeOf.{Reading};
 ghost use Rattle.match_types.specs.declared.work.Work.{Work as State};
-ghost use Rattle.exp_steps.specs.Making.{Makes};
+ghost use Rattle.general_bindings.specs.of_exp_steps.Making.{Makes};
 ghost use Rattle.match_pass.specs.Chains.{RightMade, last_first};
 
-use exp_steps::joins::{Opening, close};
+use general_bindings::exp_steps::joins::{Opening, close};
 use match_types::work::Work;
 use mlc_base::memory::NoMemory;
 use plain_tree::tree::Step;

@@ -6,12 +6,14 @@ ghost use Rattle.match_compile.specs.Compile.{atom, otherwise};
 ghost use Rattle.plain_tree.specs.TreeOf.{firsts, tree_of};
 ghost use Rattle.match_types.specs.Views.{View, Keeps, reading};
 ghost use Rattle.match_types.specs.declared.work.ValueType.TheVariants.{Source as OfSource};
-ghost use Rattle.match_steps.specs.Steps.{stand};
-ghost use Rattle.exp_steps.specs.Making.{Pushed};
-ghost use Rattle.exp_blocks.specs.Giving.{Gives, otherwise_of};
+ghost use Rattle.general_bindings.specs.of_match_steps.Steps.{stand};
+ghost use Rattle.general_bindings.specs.of_exp_steps.Making.{Pushed};
+ghost use Rattle.general_bindings.specs.of_exp_blocks.Giving.{Gives, otherwise_of};
 ghost use Rattle.match_pass.specs.Going.{Ending, Chosen};
 
-use exp_blocks::blocks::{Otherwise, attempted, ended, one_of, push_block, push_handle, raising};
+use general_bindings::exp_blocks::blocks::{
+    Otherwise, attempted, ended, one_of, push_block, push_handle, raising,
+};
 use match_types::work::{ValueType, Work};
 use mlc_base::memory::NoMemory;
 use plain_tree::tree::{Exp, Step};

@@ -7,13 +7,13 @@ ghost use Rattle.prog_tree.specs.TreeOf as source;
 ghost use Rattle.prog_tree.specs.Readings as before;
 ghost use Rattle.tests_check.specs.Reads as after;
 ghost use Rattle.match_names.specs.Bindings.{names_of};
-ghost use Rattle.exp_blocks.specs.Giving.{Gives, Grows};
+ghost use Rattle.general_bindings.specs.of_exp_blocks.Giving.{Gives, Grows};
 ghost use Rattle.match_pass.specs.Programs.{program};
 
 use crate::exps::push_decs;
 use crate::tables::{all_kept, all_unclassed};
-use exp_blocks::blocks::{Otherwise, ended, one_of, raising};
-use exp_steps::calls::push_unit;
+use general_bindings::exp_blocks::blocks::{Otherwise, ended, one_of, raising};
+use general_bindings::exp_steps::calls::push_unit;
 use ir_known::stack::Stack;
 use ir_tables::tables::Tables;
 use match_names::names::Names;

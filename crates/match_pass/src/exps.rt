@@ -8,12 +8,12 @@ ghost use Rattle.prog_tree.specs.TreeOf.{Reading};
 ghost use Rattle.prog_tree.specs.declared.tree.Exp.{Exp as Tree};
 ghost use Rattle.match_types.specs.Views.{View, Sees, Keeps};
 ghost use Rattle.match_types.specs.declared.work.Work.{Work as State};
-ghost use Rattle.match_steps.specs.Steps.{Puts};
-ghost use Rattle.exp_steps.specs.Making.{Makes, MakesAll, MakesTuple};
-ghost use Rattle.exp_steps.specs.Made.{applied, recorded};
-ghost use Rattle.exp_steps.specs.Ways.{way_of};
-ghost use Rattle.exp_steps.specs.Joining.{Opens};
-ghost use Rattle.exp_blocks.specs.Giving.{otherwise_of};
+ghost use Rattle.general_bindings.specs.of_match_steps.Steps.{Puts};
+ghost use Rattle.general_bindings.specs.of_exp_steps.Making.{Makes, MakesAll, MakesTuple};
+ghost use Rattle.general_bindings.specs.of_exp_steps.Made.{applied, recorded};
+ghost use Rattle.general_bindings.specs.of_exp_steps.Ways.{way_of};
+ghost use Rattle.general_bindings.specs.of_exp_steps.Joining.{Opens};
+ghost use Rattle.general_bindings.specs.of_exp_blocks.Giving.{otherwise_of};
 ghost use Rattle.match_pass.specs.Reading.{expression, fields_read, applied_to, left_chain, right_chain, rules_read, sequence_read, chain_read, function_read};
 ghost use Rattle.match_pass.specs.Reading.{case_read, named_read, by_rules_read, decs_read, dec_before};
 ghost use Rattle.match_pass.specs.Kinds.{IsLet, IsApply, IsInfix, IsTest, IsHandle};
@@ -28,24 +28,26 @@ use crate::groups::{bind_group, reserve};
 use crate::heads::{add_member, named_head, unnamed_head, with_body, with_steps};
 use crate::matches::push_match;
 use crate::shapes::{generalises, is_direct};
-use exp_blocks::blocks::{Lambda, Otherwise, push_block, push_group, push_lambda, push_link};
-use exp_blocks::scopes::{bind_all, push_scope};
-use exp_steps::atoms::{push_atom, push_used};
-use exp_steps::calls::{
-    push_beginning, push_built, push_call, push_performed, push_raise, push_record,
-};
-use exp_steps::joins::{Opening, close};
-use exp_steps::operations::push_counted;
-use exp_steps::ways::{Way, application_way, pair_way, push_weights};
 use general_bindings::bindings::{push_shaped, sole_variable};
 use general_bindings::exceptions::push_new_exception;
+use general_bindings::exp_blocks::blocks::{
+    Lambda, Otherwise, push_block, push_group, push_lambda, push_link,
+};
+use general_bindings::exp_blocks::scopes::{bind_all, push_scope};
+use general_bindings::exp_steps::atoms::{push_atom, push_used};
+use general_bindings::exp_steps::calls::{
+    push_beginning, push_built, push_call, push_performed, push_raise, push_record,
+};
+use general_bindings::exp_steps::joins::{Opening, close};
+use general_bindings::exp_steps::operations::push_counted;
+use general_bindings::exp_steps::ways::{Way, application_way, pair_way, push_weights};
+use general_bindings::pattern_tests::patterns::push_tests;
+use general_bindings::pattern_tests::spots::{Spot, bind_spots};
 use match_types::types::{fresh, scoped_type};
 use match_types::work::{ValueType, Work};
 use mlc_base::memory::NoMemory;
 use mlc_base::place::Place;
 use mlc_names::label::Label;
-use pattern_tests::patterns::push_tests;
-use pattern_tests::spots::{Spot, bind_spots};
 use plain_tree::tree::{Exp as Tests, Field, Function as Member, Step};
 use prog_shapes::types::type_of;
 use prog_tree::tree::{Binding as Manner, Dec, Exp, Function, Join, Parameter, Rule, Side};

@@ -4,10 +4,10 @@ ghost use Rattle.match_compile.specs.Compile.{funs_named};
 ghost use Rattle.match_names.specs.Bindings.{names_of};
 ghost use Rattle.prog_tree.specs.TreeOf.{Reading};
 ghost use Rattle.match_types.specs.Views.{Keeps};
-ghost use Rattle.exp_blocks.specs.Giving.{Ends};
+ghost use Rattle.general_bindings.specs.of_exp_blocks.Giving.{Ends};
 ghost use Rattle.match_pass.specs.Declaring.{funs_read};
 
-use exp_blocks::scopes::bind_each;
+use general_bindings::exp_blocks::scopes::bind_each;
 use match_names::names::Names;
 use match_types::work::Work;
 use mlc_base::memory::NoMemory;

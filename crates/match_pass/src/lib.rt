@@ -1,6 +1,8 @@
 // From programs with source matches to programs of tests: what doesn't recurse, the recursion, and the pass.
 #![tactic(auto)]
 
+pub use ir_prog;
+
 pub mod chains;
 pub mod choices;
 pub mod compile;

@@ -7,7 +7,7 @@ ghost use Rattle.match_compile.specs.Compile.{shape, plain, general_shape};
 ghost use Rattle.prog_tree.specs.TreeOf.{Reading};
 ghost use Rattle.match_pass.specs.Reading.{rules_read};
 
-use exp_steps::ways::fits_all;
+use general_bindings::exp_steps::ways::fits_all;
 use ir_tables::tables::Tables;
 use prog_tree::tree::Rule;
 

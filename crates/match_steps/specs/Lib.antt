@@ -1,2 +1,3 @@
+pub use Rattle.match_types.specs as of_match_types
 pub mod Steps
 pub mod Made

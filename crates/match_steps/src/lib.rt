@@ -1,4 +1,6 @@
 // The steps of single operations.
 #![tactic(auto)]
 
+pub use match_types;
+
 pub mod steps;

@@ -5,7 +5,7 @@ use Rattle.ty_core.specs.Statics.{replace}
 use Rattle.ty_core.specs.declared.scheme.Quantified.{Quantified}
 use Rattle.ty_table.specs.TypeAt.{type_at, top}
 use Rattle.ty_instance.specs.Images.{image_at}
-use Rattle.match_compile.specs.Compile.{standing, scoped}
+use Rattle.match_names.specs.of_match_compile.Compile.{standing, scoped}
 use Rattle.ir_known.specs.Knows.{marks_of}
 use Rattle.match_types.specs.Views.{Sees, Keeps, Stands, source_at, in_view}
 use Rattle.match_types.specs.declared.work.ValueType.TheVariants.{Source}

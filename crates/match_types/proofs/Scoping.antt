@@ -9,7 +9,7 @@ use Rattle.ty_table.specs.TypeAt.{top, tops}
 use Rattle.ir_poly.specs.Types.{in_scope, over, unit_type}
 use Rattle.ir_poly.proofs.ReplaceLemmas.{replace-agree}
 use Rattle.ir_known.specs.Knows.{marks_of}
-use Rattle.match_compile.specs.Compile.{standing, scoped}
+use Rattle.match_names.specs.of_match_compile.Compile.{standing, scoped}
 use Rattle.match_names.proofs.Naming.{same-either-way}
 
 mutual

@@ -11,7 +11,7 @@ use Rattle.ty_table.proofs.Building.{below-more}
 use Rattle.ty_table.proofs.Viewing.{below-at}
 use Rattle.ir_poly.specs.Types.{over, unit_type}
 use Rattle.ir_known.specs.Knows.{marks_of}
-use Rattle.match_compile.specs.Compile.{standing, scoped}
+use Rattle.match_names.specs.of_match_compile.Compile.{standing, scoped}
 use Rattle.match_types.specs.Views.{Stands}
 use Rattle.match_types.specs.Views.{source_at, in_view}
 use Rattle.match_types.specs.declared.work.Work.{Work}

@@ -7,7 +7,7 @@ use Rattle.ir_poly.specs.Tests.{inst, poly}
 use Rattle.ir_poly.specs.Types.{in_scope, unit_type}
 use Rattle.ir_tables.specs.Tables.{parameters_of, parameters_at, strings_of}
 use Rattle.ir_known.specs.Knows.{marks_of}
-use Rattle.match_compile.specs.Compile.{Names, scoped, unclassed, bool_type, exception_type}
+use Rattle.match_names.specs.of_match_compile.Compile.{Names, scoped, unclassed, bool_type, exception_type}
 use Rattle.match_names.specs.Bindings.{names_of}
 use Rattle.plain_tree.specs.TreeOf as plain
 use Rattle.plain_tree.specs.declared.tree.Binding.{Binding}

@@ -3,7 +3,7 @@ ghost use Rattle.std.specs.Prelude.{◌≡◌, ◌<◌, ◌≤◌, ◌^◌, ◌-
 ghost use Rattle.ty_core.specs.Types.{var};
 ghost use Rattle.ty_table.specs.TypeAt.{type_at, AllBelow};
 ghost use Rattle.ir_known.specs.Knows.{marks_of};
-ghost use Rattle.match_compile.specs.Compile.{standing};
+ghost use Rattle.match_names.specs.of_match_compile.Compile.{standing};
 ghost use Rattle.ir_poly.specs.Types.{unit_type, of_name};
 ghost use Rattle.match_types.specs.Views.{Keeps, Stands, source_at, in_view, Binds};
 ghost use Rattle.match_types.specs.declared.work.ValueType.TheVariants.{Source};

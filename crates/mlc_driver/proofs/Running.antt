@@ -6,11 +6,11 @@ use Rattle.core_rules.specs.Project.{Part, project_meaning}
 use Rattle.ir_code.specs.Program as machine
 use Rattle.ir_code.specs.Run.{run_of}
 use Rattle.ir_poly.specs.ProgMeaning as prog
-use Rattle.ir_prog.specs.Programs.{body_in, meaning}
-use Rattle.ir_prog.specs.declared.program.Program.{Program}
+use Rattle.project_elab.specs.of_ir_prog.Programs.{body_in, meaning}
+use Rattle.project_elab.specs.of_ir_prog.declared.program.Program.{Program}
 use Rattle.same_runs.specs.SameRuns.{SameRuns}
 use Rattle.machine_code.specs.Image.{text_of}
-use Rattle.match_pass.specs.Typed.{IsWellTyped}
+use Rattle.back_end.specs.of_match_pass.Typed.{IsWellTyped}
 use Rattle.back_end.specs.Contract.{Does}
 use Rattle.mlc_driver.specs.Parts.{IsProgramOver}
 use Rattle.mlc_driver.specs.Same.{Same}

@@ -11,9 +11,9 @@ use Rattle.sml_rules.specs.Project.{Part}
 use Rattle.mlb_reader.specs.Broken.{IsBroken, fault_at}
 use Rattle.mlb_reader.specs.Project.{ProjectOf}
 use Rattle.mlb_reader.specs.Refusals.{IfTold}
-use Rattle.ir_prog.specs.Programs.{expansion}
-use Rattle.ir_prog.specs.declared.program.Program.{Program}
-use Rattle.machine_emit.specs.Contract.{IsTooLong}
+use Rattle.project_elab.specs.of_ir_prog.Programs.{expansion}
+use Rattle.project_elab.specs.of_ir_prog.declared.program.Program.{Program}
+use Rattle.back_end.specs.of_machine_emit.Contract.{IsTooLong}
 use Rattle.back_end.specs.Lowered.{ssa_of}
 use Rattle.mlc_driver.specs.Fault.{is_of_elaboration}
 use Rattle.mlc_driver.specs.Parts.{IsProgramOfParts}

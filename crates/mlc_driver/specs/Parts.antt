@@ -6,8 +6,8 @@ use Rattle.sml_rules.specs.Project.{Part, standard_basis, source}
 use Rattle.core_rules.specs.Project as core
 use Rattle.core_rules.specs.Restrictions.{broken_in}
 use Rattle.ir_poly.specs.WellFormed.{table_of}
-use Rattle.ir_prog.specs.Programs.{body_in, prog_of}
-use Rattle.ir_prog.specs.declared.program.Program.{Program}
+use Rattle.project_elab.specs.of_ir_prog.Programs.{body_in, prog_of}
+use Rattle.project_elab.specs.of_ir_prog.declared.program.Program.{Program}
 use Rattle.project_typed.specs.Laws.{IsProgramOfProject}
 use Rattle.project_elab.specs.Elaborated.{HasElaborated}
 use Rattle.project_elab.specs.declared.project.Elaborating.{Elaborating}

@@ -1,6 +1,6 @@
 // A checked project.
 
-use ir_prog::program::Program;
+use project_elab::ir_prog::program::Program;
 
 /// The program of a project that was elaborated, and how many names are known to be held.
 #[derive(Drop)]

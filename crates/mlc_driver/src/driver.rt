@@ -15,7 +15,7 @@ ghost use Rattle.mlb_reader.specs.PartOf.{parts_of};
 ghost use Rattle.mlb_reader.specs.Project.{IsNeeded};
 ghost use Rattle.mlb_reader.specs.Refusals.{IfTold, IfLoadFault, IfNoFile, IfReadFault};
 ghost use Rattle.core_rules.specs.Project.{Part};
-ghost use Rattle.match_pass.specs.Typed.{IsWellTyped};
+ghost use Rattle.back_end.specs.of_match_pass.Typed.{IsWellTyped};
 ghost use Rattle.mlc_driver.specs.Checked.{Breaks, IsChecked, IsOfProject, Outgrows};
 ghost use Rattle.mlc_driver.specs.Fault.{IfFault, IsTold};
 ghost use Rattle.mlc_driver.specs.Parts.{IsProgramOver};
@@ -132,6 +132,6 @@ pub fn compile(alloc: Global, names: &Names, checked: Checked) -> Result<Image, 
         Ok(image) => Ok(image),
         Err(CompileRefused::TooLarge) => Err(outgrown(Code::ExpansionTooLarge)),
         Err(CompileRefused::TooLong) => Err(outgrown(Code::ImageTooLarge)),
-        Err(CompileRefused::NoWord) | Err(CompileRefused::Memory) => Err(Refused::Memory),
+        Err(CompileRefused::Memory) => Err(Refused::Memory),
     }
 }

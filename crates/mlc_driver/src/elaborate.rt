@@ -9,15 +9,15 @@ ghost use Rattle.core_rules.specs.Restrictions.{broken_in};
 ghost use Rattle.mlb_reader.specs.PartOf.{part_of};
 ghost use Rattle.mlb_reader.specs.declared.project.Part.{Part as Read};
 ghost use Rattle.mlb_reader.specs.declared.project.Part.TheVariants as read;
-ghost use Rattle.match_pass.specs.Typed.{IsWellTyped};
+ghost use Rattle.back_end.specs.of_match_pass.Typed.{IsWellTyped};
 ghost use Rattle.project_elab.specs.Elaborated.{HasElaborated, StandsIn};
 ghost use Rattle.mlc_driver.specs.Parts.{HasParts, IsProgramOfParts};
 
 use elab_types::refused::Refused as Cause;
-use ir_prog::program::Program;
 use mlb_reader::project::Part;
 use mlc_base::place::Place;
 use pat_elab::stopped::Stopped;
+use project_elab::ir_prog::program::Program;
 use project_elab::project::{Elaborating, begin};
 use restrictions::first::first_broken;
 use sml_tree::tree::Dec;

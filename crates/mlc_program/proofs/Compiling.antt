@@ -6,7 +6,7 @@ use Rattle.mlc_outside.specs.Files.{Files}
 use Rattle.sml_tree.specs.BareTree.{Decs}
 use Rattle.core_rules.specs.Project as core
 use Rattle.ir_code.specs.Program as machine
-use Rattle.ir_prog.specs.declared.program.Program.{Program}
+use Rattle.mlc_driver.specs.of_ir_prog.declared.program.Program.{Program}
 use Rattle.mlb_reader.specs.Project.{ProjectOf}
 use Rattle.mlb_reader.specs.Refusals.{IfTold}
 use Rattle.mlc_driver.specs.Checked.{Breaks, IsOfProject, Outgrows, in_size}

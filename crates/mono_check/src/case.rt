@@ -9,8 +9,8 @@ use ir_known::known::Known;
 use ir_known::scope::Scope;
 use mlc_base::memory::NoMemory;
 use mono_operations::atom::is_exception_of;
+use mono_operations::mono_uses::ask::{has_constructor, has_literal, is_exn, is_sized};
 use mono_operations::tables::Tables;
-use mono_uses::ask::{has_constructor, has_literal, is_exn, is_sized};
 use plain_tree::tree::Case;
 
 /// Whether an arm's test fits values of a type; binds what it binds.

@@ -12,8 +12,8 @@ use ir_known::known::Known;
 use ir_known::scope::Scope;
 use mlc_base::memory::NoMemory;
 use mono_operations::atom::name_argument;
+use mono_operations::mono_uses::ask::result_from;
 use mono_operations::tables::Tables;
-use mono_uses::ask::result_from;
 use plain_tree::tree::{Binding, Exception, Parameter};
 
 /// Binds a variable, if it is new.

@@ -10,12 +10,12 @@ use Rattle.ir_tables.specs.declared.tables.Tables.{Tables}
 use Rattle.monomorphise.specs.Monomorphise.{Groups}
 use Rattle.mono_close.specs.Closing.{standing}
 use Rattle.mono_words.specs.Seen.{Seen, with_sign}
-use Rattle.mono_state.specs.Seen.{Held, held_of, Later, groups_in, seen, sign_of}
-use Rattle.mono_state.specs.Going.{Goes}
-use Rattle.mono_state.specs.declared.copier.Copier.{Copier}
-use Rattle.mono_state.specs.declared.word.Word.{Word}
-use Rattle.mono_state.proofs.Growing.{sooner}
-use Rattle.mono_state.proofs.Going.{goes-then, goes-nowhere}
+use Rattle.mono_parts.specs.of_mono_state.Seen.{Held, held_of, Later, groups_in, seen, sign_of}
+use Rattle.mono_parts.specs.of_mono_state.Going.{Goes}
+use Rattle.mono_parts.specs.of_mono_state.declared.copier.Copier.{Copier}
+use Rattle.mono_parts.specs.of_mono_state.declared.word.Word.{Word}
+use Rattle.mono_parts.proofs.of_mono_state.Growing.{sooner}
+use Rattle.mono_parts.proofs.of_mono_state.Going.{goes-then, goes-nowhere}
 use Rattle.mono_copy.specs.Puts.{Change, IsReady, Puts, Passes}
 use Rattle.mono_copy.specs.Changes.{each_put}
 

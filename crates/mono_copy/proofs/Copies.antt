@@ -13,9 +13,9 @@ use Rattle.mono_close.specs.Closing.{standing}
 use Rattle.mono_scopes.specs.Scopes.{binding}
 use Rattle.mono_words.specs.Seen.{Seen, within, out, needed_types}
 use Rattle.mono_words.specs.Made.{group_made}
-use Rattle.mono_state.specs.Seen.{Held, held_of, Later, types_in, groups_in, seen}
-use Rattle.mono_state.specs.declared.copier.Copier.{Copier}
-use Rattle.mono_state.proofs.Growing.{sooner}
+use Rattle.mono_parts.specs.of_mono_state.Seen.{Held, held_of, Later, types_in, groups_in, seen}
+use Rattle.mono_parts.specs.of_mono_state.declared.copier.Copier.{Copier}
+use Rattle.mono_parts.proofs.of_mono_state.Growing.{sooner}
 use Rattle.mono_parts.specs.Steps.{functions_in}
 use Rattle.mono_copy.specs.Puts.{Change, Puts, Passes}
 use Rattle.mono_copy.specs.Changes.{step_in, each_made, each_put, binding_made, binding_put, binding_left, group_put, group_left}

@@ -24,10 +24,10 @@ use Rattle.mono_words.specs.Words.{last_sign}
 use Rattle.mono_words.specs.Seen.{Seen, with_sign, within, out}
 use Rattle.mono_words.specs.Made.{exp_made, op_made, case_entered, all_bare, entered_step}
 use Rattle.mono_words.proofs.Making.{miss-made, switch-made, fn-made, block-made, handle-made}
-use Rattle.mono_state.specs.Seen.{Held, held_of, Later, types_in, groups_in, seen}
-use Rattle.mono_state.specs.Going.{IsHeld, AllHeld, Goes}
-use Rattle.mono_state.specs.declared.copier.Copier.{Copier}
-use Rattle.mono_state.specs.declared.word.Word.TheVariants as word
+use Rattle.mono_parts.specs.of_mono_state.Seen.{Held, held_of, Later, types_in, groups_in, seen}
+use Rattle.mono_parts.specs.of_mono_state.Going.{IsHeld, AllHeld, Goes}
+use Rattle.mono_parts.specs.of_mono_state.declared.copier.Copier.{Copier}
+use Rattle.mono_parts.specs.of_mono_state.declared.word.Word.TheVariants as word
 use Rattle.mono_parts.specs.Steps.{functions_in, steps_in, parameters_entered, parameters_left}
 use Rattle.mono_copy.specs.Puts.{Change, Puts, Passes}
 use Rattle.mono_copy.specs.Changes.{exp_in, step_in, exp_put, each_put, attempt_put, arms_put, arm_put, step_entered, steps_entered, steps_left, operation_put, ret_put, handler_put, function_put, acted, binding_put, group_put}

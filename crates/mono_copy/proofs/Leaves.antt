@@ -23,12 +23,12 @@ use Rattle.mono_words.specs.Words.{arm_sign, switch_sign, exception_sign, name_s
 use Rattle.mono_words.specs.Seen.{Seen, with_sign, with_needs, within, out}
 use Rattle.mono_words.specs.Made.{arm_left, case_entered}
 use Rattle.mono_words.proofs.Making.{ret-made}
-use Rattle.mono_state.specs.Seen.{Held, held_of, Later, name_in, groups_in, seen, sign_of}
-use Rattle.mono_state.specs.Going.{Goes}
-use Rattle.mono_state.specs.declared.copier.Copier.{Copier}
-use Rattle.mono_state.specs.declared.word.Word.TheVariants as word
-use Rattle.mono_state.proofs.Growing.{sooner}
-use Rattle.mono_state.proofs.Going.{goes-then}
+use Rattle.mono_parts.specs.of_mono_state.Seen.{Held, held_of, Later, name_in, groups_in, seen, sign_of}
+use Rattle.mono_parts.specs.of_mono_state.Going.{Goes}
+use Rattle.mono_parts.specs.of_mono_state.declared.copier.Copier.{Copier}
+use Rattle.mono_parts.specs.of_mono_state.declared.word.Word.TheVariants as word
+use Rattle.mono_parts.proofs.of_mono_state.Growing.{sooner}
+use Rattle.mono_parts.proofs.of_mono_state.Going.{goes-then}
 use Rattle.mono_parts.specs.Arms.{bound_in, entered, left}
 use Rattle.mono_parts.specs.Steps.{functions_in}
 use Rattle.mono_copy.specs.Puts.{Change, Puts, Passes}

@@ -21,14 +21,14 @@ use Rattle.mono_names.specs.Named.{types_named}
 use Rattle.mono_words.specs.Words.{Sign, function_sign, let_sign, group_sign, spell_heads}
 use Rattle.mono_words.specs.Made.{bodies_made, group_made}
 use Rattle.mono_words.specs.Seen.{Seen, with_sign, made}
-use Rattle.mono_state.specs.Seen.{Held, held_of, Longer, Later, types_in, name_in, groups_in, seen, sign_of}
-use Rattle.mono_state.specs.Going.{IsHeld, IsOpen, IsRight, Goes, Stands, slots_for}
-use Rattle.mono_state.specs.declared.copier.Copier.{Copier}
-use Rattle.mono_state.specs.declared.word.Word.TheVariants as word
-use Rattle.mono_state.proofs.Growing.{sooner, same-longer, on-longer, still-own, got-or}
-use Rattle.mono_state.proofs.Going.{goes-then}
-use Rattle.mono_state.proofs.Naming.{list-at}
-use Rattle.mono_state.proofs.Standing.{stands}
+use Rattle.mono_parts.specs.of_mono_state.Seen.{Held, held_of, Longer, Later, types_in, name_in, groups_in, seen, sign_of}
+use Rattle.mono_parts.specs.of_mono_state.Going.{IsHeld, IsOpen, IsRight, Goes, Stands, slots_for}
+use Rattle.mono_parts.specs.of_mono_state.declared.copier.Copier.{Copier}
+use Rattle.mono_parts.specs.of_mono_state.declared.word.Word.TheVariants as word
+use Rattle.mono_parts.proofs.of_mono_state.Growing.{sooner, same-longer, on-longer, still-own, got-or}
+use Rattle.mono_parts.proofs.of_mono_state.Going.{goes-then}
+use Rattle.mono_parts.proofs.of_mono_state.Naming.{list-at}
+use Rattle.mono_parts.proofs.of_mono_state.Standing.{stands}
 use Rattle.mono_parts.specs.Steps.{functions_in, with_own}
 use Rattle.mono_copy.specs.declared.parts.Before.{Before}
 use Rattle.mono_copy.specs.declared.parts.Before.TheVariants.{Same, Closed}

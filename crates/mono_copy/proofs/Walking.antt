@@ -26,8 +26,8 @@ use Rattle.mono_words.specs.Words.{end_sign, parameter_sign, last_sign}
 use Rattle.mono_words.specs.Seen.{Seen, with_sign, within, out, needed_types}
 use Rattle.mono_words.specs.Made.{exp_made, arms_made, fun_made, bodies_made, case_entered, case_left, let_made, more_lets_made, group_made, more_groups_made, still_bare, entered_step, left_step, all_bare, entered_all, left_all}
 use Rattle.mono_words.proofs.Making.{first-made, arm-made, arms-end, last-made, more-made, bodies-made, no-bodies, steps-made}
-use Rattle.mono_state.specs.Seen.{types_in}
-use Rattle.mono_state.specs.declared.copier.Copier.{Copier}
+use Rattle.mono_parts.specs.of_mono_state.Seen.{types_in}
+use Rattle.mono_parts.specs.of_mono_state.declared.copier.Copier.{Copier}
 use Rattle.mono_parts.specs.Arms.{bound_in, entered, left}
 use Rattle.mono_parts.specs.Steps.{functions_in, steps_in, parameters_entered, parameters_left}
 use Rattle.mono_copy.specs.Puts.{Change, IsReady, Puts, Passes}

@@ -14,8 +14,8 @@ use Rattle.mono_close.specs.Closing.{standing}
 use Rattle.mono_words.specs.Words.{spell}
 use Rattle.mono_words.specs.Seen.{Seen}
 use Rattle.mono_words.specs.Made.{exp_made}
-use Rattle.mono_state.specs.Seen.{Held, held_of, Later, groups_in, seen, sign_of}
-use Rattle.mono_state.specs.declared.copier.Copier.{Copier}
+use Rattle.mono_parts.specs.of_mono_state.Seen.{Held, held_of, Later, groups_in, seen, sign_of}
+use Rattle.mono_parts.specs.of_mono_state.declared.copier.Copier.{Copier}
 use Rattle.mono_copy.specs.Puts.{Puts, Passes}
 use Rattle.mono_copy.specs.Changes.{exp_in, exp_put}
 

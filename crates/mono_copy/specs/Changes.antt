@@ -25,7 +25,7 @@ use Rattle.mono_words.specs.Words.{first_sign, let_sign, packet_sign, counted_si
 use Rattle.mono_words.specs.Seen.{Seen, with_sign, with_needs, within, out, needed_types, made}
 use Rattle.mono_words.specs.Made.{exp_made, arms_made, op_made, fun_made, bodies_made, case_entered}
 use Rattle.mono_words.specs.Made.{arm_left, group_made, entered_step, left_step, entered_all, left_all}
-use Rattle.mono_state.specs.Seen.{types_in}
+use Rattle.mono_parts.specs.of_mono_state.Seen.{types_in}
 use Rattle.mono_parts.specs.Steps.{functions_in, steps_in}
 use Rattle.mono_copy.specs.Puts.{Change}
 

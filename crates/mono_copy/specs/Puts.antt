@@ -7,9 +7,9 @@ use Rattle.ir_tables.specs.declared.tables.Tables.{Tables}
 use Rattle.monomorphise.specs.Monomorphise.{Groups}
 use Rattle.mono_close.specs.Closing.{standing}
 use Rattle.mono_words.specs.Seen.{Seen}
-use Rattle.mono_state.specs.Seen.{Held, held_of, Later, groups_in, seen}
-use Rattle.mono_state.specs.Going.{IsOpen, IsRight, Goes}
-use Rattle.mono_state.specs.declared.copier.Copier.{Copier}
+use Rattle.mono_parts.specs.of_mono_state.Seen.{Held, held_of, Later, groups_in, seen}
+use Rattle.mono_parts.specs.of_mono_state.Going.{IsOpen, IsRight, Goes}
+use Rattle.mono_parts.specs.of_mono_state.declared.copier.Copier.{Copier}
 
 -- what is seen then, by the tables, the groups around, what variables stand for, and what was seen before
 abbrev pub Change : Type 0

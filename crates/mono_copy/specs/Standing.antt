@@ -2,9 +2,9 @@
 use Rattle.std.specs.Prelude.{◌≡◌, ◌-◌, ℕ, List, [], ◌++◌, length, drop, get_or}
 use Rattle.ty_core.specs.Types.{Typ}
 use Rattle.ty_core.specs.declared.scheme.Quantified.{Quantified}
-use Rattle.mono_state.specs.Seen.{held_of, Longer}
-use Rattle.mono_state.specs.Going.{IsOpen, IsRight, slots_for}
-use Rattle.mono_state.specs.declared.copier.Copier.{Copier}
+use Rattle.mono_parts.specs.of_mono_state.Seen.{held_of, Longer}
+use Rattle.mono_parts.specs.of_mono_state.Going.{IsOpen, IsRight, slots_for}
+use Rattle.mono_parts.specs.of_mono_state.declared.copier.Copier.{Copier}
 use Rattle.mono_copy.specs.declared.parts.Before.{Before}
 use Rattle.mono_copy.specs.declared.parts.Before.TheVariants.{Same, Closed}
 

@@ -5,8 +5,8 @@ ghost use Rattle.mlc_runs.specs.declared.pass.PassFault.TheVariants.{Expansion};
 ghost use Rattle.ir_tables.specs.declared.tables.Tables.{Tables};
 ghost use Rattle.mono_words.specs.Made.{all_bare};
 ghost use Rattle.mono_parts.specs.Steps.{steps_in};
-ghost use Rattle.mono_state.specs.Seen.{Held, held_of, seen};
-ghost use Rattle.mono_state.specs.Going.{IsHeld, IsOpen};
+ghost use Rattle.mono_parts.specs.of_mono_state.Seen.{Held, held_of, seen};
+ghost use Rattle.mono_parts.specs.of_mono_state.Going.{IsHeld, IsOpen};
 ghost use Rattle.mono_copy.specs.Puts.{IsReady, Puts, Passes};
 ghost use Rattle.mono_copy.specs.Standing.{StandsFor, IsBefore, stood_back};
 ghost use Rattle.mono_copy.specs.Changes.{ret_put, packet_put, test_left, counted_left, step_in, bound_at, binding_in, step_opened, plainly_left};
@@ -16,13 +16,13 @@ use ir_tables::tables::Tables;
 use mlc_base::memory::NoMemory;
 use mlc_runs::pass::PassFault;
 use mono_parts::arms::{leave_arm, put_switch};
+use mono_parts::mono_state::copier::Copier;
+use mono_parts::mono_state::names::{alone, atom, restore, stand};
+use mono_parts::mono_state::word::Word;
 use mono_parts::steps::{
     enter_binding, enter_group, enter_variable, leave_exception, leave_name, leave_variable,
     stripped,
 };
-use mono_state::copier::Copier;
-use mono_state::names::{alone, atom, restore, stand};
-use mono_state::word::Word;
 use plain_tree::tree::{Binding, Case, Step};
 use std::alloc::Global;
 use ty_core::scheme::Quantified;

@@ -8,13 +8,13 @@ ghost use Rattle.ir_tables.specs.Tables.{strings_of};
 ghost use Rattle.monomorphise.specs.Expansion.{compared};
 ghost use Rattle.monomorphise.specs.Monomorphise.{copies};
 ghost use Rattle.mono_words.specs.Words.{spell};
-ghost use Rattle.mono_state.specs.Seen.{Held, held_of, Later, sign_of};
+ghost use Rattle.mono_parts.specs.of_mono_state.Seen.{Held, held_of, Later, sign_of};
 ghost use Rattle.mono_copy.specs.Changes.{exp_in};
 
 use crate::walk::walk;
 use ir_tables::tables::Tables;
 use mlc_runs::pass::PassFault;
-use mono_state::copier::Copier;
+use mono_parts::mono_state::copier::Copier;
 use plain_tree::tree::Exp;
 use std::alloc::Global;
 

@@ -2,8 +2,8 @@
 // each list of types that was needed: its operation is walked along again for each.
 ghost use Rattle.std.specs.Prelude.{◌≡◌, ℕ, true, reverse, IfOk, IfErr};
 ghost use Rattle.mlc_runs.specs.declared.pass.PassFault.TheVariants.{Expansion};
-ghost use Rattle.mono_state.specs.Seen.{held_of};
-ghost use Rattle.mono_state.specs.Going.{IsHeld, AllHeld};
+ghost use Rattle.mono_parts.specs.of_mono_state.Seen.{held_of};
+ghost use Rattle.mono_parts.specs.of_mono_state.Going.{IsHeld, AllHeld};
 ghost use Rattle.mono_copy.specs.Puts.{IsReady, Puts, Passes};
 ghost use Rattle.mono_copy.specs.Changes.{each_put, exp_put, attempt_put, arms_put, arm_put, step_entered, step_left, steps_entered, steps_left};
 ghost use Rattle.mono_copy.specs.Changes.{operation_put, handler_put, function_put, bodies_put, binding_put, binding_left, group_put, group_left};
@@ -14,14 +14,14 @@ use crate::parts::{
 use ir_tables::tables::Tables;
 use mlc_runs::pass::PassFault;
 use mono_parts::arms::{enter_arm, leave_arm, put_switch};
+use mono_parts::mono_state::copier::Copier;
+use mono_parts::mono_state::names::{copy_at, type_of, unit_list};
+use mono_parts::mono_state::word::Word;
 use mono_parts::operations::put_operation;
 use mono_parts::steps::{
     enter_group, enter_parameters, enter_variable, leave_binding, leave_last, leave_parameters,
     leave_variable, own_functions, put_heads, stripped,
 };
-use mono_state::copier::Copier;
-use mono_state::names::{copy_at, type_of, unit_list};
-use mono_state::word::Word;
 use plain_tree::tree::{Arm, Binding, Exp, Function, Parameter, Step};
 use std::alloc::Global;
 

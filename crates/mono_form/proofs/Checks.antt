@@ -11,7 +11,7 @@ use Rattle.ir_mono.proofs.Sound.{well-formed-never-wrong}
 use Rattle.mono_fits.specs.Asked.{given, is_exn}
 use Rattle.mono_fits.proofs.Deciding.{named-sound, named-since}
 use Rattle.mono_fits.proofs.Right.{fits-is-right}
-use Rattle.mono_operations.specs.Reads.{Names}
+use Rattle.mono_check.specs.of_mono_operations.Reads.{Names}
 use Rattle.mono_tree.specs.Programs.{initial_of}
 use Rattle.mono_check.specs.Walk.{fits}
 use Rattle.mono_form.specs.declared.program.Program.{Program}

@@ -12,8 +12,8 @@ use ir_known::scope::Scope;
 use mlc_base::memory::NoMemory;
 use mlc_runs::pass::{Check, Form};
 use mono_check::infer::exp_type;
+use mono_table::mono_uses::ask::is_exn;
 use mono_table::table::is_table;
-use mono_uses::ask::is_exn;
 use std::alloc::Global;
 
 /// Whether the basis' exceptions are named, and the type of exceptions has its number.

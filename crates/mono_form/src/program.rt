@@ -6,7 +6,7 @@ ghost use Rattle.ir_mono.specs.Mono.{mono};
 ghost use Rattle.mono_form.specs.Programs.{body_of};
 
 use mlc_base::memory::NoMemory;
-use mono_operations::tables::Tables;
+use mono_check::mono_operations::tables::Tables;
 use mono_tree::tree::{binds_once, nodes};
 use plain_tree::tree::Exp;
 use std::alloc::Global;

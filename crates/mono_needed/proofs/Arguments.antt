@@ -1,5 +1,5 @@
 -- The arguments of a datatype's constructors are gone along.
-use Rattle.std.proofs.Common.{◌≡◌, ℕ, zero, suc, ◌+◌, ◌<◌, ◌≤◌, ◌⊎◌, inl, inr, List, [], ◌∷◌, ◌++◌, map, take, length, slice_get, slice_index_or, Option, Some, None, option_map, Bool, true, false, nat_eq, ◌&&◌, if◌then◌else◌, refl, sym, ap, ap₂, ◌∙◌, subst, arith}
+use Rattle.std.proofs.Common.{◌≡◌, ℕ, zero, suc, ◌+◌, ◌-◌, ◌<◌, ◌≤◌, ◌⊎◌, inl, inr, List, [], ◌∷◌, ◌++◌, map, take, drop, length, slice_get, slice_index_or, Option, Some, None, option_map, Bool, true, false, nat_eq, ◌&&◌, if◌then◌else◌, refl, sym, ap, ap₂, ◌∙◌, subst, arith}
 use Rattle.std.specs.Map.{lookup}
 use Rattle.std.proofs.lemmas.Bool.{eqb-true, eq-eqb, cases_order, false≢true}
 use Rattle.std.proofs.lemmas.List.{append-nil, append_assoc}
@@ -142,6 +142,13 @@ module _ (rows : List Constructor) (ts : List Typ) (y : TyName) (s : ℕ → Typ
           one c a w f = let r = found-row rows ts y c f.0 f.1 in subst (Done us g.numbers) r.4 (none-left r.1.number (g.rest r.0 r.1 r.2 r.3)) a w
 
 -- the types of parts stand for parameters
+
+none-behind : (slots : List (ℕ × ℕ)) → drop (length slots) slots ≡ []
+none-behind [] = refl
+none-behind (x ∷ slots) = none-behind slots
+
+pub all-left : (slots new : List (ℕ × ℕ)) → new ≡ drop (length slots - 0) slots → new ≡ []
+all-left slots new e = e ∙ ap (λ n. drop n slots) (let p : length slots - 0 ≡ length slots = omega arith in p) ∙ none-behind slots
 
 pub record Binding (slots : List (ℕ × ℕ)) (parts : List ℕ) (i : ℕ) : Type 0 where
   pub found : (v : ℕ) → lookup (nat_eq v) slots ≡ slice_get (take i parts) v

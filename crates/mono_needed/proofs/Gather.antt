@@ -1,8 +1,7 @@
 -- Types are gathered, one after the other.
-use Rattle.std.proofs.Common.{◌≡◌, ◌≢◌, AllPairs, ℕ, suc, ◌+◌, ◌-◌, ◌<◌, ◌⊎◌, inl, inr, List, [], ◌∷◌, ◌++◌, map, length, Some, None, option_map, Bool, true, false, not, nat_eq, ◌||◌, if◌then◌else◌, refl, sym, ap, ap₂, ◌∙◌, subst, arith}
+use Rattle.std.proofs.Common.{◌≡◌, ◌≢◌, AllPairs, ℕ, zero, suc, ◌+◌, ◌<◌, ◌≤◌, ◌⊎◌, inl, inr, List, [], ◌∷◌, ◌++◌, map, length, take, slice_get, get_or, Some, None, option_map, Bool, true, false, nat_eq, ◌||◌, if◌then◌else◌, refl, sym, ap, ap₂, ◌∙◌, subst, arith}
 use Rattle.std.specs.List.{list_any}
 use Rattle.std.proofs.lemmas.Bool.{eqb-true, eq-eqb, false≢true}
-use Rattle.std.proofs.lemmas.List.{append-nil, append_assoc}
 use Rattle.indexmap.specs.IndexSet.{insert_key}
 use Rattle.ty_core.specs.Types.{Typ, var}
 use Rattle.ty_table.specs.TypeAt.{type_at, AllBelow}
@@ -12,8 +11,8 @@ use Rattle.monomorphise.specs.Expansion.{IsOneOf, this, further, IsNeeded, neede
 use Rattle.monomorphise.specs.Counting.{needed_within}
 use Rattle.mono_close.specs.Closing.{Longer}
 use Rattle.mono_close.proofs.Tables.{type-longer, length-longer, below-longer}
-use Rattle.mono_needed.specs.Gathered.{NeedsAtOnce, a_field, an_argument, AreAllNeeded, AreNeeded}
-use Rattle.mono_needed.specs.Gathering.{Has, At, Opens, Taken, none_new, one_new, Covered, Gathers}
+use Rattle.mono_needed.specs.Gathered.{NeedsAtOnce, a_field, an_argument, AreAllNeeded}
+use Rattle.mono_needed.specs.Gathering.{Has, At, Opens, added, AreGathered, Gathers}
 use Rattle.mono_needed.proofs.Counts.{all-counted, more-past}
 
 -- numbers in lists
@@ -44,10 +43,6 @@ below-has n (x ∷ l) k b (inr h) = below-has n l k b.1 h
 pub below-append : (n : ℕ) (l r : List ℕ) → AllBelow n l → AllBelow n r → AllBelow n (l ++ r)
 below-append n [] r a b = b
 below-append n (x ∷ l) r a b = (a.0, below-append n l r a.1 b)
-
-pub below-front : (n : ℕ) (l r : List ℕ) → AllBelow n (l ++ r) → AllBelow n l
-below-front n [] r b = tt
-below-front n (x ∷ l) r b = (b.0, below-front n l r b.1)
 
 pub at-front : (us : List Typ) (l r : List ℕ) (t : Typ) → At us l t → At us (l ++ r) t
 at-front us l r t a = record { number = a.number; among = has-front l r a.number a.among; is = a.is }
@@ -117,12 +112,6 @@ length-mapped f (x ∷ l) = ap suc (length-mapped f l)
 
 -- a number that is put into a set
 
-noted-new : (ks ls : List ℕ) (k : ℕ) → ls ≡ insert_key nat_eq ks k → list_any (nat_eq k) ks ≡ false → ls ≡ ks ++ k ∷ []
-noted-new ks ls k q i = q ∙ ap (λ c. if c then ks else ks ++ k ∷ []) i
-
-noted-old : (ks ls : List ℕ) (k : ℕ) → ls ≡ insert_key nat_eq ks k → list_any (nat_eq k) ks ≡ true → ls ≡ ks
-noted-old ks ls k q i = q ∙ ap (λ c. if c then ks else ks ++ k ∷ []) i
-
 held : (ks : List ℕ) (k : ℕ) → list_any (nat_eq k) ks ≡ true → Has ks k
 held [] k h = absurd (false≢true h)
 held (x ∷ ks) k h = go (nat_eq k x) refl (held ks k)
@@ -144,186 +133,178 @@ not-held [] k h a = a
 not-held (x ∷ ks) k h (inl e) = any-first (nat_eq k x) (list_any (nat_eq k) ks) h (eq-eqb k x e)
 not-held (x ∷ ks) k h (inr a) = not-held ks k (any-rest (nat_eq k x) (list_any (nat_eq k) ks) h) a
 
--- numbers are popped until one is new
+in-key : (ks : List ℕ) (k : ℕ) (b : Bool) → list_any (nat_eq k) ks ≡ b → (j : ℕ) → Has ks j → Has (if b then ks else ks ++ k ∷ []) j
+in-key ks k true e j h = h
+in-key ks k false e j h = has-front ks (k ∷ []) j h
 
-pub record Skips (ks old now : List ℕ) : Type 0 where
-  pub dropped : List ℕ
-  pub is : old ≡ now ++ dropped
-  pub there : (k : ℕ) → Has dropped k → Has ks k
+key-in : (ks : List ℕ) (k : ℕ) (b : Bool) → list_any (nat_eq k) ks ≡ b → Has (if b then ks else ks ++ k ∷ []) k
+key-in ks k true e = held ks k e
+key-in ks k false e = has-back ks (k ∷ []) k (inl refl)
 
-pub skips-none : (ks old : List ℕ) → Skips ks old old
-skips-none ks old = record { dropped = []; is = sym (append-nil old); there = λ k h. absurd h }
+still-in : (ks xs : List ℕ) (k : ℕ) → Has ks k → Has (added ks xs) k
+still-in ks [] k h = h
+still-in ks (x ∷ xs) k h = still-in (insert_key nat_eq ks x) xs k (in-key ks x (list_any (nat_eq x) ks) refl k h)
 
-pub skips-one : (ks ls old now rest : List ℕ) (k : ℕ) (b : Bool) → now ≡ rest ++ k ∷ [] → b ≡ not (list_any (nat_eq k) ks) → ls ≡ insert_key nat_eq ks k → b ≡ false → Skips ks old now → (ls ≡ ks) × Skips ks old rest
-skips-one ks ls old now rest k b e p q f s = go (list_any (nat_eq k) ks) refl
+added-in : (ks xs : List ℕ) (k : ℕ) → Has xs k → Has (added ks xs) k
+added-in ks [] k h = absurd h
+added-in ks (x ∷ xs) k (inl e) = still-in (insert_key nat_eq ks x) xs k (subst (Has (insert_key nat_eq ks x)) (sym e) (key-in ks x (list_any (nat_eq x) ks) refl))
+added-in ks (x ∷ xs) k (inr h) = added-in (insert_key nat_eq ks x) xs k h
+
+take-front : (l r : List ℕ) (n : ℕ) → n ≤ length l → take n (l ++ r) ≡ take n l
+take-front l r zero le = refl
+take-front [] r (suc n) le = absurd (omega arith)
+take-front (x ∷ l) r (suc n) le = ap (λ m. x ∷ m) (take-front l r n (omega arith))
+
+key-take : (ks : List ℕ) (k n : ℕ) (b : Bool) → n ≤ length ks → take n (if b then ks else ks ++ k ∷ []) ≡ take n ks
+key-take ks k n true le = refl
+key-take ks k n false le = take-front ks (k ∷ []) n le
+
+key-long : (ks : List ℕ) (k : ℕ) (b : Bool) → length ks ≤ length (if b then ks else ks ++ k ∷ [])
+key-long ks k true = omega arith
+key-long ks k false = let e = length-end ks k in omega (arith, e)
+
+-- those that were there stay where they are
+added-take : (ks xs : List ℕ) (n : ℕ) → n ≤ length ks → take n (added ks xs) ≡ take n ks
+added-take ks [] n le = refl
+added-take ks (x ∷ xs) n le =
+    let l = key-long ks x (list_any (nat_eq x) ks) in
+    added-take (insert_key nat_eq ks x) xs n (omega (arith, l)) ∙ key-take ks x n (list_any (nat_eq x) ks) le
+
+take-one : (ks : List ℕ) (n t k : ℕ) → slice_get ks n ≡ Some t → Has (take (suc n) ks) k → Has (take n ks) k ⊎ (k ≡ t)
+take-one [] n t k e h = absurd h
+take-one (x ∷ ks) zero t k e (inl p) = let q : x ≡ t = cc in inr (p ∙ q)
+take-one (x ∷ ks) zero t k e (inr h) = absurd h
+take-one (x ∷ ks) (suc n) t k e (inl p) = inl (inl p)
+take-one (x ∷ ks) (suc n) t k e (inr h) = go (take-one ks n t k e h)
   where
-    go : (c : Bool) → list_any (nat_eq k) ks ≡ c → (ls ≡ ks) × Skips ks old rest
-    go true i = (
-      noted-old ks ls k q i,
-      record {
-        dropped = k ∷ s.dropped;
-        is = s.is ∙ ap (λ l. l ++ s.dropped) e ∙ append_assoc rest (k ∷ []) s.dropped;
-        there = λ j h. one j h;
-      },
-    )
-      where
-        one : (j : ℕ) → Has (k ∷ s.dropped) j → Has ks j
-        one j (inl h) = subst (Has ks) (sym h) (held ks k i)
-        one j (inr h) = s.there j h
-    go false i = absurd (false≢true (sym f ∙ p ∙ ap not i))
+    go : Has (take n ks) k ⊎ (k ≡ t) → Has (take (suc n) (x ∷ ks)) k ⊎ (k ≡ t)
+    go (inl i) = inl (inr i)
+    go (inr p) = inr p
 
-pub takes-one : (ks ls old now rest : List ℕ) (k : ℕ) (b : Bool) → now ≡ rest ++ k ∷ [] → b ≡ not (list_any (nat_eq k) ks) → ls ≡ insert_key nat_eq ks k → b ≡ true → Skips ks old now → Taken ks old ls rest (Some k)
-takes-one ks ls old now rest k b e p q f s = go (list_any (nat_eq k) ks) refl
-  where
-    go : (c : Bool) → list_any (nat_eq k) ks ≡ c → Taken ks old ls rest (Some k)
-    go true i = absurd (false≢true (sym (p ∙ ap not i) ∙ f))
-    go false i = one_new k s.dropped (s.is ∙ ap (λ l. l ++ s.dropped) e ∙ append_assoc rest (k ∷ []) s.dropped) s.there (not-held ks k i) (noted-new ks ls k q i)
+taken-has : (ks : List ℕ) (n k : ℕ) → Has (take n ks) k → Has ks k
+taken-has [] zero k h = absurd h
+taken-has [] (suc n) k h = absurd h
+taken-has (x ∷ ks) zero k h = absurd h
+taken-has (x ∷ ks) (suc n) k (inl e) = inl e
+taken-has (x ∷ ks) (suc n) k (inr h) = inr (taken-has ks n k h)
 
-none-there : (ks old now : List ℕ) → length now ≡ 0 → Skips ks old now → (k : ℕ) → Has old k → Has ks k
-none-there ks old [] e s k h = s.there k (subst (λ l. Has l k) s.is h)
-none-there ks old (x ∷ now) e s k h = absurd (omega (arith, e))
+got-has : (ks : List ℕ) (n t : ℕ) → slice_get ks n ≡ Some t → Has ks t
+got-has [] n t e = absurd (cc)
+got-has (x ∷ ks) zero t e = let q : t ≡ x = cc in inl q
+got-has (x ∷ ks) (suc n) t e = inr (got-has ks n t e)
 
-pub takes-none : (ks old now ls new : List ℕ) → length now ≡ 0 → ls ≡ ks → Skips ks old now → Taken ks old ls new None
-takes-none ks old now ls new e q s = none_new (none-there ks old now e s) q
+pub got-less : (ks : List ℕ) (n t : ℕ) → slice_get ks n ≡ Some t → n < length ks
+got-less [] n t e = absurd (cc)
+got-less (x ∷ ks) zero t e = omega arith
+got-less (x ∷ ks) (suc n) t e = let h = got-less ks n t e in omega (arith, h)
 
--- where the numbers so far are those of the beginning
+pub got-read : (ks : List ℕ) (n t : ℕ) → n < length ks → t ≡ get_or ks n t → slice_get ks n ≡ Some t
+got-read [] n t lt e = absurd (omega arith)
+got-read (x ∷ ks) zero t lt e = ap Some (sym e)
+got-read (x ∷ ks) (suc n) t lt e = got-read ks n t (omega arith) e
 
-pub skips-on : (cs ks ls old now rest : List ℕ) (k : ℕ) (b : Bool) → cs ≡ ks → now ≡ rest ++ k ∷ [] → b ≡ not (list_any (nat_eq k) cs) → ls ≡ insert_key nat_eq cs k → b ≡ false → Skips ks old now → (ls ≡ ks) × Skips ks old rest
-skips-on cs ks ls old now rest k b c e p q f = subst (λ ks. Skips ks old now → (ls ≡ ks) × Skips ks old rest) c (skips-one cs ls old now rest k b e p q f)
+none-more : (ks : List ℕ) (n k : ℕ) → length ks ≤ n → Has ks k → Has (take n ks) k
+none-more [] n k le h = absurd h
+none-more (x ∷ ks) zero k le h = absurd (omega arith)
+none-more (x ∷ ks) (suc n) k le (inl p) = inl p
+none-more (x ∷ ks) (suc n) k le (inr h) = inr (none-more ks n k (omega arith) h)
 
-pub takes-on : (cs ks ls old now rest : List ℕ) (k : ℕ) (b : Bool) → cs ≡ ks → now ≡ rest ++ k ∷ [] → b ≡ not (list_any (nat_eq k) cs) → ls ≡ insert_key nat_eq cs k → b ≡ true → Skips ks old now → Taken ks old ls rest (Some k)
-takes-on cs ks ls old now rest k b c e p q f = subst (λ ks. Skips ks old now → Taken ks old ls rest (Some k)) c (takes-one cs ls old now rest k b e p q f)
-
-pub shorter : (old rest : List ℕ) (k : ℕ) → old ≡ rest ++ k ∷ [] → length rest < length old
-shorter old rest k e = let p : length old ≡ suc (length rest) = ap length e ∙ length-end rest k in omega (arith, p)
-
--- a type is taken
+-- types are gathered
 
 module _ (constructors : List Constructor) (roots : List Typ) where
-  pub gathers-begins : (us : List Typ) (ks ps rs : List ℕ) → ks ≡ [] → ps ≡ rs → roots ≡ map (type_at us) rs → AllBelow (length us) rs → Gathers constructors roots us ks ps
-  gathers-begins us ks ps rs e p r b = subst (λ ks. Gathers constructors roots us ks ps) (sym e) (subst (Gathers constructors roots us []) (sym p) (record {
-    below = tt;
-    waiting = b;
-    apart = none_differ;
-    there = λ k h. absurd h;
-    pending = λ k h. needed_itself (subst (IsOneOf (type_at us k)) (sym r) (listed us rs k h));
-    roots_are = λ t i. inr (listed-at us rs t (subst (IsOneOf t) r i));
+  gathered-one : (us : List Typ) (ks : List ℕ) (k : ℕ) (b : Bool) → list_any (nat_eq k) ks ≡ b → AllPairs (λ t u. t ≢ u) us → k < length us → IsNeeded constructors roots (type_at us k) → AreGathered constructors roots us ks
+      → AreGathered constructors roots us (if b then ks else ks ++ k ∷ [])
+  gathered-one us ks k true e once lt n g = g
+  gathered-one us ks k false e once lt n g = record {
+    below = below-append (length us) ks (k ∷ []) g.below (lt, tt);
+    apart = subst AreDifferent (sym (map-append (type_at us) ks (k ∷ []))) (different-end (map (type_at us) ks) (type_at us k) g.apart (new-type us ks k once lt g.below (not-held ks k e)));
+    there = λ j h. either j (has-either ks (k ∷ []) j h);
+  }
+    where
+      either : (j : ℕ) → Has ks j ⊎ Has (k ∷ []) j → IsNeeded constructors roots (type_at us j)
+      either j (inl h) = g.there j h
+      either j (inr (inl p)) = subst (λ z. IsNeeded constructors roots (type_at us z)) (sym p) n
+      either j (inr (inr h)) = absurd h
+
+  gathered-added : (us : List Typ) (ks xs : List ℕ) → AllPairs (λ t u. t ≢ u) us → AllBelow (length us) xs → ((k : ℕ) → Has xs k → IsNeeded constructors roots (type_at us k)) → AreGathered constructors roots us ks
+      → AreGathered constructors roots us (added ks xs)
+  gathered-added us ks [] once b n g = g
+  gathered-added us ks (x ∷ xs) once b n g =
+      gathered-added us (insert_key nat_eq ks x) xs once b.1 (λ k h. n k (inr h)) (gathered-one us ks x (list_any (nat_eq x) ks) refl once b.0 (n x (inl refl)) g)
+
+  pub gathers-begins : (us : List Typ) (new ks rs : List ℕ) → new ≡ [] → ks ≡ added new rs → roots ≡ map (type_at us) rs → AllPairs (λ t u. t ≢ u) us → AllBelow (length us) rs → Gathers constructors roots us ks 0
+  gathers-begins us new ks rs e p r once b = subst (λ ks. Gathers constructors roots us ks 0) (sym (p ∙ ap (λ l. added l rs) e)) (record {
+    gathered = gathered-added us [] rs once b (λ k h. needed_itself (subst (IsOneOf (type_at us k)) (sym r) (listed us rs k h))) (record { below = tt; apart = none_differ; there = λ k h. absurd h });
+    roots_are = λ t i. let a = listed-at us rs t (subst (IsOneOf t) r i) in record { number = a.number; among = added-in [] rs a.number a.among; is = a.is };
     parts_are = λ k u h n. absurd h;
-  }))
+  })
 
   needed-next : (t u : Typ) → IsNeeded constructors roots t → NeedsAtOnce constructors t u → IsNeeded constructors roots u
   needed-next t u n (a_field ls ts e i) = needed_field (subst (IsNeeded constructors roots) e n) i
   needed-next t u n (an_argument c h) = needed_argument c n h
 
-  module _ (us ws : List Typ) (ks old ls mid new dropped : List ℕ) (t : ℕ) (is : old ≡ mid ++ (t ∷ dropped)) (there : (k : ℕ) → Has dropped k → Has ks k) (fresh : Has ks t → ⊥) (put : ls ≡ ks ++ t ∷ [])
-      (once : AllPairs (λ t u. t ≢ u) us) (g : Gathers constructors roots us ks old) where
-    t-pending : Has old t
-    t-pending = subst (λ l. Has l t) (sym is) (has-back mid (t ∷ dropped) t (inl refl))
-
-    t-below : t < length us
-    t-below = below-has (length us) old t g.waiting t-pending
-
-    apart-now : AreDifferent (map (type_at us) (ks ++ t ∷ []))
-    apart-now = subst AreDifferent (sym (map-append (type_at us) ks (t ∷ []))) (different-end (map (type_at us) ks) (type_at us t) g.apart (new-type us ks t once t-below g.below fresh))
-
-    there-now : (k : ℕ) → Has (ks ++ t ∷ []) k → IsNeeded constructors roots (type_at us k)
-    there-now k h = either (has-either ks (t ∷ []) k h)
-      where
-        either : Has ks k ⊎ Has (t ∷ []) k → IsNeeded constructors roots (type_at us k)
-        either (inl i) = g.there k i
-        either (inr (inl e)) = subst (λ z. IsNeeded constructors roots (type_at us z)) (sym e) (g.pending t t-pending)
-        either (inr (inr e)) = absurd e
-
-    -- one more is needed
-    pub more-needed : AreNeeded constructors roots (map (type_at us) ls)
-    more-needed = subst (λ ls. AreNeeded constructors roots (map (type_at us) ls)) (sym put) (record { each_once = apart-now; only = λ u i. one u (listed-at us (ks ++ t ∷ []) u i) })
-      where
-        one : (u : Typ) → At us (ks ++ t ∷ []) u → IsNeeded constructors roots u
-        one u a = subst (IsNeeded constructors roots) a.is (there-now a.number a.among)
-
-    module _ (longer : Longer us ws) (o : Opens constructors (type_at us t) ws mid new) where
-      mid-below : AllBelow (length us) mid
-      mid-below = below-front (length us) mid (t ∷ dropped) (subst (AllBelow (length us)) is g.waiting)
-
-      now-below : AllBelow (length us) (ks ++ t ∷ [])
-      now-below = below-append (length us) ks (t ∷ []) g.below (t-below, tt)
-
-      -- what was there or pending still is
-      still : (u : Typ) → Covered us ks old u → Covered ws (ks ++ t ∷ []) new u
-      still u (inl a) = inl (at-longer us ws (ks ++ t ∷ []) u longer now-below (at-front us ks (t ∷ []) u a))
-      still u (inr a) = either (has-either mid (t ∷ dropped) a.number (subst (λ l. Has l a.number) is a.among))
-        where
-          here : Has (ks ++ t ∷ []) a.number → Covered ws (ks ++ t ∷ []) new u
-          here h = inl (at-longer us ws (ks ++ t ∷ []) u longer now-below (record { number = a.number; among = h; is = a.is }))
-
-          either : Has mid a.number ⊎ Has (t ∷ dropped) a.number → Covered ws (ks ++ t ∷ []) new u
-          either (inl h) = inr (subst (λ l. At ws l u) (sym o.is) (at-front ws mid o.numbers u (at-longer us ws mid u longer mid-below (record { number = a.number; among = h; is = a.is }))))
-          either (inr (inl e)) = here (has-back ks (t ∷ []) a.number (inl e))
-          either (inr (inr h)) = here (has-front ks (t ∷ []) a.number (there a.number h))
-
-      pending-now : (k : ℕ) → Has new k → IsNeeded constructors roots (type_at ws k)
-      pending-now k h = either (has-either mid o.numbers k (subst (λ l. Has l k) o.is h))
-        where
-          either : Has mid k ⊎ Has o.numbers k → IsNeeded constructors roots (type_at ws k)
-          either (inl i) = subst (IsNeeded constructors roots) (sym (type-longer us ws k longer (below-has (length us) mid k mid-below i))) (g.pending k (subst (λ l. Has l k) (sym is) (has-front mid (t ∷ dropped) k i)))
-          either (inr i) = needed-next (type_at us t) (type_at ws k) (g.pending t t-pending) (o.sound k i)
-
-      parts-now : (k : ℕ) (u : Typ) → Has (ks ++ t ∷ []) k → NeedsAtOnce constructors (type_at ws k) u → Covered ws (ks ++ t ∷ []) new u
-      parts-now k u h n = either (has-either ks (t ∷ []) k h)
-        where
-          before : NeedsAtOnce constructors (type_at us k) u
-          before = subst (λ t. NeedsAtOnce constructors t u) (type-longer us ws k longer (below-has (length us) (ks ++ t ∷ []) k now-below h)) n
-
-          either : Has ks k ⊎ Has (t ∷ []) k → Covered ws (ks ++ t ∷ []) new u
-          either (inl i) = still u (g.parts_are k u i before)
-          either (inr (inl e)) = inr (subst (λ l. At ws l u) (sym o.is) (at-back ws mid o.numbers u (o.complete u (subst (λ z. NeedsAtOnce constructors (type_at us z) u) e before))))
-          either (inr (inr e)) = absurd e
-
-      pub gathers-opens : Gathers constructors roots ws ls new
-      gathers-opens = subst (λ ls. Gathers constructors roots ws ls new) (sym put) (record {
-        below = below-longer (length us) (length ws) (ks ++ t ∷ []) (length-longer us ws longer) now-below;
-        waiting = subst (AllBelow (length ws)) (sym o.is) (below-append (length ws) mid o.numbers (below-longer (length us) (length ws) mid (length-longer us ws longer) mid-below) o.below);
-        apart = subst AreDifferent (sym (map-longer us ws (ks ++ t ∷ []) longer now-below)) apart-now;
-        there = λ k h. subst (IsNeeded constructors roots) (sym (type-longer us ws k longer (below-has (length us) (ks ++ t ∷ []) k now-below h))) (there-now k h);
-        pending = pending-now;
-        roots_are = λ u i. still u (g.roots_are u i);
-        parts_are = parts-now;
-      })
-
-  -- nothing new is pending
-  pub gathers-ends : (us : List Typ) (ks old : List ℕ) → ((k : ℕ) → Has old k → Has ks k) → Gathers constructors roots us ks old → AreAllNeeded constructors roots (map (type_at us) ks)
-  gathers-ends us ks old there g = record {
-    each_once = g.apart;
-    roots_are = λ t i. in-it t (g.roots_are t i);
-    parts_are = λ t u i n. let a = listed-at us ks t i in in-it u (g.parts_are a.number u a.among (subst (λ t. NeedsAtOnce constructors t u) (sym a.is) n));
-    only = λ t i. let a = listed-at us ks t i in subst (IsNeeded constructors roots) a.is (g.there a.number a.among);
+  gathered-longer : (us ws : List Typ) (ks : List ℕ) → Longer us ws → AreGathered constructors roots us ks → AreGathered constructors roots ws ks
+  gathered-longer us ws ks longer g = record {
+    below = below-longer (length us) (length ws) ks (length-longer us ws longer) g.below;
+    apart = subst AreDifferent (sym (map-longer us ws ks longer g.below)) g.apart;
+    there = λ k h. subst (IsNeeded constructors roots) (sym (type-longer us ws k longer (below-has (length us) ks k g.below h))) (g.there k h);
   }
-    where
-      in-it : (t : Typ) → Covered us ks old t → IsOneOf t (map (type_at us) ks)
-      in-it t (inl a) = at-listed us ks t a
-      in-it t (inr a) = at-listed us ks t (record { number = a.number; among = there a.number a.among; is = a.is })
+
+  -- what the next one needs is put there
+  module _ (us ws : List Typ) (ks none found : List ℕ) (n t : ℕ) (empty : none ≡ []) (got : slice_get ks n ≡ Some t) (longer : Longer us ws) (once : AllPairs (λ t u. t ≢ u) ws) (o : Opens constructors (type_at us t) ws none found)
+      (g : Gathers constructors roots us ks n) where
+    numbers-are : found ≡ o.numbers
+    numbers-are = o.is ∙ ap (λ l. l ++ o.numbers) empty
+
+    was-there : (u : Typ) → At us ks u → At ws (added ks found) u
+    was-there u a = let b = at-longer us ws ks u longer g.gathered.below a in record { number = b.number; among = still-in ks found b.number b.among; is = b.is }
+
+    is-there : (u : Typ) → At ws o.numbers u → At ws (added ks found) u
+    is-there u a = record { number = a.number; among = added-in ks found a.number (subst (λ l. Has l a.number) (sym numbers-are) a.among); is = a.is }
+
+    t-needed : IsNeeded constructors roots (type_at us t)
+    t-needed = g.gathered.there t (got-has ks n t got)
+
+    found-needed : (k : ℕ) → Has found k → IsNeeded constructors roots (type_at ws k)
+    found-needed k h = needed-next (type_at us t) (type_at ws k) t-needed (o.sound k (subst (λ l. Has l k) numbers-are h))
+
+    parts-now : (k : ℕ) (u : Typ) → Has (take (suc n) (added ks found)) k → NeedsAtOnce constructors (type_at ws k) u → At ws (added ks found) u
+    parts-now k u h w = either (take-one ks n t k got taken)
+      where
+        taken : Has (take (suc n) ks) k
+        taken = let l = got-less ks n t got in subst (λ l. Has l k) (added-take ks found (suc n) (omega (arith, l))) h
+
+        before : NeedsAtOnce constructors (type_at us k) u
+        before = subst (λ t. NeedsAtOnce constructors t u) (type-longer us ws k longer (below-has (length us) ks k g.gathered.below (taken-has ks (suc n) k taken))) w
+
+        either : Has (take n ks) k ⊎ (k ≡ t) → At ws (added ks found) u
+        either (inl i) = was-there u (g.parts_are k u i before)
+        either (inr e) = is-there u (o.complete u (subst (λ z. NeedsAtOnce constructors (type_at us z) u) e before))
+
+    pub gathers-opens : (new : List ℕ) → new ≡ added ks found → Gathers constructors roots ws new (n + 1)
+    gathers-opens new p = subst (λ l. Gathers constructors roots ws l (n + 1)) (sym p) (subst (Gathers constructors roots ws (added ks found)) (let q : suc n ≡ n + 1 = omega arith in q) (record {
+      gathered = gathered-added ws ks found once (subst (AllBelow (length ws)) (sym numbers-are) o.below) found-needed (gathered-longer us ws ks longer g.gathered);
+      roots_are = λ u i. was-there u (g.roots_are u i);
+      parts_are = parts-now;
+    }))
+
+  -- what each of them needs is there
+  gathers-ends : (us : List Typ) (ks : List ℕ) (n : ℕ) → length ks ≤ n → Gathers constructors roots us ks n → AreAllNeeded constructors roots (map (type_at us) ks)
+  gathers-ends us ks n e g = record {
+    each_once = g.gathered.apart;
+    roots_are = λ t i. at-listed us ks t (g.roots_are t i);
+    parts_are = λ t u i w. let a = listed-at us ks t i in at-listed us ks u (g.parts_are a.number u (none-more ks n a.number e a.among) (subst (λ t. NeedsAtOnce constructors t u) (sym a.is) w));
+    only = λ t i. let a = listed-at us ks t i in subst (IsNeeded constructors roots) a.is (g.gathered.there a.number a.among);
+  }
 
   -- the answers
 
-  pub answers-all : (limit room : ℕ) (us : List Typ) (ks old ls new : List ℕ) → Taken ks old ls new None → Gathers constructors roots us ks old → room + length ks ≡ limit → Some (limit - room) ≡ option_map length (needed_within constructors limit [] roots)
-  answers-all limit room us ks old ls new (none_new there e) g r =
+  pub answers-all : (limit : ℕ) (us : List Typ) (ks : List ℕ) (n : ℕ) → length ks ≤ n → n ≤ limit → Gathers constructors roots us ks n → Some (length ks) ≡ option_map length (needed_within constructors limit [] roots)
+  answers-all limit us ks n e le g =
       let l = length-mapped (type_at us) ks in
-      let p : limit - room ≡ length (map (type_at us) ks) = omega (arith, l, r) in
-      ap Some p ∙ sym (all-counted constructors limit roots (map (type_at us) ks) (gathers-ends us ks old there g) (omega (arith, l, r)))
+      ap Some (sym l) ∙ sym (all-counted constructors limit roots (map (type_at us) ks) (gathers-ends us ks n e g) (omega (arith, l, e, le)))
 
-  pub answers-past : (limit room : ℕ) (us : List Typ) (ks old ls mid : List ℕ) (t : ℕ) → Taken ks old ls mid (Some t) → AllPairs (λ t u. t ≢ u) us → Gathers constructors roots us ks old → room + length ks ≡ limit → room ≡ 0
-      → None ≡ option_map length (needed_within constructors limit [] roots)
-  answers-past limit room us ks old ls mid t (one_new _ dropped is there fresh put) once g r z =
-      let n = more-needed us us ks old ls mid mid dropped t is there fresh put once g in
-      let l = length-mapped (type_at us) ls in
-      let m : length ls ≡ suc (length ks) = ap length put ∙ length-end ks t in
-      sym (ap (option_map length) (more-past constructors limit roots (map (type_at us) ls) n (omega (arith, l, m, r, z))))
-
-  pub opened : (us ws : List Typ) (ks old ls mid new : List ℕ) (t : ℕ) → Taken ks old ls mid (Some t) → AllPairs (λ t u. t ≢ u) us → Longer us ws → Opens constructors (type_at us t) ws mid new → Gathers constructors roots us ks old → Gathers constructors roots ws ls new
-  opened us ws ks old ls mid new t (one_new _ dropped is there fresh put) once longer o g = gathers-opens us ws ks old ls mid new dropped t is there fresh put once g longer o
-
-  pub one-longer : (ks old ls mid : List ℕ) (t : ℕ) → Taken ks old ls mid (Some t) → length ls ≡ suc (length ks)
-  one-longer ks old ls mid t (one_new _ dropped is there fresh put) = ap length put ∙ length-end ks t
-
-pub taken-below : (us : List Typ) (ks old ls mid : List ℕ) (t : ℕ) → Taken ks old ls mid (Some t) → AllBelow (length us) old → t < length us
-taken-below us ks old ls mid t (one_new _ dropped is there fresh put) b = below-has (length us) old t b (subst (λ l. Has l t) (sym is) (has-back mid (t ∷ dropped) t (inl refl)))
+  pub answers-past : (limit : ℕ) (us : List Typ) (ks : List ℕ) (n : ℕ) → limit < length ks → Gathers constructors roots us ks n → None ≡ option_map length (needed_within constructors limit [] roots)
+  answers-past limit us ks n lt g =
+      let l = length-mapped (type_at us) ks in
+      sym (ap (option_map length) (more-past constructors limit roots (map (type_at us) ks) (record { each_once = g.gathered.apart; only = λ t i. let a = listed-at us ks t i in subst (IsNeeded constructors roots) a.is (g.gathered.there a.number a.among) }) (omega (arith, l, lt))))

@@ -1,5 +1,7 @@
 -- How the code gathers the types that equality needs, by their numbers.
-use Rattle.std.specs.Prelude.{◌≡◌, ◌<◌, ◌⊎◌, ℕ, List, [], ◌∷◌, ◌++◌, map, length, slice_get, Option, Some, None, get_or, if◌then◌else◌}
+use Rattle.std.specs.Prelude.{◌≡◌, ◌<◌, ◌⊎◌, ℕ, List, [], ◌∷◌, ◌++◌, map, length, take, slice_get, Option, Some, None, get_or, if◌then◌else◌, Bool, false, nat_eq}
+use Rattle.std.specs.List.{list_any}
+use Rattle.indexmap.specs.IndexSet.{insert_key}
 use Rattle.ty_core.specs.Types.{Typ}
 use Rattle.ty_core.specs.Statics.{replace}
 use Rattle.ty_core.specs.declared.name.TyName.{TyName}
@@ -63,22 +65,23 @@ pub record Opens (constructors : List clean.Constructor) (t : Typ) (ws : List Ty
   pub sound : (k : ℕ) → Has numbers k → NeedsAtOnce constructors t (type_at ws k)
   pub complete : (u : Typ) → NeedsAtOnce constructors t u → At ws numbers u
 
--- the last pending number that isn't there yet is put there
-pub data Taken (ks old ls new : List ℕ) : Option ℕ → Type 0 where
-  none_new : ((k : ℕ) → Has old k → Has ks k) → ls ≡ ks → Taken ks old ls new None
-  one_new : (t : ℕ) (dropped : List ℕ) → old ≡ new ++ (t ∷ dropped) → ((k : ℕ) → Has dropped k → Has ks k) → (Has ks t → ⊥) → ls ≡ ks ++ t ∷ []
-      → Taken ks old ls new (Some t)
+-- the mark of each number says whether it is there
+abbrev pub AreMarked : List ℕ → List Bool → Type 0
+AreMarked ks marks = (k : ℕ) → get_or marks k false ≡ list_any (nat_eq k) ks
 
--- it is there, or pending
-abbrev pub Covered : List Typ → List ℕ → List ℕ → Typ → Type 0
-Covered us ks ps t = At us ks t ⊎ At us ps t
+-- further numbers are put there, those that are new
+abbrev pub added : List ℕ → List ℕ → List ℕ
+added ks [] = ks
+added ks (x ∷ xs) = added (insert_key nat_eq ks x) xs
 
--- the numbers ks are of types that are needed, each once; the roots and what they need at once are there or pending
-pub record Gathers (constructors : List clean.Constructor) (roots us : List Typ) (ks ps : List ℕ) : Type 0 where
+-- the numbers ks are of types that are needed, each once
+pub record AreGathered (constructors : List clean.Constructor) (roots us : List Typ) (ks : List ℕ) : Type 0 where
   pub below : AllBelow (length us) ks
-  pub waiting : AllBelow (length us) ps
   pub apart : AreDifferent (map (type_at us) ks)
   pub there : (k : ℕ) → Has ks k → IsNeeded constructors roots (type_at us k)
-  pub pending : (k : ℕ) → Has ps k → IsNeeded constructors roots (type_at us k)
-  pub roots_are : (t : Typ) → IsOneOf t roots → Covered us ks ps t
-  pub parts_are : (k : ℕ) (u : Typ) → Has ks k → NeedsAtOnce constructors (type_at us k) u → Covered us ks ps u
+
+-- the roots are there, and what the first n need at once
+pub record Gathers (constructors : List clean.Constructor) (roots us : List Typ) (ks : List ℕ) (n : ℕ) : Type 0 where
+  pub gathered : AreGathered constructors roots us ks
+  pub roots_are : (t : Typ) → IsOneOf t roots → At us ks t
+  pub parts_are : (k : ℕ) (u : Typ) → Has (take n ks) k → NeedsAtOnce constructors (type_at us k) u → At us ks u

@@ -4,33 +4,19 @@ ghost use Rattle.std.specs.Option.{option_map};
 ghost use Rattle.ty_table.specs.TypeAt.{type_at, AllBelow};
 ghost use Rattle.ir_tables.specs.Rows.{constructors_at};
 ghost use Rattle.monomorphise.specs.Counting.{needed_within};
-ghost use Rattle.mono_needed.specs.Gathering.{Taken};
 
 use crate::chains::chain_rows;
+use crate::marks::put_all;
 use crate::open::push_parts;
-use indexmap::IndexSet;
+use indexmap::IndexMap;
 use ir_tables::constructors::Constructors;
 use mlc_base::memory::NoMemory;
+use scoped_map::scoped::Scoped;
 use std::alloc::Global;
 use ty_table::types::Types;
 
-/// Takes the last pending number that isn't there yet, and puts it there.
-fn take_new(
-    pending: &mut Vec<usize>,
-    needed: &mut IndexSet<usize>,
-) -> Result<Option<usize>, NoMemory>
-    ensures { IfOk result (λ found. Taken needed.old.keys pending.old.items needed.new.keys pending.new.items found) }
-{
-    while let Some(t) = pending.pop() {
-        let new = needed.insert(t)?;
-        if new {
-            return Ok(Some(t));
-        }
-    }
-    Ok(None)
-}
-
-/// How many types equality at these types needs, each once, if they are no more than the limit. Types of arguments are numbers of `sources`.
+/// How many types equality at these types needs, each once, if they are no more than the limit. Types of arguments are numbers of `sources`. A type
+/// counts as soon as it is found to be needed, before what it needs itself is made.
 pub fn count_needed(
     alloc: Global,
     sources: &Types,
@@ -45,25 +31,35 @@ pub fn count_needed(
     ensures earlier_stay { take (length closed.old) closed.new ≡ closed.old }
 {
     let chains = chain_rows(alloc, constructors.rows())?;
-    let mut needed: IndexSet<usize> = IndexSet::new(alloc);
-    let mut pending = Vec::new(alloc);
-    pending.extend_from_slice(roots)?;
-    let mut room = limit;
-    while let Some(t) = take_new(&mut pending, &mut needed)? {
-        let _once = closed.len();
-        if room == 0 {
+    let mut slots = Scoped::new(alloc);
+    let mut known = IndexMap::new(alloc);
+    let mut found: Vec<usize> = Vec::new(alloc);
+    let mut needed: Vec<usize> = Vec::new(alloc);
+    let mut marks: Vec<bool> = Vec::new(alloc);
+    put_all(&mut needed, &mut marks, roots)?;
+    let _once = closed.len();
+    let mut next: usize = 0;
+    while next < needed.len() {
+        let count = needed.len();
+        if count > limit {
             return Ok(None);
         }
-        room -= 1;
+        let t = needed[next];
+        found.clear();
         push_parts(
             alloc,
             sources,
             constructors,
             &chains,
+            &mut slots,
+            &mut known,
             closed,
             t,
-            &mut pending,
+            &mut found,
         )?;
+        let _still_once = closed.len();
+        put_all(&mut needed, &mut marks, &found)?;
+        next += 1;
     }
-    Ok(Some(limit - room))
+    Ok(Some(needed.len()))
 }

@@ -4,4 +4,5 @@
 pub mod chains;
 pub mod count;
 pub mod law;
+mod marks;
 mod open;

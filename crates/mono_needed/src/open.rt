@@ -1,5 +1,5 @@
 // What equality at a type needs at once.
-ghost use Rattle.std.specs.Prelude.{◌≡◌, ◌↔◌, List, ℕ, nat_eq, length, take, slice_get, Some, IsTrue, IfOk};
+ghost use Rattle.std.specs.Prelude.{◌≡◌, ◌↔◌, List, ℕ, nat_eq, length, take, slice_get, Some, None, IsTrue, IfOk};
 ghost use Rattle.std.specs.Option.{option_map};
 ghost use Rattle.std.specs.Map.{lookup};
 ghost use Rattle.indexmap.specs.IndexMap.{get};
@@ -20,6 +20,9 @@ use std::alloc::Global;
 use ty_core::name::TyName;
 use ty_core::ty::Head;
 use ty_table::types::{Types, View};
+
+/// So many entries are few.
+const FEW: usize = 32;
 
 /// Whether two type names are one.
 fn same_name(name: TyName, other: TyName) -> bool
@@ -57,11 +60,11 @@ fn push_argument(
     known: &mut IndexMap<usize, usize>,
     closed: &mut Types,
     argument: Option<usize>,
-    pending: &mut Vec<usize>,
+    found: &mut Vec<usize>,
 ) -> Result<(), NoMemory>
     requires held { AreHeld (length closed.old) slots.now }
     requires right { AreRight sources.now (standing closed.old slots.now) (get nat_eq known.old) closed.old }
-    ensures pushed { IfOk result (λ _. IsPushed closed.new (standing closed.old slots.now) pending.old.items pending.new.items
+    ensures pushed { IfOk result (λ _. IsPushed closed.new (standing closed.old slots.now) found.old.items found.new.items
         (option_map (type_at sources.now) argument)) }
     ensures right { IfOk result (λ _. AreRight sources.now (standing closed.old slots.now) (get nat_eq known.new) closed.new) }
     ensures earlier_stay { take (length closed.old) closed.new ≡ closed.old }
@@ -69,14 +72,25 @@ fn push_argument(
     match argument {
         Some(a) => {
             let n = close_type(alloc, sources, slots, known, closed, a)?;
-            pending.push(n)?;
+            found.push(n)?;
             Ok(())
         }
         None => Ok(()),
     }
 }
 
-/// Pushes the numbers of the types that a datatype's constructors take, where its parameters stand for the types of `slots`.
+/// Empties a map. Its room stays only where there is little: clearing takes as long as there is room.
+fn empty(alloc: Global, known: &mut IndexMap<usize, usize>)
+    ensures { (k : ℕ) → get nat_eq known.new k ≡ None }
+{
+    if known.len() > FEW {
+        *known = IndexMap::new(alloc);
+    } else {
+        known.clear();
+    }
+}
+
+/// Pushes the numbers of the types that a datatype's constructors take, where its parameters stand for the types of `slots`. The room of `known` is used again.
 fn push_arguments(
     alloc: Global,
     sources: &Types,
@@ -85,50 +99,53 @@ fn push_arguments(
     closed: &mut Types,
     name: TyName,
     slots: &Scoped<usize>,
-    pending: &mut Vec<usize>,
+    known: &mut IndexMap<usize, usize>,
+    found: &mut Vec<usize>,
 ) -> Result<(), NoMemory>
     requires chained { IsChained constructors.now (get nat_eq chains.now.last) chains.now.before.items }
     requires held { AreHeld (length closed.old) slots.now }
     ensures opens { IfOk result (λ _. OpensArguments (constructors_at sources.now constructors.now) name (standing closed.old slots.now) closed.new
-        pending.old.items pending.new.items) }
+        found.old.items found.new.items) }
     ensures earlier_stay { take (length closed.old) closed.new ≡ closed.old }
 {
-    let mut known: IndexMap<usize, usize> = IndexMap::new(alloc);
+    empty(alloc, known);
     let rows = constructors.rows();
     let mut next = chains.last(name.stamp);
     while let Some(i) = next {
         let argument = argument_of(constructors, name, rows[i].number);
-        push_argument(alloc, sources, slots, &mut known, closed, argument, pending)?;
+        push_argument(alloc, sources, slots, known, closed, argument, found)?;
         next = chains.earlier(i);
     }
     Ok(())
 }
 
-/// The types that a datatype's parameters stand for.
-fn bind_parts(alloc: Global, parts: &[usize]) -> Result<Scoped<usize>, NoMemory>
-    ensures slots { IfOk result (λ slots. (v : ℕ) → lookup (nat_eq v) slots ≡ slice_get parts.now v) }
-    ensures held { IfOk result (λ slots. (n : ℕ) → AllBelow n parts.now → AreHeld n slots) }
+/// Binds a datatype's parameters, alone, to the types that they stand for.
+fn bind_parts(slots: &mut Scoped<usize>, parts: &[usize]) -> Result<(), NoMemory>
+    ensures slots { IfOk result (λ _. (v : ℕ) → lookup (nat_eq v) slots.new ≡ slice_get parts.now v) }
+    ensures held { IfOk result (λ _. (n : ℕ) → AllBelow n parts.now → AreHeld n slots.new) }
 {
-    let mut slots = Scoped::new(alloc);
+    slots.truncate(0);
     for i in 0..parts.len() {
         slots.bind(i, parts[i])?;
     }
-    Ok(slots)
+    Ok(())
 }
 
-/// Pushes the numbers of the types that equality at a type needs at once.
+/// Pushes the numbers of the types that equality at a type needs at once. What `slots` and `known` hold is of no use; their room is.
 pub fn push_parts(
     alloc: Global,
     sources: &Types,
     constructors: &Constructors,
     chains: &Chains,
+    slots: &mut Scoped<usize>,
+    known: &mut IndexMap<usize, usize>,
     closed: &mut Types,
     t: usize,
-    pending: &mut Vec<usize>,
+    found: &mut Vec<usize>,
 ) -> Result<(), NoMemory>
     requires { IsChained constructors.now (get nat_eq chains.now.last) chains.now.before.items }
     ensures opens { IfOk result (λ _. Opens (constructors_at sources.now constructors.now) (type_at closed.old t) closed.new
-        pending.old.items pending.new.items) }
+        found.old.items found.new.items) }
     ensures earlier_stay { take (length closed.old) closed.new ≡ closed.old }
 {
     match closed.view(t) {
@@ -136,12 +153,12 @@ pub fn push_parts(
         View::Apply(head, parts) => match head {
             Head::Function => Ok(()),
             Head::Record(_) => {
-                pending.extend_from_slice(parts)?;
+                found.extend_from_slice(parts)?;
                 Ok(())
             }
             Head::Named(name) => {
                 let name = *name;
-                let slots = bind_parts(alloc, parts)?;
+                bind_parts(slots, parts)?;
                 push_arguments(
                     alloc,
                     sources,
@@ -149,8 +166,9 @@ pub fn push_parts(
                     chains,
                     closed,
                     name,
-                    &slots,
-                    pending,
+                    slots,
+                    known,
+                    found,
                 )?;
                 Ok(())
             }

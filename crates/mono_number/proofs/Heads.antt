@@ -6,11 +6,11 @@ use Rattle.ty_table.specs.TypeAt.{type_at}
 use Rattle.ir_mono.specs.Types as table
 use Rattle.monomorphise.specs.Number.{Given, none_given, given}
 use Rattle.mono_words.specs.Words as named
-use Rattle.mono_state.specs.Seen.{Held, name_in, sign_of, sign_of_act}
-use Rattle.mono_state.specs.declared.word.Act.{Act}
-use Rattle.mono_state.specs.declared.word.Act.TheVariants as act
-use Rattle.mono_state.specs.declared.word.Word.{Word}
-use Rattle.mono_state.specs.declared.word.Word.TheVariants as word
+use Rattle.mono_read.specs.of_mono_state.Seen.{Held, name_in, sign_of, sign_of_act}
+use Rattle.mono_read.specs.of_mono_state.declared.word.Act.{Act}
+use Rattle.mono_read.specs.of_mono_state.declared.word.Act.TheVariants as act
+use Rattle.mono_read.specs.of_mono_state.declared.word.Word.{Word}
+use Rattle.mono_read.specs.of_mono_state.declared.word.Word.TheVariants as word
 use Rattle.mono_read.specs.Reads as made
 use Rattle.mono_number.specs.Walking.{Frame, in_heads, Standing, at, Made, head_count, heads_given, bodies_left, closed, along}
 use Rattle.mono_number.specs.Moves.{Texts, AreNumbers, given_in, frame_in, left_to, frames_in, AreNested, AreBelow, IsOpen, told, Move, Moves, makes, enters, enters_bodies, closes, takes, Leaves, heads_one, begins, AreHeads, BindsHead, BindsHeads, follows, after_of, IsNumbered}

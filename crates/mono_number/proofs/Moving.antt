@@ -9,9 +9,9 @@ use Rattle.ir_mono.specs.Types as table
 use Rattle.monomorphise.specs.Monomorphise.{is_same}
 use Rattle.monomorphise.specs.Number.{Given, given, number_of}
 use Rattle.monomorphise.proofs.Names.{name-same}
-use Rattle.mono_state.specs.Seen.{Held, name_in}
-use Rattle.mono_state.specs.declared.word.Word.{Word}
-use Rattle.mono_state.specs.declared.word.Word.TheVariants as word
+use Rattle.mono_read.specs.of_mono_state.Seen.{Held, name_in}
+use Rattle.mono_read.specs.of_mono_state.declared.word.Word.{Word}
+use Rattle.mono_read.specs.of_mono_state.declared.word.Word.TheVariants as word
 use Rattle.mono_read.specs.Reads as made
 use Rattle.mono_number.specs.Walking.{Frame, in_bodies, Standing, at, Made, ended}
 use Rattle.mono_number.specs.Moves.{Texts, AreNumbers, given_in, frame_in, left_to, frames_in, AreNested, AreBelow, IsOpen, Move, Moves, makes, binds, enters, enters_bodies, lets, ends, Leaves, BindsTo, follows}

@@ -6,7 +6,7 @@ use Rattle.ty_table.specs.TypeAt.{AllBelow}
 use Rattle.monomorphise.specs.Monomorphise.{is_same}
 use Rattle.mono_names.specs.Named.{AreHeld, NamesAreOnce}
 use Rattle.mono_names.specs.Numbers.{AreOnce}
-use Rattle.mono_state.specs.Seen.{Held, name_in}
+use Rattle.mono_read.specs.of_mono_state.Seen.{Held, name_in}
 use Rattle.mono_number.specs.Moves.{AreWithin}
 use Rattle.mono_number.proofs.Heads.{all-behind}
 

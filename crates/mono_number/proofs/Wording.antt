@@ -5,9 +5,9 @@ use Rattle.ty_core.specs.Types.{Typ}
 use Rattle.ty_table.specs.TypeAt.{type_at}
 use Rattle.ir_mono.specs.Types as table
 use Rattle.monomorphise.specs.Number.{given, number_argument}
-use Rattle.mono_state.specs.Seen.{Held, name_in}
-use Rattle.mono_state.specs.declared.word.Word.{Word}
-use Rattle.mono_state.specs.declared.word.Word.TheVariants as word
+use Rattle.mono_read.specs.of_mono_state.Seen.{Held, name_in}
+use Rattle.mono_read.specs.of_mono_state.declared.word.Word.{Word}
+use Rattle.mono_read.specs.of_mono_state.declared.word.Word.TheVariants as word
 use Rattle.mono_read.specs.Words.{exception_sign}
 use Rattle.mono_number.specs.Walking.{at}
 use Rattle.mono_number.specs.Moves.{AreNumbers, given_in, IsNumbered}

@@ -5,11 +5,11 @@ use Rattle.ty_table.specs.TypeAt.{type_at}
 use Rattle.ir_mono.specs.Types as table
 use Rattle.monomorphise.specs.Monomorphise.{is_same}
 use Rattle.monomorphise.specs.Number.{Given, none_given, given}
-use Rattle.mono_state.specs.Seen.{Held, name_in, sign_of}
-use Rattle.mono_state.specs.declared.word.Act.{Act}
-use Rattle.mono_state.specs.declared.word.Act.TheVariants as act
-use Rattle.mono_state.specs.declared.word.Word.{Word}
-use Rattle.mono_state.specs.declared.word.Word.TheVariants as word
+use Rattle.mono_read.specs.of_mono_state.Seen.{Held, name_in, sign_of}
+use Rattle.mono_read.specs.of_mono_state.declared.word.Act.{Act}
+use Rattle.mono_read.specs.of_mono_state.declared.word.Act.TheVariants as act
+use Rattle.mono_read.specs.of_mono_state.declared.word.Word.{Word}
+use Rattle.mono_read.specs.of_mono_state.declared.word.Word.TheVariants as word
 use Rattle.plain_tree.specs.declared.tree.Case.{Case}
 use Rattle.plain_tree.specs.declared.tree.Case.TheVariants as case
 use Rattle.mono_read.specs.Reads as made

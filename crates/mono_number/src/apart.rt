@@ -3,13 +3,13 @@ ghost use Rattle.std.specs.Prelude.{◌≡◌, ◌<◌, ℕ, List, Some, true, l
 ghost use Rattle.monomorphise.specs.Monomorphise.{is_same};
 ghost use Rattle.ty_table.specs.TypeAt.{AllBelow};
 ghost use Rattle.mono_names.specs.Named.{AreHeld};
-ghost use Rattle.mono_state.specs.Seen.{name_in, held_of};
+ghost use Rattle.mono_read.specs.of_mono_state.Seen.{name_in, held_of};
 ghost use Rattle.mono_number.specs.Moves.{AreWithin};
 
 use mono_names::copies::Copies;
 use mono_names::law::names_are_once;
 use mono_names::lists::Lists;
-use mono_state::copier::Copier;
+use mono_read::mono_state::copier::Copier;
 
 /// Whether all of these are below a limit.
 fn all_below(numbers: &[usize], limit: usize) -> bool

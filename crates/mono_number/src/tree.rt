@@ -8,14 +8,14 @@ ghost use Rattle.monomorphise.specs.Monomorphise.{Named};
 ghost use Rattle.monomorphise.specs.Number.{none_given, number};
 ghost use Rattle.mono_bound.specs.Reads.{mono_of};
 ghost use Rattle.mono_words.specs.Words.{spell};
-ghost use Rattle.mono_state.specs.Seen.{Held, sign_of};
+ghost use Rattle.mono_read.specs.of_mono_state.Seen.{Held, sign_of};
 ghost use Rattle.mono_number.specs.Moves.{Texts, AreNumbers};
 
 use crate::steps::number_words;
 use indexmap::IndexMap;
 use mlc_base::memory::NoMemory;
+use mono_read::mono_state::word::Word;
 use mono_read::read::read;
-use mono_state::word::Word;
 use plain_tree::tree::Exp;
 use std::alloc::Global;
 

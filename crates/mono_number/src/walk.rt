@@ -4,13 +4,13 @@ ghost use Rattle.indexmap.specs.IndexMap.{get};
 ghost use Rattle.ty_core.specs.Types.{Typ};
 ghost use Rattle.ty_table.specs.TypeAt.{type_at};
 ghost use Rattle.monomorphise.specs.Number.{number_of};
-ghost use Rattle.mono_state.specs.Seen.{Held, name_in};
+ghost use Rattle.mono_read.specs.of_mono_state.Seen.{Held, name_in};
 ghost use Rattle.mono_number.specs.Moves.{AreNumbers, given_in, IsOpen, Moves, makes, binds, enters, enters_bodies, lets, ends, follows, Leaves, BindsTo};
 
 use indexmap::IndexMap;
 use mlc_base::memory::NoMemory;
 use mlc_names::label::Label;
-use mono_state::word::{Act, Word};
+use mono_read::mono_state::word::{Act, Word};
 use plain_tree::tree::Field;
 use scoped_map::scoped::Scoped;
 

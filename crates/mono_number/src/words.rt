@@ -8,14 +8,14 @@ ghost use Rattle.monomorphise.specs.Number.{number_name, number_case, number_arg
 ghost use Rattle.plain_tree.specs.TreeOf.{case_of, exception_of};
 ghost use Rattle.ty_table.specs.TypeAt.{type_at};
 ghost use Rattle.mono_bound.specs.Reads.{reading};
-ghost use Rattle.mono_state.specs.Seen.{Held, copy_reading};
+ghost use Rattle.mono_read.specs.of_mono_state.Seen.{Held, copy_reading};
 ghost use Rattle.mono_number.specs.Moves.{Texts, AreNumbers, given_in, IsOpen, IsNumbered, case_after, after_of, act_after};
-ghost use Rattle.mono_state.specs.declared.word.Word.TheVariants as word;
+ghost use Rattle.mono_read.specs.of_mono_state.declared.word.Word.TheVariants as word;
 
 use crate::walk::{After, Around, Walk, number_at, type_number};
 use indexmap::IndexMap;
 use mlc_base::memory::NoMemory;
-use mono_state::word::{Act, Word};
+use mono_read::mono_state::word::{Act, Word};
 use plain_tree::tree::{Case, Exception, Field, Parameter};
 
 /// The exception that a name brings in.

@@ -6,7 +6,7 @@ use Rattle.mlc_names.specs.declared.label.Label.TheVariants.{Number, Word}
 use Rattle.ir_values.specs.Values.{same_label}
 use Rattle.ir_plain.specs.Once.{hit}
 use Rattle.plain_tree.specs.Sums.{count_of}
-use Rattle.mono_fits.specs.Asked.{is_other, are_distinct}
+use Rattle.mono_uses.specs.of_mono_fits.Asked.{is_other, are_distinct}
 use Rattle.mono_operations.specs.Keys.{label_key}
 
 same-answer : (a b : Bool) → (a ≡ true → b ≡ true) → (b ≡ true → a ≡ true) → a ≡ b

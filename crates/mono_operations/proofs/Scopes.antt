@@ -7,8 +7,8 @@ use Rattle.ir_mono.specs.Typing.{Sort, Sorts, sort_of}
 use Rattle.ir_known.specs.declared.known.Known.{Known}
 use Rattle.plain_tree.specs.declared.tree.Field.{Field}
 use Rattle.plain_tree.specs.TreeOf.{atoms_of, row_of}
-use Rattle.mono_fits.specs.Asked.{given}
-use Rattle.mono_fits.specs.Fits.{type_in, argument_in, type_of, argument_of, is_atom, types_of, row_fits}
+use Rattle.mono_uses.specs.of_mono_fits.Asked.{given}
+use Rattle.mono_uses.specs.of_mono_fits.Fits.{type_in, argument_in, type_of, argument_of, is_atom, types_of, row_fits}
 use Rattle.mono_operations.specs.Reads.{reading, sort_in, sorts_of}
 use Rattle.mono_operations.specs.declared.tables.Tables.{Tables}
 

@@ -5,8 +5,8 @@ ghost use Rattle.std.specs.Map.{lookup};
 ghost use Rattle.plain_tree.specs.TreeOf.{atoms_of, row_of, exception_of};
 ghost use Rattle.ir_mono.specs.Typing.{sort_of};
 ghost use Rattle.ir_values.specs.Values.{same_label};
-ghost use Rattle.mono_fits.specs.Asked.{same_argument};
-ghost use Rattle.mono_fits.specs.Fits.{type_in, argument_in, type_of, argument_of, is_atom, is_exception_of, types_of, row_fits, name_argument};
+ghost use Rattle.mono_uses.specs.of_mono_fits.Asked.{same_argument};
+ghost use Rattle.mono_uses.specs.of_mono_fits.Fits.{type_in, argument_in, type_of, argument_of, is_atom, is_exception_of, types_of, row_fits, name_argument};
 ghost use Rattle.mono_operations.specs.Reads.{reading, sort_in, local, all};
 ghost use Rattle.mono_operations.specs.declared.tables.Tables.{Tables};
 

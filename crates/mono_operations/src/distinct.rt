@@ -1,7 +1,7 @@
 // Whether labels are distinct.
 ghost use Rattle.std.specs.Prelude.{◌≡◌, ◌↔◌, ◌≤◌, ◌++◌, ℕ, map, IsTrue, IfOk};
 ghost use Rattle.plain_tree.specs.Sums.{count_of};
-ghost use Rattle.mono_fits.specs.Asked.{are_distinct};
+ghost use Rattle.mono_uses.specs.of_mono_fits.Asked.{are_distinct};
 ghost use Rattle.mono_operations.specs.Keys.{label_key};
 
 use indexmap::IndexSet;

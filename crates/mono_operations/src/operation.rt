@@ -4,8 +4,8 @@ ghost use Rattle.std.specs.Map.{lookup};
 ghost use Rattle.ir_mono.specs.Types.{node_at};
 ghost use Rattle.ir_mono.specs.Typing.{sort_of};
 ghost use Rattle.plain_tree.specs.TreeOf.{operation_of, row_of, atoms_of};
-ghost use Rattle.mono_fits.specs.Asked.{given, is_record_node, are_distinct, is_exn, is_reference, is_function, has_constructor, field_of, performs};
-ghost use Rattle.mono_fits.specs.Fits.{sort_fits, op_fits, type_of, types_of, row_fits};
+ghost use Rattle.mono_uses.specs.of_mono_fits.Asked.{given, is_record_node, are_distinct, is_exn, is_reference, is_function, has_constructor, field_of, performs};
+ghost use Rattle.mono_uses.specs.of_mono_fits.Fits.{sort_fits, op_fits, type_of, types_of, row_fits};
 ghost use Rattle.mono_operations.specs.Reads.{reading, sort_in, local, all};
 
 use crate::atom::{atom_type, atom_types, fields_fit, is_atom, is_exception_of};
@@ -16,11 +16,11 @@ use ir_known::scope::Scope;
 use mlc_base::memory::NoMemory;
 use mlc_names::label::Label;
 use mlc_prims::basis::BasisPrimitive;
-use mono_types::types::Types;
 use mono_uses::ask::{
     field_of, has_constructor, has_literal, is_alone_use, is_exception, is_exn, is_function,
     is_maker, is_reference,
 };
+use mono_uses::mono_types::types::Types;
 use mono_uses::node::record_parts;
 use mono_uses::primitive::{is_primitive, performs};
 use plain_tree::tree::{Field, Operation};

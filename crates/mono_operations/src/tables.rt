@@ -1,6 +1,6 @@
 // The tables of a program.
 use mlc_names::names::Name;
-use mono_types::types::Types;
+use mono_uses::mono_types::types::Types;
 
 /// What a program of simple types names by number: closed types, and strings; the identifiers of the exceptions of the initial basis; and the number of the
 /// type of exceptions.

@@ -27,7 +27,7 @@ use Rattle.monomorphise.proofs.Filled.{Every, all-entered, first-exact, table-li
 use Rattle.monomorphise.proofs.Inhabited.{exp-inhabited}
 use Rattle.monomorphise.proofs.Made.{copies-made}
 use Rattle.mono_exceptions.specs.Laws.{MakesNoMore}
-use Rattle.mono_tree.specs.Programs.{exceptions_of}
+use Rattle.mono_form.specs.of_mono_tree.Programs.{exceptions_of}
 
 -- the type of exceptions has its number
 module _ (p : tests.Program Tests) (well : IsTests p) where

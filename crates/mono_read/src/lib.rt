@@ -1,6 +1,8 @@
 // Words of programs with simple types, read back into trees.
 #![tactic(auto)]
 
+pub use mono_state;
+
 pub mod law;
 pub mod lists;
 pub mod parts;

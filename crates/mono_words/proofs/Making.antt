@@ -9,8 +9,8 @@ use Rattle.ir_plain.specs.Weight.{weight, arms_weight, op_weight, fun_weight, fu
 use Rattle.ir_poly.specs.Tests.{Use, poly}
 use Rattle.ir_poly.specs.Types.{changed}
 use Rattle.plain_tree.specs.TreeOf.{StepTree, let_step, exception_step, name_step, rec_step, test_step, counted_step, put, onto}
-use Rattle.monomorphise.specs.Expansion.{compared, arms_compared, op_compared, fun_compared, funs_compared}
-use Rattle.monomorphise.specs.Monomorphise.{Name, Named, Groups, copy_of, atom, alone, units, fun_vars, group_at, others, without, case_vars, all_needs, let_needs, group_needs, needs, arms_needs, op_needs, fun_needs, funs_needs, case_needs, name_needs, copy, arms_copy, op_copy, fun_copy, funs_copy, copy_case, copy_name, copy_argument, more_lets, more_groups, all_groups}
+use Rattle.mono_strip.specs.of_monomorphise.Expansion.{compared, arms_compared, op_compared, fun_compared, funs_compared}
+use Rattle.mono_strip.specs.of_monomorphise.Monomorphise.{Name, Named, Groups, copy_of, atom, alone, units, fun_vars, group_at, others, without, case_vars, all_needs, let_needs, group_needs, needs, arms_needs, op_needs, fun_needs, funs_needs, case_needs, name_needs, copy, arms_copy, op_copy, fun_copy, funs_copy, copy_case, copy_name, copy_argument, more_lets, more_groups, all_groups}
 use Rattle.mono_scopes.specs.Scopes.{Scopes, variable, binding, noting, noting_all}
 use Rattle.mono_scopes.proofs.Noting.{parts-noted, bindings-noted, variables-noted, groups-noted}
 use Rattle.mono_strip.proofs.Stripped.{stripped-lets}

@@ -5,7 +5,7 @@ use Rattle.ty_core.specs.Statics.{replace}
 use Rattle.ir_plain.specs.Tree.{Case, Exp, ret, switch, first, miss, Arms, no_arms, arm, fn, block, handle, Fun, last, more, Funs, no_funs, fun}
 use Rattle.ir_poly.specs.Tests.{Use, poly}
 use Rattle.plain_tree.specs.TreeOf.{StepTree, onto}
-use Rattle.monomorphise.specs.Monomorphise.{Groups, atom, alone}
+use Rattle.mono_strip.specs.of_monomorphise.Monomorphise.{Groups, atom, alone}
 use Rattle.mono_scopes.specs.Scopes.{variable}
 use Rattle.mono_words.specs.Words.{ret_sign, miss_sign, first_sign, switch_sign, fn_sign, parameter_sign, last_sign, block_sign, handle_sign, packet_sign, end_sign}
 use Rattle.mono_words.specs.Seen.{Seen, with_sign, with_needs, within, out}

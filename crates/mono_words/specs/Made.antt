@@ -10,8 +10,8 @@ use Rattle.ir_plain.specs.Weight.{weight, arms_weight, op_weight, fun_weight, fu
 use Rattle.ir_poly.specs.Tests.{poly}
 use Rattle.ir_poly.specs.Types.{changed}
 use Rattle.plain_tree.specs.TreeOf.{StepTree, let_step, exception_step, name_step, rec_step, test_step, counted_step}
-use Rattle.monomorphise.specs.Expansion.{compared, arms_compared, op_compared, fun_compared, funs_compared}
-use Rattle.monomorphise.specs.Monomorphise.{Named, Groups, copy_of, atom, alone, units, fun_vars, group_at, needs, arms_needs, op_needs, fun_needs, funs_needs, case_needs, name_needs, copy, arms_copy, op_copy, fun_copy, funs_copy, copy_case, copy_name, copy_argument}
+use Rattle.mono_strip.specs.of_monomorphise.Expansion.{compared, arms_compared, op_compared, fun_compared, funs_compared}
+use Rattle.mono_strip.specs.of_monomorphise.Monomorphise.{Named, Groups, copy_of, atom, alone, units, fun_vars, group_at, needs, arms_needs, op_needs, fun_needs, funs_needs, case_needs, name_needs, copy, arms_copy, op_copy, fun_copy, funs_copy, copy_case, copy_name, copy_argument}
 use Rattle.mono_scopes.specs.Scopes.{variable, binding}
 use Rattle.mono_words.specs.Words.{switch_sign, arm_sign, exception_sign, name_sign, group_sign, let_sign, counted_sign, spell, spell_arms, spell_op, spell_fun, spell_heads, spell_bodies}
 use Rattle.mono_words.specs.Seen.{Seen, with_sign, with_needs, within, out, needed_types, made}

@@ -2,7 +2,7 @@
 -- nodes there are.
 use Rattle.std.specs.Prelude.{ℕ, ◌+◌, List, [], ◌∷◌, ◌++◌, drop}
 use Rattle.ty_core.specs.Types.{Typ}
-use Rattle.monomorphise.specs.Monomorphise.{Name}
+use Rattle.mono_strip.specs.of_monomorphise.Monomorphise.{Name}
 use Rattle.mono_scopes.specs.Scopes.{Scope, variable, binding, Scopes, noting}
 use Rattle.mono_words.specs.Words.{Sign}
 

@@ -5,7 +5,7 @@ use Rattle.mlc_base.specs.declared.place.Place.{Place}
 use Rattle.mlc_prims.specs.declared.basis.BasisPrimitive.{BasisPrimitive}
 use Rattle.ty_core.specs.Types.{Typ}
 use Rattle.ir_plain.specs.Tree.{Case, Exception, Atoms, no_atoms, an_atom, Row, no_row, a_row, Exp, ret, let_in, exception_in, name_in, rec_in, switch, first, miss, counted, Arms, no_arms, arm, Op, make_record, prim, fn, block, handle, Fun, last, more, Funs, no_funs, fun}
-use Rattle.monomorphise.specs.Monomorphise.{Name, Named}
+use Rattle.mono_strip.specs.of_monomorphise.Monomorphise.{Name, Named}
 
 pub data Sign : Type 0 where
   ret_sign : Name → Sign

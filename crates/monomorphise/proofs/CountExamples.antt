@@ -4,8 +4,8 @@ use Rattle.mlc_prims.specs.declared.basis.BasisPrimitive.TheVariants.{Equals}
 use Rattle.ty_core.specs.Types.{Typ, var, con, name, none, more}
 use Rattle.ty_core.specs.declared.name.TyName.{TyName}
 use Rattle.ty_core.specs.declared.name.Equality.TheVariants.{ByArguments}
-use Rattle.ir_plain.specs.Tree.{Exp, ret, let_in, counted, prim, no_atoms}
-use Rattle.ir_poly.specs.Types.{int_name, bool_name, of_name, pair_type, Constructor, constructor_of}
+use Rattle.ir_mono.specs.of_ir_plain.Tree.{Exp, ret, let_in, counted, prim, no_atoms}
+use Rattle.ir_mono.specs.of_ir_poly.Types.{int_name, bool_name, of_name, pair_type, Constructor, constructor_of}
 use Rattle.monomorphise.specs.Counting.{expansion_within}
 use Rattle.monomorphise.specs.Monomorphise.{Named, copy_of}
 

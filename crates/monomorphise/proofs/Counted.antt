@@ -4,10 +4,10 @@ use Rattle.std.proofs.lemmas.Bool.{and_parts, ltb-true, ltb-false, eqb-true}
 use Rattle.mlc_names.specs.declared.label.Label.{Label}
 use Rattle.ty_core.specs.Types.{Typ, Typs, var, con, arrow, labels, name, none, more, typs_of}
 use Rattle.ty_core.specs.declared.name.TyName.{TyName}
-use Rattle.ir_plain.specs.Tree.{Exp}
-use Rattle.ir_plain.specs.Weight.{weight}
-use Rattle.ir_poly.specs.Types.{Constructor, find, argument_at}
-use Rattle.ir_poly.specs.TestsChecked.{HasConstructor}
+use Rattle.ir_mono.specs.of_ir_plain.Tree.{Exp}
+use Rattle.ir_mono.specs.of_ir_plain.Weight.{weight}
+use Rattle.ir_mono.specs.of_ir_poly.Types.{Constructor, find, argument_at}
+use Rattle.ir_mono.specs.of_ir_poly.TestsChecked.{HasConstructor}
 use Rattle.monomorphise.specs.Monomorphise.{Named, same_name, same_type}
 use Rattle.monomorphise.specs.Expansion.{compared, IsOneOf, this, further, IsPart, this_part, further_part, IsNeeded, needed_itself, needed_field, needed_argument, AreDifferent, none_differ, one_differs, Expands}
 use Rattle.monomorphise.specs.Counting.{list_of, one_if, argument_in, arguments_in, parts_of, is_member, go_on, needed_within, expansion_within, Passes}

@@ -8,7 +8,7 @@ use Rattle.ty_core.specs.Types.{Symbol, arrow, labels, name, Typ, var, con, Typs
 use Rattle.ty_core.specs.declared.name.TyName.{TyName}
 use Rattle.ty_core.specs.declared.name.Equality.{Equality}
 use Rattle.ty_core.specs.declared.name.Equality.TheVariants.{Always, ByArguments, Never}
-use Rattle.ir_poly.specs.Types.{Constructor, find}
+use Rattle.ir_mono.specs.of_ir_poly.Types.{Constructor, find}
 use Rattle.ir_mono.specs.Types.{Row, Node, node, node_at, constructor_at, admits, unit_number, Is, Stands, stands_var, stands_con, AllStand, stand_none, stand_more}
 use Rattle.ir_mono.specs.Growing.{IsNewConstructor, with_constructor}
 use Rattle.ir_mono.proofs.Growing.{admits-set, nodes-added, constructor-still, constructor-kept, entered-there}

@@ -9,10 +9,10 @@ use Rattle.ty_core.specs.declared.mark.Mark.TheVariants.{Any}
 use Rattle.ty_core.specs.declared.name.TyName.{TyName}
 use Rattle.ty_core.specs.declared.name.Equality.TheVariants.{ByArguments}
 use Rattle.ty_core.specs.declared.scheme.Quantified.{Quantified}
-use Rattle.ir_plain.specs.Tree.{is_con_of, is_exn_of, no_atoms, an_atom, ret, let_in, exception_in, rec_in, switch, first, no_arms, arm, Op, use_of, const, con_alone, pack, prim, app, fn, block, handle, raise, raise_initial, last, no_funs, fun}
-use Rattle.ir_plain.specs.Meaning.{run}
-use Rattle.ir_poly.specs.Tests.{Use, inst, poly, Tests}
-use Rattle.ir_poly.specs.Types.{int_name, string_name, exn_name, of_name, function_type, unit_type, pair_type}
+use Rattle.ir_mono.specs.of_ir_plain.Tree.{is_con_of, is_exn_of, no_atoms, an_atom, ret, let_in, exception_in, rec_in, switch, first, no_arms, arm, Op, use_of, const, con_alone, pack, prim, app, fn, block, handle, raise, raise_initial, last, no_funs, fun}
+use Rattle.ir_mono.specs.of_ir_plain.Meaning.{run}
+use Rattle.ir_mono.specs.of_ir_poly.Tests.{Use, inst, poly, Tests}
+use Rattle.ir_mono.specs.of_ir_poly.Types.{int_name, string_name, exn_name, of_name, function_type, unit_type, pair_type}
 use Rattle.monomorphise.specs.Monomorphise.{copies, needs, others, units, nowhere}
 use Rattle.monomorphise.specs.Number.{none_given, number, binders}
 

@@ -9,14 +9,14 @@ use Rattle.ty_core.specs.declared.mark.Class.{Class}
 use Rattle.ty_core.specs.declared.mark.Mark.{Mark}
 use Rattle.ty_core.specs.declared.mark.Mark.TheVariants.{Any, Equality, Class as OfClass}
 use Rattle.ty_core.specs.declared.scheme.Quantified.{Quantified}
-use Rattle.ir_plain.specs.Tree.{Case, Exception, Atoms, no_atoms, an_atom, Row, no_row, a_row, Exp, ret, let_in, exception_in, name_in, rec_in, switch, first, miss, counted, Arms, no_arms, arm, Op, use_of, const, con_alone, construct, ref_alone, refer, content, pack, make_record, select, prim_alone, prim, app, fn, block, handle, raise, raise_initial, Fun, last, more as more_of, Funs, no_funs, fun, is_value_op}
-use Rattle.ir_plain.specs.Unique as un
-use Rattle.ir_plain.specs.Unique.{IsOutside, outside_none, outside_more}
-use Rattle.ir_poly.specs.Tests.{Use, inst, poly}
-use Rattle.ir_poly.specs.Types.{Constructor, of_name, changed, AreAllowed}
-use Rattle.ir_poly.specs.TestsChecked.{Known, of_type, general, own, exception, Knowns, at, exn_type, group_knowns, may_generalise, bound, AtomChecked, atom_checked, AtomsChecked, no_atoms_checked, an_atom_checked, RowChecked, no_row_checked, a_row_checked, NameChecked, fixed_checked, held_checked}
-use Rattle.ir_poly.specs.TestsTyped as tt
-use Rattle.ir_poly.specs.TestsTyped.{own_at}
+use Rattle.ir_mono.specs.of_ir_plain.Tree.{Case, Exception, Atoms, no_atoms, an_atom, Row, no_row, a_row, Exp, ret, let_in, exception_in, name_in, rec_in, switch, first, miss, counted, Arms, no_arms, arm, Op, use_of, const, con_alone, construct, ref_alone, refer, content, pack, make_record, select, prim_alone, prim, app, fn, block, handle, raise, raise_initial, Fun, last, more as more_of, Funs, no_funs, fun, is_value_op}
+use Rattle.ir_mono.specs.of_ir_plain.Unique as un
+use Rattle.ir_mono.specs.of_ir_plain.Unique.{IsOutside, outside_none, outside_more}
+use Rattle.ir_mono.specs.of_ir_poly.Tests.{Use, inst, poly}
+use Rattle.ir_mono.specs.of_ir_poly.Types.{Constructor, of_name, changed, AreAllowed}
+use Rattle.ir_mono.specs.of_ir_poly.TestsChecked.{Known, of_type, general, own, exception, Knowns, at, exn_type, group_knowns, may_generalise, bound, AtomChecked, atom_checked, AtomsChecked, no_atoms_checked, an_atom_checked, RowChecked, no_row_checked, a_row_checked, NameChecked, fixed_checked, held_checked}
+use Rattle.ir_mono.specs.of_ir_poly.TestsTyped as tt
+use Rattle.ir_mono.specs.of_ir_poly.TestsTyped.{own_at}
 use Rattle.monomorphise.specs.Monomorphise.{Name, copy_of, of_class, unit_for, units, same_types, is_among, others, without, Groups, fun_vars, group_at, own_or, atom, all_needs, atoms_needs, row_needs, name_needs, case_vars, case_needs, needs, arms_needs, op_needs, fun_needs, funs_needs, AllInhabited, Inhabited, ArmsInhabited, OpInhabited, FunInhabited, FunsInhabited}
 use Rattle.monomorphise.proofs.Names.{AllNames, all_none, all_one, EachOf, each_none, each_one, each-map, join, join-all, others-each}
 

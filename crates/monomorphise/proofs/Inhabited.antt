@@ -6,10 +6,10 @@ use Rattle.ty_core.specs.Marks.{is_inhabited}
 use Rattle.ty_core.specs.declared.mark.Mark.{Mark}
 use Rattle.ty_core.specs.declared.mark.Mark.TheVariants.{Any, Equality, Class}
 use Rattle.ty_core.specs.declared.scheme.Quantified.{Quantified}
-use Rattle.ir_plain.specs.Tree.{Exp, Arms, Op, Fun, Funs}
-use Rattle.ir_poly.specs.Tests.{poly}
-use Rattle.ir_poly.specs.Types.{Constructor, is_declarable, are_new}
-use Rattle.ir_poly.specs.TestsChecked.{Knowns, Checked, c_ret, c_let, c_exception, c_exception_alone, c_name, c_rec, c_switch, c_first, c_miss, c_counted, ArmsChecked, c_no_arms, c_arm, OpChecked, c_use, c_use_one, c_use_own, c_use_exception, c_const, c_con_alone, c_construct, c_ref_alone, c_refer, c_content, c_pack, c_make_record, c_select, c_prim_alone, c_prim, c_app, c_fn, c_block, c_handle, c_raise, c_raise_initial, FunChecked, c_last, c_more, FunsChecked, c_no_funs, c_fun}
+use Rattle.ir_mono.specs.of_ir_plain.Tree.{Exp, Arms, Op, Fun, Funs}
+use Rattle.ir_mono.specs.of_ir_poly.Tests.{poly}
+use Rattle.ir_mono.specs.of_ir_poly.Types.{Constructor, is_declarable, are_new}
+use Rattle.ir_mono.specs.of_ir_poly.TestsChecked.{Knowns, Checked, c_ret, c_let, c_exception, c_exception_alone, c_name, c_rec, c_switch, c_first, c_miss, c_counted, ArmsChecked, c_no_arms, c_arm, OpChecked, c_use, c_use_one, c_use_own, c_use_exception, c_const, c_con_alone, c_construct, c_ref_alone, c_refer, c_content, c_pack, c_make_record, c_select, c_prim_alone, c_prim, c_app, c_fn, c_block, c_handle, c_raise, c_raise_initial, FunChecked, c_last, c_more, FunsChecked, c_no_funs, c_fun}
 use Rattle.monomorphise.specs.Monomorphise.{AllInhabited, Inhabited, ArmsInhabited, OpInhabited, FunInhabited, FunsInhabited}
 
 mark-inhabited : (a : Mark) → is_declarable a ≡ true → is_inhabited a ≡ true

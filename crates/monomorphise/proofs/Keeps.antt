@@ -14,10 +14,10 @@ use Rattle.ir_values.specs.Values.{exn, packet_name, value_of}
 use Rattle.ir_values.specs.Match.{after_match}
 use Rattle.ir_values.specs.Primitives.{marked, content_of, raise_value}
 use Rattle.mlc_prims.specs.LitOf.{Literal, int, word, char, string, truth}
-use Rattle.ir_plain.specs.Tree.{Exp, Arms, Op, Fun, Funs, Exception}
-use Rattle.ir_plain.specs.Meaning.{V, Scope, Fits, Apply, argument_tag, look_up, on_name, exception_of, pack_value, select_from, read_reference, members, eval, eval_arms, eval_op, run_fun, enter, apply, identifier_of, run}
-use Rattle.ir_plain.proofs.CopiesLemmas.{operations-again}
-use Rattle.ir_poly.specs.Tests.{inst, poly}
+use Rattle.ir_mono.specs.of_ir_plain.Tree.{Exp, Arms, Op, Fun, Funs, Exception}
+use Rattle.ir_mono.specs.of_ir_plain.Meaning.{V, Scope, Fits, Apply, argument_tag, look_up, on_name, exception_of, pack_value, select_from, read_reference, members, eval, eval_arms, eval_op, run_fun, enter, apply, identifier_of, run}
+use Rattle.ir_mono.proofs.of_ir_plain.CopiesLemmas.{operations-again}
+use Rattle.ir_mono.specs.of_ir_poly.Tests.{inst, poly}
 use Rattle.monomorphise.specs.Copies.{Target, Copied, no_copies, entry, entries, IsNewCopy, newer_copy, CopyName, copy_fixed, copy_held, CopyArgument, copy_no_argument, copy_argument, CopyFun, copy_last, copy_more, Copy, copy_ret, copy_let, copy_exception, copy_name, copy_rec, copy_switch, copy_first, copy_miss, copy_counted, CopyArms, copy_no_arms, copy_arm, CopyOp, copy_use, copy_own, copy_const, copy_con_alone, copy_construct, copy_ref_alone, copy_refer, copy_content, copy_pack, copy_make_record, copy_select, copy_prim_alone, copy_prim, copy_app, copy_fn, copy_block, copy_handle, copy_raise, copy_raise_initial, Rest, no_more_copies, one_more_copy, RestGroups, no_more_groups, one_more_group}
 use Rattle.monomorphise.proofs.Related.{K, G, onto, binds_of, members-onto, Rel, rel_literal, rel_record, rel_con, rel_con_of, rel_exn, rel_exn_of, rel_ref, rel_address, rel_cell, rel_primitive, rel_closure, rel_group, RelFields, Covers, covers_none, covered, push-copy, found-first, Holds, holds-onto, new-copies, binds-cover, copy-cover, bind-cover, onto-copies, new-copy-base, member-binds, copies-reclosed, packet-name-same, field-same, SameMatched, both_match, both_fail, no_fit, atoms-same, row-same, case-same}
 use Rattle.monomorphise.proofs.Refined.{perform-refines, reference-refines, arguments-related}

@@ -3,13 +3,13 @@ use Rattle.std.proofs.Common.{◌≡◌, ℕ, false, [], length, nat_eq, refl, s
 use Rattle.std.proofs.lemmas.Bool.{eq-eqb}
 use Rattle.mlc_runs.specs.Outcome.{wrong}
 use Rattle.ty_core.specs.Statics.{replace}
-use Rattle.ir_plain.specs.Once.{IsOnce}
-use Rattle.ir_plain.specs.Meaning.{run}
-use Rattle.ir_poly.specs.Tests.{Tests}
-use Rattle.ir_poly.specs.TestsTyped.{Typed}
-use Rattle.ir_poly.specs.WellFormed as tests
-use Rattle.ir_poly.specs.WellFormed.{table_of, meaning_of_tests, IsTests}
-use Rattle.ir_poly.proofs.TypedLemmas.{typed-read, reads_none}
+use Rattle.ir_mono.specs.of_ir_plain.Once.{IsOnce}
+use Rattle.ir_mono.specs.of_ir_plain.Meaning.{run}
+use Rattle.ir_mono.specs.of_ir_poly.Tests.{Tests}
+use Rattle.ir_mono.specs.of_ir_poly.TestsTyped.{Typed}
+use Rattle.ir_mono.specs.of_ir_poly.WellFormed as tests
+use Rattle.ir_mono.specs.of_ir_poly.WellFormed.{table_of, meaning_of_tests, IsTests}
+use Rattle.ir_mono.proofs.of_ir_poly.TypedLemmas.{typed-read, reads_none}
 use Rattle.ir_mono.specs.Mono.{Program, meaning}
 use Rattle.ir_mono.specs.Typing as mt
 use Rattle.ir_mono.specs.WellFormed.{IsWellFormed}

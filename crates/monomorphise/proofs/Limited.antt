@@ -1,8 +1,8 @@
 -- The whole function gives what it makes with the program's count, or there is more than the limit.
 use Rattle.std.proofs.Common.{◌≡◌, ◌≤◌, ℕ, Option, Some, None, option_map, refl, subst}
-use Rattle.ir_poly.specs.Tests.{Tests}
-use Rattle.ir_poly.specs.WellFormed as tests
-use Rattle.ir_poly.specs.WellFormed.{table_of}
+use Rattle.ir_mono.specs.of_ir_poly.Tests.{Tests}
+use Rattle.ir_mono.specs.of_ir_poly.WellFormed as tests
+use Rattle.ir_mono.specs.of_ir_poly.WellFormed.{table_of}
 use Rattle.ir_mono.specs.Mono.{Program}
 use Rattle.monomorphise.specs.Counting.{expansion_within, greatest_expansion, Passes}
 use Rattle.monomorphise.specs.Expansion.{Expands}

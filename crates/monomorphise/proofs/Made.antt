@@ -5,14 +5,14 @@ use Rattle.std.specs.Map.{lookup}
 use Rattle.ty_core.specs.Types.{Typ, no_variable}
 use Rattle.ty_core.specs.Statics.{replace}
 use Rattle.ty_core.specs.declared.scheme.Quantified.{Quantified}
-use Rattle.ir_plain.specs.Tree.{Case, Exception, Atoms, no_atoms, an_atom, Row, no_row, a_row, Exp, ret, let_in, exception_in, name_in, rec_in, switch, first, miss, counted, Arms, no_arms, arm, Op, use_of, const, con_alone, construct, ref_alone, refer, content, pack, make_record, select, prim_alone, prim, app, fn, block, handle, raise, raise_initial, Fun, last, more as more_of, Funs, no_funs, fun, is_value_op}
-use Rattle.ir_plain.specs.Unique as un
-use Rattle.ir_plain.specs.Unique.{IsOutside, outside_none, outside_more}
-use Rattle.ir_poly.specs.Tests.{inst, poly}
-use Rattle.ir_poly.specs.Types.{Constructor, changed, AreAllowed}
-use Rattle.ir_poly.specs.TestsChecked.{HasConstructor, of_type, exception, Knowns, exn_type, group_knowns, may_generalise, bound, atom_checked, AtomsChecked, no_atoms_checked, an_atom_checked, RowChecked, no_row_checked, a_row_checked, NameChecked, fixed_checked, held_checked}
-use Rattle.ir_poly.specs.TestsTyped as tt
-use Rattle.ir_poly.specs.TestsTyped.{own_at}
+use Rattle.ir_mono.specs.of_ir_plain.Tree.{Case, Exception, Atoms, no_atoms, an_atom, Row, no_row, a_row, Exp, ret, let_in, exception_in, name_in, rec_in, switch, first, miss, counted, Arms, no_arms, arm, Op, use_of, const, con_alone, construct, ref_alone, refer, content, pack, make_record, select, prim_alone, prim, app, fn, block, handle, raise, raise_initial, Fun, last, more as more_of, Funs, no_funs, fun, is_value_op}
+use Rattle.ir_mono.specs.of_ir_plain.Unique as un
+use Rattle.ir_mono.specs.of_ir_plain.Unique.{IsOutside, outside_none, outside_more}
+use Rattle.ir_mono.specs.of_ir_poly.Tests.{inst, poly}
+use Rattle.ir_mono.specs.of_ir_poly.Types.{Constructor, changed, AreAllowed}
+use Rattle.ir_mono.specs.of_ir_poly.TestsChecked.{HasConstructor, of_type, exception, Knowns, exn_type, group_knowns, may_generalise, bound, atom_checked, AtomsChecked, no_atoms_checked, an_atom_checked, RowChecked, no_row_checked, a_row_checked, NameChecked, fixed_checked, held_checked}
+use Rattle.ir_mono.specs.of_ir_poly.TestsTyped as tt
+use Rattle.ir_mono.specs.of_ir_poly.TestsTyped.{own_at}
 use Rattle.monomorphise.specs.Copies.{Pairs, no_pairs, pair, Copied, no_copies, entry, entries, Has, at_head, deeper, IsNewName, new_name, newer_name, IsNewCopy, new_copy, newer_copy, IsNotAmong, among_none, not_this, AreNewNames, no_names, a_new_name, AreNewCopies, none_copied, a_new_copy, CopyAtoms, copy_no_atoms, copy_an_atom, CopyRow, copy_no_row, copy_a_row, CopyName, copy_fixed, copy_held, CopyArgument, copy_no_argument, CopyCase, copy_is_literal, copy_is_con, copy_is_con_of, copy_is_exn, copy_is_exn_of, copy_is_record, Copy, copy_ret, copy_let, copy_exception, copy_name, copy_rec, copy_switch, copy_first, copy_miss, copy_counted, CopyArms, copy_no_arms, copy_arm, CopyOp, copy_use, copy_own, copy_const, copy_con_alone, copy_construct, copy_ref_alone, copy_refer, copy_content, copy_pack, copy_make_record, copy_select, copy_prim_alone, copy_prim, copy_app, copy_fn, copy_block, copy_handle, copy_raise, copy_raise_initial, CopyFun, copy_last, copy_more, CopyFuns, copy_no_funs, copy_fun, Rest, no_more_copies, one_more_copy, RestGroups, no_more_groups, one_more_group}
 use Rattle.monomorphise.specs.Copies as rel
 use Rattle.monomorphise.specs.Monomorphise as pass

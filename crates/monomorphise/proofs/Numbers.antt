@@ -15,9 +15,9 @@ use Rattle.ty_core.specs.Marks as marks
 use Rattle.ty_core.specs.declared.mark.Mark.{Mark}
 use Rattle.ty_core.specs.declared.mark.Mark.TheVariants.{Any, Equality, Class}
 use Rattle.ir_values.specs.Values.{same_label}
-use Rattle.ir_poly.specs.Types as poly
-use Rattle.ir_poly.specs.Types.{Constructor, of_name, function_type, ref_type, row_type, tuple_type, put, prim_type, arguments_at, result_at, nth_type, argument_at}
-use Rattle.ir_poly.specs.TestsChecked as checked
+use Rattle.ir_mono.specs.of_ir_poly.Types as poly
+use Rattle.ir_mono.specs.of_ir_poly.Types.{Constructor, of_name, function_type, ref_type, row_type, tuple_type, put, prim_type, arguments_at, result_at, nth_type, argument_at}
+use Rattle.ir_mono.specs.of_ir_poly.TestsChecked as checked
 use Rattle.ir_mono.specs.Types.{constructor_at, admits, Row, Node, node, node_at, part, unit_number, Is, IsFunction, IsRef, IsExn, HasLiteral, has_int, has_word, has_char, has_string, Stands, stands_var, stands_con, AllStand, stand_none, stand_more, numbered, IsTuple, nothing, alone, together}
 use Rattle.ir_mono.specs.Typing as mt
 use Rattle.ir_mono.specs.Typing.{PrimAt}

@@ -6,7 +6,7 @@ use Rattle.ty_core.specs.Types.{Symbol, arrow, labels, name, Typ, var, con, Typs
 use Rattle.ty_core.specs.declared.name.TyName.{TyName}
 use Rattle.ty_core.specs.declared.name.Equality.{Equality}
 use Rattle.ty_core.specs.declared.name.Equality.TheVariants.{Never}
-use Rattle.ir_poly.specs.Types.{Constructor, exn_name}
+use Rattle.ir_mono.specs.of_ir_poly.Types.{Constructor, exn_name}
 use Rattle.ir_mono.specs.Types.{Row, Node, node, node_at, constructor_at, admits, unit_number, Is, AllAdmit, admit_none, admit_more, Stands, stands_var, stands_con, AllStand, stand_none, stand_more, IsTable}
 use Rattle.ir_mono.specs.Growing.{MayCompare, records_may, names_may, IsNewRow}
 use Rattle.ir_mono.proofs.Growing.{OldOrNew, is_old, is_new, node-where, node-still, Admitted, admitted_old, admitted_new, admits-where, stands-still}

@@ -16,8 +16,8 @@ use Rattle.ir_values.specs.Values.{count, address_in, unit_value, truth_value}
 use Rattle.ir_values.specs.Equality.{both_equal, where_holds, if_equal, Constructed, fields_at, con_at, same_part, same_at, same_fields}
 use Rattle.ir_values.specs.Primitives.{is_overloaded, Sort, compares, assigns, prints, computes, sort_of, begin_at, row_at, literals, parts, tuple, arguments, giving, compare_values, assign_value, print_literals, perform_as, perform, make_reference}
 use Rattle.ir_values.proofs.PrimitiveLemmas.{untagged-row}
-use Rattle.ir_plain.specs.Meaning.{V, Parts}
-use Rattle.ir_poly.specs.Tests.{poly}
+use Rattle.ir_mono.specs.of_ir_plain.Meaning.{V, Parts}
+use Rattle.ir_mono.specs.of_ir_poly.Tests.{poly}
 use Rattle.monomorphise.specs.Copies.{Target}
 use Rattle.monomorphise.proofs.Related.{K, G, Rel, rel_literal, rel_record, rel_con, rel_con_of, rel_exn, rel_exn_of, rel_ref, rel_address, rel_cell, rel_primitive, rel_closure, rel_group, RelFields, rel_no_fields, rel_a_field, literal-same, address-same, field-same, count-same}
 

@@ -10,10 +10,10 @@ use Rattle.ty_core.specs.Types.{Typ}
 use Rattle.ir_values.specs.Tags.{untagged}
 use Rattle.ir_values.specs.Values.{literal, record_of, con, con_of, exn, exn_of, ref, address, cell, primitive, closure, no_fields, field, empty, bind, same_label, field_in, count, literal_in, address_in, packet_name}
 use Rattle.ir_values.specs.Match.{matches, no_match, mismatch, where_same, against_literal, against_con, under_con, against_exn, under_exn, under_record, match_at, of_size}
-use Rattle.ir_plain.specs.Kind.{Kind}
-use Rattle.ir_plain.specs.Tree.{Fun, Funs, no_funs, fun, Case, Atoms, Row}
-use Rattle.ir_plain.specs.Meaning.{V, Scope, Fits, Parts, alone, one_of, look_up, look_all, look_row, in_front, field_in_front, check, members_from}
-use Rattle.ir_poly.specs.Tests.{inst, poly}
+use Rattle.ir_mono.specs.of_ir_plain.Kind.{Kind}
+use Rattle.ir_mono.specs.of_ir_plain.Tree.{Fun, Funs, no_funs, fun, Case, Atoms, Row}
+use Rattle.ir_mono.specs.of_ir_plain.Meaning.{V, Scope, Fits, Parts, alone, one_of, look_up, look_all, look_row, in_front, field_in_front, check, members_from}
+use Rattle.ir_mono.specs.of_ir_poly.Tests.{inst, poly}
 use Rattle.monomorphise.specs.Copies.{Target, kind_of, Pairs, no_pairs, pair, Copied, no_copies, entry, entries, Has, at_head, deeper, IsNewName, newer_name, IsNewCopy, newer_copy, IsNotAmong, not_this, AreNewNames, no_names, a_new_name, AreNewCopies, none_copied, a_new_copy, CopyAtoms, copy_no_atoms, copy_an_atom, CopyRow, copy_no_row, copy_a_row, CopyCase, copy_is_literal, copy_is_con, copy_is_con_of, copy_is_exn, copy_is_exn_of, copy_is_record, CopyFun, CopyFuns, copy_no_funs, copy_fun}
 
 pub skip : {A : Type 0} (b : Bool) (o q : Option A) → b ≡ false → (if b then o else q) ≡ q

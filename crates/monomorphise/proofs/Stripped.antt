@@ -2,13 +2,13 @@
 use Rattle.std.proofs.Common.{◌≡◌, ℕ, Bool, true, false, ◌&&◌, List, [], ◌∷◌, refl, ◌∙◌}
 use Rattle.ty_core.specs.Types.{Typ}
 use Rattle.ty_core.specs.declared.scheme.Quantified.{Quantified}
-use Rattle.ir_plain.specs.Tree.{Exp, ret, let_in, exception_in, name_in, rec_in, switch, first, miss, counted, Arms, no_arms, arm, Op, use_of, const, con_alone, construct, ref_alone, refer, content, pack, make_record, select, prim_alone, prim, app, fn, block, handle, raise, raise_initial, is_value, are_values, is_value_op}
-use Rattle.ir_plain.specs.Copies.{strip, strip_arms, strip_op}
-use Rattle.ir_plain.specs.Scoped.{IsLocal, ArmsScoped, OpScoped, ret_scoped, let_scoped, exception_scoped, name_scoped, rec_scoped, switch_scoped, first_scoped, miss_scoped, counted_scoped, no_arms_scoped, arm_scoped, use_scoped, const_scoped, con_alone_scoped, construct_scoped, ref_alone_scoped, refer_scoped, content_scoped, pack_scoped, make_record_scoped, select_scoped, prim_alone_scoped, prim_scoped, app_scoped, fn_scoped, block_scoped, handle_scoped, raise_scoped, raise_initial_scoped}
-use Rattle.ir_poly.specs.Tests.{poly}
-use Rattle.ir_poly.specs.Types.{Constructor}
-use Rattle.ir_poly.specs.TestsChecked.{Knowns, may_generalise}
-use Rattle.ir_poly.specs.TestsTyped as tt
+use Rattle.ir_mono.specs.of_ir_plain.Tree.{Exp, ret, let_in, exception_in, name_in, rec_in, switch, first, miss, counted, Arms, no_arms, arm, Op, use_of, const, con_alone, construct, ref_alone, refer, content, pack, make_record, select, prim_alone, prim, app, fn, block, handle, raise, raise_initial, is_value, are_values, is_value_op}
+use Rattle.ir_mono.specs.of_ir_plain.Copies.{strip, strip_arms, strip_op}
+use Rattle.ir_mono.specs.of_ir_plain.Scoped.{IsLocal, ArmsScoped, OpScoped, ret_scoped, let_scoped, exception_scoped, name_scoped, rec_scoped, switch_scoped, first_scoped, miss_scoped, counted_scoped, no_arms_scoped, arm_scoped, use_scoped, const_scoped, con_alone_scoped, construct_scoped, ref_alone_scoped, refer_scoped, content_scoped, pack_scoped, make_record_scoped, select_scoped, prim_alone_scoped, prim_scoped, app_scoped, fn_scoped, block_scoped, handle_scoped, raise_scoped, raise_initial_scoped}
+use Rattle.ir_mono.specs.of_ir_poly.Tests.{poly}
+use Rattle.ir_mono.specs.of_ir_poly.Types.{Constructor}
+use Rattle.ir_mono.specs.of_ir_poly.TestsChecked.{Knowns, may_generalise}
+use Rattle.ir_mono.specs.of_ir_poly.TestsTyped as tt
 use Rattle.monomorphise.specs.Copies.{Target, Copied, kind_of, Copy, copy_ret, copy_let, copy_exception, copy_name, copy_rec, copy_switch, copy_first, copy_miss, copy_counted, CopyArms, copy_no_arms, copy_arm, CopyOp, copy_use, copy_own, copy_const, copy_con_alone, copy_construct, copy_ref_alone, copy_refer, copy_content, copy_pack, copy_make_record, copy_select, copy_prim_alone, copy_prim, copy_app, copy_fn, copy_block, copy_handle, copy_raise, copy_raise_initial, Rest, no_more_copies, one_more_copy}
 
 both-same : {a b c d : Bool} → a ≡ c → b ≡ d → (a && b) ≡ (c && d)

@@ -13,13 +13,13 @@ use Rattle.ty_core.specs.declared.mark.Mark.TheVariants.{Any}
 use Rattle.ty_core.specs.declared.name.TyName.{TyName}
 use Rattle.ty_core.specs.declared.name.Equality.TheVariants.{ByArguments}
 use Rattle.ty_core.specs.declared.scheme.Quantified.{Quantified}
-use Rattle.ir_plain.specs.Tree.{no_atoms, an_atom, ret, let_in, Op, use_of, const, construct, prim, app, fn, last}
-use Rattle.ir_plain.specs.Once.{hit, times, IsOnce}
-use Rattle.ir_plain.specs.Scoped.{IsLocal, among_here, among_there, ret_scoped, let_scoped, use_scoped, const_scoped, construct_scoped, prim_scoped, app_scoped, fn_scoped, last_scoped, no_atoms_scoped, an_atom_scoped}
-use Rattle.ir_poly.specs.Tests.{Use, inst, poly, Tests}
-use Rattle.ir_poly.specs.TestsChecked.{has_int, has_string, HasConstructor, atom_checked, no_atoms_checked, an_atom_checked, Checked, c_ret, c_let, c_use, c_const, c_construct, c_prim, c_app, c_fn, c_last}
-use Rattle.ir_poly.specs.Types.{int_name, string_name, bool_name, of_name, function_type, Constructor, constructor_of}
-use Rattle.ir_poly.specs.WellFormed.{Program, table_of, meaning_of_tests, IsTests}
+use Rattle.ir_mono.specs.of_ir_plain.Tree.{no_atoms, an_atom, ret, let_in, Op, use_of, const, construct, prim, app, fn, last}
+use Rattle.ir_mono.specs.of_ir_plain.Once.{hit, times, IsOnce}
+use Rattle.ir_mono.specs.of_ir_plain.Scoped.{IsLocal, among_here, among_there, ret_scoped, let_scoped, use_scoped, const_scoped, construct_scoped, prim_scoped, app_scoped, fn_scoped, last_scoped, no_atoms_scoped, an_atom_scoped}
+use Rattle.ir_mono.specs.of_ir_poly.Tests.{Use, inst, poly, Tests}
+use Rattle.ir_mono.specs.of_ir_poly.TestsChecked.{has_int, has_string, HasConstructor, atom_checked, no_atoms_checked, an_atom_checked, Checked, c_ret, c_let, c_use, c_const, c_construct, c_prim, c_app, c_fn, c_last}
+use Rattle.ir_mono.specs.of_ir_poly.Types.{int_name, string_name, bool_name, of_name, function_type, Constructor, constructor_of}
+use Rattle.ir_mono.specs.of_ir_poly.WellFormed.{Program, table_of, meaning_of_tests, IsTests}
 use Rattle.ir_mono.specs.Types.{Row, constructor_at, admits}
 use Rattle.ir_mono.specs.Mono.{meaning}
 use Rattle.monomorphise.specs.Laws.{types_of, monomorphised}

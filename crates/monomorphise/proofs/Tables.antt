@@ -3,7 +3,7 @@ use Rattle.std.proofs.Common.{◌≡◌, ℕ, zero, suc, List, [], ◌∷◌, �
 use Rattle.std.specs.Prelude.{slice_set}
 use Rattle.ty_core.specs.Types.{Symbol, name, Typ, Typs, attribute, allowed}
 use Rattle.ty_core.specs.declared.name.TyName.{TyName}
-use Rattle.ir_poly.specs.Types.{Constructor, find}
+use Rattle.ir_mono.specs.of_ir_poly.Types.{Constructor, find}
 use Rattle.ir_mono.specs.Types.{Row, Node, node, node_at, constructor_at, admits, Is, Stands, stands_var, stands_con, AllStand, stand_none, stand_more}
 use Rattle.ir_mono.specs.Growing.{with_constructor}
 use Rattle.ir_mono.proofs.Growing.{OldOrNew, is_old, is_new, node-where, constructor-where, node-still, admits-still, Entered, entered_old, entered_new, constructor-set, admits-set, type-there, pushed, nodes-added, added-table}

@@ -5,13 +5,13 @@ use Rattle.mlc_names.specs.declared.label.Label.{Label}
 use Rattle.ty_core.specs.Types.{Typ, typs_of, no_variable}
 use Rattle.ty_core.specs.Statics.{replace}
 use Rattle.ty_core.specs.declared.scheme.Quantified.{Quantified}
-use Rattle.ir_plain.specs.Tree.{Case, Exception, Atoms, Row, Exp, Arms, Op, Fun, Funs, no_funs, fun, is_value_op}
-use Rattle.ir_poly.specs.Tests.{inst, poly}
-use Rattle.ir_poly.specs.Types.{Constructor, changed, AreAllowed}
-use Rattle.ir_poly.specs.TestsChecked.{Known, general, own, Knowns, at, exn_type, value_type, alone_type, group_knowns, bound, AtomChecked, atom_checked, AtomsChecked, no_atoms_checked, an_atom_checked, RowChecked, no_row_checked, a_row_checked, NameChecked, fixed_checked, held_checked, is_size, HasConstructor}
-use Rattle.ir_poly.specs.TestsChecked as checked
-use Rattle.ir_poly.specs.TestsTyped as tt
-use Rattle.ir_poly.specs.TestsTyped.{option_read, own_at}
+use Rattle.ir_mono.specs.of_ir_plain.Tree.{Case, Exception, Atoms, Row, Exp, Arms, Op, Fun, Funs, no_funs, fun, is_value_op}
+use Rattle.ir_mono.specs.of_ir_poly.Tests.{inst, poly}
+use Rattle.ir_mono.specs.of_ir_poly.Types.{Constructor, changed, AreAllowed}
+use Rattle.ir_mono.specs.of_ir_poly.TestsChecked.{Known, general, own, Knowns, at, exn_type, value_type, alone_type, group_knowns, bound, AtomChecked, atom_checked, AtomsChecked, no_atoms_checked, an_atom_checked, RowChecked, no_row_checked, a_row_checked, NameChecked, fixed_checked, held_checked, is_size, HasConstructor}
+use Rattle.ir_mono.specs.of_ir_poly.TestsChecked as checked
+use Rattle.ir_mono.specs.of_ir_poly.TestsTyped as tt
+use Rattle.ir_mono.specs.of_ir_poly.TestsTyped.{option_read, own_at}
 use Rattle.ir_mono.specs.Types as table
 use Rattle.ir_mono.specs.Types.{constructor_at, Is, IsExn, AllStand, stand_none, stand_more}
 use Rattle.ir_mono.specs.Mono.{mono}
@@ -275,7 +275,7 @@ module _ (constructors : List Constructor) (types : List table.Row) (tab : IsTab
     op-copied {H = H} (copy_construct m c b k {k = y'} j p y) (tt.t_construct {t = t} {a = a} g w q) h i =
         let same = the (subst (IsType types k) q j) i in
         let z = atom-of y h w in
-        subst (λ v. mt.OpTyped types H (Rattle.ir_plain.specs.Tree.construct m c k y') v) same (mt.t_construct (argument-is k c p.1 (arguments-at constructors types tab k c t (Some a) p.0 (subst (IsType types k) q j) g p.1) z.is) z.there)
+        subst (λ v. mt.OpTyped types H (Rattle.ir_mono.specs.of_ir_plain.Tree.construct m c k y') v) same (mt.t_construct (argument-is k c p.1 (arguments-at constructors types tab k c t (Some a) p.0 (subst (IsType types k) q j) g p.1) z.is) z.there)
     op-copied {n = n} (copy_ref_alone b k j) (tt.t_ref_alone q) h i =
         let f = function-of types tab.sound.once (subst (IsType types n) q i) in
         mt.t_ref_alone (subst (λ z. table.IsFunction types n z f.result) (the f.argument_is j) f.is) (ref-of types tab.sound.once f.result_is j)
@@ -283,19 +283,19 @@ module _ (constructors : List Constructor) (types : List table.Row) (tab : IsTab
     op-copied {H = H} (copy_content b k {k = y'} j y) (tt.t_content w q e) h i =
         let z = atom-of y h w in
         let same = the (subst (IsType types k) e j) i in
-        subst (λ v. mt.OpTyped types H (Rattle.ir_plain.specs.Tree.content k y') v) same (mt.t_content z.there (ref-of types tab.sound.once (subst (IsType types z.number) q z.is) (subst (IsType types k) e j)))
+        subst (λ v. mt.OpTyped types H (Rattle.ir_mono.specs.of_ir_plain.Tree.content k y') v) same (mt.t_content z.there (ref-of types tab.sound.once (subst (IsType types z.number) q z.is) (subst (IsType types k) e j)))
     op-copied {n = n} (copy_pack m b k j y x) (tt.t_pack e w q) h i = mt.t_pack (with-argument (exception-of y h e) j) (atom-at x h w j) (exn-of types tab.sound.once (subst (IsType types n) q i))
     op-copied {H = H} (copy_make_record b k {row' = row'} j row) (tt.t_make_record {r = q} ws e o d) h i =
         let z = record-of types tab.sound.once {r = q} (subst (IsType types k) (d ∙ e) j) in
         let same = the (subst (IsType types k) d j) i in
-        subst (λ v. mt.OpTyped types H (Rattle.ir_plain.specs.Tree.make_record k row') v) same (mt.t_make_record (row-at row ws h z.parts_are) z.is (ascend-distinct o))
+        subst (λ v. mt.OpTyped types H (Rattle.ir_mono.specs.of_ir_plain.Tree.make_record k row') v) same (mt.t_make_record (row-at row ws h z.parts_are) z.is (ascend-distinct o))
     op-copied (copy_select b k l j y) (tt.t_select q w e d c) h i =
         let p = subst (IsType types k) c j in
         let z = record-of types tab.sound.once {r = q} (subst (IsType types k) e p) in
         mt.t_select (atom-at y h w p) z.is (part-of types tab.sound.once l q z.parts_are d i)
     op-copied {s = s} {n = n} (copy_prim_alone p b k j) (tt.t_prim_alone f q) h i =
         let z = function-of types tab.sound.once (subst (IsType types n) q i) in
-        let t = tuple-of types tab.sound.once (Rattle.ir_poly.specs.Types.arguments_at p (replace s b)) z.argument_is in
+        let t = tuple-of types tab.sound.once (Rattle.ir_mono.specs.of_ir_poly.Types.arguments_at p (replace s b)) z.argument_is in
         mt.t_prim_alone (prim-at constructors types tab p j f t.parts_are z.result_is) t.is z.is
     op-copied {n = n} (copy_prim m p b k j as_) (tt.t_prim f ws e q) h i =
         let z = atoms-at as_ ws h in

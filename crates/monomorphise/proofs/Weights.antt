@@ -1,8 +1,8 @@
 -- Giving numbers changes no count.
 use Rattle.std.proofs.Common.{◌≡◌, ℕ, ◌+◌, List, refl, ap}
 use Rattle.ty_core.specs.Types.{Typ}
-use Rattle.ir_plain.specs.Tree.{Exp, ret, let_in, exception_in, name_in, rec_in, switch, first, miss, counted, Arms, no_arms, arm, Op, use_of, const, con_alone, construct, ref_alone, refer, content, pack, make_record, select, prim_alone, prim, app, fn, block, handle, raise, raise_initial, Fun, last, more, Funs, no_funs, fun}
-use Rattle.ir_plain.specs.Weight.{weight, arms_weight, op_weight, fun_weight, funs_weight}
+use Rattle.ir_mono.specs.of_ir_plain.Tree.{Exp, ret, let_in, exception_in, name_in, rec_in, switch, first, miss, counted, Arms, no_arms, arm, Op, use_of, const, con_alone, construct, ref_alone, refer, content, pack, make_record, select, prim_alone, prim, app, fn, block, handle, raise, raise_initial, Fun, last, more, Funs, no_funs, fun}
+use Rattle.ir_mono.specs.of_ir_plain.Weight.{weight, arms_weight, op_weight, fun_weight, funs_weight}
 use Rattle.ir_mono.specs.Types as table
 use Rattle.monomorphise.specs.Monomorphise.{Named}
 use Rattle.monomorphise.specs.Number.{Given, number, number_arms, number_op, number_fun, number_funs}

@@ -3,12 +3,12 @@ use Rattle.std.proofs.Common.{◌≡◌, ℕ, false, List, [], refl}
 use Rattle.std.specs.List.{AllByRecursion}
 use Rattle.mlc_runs.specs.Outcome.{wrong}
 use Rattle.ty_core.specs.Statics.{replace}
-use Rattle.ir_plain.proofs.UniqueLemmas.{once-unique}
-use Rattle.ir_poly.specs.Tests.{Tests}
-use Rattle.ir_poly.specs.TestsTyped.{Typed}
-use Rattle.ir_poly.specs.WellFormed as tests
-use Rattle.ir_poly.specs.WellFormed.{table_of, meaning_of_tests, IsTests}
-use Rattle.ir_poly.proofs.TypedLemmas.{typed-read, reads_none}
+use Rattle.ir_mono.proofs.of_ir_plain.UniqueLemmas.{once-unique}
+use Rattle.ir_mono.specs.of_ir_poly.Tests.{Tests}
+use Rattle.ir_mono.specs.of_ir_poly.TestsTyped.{Typed}
+use Rattle.ir_mono.specs.of_ir_poly.WellFormed as tests
+use Rattle.ir_mono.specs.of_ir_poly.WellFormed.{table_of, meaning_of_tests, IsTests}
+use Rattle.ir_mono.proofs.of_ir_poly.TypedLemmas.{typed-read, reads_none}
 use Rattle.ir_mono.specs.Mono.{meaning}
 use Rattle.ir_mono.specs.WellFormed.{IsWellFormed}
 use Rattle.ir_mono.proofs.Sound.{well-formed-never-wrong}

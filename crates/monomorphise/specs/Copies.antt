@@ -9,11 +9,11 @@ use Rattle.ty_core.specs.Types.{Typ, no_variable}
 use Rattle.ty_core.specs.Statics.{replace}
 use Rattle.ty_core.specs.declared.scheme.Quantified.{Quantified}
 use Rattle.ir_values.specs.Tags.{Tagging}
-use Rattle.ir_plain.specs.Kind.{Kind}
-use Rattle.ir_plain.specs.Tree.{Case, is_literal, is_con, is_con_of, is_exn, is_exn_of, is_record, Exception, fixed, held, Atoms, no_atoms, an_atom, Row, no_row, a_row, Exp, ret, let_in, exception_in, name_in, rec_in, switch, first, miss, counted, Arms, no_arms, arm, Op, use_of, const, con_alone, construct, ref_alone, refer, content, pack, make_record, select, prim_alone, prim, app, fn, block, handle, raise, raise_initial, Fun, last, more, Funs, no_funs, fun, is_value_op}
-use Rattle.ir_plain.specs.Copies.{strip_op}
-use Rattle.ir_poly.specs.Tests.{inst, poly}
-use Rattle.ir_poly.specs.Types.{changed, AreAllowed}
+use Rattle.ir_mono.specs.of_ir_plain.Kind.{Kind}
+use Rattle.ir_mono.specs.of_ir_plain.Tree.{Case, is_literal, is_con, is_con_of, is_exn, is_exn_of, is_record, Exception, fixed, held, Atoms, no_atoms, an_atom, Row, no_row, a_row, Exp, ret, let_in, exception_in, name_in, rec_in, switch, first, miss, counted, Arms, no_arms, arm, Op, use_of, const, con_alone, construct, ref_alone, refer, content, pack, make_record, select, prim_alone, prim, app, fn, block, handle, raise, raise_initial, Fun, last, more, Funs, no_funs, fun, is_value_op}
+use Rattle.ir_mono.specs.of_ir_plain.Copies.{strip_op}
+use Rattle.ir_mono.specs.of_ir_poly.Tests.{inst, poly}
+use Rattle.ir_mono.specs.of_ir_poly.Types.{changed, AreAllowed}
 
 -- What copies are written in: names of variables, each its own use; types, with the closed type that each stands for; and what values keep of these. Whether a
 -- type has a constructor.

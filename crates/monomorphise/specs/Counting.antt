@@ -3,9 +3,9 @@
 use Rattle.std.specs.Prelude.{◌≡◌, ℕ, zero, suc, ◌+◌, ◌-◌, ◌^◌, ◌<◌, ◌⊎◌, Bool, true, false, List, [], ◌∷◌, ◌++◌, length, Option, Some, None, option_map, nat_lt, if◌then◌else◌}
 use Rattle.ty_core.specs.Types.{arrow, labels, name, Typ, var, con, Typs, none, more}
 use Rattle.ty_core.specs.declared.name.TyName.{TyName}
-use Rattle.ir_plain.specs.Tree.{Exp}
-use Rattle.ir_plain.specs.Weight.{weight}
-use Rattle.ir_poly.specs.Types.{Constructor, find, argument_at}
+use Rattle.ir_mono.specs.of_ir_plain.Tree.{Exp}
+use Rattle.ir_mono.specs.of_ir_plain.Weight.{weight}
+use Rattle.ir_mono.specs.of_ir_poly.Types.{Constructor, find, argument_at}
 use Rattle.monomorphise.specs.Expansion.{compared, IsOneOf, IsNeeded, AreDifferent}
 use Rattle.monomorphise.specs.Monomorphise.{Named, same_name, same_type}
 

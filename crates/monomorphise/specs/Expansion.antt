@@ -4,10 +4,10 @@ use Rattle.mlc_prims.specs.declared.basis.BasisPrimitive.{BasisPrimitive}
 use Rattle.mlc_prims.specs.declared.basis.BasisPrimitive.TheVariants.{Equals}
 use Rattle.mlc_names.specs.declared.label.Label.{Label}
 use Rattle.ty_core.specs.Types.{Typ, Typs, more, con, labels}
-use Rattle.ir_plain.specs.Tree.{Exp, ret, let_in, exception_in, name_in, rec_in, switch, first, miss, counted, Arms, no_arms, arm, Op, prim_alone, prim, fn, block, handle, Fun, last, more as more_of, Funs, no_funs, fun}
-use Rattle.ir_plain.specs.Weight.{weight}
-use Rattle.ir_poly.specs.Types.{Constructor}
-use Rattle.ir_poly.specs.TestsChecked.{HasConstructor}
+use Rattle.ir_mono.specs.of_ir_plain.Tree.{Exp, ret, let_in, exception_in, name_in, rec_in, switch, first, miss, counted, Arms, no_arms, arm, Op, prim_alone, prim, fn, block, handle, Fun, last, more as more_of, Funs, no_funs, fun}
+use Rattle.ir_mono.specs.of_ir_plain.Weight.{weight}
+use Rattle.ir_mono.specs.of_ir_poly.Types.{Constructor}
+use Rattle.ir_mono.specs.of_ir_poly.TestsChecked.{HasConstructor}
 use Rattle.monomorphise.specs.Monomorphise.{Named}
 
 abbrev pub if_equals : BasisPrimitive → Typ → List Typ

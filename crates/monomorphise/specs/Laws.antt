@@ -2,17 +2,17 @@
 use Rattle.std.specs.Prelude.{◌≡◌, ◌≤◌, ℕ, true, List, Option, Some, None, option_map}
 use Rattle.mlc_runs.specs.Outcome.{wrong}
 use Rattle.ty_core.specs.Types.{Typ}
-use Rattle.ir_plain.specs.Meaning.{run}
-use Rattle.ir_plain.specs.Once.{IsOnce}
-use Rattle.ir_plain.specs.Tree.{Exp}
-use Rattle.ir_poly.specs.Tests.{Tests}
-use Rattle.ir_poly.specs.WellFormed as tests
-use Rattle.ir_poly.specs.WellFormed.{table_of, meaning_of_tests, IsTests}
+use Rattle.ir_mono.specs.of_ir_plain.Meaning.{run}
+use Rattle.ir_mono.specs.of_ir_plain.Once.{IsOnce}
+use Rattle.ir_mono.specs.of_ir_plain.Tree.{Exp}
+use Rattle.ir_mono.specs.of_ir_poly.Tests.{Tests}
+use Rattle.ir_mono.specs.of_ir_poly.WellFormed as tests
+use Rattle.ir_mono.specs.of_ir_poly.WellFormed.{table_of, meaning_of_tests, IsTests}
 use Rattle.ir_mono.specs.Mono.{Program, meaning}
 use Rattle.ir_mono.specs.WellFormed.{IsWellFormed}
 use Rattle.monomorphise.specs.Copies.{Target, kind_of, no_copies, Copy}
 use Rattle.ir_mono.specs.Types.{Row}
-use Rattle.ir_plain.specs.Weight.{weight}
+use Rattle.ir_mono.specs.of_ir_plain.Weight.{weight}
 use Rattle.monomorphise.specs.Monomorphise.{copies}
 use Rattle.monomorphise.specs.Number.{none_given, number, Rises}
 use Rattle.monomorphise.specs.Table.{number_in, types_for}

@@ -15,12 +15,12 @@ use Rattle.ty_core.specs.declared.name.Equality.TheVariants.{Always, ByArguments
 use Rattle.ty_core.specs.declared.scheme.Quantified.{Quantified}
 use Rattle.ir_values.specs.Tags.{untagged}
 use Rattle.ir_values.specs.Values.{same_label}
-use Rattle.ir_plain.specs.Copies.{strip_op}
-use Rattle.ir_plain.specs.Kind.{Kind}
-use Rattle.ir_plain.specs.Tree.{Case, is_literal, is_con, is_con_of, is_exn, is_exn_of, is_record, Exception, fixed, held, Atoms, no_atoms, an_atom, Row, no_row, a_row, Exp, ret, let_in, exception_in, name_in, rec_in, switch, first, miss, counted, Arms, no_arms, arm, Op, use_of, const, con_alone, construct, ref_alone, refer, content, pack, make_record, select, prim_alone, prim, app, fn, block, handle, raise, raise_initial, Fun, last, more as more_of, Funs, no_funs, fun}
-use Rattle.ir_poly.specs.Tests.{Use, inst, poly}
-use Rattle.ir_poly.specs.Types.{of_name, unit_type, changed, Constructor}
-use Rattle.ir_poly.specs.TestsChecked.{HasConstructor}
+use Rattle.ir_mono.specs.of_ir_plain.Copies.{strip_op}
+use Rattle.ir_mono.specs.of_ir_plain.Kind.{Kind}
+use Rattle.ir_mono.specs.of_ir_plain.Tree.{Case, is_literal, is_con, is_con_of, is_exn, is_exn_of, is_record, Exception, fixed, held, Atoms, no_atoms, an_atom, Row, no_row, a_row, Exp, ret, let_in, exception_in, name_in, rec_in, switch, first, miss, counted, Arms, no_arms, arm, Op, use_of, const, con_alone, construct, ref_alone, refer, content, pack, make_record, select, prim_alone, prim, app, fn, block, handle, raise, raise_initial, Fun, last, more as more_of, Funs, no_funs, fun}
+use Rattle.ir_mono.specs.of_ir_poly.Tests.{Use, inst, poly}
+use Rattle.ir_mono.specs.of_ir_poly.Types.{of_name, unit_type, changed, Constructor}
+use Rattle.ir_mono.specs.of_ir_poly.TestsChecked.{HasConstructor}
 use Rattle.monomorphise.specs.Copies.{Target, kind_of}
 
 -- Whether two types are one.

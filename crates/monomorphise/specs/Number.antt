@@ -1,8 +1,8 @@
 -- Numbers for the names of copies, counted upwards in the order of binding, each binder its own; and the numbers of types in a table.
 use Rattle.std.specs.Prelude.{◌≡◌, ℕ, suc, ◌+◌, ◌≤◌, List, Option, Some, None, if◌then◌else◌, ⊤}
 use Rattle.ty_core.specs.Types.{Typ}
-use Rattle.ir_plain.specs.Once.{times, op_times, fun_times}
-use Rattle.ir_plain.specs.Tree.{Case, is_literal, is_con, is_con_of, is_exn, is_exn_of, is_record, Exception, fixed, held, Atoms, no_atoms, an_atom, Row, no_row, a_row, Exp, ret, let_in, exception_in, name_in, rec_in, switch, first, miss, counted, Arms, no_arms, arm, Op, use_of, const, con_alone, construct, ref_alone, refer, content, pack, make_record, select, prim_alone, prim, app, fn, block, handle, raise, raise_initial, Fun, last, more, Funs, no_funs, fun}
+use Rattle.ir_mono.specs.of_ir_plain.Once.{times, op_times, fun_times}
+use Rattle.ir_mono.specs.of_ir_plain.Tree.{Case, is_literal, is_con, is_con_of, is_exn, is_exn_of, is_record, Exception, fixed, held, Atoms, no_atoms, an_atom, Row, no_row, a_row, Exp, ret, let_in, exception_in, name_in, rec_in, switch, first, miss, counted, Arms, no_arms, arm, Op, use_of, const, con_alone, construct, ref_alone, refer, content, pack, make_record, select, prim_alone, prim, app, fn, block, handle, raise, raise_initial, Fun, last, more, Funs, no_funs, fun}
 use Rattle.ir_mono.specs.Types as table
 use Rattle.ir_mono.specs.Types.{constructor_at}
 use Rattle.ir_mono.specs.Mono.{mono}

@@ -2,7 +2,7 @@
 use Rattle.std.specs.Prelude.{◌≡◌, ℕ, zero, suc, Bool, true, ◌&&◌, List, [], ◌∷◌, ◌++◌, Option, Some, None, nat_eq, slice_set}
 use Rattle.ty_core.specs.Types.{Symbol, name, Typ, attribute, allowed}
 use Rattle.ty_core.specs.declared.name.TyName.{TyName}
-use Rattle.ir_poly.specs.Types.{Constructor, find}
+use Rattle.ir_mono.specs.of_ir_poly.Types.{Constructor, find}
 use Rattle.ir_mono.specs.Growing.{IsNewRow, IsNewConstructor, with_constructor}
 use Rattle.ir_mono.specs.Types.{Row, Node, node, node_at, unit_number, constructor_at, admits, by_number, Is, IsExn, Stands, IsTable}
 use Rattle.monomorphise.specs.Copies.{Target}

@@ -2,12 +2,12 @@
 use Rattle.std.proofs.Common.{◌≡◌, ℕ, Option, Some, None, refl, sym, subst, ◌∙◌}
 use Rattle.sml_tree.specs.BareTree as bare
 use Rattle.elab_types.specs.Annotations.{IsTypeOf}
-use Rattle.elab_typed.specs.Elaborates.{Stands}
-use Rattle.elab_state.specs.States.{types_in}
-use Rattle.elab_state.specs.declared.state.State.{State}
-use Rattle.elab_steps.specs.Growing.{Grows, Always}
-use Rattle.elab_steps.specs.World.{type_of}
-use Rattle.elab_steps.proofs.Growing.{grows_on, grows_same, comes_before}
+use Rattle.elab_context.specs.of_elab_typed.Elaborates.{Stands}
+use Rattle.elab_context.specs.of_elab_state.States.{types_in}
+use Rattle.elab_context.specs.of_elab_state.declared.state.State.{State}
+use Rattle.elab_context.specs.of_elab_steps.Growing.{Grows, Always}
+use Rattle.elab_context.specs.of_elab_steps.World.{type_of}
+use Rattle.elab_context.proofs.of_elab_steps.Growing.{grows_on, grows_same, comes_before}
 use Rattle.elab_context.specs.Telling.{IsContext}
 use Rattle.elab_context.specs.declared.context.Context.{Context}
 use Rattle.elab_context.proofs.Reading.{stands}

@@ -17,14 +17,14 @@ use Rattle.prog_tree.specs.declared.tree.Pair.{Pair}
 use Rattle.prog_tree.specs.declared.tree.PatPart.{PatPart}
 use Rattle.prog_tree.specs.declared.tree.Side.TheVariants as side
 use Rattle.prog_tree.proofs.ExpOf.{pat_of-Chain}
-use Rattle.elab_typed.specs.Contexts.{Around}
-use Rattle.elab_typed.specs.Elaborates.{no_pats_elab, fields_elab}
-use Rattle.elab_typed.specs.Instances.{as_typed}
-use Rattle.elab_typed.specs.Numbers.{type_as}
-use Rattle.elab_state.specs.declared.state.State.{State}
-use Rattle.elab_steps.specs.Growing.{HasType, Grows, Always}
-use Rattle.elab_steps.specs.World.{World, type_of}
-use Rattle.elab_steps.proofs.Growing.{grows_on, type_later, comes_before}
+use Rattle.elab_context.specs.of_elab_typed.Contexts.{Around}
+use Rattle.elab_context.specs.of_elab_typed.Elaborates.{no_pats_elab, fields_elab}
+use Rattle.elab_context.specs.of_elab_typed.Instances.{as_typed}
+use Rattle.elab_context.specs.of_elab_typed.Numbers.{type_as}
+use Rattle.elab_context.specs.of_elab_state.declared.state.State.{State}
+use Rattle.elab_context.specs.of_elab_steps.Growing.{HasType, Grows, Always}
+use Rattle.elab_context.specs.of_elab_steps.World.{World, type_of}
+use Rattle.elab_context.proofs.of_elab_steps.Growing.{grows_on, type_later, comes_before}
 use Rattle.elab_context.specs.declared.context.Context.{Context}
 use Rattle.pat_elab.proofs.Forms.{all-later}
 use Rattle.pat_elab.proofs.Leaves.{no-more}

@@ -24,18 +24,18 @@ use Rattle.core_elab.specs.Scopes.{Scope, empty, plus_scope}
 use Rattle.prog_tree.specs.TreeOf.{pat_of, pat_field_of, fields_of}
 use Rattle.prog_tree.specs.declared.tree.PatField.{PatField}
 use Rattle.prog_tree.specs.declared.tree.Pat.TheVariants as tree
-use Rattle.elab_typed.specs.Contexts.{Around}
-use Rattle.elab_typed.specs.Elaborates.{PatElab, PatsElab, no_pats_elab, a_pat_elab, fields_elab, open_elab}
-use Rattle.elab_typed.specs.Instances.{as_typed}
-use Rattle.elab_typed.specs.Numbers.{type_as, row_as}
-use Rattle.elab_typed.proofs.Names.{over-as}
-use Rattle.elab_state.specs.declared.state.State.{State}
-use Rattle.elab_steps.specs.Growing.{HasType, Grows, Always, IsWithin}
-use Rattle.elab_steps.specs.Rows.{HasFields, row_of}
-use Rattle.elab_steps.specs.World.{World, type_of}
-use Rattle.elab_steps.proofs.Growing.{grows_on, grows_same, type_later, comes_before}
-use Rattle.elab_steps.proofs.Opening.{open-found, open-once}
-use Rattle.elab_steps.proofs.Sorting.{Among, found-sorted, sorted-all, row-sorted}
+use Rattle.elab_context.specs.of_elab_typed.Contexts.{Around}
+use Rattle.elab_context.specs.of_elab_typed.Elaborates.{PatElab, PatsElab, no_pats_elab, a_pat_elab, fields_elab, open_elab}
+use Rattle.elab_context.specs.of_elab_typed.Instances.{as_typed}
+use Rattle.elab_context.specs.of_elab_typed.Numbers.{type_as, row_as}
+use Rattle.elab_context.proofs.of_elab_typed.Names.{over-as}
+use Rattle.elab_context.specs.of_elab_state.declared.state.State.{State}
+use Rattle.elab_context.specs.of_elab_steps.Growing.{HasType, Grows, Always, IsWithin}
+use Rattle.elab_context.specs.of_elab_steps.Rows.{HasFields, row_of}
+use Rattle.elab_context.specs.of_elab_steps.World.{World, type_of}
+use Rattle.elab_context.proofs.of_elab_steps.Growing.{grows_on, grows_same, type_later, comes_before}
+use Rattle.elab_context.proofs.of_elab_steps.Opening.{open-found, open-once}
+use Rattle.elab_context.proofs.of_elab_steps.Sorting.{Among, found-sorted, sorted-all, row-sorted}
 use Rattle.elab_context.specs.Entries.{limit_of}
 use Rattle.elab_context.specs.Telling.{IsContext}
 use Rattle.elab_context.specs.declared.context.Context.{Context}

@@ -12,11 +12,11 @@ use Rattle.core_elab.specs.Scopes.{Scope, empty, scoped, plus_scope, variable}
 use Rattle.prog_tree.specs.TreeOf.{pat_of}
 use Rattle.prog_tree.specs.declared.tree.Pat.{Pat}
 use Rattle.prog_tree.specs.declared.tree.Pat.TheVariants as tree
-use Rattle.elab_typed.specs.Elaborates.{PatElab, variable_elab, typed_elab, as_elab}
-use Rattle.elab_steps.specs.Growing.{HasType, Grows, Always}
-use Rattle.elab_state.specs.declared.state.State.{State}
-use Rattle.elab_steps.specs.World.{type_of}
-use Rattle.elab_steps.proofs.Growing.{grows_on, type_later, comes_before}
+use Rattle.elab_context.specs.of_elab_typed.Elaborates.{PatElab, variable_elab, typed_elab, as_elab}
+use Rattle.elab_context.specs.of_elab_steps.Growing.{HasType, Grows, Always}
+use Rattle.elab_context.specs.of_elab_state.declared.state.State.{State}
+use Rattle.elab_context.specs.of_elab_steps.World.{type_of}
+use Rattle.elab_context.proofs.of_elab_steps.Growing.{grows_on, type_later, comes_before}
 use Rattle.elab_context.specs.declared.context.Context.{Context}
 use Rattle.pat_elab.proofs.Trees.{pat_of-Variable, pat_of-As}
 use Rattle.pat_elab.specs.Elaborated.{bound_of, scope_of, scope_onto, AreVariables, HasVariable, IsBound, IsAnnotated, IsAnnotatedIf, IsPat}

@@ -20,13 +20,13 @@ use Rattle.ir_poly.specs.Types.{over}
 use Rattle.core_elab.specs.Scopes.{Denotes, denotes_in, is_free_in}
 use Rattle.prog_tree.specs.TreeOf.{pat_of}
 use Rattle.prog_tree.specs.declared.tree.Pat.TheVariants as tree
-use Rattle.elab_typed.specs.Contexts.{value_under, Around}
-use Rattle.elab_typed.specs.Elaborates.{PatElab, wild_elab, constant_elab, Binds}
-use Rattle.elab_typed.proofs.Under.{at-under}
-use Rattle.elab_steps.specs.Growing.{HasType, Grows, Always, IsWithin}
-use Rattle.elab_state.specs.declared.state.State.{State}
-use Rattle.elab_steps.specs.World.{World, type_of}
-use Rattle.elab_steps.proofs.Growing.{grows_on, type_later, comes_before}
+use Rattle.elab_context.specs.of_elab_typed.Contexts.{value_under, Around}
+use Rattle.elab_context.specs.of_elab_typed.Elaborates.{PatElab, wild_elab, constant_elab, Binds}
+use Rattle.elab_context.proofs.of_elab_typed.Under.{at-under}
+use Rattle.elab_context.specs.of_elab_steps.Growing.{HasType, Grows, Always, IsWithin}
+use Rattle.elab_context.specs.of_elab_state.declared.state.State.{State}
+use Rattle.elab_context.specs.of_elab_steps.World.{World, type_of}
+use Rattle.elab_context.proofs.of_elab_steps.Growing.{grows_on, type_later, comes_before}
 use Rattle.elab_context.specs.Entries.{entry_in, limit_of, is_free}
 use Rattle.elab_context.specs.Telling.{Tells, IsContext, kept_of, denotes_of}
 use Rattle.elab_context.specs.declared.context.Context.{Context}

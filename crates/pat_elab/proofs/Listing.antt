@@ -16,15 +16,15 @@ use Rattle.core_elab.specs.Scopes.{built_number}
 use Rattle.prog_tree.specs.TreeOf.{pat_of, before}
 use Rattle.prog_tree.specs.declared.tree.Head.TheVariants as head
 use Rattle.prog_tree.specs.declared.tree.Pat.TheVariants as tree
-use Rattle.elab_typed.specs.Numbers.{type_as}
-use Rattle.elab_typed.specs.Contexts.{Around}
-use Rattle.elab_typed.specs.Elaborates.{built_elab, built_con_elab, built_value}
-use Rattle.elab_typed.specs.Instances.{IsGivenAt, as_typed}
-use Rattle.elab_typed.proofs.Names.{over-as, name-kept, of_name-kept}
-use Rattle.elab_state.specs.declared.state.State.{State}
-use Rattle.elab_steps.specs.Growing.{HasType, Grows, Always, IsWithin}
-use Rattle.elab_steps.specs.World.{World, type_of, Comes}
-use Rattle.elab_steps.proofs.Growing.{grows_on, type_later, comes_before}
+use Rattle.elab_context.specs.of_elab_typed.Numbers.{type_as}
+use Rattle.elab_context.specs.of_elab_typed.Contexts.{Around}
+use Rattle.elab_context.specs.of_elab_typed.Elaborates.{built_elab, built_con_elab, built_value}
+use Rattle.elab_context.specs.of_elab_typed.Instances.{IsGivenAt, as_typed}
+use Rattle.elab_context.proofs.of_elab_typed.Names.{over-as, name-kept, of_name-kept}
+use Rattle.elab_context.specs.of_elab_state.declared.state.State.{State}
+use Rattle.elab_context.specs.of_elab_steps.Growing.{HasType, Grows, Always, IsWithin}
+use Rattle.elab_context.specs.of_elab_steps.World.{World, type_of, Comes}
+use Rattle.elab_context.proofs.of_elab_steps.Growing.{grows_on, type_later, comes_before}
 use Rattle.elab_context.specs.Entries.{limit_of}
 use Rattle.elab_context.specs.Telling.{Tells, IsContext}
 use Rattle.elab_context.specs.declared.context.Context.{Context}

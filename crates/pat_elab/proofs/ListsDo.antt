@@ -17,12 +17,12 @@ use Rattle.prog_tree.specs.declared.tree.Pat.TheVariants as tree
 use Rattle.prog_tree.specs.declared.tree.PatPart.{PatPart}
 use Rattle.prog_tree.specs.declared.tree.Side.TheVariants as side
 use Rattle.prog_tree.proofs.ExpOf.{pat_of-Chain}
-use Rattle.elab_typed.specs.Contexts.{Around}
-use Rattle.elab_typed.specs.Numbers.{type_as}
-use Rattle.elab_state.specs.declared.state.State.{State}
-use Rattle.elab_steps.specs.Growing.{HasType, Grows, Always, IsWithin}
-use Rattle.elab_steps.specs.World.{World, type_of}
-use Rattle.elab_steps.proofs.Growing.{grows_on, grows_same, type_later, comes_before}
+use Rattle.elab_context.specs.of_elab_typed.Contexts.{Around}
+use Rattle.elab_context.specs.of_elab_typed.Numbers.{type_as}
+use Rattle.elab_context.specs.of_elab_state.declared.state.State.{State}
+use Rattle.elab_context.specs.of_elab_steps.Growing.{HasType, Grows, Always, IsWithin}
+use Rattle.elab_context.specs.of_elab_steps.World.{World, type_of}
+use Rattle.elab_context.proofs.of_elab_steps.Growing.{grows_on, grows_same, type_later, comes_before}
 use Rattle.elab_context.specs.Entries.{limit_of}
 use Rattle.elab_context.specs.Telling.{IsContext}
 use Rattle.elab_context.specs.declared.context.Context.{Context}

@@ -13,10 +13,10 @@ use Rattle.sml_tree.specs.declared.tree.PatField.{PatField}
 use Rattle.sml_tree.specs.declared.tree.PatPart.{PatPart}
 use Rattle.prog_tree.specs.declared.tree.PatPart.{PatPart as ProgramPart}
 use Rattle.elab_types.proofs.Lists.{all-map, next-map-at}
-use Rattle.elab_state.specs.declared.state.State.{State}
-use Rattle.elab_steps.specs.Growing.{HasType, Grows}
-use Rattle.elab_steps.proofs.Changing.{if-ok}
-use Rattle.elab_steps.proofs.Growing.{grows_on, grows_same, type_later}
+use Rattle.elab_context.specs.of_elab_state.declared.state.State.{State}
+use Rattle.elab_context.specs.of_elab_steps.Growing.{HasType, Grows}
+use Rattle.elab_context.proofs.of_elab_steps.Changing.{if-ok}
+use Rattle.elab_context.proofs.of_elab_steps.Growing.{grows_on, grows_same, type_later}
 use Rattle.elab_context.specs.declared.context.Context.{Context}
 use Rattle.pat_elab.specs.Elaborated.{IsPat}
 use Rattle.pat_elab.specs.declared.bound.BoundVariable.{BoundVariable}

@@ -30,17 +30,17 @@ use Rattle.prog_tree.specs.declared.tree.Exception.TheVariants as tree_exception
 use Rattle.prog_tree.specs.declared.tree.Head.TheVariants as head
 use Rattle.prog_tree.specs.declared.tree.Pat.{Pat}
 use Rattle.prog_tree.specs.declared.tree.Pat.TheVariants as tree
-use Rattle.elab_typed.specs.Numbers.{type_as}
-use Rattle.elab_typed.specs.Contexts.{Kept, given, raised, kept_in, Around}
-use Rattle.elab_typed.specs.Elaborates.{PatElab, alone_elab, con_elab}
-use Rattle.elab_typed.specs.Instances.{IsGivenAt, AloneElab, alone_constructor, alone_exception, alone_given_exception, BeforeElab, before_constructor, before_reference, before_exception}
-use Rattle.elab_typed.proofs.Names.{over-as}
-use Rattle.elab_state.specs.States.{types_in}
-use Rattle.elab_state.specs.declared.state.State.{State}
-use Rattle.elab_steps.specs.Growing.{HasType, Grows, Always}
-use Rattle.elab_steps.specs.Instances.{IsInstance, begins_as_function}
-use Rattle.elab_steps.specs.World.{World, type_of, Comes}
-use Rattle.elab_steps.proofs.Growing.{grows_on, comes_before}
+use Rattle.elab_context.specs.of_elab_typed.Numbers.{type_as}
+use Rattle.elab_context.specs.of_elab_typed.Contexts.{Kept, given, raised, kept_in, Around}
+use Rattle.elab_context.specs.of_elab_typed.Elaborates.{PatElab, alone_elab, con_elab}
+use Rattle.elab_context.specs.of_elab_typed.Instances.{IsGivenAt, AloneElab, alone_constructor, alone_exception, alone_given_exception, BeforeElab, before_constructor, before_reference, before_exception}
+use Rattle.elab_context.proofs.of_elab_typed.Names.{over-as}
+use Rattle.elab_context.specs.of_elab_state.States.{types_in}
+use Rattle.elab_context.specs.of_elab_state.declared.state.State.{State}
+use Rattle.elab_context.specs.of_elab_steps.Growing.{HasType, Grows, Always}
+use Rattle.elab_context.specs.of_elab_steps.Instances.{IsInstance, begins_as_function}
+use Rattle.elab_context.specs.of_elab_steps.World.{World, type_of, Comes}
+use Rattle.elab_context.proofs.of_elab_steps.Growing.{grows_on, comes_before}
 use Rattle.elab_context.specs.Entries.{entry_in, limit_of}
 use Rattle.elab_context.specs.Telling.{Tells, IsContext, IsHeld, IsConstructor, kept_of, denotes_of, scheme_at, scheme_of}
 use Rattle.elab_context.specs.declared.context.Context.{Context}

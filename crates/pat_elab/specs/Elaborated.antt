@@ -12,11 +12,11 @@ use Rattle.ir_poly.specs.Prog as prog
 use Rattle.ir_poly.specs.Types.{over}
 use Rattle.core_elab.specs.Scopes.{Scope, empty, scoped, variable}
 use Rattle.prog_tree.specs.TreeOf.{pat_of}
-use Rattle.elab_typed.specs.Contexts.{Around}
-use Rattle.elab_typed.specs.Elaborates.{PatElab, Binds, Stands, StandsIf}
-use Rattle.elab_steps.specs.Growing.{HasType, Grows, Always}
-use Rattle.elab_state.specs.declared.state.State.{State}
-use Rattle.elab_steps.specs.World.{World, type_of, Comes}
+use Rattle.elab_context.specs.of_elab_typed.Contexts.{Around}
+use Rattle.elab_context.specs.of_elab_typed.Elaborates.{PatElab, Binds, Stands, StandsIf}
+use Rattle.elab_context.specs.of_elab_steps.Growing.{HasType, Grows, Always}
+use Rattle.elab_context.specs.of_elab_state.declared.state.State.{State}
+use Rattle.elab_context.specs.of_elab_steps.World.{World, type_of, Comes}
 use Rattle.elab_context.specs.Telling.{Tells}
 use Rattle.elab_context.specs.declared.context.Context.{Context}
 use Rattle.pat_elab.specs.declared.bound.BoundVariable.{BoundVariable}

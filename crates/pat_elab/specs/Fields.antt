@@ -7,11 +7,11 @@ use Rattle.sml_tree.specs.BareTree as bare
 use Rattle.sml_tree.specs.TreeOf.{PatFieldOf}
 use Rattle.prog_tree.specs.TreeOf.{pat_of}
 use Rattle.prog_tree.specs.declared.tree.PatField.{PatField}
-use Rattle.elab_typed.specs.Contexts.{Around}
-use Rattle.elab_typed.specs.Numbers.{type_as}
-use Rattle.elab_state.specs.declared.state.State.{State}
-use Rattle.elab_steps.specs.Growing.{HasType, Grows}
-use Rattle.elab_steps.specs.World.{World, type_of, Comes}
+use Rattle.elab_context.specs.of_elab_typed.Contexts.{Around}
+use Rattle.elab_context.specs.of_elab_typed.Numbers.{type_as}
+use Rattle.elab_context.specs.of_elab_state.declared.state.State.{State}
+use Rattle.elab_context.specs.of_elab_steps.Growing.{HasType, Grows}
+use Rattle.elab_context.specs.of_elab_steps.World.{World, type_of, Comes}
 use Rattle.elab_context.specs.Telling.{Tells}
 use Rattle.elab_context.specs.declared.context.Context.{Context}
 use Rattle.pat_elab.specs.Elaborated.{AreVariables, Elaborates}

@@ -8,10 +8,10 @@ use Rattle.ir_poly.specs.Prog as prog
 use Rattle.core_elab.specs.Scopes.{built_number}
 use Rattle.prog_tree.specs.TreeOf.{pat_of}
 use Rattle.prog_tree.specs.declared.tree.PatPart.{PatPart}
-use Rattle.elab_typed.specs.Contexts.{Around}
-use Rattle.elab_state.specs.declared.state.State.{State}
-use Rattle.elab_steps.specs.Growing.{HasType, Grows}
-use Rattle.elab_steps.specs.World.{World, type_of, Comes}
+use Rattle.elab_context.specs.of_elab_typed.Contexts.{Around}
+use Rattle.elab_context.specs.of_elab_state.declared.state.State.{State}
+use Rattle.elab_context.specs.of_elab_steps.Growing.{HasType, Grows}
+use Rattle.elab_context.specs.of_elab_steps.World.{World, type_of, Comes}
 use Rattle.elab_context.specs.Telling.{Tells}
 use Rattle.elab_context.specs.declared.context.Context.{Context}
 use Rattle.pat_elab.specs.Elaborated.{AreVariables, Elaborates}

@@ -5,11 +5,11 @@ use Rattle.sml_tree.specs.BareTree as bare
 use Rattle.sml_tree.specs.declared.ident.Vid.{Vid}
 use Rattle.ir_poly.specs.Prog as prog
 use Rattle.prog_tree.specs.TreeOf.{before}
-use Rattle.elab_typed.specs.Contexts.{Around}
-use Rattle.elab_state.specs.declared.state.State.{State}
-use Rattle.elab_steps.specs.Growing.{HasType, Always, Grows}
-use Rattle.elab_steps.specs.Instances.{IsInstance, begins_as_function}
-use Rattle.elab_steps.specs.World.{World, type_of, Comes}
+use Rattle.elab_context.specs.of_elab_typed.Contexts.{Around}
+use Rattle.elab_context.specs.of_elab_state.declared.state.State.{State}
+use Rattle.elab_context.specs.of_elab_steps.Growing.{HasType, Always, Grows}
+use Rattle.elab_context.specs.of_elab_steps.Instances.{IsInstance, begins_as_function}
+use Rattle.elab_context.specs.of_elab_steps.World.{World, type_of, Comes}
 use Rattle.elab_context.specs.Entries.{entry_in, is_free, limit_of}
 use Rattle.elab_context.specs.Telling.{Tells, scheme_at}
 use Rattle.elab_context.specs.declared.context.Context.{Context}

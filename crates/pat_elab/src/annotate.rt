@@ -2,13 +2,13 @@
 ghost use Rattle.std.specs.Prelude.{IfOk};
 ghost use Rattle.sml_tree.specs.TreeOf.{ty_of, some_ty_of};
 ghost use Rattle.elab_context.specs.Telling.{IsContext};
-ghost use Rattle.elab_steps.specs.Growing.{HasType};
+ghost use Rattle.elab_context.specs.of_elab_steps.Growing.{HasType};
 ghost use Rattle.pat_elab.specs.Elaborated.{IsAnnotated, IsAnnotatedIf, IsNamed};
 
 use elab_context::context::Context;
-use elab_state::state::State;
-use elab_steps::annotate::annotated;
-use elab_steps::step::unify;
+use elab_context::elab_state::state::State;
+use elab_context::elab_steps::annotate::annotated;
+use elab_context::elab_steps::step::unify;
 use elab_types::refused::Refused;
 use mlc_base::place::Place;
 use sml_tree::tree::Ty;

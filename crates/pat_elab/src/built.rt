@@ -6,16 +6,16 @@ ghost use Rattle.sml_tree.specs.declared.ident.BuiltIn.TheVariants.{True, False,
 ghost use Rattle.prog_tree.specs.declared.tree.Pat.TheVariants.{Constructor};
 ghost use Rattle.core_elab.specs.Scopes.{built_number};
 ghost use Rattle.elab_context.specs.Telling.{IsContext};
-ghost use Rattle.elab_steps.specs.Growing.{HasType, Always, Grows};
-ghost use Rattle.elab_steps.specs.World.{type_of};
+ghost use Rattle.elab_context.specs.of_elab_steps.Growing.{HasType, Always, Grows};
+ghost use Rattle.elab_context.specs.of_elab_steps.World.{type_of};
 ghost use Rattle.pat_elab.specs.Elaborated.{IsPat};
 ghost use Rattle.pat_elab.specs.Matched.{IsHeaded};
 
 use crate::bound::{BoundVariable, TypedPat};
 use crate::headed::Headed;
 use elab_context::context::Context;
-use elab_state::state::State;
-use elab_steps::step::{apply, fresh_type, unify, write};
+use elab_context::elab_state::state::State;
+use elab_context::elab_steps::step::{apply, fresh_type, unify, write};
 use elab_types::refused::Refused;
 use mlc_base::make::two;
 use mlc_base::memory::NoMemory;

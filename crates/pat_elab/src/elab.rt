@@ -5,7 +5,7 @@ ghost use Rattle.sml_tree.specs.BareTree.{Pat as SourcePat, fields_pat};
 ghost use Rattle.sml_tree.specs.Derived.{join_pats, left_chain, list_pat_of, right_chain, tuple_pat};
 ghost use Rattle.sml_tree.specs.TreeOf.{pat_of, pat_field_of, pat_fields_of, pat_part_of};
 ghost use Rattle.elab_context.specs.Telling.{IsContext};
-ghost use Rattle.elab_steps.specs.Growing.{HasType};
+ghost use Rattle.elab_context.specs.of_elab_steps.Growing.{HasType};
 ghost use Rattle.pat_elab.specs.Elaborated.{IsPat};
 
 use crate::bound::{BoundVariable, TypedPat};
@@ -19,7 +19,7 @@ use crate::leaf::{bind_variable, constant, wild};
 use crate::list::{add_element, finish_list, start_list};
 use crate::stopped::Stopped;
 use elab_context::context::Context;
-use elab_state::state::State;
+use elab_context::elab_state::state::State;
 use mlc_base::memory::NoMemory;
 use mlc_base::place::Place;
 use mlc_names::label::Label;

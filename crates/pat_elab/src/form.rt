@@ -3,7 +3,7 @@ ghost use Rattle.std.specs.Prelude.{◌≡◌, ◌++◌, ◌∷◌, [], List, If
 ghost use Rattle.sml_tree.specs.BareTree.{Pat as SourcePat, vid_pat, con_pat, built_con_pat, typed_pat, as_pat};
 ghost use Rattle.sml_tree.specs.TreeOf.{long_vid_of, ty_of, some_ty_of};
 ghost use Rattle.elab_context.specs.Telling.{IsContext};
-ghost use Rattle.elab_steps.specs.Growing.{HasType};
+ghost use Rattle.elab_context.specs.of_elab_steps.Growing.{HasType};
 ghost use Rattle.pat_elab.specs.Elaborated.{IsBound, IsPat};
 ghost use Rattle.pat_elab.specs.Matched.{binds, IsHeaded};
 
@@ -14,8 +14,8 @@ use crate::headed::Headed;
 use crate::leaf::bind_variable;
 use crate::matched::{alone, before};
 use elab_context::context::Context;
+use elab_context::elab_state::state::State;
 use elab_context::entry::is_free;
-use elab_state::state::State;
 use elab_types::refused::Refused;
 use mlc_base::make::boxed;
 use mlc_base::memory::NoMemory;

@@ -3,7 +3,7 @@ ghost use Rattle.std.specs.Prelude.{◌≡◌, ◌++◌, ◌∷◌, [], List, If
 ghost use Rattle.sml_tree.specs.BareTree.{Pat as SourcePat};
 ghost use Rattle.sml_tree.specs.Derived.{list_pat_of};
 ghost use Rattle.elab_context.specs.Telling.{IsContext};
-ghost use Rattle.elab_steps.specs.Growing.{HasType};
+ghost use Rattle.elab_context.specs.of_elab_steps.Growing.{HasType};
 ghost use Rattle.pat_elab.specs.Elaborated.{IsPat};
 ghost use Rattle.pat_elab.specs.Lists.{AreElements, IsListed};
 
@@ -11,8 +11,8 @@ use crate::bound::{BoundVariable, TypedPat};
 use crate::built::{lists, nil, pairs};
 use crate::parts::Listed;
 use elab_context::context::Context;
-use elab_state::state::State;
-use elab_steps::step::{fresh_type, unify, write};
+use elab_context::elab_state::state::State;
+use elab_context::elab_steps::step::{fresh_type, unify, write};
 use elab_types::refused::Refused;
 use mlc_base::make::boxed;
 use mlc_base::memory::NoMemory;

@@ -14,11 +14,11 @@ use Rattle.prog_tree.specs.TreeOf.{Reading, before}
 use Rattle.prog_tree.specs.declared.tree.Exception.{Exception}
 use Rattle.prog_tree.specs.declared.tree.Head.{Head}
 use Rattle.prog_tree.specs.declared.tree.Head.TheVariants as head
-use Rattle.match_types.specs.Views.{View, value_type, Keeps}
-use Rattle.match_types.specs.declared.work.ValueType.{ValueType}
-use Rattle.match_types.specs.declared.work.ValueType.TheVariants.{Source}
-use Rattle.match_types.specs.declared.work.Work.{Work}
-use Rattle.match_types.proofs.Seeing.{keeps-on}
+use Rattle.match_steps.specs.of_match_types.Views.{View, value_type, Keeps}
+use Rattle.match_steps.specs.of_match_types.declared.work.ValueType.{ValueType}
+use Rattle.match_steps.specs.of_match_types.declared.work.ValueType.TheVariants.{Source}
+use Rattle.match_steps.specs.of_match_types.declared.work.Work.{Work}
+use Rattle.match_steps.proofs.of_match_types.Seeing.{keeps-on}
 use Rattle.match_steps.specs.Steps.{Puts}
 use Rattle.match_steps.specs.Made.{testing, naming, selecting, heading, argument_after}
 use Rattle.match_steps.proofs.Pushed.{two-puts}

@@ -4,11 +4,11 @@ use Rattle.ir_poly.specs.Prog as t
 use Rattle.ir_poly.specs.Tests.{Tests}
 use Rattle.prog_tree.specs.TreeOf.{Reading}
 use Rattle.match_compile.specs.Compile.{Spots, spot, no_spots, past_pat, spots, tests}
-use Rattle.match_types.specs.Views.{View, value_type, Sees, Keeps}
-use Rattle.match_types.specs.declared.work.ValueType.{ValueType}
+use Rattle.match_steps.specs.of_match_types.Views.{View, value_type, Sees, Keeps}
+use Rattle.match_steps.specs.of_match_types.declared.work.ValueType.{ValueType}
 use Rattle.match_steps.specs.Steps.{stand, Puts}
-use Rattle.match_types.specs.declared.work.Work.{Work}
-use Rattle.match_types.proofs.Seeing.{keeps-same, keeps-on, sees-before}
+use Rattle.match_steps.specs.of_match_types.declared.work.Work.{Work}
+use Rattle.match_steps.proofs.of_match_types.Seeing.{keeps-same, keeps-on, sees-before}
 use Rattle.pattern_tests.specs.Spots.{spots_onto}
 use Rattle.pattern_tests.specs.Tasks.{Task, Done, both, finished, pat_task}
 use Rattle.pattern_tests.specs.declared.made.Made.{Made}

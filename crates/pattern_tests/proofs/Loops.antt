@@ -10,10 +10,10 @@ use Rattle.prog_tree.specs.declared.tree.Pat.{Pat}
 use Rattle.prog_tree.specs.declared.tree.PatField.{PatField}
 use Rattle.prog_tree.specs.declared.tree.PatPart.{PatPart}
 use Rattle.prog_tree.specs.declared.tree.Side.{Side}
-use Rattle.match_types.specs.Views.{value_type}
-use Rattle.match_types.specs.declared.work.Work.{Work}
-use Rattle.match_types.specs.declared.work.ValueType.{ValueType}
-use Rattle.match_types.specs.declared.work.ValueType.TheVariants.{Source}
+use Rattle.match_steps.specs.of_match_types.Views.{value_type}
+use Rattle.match_steps.specs.of_match_types.declared.work.Work.{Work}
+use Rattle.match_steps.specs.of_match_types.declared.work.ValueType.{ValueType}
+use Rattle.match_steps.specs.of_match_types.declared.work.ValueType.TheVariants.{Source}
 use Rattle.match_steps.specs.Steps.{stand}
 use Rattle.pattern_tests.specs.Spots.{spots_onto}
 use Rattle.pattern_tests.specs.Tasks.{Task, Done, finished, both, pat_task, pattern}

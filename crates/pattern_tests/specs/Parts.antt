@@ -13,9 +13,9 @@ use Rattle.prog_tree.specs.declared.tree.Pair.{Pair}
 use Rattle.prog_tree.specs.declared.tree.PatField.{PatField}
 use Rattle.prog_tree.specs.declared.tree.PatPart.{PatPart}
 use Rattle.prog_tree.specs.declared.tree.Side.{Side}
-use Rattle.match_types.specs.Views.{value_type}
-use Rattle.match_types.specs.declared.work.ValueType.{ValueType}
-use Rattle.match_types.specs.declared.work.ValueType.TheVariants.{Source}
+use Rattle.match_steps.specs.of_match_types.Views.{value_type}
+use Rattle.match_steps.specs.of_match_types.declared.work.ValueType.{ValueType}
+use Rattle.match_steps.specs.of_match_types.declared.work.ValueType.TheVariants.{Source}
 use Rattle.match_steps.specs.Made.{selecting}
 use Rattle.pattern_tests.specs.declared.patterns.Pairs.{Pairs}
 use Rattle.pattern_tests.specs.declared.patterns.Pairs.TheVariants as pairing

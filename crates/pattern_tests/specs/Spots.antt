@@ -1,7 +1,7 @@
 -- Where variables are, in the words of the pass.
 use Rattle.std.specs.Prelude.{ℕ, List, [], ◌∷◌}
 use Rattle.match_compile.specs.Compile.{Spots, spot}
-use Rattle.match_types.specs.Views.{View, value_type}
+use Rattle.match_steps.specs.of_match_types.Views.{View, value_type}
 use Rattle.pattern_tests.specs.declared.spots.Spot.{Spot}
 
 -- those of a list in front of others, its last one first

@@ -5,10 +5,10 @@ use Rattle.ir_poly.specs.Tests.{Tests}
 use Rattle.match_compile.specs.Compile.{Spots, no_spots, past_pat, spots, tests}
 use Rattle.prog_tree.specs.TreeOf.{Reading, pat_of}
 use Rattle.prog_tree.specs.declared.tree.Pat.{Pat}
-use Rattle.match_types.specs.Views.{View, value_type, Keeps}
-use Rattle.match_types.specs.declared.work.ValueType.{ValueType}
+use Rattle.match_steps.specs.of_match_types.Views.{View, value_type, Keeps}
+use Rattle.match_steps.specs.of_match_types.declared.work.ValueType.{ValueType}
 use Rattle.match_steps.specs.Steps.{Leads}
-use Rattle.match_types.specs.declared.work.Work.{Work}
+use Rattle.match_steps.specs.of_match_types.declared.work.Work.{Work}
 use Rattle.pattern_tests.specs.Spots.{spots_onto}
 use Rattle.pattern_tests.specs.declared.made.Made.{Made}
 

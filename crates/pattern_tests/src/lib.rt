@@ -1,6 +1,8 @@
 // From patterns to tests: the steps that test a value against a pattern, and where the pattern's variables are.
 #![tactic(auto)]
 
+pub use match_steps;
+
 pub mod made;
 pub mod parts;
 pub mod patterns;

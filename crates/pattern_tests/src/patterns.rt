@@ -5,7 +5,7 @@ ghost use Rattle.ir_poly.specs.ProgMeaning.{size_of};
 ghost use Rattle.prog_tree.specs.TreeOf.{Reading, pat_of};
 ghost use Rattle.prog_tree.specs.declared.tree.PatPart.{PatPart as Part};
 ghost use Rattle.match_compile.specs.Compile.{no_spots, past_pat, spots};
-ghost use Rattle.match_types.specs.Views.{View, value_type, Keeps};
+ghost use Rattle.match_steps.specs.of_match_types.Views.{View, value_type, Keeps};
 ghost use Rattle.match_steps.specs.Steps.{Puts};
 ghost use Rattle.pattern_tests.specs.Spots.{spots_onto};
 ghost use Rattle.pattern_tests.specs.Tasks.{Done, finished, both, pat_task, pattern, tests_of};
@@ -17,7 +17,7 @@ use crate::parts::{
     push_pair, push_record, push_right_part, push_spot,
 };
 use crate::spots::Spot;
-use match_types::work::{ValueType, Work};
+use match_steps::match_types::work::{ValueType, Work};
 use mlc_base::memory::NoMemory;
 use plain_tree::tree::Step;
 use prog_tree::tree::{Pat, PatField, PatPart, Side};

@@ -3,7 +3,7 @@ ghost use Rattle.std.specs.Prelude.{◌≡◌, IfOk};
 ghost use Rattle.pattern_tests.specs.Spots.{names_onto};
 
 use match_names::names::Names;
-use match_types::work::ValueType;
+use match_steps::match_types::work::ValueType;
 use mlc_base::memory::NoMemory;
 
 /// A variable of the source, the number of the one that has its value, and its type.

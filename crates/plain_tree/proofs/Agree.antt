@@ -1,9 +1,9 @@
 -- What is summed up along the code's tree is what is summed up along its clean tree, under any reading.
 use Rattle.std.proofs.Common.{◌≡◌, ℕ, ◌+◌, List, [], ◌∷◌, map, sum, refl, sym, ap, ◌∙◌, subst, arith}
 use Rattle.std.proofs.lemmas.List.Sums.{sum_by-cons}
-use Rattle.ir_plain.specs.Kind.{Kind}
-use Rattle.ir_plain.specs.Tree as t
-use Rattle.ir_plain.specs.Weight.{weight, arms_weight, op_weight, fun_weight, funs_weight}
+use Rattle.ir_tables.specs.of_ir_plain.Kind.{Kind}
+use Rattle.ir_tables.specs.of_ir_plain.Tree as t
+use Rattle.ir_tables.specs.of_ir_plain.Weight.{weight, arms_weight, op_weight, fun_weight, funs_weight}
 use Rattle.plain_tree.specs.declared.tree.Parameter.{Parameter}
 use Rattle.plain_tree.specs.declared.tree.Operation.{Operation}
 use Rattle.plain_tree.specs.declared.tree.Operation.TheVariants as op

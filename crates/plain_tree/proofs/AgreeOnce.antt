@@ -1,8 +1,8 @@
 -- How often a variable is bound in the clean tree is how often it is among the variables that the code's tree binds.
 use Rattle.std.proofs.Common.{◌≡◌, ℕ, ◌+◌, List, [], ◌∷◌, ◌++◌, map, refl, sym, ap, ◌∙◌, subst, arith}
-use Rattle.ir_plain.specs.Kind.{Kind}
-use Rattle.ir_plain.specs.Tree as t
-use Rattle.ir_plain.specs.Once.{times, arms_times, op_times, fun_times, funs_times, case_times}
+use Rattle.ir_tables.specs.of_ir_plain.Kind.{Kind}
+use Rattle.ir_tables.specs.of_ir_plain.Tree as t
+use Rattle.ir_tables.specs.of_ir_plain.Once.{times, arms_times, op_times, fun_times, funs_times, case_times}
 use Rattle.plain_tree.specs.declared.tree.Case.{Case}
 use Rattle.plain_tree.specs.declared.tree.Case.TheVariants as case
 use Rattle.plain_tree.specs.declared.tree.Parameter.{Parameter}

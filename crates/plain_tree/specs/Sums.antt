@@ -1,6 +1,6 @@
 -- The sum of a tree's weights, and the variables that it binds.
 use Rattle.std.specs.Prelude.{ℕ, ◌+◌, List, [], ◌∷◌, ◌++◌, map, sum}
-use Rattle.ir_plain.specs.Once.{hit}
+use Rattle.ir_tables.specs.of_ir_plain.Once.{hit}
 use Rattle.plain_tree.specs.declared.tree.Parameter.{Parameter}
 use Rattle.plain_tree.specs.declared.tree.Case.{Case}
 use Rattle.plain_tree.specs.declared.tree.Case.TheVariants as case

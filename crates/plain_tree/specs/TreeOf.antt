@@ -2,8 +2,8 @@
 use Rattle.std.specs.Prelude.{ℕ, List, [], ◌∷◌, Option}
 use Rattle.std.specs.Option.{option_map}
 use Rattle.ir_tables.specs.Tables.{literal_at}
-use Rattle.ir_plain.specs.Kind.{Kind}
-use Rattle.ir_plain.specs.Tree as t
+use Rattle.ir_tables.specs.of_ir_plain.Kind.{Kind}
+use Rattle.ir_tables.specs.of_ir_plain.Tree as t
 use Rattle.plain_tree.specs.declared.tree.Parameter.{Parameter}
 use Rattle.plain_tree.specs.declared.tree.Binding.{Binding}
 use Rattle.plain_tree.specs.declared.tree.Field.{Field}

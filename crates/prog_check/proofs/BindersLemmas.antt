@@ -1,7 +1,7 @@
 -- The variables are distinct exactly where each is bound once.
 use Rattle.std.proofs.Common.{◌≡◌, ℕ, ◌+◌, ◌≤◌, Bool, true, false, not, ◌||◌, List, [], ◌∷◌, ◌++◌, nat_eq, if◌then◌else◌, refl, sym, subst, ap, arith}
 use Rattle.std.proofs.lemmas.Bool.{eqb-true, eq-eqb, and_parts, and_from, not-true}
-use Rattle.ir_plain.specs.Once.{hit}
+use Rattle.ir_poly.specs.of_ir_plain.Once.{hit}
 use Rattle.ir_poly.specs.Prog.{Pat, any_pat, variable_pat, constant_pat, con_pat, con_of_pat, ref_of_pat, exn_pat, exn_of_pat, fields_pat, as_pat, PatFields, no_pats, a_pat, Exp, constant_exp, variable_exp, own_exp, con_exp, ref_exp, exn_exp, prim_exp, fields_exp, let_exp, app_exp, case_exp, chain_exp, handle_exp, raise_exp, fn_exp, counted_exp, Fields, no_fields, a_field, Chain, only, link, Rules, no_rules, a_rule, Fun, last, by_rules, more, Decs, no_decs, val_dec, exception_dec, counted_dec, Binds, no_binds, a_bind, Funs, no_funs, a_fun}
 use Rattle.ir_poly.specs.ProgOnce.{pat_times, pats_times, list_times, times, fields_times, chain_times, rules_times, fun_times, decs_times, binds_times, funs_times, IsOnce}
 use Rattle.prog_check.specs.Binders.{pat_binders, pats_binders, binders, fields_binders, chain_binders, rules_binders, fun_binders, decs_binders, binds_binders, funs_binders, is_in, are_distinct}

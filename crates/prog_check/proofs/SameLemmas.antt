@@ -7,7 +7,7 @@ use Rattle.ty_core.specs.Types.{Symbol, arrow, labels, name, Typ, var, con, Typs
 use Rattle.ty_core.specs.declared.name.TyName.{TyName}
 use Rattle.ty_core.specs.declared.name.Equality.{Equality}
 use Rattle.ty_core.specs.declared.name.Equality.TheVariants.{Always, ByArguments, Never}
-use Rattle.ir_values.specs.Values.{same_label}
+use Rattle.ir_poly.specs.of_ir_values.Values.{same_label}
 use Rattle.prog_check.specs.Same.{equality_number, same_name, same_labels, same_symbol, same_type, same_types, same_option}
 
 equality-number : (a b : Equality) → equality_number a ≡ equality_number b → a ≡ b

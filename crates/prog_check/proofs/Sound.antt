@@ -9,7 +9,7 @@ use Rattle.ty_core.specs.Types.{Typ, var, con, name, typs_of}
 use Rattle.ty_core.specs.Statics.{replace}
 use Rattle.ty_core.specs.declared.name.TyName.{TyName}
 use Rattle.ty_core.specs.declared.scheme.Quantified.{Quantified}
-use Rattle.ir_values.specs.Values.{same_label}
+use Rattle.ir_poly.specs.of_ir_values.Values.{same_label}
 use Rattle.ir_poly.specs.Prog.{Exc, Pat, any_pat, variable_pat, constant_pat, con_pat, con_of_pat, ref_of_pat, exn_pat, exn_of_pat, fields_pat, as_pat, PatFields, no_pats, a_pat, Exp, constant_exp, variable_exp, own_exp, con_exp, ref_exp, exn_exp, prim_exp, fields_exp, let_exp, app_exp, case_exp, chain_exp, handle_exp, raise_exp, fn_exp, counted_exp, Fields, no_fields, a_field, Chain, only, link, Rules, no_rules, a_rule, Fun, last, by_rules, more, Decs, no_decs, val_dec, exception_dec, counted_dec, Binds, no_binds, a_bind, Funs, no_funs, a_fun, type_of, is_value}
 use Rattle.ir_poly.specs.ProgChecked.{pat_onto, pats_onto, each_onto, funs_onto, binds_onto, parameters_if, PatChecked, any_checked, variable_checked, constant_checked, con_checked, con_of_checked, ref_of_checked, exn_checked, exn_of_checked, fields_checked, as_checked, PatsChecked, no_pats_checked, a_pat_checked, Checked, c_constant, c_variable, c_variable_one, c_own, c_con, c_ref, c_exn, c_prim, c_fields, c_let, c_app, c_case, c_chain, c_handle, c_raise, c_fn, c_counted, FieldsChecked, c_no_fields, c_field, ChainChecked, c_only, c_link, RulesChecked, c_no_rules, c_rule, FunChecked, c_last, c_by_rules, c_more, DecsChecked, c_no_decs, c_val, c_exception, c_exception_alone, c_counted_dec, BindsChecked, c_no_binds, c_general, c_plain, FunsChecked, c_no_funs, c_fun}
 use Rattle.ir_poly.specs.Types.{Constructor, of_name, bool_name, function_type, ref_type, row_type, labels_in, ascend, sorted, over, all_over, are_new, admits_in, changed, find, argument_at, prim_type, arguments_at, result_at, tuple_type}

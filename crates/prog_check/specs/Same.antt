@@ -5,7 +5,7 @@ use Rattle.ty_core.specs.Types.{Symbol, arrow, labels, name, Typ, var, con, Typs
 use Rattle.ty_core.specs.declared.name.TyName.{TyName}
 use Rattle.ty_core.specs.declared.name.Equality.{Equality}
 use Rattle.ty_core.specs.declared.name.Equality.TheVariants.{Always, ByArguments, Never}
-use Rattle.ir_values.specs.Values.{same_label}
+use Rattle.ir_poly.specs.of_ir_values.Values.{same_label}
 
 abbrev pub equality_number : Equality → ℕ
 equality_number Always = 0

@@ -5,15 +5,13 @@ ghost use Rattle.ty_table.specs.TypeAt.{type_at};
 ghost use Rattle.ir_poly.specs.TestsChecked.{exn_type};
 ghost use Rattle.record_order.specs.Order.{AreOrders};
 ghost use Rattle.prog_known.specs.Lists.{run, hold, all_hold};
-ghost use Rattle.prog_parts.specs.Expressions.{argument_next, join_next, dec_step};
+ghost use Rattle.prog_leaves.specs.of_prog_parts.Expressions.{argument_next, join_next, dec_step};
 ghost use Rattle.prog_leaves.specs.Places.{Adds};
 ghost use Rattle.prog_leaves.specs.Right.{exp_right, typed_right, field_right, record_right, argument_right, join_right, rule_right, raise_right, dropped_right, operand_right, function_right, fn_right, named_right, by_rules_right, member_right, group_right, inner_right, dec_right, decs_right};
 
 use ir_tables::tables::Tables;
 use mlc_base::memory::NoMemory;
 use mlc_names::label::Label;
-use prog_binds::groups::{bind_bindings, bind_members};
-use prog_binds::pats::bind_pat;
 use prog_known::answers::both;
 use prog_known::environment::Environment;
 use prog_known::manner::Manner;
@@ -23,12 +21,14 @@ use prog_leaves::bounds::{
 };
 use prog_leaves::exceptions::declare_exception;
 use prog_leaves::functions::is_function_type;
+use prog_leaves::prog_binds::groups::{bind_bindings, bind_members};
+use prog_leaves::prog_binds::pats::bind_pat;
+use prog_leaves::prog_pats::pats::check_pat;
 use prog_leaves::rows::is_row;
 use prog_leaves::scopes::{declare, leave, mark_place};
 use prog_leaves::types::{
     applies, has_type, is_bool, is_joined, is_last, is_test, left_after, right_of,
 };
-use prog_pats::pats::check_pat;
 use prog_shapes::types::type_of;
 use prog_tree::tree::{Binding, Dec, Exp, Function, Join, Parameter, Rule, Side};
 use record_order::facts::Facts;

@@ -2,10 +2,10 @@
 use Rattle.std.proofs.Common.{◌≡◌, ℕ, suc, ◌+◌, ◌-◌, ◌≤◌, List, [], ◌∷◌, ◌++◌, length, drop, refl, sym, ap, ◌∙◌, subst, arith}
 use Rattle.ir_known.specs.Knows.{known_of}
 use Rattle.ir_known.specs.declared.known.Known.{Known}
-use Rattle.ir_poly.specs.TestsChecked as clean
-use Rattle.ir_poly.specs.TestsChecked.{Knowns}
-use Rattle.ir_tables.specs.Tables.{parameters_of}
-use Rattle.ir_tables.specs.declared.tables.Tables.{Tables}
+use Rattle.ir_known.specs.of_ir_poly.TestsChecked as clean
+use Rattle.ir_known.specs.of_ir_poly.TestsChecked.{Knowns}
+use Rattle.ir_known.specs.of_ir_tables.Tables.{parameters_of}
+use Rattle.ir_known.specs.of_ir_tables.declared.tables.Tables.{Tables}
 use Rattle.prog_known.specs.Lists.{run, run_back}
 use Rattle.prog_known.specs.Onto.{Onto, known_with}
 use Rattle.prog_known.proofs.ListLemmas.{drop-all}

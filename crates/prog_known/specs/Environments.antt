@@ -2,10 +2,10 @@
 use Rattle.std.specs.Prelude.{List, ◌++◌}
 use Rattle.ty_core.specs.declared.scheme.Quantified.{Quantified}
 use Rattle.ir_known.specs.Knows.{knowns_of, marks_of}
-use Rattle.ir_poly.specs.TestsChecked.{Knowns}
-use Rattle.ir_poly.specs.Types.{Constructor, initial_constructors}
-use Rattle.ir_tables.specs.Tables.{parameters_of, constructors_of}
-use Rattle.ir_tables.specs.declared.tables.Tables.{Tables}
+use Rattle.ir_known.specs.of_ir_poly.TestsChecked.{Knowns}
+use Rattle.ir_known.specs.of_ir_poly.Types.{Constructor, initial_constructors}
+use Rattle.ir_known.specs.of_ir_tables.Tables.{parameters_of, constructors_of}
+use Rattle.ir_known.specs.of_ir_tables.declared.tables.Tables.{Tables}
 use Rattle.prog_known.specs.declared.environment.Environment.{Environment}
 
 -- the constructors that a program of these tables has

@@ -3,10 +3,10 @@ use Rattle.std.specs.Prelude.{◌≡◌, ℕ, List, ◌++◌}
 use Rattle.ty_core.specs.Types.{Typ}
 use Rattle.ir_known.specs.Knows.{knowns_of}
 use Rattle.ir_known.specs.declared.known.Known.{Known}
-use Rattle.ir_poly.specs.TestsChecked as clean
-use Rattle.ir_poly.specs.TestsChecked.{Knowns, of_type, own, declared}
-use Rattle.ir_tables.specs.Tables.{parameters_of, parameters_at}
-use Rattle.ir_tables.specs.declared.tables.Tables.{Tables}
+use Rattle.ir_known.specs.of_ir_poly.TestsChecked as clean
+use Rattle.ir_known.specs.of_ir_poly.TestsChecked.{Knowns, of_type, own, declared}
+use Rattle.ir_known.specs.of_ir_tables.Tables.{parameters_of, parameters_at}
+use Rattle.ir_known.specs.of_ir_tables.declared.tables.Tables.{Tables}
 use Rattle.prog_known.specs.declared.manner.Manner.{Manner}
 use Rattle.prog_known.specs.declared.manner.Manner.TheVariants.{Plain, Over, Own}
 

@@ -1,12 +1,12 @@
 // How variables are declared.
 ghost use Rattle.std.specs.Prelude.{◌≡◌};
 ghost use Rattle.ty_table.specs.TypeAt.{type_at};
-ghost use Rattle.ir_tables.specs.Tables.{parameters_of};
+ghost use Rattle.ir_known.specs.of_ir_tables.Tables.{parameters_of};
 ghost use Rattle.ir_known.specs.Knows.{known_of};
 ghost use Rattle.prog_known.specs.Onto.{known_by};
 
+use ir_known::ir_tables::tables::Tables;
 use ir_known::known::{Known, declare};
-use ir_tables::tables::Tables;
 
 /// Each of one type; generalised over a list of parameters, where it has any; or as functions inside their own group.
 #[derive(Clone, Copy)]

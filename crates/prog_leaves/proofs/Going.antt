@@ -10,9 +10,9 @@ use Rattle.prog_known.proofs.ListLemmas.{drop-next, drop-next-is}
 use Rattle.prog_known.proofs.OntoLemmas.{Running, run-starts, run-more, run-ends, as-onto}
 use Rattle.prog_tree.specs.declared.tree.Dec.{Dec}
 use Rattle.prog_tree.specs.declared.tree.Parameter.{Parameter}
-use Rattle.prog_parts.specs.Expressions as parts
-use Rattle.prog_parts.specs.Expressions.{parameter_onto, dec_onto, dec_step}
-use Rattle.prog_parts.proofs.Loops.{Asking, asking-starts, asking-more, asking-ends, Carrying, carrying-starts, carrying-more, carrying-ends}
+use Rattle.prog_pats.specs.of_prog_parts.Expressions as parts
+use Rattle.prog_pats.specs.of_prog_parts.Expressions.{parameter_onto, dec_onto, dec_step}
+use Rattle.prog_pats.proofs.of_prog_parts.Loops.{Asking, asking-starts, asking-more, asking-ends, Carrying, carrying-starts, carrying-more, carrying-ends}
 use Rattle.prog_leaves.specs.Right.{parameter_right, dec_right, decs_right}
 use Rattle.prog_leaves.specs.Places.{Adds}
 use Rattle.prog_leaves.proofs.Inside.{known-at}

@@ -26,9 +26,9 @@ use Rattle.prog_tree.specs.declared.tree.Exp.{Exp}
 use Rattle.prog_tree.specs.declared.tree.Function.{Function}
 use Rattle.prog_tree.specs.declared.tree.Parameter.{Parameter}
 use Rattle.prog_tree.specs.declared.tree.Rule.{Rule}
-use Rattle.prog_parts.specs.Expressions as parts
-use Rattle.prog_parts.specs.Expressions.{type_in, parameter_onto, dec_step}
-use Rattle.prog_parts.proofs.Checks as checks
+use Rattle.prog_pats.specs.of_prog_parts.Expressions as parts
+use Rattle.prog_pats.specs.of_prog_parts.Expressions.{type_in, parameter_onto, dec_step}
+use Rattle.prog_pats.proofs.of_prog_parts.Checks as checks
 use Rattle.prog_pats.specs.Fits.{pat_fits}
 use Rattle.prog_leaves.specs.Right.{has_type, is_known, has_known, is_function_type, exp_right, typed_right, rule_right, dropped_right, case_right, handle_right, raise_right, function_right, parameter_right, with_parameters, named_right, by_rules_right, member_right, group_right, plain_right, inner_right, val_right, decs_right, let_right}
 use Rattle.prog_leaves.specs.Places.{IsPlace, Extends, Adds}

@@ -1,3 +1,4 @@
+pub use Rattle.prog_pats.proofs.of_prog_parts as of_prog_parts
 pub mod Going
 pub mod Inside
 pub mod Nodes

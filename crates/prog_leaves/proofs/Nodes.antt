@@ -33,9 +33,9 @@ use Rattle.prog_tree.specs.declared.tree.Parameter.{Parameter}
 use Rattle.prog_tree.specs.declared.tree.Rule.{Rule}
 use Rattle.prog_tree.specs.declared.tree.Side.{Side}
 use Rattle.prog_tree.proofs.ExpOf.{tree_of-Let, tree_of-Handle, function_of-Named, function_of-ByRules, dec_of-Val}
-use Rattle.prog_parts.specs.Expressions.{type_in, dec_onto, dec_step}
-use Rattle.prog_parts.specs.Expressions as parts
-use Rattle.prog_parts.proofs.Checks as checks
+use Rattle.prog_pats.specs.of_prog_parts.Expressions.{type_in, dec_onto, dec_step}
+use Rattle.prog_pats.specs.of_prog_parts.Expressions as parts
+use Rattle.prog_pats.proofs.of_prog_parts.Checks as checks
 use Rattle.prog_leaves.specs.Right.{has_type, is_bool, is_test, applies, joined, is_row, is_function_type, is_known, has_known, atom_right, use_right, exp_right, typed_right, record_right, apply_right, infix_right, rule_right, case_right, handle_right, raise_right, is_last, sequence_right, test_right, function_right, fn_right, named_right, by_rules_right, val_right, val_onto, exception_right, exception_onto, dec_right, decs_right, let_right}
 
 -- The clean tree of nodes

@@ -26,8 +26,8 @@ use Rattle.prog_tree.specs.declared.tree.Parameter.{Parameter}
 use Rattle.prog_tree.specs.declared.tree.Rule.{Rule}
 use Rattle.prog_tree.specs.declared.tree.Side.TheVariants as side
 use Rattle.prog_tree.proofs.ExpOf.{function_of-Named, function_of-ByRules}
-use Rattle.prog_parts.specs.Expressions.{type_in, right_type}
-use Rattle.prog_parts.proofs.Truths.{as-same, not-same}
+use Rattle.prog_pats.specs.of_prog_parts.Expressions.{type_in, right_type}
+use Rattle.prog_pats.proofs.of_prog_parts.Truths.{as-same, not-same}
 use Rattle.prog_leaves.specs.Right.{is_function_type, is_last, has_type}
 use Rattle.prog_leaves.specs.Rows.{field_of, pair_of}
 use Rattle.prog_leaves.specs.Functions as curried

@@ -1,3 +1,4 @@
+pub use Rattle.prog_pats.specs.of_prog_parts as of_prog_parts
 pub mod Functions
 pub mod Places
 pub mod Right

@@ -29,8 +29,8 @@ use Rattle.prog_tree.specs.declared.tree.Join.{Join}
 use Rattle.prog_tree.specs.declared.tree.Parameter.{Parameter}
 use Rattle.prog_tree.specs.declared.tree.Rule.{Rule}
 use Rattle.prog_tree.specs.declared.tree.Side.{Side}
-use Rattle.prog_parts.specs.Expressions as parts
-use Rattle.prog_parts.specs.Expressions.{type_in, right_type, argument_next, join_next, parameter_onto, dec_onto, dec_step}
+use Rattle.prog_pats.specs.of_prog_parts.Expressions as parts
+use Rattle.prog_pats.specs.of_prog_parts.Expressions.{type_in, right_type, argument_next, join_next, parameter_onto, dec_onto, dec_step}
 use Rattle.prog_pats.specs.Fits.{pat_fits}
 
 -- What types are

@@ -2,17 +2,17 @@
 ghost use Rattle.std.specs.Prelude.{◌≡◌, [], IfOk};
 ghost use Rattle.record_order.specs.Order.{AreOrders};
 ghost use Rattle.prog_known.specs.Lists.{run, all_hold};
-ghost use Rattle.prog_parts.specs.Expressions.{parameter_onto};
+ghost use Rattle.prog_pats.specs.of_prog_parts.Expressions.{parameter_onto};
 ghost use Rattle.prog_leaves.specs.Right.{is_known, has_known, parameter_right, bound_right, plain_right, general_right};
 ghost use Rattle.prog_leaves.specs.Places.{Adds};
 
 use ir_tables::tables::Tables;
 use mlc_base::memory::NoMemory;
-use prog_binds::one::bind_one;
 use prog_known::answers::both;
 use prog_known::environment::Environment;
 use prog_known::manner::Manner;
 use prog_pats::pats::check_pat;
+use prog_pats::prog_binds::one::bind_one;
 use prog_pats::records::is_known as is_in_scope;
 use prog_shapes::types::type_of;
 use prog_tree::tree::{Binding, Exp, Parameter, Rule};

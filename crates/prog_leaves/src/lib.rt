@@ -1,6 +1,9 @@
 // What a walk over expressions and declarations asks at its leaves, and the scopes that it goes into.
 #![tactic(auto)]
 
+pub use prog_pats;
+pub use prog_pats::prog_binds;
+
 pub mod atoms;
 pub mod bounds;
 pub mod exceptions;

@@ -4,7 +4,7 @@ ghost use Rattle.label_rows.specs.Order.{sorted_by};
 ghost use Rattle.ty_core.specs.Types.{Typ};
 ghost use Rattle.ty_table.specs.TypeAt.{type_at};
 ghost use Rattle.ir_uses.specs.Fields.{field_types};
-ghost use Rattle.prog_parts.specs.Expressions.{type_in};
+ghost use Rattle.prog_pats.specs.of_prog_parts.Expressions.{type_in};
 ghost use Rattle.prog_leaves.specs.Right.{is_row};
 ghost use Rattle.prog_leaves.specs.Rows.{field_of, pair_of};
 

@@ -1,7 +1,7 @@
 // What the types are that expressions have written.
 ghost use Rattle.std.specs.Prelude.{◌≡◌, ◌∷◌, [], drop};
 ghost use Rattle.ty_table.specs.TypeAt.{type_at};
-ghost use Rattle.prog_parts.specs.Expressions.{right_type, join_next};
+ghost use Rattle.prog_pats.specs.of_prog_parts.Expressions.{right_type, join_next};
 ghost use Rattle.prog_leaves.specs.Right.{has_type, is_bool, is_last, is_test, applies, pair_is, operator_is, joined};
 
 use ir_known::ask::{BOOL, is_function, is_named, same_type};

@@ -15,7 +15,7 @@ use Rattle.prog_tree.specs.declared.tree.Pat.{Pat}
 use Rattle.prog_tree.specs.declared.tree.PatField.{PatField}
 use Rattle.prog_tree.specs.declared.tree.PatPart.{PatPart}
 use Rattle.prog_tree.specs.declared.tree.Side.{Side}
-use Rattle.prog_binds.specs.Chains.{first_type}
+use Rattle.prog_parts.specs.of_prog_binds.Chains.{first_type}
 use Rattle.prog_parts.specs.Patterns as parts
 
 module _ (t : Tables) where

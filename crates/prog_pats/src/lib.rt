@@ -1,6 +1,8 @@
 // Whether patterns are well typed.
 #![tactic(auto)]
 
+pub use prog_parts::prog_binds;
+
 pub mod exceptions;
 pub mod heads;
 pub mod pats;

@@ -2,7 +2,7 @@
 use Rattle.std.proofs.Common.{◌≡◌, ℕ, Bool, map, Vec, Box, Global, sym, ap, ◌∙◌}
 use Rattle.mlc_names.specs.declared.label.Label.{Label}
 use Rattle.mlc_base.specs.declared.place.Place.{Place}
-use Rattle.ir_poly.specs.Prog as t
+use Rattle.ir_tables.specs.of_ir_poly.Prog as t
 use Rattle.prog_tree.specs.TreeOf.{Reading, PatFieldTree, PatPartTree, pat_field_of, pat_part_of, fields_of, before, chain_pats, node_pat, node_pat_field, node_pat_part, DecTree, val_tree, RuleTree, tree_of, function_of, dec_of, decs_of, record_of, rules_of, apply_by, joins_by, chain_of, sequence_of, binds_by, funs_by, after_parameters, pat_of, field_of, rule_of, argument_of, join_of, bind_of, fun_of, node_dec, node_exp, node_function, node_rule}
 use Rattle.prog_tree.specs.declared.tree.Side.{Side}
 use Rattle.prog_tree.specs.declared.tree.Join.{Join}

@@ -7,7 +7,7 @@ use Rattle.mlc_names.specs.declared.label.Label.TheVariants.{Number}
 use Rattle.mlc_base.specs.declared.place.Place.{Place}
 use Rattle.ty_core.specs.Types.{Typ}
 use Rattle.ty_core.specs.declared.scheme.Quantified.{Quantified}
-use Rattle.ir_poly.specs.Prog as t
+use Rattle.ir_tables.specs.of_ir_poly.Prog as t
 use Rattle.ir_tables.specs.Tables.{literal_at}
 use Rattle.prog_tree.specs.declared.tree.Exception.{Exception}
 use Rattle.prog_tree.specs.declared.tree.Exception.TheVariants as exception

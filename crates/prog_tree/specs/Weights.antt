@@ -3,7 +3,7 @@ use Rattle.std.specs.Prelude.{ℕ, ◌+◌}
 use Rattle.std.specs.Prelude.{Vec}
 use Rattle.std.specs.Global.{Global}
 use Rattle.mlc_names.specs.declared.label.Label.{Label}
-use Rattle.ir_poly.specs.ProgWeight.{weight, fun_weight, binds_weight, funs_weight}
+use Rattle.ir_tables.specs.of_ir_poly.ProgWeight.{weight, fun_weight, binds_weight, funs_weight}
 use Rattle.prog_tree.specs.TreeOf.{Reading, DecTree, val_tree, exception_tree, counted_tree, tree_of, function_of, rule_of, dec_of}
 use Rattle.prog_tree.specs.declared.tree.Binding.{Binding}
 use Rattle.prog_tree.specs.declared.tree.Dec.{Dec}

@@ -1,6 +1,6 @@
 // How many nodes of the source a tree stands for, or 2^64 - 1 where they are more.
 ghost use Rattle.std.specs.Prelude.{◌≡◌, ◌^◌, ◌-◌, min, sum_by};
-ghost use Rattle.ir_poly.specs.ProgWeight.{decs_weight};
+ghost use Rattle.ir_tables.specs.of_ir_poly.ProgWeight.{decs_weight};
 ghost use Rattle.prog_tree.specs.Readings.{reading};
 ghost use Rattle.prog_tree.specs.TreeOf.{body_of};
 ghost use Rattle.prog_tree.specs.Weights.{exp_weight, field_weight, argument_weight, join_weight, rule_weight, bind_weight, function_weight, member_weight, dec_weight};

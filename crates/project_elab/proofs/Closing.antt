@@ -9,9 +9,9 @@ use Rattle.elab_steps.proofs.Growing.{comes_before, grows_on}
 use Rattle.elab_context.specs.Numbered.{IsNumbered}
 use Rattle.elab_context.specs.declared.context.Context.{Context}
 use Rattle.elab_context.proofs.Reading.{context_later}
-use Rattle.dec_forms.specs.Bringing.{ElaborateWith}
-use Rattle.dec_forms.specs.Decs.{ElaboratesDecs, IsDecs}
-use Rattle.dec_forms.specs.declared.brought.Brought.{Brought}
+use Rattle.run_end.specs.of_dec_forms.Bringing.{ElaborateWith}
+use Rattle.run_end.specs.of_dec_forms.Decs.{ElaboratesDecs, IsDecs}
+use Rattle.run_end.specs.of_dec_forms.declared.brought.Brought.{Brought}
 use Rattle.elab_exps.specs.Decs.{AreDeclared}
 
 module _ (S T U : State) (C D : Context) (ds : List bare.Dec) (g : Grows T U) (e : U.next ≡ T.next) where

@@ -18,10 +18,10 @@ use Rattle.elab_state.specs.declared.state.State.{State}
 use Rattle.elab_steps.specs.Tidy.{AreConstructors}
 use Rattle.elab_worlds.specs.Final.{IsFinal, IsLast, IsOrdered, final_world}
 use Rattle.elab_worlds.proofs.Final.{final-comes, finals-ordered, state-ends}
-use Rattle.final_types.specs.Programs.{IsProgramWith}
+use Rattle.elab_finish.specs.of_final_types.Programs.{IsProgramWith}
 use Rattle.elab_finish.proofs.Ending.{final-end}
-use Rattle.ir_prog.specs.Programs.{body_in, prog_of}
-use Rattle.ir_prog.specs.declared.program.Program.{Program}
+use Rattle.match_pass.specs.of_ir_prog.Programs.{body_in, prog_of}
+use Rattle.match_pass.specs.of_ir_prog.declared.program.Program.{Program}
 use Rattle.match_pass.specs.Typed.{IsWellTyped}
 use Rattle.project_elab.specs.Elaborated.{HasElaborated}
 use Rattle.project_elab.specs.declared.project.Elaborating.{Elaborating}

@@ -14,8 +14,8 @@ use Rattle.elab_context.specs.declared.context.Context.{Context}
 use Rattle.elab_context.specs.declared.entry.Entry.{Entry}
 use Rattle.elab_context.specs.declared.entry.Entry.TheVariants.{Constructor, Reference, Initial, Primitive, Raised, Single, Own, General}
 use Rattle.elab_context.proofs.Reading.{context_later}
-use Rattle.basis_context.specs.Basis.{without_prim}
-use Rattle.dec_forms.specs.Entries.{Adds}
+use Rattle.elab_finish.specs.of_basis_context.Basis.{without_prim}
+use Rattle.run_end.specs.of_dec_forms.Entries.{Adds}
 
 -- declarations add the same
 pub adds_hidden : (C D : Context) (es : List (Vid × Entry)) (ts : List (ℕ × TypeEntry)) → Adds C D es ts → Adds (without_prim C) (without_prim D) es ts

@@ -18,8 +18,8 @@ use Rattle.elab_context.specs.Entries.{last_of}
 use Rattle.elab_context.specs.Telling.{kept_of}
 use Rattle.elab_context.specs.declared.context.Context.{Context}
 use Rattle.elab_context.specs.declared.entry.Entry.{Entry}
-use Rattle.dec_forms.specs.Bringing.{Brings, Effect, past}
-use Rattle.dec_forms.proofs.Wider.{Wider, fit-later, kept-later, known-later}
+use Rattle.run_end.specs.of_dec_forms.Bringing.{Brings, Effect, past}
+use Rattle.run_end.proofs.of_dec_forms.Wider.{Wider, fit-later, kept-later, known-later}
 
 -- so it comes into F's scope, which has D's schemes and names, where B is around
 module _ (D F : Context) (W : World) (A B : Around) (k : ℕ) (es : List (Vid × Entry)) (ts : List (ℕ × TypeEntry)) (m : Effect) (f : Brings D W A k es ts m)

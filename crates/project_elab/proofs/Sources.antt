@@ -17,9 +17,9 @@ use Rattle.elab_state.specs.declared.state.State.{State}
 use Rattle.elab_steps.specs.World.{World, Comes}
 use Rattle.elab_steps.proofs.Growing.{comes_before}
 use Rattle.elab_context.specs.Telling.{Tells}
-use Rattle.dec_forms.specs.declared.brought.Brought.{Brought}
-use Rattle.dec_forms.proofs.Several.{decs-append}
-use Rattle.dec_forms.proofs.Sequencing.{decs-do}
+use Rattle.run_end.specs.of_dec_forms.declared.brought.Brought.{Brought}
+use Rattle.run_end.proofs.of_dec_forms.Several.{decs-append}
+use Rattle.run_end.proofs.of_dec_forms.Sequencing.{decs-do}
 use Rattle.elab_exps.specs.Decs.{StandsIn, AreDeclared}
 use Rattle.project_elab.specs.Standard.{ElaboratesParts, IsStandard}
 use Rattle.project_elab.specs.Elaborated.{HasElaborated}

@@ -20,13 +20,13 @@ use Rattle.elab_steps.specs.World.{World}
 use Rattle.elab_steps.proofs.Growing.{comes_before, grows_on}
 use Rattle.elab_context.specs.Telling.{IsContext, Tells}
 use Rattle.elab_context.specs.declared.context.Context.{Context}
-use Rattle.basis_context.specs.Basis.{without_prim}
-use Rattle.basis_context.specs.Telling.{TellsBasis, TellsPrelude, around_in, prelude_around_in}
-use Rattle.dec_forms.specs.Decs.{all_joined}
-use Rattle.dec_forms.specs.Bringing.{Effect, all_effects, past}
-use Rattle.dec_forms.specs.declared.brought.Brought.{Brought}
-use Rattle.dec_forms.proofs.Effects.{all_choices, effects-do}
-use Rattle.dec_forms.proofs.TellingScope.{tells_past}
+use Rattle.elab_finish.specs.of_basis_context.Basis.{without_prim}
+use Rattle.elab_finish.specs.of_basis_context.Telling.{TellsBasis, TellsPrelude, around_in, prelude_around_in}
+use Rattle.run_end.specs.of_dec_forms.Decs.{all_joined}
+use Rattle.run_end.specs.of_dec_forms.Bringing.{Effect, all_effects, past}
+use Rattle.run_end.specs.of_dec_forms.declared.brought.Brought.{Brought}
+use Rattle.run_end.proofs.of_dec_forms.Effects.{all_choices, effects-do}
+use Rattle.run_end.proofs.of_dec_forms.TellingScope.{tells_past}
 use Rattle.elab_exps.specs.Decs.{AreDeclared}
 use Rattle.project_elab.specs.Standard.{IsStandard}
 use Rattle.project_elab.proofs.Showing.{brings_around}

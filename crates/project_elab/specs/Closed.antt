@@ -4,7 +4,7 @@ use Rattle.sml_tree.specs.BareTree as bare
 use Rattle.elab_state.specs.States.{made}
 use Rattle.elab_state.specs.declared.state.State.{State}
 use Rattle.elab_steps.specs.Growing.{Grows}
-use Rattle.dec_forms.specs.declared.brought.Brought.{Brought}
+use Rattle.run_end.specs.of_dec_forms.declared.brought.Brought.{Brought}
 use Rattle.elab_exps.specs.Decs.{AreDeclared}
 use Rattle.run_end.specs.Chosen.{AreChosen}
 use Rattle.run_end.specs.Settled.{IsSettled}

@@ -5,7 +5,7 @@ use Rattle.core_rules.specs.Project.{Part}
 use Rattle.prog_tree.specs.TreeOf.{dec_of, decs_of}
 use Rattle.elab_steps.specs.Tidy.{AreConstructors}
 use Rattle.elab_steps.specs.World.{World, Comes}
-use Rattle.basis_context.specs.Telling.{HasInitial}
+use Rattle.elab_finish.specs.of_basis_context.Telling.{HasInitial}
 pub use Rattle.elab_exps.specs.Decs.{StandsIn}
 use Rattle.project_elab.specs.Standard.{ElaboratesParts}
 use Rattle.project_elab.specs.declared.project.Elaborating.{Elaborating}

@@ -12,7 +12,7 @@ use Rattle.elab_steps.specs.Growing.{Grows}
 use Rattle.elab_steps.specs.World.{World, Comes}
 use Rattle.elab_context.specs.Telling.{Tells}
 use Rattle.elab_context.specs.declared.context.Context.{Context}
-use Rattle.basis_context.specs.Telling.{HasInitial}
+use Rattle.elab_finish.specs.of_basis_context.Telling.{HasInitial}
 use Rattle.elab_exps.specs.Decs.{StandsIn}
 
 -- parts elaborate from the first variable on, in a world, and the context tells of what is around what follows; the next variable is at most the j-th

@@ -6,13 +6,13 @@ ghost use Rattle.prog_tree.specs.declared.tree.Dec.{Dec as Declared};
 ghost use Rattle.elab_steps.specs.Tidy.{IsTidy};
 ghost use Rattle.project_elab.specs.Standard.{IsStandard};
 
-use basis_context::basis::{hide_prim, prelude_context};
-use dec_forms::brought::Brought;
 use elab_context::context::Context;
 use elab_exps::exps::decs_from;
+use elab_finish::basis_context::basis::{hide_prim, prelude_context};
 use elab_state::state::State;
 use pat_elab::stopped::Stopped;
 use prog_tree::tree::Dec as ProgramDec;
+use run_end::dec_forms::brought::Brought;
 use sml_tree::tree::Dec;
 use std::alloc::Global;
 

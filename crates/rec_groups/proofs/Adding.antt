@@ -27,13 +27,13 @@ use Rattle.elab_steps.specs.World.{World, type_of}
 use Rattle.elab_steps.proofs.Growing.{always_later, comes_before, grows_on, type_later}
 use Rattle.elab_context.specs.Telling.{IsInUse}
 use Rattle.elab_context.specs.declared.context.Context.{Context}
-use Rattle.pat_elab.specs.declared.bound.BoundVariable.{BoundVariable}
-use Rattle.exp_forms.specs.Functions.{ElaboratesFunction, IsFunction}
-use Rattle.exp_forms.specs.Rules.{AreRules}
-use Rattle.exp_forms.specs.declared.functions_made.FunctionMade.{FunctionMade}
-use Rattle.exp_forms.specs.declared.rules_made.RulesMade.{RulesMade}
-use Rattle.exp_forms.proofs.Calling.{written-as}
-use Rattle.exp_forms.proofs.JoiningRules.{choices_of, rules-do}
+use Rattle.dec_forms.specs.of_pat_elab.declared.bound.BoundVariable.{BoundVariable}
+use Rattle.dec_forms.specs.of_exp_forms.Functions.{ElaboratesFunction, IsFunction}
+use Rattle.dec_forms.specs.of_exp_forms.Rules.{AreRules}
+use Rattle.dec_forms.specs.of_exp_forms.declared.functions_made.FunctionMade.{FunctionMade}
+use Rattle.dec_forms.specs.of_exp_forms.declared.rules_made.RulesMade.{RulesMade}
+use Rattle.dec_forms.proofs.of_exp_forms.Calling.{written-as}
+use Rattle.dec_forms.proofs.of_exp_forms.JoiningRules.{choices_of, rules-do}
 use Rattle.rec_groups.specs.Functions.{AreFunctions, AreWritten, EachFunction, ElaborateFunctions, IsWritten, no_function, one_function}
 use Rattle.rec_groups.specs.Heads.{IsAnnotatedHead, IsHeadIn, numbers_of}
 use Rattle.rec_groups.specs.declared.head.Head.{Head}

@@ -11,7 +11,7 @@ use Rattle.elab_typed.specs.Elaborates.{head_wild, head_variable, head_typed, he
 use Rattle.elab_state.specs.declared.state.State.{State}
 use Rattle.elab_steps.proofs.Growing.{comes_before, grows_on, grows_same}
 use Rattle.elab_context.specs.declared.context.Context.{Context}
-use Rattle.pat_elab.specs.Elaborated.{IsAnnotated, IsAnnotatedIf}
+use Rattle.dec_forms.specs.of_pat_elab.Elaborated.{IsAnnotated, IsAnnotatedIf}
 use Rattle.rec_groups.specs.Heads.{IsAnnotatedHead, IsHeadIn, is_head}
 
 -- what has no types

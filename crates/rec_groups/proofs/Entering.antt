@@ -13,10 +13,10 @@ use Rattle.elab_context.specs.Telling.{IsContext, IsHeld}
 use Rattle.elab_context.specs.declared.context.Context.{Context}
 use Rattle.elab_context.specs.declared.entry.Entry.{Entry}
 use Rattle.elab_context.specs.declared.entry.Entry.TheVariants.{Own}
-use Rattle.pat_elab.specs.Elaborated.{AreVariables}
-use Rattle.pat_elab.specs.declared.bound.BoundVariable.{BoundVariable}
-use Rattle.exp_forms.proofs.Entering.{context_with}
-use Rattle.exp_forms.proofs.Within.{with-snoc}
+use Rattle.dec_forms.specs.of_pat_elab.Elaborated.{AreVariables}
+use Rattle.dec_forms.specs.of_pat_elab.declared.bound.BoundVariable.{BoundVariable}
+use Rattle.dec_forms.proofs.of_exp_forms.Entering.{context_with}
+use Rattle.dec_forms.proofs.of_exp_forms.Within.{with-snoc}
 use Rattle.dec_forms.specs.Telling.{with_all}
 use Rattle.rec_groups.specs.Heads.{own_entries, rising, with_own}
 use Rattle.rec_groups.specs.declared.head.Head.{Head}
@@ -72,7 +72,7 @@ each-own P (b ∷ bs) h = (h.0, each-own P bs h.1)
 pub context_own : (S : State) (C D : Context) (hs : List Head) → D ≡ with_own C (reverse hs) → IsContext S C → AllByRecursion (λ h. AreVariables S h.variables.items) hs → IsContext S D
 context_own S C D hs q i h =
     let vars = rising (reverse hs) in
-    let all : AreVariables S vars = rising-all (Rattle.pat_elab.specs.Elaborated.HasVariable S) (reverse hs) (all-reversed (λ h. AreVariables S h.variables.items) hs h) in
+    let all : AreVariables S vars = rising-all (Rattle.dec_forms.specs.of_pat_elab.Elaborated.HasVariable S) (reverse hs) (all-reversed (λ h. AreVariables S h.variables.items) hs h) in
     context_with S C D (own_entries vars) i (each-own (IsHeld S C) vars (held vars all)) (each-own (IsBelowIf S.next) vars (below vars all)) q
   where
     held : (bs : List BoundVariable) → AreVariables S bs → AllByRecursion (λ b. IsHeld S C (Own b.ty b.number)) bs

@@ -17,10 +17,10 @@ use Rattle.elab_steps.specs.Growing.{Always, Grows, HasType, IsWithin}
 use Rattle.elab_steps.proofs.Growing.{always_later, grows_on, grows_same, type_later}
 use Rattle.elab_context.specs.Entries.{limit_of}
 use Rattle.elab_context.specs.declared.context.Context.{Context}
-use Rattle.pat_elab.specs.Elaborated.{HasVariable, scope_onto}
-use Rattle.pat_elab.specs.declared.bound.BoundVariable.{BoundVariable}
-use Rattle.pat_elab.proofs.Forms.{all-later}
-use Rattle.exp_forms.specs.Rules.{vids_of}
+use Rattle.dec_forms.specs.of_pat_elab.Elaborated.{HasVariable, scope_onto}
+use Rattle.dec_forms.specs.of_pat_elab.declared.bound.BoundVariable.{BoundVariable}
+use Rattle.dec_forms.proofs.of_pat_elab.Forms.{all-later}
+use Rattle.dec_forms.specs.of_exp_forms.Rules.{vids_of}
 use Rattle.dec_forms.proofs.Listed.{all-append}
 use Rattle.rec_groups.specs.Heads.{IsReserved, IsTaken, Reserves, numbers_of}
 use Rattle.rec_groups.specs.declared.head.Head.{Head}

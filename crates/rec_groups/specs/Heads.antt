@@ -19,9 +19,9 @@ use Rattle.elab_context.specs.Telling.{Tells}
 use Rattle.elab_context.specs.declared.context.Context.{Context}
 use Rattle.elab_context.specs.declared.entry.Entry.{Entry}
 use Rattle.elab_context.specs.declared.entry.Entry.TheVariants.{Own}
-use Rattle.pat_elab.specs.Elaborated.{AreVariables, scope_onto}
-use Rattle.pat_elab.specs.declared.bound.BoundVariable.{BoundVariable}
-use Rattle.exp_forms.specs.Rules.{vids_of}
+use Rattle.dec_forms.specs.of_pat_elab.Elaborated.{AreVariables, scope_onto}
+use Rattle.dec_forms.specs.of_pat_elab.declared.bound.BoundVariable.{BoundVariable}
+use Rattle.dec_forms.specs.of_exp_forms.Rules.{vids_of}
 use Rattle.dec_forms.specs.Telling.{with_all}
 use Rattle.rec_groups.specs.declared.head.Head.{Head}
 

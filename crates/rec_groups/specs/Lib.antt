@@ -1,2 +1,6 @@
+pub use Rattle.dec_forms.specs as of_dec_forms
+pub use Rattle.dec_forms.specs.of_exp_forms as of_exp_forms
+pub use Rattle.dec_forms.specs.of_pat_elab as of_pat_elab
+pub use Rattle.dec_forms.specs.of_use_elab as of_use_elab
 pub mod Functions
 pub mod Heads

@@ -3,14 +3,14 @@ ghost use Rattle.std.specs.Prelude.{◌≡◌, IfOk};
 ghost use Rattle.sml_tree.specs.TreeOf.{pat_of, some_ty_of};
 ghost use Rattle.elab_context.specs.Telling.{IsContext};
 ghost use Rattle.elab_steps.specs.Growing.{HasType};
-ghost use Rattle.pat_elab.specs.Elaborated.{IsAnnotatedIf};
+ghost use Rattle.dec_forms.specs.of_pat_elab.Elaborated.{IsAnnotatedIf};
 ghost use Rattle.rec_groups.specs.Heads.{IsAnnotatedHead};
 
+use dec_forms::pat_elab::annotate::annotate;
 use elab_context::context::Context;
 use elab_state::state::State;
 use elab_types::refused::Refused;
 use mlc_base::place::Place;
-use pat_elab::annotate::annotate;
 use sml_tree::tree::{Pat, Ty};
 use std::alloc::Global;
 

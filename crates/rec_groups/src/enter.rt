@@ -5,14 +5,14 @@ ghost use Rattle.vid_scope.specs.Entries.{mark_of};
 ghost use Rattle.elab_context.specs.Telling.{IsContext};
 ghost use Rattle.elab_state.specs.declared.state.State.{State as StateOf};
 ghost use Rattle.dec_forms.specs.Telling.{with_all};
-ghost use Rattle.pat_elab.specs.Elaborated.{AreVariables};
+ghost use Rattle.dec_forms.specs.of_pat_elab.Elaborated.{AreVariables};
 ghost use Rattle.rec_groups.specs.Heads.{own_entries, with_own};
 
 use crate::head::Head;
+use dec_forms::pat_elab::bound::BoundVariable;
 use elab_context::context::Context;
 use elab_context::entry::Entry;
 use mlc_base::memory::NoMemory;
-use pat_elab::bound::BoundVariable;
 use vid_scope::vids::VidMark;
 
 /// The variables of a head.

@@ -6,25 +6,25 @@ ghost use Rattle.sml_tree.specs.TreeOf.{RuleOf, rules_of};
 ghost use Rattle.elab_context.specs.Telling.{IsContext};
 ghost use Rattle.elab_state.specs.declared.state.State.{State as StateOf};
 ghost use Rattle.elab_steps.specs.Growing.{Grows, HasType};
-ghost use Rattle.exp_forms.specs.Functions.{IsFunction};
-ghost use Rattle.exp_forms.specs.Rules.{AreRules};
+ghost use Rattle.dec_forms.specs.of_exp_forms.Functions.{IsFunction};
+ghost use Rattle.dec_forms.specs.of_exp_forms.Rules.{AreRules};
 ghost use Rattle.rec_groups.specs.Functions.{AreFunctions};
 ghost use Rattle.rec_groups.specs.Heads.{IsAnnotatedHead, numbers_of};
 
 use crate::head::Head;
+use dec_forms::exp_forms::functions_made::FunctionMade;
+use dec_forms::exp_forms::rules_made::RulesMade;
+use dec_forms::pat_elab::bound::BoundVariable;
+use dec_forms::use_elab::given::functions;
 use elab_context::context::Context;
 use elab_state::state::State;
 use elab_steps::step::{unify, write};
 use elab_types::refused::Refused;
-use exp_forms::functions_made::FunctionMade;
-use exp_forms::rules_made::RulesMade;
 use mlc_base::memory::NoMemory;
 use mlc_base::place::Place;
-use pat_elab::bound::BoundVariable;
 use prog_tree::tree::Function;
 use sml_tree::ident::Vid;
 use std::alloc::Global;
-use use_elab::given::functions;
 
 /// The function that goes by rules.
 pub fn by_rules(

@@ -9,13 +9,13 @@ ghost use Rattle.elab_steps.specs.Growing.{HasType};
 ghost use Rattle.rec_groups.specs.Heads.{IsReserved, IsTaken, Reserves};
 
 use crate::head::Head;
+use dec_forms::pat_elab::bound::BoundVariable;
 use elab_context::context::Context;
 use elab_context::entry::is_kept;
 use elab_state::state::State;
 use elab_steps::step::{fresh_type, next_variable};
 use elab_types::refused::Refused;
 use mlc_base::place::Place;
-use pat_elab::bound::BoundVariable;
 use sml_tree::ident::{LongVid, Vid};
 use sml_tree::tree::Pat;
 use std::alloc::Global;

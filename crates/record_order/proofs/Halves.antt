@@ -7,9 +7,9 @@ use Rattle.mlc_names.specs.declared.label.Label.TheVariants.{Number, Word}
 use Rattle.ty_core.specs.Types.{Typ, con, labels}
 use Rattle.ty_table.specs.TypeAt.{type_at, types_at}
 use Rattle.ir_values.specs.Values.{same_label}
-use Rattle.ir_poly.specs.Types.{label_before, ascend, labels_in}
-use Rattle.prog_check.specs.Deciding.{row_in, on_row}
-use Rattle.prog_check.proofs.SameLemmas.{label-same, same-label}
+use Rattle.ir_uses.specs.of_ir_poly.Types.{label_before, ascend, labels_in}
+use Rattle.ir_uses.specs.of_prog_check.Deciding.{row_in, on_row}
+use Rattle.ir_uses.proofs.of_prog_check.SameLemmas.{label-same, same-label}
 use Rattle.ir_uses.proofs.Records.{row-some}
 use Rattle.record_order.specs.Order.{is_ordered}
 

@@ -1,8 +1,8 @@
 -- Which record types have labels that ascend.
 use Rattle.std.specs.Prelude.{◌≡◌, Bool, List, map}
 use Rattle.ty_core.specs.Types.{Typ}
-use Rattle.ir_poly.specs.Types.{ascend, labels_in}
-use Rattle.prog_check.specs.Deciding.{row_in, on_row}
+use Rattle.ir_uses.specs.of_ir_poly.Types.{ascend, labels_in}
+use Rattle.ir_uses.specs.of_prog_check.Deciding.{row_in, on_row}
 use Rattle.record_order.specs.declared.orders.Orders.{Orders}
 
 -- the type is that of records whose labels ascend

@@ -4,8 +4,8 @@ ghost use Rattle.std.specs.Option.{option_map, option_and_then};
 ghost use Rattle.std.specs.Map.{lookup};
 ghost use Rattle.ty_table.specs.TypeAt.{type_at};
 ghost use Rattle.ir_values.specs.Values.{same_label};
-ghost use Rattle.ir_poly.specs.Types.{ascend, label_before};
-ghost use Rattle.prog_check.specs.Deciding.{row_in};
+ghost use Rattle.ir_uses.specs.of_ir_poly.Types.{ascend, label_before};
+ghost use Rattle.ir_uses.specs.of_prog_check.Deciding.{row_in};
 ghost use Rattle.record_order.specs.Order.{is_ordered};
 
 use ir_uses::parts::record_parts;

@@ -5,12 +5,12 @@ ghost use Rattle.std.specs.Map.{lookup};
 ghost use Rattle.ty_core.specs.Types.{Typ};
 ghost use Rattle.ty_table.specs.TypeAt.{type_at};
 ghost use Rattle.ir_values.specs.Values.{same_label};
-ghost use Rattle.prog_check.specs.Deciding.{row_in};
+ghost use Rattle.ir_uses.specs.of_prog_check.Deciding.{row_in};
 ghost use Rattle.ir_uses.specs.Fields.{HasField};
 ghost use Rattle.record_order.specs.Order.{is_ordered, AreOrders};
 
 use crate::fields::{field_of, has_order};
-use ir_known::ask::same_type;
+use ir_uses::ir_known::ask::same_type;
 use mlc_base::memory::NoMemory;
 use mlc_names::label::Label;
 use std::alloc::Global;

@@ -24,7 +24,7 @@ use Rattle.elab_context.specs.Numbered.{IsBelowIf, IsNumbered}
 use Rattle.elab_context.specs.Telling.{IsContext, IsFit, IsHeld, Tells, denotes_of, kept_of}
 use Rattle.elab_context.specs.declared.context.Context.{Context}
 use Rattle.elab_context.specs.declared.entry.Entry.{Entry}
-use Rattle.exp_forms.proofs.Entering.{context_with}
+use Rattle.dec_forms.proofs.of_exp_forms.Entering.{context_with}
 use Rattle.dec_forms.specs.Bringing.{Brings, Effect, IsBringing, past}
 use Rattle.dec_forms.specs.Telling.{with_all}
 use Rattle.dec_forms.specs.declared.brought.Brought.{Brought}

@@ -34,7 +34,7 @@ use Rattle.elab_context.specs.declared.entry.Built.TheVariants.{Ref, Declared}
 use Rattle.elab_context.specs.declared.entry.Entry.{Entry}
 use Rattle.elab_context.specs.declared.entry.Scheme.{Scheme}
 use Rattle.elab_context.proofs.Contents.{has_constructors_still}
-use Rattle.exp_forms.proofs.Entering.{context_with, number-known}
+use Rattle.dec_forms.proofs.of_exp_forms.Entering.{context_with, number-known}
 use Rattle.dec_forms.specs.Bringing.{Brings, Effect, ElaboratesWith, IsBringing, past}
 use Rattle.dec_forms.specs.Entries.{Adds, last_at, with_types}
 use Rattle.dec_forms.specs.Telling.{with_all}

@@ -9,7 +9,7 @@ use Rattle.ir_tables.specs.declared.tables.Tables.{Tables}
 use Rattle.ir_tables.specs.declared.tables.Constant.{Constant}
 use Rattle.ir_tables.specs.Tables.{literal_at, strings_of}
 use Rattle.ir_known.specs.declared.known.Known.TheVariants.{OfType}
-use Rattle.ir_uses.specs.Fields.{IsSized}
+use Rattle.record_order.specs.of_ir_uses.Fields.{IsSized}
 use Rattle.plain_tree.specs.declared.tree.Parameter.{Parameter}
 use Rattle.plain_tree.specs.declared.tree.Case.{Case}
 use Rattle.plain_tree.specs.declared.tree.Case.TheVariants as case

@@ -20,7 +20,7 @@ use Rattle.plain_tree.specs.declared.tree.Field.{Field}
 use Rattle.plain_tree.specs.declared.tree.Operation.{Operation}
 use Rattle.plain_tree.specs.declared.tree.Operation.TheVariants as op
 use Rattle.plain_tree.specs.TreeOf.{atoms_of, row_of, operation_of}
-use Rattle.ir_uses.specs.Fields.{field_types}
+use Rattle.record_order.specs.of_ir_uses.Fields.{field_types}
 use Rattle.tests_check.specs.Fits.{AtomFits, AtomsFit, ExceptionFits, RowFits, OpFits, UseFits}
 use Rattle.tests_check.specs.Reads.{reading}
 use Rattle.tests_check.specs.Walk.{Names, all, local, table_of}

@@ -10,7 +10,7 @@ use Rattle.ty_core.specs.declared.scheme.Quantified.{Quantified}
 use Rattle.ir_values.specs.Values.{same_label}
 use Rattle.ir_plain.specs.Tree.{Case, is_literal, is_con, is_con_of, is_exn, is_exn_of, is_record, Atoms, no_atoms, an_atom, Row, no_row, a_row, Exp, ret, let_in, exception_in, name_in, rec_in, switch, first, miss, counted, Arms, no_arms, arm, Op, use_of, const, con_alone, construct, ref_alone, refer, content, pack, make_record, select, prim_alone, prim, app, fn, block, handle, raise, raise_initial, Fun, last, more, Funs, no_funs, fun}
 use Rattle.ir_poly.specs.Tests.{Use, inst, poly}
-pub use Rattle.ir_uses.specs.Uses.{UseFits, ArgumentFits}
+pub use Rattle.record_order.specs.of_ir_uses.Uses.{UseFits, ArgumentFits}
 use Rattle.ir_poly.specs.Types.{function_type, ref_type, row_type, labels_in, ascend, admits_in, over, all_over, are_new, changed, AreAllowed, Constructor, prim_type, arguments_at, result_at, tuple_type}
 use Rattle.ir_poly.specs.TestsChecked.{Known, of_type, general, own, exception, Knowns, at, exn_type, HasLiteral, value_type, alone_type, group_knowns, may_generalise, declared, NameChecked, is_size, HasConstructor}
 

@@ -14,11 +14,11 @@ use ir_known::ask::same_type;
 use ir_known::scope::Scope;
 use ir_known::stack::Stack;
 use ir_tables::tables::Tables;
-use ir_uses::constructor::has_constructor;
-use ir_uses::literal::has_literal;
-use ir_uses::record::is_sized_record;
 use mlc_base::memory::NoMemory;
 use plain_tree::tree::{Case, Parameter};
+use record_order::ir_uses::constructor::has_constructor;
+use record_order::ir_uses::literal::has_literal;
+use record_order::ir_uses::record::is_sized_record;
 use std::alloc::Global;
 use ty_core::mark::Mark;
 

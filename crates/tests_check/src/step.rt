@@ -18,11 +18,11 @@ use ir_known::known::Known;
 use ir_known::scope::Scope;
 use ir_known::stack::Stack;
 use ir_tables::tables::Tables;
-use ir_uses::exception::is_initial;
-use ir_uses::using::is_option_over;
 use mlc_base::memory::NoMemory;
 use plain_tree::tree::{Binding, Exception, Operation};
 use record_order::facts::Facts;
+use record_order::ir_uses::exception::is_initial;
+use record_order::ir_uses::using::is_option_over;
 use std::alloc::Global;
 use ty_core::mark::Mark;
 

@@ -1,3 +1,4 @@
+pub use Rattle.ty_solve.proofs as of_ty_solve
 pub mod Going
 pub mod Putting
 pub mod Ending

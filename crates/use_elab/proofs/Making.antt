@@ -15,15 +15,15 @@ use Rattle.ty_solve.specs.declared.subst.Slot.TheVariants.{Open}
 use Rattle.ty_solve.specs.declared.subst.Subst.{Subst}
 use Rattle.core_rules.specs.Objects.{AllAllowed, AllOver}
 use Rattle.ir_poly.specs.Types.{nth_type, all_over}
-use Rattle.elab_state.specs.States.{types_in, said_in, dead_level}
-use Rattle.elab_state.specs.Namings.{IsAmong}
-use Rattle.elab_state.specs.declared.state.State.{State}
-use Rattle.elab_typed.specs.Numbers.{type_as}
-use Rattle.elab_steps.specs.Growing.{HasType, AreTypes, Begins, Grows, Always}
-use Rattle.elab_steps.specs.Instances.{IsInstance}
-use Rattle.elab_steps.specs.World.{World, type_of}
-use Rattle.elab_steps.proofs.Growing.{grows_same, grows_on, type_later, comes_before}
-use Rattle.elab_steps.proofs.Changing.{Freshened, freshened_within}
+use Rattle.elab_context.specs.of_elab_state.States.{types_in, said_in, dead_level}
+use Rattle.elab_context.specs.of_elab_state.Namings.{IsAmong}
+use Rattle.elab_context.specs.of_elab_state.declared.state.State.{State}
+use Rattle.elab_context.specs.of_elab_typed.Numbers.{type_as}
+use Rattle.elab_context.specs.of_elab_steps.Growing.{HasType, AreTypes, Begins, Grows, Always}
+use Rattle.elab_context.specs.of_elab_steps.Instances.{IsInstance}
+use Rattle.elab_context.specs.of_elab_steps.World.{World, type_of}
+use Rattle.elab_context.proofs.of_elab_steps.Growing.{grows_same, grows_on, type_later, comes_before}
+use Rattle.elab_context.proofs.of_elab_steps.Changing.{Freshened, freshened_within}
 use Rattle.use_elab.specs.Fresh.{IsFresh, AreFresh, images_of}
 
 -- types stay types

@@ -13,9 +13,9 @@ use Rattle.ty_basis.specs.Types.{name_count, function_type}
 use Rattle.ty_basis.specs.Primitives.{primitive_type}
 use Rattle.core_rules.specs.Objects.{Over, AllOver, SymbolOver}
 use Rattle.ir_poly.specs.Types.{tuple_type, arguments_at, result_at}
-use Rattle.elab_typed.specs.Numbers.{type_as, types_as, KeepsInitial}
-use Rattle.elab_typed.proofs.Names.{replace-as, admits-as, of_name-kept, type-agrees}
-use Rattle.elab_steps.proofs.Growing.{over-up}
+use Rattle.elab_context.specs.of_elab_typed.Numbers.{type_as, types_as, KeepsInitial}
+use Rattle.elab_context.proofs.of_elab_typed.Names.{replace-as, admits-as, of_name-kept, type-agrees}
+use Rattle.elab_context.proofs.of_elab_steps.Growing.{over-up}
 
 -- type names of a type, by a test
 

@@ -12,15 +12,15 @@ use Rattle.ty_solve.specs.declared.limit.Limit.{Limit}
 use Rattle.ty_instance.specs.Images.{image_at}
 use Rattle.ty_instance.specs.Put.{put_for}
 use Rattle.ir_poly.specs.Types.{in_scope, nth_type, changed}
-use Rattle.elab_state.specs.States.{types_in, made, limit_in, dead_level}
-use Rattle.elab_state.specs.declared.state.State.{State}
-use Rattle.elab_state.proofs.Typed.{in-below}
-use Rattle.elab_steps.specs.Growing.{HasGeneral, HasType, AreTypes, Always}
-use Rattle.elab_steps.specs.Tidy.{IsLive}
-use Rattle.elab_steps.specs.World.{World, type_of, Comes}
-use Rattle.elab_steps.proofs.Growing.{comes_before}
-use Rattle.elab_steps.proofs.Changing.{Tabled, tabled_grows}
-use Rattle.elab_steps.proofs.Keeping.{replaced-in}
+use Rattle.elab_context.specs.of_elab_state.States.{types_in, made, limit_in, dead_level}
+use Rattle.elab_context.specs.of_elab_state.declared.state.State.{State}
+use Rattle.elab_context.proofs.of_elab_state.Typed.{in-below}
+use Rattle.elab_context.specs.of_elab_steps.Growing.{HasGeneral, HasType, AreTypes, Always}
+use Rattle.elab_context.specs.of_elab_steps.Tidy.{IsLive}
+use Rattle.elab_context.specs.of_elab_steps.World.{World, type_of, Comes}
+use Rattle.elab_context.proofs.of_elab_steps.Growing.{comes_before}
+use Rattle.elab_context.proofs.of_elab_steps.Changing.{Tabled, tabled_grows}
+use Rattle.elab_context.proofs.of_elab_steps.Keeping.{replaced-in}
 use Rattle.use_elab.specs.Fresh.{images_of}
 
 -- a type of an earlier state, in a world

@@ -35,16 +35,16 @@ use Rattle.prog_tree.specs.TreeOf.{tree_of, atom_of, use_of}
 use Rattle.prog_tree.specs.declared.tree.Exception.TheVariants as tree_exception
 use Rattle.prog_tree.specs.declared.tree.Atom.TheVariants as atom
 use Rattle.prog_tree.specs.declared.tree.Used.TheVariants as used
-use Rattle.elab_typed.specs.Numbers.{name_as, type_as}
-use Rattle.elab_typed.specs.Contexts.{Kept, given, general, single, raised, Around}
-use Rattle.elab_typed.specs.Elaborates.{vid_elab}
-use Rattle.elab_typed.specs.Instances.{as_typed, IsGivenAt, IsInstanceAt, ConHas, UseElab, use_general, use_plain, use_single, use_own, use_constructor, use_reference, use_exception, use_given_exception, use_primitive}
-use Rattle.elab_typed.proofs.Names.{typs_of-as, over-as, args-over}
-use Rattle.elab_typed.proofs.Under.{over-under}
-use Rattle.elab_state.specs.declared.state.State.{State}
-use Rattle.elab_steps.specs.Growing.{HasType, Grows, Always, IsWithin}
-use Rattle.elab_steps.specs.World.{World, type_of, Comes}
-use Rattle.elab_steps.proofs.Growing.{grows_on, type_later, comes_before}
+use Rattle.elab_context.specs.of_elab_typed.Numbers.{name_as, type_as}
+use Rattle.elab_context.specs.of_elab_typed.Contexts.{Kept, given, general, single, raised, Around}
+use Rattle.elab_context.specs.of_elab_typed.Elaborates.{vid_elab}
+use Rattle.elab_context.specs.of_elab_typed.Instances.{as_typed, IsGivenAt, IsInstanceAt, ConHas, UseElab, use_general, use_plain, use_single, use_own, use_constructor, use_reference, use_exception, use_given_exception, use_primitive}
+use Rattle.elab_context.proofs.of_elab_typed.Names.{typs_of-as, over-as, args-over}
+use Rattle.elab_context.proofs.of_elab_typed.Under.{over-under}
+use Rattle.elab_context.specs.of_elab_state.declared.state.State.{State}
+use Rattle.elab_context.specs.of_elab_steps.Growing.{HasType, Grows, Always, IsWithin}
+use Rattle.elab_context.specs.of_elab_steps.World.{World, type_of, Comes}
+use Rattle.elab_context.proofs.of_elab_steps.Growing.{grows_on, type_later, comes_before}
 use Rattle.use_elab.specs.Fresh.{IsFresh, AreFresh, images_of}
 use Rattle.use_elab.proofs.Making.{fresh_instance}
 use Rattle.elab_context.specs.Entries.{entry_in, limit_of, number_in}
@@ -267,7 +267,7 @@ scheme-closed S C W s i c lt =
     (subst (λ t. is_below (length h.0.marks.items) t ≡ true) (sym (c.types h.0.body k.held)) k.closed)
 
 pub at_fresh_is : (S P T : State) (C : Context) (s : ℕ) (k : code.Scheme) (ms : List Mark) (l : Limit) (r : Instance) → slice_get C.schemes.items s ≡ Some k → ms ≡ k.marks.items
-    → l ≡ limit_of C → Grows S P → Rattle.elab_steps.specs.Growing.AreTypes P r.images.items → Always P (λ W. AreFresh W l ms r.images.items) → P.next ≡ S.next
+    → l ≡ limit_of C → Grows S P → Rattle.elab_context.specs.of_elab_steps.Growing.AreTypes P r.images.items → Always P (λ W. AreFresh W l ms r.images.items) → P.next ≡ S.next
     → Grows P T → HasType T r.ty → Always T (λ W. type_of W r.ty ≡ replace (nth_type (images_of W r.images.items)) (W.raw k.body)) → T.next ≡ P.next → IsAtFresh S C s T r
 at_fresh_is S P T C s k ms l r e em el g are fresh n g' h has n' = record {
   grows = grows_on S P T g g';
@@ -297,7 +297,7 @@ alone-as : (num : ℕ → ℕ) (us : List Typ) (k : ℕ) (o : Option Typ) (y : T
     → type_as num (replace (nth_type us) b) ≡ alone_type (argument_at (map (type_as num) us) (option_map (type_as num) o)) (con (name (name_as num y)) (typs_of (map (type_as num) us)))
 alone-as num us k o y b e h =
     ap (λ z. type_as num (replace (nth_type us) z)) h ∙ alone-replaced num (nth_type us) o (con (name y) (variables 0 k))
-    ∙ ap₂ alone_type (sym (argument-as num us o)) (ap (con (name (name_as num y))) (ap (Rattle.elab_typed.specs.Numbers.types_as num) (images-are us k e) ∙ typs_of-as num us))
+    ∙ ap₂ alone_type (sym (argument-as num us o)) (ap (con (name (name_as num y))) (ap (Rattle.elab_context.specs.of_elab_typed.Numbers.types_as num) (images-are us k e) ∙ typs_of-as num us))
 
 pub constructor_is : (S P M T : State) (C : Context) (place : Place) (x : LongVid) (s n : ℕ) (y z : TyName) (at : Instance) (ts : List ℕ) (r : TypedExp) → IsContext S C
     → entry_in C x.qualifiers x.vid ≡ Some (Constructor s n y) → s < length C.schemes.items → IsAtFresh S C s P at → Grows P M
@@ -486,7 +486,7 @@ all-marks P [] h = tt
 all-marks P (q ∷ qs) h = (h.0, all-marks P qs h.1)
 
 pub at_new_is : (S P T : State) (C : Context) (l k : ℕ) (qs : List Quantified) (ms : List Mark) (z : Limit) (r : Instance) → HasList S l → qs ≡ parameters_at (parameters_of S.tables) l
-    → ms ≡ map (λ q. q.mark) qs → z ≡ limit_of C → Grows S P → Rattle.elab_steps.specs.Growing.AreTypes P r.images.items → Always P (λ W. AreFresh W z ms r.images.items)
+    → ms ≡ map (λ q. q.mark) qs → z ≡ limit_of C → Grows S P → Rattle.elab_context.specs.of_elab_steps.Growing.AreTypes P r.images.items → Always P (λ W. AreFresh W z ms r.images.items)
     → P.next ≡ S.next → Grows P T → HasType T r.ty → Always T (λ W. type_of W r.ty ≡ sub (changed qs (images_of W r.images.items) W.value) (W.raw k)) → T.next ≡ P.next
     → IsAtNew S C l k T r
 at_new_is S P T C l k qs ms z r list eq em ez g are fresh n g' is has n' = record {

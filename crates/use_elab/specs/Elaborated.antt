@@ -10,11 +10,11 @@ use Rattle.ir_poly.specs.Prog as prog
 use Rattle.ty_solve.specs.Substitution.{sub}
 use Rattle.ir_poly.specs.Types.{over, nth_type, changed}
 use Rattle.prog_tree.specs.TreeOf.{tree_of}
-use Rattle.elab_typed.specs.Contexts.{Around}
-use Rattle.elab_typed.specs.Elaborates.{ExpElab}
-use Rattle.elab_state.specs.declared.state.State.{State}
-use Rattle.elab_steps.specs.Growing.{HasType, AreTypes, Grows, Always}
-use Rattle.elab_steps.specs.World.{World, type_of, Comes}
+use Rattle.elab_context.specs.of_elab_typed.Contexts.{Around}
+use Rattle.elab_context.specs.of_elab_typed.Elaborates.{ExpElab}
+use Rattle.elab_context.specs.of_elab_state.declared.state.State.{State}
+use Rattle.elab_context.specs.of_elab_steps.Growing.{HasType, AreTypes, Grows, Always}
+use Rattle.elab_context.specs.of_elab_steps.World.{World, type_of, Comes}
 use Rattle.use_elab.specs.Fresh.{AreFresh, images_of}
 use Rattle.elab_context.specs.Entries.{limit_of}
 use Rattle.elab_context.specs.Telling.{Tells, scheme_at}

@@ -4,8 +4,8 @@ use Rattle.ty_core.specs.Types.{Typ}
 use Rattle.ty_core.specs.Marks.{Allows}
 use Rattle.ty_core.specs.declared.mark.Mark.{Mark}
 use Rattle.ty_solve.specs.declared.limit.Limit.{Limit}
-use Rattle.elab_steps.specs.Growing.{IsWithin}
-use Rattle.elab_steps.specs.World.{World, type_of}
+use Rattle.elab_context.specs.of_elab_steps.Growing.{IsWithin}
+use Rattle.elab_context.specs.of_elab_steps.World.{World, type_of}
 
 -- a type such as the mark asks for, that reaches no further than the limit
 pub record IsFresh (W : World) (limit : Limit) (mark : Mark) (k : ℕ) : Type 0 where

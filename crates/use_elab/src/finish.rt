@@ -1,16 +1,16 @@
 // Nodes of the program's tree, with the types that they write.
 ghost use Rattle.std.specs.Prelude.{◌≡◌, length, IfOk};
 ghost use Rattle.prog_tree.specs.TreeOf.{atom_of, tree_of, use_of};
-ghost use Rattle.elab_typed.specs.Numbers.{type_as};
-ghost use Rattle.elab_state.specs.States.{types_in};
-ghost use Rattle.elab_steps.specs.Growing.{HasType, Always, Grows};
-ghost use Rattle.elab_steps.specs.World.{type_of};
+ghost use Rattle.elab_context.specs.of_elab_typed.Numbers.{type_as};
+ghost use Rattle.elab_context.specs.of_elab_state.States.{types_in};
+ghost use Rattle.elab_context.specs.of_elab_steps.Growing.{HasType, Always, Grows};
+ghost use Rattle.elab_context.specs.of_elab_steps.World.{type_of};
 ghost use Rattle.elab_context.specs.Telling.{IsContext};
 
 use crate::typed::TypedExp;
 use elab_context::context::Context;
-use elab_state::state::State;
-use elab_steps::step::write;
+use elab_context::elab_state::state::State;
+use elab_context::elab_steps::step::write;
 use mlc_base::memory::NoMemory;
 use prog_tree::tree::{Atom, Exp, Used};
 

@@ -2,11 +2,11 @@
 ghost use Rattle.std.specs.Prelude.{◌≡◌, ◌<◌, ◌≤◌, true, length, IfOk};
 ghost use Rattle.std.specs.List.{AllByRecursion};
 ghost use Rattle.ty_core.specs.Marks.{is_inhabited};
-ghost use Rattle.elab_state.specs.States.{dead_level};
-ghost use Rattle.elab_steps.specs.Growing.{HasType, Always, AreTypes, Grows};
+ghost use Rattle.elab_context.specs.of_elab_state.States.{dead_level};
+ghost use Rattle.elab_context.specs.of_elab_steps.Growing.{HasType, Always, AreTypes, Grows};
 ghost use Rattle.use_elab.specs.Fresh.{AreFresh, IsFresh};
 
-use elab_state::state::State;
+use elab_context::elab_state::state::State;
 use mlc_base::memory::NoMemory;
 use std::alloc::Global;
 use ty_core::mark::Mark;

@@ -7,12 +7,12 @@ ghost use Rattle.ty_solve.specs.Substitution.{is_below, sub};
 ghost use Rattle.ty_instance.specs.Images.{image_at};
 ghost use Rattle.ty_instance.specs.Put.{put_for};
 ghost use Rattle.ir_poly.specs.Types.{changed, nth_type};
-ghost use Rattle.elab_state.specs.States.{types_in};
-ghost use Rattle.elab_steps.specs.Growing.{HasGeneral, HasType, Always, AreTypes, Grows};
-ghost use Rattle.elab_steps.specs.World.{type_of};
+ghost use Rattle.elab_context.specs.of_elab_state.States.{types_in};
+ghost use Rattle.elab_context.specs.of_elab_steps.Growing.{HasGeneral, HasType, Always, AreTypes, Grows};
+ghost use Rattle.elab_context.specs.of_elab_steps.World.{type_of};
 ghost use Rattle.use_elab.specs.Fresh.{images_of};
 
-use elab_state::state::State;
+use elab_context::elab_state::state::State;
 use mlc_base::memory::NoMemory;
 use std::alloc::Global;
 use ty_core::scheme::Quantified;

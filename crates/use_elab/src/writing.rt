@@ -1,12 +1,12 @@
 // Types written one after the other.
 ghost use Rattle.std.specs.Prelude.{◌≡◌, map, length, IfOk};
-ghost use Rattle.elab_typed.specs.Numbers.{type_as};
-ghost use Rattle.elab_state.specs.Namings.{IsAmong};
-ghost use Rattle.elab_steps.specs.Growing.{Always, AreTypes, Grows};
+ghost use Rattle.elab_context.specs.of_elab_typed.Numbers.{type_as};
+ghost use Rattle.elab_context.specs.of_elab_state.Namings.{IsAmong};
+ghost use Rattle.elab_context.specs.of_elab_steps.Growing.{Always, AreTypes, Grows};
 ghost use Rattle.use_elab.specs.Fresh.{images_of};
 
-use elab_state::state::State;
-use elab_steps::step::write;
+use elab_context::elab_state::state::State;
+use elab_context::elab_steps::step::write;
 use mlc_base::memory::NoMemory;
 use std::alloc::Global;
 

@@ -1,1 +1,2 @@
+pub use Rattle.core_rules.specs as of_core_rules
 pub mod Entries

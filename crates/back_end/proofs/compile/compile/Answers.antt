@@ -1,6 +1,6 @@
 use Rattle.std.proofs.Common.{◌≡◌, ◌+◌, ◌*◌, ◌^◌, ◌<◌, ◌≤◌, length, IsSomeAnd}
 use Rattle.mlc_runs.specs.Passes.{greatest_expansion}
-use Rattle.ir_prog.specs.Programs.{expansion}
+use Rattle.match_pass.specs.of_ir_prog.Programs.{expansion}
 use Rattle.ssa_form.specs.Programs.{program_of}
 use Rattle.image_law.specs.ImageOf.{IsImageOf}
 use Rattle.image_size.specs.Size.{parts, words}

@@ -1,10 +1,10 @@
 use Rattle.std.proofs.Common.{◌≡◌, ◌<◌, sym, ap, ◌∙◌, subst}
 use Rattle.mlc_runs.specs.Outcome.{Outcome, wrong}
 use Rattle.mlc_runs.specs.Passes.{greatest_expansion}
-use Rattle.ir_prog.specs.Programs as source
-use Rattle.ir_prog.specs.Programs.{tests_in}
+use Rattle.match_pass.specs.of_ir_prog.Programs as source
+use Rattle.match_pass.specs.of_ir_prog.Programs.{tests_in}
 use Rattle.monomorphise.specs.Laws.{monomorphise}
-use Rattle.mono_form.specs.Programs as copied
+use Rattle.closure_pass.specs.of_mono_form.Programs as copied
 use Rattle.mono_operations.specs.Reads.{strings_of}
 use Rattle.closure_pass.specs.Given.{texts}
 use Rattle.first_form.specs.Programs as first

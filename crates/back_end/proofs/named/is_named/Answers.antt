@@ -2,7 +2,7 @@ use Rattle.std.proofs.Common.{◌<◌, All, subst}
 use Rattle.std.proofs.lemmas.List.Elements.{All-append}
 use Rattle.prog_tree.specs.Readings.{reading}
 use Rattle.ir_tables.specs.Tables.{initial_of}
-use Rattle.ir_prog.specs.Programs.{exceptions}
+use Rattle.match_pass.specs.of_ir_prog.Programs.{exceptions}
 use Rattle.back_end.specs.Keeping.{dec_keeps}
 use Rattle.back_end.proofs.Naming.{both-true, body-keeps}
 use Rattle.back_end.proofs.named.is_named.Goals as goal

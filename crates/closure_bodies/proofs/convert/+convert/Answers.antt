@@ -3,7 +3,7 @@ use Rattle.plain_tree.specs.TreeOf.{case_of}
 use Rattle.mono_bound.specs.Reads.{reading, mono_of}
 use Rattle.first_tree.specs.TreeOf.{tree_of, arm_of, arms_of}
 use Rattle.closure_meaning.specs.Convert.{convert}
-use Rattle.closure_parts.proofs.Operating.{if-ok}
+use Rattle.closure_steps.proofs.of_closure_parts.Operating.{if-ok}
 use Rattle.closure_steps.specs.Reads.{steps_in}
 use Rattle.closure_steps.proofs.Pushing.{ok-at}
 use Rattle.closure_steps.proofs.Stepping.{steps-left, case-left, one-left}

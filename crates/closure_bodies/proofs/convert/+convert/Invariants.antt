@@ -2,7 +2,7 @@ use Rattle.std.proofs.Common.{◌≡◌, [], drop}
 use Rattle.flow_sets.specs.Flow.{Flow}
 use Rattle.closure_convert.specs.Scope.{Table}
 use Rattle.closure_meaning.specs.Convert.{Numbering}
-use Rattle.closure_parts.specs.Settings.{Texts, Holds}
+use Rattle.closure_steps.specs.of_closure_parts.Settings.{Texts, Holds}
 use Rattle.closure_steps.specs.Reads.{steps_in}
 use Rattle.closure_steps.specs.Steps.{all_behind}
 use Rattle.closure_bodies.proofs.Arms.{CasesSoFar, TagsSoFar}

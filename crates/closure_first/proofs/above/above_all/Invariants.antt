@@ -1,6 +1,6 @@
 use Rattle.std.proofs.Common.{◌≡◌, ◌≤◌, length, map, drop}
 use Rattle.mono_bound.specs.Bound.{bound_of}
-use Rattle.closure_whole.specs.Rising.{above}
+use Rattle.closure_bodies.specs.of_closure_whole.Rising.{above}
 use Rattle.closure_first.proofs.above.above_all.Given as goal
 
 abbrev pub invariant-loop-left : goal.invariant-loop-left

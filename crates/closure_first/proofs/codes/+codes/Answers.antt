@@ -1,8 +1,8 @@
 use Rattle.std.proofs.Common.{◌-◌, [], refl, arith, ap, ◌∙◌}
 use Rattle.capture_scope.specs.Seen.{members_of}
 use Rattle.closure_meaning.specs.Convert.{codes_arms}
-use Rattle.closure_parts.proofs.Operating.{if-ok}
-use Rattle.closure_steps.specs.Reads.{arms_in}
+use Rattle.closure_bodies.proofs.of_closure_parts.Operating.{if-ok}
+use Rattle.closure_bodies.specs.of_closure_steps.Reads.{arms_in}
 use Rattle.closure_first.specs.Codes.{in_order}
 use Rattle.closure_first.proofs.Adding.{adds-as, order-next, order-done, back-next, back-done}
 use Rattle.closure_first.proofs.Walking.{of_exp, of_front, of_back, of_arm, arms-codes, steps-node, switch-node, first-node, group-next, group-done, alone-pushed, member-pushed, front-fn, front-block, front-handle, front-group, back-test}

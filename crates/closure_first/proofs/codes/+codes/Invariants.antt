@@ -3,7 +3,7 @@ use Rattle.flow_sets.specs.Flow.{Flow}
 use Rattle.closure_convert.specs.Scope.{Table}
 use Rattle.capture_scope.specs.Seen.{members_of}
 use Rattle.closure_meaning.specs.Convert.{Numbering}
-use Rattle.closure_parts.specs.Settings.{Texts, Holds}
+use Rattle.closure_bodies.specs.of_closure_parts.Settings.{Texts, Holds}
 use Rattle.closure_first.specs.Codes.{IsOf}
 use Rattle.closure_first.proofs.Adding.{SoFar, BackTo}
 use Rattle.closure_first.proofs.Walking.{of_exp, of_front, of_back, of_arm, GroupSoFar}

@@ -2,7 +2,7 @@ use Rattle.closure_meaning.specs.Convert.{Numbering}
 use Rattle.closure_convert.specs.Scope.{Table}
 use Rattle.flow_sets.specs.Flow.{Flow}
 use Rattle.std.proofs.Common.{List}
-use Rattle.closure_parts.specs.Settings.{Row, Texts, Holds}
+use Rattle.closure_bodies.specs.of_closure_parts.Settings.{Row, Texts, Holds}
 use Rattle.closure_first.proofs.Walking.{CurriedSoFar}
 use Rattle.closure_first.proofs.codes.push_curried.Given as goal
 

@@ -1,7 +1,7 @@
 use Rattle.std.proofs.Common.{[], get_or, ap, ◌∙◌}
 use Rattle.capture_table.specs.Told.{first_parameter}
 use Rattle.capture_table.proofs.Curried.{curried-parts}
-use Rattle.closure_parts.proofs.Operating.{if-ok}
+use Rattle.closure_bodies.proofs.of_closure_parts.Operating.{if-ok}
 use Rattle.closure_first.proofs.Walking.{empty-is, heads-one, heads-more}
 use Rattle.closure_first.proofs.codes.push_heads.Goals as goal
 

@@ -1,6 +1,6 @@
 use Rattle.mono_bound.specs.Reads.{mono_of}
-use Rattle.closure_whole.specs.Constants.{AreHeld}
-use Rattle.closure_steps.specs.Reads.{mono_step, mono_arm, mono_function}
+use Rattle.closure_bodies.specs.of_closure_whole.Constants.{AreHeld}
+use Rattle.closure_bodies.specs.of_closure_steps.Reads.{mono_step, mono_arm, mono_function}
 use Rattle.closure_first.specs.Held.{StepHeld, ArmHeld, MemberHeld}
 use Rattle.closure_first.proofs.Holding.{all-next, all-done, steps-node, switch-node, first-node, fn-held, block-held, handle-held, group-held, test-held, arm-held, member-held}
 use Rattle.closure_first.proofs.held.+held.Goals as goal

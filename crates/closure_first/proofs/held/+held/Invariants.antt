@@ -1,9 +1,9 @@
 use Rattle.std.proofs.Common.{List, take}
 use Rattle.std.specs.List.{AllByRecursion}
 use Rattle.mono_bound.specs.Reads.{mono_of}
-use Rattle.closure_whole.specs.Constants.{AreHeld}
-use Rattle.closure_parts.specs.Settings.{Row, Texts}
-use Rattle.closure_steps.specs.Reads.{mono_step, mono_arm, mono_function}
+use Rattle.closure_bodies.specs.of_closure_whole.Constants.{AreHeld}
+use Rattle.closure_bodies.specs.of_closure_parts.Settings.{Row, Texts}
+use Rattle.closure_bodies.specs.of_closure_steps.Reads.{mono_step, mono_arm, mono_function}
 use Rattle.closure_first.specs.Held.{HasEmpty, StepHeld, ArmHeld, MemberHeld}
 use Rattle.closure_first.proofs.held.+held.Given as goal
 

@@ -3,7 +3,7 @@ use Rattle.flow_sets.specs.Flow.{Flow}
 use Rattle.closure_convert.specs.Scope.{Table}
 use Rattle.first_tables.specs.TablesOf.{set_of}
 use Rattle.closure_meaning.specs.Convert.{Numbering}
-use Rattle.closure_parts.specs.Settings.{Row, Texts, Holds}
+use Rattle.closure_bodies.specs.of_closure_parts.Settings.{Row, Texts, Holds}
 use Rattle.closure_first.proofs.Listing.{set_in}
 use Rattle.closure_first.proofs.program.all_sets.Given as goal
 

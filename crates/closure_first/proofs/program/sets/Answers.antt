@@ -1,4 +1,4 @@
-use Rattle.closure_parts.proofs.Operating.{if-ok}
+use Rattle.closure_bodies.proofs.of_closure_parts.Operating.{if-ok}
 use Rattle.closure_first.proofs.Listing.{sets-are}
 use Rattle.closure_first.proofs.program.sets.Goals as goal
 

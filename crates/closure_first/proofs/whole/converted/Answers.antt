@@ -1,5 +1,5 @@
 use Rattle.first_form.specs.Programs.{program_of}
-use Rattle.closure_parts.proofs.Operating.{if-ok}
+use Rattle.closure_bodies.proofs.of_closure_parts.Operating.{if-ok}
 use Rattle.closure_first.proofs.Making.{converted-from}
 use Rattle.closure_first.proofs.whole.converted.Goals as goal
 

@@ -1,7 +1,7 @@
 use Rattle.std.proofs.Common.{[], ap, ◌∙◌}
 use Rattle.eta_expand.specs.Expand.{expand}
 use Rattle.mono_bound.specs.Reads.{mono_of}
-use Rattle.closure_parts.proofs.Operating.{if-ok}
+use Rattle.closure_bodies.proofs.of_closure_parts.Operating.{if-ok}
 use Rattle.closure_first.proofs.whole.explicit.Goals as goal
 
 pub returns : goal.returns

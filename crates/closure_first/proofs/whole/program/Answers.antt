@@ -1,5 +1,5 @@
 use Rattle.mono_bound.specs.Reads.{mono_of}
-use Rattle.closure_parts.specs.Indexed.{texts_of}
+use Rattle.closure_bodies.specs.of_closure_parts.Indexed.{texts_of}
 use Rattle.closure_first.proofs.Making.{program-made}
 use Rattle.closure_first.proofs.whole.program.Goals as goal
 

@@ -1,9 +1,9 @@
 use Rattle.mono_bound.specs.Reads.{mono_of}
-use Rattle.flow_types.specs.Flows.{program_with}
+use Rattle.closure_bodies.specs.of_flow_types.Flows.{program_with}
 use Rattle.closure_convert.specs.Capture.{table_of}
-use Rattle.closure_whole.specs.Rising.{rising}
-use Rattle.closure_whole.specs.Converted.{numbering}
-use Rattle.closure_parts.specs.Indexed.{texts_of}
+use Rattle.closure_bodies.specs.of_closure_whole.Rising.{rising}
+use Rattle.closure_bodies.specs.of_closure_whole.Converted.{numbering}
+use Rattle.closure_bodies.specs.of_closure_parts.Indexed.{texts_of}
 use Rattle.closure_first.proofs.Making.{by-sets}
 use Rattle.closure_first.proofs.whole.setting_by.Goals as goal
 

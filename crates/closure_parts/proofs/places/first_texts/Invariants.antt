@@ -1,6 +1,6 @@
 use Rattle.std.proofs.Common.{◌≡◌, ◌≤◌, ◌+◌, ℕ, List, length, drop, unwrap_or}
 use Rattle.std.specs.Map.{lookup}
-use Rattle.closure_whole.specs.Converted.{text_index}
+use Rattle.flow_types.specs.of_closure_whole.Converted.{text_index}
 use Rattle.closure_parts.specs.Indexed.{is_text, texts_of}
 use Rattle.closure_parts.proofs.places.first_texts.Given as goal
 

@@ -1,5 +1,5 @@
 use Rattle.std.proofs.Common.{◌≡◌, map, take}
-use Rattle.closure_whole.specs.Converted.{text_index}
+use Rattle.flow_types.specs.of_closure_whole.Converted.{text_index}
 use Rattle.closure_parts.specs.Indexed.{texts_of}
 use Rattle.closure_parts.proofs.places.text_places.Given as goal
 

@@ -1,6 +1,6 @@
 use Rattle.std.proofs.Common.{subst}
 use Rattle.first_form.specs.Programs.{program_of}
-use Rattle.closure_parts.specs.Indexed.{texts_of}
+use Rattle.closure_first.specs.of_closure_parts.Indexed.{texts_of}
 use Rattle.closure_formed.specs.Tables.{AreBytes}
 use Rattle.closure_pass.specs.Given.{given, texts}
 use Rattle.closure_pass.proofs.Keeping.{program-made, constants, same-outcome, formed, kept-exceptions, kept-small}

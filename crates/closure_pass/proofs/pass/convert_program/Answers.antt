@@ -3,7 +3,7 @@ use Rattle.mono_operations.specs.Reads.{strings_of}
 use Rattle.first_form.specs.Programs as target
 use Rattle.mono_form.specs.Programs as source
 use Rattle.closure_whole.specs.Rising.{rising}
-use Rattle.closure_parts.proofs.Operating.{if-ok}
+use Rattle.closure_first.proofs.of_closure_parts.Operating.{if-ok}
 use Rattle.closure_pass.specs.Given.{given, texts}
 use Rattle.closure_pass.proofs.Passing.{now-ready, whole-made, whole-same, whole-exceptions}
 use Rattle.closure_pass.proofs.pass.convert_program.Goals as goal

@@ -4,7 +4,7 @@ use Rattle.std.specs.List.{list_all}
 use Rattle.sml_tree.specs.BareTree.{DataBind, datatype_dec}
 use Rattle.sml_tree.specs.TreeOf.{data_bind_of}
 use Rattle.core_rules.specs.Restrictions.{distinct, no_repetition}
-use Rattle.dec_forms.specs.Bringing.{IsBringing}
+use Rattle.datatype_forms.specs.of_dec_forms.Bringing.{IsBringing}
 use Rattle.datatype_decs.proofs.Written.{none_written}
 use Rattle.datatype_decs.proofs.declare.datatypes.Goals as goal
 

@@ -12,8 +12,8 @@ use Rattle.elab_state.specs.States.{types_in}
 use Rattle.elab_context.specs.declared.context.Context.{Context}
 use Rattle.elab_context.specs.declared.entry.Entry.{Entry}
 use Rattle.elab_context.specs.Telling.{vids_in}
-use Rattle.dec_forms.specs.Entries.{with_types}
-use Rattle.dec_forms.specs.Telling.{with_all}
+use Rattle.datatype_forms.specs.of_dec_forms.Entries.{with_types}
+use Rattle.datatype_forms.specs.of_dec_forms.Telling.{with_all}
 use Rattle.datatype_forms.specs.Abbreviated.{binds_with}
 use Rattle.datatype_forms.specs.Arguments.{AreStanding}
 use Rattle.datatype_forms.specs.Best.{AreOnce, rows_of}

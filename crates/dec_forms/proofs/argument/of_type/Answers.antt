@@ -1,5 +1,5 @@
 use Rattle.sml_tree.specs.TreeOf.{ty_of}
-use Rattle.elab_context.proofs.Reading.{context_later}
+use Rattle.exp_forms.proofs.of_elab_context.Reading.{context_later}
 use Rattle.dec_forms.proofs.Behind.{argument_written}
 use Rattle.dec_forms.proofs.argument.of_type.Goals as goal
 

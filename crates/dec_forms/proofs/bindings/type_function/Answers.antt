@@ -3,7 +3,7 @@ use Rattle.sml_tree.specs.TreeOf.{ty_of, type_bind_of}
 use Rattle.sml_tree.specs.declared.ident.Tyvar.{Tyvar}
 use Rattle.core_rules.specs.Restrictions.{distinct, no_repetition}
 use Rattle.elab_types.proofs.Keeping.{holds_later}
-use Rattle.elab_state.specs.States.{types_in}
+use Rattle.closed_types.specs.of_elab_state.States.{types_in}
 use Rattle.closed_types.specs.Parameters.{AreParameters}
 use Rattle.closed_types.proofs.Entering.{closed-is, holds-entered}
 use Rattle.dec_forms.proofs.Bodies.{function_is, none-left, scope-same}

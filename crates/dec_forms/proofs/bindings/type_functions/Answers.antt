@@ -4,7 +4,7 @@ use Rattle.sml_tree.specs.declared.tree.TypeBind.{TypeBind}
 use Rattle.elab_types.proofs.Keeping.{holds_later}
 use Rattle.elab_types.specs.Reading.{Holds}
 use Rattle.elab_types.specs.declared.scope.TypeScope.{TypeScope}
-use Rattle.elab_state.specs.States.{types_in}
+use Rattle.closed_types.specs.of_elab_state.States.{types_in}
 use Rattle.dec_forms.specs.Abbreviations.{AreTypeFunctions, IsTypeFunction}
 use Rattle.dec_forms.proofs.Bodies.{binds-next, no_functions, one_function, same-index}
 use Rattle.dec_forms.proofs.bindings.type_functions.Goals as goal

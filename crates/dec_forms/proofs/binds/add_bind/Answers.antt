@@ -1,4 +1,4 @@
-use Rattle.elab_steps.proofs.Growing.{grows_on}
+use Rattle.closed_types.proofs.of_elab_steps.Growing.{grows_on}
 use Rattle.dec_forms.proofs.JoiningBinds.{bind_added}
 use Rattle.dec_forms.proofs.binds.add_bind.Goals as goal
 

@@ -1,5 +1,5 @@
 use Rattle.std.proofs.Common.{refl}
-use Rattle.elab_steps.proofs.Growing.{type_later}
+use Rattle.closed_types.proofs.of_elab_steps.Growing.{type_later}
 use Rattle.dec_forms.proofs.Letting.{let_is}
 use Rattle.dec_forms.proofs.block.block.Goals as goal
 

@@ -3,9 +3,9 @@ use Rattle.sml_tree.specs.TreeOf.{ex_bind_of}
 use Rattle.sml_tree.specs.declared.ident.Vid.{Vid}
 use Rattle.core_rules.specs.Restrictions.{distinct}
 use Rattle.core_rules.specs.Words.{same_vid}
-use Rattle.elab_context.specs.declared.entry.Entry.{Entry}
+use Rattle.exp_forms.specs.of_elab_context.declared.entry.Entry.{Entry}
 use Rattle.dec_forms.specs.Telling.{with_all}
-use Rattle.elab_context.specs.Telling.{vids_in}
+use Rattle.exp_forms.specs.of_elab_context.Telling.{vids_in}
 use Rattle.dec_forms.proofs.DeclaringExceptions.{context_of_exns, exns_bring}
 use Rattle.dec_forms.proofs.declare_exceptions.exceptions.Goals as goal
 

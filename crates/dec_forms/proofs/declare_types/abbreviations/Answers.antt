@@ -3,7 +3,7 @@ use Rattle.sml_tree.specs.TreeOf.{type_bind_of}
 use Rattle.core_rules.specs.Restrictions.{distinct}
 use Rattle.elab_types.specs.declared.scope.TypeEntry.{TypeEntry}
 use Rattle.elab_types.specs.declared.scope.TypeScope.{TypeScope}
-use Rattle.elab_context.specs.declared.context.Context.{Context}
+use Rattle.exp_forms.specs.of_elab_context.declared.context.Context.{Context}
 use Rattle.dec_forms.specs.Entries.{with_types}
 use Rattle.dec_forms.proofs.DeclaringTypes.{context_of_types, types_declared}
 use Rattle.dec_forms.proofs.declare_types.abbreviations.Goals as goal

@@ -3,8 +3,8 @@ use Rattle.std.specs.Prelude.{IfOk}
 use Rattle.sml_tree.specs.BareTree.{ExBind as SourceBind}
 use Rattle.sml_tree.specs.TreeOf.{ex_bind_of}
 use Rattle.sml_tree.specs.declared.tree.ExBind.{ExBind}
-use Rattle.elab_state.specs.declared.state.State.{State}
-use Rattle.elab_steps.proofs.Changing.{if-ok}
+use Rattle.closed_types.specs.of_elab_state.declared.state.State.{State}
+use Rattle.closed_types.proofs.of_elab_steps.Changing.{if-ok}
 use Rattle.dec_forms.specs.Exceptions.{AreExns}
 use Rattle.dec_forms.proofs.exns.add_exn.Goals as goal
 

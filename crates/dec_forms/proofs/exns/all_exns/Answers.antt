@@ -1,6 +1,6 @@
 use Rattle.std.proofs.Common.{map, take, subst}
 use Rattle.sml_tree.specs.TreeOf.{ex_bind_of}
-use Rattle.elab_context.proofs.Reading.{context_later}
+use Rattle.exp_forms.proofs.of_elab_context.Reading.{context_later}
 use Rattle.dec_forms.specs.Exceptions.{AreExns}
 use Rattle.dec_forms.proofs.Adding.{binds-next, no_exns}
 use Rattle.dec_forms.proofs.exns.all_exns.Goals as goal

@@ -1,9 +1,9 @@
 use Rattle.std.proofs.Common.{◌≡◌, ◌++◌, ℕ, List, Vec, Global, refl, ap, ap₂, ◌∙◌}
 use Rattle.sml_tree.specs.declared.ident.Vid.{Vid}
 use Rattle.elab_types.specs.declared.scope.TypeEntry.{TypeEntry}
-use Rattle.elab_steps.proofs.Growing.{grows_on}
-use Rattle.elab_context.specs.declared.context.Context.{Context}
-use Rattle.elab_context.specs.declared.entry.Entry.{Entry}
+use Rattle.closed_types.proofs.of_elab_steps.Growing.{grows_on}
+use Rattle.exp_forms.specs.of_elab_context.declared.context.Context.{Context}
+use Rattle.exp_forms.specs.of_elab_context.declared.entry.Entry.{Entry}
 use Rattle.dec_forms.specs.Telling.{with_all}
 use Rattle.dec_forms.specs.Entries.{with_types}
 use Rattle.dec_forms.proofs.Joining.{adds_then}

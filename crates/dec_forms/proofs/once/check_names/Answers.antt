@@ -3,7 +3,7 @@ use Rattle.std.specs.Prelude.{IfErr, IfOk}
 use Rattle.core_rules.specs.Restrictions.{distinct}
 use Rattle.core_rules.specs.Words.{same_vid}
 use Rattle.elab_types.specs.declared.refused.Refused.TheVariants.{Broken, Memory}
-use Rattle.pat_elab.specs.declared.bound.BoundVariable.{BoundVariable}
+use Rattle.exp_forms.specs.of_pat_elab.declared.bound.BoundVariable.{BoundVariable}
 use Rattle.exp_forms.specs.Rules.{vids_of}
 use Rattle.dec_forms.proofs.Listed.{named-once}
 use Rattle.dec_forms.proofs.once.check_names.Goals as goal

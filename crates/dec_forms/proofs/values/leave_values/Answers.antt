@@ -1,7 +1,7 @@
 use Rattle.std.proofs.Common.{ap, ap₂}
 use Rattle.vid_scope.specs.declared.vids.VidScope.{VidScope}
-use Rattle.elab_context.specs.declared.context.Context.{Context}
-use Rattle.elab_context.specs.declared.entry.Entry.{Entry}
+use Rattle.exp_forms.specs.of_elab_context.declared.context.Context.{Context}
+use Rattle.exp_forms.specs.of_elab_context.declared.entry.Entry.{Entry}
 use Rattle.dec_forms.proofs.values.leave_values.Goals as goal
 
 pub returns : goal.returns

@@ -4,13 +4,13 @@ use Rattle.sml_tree.specs.TreeOf.{bind_of, exp_of, rule_of}
 use Rattle.sml_tree.specs.declared.tree.Exp.TheVariants as node
 use Rattle.sml_tree.specs.declared.tree.Function.{out-Function}
 use Rattle.elab_steps.specs.Growing.{HasType}
-use Rattle.dec_forms.specs.Bringing.{IsBringing}
+use Rattle.scope_decs.specs.of_dec_forms.Bringing.{IsBringing}
 use Rattle.elab_context.specs.declared.context.Context.{Context}
 use Rattle.elab_steps.proofs.Changing.{if-ok}
 use Rattle.elab_steps.proofs.Growing.{comes_before, grows_on, grows_same, type_later}
 use Rattle.elab_steps.specs.World.{type_of}
-use Rattle.exp_forms.proofs.Nodes.{source-BuiltIn, source-Constant, source-Vid}
-use Rattle.exp_forms.proofs.Sizes.{arguments-size, bind-size, binds-size, body-size, dec-size, decs-size, exp-size, field-size, handled-size, handler-size, operand-size, operator-size, part-size, parts-size, rest-size, rule-size, rules-size}
+use Rattle.scope_decs.proofs.of_exp_forms.Nodes.{source-BuiltIn, source-Constant, source-Vid}
+use Rattle.scope_decs.proofs.of_exp_forms.Sizes.{arguments-size, bind-size, binds-size, body-size, dec-size, decs-size, exp-size, field-size, handled-size, handler-size, operand-size, operator-size, part-size, parts-size, rest-size, rule-size, rules-size}
 use Rattle.elab_exps.specs.Groups.{clause_rule, function_bind}
 use Rattle.elab_exps.proofs.Loops.{calls_begin, calls_end, calls_more, context_on, elements_begin, elements_end, elements_more, exp_in, fields_end, fields_more, rows_have, stands_on, tuple_end, tuple_more}
 use Rattle.elab_exps.proofs.Chains.{left_done, left_first, left_next, right_done, right_first, right_next, tests_done, tests_first, tests_next}

@@ -1,7 +1,7 @@
 use Rattle.std.proofs.Common.{◌-◌, map, get_or, refl, ap, ◌∙◌}
 use Rattle.sml_tree.specs.TreeOf.{RuleOf, bind_of, pat_of}
 use Rattle.sml_tree.specs.declared.tree.Bind.{Bind}
-use Rattle.exp_forms.proofs.Nodes.{bind-is}
+use Rattle.scope_decs.proofs.of_exp_forms.Nodes.{bind-is}
 use Rattle.elab_exps.proofs.Heading.{heads_begin, heads_context, heads_end, heads_more}
 use Rattle.elab_exps.proofs.heads.reserve_recs.Goals as goal
 

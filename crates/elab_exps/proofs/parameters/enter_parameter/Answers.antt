@@ -3,8 +3,8 @@ use Rattle.sml_tree.specs.declared.ident.Vid.TheVariants.{Fresh}
 use Rattle.elab_context.proofs.Reading.{context_later}
 use Rattle.pat_elab.specs.Elaborated.{IsBound}
 use Rattle.pat_elab.specs.declared.bound.BoundVariable.{BoundVariable}
-use Rattle.exp_forms.specs.Within.{within}
-use Rattle.exp_forms.proofs.EnteringFunctions.{entered_is, fresh_context}
+use Rattle.scope_decs.specs.of_exp_forms.Within.{within}
+use Rattle.scope_decs.proofs.of_exp_forms.EnteringFunctions.{entered_is, fresh_context}
 use Rattle.elab_exps.proofs.parameters.enter_parameter.Goals as goal
 
 pub write-requires-clause-held : goal.write-requires-clause-held

@@ -1,5 +1,5 @@
 use Rattle.sml_tree.specs.Derived.{fresh_pat}
-use Rattle.exp_forms.proofs.Clausing.{so_far_next}
+use Rattle.scope_decs.proofs.of_exp_forms.Clausing.{so_far_next}
 use Rattle.elab_exps.proofs.Taking.{entered_more}
 use Rattle.elab_exps.proofs.parameters.enter_parameters.Goals as goal
 

@@ -1,4 +1,4 @@
-use Rattle.ir_tables.specs.Tables.{parameters_of}
+use Rattle.prog_tree.specs.of_ir_tables.Tables.{parameters_of}
 use Rattle.elab_state.proofs.Reading.{table-finds, parameters-stay}
 use Rattle.elab_state.proofs.law.tables_stay.Goals as goal
 

@@ -1,6 +1,6 @@
 use Rattle.std.proofs.Common.{length, refl}
 use Rattle.sml_tree.specs.TreeOf.{ty_of}
-use Rattle.ty_instance.proofs.Going.{longer}
+use Rattle.elab_state.proofs.of_ty_instance.Going.{longer}
 use Rattle.elab_steps.proofs.Changing.{if-ok, tabled_grows, annotated_is, written_later}
 use Rattle.elab_steps.proofs.annotate.annotated.Goals as goal
 

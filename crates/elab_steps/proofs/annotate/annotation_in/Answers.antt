@@ -1,4 +1,4 @@
-use Rattle.ty_solve.proofs.Holding.{table-grown}
+use Rattle.elab_types.proofs.of_ty_solve.Holding.{table-grown}
 use Rattle.elab_steps.proofs.annotate.annotation_in.Goals as goal
 
 pub returns-clause-says : goal.returns-clause-says

@@ -1,5 +1,5 @@
 use Rattle.std.proofs.Common.{length, sym, ap, subst, ◌∙◌}
-use Rattle.ty_solve.specs.Limits.{limit_at, AreLimited}
+use Rattle.elab_types.specs.of_ty_solve.Limits.{limit_at, AreLimited}
 use Rattle.elab_steps.proofs.annotate.annotation_within.Goals as goal
 
 pub invariant_of-solver : goal.invariant_of-solver

@@ -1,5 +1,5 @@
 use Rattle.std.proofs.Common.{length, refl}
-use Rattle.ty_instance.proofs.Going.{longer}
+use Rattle.elab_state.proofs.of_ty_instance.Going.{longer}
 use Rattle.elab_steps.proofs.Changing.{written_later}
 use Rattle.elab_steps.proofs.Instancing.{instanced_grows, instanced_is, instanced_instance}
 use Rattle.elab_steps.proofs.instance.instance.Goals as goal

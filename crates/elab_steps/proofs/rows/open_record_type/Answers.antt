@@ -1,8 +1,8 @@
 use Rattle.std.proofs.Common.{false, map, sym, ap, subst, ◌∙◌}
 use Rattle.std.specs.List.{AllByRecursion}
 use Rattle.label_rows.specs.declared.sort.Field.{Field}
-use Rattle.ty_solve.specs.Rows.{Extends}
-use Rattle.ir_poly.specs.Types.{ascend}
+use Rattle.elab_types.specs.of_ty_solve.Rows.{Extends}
+use Rattle.elab_state.specs.of_ir_poly.Types.{ascend}
 use Rattle.elab_steps.specs.Growing.{HasType, types_of}
 use Rattle.elab_steps.specs.Rows.{AreBounded}
 use Rattle.elab_steps.specs.World.{type_of}

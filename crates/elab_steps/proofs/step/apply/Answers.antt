@@ -1,7 +1,7 @@
 use Rattle.std.proofs.Common.{length, refl}
 use Rattle.ty_core.specs.TypesOf.{head_of}
-use Rattle.ty_instance.proofs.Going.{longer}
-use Rattle.ty_instance.proofs.Putting.{on-ok}
+use Rattle.elab_state.proofs.of_ty_instance.Going.{longer}
+use Rattle.elab_state.proofs.of_ty_instance.Putting.{on-ok}
 use Rattle.elab_steps.proofs.Changing.{applied_grows, applied_is, applied_made, parts_held, written_later}
 use Rattle.elab_steps.proofs.step.apply.Goals as goal
 

@@ -1,7 +1,7 @@
 use Rattle.std.proofs.Common.{length, refl, ◌∙◌}
-use Rattle.ty_solve.specs.declared.subst.Slot.TheVariants.{Partial}
-use Rattle.ty_instance.proofs.Going.{longer}
-use Rattle.ty_instance.proofs.Putting.{on-ok}
+use Rattle.elab_types.specs.of_ty_solve.declared.subst.Slot.TheVariants.{Partial}
+use Rattle.elab_state.proofs.of_ty_instance.Going.{longer}
+use Rattle.elab_state.proofs.of_ty_instance.Putting.{on-ok}
 use Rattle.elab_steps.proofs.Changing.{freshened_grows, freshened_is, freshened_extends, freshened_ordered, freshened_within, written_later, begins-of}
 use Rattle.elab_steps.proofs.step.fresh_row.Goals as goal
 

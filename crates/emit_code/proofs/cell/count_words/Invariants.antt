@@ -1,6 +1,6 @@
 use Rattle.std.proofs.Common.{◌≡◌, ◌+◌, drop, map}
 use Rattle.first_tables.specs.TablesOf.{piece_of}
-use Rattle.machine_code.specs.Code.{pieces_count}
+use Rattle.emit_rows.specs.of_machine_code.Code.{pieces_count}
 use Rattle.emit_code.proofs.cell.count_words.Given as goal
 
 abbrev pub invariant-loop-piece : goal.invariant-loop-piece

@@ -1,6 +1,6 @@
 use Rattle.std.proofs.Common.{◌≡◌, ◌++◌, drop}
 use Rattle.first_tables.specs.TablesOf.{callee_of}
-use Rattle.machine_code.specs.Code.{args_of, depths_in}
+use Rattle.emit_rows.specs.of_machine_code.Code.{args_of, depths_in}
 use Rattle.emit_code.proofs.moves.arguments.Given as goal
 
 abbrev pub invariant-loop-operand : goal.invariant-loop-operand

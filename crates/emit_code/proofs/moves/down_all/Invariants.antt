@@ -1,5 +1,5 @@
 use Rattle.std.proofs.Common.{◌≡◌, ◌++◌}
-use Rattle.machine_code.specs.Code.{down_code}
+use Rattle.emit_rows.specs.of_machine_code.Code.{down_code}
 use Rattle.emit_code.proofs.moves.down_all.Given as goal
 
 abbrev pub invariant-loop-left : goal.invariant-loop-left

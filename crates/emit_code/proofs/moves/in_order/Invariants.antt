@@ -1,5 +1,5 @@
 use Rattle.std.proofs.Common.{◌≡◌, ◌&&◌, drop}
-use Rattle.machine_code.specs.Code.{in_order}
+use Rattle.emit_rows.specs.of_machine_code.Code.{in_order}
 use Rattle.emit_code.proofs.moves.in_order.Given as goal
 
 abbrev pub invariant-loop-from : goal.invariant-loop-from

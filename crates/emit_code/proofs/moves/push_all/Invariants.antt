@@ -1,5 +1,5 @@
 use Rattle.std.proofs.Common.{◌≡◌, ◌++◌, drop}
-use Rattle.machine_code.specs.Code.{push_code}
+use Rattle.emit_rows.specs.of_machine_code.Code.{push_code}
 use Rattle.emit_code.proofs.moves.push_all.Given as goal
 
 abbrev pub invariant-loop-from : goal.invariant-loop-from

@@ -1,6 +1,6 @@
 use Rattle.std.proofs.Common.{◌≡◌, ◌++◌, length, sym, ap, ◌∙◌, subst, OnOk}
 use Rattle.first_tables.specs.TablesOf.{constant_of}
-use Rattle.machine_code.specs.Code.{constant_word, is_code, word_test_code}
+use Rattle.emit_rows.specs.of_machine_code.Code.{constant_word, is_code, word_test_code}
 use Rattle.emit_code.specs.PlacesOf.{places_of}
 use Rattle.emit_code.proofs.plain.emit_is.Goals as goal
 

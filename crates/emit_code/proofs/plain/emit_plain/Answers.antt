@@ -1,6 +1,6 @@
 use Rattle.std.proofs.Common.{◌≡◌, ◌++◌, length, sym, subst, OnOk}
 use Rattle.first_tables.specs.TablesOf.{plain_of}
-use Rattle.machine_code.specs.Code.{depths_in, plain_code}
+use Rattle.emit_rows.specs.of_machine_code.Code.{depths_in, plain_code}
 use Rattle.emit_code.specs.PlacesOf.{places_of}
 use Rattle.emit_code.proofs.plain.emit_plain.Goals as goal
 

@@ -1,5 +1,5 @@
 use Rattle.std.proofs.Common.{◌≡◌, ◌++◌, drop}
-use Rattle.machine_code.specs.Code.{depths_in}
+use Rattle.emit_rows.specs.of_machine_code.Code.{depths_in}
 use Rattle.emit_code.proofs.put.depths_of.Given as goal
 
 abbrev pub invariant-loop-variable : goal.invariant-loop-variable

@@ -1,5 +1,5 @@
 use Rattle.std.proofs.Common.{◌≡◌, arith, ap, subst, IfOk}
-use Rattle.machine_code.specs.Code.{slot}
+use Rattle.emit_rows.specs.of_machine_code.Code.{slot}
 use Rattle.emit_code.proofs.Slots.{depths-read, depths-none}
 use Rattle.emit_code.proofs.put.operand.Goals as goal
 

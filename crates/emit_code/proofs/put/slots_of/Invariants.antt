@@ -1,5 +1,5 @@
 use Rattle.std.proofs.Common.{◌≡◌, ◌++◌, drop, map}
-use Rattle.machine_code.specs.Code.{depths_in, slot}
+use Rattle.emit_rows.specs.of_machine_code.Code.{depths_in, slot}
 use Rattle.emit_code.proofs.put.slots_of.Given as goal
 
 abbrev pub invariant-loop-variable : goal.invariant-loop-variable

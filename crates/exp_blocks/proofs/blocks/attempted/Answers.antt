@@ -1,6 +1,6 @@
 use Rattle.std.proofs.Common.{map, ap, ◌∙◌}
 use Rattle.plain_tree.specs.TreeOf.{firsts, tree_of}
-use Rattle.match_types.specs.Views.{reading}
+use Rattle.exp_steps.specs.of_match_types.Views.{reading}
 use Rattle.exp_steps.proofs.Nodes.{tree_of-First}
 use Rattle.exp_blocks.proofs.blocks.attempted.Goals as goal
 

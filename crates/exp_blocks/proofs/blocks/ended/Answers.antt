@@ -1,6 +1,6 @@
 use Rattle.std.proofs.Common.{ap, ◌∙◌}
-use Rattle.match_types.specs.Views.{reading}
-use Rattle.match_steps.specs.Steps.{stand}
+use Rattle.exp_steps.specs.of_match_types.Views.{reading}
+use Rattle.exp_steps.specs.of_match_steps.Steps.{stand}
 use Rattle.exp_steps.proofs.Nodes.{tree_of-Steps}
 use Rattle.exp_blocks.proofs.blocks.ended.Goals as goal
 

@@ -1,7 +1,7 @@
 use Rattle.std.proofs.Common.{ap, ap₂, map, ◌∙◌}
 use Rattle.ir_plain.specs.Tree.{arm, is_con, no_arms}
 use Rattle.plain_tree.specs.TreeOf.{arms_of, arm_of}
-use Rattle.match_types.specs.Views.{reading}
+use Rattle.exp_steps.specs.of_match_types.Views.{reading}
 use Rattle.exp_steps.proofs.Nodes.{arm_of-parts, tree_of-Ret}
 use Rattle.exp_blocks.proofs.blocks.other_arm.Goals as goal
 

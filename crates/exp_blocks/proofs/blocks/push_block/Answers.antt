@@ -2,7 +2,7 @@ use Rattle.std.proofs.Common.{ap, ◌∙◌}
 use Rattle.ir_plain.specs.Tree.{block}
 use Rattle.plain_tree.specs.TreeOf.{tree_of}
 use Rattle.plain_tree.specs.declared.tree.Step.TheVariants.{Block}
-use Rattle.match_types.specs.Views.{reading}
+use Rattle.exp_steps.specs.of_match_types.Views.{reading}
 use Rattle.exp_steps.proofs.Nodes.{step_of-Block}
 use Rattle.exp_blocks.proofs.Holding.{bound-made}
 use Rattle.exp_blocks.proofs.blocks.push_block.Goals as goal

@@ -2,8 +2,8 @@ use Rattle.std.proofs.Common.{ap, ◌∙◌}
 use Rattle.ir_plain.specs.Tree.{fn}
 use Rattle.plain_tree.specs.TreeOf.{tree_of, fun_of}
 use Rattle.plain_tree.specs.declared.tree.Step.TheVariants.{Fn}
-use Rattle.match_types.specs.Views.{reading}
-use Rattle.match_types.specs.declared.work.ValueType.TheVariants.{Source}
+use Rattle.exp_steps.specs.of_match_types.Views.{reading}
+use Rattle.exp_steps.specs.of_match_types.declared.work.ValueType.TheVariants.{Source}
 use Rattle.exp_steps.proofs.Nodes.{step_of-Fn}
 use Rattle.exp_blocks.proofs.Holding.{bound-made}
 use Rattle.exp_blocks.proofs.blocks.push_lambda.Goals as goal

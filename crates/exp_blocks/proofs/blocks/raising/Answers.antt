@@ -1,8 +1,8 @@
 use Rattle.std.proofs.Common.{ap, ◌∙◌}
 use Rattle.ir_plain.specs.Tree.{ret}
 use Rattle.match_compile.specs.Compile.{atom, put, otherwise_op}
-use Rattle.match_types.specs.Views.{value_type}
-use Rattle.match_steps.specs.Steps.{stand}
+use Rattle.exp_steps.specs.of_match_types.Views.{value_type}
+use Rattle.exp_steps.specs.of_match_steps.Steps.{stand}
 use Rattle.exp_blocks.specs.Giving.{otherwise_of}
 use Rattle.exp_blocks.proofs.blocks.raising.Goals as goal
 

@@ -1,6 +1,6 @@
 use Rattle.std.proofs.Common.{ap, ◌∙◌}
 use Rattle.plain_tree.specs.TreeOf.{tree_of}
-use Rattle.match_types.specs.Views.{reading}
+use Rattle.exp_steps.specs.of_match_types.Views.{reading}
 use Rattle.exp_steps.proofs.Nodes.{tree_of-Ret}
 use Rattle.exp_blocks.proofs.blocks.returned.Goals as goal
 

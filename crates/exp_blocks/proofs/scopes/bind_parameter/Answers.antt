@@ -1,5 +1,5 @@
 use Rattle.std.proofs.Common.{◌∷◌, refl, ap₂, ◌∙◌}
-use Rattle.match_types.specs.declared.work.ValueType.TheVariants.{Source}
+use Rattle.exp_steps.specs.of_match_types.declared.work.ValueType.TheVariants.{Source}
 use Rattle.exp_blocks.proofs.Growing.{grows-on, grows-by, grows-equal, stands-named}
 use Rattle.exp_blocks.proofs.scopes.bind_parameter.Goals as goal
 

@@ -1,6 +1,6 @@
 use Rattle.std.proofs.Common.{ap, ap₂}
-use Rattle.elab_context.specs.declared.context.Context.{Context}
-use Rattle.elab_context.specs.declared.entry.Entry.{Entry}
+use Rattle.pat_elab.specs.of_elab_context.declared.context.Context.{Context}
+use Rattle.pat_elab.specs.of_elab_context.declared.entry.Entry.{Entry}
 use Rattle.vid_scope.specs.declared.vids.VidScope.{VidScope}
 use Rattle.exp_forms.specs.Within.{entries_of}
 use Rattle.exp_forms.proofs.bind.leave.Goals as goal

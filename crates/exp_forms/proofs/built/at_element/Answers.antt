@@ -1,5 +1,5 @@
-use Rattle.elab_context.proofs.Reading.{context_later}
-use Rattle.elab_steps.proofs.Growing.{grows_on, type_later}
+use Rattle.pat_elab.proofs.of_elab_context.Reading.{context_later}
+use Rattle.pat_elab.proofs.of_elab_steps.Growing.{grows_on, type_later}
 use Rattle.exp_forms.proofs.Building.{element_tree}
 use Rattle.exp_forms.proofs.built.at_element.Goals as goal
 

@@ -1,4 +1,4 @@
-use Rattle.elab_context.proofs.Reading.{context_later}
+use Rattle.pat_elab.proofs.of_elab_context.Reading.{context_later}
 use Rattle.exp_forms.proofs.Building.{cons_is}
 use Rattle.exp_forms.proofs.built.cons.Goals as goal
 

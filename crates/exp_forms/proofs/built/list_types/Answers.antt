@@ -1,4 +1,4 @@
-use Rattle.elab_steps.proofs.Growing.{type_later}
+use Rattle.pat_elab.proofs.of_elab_steps.Growing.{type_later}
 use Rattle.exp_forms.proofs.Building.{list_types_are}
 use Rattle.exp_forms.proofs.built.list_types.Goals as goal
 

@@ -1,5 +1,5 @@
 use Rattle.std.proofs.Common.{refl}
-use Rattle.elab_steps.proofs.Growing.{grows_on, type_later}
+use Rattle.pat_elab.proofs.of_elab_steps.Growing.{grows_on, type_later}
 use Rattle.exp_forms.proofs.Calling.{call_goes_on}
 use Rattle.exp_forms.proofs.call.add_argument.Goals as goal
 

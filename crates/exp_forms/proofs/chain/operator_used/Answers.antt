@@ -1,4 +1,4 @@
-use Rattle.elab_steps.proofs.Changing.{if-ok}
+use Rattle.pat_elab.proofs.of_elab_steps.Changing.{if-ok}
 use Rattle.exp_forms.proofs.JoiningChains.{operator_is}
 use Rattle.exp_forms.proofs.chain.operator_used.Goals as goal
 

@@ -1,6 +1,6 @@
 use Rattle.std.proofs.Common.{subst}
 use Rattle.use_elab.specs.Elaborated.{IsExp}
-use Rattle.elab_steps.proofs.Changing.{if-ok}
+use Rattle.pat_elab.proofs.of_elab_steps.Changing.{if-ok}
 use Rattle.exp_forms.proofs.Choosing.{choices-are}
 use Rattle.exp_forms.proofs.choices.choices.Goals as goal
 

@@ -1,4 +1,4 @@
-use Rattle.elab_steps.proofs.Changing.{if-ok}
+use Rattle.pat_elab.proofs.of_elab_steps.Changing.{if-ok}
 use Rattle.sml_tree.specs.Derived.{first_pats}
 use Rattle.std.proofs.Common.{length}
 use Rattle.exp_forms.specs.Clauses.{fresh_from, body_of}

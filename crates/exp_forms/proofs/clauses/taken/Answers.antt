@@ -1,6 +1,6 @@
 use Rattle.std.proofs.Common.{◌≡◌, subst}
-use Rattle.elab_context.proofs.Reading.{context_later}
-use Rattle.elab_steps.proofs.Changing.{if-ok}
+use Rattle.pat_elab.proofs.of_elab_context.Reading.{context_later}
+use Rattle.pat_elab.proofs.of_elab_steps.Changing.{if-ok}
 use Rattle.exp_forms.specs.Parts.{AreFields}
 use Rattle.exp_forms.specs.Clauses.{fresh_exps, labels_from}
 use Rattle.exp_forms.proofs.Clausing.{all-types, all_taken, ends, fields_next, one_taken}

@@ -1,6 +1,6 @@
 use Rattle.std.proofs.Common.{List, refl, ap, subst, ◌∙◌}
 use Rattle.sml_tree.specs.declared.ident.Vid.TheVariants.{Fresh}
-use Rattle.elab_context.proofs.Reading.{context_later}
+use Rattle.pat_elab.proofs.of_elab_context.Reading.{context_later}
 use Rattle.pat_elab.specs.Elaborated.{IsBound}
 use Rattle.pat_elab.specs.declared.bound.BoundVariable.{BoundVariable}
 use Rattle.exp_forms.specs.Within.{within}

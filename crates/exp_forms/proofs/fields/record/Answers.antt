@@ -5,9 +5,9 @@ use Rattle.label_rows.specs.declared.sort.Field.{Field}
 use Rattle.label_rows.specs.Sorting.{sorted}
 use Rattle.core_rules.specs.Objects.{sorted as sorted_row}
 use Rattle.ir_poly.specs.Types.{ascend}
-use Rattle.elab_steps.specs.Growing.{HasType, Always}
-use Rattle.elab_steps.specs.Rows.{row_of}
-use Rattle.elab_steps.specs.World.{type_of}
+use Rattle.pat_elab.specs.of_elab_steps.Growing.{HasType, Always}
+use Rattle.pat_elab.specs.of_elab_steps.Rows.{row_of}
+use Rattle.pat_elab.specs.of_elab_steps.World.{type_of}
 use Rattle.exp_forms.proofs.Recording.{record_is}
 use Rattle.exp_forms.proofs.fields.record.Goals as goal
 

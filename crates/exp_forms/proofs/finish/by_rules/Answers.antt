@@ -1,5 +1,5 @@
 use Rattle.std.proofs.Common.{refl}
-use Rattle.elab_steps.proofs.Growing.{grows_on, always_later}
+use Rattle.pat_elab.proofs.of_elab_steps.Growing.{grows_on, always_later}
 use Rattle.exp_forms.proofs.Finishing.{function_is}
 use Rattle.exp_forms.proofs.finish.by_rules.Goals as goal
 

@@ -1,5 +1,5 @@
 use Rattle.std.proofs.Common.{◌-◌, get_or, length, refl}
-use Rattle.elab_steps.proofs.Growing.{type_later}
+use Rattle.pat_elab.proofs.of_elab_steps.Growing.{type_later}
 use Rattle.exp_forms.proofs.FinishingFunctions.{before-length, curried_starts, curried_goes_on, types-at}
 use Rattle.exp_forms.proofs.finish_function.curried_type.Goals as goal
 

@@ -1,7 +1,7 @@
 use Rattle.std.proofs.Common.{◌≡◌, List, ℕ, refl, subst}
 use Rattle.use_elab.specs.Fresh.{images_of}
-use Rattle.elab_steps.specs.Growing.{Always}
-use Rattle.elab_steps.specs.World.{type_of}
+use Rattle.pat_elab.specs.of_elab_steps.Growing.{Always}
+use Rattle.pat_elab.specs.of_elab_steps.World.{type_of}
 use Rattle.exp_forms.specs.Functions.{curried}
 use Rattle.exp_forms.proofs.FinishingFunctions.{function_is}
 use Rattle.exp_forms.proofs.finish_function.finish.Goals as goal

@@ -1,6 +1,6 @@
 use Rattle.sml_tree.specs.TreeOf.{constant_of}
-use Rattle.elab_context.proofs.Reading.{context_later}
-use Rattle.elab_steps.proofs.Growing.{grows_on, type_later}
+use Rattle.pat_elab.proofs.of_elab_context.Reading.{context_later}
+use Rattle.pat_elab.proofs.of_elab_steps.Growing.{grows_on, type_later}
 use Rattle.exp_forms.proofs.Leaves.{constant_is}
 use Rattle.exp_forms.proofs.leaf.constant.Goals as goal
 

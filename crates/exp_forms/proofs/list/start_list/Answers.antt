@@ -1,6 +1,6 @@
 use Rattle.std.proofs.Common.{refl}
-use Rattle.elab_context.proofs.Reading.{context_later}
-use Rattle.elab_steps.proofs.Growing.{grows_on, type_later}
+use Rattle.pat_elab.proofs.of_elab_context.Reading.{context_later}
+use Rattle.pat_elab.proofs.of_elab_steps.Growing.{grows_on, type_later}
 use Rattle.exp_forms.proofs.JoiningChains.{grows_3, grows_4}
 use Rattle.exp_forms.proofs.Listing.{listed_is}
 use Rattle.exp_forms.proofs.list.start_list.Goals as goal

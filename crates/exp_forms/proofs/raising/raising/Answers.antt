@@ -1,5 +1,5 @@
 use Rattle.std.proofs.Common.{refl}
-use Rattle.elab_steps.proofs.Growing.{type_later}
+use Rattle.pat_elab.proofs.of_elab_steps.Growing.{type_later}
 use Rattle.exp_forms.proofs.Leaves.{raise_is}
 use Rattle.exp_forms.proofs.raising.raising.Goals as goal
 

@@ -1,4 +1,4 @@
-use Rattle.elab_steps.proofs.Growing.{type_later}
+use Rattle.pat_elab.proofs.of_elab_steps.Growing.{type_later}
 use Rattle.exp_forms.proofs.JoiningRules.{exp-use, none-use, no_rules_are}
 use Rattle.exp_forms.proofs.rules.start_case.Goals as goal
 

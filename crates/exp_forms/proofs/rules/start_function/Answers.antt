@@ -1,4 +1,4 @@
-use Rattle.elab_steps.proofs.Growing.{grows_on, type_later, comes_before}
+use Rattle.pat_elab.proofs.of_elab_steps.Growing.{grows_on, type_later, comes_before}
 use Rattle.exp_forms.proofs.JoiningRules.{none-use, no_rules_are}
 use Rattle.exp_forms.proofs.rules.start_function.Goals as goal
 

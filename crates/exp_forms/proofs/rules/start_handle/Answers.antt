@@ -1,4 +1,4 @@
-use Rattle.elab_steps.proofs.Growing.{type_later}
+use Rattle.pat_elab.proofs.of_elab_steps.Growing.{type_later}
 use Rattle.exp_forms.proofs.JoiningRules.{exn-use, exp-use, no_rules_are}
 use Rattle.exp_forms.proofs.rules.start_handle.Goals as goal
 

@@ -1,5 +1,5 @@
 use Rattle.std.proofs.Common.{◌∙◌}
-use Rattle.elab_steps.proofs.Growing.{grows_on, type_later, comes_before}
+use Rattle.pat_elab.proofs.of_elab_steps.Growing.{grows_on, type_later, comes_before}
 use Rattle.exp_forms.proofs.series.make_truth.Goals as goal
 
 pub unify-requires-clause-a : goal.unify-requires-clause-a

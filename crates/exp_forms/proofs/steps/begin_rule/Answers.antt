@@ -1,7 +1,7 @@
 use Rattle.std.proofs.Common.{[], subst, sym}
 use Rattle.sml_tree.specs.TreeOf.{pat_of}
-use Rattle.elab_context.proofs.Reading.{context_later}
-use Rattle.elab_steps.proofs.Growing.{type_later}
+use Rattle.pat_elab.proofs.of_elab_context.Reading.{context_later}
+use Rattle.pat_elab.proofs.of_elab_steps.Growing.{type_later}
 use Rattle.pat_elab.specs.Elaborated.{IsPat}
 use Rattle.exp_forms.proofs.steps.begin_rule.Goals as goal
 

@@ -2,7 +2,7 @@ use Rattle.std.proofs.Common.{map, refl, ap}
 use Rattle.ir_plain.specs.Tree.{con_alone}
 use Rattle.ty_core.specs.Types.{con, name, typs_of}
 use Rattle.match_compile.specs.Compile.{scoped}
-use Rattle.match_types.proofs.Seeing.{sees-before}
+use Rattle.match_steps.proofs.of_match_types.Seeing.{sees-before}
 use Rattle.exp_steps.proofs.Leaves.{alone, earlier}
 use Rattle.exp_steps.proofs.atoms.push_constructor.Goals as goal
 

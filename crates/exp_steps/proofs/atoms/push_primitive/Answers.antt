@@ -1,7 +1,7 @@
 use Rattle.std.proofs.Common.{map, refl, ap}
 use Rattle.ir_plain.specs.Tree.{prim_alone}
 use Rattle.match_compile.specs.Compile.{scoped, used_at}
-use Rattle.match_types.proofs.Seeing.{sees-before}
+use Rattle.match_steps.proofs.of_match_types.Seeing.{sees-before}
 use Rattle.exp_steps.proofs.Leaves.{alone, earlier}
 use Rattle.exp_steps.proofs.atoms.push_primitive.Goals as goal
 

@@ -2,7 +2,7 @@ use Rattle.std.proofs.Common.{map, refl, ap₂}
 use Rattle.ir_plain.specs.Tree.{use_of}
 use Rattle.ir_poly.specs.Tests.{inst}
 use Rattle.match_compile.specs.Compile.{all_scoped}
-use Rattle.match_types.proofs.Seeing.{sees-before, keeps-on}
+use Rattle.match_steps.proofs.of_match_types.Seeing.{sees-before, keeps-on}
 use Rattle.exp_steps.proofs.Leaves.{alone, earlier, number-seen}
 use Rattle.exp_steps.proofs.atoms.push_variable.Goals as goal
 

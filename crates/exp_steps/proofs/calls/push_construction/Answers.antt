@@ -1,6 +1,6 @@
 use Rattle.std.proofs.Common.{ap, ◌∙◌}
 use Rattle.match_compile.specs.Compile.{building, scoped}
-use Rattle.match_types.proofs.Seeing.{sees-before}
+use Rattle.match_steps.proofs.of_match_types.Seeing.{sees-before}
 use Rattle.exp_steps.specs.Ways.{built_of}
 use Rattle.exp_steps.proofs.Building.{pushed-after}
 use Rattle.exp_steps.proofs.calls.push_construction.Goals as goal

@@ -2,8 +2,8 @@ use Rattle.std.proofs.Common.{Some, ap₂}
 use Rattle.ir_plain.specs.Tree.{prim}
 use Rattle.plain_tree.specs.TreeOf.{atoms_of}
 use Rattle.match_compile.specs.Compile.{scoped}
-use Rattle.match_types.specs.Views.{reading}
-use Rattle.match_types.proofs.Seeing.{sees-before}
+use Rattle.match_steps.specs.of_match_types.Views.{reading}
+use Rattle.match_steps.proofs.of_match_types.Seeing.{sees-before}
 use Rattle.exp_steps.specs.Making.{atoms_in}
 use Rattle.exp_steps.specs.Ways.{type_or_unit}
 use Rattle.exp_steps.proofs.Building.{performed-makes, pushed-after}

@@ -3,8 +3,8 @@ use Rattle.label_rows.specs.Order.{sorted_by}
 use Rattle.ir_plain.specs.Tree.{make_record}
 use Rattle.plain_tree.specs.TreeOf.{row_of}
 use Rattle.match_compile.specs.Compile.{scoped}
-use Rattle.match_types.specs.Views.{reading}
-use Rattle.match_types.proofs.Seeing.{sees-before}
+use Rattle.match_steps.specs.of_match_types.Views.{reading}
+use Rattle.match_steps.proofs.of_match_types.Seeing.{sees-before}
 use Rattle.exp_steps.proofs.Building.{record-makes, pushed-after}
 use Rattle.exp_steps.proofs.calls.push_record.Goals as goal
 

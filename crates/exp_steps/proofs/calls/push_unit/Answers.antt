@@ -3,8 +3,8 @@ use Rattle.ir_plain.specs.Tree.{make_record, no_row}
 use Rattle.ir_poly.specs.Types.{unit_type}
 use Rattle.plain_tree.specs.TreeOf.{row_of}
 use Rattle.match_compile.specs.Compile.{scoped}
-use Rattle.match_types.specs.Views.{reading}
-use Rattle.match_types.proofs.Seeing.{sees-before}
+use Rattle.match_steps.specs.of_match_types.Views.{reading}
+use Rattle.match_steps.proofs.of_match_types.Seeing.{sees-before}
 use Rattle.exp_steps.proofs.Building.{pushed-after}
 use Rattle.exp_steps.proofs.calls.push_unit.Goals as goal
 

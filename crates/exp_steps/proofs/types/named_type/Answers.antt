@@ -1,7 +1,7 @@
 use Rattle.std.proofs.Common.{◌≡◌, slice_get, Some, refl, subst}
 use Rattle.ty_core.specs.Types.{con, name}
 use Rattle.ty_table.specs.TypeAt.{types_at}
-use Rattle.match_types.proofs.Seeing.{keeps-by}
+use Rattle.match_steps.proofs.of_match_types.Seeing.{keeps-by}
 use Rattle.exp_steps.proofs.Leaves.{named-stands}
 use Rattle.exp_steps.proofs.types.named_type.Goals as goal
 

@@ -1,8 +1,8 @@
 use Rattle.std.proofs.Common.{refl, sym, ap, subst, length, map, ◌∙◌}
 use Rattle.ty_table.specs.TypeAt.{type_at, AllBelow}
 use Rattle.ty_table.proofs.Building.{below-more}
-use Rattle.match_types.proofs.Seeing.{keeps-same, keeps-on, sees-before}
-use Rattle.match_types.proofs.Standing.{all-below-append}
+use Rattle.match_steps.proofs.of_match_types.Seeing.{keeps-same, keeps-on, sees-before}
+use Rattle.match_steps.proofs.of_match_types.Standing.{all-below-append}
 use Rattle.exp_steps.proofs.Leaves.{types-more}
 use Rattle.exp_steps.proofs.types.scoped_types.Goals as goal
 

@@ -1,7 +1,7 @@
 use Rattle.std.proofs.Common.{◌≡◌, length, map, take}
 use Rattle.ty_table.specs.TypeAt.{type_at, AllBelow}
 use Rattle.match_compile.specs.Compile.{all_scoped}
-use Rattle.match_types.specs.Views.{View, Sees, Keeps}
+use Rattle.match_steps.specs.of_match_types.Views.{View, Sees, Keeps}
 use Rattle.exp_steps.proofs.types.scoped_types.Given as goal
 
 abbrev pub invariant-loop-i : goal.invariant-loop-i

@@ -1,7 +1,7 @@
 use Rattle.std.proofs.Common.{sym, ap, ◌∙◌}
 use Rattle.match_compile.specs.Compile.{general_shape}
 use Rattle.prog_tree.specs.TreeOf.{pat_of}
-use Rattle.exp_steps.proofs.Heads.{chain-alone}
+use Rattle.exp_blocks.proofs.of_exp_steps.Heads.{chain-alone}
 use Rattle.general_bindings.proofs.Rows.{chain-recorded}
 use Rattle.general_bindings.proofs.bindings.+sole_variable.Goals as goal
 

@@ -2,7 +2,7 @@ use Rattle.std.proofs.Common.{[], refl, ap, ◌∙◌}
 use Rattle.ir_plain.specs.Tree.{ret, let_in, raise_initial}
 use Rattle.ir_values.specs.Primitives.{bind_name}
 use Rattle.match_compile.specs.Compile.{atom}
-use Rattle.match_steps.specs.Steps.{stand}
+use Rattle.pattern_tests.specs.of_match_steps.Steps.{stand}
 use Rattle.general_bindings.proofs.records.raise_bind.Goals as goal
 
 pub returns-clause-gives : goal.returns-clause-gives

@@ -1,7 +1,7 @@
 use Rattle.std.proofs.Common.{◌∙◌}
 use Rattle.elab_context.proofs.Reading.{context_later}
 use Rattle.elab_steps.proofs.Changing.{if-ok}
-use Rattle.pat_elab.proofs.Forms.{all-later}
+use Rattle.rec_groups.proofs.of_pat_elab.Forms.{all-later}
 use Rattle.general_decs.proofs.Lowering.{declared-later, outer-later}
 use Rattle.general_decs.proofs.finish.finish.Goals as goal
 

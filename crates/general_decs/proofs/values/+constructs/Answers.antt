@@ -2,7 +2,7 @@ use Rattle.std.proofs.Common.{sym, ap, ◌∙◌}
 use Rattle.sml_tree.specs.TreeOf.{exp_of}
 use Rattle.core_rules.specs.Typing.{is_conexp}
 use Rattle.elab_typed.specs.Contexts.{generic}
-use Rattle.exp_forms.proofs.Nodes.{source-Apply, source-Chain, source-Sequence, source-Typed, source-Vid}
+use Rattle.rec_groups.proofs.of_exp_forms.Nodes.{source-Apply, source-Chain, source-Sequence, source-Typed, source-Vid}
 use Rattle.general_decs.specs.Values.{is_nil}
 use Rattle.general_decs.proofs.Valued.{applied-makes, chain-makes, sequence-makes, two}
 use Rattle.general_decs.proofs.values.+constructs.Goals as goal

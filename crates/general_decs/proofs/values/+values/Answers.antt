@@ -4,7 +4,7 @@ use Rattle.core_rules.specs.Typing.{is_non_expansive}
 use Rattle.prog_known.specs.Lists.{all_hold}
 use Rattle.prog_known.proofs.ListLemmas.{drop-next-is, all-next, all-ends}
 use Rattle.elab_typed.specs.Contexts.{generic}
-use Rattle.exp_forms.proofs.Nodes.{source-Apply, source-Chain, source-List, source-Record, source-Sequence, source-Tuple}
+use Rattle.rec_groups.proofs.of_exp_forms.Nodes.{source-Apply, source-Chain, source-List, source-Record, source-Sequence, source-Tuple}
 use Rattle.general_decs.specs.Values.{applied_is, exp_is, field_is, is_nil, part_is}
 use Rattle.general_decs.proofs.Valued.{applied-are, chain-are, elements-are, fields-are, numbered-are, one-applied, sequence-is, two}
 use Rattle.general_decs.proofs.values.+values.Goals as goal

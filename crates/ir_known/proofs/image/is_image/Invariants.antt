@@ -1,5 +1,5 @@
 use Rattle.ty_core.specs.Types.{nodes}
-use Rattle.ty_table.specs.TypeAt.{type_at}
+use Rattle.ir_tables.specs.of_ty_table.TypeAt.{type_at}
 use Rattle.ir_known.specs.Asked.{total}
 use Rattle.ir_known.specs.Images.{IsImage, image_of}
 use Rattle.ir_known.proofs.Walks.{Walked}

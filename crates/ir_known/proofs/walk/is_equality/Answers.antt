@@ -1,6 +1,6 @@
 use Rattle.std.proofs.Common.{Some, ap, sym, ◌∙◌}
-use Rattle.ty_table.specs.TypeAt.{type_at}
-use Rattle.ir_poly.specs.Types.{admits_in}
+use Rattle.ir_tables.specs.of_ty_table.TypeAt.{type_at}
+use Rattle.ir_tables.specs.of_ir_poly.Types.{admits_in}
 use Rattle.ir_known.specs.Knows.{marks_of}
 use Rattle.ir_known.proofs.FewSo.{admits-closed, admits-nowhere, admits-few}
 use Rattle.ir_known.proofs.walk.is_equality.Goals as goal

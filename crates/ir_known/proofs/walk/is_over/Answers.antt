@@ -1,5 +1,5 @@
 use Rattle.std.proofs.Common.{sym, ◌∙◌}
-use Rattle.ty_table.specs.TypeAt.{type_at}
+use Rattle.ir_tables.specs.of_ty_table.TypeAt.{type_at}
 use Rattle.ir_known.specs.Knows.{marks_of}
 use Rattle.ir_known.proofs.FewSo.{few-answers}
 use Rattle.ir_known.proofs.walk.is_over.Goals as goal

@@ -1,6 +1,6 @@
 use Rattle.std.proofs.Common.{sym, ◌∙◌, subst}
 use Rattle.ty_core.specs.TypesOf.{head_of}
-use Rattle.ty_table.specs.TypeAt.{types_at}
+use Rattle.ir_tables.specs.of_ty_table.TypeAt.{types_at}
 use Rattle.ir_known.specs.Knows.{marks_of}
 use Rattle.ir_known.specs.Asked.{Asked}
 use Rattle.ir_known.proofs.Opening.{opens-none, opens-parts, always, so-variable, not-so-variable}

@@ -1,5 +1,5 @@
 use Rattle.std.proofs.Common.{length, nat_eq, ap, ◌∙◌}
-use Rattle.prog_parts.proofs.Truths.{two}
+use Rattle.prog_exps.proofs.of_prog_parts.Truths.{two}
 use Rattle.ir_prog.proofs.form.has_tables.Goals as goal
 
 pub returns : goal.returns

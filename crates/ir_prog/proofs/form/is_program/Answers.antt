@@ -1,4 +1,4 @@
-use Rattle.prog_parts.proofs.Truths.{two}
+use Rattle.prog_exps.proofs.of_prog_parts.Truths.{two}
 use Rattle.std.proofs.Common.{refl}
 use Rattle.ir_prog.specs.Programs.{prog_of}
 use Rattle.ir_prog.proofs.Formed.{formed}

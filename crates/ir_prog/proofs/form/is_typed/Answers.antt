@@ -1,5 +1,5 @@
 use Rattle.std.proofs.Common.{ap, ◌∙◌}
-use Rattle.prog_leaves.specs.Right.{decs_right}
+use Rattle.prog_exps.specs.of_prog_leaves.Right.{decs_right}
 use Rattle.ir_prog.proofs.Formed.{typed-is}
 use Rattle.ir_prog.proofs.form.is_typed.Goals as goal
 

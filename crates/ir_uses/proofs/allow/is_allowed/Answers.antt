@@ -1,5 +1,5 @@
 use Rattle.ty_table.specs.TypeAt.{type_at}
-use Rattle.ir_poly.specs.Types.{admits_in}
+use Rattle.ir_known.specs.of_ir_poly.Types.{admits_in}
 use Rattle.ir_known.specs.Knows.{marks_of}
 use Rattle.ir_uses.proofs.ClassLemmas.{mark-decided}
 use Rattle.ir_uses.proofs.allow.is_allowed.Goals as goal

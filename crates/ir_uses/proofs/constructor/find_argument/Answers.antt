@@ -1,6 +1,6 @@
 use Rattle.std.proofs.Common.{ap, ◌∙◌}
 use Rattle.std.specs.Option.{option_map}
-use Rattle.ir_poly.specs.Types.{find}
+use Rattle.ir_known.specs.of_ir_poly.Types.{find}
 use Rattle.ir_known.proofs.Declaring.{not-yes}
 use Rattle.ir_uses.specs.Uses.{table_at}
 use Rattle.ir_uses.specs.Rows.{argument_type, row_kind}

@@ -1,8 +1,8 @@
 use Rattle.std.proofs.Common.{ap, ◌∙◌}
 use Rattle.std.specs.Option.{option_map}
-use Rattle.ir_poly.specs.Types.{initial_constructors, find}
-use Rattle.ir_tables.specs.Rows.{constructor_at}
-use Rattle.ir_tables.specs.Tables.{constructors_of}
+use Rattle.ir_known.specs.of_ir_poly.Types.{initial_constructors, find}
+use Rattle.ir_known.specs.of_ir_tables.Rows.{constructor_at}
+use Rattle.ir_known.specs.of_ir_tables.Tables.{constructors_of}
 use Rattle.ir_uses.specs.Rows.{kind_of, row_kind}
 use Rattle.ir_uses.proofs.Constructing.{row-first, row-later, row-kind}
 use Rattle.ir_uses.proofs.constructor.find_row.Goals as goal

@@ -1,7 +1,7 @@
 use Rattle.std.proofs.Common.{ap, map, ◌∙◌}
 use Rattle.std.specs.Option.{option_map}
 use Rattle.ty_table.specs.TypeAt.{type_at}
-use Rattle.ir_poly.specs.Types.{argument_at}
+use Rattle.ir_known.specs.of_ir_poly.Types.{argument_at}
 use Rattle.ir_uses.specs.Uses.{table_at}
 use Rattle.ir_uses.specs.Rows.{argument_type}
 use Rattle.ir_uses.proofs.Constructing.{alone-found, alone-none, alone-no-name}

@@ -1,7 +1,7 @@
 use Rattle.std.proofs.Common.{map}
 use Rattle.ty_core.specs.Types.{labels}
 use Rattle.ty_table.specs.TypeAt.{type_at, types_at}
-use Rattle.ir_poly.specs.Types.{list_type, nth_type}
+use Rattle.ir_known.specs.of_ir_poly.Types.{list_type, nth_type}
 use Rattle.ir_known.proofs.Declaring.{not-yes}
 use Rattle.ir_uses.proofs.Constructing.{pair-labels, pair-long, pair-first, pair-is}
 use Rattle.ir_uses.proofs.constructor.is_cell.Goals as goal

@@ -1,7 +1,7 @@
 use Rattle.std.proofs.Common.{map}
 use Rattle.ty_core.specs.Types.{name}
 use Rattle.ty_table.specs.TypeAt.{type_at, types_at}
-use Rattle.ir_poly.specs.Types.{list_name, nth_type}
+use Rattle.ir_known.specs.of_ir_poly.Types.{list_name, nth_type}
 use Rattle.ir_known.proofs.Declaring.{not-yes}
 use Rattle.ir_uses.proofs.Constructing.{datatype-differs, list-long, list-is, named-not}
 use Rattle.ir_uses.proofs.constructor.is_list.Goals as goal

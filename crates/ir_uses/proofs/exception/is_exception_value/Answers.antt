@@ -1,6 +1,6 @@
 use Rattle.std.specs.Option.{option_map}
 use Rattle.ty_table.specs.TypeAt.{type_at}
-use Rattle.ir_poly.specs.TestsChecked.{value_type}
+use Rattle.ir_known.specs.of_ir_poly.TestsChecked.{value_type}
 use Rattle.ir_uses.proofs.Deciding.{same-decided}
 use Rattle.ir_uses.proofs.exception.is_exception_value.Goals as goal
 

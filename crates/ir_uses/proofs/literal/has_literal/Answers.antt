@@ -1,6 +1,6 @@
 use Rattle.std.proofs.Common.{◌↔◌, ◌≡◌, IsTrue, subst}
 use Rattle.ty_table.specs.TypeAt.{type_at}
-use Rattle.ir_poly.specs.Types.{of_name}
+use Rattle.ir_known.specs.of_ir_poly.Types.{of_name}
 use Rattle.ir_uses.proofs.Deciding.{literal-decided, literal-fits}
 use Rattle.ir_uses.proofs.literal.has_literal.Goals as goal
 

@@ -1,7 +1,7 @@
 use Rattle.std.proofs.Common.{◌↔◌, IsTrue, subst}
 use Rattle.ty_core.specs.Marks.{Allows}
 use Rattle.ty_table.specs.TypeAt.{type_at}
-use Rattle.ir_poly.specs.Types.{admits_in}
+use Rattle.ir_known.specs.of_ir_poly.Types.{admits_in}
 use Rattle.ir_known.specs.Knows.{marks_of}
 use Rattle.ir_uses.proofs.Describing.{marked-so}
 use Rattle.ir_uses.proofs.primitive.admits_type.Goals as goal

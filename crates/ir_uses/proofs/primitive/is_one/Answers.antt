@@ -1,6 +1,6 @@
 use Rattle.std.proofs.Common.{[], ◌∷◌}
 use Rattle.ty_table.specs.TypeAt.{type_at}
-use Rattle.ir_poly.specs.Types.{put}
+use Rattle.ir_known.specs.of_ir_poly.Types.{put}
 use Rattle.ir_uses.specs.Shapes.{shape_type}
 use Rattle.ir_uses.proofs.Describing.{length-differs, only-one}
 use Rattle.ir_uses.proofs.primitive.is_one.Goals as goal

@@ -1,6 +1,6 @@
 use Rattle.std.proofs.Common.{[], ◌∷◌, arith}
 use Rattle.ty_table.specs.TypeAt.{type_at}
-use Rattle.ir_poly.specs.Types.{put}
+use Rattle.ir_known.specs.of_ir_poly.Types.{put}
 use Rattle.ir_known.proofs.Declaring.{not-yes}
 use Rattle.ir_uses.specs.Shapes.{shape_type}
 use Rattle.ir_uses.proofs.Describing.{length-differs, first-differs, second}

@@ -1,5 +1,5 @@
 use Rattle.std.proofs.Common.{◌≡◌, true, map, take}
-use Rattle.ir_poly.specs.Types.{ascend}
+use Rattle.ir_known.specs.of_ir_poly.Types.{ascend}
 use Rattle.ir_uses.proofs.record.do_ascend.Given as goal
 
 abbrev pub invariant-loop-i : goal.invariant-loop-i

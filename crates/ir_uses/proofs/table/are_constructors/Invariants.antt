@@ -1,5 +1,5 @@
 use Rattle.std.proofs.Common.{◌≡◌, true, take}
-use Rattle.ir_tables.specs.Rows.{constructors_at}
+use Rattle.ir_known.specs.of_ir_tables.Rows.{constructors_at}
 use Rattle.prog_check.specs.Program.{check_table}
 use Rattle.ir_uses.proofs.table.are_constructors.Given as goal
 

@@ -1,7 +1,7 @@
 use Rattle.std.proofs.Common.{ap, ◌∙◌}
-use Rattle.ir_tables.specs.Rows.{constructors_at}
+use Rattle.ir_known.specs.of_ir_tables.Rows.{constructors_at}
 use Rattle.prog_check.specs.Program.{check_table}
-use Rattle.ir_tables.specs.Tables.{constructors_of}
+use Rattle.ir_known.specs.of_ir_tables.Tables.{constructors_of}
 use Rattle.ir_uses.proofs.Tabling.{table-fits}
 use Rattle.ir_uses.proofs.table.is_table.Goals as goal
 

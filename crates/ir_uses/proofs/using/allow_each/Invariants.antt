@@ -1,6 +1,6 @@
 use Rattle.std.proofs.Common.{map, take}
 use Rattle.ty_table.specs.TypeAt.{type_at}
-use Rattle.ir_poly.specs.Types.{admits_in, AreAllowed}
+use Rattle.ir_known.specs.of_ir_poly.Types.{admits_in, AreAllowed}
 use Rattle.ir_known.specs.Knows.{marks_of}
 use Rattle.ir_uses.proofs.using.allow_each.Given as goal
 

@@ -1,4 +1,4 @@
-use Rattle.ir_poly.specs.Types.{admits_in}
+use Rattle.ir_known.specs.of_ir_poly.Types.{admits_in}
 use Rattle.ir_known.specs.Knows.{marks_of}
 use Rattle.ir_known.proofs.Declaring.{not-yes}
 use Rattle.ir_uses.proofs.Lists.{allowed-long}

@@ -1,5 +1,5 @@
 use Rattle.ty_table.specs.TypeAt.{type_at}
-use Rattle.ir_tables.specs.Tables.{parameters_of}
+use Rattle.ir_known.specs.of_ir_tables.Tables.{parameters_of}
 use Rattle.ir_uses.proofs.UseLemmas.{own-decided}
 use Rattle.ir_uses.proofs.using.is_own_use.Goals as goal
 

@@ -1,6 +1,6 @@
 use Rattle.std.proofs.Common.{map, sym, ◌∙◌}
 use Rattle.ty_table.specs.TypeAt.{type_at}
-use Rattle.ir_tables.specs.Tables.{parameters_of}
+use Rattle.ir_known.specs.of_ir_tables.Tables.{parameters_of}
 use Rattle.ir_known.specs.Knows.{marks_of}
 use Rattle.ir_uses.proofs.UseLemmas.{use-decided, no-use}
 use Rattle.ir_uses.proofs.using.is_variable_use.Goals as goal

@@ -1,6 +1,6 @@
 use Rattle.ty_table.specs.TypeAt.{type_at}
 use Rattle.std.proofs.Common.{◌↔◌, IsTrue, map, subst}
-use Rattle.ir_tables.specs.Tables.{parameters_of}
+use Rattle.ir_known.specs.of_ir_tables.Tables.{parameters_of}
 use Rattle.ir_known.specs.Knows.{marks_of}
 use Rattle.ir_uses.specs.Uses.{IsInstance}
 use Rattle.ir_uses.proofs.UseLemmas.{use-known}

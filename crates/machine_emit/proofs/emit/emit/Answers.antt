@@ -8,8 +8,8 @@ use Rattle.first_tables.specs.TablesOf.{items_of, tables_of}
 use Rattle.machine_code.specs.Image.{text_of}
 use Rattle.image_law.specs.ImageOf.{has, text_in}
 use Rattle.emit_known.proofs.Finding.{all-found}
-use Rattle.machine_emit.specs.declared.refused.EmitRefused.TheVariants.{TooLong}
-use Rattle.machine_emit.proofs.Emitted.{image-is, image-does, too-long, too-large}
+use Rattle.machine_emit.specs.declared.refused.EmitRefused.TheVariants.{Memory, TooLong}
+use Rattle.machine_emit.proofs.Emitted.{image-is, image-does, too-long, short-enough, too-large}
 use Rattle.machine_emit.proofs.Only.{not-long}
 use Rattle.machine_emit.proofs.emit.emit.Goals as goal
 
@@ -107,3 +107,19 @@ returns-clause-large c =
     let ec = c.in_ok-code.ensures texts (c.in_ok-words.ensures.places (program_of p) refl) in
     too-large names (program_of p) found texts same told ws code ew ec (λ e. e ≡ TooLong) c.finish.result c.images_are_small.ensures.long
     c.finish.ensures.too_long
+
+pub returns-clause-memory : goal.returns-clause-memory
+returns-clause-memory c = λ fits.
+    let p = c.args.program.now in
+    let names = c.args.names.now in
+    let found = c.in_ok-found.found.items in
+    let texts = map items_of c.deref-3.result.now in
+    let ws = c.in_ok-words.words.items in
+    let code = c.in_ok-code.code.items in
+    let same : (i : ℕ) → has found i ≡ has (exceptions (program_of p)) i =
+    λ i. c.in_ok-found.ensures i ∙ ap (λ l. has (exceptions (record { tables = tables_of p.tables; funs = map fun_of l })) i) c.deref.ensures.value in
+    let told : (i : ℕ) → text_of texts i ≡ text_in names found i =
+    λ i. ap (λ l. text_of (map items_of l) i) c.deref-3.ensures.value ∙ c.in_ok-identifiers.ensures i ∙ ap (λ l. text_in names l i) c.deref-2.ensures.value in
+    let ew = c.in_ok-words.ensures.words (program_of p) refl in
+    let ec = c.in_ok-code.ensures texts (c.in_ok-words.ensures.places (program_of p) refl) in
+    short-enough names (program_of p) found texts same told ws code ew ec (λ e. e ≡ Memory) c.finish.result fits c.finish.ensures.too_long

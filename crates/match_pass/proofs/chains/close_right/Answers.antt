@@ -1,5 +1,5 @@
 use Rattle.std.proofs.Common.{arith}
-use Rattle.pattern_tests.proofs.Chains.{no-items}
+use Rattle.general_bindings.proofs.of_pattern_tests.Chains.{no-items}
 use Rattle.match_pass.proofs.Rights.{right-whole, right-closed, right-never, right-end}
 use Rattle.match_pass.proofs.chains.close_right.Goals as goal
 

@@ -1,4 +1,4 @@
-use Rattle.exp_blocks.specs.Giving.{otherwise_of}
+use Rattle.general_bindings.specs.of_exp_blocks.Giving.{otherwise_of}
 use Rattle.match_pass.proofs.Choosing.{choice-made}
 use Rattle.match_pass.proofs.choices.push_choice.Goals as goal
 

@@ -1,5 +1,5 @@
 use Rattle.std.proofs.Common.{◌∙◌}
-use Rattle.exp_blocks.proofs.Growing.{grows-on, grows-by}
+use Rattle.general_bindings.proofs.of_exp_blocks.Growing.{grows-on, grows-by}
 use Rattle.match_pass.proofs.Bodies.{body-gives}
 use Rattle.match_pass.proofs.compile.push_body.Goals as goal
 

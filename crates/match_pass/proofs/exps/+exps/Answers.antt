@@ -3,14 +3,14 @@ use Rattle.std.proofs.lemmas.Bool.{eqb-false}
 use Rattle.std.proofs.lemmas.Result.{IfOk-weaker}
 use Rattle.ir_poly.specs.Prog.{type_of}
 use Rattle.match_compile.specs.Compile.{way}
-use Rattle.pattern_tests.specs.Spots.{names_onto}
-use Rattle.exp_steps.specs.Made.{atomic, used, recorded, raised, counted}
-use Rattle.exp_steps.specs.Ways.{way_of}
-use Rattle.exp_steps.proofs.Heads.{no-elements, atom-alone, used-alone, let-alone, case-alone, test-alone, handle-alone, raise-alone, fn-alone, apply-alone, apply-many, infix-alone, infix-many, sequence-alone, sequence-many}
-use Rattle.exp_steps.proofs.Counting.{makes-as, counted-makes, counted-tuple, tuple-as}
-use Rattle.exp_steps.proofs.Fields.{tuple-of-all, all-none, all-made-as}
-use Rattle.exp_blocks.specs.Giving.{otherwise_of}
-use Rattle.exp_blocks.proofs.Growing.{grows-equal, ends-more, ends-as}
+use Rattle.general_bindings.specs.of_pattern_tests.Spots.{names_onto}
+use Rattle.general_bindings.specs.of_exp_steps.Made.{atomic, used, recorded, raised, counted}
+use Rattle.general_bindings.specs.of_exp_steps.Ways.{way_of}
+use Rattle.general_bindings.proofs.of_exp_steps.Heads.{no-elements, atom-alone, used-alone, let-alone, case-alone, test-alone, handle-alone, raise-alone, fn-alone, apply-alone, apply-many, infix-alone, infix-many, sequence-alone, sequence-many}
+use Rattle.general_bindings.proofs.of_exp_steps.Counting.{makes-as, counted-makes, counted-tuple, tuple-as}
+use Rattle.general_bindings.proofs.of_exp_steps.Fields.{tuple-of-all, all-none, all-made-as}
+use Rattle.general_bindings.specs.of_exp_blocks.Giving.{otherwise_of}
+use Rattle.general_bindings.proofs.of_exp_blocks.Growing.{grows-equal, ends-more, ends-as}
 use Rattle.match_pass.specs.Reading.{expression, fields_read, applied_to, left_chain, right_chain, rules_read, case_read, sequence_read, chain_read, chain_exp_read, function_read, let_read, handle_read, decs_read, named_read, by_rules_read}
 use Rattle.match_pass.proofs.Nodes.{atom-node, use-node, record-node, let-node, apply-node, left-node, right-node, case-node, sequence-node, test-node, handle-node, raise-node, fn-node, weight-node, named-node, by_rules-node}
 use Rattle.match_pass.proofs.Making.{made-as, fn-makes, function-as, one-rule, direct-case, direct-fits}
@@ -18,7 +18,7 @@ use Rattle.match_pass.proofs.Loops.{fields-step, fields-end, turn-step, turn-end
 use Rattle.match_pass.proofs.Tuples.{alone-tuple, inner-tuple}
 use Rattle.match_pass.proofs.Joins.{left-opened, left-closed}
 use Rattle.match_pass.proofs.Rights.{left-start, left-all, left-end, left-never}
-use Rattle.pattern_tests.proofs.Chains.{no-items}
+use Rattle.general_bindings.proofs.of_pattern_tests.Chains.{no-items}
 use Rattle.match_pass.proofs.Applying.{apply-none, apply-first, apply-step, apply-end}
 use Rattle.match_pass.proofs.Regions.{names-back}
 use Rattle.match_pass.proofs.Whole.{scoped-makes, let-makes, chain-ends, chain-makes, handle-makes}

@@ -1,5 +1,5 @@
 use Rattle.std.proofs.Common.{length, refl, arith}
-use Rattle.exp_blocks.proofs.Growing.{ends-same, ends-on}
+use Rattle.general_bindings.proofs.of_exp_blocks.Growing.{ends-same, ends-on}
 use Rattle.match_pass.proofs.Seen.{group-none, group-named, group-all}
 use Rattle.match_pass.proofs.groups.bind_group.Goals as goal
 

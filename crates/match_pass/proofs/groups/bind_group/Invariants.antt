@@ -2,7 +2,7 @@ use Rattle.std.proofs.Common.{◌≡◌, ◌≤◌, ◌+◌, length, drop}
 use Rattle.match_compile.specs.Compile.{funs_named}
 use Rattle.match_names.specs.Bindings.{names_of}
 use Rattle.prog_tree.specs.TreeOf.{Reading}
-use Rattle.exp_blocks.specs.Giving.{Ends}
+use Rattle.general_bindings.specs.of_exp_blocks.Giving.{Ends}
 use Rattle.match_pass.specs.Declaring.{funs_read}
 use Rattle.match_pass.proofs.groups.bind_group.Given as goal
 

@@ -1,6 +1,6 @@
 use Rattle.std.proofs.Common.{refl, ap, ◌∙◌}
-use Rattle.pattern_tests.specs.Spots.{names_onto}
-use Rattle.exp_blocks.proofs.Growing.{grows-equal}
+use Rattle.general_bindings.specs.of_pattern_tests.Spots.{names_onto}
+use Rattle.general_bindings.proofs.of_exp_blocks.Growing.{grows-equal}
 use Rattle.match_pass.proofs.Functions.{matched}
 use Rattle.match_pass.proofs.matches.push_match.Goals as goal
 

@@ -1,6 +1,6 @@
 use Rattle.std.proofs.Common.{ap, ◌∙◌}
 use Rattle.ir_known.specs.Knows.{marks_of}
-use Rattle.match_compile.specs.Compile.{standing}
+use Rattle.match_names.specs.of_match_compile.Compile.{standing}
 use Rattle.match_types.proofs.Seeing.{keeps-on}
 use Rattle.match_types.proofs.Standing.{images-more}
 use Rattle.match_types.proofs.types.images.Goals as goal

@@ -1,4 +1,4 @@
-use Rattle.mono_state.proofs.Going.{if-both}
+use Rattle.mono_parts.proofs.of_mono_state.Going.{if-both}
 use Rattle.mono_copy.proofs.Changing.{puts-then}
 use Rattle.mono_copy.proofs.Leaves.{arm-puts, switch-puts}
 use Rattle.mono_copy.proofs.parts.leave_test.Goals as goal

@@ -1,7 +1,7 @@
 use Rattle.std.proofs.Common.{[]}
-use Rattle.mono_state.specs.Seen.{held_of}
-use Rattle.mono_state.specs.declared.word.Word.TheVariants as word
-use Rattle.mono_state.proofs.Growing.{same-longer}
+use Rattle.mono_parts.specs.of_mono_state.Seen.{held_of}
+use Rattle.mono_parts.specs.of_mono_state.declared.word.Word.TheVariants as word
+use Rattle.mono_parts.proofs.of_mono_state.Growing.{same-longer}
 use Rattle.mono_copy.proofs.Changing.{passed, puts-then, puts-word}
 use Rattle.mono_copy.proofs.Leaves.{plain-puts, counted-passes}
 use Rattle.mono_copy.proofs.parts.put_counted.Goals as goal

@@ -1,5 +1,5 @@
 use Rattle.std.proofs.Common.{[]}
-use Rattle.mono_state.proofs.Going.{if-both}
+use Rattle.mono_parts.proofs.of_mono_state.Going.{if-both}
 use Rattle.mono_copy.proofs.Leaves.{ret-puts}
 use Rattle.mono_copy.proofs.parts.put_ret.Goals as goal
 

@@ -1,5 +1,5 @@
-use Rattle.mono_state.specs.Seen.{held_of}
-use Rattle.mono_state.proofs.Growing.{same-longer}
+use Rattle.mono_parts.specs.of_mono_state.Seen.{held_of}
+use Rattle.mono_parts.proofs.of_mono_state.Growing.{same-longer}
 use Rattle.mono_copy.proofs.Changing.{passed}
 use Rattle.mono_copy.proofs.Whole.{words-are, compared-are, nodes-are, past-limit}
 use Rattle.mono_copy.proofs.program.copy_program.Goals as goal

@@ -11,11 +11,11 @@ use Rattle.tests_check.proofs.Rolls.{steps-are, ret-is, switch-is, first-is, mis
 use Rattle.mono_words.specs.Words.{end_sign, last_sign}
 use Rattle.mono_words.specs.Seen.{with_sign, within, out}
 use Rattle.mono_words.specs.Made.{all_bare}
-use Rattle.mono_state.specs.Seen.{Longer, held_of, types_in}
-use Rattle.mono_state.specs.Going.{IsRight, AllHeld}
-use Rattle.mono_state.specs.declared.copier.Copier.{Copier}
-use Rattle.mono_state.specs.declared.word.Word.TheVariants as word
-use Rattle.mono_state.proofs.Growing.{still-held, still-all, on-longer, same-longer}
+use Rattle.mono_parts.specs.of_mono_state.Seen.{Longer, held_of, types_in}
+use Rattle.mono_parts.specs.of_mono_state.Going.{IsRight, AllHeld}
+use Rattle.mono_parts.specs.of_mono_state.declared.copier.Copier.{Copier}
+use Rattle.mono_parts.specs.of_mono_state.declared.word.Word.TheVariants as word
+use Rattle.mono_parts.proofs.of_mono_state.Growing.{still-held, still-all, on-longer, same-longer}
 use Rattle.mono_parts.specs.Steps.{steps_in, functions_in, with_own, parameters_entered, parameters_left}
 use Rattle.mono_parts.proofs.Putting.{dropped}
 use Rattle.mono_copy.specs.Puts.{Puts, Passes}

@@ -1,5 +1,4 @@
-use Rattle.std.proofs.Common.{nat_eq, length, option_map, refl, sym, ap, subst, ◌<◌}
-use Rattle.std.specs.Map.{lookup}
+use Rattle.std.proofs.Common.{nat_eq, length, option_map, refl, sym, subst, ◌<◌}
 use Rattle.indexmap.specs.IndexMap.{get}
 use Rattle.ty_table.specs.TypeAt.{type_at}
 use Rattle.mono_close.specs.Closing.{standing}
@@ -11,8 +10,8 @@ use Rattle.mono_needed.proofs.open.push_arguments.Goals as goal
 
 pub loop-next-init : goal.loop-next-init
 loop-next-init c = record {
-  arguing = argue-begins c.args.constructors.now c.args.sources.now c.args.name (standing c.args.closed.now c.args.slots.now) c.args.closed.now c.args.pending.now.items (get nat_eq c.args.chains.now.last) c.args.chains.now.before.items c.last-next.result c.requires.chained c.last-next.ensures;
-  right = none-right c.args.sources.now c.args.closed.now (standing c.args.closed.now c.args.slots.now) (get nat_eq c.new-known.result) (λ k. ap (λ e. lookup (nat_eq k) e) c.new-known.ensures.empty);
+  arguing = argue-begins c.args.constructors.now c.args.sources.now c.args.name (standing c.args.closed.now c.args.slots.now) c.args.closed.now c.args.found.now.items (get nat_eq c.args.chains.now.last) c.args.chains.now.before.items c.last-next.result c.requires.chained c.last-next.ensures;
+  right = none-right c.args.sources.now c.args.closed.now (standing c.args.closed.now c.args.slots.now) (get nat_eq c.empty.new.known) c.empty.ensures;
   longer = same-long c.args.closed.now;
 }
 
@@ -36,10 +35,10 @@ loop-next-preserved c =
     let of = is-next c.args.constructors.now c.args.name.stamp c.in-Some.i c.loop-next.next c.in-Some.is c.loop-next.invariant.arguing.next_is in
     let latest = subst (IsLatest c.args.constructors.now c.in-Some.i c.args.name.stamp) (sym c.earlier-next.ensures) (c.requires.chained.before_is c.in-Some.i c.args.name.stamp of) in
     record {
-      arguing = argue-goes c.args.constructors.now c.args.sources.now c.args.name (standing c.args.closed.now c.args.slots.now) c.loop-next.closed c.push_argument.new.closed c.args.pending.now.items c.loop-next.pending.items c.push_argument.new.pending.items c.in-Some.i _ _ c.earlier-next.result
+      arguing = argue-goes c.args.constructors.now c.args.sources.now c.args.name (standing c.args.closed.now c.args.slots.now) c.loop-next.closed c.push_argument.new.closed c.args.found.now.items c.loop-next.found.items c.push_argument.new.found.items c.in-Some.i _ _ c.earlier-next.result
           c.in_ok-push_argument.ensures.earlier_stay (read-in c.rows-rows.result.now c.args.constructors.now c.in-Some.i _ c.rows-rows.ensures (next-within c.args.constructors.now c.args.name.stamp c.in-Some.i of))
           refl latest
-          (subst (Arguing c.args.constructors.now c.args.sources.now c.args.name (standing c.args.closed.now c.args.slots.now) c.loop-next.closed c.args.pending.now.items c.loop-next.pending.items) c.in-Some.is c.loop-next.invariant.arguing)
+          (subst (Arguing c.args.constructors.now c.args.sources.now c.args.name (standing c.args.closed.now c.args.slots.now) c.loop-next.closed c.args.found.now.items c.loop-next.found.items) c.in-Some.is c.loop-next.invariant.arguing)
           (standing c.loop-next.closed c.args.slots.now) (λ v. standing-longer c.args.closed.now c.loop-next.closed c.args.slots.now v c.loop-next.invariant.longer c.requires.held)
           (option_map (type_at c.args.sources.now) c.argument_of-argument.result) (c.argument_of-argument.ensures c.args.sources.now) c.in_ok-push_argument.ensures.pushed;
       right = right-same c.args.sources.now c.push_argument.new.closed (standing c.loop-next.closed c.args.slots.now) (standing c.args.closed.now c.args.slots.now) (get nat_eq c.push_argument.new.known) (λ v. standing-longer c.args.closed.now c.loop-next.closed c.args.slots.now v c.loop-next.invariant.longer c.requires.held) c.in_ok-push_argument.ensures.right;
@@ -47,7 +46,7 @@ loop-next-preserved c =
     }
 
 pub returns-clause-opens : goal.returns-clause-opens
-returns-clause-opens c = argue-ends c.args.constructors.now c.args.sources.now c.args.name (standing c.args.closed.now c.args.slots.now) c.loop-next.closed c.args.pending.now.items c.loop-next.pending.items c.loop-next.next c.in_default.is c.loop-next.invariant.arguing
+returns-clause-opens c = argue-ends c.args.constructors.now c.args.sources.now c.args.name (standing c.args.closed.now c.args.slots.now) c.loop-next.closed c.args.found.now.items c.loop-next.found.items c.loop-next.next c.in_default.is c.loop-next.invariant.arguing
 
 pub returns-clause-earlier_stay : goal.returns-clause-earlier_stay
 returns-clause-earlier_stay c = c.loop-next.invariant.longer

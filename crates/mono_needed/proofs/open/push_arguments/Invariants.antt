@@ -7,7 +7,7 @@ use Rattle.mono_needed.proofs.open.push_arguments.Given as goal
 
 abbrev pub invariant-loop-next : goal.invariant-loop-next
 invariant-loop-next l = record {
-  arguing : Arguing l.constructors l.sources l.name (standing l.fn.closed l.slots) l.closed l.fn.pending.items l.pending.items l.next;
+  arguing : Arguing l.constructors l.sources l.name (standing l.fn.closed l.slots) l.closed l.fn.found.items l.found.items l.next;
   right : AreRight l.sources (standing l.fn.closed l.slots) (get nat_eq l.known) l.closed;
   longer : Longer l.fn.closed l.closed;
 }

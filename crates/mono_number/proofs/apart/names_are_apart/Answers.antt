@@ -1,6 +1,6 @@
 use Rattle.std.proofs.Common.{subst}
 use Rattle.mono_names.specs.Named.{AreHeld}
-use Rattle.mono_state.specs.Seen.{held_of}
+use Rattle.mono_read.specs.of_mono_state.Seen.{held_of}
 use Rattle.mono_number.specs.Moves.{AreWithin}
 use Rattle.mono_number.proofs.NamesApart.{copies-apart}
 use Rattle.mono_number.proofs.apart.names_are_apart.Goals as goal

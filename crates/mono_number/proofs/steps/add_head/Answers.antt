@@ -1,6 +1,6 @@
 use Rattle.std.proofs.Common.{nat_eq, subst, arith}
 use Rattle.indexmap.specs.IndexMap.{get}
-use Rattle.mono_state.specs.declared.word.Word.TheVariants as word
+use Rattle.mono_read.specs.of_mono_state.declared.word.Word.TheVariants as word
 use Rattle.mono_number.specs.Moves.{Moves, makes}
 use Rattle.mono_number.proofs.Given.{if-ok}
 use Rattle.mono_number.proofs.Heads.{head-added}

@@ -1,5 +1,5 @@
 use Rattle.std.proofs.Common.{◌≡◌, ◌≤◌, ◌+◌, map, drop}
-use Rattle.mono_state.specs.Seen.{Held, sign_of}
+use Rattle.mono_read.specs.of_mono_state.Seen.{Held, sign_of}
 use Rattle.mono_number.specs.Walking.{head_count}
 use Rattle.mono_number.specs.Moves.{Texts}
 use Rattle.mono_number.proofs.steps.count_heads.Given as goal

@@ -1,6 +1,6 @@
 use Rattle.std.proofs.Common.{nat_eq}
 use Rattle.indexmap.specs.IndexMap.{get}
-use Rattle.mono_state.specs.declared.word.Word.TheVariants as word
+use Rattle.mono_read.specs.of_mono_state.declared.word.Word.TheVariants as word
 use Rattle.mono_number.proofs.Wording.{at-word, num-exception}
 use Rattle.mono_number.proofs.words.word_number.Goals as goal
 

@@ -1,5 +1,5 @@
 use Rattle.std.proofs.Common.{◌∙◌, sym, ap, option_and_then}
-use Rattle.mono_fits.specs.Fits.{argument_in}
+use Rattle.mono_uses.specs.of_mono_fits.Fits.{argument_in}
 use Rattle.mono_operations.specs.Reads.{sort_in}
 use Rattle.mono_operations.proofs.Scopes.{found-then}
 use Rattle.mono_operations.proofs.atom.atom_argument.Goals as goal

@@ -1,6 +1,6 @@
 use Rattle.std.proofs.Common.{◌∙◌, ◌++◌, sym, ap}
-use Rattle.mono_fits.specs.Asked.{given}
-use Rattle.mono_fits.specs.Fits.{sort_fits}
+use Rattle.mono_uses.specs.of_mono_fits.Asked.{given}
+use Rattle.mono_uses.specs.of_mono_fits.Fits.{sort_fits}
 use Rattle.mono_operations.specs.Reads.{sort_in}
 use Rattle.mono_operations.proofs.Scopes.{found-given}
 use Rattle.mono_operations.proofs.operation.use_fits.Goals as goal

@@ -1,5 +1,5 @@
 use Rattle.sml_tree.specs.TreeOf.{ty_of}
-use Rattle.elab_steps.proofs.Growing.{type_later}
+use Rattle.elab_context.proofs.of_elab_steps.Growing.{type_later}
 use Rattle.pat_elab.proofs.Annotated.{annotated_is}
 use Rattle.pat_elab.proofs.annotate.annotate.Goals as goal
 

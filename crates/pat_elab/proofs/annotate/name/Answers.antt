@@ -1,5 +1,5 @@
 use Rattle.sml_tree.specs.TreeOf.{some_ty_of}
-use Rattle.elab_steps.proofs.Growing.{type_later}
+use Rattle.elab_context.proofs.of_elab_steps.Growing.{type_later}
 use Rattle.pat_elab.proofs.Annotated.{named_is}
 use Rattle.pat_elab.proofs.annotate.name.Goals as goal
 

@@ -1,7 +1,7 @@
 use Rattle.std.proofs.Common.{sym, subst}
 use Rattle.sml_tree.specs.BareTree.{built_con_pat}
 use Rattle.sml_tree.specs.declared.ident.BuiltIn.{BuiltIn}
-use Rattle.elab_steps.proofs.Changing.{if-ok}
+use Rattle.elab_context.proofs.of_elab_steps.Changing.{if-ok}
 use Rattle.pat_elab.specs.Matched.{IsHeaded}
 use Rattle.pat_elab.proofs.built.built_before.Goals as goal
 

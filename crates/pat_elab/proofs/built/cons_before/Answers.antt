@@ -1,8 +1,8 @@
 use Rattle.std.proofs.Common.{ap, subst}
 use Rattle.prog_tree.specs.declared.tree.Head.TheVariants as head
 use Rattle.elab_context.proofs.Reading.{context_later}
-use Rattle.elab_steps.specs.Growing.{Always, IsWithin}
-use Rattle.elab_steps.proofs.Growing.{grows_on, type_later}
+use Rattle.elab_context.specs.of_elab_steps.Growing.{Always, IsWithin}
+use Rattle.elab_context.proofs.of_elab_steps.Growing.{grows_on, type_later}
 use Rattle.pat_elab.proofs.Listing.{cons_headed}
 use Rattle.pat_elab.proofs.built.cons_before.Goals as goal
 

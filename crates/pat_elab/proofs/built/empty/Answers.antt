@@ -1,5 +1,5 @@
 use Rattle.std.proofs.Common.{subst}
-use Rattle.elab_steps.specs.Growing.{Always, IsWithin}
+use Rattle.elab_context.specs.of_elab_steps.Growing.{Always, IsWithin}
 use Rattle.pat_elab.proofs.Listing.{empty_is}
 use Rattle.pat_elab.proofs.built.empty.Goals as goal
 

@@ -1,4 +1,4 @@
-use Rattle.elab_steps.proofs.Changing.{if-ok}
+use Rattle.elab_context.proofs.of_elab_steps.Changing.{if-ok}
 use Rattle.pat_elab.proofs.Chains.{infix_is}
 use Rattle.pat_elab.proofs.chain.infix.Goals as goal
 

@@ -1,6 +1,6 @@
 use Rattle.std.proofs.Common.{refl}
 use Rattle.elab_context.proofs.Reading.{context_later}
-use Rattle.elab_steps.proofs.Growing.{grows_on, type_later}
+use Rattle.elab_context.proofs.of_elab_steps.Growing.{grows_on, type_later}
 use Rattle.pat_elab.proofs.Chains.{joined_is}
 use Rattle.pat_elab.proofs.chain.join.Goals as goal
 

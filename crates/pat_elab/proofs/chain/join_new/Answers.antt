@@ -1,5 +1,5 @@
 use Rattle.elab_context.proofs.Reading.{context_later}
-use Rattle.elab_steps.proofs.Growing.{grows_on, type_later}
+use Rattle.elab_context.proofs.of_elab_steps.Growing.{grows_on, type_later}
 use Rattle.pat_elab.proofs.Chains.{joined_new}
 use Rattle.pat_elab.proofs.chain.join_new.Goals as goal
 

@@ -2,8 +2,8 @@ use Rattle.std.proofs.Common.{map, take, get_or, sym, subst, arith}
 use Rattle.sml_tree.specs.TreeOf.{pat_of, pat_field_of, pat_part_of}
 use Rattle.sml_tree.specs.declared.tree.Pat.TheVariants as node
 use Rattle.elab_context.proofs.Reading.{context_later}
-use Rattle.elab_steps.specs.Growing.{HasType}
-use Rattle.elab_steps.proofs.Growing.{grows_on, type_later}
+use Rattle.elab_context.specs.of_elab_steps.Growing.{HasType}
+use Rattle.elab_context.proofs.of_elab_steps.Growing.{grows_on, type_later}
 use Rattle.pat_elab.specs.Fields.{numbered}
 use Rattle.pat_elab.proofs.ListsDo.{none_are}
 use Rattle.pat_elab.proofs.Sources.{source-Vid}

@@ -1,9 +1,9 @@
 use Rattle.std.proofs.Common.{refl, sym, subst}
 use Rattle.std.specs.List.{AllByRecursion}
 use Rattle.label_rows.specs.declared.sort.Field.{Field}
-use Rattle.elab_steps.specs.Growing.{HasType, Always, IsWithin}
-use Rattle.elab_steps.specs.Rows.{HasFields}
-use Rattle.elab_steps.specs.World.{type_of}
+use Rattle.elab_context.specs.of_elab_steps.Growing.{HasType, Always, IsWithin}
+use Rattle.elab_context.specs.of_elab_steps.Rows.{HasFields}
+use Rattle.elab_context.specs.of_elab_steps.World.{type_of}
 use Rattle.pat_elab.proofs.FieldsDo.{open_is}
 use Rattle.pat_elab.proofs.fields.open_record.Goals as goal
 

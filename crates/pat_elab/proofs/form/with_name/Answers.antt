@@ -1,6 +1,6 @@
 use Rattle.std.proofs.Common.{refl}
 use Rattle.sml_tree.specs.TreeOf.{some_ty_of}
-use Rattle.elab_steps.proofs.Growing.{grows_same}
+use Rattle.elab_context.proofs.of_elab_steps.Growing.{grows_same}
 use Rattle.pat_elab.proofs.Forms.{as_is}
 use Rattle.pat_elab.proofs.form.with_name.Goals as goal
 

@@ -1,5 +1,5 @@
 use Rattle.std.proofs.Common.{[], refl, sym, subst, ◌∙◌}
-use Rattle.elab_steps.specs.Growing.{Always, IsWithin}
+use Rattle.elab_context.specs.of_elab_steps.Growing.{Always, IsWithin}
 use Rattle.elab_context.specs.Entries.{entry_in}
 use Rattle.pat_elab.proofs.Leaves.{bound_is, free-from-true}
 use Rattle.pat_elab.proofs.leaf.bind_variable.Goals as goal

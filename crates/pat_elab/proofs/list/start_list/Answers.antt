@@ -1,7 +1,7 @@
 use Rattle.std.proofs.Common.{refl, subst}
 use Rattle.elab_context.proofs.Reading.{context_later}
-use Rattle.elab_steps.specs.Growing.{Always, IsWithin}
-use Rattle.elab_steps.proofs.Growing.{grows_on, type_later}
+use Rattle.elab_context.specs.of_elab_steps.Growing.{Always, IsWithin}
+use Rattle.elab_context.proofs.of_elab_steps.Growing.{grows_on, type_later}
 use Rattle.pat_elab.proofs.ListsDo.{listed_is}
 use Rattle.pat_elab.proofs.list.start_list.Goals as goal
 

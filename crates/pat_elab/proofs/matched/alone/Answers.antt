@@ -2,7 +2,7 @@ use Rattle.std.proofs.Common.{refl, ◌∙◌}
 use Rattle.sml_tree.specs.TreeOf.{long_vid_of}
 use Rattle.elab_context.specs.declared.entry.Entry.TheVariants.{Constructor, Initial, Raised}
 use Rattle.std.proofs.Common.{None, ap}
-use Rattle.elab_steps.proofs.Growing.{grows_same}
+use Rattle.elab_context.proofs.of_elab_steps.Growing.{grows_same}
 use Rattle.pat_elab.proofs.Matching.{entry-held, entry-is, con_alone_is, initial_alone_is, raised_alone_is}
 use Rattle.pat_elab.proofs.matched.alone.Goals as goal
 

@@ -2,7 +2,7 @@ use Rattle.std.proofs.Common.{refl}
 use Rattle.sml_tree.specs.TreeOf.{long_vid_of}
 use Rattle.elab_context.specs.declared.entry.Entry.TheVariants.{Constructor, Reference, Raised}
 use Rattle.elab_context.proofs.Reading.{context_later}
-use Rattle.elab_steps.proofs.Growing.{grows_same, type_later}
+use Rattle.elab_context.proofs.of_elab_steps.Growing.{grows_same, type_later}
 use Rattle.pat_elab.proofs.Matching.{entry-held, entry-is, con_headed, ref_headed, exn_headed}
 use Rattle.pat_elab.proofs.matched.before.Goals as goal
 

@@ -1,7 +1,7 @@
 use Rattle.std.proofs.Common.{Some, sym, ap, ◌∙◌}
 use Rattle.std.specs.Prelude.{option_map}
-use Rattle.elab_steps.specs.World.{type_of}
-use Rattle.elab_steps.proofs.Growing.{grows_on, comes_before}
+use Rattle.elab_context.specs.of_elab_steps.World.{type_of}
+use Rattle.elab_context.proofs.of_elab_steps.Growing.{grows_on, comes_before}
 use Rattle.pat_elab.proofs.matched.exception_before.Goals as goal
 
 pub returns-clause-grows : goal.returns-clause-grows

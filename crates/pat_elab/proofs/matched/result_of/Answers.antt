@@ -1,4 +1,4 @@
-use Rattle.elab_steps.proofs.Growing.{grows_on, type_later}
+use Rattle.elab_context.proofs.of_elab_steps.Growing.{grows_on, type_later}
 use Rattle.pat_elab.proofs.Matching.{result_is}
 use Rattle.pat_elab.proofs.matched.result_of.Goals as goal
 

@@ -3,7 +3,7 @@ use Rattle.std.proofs.lemmas.Bool.{eqb-false}
 use Rattle.std.proofs.lemmas.Result.{IfOk-weaker}
 use Rattle.ir_poly.specs.Prog as prog
 use Rattle.prog_tree.specs.TreeOf.{pat_of}
-use Rattle.match_types.specs.declared.work.ValueType.TheVariants.{Source}
+use Rattle.match_steps.specs.of_match_types.declared.work.ValueType.TheVariants.{Source}
 use Rattle.pattern_tests.specs.Tasks.{pattern, finished}
 use Rattle.pattern_tests.specs.Parts.{field_patterns, behind, record_pattern, variable_pattern, as_pattern, constant_pattern, con_pattern, exn_pattern, chained}
 use Rattle.pattern_tests.proofs.Doing.{done-then, done-pat, done-nothing}

@@ -9,8 +9,8 @@ use Rattle.prog_known.proofs.OntoLemmas.{as-onto, then-onto}
 use Rattle.prog_tree.specs.Readings.{reading}
 use Rattle.prog_tree.specs.TreeOf.{pat_of, funs_by, fun_of, binds_by, bind_of}
 use Rattle.prog_leaves.specs.Places.{Adds}
-use Rattle.prog_parts.specs.Expressions.{type_in, right_type, argument_next, join_next, parameter_onto, dec_onto, dec_step}
-use Rattle.prog_parts.proofs.Truths.{two, ok-as}
+use Rattle.prog_leaves.specs.of_prog_parts.Expressions.{type_in, right_type, argument_next, join_next, parameter_onto, dec_onto, dec_step}
+use Rattle.prog_leaves.proofs.of_prog_parts.Truths.{two, ok-as}
 use Rattle.prog_leaves.specs.Right.{exp_right, typed_right, field_right, record_right, argument_right, joined, joined_right, join_right, rule_right, dropped_right, is_last, operand_right, function_right, fn_right, named_right, by_rules_right, member_right, plain_right, group_right, inner_right, dec_right, decs_right, atom_right, use_right, raise_right, has_known, exception_right, exception_onto, val_onto, is_function_type}
 use Rattle.prog_leaves.proofs.Going.{keeping-starts, keeping-more, keeping-ends, moving-starts, moving-more, moving-ends, declaring-starts, declaring-more, declaring-right, declaring-adds}
 use Rattle.prog_leaves.proofs.Nodes.{atom-right, use-right, record-right, apply-right, infix-right, case-right, sequence-right, test-right, handle-right, raise-right, fn-right, counted-right, let-right, named-right, by-rules-right, val-right, exception-right, weight-right, val-known, exception-known, weight-known}

@@ -1,5 +1,5 @@
 use Rattle.ty_table.specs.TypeAt.{type_at}
-use Rattle.prog_parts.specs.Expressions.{argument_next, join_next}
+use Rattle.prog_leaves.specs.of_prog_parts.Expressions.{argument_next, join_next}
 use Rattle.prog_leaves.specs.Right.{field_right, argument_right, join_right, rule_right, dropped_right, operand_right, member_right, inner_right}
 use Rattle.prog_leaves.proofs.Going.{Keeping, Moving, Declaring}
 use Rattle.prog_exps.proofs.exps.+exps.Given as goal

@@ -1,6 +1,6 @@
 use Rattle.std.proofs.Common.{sym, ap, ◌∙◌}
 use Rattle.ir_tables.specs.Tables.{strings_of}
-use Rattle.prog_parts.proofs.Truths.{ok-as}
+use Rattle.prog_pats.proofs.of_prog_parts.Truths.{ok-as}
 use Rattle.prog_leaves.specs.Right.{atom_right}
 use Rattle.prog_leaves.proofs.atoms.check_atom.Goals as goal
 

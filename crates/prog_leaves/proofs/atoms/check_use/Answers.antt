@@ -1,5 +1,5 @@
 use Rattle.std.proofs.Common.{sym, ap}
-use Rattle.prog_parts.proofs.Truths.{ok-as}
+use Rattle.prog_pats.proofs.of_prog_parts.Truths.{ok-as}
 use Rattle.prog_leaves.specs.Right.{use_right}
 use Rattle.prog_leaves.proofs.atoms.check_use.Goals as goal
 

@@ -1,7 +1,7 @@
 use Rattle.std.proofs.Common.{ap, ◌∙◌}
 use Rattle.ty_table.specs.TypeAt.{type_at}
 use Rattle.ir_poly.specs.Types.{function_type, ref_type}
-use Rattle.prog_parts.proofs.Truths.{not-same}
+use Rattle.prog_pats.proofs.of_prog_parts.Truths.{not-same}
 use Rattle.prog_leaves.proofs.Typing.{made-some}
 use Rattle.prog_leaves.proofs.atoms.is_maker.Goals as goal
 

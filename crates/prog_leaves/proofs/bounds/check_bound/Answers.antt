@@ -1,4 +1,4 @@
-use Rattle.prog_parts.proofs.Truths.{two}
+use Rattle.prog_pats.proofs.of_prog_parts.Truths.{two}
 use Rattle.prog_leaves.proofs.bounds.check_bound.Goals as goal
 
 pub returns : goal.returns

@@ -2,7 +2,7 @@ use Rattle.std.proofs.Common.{true, ◌&&◌, if◌then◌else◌, sym, ap, ◌�
 use Rattle.ir_poly.specs.Prog.{is_value}
 use Rattle.prog_tree.specs.Readings.{reading}
 use Rattle.prog_tree.specs.TreeOf.{tree_of}
-use Rattle.prog_parts.proofs.Truths.{two}
+use Rattle.prog_pats.proofs.of_prog_parts.Truths.{two}
 use Rattle.prog_leaves.specs.Right.{bound_right}
 use Rattle.prog_leaves.proofs.bounds.check_general.Goals as goal
 

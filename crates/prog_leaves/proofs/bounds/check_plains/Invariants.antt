@@ -1,4 +1,4 @@
-use Rattle.prog_parts.proofs.Loops.{Asking}
+use Rattle.prog_pats.proofs.of_prog_parts.Loops.{Asking}
 use Rattle.prog_leaves.specs.Right.{plain_right}
 use Rattle.prog_leaves.proofs.bounds.check_plains.Given as goal
 

@@ -4,7 +4,7 @@ use Rattle.label_rows.specs.Order.{sorted_by}
 use Rattle.ir_poly.specs.Types.{ascend, labels_in, row_type}
 use Rattle.ir_uses.specs.Fields.{field_types}
 use Rattle.prog_check.specs.Same.{same_type}
-use Rattle.prog_parts.proofs.Truths.{two, as-same}
+use Rattle.prog_pats.proofs.of_prog_parts.Truths.{two, as-same}
 use Rattle.prog_leaves.specs.Right.{is_row}
 use Rattle.prog_leaves.proofs.Typing.{row-in-order}
 use Rattle.prog_leaves.proofs.rows.is_row.Goals as goal

@@ -1,7 +1,7 @@
 use Rattle.std.proofs.Common.{◌++◌, refl, ap, ◌∙◌}
 use Rattle.ir_poly.specs.Types.{are_new}
 use Rattle.prog_known.specs.Environments.{parameters_in}
-use Rattle.prog_parts.proofs.Truths.{as-decided}
+use Rattle.prog_pats.proofs.of_prog_parts.Truths.{as-decided}
 use Rattle.prog_leaves.proofs.Inside.{environment-by, extends-either}
 use Rattle.prog_leaves.proofs.scopes.declare.Goals as goal
 

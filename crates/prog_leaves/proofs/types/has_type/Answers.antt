@@ -2,7 +2,7 @@ use Rattle.std.proofs.Common.{ap, ◌∙◌}
 use Rattle.ty_table.specs.TypeAt.{type_at}
 use Rattle.prog_check.specs.Same.{same_type}
 use Rattle.prog_tree.specs.Readings.{reading}
-use Rattle.prog_parts.proofs.Truths.{as-same}
+use Rattle.prog_pats.proofs.of_prog_parts.Truths.{as-same}
 use Rattle.prog_leaves.specs.Right.{has_type}
 use Rattle.prog_leaves.proofs.types.has_type.Goals as goal
 

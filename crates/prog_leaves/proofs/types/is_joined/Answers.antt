@@ -1,4 +1,4 @@
-use Rattle.prog_parts.proofs.Truths.{two}
+use Rattle.prog_pats.proofs.of_prog_parts.Truths.{two}
 use Rattle.prog_leaves.specs.Right.{joined}
 use Rattle.prog_leaves.proofs.types.is_joined.Goals as goal
 

@@ -2,7 +2,7 @@ use Rattle.std.proofs.Common.{◌∷◌, []}
 use Rattle.mlc_names.specs.declared.label.Label.TheVariants.{Number}
 use Rattle.ty_table.specs.TypeAt.{type_at}
 use Rattle.ir_poly.specs.Types.{row_type}
-use Rattle.prog_parts.proofs.Truths.{as-same}
+use Rattle.prog_pats.proofs.of_prog_parts.Truths.{as-same}
 use Rattle.prog_leaves.proofs.types.is_pair.Goals as goal
 
 pub returns : goal.returns

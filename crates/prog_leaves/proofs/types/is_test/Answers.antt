@@ -3,7 +3,7 @@ use Rattle.ty_table.specs.TypeAt.{type_at}
 use Rattle.ir_poly.specs.Types.{of_name, bool_name}
 use Rattle.prog_check.specs.Same.{same_type}
 use Rattle.prog_tree.specs.Readings.{reading}
-use Rattle.prog_parts.proofs.Truths.{as-same}
+use Rattle.prog_pats.proofs.of_prog_parts.Truths.{as-same}
 use Rattle.prog_leaves.specs.Right.{is_test}
 use Rattle.prog_leaves.proofs.types.is_test.Goals as goal
 

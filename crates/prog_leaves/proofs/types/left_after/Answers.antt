@@ -1,7 +1,7 @@
 use Rattle.std.proofs.Common.{sym, ap, ◌∙◌}
 use Rattle.ty_table.specs.TypeAt.{type_at}
 use Rattle.prog_tree.specs.Readings.{reading}
-use Rattle.prog_parts.specs.Expressions.{join_next}
+use Rattle.prog_pats.specs.of_prog_parts.Expressions.{join_next}
 use Rattle.prog_leaves.proofs.types.left_after.Goals as goal
 
 pub returns-in-Left : goal.returns-in-Left

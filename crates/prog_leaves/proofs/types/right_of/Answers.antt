@@ -1,6 +1,6 @@
 use Rattle.std.proofs.Common.{drop, sym, ap, ◌∙◌}
 use Rattle.prog_tree.specs.Readings.{reading}
-use Rattle.prog_parts.specs.Expressions.{right_type}
+use Rattle.prog_pats.specs.of_prog_parts.Expressions.{right_type}
 use Rattle.prog_leaves.proofs.Typing.{right-last}
 use Rattle.prog_leaves.proofs.types.right_of.Goals as goal
 

@@ -2,7 +2,7 @@ use Rattle.std.proofs.Common.{◌+◌, drop, sym, ap, ◌∙◌}
 use Rattle.ty_table.specs.TypeAt.{type_at}
 use Rattle.ir_tables.specs.Tables.{strings_of}
 use Rattle.prog_known.specs.Lists.{hold}
-use Rattle.prog_binds.specs.Chains.{first_type}
+use Rattle.prog_parts.specs.of_prog_binds.Chains.{first_type}
 use Rattle.prog_parts.specs.Patterns.{outer_type, next_part, has_size}
 use Rattle.prog_parts.proofs.Truths.{two, ok-as}
 use Rattle.prog_parts.proofs.Loops.{asking-starts, asking-more, asking-ends, carrying-starts, carrying-more, carrying-ends}

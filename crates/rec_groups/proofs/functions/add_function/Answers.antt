@@ -1,6 +1,6 @@
 use Rattle.std.proofs.Common.{List, true, ◌++◌, map, ap, ◌∙◌}
 use Rattle.std.specs.Prelude.{reverse}
-use Rattle.pat_elab.specs.declared.bound.BoundVariable.{BoundVariable}
+use Rattle.dec_forms.specs.of_pat_elab.declared.bound.BoundVariable.{BoundVariable}
 use Rattle.rec_groups.specs.Heads.{numbers_of}
 use Rattle.elab_steps.proofs.Growing.{grows_on}
 use Rattle.rec_groups.proofs.Adding.{function_added}

@@ -2,7 +2,7 @@ use Rattle.std.proofs.Common.{length, refl, ◌∙◌}
 use Rattle.ty_solve.specs.declared.subst.Slot.TheVariants.{Open}
 use Rattle.ty_instance.proofs.Going.{longer}
 use Rattle.ty_instance.proofs.Putting.{on-ok}
-use Rattle.elab_steps.proofs.Changing.{freshened_grows, freshened_is, written_later, begins-of}
+use Rattle.elab_context.proofs.of_elab_steps.Changing.{freshened_grows, freshened_is, written_later, begins-of}
 use Rattle.use_elab.proofs.Making.{freshened_fresh}
 use Rattle.use_elab.proofs.fresh.marked_type.Goals as goal
 

@@ -6,9 +6,9 @@ use Rattle.ty_core.specs.declared.scheme.Quantified.{Quantified}
 use Rattle.ty_solve.specs.Substitution.{sub}
 use Rattle.ir_poly.specs.Types.{changed}
 use Rattle.use_elab.specs.Fresh.{images_of}
-use Rattle.elab_steps.specs.Growing.{Always, HasGeneral}
-use Rattle.elab_steps.specs.World.{type_of}
-use Rattle.elab_steps.proofs.Growing.{general_later}
+use Rattle.elab_context.specs.of_elab_steps.Growing.{Always, HasGeneral}
+use Rattle.elab_context.specs.of_elab_steps.World.{type_of}
+use Rattle.elab_context.proofs.of_elab_steps.Growing.{general_later}
 use Rattle.use_elab.proofs.Uses.{all-marks, at_new_is}
 use Rattle.use_elab.proofs.general.at_new.Goals as goal
 

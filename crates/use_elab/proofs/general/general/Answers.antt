@@ -1,8 +1,8 @@
 use Rattle.std.proofs.Common.{[], map, ap, if◌then◌else◌, ◌∙◌}
-use Rattle.elab_typed.specs.Numbers.{type_as}
+use Rattle.elab_context.specs.of_elab_typed.Numbers.{type_as}
 use Rattle.use_elab.specs.Fresh.{images_of}
 use Rattle.elab_context.proofs.Reading.{context_later}
-use Rattle.elab_steps.proofs.Growing.{grows_on, type_later}
+use Rattle.elab_context.proofs.of_elab_steps.Growing.{grows_on, type_later}
 use Rattle.use_elab.proofs.Uses.{general_is}
 use Rattle.use_elab.proofs.general.general.Goals as goal
 

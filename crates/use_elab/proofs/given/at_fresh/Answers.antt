@@ -7,9 +7,9 @@ use Rattle.ty_solve.specs.Substitution.{is_below}
 use Rattle.ty_core.specs.Statics.{replace}
 use Rattle.ir_poly.specs.Types.{nth_type}
 use Rattle.use_elab.specs.Fresh.{images_of}
-use Rattle.elab_state.specs.States.{types_in}
-use Rattle.elab_steps.specs.Growing.{Always}
-use Rattle.elab_steps.specs.World.{type_of}
+use Rattle.elab_context.specs.of_elab_state.States.{types_in}
+use Rattle.elab_context.specs.of_elab_steps.Growing.{Always}
+use Rattle.elab_context.specs.of_elab_steps.World.{type_of}
 use Rattle.elab_context.proofs.Reading.{context_later}
 use Rattle.use_elab.proofs.Uses.{at_fresh_is}
 use Rattle.use_elab.proofs.given.at_fresh.Goals as goal

@@ -3,8 +3,8 @@ use Rattle.std.specs.Prelude.{option_map}
 use Rattle.core_rules.specs.Elaborated.{exception_type}
 use Rattle.ty_basis.specs.Types.{function_type}
 use Rattle.elab_context.specs.Telling.{IsHeldIf}
-use Rattle.elab_steps.specs.World.{type_of}
-use Rattle.elab_steps.proofs.Growing.{type_later, grows_on, comes_before}
+use Rattle.elab_context.specs.of_elab_steps.World.{type_of}
+use Rattle.elab_context.proofs.of_elab_steps.Growing.{type_later, grows_on, comes_before}
 use Rattle.use_elab.proofs.given.exception_alone.Goals as goal
 
 pub functions-requires-clause-from : goal.functions-requires-clause-from

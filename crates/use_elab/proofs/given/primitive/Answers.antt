@@ -2,7 +2,7 @@ use Rattle.std.proofs.Common.{ap, ◌∙◌}
 use Rattle.ir_poly.specs.Types.{nth_type}
 use Rattle.use_elab.specs.Fresh.{images_of}
 use Rattle.elab_context.proofs.Reading.{context_later}
-use Rattle.elab_steps.proofs.Growing.{grows_on, type_later}
+use Rattle.elab_context.proofs.of_elab_steps.Growing.{grows_on, type_later}
 use Rattle.use_elab.proofs.Uses.{primitive_is}
 use Rattle.use_elab.proofs.given.primitive.Goals as goal
 

@@ -1,6 +1,6 @@
 use Rattle.std.proofs.Common.{length, refl}
 use Rattle.ty_instance.proofs.Going.{longer}
-use Rattle.elab_steps.proofs.Changing.{if-ok, parts_held, tabled_grows, written_later}
+use Rattle.elab_context.proofs.of_elab_steps.Changing.{if-ok, parts_held, tabled_grows, written_later}
 use Rattle.use_elab.proofs.Putting.{instanced_is, instanced_has}
 use Rattle.use_elab.proofs.put.instance_with.Goals as goal
 

@@ -2,7 +2,7 @@ use Rattle.std.proofs.Common.{length, refl, sym, ap, ◌∙◌}
 use Rattle.std.proofs.lemmas.List.{length-map}
 use Rattle.ty_core.specs.declared.scheme.Quantified.{Quantified}
 use Rattle.ty_instance.proofs.Going.{longer}
-use Rattle.elab_steps.proofs.Changing.{if-ok, parts_held, tabled_grows, written_later}
+use Rattle.elab_context.proofs.of_elab_steps.Changing.{if-ok, parts_held, tabled_grows, written_later}
 use Rattle.use_elab.proofs.Putting.{putted_is, putted_has}
 use Rattle.use_elab.proofs.put.put_with.Goals as goal
 

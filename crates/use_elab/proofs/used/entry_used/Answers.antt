@@ -1,5 +1,5 @@
 use Rattle.std.proofs.Common.{Some, ap, ◌∙◌}
-use Rattle.elab_steps.proofs.Changing.{if-ok}
+use Rattle.elab_context.proofs.of_elab_steps.Changing.{if-ok}
 use Rattle.use_elab.proofs.used.entry_used.Goals as goal
 
 pub returns-in-Constructor : goal.returns-in-Constructor

@@ -1,4 +1,4 @@
-use Rattle.elab_steps.proofs.Growing.{type_later}
+use Rattle.elab_context.proofs.of_elab_steps.Growing.{type_later}
 use Rattle.use_elab.proofs.Making.{type-at, among-later, writes_more}
 use Rattle.use_elab.proofs.writing.write_all.Goals as goal
 

@@ -1,5 +1,5 @@
 use Rattle.std.proofs.Common.{subst}
-use Rattle.final_types.specs.Programs.{IsProgramWith}
+use Rattle.elab_finish.specs.of_final_types.Programs.{IsProgramWith}
 use Rattle.project_elab.proofs.Finishing.{finished-right}
 use Rattle.project_elab.proofs.project.Elaborating.finish.Goals as goal
 
