@@ -10,8 +10,8 @@ use Rattle.match_pass.specs.of_ir_prog.declared.program.Program.{Program}
 use Rattle.ir_ssa.specs.Tree as out
 use Rattle.ir_ssa.specs.Meaning as after
 use Rattle.ir_ssa.specs.WellFormed.{IsWellFormed}
-use Rattle.image_law.specs.ImageOf.{IsImageOf}
-use Rattle.image_size.specs.Size.{ImagesAreSmall, parts, words}
+use Rattle.machine_emit.specs.of_image_law.ImageOf.{IsImageOf}
+use Rattle.machine_emit.specs.of_image_size.Size.{ImagesAreSmall, parts, words}
 use Rattle.machine_emit.specs.Contract.{IsTooLong}
 use Rattle.machine_emit.specs.Contract as emit
 use Rattle.back_end.specs.Contract.{Does}

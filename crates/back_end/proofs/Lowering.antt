@@ -17,7 +17,7 @@ use Rattle.monomorphise.specs.Counting.{expansion_within}
 use Rattle.monomorphise.specs.Laws.{IsCounted, monomorphise, monomorphised}
 use Rattle.monomorphise.specs.Monomorphise.{copies}
 use Rattle.mono_exceptions.specs.Laws.{MakesNoMore}
-use Rattle.closure_whole.specs.Whole.{without_functions}
+use Rattle.closure_pass.specs.of_closure_whole.Whole.{without_functions}
 use Rattle.closure_pass.specs.Given.{texts}
 use Rattle.closure_pass.specs.Laws.{WithoutFunctionsMakesNoMore}
 use Rattle.first_tree.specs.Exceptions as before

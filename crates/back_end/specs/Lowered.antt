@@ -4,7 +4,7 @@ use Rattle.ir_tables.specs.Tables.{initial_of, strings_of}
 use Rattle.match_pass.specs.of_ir_prog.Programs.{exceptions, tests_in}
 use Rattle.match_pass.specs.of_ir_prog.declared.program.Program.{Program}
 use Rattle.monomorphise.specs.Laws.{monomorphise}
-use Rattle.closure_whole.specs.Whole.{without_functions}
+use Rattle.closure_pass.specs.of_closure_whole.Whole.{without_functions}
 use Rattle.closure_pass.specs.Given.{texts}
 use Rattle.ssa_build.specs.Build.{ssa}
 use Rattle.ir_ssa.specs.Tree as out

@@ -5,8 +5,8 @@ ghost use Rattle.mlc_runs.specs.Outcome.{wrong};
 ghost use Rattle.mlc_runs.specs.Passes.{greatest_expansion};
 ghost use Rattle.match_pass.specs.of_ir_prog.Programs.{expansion, meaning};
 ghost use Rattle.match_pass.specs.Typed.{IsWellTyped};
-ghost use Rattle.image_law.specs.ImageOf.{IsImageOf};
-ghost use Rattle.image_size.specs.Size.{parts, words};
+ghost use Rattle.machine_emit.specs.of_image_law.ImageOf.{IsImageOf};
+ghost use Rattle.machine_emit.specs.of_image_size.Size.{parts, words};
 ghost use Rattle.machine_emit.specs.Contract.{IsTooLong};
 ghost use Rattle.back_end.specs.Contract.{Does};
 ghost use Rattle.back_end.specs.Lowered.{identifiers, ssa_of};
@@ -14,9 +14,9 @@ ghost use Rattle.back_end.specs.declared.refused.CompileRefused.TheVariants.{Too
 
 use crate::lower::lower;
 use crate::refused::CompileRefused;
-use image_size::law::images_are_small;
 use ir_code::image::Image;
 use machine_emit::emit::emit;
+use machine_emit::image_size::law::images_are_small;
 use match_pass::ir_prog::program::Program;
 use mlc_names::names::Names;
 use std::alloc::Global;

@@ -4,7 +4,7 @@ use Rattle.std.specs.Prelude.{position}
 use Rattle.std.specs.List.{position_or_len}
 use Rattle.std.proofs.lemmas.Bool.{ltb-true, ltb-false}
 use Rattle.std.proofs.lemmas.List.{reverse-append, drop_more}
-use Rattle.flow_sets.specs.Member.{is_in}
+use Rattle.closure_convert.specs.of_flow_sets.Member.{is_in}
 use Rattle.closure_convert.specs.Scope.{Scope, Member, names, Way, no_way, leads, follows, is_way, way_in, way, index_of, Piece, alone, those}
 use Rattle.closure_convert.specs.Capture.{is_outer, add_run, cut}
 use Rattle.closure_convert.specs.Counts.{AreDistinct}

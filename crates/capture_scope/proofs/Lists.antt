@@ -4,7 +4,7 @@ use Rattle.std.specs.List.{position_or_len, IsDistinct, list_any, AllByRecursion
 use Rattle.std.proofs.lemmas.Bool.{eqb-true, eq-eqb}
 use Rattle.std.proofs.lemmas.List.{reverse-append}
 use Rattle.std.proofs.lemmas.Map.Keys.{IsDistinct-head, IsDistinct-tail}
-use Rattle.flow_sets.specs.Member.{is_in}
+use Rattle.closure_convert.specs.of_flow_sets.Member.{is_in}
 use Rattle.closure_convert.specs.Scope.{index_of}
 use Rattle.closure_convert.specs.Counts.{AreDistinct}
 

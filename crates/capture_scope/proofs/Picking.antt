@@ -7,7 +7,7 @@ use Rattle.std.specs.Ordering.{nat_cmp}
 use Rattle.std.proofs.lemmas.Bool.{ltb-true, ltb-false, eqb-true}
 use Rattle.std.proofs.lemmas.List.{take_more, drop_more}
 use Rattle.std.proofs.lemmas.List.Sorted.{list_any-IsPermutation, IsNonDecreasingBy-from_sort}
-use Rattle.flow_sets.specs.Member.{is_in}
+use Rattle.closure_convert.specs.of_flow_sets.Member.{is_in}
 use Rattle.closure_convert.specs.Scope.{index_of}
 use Rattle.closure_convert.specs.Capture.{kept}
 use Rattle.closure_convert.specs.Counts.{AreDistinct}

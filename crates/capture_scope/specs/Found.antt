@@ -1,6 +1,6 @@
 -- Where a body finds a variable, and pieces.
 use Rattle.std.specs.Prelude.{ℕ, zero, suc, ◌-◌, List, [], ◌∷◌, map, drop, length, reverse, Option, Some, None, nat_eq, if◌then◌else◌}
-use Rattle.flow_sets.specs.Member.{is_in}
+use Rattle.closure_convert.specs.of_flow_sets.Member.{is_in}
 use Rattle.closure_convert.specs.Scope.{Scope, Member, Way, no_way, leads, follows, way, index_of, Piece, alone, those}
 use Rattle.closure_convert.specs.Capture.{visible, is_outer, add_run}
 use Rattle.capture_scope.specs.declared.scope.Found as code

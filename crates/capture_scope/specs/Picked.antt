@@ -1,6 +1,6 @@
 -- Variables at places.
 use Rattle.std.specs.Prelude.{◌≡◌, ℕ, suc, Bool, false, List, [], ◌∷◌, Option, Some, None, nat_lt, if◌then◌else◌, slice_get}
-use Rattle.flow_sets.specs.Member.{is_in}
+use Rattle.closure_convert.specs.of_flow_sets.Member.{is_in}
 
 abbrev pub is_used : List ℕ → Option ℕ → Bool
 is_used us None = false

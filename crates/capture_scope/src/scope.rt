@@ -1,6 +1,6 @@
 // What the body of a function finds.
 ghost use Rattle.std.specs.Prelude.{◌≡◌, ◌∷◌, ◌++◌, [], length, IfOk, IfErr, OnErr};
-ghost use Rattle.flow_sets.specs.Member.{is_in};
+ghost use Rattle.closure_convert.specs.of_flow_sets.Member.{is_in};
 ghost use Rattle.closure_convert.specs.Scope.{names, add, top};
 ghost use Rattle.closure_convert.specs.Closed.{scope_of};
 ghost use Rattle.closure_convert.specs.Capture.{visible, kept, cut};

@@ -2,6 +2,6 @@
 #![tactic(auto)]
 
 pub use closure_steps;
-pub use closure_steps::{closure_parts, flow_types};
+pub use closure_steps::{capture_table, closure_parts, flow_types};
 
 pub mod convert;

@@ -1,12 +1,12 @@
 -- The table in the order of binding is right, where each function has its entry.
 use Rattle.std.proofs.Common.{◌≡◌, ℕ, List, [], ◌∷◌, ◌++◌, Option, Some, None, Bool, true, false, ◌||◌, if◌then◌else◌, nat_eq, refl, sym, ap, subst, ◌∙◌}
 use Rattle.std.specs.Prelude.{⊤}
-use Rattle.ir_plain.specs.Kind.{Kind}
-use Rattle.ir_plain.specs.Tree.{Case, Exception, fixed, held, Atoms, no_atoms, an_atom, Row, no_row, a_row, Exp, ret, let_in, exception_in, name_in, rec_in, switch, first, miss, counted, Arms, no_arms, arm, Op, use_of, const, con_alone, construct, ref_alone, refer, content, pack, make_record, select, prim_alone, prim, app, fn, block, handle, raise, raise_initial, Fun, last, more, Funs, no_funs, fun}
-use Rattle.ir_plain.specs.Scoped as sc
-use Rattle.ir_plain.specs.Scoped.{IsAmong, among_here, among_there, group_onto, AtomsScoped, no_atoms_scoped, an_atom_scoped, RowScoped, no_row_scoped, a_row_scoped, CaseScoped, literal_scoped, con_scoped, con_of_scoped, exn_scoped, exn_of_scoped, record_scoped}
-use Rattle.ir_plain.specs.Unique as un
-use Rattle.ir_plain.specs.Unique.{IsOutside, outside_none, outside_more, funs_onto, AreNew, none_new, one_new}
+use Rattle.flow_sets.specs.of_ir_plain.Kind.{Kind}
+use Rattle.flow_sets.specs.of_ir_plain.Tree.{Case, Exception, fixed, held, Atoms, no_atoms, an_atom, Row, no_row, a_row, Exp, ret, let_in, exception_in, name_in, rec_in, switch, first, miss, counted, Arms, no_arms, arm, Op, use_of, const, con_alone, construct, ref_alone, refer, content, pack, make_record, select, prim_alone, prim, app, fn, block, handle, raise, raise_initial, Fun, last, more, Funs, no_funs, fun}
+use Rattle.flow_sets.specs.of_ir_plain.Scoped as sc
+use Rattle.flow_sets.specs.of_ir_plain.Scoped.{IsAmong, among_here, among_there, group_onto, AtomsScoped, no_atoms_scoped, an_atom_scoped, RowScoped, no_row_scoped, a_row_scoped, CaseScoped, literal_scoped, con_scoped, con_of_scoped, exn_scoped, exn_of_scoped, record_scoped}
+use Rattle.flow_sets.specs.of_ir_plain.Unique as un
+use Rattle.flow_sets.specs.of_ir_plain.Unique.{IsOutside, outside_none, outside_more, funs_onto, AreNew, none_new, one_new}
 use Rattle.flow_sets.specs.of_ir_mono.Types as table
 use Rattle.flow_sets.specs.of_ir_mono.Mono.{mono, Mono}
 use Rattle.flow_sets.specs.Member.{is_in}

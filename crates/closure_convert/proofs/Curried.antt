@@ -1,7 +1,7 @@
 -- A curried function of n parameters is made with at most 2 n pieces.
 use Rattle.std.proofs.Common.{◌≡◌, ◌≤◌, ℕ, zero, suc, ◌+◌, List, [], ◌∷◌, ◌++◌, length, Bool, true, false, ◌||◌, if◌then◌else◌, nat_eq, refl, sym, ap, subst, ◌∙◌, arith}
 use Rattle.std.specs.Prelude.{⊤}
-use Rattle.ir_plain.specs.Tree.{Fun, last, more}
+use Rattle.flow_sets.specs.of_ir_plain.Tree.{Fun, last, more}
 use Rattle.flow_sets.specs.of_ir_mono.Types as table
 use Rattle.flow_sets.specs.of_ir_mono.Mono.{mono}
 use Rattle.flow_sets.specs.Member.{is_in}

@@ -1,6 +1,6 @@
 -- A closure is made of few pieces: what is captured around and captured again is a run for each gap.
 use Rattle.std.proofs.Common.{◌≡◌, ◌≤◌, ℕ, zero, suc, ◌+◌, List, [], ◌∷◌, ◌++◌, length, Bool, true, false, if◌then◌else◌, nat_eq, refl, sym, ap, subst, arith}
-use Rattle.ir_plain.specs.Tree.{Fun}
+use Rattle.flow_sets.specs.of_ir_plain.Tree.{Fun}
 use Rattle.flow_sets.specs.of_ir_mono.Types as table
 use Rattle.flow_sets.specs.of_ir_mono.Mono.{mono}
 use Rattle.flow_sets.proofs.Member.{nat_eq-same}

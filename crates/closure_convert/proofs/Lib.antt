@@ -1,3 +1,4 @@
+pub use Rattle.flow_sets.proofs as of_flow_sets
 pub mod Cut
 pub mod Captured
 pub mod Numbered

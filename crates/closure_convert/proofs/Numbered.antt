@@ -1,8 +1,8 @@
 -- Where each variable is bound once, each function has its entry; so the table is right.
 use Rattle.std.proofs.Common.{◌≡◌, ℕ, zero, suc, ◌+◌, ◌≤◌, Bool, true, false, List, [], ◌∷◌, Option, Some, None, nat_eq, if◌then◌else◌, refl, sym, ap, subst, ◌∙◌, arith}
-use Rattle.ir_plain.specs.Once.{hit, case_times, times, arms_times, op_times, fun_times, funs_times, IsOnce}
-use Rattle.ir_plain.specs.Tree.{Exp, ret, let_in, exception_in, name_in, rec_in, switch, first, miss, counted, Arms, no_arms, arm, Op, use_of, const, con_alone, construct, ref_alone, refer, content, pack, make_record, select, prim_alone, prim, app, fn, block, handle, raise, raise_initial, Fun, last, more, Funs, no_funs, fun}
-use Rattle.ir_plain.proofs.UniqueLemmas.{once-unique}
+use Rattle.flow_sets.specs.of_ir_plain.Once.{hit, case_times, times, arms_times, op_times, fun_times, funs_times, IsOnce}
+use Rattle.flow_sets.specs.of_ir_plain.Tree.{Exp, ret, let_in, exception_in, name_in, rec_in, switch, first, miss, counted, Arms, no_arms, arm, Op, use_of, const, con_alone, construct, ref_alone, refer, content, pack, make_record, select, prim_alone, prim, app, fn, block, handle, raise, raise_initial, Fun, last, more, Funs, no_funs, fun}
+use Rattle.flow_sets.proofs.of_ir_plain.UniqueLemmas.{once-unique}
 use Rattle.flow_sets.specs.of_ir_mono.Types as table
 use Rattle.flow_sets.specs.of_ir_mono.Mono.{mono, Mono, Program}
 use Rattle.flow_sets.specs.of_ir_mono.WellFormed.{IsWellFormed}

@@ -1,6 +1,6 @@
 -- The table of captures: in the order of binding, so that what is captured of what the function around captured is in few runs.
 use Rattle.std.specs.Prelude.{ℕ, zero, suc, Bool, false, ◌||◌, List, [], ◌∷◌, ◌++◌, Option, Some, None, nat_eq, if◌then◌else◌}
-use Rattle.ir_plain.specs.Tree.{Exception, fixed, held, ret, let_in, exception_in, name_in, rec_in, switch, first, miss, counted, Arms, no_arms, arm, Op, use_of, const, con_alone, construct, ref_alone, refer, content, pack, make_record, select, prim_alone, prim, app, fn, block, handle, raise, raise_initial, Fun, last, more, Funs, no_funs, fun}
+use Rattle.flow_sets.specs.of_ir_plain.Tree.{Exception, fixed, held, ret, let_in, exception_in, name_in, rec_in, switch, first, miss, counted, Arms, no_arms, arm, Op, use_of, const, con_alone, construct, ref_alone, refer, content, pack, make_record, select, prim_alone, prim, app, fn, block, handle, raise, raise_initial, Fun, last, more, Funs, no_funs, fun}
 use Rattle.flow_sets.specs.of_ir_mono.Types as table
 use Rattle.flow_sets.specs.of_ir_mono.Mono.{mono, Mono}
 use Rattle.flow_sets.specs.Member.{is_in}

@@ -1,6 +1,6 @@
 -- Of how many pieces closures are made.
 use Rattle.std.specs.Prelude.{◌≡◌, ℕ, zero, suc, ◌+◌, Bool, true, false, List, [], ◌∷◌, length, if◌then◌else◌, ⊤}
-use Rattle.ir_plain.specs.Tree.{Fun, last, more}
+use Rattle.flow_sets.specs.of_ir_plain.Tree.{Fun, last, more}
 use Rattle.flow_sets.specs.of_ir_mono.Types as table
 use Rattle.flow_sets.specs.of_ir_mono.Mono.{mono}
 use Rattle.flow_sets.specs.Member.{is_in}

@@ -1,6 +1,6 @@
 -- What is claimed of the table of captures.
 use Rattle.std.specs.Prelude.{ℕ, suc, ◌+◌, ◌≤◌, List, [], ◌++◌, length}
-use Rattle.ir_plain.specs.Tree.{Fun}
+use Rattle.flow_sets.specs.of_ir_plain.Tree.{Fun}
 use Rattle.flow_sets.specs.of_ir_mono.Types as table
 use Rattle.flow_sets.specs.of_ir_mono.Mono.{mono, Program}
 use Rattle.flow_sets.specs.of_ir_mono.WellFormed.{IsWellFormed}

@@ -1,4 +1,6 @@
 // Closures: what functions capture, and of which pieces their closures are made. Definitions, and laws of them.
 #![tactic(auto)]
 
+pub use flow_sets;
+
 pub mod law;

@@ -23,7 +23,7 @@ use Rattle.plain_tree.specs.TreeOf.{StepTree, let_step, exception_step, name_ste
 use Rattle.mono_bound.specs.Reads.{reading, mono_of}
 use Rattle.closure_convert.specs.Scope.{Member, Table}
 use Rattle.closure_convert.specs.Closed.{members, leader}
-use Rattle.capture_table.specs.Told.{first_parameter}
+use Rattle.closure_bodies.specs.of_capture_table.Told.{first_parameter}
 use Rattle.first_tree.specs.declared.tree.Fun as made
 use Rattle.first_tree.specs.TreeOf as made_tree
 use Rattle.closure_meaning.specs.Convert.{Numbering, codes, codes_arms, codes_op, codes_fun, codes_funs}

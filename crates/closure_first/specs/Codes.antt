@@ -12,7 +12,7 @@ use Rattle.plain_tree.specs.TreeOf.{fun_of, StepTree, let_step, exception_step, 
 use Rattle.mono_bound.specs.Reads.{reading}
 use Rattle.closure_convert.specs.Scope.{Member, Scope, Table, top}
 use Rattle.closure_convert.specs.Closed.{scope_of, members, leader}
-use Rattle.capture_table.specs.Told.{first_parameter}
+use Rattle.closure_bodies.specs.of_capture_table.Told.{first_parameter}
 use Rattle.first_tree.specs.declared.tree.Fun as made
 use Rattle.first_tree.specs.TreeOf as made_tree
 use Rattle.closure_meaning.specs.Convert.{Numbering, given, var, convert, making, self_name, opening, codes, codes_arms, codes_op, codes_funs}

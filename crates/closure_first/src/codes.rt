@@ -7,7 +7,7 @@ ghost use Rattle.plain_tree.specs.TreeOf.{fun_of as mono_fun_of};
 ghost use Rattle.mono_bound.specs.Reads.{reading, mono_of};
 ghost use Rattle.closure_convert.specs.Scope.{Member as CleanMember, Table};
 ghost use Rattle.capture_scope.specs.Seen.{members_of};
-ghost use Rattle.capture_table.specs.Told.{first_parameter};
+ghost use Rattle.closure_bodies.specs.of_capture_table.Told.{first_parameter};
 ghost use Rattle.first_tree.specs.TreeOf.{fun_of};
 ghost use Rattle.closure_meaning.specs.Convert.{Numbering, codes, codes_arms, codes_fun, codes_funs};
 ghost use Rattle.closure_bodies.specs.of_closure_parts.Settings.{Row, Texts, Holds};

@@ -1,2 +1,3 @@
+pub use Rattle.closure_whole.specs as of_closure_whole
 pub mod Tables
 pub mod Laws

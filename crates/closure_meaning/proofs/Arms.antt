@@ -11,15 +11,15 @@ use Rattle.ir_values.specs.Match.{matches, no_match, mismatch, Matched, after_ma
 use Rattle.ir_plain.specs.Tree.{Fun, last, more, Funs, no_funs, fun}
 use Rattle.ir_plain.specs.Meaning as src
 use Rattle.ir_plain.specs.Meaning.{Code, alone, one_of, look_up, Apply, Parts}
-use Rattle.ir_mono.specs.Types.{by_number, constructor_at, IsTable}
-use Rattle.ir_mono.specs.Mono.{mono, Mono}
+use Rattle.ir_explicit.specs.of_ir_mono.Types.{by_number, constructor_at, IsTable}
+use Rattle.ir_explicit.specs.of_ir_mono.Mono.{mono, Mono}
 use Rattle.first_values.specs.Values as cells
 use Rattle.first_values.specs.Operations as op
 use Rattle.ir_first.specs.Tree as out
 use Rattle.ir_first.specs.Meaning.{Calls}
-use Rattle.flow_sets.specs.Flow as spots
-use Rattle.flow_sets.specs.Flow.{variable, result, at, number_of, Connects, SolvesRow, SolvesPrim, SolvesCase, Solves, SolvesArms, SolvesOp, SolvesFun, SolvesFuns}
-use Rattle.flow_sets.proofs.Member.{nat_eq-to}
+use Rattle.closure_convert.specs.of_flow_sets.Flow as spots
+use Rattle.closure_convert.specs.of_flow_sets.Flow.{variable, result, at, number_of, Connects, SolvesRow, SolvesPrim, SolvesCase, Solves, SolvesArms, SolvesOp, SolvesFun, SolvesFuns}
+use Rattle.closure_convert.proofs.of_flow_sets.Member.{nat_eq-to}
 use Rattle.closure_convert.specs.Scope.{Scope}
 use Rattle.closure_convert.specs.Closed.{IsLocal, members, leader, FunClosed, FunsClosed}
 use Rattle.closure_meaning.specs.Convert as conv

@@ -3,9 +3,9 @@ use Rattle.std.proofs.Common.{◌≡◌, ℕ, zero, suc, List, [], ◌∷◌, ma
 use Rattle.std.specs.Prelude.{⊤}
 use Rattle.ir_plain.specs.Tree as m
 use Rattle.ir_plain.specs.Tree.{Fun, last, more, Funs, no_funs, fun}
-use Rattle.ir_mono.specs.Mono.{mono, Mono}
+use Rattle.ir_explicit.specs.of_ir_mono.Mono.{mono, Mono}
 use Rattle.ir_first.specs.Tree as out
-use Rattle.flow_sets.specs.Flow.{number_of}
+use Rattle.closure_convert.specs.of_flow_sets.Flow.{number_of}
 use Rattle.closure_convert.specs.Scope.{Member}
 use Rattle.closure_convert.specs.Closed.{members, leader}
 use Rattle.closure_meaning.specs.Convert.{codes, codes_arms, codes_op, codes_fun, codes_funs, numbers_in, numbers_arms, numbers_op, numbers_fun, numbers_funs}

@@ -9,13 +9,13 @@ use Rattle.ty_core.specs.Types.{labels}
 use Rattle.ir_values.specs.Values.{same_label, field_in}
 use Rattle.ir_values.specs.Equality.{both_equal, where_holds, if_equal, same_part, same_at, same_fields}
 use Rattle.ir_plain.specs.Meaning.{Parts}
-use Rattle.ir_mono.specs.Types as table
-use Rattle.ir_mono.specs.Types.{part, part_of, node_at, node, Is, IsOther, other_none, other_more, AreDistinct, distinct_none, distinct_more, IsTable, constructor_at, by_number}
-use Rattle.ir_mono.specs.Mono.{mono}
+use Rattle.ir_explicit.specs.of_ir_mono.Types as table
+use Rattle.ir_explicit.specs.of_ir_mono.Types.{part, part_of, node_at, node, Is, IsOther, other_none, other_more, AreDistinct, distinct_none, distinct_more, IsTable, constructor_at, by_number}
+use Rattle.ir_explicit.specs.of_ir_mono.Mono.{mono}
 use Rattle.first_values.specs.Values as cells
 use Rattle.first_values.specs.Equality.{Shape, unless_different, equal_at, equal_parts}
 use Rattle.ir_first.specs.Tree as out
-use Rattle.flow_sets.proofs.Member.{nat_eq-to, nat_eq-same, decide}
+use Rattle.closure_convert.proofs.of_flow_sets.Member.{nat_eq-to, nat_eq-same, decide}
 use Rattle.closure_meaning.specs.Convert.{con_tag, shapes}
 use Rattle.closure_meaning.specs.Fits.{Setting}
 use Rattle.closure_meaning.proofs.Related.{Val, Same, same_literal, same_record, same_con, same_con_of, same_exn, same_exn_of, same_ref, same_primitive, same_address, same_cell, same_closure, SameFields, no_fields_same, a_field_same}

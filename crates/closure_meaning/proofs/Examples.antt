@@ -11,21 +11,21 @@ use Rattle.mlc_prims.specs.declared.basis.BasisPrimitive.TheVariants.{Print}
 use Rattle.ty_core.specs.Types.{arrow, labels, name}
 use Rattle.ir_values.specs.Values.{false_number, true_number}
 use Rattle.ir_plain.specs.Tree.{is_exn, held, no_atoms, an_atom, no_row, ret, let_in, exception_in, name_in, rec_in, switch, first, no_arms, arm, Op, use_of, const, make_record, prim, app, fn, handle, raise, last, more, no_funs, fun}
-use Rattle.ir_poly.specs.Types.{bool_name, string_name, exn_name}
+use Rattle.ir_explicit.specs.of_ir_poly.Types.{bool_name, string_name, exn_name}
 use Rattle.ty_core.specs.declared.name.TyName.{TyName}
 use Rattle.ir_values.specs.Values.{truth_number}
 use Rattle.ir_plain.specs.Once.{IsOnce, hit, times}
 use Rattle.ir_plain.specs.Scoped.{IsLocal, among_here, among_there, let_scoped, ret_scoped, use_scoped, app_scoped, fn_scoped, last_scoped, make_record_scoped, no_row_scoped}
-use Rattle.ir_mono.specs.Explicit.{IsExplicit}
-use Rattle.ir_mono.specs.Typing.{Typed, t_let, t_ret, t_fn, t_last, t_use, t_app, t_make_record, no_row_typed}
-use Rattle.ir_mono.specs.WellFormed.{IsWellFormed}
-use Rattle.ir_mono.specs.Mono as source
-use Rattle.ir_mono.specs.Types.{Row, Node, node, node_at, constructor_at, admits, Is, IsTable, bool_number, distinct_none}
-use Rattle.ir_mono.specs.Mono.{mono, Mono, Program}
+use Rattle.ir_explicit.specs.of_ir_mono.Explicit.{IsExplicit}
+use Rattle.ir_explicit.specs.of_ir_mono.Typing.{Typed, t_let, t_ret, t_fn, t_last, t_use, t_app, t_make_record, no_row_typed}
+use Rattle.ir_explicit.specs.of_ir_mono.WellFormed.{IsWellFormed}
+use Rattle.ir_explicit.specs.of_ir_mono.Mono as source
+use Rattle.ir_explicit.specs.of_ir_mono.Types.{Row, Node, node, node_at, constructor_at, admits, Is, IsTable, bool_number, distinct_none}
+use Rattle.ir_explicit.specs.of_ir_mono.Mono.{mono, Mono, Program}
 use Rattle.ir_first.specs.Tree as out
 use Rattle.ir_first.specs.Meaning as tgt
-use Rattle.flow_sets.specs.Flow.{Flow, Spot, variable}
-use Rattle.flow_sets.specs.ByType.{by_type}
+use Rattle.closure_convert.specs.of_flow_sets.Flow.{Flow, Spot, variable}
+use Rattle.closure_convert.specs.of_flow_sets.ByType.{by_type}
 use Rattle.closure_convert.specs.Capture.{table_of}
 use Rattle.closure_meaning.specs.Convert.{Numbering, program}
 use Rattle.closure_meaning.specs.Fits.{Fits, no_row_fits}

@@ -9,17 +9,17 @@ use Rattle.mlc_runs.proofs.RefineLaws.{dereference-refines, take_turn-refines}
 use Rattle.ir_values.specs.Values.{field_in, same_label}
 use Rattle.ir_values.specs.Primitives.{marked, content_of, raise_value}
 use Rattle.ir_plain.specs.Meaning.{Parts, read_reference, select_from}
-use Rattle.ir_mono.specs.Types.{node_at, by_number, IsTable}
-use Rattle.ir_mono.specs.Mono.{mono}
+use Rattle.ir_explicit.specs.of_ir_mono.Types.{node_at, by_number, IsTable}
+use Rattle.ir_explicit.specs.of_ir_mono.Mono.{mono}
 use Rattle.first_values.specs.Values as cells
 use Rattle.first_values.specs.Operations as op
 use Rattle.ir_first.specs.Tree as out
 use Rattle.ir_first.specs.Meaning.{Calls}
 use Rattle.ir_first.specs.Continued as tgt
-use Rattle.flow_sets.specs.Member.{is_in}
-use Rattle.flow_sets.specs.Flow as spots
-use Rattle.flow_sets.specs.Flow.{at}
-use Rattle.flow_sets.proofs.Member.{nat_eq-to}
+use Rattle.closure_convert.specs.of_flow_sets.Member.{is_in}
+use Rattle.closure_convert.specs.of_flow_sets.Flow as spots
+use Rattle.closure_convert.specs.of_flow_sets.Flow.{at}
+use Rattle.closure_convert.proofs.of_flow_sets.Member.{nat_eq-to}
 use Rattle.closure_meaning.specs.Convert.{Numbering, label_index, labels_in, set_of}
 use Rattle.closure_meaning.specs.Convert as conv
 use Rattle.closure_meaning.specs.Fits.{Setting}

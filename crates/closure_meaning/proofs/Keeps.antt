@@ -13,17 +13,17 @@ use Rattle.ir_plain.specs.Tree as m
 use Rattle.ir_plain.specs.Tree.{is_literal, is_con, is_con_of, is_exn, is_exn_of, is_record, Exception, fixed, held, Atoms, no_atoms, an_atom, Row, no_row, a_row, Fun, last, more, Funs, no_funs, fun}
 use Rattle.ir_plain.specs.Meaning as src
 use Rattle.ir_plain.specs.Meaning.{Code, alone, one_of, look_up, Apply, Parts}
-use Rattle.ir_mono.specs.Types.{by_number, unit_number, constructor_at, IsTable, Is, AreDistinct}
-use Rattle.ir_mono.specs.Mono.{mono, Mono}
+use Rattle.ir_explicit.specs.of_ir_mono.Types.{by_number, unit_number, constructor_at, IsTable, Is, AreDistinct}
+use Rattle.ir_explicit.specs.of_ir_mono.Mono.{mono, Mono}
 use Rattle.first_values.specs.Values as cells
 use Rattle.first_values.specs.Operations as op
 use Rattle.ir_first.specs.Tree as out
 use Rattle.ir_first.specs.Meaning.{Calls}
 use Rattle.ir_first.specs.Continued as tgt
-use Rattle.flow_sets.specs.Member.{is_in, Within}
-use Rattle.flow_sets.specs.Flow as spots
-use Rattle.flow_sets.specs.Flow.{variable, result, at, number_of, Connects, SolvesRow, SolvesPrim, SolvesCase, Solves, SolvesArms, SolvesOp, SolvesFun, SolvesFuns}
-use Rattle.flow_sets.proofs.Member.{nat_eq-to}
+use Rattle.closure_convert.specs.of_flow_sets.Member.{is_in, Within}
+use Rattle.closure_convert.specs.of_flow_sets.Flow as spots
+use Rattle.closure_convert.specs.of_flow_sets.Flow.{variable, result, at, number_of, Connects, SolvesRow, SolvesPrim, SolvesCase, Solves, SolvesArms, SolvesOp, SolvesFun, SolvesFuns}
+use Rattle.closure_convert.proofs.of_flow_sets.Member.{nat_eq-to}
 use Rattle.closure_convert.specs.Scope.{Scope, add, add_all, names, reaches}
 use Rattle.closure_convert.specs.Closed.{IsLocal, scope_of, members, leader, IsClosed, ArmsClosed, OpClosed, FunClosed, FunsClosed, AtomsClosed, RowClosed}
 use Rattle.closure_meaning.specs.Convert as conv
@@ -343,8 +343,8 @@ module _ (C : Setting) (all : List out.Fun) (sound : IsTable C.types) where
           (both_give (record { same = same_exn_of t n rd (widen C.types d v isin); is = tt }) same')) k))
       op-same (m.make_record t row) to x e go s env ρ w u other' v c l i known same k = step x e go s env ρ u other' known (src.eval_op ap1 (m.make_record t row) env w) (out.make 0 (conv.row_pieces C.numbering C.types C.flow C.captures row))
           (record-same t w u i.is i.distinct (row-same t s env ρ i.in_order v l known) same) k
-      op-same (m.select t b a) to x e go s env ρ w u other' v c l i known same k = step x e go s env ρ u other' known (src.eval_op ap1 (m.select t b a) env w) (out.plain (op.field (conv.label_index b (conv.labels_in (Rattle.ir_mono.specs.Types.node_at C.types t)))) (var a ∷ []))
-          (one-operand (op.field (conv.label_index b (conv.labels_in (Rattle.ir_mono.specs.Types.node_at C.types t)))) a s env ρ w u _ known l i (λ d d' rd isin. up v (select-same C all sound t b w u rd same))) k
+      op-same (m.select t b a) to x e go s env ρ w u other' v c l i known same k = step x e go s env ρ u other' known (src.eval_op ap1 (m.select t b a) env w) (out.plain (op.field (conv.label_index b (conv.labels_in (Rattle.ir_explicit.specs.of_ir_mono.Types.node_at C.types t)))) (var a ∷ []))
+          (one-operand (op.field (conv.label_index b (conv.labels_in (Rattle.ir_explicit.specs.of_ir_mono.Types.node_at C.types t)))) a s env ρ w u _ known l i (λ d d' rd isin. up v (select-same C all sound t b w u rd same))) k
       op-same (m.prim_alone p t) to x e go s env ρ w u other' v c l i known same k = step x e go s env ρ u other' known (src.eval_op ap1 (m.prim_alone p t) env w) conv.unit_cell (both_give (record { same = same_primitive t p (cells.cell 0 cells.no_values); is = tt }) same) k
       op-same (m.prim p b t as_) to x e go s env ρ w u other' v c l i known same k = pick (atoms-same as_ s env ρ i l known)
         where

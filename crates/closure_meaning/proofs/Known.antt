@@ -7,16 +7,16 @@ use Rattle.ir_values.specs.Values.{closure, bind}
 use Rattle.ir_plain.specs.Tree.{Fun, Funs, no_funs, fun}
 use Rattle.ir_plain.specs.Meaning as src
 use Rattle.ir_plain.specs.Meaning.{one_of, look_up}
-use Rattle.ir_mono.specs.Mono.{mono}
+use Rattle.ir_explicit.specs.of_ir_mono.Mono.{mono}
 use Rattle.first_values.specs.Values as cells
 use Rattle.first_values.specs.Operations as op
 use Rattle.first_values.specs.Operations.{Tables}
 use Rattle.ir_first.specs.Tree as out
 use Rattle.ir_first.specs.Meaning.{Calls}
 use Rattle.ir_first.specs.Continued as tgt
-use Rattle.flow_sets.specs.Member.{is_in}
-use Rattle.flow_sets.specs.Flow.{variable, at, number_of}
-use Rattle.flow_sets.proofs.Member.{nat_eq-to, nat_eq-same, decide, or_left}
+use Rattle.closure_convert.specs.of_flow_sets.Member.{is_in}
+use Rattle.closure_convert.specs.of_flow_sets.Flow.{variable, at, number_of}
+use Rattle.closure_convert.proofs.of_flow_sets.Member.{nat_eq-to, nat_eq-same, decide, or_left}
 use Rattle.closure_convert.specs.Scope.{names, Scope, add, add_all, Way, no_way, leads, follows, way_in, way, is_way, reaches, index_of, Piece, alone, those, IsOuter, InRow, Makes, makes_none, makes_one, makes_run}
 use Rattle.closure_convert.specs.Closed.{IsLocal, scope_of, members, IsMade}
 use Rattle.closure_meaning.specs.Convert.{holder, var, outer, access, piece_list, ready, making, following}

@@ -15,8 +15,8 @@ use Rattle.ir_values.specs.Values.{truth_number, unit_value, truth_value, value_
 use Rattle.ir_values.specs.Primitives.{Sort, compares, assigns, prints, computes, sort_of, is_overloaded, begin_at, perform_as, print_literals, giving, content_of, packet, raise_value, raised_name}
 use Rattle.ir_values.specs.Primitives as prims
 use Rattle.ir_plain.specs.Tree.{Atoms, no_atoms, an_atom}
-use Rattle.ir_mono.specs.Types.{bool_number, unit_number, node_at, by_number, distinct_none, IsTable}
-use Rattle.ir_mono.specs.Mono.{mono}
+use Rattle.ir_explicit.specs.of_ir_mono.Types.{bool_number, unit_number, node_at, by_number, distinct_none, IsTable}
+use Rattle.ir_explicit.specs.of_ir_mono.Mono.{mono}
 use Rattle.first_values.specs.Values as cells
 use Rattle.first_values.specs.Operations as op
 use Rattle.first_values.specs.Operations.{Tables}
@@ -25,8 +25,8 @@ use Rattle.first_values.proofs.RaisingLemmas.{only-these-raise}
 use Rattle.ir_first.specs.Tree as out
 use Rattle.ir_first.specs.Meaning.{Calls}
 use Rattle.ir_first.specs.Continued as tgt
-use Rattle.flow_sets.specs.Flow as spots
-use Rattle.flow_sets.specs.Flow.{variable, at, SolvesPrim}
+use Rattle.closure_convert.specs.of_flow_sets.Flow as spots
+use Rattle.closure_convert.specs.of_flow_sets.Flow.{variable, at, SolvesPrim}
 use Rattle.closure_meaning.specs.Convert.{operands_at, operands_of, operands, computed, performed, tables}
 use Rattle.closure_meaning.specs.Fits.{Setting}
 use Rattle.closure_meaning.proofs.Related.{Val, IsOneOf, widen, Same, same_literal, same_record, same_con, same_exn, same_address, same_cell, no_fields_same, Given, R}

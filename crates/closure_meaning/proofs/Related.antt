@@ -9,15 +9,15 @@ use Rattle.ir_values.specs.Values.{literal, record_of, con, con_of, exn, exn_of,
 use Rattle.ir_plain.specs.Tree as m
 use Rattle.ir_plain.specs.Tree.{Fun, last, more, Funs, no_funs, fun}
 use Rattle.ir_plain.specs.Meaning.{V, Scope, Parts, Code, alone, one_of, look_up}
-use Rattle.ir_mono.specs.Types as table
-use Rattle.ir_mono.specs.Types.{constructor_at, Is, AreDistinct}
-use Rattle.ir_mono.specs.Mono.{mono, Mono}
+use Rattle.ir_explicit.specs.of_ir_mono.Types as table
+use Rattle.ir_explicit.specs.of_ir_mono.Types.{constructor_at, Is, AreDistinct}
+use Rattle.ir_explicit.specs.of_ir_mono.Mono.{mono, Mono}
 use Rattle.first_values.specs.Values as cells
 use Rattle.ir_first.specs.Tree as out
-use Rattle.flow_sets.specs.Member.{is_in, Within}
-use Rattle.flow_sets.specs.Flow as spots
-use Rattle.flow_sets.specs.Flow.{variable, at, number_of, SolvesFun}
-use Rattle.flow_sets.proofs.Member.{in-none}
+use Rattle.closure_convert.specs.of_flow_sets.Member.{is_in, Within}
+use Rattle.closure_convert.specs.of_flow_sets.Flow as spots
+use Rattle.closure_convert.specs.of_flow_sets.Flow.{variable, at, number_of, SolvesFun}
+use Rattle.closure_convert.proofs.of_flow_sets.Member.{in-none}
 use Rattle.closure_convert.specs.Closed.{members, leader, FunClosed}
 use Rattle.closure_meaning.specs.Convert.{con_tag, code}
 use Rattle.closure_meaning.specs.Fits.{Setting, IsValue, FunFits}

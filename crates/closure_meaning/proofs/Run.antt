@@ -10,8 +10,8 @@ use Rattle.ir_values.specs.Values.{literal, record_of, con, con_of, exn, exn_of,
 use Rattle.ir_plain.specs.Tree.{Fun, last, more}
 use Rattle.ir_plain.specs.Meaning as src
 use Rattle.ir_plain.specs.Meaning.{Code, alone, one_of, Apply}
-use Rattle.ir_mono.specs.Types.{IsTable}
-use Rattle.ir_mono.specs.Mono.{mono, Program}
+use Rattle.ir_explicit.specs.of_ir_mono.Types.{IsTable}
+use Rattle.ir_explicit.specs.of_ir_mono.Mono.{mono, Program}
 use Rattle.ir_explicit.specs.Explicit.{enter_closure, apply_closures}
 use Rattle.ir_explicit.specs.Explicit as explicit
 use Rattle.ir_explicit.proofs.Never.{explicit-never-wrong, explicit-same}
@@ -20,9 +20,9 @@ use Rattle.first_values.specs.Operations as op
 use Rattle.ir_first.specs.Tree as out
 use Rattle.ir_first.specs.Continued as tgt
 use Rattle.ir_first.proofs.Settled.{meanings-are-one-unless-wrong}
-use Rattle.flow_sets.specs.ByType.{by_type}
-use Rattle.flow_sets.proofs.Known.{by-type-solves}
-use Rattle.flow_sets.specs.Flow.{Flow, variable, result, at, number_of}
+use Rattle.closure_convert.specs.of_flow_sets.ByType.{by_type}
+use Rattle.closure_convert.proofs.of_flow_sets.Known.{by-type-solves}
+use Rattle.closure_convert.specs.of_flow_sets.Flow.{Flow, variable, result, at, number_of}
 use Rattle.closure_convert.proofs.Numbered.{captures-are-right}
 use Rattle.closure_convert.specs.Capture.{table_of}
 use Rattle.closure_convert.specs.Scope.{Table, top}

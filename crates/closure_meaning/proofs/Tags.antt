@@ -6,13 +6,13 @@ use Rattle.std.proofs.lemmas.Bool.{ltb-true}
 use Rattle.mlc_prims.specs.LitOf.{Literal, int, word, char, string, truth}
 use Rattle.ty_core.specs.Types.{arrow, labels, name}
 use Rattle.ir_values.specs.Values.{false_number, true_number}
-use Rattle.ir_mono.specs.Types as table
-use Rattle.ir_mono.specs.Types.{Node, node, node_at, constructor_at, bool_number, Is, IsTable, is_named, holds}
-use Rattle.ir_poly.specs.Types.{int_name}
+use Rattle.ir_explicit.specs.of_ir_mono.Types as table
+use Rattle.ir_explicit.specs.of_ir_mono.Types.{Node, node, node_at, constructor_at, bool_number, Is, IsTable, is_named, holds}
+use Rattle.ir_explicit.specs.of_ir_poly.Types.{int_name}
 use Rattle.first_values.specs.Equality.{Shape, numbers, texts, references, opaque, is_text}
 use Rattle.first_values.specs.Equality as equality
 use Rattle.first_values.specs.Operations as op
-use Rattle.flow_sets.proofs.Member.{nat_eq-to, nat_eq-same, decide}
+use Rattle.closure_convert.proofs.of_flow_sets.Member.{nat_eq-to, nat_eq-same, decide}
 use Rattle.closure_meaning.specs.Convert.{constructor_index, constructors_in, tag_among, con_tag, argument_types, part_types, parts_among, shape_of, shapes_from, shapes, operands_at}
 use Rattle.closure_meaning.proofs.Known.{different}
 

@@ -11,11 +11,11 @@ use Rattle.ir_values.specs.Values.{same_label, false_number, true_number}
 use Rattle.ir_values.specs.Primitives.{Sort, compares, assigns, prints, computes, sort_of, is_overloaded}
 use Rattle.ir_plain.specs.Tree as m
 use Rattle.ir_plain.specs.Tree.{Case, is_literal, is_con, is_con_of, is_exn, is_exn_of, is_record, Exception, fixed, held, Atoms, no_atoms, an_atom, Row, no_row, a_row, Fun, last, more, Funs, no_funs, fun}
-use Rattle.ir_poly.specs.Types.{int_name, word_name, char_name, string_name, ref_name}
-use Rattle.ir_mono.specs.Types as table
-use Rattle.ir_mono.specs.Types.{Node, node, node_at, is_named, holds, bool_number}
-use Rattle.ir_mono.specs.Mono as source
-use Rattle.ir_mono.specs.Mono.{mono, Mono}
+use Rattle.ir_explicit.specs.of_ir_poly.Types.{int_name, word_name, char_name, string_name, ref_name}
+use Rattle.ir_explicit.specs.of_ir_mono.Types as table
+use Rattle.ir_explicit.specs.of_ir_mono.Types.{Node, node, node_at, is_named, holds, bool_number}
+use Rattle.ir_explicit.specs.of_ir_mono.Mono as source
+use Rattle.ir_explicit.specs.of_ir_mono.Mono.{mono, Mono}
 use Rattle.first_values.specs.Values as cells
 use Rattle.first_values.specs.Equality.{Shape, numbers, texts, references, opaque}
 use Rattle.first_values.specs.Equality as equality
@@ -23,8 +23,8 @@ use Rattle.first_values.specs.Operations as op
 use Rattle.first_values.specs.Operations.{Tables, Constant, Operands, ints, words, chars}
 use Rattle.first_values.specs.Raising.{may_raise}
 use Rattle.ir_first.specs.Tree as out
-use Rattle.flow_sets.specs.Member.{is_in}
-use Rattle.flow_sets.specs.Flow.{Flow, variable, at, number_of}
+use Rattle.closure_convert.specs.of_flow_sets.Member.{is_in}
+use Rattle.closure_convert.specs.of_flow_sets.Flow.{Flow, variable, at, number_of}
 use Rattle.closure_convert.specs.Scope.{Member, names, Scope, add, add_all, Way, no_way, leads, follows, way, index_of, Piece, alone, those, Table, top}
 use Rattle.closure_convert.specs.Closed.{scope_of, members, leader}
 

@@ -5,11 +5,11 @@ use Rattle.mlc_names.specs.declared.label.Label.{Label}
 use Rattle.mlc_prims.specs.LitOf.{Literal}
 use Rattle.ty_core.specs.Types.{labels}
 use Rattle.ir_plain.specs.Tree.{Case, is_literal, is_con, is_con_of, is_exn, is_exn_of, is_record, Exception, fixed, held, Atoms, no_atoms, an_atom, Row, no_row, a_row, ret, let_in, exception_in, name_in, rec_in, switch, first, miss, counted, Arms, no_arms, arm, Op, use_of, const, con_alone, construct, ref_alone, refer, content, pack, make_record, select, prim_alone, prim, app, fn, block, handle, raise, raise_initial, Fun, last, more, Funs, no_funs, fun}
-use Rattle.ir_mono.specs.Types as table
-use Rattle.ir_mono.specs.Types.{constructor_at, Is, AreDistinct}
-use Rattle.ir_mono.specs.Mono.{mono, Mono}
+use Rattle.ir_explicit.specs.of_ir_mono.Types as table
+use Rattle.ir_explicit.specs.of_ir_mono.Types.{constructor_at, Is, AreDistinct}
+use Rattle.ir_explicit.specs.of_ir_mono.Mono.{mono, Mono}
 use Rattle.first_values.specs.Operations.{literal_at}
-use Rattle.flow_sets.specs.Flow.{Flow}
+use Rattle.closure_convert.specs.of_flow_sets.Flow.{Flow}
 use Rattle.closure_convert.specs.Scope.{Table}
 use Rattle.closure_meaning.specs.Convert.{Numbering, constant, tables}
 

@@ -1,16 +1,16 @@
 -- What is claimed of the conversion.
 use Rattle.std.specs.Prelude.{◌≡◌, ℕ, suc, List, [], Some, slice_get}
 use Rattle.mlc_runs.specs.Outcome.{wrong}
-use Rattle.ir_mono.specs.Types as table
-use Rattle.ir_mono.specs.Types.{IsTable}
-use Rattle.ir_mono.specs.Mono.{Mono, Program}
-use Rattle.ir_mono.specs.Mono as mono
-use Rattle.ir_mono.specs.Explicit.{IsExplicit}
-use Rattle.ir_mono.specs.WellFormed.{IsWellFormed}
+use Rattle.ir_explicit.specs.of_ir_mono.Types as table
+use Rattle.ir_explicit.specs.of_ir_mono.Types.{IsTable}
+use Rattle.ir_explicit.specs.of_ir_mono.Mono.{Mono, Program}
+use Rattle.ir_explicit.specs.of_ir_mono.Mono as mono
+use Rattle.ir_explicit.specs.of_ir_mono.Explicit.{IsExplicit}
+use Rattle.ir_explicit.specs.of_ir_mono.WellFormed.{IsWellFormed}
 use Rattle.ir_explicit.specs.Explicit as source
 use Rattle.ir_first.specs.Meaning as first
-use Rattle.flow_sets.specs.Flow.{Flow, SolvesProgram}
-use Rattle.flow_sets.specs.ByType.{by_type}
+use Rattle.closure_convert.specs.of_flow_sets.Flow.{Flow, SolvesProgram}
+use Rattle.closure_convert.specs.of_flow_sets.ByType.{by_type}
 use Rattle.closure_convert.specs.Scope.{Table, top}
 use Rattle.closure_convert.specs.Closed.{IsClosed}
 use Rattle.closure_convert.specs.Capture.{table_of}

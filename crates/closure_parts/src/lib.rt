@@ -1,6 +1,7 @@
 // Steps of single operations, with closures as cells.
 #![tactic(auto)]
 
+pub use capture_table;
 pub use flow_types;
 
 pub mod access;

@@ -22,9 +22,9 @@ use Rattle.closure_convert.specs.Scope.{Member, names, Scope, add, add_all, Way,
 use Rattle.closure_convert.specs.Closed.{scope_of, members, leader}
 use Rattle.closure_meaning.specs.Convert.{Numbering, var, given, operands, computed, performed, outer, access, ready, packed, marked, call_set, used, making, following, group_in, name_of, convert, cases, con_arms, convert_op, body, opening, codes, codes_arms, codes_op, codes_fun, codes_funs, piece_list}
 use Rattle.eta_expand.specs.Expand.{Names, takes_argument, is_given, takes_at, gives_at, parts_at, is_single, selecting, performing, used_as, alone_as, name_takes, case_names, group_names, news, op_news, fun_news, funs_news, expand, expand_arms, expand_op, expand_fun, expand_funs}
-use Rattle.closure_whole.specs.Whole.{explicit}
-use Rattle.closure_whole.specs.Converted.{numbering}
-use Rattle.closure_whole.specs.Rising.{rising, above}
+use Rattle.closure_formed.specs.of_closure_whole.Whole.{explicit}
+use Rattle.closure_formed.specs.of_closure_whole.Converted.{numbering}
+use Rattle.closure_formed.specs.of_closure_whole.Rising.{rising, above}
 use Rattle.closure_convert.specs.Capture.{table_of}
 use Rattle.flow_sets.specs.ByType.{bound}
 use Rattle.closure_pass.specs.Laws.{ConversionMakesNoMore, ExpansionMakesNoMore, WithoutFunctionsMakesNoMore}

@@ -26,10 +26,10 @@ use Rattle.closure_convert.specs.Capture.{table_of}
 use Rattle.closure_convert.proofs.Numbered.{captures-are-right}
 use Rattle.closure_meaning.specs.Convert.{part_types}
 use Rattle.closure_meaning.proofs.Run.{conversion-same}
-use Rattle.closure_whole.specs.Constants.{AreHeld}
-use Rattle.closure_whole.specs.Converted.{numbering}
-use Rattle.closure_whole.proofs.Positions.{places-are}
-use Rattle.closure_whole.proofs.Fitting.{program-fits}
+use Rattle.closure_formed.specs.of_closure_whole.Constants.{AreHeld}
+use Rattle.closure_formed.specs.of_closure_whole.Converted.{numbering}
+use Rattle.closure_formed.proofs.of_closure_whole.Positions.{places-are}
+use Rattle.closure_formed.proofs.of_closure_whole.Fitting.{program-fits}
 use Rattle.closure_sizes.specs.Laws.{ConversionIsSmall}
 use Rattle.closure_sizes.specs.Counts.{nodes, pieces}
 use Rattle.closure_formed.specs.Laws.{ConvertedWellFormed}

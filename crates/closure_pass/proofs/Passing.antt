@@ -15,10 +15,10 @@ use Rattle.closure_first.specs.of_flow_types.Flows.{program_with}
 use Rattle.eta_expand.specs.Expand.{expand}
 use Rattle.eta_expand.proofs.Formed.{expanded-explicit}
 use Rattle.eta_expand.proofs.Keeps.{expanded-same}
-use Rattle.closure_whole.specs.Rising.{above, rising}
-use Rattle.closure_whole.specs.Whole.{explicit, without_functions}
-use Rattle.closure_whole.proofs.Fresh.{fresh}
-use Rattle.closure_whole.proofs.Whole.{explicit-well-formed}
+use Rattle.closure_formed.specs.of_closure_whole.Rising.{above, rising}
+use Rattle.closure_formed.specs.of_closure_whole.Whole.{explicit, without_functions}
+use Rattle.closure_formed.proofs.of_closure_whole.Fresh.{fresh}
+use Rattle.closure_formed.proofs.of_closure_whole.Whole.{explicit-well-formed}
 use Rattle.closure_first.specs.Made.{converted_by}
 use Rattle.closure_pass.specs.Laws.{WithoutFunctionsMakesNoMore}
 use Rattle.closure_pass.specs.Given.{given, IsReady}

@@ -5,7 +5,7 @@ use Rattle.ir_mono.specs.Mono.{Program}
 use Rattle.flow_sets.specs.Flow.{Flow}
 use Rattle.closure_convert.specs.Scope.{Table}
 use Rattle.closure_meaning.specs.Convert.{Numbering, program}
-use Rattle.closure_whole.specs.Whole.{without_functions}
+use Rattle.closure_formed.specs.of_closure_whole.Whole.{without_functions}
 use Rattle.eta_expand.specs.Expand.{expanded}
 use Rattle.first_tree.specs.Exceptions.{funs_make}
 

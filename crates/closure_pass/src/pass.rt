@@ -2,13 +2,13 @@
 ghost use Rattle.std.specs.Prelude.{◌≡◌, ℕ, IfOk, IfErr};
 ghost use Rattle.mlc_runs.specs.Passes.{BringsNone};
 ghost use Rattle.mlc_runs.specs.declared.pass.PassFault.TheVariants.{Memory};
-ghost use Rattle.mono_operations.specs.Reads.{strings_of};
+ghost use Rattle.mono_form.specs.of_mono_operations.Reads.{strings_of};
 ghost use Rattle.mono_form.specs.Programs as source;
 ghost use Rattle.first_form.specs.Programs as target;
 ghost use Rattle.first_tree.specs.Exceptions.{exceptions};
 ghost use Rattle.ir_first.specs.Meaning.{meaning};
 ghost use Rattle.ir_first.specs.WellFormed.{IsWellFormed};
-ghost use Rattle.closure_whole.specs.Whole.{without_functions};
+ghost use Rattle.closure_formed.specs.of_closure_whole.Whole.{without_functions};
 ghost use Rattle.closure_pass.specs.Given.{texts};
 
 use crate::convert::convert;

@@ -2,7 +2,7 @@
 #![tactic(auto)]
 
 pub use closure_parts;
-pub use closure_parts::flow_types;
+pub use closure_parts::{capture_table, flow_types};
 
 pub mod cases;
 pub mod scope;

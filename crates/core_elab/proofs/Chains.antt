@@ -3,8 +3,8 @@ use Rattle.std.proofs.Common.{◌≡◌, ℕ, Bool, true, false, if◌then◌els
 use Rattle.std.specs.Prelude.{nat_eq}
 use Rattle.mlc_runs.specs.Run.{World, Answer, gives, raises}
 use Rattle.mlc_names.specs.StandardWords.{word_true, word_false}
-use Rattle.sml_tree.specs.declared.ident.BuiltIn.{BuiltIn}
-use Rattle.sml_tree.specs.declared.ident.BuiltIn.TheVariants.{True, False}
+use Rattle.core_rules.specs.of_sml_tree.declared.ident.BuiltIn.{BuiltIn}
+use Rattle.core_rules.specs.of_sml_tree.declared.ident.BuiltIn.TheVariants.{True, False}
 use Rattle.core_rules.specs.Values.{Con, built, Value, con, con_of, Env, nothing}
 use Rattle.core_rules.specs.Match.{binds, fails, misfits, con_in, same_con, tagged}
 use Rattle.core_rules.specs.Eval.{match_packet, on_match}

@@ -2,9 +2,9 @@
 use Rattle.std.proofs.Common.{◌≡◌, ℕ, suc, ◌≤◌, true, List, [], ◌∷◌, Option, Some, refl, sym, ◌∙◌, arith}
 use Rattle.mlc_runs.specs.Run.{World, Answer, gives, then_do, or_fail}
 use Rattle.mlc_runs.proofs.RunLaws.{then_do-then_do}
-use Rattle.sml_tree.specs.declared.ident.Vid.{Vid}
-use Rattle.sml_tree.specs.BareTree.{ConBind, DataBind, TypeBind, ExBind}
-use Rattle.sml_tree.specs.BareTree as bare
+use Rattle.core_rules.specs.of_sml_tree.declared.ident.Vid.{Vid}
+use Rattle.core_rules.specs.of_sml_tree.BareTree.{ConBind, DataBind, TypeBind, ExBind}
+use Rattle.core_rules.specs.of_sml_tree.BareTree as bare
 use Rattle.ty_core.specs.declared.env.Status.TheVariants.{Variable, Exception}
 use Rattle.core_rules.specs.Values.{declared, Value, Env, value, exn, Found}
 use Rattle.core_rules.specs.Match.{match}

@@ -10,12 +10,12 @@ use Rattle.mlc_prims.specs.LitOf.{int}
 use Rattle.ty_core.specs.Types.{Typ, var}
 use Rattle.ty_core.specs.declared.name.TyName.{TyName}
 use Rattle.ty_core.specs.declared.name.Equality.TheVariants.{Always}
-use Rattle.sml_tree.specs.Terminal as term
-use Rattle.sml_tree.specs.Derived.{short, and_of}
-use Rattle.sml_tree.specs.declared.ident.Vid.TheVariants.{Named}
-use Rattle.sml_tree.specs.declared.ident.BuiltIn.TheVariants.{True, False}
-use Rattle.sml_tree.specs.BareTree.{new_exn, same_exn, LongIdAt}
-use Rattle.sml_tree.specs.BareTree as bare
+use Rattle.core_rules.specs.of_sml_tree.Terminal as term
+use Rattle.core_rules.specs.of_sml_tree.Derived.{short, and_of}
+use Rattle.core_rules.specs.of_sml_tree.declared.ident.Vid.TheVariants.{Named}
+use Rattle.core_rules.specs.of_sml_tree.declared.ident.BuiltIn.TheVariants.{True, False}
+use Rattle.core_rules.specs.of_sml_tree.BareTree.{new_exn, same_exn, LongIdAt}
+use Rattle.core_rules.specs.of_sml_tree.BareTree as bare
 use Rattle.core_rules.specs.Initial.{word_Int}
 use Rattle.core_rules.specs.Meaning.{meaning}
 use Rattle.ir_poly.specs.Prog.{held}

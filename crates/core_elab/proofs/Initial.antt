@@ -9,7 +9,7 @@ use Rattle.core_elab.proofs.Related.{Rel, Stored, Known, known_constructor, know
 use Rattle.core_elab.proofs.Kept.{meaning-kept, Calls, decs-rel, apply-rel, named-rel}
 use Rattle.mlc_runs.specs.Run.{World}
 use Rattle.mlc_runs.specs.Agreement.{none}
-use Rattle.sml_tree.specs.BareTree.{Decs}
+use Rattle.core_rules.specs.of_sml_tree.BareTree.{Decs}
 use Rattle.core_rules.specs.Values.{Value, Env}
 use Rattle.core_rules.specs.Eval.{Apply, apply}
 use Rattle.core_rules.specs.Meaning.{packet_identifier, begin}

@@ -4,9 +4,9 @@ use Rattle.std.specs.Prelude.{option_and_then}
 use Rattle.mlc_base.specs.declared.place.Place.{Place}
 use Rattle.mlc_runs.specs.Run.{World, Answer, gives, raises, out_of_turns, then_do, or_fail}
 use Rattle.mlc_runs.specs.Agreement.{none}
-use Rattle.sml_tree.specs.Terminal as term
-use Rattle.sml_tree.specs.BareTree.{LongIdAt}
-use Rattle.sml_tree.specs.BareTree as bare
+use Rattle.core_rules.specs.of_sml_tree.Terminal as term
+use Rattle.core_rules.specs.of_sml_tree.BareTree.{LongIdAt}
+use Rattle.core_rules.specs.of_sml_tree.BareTree as bare
 use Rattle.core_rules.specs.Values.{built, Value, literal, Fields, exn, Env, plus, Found, tycon}
 use Rattle.core_rules.specs.Match.{constant_of, Matching}
 use Rattle.core_rules.specs.Eval.{recursive, with_recursive, Apply, on_match, opened, long_tycon_in, eval, eval_fields, eval_rules, eval_decs, eval_dec, eval_binds, enter, apply, match_packet}

@@ -1,9 +1,9 @@
 -- Look-ups in a scope and in an environment that it covers find the same.
 use Rattle.std.proofs.Common.{◌≡◌, ℕ, ◌≤◌, Bool, true, false, if◌then◌else◌, List, [], ◌∷◌, Option, Some, None, subst}
 use Rattle.std.specs.Prelude.{option_and_then, option_map, nat_eq}
-use Rattle.sml_tree.specs.Terminal.{LongVid}
-use Rattle.sml_tree.specs.declared.ident.Vid.{Vid}
-use Rattle.sml_tree.specs.BareTree.{LongIdAt}
+use Rattle.core_rules.specs.of_sml_tree.Terminal.{LongVid}
+use Rattle.core_rules.specs.of_sml_tree.declared.ident.Vid.{Vid}
+use Rattle.core_rules.specs.of_sml_tree.BareTree.{LongIdAt}
 use Rattle.ty_core.specs.declared.env.Status.{Status}
 use Rattle.core_rules.specs.Words.{same_vid}
 use Rattle.core_rules.specs.Values.{Value, Env, plus, Found, value_in, tycon_in, structure_in, along, long_value_in}

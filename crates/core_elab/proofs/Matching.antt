@@ -5,10 +5,10 @@ use Rattle.mlc_runs.specs.Agreement.{AllRelated, BothOrNeither, neither, both}
 use Rattle.mlc_runs.proofs.RunLaws.{slice_get-same}
 use Rattle.mlc_prims.specs.LitOf.{Literal}
 use Rattle.mlc_prims.specs.Table.{literal_eq}
-use Rattle.sml_tree.specs.Terminal.{LongVid}
-use Rattle.sml_tree.specs.Derived.{short}
-use Rattle.sml_tree.specs.declared.ident.Vid.{Vid}
-use Rattle.sml_tree.specs.BareTree as bare
+use Rattle.core_rules.specs.of_sml_tree.Terminal.{LongVid}
+use Rattle.core_rules.specs.of_sml_tree.Derived.{short}
+use Rattle.core_rules.specs.of_sml_tree.declared.ident.Vid.{Vid}
+use Rattle.core_rules.specs.of_sml_tree.BareTree as bare
 use Rattle.core_rules.specs.Values.{Con, built, Value, Fields, Env, nothing, plus, Found}
 use Rattle.core_rules.specs.Match.{constant_of, literal_in, fields_in, con_in, exn_in, address_in, same_con, Matching, binds, fails, misfits, then_match, where_same, on_found, behind, tagged, match_vid, match_con, on_fields, pat_count, match, match_fields}
 use Rattle.ir_poly.specs.of_ir_values.Tags.{untagged}

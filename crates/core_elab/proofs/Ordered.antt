@@ -7,11 +7,11 @@ use Rattle.mlc_base.specs.declared.place.Place.{Place}
 use Rattle.mlc_prims.specs.declared.basis.BasisPrimitive.TheVariants.{Quotient}
 use Rattle.mlc_prims.specs.LitOf.{int}
 use Rattle.ty_core.specs.Types.{Typ, var}
-use Rattle.sml_tree.specs.Terminal as term
-use Rattle.sml_tree.specs.Derived.{short}
-use Rattle.sml_tree.specs.declared.ident.Vid.TheVariants.{Named}
-use Rattle.sml_tree.specs.BareTree.{LongIdAt}
-use Rattle.sml_tree.specs.BareTree as bare
+use Rattle.core_rules.specs.of_sml_tree.Terminal as term
+use Rattle.core_rules.specs.of_sml_tree.Derived.{short}
+use Rattle.core_rules.specs.of_sml_tree.declared.ident.Vid.TheVariants.{Named}
+use Rattle.core_rules.specs.of_sml_tree.BareTree.{LongIdAt}
+use Rattle.core_rules.specs.of_sml_tree.BareTree as bare
 use Rattle.core_rules.specs.Initial.{word_Int}
 use Rattle.core_rules.specs.Meaning.{meaning}
 use Rattle.ir_poly.specs.Prog as prog

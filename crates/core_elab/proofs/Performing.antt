@@ -12,7 +12,7 @@ use Rattle.mlc_prims.specs.declared.prim.PrimExn.{PrimExn}
 use Rattle.mlc_prims.specs.declared.prim.PrimExn.TheVariants.{Overflow, Div, Subscript, Size, Chr}
 use Rattle.mlc_prims.specs.declared.basis.BasisPrimitive.{BasisPrimitive}
 use Rattle.mlc_prims.specs.declared.basis.BasisPrimitive.TheVariants as prim
-use Rattle.sml_tree.specs.declared.ident.BuiltIn.TheVariants.{True, False}
+use Rattle.core_rules.specs.of_sml_tree.declared.ident.BuiltIn.TheVariants.{True, False}
 use Rattle.core_rules.specs.Values.{built, Value, Fields, count}
 use Rattle.core_rules.specs.Match.{same_value}
 use Rattle.core_rules.specs.Eval.{packet_of, raise_value, truth_value, value_of, giving, parts, arguments, literals, perform_equals, perform_assign, perform_print, perform}

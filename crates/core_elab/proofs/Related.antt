@@ -4,8 +4,8 @@ use Rattle.std.specs.Prelude.{nat_eq}
 use Rattle.mlc_names.specs.declared.label.Label.{Label}
 use Rattle.mlc_prims.specs.LitOf.{Literal}
 use Rattle.mlc_prims.specs.declared.basis.BasisPrimitive.{BasisPrimitive}
-use Rattle.sml_tree.specs.declared.ident.Vid.{Vid}
-use Rattle.sml_tree.specs.BareTree.{Rules, Binds, no_binds}
+use Rattle.core_rules.specs.of_sml_tree.declared.ident.Vid.{Vid}
+use Rattle.core_rules.specs.of_sml_tree.BareTree.{Rules, Binds, no_binds}
 use Rattle.ty_core.specs.declared.env.Status.{Status}
 use Rattle.ty_core.specs.declared.env.Status.TheVariants as status
 use Rattle.core_rules.specs.Values.{Con, Value, literal, record_of, con, con_of, ref, address, exn, exn_of, primitive, closure, Fields, no_fields, field, Env, nothing, value, tycon, structure, plus}

@@ -5,9 +5,9 @@ use Rattle.mlc_names.specs.declared.label.Label.{Label}
 use Rattle.mlc_names.specs.declared.label.Label.TheVariants.{Number, Word}
 use Rattle.mlc_runs.specs.Agreement.{BothOrNeither, neither, both}
 use Rattle.mlc_prims.specs.Table.{literal_eq}
-use Rattle.sml_tree.specs.declared.ident.Vid.TheVariants.{Named, Equals, Fresh}
-use Rattle.sml_tree.specs.declared.ident.BuiltIn.{BuiltIn}
-use Rattle.sml_tree.specs.declared.ident.BuiltIn.TheVariants.{True, False, Nil, Cons}
+use Rattle.core_rules.specs.of_sml_tree.declared.ident.Vid.TheVariants.{Named, Equals, Fresh}
+use Rattle.core_rules.specs.of_sml_tree.declared.ident.BuiltIn.{BuiltIn}
+use Rattle.core_rules.specs.of_sml_tree.declared.ident.BuiltIn.TheVariants.{True, False, Nil, Cons}
 use Rattle.core_rules.specs.Words as words
 use Rattle.core_rules.specs.Restrictions.{is_kept}
 use Rattle.core_rules.specs.Values.{Con, built, declared, Value, Fields, field_in, count}

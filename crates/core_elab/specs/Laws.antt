@@ -1,6 +1,6 @@
 -- What is claimed of the elaboration of declarations: the same meaning.
 use Rattle.std.specs.Prelude.{◌≡◌, ℕ, List, map}
-use Rattle.sml_tree.specs.BareTree.{Decs}
+use Rattle.core_rules.specs.of_sml_tree.BareTree.{Decs}
 use Rattle.core_rules.specs.Eval.{identifier}
 use Rattle.core_rules.specs.Initial.{exceptions}
 use Rattle.core_rules.specs.Meaning.{meaning}

@@ -1,6 +1,6 @@
 -- A program resolves a project: sources, and the standard basis with its prelude, which is evaluated where it first stands.
 use Rattle.std.specs.Prelude.{ℕ, List, [], ◌∷◌, Option, Some, None}
-use Rattle.sml_tree.specs.BareTree.{Decs}
+use Rattle.core_rules.specs.of_sml_tree.BareTree.{Decs}
 use Rattle.core_rules.specs.Project.{Part, standard_basis, source}
 use Rattle.ir_poly.specs.Prog as prog
 use Rattle.core_elab.specs.Scopes.{Scope, empty, plus_scope, initial_scope, prelude_scope}

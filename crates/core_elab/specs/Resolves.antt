@@ -7,13 +7,13 @@ use Rattle.mlc_prims.specs.declared.basis.BasisPrimitive.{BasisPrimitive}
 use Rattle.ty_core.specs.Types.{Typ}
 use Rattle.ty_core.specs.declared.name.TyName.{TyName}
 use Rattle.ty_core.specs.declared.scheme.Quantified.{Quantified}
-use Rattle.sml_tree.specs.Terminal.{Constant, LongVid}
-use Rattle.sml_tree.specs.Derived.{short, and_of, or_of}
-use Rattle.sml_tree.specs.declared.ident.Tyvar.{Tyvar}
-use Rattle.sml_tree.specs.declared.ident.Vid.{Vid}
-use Rattle.sml_tree.specs.declared.ident.BuiltIn.{BuiltIn}
-use Rattle.sml_tree.specs.BareTree.{Ty, TypeBind, ConBind, DataBind, ExBind, new_exn, same_exn, LongIdAt}
-use Rattle.sml_tree.specs.BareTree as bare
+use Rattle.core_rules.specs.of_sml_tree.Terminal.{Constant, LongVid}
+use Rattle.core_rules.specs.of_sml_tree.Derived.{short, and_of, or_of}
+use Rattle.core_rules.specs.of_sml_tree.declared.ident.Tyvar.{Tyvar}
+use Rattle.core_rules.specs.of_sml_tree.declared.ident.Vid.{Vid}
+use Rattle.core_rules.specs.of_sml_tree.declared.ident.BuiltIn.{BuiltIn}
+use Rattle.core_rules.specs.of_sml_tree.BareTree.{Ty, TypeBind, ConBind, DataBind, ExBind, new_exn, same_exn, LongIdAt}
+use Rattle.core_rules.specs.of_sml_tree.BareTree as bare
 use Rattle.core_rules.specs.Values.{declared}
 use Rattle.core_rules.specs.Match.{constant_of}
 use Rattle.core_rules.specs.Eval.{identifier}

@@ -3,12 +3,12 @@
 use Rattle.std.specs.Prelude.{ℕ, Bool, true, false, List, [], ◌∷◌, Option, Some, None, option_map, option_and_then, nat_eq, if◌then◌else◌}
 use Rattle.mlc_names.specs.StandardWords.{word_true, word_false, word_nil, word_cons}
 use Rattle.mlc_prims.specs.declared.basis.BasisPrimitive.{BasisPrimitive}
-use Rattle.sml_tree.specs.Terminal.{LongVid}
-use Rattle.sml_tree.specs.declared.ident.Vid.{Vid}
-use Rattle.sml_tree.specs.declared.ident.Vid.TheVariants.{Named}
-use Rattle.sml_tree.specs.declared.ident.BuiltIn.{BuiltIn}
-use Rattle.sml_tree.specs.declared.ident.BuiltIn.TheVariants.{True, False, Nil, Cons}
-use Rattle.sml_tree.specs.BareTree.{LongIdAt, TypeBind}
+use Rattle.core_rules.specs.of_sml_tree.Terminal.{LongVid}
+use Rattle.core_rules.specs.of_sml_tree.declared.ident.Vid.{Vid}
+use Rattle.core_rules.specs.of_sml_tree.declared.ident.Vid.TheVariants.{Named}
+use Rattle.core_rules.specs.of_sml_tree.declared.ident.BuiltIn.{BuiltIn}
+use Rattle.core_rules.specs.of_sml_tree.declared.ident.BuiltIn.TheVariants.{True, False, Nil, Cons}
+use Rattle.core_rules.specs.of_sml_tree.BareTree.{LongIdAt, TypeBind}
 use Rattle.core_rules.specs.Words.{same_vid}
 use Rattle.core_rules.specs.Values.{Con, built, declared}
 use Rattle.core_rules.specs.Values as source

@@ -3,10 +3,10 @@ use Rattle.std.proofs.Common.{◌≡◌, ℕ, zero, suc, Bool, true, false, not,
 use Rattle.std.specs.Prelude.{unwrap_or, ◌&&◌, ◌-◌, nat_lt, nat_eq, if◌then◌else◌}
 use Rattle.mlc_names.specs.declared.label.Label.{Label}
 use Rattle.mlc_names.specs.declared.label.Label.TheVariants.{Number, Word}
-use Rattle.ty_core.specs.Types.{Typ, Typs, Symbol, var, con, none, more, arrow, labels, name as symbol, no_variable}
-use Rattle.ty_core.specs.Statics.{replace_all}
-use Rattle.ty_core.specs.declared.mark.Mark.{Mark}
-use Rattle.ty_core.specs.declared.env.Status.TheVariants.{Variable}
+use Rattle.ty_basis.specs.of_ty_core.Types.{Typ, Typs, Symbol, var, con, none, more, arrow, labels, name as symbol, no_variable}
+use Rattle.ty_basis.specs.of_ty_core.Statics.{replace_all}
+use Rattle.ty_basis.specs.of_ty_core.declared.mark.Mark.{Mark}
+use Rattle.ty_basis.specs.of_ty_core.declared.env.Status.TheVariants.{Variable}
 use Rattle.sml_tree.specs.declared.ident.Vid.{Vid}
 use Rattle.sml_tree.specs.Derived.{select}
 use Rattle.sml_tree.specs.BareTree.{Exp, Decs, fn, no_rules, typed_pat, bind, no_binds}

@@ -1,10 +1,10 @@
 -- val x = ref [] val () = x := [1] is principal: whatever its typing, x is a reference to lists of integers.
 use Rattle.std.proofs.Common.{◌≡◌, ℕ, zero, suc, Bool, true, false, List, [], ◌∷◌, ◌++◌, length, Option, Some, None, refl, sym, ap, ◌∙◌, subst}
 use Rattle.std.specs.Prelude.{unwrap_or, ◌&&◌, if◌then◌else◌}
-use Rattle.ty_core.specs.Types.{Typ, var, con, none, more, no_variable}
-use Rattle.ty_core.specs.declared.mark.Mark.{Mark}
-use Rattle.ty_core.specs.declared.mark.Mark.TheVariants.{Any, Equality, Class}
-use Rattle.ty_core.specs.declared.env.Status.TheVariants.{Variable, Constructor}
+use Rattle.ty_basis.specs.of_ty_core.Types.{Typ, var, con, none, more, no_variable}
+use Rattle.ty_basis.specs.of_ty_core.declared.mark.Mark.{Mark}
+use Rattle.ty_basis.specs.of_ty_core.declared.mark.Mark.TheVariants.{Any, Equality, Class}
+use Rattle.ty_basis.specs.of_ty_core.declared.env.Status.TheVariants.{Variable, Constructor}
 use Rattle.sml_tree.specs.declared.ident.Vid.{Vid}
 use Rattle.sml_tree.specs.Derived.{list_of, tuple_pat}
 use Rattle.sml_tree.specs.BareTree.{Exp, Decs, bind, no_binds}

@@ -3,11 +3,11 @@ use Rattle.std.proofs.Common.{◌≡◌, ℕ, zero, suc, Bool, true, false, List
 use Rattle.std.specs.Prelude.{is_some, if◌then◌else◌, option_map, option_and_then, unwrap_or}
 use Rattle.std.specs.Option.{option_or}
 use Rattle.mlc_runs.specs.Run.{World, gives, or_fail}
-use Rattle.ty_core.specs.Types.{Typ, Typs}
-use Rattle.ty_core.specs.Statics.{apply}
-use Rattle.ty_core.specs.declared.name.TyName.{TyName}
-use Rattle.ty_core.specs.declared.env.Status.{Status}
-use Rattle.ty_core.specs.declared.env.Status.TheVariants.{Variable, Constructor, Exception, Primitive}
+use Rattle.ty_basis.specs.of_ty_core.Types.{Typ, Typs}
+use Rattle.ty_basis.specs.of_ty_core.Statics.{apply}
+use Rattle.ty_basis.specs.of_ty_core.declared.name.TyName.{TyName}
+use Rattle.ty_basis.specs.of_ty_core.declared.env.Status.{Status}
+use Rattle.ty_basis.specs.of_ty_core.declared.env.Status.TheVariants.{Variable, Constructor, Exception, Primitive}
 use Rattle.sml_tree.specs.Terminal as term
 use Rattle.sml_tree.specs.declared.ident.Tyvar.{Tyvar}
 use Rattle.sml_tree.specs.declared.ident.Vid.{Vid}

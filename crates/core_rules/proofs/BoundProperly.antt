@@ -1,8 +1,8 @@
 -- What a `val` declaration with a typing binds.
 use Rattle.std.proofs.Common.{◌≡◌, ℕ, Bool, true, false, List, [], ◌∷◌, ◌++◌, map, refl, sym, ap, subst}
 use Rattle.std.specs.List.{AllByRecursion}
-use Rattle.ty_core.specs.Types.{Typ}
-use Rattle.ty_core.specs.declared.mark.Mark.{Mark}
+use Rattle.ty_basis.specs.of_ty_core.Types.{Typ}
+use Rattle.ty_basis.specs.of_ty_core.declared.mark.Mark.{Mark}
 use Rattle.sml_tree.specs.BareTree.{Pat, PatFields, Binds}
 use Rattle.ty_basis.specs.Types.{Row, unit_type}
 use Rattle.core_rules.specs.Words.{same_vid}

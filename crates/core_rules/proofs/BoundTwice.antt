@@ -1,6 +1,6 @@
 -- A variable is bound once in a declaration: val (x, x) = (1, 2) has no typing, and fn (nil, nil) => 1 binds nothing.
 use Rattle.std.proofs.Common.{◌≡◌, ℕ, Bool, true, false, List, [], ◌∷◌, ◌++◌, Option, Some, None, refl, sym, ap, ◌∙◌, subst}
-use Rattle.ty_core.specs.Types.{Typ, no_variable}
+use Rattle.ty_basis.specs.of_ty_core.Types.{Typ, no_variable}
 use Rattle.sml_tree.specs.declared.ident.Vid.{Vid}
 use Rattle.sml_tree.specs.Derived.{tuple, tuple_pat}
 use Rattle.sml_tree.specs.BareTree.{Exp, Pat, bind, no_binds}

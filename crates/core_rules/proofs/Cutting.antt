@@ -2,7 +2,7 @@
 use Rattle.std.proofs.Common.{◌≡◌, ℕ, Bool, true, false, List, [], ◌∷◌, ◌++◌, refl, sym, ap, subst}
 use Rattle.mlc_names.specs.declared.label.Label.{Label}
 use Rattle.mlc_names.specs.declared.label.Label.TheVariants.{Word}
-use Rattle.ty_core.specs.Types.{Typ, no_variable}
+use Rattle.ty_basis.specs.of_ty_core.Types.{Typ, no_variable}
 use Rattle.sml_tree.specs.declared.ident.Tyvar.{Tyvar}
 use Rattle.sml_tree.specs.declared.ident.Vid.TheVariants.{Fresh}
 use Rattle.sml_tree.specs.Derived.{select}

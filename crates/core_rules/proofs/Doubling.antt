@@ -1,9 +1,9 @@
 -- fun d x = (x, x): each further d doubles the type.
 use Rattle.std.proofs.Common.{◌≡◌, ℕ, zero, suc, ◌+◌, ◌≤◌, ◌<◌, [], ◌∷◌, Option, Some, refl, sym, ap, ◌∙◌, subst, arith}
 use Rattle.std.specs.Prelude.{unwrap_or}
-use Rattle.ty_core.specs.Types.{Typ, var, con, none, more, no_variable, nodes}
-use Rattle.ty_core.specs.declared.mark.Mark.TheVariants.{Any}
-use Rattle.ty_core.specs.declared.env.Status.TheVariants.{Variable}
+use Rattle.ty_basis.specs.of_ty_core.Types.{Typ, var, con, none, more, no_variable, nodes}
+use Rattle.ty_basis.specs.of_ty_core.declared.mark.Mark.TheVariants.{Any}
+use Rattle.ty_basis.specs.of_ty_core.declared.env.Status.TheVariants.{Variable}
 use Rattle.sml_tree.specs.BareTree.{Exp}
 use Rattle.ty_basis.specs.Types.{function_type, pair_type}
 use Rattle.core_rules.specs.Objects.{Context, Value, monomorphic, plus, values_env}

@@ -1,10 +1,10 @@
 -- No type name of a `let` escapes: let datatype t = A in A end has no typing.
 use Rattle.std.proofs.Common.{◌≡◌, ℕ, zero, suc, Bool, true, false, List, [], ◌∷◌, length, Option, Some, None, sym, ap, ◌∙◌, subst}
 use Rattle.std.specs.Prelude.{unwrap_or, if◌then◌else◌}
-use Rattle.ty_core.specs.Types.{Typ, con, none, name as symbol, no_variable}
-use Rattle.ty_core.specs.declared.name.TyName.{TyName}
-use Rattle.ty_core.specs.declared.name.Equality.TheVariants.{ByArguments, Never}
-use Rattle.ty_core.specs.declared.env.Status.TheVariants.{Constructor}
+use Rattle.ty_basis.specs.of_ty_core.Types.{Typ, con, none, name as symbol, no_variable}
+use Rattle.ty_basis.specs.of_ty_core.declared.name.TyName.{TyName}
+use Rattle.ty_basis.specs.of_ty_core.declared.name.Equality.TheVariants.{ByArguments, Never}
+use Rattle.ty_basis.specs.of_ty_core.declared.env.Status.TheVariants.{Constructor}
 use Rattle.sml_tree.specs.BareTree.{fn, no_rules, Exp, DataBind, datatype_dec, let_in}
 use Rattle.core_rules.specs.Objects.{Context, Value, Map, TypeStructure, Over, with_env, monomorphic, plus, no_env}
 use Rattle.core_rules.specs.Choices.{Choices, no_choice}

@@ -2,9 +2,9 @@
 use Rattle.std.proofs.Common.{◌≡◌, ℕ, Bool, true, false, List, [], ◌∷◌, ◌++◌, length, Some, if◌then◌else◌, refl, sym, ap, subst}
 use Rattle.std.specs.Prelude.{◌&&◌}
 use Rattle.mlc_base.specs.declared.place.Place.{Place}
-use Rattle.ty_core.specs.Types.{Typ}
-use Rattle.ty_core.specs.declared.mark.Mark.{Mark}
-use Rattle.ty_core.specs.declared.env.Status.TheVariants.{Variable}
+use Rattle.ty_basis.specs.of_ty_core.Types.{Typ}
+use Rattle.ty_basis.specs.of_ty_core.declared.mark.Mark.{Mark}
+use Rattle.ty_basis.specs.of_ty_core.declared.env.Status.TheVariants.{Variable}
 use Rattle.sml_tree.specs.declared.ident.Vid.{Vid}
 use Rattle.sml_tree.specs.BareTree.{Pat, Exp, no_binds, bind}
 use Rattle.ty_basis.specs.Types.{unit_type}

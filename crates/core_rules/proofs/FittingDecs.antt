@@ -3,18 +3,18 @@ use Rattle.std.proofs.Common.{◌≡◌, ℕ, zero, suc, Bool, true, false, List
 use Rattle.std.specs.Prelude.{is_some, cond, if◌then◌else◌, option_map, option_and_then, ◌&&◌}
 use Rattle.std.specs.Option.{option_or, option_zip}
 use Rattle.mlc_runs.specs.Run.{World, Answer, gives, raises, stops, then_do, or_fail}
-use Rattle.ty_core.specs.Types.{Typ, con, more, none, arrow, labels, name as symbol}
-use Rattle.ty_core.specs.declared.mark.Mark.{Mark}
-use Rattle.ty_core.specs.declared.mark.Mark.TheVariants.{Any, Equality}
-use Rattle.ty_core.specs.declared.name.TyName.{TyName}
-use Rattle.ty_core.specs.declared.env.Status.{Status}
-use Rattle.ty_core.specs.declared.env.Status.TheVariants.{Variable, Constructor, Exception, Primitive}
+use Rattle.ty_basis.specs.of_ty_core.Types.{Typ, con, more, none, arrow, labels, name as symbol}
+use Rattle.ty_basis.specs.of_ty_core.declared.mark.Mark.{Mark}
+use Rattle.ty_basis.specs.of_ty_core.declared.mark.Mark.TheVariants.{Any, Equality}
+use Rattle.ty_basis.specs.of_ty_core.declared.name.TyName.{TyName}
+use Rattle.ty_basis.specs.of_ty_core.declared.env.Status.{Status}
+use Rattle.ty_basis.specs.of_ty_core.declared.env.Status.TheVariants.{Variable, Constructor, Exception, Primitive}
 use Rattle.sml_tree.specs.Terminal as term
 use Rattle.sml_tree.specs.Derived.{short}
 use Rattle.sml_tree.specs.declared.ident.Tyvar.{Tyvar}
 use Rattle.sml_tree.specs.declared.ident.Vid.{Vid}
 use Rattle.sml_tree.specs.BareTree.{Pat, PatFields, TypeBind, ConBind, DataBind, ExBind, new_exn, same_exn, fn, Decs, Dec, Binds, no_binds, bind}
-use Rattle.mlc_prims.specs.Table.{literal_eq}
+use Rattle.ty_basis.specs.of_mlc_prims.Table.{literal_eq}
 use Rattle.ty_basis.specs.Types.{Row, row_type, unit_type}
 use Rattle.core_rules.specs.Words.{same_vid}
 use Rattle.core_rules.specs.Objects as static
@@ -32,8 +32,8 @@ use Rattle.core_rules.specs.Fits.{static_status, dynamic_status, SameValues, IsO
 use Rattle.core_rules.proofs.LookUps.{at-append, value-plus, tycon-plus, structure-plus, vid-tells}
 use Rattle.core_rules.proofs.Fitting.{not-none, not-false, some-is, status-or, fits-plus, values-fit, nothing-fits, opened-fit}
 use Rattle.core_rules.proofs.Basics.{units-may-stand}
-use Rattle.ty_core.specs.Statics.{named}
-use Rattle.ty_core.specs.declared.name.Equality.TheVariants.{ByArguments, Never}
+use Rattle.ty_basis.specs.of_ty_core.Statics.{named}
+use Rattle.ty_basis.specs.of_ty_core.declared.name.Equality.TheVariants.{ByArguments, Never}
 
 -- Answers
 
@@ -220,7 +220,7 @@ module _ (m : ℕ → Bool) (c : Context) (d : Env) (f : Fits c.env d) (store : 
 -- Recursive bindings
 
 abbrev pub IsArrow : Typ → Type 0
-IsArrow (Rattle.ty_core.specs.Types.var v) = ⊥
+IsArrow (Rattle.ty_basis.specs.of_ty_core.Types.var v) = ⊥
 IsArrow (con arrow ts) = Unit {0}
 IsArrow (con (labels ls) ts) = ⊥
 IsArrow (con (symbol n) ts) = ⊥
@@ -354,7 +354,7 @@ entry-fits x s ts t d y h k = by (nat_eq y x)
     by true = h
     by false = k
 
-pub no-constructors : (f : Rattle.ty_core.specs.Statics.TypeFunction) → ConstructorsFit (record { function = f; constructors = [] }) nothing
+pub no-constructors : (f : Rattle.ty_basis.specs.of_ty_core.Statics.TypeFunction) → ConstructorsFit (record { function = f; constructors = [] }) nothing
 no-constructors f = record { values = λ x. refl; only = record { tycons = λ x. refl; structures = λ x. refl } }
 
 -- exceptions as they are bound

@@ -4,13 +4,13 @@ use Rattle.std.specs.Prelude.{slice_set}
 use Rattle.mlc_base.specs.declared.place.Place.{Place}
 use Rattle.mlc_runs.specs.Outcome.{Outcome}
 use Rattle.mlc_runs.specs.Run.{World, out_of_turns, went_wrong, Answer, gives, raises, stops, then_do, or_handle, or_fail, fail, turn_from, new_reference, assign, outcome_of}
-use Rattle.mlc_prims.specs.LitOf.{Literal, int, word, char, string, truth}
-use Rattle.mlc_prims.specs.PrimOf.{Gives, made, raised}
+use Rattle.ty_basis.specs.of_mlc_prims.LitOf.{Literal, int, word, char, string, truth}
+use Rattle.ty_basis.specs.of_mlc_prims.PrimOf.{Gives, made, raised}
 use Rattle.sml_tree.specs.BareTree.{ExBind, new_exn, same_exn, Exp, constant_exp, vid_exp, built_exp, fields_exp, let_in, app, typed, handle, raise, fn, ExpFields, no_exp_fields, exp_field, Rules, no_rules, rule, Decs, no_decs, dec, Dec, val_dec, type_dec, datatype_dec, replicate_dec, exception_dec, local_dec, open_dec, sequence_dec, Binds, no_binds, bind}
-use Rattle.ty_core.specs.declared.env.Status.TheVariants.{Exception}
-use Rattle.mlc_prims.specs.Table.{row_of}
-use Rattle.mlc_prims.specs.declared.basis.BasisPrimitive.{BasisPrimitive}
-use Rattle.mlc_prims.specs.declared.basis.BasisPrimitive.TheVariants as prim
+use Rattle.ty_basis.specs.of_ty_core.declared.env.Status.TheVariants.{Exception}
+use Rattle.ty_basis.specs.of_mlc_prims.Table.{row_of}
+use Rattle.ty_basis.specs.of_mlc_prims.declared.basis.BasisPrimitive.{BasisPrimitive}
+use Rattle.ty_basis.specs.of_mlc_prims.declared.basis.BasisPrimitive.TheVariants as prim
 use Rattle.core_rules.specs.Initial.{prelude_members, dynamic_env}
 use Rattle.core_rules.specs.Project.{Part, source, standard_basis, eval_all, dynamic_standard}
 use Rattle.core_rules.specs.Values.{Value, literal, record_of, con, con_of, ref, address, exn, exn_of, primitive, closure, field, unit_value, Env, value, nothing, tycon, plus, long_value_in}

@@ -1,3 +1,5 @@
+pub use Rattle.ty_basis.proofs as of_ty_basis
+pub use Rattle.sml_tree.proofs as of_sml_tree
 mod Words
 pub mod Runs
 mod Broken

@@ -2,9 +2,9 @@
 use Rattle.std.proofs.Common.{◌≡◌, Bool, true, false, [], ◌∷◌, refl, Some, subst}
 use Rattle.mlc_names.specs.StandardWords.{word_assign, word_nil, word_plus, word_ref}
 use Rattle.mlc_names.specs.declared.label.Label.TheVariants.{Number, Word}
-use Rattle.ty_core.specs.Types.{Typ, var, no_variable, admits}
-use Rattle.ty_core.specs.declared.mark.Mark.TheVariants.{Any}
-use Rattle.ty_core.specs.declared.env.Status.TheVariants.{Constructor, Variable}
+use Rattle.ty_basis.specs.of_ty_core.Types.{Typ, var, no_variable, admits}
+use Rattle.ty_basis.specs.of_ty_core.declared.mark.Mark.TheVariants.{Any}
+use Rattle.ty_basis.specs.of_ty_core.declared.env.Status.TheVariants.{Constructor, Variable}
 use Rattle.sml_tree.specs.declared.ident.Tyvar.{Tyvar}
 use Rattle.sml_tree.specs.Derived.{list_of, tuple_pat}
 use Rattle.sml_tree.specs.BareTree.{Exp, Pat, Ty, var as ty_var, fields as ty_fields, ty_field, no_ty_fields, fn, fields_exp, exp_field, no_exp_fields, let_in, no_rules, Binds, bind, no_binds, Dec, datatype_dec, exception_dec, new_exn, val_dec}

@@ -2,7 +2,7 @@
 use Rattle.std.proofs.Common.{◌≡◌, ℕ, true, false, List, [], ◌∷◌, codes, refl, Some, None}
 use Rattle.mlc_names.specs.declared.label.Label.TheVariants as label
 use Rattle.mlc_runs.specs.Outcome.{Outcome, wrong}
-use Rattle.ty_core.specs.Types.{no_variable}
+use Rattle.ty_basis.specs.of_ty_core.Types.{no_variable}
 use Rattle.sml_tree.specs.declared.ident.Tyvar.{Tyvar}
 use Rattle.sml_tree.specs.declared.ident.BuiltIn.TheVariants.{True}
 use Rattle.sml_tree.specs.Derived.{tuple, list_of, if_of, sequence_of}

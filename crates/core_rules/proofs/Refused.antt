@@ -1,17 +1,17 @@
 -- What has no typing, or no principal one; and a run that has one.
 use Rattle.std.proofs.Common.{◌≡◌, ℕ, Bool, true, false, not, List, [], ◌∷◌, ◌++◌, refl, sym, ap, ◌∙◌, subst, Some, None, Option}
 use Rattle.std.specs.Prelude.{unwrap_or, length, nat_eq, if◌then◌else◌, nat_lt, ◌-◌, ◌&&◌, ◌<◌}
-use Rattle.ty_core.specs.Types.{Typ, var, con, none, more, Typs, Symbol, arrow, labels, name as symbol, no_variable, admits}
+use Rattle.ty_basis.specs.of_ty_core.Types.{Typ, var, con, none, more, Typs, Symbol, arrow, labels, name as symbol, no_variable, admits}
 use Rattle.mlc_names.specs.declared.label.Label.{Label}
 use Rattle.mlc_names.specs.declared.label.Label.TheVariants.{Word}
-use Rattle.ty_core.specs.Marks.{Allows, overloaded}
+use Rattle.ty_basis.specs.of_ty_core.Marks.{Allows, overloaded}
 use Rattle.ty_basis.specs.Types.{Row, bool_type, function_type, int_type, labels_in, list_type, pair_type, ref_type, row_type, string_type, unit_type, word_type}
 use Rattle.ty_basis.specs.Primitives.{numbers}
 use Rattle.core_rules.specs.Restrictions.{distinct}
-use Rattle.ty_core.specs.Statics.{replace_all}
-use Rattle.ty_core.specs.declared.mark.Mark.{Mark}
-use Rattle.ty_core.specs.declared.mark.Mark.TheVariants.{Any, Equality}
-use Rattle.ty_core.specs.declared.env.Status.TheVariants.{Variable}
+use Rattle.ty_basis.specs.of_ty_core.Statics.{replace_all}
+use Rattle.ty_basis.specs.of_ty_core.declared.mark.Mark.{Mark}
+use Rattle.ty_basis.specs.of_ty_core.declared.mark.Mark.TheVariants.{Any, Equality}
+use Rattle.ty_basis.specs.of_ty_core.declared.env.Status.TheVariants.{Variable}
 use Rattle.sml_tree.specs.declared.ident.Vid.{Vid}
 use Rattle.sml_tree.specs.Derived.{list_of, select}
 use Rattle.sml_tree.specs.BareTree.{Exp, Decs, fn, no_rules, bind, no_binds}

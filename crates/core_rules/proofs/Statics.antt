@@ -1,12 +1,12 @@
 -- Worked examples of statics: what makes a scheme more general, `+` of environments and bases, and which type functions admit equality.
 use Rattle.std.proofs.Common.{◌≡◌, ℕ, Bool, true, false, [], ◌∷◌, Some, None, refl, sym, ap, ◌∙◌, arith}
 use Rattle.mlc_names.specs.declared.label.Label.TheVariants.{Number}
-use Rattle.ty_core.specs.Types.{Symbol, Typ, var, con, none, more, arrow, labels, name, admits, no_variable}
-use Rattle.ty_core.specs.Statics.{TypeFunction, function_admits, named}
-use Rattle.ty_core.specs.declared.name.TyName.{TyName}
-use Rattle.ty_core.specs.declared.name.Equality.TheVariants.{Always, ByArguments, Never}
-use Rattle.ty_core.specs.declared.mark.Mark.TheVariants.{Any, Equality}
-use Rattle.ty_core.specs.declared.env.Status.TheVariants.{Variable}
+use Rattle.ty_basis.specs.of_ty_core.Types.{Symbol, Typ, var, con, none, more, arrow, labels, name, admits, no_variable}
+use Rattle.ty_basis.specs.of_ty_core.Statics.{TypeFunction, function_admits, named}
+use Rattle.ty_basis.specs.of_ty_core.declared.name.TyName.{TyName}
+use Rattle.ty_basis.specs.of_ty_core.declared.name.Equality.TheVariants.{Always, ByArguments, Never}
+use Rattle.ty_basis.specs.of_ty_core.declared.mark.Mark.TheVariants.{Any, Equality}
+use Rattle.ty_basis.specs.of_ty_core.declared.env.Status.TheVariants.{Variable}
 use Rattle.sml_tree.specs.Fixity.{fix_of}
 use Rattle.sml_tree.specs.declared.fixity.Infix.{Infix}
 use Rattle.sml_tree.specs.declared.fixity.Directive.{Directive}

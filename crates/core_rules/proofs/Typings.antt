@@ -2,12 +2,12 @@
 use Rattle.std.proofs.Common.{◌≡◌, ℕ, Bool, true, false, List, [], ◌∷◌, codes, refl, sym, subst, Some, None, arith}
 use Rattle.std.specs.Prelude.{unwrap_or, length}
 use Rattle.mlc_names.specs.declared.label.Label.TheVariants.{Number, Word}
-use Rattle.ty_core.specs.Types.{Typ, var, no_variable}
-use Rattle.ty_core.specs.declared.mark.Mark.TheVariants.{Any}
-use Rattle.ty_core.specs.declared.env.Status.{Status}
-use Rattle.ty_core.specs.declared.env.Status.TheVariants.{Variable}
+use Rattle.ty_basis.specs.of_ty_core.Types.{Typ, var, no_variable}
+use Rattle.ty_basis.specs.of_ty_core.declared.mark.Mark.TheVariants.{Any}
+use Rattle.ty_basis.specs.of_ty_core.declared.env.Status.{Status}
+use Rattle.ty_basis.specs.of_ty_core.declared.env.Status.TheVariants.{Variable}
 use Rattle.sml_tree.specs.Derived.{select, tuple}
-use Rattle.ty_core.specs.declared.name.Equality.TheVariants.{ByArguments}
+use Rattle.ty_basis.specs.of_ty_core.declared.name.Equality.TheVariants.{ByArguments}
 use Rattle.ty_basis.specs.Types.{Row, function_type, int_type, row_type, string_type}
 use Rattle.core_rules.specs.Elaborated.{new_names, datatypes, datatypes_env, respects_equality, AllBelow}
 use Rattle.sml_tree.specs.BareTree.{Exp, vid_exp, arrow, fn, let_in, no_rules, DataBind, datatype_dec, fields as ty_fields, ty_field, no_ty_fields, var as ty_var, con as ty_con, ty, no_tys}
@@ -81,7 +81,7 @@ list_like = record {
       } ∷ [];
 } ∷ []
 
-abbrev list_like_names : List Rattle.ty_core.specs.declared.name.TyName.TyName
+abbrev list_like_names : List Rattle.ty_basis.specs.of_ty_core.declared.name.TyName.TyName
 list_like_names = new_names start (true ∷ []) list_like
 
 list_like_equal : list_like_names ≡ record { stamp = 8; arity = 1; equality = ByArguments } ∷ []

@@ -1,7 +1,7 @@
 -- Signatures, functors and bases. [Definition 5.1]
 use Rattle.std.specs.Prelude.{ℕ, nat_eq, List, [], ◌++◌}
 use Rattle.sml_tree.specs.Fixity.{Fixity}
-use Rattle.ty_core.specs.declared.name.TyName.{TyName}
+use Rattle.ty_basis.specs.of_ty_core.declared.name.TyName.{TyName}
 use Rattle.core_rules.specs.Objects.{Map, joined, Env, no_env, plus}
 
 -- A signature binds the type names that may be realised, a functor's result those that an application makes.

@@ -2,13 +2,13 @@
 use Rattle.std.specs.Prelude.{◌≡◌, ℕ, suc, Bool, true, false, not, ◌&&◌, ◌||◌, nat_eq, nat_lt, if◌then◌else◌, List, [], ◌∷◌, map, flat_map, length, Option, Some, None, option_map, option_and_then, ⊤}
 use Rattle.std.specs.Option.{option_zip}
 use Rattle.std.specs.List.{list_all}
-use Rattle.ty_core.specs.Types.{Typ, con as built_of, var as variable, Typs, none, more, arrow as to, name, admits}
-use Rattle.ty_core.specs.Statics.{apply, named, variables}
-use Rattle.ty_core.specs.declared.name.TyName.{TyName}
-use Rattle.ty_core.specs.declared.name.Equality.TheVariants.{ByArguments, Never}
-use Rattle.ty_core.specs.declared.mark.Mark.TheVariants.{Any}
-use Rattle.ty_core.specs.declared.env.Status.{Status}
-use Rattle.ty_core.specs.declared.env.Status.TheVariants.{Constructor, Exception}
+use Rattle.ty_basis.specs.of_ty_core.Types.{Typ, con as built_of, var as variable, Typs, none, more, arrow as to, name, admits}
+use Rattle.ty_basis.specs.of_ty_core.Statics.{apply, named, variables}
+use Rattle.ty_basis.specs.of_ty_core.declared.name.TyName.{TyName}
+use Rattle.ty_basis.specs.of_ty_core.declared.name.Equality.TheVariants.{ByArguments, Never}
+use Rattle.ty_basis.specs.of_ty_core.declared.mark.Mark.TheVariants.{Any}
+use Rattle.ty_basis.specs.of_ty_core.declared.env.Status.{Status}
+use Rattle.ty_basis.specs.of_ty_core.declared.env.Status.TheVariants.{Constructor, Exception}
 use Rattle.sml_tree.specs.declared.ident.Tyvar.{Tyvar}
 use Rattle.sml_tree.specs.BareTree.{Ty, var, fields, con, arrow, ill, Tys, no_tys, ty, TyFields, no_ty_fields, ty_field, LongIdAt, TypeBind, ConBind, DataBind, ExBind, new_exn, same_exn}
 use Rattle.ty_basis.specs.Types.{Row, exn_type, function_type, row_type}
@@ -71,7 +71,7 @@ abbrev pub constructed : TyName → Option Typ → Typ
 constructed n u = from_argument u (built_of (name n) (variables 0 n.arity))
 
 -- so many parameters of any types
-abbrev pub any_marks : List Tyvar → List Rattle.ty_core.specs.declared.mark.Mark.Mark
+abbrev pub any_marks : List Tyvar → List Rattle.ty_basis.specs.of_ty_core.declared.mark.Mark.Mark
 any_marks as_ = map (λ a. Any) as_
 
 -- the type of what stands behind `of`, if that is there

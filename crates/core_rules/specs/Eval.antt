@@ -4,18 +4,18 @@ use Rattle.std.specs.Prelude.{ℕ, zero, suc, Bool, true, false, List, [], ◌�
 use Rattle.mlc_runs.specs.Run.{World, Answer, gives, raises, stops, out_of_turns, then_do, or_handle, or_fail, fail, take_turn, writes, new_reference, assign, new_exception}
 use Rattle.mlc_names.specs.declared.label.Label.TheVariants.{Number}
 use Rattle.mlc_base.specs.declared.place.Place.{Place}
-use Rattle.mlc_prims.specs.LitOf.{Literal, string, truth}
-use Rattle.mlc_prims.specs.PrimOf.{Gives, made, raised}
-use Rattle.mlc_prims.specs.declared.prim.PrimExn.{PrimExn}
-use Rattle.mlc_prims.specs.declared.prim.PrimExn.TheVariants.{Overflow, Div, Subscript, Size, Chr}
+use Rattle.ty_basis.specs.of_mlc_prims.LitOf.{Literal, string, truth}
+use Rattle.ty_basis.specs.of_mlc_prims.PrimOf.{Gives, made, raised}
+use Rattle.ty_basis.specs.of_mlc_prims.declared.prim.PrimExn.{PrimExn}
+use Rattle.ty_basis.specs.of_mlc_prims.declared.prim.PrimExn.TheVariants.{Overflow, Div, Subscript, Size, Chr}
 use Rattle.sml_tree.specs.declared.ident.Vid.{Vid}
 use Rattle.sml_tree.specs.declared.ident.Vid.TheVariants.{Named}
 use Rattle.sml_tree.specs.declared.ident.BuiltIn.TheVariants.{True, False}
 use Rattle.sml_tree.specs.BareTree.{LongIdAt, ConBind, DataBind, TypeBind, ExBind, new_exn, same_exn, Pat, vid_pat, typed_pat, as_pat, Exp, constant_exp, vid_exp, built_exp, fields_exp, let_in, app, typed, handle, raise, fn, ExpFields, no_exp_fields, exp_field, Rules, no_rules, rule, Decs, no_decs, dec, Dec, val_dec, type_dec, datatype_dec, replicate_dec, exception_dec, local_dec, open_dec, sequence_dec, Binds, no_binds, bind}
-use Rattle.ty_core.specs.declared.env.Status.TheVariants.{Variable, Constructor, Exception}
-use Rattle.mlc_prims.specs.Table.{row_of}
-use Rattle.mlc_prims.specs.declared.basis.BasisPrimitive.{BasisPrimitive}
-use Rattle.mlc_prims.specs.declared.basis.BasisPrimitive.TheVariants as prim
+use Rattle.ty_basis.specs.of_ty_core.declared.env.Status.TheVariants.{Variable, Constructor, Exception}
+use Rattle.ty_basis.specs.of_mlc_prims.Table.{row_of}
+use Rattle.ty_basis.specs.of_mlc_prims.declared.basis.BasisPrimitive.{BasisPrimitive}
+use Rattle.ty_basis.specs.of_mlc_prims.declared.basis.BasisPrimitive.TheVariants as prim
 use Rattle.core_rules.specs.Values.{built, declared, Value, literal, record_of, con, con_of, ref, address, exn, exn_of, primitive, closure, Fields, no_fields, field, field_in, count, unit_value, Env, nothing, value, tycon, plus, along, tycon_in, structure_in, long_value_in}
 use Rattle.core_rules.specs.Match.{constant_of, literal_in, fields_in, address_in, exn_in, same_value, match, Matching, binds, fails, misfits}
 

@@ -1,7 +1,7 @@
 -- A static and a dynamic environment that fit: at each path the same identifiers, of one status, and the same type constructors, with constructors that fit.
 use Rattle.std.specs.Prelude.{◌≡◌, ℕ, Bool, List, Option, Some, None, option_map, option_and_then, is_some, ⊤}
 use Rattle.mlc_runs.specs.Run.{World, Answer, gives, raises, stops}
-use Rattle.ty_core.specs.declared.env.Status.{Status}
+use Rattle.ty_basis.specs.of_ty_core.declared.env.Status.{Status}
 use Rattle.sml_tree.specs.declared.ident.Vid.{Vid}
 use Rattle.sml_tree.specs.BareTree.{Decs}
 use Rattle.core_rules.specs.Words.{same_vid}

@@ -5,23 +5,23 @@ use Rattle.sml_tree.specs.declared.ident.Vid.{Vid}
 use Rattle.sml_tree.specs.declared.ident.Vid.TheVariants.{Named, Equals}
 use Rattle.sml_tree.specs.declared.ident.BuiltIn.{BuiltIn}
 use Rattle.sml_tree.specs.declared.ident.BuiltIn.TheVariants.{True, False, Nil, Cons}
-use Rattle.ty_core.specs.Types.{Typ, var}
-use Rattle.ty_core.specs.Statics.{TypeFunction, named}
-use Rattle.ty_core.specs.declared.name.TyName.{TyName}
-use Rattle.ty_core.specs.declared.mark.Mark.{Mark}
-use Rattle.ty_core.specs.declared.mark.Mark.TheVariants.{Any}
-use Rattle.ty_core.specs.declared.env.Status.{Status}
-use Rattle.ty_core.specs.declared.env.Status.TheVariants.{Variable, Constructor, Exception}
+use Rattle.ty_basis.specs.of_ty_core.Types.{Typ, var}
+use Rattle.ty_basis.specs.of_ty_core.Statics.{TypeFunction, named}
+use Rattle.ty_basis.specs.of_ty_core.declared.name.TyName.{TyName}
+use Rattle.ty_basis.specs.of_ty_core.declared.mark.Mark.{Mark}
+use Rattle.ty_basis.specs.of_ty_core.declared.mark.Mark.TheVariants.{Any}
+use Rattle.ty_basis.specs.of_ty_core.declared.env.Status.{Status}
+use Rattle.ty_basis.specs.of_ty_core.declared.env.Status.TheVariants.{Variable, Constructor, Exception}
 use Rattle.ty_basis.specs.Types.{int_name, word_name, char_name, string_name, ref_name, exn_name, bool_name, list_name, name_count, bool_type, exn_type, unit_type, ref_type, list_type, pair_type, function_type}
 use Rattle.ty_basis.specs.Primitives.{prim_type, primitive_type}
-use Rattle.mlc_prims.specs.declared.basis.BasisPrimitive.{BasisPrimitive}
-use Rattle.mlc_prims.specs.declared.basis.BasisPrimitive.TheVariants as prim
+use Rattle.ty_basis.specs.of_mlc_prims.declared.basis.BasisPrimitive.{BasisPrimitive}
+use Rattle.ty_basis.specs.of_mlc_prims.declared.basis.BasisPrimitive.TheVariants as prim
 use Rattle.core_rules.specs.Objects.{Scheme, monomorphic, Context, TypeStructure}
 use Rattle.core_rules.specs.Objects as static
 use Rattle.core_rules.specs.Values as dynamic
 use Rattle.core_rules.specs.Values.{built}
 use Rattle.core_rules.specs.Eval.{match_packet, bind_packet, packet_of}
-use Rattle.mlc_prims.specs.declared.prim.PrimExn.TheVariants.{Overflow, Div, Subscript, Size, Chr}
+use Rattle.ty_basis.specs.of_mlc_prims.declared.prim.PrimExn.TheVariants.{Overflow, Div, Subscript, Size, Chr}
 
 -- for all types that the mark allows
 abbrev pub for_all : Mark → Typ → Scheme

@@ -1,3 +1,5 @@
+pub use Rattle.ty_basis.specs as of_ty_basis
+pub use Rattle.sml_tree.specs as of_sml_tree
 pub mod Words
 pub mod Objects
 pub mod Values

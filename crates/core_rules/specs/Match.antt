@@ -1,15 +1,15 @@
 -- Matching, and equality of values. [Definition 6.7, rules 133 to 149] A status tells an identifier that binds from one that is matched.
 use Rattle.std.specs.Prelude.{ℕ, suc, Bool, true, false, ◌&&◌, ◌||◌, List, [], ◌∷◌, Option, Some, None, option_map, option_and_then, nat_eq, slice_get, if◌then◌else◌}
-use Rattle.mlc_prims.specs.LitOf.{Literal, int, word, char, string}
-use Rattle.mlc_prims.specs.Table.{literal_eq}
+use Rattle.ty_basis.specs.of_mlc_prims.LitOf.{Literal, int, word, char, string}
+use Rattle.ty_basis.specs.of_mlc_prims.Table.{literal_eq}
 use Rattle.sml_tree.specs.Terminal as term
 use Rattle.sml_tree.specs.Terminal.{LongVid}
 use Rattle.sml_tree.specs.BareTree.{Pat, wild_pat, constant_pat, vid_pat, built_pat, fields_pat, con_pat, built_con_pat, typed_pat, as_pat, PatFields, no_pat_fields, pat_field}
 use Rattle.sml_tree.specs.declared.ident.Vid.{Vid}
 use Rattle.sml_tree.specs.declared.ident.BuiltIn.{BuiltIn}
 use Rattle.sml_tree.specs.declared.ident.BuiltIn.TheVariants.{True, False, Nil, Cons}
-use Rattle.ty_core.specs.declared.env.Status.{Status}
-use Rattle.ty_core.specs.declared.env.Status.TheVariants.{Variable, Constructor, Exception}
+use Rattle.ty_basis.specs.of_ty_core.declared.env.Status.{Status}
+use Rattle.ty_basis.specs.of_ty_core.declared.env.Status.TheVariants.{Variable, Constructor, Exception}
 use Rattle.core_rules.specs.Words.{same_vid}
 use Rattle.core_rules.specs.Values.{Con, built, declared, Value, literal, record_of, con, con_of, ref, address, exn, exn_of, Fields, no_fields, field, Env, nothing, value, plus, Found, long_value_in, field_in, count}
 

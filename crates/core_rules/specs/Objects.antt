@@ -6,11 +6,11 @@ use Rattle.std.specs.Map.{lookup}
 use Rattle.mlc_names.specs.declared.label.Label.{Label}
 use Rattle.sml_tree.specs.Terminal.{LongVid}
 use Rattle.sml_tree.specs.declared.ident.Vid.{Vid}
-use Rattle.ty_core.specs.Types.{Symbol, arrow, labels, name, Typ, var, con, Typs, none, more}
-use Rattle.ty_core.specs.Marks.{Allows}
-use Rattle.ty_core.specs.Statics.{TypeFunction, replace}
-use Rattle.ty_core.specs.declared.mark.Mark.{Mark}
-use Rattle.ty_core.specs.declared.env.Status.{Status}
+use Rattle.ty_basis.specs.of_ty_core.Types.{Symbol, arrow, labels, name, Typ, var, con, Typs, none, more}
+use Rattle.ty_basis.specs.of_ty_core.Marks.{Allows}
+use Rattle.ty_basis.specs.of_ty_core.Statics.{TypeFunction, replace}
+use Rattle.ty_basis.specs.of_ty_core.declared.mark.Mark.{Mark}
+use Rattle.ty_basis.specs.of_ty_core.declared.env.Status.{Status}
 use Rattle.ty_basis.specs.Types.{Row}
 use Rattle.label_rows.specs.Order.{put_by, sorted_by}
 use Rattle.core_rules.specs.Words.{same_vid}

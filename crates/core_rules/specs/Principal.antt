@@ -1,7 +1,7 @@
 -- Runs of declarations, and when an environment is principal for one. [in place of the Definition 4.11 and 4.12]
 use Rattle.std.specs.Prelude.{◌≡◌, ℕ, [], Option, Some, None, length, ⊤}
 use Rattle.std.specs.List.{AllByRecursion}
-use Rattle.ty_core.specs.Types.{Typ, no_variable}
+use Rattle.ty_basis.specs.of_ty_core.Types.{Typ, no_variable}
 use Rattle.sml_tree.specs.declared.ident.Vid.{Vid}
 use Rattle.sml_tree.specs.BareTree.{Decs}
 use Rattle.core_rules.specs.Objects.{Scheme, put, AllAllowed, Value, Env, types, structures, value_in, Context}

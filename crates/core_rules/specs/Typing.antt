@@ -4,13 +4,13 @@ use Rattle.std.specs.Prelude.{◌≡◌, ℕ, ◌+◌, ◌<◌, Bool, true, fals
 use Rattle.std.specs.List.{list_all}
 use Rattle.mlc_names.specs.declared.label.Label.{Label}
 use Rattle.mlc_base.specs.declared.place.Place.{Place}
-use Rattle.ty_core.specs.Types.{Typ, var, con, Typs, none, more, arrow, name}
-use Rattle.ty_core.specs.Marks.{overloaded}
-use Rattle.ty_core.specs.declared.name.TyName.{TyName}
-use Rattle.ty_core.specs.declared.mark.Mark.{Mark}
-use Rattle.ty_core.specs.declared.mark.Mark.TheVariants.{Any, Equality, Class}
-use Rattle.ty_core.specs.declared.env.Status.{Status}
-use Rattle.ty_core.specs.declared.env.Status.TheVariants.{Variable}
+use Rattle.ty_basis.specs.of_ty_core.Types.{Typ, var, con, Typs, none, more, arrow, name}
+use Rattle.ty_basis.specs.of_ty_core.Marks.{overloaded}
+use Rattle.ty_basis.specs.of_ty_core.declared.name.TyName.{TyName}
+use Rattle.ty_basis.specs.of_ty_core.declared.mark.Mark.{Mark}
+use Rattle.ty_basis.specs.of_ty_core.declared.mark.Mark.TheVariants.{Any, Equality, Class}
+use Rattle.ty_basis.specs.of_ty_core.declared.env.Status.{Status}
+use Rattle.ty_basis.specs.of_ty_core.declared.env.Status.TheVariants.{Variable}
 use Rattle.sml_tree.specs.Terminal as term
 use Rattle.sml_tree.specs.Terminal.{LongVid}
 use Rattle.sml_tree.specs.Derived.{short}

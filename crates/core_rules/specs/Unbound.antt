@@ -4,7 +4,7 @@ use Rattle.std.specs.Prelude.{ℕ, zero, suc, if◌then◌else◌, List, [], ◌
 use Rattle.mlc_base.specs.declared.place.Place.{Place}
 use Rattle.sml_tree.specs.Terminal.{LongVid, LongId}
 use Rattle.sml_tree.specs.declared.ident.Vid.{Vid}
-use Rattle.ty_core.specs.declared.env.Status.TheVariants.{Exception}
+use Rattle.ty_basis.specs.of_ty_core.declared.env.Status.TheVariants.{Exception}
 use Rattle.sml_tree.specs.BareTree as bare
 use Rattle.sml_tree.specs.BareTree.{Ty, Pat, con_pat, vid_pat, PatFields, Exp, vid_exp, let_in, Binds, no_binds, Decs, no_decs, Dec, val_dec, type_dec, datatype_dec, replicate_dec, exception_dec, local_dec, open_dec, sequence_dec, DataBind, ExBind, new_exn, same_exn}
 use Rattle.sml_tree.specs.Phrases.{Phrase, exp, pat, ty, dec, rule, data_bind, ex_bind, bind_list, parts, phrases}

@@ -1,14 +1,14 @@
 -- Values and dynamic environments. [Definition 6.2, 6.3]
 use Rattle.std.specs.Prelude.{ℕ, suc, List, [], ◌∷◌, Option, Some, None, option_and_then, nat_eq, if◌then◌else◌}
 use Rattle.mlc_names.specs.declared.label.Label.{Label}
-use Rattle.mlc_prims.specs.LitOf.{Literal}
+use Rattle.ty_basis.specs.of_mlc_prims.LitOf.{Literal}
 use Rattle.sml_tree.specs.Terminal.{LongVid}
 use Rattle.sml_tree.specs.declared.ident.Vid.{Vid}
 use Rattle.sml_tree.specs.declared.ident.BuiltIn.{BuiltIn}
 use Rattle.sml_tree.specs.BareTree.{Rules, Binds}
-use Rattle.ty_core.specs.declared.env.Status.{Status}
+use Rattle.ty_basis.specs.of_ty_core.declared.env.Status.{Status}
 use Rattle.core_rules.specs.Words.{same_vid, same_label}
-use Rattle.mlc_prims.specs.declared.basis.BasisPrimitive.{BasisPrimitive}
+use Rattle.ty_basis.specs.of_mlc_prims.declared.basis.BasisPrimitive.{BasisPrimitive}
 
 -- a constructor is its identifier; those that nothing can bind again are apart
 pub data Con : Type 0 where

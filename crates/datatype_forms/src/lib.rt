@@ -2,6 +2,7 @@
 #![tactic(auto)]
 
 pub use dec_forms;
+pub use dec_forms::{elab_context, elab_steps};
 
 pub mod attributes;
 pub mod chosen;

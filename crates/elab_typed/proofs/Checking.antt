@@ -3,10 +3,10 @@ use Rattle.std.proofs.Common.{◌≡◌, ℕ, ◌+◌, Bool, true, List, ◌++�
 use Rattle.std.specs.Prelude.{option_map}
 use Rattle.std.proofs.lemmas.Bool.{lt-ltb, ltb-true}
 use Rattle.ty_core.specs.Types.{Typ}
-use Rattle.ty_basis.specs.Types.{Row, labels_in, int_name, word_name, char_name, string_name, bool_name, exn_name, function_type, row_type}
-use Rattle.sml_tree.specs.Terminal as term
-use Rattle.sml_tree.specs.BareTree.{ExBind}
-use Rattle.sml_tree.specs.BareTree as bare
+use Rattle.core_elab.specs.of_ty_basis.Types.{Row, labels_in, int_name, word_name, char_name, string_name, bool_name, exn_name, function_type, row_type}
+use Rattle.core_elab.specs.of_sml_tree.Terminal as term
+use Rattle.core_elab.specs.of_sml_tree.BareTree.{ExBind}
+use Rattle.core_elab.specs.of_sml_tree.BareTree as bare
 use Rattle.core_elab.specs.of_core_rules.Match.{constant_of}
 use Rattle.core_elab.specs.of_core_rules.Choices.{Choices}
 use Rattle.core_elab.specs.of_core_rules.Elaborated.{exception_type}
@@ -15,7 +15,7 @@ use Rattle.core_elab.specs.of_core_rules.Typing.{Bound, constant_type}
 use Rattle.core_elab.specs.Scopes.{Denotes, Scope}
 use Rattle.core_elab.specs.Resolves.{joined}
 use Rattle.ty_core.specs.declared.scheme.Quantified.{Quantified}
-use Rattle.ir_values.specs.Values.{same_label}
+use Rattle.core_elab.specs.of_ir_values.Values.{same_label}
 use Rattle.core_elab.specs.of_ir_poly.Prog as prog
 use Rattle.core_elab.specs.of_ir_poly.Types.{ascend, over, Constructor}
 use Rattle.core_elab.specs.of_ir_poly.TestsChecked.{HasLiteral, has_int, has_word, has_char, has_string, Knowns, value_type}

@@ -6,10 +6,10 @@ use Rattle.std.specs.Option.{option_zip}
 use Rattle.ty_core.specs.Types.{Typ, Typs, more, var}
 use Rattle.ty_core.specs.Statics.{apply, named}
 use Rattle.ty_core.specs.declared.name.TyName.{TyName}
-use Rattle.ty_basis.specs.Types.{Row, function_type, row_type}
-use Rattle.sml_tree.specs.declared.ident.Tyvar.{Tyvar}
-use Rattle.sml_tree.specs.BareTree.{Ty, Tys, no_tys, ty, TyFields, no_ty_fields, ty_field, TypeBind, ConBind, DataBind}
-use Rattle.sml_tree.specs.BareTree as bare
+use Rattle.core_elab.specs.of_ty_basis.Types.{Row, function_type, row_type}
+use Rattle.core_elab.specs.of_sml_tree.declared.ident.Tyvar.{Tyvar}
+use Rattle.core_elab.specs.of_sml_tree.BareTree.{Ty, Tys, no_tys, ty, TyFields, no_ty_fields, ty_field, TypeBind, ConBind, DataBind}
+use Rattle.core_elab.specs.of_sml_tree.BareTree as bare
 use Rattle.core_elab.specs.of_core_rules.Objects.{sorted, Map, TypeStructure, Value, Env, types_env, Context, with_env}
 use Rattle.core_elab.specs.of_core_rules.Elaborated.{type_in, type_of, types_of, row_of, with_parameters, types_bound, behind_of, constructors_of, structures_of, new_names, bare_structures, datatypes, constructed, any_marks}
 use Rattle.ty_core.specs.declared.env.Status.TheVariants.{Constructor}

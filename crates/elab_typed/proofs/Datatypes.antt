@@ -4,11 +4,11 @@ use Rattle.mlc_base.specs.declared.place.Place.{Place}
 use Rattle.ty_core.specs.Types.{Typ, con, name, none}
 use Rattle.ty_core.specs.declared.name.TyName.{TyName}
 use Rattle.ty_core.specs.declared.name.Equality.TheVariants.{ByArguments}
-use Rattle.ty_basis.specs.Types.{function_type}
-use Rattle.sml_tree.specs.Derived.{short}
-use Rattle.sml_tree.specs.declared.ident.Vid.TheVariants.{Named}
-use Rattle.sml_tree.specs.BareTree.{DataBind, no_tys}
-use Rattle.sml_tree.specs.BareTree as bare
+use Rattle.core_elab.specs.of_ty_basis.Types.{function_type}
+use Rattle.core_elab.specs.of_sml_tree.Derived.{short}
+use Rattle.core_elab.specs.of_sml_tree.declared.ident.Vid.TheVariants.{Named}
+use Rattle.core_elab.specs.of_sml_tree.BareTree.{DataBind, no_tys}
+use Rattle.core_elab.specs.of_sml_tree.BareTree as bare
 use Rattle.core_elab.specs.of_core_rules.Choices.{Choices}
 use Rattle.core_elab.specs.of_core_rules.Elaborated.{AllBelow}
 use Rattle.core_elab.specs.of_ir_poly.Prog as prog

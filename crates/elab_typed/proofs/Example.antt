@@ -6,11 +6,11 @@ use Rattle.mlc_prims.specs.LitOf.{int}
 use Rattle.ty_core.specs.Types.{Typ, var}
 use Rattle.ty_core.specs.declared.mark.Mark.TheVariants.{Any}
 use Rattle.ty_core.specs.declared.scheme.Quantified.{Quantified}
-use Rattle.ty_basis.specs.Types.{function_type, int_type, name_count}
-use Rattle.sml_tree.specs.Terminal as term
-use Rattle.sml_tree.specs.Derived.{short}
-use Rattle.sml_tree.specs.declared.ident.Vid.TheVariants.{Named}
-use Rattle.sml_tree.specs.BareTree as bare
+use Rattle.core_elab.specs.of_ty_basis.Types.{function_type, int_type, name_count}
+use Rattle.core_elab.specs.of_sml_tree.Terminal as term
+use Rattle.core_elab.specs.of_sml_tree.Derived.{short}
+use Rattle.core_elab.specs.of_sml_tree.declared.ident.Vid.TheVariants.{Named}
+use Rattle.core_elab.specs.of_sml_tree.BareTree as bare
 use Rattle.core_elab.specs.of_core_rules.Choices.{Choices}
 use Rattle.core_elab.specs.of_ir_poly.Prog as prog
 use Rattle.core_elab.specs.of_ir_poly.Types.{initial_constructors}

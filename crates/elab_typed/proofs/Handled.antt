@@ -2,11 +2,11 @@
 use Rattle.std.proofs.Common.{◌≡◌, ℕ, ◌≤◌, true, false, List, [], ◌∷◌, None, Some, refl, arith}
 use Rattle.std.specs.Prelude.{pos, suc}
 use Rattle.mlc_prims.specs.LitOf.{int}
-use Rattle.ty_basis.specs.Types.{int_type, exn_type}
-use Rattle.sml_tree.specs.Terminal as term
-use Rattle.sml_tree.specs.declared.ident.Vid.TheVariants.{Named}
-use Rattle.sml_tree.specs.BareTree.{new_exn}
-use Rattle.sml_tree.specs.BareTree as bare
+use Rattle.core_elab.specs.of_ty_basis.Types.{int_type, exn_type}
+use Rattle.core_elab.specs.of_sml_tree.Terminal as term
+use Rattle.core_elab.specs.of_sml_tree.declared.ident.Vid.TheVariants.{Named}
+use Rattle.core_elab.specs.of_sml_tree.BareTree.{new_exn}
+use Rattle.core_elab.specs.of_sml_tree.BareTree as bare
 use Rattle.core_elab.specs.of_core_rules.Choices.{Choices}
 use Rattle.core_elab.specs.of_ir_poly.Prog.{held}
 use Rattle.core_elab.specs.of_ir_poly.Prog as prog

@@ -8,7 +8,7 @@ use Rattle.ty_core.specs.Statics.{replace, replace_all}
 use Rattle.ty_core.specs.declared.mark.Mark.{Mark}
 use Rattle.ty_core.specs.declared.mark.Mark.TheVariants.{Any, Equality, Class}
 use Rattle.ty_core.specs.declared.scheme.Quantified.{Quantified}
-use Rattle.ty_basis.specs.Types.{exn_type, function_type, ref_type}
+use Rattle.core_elab.specs.of_ty_basis.Types.{exn_type, function_type, ref_type}
 use Rattle.core_elab.specs.of_core_rules.Objects.{Scheme, monomorphic, put, AllAllowed, Value, Context, Over}
 use Rattle.core_elab.specs.of_core_rules.Closing.{place_in, scheme_under}
 use Rattle.core_elab.specs.of_core_rules.Choices.{Choices, no_choice}

@@ -1,3 +1,4 @@
+pub use Rattle.core_elab.proofs as of_core_elab
 pub mod Resolving
 pub mod Names
 pub mod Checking

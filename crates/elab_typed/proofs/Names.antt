@@ -9,7 +9,7 @@ use Rattle.ty_core.specs.declared.name.TyName.{TyName}
 use Rattle.ty_core.specs.declared.mark.Mark.{Mark}
 use Rattle.ty_core.specs.declared.mark.Mark.TheVariants.{Any, Equality, Class}
 use Rattle.ty_core.specs.declared.scheme.Quantified.{Quantified}
-use Rattle.ty_basis.specs.Types.{Row, ref_name, of_name, labels_in, row_type}
+use Rattle.core_elab.specs.of_ty_basis.Types.{Row, ref_name, of_name, labels_in, row_type}
 use Rattle.label_rows.proofs.Mapped.{sorted-map}
 use Rattle.core_elab.specs.of_core_rules.Objects.{sorted, Over, AllOver, SymbolOver}
 use Rattle.core_elab.specs.of_core_rules.Typing.{all_general}

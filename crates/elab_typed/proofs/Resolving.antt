@@ -1,11 +1,11 @@
 -- What declarations elaborate to resolves them.
 use Rattle.std.proofs.Common.{ℕ, Bool, List}
 use Rattle.ty_core.specs.Types.{Typ}
-use Rattle.sml_tree.specs.BareTree.{ExBind}
-use Rattle.sml_tree.specs.BareTree as bare
+use Rattle.core_elab.specs.of_sml_tree.BareTree.{ExBind}
+use Rattle.core_elab.specs.of_sml_tree.BareTree as bare
 use Rattle.core_elab.specs.of_core_rules.Choices.{Choices}
 use Rattle.core_elab.specs.of_core_rules.Typing.{Bound}
-use Rattle.ty_basis.specs.Types.{Row}
+use Rattle.core_elab.specs.of_ty_basis.Types.{Row}
 use Rattle.core_elab.specs.of_ir_poly.Prog as prog
 use Rattle.core_elab.specs.of_ir_poly.Types.{Constructor}
 use Rattle.core_elab.specs.of_ir_poly.TestsChecked.{Knowns}

@@ -5,9 +5,9 @@ use Rattle.std.specs.Option.{option_zip}
 use Rattle.std.proofs.lemmas.Bool.{lt-ltb, ltb-true}
 use Rattle.ty_core.specs.Types.{Typ, Typs, var, con, none, more}
 use Rattle.ty_core.specs.Statics.{TypeFunction, apply, count, argument, replace, replace_all}
-use Rattle.ty_basis.specs.Types.{Row, function_type, row_type}
-use Rattle.sml_tree.specs.BareTree.{Ty, Tys, no_tys, ty, TyFields, no_ty_fields, ty_field}
-use Rattle.sml_tree.specs.BareTree as bare
+use Rattle.core_elab.specs.of_ty_basis.Types.{Row, function_type, row_type}
+use Rattle.core_elab.specs.of_sml_tree.BareTree.{Ty, Tys, no_tys, ty, TyFields, no_ty_fields, ty_field}
+use Rattle.core_elab.specs.of_sml_tree.BareTree as bare
 use Rattle.core_elab.specs.of_core_rules.Objects.{sorted, Map, at, TypeStructure}
 use Rattle.core_elab.specs.of_core_rules.Elaborated.{type_in, type_of, types_of, row_of}
 use Rattle.core_elab.proofs.of_ir_poly.ReplaceLemmas.{replace-replace, row_read, row_type-read}

@@ -9,11 +9,11 @@ use Rattle.ty_core.specs.Statics.{replace}
 use Rattle.ty_core.specs.declared.env.Status.TheVariants.{Exception}
 use Rattle.ty_core.specs.declared.mark.Mark.{Mark}
 use Rattle.ty_core.specs.declared.scheme.Quantified.{Quantified}
-use Rattle.ty_basis.specs.Types.{Row, labels_in, bool_type, exn_type, function_type, row_type}
-use Rattle.sml_tree.specs.Terminal as term
-use Rattle.sml_tree.specs.declared.ident.Tyvar.{Tyvar}
-use Rattle.sml_tree.specs.BareTree.{Ty, ExBind, new_exn, same_exn}
-use Rattle.sml_tree.specs.BareTree as bare
+use Rattle.core_elab.specs.of_ty_basis.Types.{Row, labels_in, bool_type, exn_type, function_type, row_type}
+use Rattle.core_elab.specs.of_sml_tree.Terminal as term
+use Rattle.core_elab.specs.of_sml_tree.declared.ident.Tyvar.{Tyvar}
+use Rattle.core_elab.specs.of_sml_tree.BareTree.{Ty, ExBind, new_exn, same_exn}
+use Rattle.core_elab.specs.of_sml_tree.BareTree as bare
 use Rattle.core_elab.specs.of_core_rules.Words.{same_label, same_vid}
 use Rattle.core_elab.specs.of_core_rules.Restrictions.{distinct}
 use Rattle.core_elab.specs.of_core_rules.Objects.{sorted, monomorphic, env, no_structures, AllAllowed, long_value_in, Context, Over}
@@ -21,8 +21,8 @@ use Rattle.core_elab.specs.of_core_rules.Choices.{Choices, no_choice, both, furt
 use Rattle.core_elab.specs.of_core_rules.Elaborated.{exceptions_of, exception_type, is_exception, if_exception, all_constructors}
 use Rattle.core_elab.specs.of_core_rules.Eval.{all_fns}
 use Rattle.core_elab.specs.of_core_rules.Initial.{built_scheme}
-use Rattle.sml_tree.specs.declared.ident.BuiltIn.{BuiltIn}
-use Rattle.sml_tree.specs.declared.ident.BuiltIn.TheVariants.{True, False}
+use Rattle.core_elab.specs.of_sml_tree.declared.ident.BuiltIn.{BuiltIn}
+use Rattle.core_elab.specs.of_sml_tree.declared.ident.BuiltIn.TheVariants.{True, False}
 use Rattle.core_elab.specs.of_core_rules.Typing.{all_general, Bound, bound_in, AreDistinct, constant_type, is_non_expansive, scoping, marks_of, IsInstance, settles, together, put_bound, closed, Annotated, IsChoiceOf, PatHas, PatsHave, no_field_has, field_has, wild_has, constant_has, variable_has, constructor_has, built_has, fields_has, con_has, built_con_has, typed_has, as_has, HasType, constant_exp_has, vid_has, built_exp_has, record_has, let_has, app_has, typed_exp_has, handle_has, raise_has, fn_has, HaveTypes, no_exp_field_has, exp_field_has, RulesHave, no_rule_has, rule_has, DecHas, val_has, type_has, datatype_has, replicate_has, exception_has, local_has, sequence_has, DecsHave, no_dec_has, dec_has, BindsHave, no_bind_has, bind_has}
 use Rattle.core_elab.specs.of_core_rules.Typing as rules
 use Rattle.core_elab.specs.Scopes.{Denotes, Scope}

@@ -2,14 +2,14 @@
 use Rattle.std.proofs.Common.{◌≡◌, ℕ, ◌+◌, Bool, true, false, not, ◌&&◌, List, [], ◌∷◌, ◌++◌, map, Option, Some, None, nat_eq, if◌then◌else◌, refl, sym, ap, ◌∙◌, append-nil, arith}
 use Rattle.std.specs.Prelude.{filter, unwrap_or, is_some, option_map, option_and_then}
 use Rattle.std.proofs.lemmas.Bool.{lt-ltb, ltb-true}
-use Rattle.sml_tree.specs.Terminal.{LongVid}
-use Rattle.sml_tree.specs.declared.ident.Vid.{Vid}
-use Rattle.sml_tree.specs.BareTree.{LongIdAt, Exp, ExpFields}
-use Rattle.sml_tree.specs.BareTree as bare
+use Rattle.core_elab.specs.of_sml_tree.Terminal.{LongVid}
+use Rattle.core_elab.specs.of_sml_tree.declared.ident.Vid.{Vid}
+use Rattle.core_elab.specs.of_sml_tree.BareTree.{LongIdAt, Exp, ExpFields}
+use Rattle.core_elab.specs.of_sml_tree.BareTree as bare
 use Rattle.ty_core.specs.Types.{Typ, Symbol, var, con, Typs, none, more}
 use Rattle.ty_core.specs.Statics.{replace, replace_all}
 use Rattle.ty_core.specs.declared.env.Status.TheVariants.{Variable}
-use Rattle.ty_basis.specs.Types.{Row, labels_in}
+use Rattle.core_elab.specs.of_ty_basis.Types.{Row, labels_in}
 use Rattle.label_rows.proofs.Mapped.{sorted-map}
 use Rattle.core_elab.specs.of_core_rules.Words.{same_vid}
 use Rattle.core_elab.specs.of_core_rules.Objects as static

@@ -4,8 +4,8 @@ use Rattle.std.specs.Prelude.{unwrap_or, option_map}
 use Rattle.std.specs.List.{list_all}
 use Rattle.std.proofs.lemmas.Bool.{le-ltb}
 use Rattle.std.proofs.lemmas.List.{length-map, map-append}
-use Rattle.sml_tree.specs.declared.ident.Tyvar.{Tyvar}
-use Rattle.sml_tree.specs.BareTree as bare
+use Rattle.core_elab.specs.of_sml_tree.declared.ident.Tyvar.{Tyvar}
+use Rattle.core_elab.specs.of_sml_tree.BareTree as bare
 use Rattle.ty_core.specs.Types.{Typ, var, con, Typs, none, more, no_variable, admits}
 use Rattle.ty_core.specs.Marks.{Allows}
 use Rattle.ty_core.specs.Statics.{replace, replace_all}

@@ -1,8 +1,8 @@
 -- What is around a phrase, for its source and for its program. A kept value says what an identifier has over parameters in scope; with types put for these it
 -- is a value of the rules.
 use Rattle.std.specs.Prelude.{◌≡◌, ℕ, ◌+◌, true, nat_eq, List, [], ◌∷◌, ◌++◌, map, Option, Some, None, option_map}
-use Rattle.sml_tree.specs.Terminal.{LongVid}
-use Rattle.sml_tree.specs.declared.ident.Vid.{Vid}
+use Rattle.core_elab.specs.of_sml_tree.Terminal.{LongVid}
+use Rattle.core_elab.specs.of_sml_tree.declared.ident.Vid.{Vid}
 use Rattle.ty_core.specs.Types.{Typ, var}
 use Rattle.ty_core.specs.Statics.{replace}
 use Rattle.ty_core.specs.declared.env.Status.{Status}

@@ -11,14 +11,14 @@ use Rattle.ty_core.specs.declared.name.TyName.{TyName}
 use Rattle.ty_core.specs.declared.mark.Mark.{Mark}
 use Rattle.ty_core.specs.declared.scheme.Quantified.{Quantified}
 use Rattle.ty_core.specs.declared.env.Status.TheVariants.{Constructor}
-use Rattle.ty_basis.specs.Types.{Row, bool_type, exn_type, function_type, labels_in, row_type}
-use Rattle.sml_tree.specs.Terminal.{Constant, LongVid}
-use Rattle.sml_tree.specs.Derived.{short, and_of, or_of}
-use Rattle.sml_tree.specs.declared.ident.Tyvar.{Tyvar}
-use Rattle.sml_tree.specs.declared.ident.Vid.{Vid}
-use Rattle.sml_tree.specs.declared.ident.BuiltIn.{BuiltIn}
-use Rattle.sml_tree.specs.BareTree.{Ty, LongIdAt, TypeBind, DataBind, ExBind, new_exn, same_exn}
-use Rattle.sml_tree.specs.BareTree as bare
+use Rattle.core_elab.specs.of_ty_basis.Types.{Row, bool_type, exn_type, function_type, labels_in, row_type}
+use Rattle.core_elab.specs.of_sml_tree.Terminal.{Constant, LongVid}
+use Rattle.core_elab.specs.of_sml_tree.Derived.{short, and_of, or_of}
+use Rattle.core_elab.specs.of_sml_tree.declared.ident.Tyvar.{Tyvar}
+use Rattle.core_elab.specs.of_sml_tree.declared.ident.Vid.{Vid}
+use Rattle.core_elab.specs.of_sml_tree.declared.ident.BuiltIn.{BuiltIn}
+use Rattle.core_elab.specs.of_sml_tree.BareTree.{Ty, LongIdAt, TypeBind, DataBind, ExBind, new_exn, same_exn}
+use Rattle.core_elab.specs.of_sml_tree.BareTree as bare
 use Rattle.core_elab.specs.of_core_rules.Words.{same_label as same_source_label}
 use Rattle.core_elab.specs.of_core_rules.Objects.{sorted, Map, Value, TypeStructure, Env, no_structures, value_in, Over}
 use Rattle.core_elab.specs.of_core_rules.Restrictions.{distinct, is_kept}
@@ -28,7 +28,7 @@ use Rattle.core_elab.specs.of_core_rules.Initial.{built_scheme}
 use Rattle.core_elab.specs.of_core_rules.Choices.{Choices, no_choice, both, further, settled}
 use Rattle.core_elab.specs.of_core_rules.Elaborated.{type_of, types_bound, behind_of, datatypes, all_constructors, respects_equality, AllBelow, is_exception, replicated, opened}
 use Rattle.core_elab.specs.of_core_rules.Typing.{Bound, bound_in, AreDistinct, constant_type, is_matched_in, is_non_expansive, all_general, scoped_in, marks_of, settles, together}
-use Rattle.ir_values.specs.Values.{same_label}
+use Rattle.core_elab.specs.of_ir_values.Values.{same_label}
 use Rattle.core_elab.specs.of_ir_poly.Prog.{held, is_value}
 use Rattle.core_elab.specs.of_ir_poly.Prog as prog
 use Rattle.core_elab.specs.of_ir_poly.Types.{ascend, over, are_new, Constructor as ConRow}

@@ -6,7 +6,7 @@ use Rattle.ty_core.specs.Marks.{Allows}
 use Rattle.ty_core.specs.Statics.{replace}
 use Rattle.ty_core.specs.declared.name.TyName.{TyName}
 use Rattle.ty_core.specs.declared.scheme.Quantified.{Quantified}
-use Rattle.ty_basis.specs.Types.{exn_type, function_type, ref_type}
+use Rattle.core_elab.specs.of_ty_basis.Types.{exn_type, function_type, ref_type}
 use Rattle.core_elab.specs.of_core_rules.Objects.{AllAllowed, put, Value, Over}
 use Rattle.core_elab.specs.of_core_rules.Choices.{Choices, no_choice}
 use Rattle.core_elab.specs.of_core_rules.Elaborated.{exception_type}

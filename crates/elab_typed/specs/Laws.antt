@@ -2,7 +2,7 @@
 use Rattle.std.specs.Prelude.{◌≡◌, ℕ, true, nat_lt, List, [], Some}
 use Rattle.ty_core.specs.Types.{Typ, no_variable, admits}
 use Rattle.ty_core.specs.Statics.{TypeFunction, replace}
-use Rattle.sml_tree.specs.BareTree.{Ty, Decs}
+use Rattle.core_elab.specs.of_sml_tree.BareTree.{Ty, Decs}
 use Rattle.core_elab.specs.of_core_rules.Objects.{TypeStructure, Env, Over}
 use Rattle.core_elab.specs.of_core_rules.Elaborated.{type_in, type_of}
 use Rattle.core_elab.specs.of_core_rules.Initial.{initial_context}

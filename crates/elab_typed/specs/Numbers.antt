@@ -3,7 +3,7 @@ use Rattle.std.specs.Prelude.{◌≡◌, ℕ, true, nat_lt, List, map}
 use Rattle.mlc_names.specs.declared.label.Label.{Label}
 use Rattle.ty_core.specs.Types.{Symbol, arrow, labels, name, Typ, var, con, Typs, none, more}
 use Rattle.ty_core.specs.declared.name.TyName.{TyName}
-use Rattle.ty_basis.specs.Types.{name_count}
+use Rattle.core_elab.specs.of_ty_basis.Types.{name_count}
 
 module _ (number : ℕ → ℕ) where
   abbrev pub name_as : TyName → TyName

@@ -1,6 +1,8 @@
 // The routine of equality, computed.
 #![tactic(auto)]
 
+pub use emit_code;
+
 pub mod equality;
 #[cfg(test)]
 mod tests;

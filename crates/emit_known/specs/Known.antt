@@ -6,7 +6,7 @@ use Rattle.ir_ssa.specs.Tree.{Program}
 use Rattle.machine_code.specs.Image.{initial_at, names_at, packets_at, text_place}
 use Rattle.machine_rows.specs.Table.{rows}
 use Rattle.emit_rows.specs.Shapes.{packet_in}
-use Rattle.emit_code.specs.declared.places.Places.{Places}
+use Rattle.emit_equality.specs.of_emit_code.declared.places.Places.{Places}
 use Rattle.emit_equality.specs.Ways.{ArePlaces}
 
 -- strings, identifiers' texts, the first exceptions' names and packets, and the comparisons of types stand where the image of the program has them

@@ -1,2 +1,3 @@
+pub use Rattle.emit_equality.specs as of_emit_equality
 pub mod Found
 pub mod Known

@@ -10,10 +10,10 @@ ghost use Rattle.machine_rows.specs.Table.{rows};
 ghost use Rattle.emit_rows.specs.Shapes.{packet_in};
 ghost use Rattle.emit_known.specs.Known.{KnowsConstants};
 
-use emit_code::fault::EmitFault;
-use emit_code::places::Places;
-use emit_code::put::sum;
 use emit_constants::constants::place_constants;
+use emit_equality::emit_code::fault::EmitFault;
+use emit_equality::emit_code::places::Places;
+use emit_equality::emit_code::put::sum;
 use emit_equality::equality::type_places;
 use emit_rows::push::Packets;
 use first_tables::tables::Tables;

@@ -7,10 +7,10 @@ ghost use Rattle.emit_code.specs.Tags.{each, target_of};
 ghost use Rattle.emit_parts.specs.Labels.{no_target};
 
 use emit_code::choice::Target;
+use emit_code::emit_rows::row::{brz, equal, jmp, li, ult};
 use emit_code::fault::EmitFault;
 use emit_code::plain::put_three;
 use emit_code::put::{here, put, sum};
-use emit_rows::row::{brz, equal, jmp, li, ult};
 use ir_code::instr::Instr;
 
 /// How many instructions each target adds to a search.

@@ -1,2 +1,3 @@
+pub use Rattle.first_values.specs as of_first_values
 pub mod TablesOf
 pub mod Exceptions

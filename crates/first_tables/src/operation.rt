@@ -1,7 +1,7 @@
 // What is done with values at once, as the code has it.
 
+use first_values::mlc_prims::basis::BasisPrimitive;
 use mlc_names::names::Name;
-use mlc_prims::basis::BasisPrimitive;
 
 /// A constant. A string is that of its number in the tables.
 #[derive(Clone, Copy)]

@@ -1,11 +1,11 @@
 -- Small cases, by computation.
 use Rattle.std.proofs.Common.{◌≡◌, ℕ, ◌-◌, ◌^◌, [], ◌∷◌, Some, None, true, false, refl}
 use Rattle.std.specs.Prelude.{pos, negsuc}
-use Rattle.mlc_runs.specs.Run.{gives, stops, went_wrong, start}
-use Rattle.mlc_prims.specs.LitOf.{int, string}
-use Rattle.mlc_prims.specs.PrimOf.{made, raised}
-use Rattle.mlc_prims.specs.declared.basis.BasisPrimitive.TheVariants.{Add, Less, Divide}
-use Rattle.mlc_prims.specs.declared.prim.PrimExn.TheVariants.{Div}
+use Rattle.ir_values.specs.of_mlc_runs.Run.{gives, stops, went_wrong, start}
+use Rattle.ir_values.specs.of_mlc_prims.LitOf.{int, string}
+use Rattle.ir_values.specs.of_mlc_prims.PrimOf.{made, raised}
+use Rattle.ir_values.specs.of_mlc_prims.declared.basis.BasisPrimitive.TheVariants.{Add, Less, Divide}
+use Rattle.ir_values.specs.of_mlc_prims.declared.prim.PrimExn.TheVariants.{Div}
 use Rattle.first_values.specs.Values.{Value, literal, cell, name, packet, no_values, value, unit, one, run, gather}
 use Rattle.first_values.specs.Equality.{numbers, cells, opaque, equal_at}
 use Rattle.first_values.specs.Operations.{Tables, an_int, a_word, a_char, a_text, ints, words, constant, initial, compute, is, is_of, holds, one_of, attempted, perform, decide, called}

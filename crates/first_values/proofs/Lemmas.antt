@@ -1,9 +1,9 @@
 -- Plain operations don't raise, and a run of all parts of a cell has its parts.
 use Rattle.std.proofs.Common.{◌≡◌, ℕ, zero, suc, Bool, true, false, if◌then◌else◌, List, [], ◌∷◌, length, Option, Some, None, nat_lt, refl, ap, subst, ◌∙◌}
 use Rattle.std.specs.Prelude.{⊤, get_or, slice_get}
-use Rattle.mlc_runs.specs.Run.{World, gives, raises, stops, fail, or_fail}
-use Rattle.mlc_prims.specs.LitOf.{int, word, char, string, truth}
-use Rattle.mlc_prims.specs.PrimOf.{Gives, made, raised}
+use Rattle.ir_values.specs.of_mlc_runs.Run.{World, gives, raises, stops, fail, or_fail}
+use Rattle.ir_values.specs.of_mlc_prims.LitOf.{int, word, char, string, truth}
+use Rattle.ir_values.specs.of_mlc_prims.PrimOf.{Gives, made, raised}
 use Rattle.first_values.specs.Values.{Value, literal, cell, reference, name, packet, Values, value, values_of, at, count, Run, in_front, first_some, parts_from, parts_of}
 use Rattle.first_values.specs.Equality.{opaque, equal_at}
 use Rattle.first_values.specs.Operations.{Plain, same, constant, field, refer, content, assign, exception, initial, pack, argument, compute, equal, print, Tables, literal_at, attempted, none, one, two, field_from, read, write, print_value, packet_of, argument_of, made_in, perform}

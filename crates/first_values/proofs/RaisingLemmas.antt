@@ -6,12 +6,12 @@ use Rattle.std.specs.Option.{option_or}
 use Rattle.std.specs.Ordering.{is_lt, is_le, is_gt, is_ge}
 use Rattle.std.specs.declared.cmp.Ordering.{Ordering}
 use Rattle.word_arithmetic.specs.Arithmetic.{word_for, shift_left, shift_right, shift_signed, signed_text}
-use Rattle.mlc_prims.specs.LitOf.{Literal, int, word, char, string, truth, int_in, word_in, char_in, string_in, one_in, two_in, both}
-use Rattle.mlc_prims.specs.PrimOf.{Gives, made, raised}
-use Rattle.mlc_prims.specs.Table.{row_of, literal_cmp, literal_eq, tested, compared, one, two}
-use Rattle.mlc_prims.specs.declared.basis.BasisPrimitive.{BasisPrimitive}
-use Rattle.mlc_prims.specs.declared.basis.BasisPrimitive.TheVariants.{Add, Subtract, Multiply, Divide, Modulo, Negate, Absolute, Less, LessEqual, Greater, GreaterEqual, Equals, Assign, Quotient, Remainder, BitsAnd, BitsOr, BitsXor, BitsNot, ShiftLeft, ShiftRight, ShiftSigned, ToInt, ToIntSigned, FromInt, CharCode, CharOf, TextOf, SizeOf, CharAt, PartOf, Concat, StringOf, Print}
-use Rattle.mlc_prims.specs.declared.prim.PrimExn.{PrimExn}
+use Rattle.ir_values.specs.of_mlc_prims.LitOf.{Literal, int, word, char, string, truth, int_in, word_in, char_in, string_in, one_in, two_in, both}
+use Rattle.ir_values.specs.of_mlc_prims.PrimOf.{Gives, made, raised}
+use Rattle.ir_values.specs.of_mlc_prims.Table.{row_of, literal_cmp, literal_eq, tested, compared, one, two}
+use Rattle.ir_values.specs.of_mlc_prims.declared.basis.BasisPrimitive.{BasisPrimitive}
+use Rattle.ir_values.specs.of_mlc_prims.declared.basis.BasisPrimitive.TheVariants.{Add, Subtract, Multiply, Divide, Modulo, Negate, Absolute, Less, LessEqual, Greater, GreaterEqual, Equals, Assign, Quotient, Remainder, BitsAnd, BitsOr, BitsXor, BitsNot, ShiftLeft, ShiftRight, ShiftSigned, ToInt, ToIntSigned, FromInt, CharCode, CharOf, TextOf, SizeOf, CharAt, PartOf, Concat, StringOf, Print}
+use Rattle.ir_values.specs.of_mlc_prims.declared.prim.PrimExn.{PrimExn}
 use Rattle.first_values.specs.Operations.{Operands, ints, words, chars, texts, row_at}
 use Rattle.first_values.specs.Raising.{raises_at_ints, raises_at_words, raises_at_texts, may_raise}
 use Rattle.first_values.specs.Laws.{OnlyTheseRaise}

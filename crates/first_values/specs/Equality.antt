@@ -1,7 +1,7 @@
 -- Equality of two values at a type: of parts, left to right up to the first difference; of references by identity. Values of other types have none.
 use Rattle.std.specs.Prelude.{ℕ, Bool, true, false, List, [], ◌∷◌, Option, Some, None, nat_eq, if◌then◌else◌, get_or}
-use Rattle.mlc_prims.specs.LitOf.{Literal, int, word, char, string, truth}
-use Rattle.mlc_prims.specs.Table.{literal_eq}
+use Rattle.ir_values.specs.of_mlc_prims.LitOf.{Literal, int, word, char, string, truth}
+use Rattle.ir_values.specs.of_mlc_prims.Table.{literal_eq}
 use Rattle.first_values.specs.Values.{Value, literal, cell, reference, Values, no_values, value}
 
 -- how the values of a type are compared: a cell by the types of the parts at each tag

@@ -1,10 +1,10 @@
 -- What is claimed of what is done with values.
 use Rattle.std.specs.Prelude.{◌≡◌, ℕ, true, List, [], ◌∷◌, Some}
-use Rattle.mlc_runs.specs.Run.{World, raises}
-use Rattle.mlc_prims.specs.LitOf.{Literal}
-use Rattle.mlc_prims.specs.PrimOf.{raised}
-use Rattle.mlc_prims.specs.declared.basis.BasisPrimitive.{BasisPrimitive}
-use Rattle.mlc_prims.specs.declared.prim.PrimExn.{PrimExn}
+use Rattle.ir_values.specs.of_mlc_runs.Run.{World, raises}
+use Rattle.ir_values.specs.of_mlc_prims.LitOf.{Literal}
+use Rattle.ir_values.specs.of_mlc_prims.PrimOf.{raised}
+use Rattle.ir_values.specs.of_mlc_prims.declared.basis.BasisPrimitive.{BasisPrimitive}
+use Rattle.ir_values.specs.of_mlc_prims.declared.prim.PrimExn.{PrimExn}
 use Rattle.first_values.specs.Values.{Value, cell, values_of, count, run, Env, look_up, gather}
 use Rattle.first_values.specs.Operations.{Operands, Plain, Tables, row_at, perform}
 use Rattle.first_values.specs.Raising.{may_raise}

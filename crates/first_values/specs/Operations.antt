@@ -1,11 +1,11 @@
 -- What is done with values at once: operations that give a value, primitives that may raise, tests, and which function a call enters.
 use Rattle.std.specs.Prelude.{ℕ, ◌^◌, ℤ, Bool, true, false, List, [], ◌∷◌, Option, Some, None, option_map, option_and_then, nat_eq, nat_lt, if◌then◌else◌, slice_get, get_or}
-use Rattle.mlc_runs.specs.Run.{World, Answer, gives, raises, fail, or_fail, writes, new_reference, dereference, new_exception}
-use Rattle.mlc_runs.specs.Run as run
-use Rattle.mlc_prims.specs.LitOf.{Literal, int, word, char, string, truth}
-use Rattle.mlc_prims.specs.PrimOf.{Gives, made, raised, fitting}
-use Rattle.mlc_prims.specs.Table.{row_of, literal_eq}
-use Rattle.mlc_prims.specs.declared.basis.BasisPrimitive.{BasisPrimitive}
+use Rattle.ir_values.specs.of_mlc_runs.Run.{World, Answer, gives, raises, fail, or_fail, writes, new_reference, dereference, new_exception}
+use Rattle.ir_values.specs.of_mlc_runs.Run as run
+use Rattle.ir_values.specs.of_mlc_prims.LitOf.{Literal, int, word, char, string, truth}
+use Rattle.ir_values.specs.of_mlc_prims.PrimOf.{Gives, made, raised, fitting}
+use Rattle.ir_values.specs.of_mlc_prims.Table.{row_of, literal_eq}
+use Rattle.ir_values.specs.of_mlc_prims.declared.basis.BasisPrimitive.{BasisPrimitive}
 use Rattle.ir_values.specs.Primitives.{raised_name}
 use Rattle.first_values.specs.Values.{Value, literal, cell, reference, name, packet, Run, unit, truth_value, value_of, at, Env, look_up}
 use Rattle.first_values.specs.Equality.{Shape, opaque, equal_at}

@@ -1,7 +1,7 @@
 -- At which operands a primitive may raise an exception.
 use Rattle.std.specs.Prelude.{Bool, true, false}
-use Rattle.mlc_prims.specs.declared.basis.BasisPrimitive.{BasisPrimitive}
-use Rattle.mlc_prims.specs.declared.basis.BasisPrimitive.TheVariants.{Add, Subtract, Multiply, Divide, Modulo, Negate, Absolute, Quotient, Remainder, ToInt, CharOf, CharAt, PartOf, Concat}
+use Rattle.ir_values.specs.of_mlc_prims.declared.basis.BasisPrimitive.{BasisPrimitive}
+use Rattle.ir_values.specs.of_mlc_prims.declared.basis.BasisPrimitive.TheVariants.{Add, Subtract, Multiply, Divide, Modulo, Negate, Absolute, Quotient, Remainder, ToInt, CharOf, CharAt, PartOf, Concat}
 use Rattle.first_values.specs.Operations.{Operands, ints, words, chars, texts}
 
 -- Overflow, Div and Chr

@@ -1,7 +1,7 @@
 -- Values without functions, and the variables that they are bound to. A closure is a cell too.
 use Rattle.std.specs.Prelude.{ℕ, zero, suc, Bool, true, false, List, [], ◌∷◌, Option, Some, None, nat_eq, if◌then◌else◌, slice_get}
-use Rattle.mlc_runs.specs.Run.{World, Answer}
-use Rattle.mlc_prims.specs.LitOf.{Literal, int, word, char, string, truth}
+use Rattle.ir_values.specs.of_mlc_runs.Run.{World, Answer}
+use Rattle.ir_values.specs.of_mlc_prims.LitOf.{Literal, int, word, char, string, truth}
 
 mutual
   pub data Value : Type 0 where

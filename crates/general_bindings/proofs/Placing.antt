@@ -16,10 +16,10 @@ use Rattle.plain_tree.specs.declared.tree.Exp.{Exp}
 use Rattle.plain_tree.specs.declared.tree.Operation.{Operation}
 use Rattle.plain_tree.specs.declared.tree.Step.{Step}
 use Rattle.plain_tree.specs.declared.tree.Step.TheVariants.{Let, Block}
-use Rattle.match_types.specs.Views.{View, reading, Sees, Keeps, Stands, value_type, in_view}
-use Rattle.match_types.specs.declared.work.ValueType.{ValueType}
-use Rattle.match_types.specs.declared.work.Work.{Work}
-use Rattle.match_types.proofs.Seeing.{sees-before, none-past, keeps-on, stands-on}
+use Rattle.pattern_tests.specs.of_match_types.Views.{View, reading, Sees, Keeps, Stands, value_type, in_view}
+use Rattle.pattern_tests.specs.of_match_types.declared.work.ValueType.{ValueType}
+use Rattle.pattern_tests.specs.of_match_types.declared.work.Work.{Work}
+use Rattle.pattern_tests.proofs.of_match_types.Seeing.{sees-before, none-past, keeps-on, stands-on}
 use Rattle.pattern_tests.specs.of_match_steps.Steps.{Puts, stand}
 use Rattle.pattern_tests.proofs.of_match_steps.Pushed.{pushed, step_of-Let}
 use Rattle.exp_blocks.specs.of_exp_steps.Making.{Reads}

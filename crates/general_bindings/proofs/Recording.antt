@@ -15,10 +15,10 @@ use Rattle.plain_tree.specs.declared.tree.Step.{Step}
 use Rattle.plain_tree.specs.declared.tree.Step.TheVariants as steps
 use Rattle.prog_tree.specs.TreeOf.{pat_of}
 use Rattle.prog_tree.specs.declared.tree.Pat.{Pat}
-use Rattle.match_types.specs.Views.{View, reading, Sees, Keeps, Stands, value_type, in_view}
-use Rattle.match_types.specs.declared.work.Work.{Work}
-use Rattle.match_types.specs.declared.work.ValueType.{ValueType}
-use Rattle.match_types.proofs.Seeing.{keeps-on, sees-before, stands-on}
+use Rattle.pattern_tests.specs.of_match_types.Views.{View, reading, Sees, Keeps, Stands, value_type, in_view}
+use Rattle.pattern_tests.specs.of_match_types.declared.work.Work.{Work}
+use Rattle.pattern_tests.specs.of_match_types.declared.work.ValueType.{ValueType}
+use Rattle.pattern_tests.proofs.of_match_types.Seeing.{keeps-on, sees-before, stands-on}
 use Rattle.pattern_tests.specs.of_match_steps.Steps.{Puts, stand}
 use Rattle.pattern_tests.proofs.of_match_steps.Pushed.{pushed}
 use Rattle.pattern_tests.specs.Spots.{spots_onto}

@@ -23,10 +23,10 @@ use Rattle.prog_tree.specs.declared.tree.Side.{Side}
 use Rattle.prog_tree.specs.declared.tree.Side.TheVariants as side
 use Rattle.prog_tree.proofs.ExpOf.{pat_of-Chain}
 use Rattle.exp_blocks.proofs.of_exp_steps.Heads.{items-counted}
-use Rattle.match_types.specs.Views.{View, reading, Sees, Keeps, Stands, value_type, in_view}
-use Rattle.match_types.specs.declared.work.Work.{Work}
-use Rattle.match_types.specs.declared.work.ValueType.{ValueType}
-use Rattle.match_types.proofs.Seeing.{sees-before, stands-at, held-within, held-is}
+use Rattle.pattern_tests.specs.of_match_types.Views.{View, reading, Sees, Keeps, Stands, value_type, in_view}
+use Rattle.pattern_tests.specs.of_match_types.declared.work.Work.{Work}
+use Rattle.pattern_tests.specs.of_match_types.declared.work.ValueType.{ValueType}
+use Rattle.pattern_tests.proofs.of_match_types.Seeing.{sees-before, stands-at, held-within, held-is}
 use Rattle.pattern_tests.specs.Spots.{spots_onto}
 use Rattle.pattern_tests.specs.declared.spots.Spot.{Spot}
 use Rattle.exp_blocks.proofs.Binding.{take-next}

@@ -3,9 +3,9 @@ use Rattle.std.proofs.Common.{◌≡◌, ◌<◌, ◌≤◌, ◌+◌, ℕ, suc, 
 use Rattle.ty_core.specs.Types.{Typ}
 use Rattle.match_compile.specs.Compile.{Spots, no_spots, spot, part, past_split, split_spots}
 use Rattle.plain_tree.specs.declared.tree.Step.{Step}
-use Rattle.match_types.specs.Views.{View, Keeps, Stands, value_type}
-use Rattle.match_types.specs.declared.work.Work.{Work}
-use Rattle.match_types.proofs.Seeing.{keeps-same, keeps-on, sees-before, stands-on}
+use Rattle.pattern_tests.specs.of_match_types.Views.{View, Keeps, Stands, value_type}
+use Rattle.pattern_tests.specs.of_match_types.declared.work.Work.{Work}
+use Rattle.pattern_tests.proofs.of_match_types.Seeing.{keeps-same, keeps-on, sees-before, stands-on}
 use Rattle.pattern_tests.specs.of_match_steps.Steps.{Puts, Leads, stand}
 use Rattle.pattern_tests.specs.declared.spots.Spot.{Spot}
 use Rattle.pattern_tests.proofs.Chains.{next-drop}

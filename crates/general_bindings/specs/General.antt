@@ -12,8 +12,8 @@ use Rattle.match_compile.specs.Compile.{Spots, no_spots, spot, Shape, alone, rec
 use Rattle.plain_tree.specs.declared.tree.Field.{Field}
 use Rattle.prog_tree.specs.TreeOf.{pat_of}
 use Rattle.prog_tree.specs.declared.tree.Pat.{Pat}
-use Rattle.match_types.specs.Views.{View, value_type, in_view}
-use Rattle.match_types.specs.declared.work.ValueType.{ValueType}
+use Rattle.pattern_tests.specs.of_match_types.Views.{View, value_type, in_view}
+use Rattle.pattern_tests.specs.of_match_types.declared.work.ValueType.{ValueType}
 use Rattle.pattern_tests.specs.declared.spots.Spot.{Spot}
 
 -- the parameters of the list k

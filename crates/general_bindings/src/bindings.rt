@@ -4,7 +4,7 @@ ghost use Rattle.ir_plain.specs.Tree.{ret};
 ghost use Rattle.ir_poly.specs.Tests.{Tests};
 ghost use Rattle.match_compile.specs.Compile.{atom, past_split, split_spots, spot, no_spots, general_shape};
 ghost use Rattle.prog_tree.specs.TreeOf.{Reading, pat_of};
-ghost use Rattle.match_types.specs.Views.{View, Keeps, Stands, value_type, in_view};
+ghost use Rattle.pattern_tests.specs.of_match_types.Views.{View, Keeps, Stands, value_type, in_view};
 ghost use Rattle.pattern_tests.specs.of_match_steps.Steps.{Puts};
 ghost use Rattle.pattern_tests.specs.Spots.{spots_onto};
 ghost use Rattle.pattern_tests.specs.Tasks.{tests_of};
@@ -13,9 +13,9 @@ ghost use Rattle.general_bindings.specs.General.{over_scope, general, spots_of, 
 
 use crate::records::{push_general, push_split, push_together, raise_bind, record_type};
 use exp_blocks::blocks::{ended, one_of};
-use match_types::types::scoped_type;
-use match_types::work::{ValueType, Work};
 use mlc_base::memory::NoMemory;
+use pattern_tests::match_types::types::scoped_type;
+use pattern_tests::match_types::work::{ValueType, Work};
 use pattern_tests::patterns::push_tests;
 use pattern_tests::spots::Spot;
 use plain_tree::tree::{Exp, Step};

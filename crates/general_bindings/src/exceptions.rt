@@ -3,15 +3,15 @@ ghost use Rattle.std.specs.Prelude.{◌≡◌, ◌∷◌, suc, IfOk};
 ghost use Rattle.std.specs.Option.{option_map};
 ghost use Rattle.ir_plain.specs.Tree.{exception_in};
 ghost use Rattle.match_compile.specs.Compile.{option_scoped};
-ghost use Rattle.match_types.specs.Views.{View, Sees, Keeps};
+ghost use Rattle.pattern_tests.specs.of_match_types.Views.{View, Sees, Keeps};
 ghost use Rattle.ty_table.specs.TypeAt.{type_at};
 ghost use Rattle.pattern_tests.specs.of_match_steps.Steps.{Puts};
 ghost use Rattle.exp_blocks.specs.Giving.{Grows};
 
-use match_types::types::{fresh, scoped_type};
-use match_types::work::{ValueType, Work};
 use mlc_base::memory::NoMemory;
 use mlc_names::names::Name;
+use pattern_tests::match_types::types::{fresh, scoped_type};
+use pattern_tests::match_types::work::{ValueType, Work};
 use plain_tree::tree::Step;
 use std::alloc::Global;
 

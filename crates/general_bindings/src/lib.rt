@@ -4,7 +4,7 @@
 pub use exp_blocks;
 pub use exp_blocks::exp_steps;
 pub use pattern_tests;
-pub use pattern_tests::match_steps;
+pub use pattern_tests::{match_steps, match_types};
 
 pub mod bindings;
 pub mod exceptions;

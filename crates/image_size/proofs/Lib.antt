@@ -1,1 +1,2 @@
+pub use Rattle.image_law.proofs as of_image_law
 pub mod Texts

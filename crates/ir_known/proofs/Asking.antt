@@ -1,8 +1,8 @@
 -- What the first node of a type and its parts say of the type.
 use Rattle.std.proofs.Common.{◌≡◌, ◌≢◌, ◌↔◌, ℕ, suc, Bool, false, List, [], ◌∷◌, IsTrue, length, slice_index_or, refl, sym, ap, ◌∙◌}
 use Rattle.mlc_names.specs.declared.label.Label.{Label}
-use Rattle.ty_core.specs.Types.{Typ, con, Typs, none, more, name, labels, arrow, Symbol}
-use Rattle.ty_core.specs.declared.name.TyName.{TyName}
+use Rattle.ir_tables.specs.of_ty_core.Types.{Typ, con, Typs, none, more, name, labels, arrow, Symbol}
+use Rattle.ir_tables.specs.of_ty_core.declared.name.TyName.{TyName}
 use Rattle.ir_tables.specs.of_ty_table.TypeAt.{type_at, types_at}
 use Rattle.ir_tables.specs.of_ir_poly.Types.{of_name, ref_type, ref_name, unit_type, function_type}
 

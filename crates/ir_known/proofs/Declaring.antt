@@ -2,8 +2,8 @@
 use Rattle.std.proofs.Common.{◌≡◌, ℕ, zero, suc, ◌<◌, ◌≤◌, ◌-◌, Bool, true, false, not, ◌&&◌, ◌||◌, List, [], ◌∷◌, ◌++◌, length, drop, slice_index_or, Some, None, nat_eq, cond, refl, sym, ap, ◌∙◌, subst, arith}
 use Rattle.std.proofs.lemmas.Bool.{and_parts, and_from, both_ways, eqb-true, eq-eqb}
 use Rattle.std.specs.Map.{lookup}
-use Rattle.ty_core.specs.declared.mark.Mark.{Mark}
-use Rattle.ty_core.specs.declared.scheme.Quantified.{Quantified}
+use Rattle.ir_tables.specs.of_ty_core.declared.mark.Mark.{Mark}
+use Rattle.ir_tables.specs.of_ty_core.declared.scheme.Quantified.{Quantified}
 use Rattle.ir_tables.specs.of_ir_poly.Types.{in_scope, is_declarable, are_new}
 use Rattle.ir_known.specs.Knows.{marks_of}
 

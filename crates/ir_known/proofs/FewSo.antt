@@ -1,8 +1,8 @@
 -- What is asked of a type's few variables, of all of them.
 use Rattle.std.proofs.Common.{◌≡◌, ◌↔◌, ℕ, Bool, true, false, ◌&&◌, ◌||◌, if◌then◌else◌, List, Some, None, nat_eq, IsTrue, refl, sym, ap, ap₂, ◌∙◌, subst}
 use Rattle.std.proofs.lemmas.Bool.{eqb-true, false≢true}
-use Rattle.ty_core.specs.Types.{Typ, var, con, Typs, none, more, admits, all_admit, attribute, no_variable}
-use Rattle.ty_core.specs.declared.scheme.Quantified.{Quantified}
+use Rattle.ir_tables.specs.of_ty_core.Types.{Typ, var, con, Typs, none, more, admits, all_admit, attribute, no_variable}
+use Rattle.ir_tables.specs.of_ty_core.declared.scheme.Quantified.{Quantified}
 use Rattle.ir_tables.specs.of_ty_table.declared.variables.Few.{Few}
 use Rattle.ir_tables.specs.of_ty_table.declared.variables.Few.TheVariants.{Empty, One, Two, Three, Four, Many}
 use Rattle.ir_tables.specs.of_ty_table.TypeAt.{every_variable}

@@ -7,17 +7,17 @@ use Rattle.std.proofs.lemmas.Bool.{eqb-true}
 use Rattle.indexmap.specs.IndexSet.{insert_key}
 use Rattle.std.proofs.Common.{if◌then◌else◌}
 use mathlib.Core.Logic.{inl, inr}
-use Rattle.ty_core.specs.Types.{Symbol, Typ, var, con, Typs, none, more, nodes, all_nodes, admits, all_admit, allowed, attribute}
-use Rattle.ty_core.specs.declared.name.Equality.{Equality}
-use Rattle.ty_core.specs.declared.name.Equality.TheVariants.{Always, ByArguments, Never}
-use Rattle.ty_core.specs.declared.scheme.Quantified.{Quantified}
+use Rattle.ir_tables.specs.of_ty_core.Types.{Symbol, Typ, var, con, Typs, none, more, nodes, all_nodes, admits, all_admit, allowed, attribute}
+use Rattle.ir_tables.specs.of_ty_core.declared.name.Equality.{Equality}
+use Rattle.ir_tables.specs.of_ty_core.declared.name.Equality.TheVariants.{Always, ByArguments, Never}
+use Rattle.ir_tables.specs.of_ty_core.declared.scheme.Quantified.{Quantified}
 use Rattle.ir_tables.specs.of_ty_table.TypeAt.{type_at, types_at}
 use Rattle.ir_tables.specs.of_ir_poly.Types.{over, all_over, admits_in, in_scope, is_equality}
 use Rattle.ir_known.specs.declared.walk.Question.{Question}
 use Rattle.ir_known.specs.declared.walk.Question.TheVariants.{Over, Admits}
 use Rattle.ir_known.specs.Asked.{Asked, rule_of, so_in, All, total, Opens}
 use Rattle.std.specs.Map.{lookup}
-use Rattle.ty_core.specs.declared.mark.Mark.{Mark}
+use Rattle.ir_tables.specs.of_ty_core.declared.mark.Mark.{Mark}
 use Rattle.ir_known.specs.Knows.{marks_of}
 use Rattle.ir_known.proofs.Walks.{Has, Walked, walk-passes, walk-fails, walk-ends}
 use Rattle.ir_known.proofs.Declaring.{outside-found, not-in-scope, nat_eq-turned}

@@ -5,8 +5,8 @@ use Rattle.std.proofs.lemmas.List.{append-nil}
 use Rattle.std.specs.List.{list_any}
 use Rattle.indexmap.specs.IndexSet.{insert_key}
 use mathlib.Core.Logic.{inl, inr}
-use Rattle.ty_core.specs.Types.{Symbol, Typ, var, con, Typs, none, more, nodes, all_nodes}
-use Rattle.ty_core.specs.Statics.{replace, replace_all}
+use Rattle.ir_tables.specs.of_ty_core.Types.{Symbol, Typ, var, con, Typs, none, more, nodes, all_nodes}
+use Rattle.ir_tables.specs.of_ty_core.Statics.{replace, replace_all}
 use Rattle.ir_tables.specs.of_ty_table.TypeAt.{type_at, types_at, top, tops}
 use Rattle.ir_known.specs.Asked.{All, total}
 use Rattle.ir_known.specs.Images.{Pair, IsImage, OpensImage}

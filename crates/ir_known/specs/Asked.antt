@@ -1,9 +1,9 @@
 -- What is asked of types, and on which parts the answer rests.
 use Rattle.std.specs.Prelude.{◌≡◌, ◌<◌, ℕ, ◌+◌, Bool, true, List, [], ◌∷◌, ◌++◌, ⊤}
-use Rattle.ty_core.specs.Types.{Symbol, Typ, admits, attribute, nodes}
-use Rattle.ty_core.specs.declared.name.Equality.{Equality}
-use Rattle.ty_core.specs.declared.name.Equality.TheVariants.{ByArguments}
-use Rattle.ty_core.specs.declared.scheme.Quantified.{Quantified}
+use Rattle.ir_tables.specs.of_ty_core.Types.{Symbol, Typ, admits, attribute, nodes}
+use Rattle.ir_tables.specs.of_ty_core.declared.name.Equality.{Equality}
+use Rattle.ir_tables.specs.of_ty_core.declared.name.Equality.TheVariants.{ByArguments}
+use Rattle.ir_tables.specs.of_ty_core.declared.scheme.Quantified.{Quantified}
 use Rattle.ir_tables.specs.of_ty_table.TypeAt.{type_at}
 use Rattle.ir_tables.specs.of_ir_poly.Types.{over, in_scope, admits_in}
 use Rattle.ir_known.specs.declared.walk.Question.{Question}

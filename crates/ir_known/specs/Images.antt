@@ -1,8 +1,8 @@
 -- Types put for the variables of a type.
 use Rattle.std.specs.Prelude.{◌≡◌, ℕ, List, Option, Some, None, nat_eq}
 use Rattle.std.specs.Map.{lookup}
-use Rattle.ty_core.specs.Types.{Typ, var, nodes}
-use Rattle.ty_core.specs.Statics.{replace}
+use Rattle.ir_tables.specs.of_ty_core.Types.{Typ, var, nodes}
+use Rattle.ir_tables.specs.of_ty_core.Statics.{replace}
 use Rattle.ir_tables.specs.of_ty_table.TypeAt.{type_at}
 use Rattle.ir_tables.specs.of_ir_poly.Types.{unit_type}
 use Rattle.ir_known.specs.declared.image.Rest.{Rest}

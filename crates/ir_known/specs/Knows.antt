@@ -1,9 +1,9 @@
 -- What is known of variables, in the words of the typing.
 use Rattle.std.specs.Prelude.{ℕ, List, map}
 use Rattle.std.specs.Option.{option_map}
-use Rattle.ty_core.specs.Types.{Typ, var}
-use Rattle.ty_core.specs.declared.mark.Mark.{Mark}
-use Rattle.ty_core.specs.declared.scheme.Quantified.{Quantified}
+use Rattle.ir_tables.specs.of_ty_core.Types.{Typ, var}
+use Rattle.ir_tables.specs.of_ty_core.declared.mark.Mark.{Mark}
+use Rattle.ir_tables.specs.of_ty_core.declared.scheme.Quantified.{Quantified}
 use Rattle.ir_tables.specs.of_ty_table.TypeAt.{type_at}
 use Rattle.ir_tables.specs.Tables.{parameters_at}
 use Rattle.ir_tables.specs.of_ir_poly.TestsChecked as clean

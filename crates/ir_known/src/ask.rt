@@ -1,13 +1,13 @@
 // What types are, asked by their numbers.
 ghost use Rattle.std.specs.Prelude.{◌≡◌, ◌↔◌, [], IsTrue, MatchOption};
-ghost use Rattle.ty_core.specs.Types.{Typ, var};
+ghost use Rattle.ir_tables.specs.of_ty_core.Types.{Typ, var};
 ghost use Rattle.ir_tables.specs.of_ty_table.TypeAt.{type_at};
 ghost use Rattle.ir_tables.specs.of_ir_poly.Types.{of_name, function_type, ref_type, unit_type, bool_name};
 
+use ir_tables::ty_core::name::{Equality, TyName};
+use ir_tables::ty_core::ty::Head;
 use ir_tables::ty_table::types::{Types, View};
 use mlc_names::label::Label;
-use ty_core::name::{Equality, TyName};
-use ty_core::ty::Head;
 
 /// The type name of truth values.
 pub const BOOL: TyName = TyName {

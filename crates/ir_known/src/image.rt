@@ -1,17 +1,17 @@
 // Whether a type is another one with types put for its variables.
 ghost use Rattle.std.specs.Prelude.{◌≡◌, ◌↔◌, ◌++◌, ℕ, List, zip, length, true, false, IsTrue, IfOk};
-ghost use Rattle.ty_core.specs.Types.{var};
-ghost use Rattle.ty_core.specs.Statics.{replace};
+ghost use Rattle.ir_tables.specs.of_ty_core.Types.{var};
+ghost use Rattle.ir_tables.specs.of_ty_core.Statics.{replace};
 ghost use Rattle.ir_tables.specs.of_ty_table.TypeAt.{type_at};
 ghost use Rattle.ir_known.specs.Images.{image_of, IsImage, OpensImage};
 
 use crate::ask::{is_unit, same_type};
 use crate::stack::Stack;
 use indexmap::IndexSet;
+use ir_tables::ty_core::ty::same_head;
 use ir_tables::ty_table::types::{Types, View};
 use mlc_base::memory::NoMemory;
 use std::alloc::Global;
-use ty_core::ty::same_head;
 
 /// What stands for a variable for which no type is put.
 #[derive(Clone, Copy)]

@@ -4,9 +4,9 @@ ghost use Rattle.ir_tables.specs.of_ir_poly.Types.{are_new, is_declarable};
 ghost use Rattle.ir_known.specs.Knows.{marks_of};
 
 use crate::stack::Stack;
+use ir_tables::ty_core::mark::Mark;
+use ir_tables::ty_core::scheme::Quantified;
 use mlc_base::memory::NoMemory;
-use ty_core::mark::Mark;
-use ty_core::scheme::Quantified;
 
 /// Whether a parameter of this mark may be declared.
 fn is_for_declaration(mark: Mark) -> bool

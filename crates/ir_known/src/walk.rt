@@ -1,7 +1,7 @@
 // Looking through types, each number once.
 ghost use Rattle.std.specs.Prelude.{◌≡◌, ◌↔◌, true, false, IsTrue, IfOk};
-ghost use Rattle.ty_core.specs.Types.{var, admits};
-ghost use Rattle.ty_core.specs.TypesOf.{head_of};
+ghost use Rattle.ir_tables.specs.of_ty_core.Types.{var, admits};
+ghost use Rattle.ir_tables.specs.of_ty_core.TypesOf.{head_of};
 ghost use Rattle.ir_tables.specs.of_ty_table.TypeAt.{type_at};
 ghost use Rattle.ir_tables.specs.of_ir_poly.Types.{over, admits_in, is_equality};
 ghost use Rattle.ir_known.specs.Few.{few_so};
@@ -10,13 +10,13 @@ ghost use Rattle.ir_known.specs.Asked.{Asked, Opens, rule_of, so_in};
 
 use crate::stack::Stack;
 use indexmap::IndexSet;
+use ir_tables::ty_core::mark::Mark;
+use ir_tables::ty_core::name::Equality;
+use ir_tables::ty_core::ty::{Head, equality_of};
 use ir_tables::ty_table::types::{Types, View};
 use ir_tables::ty_table::variables::Few;
 use mlc_base::memory::NoMemory;
 use std::alloc::Global;
-use ty_core::mark::Mark;
-use ty_core::name::Equality;
-use ty_core::ty::{Head, equality_of};
 
 /// What is asked of a type: whether its variables are parameters in scope, or whether it admits equality where those do that are marked so.
 #[derive(Clone, Copy)]

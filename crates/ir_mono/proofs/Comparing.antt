@@ -1,7 +1,7 @@
 -- Two values of a type that admits equality are equal or not.
 use Rattle.std.proofs.Common.{◌≡◌, ℕ, List, [], ◌∷◌, Bool, true, false, Option, Some, None, if◌then◌else◌, nat_eq, nat_lt, option_map, option_and_then, refl, sym, subst, ap, ◌∙◌}
 use Rattle.std.proofs.lemmas.Bool.{eq-eqb, eqb-true}
-use Rattle.mlc_names.specs.declared.label.Label.{Label}
+use Rattle.ir_poly.specs.of_mlc_names.declared.label.Label.{Label}
 use Rattle.ir_poly.specs.of_mlc_prims.LitOf.{Literal}
 use Rattle.ir_poly.specs.of_mlc_prims.Table.{literal_eq}
 use Rattle.ir_poly.specs.of_ty_core.Types.{labels, name}
@@ -114,8 +114,8 @@ module _ (types : List Row) where
     skip false o q e = refl
 
     first-part : (l : Label) → same_label l l ≡ true
-    first-part (Rattle.mlc_names.specs.declared.label.Label.TheVariants.Number n) = eq-eqb n n refl
-    first-part (Rattle.mlc_names.specs.declared.label.Label.TheVariants.Word x) = eq-eqb x x refl
+    first-part (Rattle.ir_poly.specs.of_mlc_names.declared.label.Label.TheVariants.Number n) = eq-eqb n n refl
+    first-part (Rattle.ir_poly.specs.of_mlc_names.declared.label.Label.TheVariants.Word x) = eq-eqb x x refl
 
     take-first : {A : Type 0} (b : Bool) (o q : Option A) → b ≡ true → (if b then o else q) ≡ o
     take-first true o q e = refl

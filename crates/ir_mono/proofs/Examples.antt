@@ -1,7 +1,7 @@
 -- Small programs in simple types, by computation: each value keeps the number of its type, and what was made at one type goes wrong at another.
 use Rattle.std.proofs.Common.{◌≡◌, ℕ, List, [], ◌∷◌, Some, None, true, false, pos, refl}
 use Rattle.ir_poly.specs.of_mlc_runs.Outcome.{End, ended, wrong, Outcome}
-use Rattle.mlc_names.specs.declared.label.Label.TheVariants.{Number}
+use Rattle.ir_poly.specs.of_mlc_names.declared.label.Label.TheVariants.{Number}
 use Rattle.ir_poly.specs.of_mlc_prims.LitOf.{int}
 use Rattle.ir_poly.specs.of_mlc_prims.declared.basis.BasisPrimitive.TheVariants.{Equals}
 use Rattle.ir_poly.specs.of_ty_core.Types.{labels, name}

@@ -3,7 +3,7 @@ use Rattle.std.proofs.Common.{◌≡◌, ℕ, zero, suc, List, [], ◌∷◌, �
 use Rattle.std.specs.Prelude.{slice_set}
 use Rattle.std.proofs.lemmas.Bool.{eqb-true, eq-eqb}
 use Rattle.std.specs.Map.{lookup}
-use Rattle.mlc_names.specs.declared.label.Label.{Label}
+use Rattle.ir_poly.specs.of_mlc_names.declared.label.Label.{Label}
 use Rattle.ir_poly.specs.of_mlc_prims.LitOf.{Literal}
 use Rattle.ir_poly.specs.of_ty_core.Types.{labels, name, Typ, Typs}
 use Rattle.ir_poly.specs.of_ty_core.declared.name.TyName.{TyName}

@@ -1,3 +1,4 @@
+pub use Rattle.ir_poly.proofs.of_ir_values as of_ir_values
 pub use Rattle.ir_poly.proofs as of_ir_poly
 pub use Rattle.ir_poly.proofs.of_ir_plain as of_ir_plain
 pub mod Values

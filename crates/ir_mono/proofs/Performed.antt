@@ -3,8 +3,8 @@ use Rattle.std.proofs.Common.{◌≡◌, ℕ, zero, suc, ◌<◌, List, [], ◌�
 use Rattle.std.specs.Prelude.{slice_set, not, ◌||◌}
 use Rattle.std.proofs.lemmas.Bool.{lt-ltb, eq-eqb, eqb-true}
 use Rattle.ir_poly.specs.of_mlc_runs.Run.{World, Answer, gives, raises, stops, out_of_turns, then_do, or_handle, or_fail, fail, turn_from}
-use Rattle.mlc_names.specs.declared.label.Label.{Label}
-use Rattle.mlc_names.specs.declared.label.Label.TheVariants.{Number}
+use Rattle.ir_poly.specs.of_mlc_names.declared.label.Label.{Label}
+use Rattle.ir_poly.specs.of_mlc_names.declared.label.Label.TheVariants.{Number}
 use Rattle.ir_poly.specs.of_mlc_prims.LitOf.{Literal, int, word, char, string}
 use Rattle.ir_poly.specs.of_mlc_prims.PrimOf.{Gives, made}
 use Rattle.ir_poly.specs.of_mlc_prims.Table.{row_of}

@@ -3,7 +3,7 @@ use Rattle.std.proofs.Common.{◌≡◌, ℕ, zero, suc, List, [], ◌∷◌, �
 use Rattle.std.proofs.lemmas.Bool.{eq-eqb, ltb-true}
 use Rattle.ir_poly.specs.of_mlc_runs.Outcome.{wrong}
 use Rattle.ir_poly.specs.of_mlc_runs.Run.{World, Answer, gives, start, then_do, or_handle, or_fail, fail, turn_from, outcome_of}
-use Rattle.mlc_names.specs.declared.label.Label.{Label}
+use Rattle.ir_poly.specs.of_mlc_names.declared.label.Label.{Label}
 use Rattle.mlc_base.specs.declared.place.Place.{Place}
 use Rattle.ir_poly.specs.of_ir_values.Values.{Value, cell, exn, closure, empty, record_of, packet_name}
 use Rattle.ir_poly.specs.of_ir_values.Match.{after_match}

@@ -2,7 +2,7 @@
 use Rattle.std.proofs.Common.{◌≡◌, ℕ, suc, List, [], ◌∷◌, length, Bool, true, false, Option, Some, None, slice_get, if◌then◌else◌, nat_eq, nat_lt, subst, sym, refl, ap, ◌∙◌, arith}
 use Rattle.std.proofs.lemmas.Bool.{eqb-true, eq-eqb, ltb-true}
 use Rattle.ir_poly.specs.of_mlc_runs.Run.{World}
-use Rattle.mlc_names.specs.declared.label.Label.{Label}
+use Rattle.ir_poly.specs.of_mlc_names.declared.label.Label.{Label}
 use Rattle.ir_poly.specs.of_mlc_prims.LitOf.{Literal}
 use Rattle.ir_poly.specs.of_mlc_prims.Table.{literal_eq}
 use Rattle.ir_poly.specs.of_ty_core.Types.{labels, name}

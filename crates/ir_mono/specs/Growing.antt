@@ -1,7 +1,7 @@
 -- What a table may be given, and stays a table: a type that isn't there yet, and a constructor of a datatype that is there.
 use Rattle.std.specs.Prelude.{◌≡◌, ℕ, true, List, [], ◌∷◌, ◌++◌, length, Option, Some, None, nat_eq, nat_lt, slice_get, slice_set}
 use Rattle.std.specs.Map.{lookup}
-use Rattle.mlc_names.specs.declared.label.Label.{Label}
+use Rattle.ir_poly.specs.of_mlc_names.declared.label.Label.{Label}
 use Rattle.ir_poly.specs.of_ty_core.Types.{labels, name, Typ}
 use Rattle.ir_poly.specs.of_ty_core.declared.name.TyName.{TyName}
 use Rattle.ir_poly.specs.Types.{exn_name}

@@ -3,8 +3,8 @@
 use Rattle.std.specs.Prelude.{◌≡◌, ℕ, suc, Bool, true, false, List, [], ◌∷◌, Option, Some, None, option_map, option_and_then, nat_eq, nat_lt, if◌then◌else◌}
 use Rattle.std.specs.Map.{lookup}
 use Rattle.std.specs.Prelude.{slice_get}
-use Rattle.mlc_names.specs.declared.label.Label.{Label}
-use Rattle.mlc_names.specs.declared.label.Label.TheVariants.{Number}
+use Rattle.ir_poly.specs.of_mlc_names.declared.label.Label.{Label}
+use Rattle.ir_poly.specs.of_mlc_names.declared.label.Label.TheVariants.{Number}
 use Rattle.ir_poly.specs.of_mlc_prims.LitOf.{Literal, int, word, char, string, truth}
 use Rattle.ir_poly.specs.of_ty_core.Types.{Symbol, arrow, labels, name, Typ, var, con, Typs, none, more}
 use Rattle.ir_poly.specs.of_ty_core.declared.name.TyName.{TyName}

@@ -1,7 +1,7 @@
 -- Which programs are well typed. The Bool says whether a miss goes on somewhere: only there may an expression miss, and a miss has any type.
 use Rattle.std.specs.Prelude.{◌≡◌, ℕ, Bool, true, false, List, [], ◌∷◌, length, Option, Some, None, nat_eq, nat_lt, ⊤}
 use Rattle.std.specs.Map.{lookup}
-use Rattle.mlc_names.specs.declared.label.Label.{Label}
+use Rattle.ir_poly.specs.of_mlc_names.declared.label.Label.{Label}
 use Rattle.mlc_base.specs.declared.place.Place.{Place}
 use Rattle.ir_poly.specs.of_mlc_prims.LitOf.{Literal}
 use Rattle.ir_poly.specs.of_mlc_prims.declared.basis.BasisPrimitive.{BasisPrimitive}

@@ -1,7 +1,7 @@
 -- Types of values, under the types of what is stored and of the arguments of the exceptions made. Constants keep no type; a constructor, an exception, `ref`
 -- and a primitive are functions too.
 use Rattle.std.specs.Prelude.{◌≡◌, ℕ, Bool, true, List, [], ◌∷◌, Option, Some, None, slice_get}
-use Rattle.mlc_names.specs.declared.label.Label.{Label}
+use Rattle.ir_poly.specs.of_mlc_names.declared.label.Label.{Label}
 use Rattle.ir_poly.specs.of_mlc_prims.LitOf.{Literal}
 use Rattle.ir_poly.specs.of_mlc_prims.declared.basis.BasisPrimitive.{BasisPrimitive}
 use Rattle.ir_poly.specs.of_ty_core.Types.{labels}

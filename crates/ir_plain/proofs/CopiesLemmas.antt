@@ -1,8 +1,8 @@
 -- A value and its stripped copy come to the same; the copy takes no turns, and changes nothing.
 use Rattle.std.proofs.Common.{◌≡◌, ℕ, zero, suc, Bool, true, false, ◌&&◌, [], ◌∷◌, ◌++◌, Option, Some, None, slice_get, if◌then◌else◌, refl, sym, ap, subst, ◌∙◌}
-use Rattle.mlc_names.specs.declared.label.Label.{Label}
+use Rattle.ir_values.specs.of_mlc_names.declared.label.Label.{Label}
 use Rattle.mlc_base.specs.declared.place.Place.{Place}
-use Rattle.mlc_runs.specs.Run.{World, out_of_turns, went_wrong, Answer, gives, raises, stops, then_do, or_fail, fail, turn_from}
+use Rattle.ir_values.specs.of_mlc_runs.Run.{World, out_of_turns, went_wrong, Answer, gives, raises, stops, then_do, or_fail, fail, turn_from}
 use Rattle.ir_values.specs.Values.{record_of, exn, exn_of, cell, bind, field_in, address_in}
 use Rattle.ir_values.specs.Match.{matches, no_match, mismatch, after_match}
 use Rattle.ir_values.specs.Primitives.{marked, content_of}

@@ -1,11 +1,11 @@
 -- A small program for each construct, with its outcome at several numbers of turns, by computation.
 use Rattle.std.proofs.Common.{◌≡◌, ℕ, List, [], ◌∷◌, Some, None, nat_eq, pos, refl}
 use Rattle.std.specs.Prelude.{⊤, if◌then◌else◌}
-use Rattle.mlc_runs.specs.Outcome.{End, ended, uncaught, going, wrong, Outcome}
-use Rattle.mlc_names.specs.declared.label.Label.TheVariants.{Number}
+use Rattle.ir_values.specs.of_mlc_runs.Outcome.{End, ended, uncaught, going, wrong, Outcome}
+use Rattle.ir_values.specs.of_mlc_names.declared.label.Label.TheVariants.{Number}
 use Rattle.mlc_base.specs.declared.place.Place.{Place}
-use Rattle.mlc_prims.specs.LitOf.{int, string}
-use Rattle.mlc_prims.specs.declared.basis.BasisPrimitive.TheVariants.{Add, Divide, Equals, Assign, Concat, Print}
+use Rattle.ir_values.specs.of_mlc_prims.LitOf.{int, string}
+use Rattle.ir_values.specs.of_mlc_prims.declared.basis.BasisPrimitive.TheVariants.{Add, Divide, Equals, Assign, Concat, Print}
 use Rattle.ir_values.specs.Tags.{Tagging, untagged}
 use Rattle.ir_values.specs.Values.{true_number}
 use Rattle.ir_plain.specs.Kind.{Kind}

@@ -1,12 +1,12 @@
 -- As much fuel as turns is enough: calls that may nest deeper change nothing.
 use Rattle.std.proofs.Common.{◌≡◌, ℕ, zero, suc, ◌≤◌, Bool, true, false, List, [], ◌∷◌, ◌++◌, length, Option, Some, None, slice_get, nat_lt, if◌then◌else◌, refl, ap, arith}
 use Rattle.std.specs.Prelude.{slice_set}
-use Rattle.mlc_names.specs.declared.label.Label.{Label}
+use Rattle.ir_values.specs.of_mlc_names.declared.label.Label.{Label}
 use Rattle.mlc_base.specs.declared.place.Place.{Place}
-use Rattle.mlc_runs.specs.Run.{World, Cut, out_of_turns, went_wrong, Answer, gives, raises, stops, start, then_do, or_handle, or_fail, fail, turn_from, writes, outcome_of}
-use Rattle.mlc_prims.specs.LitOf.{Literal, string}
-use Rattle.mlc_prims.specs.PrimOf.{Gives, made, raised}
-use Rattle.mlc_prims.specs.declared.basis.BasisPrimitive.{BasisPrimitive}
+use Rattle.ir_values.specs.of_mlc_runs.Run.{World, Cut, out_of_turns, went_wrong, Answer, gives, raises, stops, start, then_do, or_handle, or_fail, fail, turn_from, writes, outcome_of}
+use Rattle.ir_values.specs.of_mlc_prims.LitOf.{Literal, string}
+use Rattle.ir_values.specs.of_mlc_prims.PrimOf.{Gives, made, raised}
+use Rattle.ir_values.specs.of_mlc_prims.declared.basis.BasisPrimitive.{BasisPrimitive}
 use Rattle.ir_values.specs.Tags.{Tagging}
 use Rattle.ir_values.specs.Values.{Value, record_of, con, exn, ref, cell, primitive, closure, empty, bind, field_in, address_in, packet_name}
 use Rattle.ir_values.specs.Equality.{same_at}

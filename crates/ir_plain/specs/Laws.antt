@@ -1,6 +1,6 @@
 -- What is claimed of the tree of every kind.
 use Rattle.std.specs.Prelude.{◌≡◌, ℕ, ◌≤◌, true, List, []}
-use Rattle.mlc_runs.specs.Run.{World, gives, fail}
+use Rattle.ir_values.specs.of_mlc_runs.Run.{World, gives, fail}
 use Rattle.ir_plain.specs.Kind.{Kind}
 use Rattle.ir_plain.specs.Tree.{Exp, is_value, Op, is_value_op}
 use Rattle.ir_plain.specs.Meaning.{V, Scope, Apply, eval, eval_op, run_at, run}

@@ -1,8 +1,8 @@
 -- What a program does. Types are ignored, but for what values keep of them.
 use Rattle.std.specs.Prelude.{ℕ, zero, suc, List, [], ◌∷◌, Option, Some, None, option_and_then, slice_get, if◌then◌else◌}
-use Rattle.mlc_runs.specs.Outcome.{Outcome}
-use Rattle.mlc_runs.specs.Run.{World, Answer, gives, raises, stops, out_of_turns, start, then_do, or_handle, or_fail, fail, dereference, new_exception, outcome_of}
-use Rattle.mlc_names.specs.declared.label.Label.{Label}
+use Rattle.ir_values.specs.of_mlc_runs.Outcome.{Outcome}
+use Rattle.ir_values.specs.of_mlc_runs.Run.{World, Answer, gives, raises, stops, out_of_turns, start, then_do, or_handle, or_fail, fail, dereference, new_exception, outcome_of}
+use Rattle.ir_values.specs.of_mlc_names.declared.label.Label.{Label}
 use Rattle.mlc_base.specs.declared.place.Place.{Place}
 use Rattle.ir_values.specs.Values.{Value, con, con_of, exn, exn_of, ref, primitive, record_of, closure, Fields, no_fields, field, Env, empty, bind, look_by, field_in, address_in, packet_name, value_of}
 use Rattle.ir_values.specs.Match.{Matched, matches, after_match, against_literal, against_con, under_con, against_exn, under_exn, under_record}

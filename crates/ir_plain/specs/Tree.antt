@@ -1,9 +1,9 @@
 -- The tree in which evaluation order is plain: operands are variables, and each step binds its result. Binders, and nodes that make or take apart, have types.
 use Rattle.std.specs.Prelude.{ℕ, Bool, true, false, ◌&&◌, Option}
-use Rattle.mlc_names.specs.declared.label.Label.{Label}
+use Rattle.ir_values.specs.of_mlc_names.declared.label.Label.{Label}
 use Rattle.mlc_base.specs.declared.place.Place.{Place}
-use Rattle.mlc_prims.specs.LitOf.{Literal}
-use Rattle.mlc_prims.specs.declared.basis.BasisPrimitive.{BasisPrimitive}
+use Rattle.ir_values.specs.of_mlc_prims.LitOf.{Literal}
+use Rattle.ir_values.specs.of_mlc_prims.declared.basis.BasisPrimitive.{BasisPrimitive}
 use Rattle.ir_plain.specs.Kind.{Kind}
 
 module _ (F : Kind) where

@@ -1,3 +1,5 @@
+pub use Rattle.ty_basis.proofs.of_mlc_prims as of_mlc_prims
+pub use Rattle.label_rows.proofs.of_mlc_names as of_mlc_names
 pub use Rattle.ir_plain.proofs as of_ir_plain
 pub use Rattle.ir_plain.proofs.of_ir_values as of_ir_values
 pub mod ProgExamples

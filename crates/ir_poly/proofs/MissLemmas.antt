@@ -2,8 +2,8 @@
 use Rattle.std.proofs.Common.{◌≡◌, false, List, Option, Some, refl, ap}
 use mathlib.Core.Path.{fun_ext}
 use Rattle.ir_plain.specs.of_mlc_runs.Run.{World, Answer, gives, raises, stops, then_do}
-use Rattle.ty_core.specs.Types.{Typ}
-use Rattle.ty_core.specs.declared.scheme.Quantified.{Quantified}
+use Rattle.ty_basis.specs.of_ty_core.Types.{Typ}
+use Rattle.ty_basis.specs.of_ty_core.declared.scheme.Quantified.{Quantified}
 use Rattle.ir_plain.specs.of_ir_values.Values.{exn, bind}
 use Rattle.ir_plain.specs.Tree.{Exp}
 use Rattle.ir_plain.specs.Meaning.{V, Scope, Apply, Go, members, on_name, exception_of, eval, eval_op}

@@ -6,9 +6,9 @@ use Rattle.ir_plain.specs.of_mlc_names.declared.label.Label.TheVariants.{Number}
 use Rattle.mlc_base.specs.declared.place.Place.{Place}
 use Rattle.ir_plain.specs.of_mlc_prims.LitOf.{int, string}
 use Rattle.ir_plain.specs.of_mlc_prims.declared.basis.BasisPrimitive.TheVariants.{Divide, Equals, Assign, Print}
-use Rattle.ty_core.specs.Types.{Typ, con, none, labels}
-use Rattle.ty_core.specs.declared.name.TyName.{TyName}
-use Rattle.ty_core.specs.declared.name.Equality.TheVariants.{Always}
+use Rattle.ty_basis.specs.of_ty_core.Types.{Typ, con, none, labels}
+use Rattle.ty_basis.specs.of_ty_core.declared.name.TyName.{TyName}
+use Rattle.ty_basis.specs.of_ty_core.declared.name.Equality.TheVariants.{Always}
 use Rattle.ir_plain.specs.of_ir_values.Values.{literal, record_of, field, empty, true_number, false_number}
 use Rattle.ir_plain.specs.of_ir_values.Values as values
 use Rattle.ir_poly.specs.Prog.{fixed, held, Pat, any_pat, variable_pat, constant_pat, con_pat, con_of_pat, ref_of_pat, exn_pat, exn_of_pat, fields_pat, as_pat, no_pats, a_pat, Exp, constant_exp, variable_exp, own_exp, con_exp, ref_exp, exn_exp, prim_exp, fields_exp, let_exp, app_exp, case_exp, chain_exp, handle_exp, raise_exp, fn_exp, counted_exp, no_fields, a_field, only, link, Rules, no_rules, a_rule, last, by_rules, more, Decs, no_decs, val_dec, exception_dec, counted_dec, no_binds, a_bind, no_funs, a_fun}

@@ -1,9 +1,9 @@
 -- What a checker accepts of a program with source matches is typed whatever its parameters stand for.
 use Rattle.std.proofs.Common.{◌≡◌, ℕ, true, List, [], ◌∷◌, ◌++◌, Option, refl, sym, ap, subst, ◌∙◌}
 use Rattle.ir_plain.specs.of_mlc_names.declared.label.Label.{Label}
-use Rattle.ty_core.specs.Types.{Typ, con, name, typs_of}
-use Rattle.ty_core.specs.Statics.{replace}
-use Rattle.ty_core.specs.declared.scheme.Quantified.{Quantified}
+use Rattle.ty_basis.specs.of_ty_core.Types.{Typ, con, name, typs_of}
+use Rattle.ty_basis.specs.of_ty_core.Statics.{replace}
+use Rattle.ty_basis.specs.of_ty_core.declared.scheme.Quantified.{Quantified}
 use Rattle.ir_plain.specs.of_ir_values.Values.{same_label}
 use Rattle.ir_poly.specs.Prog.{Exc, Pat, PatFields, Exp, type_of, Fields, Chain, Rules, Fun, Decs, Binds, Funs}
 use Rattle.ir_poly.specs.ProgMeaning.{size_of}

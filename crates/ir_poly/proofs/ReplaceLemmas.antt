@@ -5,14 +5,14 @@ use Rattle.std.specs.Map.{lookup}
 use Rattle.ir_plain.specs.of_mlc_names.declared.label.Label.{Label}
 use Rattle.ir_plain.specs.of_mlc_names.declared.label.Label.TheVariants.{Number}
 use Rattle.ir_plain.specs.of_mlc_prims.declared.basis.BasisPrimitive.{BasisPrimitive}
-use Rattle.ty_core.specs.Types.{Typ, var, con, Typs, none, more, typs_of, admits, all_admit, attribute, allowed, no_variable}
-use Rattle.ty_core.specs.Marks.{Allows}
-use Rattle.ty_core.specs.Statics.{replace, replace_all}
-use Rattle.ty_core.specs.declared.mark.Mark.{Mark}
-use Rattle.ty_core.specs.declared.mark.Mark.TheVariants.{Any, Equality, Class}
-use Rattle.ty_core.specs.declared.name.Equality as Eq
-use Rattle.ty_core.specs.declared.name.Equality.TheVariants.{Always, ByArguments, Never}
-use Rattle.ty_core.specs.declared.scheme.Quantified.{Quantified}
+use Rattle.ty_basis.specs.of_ty_core.Types.{Typ, var, con, Typs, none, more, typs_of, admits, all_admit, attribute, allowed, no_variable}
+use Rattle.ty_basis.specs.of_ty_core.Marks.{Allows}
+use Rattle.ty_basis.specs.of_ty_core.Statics.{replace, replace_all}
+use Rattle.ty_basis.specs.of_ty_core.declared.mark.Mark.{Mark}
+use Rattle.ty_basis.specs.of_ty_core.declared.mark.Mark.TheVariants.{Any, Equality, Class}
+use Rattle.ty_basis.specs.of_ty_core.declared.name.Equality as Eq
+use Rattle.ty_basis.specs.of_ty_core.declared.name.Equality.TheVariants.{Always, ByArguments, Never}
+use Rattle.ty_basis.specs.of_ty_core.declared.scheme.Quantified.{Quantified}
 use Rattle.label_rows.proofs.Mapped.{sorted-map}
 use Rattle.ir_poly.specs.Types.{row_type, sorted, in_scope, is_equality, is_declarable, admits_in, over, all_over, are_new, changed, AreAllowed, nth_type, argument_at, put, prim_type, arguments_at, result_at, numbered, tuple_type}
 use Rattle.ir_poly.specs.TestsTyped.{option_read}

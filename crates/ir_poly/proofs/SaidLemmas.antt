@@ -1,7 +1,7 @@
 -- The type of an expression is the one that it has written.
 use Rattle.std.proofs.Common.{◌≡◌, refl}
-use Rattle.ty_core.specs.Types.{Typ}
-use Rattle.ty_core.specs.declared.scheme.Quantified.{Quantified}
+use Rattle.ty_basis.specs.of_ty_core.Types.{Typ}
+use Rattle.ty_basis.specs.of_ty_core.declared.scheme.Quantified.{Quantified}
 use Rattle.std.specs.Prelude.{List}
 use Rattle.ir_poly.specs.Prog.{Exp, type_of}
 use Rattle.ir_poly.specs.ProgChecked.{Checked, c_constant, c_variable, c_variable_one, c_own, c_con, c_ref, c_exn, c_prim, c_fields, c_let, c_app, c_case, c_chain, c_handle, c_raise, c_fn, c_counted}

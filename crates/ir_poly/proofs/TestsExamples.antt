@@ -4,9 +4,9 @@ use Rattle.ir_plain.specs.of_mlc_runs.Outcome.{ended, going}
 use Rattle.mlc_base.specs.declared.place.Place.{Place}
 use Rattle.ir_plain.specs.of_mlc_prims.LitOf.{int, string}
 use Rattle.ir_plain.specs.of_mlc_prims.declared.basis.BasisPrimitive.TheVariants.{Equals, Print}
-use Rattle.ty_core.specs.Types.{Typ, var}
-use Rattle.ty_core.specs.declared.mark.Mark.TheVariants.{Any}
-use Rattle.ty_core.specs.declared.scheme.Quantified.{Quantified}
+use Rattle.ty_basis.specs.of_ty_core.Types.{Typ, var}
+use Rattle.ty_basis.specs.of_ty_core.declared.mark.Mark.TheVariants.{Any}
+use Rattle.ty_basis.specs.of_ty_core.declared.scheme.Quantified.{Quantified}
 use Rattle.ir_plain.specs.Once.{IsOnce}
 use Rattle.ir_plain.specs.Tree.{is_literal, fixed, Atoms, no_atoms, an_atom, ret, let_in, name_in, switch, first, miss, no_arms, arm, Op, use_of, const, prim, app, fn, block, handle, raise_initial, last}
 use Rattle.ir_poly.specs.Tests.{Use, inst, poly, Tests, run}

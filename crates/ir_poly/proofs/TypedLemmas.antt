@@ -2,9 +2,9 @@
 use Rattle.std.proofs.Common.{◌≡◌, ℕ, Bool, true, false, List, [], ◌∷◌, ◌++◌, map, Option, Some, None, nat_eq, if◌then◌else◌, refl, ap, subst, ◌∙◌}
 use Rattle.ir_plain.specs.of_mlc_names.declared.label.Label.{Label}
 use Rattle.ir_plain.specs.of_mlc_prims.LitOf.{Literal}
-use Rattle.ty_core.specs.Types.{Typ, var, con, name}
-use Rattle.ty_core.specs.Statics.{replace}
-use Rattle.ty_core.specs.declared.scheme.Quantified.{Quantified}
+use Rattle.ty_basis.specs.of_ty_core.Types.{Typ, var, con, name}
+use Rattle.ty_basis.specs.of_ty_core.Statics.{replace}
+use Rattle.ty_basis.specs.of_ty_core.declared.scheme.Quantified.{Quantified}
 use Rattle.ir_plain.specs.of_ir_values.Values.{same_label}
 use Rattle.ir_plain.specs.Tree.{Case, Exception, Atoms, Row, Exp, Arms, Op, Fun, Funs}
 use Rattle.ir_poly.specs.Tests.{Use, poly}

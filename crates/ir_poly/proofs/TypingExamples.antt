@@ -6,10 +6,10 @@ use Rattle.ir_plain.specs.of_mlc_names.declared.label.Label.TheVariants.{Number}
 use Rattle.mlc_base.specs.declared.place.Place.{Place}
 use Rattle.ir_plain.specs.of_mlc_prims.LitOf.{int, string}
 use Rattle.ir_plain.specs.of_mlc_prims.declared.basis.BasisPrimitive.TheVariants.{Add, Equals}
-use Rattle.ty_core.specs.Types.{Typ, con, var, none, more, name}
-use Rattle.ty_core.specs.declared.mark.Mark.TheVariants.{Any, Class}
-use Rattle.ty_core.specs.declared.name.Equality.TheVariants.{Always}
-use Rattle.ty_core.specs.declared.scheme.Quantified.{Quantified}
+use Rattle.ty_basis.specs.of_ty_core.Types.{Typ, con, var, none, more, name}
+use Rattle.ty_basis.specs.of_ty_core.declared.mark.Mark.TheVariants.{Any, Class}
+use Rattle.ty_basis.specs.of_ty_core.declared.name.Equality.TheVariants.{Always}
+use Rattle.ty_basis.specs.of_ty_core.declared.scheme.Quantified.{Quantified}
 use Rattle.ir_poly.specs.Prog.{fixed, held, any_pat, variable_pat, con_pat, con_of_pat, exn_pat, exn_of_pat, fields_pat, no_pats, a_pat, Exp, constant_exp, variable_exp, own_exp, con_exp, ref_exp, exn_exp, prim_exp, fields_exp, let_exp, app_exp, case_exp, chain_exp, handle_exp, raise_exp, fn_exp, no_fields, a_field, only, link, no_rules, a_rule, last, more, Decs, no_decs, val_dec, exception_dec, no_binds, a_bind, no_funs, a_fun}
 use Rattle.ir_poly.specs.ProgOnce.{IsOnce}
 use Rattle.ir_poly.specs.ProgChecked.{fixed_checked, held_checked, PatChecked, any_checked, variable_checked, con_checked, con_of_checked, exn_checked, exn_of_checked, fields_checked, no_pats_checked, a_pat_checked, Checked, c_constant, c_variable, c_variable_one, c_own, c_con, c_exn, c_prim, c_fields, c_let, c_app, c_case, c_chain, c_handle, c_raise, c_fn, c_no_fields, c_field, c_only, c_link, c_no_rules, c_rule, c_last, DecsChecked, c_no_decs, c_val, c_exception, c_no_binds, c_general, c_plain, c_no_funs, c_fun}

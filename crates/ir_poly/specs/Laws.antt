@@ -1,9 +1,9 @@
 -- What is claimed of the two shapes.
 use Rattle.std.specs.Prelude.{◌≡◌, ℕ, Bool, true, false, List, []}
 use Rattle.ir_plain.specs.of_mlc_runs.Run.{World}
-use Rattle.ty_core.specs.Types.{Typ, admits, no_variable}
-use Rattle.ty_core.specs.Statics.{replace}
-use Rattle.ty_core.specs.declared.scheme.Quantified.{Quantified}
+use Rattle.ty_basis.specs.of_ty_core.Types.{Typ, admits, no_variable}
+use Rattle.ty_basis.specs.of_ty_core.Statics.{replace}
+use Rattle.ty_basis.specs.of_ty_core.declared.scheme.Quantified.{Quantified}
 use Rattle.ir_plain.specs.Tree.{Exp, Op}
 use Rattle.ir_plain.specs.Meaning.{V, Scope, Apply, Go, eval}
 use Rattle.ir_poly.specs.Prog as tree

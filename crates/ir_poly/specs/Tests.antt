@@ -1,8 +1,8 @@
 -- Tests: the plain-order tree with explicit instances. A use is a variable at the types of its parameters; values keep nothing of types.
 use Rattle.std.specs.Prelude.{ℕ, Bool, nat_eq, List}
 use Rattle.ir_plain.specs.of_mlc_runs.Outcome.{Outcome}
-use Rattle.ty_core.specs.Types.{Typ}
-use Rattle.ty_core.specs.declared.scheme.Quantified.{Quantified}
+use Rattle.ty_basis.specs.of_ty_core.Types.{Typ}
+use Rattle.ty_basis.specs.of_ty_core.declared.scheme.Quantified.{Quantified}
 use Rattle.ir_plain.specs.of_ir_values.Tags.{untagged}
 use Rattle.ir_plain.specs.Kind.{Kind}
 use Rattle.ir_plain.specs.Tree.{Exp}

@@ -6,11 +6,11 @@ use Rattle.ir_plain.specs.of_mlc_names.declared.label.Label.{Label}
 use Rattle.mlc_base.specs.declared.place.Place.{Place}
 use Rattle.ir_plain.specs.of_mlc_prims.LitOf.{Literal, int, word, char, string}
 use Rattle.ir_plain.specs.of_mlc_prims.declared.basis.BasisPrimitive.{BasisPrimitive}
-use Rattle.ty_core.specs.Types.{Typ, name, var, con, typs_of}
-use Rattle.ty_core.specs.Marks.{Allows}
-use Rattle.ty_core.specs.Statics.{replace}
-use Rattle.ty_core.specs.declared.name.TyName.{TyName}
-use Rattle.ty_core.specs.declared.scheme.Quantified.{Quantified}
+use Rattle.ty_basis.specs.of_ty_core.Types.{Typ, name, var, con, typs_of}
+use Rattle.ty_basis.specs.of_ty_core.Marks.{Allows}
+use Rattle.ty_basis.specs.of_ty_core.Statics.{replace}
+use Rattle.ty_basis.specs.of_ty_core.declared.name.TyName.{TyName}
+use Rattle.ty_basis.specs.of_ty_core.declared.scheme.Quantified.{Quantified}
 use Rattle.ir_plain.specs.Tree.{Case, is_literal, is_con, is_con_of, is_exn, is_exn_of, is_record, Exception, fixed, held, Atoms, no_atoms, an_atom, Row, no_row, a_row, Exp, ret, let_in, exception_in, name_in, rec_in, switch, first, miss, counted, Arms, no_arms, arm, Op, use_of, const, con_alone, construct, ref_alone, refer, content, pack, make_record, select, prim_alone, prim, app, fn, block, handle, raise, raise_initial, Fun, last, more, Funs, no_funs, fun, is_value_op}
 use Rattle.ir_plain.specs.of_ir_values.Values.{same_label}
 use Rattle.ir_poly.specs.Tests.{Use, inst, poly}

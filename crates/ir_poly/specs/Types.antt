@@ -3,14 +3,14 @@
 use Rattle.std.specs.Prelude.{◌≡◌, ℕ, zero, suc, Bool, true, false, not, ◌&&◌, ◌||◌, List, [], ◌∷◌, map, Option, Some, None, nat_eq, nat_lt, if◌then◌else◌, ⊤}
 use Rattle.ir_plain.specs.of_mlc_names.declared.label.Label.{Label}
 use Rattle.ir_plain.specs.of_mlc_prims.declared.basis.BasisPrimitive.{BasisPrimitive}
-use Rattle.ty_core.specs.Types.{Typ, var, con, Typs, none, more, admits}
-use Rattle.ty_core.specs.Marks.{Allows}
-use Rattle.ty_core.specs.Statics.{replace}
-use Rattle.ty_core.specs.declared.mark.Mark.{Mark}
-use Rattle.ty_core.specs.declared.mark.Mark.TheVariants.{Any, Equality, Class}
-use Rattle.ty_core.specs.declared.name.TyName.{TyName}
-use Rattle.ty_core.specs.declared.name.Equality.TheVariants.{Always, ByArguments}
-use Rattle.ty_core.specs.declared.scheme.Quantified.{Quantified}
+use Rattle.ty_basis.specs.of_ty_core.Types.{Typ, var, con, Typs, none, more, admits}
+use Rattle.ty_basis.specs.of_ty_core.Marks.{Allows}
+use Rattle.ty_basis.specs.of_ty_core.Statics.{replace}
+use Rattle.ty_basis.specs.of_ty_core.declared.mark.Mark.{Mark}
+use Rattle.ty_basis.specs.of_ty_core.declared.mark.Mark.TheVariants.{Any, Equality, Class}
+use Rattle.ty_basis.specs.of_ty_core.declared.name.TyName.{TyName}
+use Rattle.ty_basis.specs.of_ty_core.declared.name.Equality.TheVariants.{Always, ByArguments}
+use Rattle.ty_basis.specs.of_ty_core.declared.scheme.Quantified.{Quantified}
 use Rattle.ir_plain.specs.of_ir_values.Values.{true_number, false_number, nil_number, cons_number}
 use Rattle.label_rows.specs.Order.{sorted_by}
 pub use Rattle.label_rows.specs.Order.{label_before}

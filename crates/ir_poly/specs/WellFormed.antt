@@ -2,7 +2,7 @@
 use Rattle.std.specs.Prelude.{◌≡◌, ℕ, false, List, [], ◌++◌, length}
 use Rattle.std.specs.List.{AllByRecursion}
 use Rattle.ir_plain.specs.of_mlc_runs.Outcome.{Outcome}
-use Rattle.ty_core.specs.Types.{Typ}
+use Rattle.ty_basis.specs.of_ty_core.Types.{Typ}
 use Rattle.ir_plain.specs.Once as plain
 use Rattle.ir_plain.specs.Scoped.{IsLocal}
 use Rattle.ir_poly.specs.Prog.{Decs}

@@ -13,14 +13,14 @@ ghost use Rattle.ir_prog.specs.Programs.{body_in, prog_of, IsWellFormed};
 use crate::program::Program;
 use initial_names::are_initial;
 use ir_known::ask::is_named;
-use ir_uses::table::is_table;
 use mlc_base::memory::NoMemory;
 use mlc_names::names::Name;
 use mlc_runs::pass::{Check, Form};
 use prog_exps::exps::check_decs;
+use prog_exps::ir_uses::table::is_table;
+use prog_exps::record_order::facts::Facts;
 use prog_known::answers::both;
 use prog_known::environment::Environment;
-use record_order::facts::Facts;
 use std::alloc::Global;
 use ty_core::name::TyName;
 

@@ -1,7 +1,7 @@
 -- Small programs, by computation: what no pass makes yet.
 use Rattle.std.proofs.Common.{◌≡◌, ℕ, [], ◌∷◌, refl}
 use Rattle.std.specs.Prelude.{pos}
-use Rattle.mlc_runs.specs.Outcome.{ended, wrong, going}
+use Rattle.first_values.specs.of_mlc_runs.Outcome.{ended, wrong, going}
 use Rattle.mlc_base.specs.declared.place.Place.{Place}
 use Rattle.mlc_prims.specs.declared.basis.BasisPrimitive.TheVariants.{Subtract}
 use Rattle.first_values.specs.Operations.{Tables, an_int, a_text, ints, constant, print, is}

@@ -2,7 +2,7 @@
 use Rattle.std.proofs.Common.{◌≡◌, ℕ, zero, suc, ◌≤◌, Bool, true, false, if◌then◌else◌, List, [], ◌∷◌, ◌++◌, length, Option, Some, None, nat_eq, nat_lt, slice_get, refl, ap, arith}
 use Rattle.std.specs.Prelude.{get_or, slice_set}
 use Rattle.mlc_base.specs.declared.place.Place.{Place}
-use Rattle.mlc_runs.specs.Run.{World, Cut, out_of_turns, went_wrong, gives, raises, stops, or_fail, turn_from, writes, outcome_of}
+use Rattle.first_values.specs.of_mlc_runs.Run.{World, Cut, out_of_turns, went_wrong, gives, raises, stops, or_fail, turn_from, writes, outcome_of}
 use Rattle.mlc_prims.specs.LitOf.{int, word, char, string, truth}
 use Rattle.mlc_prims.specs.PrimOf.{Gives, made, raised}
 use Rattle.first_values.specs.Values.{Value, literal, cell, reference, name, packet, values_of, Env, Run, bind, look_up, look_all, bind_all, gather, identifier_of, tag_of, at}

@@ -1,7 +1,7 @@
 -- What a program does.
 use Rattle.std.specs.Prelude.{ℕ, zero, suc, List, [], ◌∷◌, Option, Some, None, nat_eq, if◌then◌else◌, slice_get}
-use Rattle.mlc_runs.specs.Outcome.{Outcome}
-use Rattle.mlc_runs.specs.Run.{World, gives, raises, stops, out_of_turns, start, fail, or_fail, take_turn, outcome_of}
+use Rattle.first_values.specs.of_mlc_runs.Outcome.{Outcome}
+use Rattle.first_values.specs.of_mlc_runs.Run.{World, gives, raises, stops, out_of_turns, start, fail, or_fail, take_turn, outcome_of}
 use Rattle.mlc_base.specs.declared.place.Place.{Place}
 use Rattle.first_values.specs.Values.{Value, cell, values_of, Env, Run, bind, look_up, look_all, bind_all, gather, identifier_of, tag_of}
 use Rattle.first_values.specs.Operations.{Tables, perform, attempted, either_way, decide, called, raised_from}

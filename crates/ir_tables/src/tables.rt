@@ -5,8 +5,8 @@ ghost use Rattle.ir_tables.specs.Tables.{initial_of, constructors_of, parameters
 use crate::constructors::Constructors;
 use ir_poly::ty_core::scheme::Quantified;
 use mlc_base::memory::NoMemory;
-use mlc_names::names::Name;
 use std::alloc::Global;
+use ty_table::mlc_names::names::Name;
 use ty_table::types::Types;
 
 /// A constant. A string is that of its number in the tables.

@@ -1,2 +1,3 @@
+pub use Rattle.tests_check.specs as of_tests_check
 pub mod Laws
 pub mod Programs

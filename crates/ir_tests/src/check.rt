@@ -11,12 +11,12 @@ use initial_names::are_initial;
 use ir_known::ask::is_named;
 use ir_known::scope::Scope;
 use ir_known::stack::Stack;
-use ir_uses::table::is_table;
 use mlc_base::memory::NoMemory;
 use mlc_runs::pass::{Check, Form};
-use record_order::facts::Facts;
 use std::alloc::Global;
 use tests_check::infer::exp_type;
+use tests_check::ir_uses::table::is_table;
+use tests_check::record_order::facts::Facts;
 use ty_core::mark::Mark;
 use ty_core::name::TyName;
 

@@ -3,7 +3,7 @@ use Rattle.std.proofs.Common.{◌≡◌, ℕ, Bool, true, false, ◌&&◌, List,
 use Rattle.std.specs.Option.{option_map}
 use Rattle.ty_core.specs.Types.{Typ, var}
 use Rattle.ty_core.specs.declared.name.TyName.{TyName}
-use Rattle.ir_values.specs.Values.{true_number, false_number, nil_number, cons_number}
+use Rattle.prog_check.specs.of_ir_values.Values.{true_number, false_number, nil_number, cons_number}
 use Rattle.ir_known.specs.of_ir_poly.Types.{Constructor, constructor_of, initial_constructors, find, bool_name, list_name, list_type, pair_type}
 use Rattle.ir_uses.specs.Rows.{kind_of}
 

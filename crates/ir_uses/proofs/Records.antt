@@ -7,7 +7,7 @@ use Rattle.std.specs.Map.{lookup}
 use Rattle.mlc_names.specs.declared.label.Label.{Label}
 use Rattle.ty_core.specs.Types.{Symbol, arrow, labels, name, Typ, var, con, Typs, typs_of}
 use Rattle.ty_table.specs.TypeAt.{type_at, types_at}
-use Rattle.ir_values.specs.Values.{same_label}
+use Rattle.prog_check.specs.of_ir_values.Values.{same_label}
 use Rattle.ir_known.specs.of_ir_poly.Types.{ascend, label_before, labels_in, row_type}
 use Rattle.ir_known.specs.of_ir_poly.TestsChecked.{is_size}
 use Rattle.prog_check.specs.Deciding.{joined, in_front, row_in}

@@ -4,7 +4,7 @@ use Rattle.std.specs.Map.{lookup}
 use Rattle.mlc_names.specs.declared.label.Label.{Label}
 use Rattle.ty_core.specs.Types.{Typ}
 use Rattle.ty_table.specs.TypeAt.{type_at}
-use Rattle.ir_values.specs.Values.{same_label}
+use Rattle.prog_check.specs.of_ir_values.Values.{same_label}
 use Rattle.ir_known.specs.of_ir_poly.Types.{row_type}
 use Rattle.ir_known.specs.of_ir_poly.TestsChecked.{is_size}
 

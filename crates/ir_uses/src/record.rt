@@ -5,7 +5,7 @@ ghost use Rattle.std.specs.Map.{lookup};
 ghost use Rattle.mlc_names.specs.declared.label.Label.{Label};
 ghost use Rattle.ty_core.specs.Types.{Typ};
 ghost use Rattle.ty_table.specs.TypeAt.{type_at};
-ghost use Rattle.ir_values.specs.Values.{same_label};
+ghost use Rattle.prog_check.specs.of_ir_values.Values.{same_label};
 ghost use Rattle.ir_known.specs.of_ir_poly.Types.{ascend, label_before, labels_in, row_type};
 ghost use Rattle.ir_known.specs.of_ir_poly.TestsChecked.{is_size};
 ghost use Rattle.prog_check.specs.Deciding.{row_in};

@@ -1,7 +1,7 @@
 -- Related values are equal to others where those that they are related to are.
 use Rattle.std.proofs.Common.{◌≡◌, ℕ, suc, Bool, true, false, Option, Some, None, if◌then◌else◌, nat_eq, option_map, option_and_then, refl, ap}
 use Rattle.mlc_runs.specs.Agreement.{BothOrNeither, neither, both}
-use Rattle.mlc_names.specs.declared.label.Label.{Label}
+use Rattle.mlc_runs.specs.of_mlc_names.declared.label.Label.{Label}
 use Rattle.mlc_prims.specs.Table.{literal_eq}
 use Rattle.ir_values.specs.Tags.{Tagging}
 use Rattle.ir_values.specs.Values.{Value, literal, record_of, con, con_of, exn, exn_of, ref, address, cell, primitive, closure, Fields, no_fields, field, same_label, field_in, count, literal_in, address_in, packet_name}

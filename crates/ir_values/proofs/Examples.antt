@@ -2,7 +2,7 @@
 use Rattle.std.proofs.Common.{◌≡◌, ℕ, true, false, [], ◌∷◌, Some, None, nat_eq, pos, refl}
 use Rattle.std.specs.Prelude.{if◌then◌else◌}
 use Rattle.mlc_runs.specs.Run.{World, Answer, gives, raises, stops, went_wrong, out_of_turns, start}
-use Rattle.mlc_names.specs.declared.label.Label.TheVariants.{Number}
+use Rattle.mlc_runs.specs.of_mlc_names.declared.label.Label.TheVariants.{Number}
 use Rattle.mlc_base.specs.declared.place.Place.{Place}
 use Rattle.mlc_prims.specs.LitOf.{int, word, string}
 use Rattle.mlc_prims.specs.declared.basis.BasisPrimitive.TheVariants.{Add, Divide, Less, Equals, Assign, SizeOf, Print}

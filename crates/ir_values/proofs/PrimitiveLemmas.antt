@@ -3,7 +3,7 @@ use Rattle.std.specs.Prelude.{not, ◌||◌}
 use Rattle.std.proofs.Common.{◌≡◌, ℕ, zero, suc, Bool, true, false, List, [], ◌∷◌, Option, Some, None, if◌then◌else◌, option_map, option_and_then, refl, sym, subst}
 use Rattle.mlc_runs.specs.Agreement.{AllRelated, none, more, BothOrNeither, neither, both, SameWorlds, Agree, both_give, both_raise, both_stop}
 use Rattle.mlc_runs.specs.Run.{World, Answer, gives, or_fail, fail}
-use Rattle.mlc_names.specs.declared.label.Label.TheVariants.{Number}
+use Rattle.mlc_runs.specs.of_mlc_names.declared.label.Label.TheVariants.{Number}
 use Rattle.mlc_base.specs.declared.place.Place.{Place}
 use Rattle.mlc_runs.proofs.RunLaws.{take_turn-agree, new_reference-agree, assign-agree, writes-same}
 use Rattle.mlc_prims.specs.LitOf.{Literal, int, word, char, string, truth}

@@ -2,7 +2,7 @@
 use Rattle.std.specs.Prelude.{◌≡◌, ℕ, List, Option}
 use Rattle.mlc_runs.specs.Agreement.{AllRelated, BothOrNeither, SameWorlds, Agree}
 use Rattle.mlc_runs.specs.Run.{World, Answer}
-use Rattle.mlc_names.specs.declared.label.Label.{Label}
+use Rattle.mlc_runs.specs.of_mlc_names.declared.label.Label.{Label}
 use Rattle.mlc_base.specs.declared.place.Place.{Place}
 use Rattle.mlc_prims.specs.LitOf.{Literal}
 use Rattle.mlc_prims.specs.declared.basis.BasisPrimitive.{BasisPrimitive}

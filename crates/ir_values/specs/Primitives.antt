@@ -1,7 +1,7 @@
 -- Primitives, and calls of what is a function: they take a turn. [Definition 6.7, rules 101 to 108, and Appendix D]
 use Rattle.std.specs.Prelude.{ℕ, zero, suc, Bool, true, false, not, ◌||◌, List, [], ◌∷◌, Option, Some, None, option_map, option_and_then, if◌then◌else◌}
 use Rattle.mlc_runs.specs.Run.{World, Answer, gives, raises, or_fail, fail, take_turn, writes, new_reference, assign}
-use Rattle.mlc_names.specs.declared.label.Label.TheVariants.{Number}
+use Rattle.mlc_runs.specs.of_mlc_names.declared.label.Label.TheVariants.{Number}
 use Rattle.mlc_base.specs.declared.place.Place.{Place}
 use Rattle.mlc_prims.specs.LitOf.{Literal, string}
 use Rattle.mlc_prims.specs.PrimOf.{Gives, made, raised}

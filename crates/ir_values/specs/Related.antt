@@ -1,6 +1,6 @@
 -- Values of two programs, kind by kind. A pass says of its relation what it is on functions; all that is done with values agrees then.
 use Rattle.std.specs.Prelude.{ℕ}
-use Rattle.mlc_names.specs.declared.label.Label.{Label}
+use Rattle.mlc_runs.specs.of_mlc_names.declared.label.Label.{Label}
 use Rattle.mlc_prims.specs.LitOf.{Literal}
 use Rattle.mlc_prims.specs.declared.basis.BasisPrimitive.{BasisPrimitive}
 use Rattle.ir_values.specs.Values.{Value, literal, record_of, con, con_of, exn, exn_of, ref, address, cell, primitive, closure, Fields, no_fields, field, Env}

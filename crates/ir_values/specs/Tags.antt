@@ -1,6 +1,6 @@
 -- What values keep of the types that they were made at.
 use Rattle.std.specs.Prelude.{ℕ, Bool, true, Option, Some, ⊤}
-use Rattle.mlc_names.specs.declared.label.Label.{Label}
+use Rattle.mlc_runs.specs.of_mlc_names.declared.label.Label.{Label}
 use Rattle.mlc_prims.specs.LitOf.{Literal}
 
 pub record Tagging : Type 1 where

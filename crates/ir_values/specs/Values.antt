@@ -1,9 +1,9 @@
 -- Values and environments of the inner forms. [Definition 6.2, 6.3] Variables are bound as B, a function keeps C of its code, and what is made keeps a tag T
 -- of its type.
 use Rattle.std.specs.Prelude.{ℕ, suc, Bool, true, false, Option, Some, None, nat_eq, if◌then◌else◌}
-use Rattle.mlc_names.specs.declared.label.Label.{Label}
-use Rattle.mlc_names.specs.declared.label.Label.TheVariants.{Number, Word}
-use Rattle.mlc_names.specs.StandardWords.{word_true, word_false, word_nil, word_cons}
+use Rattle.mlc_runs.specs.of_mlc_names.declared.label.Label.{Label}
+use Rattle.mlc_runs.specs.of_mlc_names.declared.label.Label.TheVariants.{Number, Word}
+use Rattle.mlc_runs.specs.of_mlc_names.StandardWords.{word_true, word_false, word_nil, word_cons}
 use Rattle.mlc_prims.specs.LitOf.{Literal, int, word, char, string, truth}
 use Rattle.mlc_prims.specs.declared.basis.BasisPrimitive.{BasisPrimitive}
 use Rattle.ir_values.specs.Tags.{Tagging}

@@ -1,6 +1,8 @@
 // Fields in the order of their labels.
 #![tactic(auto)]
 
+pub use mlc_names;
+
 pub mod sort;
 #[cfg(test)]
 mod tests;

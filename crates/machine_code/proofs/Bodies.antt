@@ -8,7 +8,7 @@ use Rattle.ir_code.specs.declared.halt.Halt.TheVariants.{NoStack}
 use Rattle.ir_code.specs.Words.{one_if, same_word}
 use Rattle.ir_code.specs.Machine.{State, Goes, act}
 use Rattle.ir_code.specs.Laws.{ControlLaws, MemoryLaws, ArithmeticLaws}
-use Rattle.ir_values.specs.Primitives.{raised_name}
+use Rattle.ir_ssa.specs.of_ir_values.Primitives.{raised_name}
 use Rattle.mlc_runs.specs.Run.{World, gives, stops, out_of_turns, or_fail, turn_from}
 use Rattle.mlc_base.specs.declared.place.Place.{Place}
 use Rattle.mlc_runs.proofs.MoreTurnsLaws.{prefix-refl as prefix_refl, prefix-trans as prefix_trans}

@@ -5,7 +5,7 @@ use Rattle.std.specs.List.{AllByRecursion}
 use Rattle.std.proofs.lemmas.Bool.{and_from}
 use Rattle.std.proofs.lemmas.List.{length-map, map-append}
 use Rattle.ir_code.specs.Machine.{all_bytes}
-use Rattle.ir_values.specs.Primitives.{raised_name}
+use Rattle.ir_ssa.specs.of_ir_values.Primitives.{raised_name}
 use Rattle.mlc_prims.specs.declared.prim.PrimExn.{PrimExn}
 use Rattle.mlc_prims.specs.declared.prim.PrimExn.TheVariants.{Overflow, Div, Subscript, Size, Chr}
 use Rattle.ir_ssa.specs.of_first_values.Values.{packet, unit}

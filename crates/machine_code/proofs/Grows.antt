@@ -6,7 +6,7 @@ use Rattle.mlc_base.specs.declared.place.Place.{Place}
 use Rattle.mlc_runs.proofs.MoreTurnsLaws.{prefix-refl as prefix_refl, prefix-trans as prefix_trans}
 use Rattle.mlc_prims.specs.LitOf.{string}
 use Rattle.mlc_prims.specs.PrimOf.{Gives, made, raised}
-use Rattle.ir_values.specs.Primitives.{raised_name}
+use Rattle.ir_ssa.specs.of_ir_values.Primitives.{raised_name}
 use Rattle.ir_ssa.specs.of_first_values.Values.{Value, literal, cell, reference, name, packet, values_of, value_of, at, Run, Env, unit, bind, look_up, look_all, bind_all, gather, tag_of}
 use Rattle.ir_ssa.specs.of_first_values.Equality.{opaque, equal_at}
 use Rattle.ir_ssa.specs.of_first_values.Operations.{Tables, Plain, same, constant, field, refer, content, assign, exception, initial, pack, argument, compute, equal, print, literal_at, attempted, either_way, perform, decide, called, raised_from, none, one, two, field_from, read, write, print_value, packet_of, argument_of, made_in}

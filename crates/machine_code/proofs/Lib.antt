@@ -1,3 +1,4 @@
+pub use Rattle.ir_ssa.proofs as of_ir_ssa
 pub use Rattle.machine_routines.proofs as of_machine_routines
 pub mod RoutineLaws
 pub mod Kept

@@ -6,7 +6,7 @@ use Rattle.std.proofs.lemmas.Bool.{cases_lt, ltb-true}
 use Rattle.ir_code.specs.declared.instr.Instr.{Instr}
 use Rattle.ir_code.specs.declared.halt.Halt.TheVariants.{NoHeap, NoStack}
 use Rattle.ir_code.specs.Words.{fits_word, word_of, one_if}
-use Rattle.ir_values.specs.Primitives.{raised_name}
+use Rattle.ir_ssa.specs.of_ir_values.Primitives.{raised_name}
 use Rattle.mlc_runs.specs.Run.{World}
 use Rattle.mlc_prims.specs.LitOf.{Literal, int, word, char, string, truth}
 use Rattle.mlc_prims.specs.PrimOf.{Gives, made, raised, fits_int}

@@ -3,7 +3,7 @@ use Rattle.std.specs.Prelude.{ℕ, zero, suc, ◌+◌, ◌*◌, ◌^◌, max, Li
 use Rattle.ir_code.specs.declared.instr.Instr.{Instr}
 use Rattle.ir_code.specs.declared.instr.Instr.TheVariants.{Li, Call as CallRow, End, Ld}
 use Rattle.ir_code.specs.Program as machine
-use Rattle.ir_values.specs.Primitives.{raised_name}
+use Rattle.ir_ssa.specs.of_ir_values.Primitives.{raised_name}
 use Rattle.ir_ssa.specs.of_first_values.Equality.{Shape}
 use Rattle.ir_ssa.specs.of_first_values.Operations.{Member}
 use Rattle.ir_ssa.specs.Tree.{Fun, Program}

@@ -1,3 +1,4 @@
+pub use Rattle.ir_ssa.specs as of_ir_ssa
 pub use Rattle.machine_routines.specs as of_machine_routines
 pub mod Rows
 pub mod Agrees

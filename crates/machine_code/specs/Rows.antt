@@ -4,7 +4,7 @@ use Rattle.ir_code.specs.declared.instr.Instr.{Instr}
 use Rattle.ir_code.specs.declared.instr.Instr.TheVariants.{Li}
 use Rattle.ir_code.specs.Words.{one_if}
 use Rattle.ir_code.specs.Machine.{State}
-use Rattle.ir_values.specs.Primitives.{raised_name}
+use Rattle.ir_ssa.specs.of_ir_values.Primitives.{raised_name}
 use Rattle.mlc_prims.specs.LitOf.{Literal, truth}
 use Rattle.mlc_prims.specs.PrimOf.{Gives, made, raised}
 use Rattle.mlc_prims.specs.declared.basis.BasisPrimitive.{BasisPrimitive}

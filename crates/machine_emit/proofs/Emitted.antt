@@ -11,7 +11,7 @@ use Rattle.ssa_tree.specs.Exceptions.{exceptions}
 use Rattle.ssa_exceptions.specs.Texts.{TextsOfMadeAreEnough}
 use Rattle.machine_code.specs.Image.{constants_of, code_of, text_of}
 use Rattle.machine_rows.specs.Table.{rows}
-use Rattle.image_law.specs.ImageOf.{ImageIsRight, IsImageOf, has, text_in}
+use Rattle.image_size.specs.of_image_law.ImageOf.{ImageIsRight, IsImageOf, has, text_in}
 use Rattle.image_size.specs.Size.{LongMeansLarge, parts, words}
 use Rattle.machine_emit.specs.Contract.{Does, IsTooLong}
 

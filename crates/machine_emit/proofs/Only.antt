@@ -9,7 +9,7 @@ use Rattle.machine_routines.specs.EqualCode.{equal_code, offset_of, place}
 use Rattle.machine_code.specs.Code.{Places}
 use Rattle.machine_code.specs.Image.{text_word, text_words, place_of, text_place, text_of, packet_words, most_code, funs_code, sets_code, set_place, fun_at, funs_at, sets_at, image_of}
 use Rattle.machine_rows.specs.Table.{rows}
-use Rattle.image_law.specs.ImageOf.{IsImageOf}
+use Rattle.image_size.specs.of_image_law.ImageOf.{IsImageOf}
 use Rattle.image_size.specs.Size.{words}
 use Rattle.machine_emit.specs.Contract.{IsTooLong}
 

@@ -11,8 +11,8 @@ use Rattle.machine_code.specs.Code as code
 use Rattle.machine_code.specs.Code.{Scope, Spot, code_at, with_params}
 use Rattle.machine_code.specs.Image.{code_of, fun_at, fun_place, funs_code, most_code, sets_at, sets_code, set_place, places_of as image_places}
 use Rattle.machine_rows.specs.Table.{rows}
-use Rattle.image_law.specs.Assembled.{code_by, funs_from, sets_from}
-use Rattle.image_law.proofs.Assembling.{fun_code, FunsSoFar, funs-next, assembled, before-funs, same-places, code-is}
+use Rattle.image_size.specs.of_image_law.Assembled.{code_by, funs_from, sets_from}
+use Rattle.image_size.proofs.of_image_law.Assembling.{fun_code, FunsSoFar, funs-next, assembled, before-funs, same-places, code-is}
 use Rattle.emit_code.specs.PlacesOf.{places_of}
 use Rattle.emit_code.specs.declared.places.Places.{Places}
 use Rattle.emit_walk.specs.Walk.{Env, Kept}

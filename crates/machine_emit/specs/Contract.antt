@@ -8,7 +8,7 @@ use Rattle.ir_ssa.specs.Meaning.{meaning}
 use Rattle.ir_ssa.specs.WellFormed.{IsWellFormed}
 use Rattle.same_runs.specs.SameRuns.{SameRuns}
 use Rattle.machine_code.specs.Image.{text_of}
-use Rattle.image_law.specs.ImageOf.{IsImageOf}
+use Rattle.image_size.specs.of_image_law.ImageOf.{IsImageOf}
 use Rattle.image_size.specs.Size.{words}
 
 -- of a well formed program that is wrong at no number of turns: the runs of the image do what the program does, in every heap and stack

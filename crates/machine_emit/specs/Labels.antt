@@ -6,7 +6,7 @@ use Rattle.machine_code.specs.Rows.{Rows}
 use Rattle.machine_code.specs.Code.{with_params}
 use Rattle.machine_code.specs.Image.{fun_size}
 use Rattle.machine_rows.specs.Table.{rows}
-use Rattle.image_law.specs.Assembled.{funs_from}
+use Rattle.image_size.specs.of_image_law.Assembled.{funs_from}
 use Rattle.walk_labels.specs.Labels.{Frame, labels}
 
 -- in a function nothing of the frame is in use but for its parameters, and there are no labels around it

@@ -3,7 +3,7 @@
 ghost use Rattle.std.specs.Prelude.{◌≡◌, ◌+◌, ◌*◌, ◌^◌, ◌<◌, ◌≤◌, length, All, IfOk, IfErr};
 ghost use Rattle.ssa_tree.specs.Exceptions.{exceptions};
 ghost use Rattle.ssa_form.specs.Programs.{program_of};
-ghost use Rattle.image_law.specs.ImageOf.{IsImageOf};
+ghost use Rattle.image_size.specs.of_image_law.ImageOf.{IsImageOf};
 ghost use Rattle.image_size.specs.Size.{parts};
 ghost use Rattle.machine_emit.specs.Contract.{Does, IsTooLong};
 ghost use Rattle.machine_emit.specs.declared.refused.EmitRefused.TheVariants.{Memory, TooLong};
@@ -14,7 +14,7 @@ use crate::refused::EmitRefused;
 use emit_known::exceptions::exceptions_of;
 use emit_known::known::known_places;
 use emit_known::texts::texts_of;
-use image_law::law::image_is_right;
+use image_size::image_law::law::image_is_right;
 use image_size::law::images_are_small;
 use ir_code::image::Image;
 use ir_code::instr::Instr;

@@ -1,3 +1,4 @@
+pub use Rattle.machine_code.proofs.of_ir_ssa as of_ir_ssa
 pub use Rattle.machine_code.proofs as of_machine_code
 pub mod Shapes
 pub mod MoreShapes

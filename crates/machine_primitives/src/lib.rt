@@ -2,6 +2,6 @@
 #![tactic(auto)]
 
 pub use machine_code;
-pub use machine_code::machine_routines;
+pub use machine_code::{ir_ssa, machine_routines};
 
 pub mod law;

@@ -5,8 +5,8 @@ use Rattle.mlc_prims.specs.declared.basis.BasisPrimitive.TheVariants.{Add, Subtr
 use Rattle.std.specs.Prelude.{get_or}
 use Rattle.first_values.specs.Equality.{Shape, opaque}
 use Rattle.first_values.specs.Operations.{Member, Plain, same, constant, field, refer, content, assign, exception, initial, pack, argument, compute, equal, print, Test, is, is_of, holds, Operands, ints, words, chars, texts}
-use Rattle.ir_ssa.specs.Tree.{Body, Bodies, Fun, plain, make, attempt, turn, call, label, again, guard, goto, jump, branch, switch, tail, ret, raise, last, arm}
-use Rattle.ir_ssa.specs.Size.{nodes, nodes_bodies, nodes_funs}
+use Rattle.machine_primitives.specs.of_ir_ssa.Tree.{Body, Bodies, Fun, plain, make, attempt, turn, call, label, again, guard, goto, jump, branch, switch, tail, ret, raise, last, arm}
+use Rattle.machine_primitives.specs.of_ir_ssa.Size.{nodes, nodes_bodies, nodes_funs}
 use Rattle.machine_primitives.specs.of_machine_routines.EqualCode.{is_word, equal_code}
 use Rattle.machine_primitives.specs.of_machine_routines.Sizes.{EqualIsShort, FindIsShort}
 use Rattle.machine_primitives.specs.of_machine_code.Rows.{AreRight}

@@ -8,9 +8,9 @@ use Rattle.ir_code.specs.Run.{run_of}
 use Rattle.ir_code.specs.Run as machine
 use Rattle.mlc_prims.specs.declared.basis.BasisPrimitive.TheVariants.{Divide, Less, TextOf, CharAt, PartOf, Concat, StringOf}
 use Rattle.first_values.specs.Operations.{an_int, a_text, ints, chars, texts, constant, compute, print, holds}
-use Rattle.ir_ssa.specs.Tree.{Body, Program, plain, attempt, branch, ret, raise}
-use Rattle.ir_ssa.specs.Meaning.{meaning}
-use Rattle.ir_ssa.specs.WellFormed.{IsWellFormed}
+use Rattle.machine_primitives.specs.of_ir_ssa.Tree.{Body, Program, plain, attempt, branch, ret, raise}
+use Rattle.machine_primitives.specs.of_ir_ssa.Meaning.{meaning}
+use Rattle.machine_primitives.specs.of_ir_ssa.WellFormed.{IsWellFormed}
 use Rattle.same_runs.specs.SameRuns.{SameRuns}
 use Rattle.machine_primitives.specs.of_machine_code.Image.{text_of, image_of}
 use Rattle.machine_primitives.specs.of_machine_code.Law.{IsFit}

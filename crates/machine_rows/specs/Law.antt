@@ -4,10 +4,10 @@ use Rattle.mlc_runs.specs.Outcome.{wrong}
 use Rattle.ir_code.specs.Run.{run_of}
 use Rattle.mlc_prims.specs.declared.basis.BasisPrimitive.{BasisPrimitive}
 use Rattle.first_values.specs.Operations.{Operands}
-use Rattle.ir_ssa.specs.Tree.{Program}
-use Rattle.ir_ssa.specs.Meaning.{meaning}
-use Rattle.ir_ssa.specs.Size.{nodes_funs}
-use Rattle.ir_ssa.specs.WellFormed.{IsWellFormed}
+use Rattle.machine_primitives.specs.of_ir_ssa.Tree.{Program}
+use Rattle.machine_primitives.specs.of_ir_ssa.Meaning.{meaning}
+use Rattle.machine_primitives.specs.of_ir_ssa.Size.{nodes_funs}
+use Rattle.machine_primitives.specs.of_ir_ssa.WellFormed.{IsWellFormed}
 use Rattle.machine_primitives.specs.of_machine_routines.Sizes.{shapes_nodes}
 use Rattle.same_runs.specs.SameRuns.{SameRuns}
 use Rattle.machine_primitives.specs.of_machine_code.Image.{text_of, constants_of, code_of, image_of}

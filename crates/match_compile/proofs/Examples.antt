@@ -10,8 +10,8 @@ use Rattle.ty_core.specs.declared.mark.Mark.TheVariants.{Any}
 use Rattle.ty_core.specs.declared.name.TyName.{TyName}
 use Rattle.ty_core.specs.declared.name.Equality.TheVariants.{Always}
 use Rattle.ty_core.specs.declared.scheme.Quantified.{Quantified}
-use Rattle.ir_values.specs.Values.{false_number, true_number}
-use Rattle.ir_plain.specs.Tree as te
+use Rattle.ir_poly.specs.of_ir_values.Values.{false_number, true_number}
+use Rattle.ir_poly.specs.of_ir_plain.Tree as te
 use Rattle.ir_poly.specs.Prog.{fixed, held, Pat, any_pat, variable_pat, constant_pat, con_pat, con_of_pat, ref_of_pat, exn_pat, exn_of_pat, fields_pat, as_pat, no_pats, a_pat, Exp, constant_exp, variable_exp, own_exp, con_exp, ref_exp, exn_exp, prim_exp, fields_exp, let_exp, app_exp, case_exp, chain_exp, handle_exp, raise_exp, fn_exp, no_fields, a_field, only, link, Rules, no_rules, a_rule, last, by_rules, more, Decs, no_decs, val_dec, exception_dec, no_binds, a_bind, no_funs, a_fun}
 use Rattle.ir_poly.specs.ProgChecked.{variable_checked, any_checked, fields_checked, no_pats_checked, a_pat_checked, c_constant, c_variable, c_variable_one, c_fields, c_app, c_fn, c_no_fields, c_field, c_last, DecsChecked, c_no_decs, c_val, c_no_binds, c_general, c_plain, c_no_funs}
 use Rattle.ir_poly.specs.Tests.{Tests}

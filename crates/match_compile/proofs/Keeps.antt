@@ -14,15 +14,15 @@ use Rattle.mlc_prims.specs.declared.basis.BasisPrimitive.{BasisPrimitive}
 use Rattle.ty_core.specs.Types.{Typ}
 use Rattle.ty_core.specs.declared.scheme.Quantified.{Quantified}
 use Rattle.label_rows.specs.Order.{label_before}
-use Rattle.ir_values.specs.Tags.{untagged}
-use Rattle.ir_values.specs.Values.{record_of, con, con_of, exn, exn_of, ref, primitive, closure, no_fields, field, empty, bind, same_label, field_in, count, packet_name, value_of, truth_number}
-use Rattle.ir_values.specs.Values as values
-use Rattle.ir_values.specs.Match.{matches, no_match, mismatch, after_match, against_con}
-use Rattle.ir_values.specs.Primitives.{packet, perform, make_reference, raise_value, marked, parts, arguments, match_name, bind_name}
-use Rattle.ir_values.proofs.EqualityLemmas.{packet-alike}
-use Rattle.ir_values.proofs.PrimitiveLemmas.{perform-same, reference-same, raise-same, enter-same}
-use Rattle.ir_plain.specs.Tree as te
-use Rattle.ir_plain.specs.Meaning as tgt
+use Rattle.ir_poly.specs.of_ir_values.Tags.{untagged}
+use Rattle.ir_poly.specs.of_ir_values.Values.{record_of, con, con_of, exn, exn_of, ref, primitive, closure, no_fields, field, empty, bind, same_label, field_in, count, packet_name, value_of, truth_number}
+use Rattle.ir_poly.specs.of_ir_values.Values as values
+use Rattle.ir_poly.specs.of_ir_values.Match.{matches, no_match, mismatch, after_match, against_con}
+use Rattle.ir_poly.specs.of_ir_values.Primitives.{packet, perform, make_reference, raise_value, marked, parts, arguments, match_name, bind_name}
+use Rattle.ir_poly.proofs.of_ir_values.EqualityLemmas.{packet-alike}
+use Rattle.ir_poly.proofs.of_ir_values.PrimitiveLemmas.{perform-same, reference-same, raise-same, enter-same}
+use Rattle.ir_poly.specs.of_ir_plain.Tree as te
+use Rattle.ir_poly.specs.of_ir_plain.Meaning as tgt
 use Rattle.ir_poly.specs.Prog.{Exc, Pat, any_pat, variable_pat, constant_pat, con_pat, con_of_pat, ref_of_pat, exn_pat, exn_of_pat, fields_pat, as_pat, Exp, constant_exp, variable_exp, own_exp, con_exp, ref_exp, exn_exp, prim_exp, fields_exp, let_exp, app_exp, case_exp, chain_exp, handle_exp, raise_exp, fn_exp, counted_exp, Fields, a_field, Chain, only, link, Rules, no_rules, a_rule, Fun, last, by_rules, Decs, no_decs, val_dec, exception_dec, counted_dec, Binds, no_binds, a_bind, Funs, no_funs, a_fun, type_of}
 use Rattle.ir_poly.specs.Prog as tree
 use Rattle.ir_poly.specs.ProgMeaning as src

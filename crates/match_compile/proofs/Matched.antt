@@ -10,13 +10,13 @@ use Rattle.mlc_prims.specs.LitOf.{Literal}
 use Rattle.mlc_prims.specs.Table.{literal_eq}
 use Rattle.ty_core.specs.Types.{Typ}
 use Rattle.ty_core.specs.declared.scheme.Quantified.{Quantified}
-use Rattle.ir_values.specs.Tags.{untagged}
-use Rattle.ir_values.specs.Values.{record_of, exn, no_fields, field, bind, field_in, count, literal_in}
-use Rattle.ir_values.specs.Match.{matches, no_match, mismatch, then_match, after_match, where_same, on_found, against_literal, against_con, under_con, against_exn, under_exn, of_size, under_record, under_cell, under_ref}
-use Rattle.ir_values.specs.Primitives.{content_of}
-use Rattle.ir_values.proofs.EqualityLemmas.{literal-alike, field-same, count-same}
-use Rattle.ir_plain.specs.Tree as te
-use Rattle.ir_plain.specs.Meaning as tgt
+use Rattle.ir_poly.specs.of_ir_values.Tags.{untagged}
+use Rattle.ir_poly.specs.of_ir_values.Values.{record_of, exn, no_fields, field, bind, field_in, count, literal_in}
+use Rattle.ir_poly.specs.of_ir_values.Match.{matches, no_match, mismatch, then_match, after_match, where_same, on_found, against_literal, against_con, under_con, against_exn, under_exn, of_size, under_record, under_cell, under_ref}
+use Rattle.ir_poly.specs.of_ir_values.Primitives.{content_of}
+use Rattle.ir_poly.proofs.of_ir_values.EqualityLemmas.{literal-alike, field-same, count-same}
+use Rattle.ir_poly.specs.of_ir_plain.Tree as te
+use Rattle.ir_poly.specs.of_ir_plain.Meaning as tgt
 use Rattle.ir_poly.specs.Prog.{Exc, fixed, held, Pat, any_pat, variable_pat, constant_pat, con_pat, con_of_pat, ref_of_pat, exn_pat, exn_of_pat, fields_pat, as_pat, PatFields, no_pats, a_pat}
 use Rattle.ir_poly.specs.ProgMeaning as src
 use Rattle.ir_poly.specs.Tests.{poly, Tests}

@@ -6,12 +6,12 @@ use Rattle.mlc_base.specs.declared.place.Place.{Place}
 use Rattle.mlc_prims.specs.LitOf.{Literal, string}
 use Rattle.mlc_prims.specs.PrimOf.{Gives, made, raised}
 use Rattle.mlc_prims.specs.declared.basis.BasisPrimitive.{BasisPrimitive}
-use Rattle.ir_values.specs.Tags.{untagged}
-use Rattle.ir_values.specs.Values.{con, exn, ref, primitive, closure, packet_name, address_in, empty, truth_number}
-use Rattle.ir_values.specs.Match.{matches, no_match, mismatch, after_match, against_con}
-use Rattle.ir_values.specs.Equality.{same_at}
-use Rattle.ir_values.specs.Primitives.{Sort, compares, assigns, prints, computes, sort_of, row_at, giving, compare_values, assign_value, print_literals, perform_as, perform, arguments, literals, raise_value, make_reference, packet, match_name, bind_name}
-use Rattle.ir_values.specs.Primitives as call
+use Rattle.ir_poly.specs.of_ir_values.Tags.{untagged}
+use Rattle.ir_poly.specs.of_ir_values.Values.{con, exn, ref, primitive, closure, packet_name, address_in, empty, truth_number}
+use Rattle.ir_poly.specs.of_ir_values.Match.{matches, no_match, mismatch, after_match, against_con}
+use Rattle.ir_poly.specs.of_ir_values.Equality.{same_at}
+use Rattle.ir_poly.specs.of_ir_values.Primitives.{Sort, compares, assigns, prints, computes, sort_of, row_at, giving, compare_values, assign_value, print_literals, perform_as, perform, arguments, literals, raise_value, make_reference, packet, match_name, bind_name}
+use Rattle.ir_poly.specs.of_ir_values.Primitives as call
 use Rattle.ir_poly.specs.Prog.{Exp, constant_exp, variable_exp, own_exp, con_exp, ref_exp, exn_exp, prim_exp, fields_exp, let_exp, app_exp, case_exp, chain_exp, handle_exp, raise_exp, fn_exp, counted_exp, Fields, no_fields, a_field, Chain, only, link, Rules, no_rules, a_rule, Fun, last, by_rules, more, Decs, no_decs, val_dec, exception_dec, counted_dec, Binds, no_binds, a_bind}
 use Rattle.ir_poly.specs.ProgMeaning as src
 

@@ -2,7 +2,7 @@
 use Rattle.std.proofs.Common.{ℕ, Bool, true, false, List, [], ◌++◌, None, Contains, refl, subst, sym}
 use Rattle.std.proofs.lemmas.List.Elements.{All-weaker, All-contains_itself, Contains-append_left}
 use Rattle.mlc_runs.specs.Passes.{initial_exceptions, BringsNone}
-use Rattle.ir_values.specs.Values.{truth_number}
+use Rattle.ir_poly.specs.of_ir_values.Values.{truth_number}
 use Rattle.ir_poly.specs.Prog.{Decs}
 use Rattle.ir_poly.specs.TestsChecked.{HasConstructor}
 use Rattle.ir_poly.specs.Types.{bool_name, Constructor, constructor_of, initial_constructors, unit_type}

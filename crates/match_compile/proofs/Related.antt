@@ -9,10 +9,10 @@ use Rattle.mlc_prims.specs.LitOf.{Literal}
 use Rattle.mlc_prims.specs.declared.basis.BasisPrimitive.{BasisPrimitive}
 use Rattle.ty_core.specs.Types.{Typ}
 use Rattle.ty_core.specs.declared.scheme.Quantified.{Quantified}
-use Rattle.ir_values.specs.Values.{literal, record_of, con, con_of, exn, exn_of, ref, address, cell, primitive, closure, no_fields, field, empty, bind}
-use Rattle.ir_values.specs.Related.{SameFields, same_none, same_more, AreAlike, literals_alike, records_alike, con_alike, con_of_alike, exn_alike, exn_of_alike, ref_alike, address_alike, cell_alike, primitive_alike, AreOfOneKind, alike, functions, IsByKind}
-use Rattle.ir_plain.specs.Tree as te
-use Rattle.ir_plain.specs.Meaning as tgt
+use Rattle.ir_poly.specs.of_ir_values.Values.{literal, record_of, con, con_of, exn, exn_of, ref, address, cell, primitive, closure, no_fields, field, empty, bind}
+use Rattle.ir_poly.specs.of_ir_values.Related.{SameFields, same_none, same_more, AreAlike, literals_alike, records_alike, con_alike, con_of_alike, exn_alike, exn_of_alike, ref_alike, address_alike, cell_alike, primitive_alike, AreOfOneKind, alike, functions, IsByKind}
+use Rattle.ir_poly.specs.of_ir_plain.Tree as te
+use Rattle.ir_poly.specs.of_ir_plain.Meaning as tgt
 use Rattle.ir_poly.specs.Prog.{Fun, Funs, no_funs, a_fun}
 use Rattle.ir_poly.specs.ProgMeaning as src
 use Rattle.ir_poly.specs.Tests.{inst, poly}

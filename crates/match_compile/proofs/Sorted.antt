@@ -4,10 +4,10 @@ use Rattle.std.specs.Prelude.{option_map}
 use Rattle.mlc_names.specs.declared.label.Label.{Label}
 use Rattle.label_rows.specs.Order.{label_before, put_by}
 use Rattle.ty_core.specs.Types.{Typ}
-use Rattle.ir_values.specs.Values.{no_fields, field}
-use Rattle.ir_plain.specs.Tree as te
-use Rattle.ir_plain.specs.Meaning as tgt
-use Rattle.ir_plain.specs.Scoped.{IsAmong, RowScoped, no_row_scoped, a_row_scoped}
+use Rattle.ir_poly.specs.of_ir_values.Values.{no_fields, field}
+use Rattle.ir_poly.specs.of_ir_plain.Tree as te
+use Rattle.ir_poly.specs.of_ir_plain.Meaning as tgt
+use Rattle.ir_poly.specs.of_ir_plain.Scoped.{IsAmong, RowScoped, no_row_scoped, a_row_scoped}
 use Rattle.ir_poly.specs.ProgMeaning as src
 use Rattle.ir_poly.specs.ProgMeaning.{put_part, sorted_parts}
 use Rattle.ir_poly.specs.Tests.{Use, poly}

@@ -8,9 +8,9 @@ use Rattle.ty_core.specs.Types.{Typ, con, name, typs_of}
 use Rattle.ty_core.specs.Marks.{Allows}
 use Rattle.ty_core.specs.declared.scheme.Quantified.{Quantified}
 use Rattle.label_rows.specs.Order.{label_before, put_by}
-use Rattle.ir_values.specs.Values.{same_label, truth_number}
-use Rattle.ir_values.specs.Primitives.{match_name, bind_name}
-use Rattle.ir_plain.specs.Tree as te
+use Rattle.ir_poly.specs.of_ir_values.Values.{same_label, truth_number}
+use Rattle.ir_poly.specs.of_ir_values.Primitives.{match_name, bind_name}
+use Rattle.ir_poly.specs.of_ir_plain.Tree as te
 use Rattle.ir_poly.specs.Prog.{Exc, Pat, any_pat, variable_pat, constant_pat, con_pat, con_of_pat, ref_of_pat, exn_pat, exn_of_pat, fields_pat, as_pat, Exp, constant_exp, variable_exp, own_exp, con_exp, ref_exp, exn_exp, prim_exp, fields_exp, let_exp, app_exp, case_exp, chain_exp, handle_exp, raise_exp, fn_exp, counted_exp, Fields, Chain, Rules, Fun, Decs, Binds, Funs, type_of, is_value}
 use Rattle.ir_poly.specs.ProgChecked as pr
 use Rattle.ir_poly.specs.ProgChecked.{ExcChecked, pat_onto, funs_onto, binds_onto}

@@ -7,9 +7,9 @@ use Rattle.mlc_names.specs.declared.label.Label.{Label}
 use Rattle.mlc_names.specs.declared.label.Label.TheVariants.{Number}
 use Rattle.ty_core.specs.Types.{Typ, var}
 use Rattle.ty_core.specs.declared.scheme.Quantified.{Quantified}
-use Rattle.ir_values.specs.Values.{same_label}
-use Rattle.ir_plain.specs.Tree as te
-use Rattle.ir_plain.specs.Tree.{is_value, is_value_op}
+use Rattle.ir_poly.specs.of_ir_values.Values.{same_label}
+use Rattle.ir_poly.specs.of_ir_plain.Tree as te
+use Rattle.ir_poly.specs.of_ir_plain.Tree.{is_value, is_value_op}
 use Rattle.ir_poly.specs.Prog.{Exc, Pat, PatFields, Fun, Funs, no_funs, a_fun}
 use Rattle.ir_poly.specs.ProgMeaning.{size_of}
 use Rattle.ir_poly.specs.ProgChecked as pr

@@ -11,10 +11,10 @@ use Rattle.ty_core.specs.declared.mark.Mark.{Mark}
 use Rattle.ty_core.specs.declared.mark.Mark.TheVariants.{Any, Equality, Class}
 use Rattle.ty_core.specs.declared.scheme.Quantified.{Quantified}
 use Rattle.label_rows.specs.Order.{label_before}
-use Rattle.ir_values.specs.Values.{same_label, truth_number}
-use Rattle.ir_values.specs.Primitives.{match_name, bind_name}
-use Rattle.ir_plain.specs.Tree as te
-use Rattle.ir_plain.specs.Tree.{is_literal, is_con, is_con_of, is_exn, is_exn_of, is_record, no_atoms, an_atom, no_row, a_row, ret, let_in, exception_in, name_in, rec_in, switch, first, counted, no_arms, arm, use_of, const, con_alone, construct, ref_alone, refer, content, pack, make_record, select, prim_alone, prim, app, fn, block, handle, raise, raise_initial}
+use Rattle.ir_poly.specs.of_ir_values.Values.{same_label, truth_number}
+use Rattle.ir_poly.specs.of_ir_values.Primitives.{match_name, bind_name}
+use Rattle.ir_poly.specs.of_ir_plain.Tree as te
+use Rattle.ir_poly.specs.of_ir_plain.Tree.{is_literal, is_con, is_con_of, is_exn, is_exn_of, is_record, no_atoms, an_atom, no_row, a_row, ret, let_in, exception_in, name_in, rec_in, switch, first, counted, no_arms, arm, use_of, const, con_alone, construct, ref_alone, refer, content, pack, make_record, select, prim_alone, prim, app, fn, block, handle, raise, raise_initial}
 use Rattle.ir_poly.specs.Prog.{Exc, fixed, held, Pat, any_pat, variable_pat, constant_pat, con_pat, con_of_pat, ref_of_pat, exn_pat, exn_of_pat, fields_pat, as_pat, PatFields, no_pats, a_pat, Exp, constant_exp, variable_exp, own_exp, con_exp, ref_exp, exn_exp, prim_exp, fields_exp, let_exp, app_exp, case_exp, chain_exp, handle_exp, raise_exp, fn_exp, counted_exp, Fields, no_fields, a_field, Chain, only, link, Rules, no_rules, a_rule, Fun, last, by_rules, more, Decs, no_decs, val_dec, exception_dec, counted_dec, Binds, no_binds, a_bind, Funs, no_funs, a_fun, type_of}
 use Rattle.ir_poly.specs.ProgMeaning.{size_of}
 use Rattle.ir_poly.specs.ProgChecked.{parameters_if}

@@ -1,8 +1,8 @@
 -- The identifiers of the exceptions that a program makes, in the order of the text, in front of others.
 use Rattle.std.specs.Prelude.{ℕ, List, ◌∷◌}
-use Rattle.ir_plain.specs.Kind.{Kind}
-use Rattle.ir_plain.specs.Tree as te
-use Rattle.ir_plain.specs.Tree.{ret, let_in, exception_in, name_in, rec_in, switch, first, miss, counted, Arms, no_arms, arm, Op, use_of, const, con_alone, construct, ref_alone, refer, content, pack, make_record, select, prim_alone, prim, app, fn, block, handle, raise, raise_initial, fun}
+use Rattle.ir_poly.specs.of_ir_plain.Kind.{Kind}
+use Rattle.ir_poly.specs.of_ir_plain.Tree as te
+use Rattle.ir_poly.specs.of_ir_plain.Tree.{ret, let_in, exception_in, name_in, rec_in, switch, first, miss, counted, Arms, no_arms, arm, Op, use_of, const, con_alone, construct, ref_alone, refer, content, pack, make_record, select, prim_alone, prim, app, fn, block, handle, raise, raise_initial, fun}
 use Rattle.ir_poly.specs.Prog.{Exp, constant_exp, variable_exp, own_exp, con_exp, ref_exp, exn_exp, prim_exp, fields_exp, let_exp, app_exp, case_exp, chain_exp, handle_exp, raise_exp, fn_exp, counted_exp, Fields, no_fields, a_field, Chain, only, link, Rules, no_rules, a_rule, Fun, last, by_rules, more, Decs, no_decs, val_dec, exception_dec, counted_dec, Binds, no_binds, a_bind, Funs, no_funs, a_fun}
 
 abbrev mutual

@@ -1,9 +1,9 @@
 -- What the pass keeps.
 use Rattle.std.specs.Prelude.{◌≡◌, ℕ, false, List, [], ◌++◌}
 use Rattle.mlc_runs.specs.Passes.{BringsNone}
-use Rattle.ir_plain.specs.Once.{IsOnce}
-use Rattle.ir_plain.specs.Scoped.{IsLocal}
-use Rattle.ir_plain.specs.Weight.{weight}
+use Rattle.ir_poly.specs.of_ir_plain.Once.{IsOnce}
+use Rattle.ir_poly.specs.of_ir_plain.Scoped.{IsLocal}
+use Rattle.ir_poly.specs.of_ir_plain.Weight.{weight}
 use Rattle.ir_poly.specs.Prog.{Decs}
 use Rattle.ir_poly.specs.ProgMeaning as prog
 use Rattle.ir_poly.specs.ProgChecked.{DecsChecked}

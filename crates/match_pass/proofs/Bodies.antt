@@ -19,12 +19,12 @@ use Rattle.plain_tree.specs.declared.tree.Exp.{Exp}
 use Rattle.plain_tree.specs.declared.tree.Step.{Step}
 use Rattle.prog_tree.specs.TreeOf.{body_of}
 use Rattle.prog_tree.specs.Readings as before
-use Rattle.tests_check.specs.Reads as after
+use Rattle.ir_tests.specs.of_tests_check.Reads as after
 use Rattle.prog_tree.specs.declared.tree.Dec.{Dec}
-use Rattle.match_types.specs.Views.{View, reading, Sees, Keeps}
-use Rattle.match_types.specs.declared.work.Work.{Work}
-use Rattle.match_types.specs.declared.work.ValueType.TheVariants.{Unit}
-use Rattle.match_types.proofs.Seeing.{sees-before, earlier-stays, longer-by, held-within, held-is}
+use Rattle.general_bindings.specs.of_match_types.Views.{View, reading, Sees, Keeps}
+use Rattle.general_bindings.specs.of_match_types.declared.work.Work.{Work}
+use Rattle.general_bindings.specs.of_match_types.declared.work.ValueType.TheVariants.{Unit}
+use Rattle.general_bindings.proofs.of_match_types.Seeing.{sees-before, earlier-stays, longer-by, held-within, held-is}
 use Rattle.general_bindings.specs.of_match_steps.Steps.{stand}
 use Rattle.general_bindings.specs.of_exp_steps.Making.{Pushed}
 use Rattle.general_bindings.specs.of_exp_blocks.Giving.{Gives, Grows}

@@ -6,11 +6,11 @@ use Rattle.match_compile.specs.Compile.{atom, put, otherwise, Otherwise}
 use Rattle.plain_tree.specs.TreeOf as plain
 use Rattle.plain_tree.specs.declared.tree.Exp.{Exp}
 use Rattle.plain_tree.specs.declared.tree.Step.{Step}
-use Rattle.match_types.specs.Views.{View, reading, Keeps, value_type}
-use Rattle.match_types.specs.declared.work.Work.{Work}
-use Rattle.match_types.specs.declared.work.ValueType.{ValueType}
-use Rattle.match_types.specs.declared.work.ValueType.TheVariants as kind
-use Rattle.match_types.proofs.Seeing.{keeps-on, sees-before}
+use Rattle.general_bindings.specs.of_match_types.Views.{View, reading, Keeps, value_type}
+use Rattle.general_bindings.specs.of_match_types.declared.work.Work.{Work}
+use Rattle.general_bindings.specs.of_match_types.declared.work.ValueType.{ValueType}
+use Rattle.general_bindings.specs.of_match_types.declared.work.ValueType.TheVariants as kind
+use Rattle.general_bindings.proofs.of_match_types.Seeing.{keeps-on, sees-before}
 use Rattle.general_bindings.specs.of_match_steps.Steps.{stand}
 use Rattle.general_bindings.proofs.of_match_steps.Pushed.{puts-as}
 use Rattle.general_bindings.specs.of_exp_steps.Making.{Pushed}

@@ -14,11 +14,11 @@ use Rattle.prog_tree.specs.TreeOf.{Reading, tree_of, pat_of, after_parameters}
 use Rattle.prog_tree.specs.declared.tree.Parameter as source
 use Rattle.prog_tree.specs.declared.tree.Pat.{Pat}
 use Rattle.prog_tree.specs.declared.tree.Rule.{Rule}
-use Rattle.match_types.specs.Views.{View, reading, Sees, Keeps, value_type}
-use Rattle.match_types.specs.declared.work.Work.{Work}
-use Rattle.match_types.specs.declared.work.ValueType.{ValueType}
-use Rattle.match_types.specs.declared.work.ValueType.TheVariants as kind
-use Rattle.match_types.proofs.Seeing.{sees-before}
+use Rattle.general_bindings.specs.of_match_types.Views.{View, reading, Sees, Keeps, value_type}
+use Rattle.general_bindings.specs.of_match_types.declared.work.Work.{Work}
+use Rattle.general_bindings.specs.of_match_types.declared.work.ValueType.{ValueType}
+use Rattle.general_bindings.specs.of_match_types.declared.work.ValueType.TheVariants as kind
+use Rattle.general_bindings.proofs.of_match_types.Seeing.{sees-before}
 use Rattle.general_bindings.specs.of_match_steps.Steps.{stand, Puts}
 use Rattle.general_bindings.specs.of_pattern_tests.Spots.{spots_onto, names_onto}
 use Rattle.general_bindings.specs.of_pattern_tests.Tasks.{tests_of}

@@ -13,10 +13,10 @@ use Rattle.prog_tree.specs.TreeOf.{Reading, tree_of, pat_of}
 use Rattle.prog_tree.specs.declared.tree.Binding.{Binding}
 use Rattle.prog_tree.specs.declared.tree.Rule.{Rule}
 use Rattle.prog_tree.proofs.ExpOf.{rule_of-parts}
-use Rattle.match_types.specs.Views.{View, Sees, Keeps, in_view}
-use Rattle.match_types.specs.declared.work.Work.{Work}
-use Rattle.match_types.specs.declared.work.ValueType.TheVariants.{Source}
-use Rattle.match_types.proofs.Seeing.{keeps-same, keeps-on, sees-before}
+use Rattle.general_bindings.specs.of_match_types.Views.{View, Sees, Keeps, in_view}
+use Rattle.general_bindings.specs.of_match_types.declared.work.Work.{Work}
+use Rattle.general_bindings.specs.of_match_types.declared.work.ValueType.TheVariants.{Source}
+use Rattle.general_bindings.proofs.of_match_types.Seeing.{keeps-same, keeps-on, sees-before}
 use Rattle.general_bindings.specs.of_match_steps.Steps.{Puts, stand}
 use Rattle.general_bindings.specs.of_pattern_tests.Spots.{spots_onto}
 use Rattle.general_bindings.specs.of_pattern_tests.Tasks.{tests_of}

@@ -16,10 +16,10 @@ use Rattle.plain_tree.specs.declared.tree.Function.{Function}
 use Rattle.plain_tree.specs.declared.tree.Step.{Step}
 use Rattle.prog_tree.specs.TreeOf.{Reading}
 use Rattle.prog_tree.specs.declared.tree.Function as source
-use Rattle.match_types.specs.Views.{View, reading, Sees, Keeps, Stands, in_view}
-use Rattle.match_types.specs.declared.work.Work.{Work}
-use Rattle.match_types.specs.declared.work.ValueType.TheVariants.{Source}
-use Rattle.match_types.proofs.Seeing.{keeps-same, keeps-on, sees-before}
+use Rattle.general_bindings.specs.of_match_types.Views.{View, reading, Sees, Keeps, Stands, in_view}
+use Rattle.general_bindings.specs.of_match_types.declared.work.Work.{Work}
+use Rattle.general_bindings.specs.of_match_types.declared.work.ValueType.TheVariants.{Source}
+use Rattle.general_bindings.proofs.of_match_types.Seeing.{keeps-same, keeps-on, sees-before}
 use Rattle.general_bindings.specs.of_match_steps.Steps.{Puts, stand}
 use Rattle.general_bindings.proofs.of_pattern_tests.Chains.{next-drop}
 use Rattle.general_bindings.specs.of_exp_blocks.Giving.{Grows, Ends, over, lambda_of}

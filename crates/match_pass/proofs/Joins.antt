@@ -6,7 +6,7 @@ use Rattle.plain_tree.specs.declared.tree.Step.{Step}
 use Rattle.prog_tree.specs.TreeOf.{Reading}
 use Rattle.prog_tree.specs.declared.tree.Exp.{Exp}
 use Rattle.prog_tree.specs.declared.tree.Join.{Join}
-use Rattle.match_types.specs.declared.work.Work.{Work}
+use Rattle.general_bindings.specs.of_match_types.declared.work.Work.{Work}
 use Rattle.general_bindings.proofs.of_pattern_tests.Chains.{next-drop}
 use Rattle.general_bindings.specs.of_exp_steps.Making.{Makes}
 use Rattle.general_bindings.specs.of_exp_steps.Joining.{Opens, joined}

@@ -8,9 +8,9 @@ use Rattle.plain_tree.specs.declared.tree.Field.{Field}
 use Rattle.plain_tree.specs.declared.tree.Step.{Step}
 use Rattle.prog_tree.specs.TreeOf.{Reading, tree_of}
 use Rattle.prog_tree.specs.declared.tree.Exp.{Exp}
-use Rattle.match_types.specs.Views.{View, Sees, Keeps}
-use Rattle.match_types.specs.declared.work.Work.{Work}
-use Rattle.match_types.proofs.Seeing.{keeps-same, keeps-on, sees-before}
+use Rattle.general_bindings.specs.of_match_types.Views.{View, Sees, Keeps}
+use Rattle.general_bindings.specs.of_match_types.declared.work.Work.{Work}
+use Rattle.general_bindings.proofs.of_match_types.Seeing.{keeps-same, keeps-on, sees-before}
 use Rattle.general_bindings.specs.of_match_steps.Steps.{Puts, stand}
 use Rattle.general_bindings.proofs.of_pattern_tests.Chains.{next-drop}
 use Rattle.general_bindings.specs.of_exp_steps.Making.{Makes, MakesAll}

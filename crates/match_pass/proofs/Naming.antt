@@ -15,8 +15,8 @@ use Rattle.prog_tree.specs.declared.tree.Dec.TheVariants as decs_are
 use Rattle.prog_tree.specs.declared.tree.Function.{Function}
 use Rattle.prog_tree.specs.declared.tree.Rule.{Rule}
 use Rattle.prog_tree.proofs.ExpOf.{dec_of-Val}
-use Rattle.match_types.specs.Views.{View, Sees, Keeps}
-use Rattle.match_types.specs.declared.work.Work.{Work}
+use Rattle.general_bindings.specs.of_match_types.Views.{View, Sees, Keeps}
+use Rattle.general_bindings.specs.of_match_types.declared.work.Work.{Work}
 use Rattle.general_bindings.specs.of_match_steps.Steps.{Puts, stand}
 use Rattle.general_bindings.specs.of_pattern_tests.Spots.{spots_onto, names_onto}
 use Rattle.general_bindings.specs.of_pattern_tests.declared.spots.Spot.{Spot}

@@ -16,7 +16,7 @@ use Rattle.ir_tables.specs.declared.tables.Tables.{Tables}
 use Rattle.match_compile.specs.Compile.{compile, compiled}
 use Rattle.match_compile.specs.Laws.{KeepsTyping, MakesLocal, SameMeaning, BringsNoException, BindsOnce}
 use Rattle.match_compile.specs.Exceptions.{tests_made}
-use Rattle.match_types.proofs.Seeing.{earlier-stays}
+use Rattle.general_bindings.proofs.of_match_types.Seeing.{earlier-stays}
 use Rattle.monomorphise.specs.Counting.{expansion_within}
 use Rattle.monomorphise.specs.Monomorphise.{copies}
 use Rattle.match_pass.specs.Typed.{IsWellTyped}

@@ -2,7 +2,7 @@
 use Rattle.std.proofs.Common.{◌≡◌, ◌-◌, ℕ, List, [], ◌∷◌, length, drop, ap, ◌∙◌}
 use Rattle.match_compile.specs.Compile.{Spots, spot, spots_named, named, Names}
 use Rattle.match_names.specs.Bindings.{names_of}
-use Rattle.match_types.specs.Views.{View, value_type}
+use Rattle.general_bindings.specs.of_match_types.Views.{View, value_type}
 use Rattle.general_bindings.specs.of_pattern_tests.Spots.{spots_onto, names_onto}
 use Rattle.general_bindings.specs.of_pattern_tests.declared.spots.Spot.{Spot}
 use Rattle.general_bindings.specs.of_exp_blocks.Giving.{Ends}

@@ -14,11 +14,11 @@ use Rattle.plain_tree.specs.declared.tree.Step.{Step}
 use Rattle.prog_tree.specs.TreeOf.{Reading, tree_of, pat_of}
 use Rattle.prog_tree.specs.declared.tree.Rule.{Rule}
 use Rattle.prog_tree.proofs.ExpOf.{rule_of-parts}
-use Rattle.match_types.specs.Views.{View, reading, Sees, Keeps, value_type}
-use Rattle.match_types.specs.declared.work.Work.{Work}
-use Rattle.match_types.specs.declared.work.ValueType.{ValueType}
-use Rattle.match_types.specs.declared.work.ValueType.TheVariants as kind
-use Rattle.match_types.proofs.Seeing.{keeps-same, keeps-on, sees-before}
+use Rattle.general_bindings.specs.of_match_types.Views.{View, reading, Sees, Keeps, value_type}
+use Rattle.general_bindings.specs.of_match_types.declared.work.Work.{Work}
+use Rattle.general_bindings.specs.of_match_types.declared.work.ValueType.{ValueType}
+use Rattle.general_bindings.specs.of_match_types.declared.work.ValueType.TheVariants as kind
+use Rattle.general_bindings.proofs.of_match_types.Seeing.{keeps-same, keeps-on, sees-before}
 use Rattle.general_bindings.specs.of_match_steps.Steps.{stand}
 use Rattle.general_bindings.proofs.of_match_steps.Pushed.{puts-as, two-puts}
 use Rattle.general_bindings.proofs.of_pattern_tests.Chains.{next-drop}

@@ -4,7 +4,7 @@ use Rattle.plain_tree.specs.declared.tree.Field.{Field}
 use Rattle.plain_tree.specs.declared.tree.Step.{Step}
 use Rattle.prog_tree.specs.TreeOf.{Reading, tree_of}
 use Rattle.prog_tree.specs.declared.tree.Exp.{Exp}
-use Rattle.match_types.specs.declared.work.Work.{Work}
+use Rattle.general_bindings.specs.of_match_types.declared.work.Work.{Work}
 use Rattle.general_bindings.specs.of_exp_steps.Making.{MakesTuple}
 use Rattle.general_bindings.proofs.of_exp_steps.Counting.{tuple-as, tuple-none}
 use Rattle.general_bindings.proofs.of_exp_steps.Heads.{IsAlone}

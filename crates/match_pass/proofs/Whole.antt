@@ -12,10 +12,10 @@ use Rattle.plain_tree.specs.declared.tree.Exp.{Exp}
 use Rattle.plain_tree.specs.declared.tree.Step.{Step}
 use Rattle.prog_tree.specs.TreeOf.{Reading, tree_of}
 use Rattle.prog_tree.specs.declared.tree.Exp as source
-use Rattle.match_types.specs.Views.{View, Sees, Keeps}
-use Rattle.match_types.specs.declared.work.Work.{Work}
-use Rattle.match_types.specs.declared.work.ValueType.TheVariants as kind
-use Rattle.match_types.proofs.Seeing.{keeps-on, sees-before}
+use Rattle.general_bindings.specs.of_match_types.Views.{View, Sees, Keeps}
+use Rattle.general_bindings.specs.of_match_types.declared.work.Work.{Work}
+use Rattle.general_bindings.specs.of_match_types.declared.work.ValueType.TheVariants as kind
+use Rattle.general_bindings.proofs.of_match_types.Seeing.{keeps-on, sees-before}
 use Rattle.general_bindings.specs.of_match_steps.Steps.{stand}
 use Rattle.general_bindings.proofs.of_match_steps.Pushed.{puts-as}
 use Rattle.general_bindings.specs.of_exp_steps.Making.{Makes, Pushed}

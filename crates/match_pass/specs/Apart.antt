@@ -9,7 +9,7 @@ use Rattle.prog_tree.specs.TreeOf.{Reading}
 use Rattle.prog_tree.specs.declared.tree.Exp.{Exp}
 use Rattle.prog_tree.specs.declared.tree.Function.{Function}
 use Rattle.prog_tree.specs.declared.tree.Join.{Join}
-use Rattle.match_types.specs.declared.work.Work.{Work}
+use Rattle.general_bindings.specs.of_match_types.declared.work.Work.{Work}
 use Rattle.general_bindings.specs.of_exp_steps.Making.{Makes, Weighs, Begun}
 use Rattle.general_bindings.specs.of_exp_steps.Joining.{Opens}
 use Rattle.general_bindings.specs.of_exp_steps.Ways.{built_of, type_or_unit}

@@ -12,8 +12,8 @@ use Rattle.prog_tree.specs.TreeOf.{Reading, tree_of, pat_of, bind_of, fun_of, bi
 use Rattle.prog_tree.specs.declared.tree.Binding.{Binding}
 use Rattle.prog_tree.specs.declared.tree.Function as source
 use Rattle.prog_tree.specs.declared.tree.Rule.{Rule}
-use Rattle.match_types.specs.Views.{View, reading, Sees, Keeps}
-use Rattle.match_types.specs.declared.work.Work.{Work}
+use Rattle.general_bindings.specs.of_match_types.Views.{View, reading, Sees, Keeps}
+use Rattle.general_bindings.specs.of_match_types.declared.work.Work.{Work}
 use Rattle.general_bindings.specs.of_match_steps.Steps.{Leads, Puts}
 use Rattle.general_bindings.specs.of_pattern_tests.Spots.{spots_onto}
 use Rattle.general_bindings.specs.of_pattern_tests.declared.spots.Spot.{Spot}

@@ -12,9 +12,9 @@ use Rattle.plain_tree.specs.declared.tree.Step.{Step}
 use Rattle.prog_tree.specs.TreeOf.{Reading, pat_of, tree_of}
 use Rattle.prog_tree.specs.declared.tree.Pat.{Pat}
 use Rattle.prog_tree.specs.declared.tree.Rule.{Rule}
-use Rattle.match_types.specs.Views.{View, reading, Sees, Keeps, value_type}
-use Rattle.match_types.specs.declared.work.ValueType.{ValueType}
-use Rattle.match_types.specs.declared.work.Work.{Work}
+use Rattle.general_bindings.specs.of_match_types.Views.{View, reading, Sees, Keeps, value_type}
+use Rattle.general_bindings.specs.of_match_types.declared.work.ValueType.{ValueType}
+use Rattle.general_bindings.specs.of_match_types.declared.work.Work.{Work}
 use Rattle.general_bindings.specs.of_match_steps.Steps.{Leads, Puts, stand}
 use Rattle.general_bindings.specs.of_exp_blocks.Giving.{Grows, Ends, Gives, GivesFun}
 use Rattle.general_bindings.specs.of_exp_blocks.declared.blocks.Lambda.{Lambda}

@@ -2,9 +2,9 @@
 use Rattle.std.specs.Prelude.{◌≡◌, ℕ, suc, List}
 use Rattle.plain_tree.specs.declared.tree.Parameter.{Parameter}
 use Rattle.prog_tree.specs.declared.tree.Parameter as source
-use Rattle.match_types.specs.Views.{Keeps, Stands, in_view}
-use Rattle.match_types.specs.declared.work.Work.{Work}
-use Rattle.match_types.specs.declared.work.ValueType.TheVariants.{Source}
+use Rattle.general_bindings.specs.of_match_types.Views.{Keeps, Stands, in_view}
+use Rattle.general_bindings.specs.of_match_types.declared.work.Work.{Work}
+use Rattle.general_bindings.specs.of_match_types.declared.work.ValueType.TheVariants.{Source}
 use Rattle.general_bindings.specs.of_exp_blocks.Binding.{Bound, AllBound}
 
 -- all of a list, and then the last one

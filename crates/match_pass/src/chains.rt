@@ -3,12 +3,12 @@ ghost use Rattle.std.specs.Prelude.{List, reverse, IfOk};
 ghost use Rattle.ir_poly.specs.Prog.{Exp as Clean};
 ghost use Rattle.plain_tree.specs.declared.tree.Step.{Step as Row};
 ghost use Rattle.prog_tree.specs.TreeOf.{Reading};
-ghost use Rattle.match_types.specs.declared.work.Work.{Work as State};
+ghost use Rattle.general_bindings.specs.of_match_types.declared.work.Work.{Work as State};
 ghost use Rattle.general_bindings.specs.of_exp_steps.Making.{Makes};
 ghost use Rattle.match_pass.specs.Chains.{RightMade, last_first};
 
 use general_bindings::exp_steps::joins::{Opening, close};
-use match_types::work::Work;
+use general_bindings::match_types::work::Work;
 use mlc_base::memory::NoMemory;
 use plain_tree::tree::Step;
 use prog_tree::tree::{Exp, Join};

@@ -4,8 +4,8 @@ ghost use Rattle.ir_plain.specs.Tree.{ret, handle};
 ghost use Rattle.ir_poly.specs.Tests.{Tests};
 ghost use Rattle.match_compile.specs.Compile.{atom, otherwise};
 ghost use Rattle.plain_tree.specs.TreeOf.{firsts, tree_of};
-ghost use Rattle.match_types.specs.Views.{View, Keeps, reading};
-ghost use Rattle.match_types.specs.declared.work.ValueType.TheVariants.{Source as OfSource};
+ghost use Rattle.general_bindings.specs.of_match_types.Views.{View, Keeps, reading};
+ghost use Rattle.general_bindings.specs.of_match_types.declared.work.ValueType.TheVariants.{Source as OfSource};
 ghost use Rattle.general_bindings.specs.of_match_steps.Steps.{stand};
 ghost use Rattle.general_bindings.specs.of_exp_steps.Making.{Pushed};
 ghost use Rattle.general_bindings.specs.of_exp_blocks.Giving.{Gives, otherwise_of};
@@ -14,7 +14,7 @@ ghost use Rattle.match_pass.specs.Going.{Ending, Chosen};
 use general_bindings::exp_blocks::blocks::{
     Otherwise, attempted, ended, one_of, push_block, push_handle, raising,
 };
-use match_types::work::{ValueType, Work};
+use general_bindings::match_types::work::{ValueType, Work};
 use mlc_base::memory::NoMemory;
 use plain_tree::tree::{Exp, Step};
 use std::alloc::Global;

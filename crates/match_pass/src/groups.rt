@@ -3,13 +3,13 @@ ghost use Rattle.std.specs.Prelude.{◌≡◌, ◌+◌, suc, IfOk};
 ghost use Rattle.match_compile.specs.Compile.{funs_named};
 ghost use Rattle.match_names.specs.Bindings.{names_of};
 ghost use Rattle.prog_tree.specs.TreeOf.{Reading};
-ghost use Rattle.match_types.specs.Views.{Keeps};
+ghost use Rattle.general_bindings.specs.of_match_types.Views.{Keeps};
 ghost use Rattle.general_bindings.specs.of_exp_blocks.Giving.{Ends};
 ghost use Rattle.match_pass.specs.Declaring.{funs_read};
 
 use general_bindings::exp_blocks::scopes::bind_each;
+use general_bindings::match_types::work::Work;
 use match_names::names::Names;
-use match_types::work::Work;
 use mlc_base::memory::NoMemory;
 use prog_tree::tree::Function;
 

@@ -2,9 +2,9 @@
 ghost use Rattle.std.specs.Prelude.{IfOk};
 ghost use Rattle.match_pass.specs.Going.{Matched};
 
+use general_bindings::match_types::work::{ValueType, Work};
 use general_bindings::pattern_tests::patterns::push_tests;
 use general_bindings::pattern_tests::spots::bind_spots;
-use match_types::work::{ValueType, Work};
 use mlc_base::memory::NoMemory;
 use plain_tree::tree::Step;
 use prog_tree::tree::Pat;

@@ -1,6 +1,8 @@
 // The compiler's driver.
 #![tactic(auto)]
 
+pub use mlb_reader;
+
 pub mod checked;
 pub mod driver;
 pub mod elaborate;

@@ -1,6 +1,8 @@
 // The primitives of the language: their numbers, and what each gives.
 #![tactic(auto)]
 
+pub use word_arithmetic;
+
 pub mod applied;
 pub mod apply;
 pub mod args;

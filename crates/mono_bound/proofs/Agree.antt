@@ -1,9 +1,9 @@
 -- What is found along the code's tree is what its clean tree binds.
 use Rattle.std.proofs.Common.{◌≡◌, ℕ, List, [], ◌∷◌, ◌++◌, map, refl, sym, ap, ◌∙◌, subst}
 use Rattle.std.proofs.lemmas.List.{append-nil}
-use Rattle.ir_mono.specs.Types as table
-use Rattle.ir_mono.specs.Types.{node_at}
-use Rattle.ir_mono.specs.Mono.{mono, Mono}
+use Rattle.flow_sets.specs.of_ir_mono.Types as table
+use Rattle.flow_sets.specs.of_ir_mono.Types.{node_at}
+use Rattle.flow_sets.specs.of_ir_mono.Mono.{mono, Mono}
 use Rattle.plain_tree.specs.declared.tree.Parameter.{Parameter}
 use Rattle.plain_tree.specs.declared.tree.Case.{Case}
 use Rattle.plain_tree.specs.declared.tree.Case.TheVariants as case

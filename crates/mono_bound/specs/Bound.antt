@@ -2,8 +2,8 @@
 -- tests, those of the last test first.
 use Rattle.std.specs.Prelude.{ℕ, List, [], ◌∷◌, ◌++◌, length}
 use Rattle.ty_core.specs.Types.{arrow}
-use Rattle.ir_mono.specs.Types as table
-use Rattle.ir_mono.specs.Types.{Node, node, node_at}
+use Rattle.flow_sets.specs.of_ir_mono.Types as table
+use Rattle.flow_sets.specs.of_ir_mono.Types.{Node, node, node_at}
 use Rattle.plain_tree.specs.declared.tree.Parameter.{Parameter}
 use Rattle.plain_tree.specs.declared.tree.Case.{Case}
 use Rattle.plain_tree.specs.declared.tree.Case.TheVariants as case

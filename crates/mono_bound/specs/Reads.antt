@@ -1,7 +1,7 @@
 -- The code's tree read as one with simple types: numbers stand for themselves.
 use Rattle.std.specs.Prelude.{◌≡◌, ℕ, List, map}
-use Rattle.ir_mono.specs.Types as table
-use Rattle.ir_mono.specs.Mono.{mono, Mono}
+use Rattle.flow_sets.specs.of_ir_mono.Types as table
+use Rattle.flow_sets.specs.of_ir_mono.Mono.{mono, Mono}
 use Rattle.plain_tree.specs.declared.tree.Exp.{Exp}
 use Rattle.plain_tree.specs.TreeOf.{Reading, tree_of}
 use Rattle.flow_sets.specs.ByType.{bound}

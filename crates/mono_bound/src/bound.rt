@@ -1,7 +1,7 @@
 // What a program binds, in order.
 ghost use Rattle.std.specs.Prelude.{◌≡◌, ◌++◌, ◌∷◌, [], map, IfOk};
 ghost use Rattle.ty_core.specs.TypesOf.{head_of};
-ghost use Rattle.ir_mono.specs.Types.{node, node_at};
+ghost use Rattle.flow_sets.specs.of_ir_mono.Types.{node, node_at};
 ghost use Rattle.flow_sets.specs.ByType.{gives};
 ghost use Rattle.mono_bound.specs.Bound.{gives_of, a_value, a_name, case_bound, parameters_bound, exp_bound, step_bound, arm_bound, function_bound, joined, fronts, backs};
 

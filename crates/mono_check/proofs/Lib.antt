@@ -1,3 +1,4 @@
+pub use Rattle.mono_operations.proofs as of_mono_operations
 pub mod Lists
 pub mod Names
 pub mod Openings

@@ -16,7 +16,7 @@ use Rattle.plain_tree.specs.declared.tree.Function.{Function}
 use Rattle.plain_tree.specs.declared.tree.Operation.{Operation}
 use Rattle.plain_tree.specs.declared.tree.Parameter.{Parameter}
 use Rattle.plain_tree.specs.declared.tree.Step.{Step}
-use Rattle.tests_check.specs.Reads.{reading}
+use Rattle.mono_parts.specs.of_tests_check.Reads.{reading}
 use Rattle.monomorphise.specs.Monomorphise.{copy_of}
 use Rattle.mono_close.specs.Closing.{standing}
 use Rattle.mono_scopes.specs.Scopes.{variable}

@@ -15,7 +15,7 @@ use Rattle.plain_tree.specs.declared.tree.Case.{Case}
 use Rattle.plain_tree.specs.declared.tree.Exception.{Exception}
 use Rattle.plain_tree.specs.declared.tree.Function.{Function}
 use Rattle.plain_tree.specs.declared.tree.Step.{Step}
-use Rattle.tests_check.specs.Reads.{reading}
+use Rattle.mono_parts.specs.of_tests_check.Reads.{reading}
 use Rattle.monomorphise.specs.Monomorphise.{copy_of, units, fun_vars, copy_case, case_needs, copy_name, name_needs, copy_argument}
 use Rattle.mono_close.specs.Closing.{standing}
 use Rattle.mono_scopes.specs.Scopes.{variable, binding}

@@ -16,8 +16,8 @@ use Rattle.plain_tree.specs.declared.tree.Operation.{Operation}
 use Rattle.plain_tree.specs.declared.tree.Parameter.{Parameter}
 use Rattle.plain_tree.specs.declared.tree.Step.{Step, Step-F}
 use Rattle.plain_tree.specs.declared.tree.Step.TheVariants as step
-use Rattle.tests_check.specs.Reads.{reading}
-use Rattle.tests_check.proofs.Rolls.{step-let, step-fn, step-block, step-handle, step-exception, step-name, step-group, step-test, step-counted}
+use Rattle.mono_parts.specs.of_tests_check.Reads.{reading}
+use Rattle.mono_parts.proofs.of_tests_check.Rolls.{step-let, step-fn, step-block, step-handle, step-exception, step-name, step-group, step-test, step-counted}
 use Rattle.monomorphise.specs.Monomorphise.{Groups}
 use Rattle.mono_words.specs.Seen.{Seen}
 use Rattle.mono_words.specs.Made.{entered_step, left_step}

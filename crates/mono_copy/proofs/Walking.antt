@@ -18,8 +18,8 @@ use Rattle.plain_tree.specs.declared.tree.Exp as code
 use Rattle.plain_tree.specs.declared.tree.Function.{Function}
 use Rattle.plain_tree.specs.declared.tree.Parameter.{Parameter}
 use Rattle.plain_tree.specs.declared.tree.Step.{Step}
-use Rattle.tests_check.specs.Reads.{reading}
-use Rattle.tests_check.proofs.Rolls.{arm-parts, function-parts}
+use Rattle.mono_parts.specs.of_tests_check.Reads.{reading}
+use Rattle.mono_parts.proofs.of_tests_check.Rolls.{arm-parts, function-parts}
 use Rattle.monomorphise.specs.Monomorphise.{Groups, copy_of, units, fun_vars}
 use Rattle.mono_scopes.specs.Scopes.{variable, binding}
 use Rattle.mono_words.specs.Words.{end_sign, parameter_sign, last_sign}

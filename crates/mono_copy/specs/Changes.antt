@@ -18,7 +18,7 @@ use Rattle.plain_tree.specs.declared.tree.Exp as code
 use Rattle.plain_tree.specs.declared.tree.Function.{Function}
 use Rattle.plain_tree.specs.declared.tree.Parameter.{Parameter}
 use Rattle.plain_tree.specs.declared.tree.Step.{Step}
-use Rattle.tests_check.specs.Reads.{reading}
+use Rattle.mono_parts.specs.of_tests_check.Reads.{reading}
 use Rattle.monomorphise.specs.Monomorphise.{Groups, copy_of, alone, units, fun_vars}
 use Rattle.mono_scopes.specs.Scopes.{variable, binding}
 use Rattle.mono_words.specs.Words.{first_sign, let_sign, packet_sign, counted_sign, switch_sign}

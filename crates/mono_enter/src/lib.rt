@@ -1,6 +1,8 @@
 // The closed types that copies want, entered in a table.
 #![tactic(auto)]
 
+pub use mono_state;
+
 pub mod constructors;
 pub mod law;
 pub mod steps;

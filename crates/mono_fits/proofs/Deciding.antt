@@ -10,8 +10,8 @@ use Rattle.ty_core.specs.declared.mark.Mark.{Mark}
 use Rattle.ty_core.specs.declared.mark.Mark.TheVariants.{Any, Equality, Class as OfClass}
 use Rattle.ty_core.specs.declared.name.TyName.{TyName}
 use Rattle.ir_values.specs.Values.{same_label}
-use Rattle.ir_poly.specs.Types.{int_name, word_name, char_name, string_name, ref_name, exn_name}
-use Rattle.ir_poly.specs.TestsChecked.{is_size}
+use Rattle.prog_check.specs.of_ir_poly.Types.{int_name, word_name, char_name, string_name, ref_name, exn_name}
+use Rattle.prog_check.specs.of_ir_poly.TestsChecked.{is_size}
 use Rattle.ir_mono.specs.Types.{Row, Node, node, node_at, constructor_at, admits, part, part_of, Is, IsFunction, IsRef, IsExn, HasLiteral, has_int, has_word, has_char, has_string, IsOther, other_none, other_more, AreDistinct, distinct_none, distinct_more}
 use Rattle.ir_mono.specs.Typing.{IsOf, Allows, ExceptionAt, packet_at, to_packets_at, AloneAt, value_at, function_at}
 use Rattle.prog_check.specs.Same.{same_name, same_labels, same_symbol, same_type}

@@ -1,3 +1,4 @@
+pub use Rattle.prog_check.proofs as of_prog_check
 pub mod Deciding
 pub mod Primitives
 pub mod Known

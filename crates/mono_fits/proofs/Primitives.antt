@@ -4,7 +4,7 @@ use Rattle.std.proofs.lemmas.Bool.{eqb-true, and_parts, and_from}
 use Rattle.mlc_names.specs.declared.label.Label.{Label}
 use Rattle.mlc_prims.specs.declared.basis.BasisPrimitive.{BasisPrimitive}
 use Rattle.ty_core.specs.Types.{Symbol, arrow, labels, name, Typ, var, con, Typs, none, more, typs_of}
-use Rattle.ir_poly.specs.Types.{prim_type}
+use Rattle.prog_check.specs.of_ir_poly.Types.{prim_type}
 use Rattle.ir_mono.specs.Types.{Row, node, node_at, numbered, Is, IsFunction, Stands, stands_var, stands_con, AllStand, stand_none, stand_more, IsTuple, nothing, alone, together}
 use Rattle.ir_mono.specs.Typing.{PrimAt}
 use Rattle.prog_check.specs.Same.{same_labels}

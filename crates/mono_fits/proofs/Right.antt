@@ -3,12 +3,12 @@ use Rattle.std.proofs.Common.{◌≡◌, ℕ, Bool, true, false, ◌&&◌, List,
 use Rattle.std.proofs.lemmas.Bool.{eqb-true, and_parts, and_from}
 use Rattle.mlc_names.specs.declared.label.Label.{Label}
 use Rattle.ir_values.specs.Values.{same_label}
-use Rattle.ir_poly.specs.TestsChecked.{is_size}
+use Rattle.prog_check.specs.of_ir_poly.TestsChecked.{is_size}
 use Rattle.ir_plain.specs.Tree.{Case, is_literal, is_con, is_con_of, is_exn as is_exn_case, is_exn_of, is_record, Exception, fixed, held, Atoms, no_atoms, an_atom, Row, no_row, a_row, Exp, ret, let_in, exception_in, name_in, rec_in, switch, first, miss, counted, Arms, no_arms, arm, Op, use_of, const, con_alone, construct, ref_alone, refer, content, pack, make_record, select, prim_alone, prim, app, fn, block, handle, raise, raise_initial, Fun, last, more, Funs, no_funs, fun}
 use Rattle.ir_plain.specs.Scoped.{IsAmong, AtomsScoped, no_atoms_scoped, an_atom_scoped, RowScoped, no_row_scoped, a_row_scoped, CaseScoped, literal_scoped, con_scoped, con_of_scoped, exn_scoped, exn_of_scoped, record_scoped, IsScoped, ret_scoped, let_scoped, exception_scoped, name_scoped, rec_scoped, switch_scoped, first_scoped, miss_scoped, counted_scoped, ArmsScoped, no_arms_scoped, arm_scoped, OpScoped, use_scoped, const_scoped, con_alone_scoped, construct_scoped, ref_alone_scoped, refer_scoped, content_scoped, pack_scoped, make_record_scoped, select_scoped, prim_alone_scoped, prim_scoped, app_scoped, fn_scoped, block_scoped, handle_scoped, raise_scoped, raise_initial_scoped, FunScoped, last_scoped, more_scoped, FunsScoped, no_funs_scoped, fun_scoped, ReachesName, group_onto}
 use Rattle.ir_plain.specs.Unique.{IsOutside, AreNew, none_new, one_new, CaseUnique, literal_unique, con_unique, con_of_unique, exn_unique, exn_of_unique, record_unique, IsUnique, ret_unique, let_unique, exception_unique, name_unique, rec_unique, switch_unique, first_unique, miss_unique, counted_unique, ArmsUnique, no_arms_unique, arm_unique, OpUnique, use_unique, const_unique, con_alone_unique, construct_unique, ref_alone_unique, refer_unique, content_unique, pack_unique, make_record_unique, select_unique, prim_alone_unique, prim_unique, app_unique, fn_unique, block_unique, handle_unique, raise_unique, raise_initial_unique, FunUnique, last_unique, more_unique, FunsUnique, no_funs_unique, fun_unique, funs_onto}
 use Rattle.ty_core.specs.Types.{labels, name}
-use Rattle.ir_poly.specs.Types.{exn_name}
+use Rattle.prog_check.specs.of_ir_poly.Types.{exn_name}
 use Rattle.ir_mono.specs.Types as table
 use Rattle.ir_mono.specs.Types.{node, node_at, constructor_at, part, IsExn, IsRef, IsTable, AreDistinct}
 use Rattle.ir_mono.specs.Mono.{mono}

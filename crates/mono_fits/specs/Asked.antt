@@ -10,8 +10,8 @@ use Rattle.ty_core.specs.declared.mark.Mark.{Mark}
 use Rattle.ty_core.specs.declared.mark.Mark.TheVariants.{Any, Equality, Class as OfClass}
 use Rattle.ty_core.specs.declared.name.TyName.{TyName}
 use Rattle.ir_values.specs.Values.{same_label}
-use Rattle.ir_poly.specs.Types.{int_name, word_name, char_name, string_name, ref_name, exn_name, prim_type}
-use Rattle.ir_poly.specs.TestsChecked.{is_size}
+use Rattle.prog_check.specs.of_ir_poly.Types.{int_name, word_name, char_name, string_name, ref_name, exn_name, prim_type}
+use Rattle.prog_check.specs.of_ir_poly.TestsChecked.{is_size}
 use Rattle.ir_mono.specs.Types.{Row, Node, node, node_at, constructor_at, admits, part_of, numbered}
 use Rattle.prog_check.specs.Same.{same_name, same_labels, same_symbol}
 

@@ -5,7 +5,7 @@ use Rattle.ty_core.specs.Types.{Typ}
 use Rattle.ty_table.specs.TypeAt.{type_at}
 use Rattle.ir_mono.specs.Types as table
 use Rattle.monomorphise.specs.Number.{Given, none_given, given}
-use Rattle.mono_words.specs.Words as named
+use Rattle.mono_read.specs.of_mono_words.Words as named
 use Rattle.mono_read.specs.of_mono_state.Seen.{Held, name_in, sign_of, sign_of_act}
 use Rattle.mono_read.specs.of_mono_state.declared.word.Act.{Act}
 use Rattle.mono_read.specs.of_mono_state.declared.word.Act.TheVariants as act

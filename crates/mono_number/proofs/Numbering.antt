@@ -6,7 +6,7 @@ use Rattle.ir_plain.specs.Tree.{Case, is_literal, is_con, is_con_of, is_exn, is_
 use Rattle.ir_mono.specs.Types as table
 use Rattle.monomorphise.specs.Monomorphise.{Name, Named}
 use Rattle.monomorphise.specs.Number.{Given, none_given, given, number_of, each_one, binders, op_binders, fun_binders, heads, bodies, group_given, case_given, case_next, number_atoms, number_row, number_name, number_argument, number_case, number, number_arms, number_op, number_fun, number_funs}
-use Rattle.mono_words.specs.Words as named
+use Rattle.mono_read.specs.of_mono_words.Words as named
 use Rattle.mono_read.specs.Words as made
 use Rattle.mono_number.specs.Walking.{Frame, in_attempt, in_arms, in_let, in_handled, in_heads, in_bodies, Standing, at, head_count, heads_given, Made, bodies_left, ended, closed, along}
 

@@ -5,7 +5,7 @@ use Rattle.ir_plain.specs.Tree.{Exp}
 use Rattle.ir_mono.specs.Types as table
 use Rattle.monomorphise.specs.Monomorphise.{Named}
 use Rattle.monomorphise.specs.Number.{none_given, number}
-use Rattle.mono_words.specs.Words as named
+use Rattle.mono_read.specs.of_mono_words.Words as named
 use Rattle.mono_read.specs.Words as made
 use Rattle.mono_number.specs.Walking.{at, along}
 

@@ -5,8 +5,8 @@ use Rattle.ty_core.specs.Types.{Typ}
 use Rattle.ir_mono.specs.Types as table
 use Rattle.monomorphise.specs.Monomorphise.{Name}
 use Rattle.monomorphise.specs.Number.{Given, none_given, given, number_of, case_given, case_next, number_name, number_argument, number_case, number_op}
-use Rattle.mono_words.specs.Words as named
-use Rattle.mono_words.specs.Words.{ret_sign, miss_sign, first_sign, counted_sign, switch_sign, arm_sign, exception_sign, name_sign, group_sign, function_sign, let_sign, op_sign, record_sign, perform_sign, fn_sign, parameter_sign, last_sign, block_sign, handle_sign, packet_sign, field_sign, argument_sign, end_sign}
+use Rattle.mono_read.specs.of_mono_words.Words as named
+use Rattle.mono_read.specs.of_mono_words.Words.{ret_sign, miss_sign, first_sign, counted_sign, switch_sign, arm_sign, exception_sign, name_sign, group_sign, function_sign, let_sign, op_sign, record_sign, perform_sign, fn_sign, parameter_sign, last_sign, block_sign, handle_sign, packet_sign, field_sign, argument_sign, end_sign}
 use Rattle.mono_read.specs.Words as made
 
 pub data Frame : Type 0 where

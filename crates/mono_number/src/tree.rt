@@ -7,7 +7,7 @@ ghost use Rattle.ir_mono.specs.Types as table;
 ghost use Rattle.monomorphise.specs.Monomorphise.{Named};
 ghost use Rattle.monomorphise.specs.Number.{none_given, number};
 ghost use Rattle.mono_bound.specs.Reads.{mono_of};
-ghost use Rattle.mono_words.specs.Words.{spell};
+ghost use Rattle.mono_read.specs.of_mono_words.Words.{spell};
 ghost use Rattle.mono_read.specs.of_mono_state.Seen.{Held, sign_of};
 ghost use Rattle.mono_number.specs.Moves.{Texts, AreNumbers};
 

@@ -18,9 +18,9 @@ use Rattle.tests_check.specs.Reads.{reading}
 use Rattle.monomorphise.specs.Expansion.{op_compared, if_equals}
 use Rattle.monomorphise.specs.Monomorphise.{Name, Named, Groups, copy_row, copy_atoms, row_needs, atoms_needs, op_copy, used}
 use Rattle.mono_scopes.specs.Scopes.{noting}
-use Rattle.mono_words.specs.Words.{Sign, op_sign, record_sign, perform_sign, spell_op, spell_row, spell_atoms}
-use Rattle.mono_words.specs.Made.{turned_op, op_made}
-use Rattle.mono_words.specs.Seen.{Seen, with_sign, with_needs, with_compared, made}
+use Rattle.mono_state.specs.of_mono_words.Words.{Sign, op_sign, record_sign, perform_sign, spell_op, spell_row, spell_atoms}
+use Rattle.mono_state.specs.of_mono_words.Made.{turned_op, op_made}
+use Rattle.mono_state.specs.of_mono_words.Seen.{Seen, with_sign, with_needs, with_compared, made}
 use Rattle.mono_close.specs.Closing.{standing}
 use Rattle.mono_state.specs.Seen.{Held, name_in, groups_in, sign_of_act}
 use Rattle.mono_state.specs.declared.copier.Copier.{Copier}

@@ -15,9 +15,9 @@ use Rattle.tests_check.proofs.Rolls.{function-parts}
 use Rattle.monomorphise.specs.Monomorphise.{copy_of, copy_atoms, copy_row, atoms_needs, row_needs, fun_vars, funs_copy}
 use Rattle.mono_close.specs.Closing.{standing}
 use Rattle.mono_scopes.specs.Scopes.{variable}
-use Rattle.mono_words.specs.Words.{argument_sign, field_sign, function_sign, parameter_sign, end_sign, spell_atoms, spell_row, spell_heads}
-use Rattle.mono_words.specs.Seen.{Seen, with_sign, with_needs, within, out, made}
-use Rattle.mono_words.proofs.Making.{only-signs}
+use Rattle.mono_state.specs.of_mono_words.Words.{argument_sign, field_sign, function_sign, parameter_sign, end_sign, spell_atoms, spell_row, spell_heads}
+use Rattle.mono_state.specs.of_mono_words.Seen.{Seen, with_sign, with_needs, within, out, made}
+use Rattle.mono_state.proofs.of_mono_words.Making.{only-signs}
 use Rattle.mono_state.specs.Seen.{Held, held_of, Later, types_in, name_in, seen}
 use Rattle.mono_state.specs.Going.{Goes}
 use Rattle.mono_state.specs.declared.copier.Copier.{Copier}

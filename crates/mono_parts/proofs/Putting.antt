@@ -15,8 +15,8 @@ use Rattle.tests_check.specs.Reads.{reading}
 use Rattle.ty_table.specs.TypeAt.{type_at}
 use Rattle.monomorphise.specs.Monomorphise.{Name, Named, copy_of, copy_case, case_needs, copy_argument, name_needs}
 use Rattle.mono_scopes.proofs.Noting.{parts-noted}
-use Rattle.mono_words.specs.Words.{Sign}
-use Rattle.mono_words.specs.Seen.{Seen, with_sign, with_needs}
+use Rattle.mono_state.specs.of_mono_words.Words.{Sign}
+use Rattle.mono_state.specs.of_mono_words.Seen.{Seen, with_sign, with_needs}
 use Rattle.mono_state.specs.Seen.{Held, name_in}
 use Rattle.mono_parts.specs.Arms.{ParameterIs}
 

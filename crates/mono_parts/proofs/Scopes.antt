@@ -8,7 +8,7 @@ use Rattle.mono_scopes.specs.Scopes.{Scopes, variable, binding}
 use Rattle.needed_scopes.specs.Scopes.{OpenScope, of_variable, of_binding, with_variable, IsBinding}
 use Rattle.needed_scopes.specs.Reads.{scopes_of, AreKept}
 use Rattle.needed_scopes.specs.declared.scopes.Scopes as code
-use Rattle.mono_words.specs.Seen.{within}
+use Rattle.mono_state.specs.of_mono_words.Seen.{within}
 use Rattle.mono_state.specs.Seen.{Held, held_of, Later, types_in, scope_at, seen}
 use Rattle.mono_state.specs.Going.{IsHeld, ScopesHeld, OwnHeld, IsOpen, Goes}
 use Rattle.mono_state.specs.declared.copier.Copier.{Copier}

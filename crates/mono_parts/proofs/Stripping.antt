@@ -8,7 +8,7 @@ use Rattle.plain_tree.specs.declared.tree.Step.{Step}
 use Rattle.tests_check.specs.Reads.{reading}
 use Rattle.mono_parts.specs.Steps.{steps_in}
 use Rattle.plain_tree.specs.TreeOf.{step_of, StepTree, let_step, exception_step, name_step, rec_step, test_step, counted_step}
-use Rattle.mono_words.specs.Made.{still_bare, all_bare}
+use Rattle.mono_state.specs.of_mono_words.Made.{still_bare, all_bare}
 
 still-not : (st : StepTree poly) → still_bare false st ≡ false
 still-not (let_step x ps t o) = refl

@@ -8,7 +8,7 @@ use Rattle.plain_tree.specs.declared.tree.Case.TheVariants as case
 use Rattle.plain_tree.specs.declared.tree.Parameter.{Parameter}
 use Rattle.monomorphise.specs.Monomorphise.{copy_of}
 use Rattle.mono_scopes.specs.Scopes.{variable}
-use Rattle.mono_words.specs.Seen.{Seen, within, out}
+use Rattle.mono_state.specs.of_mono_words.Seen.{Seen, within, out}
 use Rattle.mono_state.specs.Seen.{Held, name_in}
 
 abbrev pub bound_in : Case → Option ℕ

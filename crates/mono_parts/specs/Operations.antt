@@ -12,8 +12,8 @@ use Rattle.plain_tree.specs.declared.tree.Operation.TheVariants as op
 use Rattle.tests_check.specs.Reads.{reading}
 use Rattle.monomorphise.specs.Expansion.{if_equals}
 use Rattle.monomorphise.specs.Monomorphise.{Name, Named, copy_of, Groups, used, copy_row, copy_atoms, row_needs, atoms_needs}
-use Rattle.mono_words.specs.Words.{Sign, op_sign, record_sign, perform_sign, spell_row, spell_atoms}
-use Rattle.mono_words.specs.Seen.{Seen, made}
+use Rattle.mono_state.specs.of_mono_words.Words.{Sign, op_sign, record_sign, perform_sign, spell_row, spell_atoms}
+use Rattle.mono_state.specs.of_mono_words.Seen.{Seen, made}
 use Rattle.mono_state.specs.Seen.{Held, name_in}
 use Rattle.mono_state.specs.declared.word.Act.{Act}
 use Rattle.mono_state.specs.declared.word.Act.TheVariants as act

@@ -13,8 +13,8 @@ use Rattle.plain_tree.specs.declared.tree.Step.{Step}
 use Rattle.tests_check.specs.Reads.{reading}
 use Rattle.monomorphise.specs.Monomorphise.{copy_of}
 use Rattle.mono_scopes.specs.Scopes.{variable}
-use Rattle.mono_words.specs.Words.{parameter_sign}
-use Rattle.mono_words.specs.Seen.{Seen, with_sign, within, out}
+use Rattle.mono_state.specs.of_mono_words.Words.{parameter_sign}
+use Rattle.mono_state.specs.of_mono_words.Seen.{Seen, with_sign, within, out}
 
 abbrev pub functions_in : Tables → List Function → Funs poly
 functions_in t fs = funs_of (map (function_of (reading t)) fs)

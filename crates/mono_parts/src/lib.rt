@@ -2,6 +2,7 @@
 #![tactic(auto)]
 
 pub use mono_state;
+pub use tests_check;
 
 pub mod arms;
 pub mod operations;

@@ -12,11 +12,11 @@ ghost use Rattle.tests_check.specs.Reads.{reading};
 ghost use Rattle.monomorphise.specs.Monomorphise.{copy_of, units, fun_vars, funs_copy, copy_argument, copy_name, name_needs};
 ghost use Rattle.mono_close.specs.Closing.{standing};
 ghost use Rattle.mono_scopes.specs.Scopes.{variable as variable_scope, binding};
-ghost use Rattle.mono_words.specs.Words.{exception_sign, name_sign, last_sign, spell_heads};
-ghost use Rattle.mono_words.specs.Seen.{with_sign, with_needs, within, out, needed_types, made};
+ghost use Rattle.mono_state.specs.of_mono_words.Words.{exception_sign, name_sign, last_sign, spell_heads};
+ghost use Rattle.mono_state.specs.of_mono_words.Seen.{with_sign, with_needs, within, out, needed_types, made};
 ghost use Rattle.mono_state.specs.Seen.{Held, held_of, Later, types_in, seen};
 ghost use Rattle.mono_state.specs.Going.{IsHeld, AllHeld, IsOpen, IsRight, Goes};
-ghost use Rattle.mono_words.specs.Made.{still_bare, all_bare};
+ghost use Rattle.mono_state.specs.of_mono_words.Made.{still_bare, all_bare};
 ghost use Rattle.mono_parts.specs.Steps.{functions_in, steps_in, with_own, parameters_entered, parameters_left};
 
 use crate::arms::{exception_of, parameter_of};

@@ -18,7 +18,7 @@ use Rattle.monomorphise.specs.Number.{none_given, number}
 use Rattle.monomorphise.specs.Table.{number_in, enter_all, first_types, types_for}
 use Rattle.mono_bound.specs.Reads.{mono_of}
 use Rattle.mono_words.specs.Words.{Sign, spell}
-use Rattle.mono_state.specs.Seen.{Held, name_in}
+use Rattle.mono_enter.specs.of_mono_state.Seen.{Held, name_in}
 use Rattle.mono_enter.specs.Entering.{HaveNumbers}
 use Rattle.mono_enter.specs.Laws.{WordsAreWanted}
 use Rattle.mono_enter.specs.Scanning.{around, scan}

@@ -11,8 +11,8 @@ use Rattle.monomorphise.specs.Number.{none_given, number}
 use Rattle.monomorphise.specs.Table.{number_in, types_for}
 use Rattle.mono_bound.specs.Reads.{mono_of}
 use Rattle.mono_words.specs.Words.{spell}
-use Rattle.mono_state.specs.Seen.{Held, held_of, Later, sign_of}
-use Rattle.mono_state.specs.declared.copier.Copier.{Copier}
+use Rattle.mono_enter.specs.of_mono_state.Seen.{Held, held_of, Later, sign_of}
+use Rattle.mono_enter.specs.of_mono_state.declared.copier.Copier.{Copier}
 use Rattle.mono_enter.specs.Walked.{Texts}
 use Rattle.mono_pass.specs.declared.make.Made.{Made}
 

@@ -5,7 +5,7 @@ ghost use Rattle.mlc_runs.specs.declared.pass.PassFault.TheVariants.{Expansion};
 ghost use Rattle.ir_tables.specs.Tables as before;
 ghost use Rattle.ir_tests.specs.Programs as source;
 ghost use Rattle.mono_form.specs.Programs as target;
-ghost use Rattle.mono_operations.specs.Reads as after;
+ghost use Rattle.mono_form.specs.of_mono_operations.Reads as after;
 ghost use Rattle.monomorphise.specs.Laws.{monomorphise};
 
 use crate::first::EXN_NUMBER;
@@ -14,8 +14,8 @@ use ir_tests::program::Program as Source;
 use mlc_runs::pass::{Pass, PassFault};
 use mono_copy::program::copy_program;
 use mono_exceptions::law::copies_make_no_more;
+use mono_form::mono_operations::tables::Tables;
 use mono_form::program::Program as Target;
-use mono_operations::tables::Tables;
 use monomorphise::law::monomorphise_keeps;
 use std::alloc::Global;
 

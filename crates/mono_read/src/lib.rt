@@ -2,6 +2,7 @@
 #![tactic(auto)]
 
 pub use mono_state;
+pub use mono_state::mono_words;
 
 pub mod law;
 pub mod lists;

@@ -1,3 +1,4 @@
+pub use Rattle.mono_words.proofs as of_mono_words
 pub mod Growing
 pub mod Going
 pub mod Naming

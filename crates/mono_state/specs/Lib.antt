@@ -1,2 +1,3 @@
+pub use Rattle.mono_words.specs as of_mono_words
 pub mod Seen
 pub mod Going

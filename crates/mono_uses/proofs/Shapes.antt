@@ -14,7 +14,7 @@ use Rattle.ir_uses.specs.declared.shape.Arguments.TheVariants as arguments
 use Rattle.ir_uses.specs.declared.shape.Signature.{Signature}
 use Rattle.ir_uses.specs.Shapes.{shape_type, shapes_of, prim_type_of}
 use Rattle.ir_mono.specs.Types.{Row, Node, node, node_at, numbered, Is, IsRef, Stands, stands_con, stands_var, stand_none, stand_more}
-use Rattle.prog_check.specs.Same.{same_labels}
+use Rattle.mono_fits.specs.of_prog_check.Same.{same_labels}
 use Rattle.mono_fits.specs.Asked.{given, headed, is_record_node, allows, is_named, is_reference, stands, all_stand, tuple_stands, function_stands, is_primitive, performs}
 use Rattle.mono_fits.proofs.Deciding.{named-sound, named-since, reference-sound, reference-since, record-sound, record-since}
 use Rattle.mono_fits.proofs.Primitives.{stands-sound, stands-since}

@@ -2,7 +2,7 @@
 ghost use Rattle.std.specs.Prelude.{◌≡◌, ◌↔◌, List, ℕ, IsTrue};
 ghost use Rattle.std.specs.Option.{option_and_then};
 ghost use Rattle.ir_tables.specs.Tables.{literal_at};
-ghost use Rattle.prog_check.specs.Same.{same_name as same_names, equality_number};
+ghost use Rattle.mono_fits.specs.of_prog_check.Same.{same_name as same_names, equality_number};
 ghost use Rattle.mono_fits.specs.Asked.{is_named, is_exn, is_reference, result_from, is_function, has_literal, has_constructor, is_alone, is_alone_use, is_exception, is_maker, field_of, is_sized, same_argument};
 ghost use Rattle.ir_poly.specs.TestsChecked.{is_size};
 

@@ -9,7 +9,7 @@ use Rattle.ty_core.specs.declared.name.TyName.{TyName}
 use Rattle.ty_core.specs.declared.name.Equality.{Equality}
 use Rattle.ty_core.specs.declared.name.Equality.TheVariants.{Always, ByArguments}
 use Rattle.ir_mono.specs.of_ir_plain.Tree.{Case, is_literal, is_con, is_con_of, is_exn, is_exn_of, is_record, Exp, ret, let_in, exception_in, name_in, rec_in, switch, first, miss, counted, Arms, no_arms, arm, Op, use_of, const, con_alone, construct, ref_alone, refer, content, pack, make_record, select, prim_alone, prim, app, fn, block, handle, raise, raise_initial, Fun, last, more as more_of, Funs, no_funs, fun}
-use Rattle.ir_values.specs.Values.{false_number, true_number, nil_number, cons_number, truth_number}
+use Rattle.ir_mono.specs.of_ir_values.Values.{false_number, true_number, nil_number, cons_number, truth_number}
 use Rattle.ir_mono.specs.of_ir_poly.Types.{Constructor, constructor_of, find, list_name, pair_type, list_type, bool_name, exn_name, initial_constructors, IsConstructor}
 use Rattle.ir_mono.specs.of_ir_poly.TestsChecked.{HasConstructor}
 use Rattle.ir_mono.specs.Types.{Row, Node, node, node_at, constructor_at, admits, unit_number, Is, IsComparable, records_are, named_are, admit_none, Stands, stands_con, IsTable}

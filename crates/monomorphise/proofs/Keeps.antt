@@ -9,10 +9,10 @@ use Rattle.mlc_runs.specs.Refinement.{Refines, both_give, both_raise, both_stop,
 use Rattle.mlc_runs.proofs.RefineLaws.{or_handle-refines, take_turn-refines, dereference-refines, new_exception-refines, outcome_of-refines}
 use Rattle.ty_core.specs.Types.{Typ}
 use Rattle.ty_core.specs.declared.scheme.Quantified.{Quantified}
-use Rattle.ir_values.specs.Tags.{untagged}
-use Rattle.ir_values.specs.Values.{exn, packet_name, value_of}
-use Rattle.ir_values.specs.Match.{after_match}
-use Rattle.ir_values.specs.Primitives.{marked, content_of, raise_value}
+use Rattle.ir_mono.specs.of_ir_values.Tags.{untagged}
+use Rattle.ir_mono.specs.of_ir_values.Values.{exn, packet_name, value_of}
+use Rattle.ir_mono.specs.of_ir_values.Match.{after_match}
+use Rattle.ir_mono.specs.of_ir_values.Primitives.{marked, content_of, raise_value}
 use Rattle.mlc_prims.specs.LitOf.{Literal, int, word, char, string, truth}
 use Rattle.ir_mono.specs.of_ir_plain.Tree.{Exp, Arms, Op, Fun, Funs, Exception}
 use Rattle.ir_mono.specs.of_ir_plain.Meaning.{V, Scope, Fits, Apply, argument_tag, look_up, on_name, exception_of, pack_value, select_from, read_reference, members, eval, eval_arms, eval_op, run_fun, enter, apply, identifier_of, run}

@@ -7,7 +7,7 @@ use Rattle.ty_core.specs.Types.{Symbol, arrow, labels, name, Typ, var, con, Typs
 use Rattle.ty_core.specs.declared.name.TyName.{TyName}
 use Rattle.ty_core.specs.declared.name.Equality as attribute
 use Rattle.ty_core.specs.declared.name.Equality.TheVariants.{Always, ByArguments, Never}
-use Rattle.ir_values.specs.Values.{same_label}
+use Rattle.ir_mono.specs.of_ir_values.Values.{same_label}
 use Rattle.monomorphise.specs.Monomorphise.{same_attribute, same_name, same_labels, same_symbol, same_type, same_parts, same_types, Name, copy_of, is_same, is_among, is_in, others, all_needs}
 
 left : (a b : Bool) → (a && b) ≡ true → a ≡ true

@@ -14,7 +14,7 @@ use Rattle.ty_core.specs.declared.name.Equality.TheVariants.{Always, ByArguments
 use Rattle.ty_core.specs.Marks as marks
 use Rattle.ty_core.specs.declared.mark.Mark.{Mark}
 use Rattle.ty_core.specs.declared.mark.Mark.TheVariants.{Any, Equality, Class}
-use Rattle.ir_values.specs.Values.{same_label}
+use Rattle.ir_mono.specs.of_ir_values.Values.{same_label}
 use Rattle.ir_mono.specs.of_ir_poly.Types as poly
 use Rattle.ir_mono.specs.of_ir_poly.Types.{Constructor, of_name, function_type, ref_type, row_type, tuple_type, put, prim_type, arguments_at, result_at, nth_type, argument_at}
 use Rattle.ir_mono.specs.of_ir_poly.TestsChecked as checked

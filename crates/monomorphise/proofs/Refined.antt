@@ -11,11 +11,11 @@ use Rattle.mlc_prims.specs.LitOf.{Literal, int, word, char, string, truth}
 use Rattle.mlc_prims.specs.PrimOf.{Gives, made, raised}
 use Rattle.mlc_prims.specs.Table.{literal_eq, row_of}
 use Rattle.mlc_prims.specs.declared.basis.BasisPrimitive.{BasisPrimitive}
-use Rattle.ir_values.specs.Tags.{untagged}
-use Rattle.ir_values.specs.Values.{count, address_in, unit_value, truth_value}
-use Rattle.ir_values.specs.Equality.{both_equal, where_holds, if_equal, Constructed, fields_at, con_at, same_part, same_at, same_fields}
-use Rattle.ir_values.specs.Primitives.{is_overloaded, Sort, compares, assigns, prints, computes, sort_of, begin_at, row_at, literals, parts, tuple, arguments, giving, compare_values, assign_value, print_literals, perform_as, perform, make_reference}
-use Rattle.ir_values.proofs.PrimitiveLemmas.{untagged-row}
+use Rattle.ir_mono.specs.of_ir_values.Tags.{untagged}
+use Rattle.ir_mono.specs.of_ir_values.Values.{count, address_in, unit_value, truth_value}
+use Rattle.ir_mono.specs.of_ir_values.Equality.{both_equal, where_holds, if_equal, Constructed, fields_at, con_at, same_part, same_at, same_fields}
+use Rattle.ir_mono.specs.of_ir_values.Primitives.{is_overloaded, Sort, compares, assigns, prints, computes, sort_of, begin_at, row_at, literals, parts, tuple, arguments, giving, compare_values, assign_value, print_literals, perform_as, perform, make_reference}
+use Rattle.ir_mono.proofs.of_ir_values.PrimitiveLemmas.{untagged-row}
 use Rattle.ir_mono.specs.of_ir_plain.Meaning.{V, Parts}
 use Rattle.ir_mono.specs.of_ir_poly.Tests.{poly}
 use Rattle.monomorphise.specs.Copies.{Target}

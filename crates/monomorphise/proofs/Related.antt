@@ -7,9 +7,9 @@ use Rattle.mlc_prims.specs.LitOf.{Literal}
 use Rattle.mlc_prims.specs.Table.{literal_eq}
 use Rattle.mlc_prims.specs.declared.basis.BasisPrimitive.{BasisPrimitive}
 use Rattle.ty_core.specs.Types.{Typ}
-use Rattle.ir_values.specs.Tags.{untagged}
-use Rattle.ir_values.specs.Values.{literal, record_of, con, con_of, exn, exn_of, ref, address, cell, primitive, closure, no_fields, field, empty, bind, same_label, field_in, count, literal_in, address_in, packet_name}
-use Rattle.ir_values.specs.Match.{matches, no_match, mismatch, where_same, against_literal, against_con, under_con, against_exn, under_exn, under_record, match_at, of_size}
+use Rattle.ir_mono.specs.of_ir_values.Tags.{untagged}
+use Rattle.ir_mono.specs.of_ir_values.Values.{literal, record_of, con, con_of, exn, exn_of, ref, address, cell, primitive, closure, no_fields, field, empty, bind, same_label, field_in, count, literal_in, address_in, packet_name}
+use Rattle.ir_mono.specs.of_ir_values.Match.{matches, no_match, mismatch, where_same, against_literal, against_con, under_con, against_exn, under_exn, under_record, match_at, of_size}
 use Rattle.ir_mono.specs.of_ir_plain.Kind.{Kind}
 use Rattle.ir_mono.specs.of_ir_plain.Tree.{Fun, Funs, no_funs, fun, Case, Atoms, Row}
 use Rattle.ir_mono.specs.of_ir_plain.Meaning.{V, Scope, Fits, Parts, alone, one_of, look_up, look_all, look_row, in_front, field_in_front, check, members_from}

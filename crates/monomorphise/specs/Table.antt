@@ -5,7 +5,7 @@ use Rattle.std.specs.Map.{lookup}
 use Rattle.ty_core.specs.Types.{arrow, labels, name, Typ, var, con, Typs, none, more, attribute, allowed}
 use Rattle.ty_core.specs.declared.name.TyName.{TyName}
 use Rattle.ir_mono.specs.of_ir_plain.Tree.{Case, is_literal, is_con, is_con_of, is_exn, is_exn_of, is_record, Exp, ret, let_in, exception_in, name_in, rec_in, switch, first, miss, counted, Arms, no_arms, arm, Op, use_of, const, con_alone, construct, ref_alone, refer, content, pack, make_record, select, prim_alone, prim, app, fn, block, handle, raise, raise_initial, Fun, last, more as more_of, Funs, no_funs, fun}
-use Rattle.ir_values.specs.Values.{false_number, true_number}
+use Rattle.ir_mono.specs.of_ir_values.Values.{false_number, true_number}
 use Rattle.ir_mono.specs.of_ir_poly.Types.{Constructor, find, bool_name, exn_name}
 use Rattle.ir_mono.specs.Types.{Row, Node, node, unit_number}
 use Rattle.ir_mono.specs.Growing.{with_constructor}

@@ -2,6 +2,7 @@
 #![tactic(auto)]
 
 pub use match_steps;
+pub use match_steps::match_types;
 
 pub mod made;
 pub mod parts;

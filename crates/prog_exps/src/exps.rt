@@ -3,7 +3,7 @@
 ghost use Rattle.std.specs.Prelude.{◌≡◌, [], IfOk};
 ghost use Rattle.ty_table.specs.TypeAt.{type_at};
 ghost use Rattle.ir_poly.specs.TestsChecked.{exn_type};
-ghost use Rattle.record_order.specs.Order.{AreOrders};
+ghost use Rattle.prog_leaves.specs.of_record_order.Order.{AreOrders};
 ghost use Rattle.prog_known.specs.Lists.{run, hold, all_hold};
 ghost use Rattle.prog_leaves.specs.of_prog_parts.Expressions.{argument_next, join_next, dec_step};
 ghost use Rattle.prog_leaves.specs.Places.{Adds};
@@ -24,6 +24,7 @@ use prog_leaves::functions::is_function_type;
 use prog_leaves::prog_binds::groups::{bind_bindings, bind_members};
 use prog_leaves::prog_binds::pats::bind_pat;
 use prog_leaves::prog_pats::pats::check_pat;
+use prog_leaves::record_order::facts::Facts;
 use prog_leaves::rows::is_row;
 use prog_leaves::scopes::{declare, leave, mark_place};
 use prog_leaves::types::{
@@ -31,7 +32,6 @@ use prog_leaves::types::{
 };
 use prog_shapes::types::type_of;
 use prog_tree::tree::{Binding, Dec, Exp, Function, Join, Parameter, Rule, Side};
-use record_order::facts::Facts;
 use std::alloc::Global;
 
 /// Whether an expression has the type that it has written.

@@ -12,7 +12,7 @@ use Rattle.ty_table.specs.TypeAt.{type_at}
 use Rattle.ir_poly.specs.Prog as tree
 use Rattle.ir_poly.specs.Types.{function_type, sorted}
 use Rattle.ir_tables.specs.declared.tables.Tables.{Tables}
-use Rattle.ir_uses.specs.Fields.{field_types}
+use Rattle.prog_pats.specs.of_ir_uses.Fields.{field_types}
 use Rattle.prog_check.specs.Same.{same_type}
 use Rattle.prog_check.specs.Checking.{fun_type}
 use Rattle.prog_known.proofs.ListLemmas.{drop-next, drop-all}

@@ -1,6 +1,6 @@
 // Parameters, and the patterns of bindings.
 ghost use Rattle.std.specs.Prelude.{◌≡◌, [], IfOk};
-ghost use Rattle.record_order.specs.Order.{AreOrders};
+ghost use Rattle.prog_pats.specs.of_record_order.Order.{AreOrders};
 ghost use Rattle.prog_known.specs.Lists.{run, all_hold};
 ghost use Rattle.prog_pats.specs.of_prog_parts.Expressions.{parameter_onto};
 ghost use Rattle.prog_leaves.specs.Right.{is_known, has_known, parameter_right, bound_right, plain_right, general_right};
@@ -13,11 +13,11 @@ use prog_known::environment::Environment;
 use prog_known::manner::Manner;
 use prog_pats::pats::check_pat;
 use prog_pats::prog_binds::one::bind_one;
+use prog_pats::record_order::orders::Orders;
 use prog_pats::records::is_known as is_in_scope;
 use prog_shapes::types::type_of;
 use prog_tree::tree::{Binding, Exp, Parameter, Rule};
 use prog_values::values::is_value;
-use record_order::orders::Orders;
 use std::alloc::Global;
 
 /// Whether a type is over the parameters in scope.

@@ -5,9 +5,9 @@ ghost use Rattle.prog_leaves.specs.Places.{Adds};
 
 use ir_known::known::Known;
 use ir_tables::tables::Tables;
-use ir_uses::using::is_option_over;
 use mlc_base::memory::NoMemory;
 use prog_known::environment::Environment;
+use prog_pats::ir_uses::using::is_option_over;
 use std::alloc::Global;
 
 /// Puts an exception in scope. Whether its argument's type is over the parameters in scope.

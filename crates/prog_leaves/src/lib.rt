@@ -2,7 +2,7 @@
 #![tactic(auto)]
 
 pub use prog_pats;
-pub use prog_pats::prog_binds;
+pub use prog_pats::{ir_uses, prog_binds, record_order};
 
 pub mod atoms;
 pub mod bounds;

@@ -6,9 +6,9 @@ ghost use Rattle.prog_leaves.specs.Right.{has_type, is_bool, is_last, is_test, a
 
 use ir_known::ask::{BOOL, is_function, is_named, same_type};
 use ir_tables::tables::Tables;
-use ir_uses::record::is_record;
 use mlc_names::label::Label;
 use prog_known::answers::both;
+use prog_pats::ir_uses::record::is_record;
 use prog_shapes::types::type_of;
 use prog_tree::tree::{Exp, Join, Side};
 

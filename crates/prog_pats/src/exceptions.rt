@@ -10,9 +10,9 @@ ghost use Rattle.prog_known.specs.Onto.{known_with};
 
 use ir_known::ask::is_named;
 use ir_tables::tables::Tables;
-use ir_uses::exception::{exception_argument, is_initial, same_argument};
 use prog_known::variables::Variables;
 use prog_tree::tree::Exception;
+use record_order::ir_uses::exception::{exception_argument, is_initial, same_argument};
 use ty_core::name::TyName;
 use ty_table::types::Types;
 

@@ -9,11 +9,11 @@ use crate::exceptions::{is_packet, takes};
 use crate::records::{is_known, is_pair};
 use ir_known::ask::is_reference;
 use ir_tables::tables::Tables;
-use ir_uses::constructor::has_constructor;
 use mlc_base::memory::NoMemory;
 use prog_known::answers::both;
 use prog_known::environment::Environment;
 use prog_tree::tree::{Exception, Head, Pair};
+use record_order::ir_uses::constructor::has_constructor;
 use std::alloc::Global;
 use ty_table::types::Types;
 

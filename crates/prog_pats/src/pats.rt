@@ -9,13 +9,13 @@ ghost use Rattle.prog_pats.specs.Fits.{pat_fits, before_fits, record_fits, field
 use crate::heads::{check_exception, check_head, check_joint};
 use crate::records::{has_size, is_known, is_part};
 use ir_tables::tables::Tables;
-use ir_uses::constructor::has_constructor;
-use ir_uses::literal::has_literal;
 use mlc_base::memory::NoMemory;
 use prog_known::answers::both;
 use prog_known::environment::Environment;
 use prog_parts::prog_binds::pats::{type_before, type_of_part};
 use prog_tree::tree::{Head, Pat, PatField, PatPart, Side};
+use record_order::ir_uses::constructor::has_constructor;
+use record_order::ir_uses::literal::has_literal;
 use record_order::orders::Orders;
 use std::alloc::Global;
 

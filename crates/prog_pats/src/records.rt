@@ -13,13 +13,13 @@ ghost use Rattle.prog_pats.specs.Fits.{is_over as over_scope, part_fits, pair_fi
 use ir_known::ask::same_type;
 use ir_known::walk::is_over;
 use ir_tables::tables::Tables;
-use ir_uses::record::record_size;
 use mlc_base::memory::NoMemory;
 use mlc_names::label::Label;
 use prog_known::answers::both;
 use prog_known::environment::Environment;
 use prog_tree::tree::Pair;
 use record_order::fields::field_of;
+use record_order::ir_uses::record::record_size;
 use std::alloc::Global;
 use ty_table::types::Types;
 

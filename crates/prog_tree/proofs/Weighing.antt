@@ -4,7 +4,7 @@ use Rattle.std.proofs.lemmas.List.Sums.{sum_by-cons}
 use Rattle.std.specs.Prelude.{sum_by}
 use Rattle.mlc_names.specs.declared.label.Label.{Label}
 use Rattle.mlc_base.specs.declared.place.Place.{Place}
-use Rattle.ty_core.specs.Types.{Typ}
+use Rattle.ir_tables.specs.of_ty_core.Types.{Typ}
 use Rattle.ir_tables.specs.of_ir_poly.Prog as t
 use Rattle.ir_tables.specs.of_ir_poly.ProgWeight.{weight, fields_weight, chain_weight, rules_weight, fun_weight, decs_weight, binds_weight, funs_weight}
 use Rattle.prog_tree.specs.TreeOf.{Reading, DecTree, val_tree, exception_tree, counted_tree, tree_of, dec_of, put, decs_of, record_of, rules_of, join, left_joins, right_joins, apply_by, joins_by, chain_of, sequence_of, binds_by, funs_by, after_parameters, field_of, rule_of, argument_of, join_of, bind_of, fun_of}

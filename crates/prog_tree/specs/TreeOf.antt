@@ -5,8 +5,8 @@ use Rattle.std.specs.Option.{option_map}
 use Rattle.mlc_names.specs.declared.label.Label.{Label}
 use Rattle.mlc_names.specs.declared.label.Label.TheVariants.{Number}
 use Rattle.mlc_base.specs.declared.place.Place.{Place}
-use Rattle.ty_core.specs.Types.{Typ}
-use Rattle.ty_core.specs.declared.scheme.Quantified.{Quantified}
+use Rattle.ir_tables.specs.of_ty_core.Types.{Typ}
+use Rattle.ir_tables.specs.of_ty_core.declared.scheme.Quantified.{Quantified}
 use Rattle.ir_tables.specs.of_ir_poly.Prog as t
 use Rattle.ir_tables.specs.Tables.{literal_at}
 use Rattle.prog_tree.specs.declared.tree.Exception.{Exception}

@@ -1,12 +1,12 @@
 // The tree: variables, types, lists of parameters and strings are numbers. What the numbers stand for is a `Reading`. What the source writes in one go, as a
 // list, a chain of infix operators or the arguments of an application, is one node, so that nothing recurses along it.
 
+use ir_tables::mlc_prims::basis::BasisPrimitive;
 use ir_tables::tables::Constant;
+use ir_tables::ty_core::name::TyName;
 use mlc_base::place::Place;
 use mlc_names::label::Label;
 use mlc_names::names::Name;
-use mlc_prims::basis::BasisPrimitive;
-use ty_core::name::TyName;
 
 /// An exception of the initial basis, or that of a variable.
 #[derive(Clone, Copy)]

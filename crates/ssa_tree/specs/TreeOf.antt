@@ -2,8 +2,8 @@
 use Rattle.std.specs.Prelude.{ℕ, List, [], ◌∷◌, map}
 use Rattle.mlc_base.specs.declared.place.Place.{Place}
 use Rattle.mlc_prims.specs.declared.basis.BasisPrimitive.{BasisPrimitive}
-use Rattle.first_values.specs.Values.{Piece}
-use Rattle.first_values.specs.Operations.{Plain, Operands, Test, Callee}
+use Rattle.first_tables.specs.of_first_values.Values.{Piece}
+use Rattle.first_tables.specs.of_first_values.Operations.{Plain, Operands, Test, Callee}
 use Rattle.first_tables.specs.TablesOf.{plain_of, operands_of, test_of, callee_of, piece_of}
 use Rattle.ir_ssa.specs.Tree as s
 use Rattle.ssa_tree.specs.declared.tree.Body.{Body, Body-F, fold-Body}

@@ -1,3 +1,5 @@
+pub use Rattle.record_order.proofs.of_ir_uses as of_ir_uses
+pub use Rattle.record_order.proofs as of_record_order
 pub mod Lists
 pub mod Names
 pub mod Openings

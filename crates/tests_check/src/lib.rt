@@ -1,6 +1,9 @@
 // The checker of programs of tests: one walk along the tree, with what is in scope.
 #![tactic(auto)]
 
+pub use record_order;
+pub use record_order::ir_uses;
+
 pub mod atom;
 pub mod case;
 pub mod group;

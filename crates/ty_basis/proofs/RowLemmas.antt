@@ -1,7 +1,7 @@
 -- Rows of the table on values of the types that their primitives take.
 use Rattle.std.proofs.Common.{◌≡◌, ℕ, zero, suc, Bool, true, false, ℤ, pos, negsuc, neg_ℤ, ◌+ℤ◌, ◌-ℤ◌, ◌*ℤ◌, int_lt, int_div, List, [], ◌∷◌, Option, Some, None, refl, sym, ap, subst, map, nat_eq, ◌∙◌}
 use Rattle.std.specs.Prelude.{if◌then◌else◌, nat_le, length, ◌+◌, ◌++◌}
-use Rattle.word_arithmetic.specs.Arithmetic.{floor_div}
+use Rattle.mlc_prims.specs.of_word_arithmetic.Arithmetic.{floor_div}
 use Rattle.mlc_prims.specs.LitOf.{Literal, int, word, char, string, truth}
 use Rattle.mlc_prims.specs.PrimOf.{Gives, made, raised, int_result, exact, fitting, joined, max_size}
 use Rattle.mlc_prims.specs.Table.{row_of, unless_zero, unless_none, or_subscript, byte_at, bytes_from, character}

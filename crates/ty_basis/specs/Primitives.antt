@@ -1,6 +1,6 @@
 -- Types of the primitives. [Definition, Appendices D and E]
 use Rattle.std.specs.Prelude.{ℕ, suc, true, false, List, [], ◌∷◌}
-use Rattle.mlc_names.specs.declared.label.Label.TheVariants.{Number}
+use Rattle.ty_core.specs.of_mlc_names.declared.label.Label.TheVariants.{Number}
 use Rattle.mlc_prims.specs.declared.basis.BasisPrimitive.{BasisPrimitive}
 use Rattle.mlc_prims.specs.declared.basis.BasisPrimitive.TheVariants.{Add, Subtract, Multiply, Divide, Modulo, Negate, Absolute, Less, LessEqual, Greater, GreaterEqual, Equals, Assign, Quotient, Remainder, BitsAnd, BitsOr, BitsXor, BitsNot, ShiftLeft, ShiftRight, ShiftSigned, ToInt, ToIntSigned, FromInt, CharCode, CharOf, TextOf, SizeOf, CharAt, PartOf, Concat, StringOf, Print}
 use Rattle.ty_core.specs.Types.{Typ, var}

@@ -1,7 +1,7 @@
 -- Types of the initial basis: its type names, each with its number, and the types that are made of them. [Definition 4.1 and Appendix C]
 use Rattle.std.specs.Prelude.{ℕ, List, [], ◌∷◌, map, length}
-use Rattle.mlc_names.specs.declared.label.Label.{Label}
-use Rattle.mlc_names.specs.declared.label.Label.TheVariants.{Number}
+use Rattle.ty_core.specs.of_mlc_names.declared.label.Label.{Label}
+use Rattle.ty_core.specs.of_mlc_names.declared.label.Label.TheVariants.{Number}
 use Rattle.ty_core.specs.Types.{Typ, con, none, more, typs_of, arrow, labels, name}
 use Rattle.ty_core.specs.declared.name.TyName.{TyName}
 use Rattle.ty_core.specs.declared.name.Equality.TheVariants.{Always, ByArguments, Never}

@@ -1,11 +1,11 @@
 -- A substitution with no cycle as a function, which leaves open variables as they are.
 use Rattle.std.proofs.Common.{◌≡◌, ◌<◌, ◌≤◌, ◌||◌, ◌⊎◌, inl, inr, ℕ, zero, suc, Bool, true, false, List, length, take, Option, refl, sym, ap, ap₂, ◌∙◌, subst, arith}
 use Rattle.std.proofs.lemmas.Bool.{eqb-true, false≢true, lt-ltb}
-use Rattle.ty_core.specs.Types.{Typ, var, con, Typs, none, more}
+use Rattle.ty_solve.specs.of_ty_core.Types.{Typ, var, con, Typs, none, more}
 use Rattle.ty_solve.specs.Substitution.{sub, subs, Entry, free, bound, row, FitsAt, Fits, is_below, is_in, are_in, is_open}
 use Rattle.ty_solve.specs.Weight.{weight, weights, WeighsAt, Weighs, IsAcyclic, BelowAt, AreBelow}
 use Rattle.ty_solve.proofs.Sigma.{sub-light, sub-below}
-use Rattle.ty_table.specs.TypeAt.{type_at}
+use Rattle.ty_solve.specs.of_ty_table.TypeAt.{type_at}
 use Rattle.ty_solve.proofs.Holding.{type-stays}
 use Rattle.ty_instance.specs.Images.{value_of, Ends, IsResolved}
 use Rattle.ty_instance.specs.Steps.{image_in, IsImage, Going}

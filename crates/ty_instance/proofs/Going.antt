@@ -2,8 +2,8 @@
 use Rattle.std.proofs.Common.{◌≡◌, ◌<◌, ◌≤◌, ◌*◌, ◌+◌, ◌⊎◌, inl, inr, ℕ, zero, suc, List, [], ◌∷◌, ◌++◌, Bool, true, false, cond, nat_eq, length, take, Option, Some, refl, sym, ap, ap₂, subst, ◌∙◌, arith}
 use Rattle.std.proofs.lemmas.List.{append-nil, append_assoc}
 use Rattle.std.proofs.lemmas.Bool.{eq-eqb, eqb-true}
-use Rattle.ty_core.specs.Types.{Typ, var, con, more}
-use Rattle.ty_table.specs.TypeAt.{type_at, types_at, top, AllBelow}
+use Rattle.ty_solve.specs.of_ty_core.Types.{Typ, var, con, more}
+use Rattle.ty_solve.specs.of_ty_table.TypeAt.{type_at, types_at, top, AllBelow}
 use Rattle.ty_solve.specs.Substitution.{Entry, bound, sub}
 use Rattle.ty_solve.specs.Weight.{weight, weights, Weighs, WeighsAt}
 use Rattle.ty_solve.proofs.Holding.{type-stays}

@@ -2,11 +2,11 @@
 use Rattle.std.proofs.Common.{◌≡◌, ◌≢◌, ◌<◌, ◌-◌, inl, ℕ, List, [], ◌∷◌, ◌++◌, Bool, true, false, cond, nat_eq, nat_lt, if◌then◌else◌, length, map, take, get_or, Option, Some, None, slice_get, unwrap_or, AllPairs, Result, Ok, Err, IfOk, MatchOption, refl, sym, ap, ap₂, subst, ◌∙◌, arith}
 use Rattle.std.proofs.lemmas.Bool.{ltb-true}
 use Rattle.std.proofs.lemmas.Option.{slice_get_within, slice_get-get_or, get_or_from_slice_get}
-use Rattle.ty_core.specs.Types.{Symbol, Typ, var, con, Typs, none, more}
-use Rattle.ty_core.specs.Statics.{replace, replace_all}
-use Rattle.ty_table.specs.TypeAt.{type_at, types_at, AllBelow}
-use Rattle.ty_table.proofs.Keeping.{one-place}
-use Rattle.ty_table.proofs.Viewing.{below-at}
+use Rattle.ty_solve.specs.of_ty_core.Types.{Symbol, Typ, var, con, Typs, none, more}
+use Rattle.ty_solve.specs.of_ty_core.Statics.{replace, replace_all}
+use Rattle.ty_solve.specs.of_ty_table.TypeAt.{type_at, types_at, AllBelow}
+use Rattle.ty_solve.proofs.of_ty_table.Keeping.{one-place}
+use Rattle.ty_solve.proofs.of_ty_table.Viewing.{below-at}
 use Rattle.ty_solve.specs.Substitution.{Entry, sub, subs, Fits, FitsAt}
 use Rattle.ty_solve.proofs.Holding.{type-stays}
 use Rattle.ty_solve.proofs.Walking.{ground-same}

@@ -4,8 +4,8 @@ use Rattle.std.specs.Option.{option_map, option_or}
 use Rattle.std.proofs.lemmas.Bool.{eqb-true}
 use Rattle.std.proofs.lemmas.Option.{slice_get-get_or}
 use Rattle.std.proofs.Math.Seq.{take-suc}
-use Rattle.ty_core.specs.Types.{Typ, var}
-use Rattle.ty_table.specs.TypeAt.{type_at, AllBelow}
+use Rattle.ty_solve.specs.of_ty_core.Types.{Typ, var}
+use Rattle.ty_solve.specs.of_ty_table.TypeAt.{type_at, AllBelow}
 use Rattle.ty_solve.proofs.Holding.{type-stays}
 use Rattle.ty_solve.specs.Substitution.{Entry}
 use Rattle.ty_instance.specs.Put.{put_for, first_at, put_at, AreHeld}

@@ -4,10 +4,10 @@ use Rattle.std.proofs.lemmas.Bool.{ltb-true, lt-ltb, and_parts}
 use Rattle.std.proofs.lemmas.List.{append_assoc, map-append, length-map, length-append}
 use Rattle.std.proofs.lemmas.Option.{slice_get_within, get_or_from_slice_get}
 use Rattle.std.proofs.Math.Seq.{take-suc}
-use Rattle.ty_core.specs.Types.{Typ, var, con, Typs, none, more}
-use Rattle.ty_core.specs.Statics.{replace, replace_all}
-use Rattle.ty_core.specs.declared.mark.Mark.{Mark}
-use Rattle.ty_table.specs.TypeAt.{type_at, AllBelow}
+use Rattle.ty_solve.specs.of_ty_core.Types.{Typ, var, con, Typs, none, more}
+use Rattle.ty_solve.specs.of_ty_core.Statics.{replace, replace_all}
+use Rattle.ty_solve.specs.of_ty_core.declared.mark.Mark.{Mark}
+use Rattle.ty_solve.specs.of_ty_table.TypeAt.{type_at, AllBelow}
 use Rattle.ty_solve.specs.Substitution.{Entry, is_below, are_below}
 use Rattle.ty_solve.specs.SlotsOf.{look, entries, entry_of, seen}
 use Rattle.ty_solve.specs.declared.limit.Limit.{Limit}

@@ -1,8 +1,8 @@
 -- What variables stand for in an instance, and under a substitution.
 use Rattle.std.specs.Prelude.{◌≡◌, ◌-◌, ℕ, List, length, nat_lt, slice_index_or, if◌then◌else◌}
-use Rattle.ty_core.specs.Types.{Typ, var}
-use Rattle.ty_core.specs.declared.mark.Mark.{Mark}
-use Rattle.ty_table.specs.TypeAt.{type_at}
+use Rattle.ty_solve.specs.of_ty_core.Types.{Typ, var}
+use Rattle.ty_solve.specs.of_ty_core.declared.mark.Mark.{Mark}
+use Rattle.ty_solve.specs.of_ty_table.TypeAt.{type_at}
 use Rattle.ty_solve.specs.Substitution.{Entry, free, bound, row, sub}
 
 -- a variable of a scheme's body: the first ones are its parameters and stand for the types of their images, the others are free and counted from there

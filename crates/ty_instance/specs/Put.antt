@@ -1,8 +1,8 @@
 -- Types put for some variables.
 use Rattle.std.specs.Prelude.{◌≡◌, ◌<◌, ℕ, List, [], ◌∷◌, Option, Some, None, nat_eq, unwrap_or, if◌then◌else◌}
 use Rattle.std.specs.Option.{option_map}
-use Rattle.ty_core.specs.Types.{Typ, var}
-use Rattle.ty_table.specs.TypeAt.{type_at}
+use Rattle.ty_solve.specs.of_ty_core.Types.{Typ, var}
+use Rattle.ty_solve.specs.of_ty_table.TypeAt.{type_at}
 
 -- the types put for the variables, each variable's first; other variables are as they were
 abbrev pub put_for : List ℕ → List Typ → ℕ → Typ

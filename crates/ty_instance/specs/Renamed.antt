@@ -1,6 +1,6 @@
 -- Parameters of a scheme as new variables.
 use Rattle.std.specs.Prelude.{ℕ, zero, suc, ◌+◌, ◌-◌, List, [], ◌∷◌, nat_lt, if◌then◌else◌}
-use Rattle.ty_core.specs.Types.{Typ, var}
+use Rattle.ty_solve.specs.of_ty_core.Types.{Typ, var}
 
 -- the first k variables of a body are the variables from n on, the others are free and counted from there
 abbrev pub renamed : (n k : ℕ) → ℕ → Typ

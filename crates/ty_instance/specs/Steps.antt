@@ -1,7 +1,7 @@
 -- The order in which images are made.
 use Rattle.std.specs.Prelude.{◌≡◌, ◌⊎◌, ◌<◌, ◌*◌, ◌+◌, ℕ, suc, List, [], ◌∷◌, ◌++◌, map, length, Option, Some, unwrap_or, ⊤}
-use Rattle.ty_core.specs.Types.{Symbol, Typ, var, con}
-use Rattle.ty_table.specs.TypeAt.{type_at, types_at, top, AllBelow}
+use Rattle.ty_solve.specs.of_ty_core.Types.{Symbol, Typ, var, con}
+use Rattle.ty_solve.specs.of_ty_table.TypeAt.{type_at, types_at, top, AllBelow}
 use Rattle.ty_solve.specs.Substitution.{Entry, bound, sub}
 use Rattle.ty_solve.specs.Weight.{weight}
 use Rattle.ty_instance.specs.declared.step.Step.{Step}

@@ -1,9 +1,9 @@
 // Instances at new variables.
 ghost use Rattle.std.specs.Prelude.{◌≡◌, ◌+◌, ◌<◌, ◌≤◌, ◌++◌, ℕ, Some, length, map, slice_get, take, IfOk, true};
 ghost use Rattle.std.specs.List.{AllByRecursion};
-ghost use Rattle.ty_core.specs.Statics.{replace};
-ghost use Rattle.ty_core.specs.Marks.{is_inhabited};
-ghost use Rattle.ty_table.specs.TypeAt.{type_at, AllBelow};
+ghost use Rattle.ty_solve.specs.of_ty_core.Statics.{replace};
+ghost use Rattle.ty_solve.specs.of_ty_core.Marks.{is_inhabited};
+ghost use Rattle.ty_solve.specs.of_ty_table.TypeAt.{type_at, AllBelow};
 ghost use Rattle.ty_solve.specs.Said.{said};
 ghost use Rattle.ty_solve.specs.Substitution.{is_below};
 ghost use Rattle.ty_solve.specs.declared.subst.Slot.TheVariants.{Open};
@@ -14,9 +14,9 @@ use crate::put::put;
 use crate::within::instantiate_in;
 use mlc_base::memory::NoMemory;
 use std::alloc::Global;
-use ty_core::mark::Mark;
 use ty_solve::limit::Limit;
 use ty_solve::solver::Solver;
+use ty_solve::ty_core::mark::Mark;
 
 /// The types that are new variables with these marks, in their order.
 fn fresh_variables(

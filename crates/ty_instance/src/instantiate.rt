@@ -1,9 +1,9 @@
 // Bodies of schemes and type functions with types put for their parameters.
 ghost use Rattle.std.specs.Prelude.{◌≡◌, ◌<◌, ◌++◌, ◌∷◌, ◌^◌, ◌-◌, ℕ, [], Some, nat_eq, length, slice_get, take, IfOk};
 ghost use Rattle.indexmap.specs.IndexMap.{get};
-ghost use Rattle.ty_core.specs.Types.{Typ};
-ghost use Rattle.ty_core.specs.Statics.{replace};
-ghost use Rattle.ty_table.specs.TypeAt.{type_at, AllBelow};
+ghost use Rattle.ty_solve.specs.of_ty_core.Types.{Typ};
+ghost use Rattle.ty_solve.specs.of_ty_core.Statics.{replace};
+ghost use Rattle.ty_solve.specs.of_ty_table.TypeAt.{type_at, AllBelow};
 ghost use Rattle.ty_instance.specs.Images.{image_at, nothing};
 ghost use Rattle.ty_instance.specs.Steps.{Going, Moves};
 ghost use Rattle.ty_instance.specs.declared.step.Step.TheVariants.{Visit};
@@ -13,7 +13,7 @@ use crate::step::Step;
 use indexmap::IndexMap;
 use mlc_base::memory::NoMemory;
 use std::alloc::Global;
-use ty_table::types::Types;
+use ty_solve::ty_table::types::Types;
 
 /// What a variable of the body becomes.
 fn variable_image(

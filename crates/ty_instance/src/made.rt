@@ -1,8 +1,8 @@
 // Images that were made, and what they are made of.
 ghost use Rattle.std.specs.Prelude.{◌≡◌, ◌<◌, ◌++◌, ◌∷◌, ℕ, List, [], Option, Some, nat_eq, length, map, slice_get, take, cond, IfOk, OnOk, OnErr, IsTrue, MatchOption, true, false};
 ghost use Rattle.indexmap.specs.IndexMap.{get};
-ghost use Rattle.ty_core.specs.Types.{Symbol, Typ, var, con};
-ghost use Rattle.ty_table.specs.TypeAt.{type_at, types_at, top, with_parts, AllBelow};
+ghost use Rattle.ty_solve.specs.of_ty_core.Types.{Symbol, Typ, var, con};
+ghost use Rattle.ty_solve.specs.of_ty_table.TypeAt.{type_at, types_at, top, with_parts, AllBelow};
 ghost use Rattle.ty_instance.specs.Steps.{image_in, IsDone, Opens, visits, CanBuild};
 ghost use Rattle.ty_instance.specs.declared.step.Step.TheVariants.{Build};
 
@@ -10,7 +10,7 @@ use crate::step::Step;
 use indexmap::IndexMap;
 use mlc_base::memory::NoMemory;
 use std::alloc::Global;
-use ty_table::types::{Types, View};
+use ty_solve::ty_table::types::{Types, View};
 
 /// The image of a type, or the type itself where none was made.
 pub fn image_of(made: &IndexMap<usize, usize>, k: usize) -> usize

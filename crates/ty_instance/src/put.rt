@@ -2,9 +2,9 @@
 ghost use Rattle.std.specs.Prelude.{◌≡◌, ◌<◌, ◌++◌, ◌∷◌, ℕ, [], Some, None, nat_eq, length, map, slice_get, take, unwrap_or, if◌then◌else◌, IfOk};
 ghost use Rattle.std.specs.Option.{option_or};
 ghost use Rattle.indexmap.specs.IndexMap.{get};
-ghost use Rattle.ty_core.specs.Types.{Typ};
-ghost use Rattle.ty_core.specs.Statics.{replace};
-ghost use Rattle.ty_table.specs.TypeAt.{type_at, AllBelow};
+ghost use Rattle.ty_solve.specs.of_ty_core.Types.{Typ};
+ghost use Rattle.ty_solve.specs.of_ty_core.Statics.{replace};
+ghost use Rattle.ty_solve.specs.of_ty_table.TypeAt.{type_at, AllBelow};
 ghost use Rattle.ty_solve.specs.SlotsOf.{seen};
 ghost use Rattle.ty_instance.specs.Images.{nothing};
 ghost use Rattle.ty_instance.specs.Put.{first_at, put_at, put_for, AreHeld};
@@ -17,7 +17,7 @@ use indexmap::IndexMap;
 use mlc_base::memory::NoMemory;
 use std::alloc::Global;
 use ty_solve::subst::Subst;
-use ty_table::types::Types;
+use ty_solve::ty_table::types::Types;
 
 /// Notes the image of a variable, unless it has one.
 fn note(found: &mut IndexMap<usize, usize>, v: usize, image: usize) -> Result<(), NoMemory>

@@ -1,8 +1,8 @@
 // Types under a substitution.
 ghost use Rattle.std.specs.Prelude.{◌≡◌, ◌<◌, ◌++◌, ◌∷◌, ℕ, List, [], Some, nat_eq, length, map, slice_get, take, IfOk, true};
 ghost use Rattle.indexmap.specs.IndexMap.{get};
-ghost use Rattle.ty_core.specs.Types.{Symbol, Typ, con};
-ghost use Rattle.ty_table.specs.TypeAt.{type_at, types_at, AllBelow};
+ghost use Rattle.ty_solve.specs.of_ty_core.Types.{Symbol, Typ, con};
+ghost use Rattle.ty_solve.specs.of_ty_table.TypeAt.{type_at, types_at, AllBelow};
 ghost use Rattle.ty_solve.specs.Substitution.{Fits, sub, is_in, is_open, is_below};
 ghost use Rattle.ty_solve.specs.SlotsOf.{seen};
 ghost use Rattle.ty_solve.specs.Weight.{Weighs};

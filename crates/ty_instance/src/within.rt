@@ -1,7 +1,7 @@
 // Instances in the table of a substitution.
 ghost use Rattle.std.specs.Prelude.{◌≡◌, ◌<◌, ◌++◌, Some, length, slice_get, take, IfOk, OnErr};
-ghost use Rattle.ty_core.specs.Statics.{replace};
-ghost use Rattle.ty_table.specs.TypeAt.{type_at, AllBelow};
+ghost use Rattle.ty_solve.specs.of_ty_core.Statics.{replace};
+ghost use Rattle.ty_solve.specs.of_ty_table.TypeAt.{type_at, AllBelow};
 ghost use Rattle.ty_solve.specs.SlotsOf.{seen};
 ghost use Rattle.ty_instance.specs.Images.{image_at};
 

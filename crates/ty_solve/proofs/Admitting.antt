@@ -2,10 +2,10 @@
 use Rattle.std.proofs.Common.{◌≡◌, ◌<◌, ◌≤◌, ◌+◌, ℕ, zero, suc, Bool, true, List, [], ◌∷◌, ◌++◌, length, refl, sym, ap, ◌∙◌, subst, arith}
 use Rattle.std.proofs.lemmas.Bool.{and_parts, and_from}
 use mathlib.Core.Logic.{◌⊎◌, inl, inr}
-use Rattle.ty_core.specs.Types.{Typ, var, con, Typs, none, more, Symbol, attribute, allowed, admits, all_admit, no_variable}
-use Rattle.ty_core.specs.declared.name.Equality.{Equality}
-use Rattle.ty_core.specs.declared.name.Equality.TheVariants.{Always, ByArguments, Never}
-use Rattle.ty_core.specs.declared.mark.Mark.{Mark}
+use Rattle.ty_table.specs.of_ty_core.Types.{Typ, var, con, Typs, none, more, Symbol, attribute, allowed, admits, all_admit, no_variable}
+use Rattle.ty_table.specs.of_ty_core.declared.name.Equality.{Equality}
+use Rattle.ty_table.specs.of_ty_core.declared.name.Equality.TheVariants.{Always, ByArguments, Never}
+use Rattle.ty_table.specs.of_ty_core.declared.mark.Mark.{Mark}
 use Rattle.ty_table.specs.TypeAt.{type_at, types_at}
 use Rattle.ty_solve.specs.Substitution.{Entry, bound, sub, subs, is_below, are_below, Fits, FitsAt}
 use Rattle.ty_solve.specs.Weight.{weight, weights, WeighsAt, IsAcyclic, BelowAt, AreBelow}

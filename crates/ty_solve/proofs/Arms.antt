@@ -1,7 +1,7 @@
 -- The arms of a step, over what it answers.
 use Rattle.std.proofs.Common.{◌≡◌, ◌<◌, ◌≤◌, ℕ, zero, suc, List, [], ◌∷◌, ◌++◌, length, map, take, get_or, Option, Result, Ok, Err, IfOk, IfErr, refl, sym, ap, subst, arith}
-use Rattle.ty_core.specs.Types.{Typ, var}
-use Rattle.ty_core.specs.declared.mark.Mark.{Mark}
+use Rattle.ty_table.specs.of_ty_core.Types.{Typ, var}
+use Rattle.ty_table.specs.of_ty_core.declared.mark.Mark.{Mark}
 use Rattle.ty_table.specs.TypeAt.{type_at, types_at}
 use Rattle.ty_solve.specs.Substitution.{Entry}
 use Rattle.ty_solve.specs.Task.{Task, Equal, Admit, Write}

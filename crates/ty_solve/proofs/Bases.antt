@@ -1,9 +1,9 @@
 -- What is known of the record that an open variable stands for.
 use Rattle.std.proofs.Common.{◌≡◌, ℕ, Bool, true, false, [], refl, sym, ap, ◌∙◌, subst, arith}
 use Rattle.std.proofs.lemmas.Bool.{false≢true}
-use Rattle.ty_core.specs.Types.{Typ, var, none}
-use Rattle.ty_core.specs.declared.mark.Class.{Class}
-use Rattle.ty_core.specs.declared.mark.Mark.{Mark}
+use Rattle.ty_table.specs.of_ty_core.Types.{Typ, var, none}
+use Rattle.ty_table.specs.of_ty_core.declared.mark.Class.{Class}
+use Rattle.ty_table.specs.of_ty_core.declared.mark.Mark.{Mark}
 use Rattle.ty_solve.specs.Rows.{At, IsProper, Extends}
 use Rattle.ty_solve.specs.Substitution.{Entry, free, bound, row, mark, Meets, subs, are_below}
 use Rattle.ty_solve.specs.SlotsOf.{row_of}

@@ -2,7 +2,7 @@
 use Rattle.std.proofs.Common.{◌≡◌, ◌≢◌, ℕ, suc, ◌+◌, ◌*◌, Bool, false, nat_eq, if◌then◌else◌, refl, sym, ap, ◌∙◌, arith, subst}
 use Rattle.std.proofs.lemmas.Bool.{eq-eqb, ne_eqb, or_parts, cases_eq}
 use mathlib.Core.Logic.{◌⊎◌, inl, inr}
-use Rattle.ty_core.specs.Types.{Typ, var, con, Typs, none, more, labels}
+use Rattle.ty_table.specs.of_ty_core.Types.{Typ, var, con, Typs, none, more, labels}
 use Rattle.ty_solve.specs.Substitution.{sub, subs, Entry, free, bound, row, mark, Meets, Solves, resolved, is_in, are_in}
 use Rattle.ty_solve.specs.Weight.{weight, weights}
 use Rattle.ty_solve.specs.Weight.{WeighsAt, IsAcyclic}

@@ -4,9 +4,9 @@ use Rattle.std.proofs.lemmas.Bool.{cases_eq}
 use Rattle.std.proofs.lemmas.List.{length-append}
 use Rattle.std.proofs.Math.Seq.{set-append_seam}
 use mathlib.Core.Logic.{◌⊎◌, inl, inr}
-use Rattle.ty_core.specs.Types.{Typ, var}
-use Rattle.ty_core.specs.Marks.{Allows, rank_of}
-use Rattle.ty_core.specs.declared.mark.Mark.{Mark}
+use Rattle.ty_table.specs.of_ty_core.Types.{Typ, var}
+use Rattle.ty_table.specs.of_ty_core.Marks.{Allows, rank_of}
+use Rattle.ty_table.specs.of_ty_core.declared.mark.Mark.{Mark}
 use Rattle.ty_solve.specs.Substitution.{FitsAt, Fits}
 use Rattle.ty_solve.proofs.Binding.{Puts}
 use Rattle.ty_solve.proofs.Comparing.{waits-front}

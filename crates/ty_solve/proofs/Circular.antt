@@ -3,8 +3,8 @@ use Rattle.std.proofs.Common.{◌≡◌, ◌≢◌, ◌<◌, ◌≤◌, ℕ, zer
 use Rattle.std.proofs.lemmas.Bool.{eqb-true}
 use mathlib.Core.Logic.{◌⊎◌, inl, inr}
 use Rattle.mlc_names.specs.declared.label.Label.{Label}
-use Rattle.ty_core.specs.Types.{Typ, var, con, Typs, none, more, Symbol}
-use Rattle.ty_core.specs.declared.mark.Mark.{Mark}
+use Rattle.ty_table.specs.of_ty_core.Types.{Typ, var, con, Typs, none, more, Symbol}
+use Rattle.ty_table.specs.of_ty_core.declared.mark.Mark.{Mark}
 use Rattle.ty_solve.specs.Rows.{IsProper, Extends}
 use Rattle.ty_solve.specs.Substitution.{Entry, free, bound, row, is_open, aside, Meets, Solves, Resolves, resolved, sub, subs, is_in, are_in}
 use Rattle.ty_solve.specs.Weight.{IsAcyclic, InhabitedAt, AreInhabited}

@@ -1,6 +1,6 @@
 -- Taking tasks one by one.
 use Rattle.std.proofs.Common.{◌≡◌, ◌<◌, ◌↔◌, ℕ, Bool, List, [], ◌∷◌, ◌++◌, length, Option, Some, None, ap, sym, ◌∙◌, subst, refl, arith}
-use Rattle.ty_core.specs.Types.{Typ}
+use Rattle.ty_table.specs.of_ty_core.Types.{Typ}
 use Rattle.ty_solve.specs.Substitution.{Entry, Solves}
 use Rattle.ty_solve.specs.SlotsOf.{look}
 use Rattle.ty_solve.specs.Forces.{Problem, IsForced}

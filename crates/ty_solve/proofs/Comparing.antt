@@ -6,8 +6,8 @@ use Rattle.std.specs.List.{list_any}
 use Rattle.std.proofs.lemmas.Bool.{eqb-true}
 use Rattle.std.proofs.lemmas.Bool.{false≢true}
 use Rattle.indexmap.specs.IndexSet.{insert_key}
-use Rattle.ty_core.specs.Types.{Typ, con, Typs, none, more, Symbol, nodes, all_nodes}
-use Rattle.ty_core.specs.declared.mark.Mark.{Mark}
+use Rattle.ty_table.specs.of_ty_core.Types.{Typ, con, Typs, none, more, Symbol, nodes, all_nodes}
+use Rattle.ty_table.specs.of_ty_core.declared.mark.Mark.{Mark}
 use Rattle.ty_table.specs.TypeAt.{type_at}
 use Rattle.ty_solve.specs.Substitution.{Entry, sub, subs, Fits}
 use Rattle.ty_solve.specs.Task.{Task, Equal, Admit, Write}

@@ -3,7 +3,7 @@ use Rattle.std.proofs.Common.{◌≡◌, ◌<◌, ◌≤◌, ◌+◌, ◌-◌, �
 use Rattle.std.proofs.lemmas.Bool.{false≢true, eqb-true}
 use Rattle.std.proofs.lemmas.List.{append-nil, append_assoc}
 use mathlib.Core.Logic.{◌⊎◌, inl, inr}
-use Rattle.ty_core.specs.Types.{Typ, var, con, nodes, all_nodes}
+use Rattle.ty_table.specs.of_ty_core.Types.{Typ, var, con, nodes, all_nodes}
 use Rattle.ty_table.specs.TypeAt.{type_at, types_at, top}
 use Rattle.ty_solve.specs.Substitution.{Entry, is_open, resolved, Resolves, sub, subs}
 use Rattle.ty_solve.specs.Weight.{weight, weights, IsAcyclic}

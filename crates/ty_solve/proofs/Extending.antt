@@ -3,7 +3,7 @@ use Rattle.std.proofs.Common.{◌≡◌, ℕ, Bool, true, false, List, [], refl,
 use Rattle.std.proofs.lemmas.Bool.{false≢true}
 use mathlib.Core.Logic.{◌⊎◌, inl, inr}
 use Rattle.mlc_names.specs.declared.label.Label.{Label}
-use Rattle.ty_core.specs.Types.{arrow, labels, name, Typ, var, con, Typs, none, admits, all_admit}
+use Rattle.ty_table.specs.of_ty_core.Types.{arrow, labels, name, Typ, var, con, Typs, none, admits, all_admit}
 use Rattle.ty_solve.specs.Rows.{Among, At, IsProper, Extends}
 use Rattle.ty_solve.proofs.Labels.{among-cases, among-at, at-unique, at-admit, admit-at}
 

@@ -3,8 +3,8 @@ use Rattle.std.proofs.Common.{◌≡◌, ◌↔◌, ◌<◌, ◌≤◌, IsTrue, 
 use Rattle.std.proofs.lemmas.Bool.{false≢true, and_from, and_parts}
 use mathlib.Core.Logic.{◌⊎◌, inl, inr}
 use Rattle.mlc_names.specs.declared.label.Label.{Label}
-use Rattle.ty_core.specs.Types.{Typ, Typs, none, admits}
-use Rattle.ty_core.specs.declared.mark.Mark.{Mark}
+use Rattle.ty_table.specs.of_ty_core.Types.{Typ, Typs, none, admits}
+use Rattle.ty_table.specs.of_ty_core.declared.mark.Mark.{Mark}
 use Rattle.ty_solve.specs.Rows.{Among, At, IsProper}
 use Rattle.ty_solve.specs.Substitution.{sub, is_below, are_below}
 use Rattle.ty_solve.specs.Forces.{Forces, Asks, Met}

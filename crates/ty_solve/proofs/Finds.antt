@@ -1,7 +1,7 @@
 -- One step of reading through a substitution.
 use Rattle.std.proofs.Common.{◌≡◌, ℕ, suc, true, ap, sym, subst, ◌∙◌}
 use mathlib.Core.Logic.{inl, inr}
-use Rattle.ty_core.specs.Types.{Typ, var, con}
+use Rattle.ty_table.specs.of_ty_core.Types.{Typ, var, con}
 use Rattle.ty_solve.specs.Substitution.{Entry, FitsAt, Fits, sub, is_below}
 use Rattle.ty_solve.specs.Weight.{weight, WeighsAt, IsAcyclic, BelowAt, AreBelow}
 use Rattle.ty_solve.specs.Forces.{Problem, Forces, Met, EntryMet, LeftAt, ForcedAt, IsForced}

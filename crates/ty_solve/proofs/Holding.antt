@@ -1,7 +1,7 @@
 -- Numbers that the table has.
 use Rattle.std.proofs.Common.{◌≡◌, ◌<◌, ◌≤◌, ℕ, zero, suc, List, [], ◌∷◌, ◌++◌, length, map, get_or, set, take, Bool, true, false, if◌then◌else◌, refl, sym, ap, ap₂, subst, ◌∙◌, arith}
-use Rattle.ty_core.specs.Types.{Typ, var, more}
-use Rattle.ty_core.specs.declared.mark.Mark.{Mark}
+use Rattle.ty_table.specs.of_ty_core.Types.{Typ, var, more}
+use Rattle.ty_table.specs.of_ty_core.declared.mark.Mark.{Mark}
 use Rattle.ty_table.specs.TypeAt.{type_at, types_at, AllBelow}
 use Rattle.ty_solve.specs.Substitution.{bound, row}
 use Rattle.ty_solve.specs.Held.{IsHeld, AreHeld, IsHeldTask, AreHeldTasks}

@@ -3,8 +3,8 @@ use Rattle.std.proofs.Common.{◌≡◌, ◌≢◌, ◌≤◌, ℕ, Bool, true, 
 use Rattle.std.proofs.lemmas.Bool.{false≢true, or_right}
 use mathlib.Core.Logic.{◌⊎◌, inl, inr}
 use Rattle.mlc_names.specs.declared.label.Label.{Label}
-use Rattle.ty_core.specs.Types.{Symbol, arrow, labels, name, Typ, var, con, Typs, none, more, admits}
-use Rattle.ty_core.specs.declared.name.TyName.{TyName}
+use Rattle.ty_table.specs.of_ty_core.Types.{Symbol, arrow, labels, name, Typ, var, con, Typs, none, more, admits}
+use Rattle.ty_table.specs.of_ty_core.declared.name.TyName.{TyName}
 use Rattle.ty_solve.specs.Rows.{Among, At, IsProper, Extends}
 use Rattle.ty_solve.specs.Substitution.{Entry, sub, subs}
 use Rattle.ty_solve.specs.Forces.{Problem, Forces, Has, Asks, Strict, Clashes, Met, Beside, IsForcedRow}

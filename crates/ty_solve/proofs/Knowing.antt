@@ -1,7 +1,7 @@
 -- The variables of a list of types.
 use Rattle.std.proofs.Common.{◌≡◌, ◌<◌, ℕ, zero, suc, Bool, true, List, [], ◌∷◌, length, get_or, take, ◌↔◌, IsTrue, refl, sym, subst, arith}
 use Rattle.std.proofs.lemmas.Bool.{and_from, and_parts}
-use Rattle.ty_core.specs.Types.{Typ}
+use Rattle.ty_table.specs.of_ty_core.Types.{Typ}
 use Rattle.ty_table.specs.TypeAt.{type_at, types_at, AllBelow}
 use Rattle.ty_solve.specs.Rows.{IsProper}
 use Rattle.ty_solve.specs.Changes.{IsFitRow}

@@ -4,7 +4,7 @@ use Rattle.std.proofs.lemmas.Bool.{cases_eq, and_parts, and_from, false≢true}
 use mathlib.Core.Logic.{◌⊎◌, inl, inr}
 use Rattle.mlc_names.specs.declared.label.Label.{Label}
 use Rattle.mlc_names.specs.declared.label.Label.TheVariants.{Number, Word}
-use Rattle.ty_core.specs.Types.{Typ, Typs, none, more, admits, all_admit}
+use Rattle.ty_table.specs.of_ty_core.Types.{Typ, Typs, none, more, admits, all_admit}
 use Rattle.ty_solve.specs.Rows.{Among, At, IsProper}
 use Rattle.ty_solve.specs.Substitution.{sub, subs, is_below, are_below, is_in, are_in}
 use Rattle.ty_solve.specs.Forces.{Beside}

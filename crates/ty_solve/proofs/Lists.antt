@@ -1,7 +1,7 @@
 -- Types in a list, one by one.
 use Rattle.std.proofs.Common.{◌≡◌, ℕ, zero, suc, ◌<◌, ◌≤◌, List, [], ◌∷◌, length, map, take, get_or, Bool, true, false, ◌||◌, refl, sym, ap, ap₂, ◌∙◌, arith}
 use Rattle.std.proofs.lemmas.Bool.{or_right, or_from, and_parts}
-use Rattle.ty_core.specs.Types.{Typ, var, Typs, none, more, typs_of}
+use Rattle.ty_table.specs.of_ty_core.Types.{Typ, var, Typs, none, more, typs_of}
 use Rattle.ty_solve.specs.Substitution.{sub, subs, is_in, are_in, is_below, are_below}
 use Rattle.ty_solve.specs.Weight.{weight, weights}
 use Rattle.ty_solve.proofs.Subs.{head_of, tail_of}

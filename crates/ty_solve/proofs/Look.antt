@@ -1,12 +1,12 @@
 -- Looking a variable up in the vector of bindings.
 use Rattle.std.proofs.Common.{◌≡◌, ◌≢◌, ℕ, zero, suc, ◌<◌, ◌≤◌, List, [], ◌∷◌, ◌++◌, length, get_or, set, Bool, true, false, if◌then◌else◌, refl, sym, ap, ◌∙◌, arith, subst}
 use Rattle.std.proofs.lemmas.Bool.{and_parts, and_from, ltb-true, lt-ltb, false≢true}
-use Rattle.ty_core.specs.Types.{Typ, var, con, Typs, none, more}
+use Rattle.ty_table.specs.of_ty_core.Types.{Typ, var, con, Typs, none, more}
 use Rattle.ty_solve.specs.Substitution.{Entry, free, bound, row, mark, is_open, is_below, are_below}
 use Rattle.ty_solve.specs.SlotsOf.{look}
 use Rattle.std.proofs.lemmas.Bool.{cases_eq}
 use mathlib.Core.Logic.{◌⊎◌, inl, inr}
-use Rattle.ty_core.specs.declared.mark.Mark.{Mark}
+use Rattle.ty_table.specs.of_ty_core.declared.mark.Mark.{Mark}
 use Rattle.ty_solve.specs.Weight.{BelowAt, AreBelow, InhabitedAt, AreInhabited}
 
 pub look-get : (l : List Entry) (v : ℕ) (o : Entry) → v < length l → o ≡ get_or l v o → look l v ≡ o

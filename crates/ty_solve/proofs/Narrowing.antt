@@ -3,8 +3,8 @@ use Rattle.std.proofs.Common.{◌≡◌, ◌<◌, ◌≤◌, ℕ, zero, suc, Boo
 use Rattle.std.proofs.lemmas.Bool.{eqb-true, eq-eqb, or_right, false≢true}
 use mathlib.Core.Logic.{◌⊎◌, inl, inr}
 use Rattle.mlc_names.specs.declared.label.Label.{Label}
-use Rattle.ty_core.specs.Types.{Typ, var, con, Typs, none, more, labels}
-use Rattle.ty_core.specs.declared.mark.Mark.{Mark}
+use Rattle.ty_table.specs.of_ty_core.Types.{Typ, var, con, Typs, none, more, labels}
+use Rattle.ty_table.specs.of_ty_core.declared.mark.Mark.{Mark}
 use Rattle.ty_solve.specs.Substitution.{Entry, free, bound, row, aside, resolved, Resolves, sub, subs, is_in, are_in}
 use Rattle.ty_solve.specs.SlotsOf.{row_of}
 use Rattle.ty_solve.specs.Weight.{weight, weights, WeighsAt, IsAcyclic, AreBelow, AreInhabited, BelowAt, InhabitedAt}

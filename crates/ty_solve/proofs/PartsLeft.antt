@@ -1,7 +1,7 @@
 -- Going through the parts of two types from the last one on.
 use Rattle.std.proofs.Common.{◌≡◌, ◌↔◌, ℕ, ◌+◌, Bool, true, List, [], ◌∷◌, ◌++◌, length, refl, sym, ap, ap₂, subst, arith}
 use Rattle.std.proofs.lemmas.Bool.{and_parts, and_from}
-use Rattle.ty_core.specs.Types.{Typ, var, con, Typs, none, more, Symbol}
+use Rattle.ty_table.specs.of_ty_core.Types.{Typ, var, con, Typs, none, more, Symbol}
 use Rattle.ty_solve.specs.Compared.{Waits, Alike}
 use Rattle.ty_solve.proofs.Comparing.{waits-front, waits-last, alike-map}
 use Rattle.ty_solve.specs.Substitution.{sub, subs, is_below, are_below}

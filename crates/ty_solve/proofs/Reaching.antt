@@ -2,7 +2,7 @@
 use Rattle.std.proofs.Common.{◌≡◌, ◌<◌, ◌≤◌, ℕ, zero, suc, Bool, true, false, ◌||◌, List, [], ◌∷◌, ◌++◌, length, nat_eq, refl, sym, ap, ◌∙◌, subst, arith}
 use Rattle.std.proofs.lemmas.Bool.{eq-eqb, eqb-true, or_right, false≢true}
 use mathlib.Core.Logic.{◌⊎◌, inl, inr}
-use Rattle.ty_core.specs.Types.{Typ, var, con, labels}
+use Rattle.ty_table.specs.of_ty_core.Types.{Typ, var, con, labels}
 use Rattle.ty_table.specs.TypeAt.{type_at, types_at, top}
 use Rattle.ty_solve.specs.Substitution.{Entry, aside, resolved, Resolves, sub, subs, is_in, are_in}
 use Rattle.ty_solve.specs.Weight.{weight, weights, IsAcyclic}

@@ -3,10 +3,10 @@ use Rattle.std.proofs.Common.{◌≡◌, ℕ, suc, Bool, true, false, List, [], 
 use Rattle.std.proofs.lemmas.Bool.{ltb-true}
 use mathlib.Core.Logic.{inl, inr}
 use Rattle.mlc_names.specs.declared.label.Label.{Label}
-use Rattle.ty_core.specs.Types.{Typ, var, Typs, admits}
-use Rattle.ty_core.specs.Marks.{IsOf}
-use Rattle.ty_core.specs.declared.mark.Class.{Class}
-use Rattle.ty_core.specs.declared.mark.Mark.{Mark}
+use Rattle.ty_table.specs.of_ty_core.Types.{Typ, var, Typs, admits}
+use Rattle.ty_table.specs.of_ty_core.Marks.{IsOf}
+use Rattle.ty_table.specs.of_ty_core.declared.mark.Class.{Class}
+use Rattle.ty_table.specs.of_ty_core.declared.mark.Mark.{Mark}
 use Rattle.ty_solve.specs.Rows.{IsProper, Extends}
 use Rattle.ty_solve.specs.Substitution.{Entry, free, bound, row, Meets, sub, subs, is_below, are_below}
 use Rattle.ty_solve.specs.Weight.{weight, weights}

@@ -3,7 +3,7 @@ use Rattle.std.proofs.Common.{◌≡◌, ◌<◌, ℕ, Bool, true, false, List, 
 use Rattle.std.proofs.lemmas.List.{length-set}
 use mathlib.Core.Logic.{inr}
 use Rattle.mlc_names.specs.declared.label.Label.{Label}
-use Rattle.ty_core.specs.Types.{Typ, var, con, Typs}
+use Rattle.ty_table.specs.of_ty_core.Types.{Typ, var, con, Typs}
 use Rattle.ty_solve.specs.Rows.{IsProper, Extends}
 use Rattle.ty_solve.specs.Substitution.{Entry, free, bound, row, is_open, Meets, Solves, Fits, FitsAt, Resolves, aside, sub, subs, are_in, is_below}
 use Rattle.ty_solve.specs.SlotsOf.{look, row_of}

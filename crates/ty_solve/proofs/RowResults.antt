@@ -2,8 +2,8 @@
 use Rattle.std.proofs.Common.{◌≡◌, ◌<◌, ℕ, Bool, true, false, List, None, map, length, set, Result, Ok, Err, IfOk, IfErr, refl, sym, ap, ◌∙◌, subst}
 use Rattle.std.proofs.lemmas.Bool.{false≢true}
 use Rattle.mlc_names.specs.declared.label.Label.{Label}
-use Rattle.ty_core.specs.Types.{Typ, var, Typs}
-use Rattle.ty_core.specs.declared.mark.Mark.{Mark}
+use Rattle.ty_table.specs.of_ty_core.Types.{Typ, var, Typs}
+use Rattle.ty_table.specs.of_ty_core.declared.mark.Mark.{Mark}
 use Rattle.ty_table.specs.TypeAt.{type_at, types_at, AllBelow}
 use Rattle.ty_solve.specs.Rows.{Known, Among, IsProper}
 use Rattle.ty_solve.specs.Substitution.{Entry, bound, is_open, is_below, are_below, subs, are_in, Resolves, aside}

@@ -3,8 +3,8 @@ use Rattle.std.proofs.Common.{◌≡◌, ◌≢◌, ℕ, suc, ◌<◌, List, len
 use Rattle.std.proofs.lemmas.List.{length-set}
 use Rattle.std.proofs.lemmas.Bool.{cases_eq}
 use mathlib.Core.Logic.{◌⊎◌, inl, inr}
-use Rattle.ty_core.specs.Types.{Typ, con, labels}
-use Rattle.ty_core.specs.Marks.{is_inhabited}
+use Rattle.ty_table.specs.of_ty_core.Types.{Typ, con, labels}
+use Rattle.ty_table.specs.of_ty_core.Marks.{is_inhabited}
 use Rattle.ty_solve.specs.Substitution.{Entry, free, bound, row, mark, aside, Resolves}
 use Rattle.ty_solve.specs.SlotsOf.{look}
 use Rattle.ty_solve.specs.Weight.{weight, BelowAt, AreBelow, WeighsAt, IsAcyclic, InhabitedAt, AreInhabited}

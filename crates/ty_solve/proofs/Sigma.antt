@@ -1,6 +1,6 @@
 -- A substitution with no cycle as a function that needs no second look.
 use Rattle.std.proofs.Common.{◌≡◌, ℕ, zero, suc, ◌<◌, ◌≤◌, Bool, true, refl, sym, ap, ap₂, ◌∙◌, arith}
-use Rattle.ty_core.specs.Types.{Typ, var, con, Typs, none, more, labels}
+use Rattle.ty_table.specs.of_ty_core.Types.{Typ, var, con, Typs, none, more, labels}
 use Rattle.ty_solve.specs.Substitution.{sub, subs, Entry, free, bound, row, Meets, Solves, FitsAt, Fits, resolved, Resolves, is_below, are_below}
 use Rattle.ty_solve.specs.Weight.{weight, weights}
 use Rattle.ty_solve.specs.Weight.{WeighsAt, Weighs, IsAcyclic, BelowAt, AreBelow}

@@ -1,8 +1,8 @@
 -- Slots, and what they say.
 use Rattle.std.proofs.Common.{◌≡◌, ◌<◌, ◌≤◌, ℕ, zero, suc, List, [], ◌∷◌, ◌++◌, length, get_or, set, Bool, true, false, if◌then◌else◌, refl, sym, ap, ◌∙◌, subst, arith}
-use Rattle.ty_core.specs.Types.{Typ}
-use Rattle.ty_core.specs.Marks.{is_inhabited}
-use Rattle.ty_core.specs.declared.mark.Mark.{Mark}
+use Rattle.ty_table.specs.of_ty_core.Types.{Typ}
+use Rattle.ty_table.specs.of_ty_core.Marks.{is_inhabited}
+use Rattle.ty_table.specs.of_ty_core.declared.mark.Mark.{Mark}
 use Rattle.ty_table.specs.TypeAt.{types_at}
 use Rattle.ty_solve.specs.Substitution.{free, bound, are_below}
 use Rattle.ty_solve.specs.SlotsOf.{look, entries, entry_of, seen, row_in, row_of, task_of, tasks_of}

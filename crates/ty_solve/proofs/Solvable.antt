@@ -3,10 +3,10 @@ use Rattle.std.proofs.Common.{◌≡◌, ◌≤◌, ◌<◌, ◌↔◌, IsTrue, 
 use Rattle.std.proofs.lemmas.Bool.{lt-ltb}
 use Rattle.mlc_names.specs.declared.label.Label.{Label}
 use Rattle.ty_solve.specs.Rows.{Extends}
-use Rattle.ty_core.specs.Types.{Typ, var, con, Typs, none, more, labels, name}
-use Rattle.ty_core.specs.Marks.{Allows, IsOf, overloaded, has, is_inhabited}
-use Rattle.ty_core.specs.declared.mark.Class.{Class}
-use Rattle.ty_core.specs.declared.mark.Mark.{Mark}
+use Rattle.ty_table.specs.of_ty_core.Types.{Typ, var, con, Typs, none, more, labels, name}
+use Rattle.ty_table.specs.of_ty_core.Marks.{Allows, IsOf, overloaded, has, is_inhabited}
+use Rattle.ty_table.specs.of_ty_core.declared.mark.Class.{Class}
+use Rattle.ty_table.specs.of_ty_core.declared.mark.Mark.{Mark}
 use Rattle.ty_solve.specs.Substitution.{Entry, free, bound, row, mark, Meets, resolved, sub, subs}
 use Rattle.ty_solve.specs.Weight.{weight, weights, WeighsAt, IsAcyclic, InhabitedAt, AreInhabited}
 use Rattle.std.proofs.Math.Nat.{lt_of_not-le}

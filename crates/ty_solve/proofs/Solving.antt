@@ -1,6 +1,6 @@
 -- Tasks and changes up to the end.
 use Rattle.std.proofs.Common.{◌≡◌, ◌↔◌, ℕ, Bool, true, List, [], ◌∷◌, ◌++◌, length, Some, None, ap, sym, ◌∙◌, subst, refl}
-use Rattle.ty_core.specs.Types.{Typ}
+use Rattle.ty_table.specs.of_ty_core.Types.{Typ}
 use Rattle.ty_solve.specs.Substitution.{Entry, Solves, sub, is_below}
 use Rattle.ty_solve.specs.SlotsOf.{look}
 use Rattle.ty_solve.specs.Forces.{Forces, Met, IsForced}

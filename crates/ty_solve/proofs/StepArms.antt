@@ -1,10 +1,10 @@
 -- What each kind of step comes to.
 use Rattle.std.proofs.Common.{◌≡◌, ◌≢◌, ◌<◌, ◌↔◌, ℕ, suc, ◌+◌, Bool, true, List, [], ◌∷◌, ◌++◌, Option, Some, None, Result, Ok, Err, IfOk, IfErr, length, ap, ap₂, sym, ◌∙◌, subst, refl, arith}
-use Rattle.ty_core.specs.Types.{Typ, var, con, Typs, none, more, Symbol, attribute, allowed, admits, all_admit}
-use Rattle.ty_core.specs.declared.name.Equality.TheVariants.{Always, ByArguments, Never}
-use Rattle.ty_core.specs.declared.mark.Class.{Class}
-use Rattle.ty_core.specs.Marks.{Allows, IsOf, IsMeet, is_inhabited, rank_of}
-use Rattle.ty_core.specs.declared.mark.Mark.{Mark}
+use Rattle.ty_table.specs.of_ty_core.Types.{Typ, var, con, Typs, none, more, Symbol, attribute, allowed, admits, all_admit}
+use Rattle.ty_table.specs.of_ty_core.declared.name.Equality.TheVariants.{Always, ByArguments, Never}
+use Rattle.ty_table.specs.of_ty_core.declared.mark.Class.{Class}
+use Rattle.ty_table.specs.of_ty_core.Marks.{Allows, IsOf, IsMeet, is_inhabited, rank_of}
+use Rattle.ty_table.specs.of_ty_core.declared.mark.Mark.{Mark}
 use Rattle.ty_solve.specs.Substitution.{Entry, free, Meets, mark, Solves, sub, subs, is_below}
 use Rattle.ty_solve.specs.Weight.{weight}
 use Rattle.ty_solve.specs.Finding.{Reads, IsWalked}

@@ -1,7 +1,7 @@
 -- Substitutions put into types.
 use Rattle.std.proofs.Common.{◌≡◌, ℕ, ◌≤◌, Bool, true, false, ◌||◌, refl, sym, ap, ap₂, ◌∙◌, arith}
 use Rattle.std.proofs.lemmas.Bool.{eqb-true, eq-eqb, false≢true}
-use Rattle.ty_core.specs.Types.{Typ, var, con, Typs, none, more}
+use Rattle.ty_table.specs.of_ty_core.Types.{Typ, var, con, Typs, none, more}
 use Rattle.ty_solve.specs.Substitution.{sub, subs, is_in, are_in}
 use Rattle.ty_solve.specs.Weight.{weight, weights}
 

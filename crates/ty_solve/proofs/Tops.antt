@@ -1,7 +1,7 @@
 -- A type's highest variable.
 use Rattle.std.proofs.Common.{◌≡◌, ◌≤◌, ℕ, true, refl, arith}
 use Rattle.std.proofs.lemmas.Bool.{lt-ltb, ltb-true, and_parts, and_from}
-use Rattle.ty_core.specs.Types.{Typ, var, con, Typs, none, more}
+use Rattle.ty_table.specs.of_ty_core.Types.{Typ, var, con, Typs, none, more}
 use Rattle.ty_table.specs.TypeAt.{top, tops}
 use Rattle.ty_solve.specs.Substitution.{is_below, are_below}
 

@@ -1,6 +1,6 @@
 -- One table of types for another that is the same.
 use Rattle.std.proofs.Common.{◌≡◌, ℕ, List, [], ◌∷◌, length, Option, Some, None, MatchOption, IfSome, Result, Ok, Err, IfOk, IfErr, refl, subst, sym}
-use Rattle.ty_core.specs.Types.{Typ}
+use Rattle.ty_table.specs.of_ty_core.Types.{Typ}
 use Rattle.ty_solve.specs.Held.{AreHeld}
 use Rattle.ty_solve.specs.Substitution.{Entry}
 use Rattle.ty_solve.specs.Weight.{AreBelow, IsAcyclic, AreInhabited}

@@ -2,7 +2,7 @@
 use Rattle.std.proofs.Common.{◌≡◌, ◌<◌, ◌+◌, ℕ, Bool, true, false, ◌||◌, List, [], ◌∷◌, ◌++◌, refl, ap, ap₂, ◌∙◌, subst, arith}
 use Rattle.std.proofs.lemmas.Bool.{false≢true}
 use mathlib.Core.Logic.{◌⊎◌, inl, inr}
-use Rattle.ty_core.specs.Types.{Typ, var, con, Typs, none, more, all_nodes}
+use Rattle.ty_table.specs.of_ty_core.Types.{Typ, var, con, Typs, none, more, all_nodes}
 use Rattle.ty_table.specs.TypeAt.{type_at, types_at, top, tops}
 use Rattle.ty_solve.specs.Substitution.{Entry, sub, subs, is_in, are_in}
 use Rattle.ty_solve.specs.Weight.{weight, weights, WeighsAt, IsAcyclic}

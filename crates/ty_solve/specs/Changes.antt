@@ -1,7 +1,7 @@
 -- What a change to a substitution comes to.
 use Rattle.std.specs.Prelude.{◌≡◌, ◌↔◌, ◌<◌, ◌≤◌, ℕ, ◌+◌, Bool, true, false, List, [], ◌∷◌, length, Some}
-use Rattle.ty_core.specs.Types.{Typ}
-use Rattle.ty_core.specs.Marks.{rank_of}
+use Rattle.ty_table.specs.of_ty_core.Types.{Typ}
+use Rattle.ty_table.specs.of_ty_core.Marks.{rank_of}
 use Rattle.ty_solve.specs.Rows.{Known, Extends, IsProper}
 use Rattle.ty_solve.specs.Substitution.{Entry, free, bound, row, Solves, Fits, sub, subs, are_below}
 use Rattle.ty_solve.specs.SlotsOf.{look}

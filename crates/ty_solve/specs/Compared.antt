@@ -1,6 +1,6 @@
 -- Pairs of types that were compared, and need no second look.
 use Rattle.std.specs.Prelude.{◌≡◌, ◌⊎◌, ℕ, List, [], ◌∷◌, Option, Some, None, ⊤}
-use Rattle.ty_core.specs.Types.{Typ, con, Typs, none, more, Symbol}
+use Rattle.ty_table.specs.of_ty_core.Types.{Typ, con, Typs, none, more, Symbol}
 use Rattle.ty_table.specs.TypeAt.{type_at}
 use Rattle.ty_solve.specs.Substitution.{Entry, sub, Fits}
 use Rattle.ty_solve.specs.Task.{Task, Equal, Admit, Write, Bind, Remark, Further}

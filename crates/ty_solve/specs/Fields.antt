@@ -1,8 +1,8 @@
 -- What is asked of the fields of two records.
 use Rattle.std.specs.Prelude.{◌≡◌, ◌⊎◌, ◌↔◌, ◌<◌, ◌≤◌, ℕ, Bool, true, List, slice_index_or}
 use Rattle.mlc_names.specs.declared.label.Label.{Label}
-use Rattle.ty_core.specs.Types.{Typ, var, Typs, admits}
-use Rattle.ty_core.specs.declared.mark.Mark.{Mark}
+use Rattle.ty_table.specs.of_ty_core.Types.{Typ, var, Typs, admits}
+use Rattle.ty_table.specs.of_ty_core.declared.mark.Mark.{Mark}
 use Rattle.ty_solve.specs.Rows.{Known, Among, At, IsProper, Extends}
 use Rattle.ty_solve.specs.Substitution.{Entry, Meets, sub, subs, is_below, are_below}
 use Rattle.ty_solve.specs.Forces.{Problem, Forces, Asks, Records, Met, EntryMet, ForcedAt, IsForcedRow, IsDue}

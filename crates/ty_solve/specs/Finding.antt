@@ -1,6 +1,6 @@
 -- Reading through a substitution.
 use Rattle.std.specs.Prelude.{◌≡◌, ◌≤◌, ℕ, true, ⊤}
-use Rattle.ty_core.specs.Types.{Typ, var, con}
+use Rattle.ty_table.specs.of_ty_core.Types.{Typ, var, con}
 use Rattle.ty_solve.specs.Substitution.{Entry, bound, is_open, sub, is_below, Fits}
 use Rattle.ty_solve.specs.Weight.{weight}
 use Rattle.ty_solve.specs.Forces.{Problem, Forces, Met, IsForced}

@@ -1,11 +1,11 @@
 -- What an equation of two types forces under a substitution, read off part by part.
 use Rattle.std.specs.Prelude.{◌≡◌, ◌≢◌, ◌⊎◌, ℕ, suc, Bool, true, List, ⊤}
 use Rattle.mlc_names.specs.declared.label.Label.{Label}
-use Rattle.ty_core.specs.Types.{Typ, var, con, Typs, none, more, Symbol, labels, attribute}
-use Rattle.ty_core.specs.Marks.{Allows, IsOf}
-use Rattle.ty_core.specs.declared.mark.Class.{Class}
-use Rattle.ty_core.specs.declared.mark.Mark.{Mark}
-use Rattle.ty_core.specs.declared.name.Equality.TheVariants.{ByArguments, Never}
+use Rattle.ty_table.specs.of_ty_core.Types.{Typ, var, con, Typs, none, more, Symbol, labels, attribute}
+use Rattle.ty_table.specs.of_ty_core.Marks.{Allows, IsOf}
+use Rattle.ty_table.specs.of_ty_core.declared.mark.Class.{Class}
+use Rattle.ty_table.specs.of_ty_core.declared.mark.Mark.{Mark}
+use Rattle.ty_table.specs.of_ty_core.declared.name.Equality.TheVariants.{ByArguments, Never}
 use Rattle.ty_solve.specs.Substitution.{Entry, free, bound, row, is_open}
 use Rattle.ty_solve.specs.Rows.{Among, At, IsProper, Known}
 

@@ -1,3 +1,5 @@
+pub use Rattle.ty_table.specs.of_ty_core as of_ty_core
+pub use Rattle.ty_table.specs as of_ty_table
 pub mod Rows
 pub mod Substitution
 pub mod Weight

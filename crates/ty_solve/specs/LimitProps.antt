@@ -2,7 +2,7 @@
 use Rattle.std.specs.Prelude.{ℕ}
 use Rattle.std.proofs.Props.{props}
 use mathlib.Core.HLevel.{Π_prop, ×_prop, Unit-prop}
-use Rattle.ty_core.specs.Types.{Typ, var, con, Typs, none, more, Symbol, arrow, labels, name}
+use Rattle.ty_table.specs.of_ty_core.Types.{Typ, var, con, Typs, none, more, Symbol, arrow, labels, name}
 use Rattle.ty_solve.specs.Substitution.{Entry, free, bound, row}
 use Rattle.ty_solve.specs.Limits.{SymbolOver, NoFurther, Limited, AllLimited, LimitedAt, AreLimited, AreWide}
 use Rattle.ty_solve.specs.declared.limit.Limit.{Limit}

@@ -1,7 +1,7 @@
 -- How far a variable may reach: which type names its values may use, and which `val` declaration it belongs to.
 use Rattle.std.specs.Prelude.{◌≡◌, ◌↔◌, ◌⊎◌, ◌≤◌, ℕ, zero, suc, Bool, true, nat_lt, min, List, [], ◌∷◌, ⊤}
-use Rattle.ty_core.specs.Types.{Typ, var, con, Typs, none, more, Symbol, arrow, labels, name}
-use Rattle.ty_core.specs.declared.name.TyName.{TyName}
+use Rattle.ty_table.specs.of_ty_core.Types.{Typ, var, con, Typs, none, more, Symbol, arrow, labels, name}
+use Rattle.ty_table.specs.of_ty_core.declared.name.TyName.{TyName}
 use Rattle.ty_solve.specs.Substitution.{Entry, free, bound, row, sub, Solves}
 use Rattle.ty_solve.specs.Forces.{Problem, Forces, Lies, Met}
 use Rattle.ty_solve.specs.Solve.{problem, IsCause}

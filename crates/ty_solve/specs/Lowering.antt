@@ -1,8 +1,8 @@
 -- Limits while they are lowered, one variable after the other.
 use Rattle.std.specs.Prelude.{◌≡◌, ◌⊎◌, ◌≤◌, ℕ, ◌+◌, Bool, List, [], ◌∷◌, ◌++◌, length, map, slice_set, ⊤}
 use Rattle.mlc_names.specs.declared.label.Label.{Label}
-use Rattle.ty_core.specs.Types.{Typ, var, con, Typs, Symbol, labels, name}
-use Rattle.ty_core.specs.declared.name.TyName.{TyName}
+use Rattle.ty_table.specs.of_ty_core.Types.{Typ, var, con, Typs, Symbol, labels, name}
+use Rattle.ty_table.specs.of_ty_core.declared.name.TyName.{TyName}
 use Rattle.ty_table.specs.TypeAt.{type_at, types_at}
 use Rattle.ty_solve.specs.Rows.{At}
 use Rattle.ty_solve.specs.Substitution.{Entry, free, bound, row, Solves}

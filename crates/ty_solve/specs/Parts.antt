@@ -1,9 +1,9 @@
 -- Tasks for the parts of two types.
 use Rattle.std.specs.Prelude.{◌≡◌, ◌↔◌, ◌≤◌, ℕ, ◌+◌, Bool, true, List, [], ◌∷◌, ◌++◌, ⊤}
-use Rattle.ty_core.specs.Types.{Typ, Typs, var, con, Symbol, attribute, admits, all_admit}
-use Rattle.ty_core.specs.declared.name.Equality.TheVariants.{ByArguments, Never}
+use Rattle.ty_table.specs.of_ty_core.Types.{Typ, Typs, var, con, Symbol, attribute, admits, all_admit}
+use Rattle.ty_table.specs.of_ty_core.declared.name.Equality.TheVariants.{ByArguments, Never}
 use Rattle.ty_table.specs.TypeAt.{type_at, types_at}
-use Rattle.ty_core.specs.declared.mark.Mark.{Mark}
+use Rattle.ty_table.specs.of_ty_core.declared.mark.Mark.{Mark}
 use Rattle.ty_solve.specs.Substitution.{Entry, bound, sub, subs, are_below, Fits}
 use Rattle.ty_solve.specs.Weight.{weights}
 use Rattle.ty_solve.specs.Forces.{Problem, Forces, Asks, Met, Clashes, Beside, IsForced}

@@ -5,7 +5,7 @@ use mathlib.Core.Path.{fun_ext}
 use native.Mathlib.Nat.{ℕ_set}
 use Rattle.std.proofs.Props.{props}
 use mathlib.Core.HLevel.{Π_prop, →_prop, ×_prop, Σ_prop_path, Unit-prop}
-use Rattle.ty_core.specs.Types.{Typ, var, con, Typs, none, more, labels}
+use Rattle.ty_table.specs.of_ty_core.Types.{Typ, var, con, Typs, none, more, labels}
 use Rattle.ty_solve.specs.Substitution.{Entry, free, bound, row}
 use Rattle.mlc_names.specs.declared.label.Label.{Label}
 use Rattle.ty_solve.specs.Rows.{IsProper}

@@ -1,6 +1,6 @@
 -- Counting the nodes of a type that a substitution gives, each type once.
 use Rattle.std.specs.Prelude.{◌≡◌, ◌<◌, ◌≤◌, ◌+◌, ◌-◌, ◌*◌, ◌^◌, ℕ, suc, List, [], ◌∷◌, ◌++◌, Option, Some, ⊤}
-use Rattle.ty_core.specs.Types.{Typ, nodes}
+use Rattle.ty_table.specs.of_ty_core.Types.{Typ, nodes}
 use Rattle.ty_table.specs.TypeAt.{type_at}
 use Rattle.ty_solve.specs.Substitution.{Entry, Resolves, sub}
 use Rattle.ty_solve.specs.Weight.{weight}

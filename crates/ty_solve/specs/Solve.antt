@@ -1,6 +1,6 @@
 -- The most general substitution, and why there is none.
 use Rattle.std.specs.Prelude.{◌≡◌, ◌↔◌, ◌<◌, ◌≤◌, ℕ, Bool, List, [], ◌∷◌, slice_set}
-use Rattle.ty_core.specs.Types.{Typ, nodes}
+use Rattle.ty_table.specs.of_ty_core.Types.{Typ, nodes}
 use Rattle.ty_solve.specs.Substitution.{Entry, sub, Solves, Resolves}
 use Rattle.ty_solve.specs.Forces.{Problem, Clashes, Loops, LeftAt}
 use Rattle.ty_solve.specs.declared.refused.UnifyRefused.{UnifyRefused}

@@ -1,7 +1,7 @@
 -- What is still to be made so, and the changes to a substitution.
 use Rattle.std.specs.Prelude.{ℕ}
-use Rattle.ty_core.specs.Types.{Typ}
-use Rattle.ty_core.specs.declared.mark.Mark.{Mark}
+use Rattle.ty_table.specs.of_ty_core.Types.{Typ}
+use Rattle.ty_table.specs.of_ty_core.declared.mark.Mark.{Mark}
 
 -- the types are to be equal, or the mark is to allow the type
 pub data Task : Type 0 where

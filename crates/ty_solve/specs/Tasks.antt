@@ -1,8 +1,8 @@
 -- What is still to be made so, and the next change to a substitution.
 use Rattle.std.specs.Prelude.{◌≡◌, ◌≢◌, ◌↔◌, ◌<◌, ℕ, ◌+◌, Bool, true, false, List, [], ◌∷◌, Option, Some, None, ⊤}
-use Rattle.ty_core.specs.Types.{Typ, var, admits}
-use Rattle.ty_core.specs.Marks.{Allows, is_inhabited, rank_of}
-use Rattle.ty_core.specs.declared.mark.Mark.{Mark}
+use Rattle.ty_table.specs.of_ty_core.Types.{Typ, var, admits}
+use Rattle.ty_table.specs.of_ty_core.Marks.{Allows, is_inhabited, rank_of}
+use Rattle.ty_table.specs.of_ty_core.declared.mark.Mark.{Mark}
 use Rattle.ty_solve.specs.Substitution.{Entry, free, bound, row, mark, is_open, sub, subs, is_below, is_in, are_in, Resolves, aside, Solves}
 use Rattle.ty_solve.specs.Finding.{IsWalked}
 use Rattle.ty_solve.specs.Weight.{weight, BelowAt, InhabitedAt}

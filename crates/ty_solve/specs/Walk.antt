@@ -1,7 +1,7 @@
 -- What is looked at next in a type.
 use Rattle.std.specs.Prelude.{◌≡◌, ◌⊎◌, ℕ, Bool, List, [], ◌∷◌, ◌++◌}
 use Rattle.mlc_names.specs.declared.label.Label.{Label}
-use Rattle.ty_core.specs.Types.{Typ, var, con, Symbol}
+use Rattle.ty_table.specs.of_ty_core.Types.{Typ, var, con, Symbol}
 use Rattle.ty_table.specs.TypeAt.{type_at, types_at}
 use Rattle.ty_solve.specs.Substitution.{Entry, free, bound, row, mark}
 

@@ -1,7 +1,7 @@
 -- A substitution with no cycle gives each variable a weight, and only one.
 use Rattle.std.specs.Prelude.{◌≡◌, ℕ, ◌+◌, suc, true, ⊤}
-use Rattle.ty_core.specs.Types.{Typ, var, con, Typs, none, more, labels}
-use Rattle.ty_core.specs.Marks.{is_inhabited}
+use Rattle.ty_table.specs.of_ty_core.Types.{Typ, var, con, Typs, none, more, labels}
+use Rattle.ty_table.specs.of_ty_core.Marks.{is_inhabited}
 use Rattle.ty_solve.specs.Substitution.{Entry, free, bound, row, is_below, are_below}
 use Rattle.ty_solve.specs.Rows.{IsProper}
 

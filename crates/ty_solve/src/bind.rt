@@ -1,6 +1,6 @@
 // Changes to what a variable stands for.
 ghost use Rattle.std.specs.Prelude.{◌≡◌, ◌<◌, ℕ, List, length, IfOk, IfErr, IfSome, MatchOption, true, false};
-ghost use Rattle.ty_core.specs.Types.{Typ};
+ghost use Rattle.ty_table.specs.of_ty_core.Types.{Typ};
 ghost use Rattle.ty_table.specs.TypeAt.{type_at, AllBelow};
 ghost use Rattle.ty_solve.specs.Substitution.{free, mark as mark_of, is_open, aside, Resolves, sub, is_in};
 ghost use Rattle.ty_solve.specs.SlotsOf.{seen, entries, tasks_of, row_in, row_of};
@@ -21,7 +21,7 @@ use crate::trail::{Kept, write};
 use crate::walk::occurs;
 use mlc_base::memory::NoMemory;
 use std::alloc::Global;
-use ty_core::mark::Mark;
+use ty_table::ty_core::mark::Mark;
 
 /// Lets a free variable stand for a type, and its mark stand at that type.
 fn bind_free(

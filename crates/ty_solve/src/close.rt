@@ -1,7 +1,7 @@
 // A type that is no variable and the fields of a row.
 ghost use Rattle.std.specs.Prelude.{◌≡◌, ℕ, length, IfOk, IfErr};
-ghost use Rattle.ty_core.specs.Types.{con, labels as labelled};
-ghost use Rattle.ty_core.specs.TypesOf.{head_of};
+ghost use Rattle.ty_table.specs.of_ty_core.Types.{con, labels as labelled};
+ghost use Rattle.ty_table.specs.of_ty_core.TypesOf.{head_of};
 ghost use Rattle.ty_table.specs.TypeAt.{types_at, AllBelow};
 ghost use Rattle.ty_solve.specs.Rows.{IsProper};
 ghost use Rattle.ty_solve.specs.Substitution.{Entry};
@@ -15,7 +15,7 @@ use crate::row::{Row, admit_others, equal_common, is_proper, lacking};
 use crate::task::Todo;
 use mlc_names::label::Label;
 use std::alloc::Global;
-use ty_core::ty::Head;
+use ty_table::ty_core::ty::Head;
 use ty_table::types::Types;
 
 /// Gives a type that is no variable the fields of a row.

@@ -12,9 +12,9 @@ use crate::task::Todo;
 use crate::walk::add_all;
 use indexmap::IndexSet;
 use std::alloc::Global;
-use ty_core::mark::Mark;
-use ty_core::name::Equality;
-use ty_core::ty::equality_of;
+use ty_table::ty_core::mark::Mark;
+use ty_table::ty_core::name::Equality;
+use ty_table::ty_core::ty::equality_of;
 use ty_table::types::View;
 
 /// Looks at the first node of a type that is to admit equality.

@@ -1,6 +1,6 @@
 // A type and the fields of a row.
 ghost use Rattle.std.specs.Prelude.{◌≡◌, ◌<◌, length, IfOk, IfErr, true};
-ghost use Rattle.ty_core.specs.Types.{var};
+ghost use Rattle.ty_table.specs.of_ty_core.Types.{var};
 ghost use Rattle.ty_table.specs.TypeAt.{type_at, AllBelow};
 ghost use Rattle.ty_solve.specs.Substitution.{is_open, is_below};
 ghost use Rattle.ty_solve.specs.SlotsOf.{entries, tasks_of, row_in};
@@ -20,7 +20,7 @@ use crate::task::Todo;
 use crate::trail::{Kept, write};
 use crate::walk::occurs_in;
 use std::alloc::Global;
-use ty_core::mark::Mark;
+use ty_table::ty_core::mark::Mark;
 use ty_table::types::View;
 
 /// What is known of a record that an open variable stands for.

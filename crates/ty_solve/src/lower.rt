@@ -1,8 +1,8 @@
 // Limits that fall along what variables stand for.
 ghost use Rattle.std.specs.Prelude.{◌≡◌, ◌<◌, ◌≤◌, ◌+◌, ◌++◌, ◌∷◌, [], ℕ, length, IfOk, IfErr, true, false};
-ghost use Rattle.ty_core.specs.Types.{var, name};
-ghost use Rattle.ty_core.specs.TypesOf.{head_of};
-ghost use Rattle.ty_core.specs.declared.name.TyName.{TyName};
+ghost use Rattle.ty_table.specs.of_ty_core.Types.{var, name};
+ghost use Rattle.ty_table.specs.of_ty_core.TypesOf.{head_of};
+ghost use Rattle.ty_table.specs.of_ty_core.declared.name.TyName.{TyName};
 ghost use Rattle.ty_table.specs.TypeAt.{type_at, types_at};
 ghost use Rattle.ty_solve.specs.Substitution.{are_below};
 ghost use Rattle.ty_solve.specs.Forces.{Problem, IsForced};
@@ -19,7 +19,7 @@ use crate::walk::{add_all, look_under};
 use indexmap::IndexSet;
 use mlc_base::memory::NoMemory;
 use std::alloc::Global;
-use ty_core::ty::Head;
+use ty_table::ty_core::ty::Head;
 use ty_table::types::{Types, View};
 
 /// Puts back what was kept of limits, the last first.

@@ -1,7 +1,7 @@
 // Records with fields that are not yet known.
 ghost use Rattle.std.specs.Prelude.{◌≡◌, ◌<◌, ◌↔◌, ◌++◌, ◌∷◌, [], List, nat_eq, length, IfOk, IsTrue, MatchOption};
 ghost use Rattle.indexmap.specs.IndexMap.{get};
-ghost use Rattle.ty_core.specs.Types.{Typ};
+ghost use Rattle.ty_table.specs.of_ty_core.Types.{Typ};
 ghost use Rattle.ty_table.specs.TypeAt.{type_at, types_at, AllBelow};
 ghost use Rattle.ty_solve.specs.Rows.{Among, IsProper};
 ghost use Rattle.ty_solve.specs.SlotsOf.{row_in, tasks_of};
@@ -15,8 +15,8 @@ use indexmap::IndexMap;
 use mlc_base::memory::NoMemory;
 use mlc_names::label::Label;
 use std::alloc::Global;
-use ty_core::mark::Mark;
-use ty_core::ty::copy_labels;
+use ty_table::ty_core::mark::Mark;
+use ty_table::ty_core::ty::copy_labels;
 use ty_table::types::Types;
 
 /// The fields that a record is known to have. It may have further ones, which admit equality where `equality` is true.

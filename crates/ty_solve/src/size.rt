@@ -1,7 +1,7 @@
 // Whether a type is too large, written out as a tree.
 ghost use Rattle.std.specs.Prelude.{◌≡◌, ◌↔◌, ◌≤◌, ◌++◌, ℕ, nat_eq, IfOk, IsTrue, map};
 ghost use Rattle.indexmap.specs.IndexMap.{get};
-ghost use Rattle.ty_core.specs.Types.{Typ, nodes};
+ghost use Rattle.ty_table.specs.of_ty_core.Types.{Typ, nodes};
 ghost use Rattle.ty_table.specs.TypeAt.{type_at};
 ghost use Rattle.ty_solve.specs.Said.{said};
 ghost use Rattle.ty_solve.specs.Sizes.{AreSizes, Visited};

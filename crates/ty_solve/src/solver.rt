@@ -1,8 +1,8 @@
 // Substitutions whose variables have limits.
 ghost use Rattle.std.specs.Prelude.{◌≡◌, ◌<◌, ◌≤◌, ◌++◌, ◌∷◌, [], length, slice_get, take, IfOk, IfErr, OnOk, OnErr, Some, true};
-ghost use Rattle.ty_core.specs.Types.{var, con};
-ghost use Rattle.ty_core.specs.TypesOf.{head_of};
-ghost use Rattle.ty_core.specs.Marks.{is_inhabited};
+ghost use Rattle.ty_table.specs.of_ty_core.Types.{var, con};
+ghost use Rattle.ty_table.specs.of_ty_core.TypesOf.{head_of};
+ghost use Rattle.ty_table.specs.of_ty_core.Marks.{is_inhabited};
 ghost use Rattle.ty_table.specs.TypeAt.{type_at, types_at, AllBelow, IsWith};
 ghost use Rattle.ty_solve.specs.Substitution.{is_below};
 ghost use Rattle.ty_solve.specs.SlotsOf.{seen, row_in};
@@ -23,8 +23,8 @@ use crate::subst::Subst;
 use crate::trail::{Kept, put_back};
 use mlc_base::memory::NoMemory;
 use std::alloc::Global;
-use ty_core::mark::Mark;
-use ty_core::ty::Head;
+use ty_table::ty_core::mark::Mark;
+use ty_table::ty_core::ty::Head;
 
 /// Makes two types equal, and lowers limits. What is changed is kept.
 fn within(

@@ -1,13 +1,13 @@
 // One task at a time: what it leaves to be done, or which change it asks for.
 ghost use Rattle.std.specs.Prelude.{◌≡◌, ◌↔◌, ◌<◌, ◌++◌, ◌∷◌, [], false, ℕ, IsTrue, IfOk, IfErr, List, length, map, true, None};
 ghost use Rattle.std.specs.Option.{option_map};
-ghost use Rattle.ty_core.specs.Types.{Typ, Symbol, var, con, none};
-ghost use Rattle.ty_core.specs.Marks.{IsOf, Allows, is_inhabited};
+ghost use Rattle.ty_table.specs.of_ty_core.Types.{Typ, Symbol, var, con, none};
+ghost use Rattle.ty_table.specs.of_ty_core.Marks.{IsOf, Allows, is_inhabited};
 ghost use Rattle.ty_table.specs.TypeAt.{type_at, types_at, AllBelow};
 ghost use Rattle.ty_solve.specs.Substitution.{is_below, are_below, is_open, free, mark as mark_of};
 ghost use Rattle.ty_solve.specs.SlotsOf.{seen, entries, task_of, tasks_of, write_of, row_in, row_of};
 ghost use Rattle.ty_solve.specs.Said.{said};
-ghost use Rattle.ty_core.specs.TypesOf.{head_of};
+ghost use Rattle.ty_table.specs.of_ty_core.TypesOf.{head_of};
 ghost use Rattle.ty_solve.specs.Finding.{Reads, IsWalked};
 ghost use Rattle.ty_solve.specs.Compared.{Waits, WasThere, Remembers};
 ghost use Rattle.ty_solve.specs.Held.{AreHeldTasks, IsHeldMove, KeepsHeld};
@@ -23,9 +23,9 @@ use crate::task::{Move, Todo};
 use indexmap::IndexSet;
 use mlc_base::memory::NoMemory;
 use std::alloc::Global;
-use ty_core::mark::{Class, Mark, is_of, meet};
-use ty_core::name::Equality;
-use ty_core::ty::{Head, equality_of, same_head};
+use ty_table::ty_core::mark::{Class, Mark, is_of, meet};
+use ty_table::ty_core::name::Equality;
+use ty_table::ty_core::ty::{Head, equality_of, same_head};
 use ty_table::types::View;
 
 /// Asks that the types of two lists are equal, one by one.

@@ -1,8 +1,8 @@
 // What each type variable stands for.
 ghost use Rattle.std.specs.Prelude.{◌≡◌, ℕ, ◌+◌, ◌<◌, ◌≤◌, length, MatchOption, IfSome, IfOk, OnOk, OnErr, Some, true, false, ◌++◌, ◌∷◌, [], slice_get, slice_set, slice_index_or, take};
-ghost use Rattle.ty_core.specs.Types.{Typ, var, con};
-ghost use Rattle.ty_core.specs.TypesOf.{head_of};
-ghost use Rattle.ty_core.specs.Marks.{is_inhabited};
+ghost use Rattle.ty_table.specs.of_ty_core.Types.{Typ, var, con};
+ghost use Rattle.ty_table.specs.of_ty_core.TypesOf.{head_of};
+ghost use Rattle.ty_table.specs.of_ty_core.Marks.{is_inhabited};
 ghost use Rattle.ty_table.specs.TypeAt.{type_at, types_at, AllBelow, IsWith};
 ghost use Rattle.ty_solve.specs.Substitution.{mark, free, bound, is_open, Fits};
 ghost use Rattle.ty_solve.specs.SlotsOf.{seen, entry_of, row_in, row_of};
@@ -18,8 +18,8 @@ use crate::row::Row;
 use mlc_base::memory::NoMemory;
 use std::alloc::Global;
 use std::mem;
-use ty_core::mark::Mark;
-use ty_core::ty::Head;
+use ty_table::ty_core::mark::Mark;
+use ty_table::ty_core::ty::Head;
 use ty_table::types::{Types, View};
 
 /// What one variable stands for: any type that its mark allows, a record with the fields of a row, or one type.

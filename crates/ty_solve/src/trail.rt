@@ -7,7 +7,7 @@ ghost use Rattle.ty_solve.specs.Solve.{undo};
 
 use crate::subst::{Slot, Subst};
 use mlc_base::memory::NoMemory;
-use ty_core::mark::Mark;
+use ty_table::ty_core::mark::Mark;
 
 /// What a variable stood for before a change.
 #[derive(Drop)]

@@ -1,6 +1,6 @@
 // Looking through the type that a number stands for.
 ghost use Rattle.std.specs.Prelude.{◌≡◌, ◌↔◌, ◌++◌, ℕ, IfOk, IsTrue, true};
-ghost use Rattle.ty_core.specs.Types.{Typ, var};
+ghost use Rattle.ty_table.specs.of_ty_core.Types.{Typ, var};
 ghost use Rattle.ty_table.specs.TypeAt.{type_at, types_at, top};
 ghost use Rattle.ty_solve.specs.Said.{said};
 ghost use Rattle.ty_solve.specs.Walk.{Looks, LooksInRow, LooksUnder};

@@ -1,6 +1,6 @@
 -- The codes of labels, one after the other.
 use Rattle.std.proofs.Common.{◌≡◌, ℕ, zero, suc, ◌<◌, List, [], ◌∷◌, ◌++◌, length, get_or, take, refl, sym, ap, ◌∙◌, arith, append_assoc}
-use Rattle.mlc_names.specs.declared.label.Label.{Label}
+use Rattle.ty_core.specs.of_mlc_names.declared.label.Label.{Label}
 use Rattle.ty_table.specs.Codes.{label_code, labels_code}
 
 append_none : (l : List ℕ) → l ++ [] ≡ l

@@ -5,7 +5,7 @@ use Rattle.std.proofs.lemmas.Bool.{cases_order}
 use Rattle.std.proofs.lemmas.Option.{slice_get_within, slice_get-get_or, get_or_from_slice_get}
 use Rattle.std.proofs.lemmas.List.Quantifiers.{all_pairs_push}
 use Rattle.indexmap.specs.IndexSet.{insert_key}
-use Rattle.mlc_names.proofs.NamesLemmas.{Kept, is_text, same_text, held_found, one_to_one}
+use Rattle.ty_core.proofs.of_mlc_names.NamesLemmas.{Kept, is_text, same_text, held_found, one_to_one}
 use Rattle.ty_core.specs.Types.{Symbol, arrow, Typ, var}
 use Rattle.ty_core.specs.TypesOf.{head_of}
 use Rattle.ty_core.specs.declared.ty.Head.{Head}

@@ -2,8 +2,8 @@
 use Rattle.std.specs.Prelude.{◌≡◌, ℕ, zero, suc, List, [], ◌∷◌, ◌++◌, take, drop, refl}
 use Rattle.std.proofs.Common.{ap, ap₂, ◌∙◌}
 use Rattle.std.specs.Coded.{Coded, code_by, coded×, coded_ℕ, coded_list}
-use Rattle.mlc_names.specs.declared.label.Label.{Label}
-use Rattle.mlc_names.specs.declared.label.Label.TheVariants.{Number, Word}
+use Rattle.ty_core.specs.of_mlc_names.declared.label.Label.{Label}
+use Rattle.ty_core.specs.of_mlc_names.declared.label.Label.TheVariants.{Number, Word}
 use Rattle.ty_core.specs.Types.{Symbol, arrow, labels, name, Typ, var, con, Typs, none, more, typs_of}
 use Rattle.ty_core.specs.declared.name.Equality.{Equality}
 use Rattle.ty_core.specs.declared.name.Equality.TheVariants.{Always, ByArguments, Never}

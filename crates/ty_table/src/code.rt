@@ -5,8 +5,8 @@ ghost use Rattle.ty_core.specs.TypesOf.{head_of};
 ghost use Rattle.ty_table.specs.Codes.{label_code, attribute_code, code_of};
 
 use mlc_base::memory::NoMemory;
-use mlc_names::label::Label;
 use std::alloc::Global;
+use ty_core::mlc_names::label::Label;
 use ty_core::name::Equality;
 use ty_core::ty::Head;
 

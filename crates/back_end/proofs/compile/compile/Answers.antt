@@ -2,8 +2,8 @@ use Rattle.std.proofs.Common.{◌≡◌, ◌+◌, ◌*◌, ◌^◌, ◌<◌, ◌
 use Rattle.mlc_runs.specs.Passes.{greatest_expansion}
 use Rattle.match_pass.specs.of_ir_prog.Programs.{expansion}
 use Rattle.ssa_form.specs.Programs.{program_of}
-use Rattle.image_law.specs.ImageOf.{IsImageOf}
-use Rattle.image_size.specs.Size.{parts, words}
+use Rattle.machine_emit.specs.of_image_law.ImageOf.{IsImageOf}
+use Rattle.machine_emit.specs.of_image_size.Size.{parts, words}
 use Rattle.machine_emit.specs.Contract.{IsTooLong}
 use Rattle.back_end.specs.Lowered.{identifiers, ssa_of}
 use Rattle.back_end.specs.declared.refused.CompileRefused.TheVariants.{TooLarge, TooLong}

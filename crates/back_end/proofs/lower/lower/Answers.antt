@@ -5,7 +5,7 @@ use Rattle.match_pass.specs.of_ir_prog.Programs as source
 use Rattle.match_pass.specs.of_ir_prog.Programs.{tests_in}
 use Rattle.monomorphise.specs.Laws.{monomorphise}
 use Rattle.closure_pass.specs.of_mono_form.Programs as copied
-use Rattle.mono_operations.specs.Reads.{strings_of}
+use Rattle.mono_pass.specs.of_mono_operations.Reads.{strings_of}
 use Rattle.closure_pass.specs.Given.{texts}
 use Rattle.first_form.specs.Programs as first
 use Rattle.ssa_form.specs.Programs.{program_of}

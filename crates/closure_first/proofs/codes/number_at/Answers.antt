@@ -1,4 +1,4 @@
-use Rattle.capture_table.proofs.Walking.{first-at, first-past}
+use Rattle.closure_bodies.proofs.of_capture_table.Walking.{first-at, first-past}
 use Rattle.closure_first.proofs.codes.number_at.Goals as goal
 
 pub returns-then-given-parameters : goal.returns-then-given-parameters

@@ -1,6 +1,6 @@
 use Rattle.std.proofs.Common.{[], get_or, ap, ◌∙◌}
-use Rattle.capture_table.specs.Told.{first_parameter}
-use Rattle.capture_table.proofs.Curried.{curried-parts}
+use Rattle.closure_bodies.specs.of_capture_table.Told.{first_parameter}
+use Rattle.closure_bodies.proofs.of_capture_table.Curried.{curried-parts}
 use Rattle.closure_bodies.proofs.of_closure_parts.Operating.{if-ok}
 use Rattle.closure_first.proofs.Walking.{empty-is, heads-one, heads-more}
 use Rattle.closure_first.proofs.codes.push_heads.Goals as goal

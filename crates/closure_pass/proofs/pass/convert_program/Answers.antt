@@ -1,8 +1,8 @@
 use Rattle.std.proofs.Common.{◌∙◌}
-use Rattle.mono_operations.specs.Reads.{strings_of}
+use Rattle.mono_form.specs.of_mono_operations.Reads.{strings_of}
 use Rattle.first_form.specs.Programs as target
 use Rattle.mono_form.specs.Programs as source
-use Rattle.closure_whole.specs.Rising.{rising}
+use Rattle.closure_formed.specs.of_closure_whole.Rising.{rising}
 use Rattle.closure_first.proofs.of_closure_parts.Operating.{if-ok}
 use Rattle.closure_pass.specs.Given.{given, texts}
 use Rattle.closure_pass.proofs.Passing.{now-ready, whole-made, whole-same, whole-exceptions}

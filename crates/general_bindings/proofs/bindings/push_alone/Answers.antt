@@ -1,6 +1,6 @@
 use Rattle.std.proofs.Common.{ap, ◌∙◌}
 use Rattle.match_compile.specs.Compile.{spot, no_spots}
-use Rattle.match_types.specs.Views.{value_type}
+use Rattle.pattern_tests.specs.of_match_types.Views.{value_type}
 use Rattle.pattern_tests.specs.Spots.{spots_onto}
 use Rattle.general_bindings.proofs.Rows.{onto-one}
 use Rattle.general_bindings.proofs.Recording.{alone-puts}

@@ -1,7 +1,7 @@
 use Rattle.std.proofs.Common.{ap, ◌∙◌}
 use Rattle.prog_tree.specs.TreeOf.{pat_of}
 use Rattle.match_compile.specs.Compile.{no_spots, spots}
-use Rattle.match_types.specs.Views.{value_type}
+use Rattle.pattern_tests.specs.of_match_types.Views.{value_type}
 use Rattle.pattern_tests.specs.Spots.{spots_onto}
 use Rattle.general_bindings.specs.General.{spots_of}
 use Rattle.general_bindings.proofs.Rows.{of-reversed}

@@ -1,6 +1,6 @@
 use Rattle.std.proofs.Common.{suc, ap, subst, ◌∙◌}
-use Rattle.match_types.specs.Views.{Stands}
-use Rattle.match_types.proofs.Seeing.{stands-on, keeps-on}
+use Rattle.pattern_tests.specs.of_match_types.Views.{Stands}
+use Rattle.pattern_tests.proofs.of_match_types.Seeing.{stands-on, keeps-on}
 use Rattle.general_bindings.specs.General.{over_scope, whole}
 use Rattle.general_bindings.proofs.Recording.{recording-given}
 use Rattle.general_bindings.proofs.bindings.record_body.Goals as goal

@@ -1,5 +1,5 @@
 use Rattle.std.proofs.Common.{◌∷◌, refl, ap₂, ◌∙◌}
-use Rattle.match_types.proofs.Seeing.{keeps-on}
+use Rattle.pattern_tests.proofs.of_match_types.Seeing.{keeps-on}
 use Rattle.exp_blocks.proofs.Growing.{grows-on, grows-by, grows-equal}
 use Rattle.general_bindings.proofs.Recording.{exception-puts}
 use Rattle.general_bindings.proofs.exceptions.push_new_exception.Goals as goal

@@ -2,7 +2,7 @@ use Rattle.std.proofs.Common.{sym, ap, map, ◌∙◌}
 use Rattle.ty_core.specs.Types.{var}
 use Rattle.ir_tables.specs.Tables.{parameters_at}
 use Rattle.match_compile.specs.Compile.{own_types}
-use Rattle.match_types.proofs.Seeing.{sees-before}
+use Rattle.pattern_tests.proofs.of_match_types.Seeing.{sees-before}
 use Rattle.general_bindings.proofs.Rows.{own-is}
 use Rattle.general_bindings.proofs.records.own_types.Goals as goal
 

@@ -1,7 +1,7 @@
 use Rattle.std.proofs.Common.{suc}
 use Rattle.ir_poly.specs.Tests.{Tests}
 use Rattle.match_compile.specs.Compile.{part}
-use Rattle.match_types.specs.Views.{View, value_type}
+use Rattle.pattern_tests.specs.of_match_types.Views.{View, value_type}
 use Rattle.general_bindings.specs.General.{listed, over_scope}
 use Rattle.general_bindings.proofs.Placing.{general-at}
 use Rattle.general_bindings.proofs.records.push_part.Goals as goal

@@ -2,7 +2,7 @@ use Rattle.std.proofs.Common.{ap₂, ap, ◌∙◌}
 use Rattle.ir_plain.specs.Tree.{make_record}
 use Rattle.plain_tree.specs.TreeOf.{row_of}
 use Rattle.match_compile.specs.Compile.{spots_row}
-use Rattle.match_types.specs.Views.{reading}
+use Rattle.pattern_tests.specs.of_match_types.Views.{reading}
 use Rattle.general_bindings.specs.General.{over_scope, whole, spots_of}
 use Rattle.general_bindings.proofs.Rows.{fields-read}
 use Rattle.general_bindings.proofs.records.push_together.Goals as goal

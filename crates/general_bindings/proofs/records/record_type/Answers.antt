@@ -1,7 +1,7 @@
 use Rattle.std.proofs.Common.{◌≡◌, slice_get, Some, refl, subst}
 use Rattle.ty_core.specs.Types.{con, labels}
 use Rattle.ty_table.specs.TypeAt.{types_at}
-use Rattle.match_types.proofs.Seeing.{keeps-by}
+use Rattle.pattern_tests.proofs.of_match_types.Seeing.{keeps-by}
 use Rattle.general_bindings.proofs.Rows.{record-stands}
 use Rattle.general_bindings.proofs.records.record_type.Goals as goal
 

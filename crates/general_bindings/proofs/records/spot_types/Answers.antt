@@ -1,8 +1,8 @@
 use Rattle.std.proofs.Common.{refl, sym, ap, subst, length, map, ◌∙◌}
 use Rattle.ty_table.specs.TypeAt.{type_at, AllBelow}
 use Rattle.ty_table.proofs.Building.{below-more}
-use Rattle.match_types.proofs.Seeing.{keeps-same, keeps-on, sees-before}
-use Rattle.match_types.proofs.Standing.{all-below-append}
+use Rattle.pattern_tests.proofs.of_match_types.Seeing.{keeps-same, keeps-on, sees-before}
+use Rattle.pattern_tests.proofs.of_match_types.Standing.{all-below-append}
 use Rattle.general_bindings.proofs.Rows.{types-step, types-whole}
 use Rattle.general_bindings.proofs.records.spot_types.Goals as goal
 

@@ -1,7 +1,7 @@
 use Rattle.std.proofs.Common.{◌≡◌, length, map, take}
 use Rattle.ty_table.specs.TypeAt.{type_at, AllBelow}
 use Rattle.match_compile.specs.Compile.{all_scoped}
-use Rattle.match_types.specs.Views.{View, Sees, Keeps}
+use Rattle.pattern_tests.specs.of_match_types.Views.{View, Sees, Keeps}
 use Rattle.general_bindings.specs.General.{types_of}
 use Rattle.general_bindings.proofs.records.spot_types.Given as goal
 

@@ -1,7 +1,7 @@
 use Rattle.std.proofs.Common.{refl, ap, map, ◌∙◌}
 use Rattle.ty_core.specs.Types.{var}
 use Rattle.ty_table.specs.TypeAt.{type_at}
-use Rattle.match_types.proofs.Seeing.{keeps-same, keeps-on, keeps-by, sees-before, stands-at, held-within, held-is}
+use Rattle.pattern_tests.proofs.of_match_types.Seeing.{keeps-same, keeps-on, keeps-by, sees-before, stands-at, held-within, held-is}
 use Rattle.general_bindings.proofs.Rows.{take-whole, vars-step}
 use Rattle.general_bindings.proofs.records.variable_types.Goals as goal
 

@@ -1,7 +1,7 @@
 use Rattle.std.proofs.Common.{◌≡◌, map, take}
 use Rattle.ty_core.specs.Types.{var}
 use Rattle.ty_table.specs.TypeAt.{type_at}
-use Rattle.match_types.specs.Views.{View, Sees, Keeps}
+use Rattle.pattern_tests.specs.of_match_types.Views.{View, Sees, Keeps}
 use Rattle.general_bindings.proofs.records.variable_types.Given as goal
 
 abbrev pub invariant-loop-i : goal.invariant-loop-i

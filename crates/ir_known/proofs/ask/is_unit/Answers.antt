@@ -1,6 +1,6 @@
 use Rattle.std.proofs.Common.{ap, sym, ◌∙◌}
-use Rattle.ty_core.specs.Types.{con}
-use Rattle.ty_core.specs.TypesOf.{head_of}
+use Rattle.ir_tables.specs.of_ty_core.Types.{con}
+use Rattle.ir_tables.specs.of_ty_core.TypesOf.{head_of}
 use Rattle.ir_tables.specs.of_ty_table.TypeAt.{types_at}
 use Rattle.ir_known.proofs.Asking.{nothing}
 use Rattle.ir_known.proofs.ask.is_unit.Goals as goal

@@ -1,5 +1,5 @@
 use Rattle.std.proofs.Common.{arith}
-use Rattle.ty_core.specs.Types.{nodes}
+use Rattle.ir_tables.specs.of_ty_core.Types.{nodes}
 use Rattle.ir_tables.specs.of_ty_table.TypeAt.{type_at}
 use Rattle.ir_known.specs.Images.{IsImage, image_of}
 use Rattle.ir_known.proofs.Walks.{walk-starts, walk-enters, opens-lighter, pop-lighter}

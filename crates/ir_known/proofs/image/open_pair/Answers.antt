@@ -1,5 +1,5 @@
 use Rattle.std.proofs.Common.{sym, ◌∙◌}
-use Rattle.ty_core.specs.TypesOf.{head_of}
+use Rattle.ir_tables.specs.of_ty_core.TypesOf.{head_of}
 use Rattle.ir_known.specs.Images.{image_of}
 use Rattle.ir_known.proofs.Pairs.{pair-closed, closed-apart, pair-variable, other-length, pair-parts}
 use Rattle.ir_known.proofs.image.open_pair.Goals as goal

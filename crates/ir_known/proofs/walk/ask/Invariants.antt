@@ -1,4 +1,4 @@
-use Rattle.ty_core.specs.Types.{nodes}
+use Rattle.ir_tables.specs.of_ty_core.Types.{nodes}
 use Rattle.ir_tables.specs.of_ty_table.TypeAt.{type_at}
 use Rattle.ir_known.specs.Knows.{marks_of}
 use Rattle.ir_known.specs.Asked.{Asked, total}

@@ -1,5 +1,5 @@
 use Rattle.std.proofs.Common.{sym, ◌∙◌, subst}
-use Rattle.ty_core.specs.TypesOf.{head_of}
+use Rattle.ir_tables.specs.of_ty_core.TypesOf.{head_of}
 use Rattle.ir_tables.specs.of_ty_table.TypeAt.{types_at}
 use Rattle.ir_known.specs.Knows.{marks_of}
 use Rattle.ir_known.specs.Asked.{Asked}

@@ -1,6 +1,6 @@
 use Rattle.std.proofs.Common.{◌≡◌, None, zip, take}
 use Rattle.std.specs.Map.{lookup}
-use Rattle.ir_values.specs.Values.{same_label}
+use Rattle.prog_check.specs.of_ir_values.Values.{same_label}
 use Rattle.ir_uses.proofs.record.beside.Given as goal
 
 abbrev pub invariant-loop-i : goal.invariant-loop-i

@@ -4,7 +4,7 @@ use Rattle.first_tables.specs.TablesOf.{set_of}
 use Rattle.ssa_form.specs.Programs.{program_of}
 use Rattle.machine_code.specs.Image.{fun_place, funs_code, funs_size, sets_code, set_place}
 use Rattle.machine_rows.specs.Table.{rows}
-use Rattle.image_law.specs.Assembled.{sets_from}
+use Rattle.image_size.specs.of_image_law.Assembled.{sets_from}
 use Rattle.walk_labels.specs.Marks.{Foretold}
 use Rattle.emit_code.specs.PlacesOf.{places_of}
 use Rattle.emit_walk.proofs.Nodes.{passed}

@@ -1,7 +1,7 @@
 use Rattle.std.proofs.Common.{◌≡◌, ◌∷◌, [], ◌++◌, sym, ap, ◌∙◌, subst, OnOk, length, get_or}
 use Rattle.ir_code.specs.declared.instr.Instr.TheVariants.{Call as CallRow, End}
 use Rattle.machine_routines.specs.EqualCode.{equal_code}
-use Rattle.emit_equality.specs.Ways.{all_shapes, ArePlaces, most}
+use Rattle.emit_known.specs.of_emit_equality.Ways.{all_shapes, ArePlaces, most}
 use Rattle.machine_emit.proofs.assemble.push_start.Goals as goal
 
 pub returns : goal.returns

@@ -6,7 +6,7 @@ use Rattle.ssa_tree.specs.Exceptions.{exceptions}
 use Rattle.ssa_form.specs.Programs.{program_of}
 use Rattle.first_tables.specs.TablesOf.{items_of, tables_of}
 use Rattle.machine_code.specs.Image.{text_of}
-use Rattle.image_law.specs.ImageOf.{has, text_in}
+use Rattle.image_size.specs.of_image_law.ImageOf.{has, text_in}
 use Rattle.emit_known.proofs.Finding.{all-found}
 use Rattle.machine_emit.specs.declared.refused.EmitRefused.TheVariants.{Memory, TooLong}
 use Rattle.machine_emit.proofs.Emitted.{image-is, image-does, too-long, short-enough, too-large}

@@ -2,7 +2,7 @@ use Rattle.std.proofs.Common.{◌≤◌, length, take, reverse, List}
 use Rattle.ir_poly.specs.Prog as t
 use Rattle.plain_tree.specs.declared.tree.Step.{Step}
 use Rattle.prog_tree.specs.TreeOf.{Reading}
-use Rattle.match_types.specs.declared.work.Work.{Work}
+use Rattle.general_bindings.specs.of_match_types.declared.work.Work.{Work}
 use Rattle.match_pass.specs.Chains.{RightMade, last_first}
 use Rattle.match_pass.proofs.chains.close_right.Given as goal
 

@@ -1,7 +1,7 @@
 use Rattle.std.proofs.Common.{ap, map, ◌++◌, ◌∷◌, [], ◌∙◌}
 use Rattle.std.proofs.lemmas.List.{map-append}
 use Rattle.plain_tree.specs.TreeOf.{tree_of}
-use Rattle.match_types.specs.Views.{reading}
+use Rattle.general_bindings.specs.of_match_types.Views.{reading}
 use Rattle.match_pass.proofs.choices.add_attempt.Goals as goal
 
 pub returns : goal.returns

@@ -1,6 +1,6 @@
 use Rattle.std.proofs.Common.{ap, map, ◌∙◌}
 use Rattle.plain_tree.specs.TreeOf.{tree_of, firsts}
-use Rattle.match_types.specs.Views.{reading}
+use Rattle.general_bindings.specs.of_match_types.Views.{reading}
 use Rattle.match_pass.proofs.choices.finish_attempts.Goals as goal
 
 pub returns-clause-gives : goal.returns-clause-gives

@@ -3,7 +3,7 @@ use Rattle.ir_poly.specs.Prog as t
 use Rattle.plain_tree.specs.declared.tree.Step.{Step}
 use Rattle.prog_tree.specs.TreeOf.{Reading}
 use Rattle.prog_tree.specs.declared.tree.Exp.{Exp}
-use Rattle.match_types.specs.declared.work.Work.{Work}
+use Rattle.general_bindings.specs.of_match_types.declared.work.Work.{Work}
 use Rattle.general_bindings.specs.of_exp_steps.Making.{Makes, MakesAll}
 use Rattle.general_bindings.specs.of_exp_blocks.Giving.{otherwise_of}
 use Rattle.match_pass.specs.Reading.{expression, fields_read, right_chain, rules_read, chain_read, decs_read}

@@ -1,7 +1,7 @@
 use Rattle.std.proofs.Common.{ap, map, ◌++◌, ◌∷◌, [], ◌∙◌}
 use Rattle.std.proofs.lemmas.List.{map-append}
 use Rattle.plain_tree.specs.TreeOf.{function_of}
-use Rattle.match_types.specs.Views.{reading}
+use Rattle.general_bindings.specs.of_match_types.Views.{reading}
 use Rattle.match_pass.proofs.heads.add_member.Goals as goal
 
 pub returns-clause-more : goal.returns-clause-more

@@ -1,6 +1,6 @@
 use Rattle.std.proofs.Common.{ap}
 use Rattle.plain_tree.specs.TreeOf.{fun_of}
-use Rattle.match_types.specs.Views.{reading}
+use Rattle.general_bindings.specs.of_match_types.Views.{reading}
 use Rattle.match_pass.proofs.heads.with_steps.Goals as goal
 
 pub returns : goal.returns

@@ -1,5 +1,5 @@
-use Rattle.tests_check.specs.Reads.{reading}
-use Rattle.tests_check.proofs.Rolls.{exception-is, name-is}
+use Rattle.mono_parts.specs.of_tests_check.Reads.{reading}
+use Rattle.mono_parts.proofs.of_tests_check.Rolls.{exception-is, name-is}
 use Rattle.mono_copy.specs.Changes.{plainly_left}
 use Rattle.mono_copy.proofs.Changing.{puts-as, puts-nothing}
 use Rattle.mono_copy.proofs.Leaves.{exception-left, name-left}

@@ -1,6 +1,6 @@
 use Rattle.std.proofs.Common.{ap}
-use Rattle.tests_check.specs.Reads.{reading}
-use Rattle.tests_check.proofs.Rolls.{exception-is, name-is, group-is}
+use Rattle.mono_parts.specs.of_tests_check.Reads.{reading}
+use Rattle.mono_parts.proofs.of_tests_check.Rolls.{exception-is, name-is, group-is}
 use Rattle.mono_parts.proofs.of_mono_state.Going.{if-both}
 use Rattle.mono_copy.specs.Changes.{opened, step_opened}
 use Rattle.mono_copy.proofs.Changing.{puts-as, puts-nothing}

@@ -6,8 +6,8 @@ use Rattle.ty_table.specs.TypeAt.{type_at}
 use Rattle.ir_tables.specs.Tables.{strings_of}
 use Rattle.monomorphise.specs.Monomorphise.{copy_of, units, fun_vars}
 use Rattle.mono_scopes.specs.Scopes.{variable}
-use Rattle.tests_check.specs.Reads.{reading}
-use Rattle.tests_check.proofs.Rolls.{steps-are, ret-is, switch-is, first-is, miss-is, let-is, fn-is, block-is, handle-is, group-is, test-is}
+use Rattle.mono_parts.specs.of_tests_check.Reads.{reading}
+use Rattle.mono_parts.proofs.of_tests_check.Rolls.{steps-are, ret-is, switch-is, first-is, miss-is, let-is, fn-is, block-is, handle-is, group-is, test-is}
 use Rattle.mono_words.specs.Words.{end_sign, last_sign}
 use Rattle.mono_words.specs.Seen.{with_sign, within, out}
 use Rattle.mono_words.specs.Made.{all_bare}

@@ -2,7 +2,7 @@ use Rattle.std.proofs.Common.{◌∷◌, [], ap, ◌∙◌}
 use Rattle.plain_tree.specs.declared.tree.Case.TheVariants as case
 use Rattle.monomorphise.specs.Monomorphise.{copy_of}
 use Rattle.mono_close.specs.Closing.{standing}
-use Rattle.mono_words.specs.Seen.{with_needs}
+use Rattle.mono_state.specs.of_mono_words.Seen.{with_needs}
 use Rattle.mono_state.specs.Seen.{seen}
 use Rattle.mono_state.proofs.Growing.{sooner}
 use Rattle.mono_state.proofs.Going.{goes-then}

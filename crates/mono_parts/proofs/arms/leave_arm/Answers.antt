@@ -5,8 +5,8 @@ use Rattle.plain_tree.specs.TreeOf as tree
 use Rattle.tests_check.specs.Reads.{reading}
 use Rattle.monomorphise.specs.Monomorphise.{copy_case, case_needs}
 use Rattle.mono_close.specs.Closing.{standing}
-use Rattle.mono_words.specs.Words.{arm_sign}
-use Rattle.mono_words.specs.Seen.{with_needs}
+use Rattle.mono_state.specs.of_mono_words.Words.{arm_sign}
+use Rattle.mono_state.specs.of_mono_words.Seen.{with_needs}
 use Rattle.mono_state.specs.Seen.{seen, copy_reading}
 use Rattle.mono_state.proofs.Growing.{sooner}
 use Rattle.mono_state.proofs.Going.{goes-then, if-both}

@@ -7,8 +7,8 @@ use Rattle.ty_core.specs.Statics.{replace}
 use Rattle.ty_table.specs.TypeAt.{type_at}
 use Rattle.mono_close.specs.Closing.{standing}
 use Rattle.mono_state.specs.Seen.{seen, name_in}
-use Rattle.mono_words.specs.Words.{switch_sign}
-use Rattle.mono_words.specs.Seen.{with_needs}
+use Rattle.mono_state.specs.of_mono_words.Words.{switch_sign}
+use Rattle.mono_state.specs.of_mono_words.Seen.{with_needs}
 use Rattle.mono_parts.proofs.Putting.{sign-put}
 use Rattle.mono_parts.proofs.arms.put_switch.Goals as goal
 

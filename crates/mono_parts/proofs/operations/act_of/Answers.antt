@@ -1,6 +1,6 @@
 use Rattle.std.proofs.Common.{[], ap₂, subst, ◌∙◌}
 use Rattle.mono_close.specs.Closing.{standing}
-use Rattle.mono_words.specs.Seen.{with_needs}
+use Rattle.mono_state.specs.of_mono_words.Seen.{with_needs}
 use Rattle.mono_state.specs.Seen.{seen}
 use Rattle.mono_state.proofs.Growing.{sooner}
 use Rattle.mono_state.proofs.Going.{goes-then}

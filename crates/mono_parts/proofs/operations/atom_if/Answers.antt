@@ -1,6 +1,6 @@
 use Rattle.std.proofs.Common.{sym, ap, ◌∙◌}
 use Rattle.std.proofs.lemmas.Result.{IfOk-weaker}
-use Rattle.mono_words.specs.Seen.{with_needs}
+use Rattle.mono_state.specs.of_mono_words.Seen.{with_needs}
 use Rattle.mono_state.specs.Seen.{seen}
 use Rattle.mono_parts.specs.Operations.{if_needs}
 use Rattle.mono_parts.proofs.operations.atom_if.Goals as goal

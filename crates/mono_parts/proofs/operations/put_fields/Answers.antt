@@ -1,7 +1,7 @@
 use Rattle.std.proofs.Common.{◌≡◌, ◌<◌, ◌-◌, ◌+◌, ℕ, zero, suc, List, [], ◌∷◌, length, drop, get_or, refl, subst, ap, ◌∙◌, arith}
 use Rattle.plain_tree.specs.declared.tree.Field.{Field}
-use Rattle.mono_words.specs.Words.{field_sign}
-use Rattle.mono_words.specs.Seen.{with_sign}
+use Rattle.mono_state.specs.of_mono_words.Words.{field_sign}
+use Rattle.mono_state.specs.of_mono_words.Seen.{with_sign}
 use Rattle.mono_state.specs.Seen.{seen, name_in}
 use Rattle.std.proofs.lemmas.List.{drop_all}
 use Rattle.mono_parts.proofs.Lists.{FieldsPut, fields-none, fields-more}

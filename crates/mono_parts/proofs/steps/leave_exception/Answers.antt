@@ -4,8 +4,8 @@ use Rattle.std.specs.Option.{option_map}
 use Rattle.ty_table.specs.TypeAt.{type_at}
 use Rattle.monomorphise.specs.Monomorphise.{copy_of, copy_argument}
 use Rattle.mono_close.specs.Closing.{standing}
-use Rattle.mono_words.specs.Words.{exception_sign}
-use Rattle.mono_words.specs.Seen.{out}
+use Rattle.mono_state.specs.of_mono_words.Words.{exception_sign}
+use Rattle.mono_state.specs.of_mono_words.Seen.{out}
 use Rattle.mono_state.specs.Seen.{seen, name_in}
 use Rattle.mono_state.proofs.Growing.{sooner}
 use Rattle.mono_state.proofs.Going.{goes-then, if-both}

@@ -3,8 +3,8 @@ use Rattle.std.proofs.lemmas.Result.{IfOk-weaker}
 use Rattle.plain_tree.specs.TreeOf as tree
 use Rattle.tests_check.specs.Reads.{reading}
 use Rattle.monomorphise.specs.Monomorphise.{copy_of, copy_name, name_needs}
-use Rattle.mono_words.specs.Words.{name_sign}
-use Rattle.mono_words.specs.Seen.{with_needs, out}
+use Rattle.mono_state.specs.of_mono_words.Words.{name_sign}
+use Rattle.mono_state.specs.of_mono_words.Seen.{with_needs, out}
 use Rattle.mono_state.specs.Seen.{seen, name_in, copy_reading}
 use Rattle.mono_state.proofs.Growing.{sooner}
 use Rattle.mono_state.proofs.Going.{goes-then, if-both}

@@ -1,6 +1,6 @@
 use Rattle.std.proofs.Common.{◌≡◌, true, take}
 use Rattle.ir_tables.specs.declared.tables.Tables.{Tables}
-use Rattle.mono_words.specs.Made.{all_bare}
+use Rattle.mono_state.specs.of_mono_words.Made.{all_bare}
 use Rattle.mono_parts.specs.Steps.{steps_in}
 use Rattle.mono_parts.proofs.steps.stripped.Given as goal
 

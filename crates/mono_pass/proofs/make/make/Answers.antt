@@ -4,8 +4,8 @@ use Rattle.ir_poly.specs.Types.{initial_constructors}
 use Rattle.ir_tables.specs.Rows.{constructors_at}
 use Rattle.monomorphise.specs.Counting.{expansion_within, greatest_expansion}
 use Rattle.mono_copy.proofs.Changing.{passed}
-use Rattle.mono_state.specs.Seen.{Held, held_of, Later, sign_of}
-use Rattle.mono_state.proofs.Growing.{same-longer, with-types}
+use Rattle.mono_enter.specs.of_mono_state.Seen.{Held, held_of, Later, sign_of}
+use Rattle.mono_enter.proofs.of_mono_state.Growing.{same-longer, with-types}
 use Rattle.mono_pass.proofs.Made.{is-made}
 use Rattle.mono_pass.proofs.make.make.Goals as goal
 

@@ -2,7 +2,7 @@ use Rattle.std.proofs.Common.{nat_eq, map, ap, ◌∙◌}
 use Rattle.indexmap.specs.IndexMap.{get}
 use Rattle.ir_tables.specs.Rows.{constructors_at}
 use Rattle.monomorphise.specs.Table.{number_in}
-use Rattle.mono_state.specs.Seen.{held_of, sign_of}
+use Rattle.mono_enter.specs.of_mono_state.Seen.{held_of, sign_of}
 use Rattle.mono_pass.proofs.Made.{types-made, are-numbers}
 use Rattle.mono_pass.proofs.make.number_copies.Goals as goal
 

@@ -3,7 +3,7 @@ use Rattle.std.specs.Option.{option_map}
 use Rattle.ty_table.specs.TypeAt.{type_at}
 use Rattle.ir_known.specs.Knows.{known_of}
 use Rattle.ir_tables.specs.Tables.{parameters_of}
-use Rattle.ir_uses.proofs.Knowing.{at-knowns}
+use Rattle.prog_pats.proofs.of_ir_uses.Knowing.{at-knowns}
 use Rattle.prog_known.specs.Environments.{parameters_in}
 use Rattle.prog_check.specs.Deciding.{is_use}
 use Rattle.prog_leaves.proofs.atoms.check_variable.Goals as goal

@@ -3,7 +3,7 @@ use Rattle.std.specs.Option.{option_map}
 use Rattle.ty_table.specs.TypeAt.{type_at}
 use Rattle.ir_known.specs.Knows.{known_of}
 use Rattle.ir_tables.specs.Tables.{parameters_of}
-use Rattle.ir_uses.proofs.Knowing.{at-knowns}
+use Rattle.prog_pats.proofs.of_ir_uses.Knowing.{at-knowns}
 use Rattle.prog_check.specs.Deciding.{is_own}
 use Rattle.prog_leaves.proofs.atoms.is_own.Goals as goal
 

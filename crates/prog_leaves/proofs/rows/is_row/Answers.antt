@@ -2,7 +2,7 @@ use Rattle.std.proofs.Common.{ap, ◌∙◌}
 use Rattle.ty_table.specs.TypeAt.{type_at}
 use Rattle.label_rows.specs.Order.{sorted_by}
 use Rattle.ir_poly.specs.Types.{ascend, labels_in, row_type}
-use Rattle.ir_uses.specs.Fields.{field_types}
+use Rattle.prog_pats.specs.of_ir_uses.Fields.{field_types}
 use Rattle.prog_check.specs.Same.{same_type}
 use Rattle.prog_pats.proofs.of_prog_parts.Truths.{two, as-same}
 use Rattle.prog_leaves.specs.Right.{is_row}

@@ -2,7 +2,7 @@ use Rattle.std.proofs.Common.{sym, ap, ◌∙◌}
 use Rattle.std.specs.Option.{option_map}
 use Rattle.ir_known.specs.Knows.{known_of}
 use Rattle.ir_tables.specs.Tables.{parameters_of}
-use Rattle.ir_uses.proofs.Knowing.{at-knowns}
+use Rattle.record_order.proofs.of_ir_uses.Knowing.{at-knowns}
 use Rattle.prog_check.specs.Deciding.{exc_argument, known_argument}
 use Rattle.prog_known.specs.Onto.{known_with}
 use Rattle.prog_tree.specs.TreeOf.{exc_of}

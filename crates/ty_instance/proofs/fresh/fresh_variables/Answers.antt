@@ -1,5 +1,5 @@
 use Rattle.std.proofs.Common.{◌≡◌, List, length, take, Some, ap, subst, ◌∙◌}
-use Rattle.ty_core.specs.Types.{Typ, var}
+use Rattle.ty_solve.specs.of_ty_core.Types.{Typ, var}
 use Rattle.ty_instance.proofs.Renaming.{made-none, made-next}
 use Rattle.ty_instance.proofs.fresh.fresh_variables.Goals as goal
 

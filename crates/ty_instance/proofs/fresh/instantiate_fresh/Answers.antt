@@ -1,6 +1,6 @@
 use Rattle.std.proofs.Common.{length, map, Some, sym, ap, subst, ◌∙◌}
-use Rattle.ty_core.specs.Statics.{replace}
-use Rattle.ty_table.specs.TypeAt.{type_at}
+use Rattle.ty_solve.specs.of_ty_core.Statics.{replace}
+use Rattle.ty_solve.specs.of_ty_table.TypeAt.{type_at}
 use Rattle.ty_solve.specs.Limits.{limit_at, AreLimited}
 use Rattle.ty_solve.specs.declared.subst.Slot.TheVariants.{Open}
 use Rattle.ty_solve.proofs.Holding.{type-stays, table-grown}

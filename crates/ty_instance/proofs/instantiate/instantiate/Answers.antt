@@ -3,8 +3,8 @@ use Rattle.std.proofs.lemmas.Bool.{eqb-true}
 use Rattle.std.proofs.lemmas.Option.{slice_get-get_or}
 use Rattle.std.specs.Map.{lookup}
 use Rattle.indexmap.specs.IndexMap.{get}
-use Rattle.ty_core.specs.Types.{var}
-use Rattle.ty_table.specs.TypeAt.{type_at}
+use Rattle.ty_solve.specs.of_ty_core.Types.{var}
+use Rattle.ty_solve.specs.of_ty_table.TypeAt.{type_at}
 use Rattle.ty_instance.specs.Images.{image_at, nothing}
 use Rattle.ty_instance.specs.Steps.{Going, IsImage, burden}
 use Rattle.ty_instance.proofs.Going.{below-grown, stays-on, whole}

@@ -1,9 +1,9 @@
 use Rattle.std.proofs.Common.{◌-◌, length, get_or, Some, if◌then◌else◌, sym, ap, ◌∙◌}
 use Rattle.std.proofs.lemmas.Bool.{lt-ltb}
 use Rattle.std.proofs.lemmas.Option.{slice_get-get_or}
-use Rattle.ty_core.specs.Types.{var}
-use Rattle.ty_table.specs.TypeAt.{type_at}
-use Rattle.ty_table.proofs.Viewing.{below-at}
+use Rattle.ty_solve.specs.of_ty_core.Types.{var}
+use Rattle.ty_solve.specs.of_ty_table.TypeAt.{type_at}
+use Rattle.ty_solve.proofs.of_ty_table.Viewing.{below-at}
 use Rattle.ty_instance.proofs.instantiate.variable_image.Goals as goal
 
 pub returns-then-v-images-clause-is : goal.returns-then-v-images-clause-is

@@ -1,5 +1,5 @@
 use Rattle.std.proofs.Common.{Some, ap, ap₂, ◌∙◌}
-use Rattle.ty_table.specs.TypeAt.{types_at, with_parts}
+use Rattle.ty_solve.specs.of_ty_table.TypeAt.{types_at, with_parts}
 use Rattle.ty_instance.proofs.Putting.{on-ok}
 use Rattle.ty_instance.proofs.made.build.Goals as goal
 

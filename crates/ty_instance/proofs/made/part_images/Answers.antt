@@ -1,6 +1,6 @@
 use Rattle.std.proofs.Common.{map, nat_eq, ap, ◌∙◌}
 use Rattle.indexmap.specs.IndexMap.{get}
-use Rattle.ty_table.specs.TypeAt.{type_at}
+use Rattle.ty_solve.specs.of_ty_table.TypeAt.{type_at}
 use Rattle.ty_instance.specs.Steps.{image_in}
 use Rattle.ty_instance.proofs.Putting.{on-ok, same-parts}
 use Rattle.ty_instance.proofs.made.part_images.Goals as goal

@@ -1,6 +1,6 @@
 use Rattle.std.proofs.Common.{length, map, nat_eq, Some, ap, ◌∙◌}
 use Rattle.indexmap.specs.IndexMap.{get}
-use Rattle.ty_table.specs.TypeAt.{type_at}
+use Rattle.ty_solve.specs.of_ty_table.TypeAt.{type_at}
 use Rattle.ty_solve.proofs.Holding.{table-grown}
 use Rattle.ty_instance.specs.Put.{put_at, put_for}
 use Rattle.ty_instance.proofs.Putting.{on-ok}

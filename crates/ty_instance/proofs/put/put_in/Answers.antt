@@ -1,7 +1,7 @@
 use Rattle.std.proofs.Common.{◌≡◌, ◌<◌, ◌++◌, ◌∷◌, [], length, nat_eq, Some, sym, ap, ◌∙◌, subst, arith}
 use Rattle.std.specs.Map.{lookup}
 use Rattle.indexmap.specs.IndexMap.{get}
-use Rattle.ty_table.specs.TypeAt.{type_at}
+use Rattle.ty_solve.specs.of_ty_table.TypeAt.{type_at}
 use Rattle.ty_instance.specs.Images.{nothing}
 use Rattle.ty_instance.specs.Put.{put_at}
 use Rattle.ty_instance.proofs.PuttingFor.{put-stays, held-grown}

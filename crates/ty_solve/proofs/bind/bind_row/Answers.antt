@@ -1,5 +1,5 @@
 use Rattle.std.proofs.Common.{◌≡◌, true, length, List, sym, ap, subst, ◌∙◌}
-use Rattle.ty_core.specs.Types.{Typ}
+use Rattle.ty_table.specs.of_ty_core.Types.{Typ}
 use Rattle.ty_table.specs.TypeAt.{type_at, AllBelow}
 use Rattle.ty_solve.specs.Substitution.{is_below}
 use Rattle.ty_solve.specs.SlotsOf.{row_in, seen}

@@ -1,7 +1,7 @@
 use Rattle.std.proofs.Common.{sym, ap, ◌∙◌}
-use Rattle.ty_core.specs.Types.{con, labels}
-use Rattle.ty_core.specs.TypesOf.{head_of}
-use Rattle.ty_core.specs.declared.ty.Head.{Head}
+use Rattle.ty_table.specs.of_ty_core.Types.{con, labels}
+use Rattle.ty_table.specs.of_ty_core.TypesOf.{head_of}
+use Rattle.ty_table.specs.of_ty_core.declared.ty.Head.{Head}
 use Rattle.ty_table.specs.TypeAt.{types_at}
 use Rattle.ty_solve.specs.SlotsOf.{row_in}
 use Rattle.ty_solve.proofs.RowResults.{refuses-as}

@@ -1,6 +1,6 @@
 use Rattle.std.proofs.Common.{◌≡◌, true, length, refl, subst, sym, rules}
-use Rattle.ty_core.specs.Types.{admits, no_variable}
-use Rattle.ty_core.specs.TypesOf.{head_of}
+use Rattle.ty_table.specs.of_ty_core.Types.{admits, no_variable}
+use Rattle.ty_table.specs.of_ty_core.TypesOf.{head_of}
 use Rattle.ty_table.specs.TypeAt.{type_at, AllBelow}
 use Rattle.ty_solve.specs.Parts.{Looked}
 use Rattle.ty_solve.proofs.Admitting.{admits-anyhow}

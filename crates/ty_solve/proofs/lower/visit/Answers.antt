@@ -1,5 +1,5 @@
 use Rattle.std.proofs.Common.{refl}
-use Rattle.ty_core.specs.TypesOf.{head_of}
+use Rattle.ty_table.specs.of_ty_core.TypesOf.{head_of}
 use Rattle.ty_solve.specs.Lowering.{Visits}
 use Rattle.ty_solve.proofs.lower.visit.Goals as goal
 

@@ -1,6 +1,6 @@
 use Rattle.std.proofs.Common.{List, map, nat_eq, take}
 use Rattle.indexmap.specs.IndexMap.{get}
-use Rattle.ty_core.specs.Types.{Typ}
+use Rattle.ty_table.specs.of_ty_core.Types.{Typ}
 use Rattle.ty_table.specs.TypeAt.{type_at}
 use Rattle.ty_solve.specs.Places.{AreNoted}
 use Rattle.ty_solve.specs.Rows.{IsProper}

@@ -1,10 +1,10 @@
 use Rattle.std.proofs.Common.{◌≤◌, ◌↔◌, ℕ, subst, List}
-use Rattle.ty_core.specs.Types.{Typ}
+use Rattle.ty_table.specs.of_ty_core.Types.{Typ}
 use Rattle.ty_table.specs.TypeAt.{type_at}
 use Rattle.ty_solve.specs.Substitution.{sub}
 use Rattle.ty_solve.specs.SlotsOf.{seen}
 use Rattle.std.proofs.Common.{IsTrue}
-use Rattle.ty_core.specs.Types.{nodes}
+use Rattle.ty_table.specs.of_ty_core.Types.{nodes}
 use Rattle.ty_solve.specs.Substitution.{Resolves}
 use Rattle.ty_solve.specs.Solve.{node_limit}
 use Rattle.ty_solve.specs.Weight.{IsAcyclic, AreInhabited}

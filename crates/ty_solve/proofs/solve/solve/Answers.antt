@@ -1,4 +1,4 @@
-use Rattle.ty_core.specs.Types.{Typ}
+use Rattle.ty_table.specs.of_ty_core.Types.{Typ}
 use Rattle.ty_table.specs.TypeAt.{type_at}
 use Rattle.ty_solve.specs.SlotsOf.{seen, entries, tasks_of, write_of}
 use Rattle.ty_solve.specs.Compared.{Remembers}
@@ -9,7 +9,7 @@ use Rattle.ty_solve.proofs.Slots.{entries-length, tasks-push}
 use Rattle.std.proofs.Common.{◌≡◌, true, List, length, Some, None, refl, sym, ap, subst, ◌∙◌}
 use Rattle.ty_solve.specs.declared.task.Todo.TheVariants as todo
 use Rattle.std.proofs.Common.{◌∙◌, ◌≡◌, true, length, subst, sym, ap, refl, Some, None, List}
-use Rattle.ty_core.specs.Types.{Typ}
+use Rattle.ty_table.specs.of_ty_core.Types.{Typ}
 use Rattle.ty_table.specs.TypeAt.{type_at}
 use Rattle.ty_solve.specs.Substitution.{is_below}
 use Rattle.ty_solve.specs.SlotsOf.{seen, entries, tasks_of, write_of}

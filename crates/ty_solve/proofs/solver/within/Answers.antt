@@ -1,5 +1,5 @@
 use Rattle.std.proofs.Common.{[], List, refl, sym, ap, subst, ◌∙◌}
-use Rattle.ty_core.specs.Types.{Typ}
+use Rattle.ty_table.specs.of_ty_core.Types.{Typ}
 use Rattle.ty_table.specs.TypeAt.{type_at}
 use Rattle.ty_solve.specs.SlotsOf.{seen}
 use Rattle.ty_solve.specs.Said.{said}

@@ -1,8 +1,8 @@
 use Rattle.std.proofs.Common.{◌∙◌, ◌≡◌, length, map, subst, sym, refl, rules, None, IfOk, IfErr}
-use Rattle.ty_core.specs.Types.{Typ, con, none}
-use Rattle.ty_core.specs.TypesOf.{head_of}
-use Rattle.ty_core.specs.Marks.{IsOf}
-use Rattle.ty_core.specs.declared.mark.Mark.{Mark}
+use Rattle.ty_table.specs.of_ty_core.Types.{Typ, con, none}
+use Rattle.ty_table.specs.of_ty_core.TypesOf.{head_of}
+use Rattle.ty_table.specs.of_ty_core.Marks.{IsOf}
+use Rattle.ty_table.specs.of_ty_core.declared.mark.Mark.{Mark}
 use Rattle.ty_table.specs.TypeAt.{type_at, types_at}
 use Rattle.ty_solve.specs.SlotsOf.{seen, entries, tasks_of}
 use Rattle.ty_solve.specs.Task.{Admit}

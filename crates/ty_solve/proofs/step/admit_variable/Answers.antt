@@ -1,6 +1,6 @@
 use Rattle.std.proofs.Common.{length, List}
 use Rattle.std.specs.Option.{option_map}
-use Rattle.ty_core.specs.Types.{Typ, var}
+use Rattle.ty_table.specs.of_ty_core.Types.{Typ, var}
 use Rattle.ty_table.specs.TypeAt.{AllBelow}
 use Rattle.ty_solve.specs.SlotsOf.{entries, tasks_of, write_of}
 use Rattle.ty_solve.specs.Said.{said}

@@ -1,4 +1,4 @@
-use Rattle.ty_core.specs.Types.{var}
+use Rattle.ty_table.specs.of_ty_core.Types.{var}
 use Rattle.ty_table.specs.TypeAt.{type_at}
 use Rattle.ty_solve.specs.Substitution.{sub}
 use Rattle.ty_solve.specs.SlotsOf.{seen, entries, tasks_of}
@@ -6,7 +6,7 @@ use Rattle.ty_solve.specs.Task.{Bind}
 use Rattle.ty_solve.specs.Compared.{Settled}
 use Rattle.ty_solve.proofs.Comparing.{remembers-dropped}
 use Rattle.std.proofs.Common.{◌≡◌, length, map, Some, None, refl, sym, ap, subst, ◌∙◌, rules}
-use Rattle.ty_core.specs.TypesOf.{head_of}
+use Rattle.ty_table.specs.of_ty_core.TypesOf.{head_of}
 use Rattle.ty_solve.proofs.StepArms.{heads-clash, counts-clash}
 use Rattle.ty_solve.proofs.Arms.{all-length}
 use Rattle.std.proofs.Common.{length, subst, refl}

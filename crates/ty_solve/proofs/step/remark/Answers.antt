@@ -1,7 +1,7 @@
 use Rattle.std.proofs.Common.{◌∙◌, ◌≡◌, ◌≢◌, ◌<◌, ℕ, Bool, true, length, subst, refl, rules}
-use Rattle.ty_core.specs.Types.{Typ, var}
-use Rattle.ty_core.specs.Marks.{Allows, IsMeet, is_inhabited, rank_of}
-use Rattle.ty_core.specs.declared.mark.Mark.{Mark}
+use Rattle.ty_table.specs.of_ty_core.Types.{Typ, var}
+use Rattle.ty_table.specs.of_ty_core.Marks.{Allows, IsMeet, is_inhabited, rank_of}
+use Rattle.ty_table.specs.of_ty_core.declared.mark.Mark.{Mark}
 use Rattle.ty_solve.specs.SlotsOf.{seen, entries}
 use Rattle.ty_solve.proofs.Setting.{at-inhabited}
 use Rattle.ty_solve.proofs.StepArms.{remark-clash, remark-steps, remark-nothing}

@@ -1,6 +1,6 @@
 use Rattle.std.proofs.Common.{ℕ, false, length, List, None, Some, refl, sym, subst}
-use Rattle.ty_core.specs.Types.{var}
-use Rattle.ty_core.specs.declared.mark.Mark.{Mark}
+use Rattle.ty_table.specs.of_ty_core.Types.{var}
+use Rattle.ty_table.specs.of_ty_core.declared.mark.Mark.{Mark}
 use Rattle.ty_table.specs.TypeAt.{types_at}
 use Rattle.ty_solve.specs.SlotsOf.{entries, tasks_of, row_in}
 use Rattle.ty_solve.specs.Said.{said}

@@ -1,5 +1,5 @@
-use Rattle.ty_core.specs.Types.{Typ}
-use Rattle.ty_core.specs.declared.mark.Mark.{Mark}
+use Rattle.ty_table.specs.of_ty_core.Types.{Typ}
+use Rattle.ty_table.specs.of_ty_core.declared.mark.Mark.{Mark}
 use Rattle.ty_table.specs.TypeAt.{type_at}
 use Rattle.ty_solve.specs.Substitution.{Entry}
 use Rattle.ty_solve.specs.SlotsOf.{seen, tasks_of, task_of, write_of}

@@ -1,5 +1,5 @@
 use Rattle.std.proofs.Common.{◌≡◌, ℕ, List, ◌∙◌}
-use Rattle.ty_core.specs.Types.{Typ, var}
+use Rattle.ty_table.specs.of_ty_core.Types.{Typ, var}
 use Rattle.ty_table.specs.TypeAt.{type_at}
 use Rattle.ty_solve.specs.Substitution.{Entry}
 use Rattle.ty_solve.specs.SlotsOf.{seen}

@@ -1,5 +1,5 @@
 use Rattle.std.proofs.Common.{◌≡◌, length, subst, sym, rules, arith}
-use Rattle.ty_core.specs.Types.{var}
+use Rattle.ty_table.specs.of_ty_core.Types.{var}
 use Rattle.ty_table.specs.TypeAt.{type_at}
 use Rattle.ty_solve.specs.SlotsOf.{seen}
 use Rattle.ty_table.specs.TypeAt.{top}

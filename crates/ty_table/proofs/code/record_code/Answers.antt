@@ -1,5 +1,5 @@
 use Rattle.std.proofs.Common.{◌≡◌, ◌<◌, ℕ, List, add-one, suc, ◌++◌, ◌∷◌, get_or, length, take, ap, sym, ◌∙◌}
-use Rattle.mlc_names.specs.declared.label.Label.{Label}
+use Rattle.ty_core.specs.of_mlc_names.declared.label.Label.{Label}
 use Rattle.ty_table.specs.Codes.{label_code, labels_code}
 use Rattle.ty_table.proofs.Coding.{next-label}
 use Rattle.ty_table.proofs.code.record_code.Goals as goal

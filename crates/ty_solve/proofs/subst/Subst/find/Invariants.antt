@@ -1,6 +1,6 @@
 use Rattle.std.proofs.Common.{◌≡◌, ◌<◌, ◌≤◌, ℕ, true, length}
 use Rattle.std.proofs.Common.{◌≡◌, ◌≤◌, ℕ, true, length}
-use Rattle.ty_core.specs.Types.{Typ}
+use Rattle.ty_table.specs.of_ty_core.Types.{Typ}
 use Rattle.ty_table.specs.TypeAt.{type_at}
 use Rattle.ty_solve.specs.Substitution.{Fits, sub, is_below}
 use Rattle.ty_solve.specs.SlotsOf.{seen}

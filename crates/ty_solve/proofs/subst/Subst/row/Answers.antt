@@ -6,10 +6,10 @@ use Rattle.ty_solve.proofs.Holding.{held-get}
 use Rattle.ty_solve.proofs.Slots.{seen-get, seen-past}
 use Rattle.ty_solve.proofs.subst.Subst.row.Goals as goal
 
-free-mark : (e : Entry) (k : Rattle.ty_core.specs.declared.mark.Mark.Mark) → e ≡ free k → e ≡ free (mark e)
+free-mark : (e : Entry) (k : Rattle.ty_table.specs.of_ty_core.declared.mark.Mark.Mark) → e ≡ free k → e ≡ free (mark e)
 free-mark e k p = p ∙ ap (λ x. free (mark x)) (sym p)
 
-never-open : (e : Entry) (t : Rattle.ty_core.specs.Types.Typ) → e ≡ bound t → is_open e ≡ true → e ≡ free (mark e)
+never-open : (e : Entry) (t : Rattle.ty_table.specs.of_ty_core.Types.Typ) → e ≡ bound t → is_open e ≡ true → e ≡ free (mark e)
 never-open e t p h = let q = sym (ap is_open p) ∙ h in cc
 
 pub returns-in-Partial-clause-held : goal.returns-in-Partial-clause-held

@@ -1,0 +1,1 @@
+pub use Rattle.machine_rows.proofs as of_machine_rows

@@ -1,0 +1,1 @@
+pub use Rattle.first_values.proofs as of_first_values
