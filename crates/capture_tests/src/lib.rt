@@ -1,6 +1,8 @@
-// Tests of scopes, and of the table of captures.
+// Tests of sets of functions, of scopes, and of the table of captures.
 #![tactic(auto)]
 
+#[cfg(test)]
+mod flow;
 #[cfg(test)]
 mod large;
 #[cfg(test)]

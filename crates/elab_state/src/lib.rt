@@ -9,7 +9,5 @@ pub mod law;
 pub mod naming;
 pub mod start;
 pub mod state;
-#[cfg(test)]
-mod tests;
 pub mod variables;
 pub mod write;

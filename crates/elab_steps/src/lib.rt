@@ -10,5 +10,3 @@ pub mod annotate;
 pub mod instance;
 pub mod rows;
 pub mod step;
-#[cfg(test)]
-mod tests;

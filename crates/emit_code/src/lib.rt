@@ -11,5 +11,3 @@ pub mod moves;
 pub mod places;
 pub mod plain;
 pub mod put;
-#[cfg(test)]
-mod tests;

@@ -4,5 +4,3 @@
 pub use emit_code;
 
 pub mod equality;
-#[cfg(test)]
-mod tests;

@@ -5,5 +5,3 @@ pub mod fault;
 pub mod parts;
 pub mod pass;
 pub mod search;
-#[cfg(test)]
-mod tests;

@@ -161,17 +161,3 @@ fn text_test_size(primitive: BasisPrimitive) -> u32
         _ => 0,
     }
 }
-
-#[cfg(test)]
-mod tests {
-    use super::{row_size, test_size};
-    use first_tables::operation::Operands;
-    use mlc_prims::basis::BasisPrimitive;
-
-    #[test]
-    fn sizes(rt: HostRuntime) {
-        assert_eq!(rt; row_size(Operands::Ints, BasisPrimitive::Divide), 5);
-        assert_eq!(rt; row_size(Operands::Chars, BasisPrimitive::Divide), 0);
-        assert_eq!(rt; test_size(Operands::Texts, BasisPrimitive::Equals), 4);
-    }
-}

@@ -4,5 +4,3 @@
 pub mod flow;
 mod kinds;
 mod sets;
-#[cfg(test)]
-mod tests;

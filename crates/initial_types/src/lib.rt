@@ -4,5 +4,3 @@
 pub mod row;
 pub mod schemes;
 pub mod shapes;
-#[cfg(test)]
-mod tests;

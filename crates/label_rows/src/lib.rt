@@ -4,5 +4,3 @@
 pub use mlc_names;
 
 pub mod sort;
-#[cfg(test)]
-mod tests;

@@ -4,4 +4,6 @@
 #[cfg(test)]
 mod passes;
 #[cfg(test)]
+mod rows;
+#[cfg(test)]
 mod tests;

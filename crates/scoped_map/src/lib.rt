@@ -2,5 +2,3 @@
 #![tactic(auto)]
 
 pub mod scoped;
-#[cfg(test)]
-mod tests;

@@ -1,6 +1,6 @@
 // Numbers that are given and taken back.
 
-use crate::names::Names;
+use match_names::names::Names;
 use mlc_base::memory::NoMemory;
 use std::alloc::Global;
 use std::test::Fail;

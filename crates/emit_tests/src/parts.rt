@@ -1,12 +1,12 @@
 // Labels, scopes and searches come with ample memory.
 
-use crate::fault::WalkFault;
-use crate::pass::{Spot, bind_all, leave, pop_spot, push_spot, reserve, settle, spot_at};
-use crate::search::push_search;
 use emit_code::choice::Target;
 use emit_code::emit_rows::push::Packets;
 use emit_code::fault::EmitFault;
 use emit_code::places::Places;
+use emit_parts::fault::WalkFault;
+use emit_parts::pass::{Spot, bind_all, leave, pop_spot, push_spot, reserve, settle, spot_at};
+use emit_parts::search::push_search;
 use ir_code::instr::Instr;
 use scoped_map::scoped::Scoped;
 use std::alloc::Global;

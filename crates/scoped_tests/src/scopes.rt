@@ -1,7 +1,7 @@
 // Bindings are found, and undone.
 
-use crate::scoped::Scoped;
 use mlc_base::memory::NoMemory;
+use scoped_map::scoped::Scoped;
 use std::alloc::Global;
 use std::test::Fail;
 

@@ -1,7 +1,7 @@
 // Constants come with ample memory.
 
-use crate::constants::place_constants;
 use emit_code::fault::EmitFault;
+use emit_constants::constants::place_constants;
 use first_tables::tables::Tables;
 use mlc_names::names::Name;
 use std::alloc::Global;

@@ -1,9 +1,9 @@
 // Code comes with ample memory.
 
-use crate::cell::emit_cell;
-use crate::choice::{Choice, Target, choose, push_table};
-use crate::fault::EmitFault;
-use crate::moves::move_all;
+use emit_code::cell::emit_cell;
+use emit_code::choice::{Choice, Target, choose, push_table};
+use emit_code::fault::EmitFault;
+use emit_code::moves::move_all;
 use ir_code::instr::Instr;
 use scoped_map::scoped::Scoped;
 use std::alloc::Global;

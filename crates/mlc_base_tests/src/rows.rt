@@ -1,6 +1,6 @@
 // Fields in order.
 
-use crate::sort::{Field, sort_fields};
+use label_rows::sort::{Field, sort_fields};
 use mlc_base::memory::NoMemory;
 use mlc_names::label::Label;
 use std::alloc::Global;

@@ -1,10 +1,10 @@
 // Scopes of identifiers.
 
-use crate::vids::VidScope;
 use mlc_base::memory::NoMemory;
 use sml_tree::ident::Vid;
 use std::alloc::Global;
 use std::test::Fail;
+use vid_scope::vids::VidScope;
 
 /// `=` has the value 1, and the seventh fresh identifier 2.
 fn two(alloc: Global) -> Result<VidScope<u8>, NoMemory> {

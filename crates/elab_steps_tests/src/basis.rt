@@ -1,6 +1,6 @@
 // How many types the basis has, with ample memory.
 
-use crate::schemes::{hidden_schemes, initial_schemes, integer_schemes};
+use initial_types::schemes::{hidden_schemes, initial_schemes, integer_schemes};
 use mlc_base::memory::NoMemory;
 use std::alloc::Global;
 use std::test::Fail;

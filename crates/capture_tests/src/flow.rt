@@ -1,6 +1,6 @@
 // The sets of a small program.
 
-use crate::flow::{Flow, flows};
+use flow_types::flow::{Flow, flows};
 use mlc_base::make::{boxed, two};
 use mlc_base::memory::NoMemory;
 use mono_types::types::Types;

@@ -1,8 +1,8 @@
 // The routine comes with ample memory.
 
-use crate::equality::{push_equality, type_places};
 use emit_code::fault::EmitFault;
 use emit_code::plain::put_two;
+use emit_equality::equality::{push_equality, type_places};
 use first_tables::tables::Shape;
 use ir_code::instr::Instr;
 use std::alloc::Global;
