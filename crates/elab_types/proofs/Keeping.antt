@@ -10,7 +10,7 @@ use Rattle.ty_core.specs.Statics.{TypeFunction, replace}
 use Rattle.ty_table.specs.TypeAt.{type_at, top, AllBelow}
 use Rattle.ty_instance.proofs.of_ty_solve.Holding.{type-stays}
 use Rattle.ty_instance.proofs.Going.{stays-on, longer, below-grown, whole}
-use Rattle.core_rules.specs.of_sml_tree.BareTree.{Ty}
+use Rattle.sml_tree.specs.BareTree.{Ty}
 use Rattle.core_rules.specs.Objects.{Context}
 use Rattle.core_rules.specs.Elaborated.{type_of}
 use Rattle.elab_types.specs.Reading.{entry_of, function_in, Reads, Holds}

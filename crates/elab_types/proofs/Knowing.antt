@@ -7,7 +7,7 @@ use Rattle.ty_core.specs.Types.{Typ, var, con, Typs, none, more, arrow}
 use Rattle.ty_core.specs.Statics.{replace, replace_all}
 use Rattle.ty_table.specs.TypeAt.{type_at}
 use Rattle.ty_instance.specs.of_ty_solve.Substitution.{is_below, are_below}
-use Rattle.core_rules.specs.of_sml_tree.BareTree.{Ty}
+use Rattle.sml_tree.specs.BareTree.{Ty}
 use Rattle.core_rules.specs.Objects.{Context, TypeStructure, env, no_structures}
 use Rattle.core_rules.specs.Elaborated.{type_of}
 use Rattle.elab_types.specs.Reading.{entry_of, function_in, Reads, AreKnown}

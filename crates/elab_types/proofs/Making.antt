@@ -15,17 +15,17 @@ use Rattle.ty_core.specs.Statics.{TypeFunction, apply, argument, count, replace,
 use Rattle.ty_basis.specs.Types.{Row, function_type, row_type}
 use Rattle.ty_table.specs.TypeAt.{type_at, types_at, top, tops}
 use Rattle.ty_instance.proofs.of_ty_solve.Holding.{type-stays}
-use Rattle.core_rules.specs.of_sml_tree.BareTree as bare
-use Rattle.core_rules.specs.of_sml_tree.BareTree.{Ty}
-use Rattle.core_rules.specs.of_sml_tree.Terminal.{LongId}
-use Rattle.core_rules.specs.of_sml_tree.declared.ident.Tyvar.{Tyvar}
-use Rattle.core_rules.specs.of_sml_tree.declared.ident.LongId.{LongId as LongIdCode}
-use Rattle.core_rules.specs.of_sml_tree.declared.tree.Ty as code
-use Rattle.core_rules.specs.of_sml_tree.declared.tree.Ty.TheVariants.{Record, Con, Product, Arrow}
-use Rattle.core_rules.specs.of_sml_tree.declared.tree.TyField.{TyField}
-use Rattle.core_rules.specs.of_sml_tree.declared.tree.TyPart.{TyPart}
-use Rattle.core_rules.specs.of_sml_tree.Derived.{tys_of, TyAt, numbered_tys, product, arrows}
-use Rattle.core_rules.specs.of_sml_tree.TreeOf.{ty_of, long_id_of, ty_fields_of, ty_field_of, ty_part_of}
+use Rattle.sml_tree.specs.BareTree as bare
+use Rattle.sml_tree.specs.BareTree.{Ty}
+use Rattle.sml_tree.specs.Terminal.{LongId}
+use Rattle.sml_tree.specs.declared.ident.Tyvar.{Tyvar}
+use Rattle.sml_tree.specs.declared.ident.LongId.{LongId as LongIdCode}
+use Rattle.sml_tree.specs.declared.tree.Ty as code
+use Rattle.sml_tree.specs.declared.tree.Ty.TheVariants.{Record, Con, Product, Arrow}
+use Rattle.sml_tree.specs.declared.tree.TyField.{TyField}
+use Rattle.sml_tree.specs.declared.tree.TyPart.{TyPart}
+use Rattle.sml_tree.specs.Derived.{tys_of, TyAt, numbered_tys, product, arrows}
+use Rattle.sml_tree.specs.TreeOf.{ty_of, long_id_of, ty_fields_of, ty_field_of, ty_part_of}
 use Rattle.core_rules.specs.Objects as static
 use Rattle.core_rules.specs.Objects.{Context, TypeStructure}
 use Rattle.core_rules.specs.Elaborated.{type_of, types_of, row_of, type_in}

@@ -1,15 +1,15 @@
 -- The bare type of each node.
 use Rattle.std.proofs.Common.{◌≡◌, map, Vec, Box, Global, sym, ap, ◌∙◌}
 use Rattle.mlc_base.specs.declared.place.Place.{Place}
-use Rattle.core_rules.specs.of_sml_tree.declared.ident.LongId.{LongId}
-use Rattle.core_rules.specs.of_sml_tree.declared.ident.Tyvar.{Tyvar}
-use Rattle.core_rules.specs.of_sml_tree.BareTree as bare
-use Rattle.core_rules.specs.of_sml_tree.Derived.{tys_of, TyAt, product, arrows}
-use Rattle.core_rules.specs.of_sml_tree.TreeOf.{ty_of, ty_field_of, ty_part_of, ty_fields_of, TyFieldOf, long_id_of, node_ty, node_ty_field, node_ty_part}
-use Rattle.core_rules.specs.of_sml_tree.declared.tree.Ty.{Ty, Ty-F, fold-roll-Ty}
-use Rattle.core_rules.specs.of_sml_tree.declared.tree.Ty.TheVariants.{Var, Record, Con, Product, Arrow, rolls-Var, rolls-Record, rolls-Con, rolls-Product, rolls-Arrow}
-use Rattle.core_rules.specs.of_sml_tree.declared.tree.TyField.{TyField, fold_out-TyField}
-use Rattle.core_rules.specs.of_sml_tree.declared.tree.TyPart.{TyPart, fold_out-TyPart}
+use Rattle.sml_tree.specs.declared.ident.LongId.{LongId}
+use Rattle.sml_tree.specs.declared.ident.Tyvar.{Tyvar}
+use Rattle.sml_tree.specs.BareTree as bare
+use Rattle.sml_tree.specs.Derived.{tys_of, TyAt, product, arrows}
+use Rattle.sml_tree.specs.TreeOf.{ty_of, ty_field_of, ty_part_of, ty_fields_of, TyFieldOf, long_id_of, node_ty, node_ty_field, node_ty_part}
+use Rattle.sml_tree.specs.declared.tree.Ty.{Ty, Ty-F, fold-roll-Ty}
+use Rattle.sml_tree.specs.declared.tree.Ty.TheVariants.{Var, Record, Con, Product, Arrow, rolls-Var, rolls-Record, rolls-Con, rolls-Product, rolls-Arrow}
+use Rattle.sml_tree.specs.declared.tree.TyField.{TyField, fold_out-TyField}
+use Rattle.sml_tree.specs.declared.tree.TyPart.{TyPart, fold_out-TyPart}
 
 pub ty_of-Var : (p : Place) (a : Tyvar) → ty_of (Var p a) ≡ bare.var p a
 ty_of-Var p a = ap ty_of (sym (rolls-Var p a)) ∙ fold-roll-Ty bare.Ty TyFieldOf TyAt node_ty node_ty_field node_ty_part (Ty-F.Var p a)

@@ -1,7 +1,7 @@
 -- Refusals of annotations.
 use Rattle.std.proofs.Common.{List}
 use Rattle.ty_core.specs.Types.{Typ}
-use Rattle.core_rules.specs.of_sml_tree.BareTree.{Ty}
+use Rattle.sml_tree.specs.BareTree.{Ty}
 use Rattle.core_rules.specs.Elaborated.{type_of}
 use Rattle.elab_types.specs.Annotations.{IsRefusal}
 use Rattle.elab_types.specs.Whole.{IsAnnotationRefused}

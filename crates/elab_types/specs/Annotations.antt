@@ -5,10 +5,10 @@ use Rattle.mlc_names.specs.declared.label.Label.{Label}
 use Rattle.ty_core.specs.Types.{Typ}
 use Rattle.ty_core.specs.Statics.{apply, replace}
 use Rattle.ty_table.specs.TypeAt.{type_at, types_at, AllBelow}
-use Rattle.core_rules.specs.of_sml_tree.BareTree.{Ty}
-use Rattle.core_rules.specs.of_sml_tree.TreeOf.{ty_field_of, ty_part_of}
-use Rattle.core_rules.specs.of_sml_tree.declared.tree.TyField.{TyField}
-use Rattle.core_rules.specs.of_sml_tree.declared.tree.TyPart.{TyPart}
+use Rattle.sml_tree.specs.BareTree.{Ty}
+use Rattle.sml_tree.specs.TreeOf.{ty_field_of, ty_part_of}
+use Rattle.sml_tree.specs.declared.tree.TyField.{TyField}
+use Rattle.sml_tree.specs.declared.tree.TyPart.{TyPart}
 use Rattle.core_rules.specs.Objects.{Context}
 use Rattle.core_rules.specs.Elaborated.{type_of}
 use Rattle.elab_types.specs.Reading.{entry_of, function_in, Reads}

@@ -2,7 +2,7 @@
 use Rattle.std.specs.Prelude.{◌≡◌, ◌<◌, ℕ, List, Some, ⊤}
 use Rattle.ty_core.specs.Types.{Typ, nodes}
 use Rattle.ty_core.specs.Statics.{replace}
-use Rattle.core_rules.specs.of_sml_tree.BareTree.{Ty}
+use Rattle.sml_tree.specs.BareTree.{Ty}
 use Rattle.core_rules.specs.Objects.{Context}
 use Rattle.core_rules.specs.Elaborated.{type_of}
 use Rattle.elab_types.specs.Reading.{Reads}

@@ -3,7 +3,7 @@ ghost use Rattle.std.specs.Prelude.{◌≡◌, ◌<◌, ◌≤◌, length, map, 
 ghost use Rattle.std.specs.Map.{lookup};
 ghost use Rattle.ty_core.specs.Types.{nodes};
 ghost use Rattle.ty_table.specs.TypeAt.{type_at, AllBelow};
-ghost use Rattle.core_rules.specs.of_sml_tree.TreeOf.{ty_of, ty_field_of, ty_part_of};
+ghost use Rattle.sml_tree.specs.TreeOf.{ty_of, ty_field_of, ty_part_of};
 ghost use Rattle.core_rules.specs.Elaborated.{type_of};
 ghost use Rattle.elab_types.specs.Reading.{Holds};
 ghost use Rattle.elab_types.specs.Building.{labels_of, parts_of};
@@ -12,10 +12,10 @@ ghost use Rattle.elab_types.specs.Annotations.{applied_at, each_type, labels_at,
 use crate::build::{function_types, number_parts, record_type};
 use crate::refused::Refused;
 use crate::scope::TypeScope;
-use core_rules::sml_tree::ident::{LongId, Tyvar};
-use core_rules::sml_tree::tree::{Ty, TyField, TyPart};
 use label_rows::sort::Field;
 use mlc_base::place::Place;
+use sml_tree::ident::{LongId, Tyvar};
+use sml_tree::tree::{Ty, TyField, TyPart};
 use std::alloc::Global;
 use ty_instance::instantiate::instantiate;
 use ty_table::types::Types;

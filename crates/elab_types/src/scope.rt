@@ -4,10 +4,10 @@ ghost use Rattle.ty_core.specs.Types.{Typ};
 ghost use Rattle.ty_table.specs.TypeAt.{type_at, top};
 ghost use Rattle.elab_types.specs.Reading.{entry_of, left_at, Holds};
 
-use core_rules::sml_tree::ident::LongId;
 use mlc_base::memory::NoMemory;
 use mlc_names::names::Name;
 use scoped_map::scoped::Scoped;
+use sml_tree::ident::LongId;
 use std::alloc::Global;
 
 /// Schemes one after the other: so many, from a number on.

@@ -2,7 +2,7 @@
 ghost use Rattle.std.specs.Prelude.{◌≡◌, ◌≤◌, ℕ, true, length, take, IfOk, IfErr};
 ghost use Rattle.ty_core.specs.Types.{nodes};
 ghost use Rattle.ty_table.specs.TypeAt.{type_at};
-ghost use Rattle.core_rules.specs.of_sml_tree.TreeOf.{ty_of};
+ghost use Rattle.sml_tree.specs.TreeOf.{ty_of};
 ghost use Rattle.ty_instance.specs.of_ty_solve.Substitution.{is_below};
 ghost use Rattle.elab_types.specs.Reading.{AreKnown, Holds};
 ghost use Rattle.elab_types.specs.Annotations.{IsTypeOf};
@@ -11,8 +11,8 @@ ghost use Rattle.elab_types.specs.Whole.{annotation_limit, IsAnnotationRefused};
 use crate::annotation::number_of;
 use crate::refused::Refused;
 use crate::scope::TypeScope;
-use core_rules::sml_tree::tree::Ty;
 use mlc_base::place::Place;
+use sml_tree::tree::Ty;
 use std::alloc::Global;
 use ty_table::types::Types;
 

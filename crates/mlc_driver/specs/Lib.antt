@@ -1,4 +1,3 @@
-pub use Rattle.mlb_reader.specs as of_mlb_reader
 pub use Rattle.project_elab.specs.of_ir_prog as of_ir_prog
 pub mod Checked
 pub mod Fault

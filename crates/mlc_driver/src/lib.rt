@@ -1,8 +1,6 @@
 // The compiler's driver.
 #![tactic(auto)]
 
-pub use mlb_reader;
-
 pub mod checked;
 pub mod driver;
 pub mod elaborate;

@@ -7,8 +7,8 @@ use Rattle.mlc_outside.specs.Faults.{Rose}
 use Rattle.mlc_outside.specs.Files.{Files}
 use Rattle.ir_code.specs.Run.{ended, no_heap, no_stack, going}
 use Rattle.heap_vm.specs.Loaded.{told_name}
-use Rattle.mlc_driver.specs.of_mlb_reader.Broken.{IsBroken, IsMissing}
-use Rattle.mlc_driver.specs.of_mlb_reader.Refusals.{IfTold}
+use Rattle.mlb_reader.specs.Broken.{IsBroken, IsMissing}
+use Rattle.mlb_reader.specs.Refusals.{IfTold}
 use Rattle.mlc_driver.specs.Checked.{Breaks, in_loading, in_project, in_size}
 use Rattle.mlc_program.specs.Command.{Command, IsCommand}
 use Rattle.mlc_program.specs.Exits.{Exited, status_of, line_of}

@@ -7,8 +7,8 @@ use Rattle.sml_tree.specs.BareTree.{Decs}
 use Rattle.core_rules.specs.Project as core
 use Rattle.ir_code.specs.Program as machine
 use Rattle.mlc_driver.specs.of_ir_prog.declared.program.Program.{Program}
-use Rattle.mlc_driver.specs.of_mlb_reader.Project.{ProjectOf}
-use Rattle.mlc_driver.specs.of_mlb_reader.Refusals.{IfTold}
+use Rattle.mlb_reader.specs.Project.{ProjectOf}
+use Rattle.mlb_reader.specs.Refusals.{IfTold}
 use Rattle.mlc_driver.specs.Checked.{Breaks, IsOfProject, Outgrows, in_size}
 use Rattle.mlc_driver.specs.Parts.{IsProgramOver}
 use Rattle.mlc_driver.specs.Same.{Same}

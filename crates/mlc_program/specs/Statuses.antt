@@ -18,9 +18,9 @@ use Rattle.sml_rules.specs.Project as read
 use Rattle.core_rules.specs.Objects.{Context}
 use Rattle.core_rules.specs.Project.{Part}
 use Rattle.project_typed.specs.Typing.{ProjectHas}
-use Rattle.mlc_driver.specs.of_mlb_reader.Broken.{IsBroken, IsMissing}
-use Rattle.mlc_driver.specs.of_mlb_reader.Project.{ProjectOf, IsNeeded}
-use Rattle.mlc_driver.specs.of_mlb_reader.Refusals.{IfTold}
+use Rattle.mlb_reader.specs.Broken.{IsBroken, IsMissing}
+use Rattle.mlb_reader.specs.Project.{ProjectOf, IsNeeded}
+use Rattle.mlb_reader.specs.Refusals.{IfTold}
 use Rattle.mlc_driver.specs.Checked.{Breaks}
 use Rattle.mlc_driver.specs.Parts.{part_of_core, IsLawful}
 use Rattle.mlc_driver.specs.Preludes.{IsPrelude}

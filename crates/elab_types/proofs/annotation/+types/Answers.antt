@@ -1,6 +1,6 @@
 use Rattle.std.proofs.Common.{◌++◌, ◌∷◌, [], map, sym, ap, ◌∙◌, get_or, take}
-use Rattle.core_rules.specs.of_sml_tree.BareTree as bare
-use Rattle.core_rules.specs.of_sml_tree.TreeOf.{ty_of, ty_field_of, ty_part_of}
+use Rattle.sml_tree.specs.BareTree as bare
+use Rattle.sml_tree.specs.TreeOf.{ty_of, ty_field_of, ty_part_of}
 use Rattle.core_rules.specs.Elaborated.{type_of}
 use Rattle.elab_types.specs.Annotations.{each_type, tys_at, labels_at, types_behind, IsRefusal}
 use Rattle.elab_types.proofs.Lists.{next-map-at}

@@ -1,5 +1,5 @@
 use Rattle.std.proofs.Common.{◌≡◌, map, take}
-use Rattle.core_rules.specs.of_sml_tree.TreeOf.{ty_of, ty_field_of, ty_part_of}
+use Rattle.sml_tree.specs.TreeOf.{ty_of, ty_field_of, ty_part_of}
 use Rattle.elab_types.specs.Building.{labels_of, parts_of}
 use Rattle.elab_types.specs.Annotations.{labels_at}
 use Rattle.elab_types.proofs.Keeping.{Collected}

@@ -1,4 +1,4 @@
-use Rattle.core_rules.specs.of_sml_tree.TreeOf.{ty_of}
+use Rattle.sml_tree.specs.TreeOf.{ty_of}
 use Rattle.elab_types.specs.Whole.{IsAnnotationRefused}
 use Rattle.elab_types.proofs.Keeping.{passes}
 use Rattle.elab_types.proofs.Knowing.{known_where}
