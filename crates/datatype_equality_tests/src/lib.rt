@@ -1,5 +1,0 @@
-// Tests of which datatypes admit equality.
-#![tactic(auto)]
-
-#[cfg(test)]
-mod tests;

@@ -1,5 +1,0 @@
-// Tests of elab_types.
-#![tactic(auto)]
-
-#[cfg(test)]
-mod tests;

@@ -1,5 +1,0 @@
-// Tests of blocks and of what comes into scope.
-#![tactic(auto)]
-
-#[cfg(test)]
-mod tests;

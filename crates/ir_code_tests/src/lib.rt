@@ -1,5 +1,0 @@
-// Tests of the images' bytes.
-#![tactic(auto)]
-
-#[cfg(test)]
-mod tests;

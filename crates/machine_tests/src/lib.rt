@@ -1,0 +1,27 @@
+// Tests of the way from SSA form to the image. A module's name begins with the crate that it tests.
+#![tactic(auto)]
+
+#[cfg(test)]
+mod emit_code_tests;
+#[cfg(test)]
+mod emit_constants_tests;
+#[cfg(test)]
+mod emit_equality_tests;
+#[cfg(test)]
+mod emit_parts_tests;
+#[cfg(test)]
+mod emit_rows_tests;
+#[cfg(test)]
+mod machine_emit_edges;
+#[cfg(test)]
+mod machine_emit_large;
+#[cfg(test)]
+mod machine_emit_least;
+#[cfg(test)]
+mod machine_emit_programs;
+#[cfg(test)]
+mod machine_emit_run;
+#[cfg(test)]
+mod machine_emit_tests;
+#[cfg(test)]
+mod ssa_pass_tests;

@@ -1,0 +1,19 @@
+// Tests of match compilation. A module's name begins with the crate that it tests.
+#![tactic(auto)]
+
+#[cfg(test)]
+mod exp_blocks_tests;
+#[cfg(test)]
+mod exp_steps_tests;
+#[cfg(test)]
+mod general_bindings_tests;
+#[cfg(test)]
+mod match_names_tests;
+#[cfg(test)]
+mod match_pass_large;
+#[cfg(test)]
+mod match_pass_made;
+#[cfg(test)]
+mod match_pass_orders;
+#[cfg(test)]
+mod match_pass_steps;

@@ -1,5 +1,0 @@
-// Tests of copies with numbers.
-#![tactic(auto)]
-
-#[cfg(test)]
-mod tests;

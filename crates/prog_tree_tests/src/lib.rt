@@ -1,5 +1,0 @@
-// Tests of the code's tree of a program with source matches.
-#![tactic(auto)]
-
-#[cfg(test)]
-mod tests;

@@ -1,5 +1,0 @@
-// Tests of the order of record types.
-#![tactic(auto)]
-
-#[cfg(test)]
-mod orders;

@@ -1,5 +1,0 @@
-// Tests of run_end.
-#![tactic(auto)]
-
-#[cfg(test)]
-mod tests;
