@@ -1,6 +1,6 @@
 // Texts that are read, and texts that are refused, with the place.
 
-use crate::sml_modparse_reading::shown;
+use crate::reading::shown;
 use std::test::Fail;
 
 // Texts, each with a letter for each of its tops (`c`ore, `s`tructure, `l`ocal, si`g`nature, `f`unctor) or with the refusal's code and place after a

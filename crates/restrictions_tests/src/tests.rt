@@ -1,7 +1,7 @@
 // Which phrases are broken.
 
-use crate::restrictions_run::is_broken;
-use crate::restrictions_sources::SOURCES;
+use crate::run::is_broken;
+use crate::sources::SOURCES;
 use std::test::Fail;
 
 #[test]

@@ -1,6 +1,6 @@
 // Texts and their tokens, by the Definition.
 
-use crate::sml_lexer_shown::shown;
+use crate::shown::shown;
 use mlc_base::memory::NoMemory;
 use mlc_faults::refused::Refused;
 use mlc_names::names::Names;

@@ -2,7 +2,7 @@
 
 ghost use Rattle.std.specs.Prelude.{◌<◌, ◌^◌, ◌+◌, length};
 
-use crate::sml_parser_reading::{read, shown};
+use crate::reading::{read, shown};
 use mlc_base::memory::NoMemory;
 use mlc_base::place::Place;
 use mlc_faults::refused::Refused;

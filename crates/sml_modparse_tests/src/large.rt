@@ -2,7 +2,7 @@
 
 ghost use Rattle.std.specs.Prelude.{◌<◌, ◌^◌, ◌+◌, length};
 
-use crate::sml_modparse_reading::shown;
+use crate::reading::shown;
 use mlc_base::memory::NoMemory;
 use std::alloc::Global;
 use std::test::Fail;

@@ -1,6 +1,6 @@
 // Paths and projects, worked out by hand.
 
-use crate::mlb_reader_loading::{loaded, of_mlb};
+use crate::loading::{loaded, of_mlb};
 use mlb_reader::path::{clean, path_from};
 use mlc_base::memory::NoMemory;
 use std::alloc::Global;

@@ -1,6 +1,6 @@
 // The places of identifiers after `op`, and of sequences of type variables.
 
-use crate::sml_parser_reading::read;
+use crate::reading::read;
 use mlc_base::memory::NoMemory;
 use mlc_base::place::Place;
 use sml_tree::tree::{
