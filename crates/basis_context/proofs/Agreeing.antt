@@ -9,7 +9,7 @@ use Rattle.core_rules.specs.Objects.{along, at, structure_map, types, value_in, 
 use Rattle.core_rules.specs.Initial.{Entry as Row, TypeEntry as TypeRow, Members, static_structures, static_values}
 use Rattle.core_elab.specs.Scopes.{along_scope, denotes_in, inside_in, members_scope, plus_scope, rows_scope, type_rows_scope, Scope, denotes_of as row_denotes}
 use Rattle.elab_typed.specs.Contexts.{Around, given, given_values}
-use Rattle.elab_context.specs.of_elab_steps.World.{World}
+use Rattle.elab_steps.specs.World.{World}
 use Rattle.elab_context.specs.Telling.{IsFit, kept_of, denotes_of, known_of}
 use Rattle.elab_context.specs.declared.context.Context.{Context}
 use Rattle.elab_context.specs.declared.entry.Entry.{Entry}

@@ -13,7 +13,7 @@ use Rattle.core_rules.specs.Initial.{entries, hidden, integers}
 use Rattle.initial_types.specs.Schemes.{scheme_of, schemes_in}
 use Rattle.elab_state.specs.States.{types_in, made}
 use Rattle.elab_state.specs.declared.state.State.{State}
-use Rattle.elab_context.specs.of_elab_steps.Tidy.{IsLive, IsTidy}
+use Rattle.elab_steps.specs.Tidy.{IsLive, IsTidy}
 use Rattle.elab_context.specs.Entries.{entry_in}
 use Rattle.elab_context.specs.Numbered.{IsBelowIf}
 use Rattle.elab_context.specs.Telling.{IsContext, IsHeld}

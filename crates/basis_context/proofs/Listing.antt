@@ -16,7 +16,7 @@ use Rattle.core_rules.proofs.LookUps.{vid-tells}
 use Rattle.core_elab.specs.Scopes.{Denotes, Scope, inside_in, members_scope, plus_scope, rows_scope, scoped, type_rows_scope, typed_in}
 use Rattle.elab_typed.specs.Contexts.{Around, Kept, given_values}
 use Rattle.elab_types.specs.declared.scope.TypeEntry.{TypeEntry}
-use Rattle.elab_context.specs.of_elab_steps.World.{World}
+use Rattle.elab_steps.specs.World.{World}
 use Rattle.elab_context.specs.Entries.{constructor_entry, constructors_in, entry_in, last_of}
 use Rattle.elab_context.specs.Telling.{HasConstructors, HasContents, IsFit, denotes_of, kept_entries, scope_of_entries, vids_in}
 use Rattle.elab_context.specs.declared.context.Context.{Context}

@@ -23,7 +23,7 @@ use Rattle.initial_types.specs.Schemes.{schemes_in}
 use Rattle.core_elab.specs.Scopes.{built_number, denotes_of as row_denotes}
 use Rattle.elab_typed.specs.Contexts.{Around, given}
 use Rattle.elab_typed.specs.Numbers.{name_as, type_as}
-use Rattle.elab_context.specs.of_elab_steps.World.{World}
+use Rattle.elab_steps.specs.World.{World}
 use Rattle.elab_context.specs.Telling.{denotes_of, scheme_at, scheme_of}
 use Rattle.elab_context.specs.declared.context.Context.{Context}
 use Rattle.elab_context.specs.declared.entry.Scheme as code

@@ -25,7 +25,7 @@ use Rattle.elab_types.specs.declared.scope.TypeEntry.{TypeEntry}
 use Rattle.elab_types.specs.Reading.{entry_of as type_entry_of}
 use Rattle.elab_state.specs.States.{types_in}
 use Rattle.elab_state.specs.declared.state.State.{State}
-use Rattle.elab_context.specs.of_elab_steps.World.{World, Comes, type_of}
+use Rattle.elab_steps.specs.World.{World, Comes, type_of}
 use Rattle.elab_context.specs.Entries.{contents_at, entry_in, member_in}
 use Rattle.elab_context.specs.Telling.{HasConstructors, HasContents, Tells, kept_of, denotes_of, known_of, function_of, scheme_of}
 use Rattle.elab_context.specs.declared.context.Context.{Context}

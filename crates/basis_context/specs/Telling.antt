@@ -6,7 +6,7 @@ use Rattle.core_rules.specs.Initial.{static_env, prelude_members}
 use Rattle.core_elab.specs.Scopes.{prelude_scope}
 use Rattle.elab_typed.specs.Contexts.{Around, initial_around, kept_env}
 use Rattle.elab_state.specs.declared.state.State.{State}
-use Rattle.elab_context.specs.of_elab_steps.World.{World, Comes}
+use Rattle.elab_steps.specs.World.{World, Comes}
 use Rattle.elab_context.specs.Telling.{Tells}
 use Rattle.elab_context.specs.declared.context.Context.{Context}
 

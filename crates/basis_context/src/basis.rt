@@ -2,8 +2,8 @@
 ghost use Rattle.std.specs.Prelude.{◌≡◌, ◌≤◌, ◌+◌, ◌++◌, [], length, map, IfOk};
 ghost use Rattle.std.specs.List.{AllByRecursion};
 ghost use Rattle.elab_context.specs.Telling.{IsContext};
-ghost use Rattle.elab_context.specs.of_elab_steps.Growing.{Grows};
-ghost use Rattle.elab_context.specs.of_elab_steps.Tidy.{IsTidy};
+ghost use Rattle.elab_steps.specs.Growing.{Grows};
+ghost use Rattle.elab_steps.specs.Tidy.{IsTidy};
 ghost use Rattle.basis_context.specs.Basis.{arity_of as arity_at, basis_marks, marks_at, type_entries, type_list};
 ghost use Rattle.basis_context.specs.Basis.{all_constructors, all_contents, all_marks, structure_list, without_prim, HasMembers, IsStandard};
 ghost use Rattle.basis_context.specs.Basis.{constructors_at, row_constructors};

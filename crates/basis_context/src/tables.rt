@@ -3,7 +3,7 @@ ghost use Rattle.std.specs.Prelude.{◌≡◌, length, map, slice_get, take, IfO
 ghost use Rattle.ty_table.specs.TypeAt.{type_at, AllBelow};
 ghost use Rattle.ty_solve.specs.SlotsOf.{seen};
 ghost use Rattle.ty_solve.specs.Said.{said};
-ghost use Rattle.elab_context.specs.of_elab_steps.Growing.{Grows};
+ghost use Rattle.elab_steps.specs.Growing.{Grows};
 ghost use Rattle.elab_state.specs.States.{types_in};
 ghost use Rattle.basis_context.specs.Basis.{body_of, body_with, function_bodies, HasBasis};
 

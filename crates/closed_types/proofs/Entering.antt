@@ -14,9 +14,9 @@ use Rattle.sml_tree.specs.BareTree.{Ty}
 use Rattle.sml_tree.specs.declared.ident.Tyvar.{Tyvar}
 use Rattle.core_rules.specs.Elaborated.{scope, with_parameters}
 use Rattle.core_rules.specs.Objects.{at}
-use Rattle.elab_steps.specs.of_elab_types.Annotations.{IsTypeOf}
-use Rattle.elab_steps.specs.of_elab_types.Reading.{AreKnown, Holds, entry_of, function_in}
-use Rattle.elab_steps.specs.of_elab_types.declared.scope.TypeScope.{TypeScope}
+use Rattle.elab_types.specs.Annotations.{IsTypeOf}
+use Rattle.elab_types.specs.Reading.{AreKnown, Holds, entry_of, function_in}
+use Rattle.elab_types.specs.declared.scope.TypeScope.{TypeScope}
 use Rattle.elab_steps.specs.Growing.{Begins}
 use Rattle.elab_steps.proofs.Growing.{found-later}
 use Rattle.closed_types.specs.Parameters.{AreParameters, IsClosedType, IsOverKnown}

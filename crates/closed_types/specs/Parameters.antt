@@ -7,8 +7,8 @@ use Rattle.sml_tree.specs.BareTree.{Ty}
 use Rattle.sml_tree.specs.declared.ident.Tyvar.{Tyvar}
 use Rattle.core_rules.specs.Elaborated.{type_in, type_of, with_parameters}
 use Rattle.core_rules.specs.Objects.{Context}
-use Rattle.elab_steps.specs.of_elab_types.Reading.{AreKnown, entry_of, function_in}
-use Rattle.elab_steps.specs.of_elab_types.declared.scope.TypeScope.{TypeScope}
+use Rattle.elab_types.specs.Reading.{AreKnown, entry_of, function_in}
+use Rattle.elab_types.specs.declared.scope.TypeScope.{TypeScope}
 
 -- type variables with the numbers of the k-th variable and those behind it
 abbrev pub AreParameters : List Typ → ℕ → List Tyvar → List (ℕ × ℕ) → Type 0

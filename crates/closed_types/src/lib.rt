@@ -2,7 +2,7 @@
 #![tactic(auto)]
 
 pub use elab_steps;
-pub use elab_steps::{elab_state, elab_types};
+pub use elab_steps::elab_state;
 
 pub mod annotate;
 pub mod parameters;

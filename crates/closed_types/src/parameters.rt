@@ -7,7 +7,7 @@ ghost use Rattle.elab_steps.specs.Growing.{Grows};
 ghost use Rattle.closed_types.specs.Parameters.{AreParameters};
 
 use elab_steps::elab_state::state::State;
-use elab_steps::elab_types::scope::TypeScope;
+use elab_types::scope::TypeScope;
 use mlc_base::memory::NoMemory;
 use sml_tree::ident::Tyvar;
 use std::alloc::Global;

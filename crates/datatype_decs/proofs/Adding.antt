@@ -21,16 +21,16 @@ use Rattle.core_rules.specs.Elaborated.{constructed, from_argument}
 use Rattle.elab_state.specs.Readings.{IsHeldArgument}
 use Rattle.elab_state.specs.States.{types_in}
 use Rattle.elab_state.specs.declared.state.State.{State}
-use Rattle.datatype_forms.specs.of_elab_steps.Growing.{Begins, Grows}
-use Rattle.datatype_forms.specs.of_elab_steps.Instances.{IsScheme}
-use Rattle.datatype_forms.proofs.of_elab_steps.Changing.{begins-more}
-use Rattle.datatype_forms.proofs.of_elab_steps.Growing.{found-later}
-use Rattle.datatype_forms.specs.of_elab_context.declared.context.Context.{Context}
-use Rattle.datatype_forms.specs.of_elab_context.declared.entry.Built.{Built}
-use Rattle.datatype_forms.specs.of_elab_context.declared.entry.Built.TheVariants.{Declared}
-use Rattle.datatype_forms.specs.of_elab_context.declared.entry.Entry.{Entry}
-use Rattle.datatype_forms.specs.of_elab_context.declared.entry.Entry.TheVariants.{Constructor}
-use Rattle.datatype_forms.specs.of_elab_context.declared.entry.Scheme as code
+use Rattle.elab_steps.specs.Growing.{Begins, Grows}
+use Rattle.elab_steps.specs.Instances.{IsScheme}
+use Rattle.elab_steps.proofs.Changing.{begins-more}
+use Rattle.elab_steps.proofs.Growing.{found-later}
+use Rattle.elab_context.specs.declared.context.Context.{Context}
+use Rattle.elab_context.specs.declared.entry.Built.{Built}
+use Rattle.elab_context.specs.declared.entry.Built.TheVariants.{Declared}
+use Rattle.elab_context.specs.declared.entry.Entry.{Entry}
+use Rattle.elab_context.specs.declared.entry.Entry.TheVariants.{Constructor}
+use Rattle.elab_context.specs.declared.entry.Scheme as code
 use Rattle.datatype_forms.specs.of_dec_forms.Entries.{constructing_name}
 use Rattle.datatype_forms.specs.Arguments.{BelowIf, RowHeld, row_at, rows_at}
 use Rattle.datatype_forms.specs.Constructed.{AllSchemes, no_schemes, more_schemes, EachScheme, no_scheme, a_scheme, HasMoreSchemes, HasScheme, any_of}

@@ -10,8 +10,8 @@ use Rattle.ir_poly.specs.Types.{constructor_of, find}
 use Rattle.elab_typed.specs.Numbers.{type_as}
 use Rattle.elab_state.specs.States.{types_in}
 use Rattle.elab_state.specs.declared.state.State.{State}
-use Rattle.datatype_forms.specs.of_elab_steps.Growing.{Grows}
-use Rattle.datatype_forms.proofs.of_elab_steps.Growing.{comes_before}
+use Rattle.elab_steps.specs.Growing.{Grows}
+use Rattle.elab_steps.proofs.Growing.{comes_before}
 use Rattle.datatype_forms.specs.of_dec_forms.Entries.{constructing_name}
 use Rattle.datatype_forms.specs.Arguments.{OverIf, row_at, rows_at}
 use Rattle.datatype_forms.specs.Constructed.{AllRows, no_rows, more_rows, EachRow, no_row, a_row, HasRow}

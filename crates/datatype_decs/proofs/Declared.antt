@@ -14,13 +14,13 @@ use Rattle.elab_types.specs.declared.scope.TypeEntry.{TypeEntry}
 use Rattle.elab_state.specs.Namings.{IsAmong}
 use Rattle.elab_state.specs.States.{types_in}
 use Rattle.elab_state.specs.declared.state.State.{State}
-use Rattle.datatype_forms.specs.of_elab_steps.Growing.{Begins}
-use Rattle.datatype_forms.proofs.of_elab_steps.Growing.{comes_before}
-use Rattle.datatype_forms.specs.of_elab_context.Entries.{number_in}
-use Rattle.datatype_forms.specs.of_elab_context.Telling.{IsContext, IsHeld, vids_in}
-use Rattle.datatype_forms.specs.of_elab_context.declared.context.Context.{Context}
-use Rattle.datatype_forms.specs.of_elab_context.declared.entry.Entry.{Entry}
-use Rattle.datatype_forms.specs.of_elab_context.declared.entry.Scheme as code
+use Rattle.elab_steps.specs.Growing.{Begins}
+use Rattle.elab_steps.proofs.Growing.{comes_before}
+use Rattle.elab_context.specs.Entries.{number_in}
+use Rattle.elab_context.specs.Telling.{IsContext, IsHeld, vids_in}
+use Rattle.elab_context.specs.declared.context.Context.{Context}
+use Rattle.elab_context.specs.declared.entry.Entry.{Entry}
+use Rattle.elab_context.specs.declared.entry.Scheme as code
 use Rattle.mlc_base.specs.declared.place.Place.{Place}
 use Rattle.datatype_forms.specs.of_dec_forms.Bringing.{IsBringing}
 use Rattle.datatype_forms.specs.of_dec_forms.declared.brought.Brought.{Brought}
@@ -82,7 +82,7 @@ are_constructed S M N T C E D ns bs kss es n l h g st same rows fit =
       more = subst (λ l. Begins l D.schemes.items) (ap (λ (z : Context). z.schemes.items) h.same) g.context.1;
       schemes = λ a.
           schemes_later N T D st.grows
-          (g.schemes (subst (λ l. (k : ℕ) (s : code.Scheme) → slice_get l k ≡ Some s → Rattle.datatype_forms.specs.of_elab_steps.Instances.IsScheme M s.marks.items s.body) (ap (λ (z : Context). z.schemes.items) (sym h.same))
+          (g.schemes (subst (λ l. (k : ℕ) (s : code.Scheme) → slice_get l k ≡ Some s → Rattle.elab_steps.specs.Instances.IsScheme M s.marks.items s.body) (ap (λ (z : Context). z.schemes.items) (sym h.same))
           (schemes_later S M C h.step.grows a)));
       all =
           subst (λ oss. AllSchemes (types_in T) D.schemes.items (length C.schemes.items) ns bs oss es (length D.schemes.items))

@@ -10,7 +10,7 @@ use Rattle.ty_instance.proofs.Going.{longer}
 use Rattle.sml_tree.specs.BareTree.{DataBind}
 use Rattle.elab_types.specs.declared.scope.TypeEntry.{TypeEntry}
 use Rattle.elab_state.specs.Readings.{IsHeldArgument}
-use Rattle.datatype_forms.specs.of_elab_steps.Growing.{Begins}
+use Rattle.elab_steps.specs.Growing.{Begins}
 use Rattle.datatype_forms.specs.Arguments.{AreRowsOf, AreStanding, BelowIf, IsRowOf, RowBelow, RowHeld, row_at, rows_at}
 use Rattle.datatype_forms.specs.Reading.{AreNameEntries, IsNameEntry}
 

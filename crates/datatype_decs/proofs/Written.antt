@@ -9,9 +9,9 @@ use Rattle.sml_tree.specs.BareTree as bare
 use Rattle.sml_tree.specs.Derived.{expand_bind, expand_con, expand_some, expand_ty, expand_tys, expand_ty_fields, unqualified, written_out}
 use Rattle.elab_types.specs.declared.scope.TypeEntry.{TypeEntry}
 use Rattle.elab_state.specs.declared.state.State.{State}
-use Rattle.datatype_forms.specs.of_elab_context.declared.context.Context.{Context}
-use Rattle.datatype_forms.specs.of_elab_context.declared.entry.Entry.{Entry}
-use Rattle.datatype_forms.specs.of_elab_context.declared.entry.Scheme as code
+use Rattle.elab_context.specs.declared.context.Context.{Context}
+use Rattle.elab_context.specs.declared.entry.Entry.{Entry}
+use Rattle.elab_context.specs.declared.entry.Scheme as code
 use Rattle.datatype_forms.specs.Abbreviated.{written_binds}
 use Rattle.datatype_forms.specs.Arguments.{AreRowsOf, AreStanding}
 use Rattle.datatype_forms.specs.Constructed.{AllRows, no_rows, more_rows, EachRow, no_row, a_row, AllSchemes, no_schemes, more_schemes, EachScheme, no_scheme, a_scheme, ranged}

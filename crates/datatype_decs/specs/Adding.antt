@@ -6,11 +6,11 @@ use Rattle.sml_tree.specs.BareTree.{ConBind, DataBind}
 use Rattle.elab_typed.specs.Numbers.{name_as}
 use Rattle.elab_state.specs.States.{types_in}
 use Rattle.elab_state.specs.declared.state.State.{State}
-use Rattle.datatype_forms.specs.of_elab_steps.Instances.{IsScheme}
-use Rattle.datatype_forms.specs.of_elab_context.declared.context.Context.{Context}
-use Rattle.datatype_forms.specs.of_elab_context.declared.entry.Built.{Built}
-use Rattle.datatype_forms.specs.of_elab_context.declared.entry.Entry.{Entry}
-use Rattle.datatype_forms.specs.of_elab_context.declared.entry.Scheme as code
+use Rattle.elab_steps.specs.Instances.{IsScheme}
+use Rattle.elab_context.specs.declared.context.Context.{Context}
+use Rattle.elab_context.specs.declared.entry.Built.{Built}
+use Rattle.elab_context.specs.declared.entry.Entry.{Entry}
+use Rattle.elab_context.specs.declared.entry.Scheme as code
 use Rattle.datatype_forms.specs.Arguments.{row_at, rows_at}
 use Rattle.datatype_forms.specs.Constructed.{AllSchemes, EachRow, EachScheme, HasMoreSchemes, IsAdded, any_of}
 use Rattle.datatype_forms.specs.ProgramTypes.{number_by}

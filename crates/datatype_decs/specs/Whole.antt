@@ -10,11 +10,11 @@ use Rattle.elab_typed.specs.Numbers.{AgreeBelow}
 use Rattle.elab_state.specs.Namings.{IsAmong}
 use Rattle.elab_state.specs.States.{types_in}
 use Rattle.elab_state.specs.declared.state.State.{State}
-use Rattle.datatype_forms.specs.of_elab_steps.Growing.{Begins}
-use Rattle.datatype_forms.specs.of_elab_steps.World.{World, Comes}
-use Rattle.datatype_forms.specs.of_elab_context.Entries.{number_in}
-use Rattle.datatype_forms.specs.of_elab_context.declared.context.Context.{Context}
-use Rattle.datatype_forms.specs.of_elab_context.declared.entry.Entry.{Entry}
+use Rattle.elab_steps.specs.Growing.{Begins}
+use Rattle.elab_steps.specs.World.{World, Comes}
+use Rattle.elab_context.specs.Entries.{number_in}
+use Rattle.elab_context.specs.declared.context.Context.{Context}
+use Rattle.elab_context.specs.declared.entry.Entry.{Entry}
 use Rattle.datatype_forms.specs.of_dec_forms.Entries.{HasFront}
 use Rattle.datatype_forms.specs.Arguments.{rows_at}
 use Rattle.datatype_forms.specs.Constructed.{AllRows, AllSchemes}

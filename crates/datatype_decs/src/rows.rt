@@ -2,7 +2,7 @@
 ghost use Rattle.std.specs.Prelude.{◌≡◌, length, map, nat_eq, IfOk};
 ghost use Rattle.indexmap.specs.IndexMap.{get};
 ghost use Rattle.sml_tree.specs.TreeOf.{con_bind_of, data_bind_of};
-ghost use Rattle.datatype_forms.specs.of_elab_context.Entries.{number_in};
+ghost use Rattle.elab_context.specs.Entries.{number_in};
 ghost use Rattle.elab_state.specs.States.{types_in};
 ghost use Rattle.datatype_forms.specs.Arguments.{AreRowsOf, rows_at};
 ghost use Rattle.datatype_forms.specs.Constructed.{AllRows};
@@ -10,9 +10,9 @@ ghost use Rattle.datatype_forms.specs.Steps.{IsStep, KnowsTypes};
 ghost use Rattle.datatype_decs.specs.Adding.{HaveRows};
 
 use datatype_forms::dec_forms::once::constructing;
-use datatype_forms::elab_context::context::Context;
 use datatype_forms::program_types::Names;
 use datatype_forms::rows::add_row;
+use elab_context::context::Context;
 use elab_state::state::State;
 use elab_types::refused::Refused;
 use indexmap::IndexMap;

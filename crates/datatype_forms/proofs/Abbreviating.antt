@@ -24,9 +24,9 @@ use Rattle.elab_types.specs.Reading.{Holds, entry_of, function_in}
 use Rattle.elab_types.specs.declared.scope.TypeEntry.{TypeEntry}
 use Rattle.elab_types.specs.declared.scope.TypeScope.{TypeScope}
 use Rattle.elab_types.proofs.Holding.{body-closed}
-use Rattle.dec_forms.specs.of_elab_steps.Growing.{Begins}
-use Rattle.dec_forms.specs.of_closed_types.Parameters.{ReadsTypes}
-use Rattle.dec_forms.proofs.of_closed_types.Entering.{top-below}
+use Rattle.elab_steps.specs.Growing.{Begins}
+use Rattle.closed_types.specs.Parameters.{ReadsTypes}
+use Rattle.closed_types.proofs.Entering.{top-below}
 use Rattle.dec_forms.specs.Entries.{types_onto}
 use Rattle.dec_forms.proofs.DeclaringTypes.{last-first}
 use Rattle.datatype_forms.specs.Abbreviated.{AreFunctionEntries, IsFunctionEntry, written_binds}

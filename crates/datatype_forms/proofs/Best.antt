@@ -18,7 +18,7 @@ use Rattle.elab_types.specs.declared.scope.TypeEntry.{TypeEntry}
 use Rattle.elab_types.specs.declared.scope.TypeScope.{TypeScope}
 use Rattle.elab_state.specs.States.{types_in}
 use Rattle.elab_state.specs.declared.state.State.{State}
-use Rattle.dec_forms.specs.of_closed_types.Parameters.{ReadsTypes}
+use Rattle.closed_types.specs.Parameters.{ReadsTypes}
 use Rattle.dec_forms.specs.Entries.{type_scope, types_onto}
 use Rattle.dec_forms.proofs.Bodies.{scope-same}
 use Rattle.datatype_forms.specs.Arguments.{AreStanding, OverIf, RowOver, RowsOver, all_arguments, in_names, name_at, row_arguments, row_at, rows_at, rows_with}

@@ -27,11 +27,11 @@ use Rattle.core_elab.specs.Resolves.{ConsTo, no_cons_to, a_con_to, DatatypesTo, 
 use Rattle.ir_poly.specs.TestsChecked.{alone_type}
 use Rattle.elab_typed.specs.Contexts.{Around, given, given_values}
 use Rattle.elab_types.specs.declared.scope.TypeEntry.{TypeEntry}
-use Rattle.dec_forms.specs.of_elab_steps.World.{World}
-use Rattle.dec_forms.specs.of_elab_context.Entries.{constructors_of}
-use Rattle.dec_forms.specs.of_elab_context.Telling.{HasConstructors, IsFit, denotes_of, kept_of, kept_entries, scope_of_entries, vids_in}
-use Rattle.dec_forms.specs.of_elab_context.declared.context.Context.{Context}
-use Rattle.dec_forms.specs.of_elab_context.declared.entry.Entry.{Entry}
+use Rattle.elab_steps.specs.World.{World}
+use Rattle.elab_context.specs.Entries.{constructors_of}
+use Rattle.elab_context.specs.Telling.{HasConstructors, IsFit, denotes_of, kept_of, kept_entries, scope_of_entries, vids_in}
+use Rattle.elab_context.specs.declared.context.Context.{Context}
+use Rattle.elab_context.specs.declared.entry.Entry.{Entry}
 use Rattle.dec_forms.specs.Entries.{constructing_name}
 use Rattle.dec_forms.proofs.After.{plus-plus}
 use Rattle.dec_forms.proofs.Listed.{alone-listed, constructing-is, constructing-may, denotes-listed, untyped-listed}

@@ -21,8 +21,8 @@ use Rattle.elab_types.specs.declared.scope.TypeScope.{TypeScope}
 use Rattle.elab_types.proofs.Holding.{body-held}
 use Rattle.elab_state.specs.States.{types_in}
 use Rattle.elab_state.specs.declared.state.State.{State}
-use Rattle.dec_forms.specs.of_elab_steps.Growing.{Begins}
-use Rattle.dec_forms.specs.of_closed_types.Parameters.{IsClosedType, ReadsTypes}
+use Rattle.elab_steps.specs.Growing.{Begins}
+use Rattle.closed_types.specs.Parameters.{IsClosedType, ReadsTypes}
 use Rattle.elab_state.specs.Readings.{IsHeldArgument}
 use Rattle.datatype_forms.specs.Arguments.{AreArguments, AreBehind, AreRowsOf, BelowIf, RowBelow, RowHeld, RowsBelow, row_at, rows_at}
 use Rattle.datatype_forms.specs.Reading.{AreArgumentTypes, AreRead, AreRows, IsArgumentType}

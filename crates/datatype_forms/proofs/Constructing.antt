@@ -18,12 +18,12 @@ use Rattle.elab_typed.specs.Numbers.{name_as, type_as}
 use Rattle.elab_types.specs.declared.scope.TypeEntry.{TypeEntry}
 use Rattle.elab_state.specs.States.{types_in}
 use Rattle.elab_state.specs.declared.state.State.{State}
-use Rattle.dec_forms.specs.of_elab_steps.World.{World, Comes}
-use Rattle.dec_forms.specs.of_elab_context.Entries.{number_in}
-use Rattle.dec_forms.specs.of_elab_context.Telling.{scheme_of}
-use Rattle.dec_forms.specs.of_elab_context.declared.context.Context.{Context}
-use Rattle.dec_forms.specs.of_elab_context.declared.entry.Entry.{Entry}
-use Rattle.dec_forms.specs.of_elab_context.declared.entry.Scheme as code
+use Rattle.elab_steps.specs.World.{World, Comes}
+use Rattle.elab_context.specs.Entries.{number_in}
+use Rattle.elab_context.specs.Telling.{scheme_of}
+use Rattle.elab_context.specs.declared.context.Context.{Context}
+use Rattle.elab_context.specs.declared.entry.Entry.{Entry}
+use Rattle.elab_context.specs.declared.entry.Scheme as code
 use Rattle.dec_forms.specs.Entries.{constructing_name}
 use Rattle.datatype_forms.specs.Arguments.{OverIf}
 use Rattle.datatype_forms.specs.Constructed.{HasScheme, EachScheme, no_scheme, a_scheme, AllSchemes, no_schemes, more_schemes, HasRow, EachRow, no_row, a_row, AllRows, no_rows, more_rows, any_of, ranged}

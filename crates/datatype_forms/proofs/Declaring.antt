@@ -26,17 +26,17 @@ use Rattle.elab_types.specs.Reading.{Holds}
 use Rattle.elab_types.specs.declared.scope.TypeEntry.{TypeEntry}
 use Rattle.elab_state.specs.States.{types_in}
 use Rattle.elab_state.specs.declared.state.State.{State}
-use Rattle.dec_forms.specs.of_elab_steps.World.{World, Comes}
-use Rattle.dec_forms.proofs.of_elab_steps.Growing.{comes_before}
-use Rattle.dec_forms.specs.of_elab_context.Entries.{entry_in, member_in, last_of}
-use Rattle.dec_forms.specs.of_elab_context.Numbered.{IsBelowIf, IsNumbered}
-use Rattle.dec_forms.specs.of_elab_context.Telling.{HasConstructors, IsContext, IsFit, IsHeld, Tells, denotes_of, function_of, kept_of, known_of}
-use Rattle.dec_forms.specs.of_elab_context.declared.context.Context.{Context}
-use Rattle.dec_forms.specs.of_elab_context.declared.entry.Entry.{Entry}
-use Rattle.dec_forms.specs.of_elab_context.declared.entry.Entry.TheVariants.{Constructor, Reference, Initial, Primitive, Raised, Single, Own, General}
-use Rattle.dec_forms.proofs.of_elab_context.Reading.{context_later, numbered_later}
+use Rattle.elab_steps.specs.World.{World, Comes}
+use Rattle.elab_steps.proofs.Growing.{comes_before}
+use Rattle.elab_context.specs.Entries.{entry_in, member_in, last_of}
+use Rattle.elab_context.specs.Numbered.{IsBelowIf, IsNumbered}
+use Rattle.elab_context.specs.Telling.{HasConstructors, IsContext, IsFit, IsHeld, Tells, denotes_of, function_of, kept_of, known_of}
+use Rattle.elab_context.specs.declared.context.Context.{Context}
+use Rattle.elab_context.specs.declared.entry.Entry.{Entry}
+use Rattle.elab_context.specs.declared.entry.Entry.TheVariants.{Constructor, Reference, Initial, Primitive, Raised, Single, Own, General}
+use Rattle.elab_context.proofs.Reading.{context_later, numbered_later}
 use Rattle.elab_state.specs.States.{made as made'}
-use Rattle.dec_forms.specs.of_elab_steps.Tidy.{IsLive}
+use Rattle.elab_steps.specs.Tidy.{IsLive}
 use Rattle.ty_solve.specs.Substitution.{is_below}
 use Rattle.ty_table.specs.TypeAt.{type_at}
 use Rattle.dec_forms.proofs.Telling.{entry-among}
@@ -148,7 +148,7 @@ module _ (S T : State) (C D : Context) (bs : List DataBind) (es : List (Vid × E
   }
 
   module _ (W : World) (A : Around) (c : Comes T W) (t : Tells C W A) where
-    numbers : (x : ℕ) → W.naming D.naming x ≡ Rattle.dec_forms.specs.of_elab_context.Entries.number_in D x
+    numbers : (x : ℕ) → W.naming D.naming x ≡ Rattle.elab_context.specs.Entries.number_in D x
     numbers = d.numbers W c t.numbers
 
     made : AllMade D W ns bs (rows_at (types_in T) d.rows) es ts

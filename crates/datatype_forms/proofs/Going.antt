@@ -11,7 +11,7 @@ use Rattle.datatype_forms.specs.ProgramTypes.{AreRight, number_in, visits, subje
 use Rattle.datatype_forms.specs.declared.step.Step.{Step}
 use Rattle.datatype_forms.specs.declared.step.Step.TheVariants.{Visit, Build}
 use Rattle.std.proofs.lemmas.Option.{slice_get_within, get_or_from_slice_get}
-use Rattle.dec_forms.proofs.of_elab_steps.Growing.{found-later}
+use Rattle.elab_steps.proofs.Growing.{found-later}
 
 -- steps
 

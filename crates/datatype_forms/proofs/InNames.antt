@@ -19,9 +19,9 @@ use Rattle.core_rules.proofs.LookUps.{at-joined, nat-tells}
 use Rattle.elab_types.specs.Reading.{Holds, function_in}
 use Rattle.elab_types.specs.declared.scope.TypeEntry.{TypeEntry}
 use Rattle.elab_types.specs.declared.scope.TypeScope.{TypeScope}
-use Rattle.dec_forms.specs.of_elab_steps.Growing.{Begins}
-use Rattle.dec_forms.proofs.of_elab_steps.Growing.{found-later}
-use Rattle.dec_forms.specs.of_closed_types.Parameters.{ReadsTypes}
+use Rattle.elab_steps.specs.Growing.{Begins}
+use Rattle.elab_steps.proofs.Growing.{found-later}
+use Rattle.closed_types.specs.Parameters.{ReadsTypes}
 use Rattle.dec_forms.specs.Entries.{last_at, types_onto}
 use Rattle.dec_forms.proofs.DeclaringTypes.{last-first}
 use Rattle.datatype_forms.specs.Arguments.{in_names}

@@ -1,5 +1,3 @@
-pub use Rattle.dec_forms.proofs.of_elab_steps as of_elab_steps
-pub use Rattle.dec_forms.proofs.of_elab_context as of_elab_context
 pub use Rattle.dec_forms.proofs as of_dec_forms
 pub mod Going
 pub mod Alike

@@ -6,12 +6,12 @@ use Rattle.ty_core.specs.declared.name.TyName.{TyName}
 use Rattle.sml_tree.specs.declared.ident.Vid.{Vid}
 use Rattle.sml_tree.specs.BareTree.{ConBind, DataBind}
 use Rattle.elab_types.specs.declared.scope.TypeEntry.{TypeEntry}
-use Rattle.dec_forms.specs.of_elab_context.Entries.{constructor_entry, constructors_in}
-use Rattle.dec_forms.specs.of_elab_context.declared.entry.Built.{Built}
-use Rattle.dec_forms.specs.of_elab_context.declared.entry.Built.TheVariants.{Declared}
-use Rattle.dec_forms.specs.of_elab_context.declared.entry.Entry.{Entry}
-use Rattle.dec_forms.specs.of_elab_context.declared.entry.Entry.TheVariants.{Constructor}
-use Rattle.dec_forms.specs.of_elab_context.declared.entry.Scheme as code
+use Rattle.elab_context.specs.Entries.{constructor_entry, constructors_in}
+use Rattle.elab_context.specs.declared.entry.Built.{Built}
+use Rattle.elab_context.specs.declared.entry.Built.TheVariants.{Declared}
+use Rattle.elab_context.specs.declared.entry.Entry.{Entry}
+use Rattle.elab_context.specs.declared.entry.Entry.TheVariants.{Constructor}
+use Rattle.elab_context.specs.declared.entry.Scheme as code
 use Rattle.dec_forms.specs.Entries.{constructing_name}
 use Rattle.dec_forms.proofs.Listed.{constructing-is}
 use Rattle.datatype_forms.specs.Constructed.{EachScheme, no_scheme, a_scheme, ranged}

@@ -12,8 +12,8 @@ use Rattle.ir_tables.specs.Rows.{constructor_at, constructors_at}
 use Rattle.ir_tables.specs.declared.constructors.Constructor as code
 use Rattle.elab_state.specs.declared.state.State.{State}
 use Rattle.elab_state.proofs.Reading.{rows-at-stay}
-use Rattle.dec_forms.specs.of_elab_steps.Growing.{Begins}
-use Rattle.dec_forms.specs.of_elab_steps.Tidy.{AreConstructors}
+use Rattle.elab_steps.specs.Growing.{Begins}
+use Rattle.elab_steps.specs.Tidy.{AreConstructors}
 use Rattle.datatype_forms.specs.Standing.{IsFitting}
 
 -- what is put for a type's variables

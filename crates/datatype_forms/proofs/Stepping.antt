@@ -22,12 +22,12 @@ use Rattle.elab_state.specs.States.{all_parameters, limit_in, made, types_in}
 use Rattle.elab_state.specs.declared.naming.Naming.{Naming}
 use Rattle.elab_state.specs.declared.state.State.{State}
 use Rattle.elab_state.proofs.Reading.{table-finds}
-use Rattle.dec_forms.specs.of_elab_steps.Growing.{Begins}
-use Rattle.dec_forms.specs.of_elab_steps.Tidy.{AreConstructors}
-use Rattle.dec_forms.proofs.of_elab_steps.Changing.{begins-same, same-limit, solver-makes}
-use Rattle.dec_forms.proofs.of_elab_steps.Growing.{comes_before, grows_on, grows_same}
-use Rattle.dec_forms.proofs.of_elab_steps.Keeping.{Makes, makes-done, makes-tidy}
-use Rattle.dec_forms.specs.of_elab_context.declared.context.Context.{Context}
+use Rattle.elab_steps.specs.Growing.{Begins}
+use Rattle.elab_steps.specs.Tidy.{AreConstructors}
+use Rattle.elab_steps.proofs.Changing.{begins-same, same-limit, solver-makes}
+use Rattle.elab_steps.proofs.Growing.{comes_before, grows_on, grows_same}
+use Rattle.elab_steps.proofs.Keeping.{Makes, makes-done, makes-tidy}
+use Rattle.elab_context.specs.declared.context.Context.{Context}
 use Rattle.datatype_forms.specs.Arguments.{OverIf}
 use Rattle.datatype_forms.specs.ProgramTypes.{number_by}
 use Rattle.datatype_forms.specs.Steps.{AreNamed, IsArgument, IsNaming, IsProgramRow, IsRow, IsStep, KnowsTypes, renamed}

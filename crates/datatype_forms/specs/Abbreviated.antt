@@ -8,7 +8,7 @@ use Rattle.sml_tree.specs.declared.tree.DataBind as tree
 use Rattle.sml_tree.specs.declared.tree.TypeBind as trees
 use Rattle.elab_types.specs.declared.scope.TypeEntry.{TypeEntry}
 use Rattle.elab_types.specs.declared.scope.TypeScope.{TypeScope}
-use Rattle.dec_forms.specs.of_closed_types.Parameters.{IsClosedType}
+use Rattle.closed_types.specs.Parameters.{IsClosedType}
 
 -- datatypes with abbreviations written out
 abbrev pub written_binds : List TypeBind → List DataBind → List DataBind

@@ -8,7 +8,7 @@ use Rattle.core_rules.specs.Restrictions.{distinct}
 use Rattle.elab_types.specs.declared.scope.TypeScope.{TypeScope}
 use Rattle.elab_state.specs.States.{types_in}
 use Rattle.elab_state.specs.declared.state.State.{State}
-use Rattle.dec_forms.specs.of_closed_types.Parameters.{ReadsTypes}
+use Rattle.closed_types.specs.Parameters.{ReadsTypes}
 use Rattle.datatype_forms.specs.Arguments.{AreArguments, AreRowsOf, AreStanding, RowsOver, data_structures, in_names, rows_at}
 use Rattle.datatype_forms.specs.Reading.{AreNameEntries}
 use Rattle.datatype_forms.specs.Steps.{IsStep}

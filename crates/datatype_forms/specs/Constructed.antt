@@ -12,12 +12,12 @@ use Rattle.ir_poly.specs.Types.{constructor_of, find}
 use Rattle.elab_types.specs.declared.scope.TypeEntry.{TypeEntry}
 use Rattle.elab_state.specs.States.{types_in}
 use Rattle.elab_state.specs.declared.state.State.{State}
-use Rattle.dec_forms.specs.of_elab_steps.Growing.{Always, Begins}
-use Rattle.dec_forms.specs.of_elab_context.declared.context.Context.{Context}
-use Rattle.dec_forms.specs.of_elab_context.declared.entry.Built.TheVariants.{Declared}
-use Rattle.dec_forms.specs.of_elab_context.declared.entry.Entry.{Entry}
-use Rattle.dec_forms.specs.of_elab_context.declared.entry.Entry.TheVariants.{Constructor}
-use Rattle.dec_forms.specs.of_elab_context.declared.entry.Scheme as code
+use Rattle.elab_steps.specs.Growing.{Always, Begins}
+use Rattle.elab_context.specs.declared.context.Context.{Context}
+use Rattle.elab_context.specs.declared.entry.Built.TheVariants.{Declared}
+use Rattle.elab_context.specs.declared.entry.Entry.{Entry}
+use Rattle.elab_context.specs.declared.entry.Entry.TheVariants.{Constructor}
+use Rattle.elab_context.specs.declared.entry.Scheme as code
 use Rattle.dec_forms.specs.Entries.{constructing_name}
 use Rattle.datatype_forms.specs.Arguments.{OverIf}
 use Rattle.datatype_forms.specs.Steps.{IsStep}

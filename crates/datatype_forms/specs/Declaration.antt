@@ -13,15 +13,15 @@ use Rattle.elab_types.specs.declared.scope.TypeEntry.{TypeEntry}
 use Rattle.elab_state.specs.Namings.{IsAmong}
 use Rattle.elab_state.specs.States.{types_in}
 use Rattle.elab_state.specs.declared.state.State.{State}
-use Rattle.dec_forms.specs.of_elab_steps.Instances.{IsScheme}
-use Rattle.dec_forms.specs.of_elab_steps.World.{World, Comes}
-use Rattle.dec_forms.specs.of_elab_context.Entries.{number_in}
-use Rattle.dec_forms.specs.of_elab_context.declared.context.Context.{Context}
-use Rattle.dec_forms.specs.of_elab_context.declared.entry.Entry.{Entry}
-use Rattle.dec_forms.specs.of_elab_context.declared.entry.Entry.TheVariants.{Constructor, Reference, Initial, Primitive, Raised, Single, Own, General}
-use Rattle.dec_forms.specs.of_elab_context.declared.entry.Scheme as code
-use Rattle.dec_forms.specs.of_elab_context.Telling.{IsContext, IsHeld, vids_in}
-use Rattle.dec_forms.specs.of_closed_types.Parameters.{ReadsTypes}
+use Rattle.elab_steps.specs.Instances.{IsScheme}
+use Rattle.elab_steps.specs.World.{World, Comes}
+use Rattle.elab_context.specs.Entries.{number_in}
+use Rattle.elab_context.specs.declared.context.Context.{Context}
+use Rattle.elab_context.specs.declared.entry.Entry.{Entry}
+use Rattle.elab_context.specs.declared.entry.Entry.TheVariants.{Constructor, Reference, Initial, Primitive, Raised, Single, Own, General}
+use Rattle.elab_context.specs.declared.entry.Scheme as code
+use Rattle.elab_context.specs.Telling.{IsContext, IsHeld, vids_in}
+use Rattle.closed_types.specs.Parameters.{ReadsTypes}
 use Rattle.mlc_base.specs.declared.place.Place.{Place}
 use Rattle.sml_tree.specs.BareTree as bare
 use Rattle.elab_types.specs.Reading.{Holds}

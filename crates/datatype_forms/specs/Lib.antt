@@ -1,5 +1,3 @@
-pub use Rattle.dec_forms.specs.of_elab_steps as of_elab_steps
-pub use Rattle.dec_forms.specs.of_elab_context as of_elab_context
 pub use Rattle.dec_forms.specs as of_dec_forms
 pub mod ProgramTypes
 pub mod Arguments

@@ -10,12 +10,12 @@ use Rattle.core_rules.specs.Objects.{Over}
 use Rattle.ir_poly.specs.Types.{constructor_of, find}
 use Rattle.elab_typed.specs.Numbers.{name_as, type_as}
 use Rattle.elab_types.specs.declared.scope.TypeEntry.{TypeEntry}
-use Rattle.dec_forms.specs.of_elab_steps.World.{World}
-use Rattle.dec_forms.specs.of_elab_context.Entries.{constructors_of}
-use Rattle.dec_forms.specs.of_elab_context.Telling.{scheme_at}
-use Rattle.dec_forms.specs.of_elab_context.declared.context.Context.{Context}
-use Rattle.dec_forms.specs.of_elab_context.declared.entry.Entry.{Entry}
-use Rattle.dec_forms.specs.of_elab_context.declared.entry.Entry.TheVariants.{Constructor}
+use Rattle.elab_steps.specs.World.{World}
+use Rattle.elab_context.specs.Entries.{constructors_of}
+use Rattle.elab_context.specs.Telling.{scheme_at}
+use Rattle.elab_context.specs.declared.context.Context.{Context}
+use Rattle.elab_context.specs.declared.entry.Entry.{Entry}
+use Rattle.elab_context.specs.declared.entry.Entry.TheVariants.{Constructor}
 use Rattle.dec_forms.specs.Entries.{constructing_name}
 
 -- e is this constructor of the type name y, with this argument

@@ -9,7 +9,7 @@ use Rattle.elab_types.specs.declared.scope.TypeEntry.{TypeEntry}
 use Rattle.elab_types.specs.declared.scope.TypeScope.{TypeScope}
 use Rattle.elab_state.specs.States.{types_in}
 use Rattle.elab_state.specs.declared.state.State.{State}
-use Rattle.dec_forms.specs.of_closed_types.Parameters.{IsClosedType}
+use Rattle.closed_types.specs.Parameters.{IsClosedType}
 use Rattle.datatype_forms.specs.Steps.{IsStep}
 
 -- the type of an argument over these parameters, in the scope

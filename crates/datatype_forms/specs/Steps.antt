@@ -12,10 +12,10 @@ use Rattle.elab_state.specs.Readings.{IsHeldArgument}
 use Rattle.elab_state.specs.States.{types_in}
 use Rattle.elab_state.specs.declared.naming.Naming.{Naming}
 use Rattle.elab_state.specs.declared.state.State.{State}
-use Rattle.dec_forms.specs.of_elab_steps.Growing.{Always, Grows}
-use Rattle.dec_forms.specs.of_elab_steps.World.{World, Comes}
-use Rattle.dec_forms.specs.of_elab_context.Entries.{number_in}
-use Rattle.dec_forms.specs.of_elab_context.declared.context.Context.{Context}
+use Rattle.elab_steps.specs.Growing.{Always, Grows}
+use Rattle.elab_steps.specs.World.{World, Comes}
+use Rattle.elab_context.specs.Entries.{number_in}
+use Rattle.elab_context.specs.declared.context.Context.{Context}
 use Rattle.dec_forms.specs.Entries.{HasFront}
 use Rattle.datatype_forms.specs.Arguments.{OverIf}
 use Rattle.datatype_forms.specs.ProgramTypes.{AreRight, number_by}

@@ -6,9 +6,9 @@ ghost use Rattle.elab_state.specs.States.{types_in};
 ghost use Rattle.datatype_forms.specs.Abbreviated.{AreFunctionEntries, IsFunctionEntry};
 ghost use Rattle.datatype_forms.specs.Steps.{IsStep};
 
+use closed_types::annotate::closed_type;
+use closed_types::parameters::enter_parameters;
 use dec_forms::bindings::names_of;
-use dec_forms::closed_types::annotate::closed_type;
-use dec_forms::closed_types::parameters::enter_parameters;
 use dec_forms::once::check_names;
 use elab_state::state::State;
 use elab_types::refused::Refused;

@@ -2,7 +2,6 @@
 #![tactic(auto)]
 
 pub use dec_forms;
-pub use dec_forms::{elab_context, elab_steps};
 
 pub mod attributes;
 pub mod chosen;

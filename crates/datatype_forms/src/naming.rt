@@ -4,7 +4,7 @@ ghost use Rattle.ty_basis.specs.Types.{name_count};
 ghost use Rattle.elab_state.specs.Namings.{ComesBefore, IsAmong};
 ghost use Rattle.datatype_forms.specs.Steps.{AreNamed, IsNaming};
 
-use dec_forms::elab_context::context::Context;
+use elab_context::context::Context;
 use elab_state::naming::Naming;
 use elab_state::state::State;
 use mlc_base::memory::NoMemory;

@@ -7,13 +7,13 @@ ghost use Rattle.core_rules.specs.Restrictions.{no_repetition};
 ghost use Rattle.elab_types.specs.Reading.{Holds};
 ghost use Rattle.elab_types.specs.declared.scope.TypeScope.{TypeScope};
 ghost use Rattle.elab_state.specs.States.{types_in};
-ghost use Rattle.dec_forms.specs.of_closed_types.Parameters.{AreParameters};
+ghost use Rattle.closed_types.specs.Parameters.{AreParameters};
 ghost use Rattle.datatype_forms.specs.Reading.{AreArgumentTypes, AreRead, IsArgumentType};
 ghost use Rattle.datatype_forms.specs.Steps.{IsStep};
 
+use closed_types::annotate::closed_type;
+use closed_types::parameters::enter_parameters;
 use dec_forms::bindings::names_of;
-use dec_forms::closed_types::annotate::closed_type;
-use dec_forms::closed_types::parameters::enter_parameters;
 use dec_forms::once::check_names;
 use elab_state::state::State;
 use elab_types::refused::Refused;

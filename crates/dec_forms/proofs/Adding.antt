@@ -22,15 +22,15 @@ use Rattle.ir_poly.specs.Prog.{held}
 use Rattle.ir_poly.specs.TestsChecked.{Known, Knowns, exception as exception_known}
 use Rattle.ir_poly.specs.TestsChecked as checked
 use Rattle.ir_poly.specs.Types.{over}
-use Rattle.elab_scoped.specs.of_core_elab.Resolves.{joined}
-use Rattle.elab_scoped.specs.of_core_elab.Scopes.{Denotes, Scope, empty, exception, long_denotes_in, plus_scope, scoped}
+use Rattle.core_elab.specs.Resolves.{joined}
+use Rattle.core_elab.specs.Scopes.{Denotes, Scope, empty, exception, long_denotes_in, plus_scope, scoped}
 use Rattle.prog_tree.specs.TreeOf.{DecTree, RuleTree, exception_tree, dec_of, decs_of, node_dec, node_exp, node_function, node_rule}
 use Rattle.prog_tree.specs.declared.tree.Dec.{Dec, Dec-F, fold-roll-Dec}
 use Rattle.prog_tree.specs.declared.tree.Dec.TheVariants as decs
-use Rattle.elab_scoped.specs.of_elab_typed.Contexts.{Around, Kept, KeptValues, context_under, kept_in, raised, value_under}
-use Rattle.elab_scoped.specs.of_elab_typed.Elaborates.{ExnsElab, no_exns_elab, new_exn_elab, same_exn_elab}
-use Rattle.elab_scoped.specs.of_elab_typed.Instances.{as_typed}
-use Rattle.elab_scoped.proofs.of_elab_typed.Names.{over-as}
+use Rattle.elab_typed.specs.Contexts.{Around, Kept, KeptValues, context_under, kept_in, raised, value_under}
+use Rattle.elab_typed.specs.Elaborates.{ExnsElab, no_exns_elab, new_exn_elab, same_exn_elab}
+use Rattle.elab_typed.specs.Instances.{as_typed}
+use Rattle.elab_typed.proofs.Names.{over-as}
 use Rattle.closed_types.specs.of_elab_state.declared.state.State.{State}
 use Rattle.closed_types.specs.of_elab_steps.Growing.{Grows}
 use Rattle.closed_types.specs.of_elab_steps.World.{World, type_of}

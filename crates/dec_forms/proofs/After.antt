@@ -7,8 +7,8 @@ use Rattle.core_rules.specs.Words.{same_vid}
 use Rattle.core_rules.specs.Objects.{Env, Map, at, joined, Structures, no_structures, structure, structures_of, structure_map}
 use Rattle.core_rules.proofs.LookUps.{Tells, at-joined, nat-tells, vid-tells}
 use Rattle.ir_poly.specs.TestsChecked.{Knowns}
-use Rattle.elab_scoped.specs.of_core_elab.Scopes.{Scope, empty, scoped, typed_by, inside, plus_scope}
-use Rattle.elab_scoped.specs.of_elab_typed.Contexts.{Around, KeptEnv, plus_kept, kept_values, after}
+use Rattle.core_elab.specs.Scopes.{Scope, empty, scoped, typed_by, inside, plus_scope}
+use Rattle.elab_typed.specs.Contexts.{Around, KeptEnv, plus_kept, kept_values, after}
 
 -- maps joined, and then another
 

@@ -3,7 +3,7 @@ use Rattle.std.proofs.Common.{◌≡◌, ℕ, Some, None, refl, ap, ◌∙◌}
 use Rattle.std.specs.Prelude.{option_map}
 use Rattle.ty_solve.specs.declared.limit.Limit.{Limit}
 use Rattle.sml_tree.specs.BareTree.{Ty}
-use Rattle.elab_scoped.specs.of_elab_typed.Numbers.{type_as}
+use Rattle.elab_typed.specs.Numbers.{type_as}
 use Rattle.closed_types.specs.of_elab_state.declared.state.State.{State}
 use Rattle.closed_types.specs.of_elab_steps.Growing.{HasType, Grows, Always, IsWithin}
 use Rattle.closed_types.specs.of_elab_steps.World.{type_of}

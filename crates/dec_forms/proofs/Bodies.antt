@@ -17,12 +17,12 @@ use Rattle.sml_tree.specs.declared.tree.TypeBind.{TypeBind as Bind}
 use Rattle.core_rules.specs.Elaborated.{type_of, types_bound, with_parameters}
 use Rattle.core_rules.specs.Objects.{Context as StaticContext, Map, TypeStructure}
 use Rattle.core_rules.specs.Restrictions.{no_repetition}
-use Rattle.elab_scoped.specs.of_elab_typed.Contexts.{Around, generic}
-use Rattle.closed_types.specs.of_elab_types.Reading.{Holds, function_in}
-use Rattle.closed_types.specs.of_elab_types.declared.scope.TypeEntry.{TypeEntry}
-use Rattle.closed_types.specs.of_elab_types.declared.scope.TypeScope.{TypeScope}
-use Rattle.closed_types.proofs.of_elab_types.Holding.{body-held}
-use Rattle.closed_types.proofs.of_elab_types.Keeping.{holds_later}
+use Rattle.elab_typed.specs.Contexts.{Around, generic}
+use Rattle.elab_types.specs.Reading.{Holds, function_in}
+use Rattle.elab_types.specs.declared.scope.TypeEntry.{TypeEntry}
+use Rattle.elab_types.specs.declared.scope.TypeScope.{TypeScope}
+use Rattle.elab_types.proofs.Holding.{body-held}
+use Rattle.elab_types.proofs.Keeping.{holds_later}
 use Rattle.closed_types.specs.of_elab_state.States.{types_in}
 use Rattle.closed_types.specs.of_elab_state.declared.state.State.{State}
 use Rattle.closed_types.specs.of_elab_steps.Growing.{Grows}

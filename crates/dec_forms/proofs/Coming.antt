@@ -4,8 +4,8 @@ use Rattle.std.proofs.Math.Seq.{take-suc}
 use Rattle.sml_tree.specs.declared.ident.Vid.{Vid}
 use Rattle.vid_scope.specs.Entries.{with_entry, with_entries}
 use Rattle.vid_scope.specs.declared.vids.VidScope.{VidScope}
-use Rattle.closed_types.specs.of_elab_types.declared.scope.TypeEntry.{TypeEntry}
-use Rattle.closed_types.specs.of_elab_types.declared.scope.TypeScope.{TypeScope}
+use Rattle.elab_types.specs.declared.scope.TypeEntry.{TypeEntry}
+use Rattle.elab_types.specs.declared.scope.TypeScope.{TypeScope}
 use Rattle.exp_forms.specs.of_elab_context.declared.context.Context.{Context}
 use Rattle.exp_forms.specs.of_elab_context.declared.entry.Entry.{Entry}
 use Rattle.dec_forms.specs.Telling.{with_all}

@@ -25,7 +25,7 @@ use Rattle.ir_poly.specs.ProgChecked.{binds_onto}
 use Rattle.ir_poly.specs.Types.{find, in_scope}
 use Rattle.ir_tables.specs.Rows.{constructors_at}
 use Rattle.ir_tables.specs.Tables.{parameters_at, parameters_of}
-use Rattle.elab_scoped.specs.of_core_elab.Resolves.{no_heads_to}
+use Rattle.core_elab.specs.Resolves.{no_heads_to}
 use Rattle.prog_tree.specs.TreeOf.{RuleTree, bind_of, binds_by, dec_of, decs_of, fun_of, funs_by}
 use Rattle.prog_tree.specs.declared.tree.Binding.{Binding}
 use Rattle.prog_tree.specs.declared.tree.Dec.{Dec}
@@ -33,8 +33,8 @@ use Rattle.prog_tree.specs.declared.tree.Dec.TheVariants as decs
 use Rattle.prog_tree.specs.declared.tree.Function.{Function}
 use Rattle.prog_tree.specs.declared.tree.Rule.{Rule}
 use Rattle.prog_tree.proofs.ExpOf.{dec_of-Val}
-use Rattle.elab_scoped.specs.of_elab_typed.Contexts.{Around, IsOver, after, generals, generic, kept_values}
-use Rattle.elab_scoped.specs.of_elab_typed.Elaborates.{BindsElab, DecElab, inner, no_funs_elab, scoped_as, val_elab}
+use Rattle.elab_typed.specs.Contexts.{Around, IsOver, after, generals, generic, kept_values}
+use Rattle.elab_typed.specs.Elaborates.{BindsElab, DecElab, inner, no_funs_elab, scoped_as, val_elab}
 use Rattle.elab_scoped.proofs.Phrases.{none_is_new}
 use Rattle.closed_types.specs.of_elab_state.States.{all_parameters, limit_in, made}
 use Rattle.closed_types.specs.of_elab_state.declared.state.State.{State}

@@ -19,11 +19,11 @@ use Rattle.ir_poly.specs.TestsChecked.{Known, Knowns}
 use Rattle.ir_poly.specs.TestsChecked as checked
 use Rattle.ir_poly.specs.Types.{in_scope}
 use Rattle.ir_poly.proofs.ReplaceLemmas.{replace-agree}
-use Rattle.elab_scoped.specs.of_core_elab.Scopes.{Scope, denotes_in}
+use Rattle.core_elab.specs.Scopes.{Scope, denotes_in}
 use Rattle.prog_tree.specs.TreeOf.{dec_of, decs_of}
 use Rattle.prog_tree.specs.declared.tree.Dec.{Dec}
-use Rattle.elab_scoped.specs.of_elab_typed.Contexts.{Around, KeptValues, value_under, values_under}
-use Rattle.elab_scoped.specs.of_elab_typed.Elaborates.{DecElab, ExnsElab, exception_elab, no_exns_elab, new_exn_elab, same_exn_elab}
+use Rattle.elab_typed.specs.Contexts.{Around, KeptValues, value_under, values_under}
+use Rattle.elab_typed.specs.Elaborates.{DecElab, ExnsElab, exception_elab, no_exns_elab, new_exn_elab, same_exn_elab}
 use Rattle.closed_types.specs.of_elab_state.declared.state.State.{State}
 use Rattle.closed_types.specs.of_elab_steps.World.{World, type_of}
 use Rattle.exp_forms.specs.of_elab_context.Telling.{IsContext, IsFit, IsInUseIf, Tells, denotes_of, known_of, kept_of, kept_entries, scope_of_entries, vids_in}

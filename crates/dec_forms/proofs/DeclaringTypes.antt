@@ -14,12 +14,12 @@ use Rattle.core_rules.specs.Objects.{TypeStructure}
 use Rattle.core_rules.specs.Restrictions.{distinct}
 use Rattle.core_rules.specs.Words.{is_in, same_vid}
 use Rattle.core_rules.proofs.LookUps.{nat-tells}
-use Rattle.elab_scoped.specs.of_core_elab.Scopes.{Scope, empty, denotes_in, inside_in, typed_in, plus_scope, types_scope}
+use Rattle.core_elab.specs.Scopes.{Scope, empty, denotes_in, inside_in, typed_in, plus_scope, types_scope}
 use Rattle.prog_tree.specs.declared.tree.Dec.{Dec}
-use Rattle.elab_scoped.specs.of_elab_typed.Contexts.{Around, given_values}
-use Rattle.elab_scoped.specs.of_elab_typed.Elaborates.{type_elab}
-use Rattle.closed_types.specs.of_elab_types.declared.scope.SchemeRange.{SchemeRange}
-use Rattle.closed_types.specs.of_elab_types.declared.scope.TypeEntry.{TypeEntry}
+use Rattle.elab_typed.specs.Contexts.{Around, given_values}
+use Rattle.elab_typed.specs.Elaborates.{type_elab}
+use Rattle.elab_types.specs.declared.scope.SchemeRange.{SchemeRange}
+use Rattle.elab_types.specs.declared.scope.TypeEntry.{TypeEntry}
 use Rattle.closed_types.specs.of_elab_state.States.{types_in}
 use Rattle.closed_types.specs.of_elab_state.declared.state.State.{State}
 use Rattle.closed_types.specs.of_elab_steps.World.{World}

@@ -7,9 +7,9 @@ use Rattle.core_rules.specs.Choices.{Choices, no_choice, both}
 use Rattle.core_rules.specs.Objects.{Structures, structure_map, structures_of, no_structures, structure}
 use Rattle.ir_poly.specs.Prog as prog
 use Rattle.ir_poly.specs.Types.{Constructor}
-use Rattle.elab_scoped.specs.of_core_elab.Scopes.{Scope, empty, scoped, typed_by, inside, plus_scope}
-use Rattle.elab_scoped.specs.of_elab_typed.Contexts.{Around, KeptEnv, kept_values, plus_kept}
-use Rattle.elab_scoped.specs.of_elab_typed.Elaborates.{DecElab, DecsElab, no_decs_elab, a_dec_elab}
+use Rattle.core_elab.specs.Scopes.{Scope, empty, scoped, typed_by, inside, plus_scope}
+use Rattle.elab_typed.specs.Contexts.{Around, KeptEnv, kept_values, plus_kept}
+use Rattle.elab_typed.specs.Elaborates.{DecElab, DecsElab, no_decs_elab, a_dec_elab}
 use Rattle.dec_forms.specs.Decs.{all_joined}
 use Rattle.dec_forms.proofs.After.{after-after, after-none, kept-none, plus-plus}
 use Rattle.dec_forms.specs.Bringing.{EachEffect, no_effects, an_effect, Effect, all_effects, joint_effect, past, past_all}

@@ -4,9 +4,9 @@ use Rattle.std.proofs.lemmas.List.{append_assoc, length-append}
 use Rattle.vid_scope.specs.Entries.{Undoes, with_entries}
 use Rattle.vid_scope.specs.declared.vids.VidScope.{VidScope}
 use Rattle.sml_tree.specs.declared.ident.Vid.{Vid}
-use Rattle.closed_types.specs.of_elab_types.Reading.{left_at}
-use Rattle.closed_types.specs.of_elab_types.declared.scope.TypeEntry.{TypeEntry}
-use Rattle.closed_types.specs.of_elab_types.declared.scope.TypeScope.{TypeScope}
+use Rattle.elab_types.specs.Reading.{left_at}
+use Rattle.elab_types.specs.declared.scope.TypeEntry.{TypeEntry}
+use Rattle.elab_types.specs.declared.scope.TypeScope.{TypeScope}
 use Rattle.exp_forms.specs.of_elab_context.Schemes.{SchemeList}
 use Rattle.exp_forms.specs.of_elab_context.declared.context.Context.{Context}
 use Rattle.exp_forms.specs.of_elab_context.declared.entry.Entry.{Entry}

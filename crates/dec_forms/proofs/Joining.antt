@@ -14,11 +14,11 @@ use Rattle.core_rules.specs.Objects.{joined, Structures, no_structures, structur
 use Rattle.core_rules.proofs.LookUps.{vid-tells, nat-tells, at-joined}
 use Rattle.ir_poly.specs.TestsChecked.{Known}
 use Rattle.ir_poly.specs.TestsChecked as checked
-use Rattle.elab_scoped.specs.of_core_elab.Scopes.{Scope, plus_scope, denotes_in, inside_in, typed_in}
-use Rattle.elab_scoped.specs.of_elab_typed.Contexts.{Around}
-use Rattle.elab_scoped.specs.of_elab_typed.Numbers.{AgreeBelow}
-use Rattle.elab_scoped.proofs.of_elab_typed.Under.{plus-under}
-use Rattle.closed_types.specs.of_elab_types.declared.scope.TypeEntry.{TypeEntry}
+use Rattle.core_elab.specs.Scopes.{Scope, plus_scope, denotes_in, inside_in, typed_in}
+use Rattle.elab_typed.specs.Contexts.{Around}
+use Rattle.elab_typed.specs.Numbers.{AgreeBelow}
+use Rattle.elab_typed.proofs.Under.{plus-under}
+use Rattle.elab_types.specs.declared.scope.TypeEntry.{TypeEntry}
 use Rattle.closed_types.proofs.of_elab_steps.Changing.{begins-same}
 use Rattle.closed_types.specs.of_elab_steps.World.{World}
 use Rattle.exp_forms.specs.of_elab_context.Entries.{entry_in, last_of}

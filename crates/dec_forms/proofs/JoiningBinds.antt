@@ -12,16 +12,16 @@ use Rattle.core_rules.specs.Objects.{Env}
 use Rattle.core_rules.specs.Typing.{Bound, is_non_expansive, settles, together}
 use Rattle.ir_poly.specs.Prog as prog
 use Rattle.ir_poly.specs.Types.{over, Constructor}
-use Rattle.elab_scoped.specs.of_core_elab.Scopes.{Scope, empty, scoped, typed_by, inside, plus_scope}
+use Rattle.core_elab.specs.Scopes.{Scope, empty, scoped, typed_by, inside, plus_scope}
 use Rattle.prog_tree.specs.TreeOf.{RuleTree, bind_of, binds_by, pat_of, tree_of}
 use Rattle.prog_tree.specs.declared.tree.Binding.{Binding}
 use Rattle.prog_tree.specs.declared.tree.Rule.{Rule}
 use Rattle.prog_tree.proofs.ExpOf.{rule_of-parts}
-use Rattle.elab_scoped.specs.of_elab_typed.Numbers.{type_as}
-use Rattle.elab_scoped.specs.of_elab_typed.Contexts.{Around, generic}
-use Rattle.elab_scoped.specs.of_elab_typed.Elaborates.{BindsElab, ExpElab, PatElab, no_binds_elab, plain_elab}
-use Rattle.elab_scoped.specs.of_elab_typed.Instances.{as_typed}
-use Rattle.elab_scoped.proofs.of_elab_typed.Names.{over-as}
+use Rattle.elab_typed.specs.Numbers.{type_as}
+use Rattle.elab_typed.specs.Contexts.{Around, generic}
+use Rattle.elab_typed.specs.Elaborates.{BindsElab, ExpElab, PatElab, no_binds_elab, plain_elab}
+use Rattle.elab_typed.specs.Instances.{as_typed}
+use Rattle.elab_typed.proofs.Names.{over-as}
 use Rattle.closed_types.specs.of_elab_state.declared.state.State.{State}
 use Rattle.closed_types.specs.of_elab_steps.Growing.{Grows, Always}
 use Rattle.closed_types.specs.of_elab_steps.World.{World, type_of}
@@ -84,7 +84,7 @@ all-plus-snoc (r ∷ qs) q = ap (plus_scope r) (all-plus-snoc qs q) ∙ sym (plu
 
 onto-append : (s : Scope) (as_ bs : List BoundVariable) → scope_onto s (as_ ++ bs) ≡ scope_onto (scope_onto s as_) bs
 onto-append s [] bs = refl
-onto-append s (a ∷ as_) bs = onto-append (scoped a.vid (Rattle.elab_scoped.specs.of_core_elab.Scopes.variable a.number) s) as_ bs
+onto-append s (a ∷ as_) bs = onto-append (scoped a.vid (Rattle.core_elab.specs.Scopes.variable a.number) s) as_ bs
 
 all-both : (P : BoundVariable → Type 0) (as_ bs : List BoundVariable) → AllByRecursion P as_ → AllByRecursion P bs → AllByRecursion P (as_ ++ bs)
 all-both P [] bs h k = k

@@ -18,11 +18,11 @@ use Rattle.ir_poly.specs.ProgChecked.{binds_onto, parameters_if, pat_onto}
 use Rattle.ir_poly.specs.TestsChecked.{Known, Knowns, declared, of_type}
 use Rattle.ir_poly.specs.TestsChecked as checked
 use Rattle.ir_poly.specs.Types.{Constructor}
-use Rattle.elab_scoped.specs.of_core_elab.Scopes.{Scope, empty, scoped, variable, denotes_in, inside_in, typed_in, plus_scope}
+use Rattle.core_elab.specs.Scopes.{Scope, empty, scoped, variable, denotes_in, inside_in, typed_in, plus_scope}
 use Rattle.prog_tree.specs.TreeOf.{RuleTree, binds_by}
 use Rattle.prog_tree.specs.declared.tree.Binding.{Binding}
-use Rattle.elab_scoped.specs.of_elab_typed.Contexts.{Around, general, generals}
-use Rattle.elab_scoped.specs.of_elab_typed.Instances.{as_typed}
+use Rattle.elab_typed.specs.Contexts.{Around, general, generals}
+use Rattle.elab_typed.specs.Instances.{as_typed}
 use Rattle.closed_types.specs.of_elab_steps.World.{World, type_of}
 use Rattle.exp_forms.specs.of_elab_context.Entries.{entry_in, last_of}
 use Rattle.exp_forms.specs.of_elab_context.Telling.{IsFit, IsGeneral, IsInUse, kept_of, denotes_of, known_of}

@@ -11,9 +11,9 @@ use Rattle.prog_tree.specs.declared.tree.Dec.{Dec}
 use Rattle.prog_tree.specs.declared.tree.Exp.{Exp}
 use Rattle.prog_tree.specs.declared.tree.Exp.TheVariants as tree
 use Rattle.prog_tree.proofs.ExpOf.{tree_of-Let}
-use Rattle.elab_scoped.specs.of_elab_typed.Numbers.{type_as}
-use Rattle.elab_scoped.specs.of_elab_typed.Elaborates.{ExpElab, let_elab}
-use Rattle.elab_scoped.specs.of_elab_typed.Instances.{as_typed}
+use Rattle.elab_typed.specs.Numbers.{type_as}
+use Rattle.elab_typed.specs.Elaborates.{ExpElab, let_elab}
+use Rattle.elab_typed.specs.Instances.{as_typed}
 use Rattle.closed_types.specs.of_elab_state.declared.state.State.{State}
 use Rattle.closed_types.specs.of_elab_steps.Growing.{HasType, Grows, Always, IsWithin}
 use Rattle.closed_types.specs.of_elab_steps.World.{type_of}

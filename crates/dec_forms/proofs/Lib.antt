@@ -1,6 +1,3 @@
-pub use Rattle.closed_types.proofs.of_elab_steps as of_elab_steps
-pub use Rattle.closed_types.proofs as of_closed_types
-pub use Rattle.exp_forms.proofs.of_elab_context as of_elab_context
 pub use Rattle.exp_forms.proofs as of_exp_forms
 pub use Rattle.exp_forms.proofs.of_pat_elab as of_pat_elab
 pub mod After

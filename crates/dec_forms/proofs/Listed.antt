@@ -10,7 +10,7 @@ use Rattle.sml_tree.specs.declared.ident.Vid.TheVariants.{Named, Equals, Fresh}
 use Rattle.core_rules.specs.Restrictions.{distinct, may_construct}
 use Rattle.core_rules.specs.Words.{same_vid, is_in}
 use Rattle.core_rules.proofs.LookUps.{vid-tells}
-use Rattle.elab_scoped.specs.of_core_elab.Scopes.{Scope, empty, scoped, plus_scope, denotes_in, inside_in, typed_in}
+use Rattle.core_elab.specs.Scopes.{Scope, empty, scoped, plus_scope, denotes_in, inside_in, typed_in}
 use Rattle.closed_types.specs.of_elab_steps.World.{World}
 use Rattle.exp_forms.specs.of_elab_context.Telling.{kept_of, denotes_of, kept_entries, scope_of_entries, vids_in}
 use Rattle.exp_forms.specs.of_elab_context.declared.context.Context.{Context}

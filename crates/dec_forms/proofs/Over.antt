@@ -11,10 +11,10 @@ use Rattle.core_rules.specs.Typing.{Bound}
 use Rattle.ir_poly.specs.TestsChecked.{Knowns}
 use Rattle.ir_poly.specs.Types.{in_scope, over}
 use Rattle.ir_poly.proofs.ReplaceLemmas.{replace-agree}
-use Rattle.elab_scoped.specs.of_core_elab.Scopes.{Scope}
-use Rattle.elab_scoped.specs.of_elab_typed.Contexts.{Around, IsOver, KeptEnv, after, env_under, generals, kept_values, values_under}
-use Rattle.elab_scoped.proofs.of_elab_typed.Instancing.{eq-turned}
-use Rattle.elab_scoped.proofs.of_elab_typed.Under.{after-under}
+use Rattle.core_elab.specs.Scopes.{Scope}
+use Rattle.elab_typed.specs.Contexts.{Around, IsOver, KeptEnv, after, env_under, generals, kept_values, values_under}
+use Rattle.elab_typed.proofs.Instancing.{eq-turned}
+use Rattle.elab_typed.proofs.Under.{after-under}
 
 abbrev pub Agree : List Quantified → (ℕ → Typ) → (ℕ → Typ) → Type 0
 Agree D s f = (v : ℕ) → in_scope D v ≡ true → s v ≡ f v

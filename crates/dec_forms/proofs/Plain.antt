@@ -9,9 +9,9 @@ use Rattle.vid_scope.specs.Entries.{entry_of, with_entries}
 use Rattle.core_rules.specs.Objects.{Map, TypeStructure, env, no_structures}
 use Rattle.ir_poly.specs.TestsChecked.{Knowns}
 use Rattle.ir_poly.specs.TestsChecked as checked
-use Rattle.elab_scoped.specs.of_core_elab.Scopes.{Scope, denotes_in, inside_in, typed_in, plus_scope}
-use Rattle.elab_scoped.specs.of_elab_typed.Contexts.{Around, KeptValues, kept_values}
-use Rattle.closed_types.specs.of_elab_types.declared.scope.TypeEntry.{TypeEntry}
+use Rattle.core_elab.specs.Scopes.{Scope, denotes_in, inside_in, typed_in, plus_scope}
+use Rattle.elab_typed.specs.Contexts.{Around, KeptValues, kept_values}
+use Rattle.elab_types.specs.declared.scope.TypeEntry.{TypeEntry}
 use Rattle.closed_types.specs.of_elab_steps.World.{World}
 use Rattle.closed_types.proofs.of_elab_steps.Changing.{begins-same}
 use Rattle.exp_forms.specs.of_elab_context.Numbered.{IsBelowIf, IsNumbered}

@@ -4,7 +4,7 @@ use Rattle.mlc_base.specs.declared.place.Place.{Place}
 use Rattle.sml_tree.specs.BareTree as bare
 use Rattle.sml_tree.specs.TreeOf as source
 use Rattle.prog_tree.specs.declared.tree.Dec.{Dec}
-use Rattle.elab_scoped.specs.of_elab_typed.Elaborates.{DecElab, sequence_elab}
+use Rattle.elab_typed.specs.Elaborates.{DecElab, sequence_elab}
 use Rattle.closed_types.specs.of_elab_state.declared.state.State.{State}
 use Rattle.exp_forms.specs.of_elab_context.declared.context.Context.{Context}
 use Rattle.dec_forms.specs.Bringing.{AreBringing, IsBringing, all_effects}

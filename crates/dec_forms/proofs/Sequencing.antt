@@ -7,12 +7,12 @@ use Rattle.core_rules.specs.Choices.{Choices, no_choice, both}
 use Rattle.ir_poly.specs.Prog as prog
 use Rattle.ir_poly.specs.TestsChecked.{Knowns}
 use Rattle.ir_poly.specs.Types.{Constructor}
-use Rattle.elab_scoped.specs.of_core_elab.Resolves.{joined}
-use Rattle.elab_scoped.specs.of_core_elab.Scopes.{Scope, empty}
+use Rattle.core_elab.specs.Resolves.{joined}
+use Rattle.core_elab.specs.Scopes.{Scope, empty}
 use Rattle.prog_tree.specs.TreeOf.{DecTree, val_tree, exception_tree, counted_tree, dec_of, decs_of}
 use Rattle.prog_tree.specs.declared.tree.Dec.{Dec}
-use Rattle.elab_scoped.specs.of_elab_typed.Contexts.{Around, KeptEnv, kept_values, after}
-use Rattle.elab_scoped.specs.of_elab_typed.Elaborates.{DecElab, DecsElab, no_decs_elab, a_dec_elab}
+use Rattle.elab_typed.specs.Contexts.{Around, KeptEnv, kept_values, after}
+use Rattle.elab_typed.specs.Elaborates.{DecElab, DecsElab, no_decs_elab, a_dec_elab}
 use Rattle.closed_types.specs.of_elab_state.declared.state.State.{State}
 use Rattle.closed_types.proofs.of_elab_steps.Growing.{grows_same, grows_on, comes_before}
 use Rattle.exp_forms.specs.of_elab_context.declared.context.Context.{Context}
@@ -65,8 +65,8 @@ decs-do {A = A} (one_dec {n = n} {number = number} {e = e} {r = r} {G = G} f h) 
     record {
       made = n + k.made;
       number = k.number;
-      env = Rattle.elab_scoped.specs.of_elab_typed.Contexts.plus_kept e k.env;
-      scope = Rattle.elab_scoped.specs.of_core_elab.Scopes.plus_scope r k.scope;
+      env = Rattle.elab_typed.specs.Contexts.plus_kept e k.env;
+      scope = Rattle.core_elab.specs.Scopes.plus_scope r k.scope;
       known = k.known;
       elab = a_dec_elab f k.elab;
       is = sym (after-after A n k.made number k.number e k.env r k.scope G k.known) ∙ k.is;

@@ -3,11 +3,11 @@ use Rattle.std.proofs.Common.{◌≡◌, ℕ, List, [], ◌∷◌, ◌++◌, map
 use Rattle.std.proofs.lemmas.List.{append_assoc, map-append}
 use Rattle.sml_tree.specs.BareTree as bare
 use Rattle.ir_poly.specs.Prog as prog
-use Rattle.elab_scoped.specs.of_core_elab.Resolves.{joined}
+use Rattle.core_elab.specs.Resolves.{joined}
 use Rattle.prog_tree.specs.TreeOf.{DecTree, val_tree, exception_tree, counted_tree, dec_of, decs_of}
 use Rattle.prog_tree.specs.declared.tree.Dec.{Dec}
-use Rattle.elab_scoped.specs.of_elab_typed.Contexts.{Around}
-use Rattle.elab_scoped.specs.of_elab_typed.Elaborates.{DecElab}
+use Rattle.elab_typed.specs.Contexts.{Around}
+use Rattle.elab_typed.specs.Elaborates.{DecElab}
 use Rattle.closed_types.specs.of_elab_state.declared.state.State.{State}
 use Rattle.closed_types.specs.of_elab_steps.World.{World}
 use Rattle.closed_types.proofs.of_elab_steps.Changing.{begins-same}

@@ -11,11 +11,11 @@ use Rattle.sml_tree.specs.TreeOf as source
 use Rattle.sml_tree.specs.declared.ident.Vid.{Vid}
 use Rattle.vid_scope.specs.Entries.{entry_of, with_entries}
 use Rattle.core_rules.specs.Choices.{both}
-use Rattle.elab_scoped.specs.of_core_elab.Resolves.{joined}
+use Rattle.core_elab.specs.Resolves.{joined}
 use Rattle.prog_tree.specs.TreeOf.{dec_of, decs_of}
 use Rattle.prog_tree.specs.declared.tree.Dec.{Dec}
-use Rattle.elab_scoped.specs.of_elab_typed.Elaborates.{DecElab, local_elab}
-use Rattle.closed_types.specs.of_elab_types.declared.scope.TypeEntry.{TypeEntry}
+use Rattle.elab_typed.specs.Elaborates.{DecElab, local_elab}
+use Rattle.elab_types.specs.declared.scope.TypeEntry.{TypeEntry}
 use Rattle.closed_types.specs.of_elab_state.States.{types_in}
 use Rattle.closed_types.specs.of_elab_state.declared.state.State.{State}
 use Rattle.closed_types.specs.of_elab_steps.Growing.{Begins, Grows}

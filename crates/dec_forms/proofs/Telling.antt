@@ -16,8 +16,8 @@ use Rattle.core_rules.specs.Objects as static
 use Rattle.core_rules.proofs.LookUps.{vid-tells, at-joined}
 use Rattle.ir_poly.specs.TestsChecked.{Knowns, Known}
 use Rattle.ir_poly.specs.TestsChecked as checked
-use Rattle.elab_scoped.specs.of_core_elab.Scopes.{Scope, plus_scope, denotes_in, inside_in, typed_in, along_scope, long_denotes_in}
-use Rattle.elab_scoped.specs.of_elab_typed.Contexts.{given, KeptValues, kept_in, kept_values, values_under, Around, after}
+use Rattle.core_elab.specs.Scopes.{Scope, plus_scope, denotes_in, inside_in, typed_in, along_scope, long_denotes_in}
+use Rattle.elab_typed.specs.Contexts.{given, KeptValues, kept_in, kept_values, values_under, Around, after}
 use Rattle.closed_types.proofs.of_elab_steps.Changing.{begins-same}
 use Rattle.closed_types.specs.of_elab_steps.World.{World, type_of}
 use Rattle.exp_forms.specs.of_elab_context.Entries.{contents_at, entry_in, last_of}

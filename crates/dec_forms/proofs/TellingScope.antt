@@ -13,10 +13,10 @@ use Rattle.core_rules.specs.Objects as static
 use Rattle.core_rules.proofs.LookUps.{vid-tells, nat-tells, at-joined}
 use Rattle.ir_poly.specs.TestsChecked.{Knowns, Known}
 use Rattle.ir_poly.specs.TestsChecked as checked
-use Rattle.elab_scoped.specs.of_core_elab.Scopes.{denotes_in, inside_in, typed_in, along_scope, long_denotes_in}
-use Rattle.elab_scoped.specs.of_elab_typed.Contexts.{given, kept_in, Around, generic}
-use Rattle.closed_types.specs.of_elab_types.Reading.{entry_of as type_entry_of}
-use Rattle.closed_types.specs.of_elab_types.declared.scope.TypeEntry.{TypeEntry}
+use Rattle.core_elab.specs.Scopes.{denotes_in, inside_in, typed_in, along_scope, long_denotes_in}
+use Rattle.elab_typed.specs.Contexts.{given, kept_in, Around, generic}
+use Rattle.elab_types.specs.Reading.{entry_of as type_entry_of}
+use Rattle.elab_types.specs.declared.scope.TypeEntry.{TypeEntry}
 use Rattle.closed_types.specs.of_elab_steps.World.{World, type_of}
 use Rattle.exp_forms.specs.of_elab_context.Entries.{contents_at, entry_in, member_in, last_of}
 use Rattle.exp_forms.proofs.of_elab_context.Contents.{has_constructors_still, has_contents_still}

@@ -14,9 +14,9 @@ use Rattle.core_rules.specs.Typing.{all_general}
 use Rattle.ir_poly.specs.TestsChecked.{alone_type}
 use Rattle.ir_poly.specs.TestsChecked as checked
 use Rattle.ir_poly.specs.Types.{constructor_of, find, over}
-use Rattle.elab_scoped.specs.of_elab_typed.Contexts.{Around, given}
-use Rattle.elab_scoped.specs.of_elab_typed.Numbers.{AgreeBelow, name_as, type_as}
-use Rattle.elab_scoped.proofs.of_elab_typed.Names.{type-agrees}
+use Rattle.elab_typed.specs.Contexts.{Around, given}
+use Rattle.elab_typed.specs.Numbers.{AgreeBelow, name_as, type_as}
+use Rattle.elab_typed.proofs.Names.{type-agrees}
 use Rattle.closed_types.specs.of_elab_steps.Growing.{Begins}
 use Rattle.closed_types.specs.of_elab_steps.World.{World, type_of}
 use Rattle.closed_types.proofs.of_elab_steps.Growing.{found-later}

@@ -6,10 +6,10 @@ use Rattle.sml_tree.specs.BareTree.{TypeBind}
 use Rattle.core_rules.specs.Elaborated.{type_of, types_bound, with_parameters}
 use Rattle.core_rules.specs.Objects.{Map, TypeStructure}
 use Rattle.core_rules.specs.Restrictions.{no_repetition}
-use Rattle.elab_scoped.specs.of_elab_typed.Contexts.{Around, generic}
-use Rattle.closed_types.specs.of_elab_types.declared.scope.SchemeRange.{SchemeRange}
-use Rattle.closed_types.specs.of_elab_types.declared.scope.TypeEntry.{TypeEntry}
-use Rattle.closed_types.specs.of_elab_types.declared.scope.TypeScope.{TypeScope}
+use Rattle.elab_typed.specs.Contexts.{Around, generic}
+use Rattle.elab_types.specs.declared.scope.SchemeRange.{SchemeRange}
+use Rattle.elab_types.specs.declared.scope.TypeEntry.{TypeEntry}
+use Rattle.elab_types.specs.declared.scope.TypeScope.{TypeScope}
 use Rattle.closed_types.specs.of_elab_state.States.{types_in}
 use Rattle.closed_types.specs.of_elab_state.declared.state.State.{State}
 use Rattle.closed_types.specs.of_elab_steps.Growing.{Grows}

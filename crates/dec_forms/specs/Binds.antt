@@ -7,13 +7,13 @@ use Rattle.sml_tree.specs.declared.ident.Vid.{Vid}
 use Rattle.core_rules.specs.Choices.{Choices}
 use Rattle.core_rules.specs.Typing.{Bound, together}
 use Rattle.ir_poly.specs.Types.{over, Constructor}
-use Rattle.elab_scoped.specs.of_core_elab.Scopes.{Scope, empty, plus_scope}
+use Rattle.core_elab.specs.Scopes.{Scope, empty, plus_scope}
 use Rattle.prog_tree.specs.TreeOf.{RuleTree, bind_of}
 use Rattle.prog_tree.specs.declared.tree.Binding.{Binding}
 use Rattle.prog_tree.specs.declared.tree.Rule.{Rule}
-use Rattle.elab_scoped.specs.of_elab_typed.Contexts.{Around}
-use Rattle.elab_scoped.specs.of_elab_typed.Elaborates.{ExpElab, PatElab}
-use Rattle.elab_scoped.specs.of_elab_typed.Instances.{as_typed}
+use Rattle.elab_typed.specs.Contexts.{Around}
+use Rattle.elab_typed.specs.Elaborates.{ExpElab, PatElab}
+use Rattle.elab_typed.specs.Instances.{as_typed}
 use Rattle.closed_types.specs.of_elab_state.declared.state.State.{State}
 use Rattle.closed_types.specs.of_elab_steps.Growing.{Grows}
 use Rattle.closed_types.specs.of_elab_steps.World.{World, type_of, Comes}

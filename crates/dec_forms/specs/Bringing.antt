@@ -12,14 +12,14 @@ use Rattle.ir_poly.specs.Prog as prog
 use Rattle.ir_poly.specs.TestsChecked.{Known, Knowns}
 use Rattle.ir_poly.specs.TestsChecked as checked
 use Rattle.ir_poly.specs.Types.{Constructor, in_scope}
-use Rattle.elab_scoped.specs.of_core_elab.Scopes.{Scope, empty, denotes_in, inside_in, plus_scope, typed_in}
+use Rattle.core_elab.specs.Scopes.{Scope, empty, denotes_in, inside_in, plus_scope, typed_in}
 use Rattle.prog_tree.specs.TreeOf.{dec_of, decs_of}
 use Rattle.prog_tree.specs.declared.tree.Dec.{Dec}
 use Rattle.ty_core.specs.Types.{Typ}
-use Rattle.elab_scoped.specs.of_elab_typed.Contexts.{Around, KeptEnv, after, env_under, kept_values, plus_kept}
-use Rattle.elab_scoped.specs.of_elab_typed.Elaborates.{DecElab}
-use Rattle.elab_scoped.specs.of_elab_typed.Numbers.{AgreeBelow, KeepsInitial}
-use Rattle.closed_types.specs.of_elab_types.declared.scope.TypeEntry.{TypeEntry}
+use Rattle.elab_typed.specs.Contexts.{Around, KeptEnv, after, env_under, kept_values, plus_kept}
+use Rattle.elab_typed.specs.Elaborates.{DecElab}
+use Rattle.elab_typed.specs.Numbers.{AgreeBelow, KeepsInitial}
+use Rattle.elab_types.specs.declared.scope.TypeEntry.{TypeEntry}
 use Rattle.closed_types.specs.of_elab_state.declared.state.State.{State}
 use Rattle.closed_types.specs.of_elab_steps.Growing.{Grows}
 use Rattle.closed_types.specs.of_elab_steps.World.{World, Comes}

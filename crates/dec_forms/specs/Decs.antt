@@ -6,12 +6,12 @@ use Rattle.core_rules.specs.Choices.{Choices}
 use Rattle.ir_poly.specs.Prog as prog
 use Rattle.ir_poly.specs.TestsChecked.{Knowns}
 use Rattle.ir_poly.specs.Types.{Constructor}
-use Rattle.elab_scoped.specs.of_core_elab.Resolves.{joined}
-use Rattle.elab_scoped.specs.of_core_elab.Scopes.{Scope}
+use Rattle.core_elab.specs.Resolves.{joined}
+use Rattle.core_elab.specs.Scopes.{Scope}
 use Rattle.prog_tree.specs.TreeOf.{dec_of, decs_of}
 use Rattle.prog_tree.specs.declared.tree.Dec.{Dec}
-use Rattle.elab_scoped.specs.of_elab_typed.Contexts.{Around, KeptEnv, after}
-use Rattle.elab_scoped.specs.of_elab_typed.Elaborates.{DecElab}
+use Rattle.elab_typed.specs.Contexts.{Around, KeptEnv, after}
+use Rattle.elab_typed.specs.Elaborates.{DecElab}
 use Rattle.closed_types.specs.of_elab_state.declared.state.State.{State}
 use Rattle.closed_types.specs.of_elab_steps.Growing.{Grows}
 use Rattle.closed_types.specs.of_elab_steps.World.{World, Comes}

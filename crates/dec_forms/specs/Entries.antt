@@ -5,8 +5,8 @@ use Rattle.sml_tree.specs.declared.ident.Vid.{Vid}
 use Rattle.sml_tree.specs.declared.ident.Vid.TheVariants.{Named, Equals, Fresh}
 use Rattle.vid_scope.specs.Entries.{with_entries}
 use Rattle.core_rules.specs.Restrictions.{may_construct}
-use Rattle.closed_types.specs.of_elab_types.declared.scope.TypeEntry.{TypeEntry}
-use Rattle.closed_types.specs.of_elab_types.declared.scope.TypeScope.{TypeScope}
+use Rattle.elab_types.specs.declared.scope.TypeEntry.{TypeEntry}
+use Rattle.elab_types.specs.declared.scope.TypeScope.{TypeScope}
 use Rattle.closed_types.specs.of_elab_steps.Growing.{Begins}
 use Rattle.exp_forms.specs.of_elab_context.declared.context.Context.{Context}
 use Rattle.exp_forms.specs.of_elab_context.declared.entry.Entry.{Entry}

@@ -13,11 +13,11 @@ use Rattle.ir_poly.specs.Prog as prog
 use Rattle.ir_poly.specs.TestsChecked.{Known, Knowns}
 use Rattle.ir_poly.specs.TestsChecked as checked
 use Rattle.prog_tree.specs.TreeOf.{dec_of, decs_of}
-use Rattle.elab_scoped.specs.of_elab_typed.Contexts.{Around, Kept, context_under, kept_in, value_under}
-use Rattle.elab_scoped.specs.of_elab_typed.Elaborates.{ExnsElab}
-use Rattle.elab_scoped.specs.of_elab_typed.Instances.{as_typed}
-use Rattle.closed_types.specs.of_elab_types.declared.refused.Refused.{Refused}
-use Rattle.closed_types.specs.of_elab_types.declared.refused.Refused.TheVariants.{Broken, Memory, Mistyped, Unbound}
+use Rattle.elab_typed.specs.Contexts.{Around, Kept, context_under, kept_in, value_under}
+use Rattle.elab_typed.specs.Elaborates.{ExnsElab}
+use Rattle.elab_typed.specs.Instances.{as_typed}
+use Rattle.elab_types.specs.declared.refused.Refused.{Refused}
+use Rattle.elab_types.specs.declared.refused.Refused.TheVariants.{Broken, Memory, Mistyped, Unbound}
 use Rattle.closed_types.specs.of_elab_state.declared.state.State.{State}
 use Rattle.closed_types.specs.of_elab_steps.Growing.{Grows}
 use Rattle.closed_types.specs.of_elab_steps.World.{World, type_of, Comes}

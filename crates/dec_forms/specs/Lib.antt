@@ -1,6 +1,3 @@
-pub use Rattle.closed_types.specs.of_elab_steps as of_elab_steps
-pub use Rattle.closed_types.specs as of_closed_types
-pub use Rattle.exp_forms.specs.of_elab_context as of_elab_context
 pub use Rattle.exp_forms.specs as of_exp_forms
 pub use Rattle.exp_forms.specs.of_pat_elab as of_pat_elab
 pub use Rattle.exp_forms.specs.of_use_elab as of_use_elab

@@ -8,7 +8,7 @@ ghost use Rattle.std.specs.Prelude.{Some};
 use crate::made::Argument;
 use closed_types::elab_state::state::State;
 use closed_types::elab_steps::step::{fresh_type, write};
-use closed_types::elab_types::refused::Refused;
+use elab_types::refused::Refused;
 use exp_forms::elab_context::context::Context;
 use exp_forms::pat_elab::annotate::annotate;
 use mlc_base::place::Place;

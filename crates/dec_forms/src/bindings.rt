@@ -1,16 +1,16 @@
 // Bindings of abbreviations.
 ghost use Rattle.std.specs.Prelude.{◌≡◌, [], length, map, IfOk};
 ghost use Rattle.sml_tree.specs.TreeOf.{type_bind_of};
-ghost use Rattle.closed_types.specs.of_elab_types.Reading.{Holds};
+ghost use Rattle.elab_types.specs.Reading.{Holds};
 ghost use Rattle.closed_types.specs.of_elab_state.States.{types_in};
 ghost use Rattle.dec_forms.specs.Abbreviations.{AreTypeFunctions, IsTypeFunction};
 
 use crate::once::check_names;
 use closed_types::annotate::closed_type;
 use closed_types::elab_state::state::State;
-use closed_types::elab_types::refused::Refused;
-use closed_types::elab_types::scope::{NO_CONSTRUCTORS, TypeEntry, TypeScope};
 use closed_types::parameters::enter_parameters;
+use elab_types::refused::Refused;
+use elab_types::scope::{NO_CONSTRUCTORS, TypeEntry, TypeScope};
 use mlc_base::memory::NoMemory;
 use mlc_names::names::Name;
 use sml_tree::ident::Tyvar;

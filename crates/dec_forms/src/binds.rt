@@ -10,7 +10,7 @@ ghost use Rattle.dec_forms.specs.Binds.{AreBinds};
 
 use closed_types::elab_state::state::State;
 use closed_types::elab_steps::step::{unify, write};
-use closed_types::elab_types::refused::Refused;
+use elab_types::refused::Refused;
 use exp_forms::elab_context::context::Context;
 use exp_forms::pat_elab::bound::{BoundVariable, TypedPat};
 use exp_forms::use_elab::typed::TypedExp;

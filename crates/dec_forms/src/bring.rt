@@ -3,7 +3,7 @@ ghost use Rattle.std.specs.Prelude.{◌≡◌, IfOk};
 ghost use Rattle.dec_forms.specs.Telling.{with_all};
 ghost use Rattle.dec_forms.specs.Entries.{with_types};
 
-use closed_types::elab_types::scope::TypeEntry;
+use elab_types::scope::TypeEntry;
 use exp_forms::elab_context::context::Context;
 use exp_forms::elab_context::entry::Entry;
 use mlc_base::memory::NoMemory;

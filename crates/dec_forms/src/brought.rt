@@ -1,7 +1,7 @@
 // What came into scope.
 ghost use Rattle.std.specs.Prelude.{◌≡◌, ◌++◌, [], IfOk};
 
-use closed_types::elab_types::scope::TypeEntry;
+use elab_types::scope::TypeEntry;
 use exp_forms::elab_context::entry::Entry;
 use mlc_base::memory::NoMemory;
 use mlc_names::names::Name;

@@ -13,7 +13,7 @@ use crate::brought::Brought;
 use crate::exns::all_exns;
 use crate::once::check_values;
 use closed_types::elab_state::state::State;
-use closed_types::elab_types::refused::Refused;
+use elab_types::refused::Refused;
 use exp_forms::elab_context::context::Context;
 use mlc_base::place::Place;
 use prog_tree::tree::Dec;

@@ -11,7 +11,7 @@ ghost use Rattle.dec_forms.specs.Telling.{HasFurther, with_all};
 ghost use Rattle.dec_forms.specs.Binds.{AreBinds, plain_entries};
 
 use closed_types::elab_state::state::State;
-use closed_types::elab_types::refused::Refused;
+use elab_types::refused::Refused;
 use exp_forms::distinct::check_once;
 use exp_forms::elab_context::context::Context;
 use exp_forms::elab_context::entry::Entry;

@@ -2,7 +2,7 @@
 ghost use Rattle.std.specs.Prelude.{◌≡◌, ◌⊎◌, ◌++◌, ◌∷◌, [], List, Some, None, true, map, IfOk, IfErr};
 ghost use Rattle.sml_tree.specs.BareTree.{ExBind as SourceBind, new_exn, same_exn};
 ghost use Rattle.sml_tree.specs.TreeOf.{ex_bind_of, long_vid_of, some_ty_of};
-ghost use Rattle.closed_types.specs.of_elab_types.declared.refused.Refused.TheVariants.{Broken, Mistyped, Unbound};
+ghost use Rattle.elab_types.specs.declared.refused.Refused.TheVariants.{Broken, Mistyped, Unbound};
 ghost use Rattle.exp_forms.specs.of_elab_context.Entries.{entry_in};
 ghost use Rattle.exp_forms.specs.of_elab_context.Telling.{IsContext, IsUnboundIn};
 ghost use Rattle.dec_forms.specs.Entries.{constructing_name};
@@ -13,7 +13,7 @@ use crate::made::ExnsMade;
 use crate::once::constructing;
 use closed_types::elab_state::state::State;
 use closed_types::elab_steps::step::next_variable;
-use closed_types::elab_types::refused::Refused;
+use elab_types::refused::Refused;
 use exp_forms::elab_context::context::Context;
 use exp_forms::elab_context::entry::Entry;
 use mlc_base::place::Place;

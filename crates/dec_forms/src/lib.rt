@@ -1,10 +1,8 @@
 // Declarations, each from its parts, one after the other, and what they bring into scope.
 #![tactic(auto)]
 
-pub use closed_types;
-pub use closed_types::elab_steps;
 pub use exp_forms;
-pub use exp_forms::{elab_context, pat_elab, use_elab};
+pub use exp_forms::{pat_elab, use_elab};
 
 pub mod argument;
 pub mod bindings;

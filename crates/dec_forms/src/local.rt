@@ -13,7 +13,7 @@ ghost use Rattle.dec_forms.specs.Local.{mark_in, IsEmpty};
 
 use crate::bring::{bring_types, bring_values};
 use crate::brought::Brought;
-use closed_types::elab_types::scope::ScopeMark;
+use elab_types::scope::ScopeMark;
 use exp_forms::elab_context::context::Context;
 use mlc_base::memory::NoMemory;
 use vid_scope::vids::VidMark;

@@ -2,12 +2,12 @@
 ghost use Rattle.std.specs.Prelude.{◌≡◌, ◌⊎◌, nat_eq, Some, None, true, false, IfOk, IfErr};
 ghost use Rattle.core_rules.specs.Restrictions.{distinct};
 ghost use Rattle.core_rules.specs.Words.{same_vid};
-ghost use Rattle.closed_types.specs.of_elab_types.declared.refused.Refused.TheVariants.{Broken, Memory};
+ghost use Rattle.elab_types.specs.declared.refused.Refused.TheVariants.{Broken, Memory};
 ghost use Rattle.exp_forms.specs.Rules.{vids_of};
 ghost use Rattle.exp_forms.specs.of_elab_context.Telling.{vids_in};
 ghost use Rattle.dec_forms.specs.Entries.{constructing_name, named_vids};
 
-use closed_types::elab_types::refused::Refused;
+use elab_types::refused::Refused;
 use exp_forms::distinct::check_once;
 use exp_forms::elab_context::entry::{Entry, is_kept};
 use exp_forms::pat_elab::bound::BoundVariable;

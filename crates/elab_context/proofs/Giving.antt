@@ -9,8 +9,8 @@ use Rattle.ty_core.specs.declared.mark.Mark.{Mark}
 use Rattle.ty_core.specs.declared.mark.Mark.TheVariants.{Any, Equality, Class}
 use Rattle.ty_core.specs.declared.name.TyName.{TyName}
 use Rattle.ty_core.specs.declared.scheme.Quantified.{Quantified}
-use Rattle.elab_steps.specs.of_ty_solve.Substitution.{is_below, are_below}
-use Rattle.elab_steps.specs.of_ty_solve.declared.limit.Limit.{Limit}
+use Rattle.ty_solve.specs.Substitution.{is_below, are_below}
+use Rattle.ty_solve.specs.declared.limit.Limit.{Limit}
 use Rattle.vid_scope.specs.of_core_rules.Objects.{AllAllowed, Over, AllOver, Value, put}
 use Rattle.vid_scope.specs.of_core_rules.Choices.{Choices}
 use Rattle.vid_scope.specs.of_core_rules.Typing.{Chosen}

@@ -9,8 +9,8 @@ use Rattle.ty_core.specs.declared.mark.Mark.{Mark}
 use Rattle.ty_core.specs.declared.scheme.Quantified.{Quantified}
 use Rattle.ty_core.specs.Statics.{TypeFunction, replace, replace_all}
 use Rattle.ty_table.specs.TypeAt.{type_at}
-use Rattle.elab_steps.specs.of_ty_solve.Substitution.{sub, subs, is_below}
-use Rattle.elab_steps.proofs.of_ty_solve.Holding.{type-stays}
+use Rattle.ty_solve.specs.Substitution.{sub, subs, is_below}
+use Rattle.ty_solve.proofs.Holding.{type-stays}
 use Rattle.elab_steps.proofs.of_ty_instance.Going.{longer}
 use Rattle.sml_tree.specs.BareTree.{Ty}
 use Rattle.vid_scope.specs.of_core_rules.Objects.{at}

@@ -6,7 +6,7 @@ use Rattle.mlc_names.specs.StandardWords.{word_ref}
 use Rattle.sml_tree.specs.declared.ident.Vid.{Vid}
 use Rattle.sml_tree.specs.declared.ident.Vid.TheVariants.{Named}
 use Rattle.vid_scope.specs.of_core_rules.Words.{same_vid}
-use Rattle.elab_steps.specs.of_ty_solve.declared.limit.Limit.{Limit}
+use Rattle.ty_solve.specs.declared.limit.Limit.{Limit}
 use Rattle.vid_scope.specs.Entries.{entry_of}
 use Rattle.vid_scope.specs.declared.vids.VidScope.{VidScope}
 use Rattle.elab_steps.specs.of_elab_types.declared.scope.TypeEntry.{TypeEntry}

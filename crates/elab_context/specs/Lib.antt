@@ -1,5 +1,3 @@
-pub use Rattle.elab_steps.specs.of_core_elab as of_core_elab
-pub use Rattle.elab_steps.specs.of_elab_types as of_elab_types
 pub use Rattle.elab_steps.specs as of_elab_steps
 pub use Rattle.elab_steps.specs.of_elab_state as of_elab_state
 pub use Rattle.elab_steps.specs.of_elab_typed as of_elab_typed

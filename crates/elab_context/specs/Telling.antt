@@ -9,7 +9,7 @@ use Rattle.ty_core.specs.Statics.{TypeFunction, replace, variables}
 use Rattle.ty_core.specs.declared.mark.Mark.TheVariants.{Any}
 use Rattle.ty_core.specs.declared.name.TyName.{TyName}
 use Rattle.ty_core.specs.declared.scheme.Quantified.{Quantified}
-use Rattle.elab_steps.specs.of_ty_solve.Substitution.{sub}
+use Rattle.ty_solve.specs.Substitution.{sub}
 use Rattle.ty_basis.specs.Types.{name_count, exn_type}
 use Rattle.ty_basis.specs.Primitives.{prim_type, primitive_type}
 use Rattle.ty_core.specs.declared.env.Status.TheVariants as status

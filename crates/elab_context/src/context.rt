@@ -10,13 +10,13 @@ use crate::entry::{Entry, constructor_with};
 use crate::schemes::Schemes;
 use elab_steps::elab_types::refused::Refused;
 use elab_steps::elab_types::scope::{TypeEntry, TypeScope};
-use elab_steps::ty_solve::limit::Limit;
 use mlc_base::memory::NoMemory;
 use mlc_base::place::Place;
 use scoped_map::scoped::Scoped;
 use sml_tree::ident::{LongVid, Vid};
 use std::alloc::Global;
 use ty_core::name::TyName;
+use ty_solve::limit::Limit;
 use vid_scope::vids::VidScope;
 
 /// Identifiers of values; structures, with the identifiers in them, for look-ups and in their order; type constructors and type variables; schemes; how deep the

@@ -2,7 +2,7 @@
 #![tactic(auto)]
 
 pub use elab_steps;
-pub use elab_steps::{core_elab, elab_state, elab_typed, elab_types};
+pub use elab_steps::elab_state;
 
 pub mod context;
 pub mod entry;

@@ -12,13 +12,13 @@ use Rattle.elab_state.specs.declared.state.State.{State}
 use Rattle.elab_steps.specs.Growing.{Grows}
 use Rattle.elab_steps.specs.Tidy.{IsTidy}
 use Rattle.elab_steps.proofs.Growing.{grows_on, grows_same}
-use Rattle.exp_weights.specs.of_elab_context.Telling.{IsContext}
-use Rattle.exp_weights.specs.of_elab_context.declared.context.Context.{Context}
-use Rattle.scope_decs.specs.of_pat_elab.Elaborated.{IsPat}
-use Rattle.scope_decs.specs.of_pat_elab.declared.bound.BoundVariable.{BoundVariable}
-use Rattle.scope_decs.specs.of_pat_elab.declared.bound.TypedPat.{TypedPat}
-use Rattle.exp_weights.specs.of_use_elab.Elaborated.{IsExp}
-use Rattle.exp_weights.specs.of_use_elab.declared.typed.TypedExp.{TypedExp}
+use Rattle.elab_context.specs.Telling.{IsContext}
+use Rattle.elab_context.specs.declared.context.Context.{Context}
+use Rattle.pat_elab.specs.Elaborated.{IsPat}
+use Rattle.pat_elab.specs.declared.bound.BoundVariable.{BoundVariable}
+use Rattle.pat_elab.specs.declared.bound.TypedPat.{TypedPat}
+use Rattle.use_elab.specs.Elaborated.{IsExp}
+use Rattle.use_elab.specs.declared.typed.TypedExp.{TypedExp}
 use Rattle.scope_decs.proofs.of_exp_forms.Nodes.{bind-is}
 use Rattle.general_decs.specs.of_general_worlds.Inner.{deeper}
 use Rattle.general_decs.specs.of_general_worlds.Tidy.{AreOuter, Enters}

@@ -14,9 +14,9 @@ use Rattle.sml_tree.specs.declared.tree.Part.{Part}
 use Rattle.prog_tree.specs.declared.tree.Exp.{Exp as Made}
 use Rattle.elab_types.proofs.Lists.{all-map, next-map-at}
 use Rattle.elab_state.specs.declared.state.State.{State}
-use Rattle.exp_weights.specs.of_elab_context.declared.context.Context.{Context}
-use Rattle.exp_weights.specs.of_use_elab.Elaborated.{IsExp}
-use Rattle.exp_weights.specs.of_use_elab.declared.typed.TypedExp.{TypedExp}
+use Rattle.elab_context.specs.declared.context.Context.{Context}
+use Rattle.use_elab.specs.Elaborated.{IsExp}
+use Rattle.use_elab.specs.declared.typed.TypedExp.{TypedExp}
 use Rattle.scope_decs.specs.of_exp_forms.Chains.{IsLeft, IsRight, Operands}
 use Rattle.scope_decs.specs.of_exp_forms.Choices.{AreJoined, none_joined, one_joined}
 use Rattle.scope_decs.specs.of_exp_forms.Joints.{joint_of}

@@ -18,12 +18,12 @@ use Rattle.elab_types.proofs.Lists.{all-map, next-map-at}
 use Rattle.elab_types.specs.declared.scope.TypeEntry.{TypeEntry}
 use Rattle.elab_state.specs.declared.state.State.{State}
 use Rattle.elab_steps.proofs.Changing.{begins-same}
-use Rattle.exp_weights.specs.of_elab_context.Schemes.{SchemeList}
-use Rattle.exp_weights.specs.of_elab_context.Telling.{IsContext}
-use Rattle.exp_weights.specs.of_elab_context.declared.context.Context.{Context}
-use Rattle.exp_weights.specs.of_elab_context.declared.entry.Entry.{Entry}
-use Rattle.exp_weights.specs.of_use_elab.Elaborated.{IsExp}
-use Rattle.exp_weights.specs.of_use_elab.declared.typed.TypedExp.{TypedExp}
+use Rattle.elab_context.specs.Schemes.{SchemeList}
+use Rattle.elab_context.specs.Telling.{IsContext}
+use Rattle.elab_context.specs.declared.context.Context.{Context}
+use Rattle.elab_context.specs.declared.entry.Entry.{Entry}
+use Rattle.use_elab.specs.Elaborated.{IsExp}
+use Rattle.use_elab.specs.declared.typed.TypedExp.{TypedExp}
 use Rattle.scope_decs.proofs.of_exp_forms.Nodes.{source-Let}
 use Rattle.scope_decs.specs.of_dec_forms.Bringing.{AreBringing, IsBringing}
 use Rattle.scope_decs.specs.of_dec_forms.Decs.{IsDecs}

@@ -27,11 +27,11 @@ use Rattle.elab_state.specs.States.{made as made_in}
 use Rattle.elab_state.specs.declared.state.State.{State}
 use Rattle.elab_steps.specs.Growing.{AreTypes, Grows}
 use Rattle.elab_steps.proofs.Growing.{grows_on, type_later}
-use Rattle.exp_weights.specs.of_elab_context.Telling.{IsContext}
-use Rattle.exp_weights.specs.of_elab_context.declared.context.Context.{Context}
-use Rattle.scope_decs.specs.of_pat_elab.declared.bound.BoundVariable.{BoundVariable}
-use Rattle.exp_weights.specs.of_use_elab.Elaborated.{IsExp}
-use Rattle.exp_weights.specs.of_use_elab.declared.typed.TypedExp.{TypedExp}
+use Rattle.elab_context.specs.Telling.{IsContext}
+use Rattle.elab_context.specs.declared.context.Context.{Context}
+use Rattle.pat_elab.specs.declared.bound.BoundVariable.{BoundVariable}
+use Rattle.use_elab.specs.Elaborated.{IsExp}
+use Rattle.use_elab.specs.declared.typed.TypedExp.{TypedExp}
 use Rattle.scope_decs.specs.of_exp_forms.Clauses.{body_of, fresh_from}
 use Rattle.scope_decs.specs.of_exp_forms.Functions.{IsFunction}
 use Rattle.scope_decs.specs.of_exp_forms.Functions as curried

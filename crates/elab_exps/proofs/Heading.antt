@@ -11,11 +11,11 @@ use Rattle.elab_types.proofs.Lists.{drop-next}
 use Rattle.elab_state.specs.declared.state.State.{State}
 use Rattle.elab_steps.specs.Growing.{Grows, HasType}
 use Rattle.elab_steps.proofs.Growing.{type_later}
-use Rattle.exp_weights.specs.of_elab_context.Telling.{IsContext}
-use Rattle.exp_weights.specs.of_elab_context.declared.context.Context.{Context}
-use Rattle.exp_weights.proofs.of_elab_context.Reading.{context_later}
-use Rattle.scope_decs.specs.of_pat_elab.Elaborated.{AreVariables}
-use Rattle.scope_decs.proofs.of_pat_elab.Forms.{all-later}
+use Rattle.elab_context.specs.Telling.{IsContext}
+use Rattle.elab_context.specs.declared.context.Context.{Context}
+use Rattle.elab_context.proofs.Reading.{context_later}
+use Rattle.pat_elab.specs.Elaborated.{AreVariables}
+use Rattle.pat_elab.proofs.Forms.{all-later}
 use Rattle.general_decs.specs.of_rec_groups.Heads.{AreReserved, IsReserved, none_reserved, one_reserved, with_own}
 use Rattle.general_decs.specs.of_rec_groups.declared.head.Head.{Head}
 use Rattle.general_decs.proofs.of_rec_groups.Entering.{all-reversed}

@@ -17,11 +17,11 @@ use Rattle.elab_types.proofs.Lists.{all-map, next-map-at}
 use Rattle.elab_state.specs.declared.state.State.{State}
 use Rattle.elab_steps.specs.Growing.{AreTypes, Grows, HasType}
 use Rattle.elab_steps.proofs.Growing.{grows_on, grows_same}
-use Rattle.exp_weights.specs.of_elab_context.Telling.{IsContext}
-use Rattle.exp_weights.specs.of_elab_context.declared.context.Context.{Context}
-use Rattle.exp_weights.proofs.of_elab_context.Reading.{context_later}
-use Rattle.exp_weights.specs.of_use_elab.Elaborated.{IsExp}
-use Rattle.exp_weights.specs.of_use_elab.declared.typed.TypedExp.{TypedExp}
+use Rattle.elab_context.specs.Telling.{IsContext}
+use Rattle.elab_context.specs.declared.context.Context.{Context}
+use Rattle.elab_context.proofs.Reading.{context_later}
+use Rattle.use_elab.specs.Elaborated.{IsExp}
+use Rattle.use_elab.specs.declared.typed.TypedExp.{TypedExp}
 use Rattle.scope_decs.specs.of_exp_forms.Calls.{IsCall}
 use Rattle.scope_decs.specs.of_exp_forms.Clauses.{labels_from}
 use Rattle.scope_decs.specs.of_exp_forms.Lists.{AreElements, IsListed, no_elements}

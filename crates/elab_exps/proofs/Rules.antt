@@ -15,11 +15,11 @@ use Rattle.elab_state.specs.declared.state.State.{State}
 use Rattle.elab_steps.specs.Growing.{Always, Grows}
 use Rattle.elab_steps.specs.World.{type_of}
 use Rattle.elab_steps.proofs.Growing.{grows_on, grows_same}
-use Rattle.exp_weights.specs.of_elab_context.Telling.{IsContext}
-use Rattle.exp_weights.specs.of_elab_context.declared.context.Context.{Context}
-use Rattle.exp_weights.proofs.of_elab_context.Reading.{context_later}
-use Rattle.exp_weights.specs.of_use_elab.Elaborated.{IsExp}
-use Rattle.exp_weights.specs.of_use_elab.declared.typed.TypedExp.{TypedExp}
+use Rattle.elab_context.specs.Telling.{IsContext}
+use Rattle.elab_context.specs.declared.context.Context.{Context}
+use Rattle.elab_context.proofs.Reading.{context_later}
+use Rattle.use_elab.specs.Elaborated.{IsExp}
+use Rattle.use_elab.specs.declared.typed.TypedExp.{TypedExp}
 use Rattle.core_elab.specs.Resolves.{IsCalled, called_app}
 use Rattle.scope_decs.specs.of_exp_forms.Calls.{IsCall}
 use Rattle.scope_decs.specs.of_exp_forms.declared.made.Called.{Called}

@@ -12,9 +12,9 @@ use Rattle.sml_tree.specs.declared.tree.Pat.{Pat}
 use Rattle.vid_scope.specs.Entries.{mark_of}
 use Rattle.vid_scope.specs.declared.vids.VidMark.{VidMark}
 use Rattle.elab_state.specs.declared.state.State.{State}
-use Rattle.exp_weights.specs.of_elab_context.declared.context.Context.{Context}
-use Rattle.exp_weights.specs.of_elab_context.declared.entry.Entry.TheVariants.{Single}
-use Rattle.scope_decs.specs.of_pat_elab.declared.bound.BoundVariable.{BoundVariable}
+use Rattle.elab_context.specs.declared.context.Context.{Context}
+use Rattle.elab_context.specs.declared.entry.Entry.TheVariants.{Single}
+use Rattle.pat_elab.specs.declared.bound.BoundVariable.{BoundVariable}
 use Rattle.scope_decs.specs.of_exp_forms.Within.{entries_of, within}
 use Rattle.scope_decs.specs.of_exp_forms.declared.functions_made.Entered.{Entered}
 use Rattle.scope_decs.proofs.of_exp_forms.Clausing.{SoFar}

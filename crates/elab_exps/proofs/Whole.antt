@@ -11,9 +11,9 @@ use Rattle.sml_tree.specs.declared.tree.Ty.{Ty}
 use Rattle.prog_tree.specs.declared.tree.Exp.{Exp as Made}
 use Rattle.core_elab.specs.Resolves.{IsCalled}
 use Rattle.elab_state.specs.declared.state.State.{State}
-use Rattle.exp_weights.specs.of_elab_context.declared.context.Context.{Context}
-use Rattle.exp_weights.specs.of_use_elab.Elaborated.{IsExp}
-use Rattle.exp_weights.specs.of_use_elab.declared.typed.TypedExp.{TypedExp}
+use Rattle.elab_context.specs.declared.context.Context.{Context}
+use Rattle.use_elab.specs.Elaborated.{IsExp}
+use Rattle.use_elab.specs.declared.typed.TypedExp.{TypedExp}
 use Rattle.scope_decs.specs.of_exp_forms.Calls.{IsCall}
 use Rattle.scope_decs.specs.of_exp_forms.Parts.{AreExps, before_last}
 use Rattle.scope_decs.specs.of_exp_forms.declared.made.Called.{Called}

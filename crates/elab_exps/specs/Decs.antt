@@ -4,8 +4,8 @@ use Rattle.sml_tree.specs.BareTree as bare
 use Rattle.prog_tree.specs.declared.tree.Dec.{Dec}
 use Rattle.elab_state.specs.declared.state.State.{State}
 use Rattle.elab_steps.specs.Growing.{Begins}
-use Rattle.exp_weights.specs.of_elab_context.Telling.{IsContext}
-use Rattle.exp_weights.specs.of_elab_context.declared.context.Context.{Context}
+use Rattle.elab_context.specs.Telling.{IsContext}
+use Rattle.elab_context.specs.declared.context.Context.{Context}
 use Rattle.scope_decs.specs.of_dec_forms.Bringing.{AreBringing, IsBringing}
 use Rattle.scope_decs.specs.of_dec_forms.declared.brought.Brought.{Brought}
 

@@ -13,9 +13,9 @@ use Rattle.prog_tree.specs.declared.tree.Function.{Function as ProgramFunction}
 use Rattle.elab_state.specs.States.{made}
 use Rattle.elab_state.specs.declared.state.State.{State}
 use Rattle.elab_steps.specs.Growing.{HasType}
-use Rattle.exp_weights.specs.of_elab_context.declared.context.Context.{Context}
-use Rattle.scope_decs.specs.of_pat_elab.Elaborated.{AreVariables}
-use Rattle.scope_decs.specs.of_pat_elab.declared.bound.BoundVariable.{BoundVariable}
+use Rattle.elab_context.specs.declared.context.Context.{Context}
+use Rattle.pat_elab.specs.Elaborated.{AreVariables}
+use Rattle.pat_elab.specs.declared.bound.BoundVariable.{BoundVariable}
 use Rattle.scope_decs.specs.of_exp_forms.Clauses as clauses
 use Rattle.scope_decs.specs.of_exp_forms.Functions.{IsFunction}
 use Rattle.scope_decs.specs.of_exp_forms.Within.{within}

@@ -4,7 +4,7 @@ use Rattle.sml_tree.specs.TreeOf.{RuleOf}
 use Rattle.sml_tree.specs.declared.ident.Tyvar.{Tyvar}
 use Rattle.elab_types.specs.Reading.{left_at}
 use Rattle.elab_state.specs.declared.state.State.{State}
-use Rattle.exp_weights.specs.of_elab_context.declared.context.Context.{Context}
+use Rattle.elab_context.specs.declared.context.Context.{Context}
 use Rattle.general_decs.specs.Inside.{AreInside}
 use Rattle.general_decs.specs.Outside.{outside}
 use Rattle.general_decs.specs.Scoped.{CameByName}

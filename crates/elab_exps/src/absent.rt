@@ -1,10 +1,10 @@
 // What no source has.
 ghost use Rattle.std.specs.Prelude.{◌≡◌};
 ghost use Rattle.mlc_base.specs.declared.place.Place.{Place as PlaceAt};
-ghost use Rattle.scope_decs.specs.of_pat_elab.declared.stopped.Stopped.TheVariants.{Foreign};
+ghost use Rattle.pat_elab.specs.declared.stopped.Stopped.TheVariants.{Foreign};
 
 use mlc_base::place::Place;
-use scope_decs::pat_elab::stopped::Stopped;
+use pat_elab::stopped::Stopped;
 use sml_tree::tree::{Dec, Exp};
 
 /// The place of an expression.

@@ -2,15 +2,15 @@
 ghost use Rattle.std.specs.Prelude.{◌≡◌, ◌<◌, List, length, map, reverse, get_or, IfOk};
 ghost use Rattle.sml_tree.specs.TreeOf.{bind_of};
 ghost use Rattle.vid_scope.specs.Entries.{mark_of};
-ghost use Rattle.exp_weights.specs.of_elab_context.Telling.{IsContext};
+ghost use Rattle.elab_context.specs.Telling.{IsContext};
 ghost use Rattle.elab_state.specs.declared.state.State.{State as StateOf};
 ghost use Rattle.general_decs.specs.of_rec_groups.Heads.{AreReserved, with_own};
 ghost use Rattle.elab_exps.specs.Decs.{StandsIn};
 ghost use Rattle.elab_exps.specs.Groups.{HaveHeads, function_bind};
 
+use elab_context::context::Context;
 use elab_state::state::State;
 use elab_types::refused::Refused;
-use exp_weights::elab_context::context::Context;
 use general_decs::rec_groups::enter::enter_heads;
 use general_decs::rec_groups::head::Head;
 use general_decs::rec_groups::reserve::{reserve, reserve_name};

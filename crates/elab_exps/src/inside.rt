@@ -1,31 +1,31 @@
 // Bindings inside their declaration, from their parts.
 ghost use Rattle.std.specs.Prelude.{◌≡◌, ◌++◌, ◌∷◌, [], List, true, false, IfOk};
 ghost use Rattle.sml_tree.specs.TreeOf.{RuleOf, bind_of, exp_of, pat_of};
-ghost use Rattle.exp_weights.specs.of_elab_context.Telling.{IsContext};
+ghost use Rattle.elab_context.specs.Telling.{IsContext};
 ghost use Rattle.elab_state.specs.declared.state.State.{State as StateOf};
 ghost use Rattle.elab_steps.specs.Growing.{Grows, HasType};
-ghost use Rattle.scope_decs.specs.of_pat_elab.Elaborated.{IsPat};
-ghost use Rattle.exp_weights.specs.of_use_elab.Elaborated.{IsExp};
+ghost use Rattle.pat_elab.specs.Elaborated.{IsPat};
+ghost use Rattle.use_elab.specs.Elaborated.{IsExp};
 ghost use Rattle.general_decs.specs.Outside.{outside};
 ghost use Rattle.general_decs.specs.Values.{IsGeneralised};
 ghost use Rattle.elab_exps.specs.Inside.{AreBound, IsWithin};
 
+use elab_context::context::Context;
 use elab_state::state::State;
-use exp_weights::elab_context::context::Context;
-use exp_weights::use_elab::typed::TypedExp;
 use general_decs::add::add;
 use general_decs::begin::Begun;
 use general_decs::outside::{step_in, step_out};
 use general_decs::values::is_non_expansive;
+use pat_elab::bound::{BoundVariable, TypedPat};
+use pat_elab::elab::elab_pat;
+use pat_elab::stopped::Stopped;
 use prog_known::answers::both;
 use prog_tree::tree::{Binding, Exp as ProgramExp, Rule};
 use prog_values::values::is_value;
-use scope_decs::pat_elab::bound::{BoundVariable, TypedPat};
-use scope_decs::pat_elab::elab::elab_pat;
-use scope_decs::pat_elab::stopped::Stopped;
 use sml_tree::ident::Tyvar;
 use sml_tree::tree::{Bind, Exp, Pat};
 use std::alloc::Global;
+use use_elab::typed::TypedExp;
 
 /// What was made of bindings so far: what they bind, whether each of these is generalised, and the program's bindings.
 #[derive(Drop)]

@@ -8,8 +8,8 @@ ghost use Rattle.sml_tree.specs.declared.tree.Joint.TheVariants.{Infix};
 
 use mlc_base::memory::NoMemory;
 use mlc_names::label::Label;
+use pat_elab::stopped::Stopped;
 use scope_decs::exp_forms::parts::Operator;
-use scope_decs::pat_elab::stopped::Stopped;
 use sml_tree::tree::{Joint, Part};
 
 /// The label of the part of a tuple behind so many others.

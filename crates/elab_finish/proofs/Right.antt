@@ -16,7 +16,7 @@ use Rattle.elab_typed.proofs.Whole.{program-right}
 use Rattle.elab_state.specs.States.{reading_in, table_in}
 use Rattle.elab_state.specs.declared.state.State.{State}
 use Rattle.elab_steps.proofs.Growing.{comes_before}
-use Rattle.dec_forms.specs.of_elab_context.declared.context.Context.{Context}
+use Rattle.elab_context.specs.declared.context.Context.{Context}
 use Rattle.basis_context.specs.Telling.{TellsBasis, around_in}
 use Rattle.dec_forms.specs.Decs.{IsDecs}
 use Rattle.dec_forms.proofs.Sequencing.{decs-do}

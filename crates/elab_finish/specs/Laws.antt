@@ -12,7 +12,7 @@ use Rattle.final_types.specs.of_ir_prog.declared.program.Program.{Program}
 use Rattle.prog_renumber.specs.Renumbered.{renumbered}
 use Rattle.elab_typed.specs.Laws.{IsProgramOf}
 use Rattle.elab_state.specs.declared.state.State.{State}
-use Rattle.dec_forms.specs.of_elab_context.declared.context.Context.{Context}
+use Rattle.elab_context.specs.declared.context.Context.{Context}
 use Rattle.basis_context.specs.Telling.{TellsBasis}
 use Rattle.dec_forms.specs.Decs.{IsDecs}
 use Rattle.elab_steps.specs.Tidy.{AreConstructors, IsTidy}

@@ -7,7 +7,7 @@ ghost use Rattle.ir_tables.specs.Tables.{constructors_of};
 ghost use Rattle.final_types.specs.of_ir_prog.Programs.{body_in};
 ghost use Rattle.elab_typed.specs.Laws.{IsProgramOf};
 ghost use Rattle.elab_state.specs.declared.state.State.{State};
-ghost use Rattle.dec_forms.specs.of_elab_context.declared.context.Context.{Context};
+ghost use Rattle.elab_context.specs.declared.context.Context.{Context};
 ghost use Rattle.basis_context.specs.Telling.{TellsBasis};
 ghost use Rattle.dec_forms.specs.Decs.{IsDecs};
 ghost use Rattle.elab_steps.specs.Tidy.{AreConstructors};

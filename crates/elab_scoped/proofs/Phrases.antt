@@ -15,7 +15,7 @@ use Rattle.core_rules.specs.Words.{is_in}
 use Rattle.ir_poly.specs.Prog as prog
 use Rattle.ir_poly.specs.TestsChecked.{Knowns}
 use Rattle.ir_poly.specs.Types.{Constructor}
-use Rattle.elab_typed.specs.of_core_elab.Scopes.{Scope}
+use Rattle.core_elab.specs.Scopes.{Scope}
 use Rattle.elab_typed.specs.Contexts.{Around, KeptEnv, KeptValues, context_under}
 use Rattle.elab_typed.specs.Elaborates.{Stands, StandsIf}
 use Rattle.elab_typed.specs.Elaborates as e

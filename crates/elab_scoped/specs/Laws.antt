@@ -5,7 +5,7 @@ use Rattle.core_rules.specs.Choices.{Choices}
 use Rattle.core_rules.specs.Typing.{Bound, scoped_in}
 use Rattle.ir_poly.specs.Prog as prog
 use Rattle.ir_poly.specs.Types.{Constructor}
-use Rattle.elab_typed.specs.of_core_elab.Scopes.{Scope}
+use Rattle.core_elab.specs.Scopes.{Scope}
 use Rattle.elab_typed.specs.Contexts.{Around, generic}
 use Rattle.elab_typed.specs.Elaborates.{BindsElab}
 

@@ -1,8 +1,6 @@
 // The state of elaboration: what variables stand for, the types that the tree writes, and the program's tables.
 #![tactic(auto)]
 
-pub use elab_typed;
-pub use elab_typed::core_elab;
 pub use ty_instance;
 
 pub mod law;

@@ -1,5 +1,3 @@
-pub use Rattle.elab_state.proofs.of_core_elab as of_core_elab
-pub use Rattle.elab_types.proofs.of_ty_solve as of_ty_solve
 pub use Rattle.elab_state.proofs as of_elab_state
 pub use Rattle.elab_state.proofs.of_elab_typed as of_elab_typed
 pub use Rattle.elab_state.proofs.of_ty_instance as of_ty_instance

@@ -1,4 +1,3 @@
-pub use Rattle.elab_types.specs.of_ty_solve as of_ty_solve
 pub use Rattle.elab_state.specs as of_elab_state
 pub use Rattle.elab_state.specs.of_core_elab as of_core_elab
 pub use Rattle.elab_state.specs.of_elab_typed as of_elab_typed

@@ -6,16 +6,16 @@ use Rattle.ty_core.specs.Types.{Typ}
 use Rattle.ty_core.specs.declared.scheme.Quantified.{Quantified}
 use Rattle.ty_solve.proofs.Holding.{type-stays}
 use Rattle.ir_tables.specs.Tables.{parameters_of, strings_of}
-use Rattle.elab_steps.specs.of_elab_state.Namings.{number_in, IsAbove, ComesBefore, IsNext, AreNext, AreNamings, IsAmong}
-use Rattle.elab_steps.specs.of_elab_state.Readings.{type_if}
-use Rattle.elab_steps.specs.of_elab_state.States.{types_in, limit_in}
-use Rattle.elab_steps.specs.of_elab_state.Generic.{IsGeneric}
-use Rattle.elab_steps.specs.of_elab_state.Steps.{Grows}
-use Rattle.elab_steps.specs.of_elab_state.declared.naming.Naming.{Naming}
-use Rattle.elab_steps.specs.of_elab_state.declared.state.State.{State}
-use Rattle.elab_steps.proofs.of_elab_state.Begins.{begins-get, begins-push}
-use Rattle.elab_steps.proofs.of_elab_state.Numbering.{number-stays, new-number}
-use Rattle.elab_steps.proofs.of_elab_state.Reading.{table-finds}
+use Rattle.elab_state.specs.Namings.{number_in, IsAbove, ComesBefore, IsNext, AreNext, AreNamings, IsAmong}
+use Rattle.elab_state.specs.Readings.{type_if}
+use Rattle.elab_state.specs.States.{types_in, limit_in}
+use Rattle.elab_state.specs.Generic.{IsGeneric}
+use Rattle.elab_state.specs.Steps.{Grows}
+use Rattle.elab_state.specs.declared.naming.Naming.{Naming}
+use Rattle.elab_state.specs.declared.state.State.{State}
+use Rattle.elab_state.proofs.Begins.{begins-get, begins-push}
+use Rattle.elab_state.proofs.Numbering.{number-stays, new-number}
+use Rattle.elab_state.proofs.Reading.{table-finds}
 use Rattle.elab_steps.specs.Ordered.{is_ordered}
 use Rattle.elab_steps.specs.World.{Comes}
 use Rattle.elab_worlds.specs.Worlds.{world_of}

@@ -2,8 +2,8 @@
 use Rattle.std.proofs.Common.{◌≡◌, ◌<◌, [], ℕ, sym, subst, arith}
 use Rattle.std.specs.List.{AllByRecursion}
 use Rattle.ir_poly.specs.Types.{IsConstructor}
-use Rattle.elab_steps.specs.of_elab_state.States.{made, general_in, table_in, dead_level}
-use Rattle.elab_steps.specs.of_elab_state.declared.state.State.{State}
+use Rattle.elab_state.specs.States.{made, general_in, table_in, dead_level}
+use Rattle.elab_state.specs.declared.state.State.{State}
 use Rattle.elab_steps.specs.Growing.{Grows}
 use Rattle.elab_steps.specs.Tidy.{AreConstructors, IsTidy}
 use Rattle.elab_steps.proofs.Keeping.{new-tidy}

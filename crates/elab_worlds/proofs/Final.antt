@@ -27,9 +27,9 @@ use Rattle.ir_values.specs.Values.{true_number, false_number, nil_number, cons_n
 use Rattle.ty_basis.specs.Types.{name_count, bool_name, list_name, pair_type, list_type}
 use Rattle.ir_poly.specs.Types.{in_scope, over, all_over, is_declarable, find, Constructor, IsConstructor, constructor_of, initial_constructors}
 use Rattle.ir_tables.specs.Tables.{parameters_of, strings_of}
-use Rattle.elab_steps.specs.of_elab_state.Readings.{type_if}
-use Rattle.elab_steps.specs.of_elab_state.States.{types_in, said_in, limit_in, general_in, table_in, dead_level}
-use Rattle.elab_steps.specs.of_elab_state.declared.state.State.{State}
+use Rattle.elab_state.specs.Readings.{type_if}
+use Rattle.elab_state.specs.States.{types_in, said_in, limit_in, general_in, table_in, dead_level}
+use Rattle.elab_state.specs.declared.state.State.{State}
 use Rattle.elab_steps.specs.Ordered.{begins_in_order, is_ordered, are_ordered}
 use Rattle.elab_steps.specs.World.{Comes}
 use Rattle.elab_worlds.specs.Final.{unit_type, default_of, open_at, final_at, is_parameter, AreConstructors, AreOrdered, IsFinal, IsLast, IsOrdered, is_row, final_world, HasEnd}

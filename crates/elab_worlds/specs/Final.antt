@@ -9,8 +9,8 @@ use Rattle.ty_table.specs.TypeAt.{type_at}
 pub use Rattle.ty_basis.specs.Types.{unit_type}
 use Rattle.ty_solve.specs.Substitution.{Entry, free, bound, row, sub, subs}
 use Rattle.ir_poly.specs.Types.{in_scope, initial_constructors}
-use Rattle.elab_steps.specs.of_elab_state.States.{types_in, made, said_in, general_in, numbers_in, reading_in, table_in}
-use Rattle.elab_steps.specs.of_elab_state.declared.state.State.{State}
+use Rattle.elab_state.specs.States.{types_in, made, said_in, general_in, numbers_in, reading_in, table_in}
+use Rattle.elab_state.specs.declared.state.State.{State}
 use Rattle.elab_steps.specs.Growing.{Grows}
 use Rattle.elab_steps.specs.Ordered.{is_ordered}
 pub use Rattle.elab_steps.specs.Tidy.{AreConstructors, is_parameter}

@@ -3,10 +3,10 @@ use Rattle.std.proofs.Common.{◌≡◌, ℕ, true, List, refl, sym}
 use Rattle.ty_core.specs.Types.{Typ}
 use Rattle.ty_core.specs.declared.scheme.Quantified.{Quantified}
 use Rattle.ty_table.specs.TypeAt.{type_at}
-use Rattle.elab_steps.specs.of_elab_state.States.{types_in, numbers_in, reading_in, table_in}
-use Rattle.elab_steps.specs.of_elab_state.Generic.{IsGeneric}
-use Rattle.elab_steps.specs.of_elab_state.Steps.{Grows}
-use Rattle.elab_steps.specs.of_elab_state.declared.state.State.{State}
+use Rattle.elab_state.specs.States.{types_in, numbers_in, reading_in, table_in}
+use Rattle.elab_state.specs.Generic.{IsGeneric}
+use Rattle.elab_state.specs.Steps.{Grows}
+use Rattle.elab_state.specs.declared.state.State.{State}
 use Rattle.elab_steps.specs.Ordered.{is_ordered}
 use Rattle.elab_steps.specs.World.{World, Comes}
 

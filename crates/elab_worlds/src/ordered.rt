@@ -5,11 +5,11 @@ ghost use Rattle.ty_core.specs.TypesOf.{head_of};
 ghost use Rattle.ty_table.specs.TypeAt.{AllBelow, type_at};
 ghost use Rattle.ty_solve.specs.SlotsOf.{entry_of};
 ghost use Rattle.ir_poly.specs.Types.{ascend};
-ghost use Rattle.elab_steps.specs.of_elab_state.States.{said_in};
+ghost use Rattle.elab_state.specs.States.{said_in};
 ghost use Rattle.elab_steps.specs.Ordered.{begins_in_order, is_ordered};
 ghost use Rattle.elab_worlds.specs.Final.{IsOrdered, is_row};
 
-use elab_steps::elab_state::state::State;
+use elab_state::state::State;
 use label_rows::sort::stands_before;
 use mlc_names::label::Label;
 use ty_core::ty::Head;

@@ -12,14 +12,14 @@ use Rattle.core_rules.specs.Objects.{Over}
 use Rattle.core_rules.specs.Choices.{no_choice}
 use Rattle.ir_poly.specs.Prog as prog
 use Rattle.ir_poly.specs.Types.{over, constructor_of}
-use Rattle.pat_elab.specs.of_core_elab.Scopes.{built_number}
+use Rattle.core_elab.specs.Scopes.{built_number}
 use Rattle.prog_tree.specs.TreeOf.{tree_of, use_of}
 use Rattle.prog_tree.specs.declared.tree.Used.TheVariants as used
-use Rattle.pat_elab.specs.of_elab_typed.Numbers.{type_as}
-use Rattle.pat_elab.specs.of_elab_typed.Contexts.{Around}
-use Rattle.pat_elab.specs.of_elab_typed.Elaborates.{built_exp_elab, built_value}
-use Rattle.pat_elab.specs.of_elab_typed.Instances.{IsGivenAt, ConHas, as_typed}
-use Rattle.pat_elab.proofs.of_elab_typed.Names.{over-as, name-kept, of_name-kept}
+use Rattle.elab_typed.specs.Numbers.{type_as}
+use Rattle.elab_typed.specs.Contexts.{Around}
+use Rattle.elab_typed.specs.Elaborates.{built_exp_elab, built_value}
+use Rattle.elab_typed.specs.Instances.{IsGivenAt, ConHas, as_typed}
+use Rattle.elab_typed.proofs.Names.{over-as, name-kept, of_name-kept}
 use Rattle.pat_elab.specs.of_elab_state.declared.state.State.{State}
 use Rattle.pat_elab.specs.of_elab_steps.Growing.{HasType, Grows, Always, IsWithin}
 use Rattle.pat_elab.specs.of_elab_steps.World.{World, type_of, Comes}

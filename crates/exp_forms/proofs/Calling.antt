@@ -10,15 +10,15 @@ use Rattle.core_rules.specs.Objects.{Over}
 use Rattle.core_rules.specs.Choices.{both}
 use Rattle.ir_poly.specs.Prog as prog
 use Rattle.ir_poly.specs.Types.{over}
-use Rattle.pat_elab.specs.of_core_elab.Resolves.{IsCalled}
+use Rattle.core_elab.specs.Resolves.{IsCalled}
 use Rattle.prog_tree.specs.TreeOf.{apply_by, argument_of, tree_of}
 use Rattle.prog_tree.specs.declared.tree.Exp.{Exp}
 use Rattle.prog_tree.specs.declared.tree.Exp.TheVariants as tree
 use Rattle.prog_tree.proofs.ExpOf.{tree_of-Apply}
-use Rattle.pat_elab.specs.of_elab_typed.Numbers.{type_as}
-use Rattle.pat_elab.specs.of_elab_typed.Contexts.{Around}
-use Rattle.pat_elab.specs.of_elab_typed.Elaborates.{app_elab}
-use Rattle.pat_elab.specs.of_elab_typed.Instances.{as_typed}
+use Rattle.elab_typed.specs.Numbers.{type_as}
+use Rattle.elab_typed.specs.Contexts.{Around}
+use Rattle.elab_typed.specs.Elaborates.{app_elab}
+use Rattle.elab_typed.specs.Instances.{as_typed}
 use Rattle.pat_elab.specs.of_elab_state.declared.state.State.{State}
 use Rattle.pat_elab.specs.of_elab_steps.Growing.{HasType, Grows, Always, IsWithin}
 use Rattle.pat_elab.specs.of_elab_steps.World.{World, type_of}
@@ -92,7 +92,7 @@ call_goes_on S M N F G U T C place f a old new one l ty function written i el ca
           (record {
             choices = both d.choices b.choices;
             elab = λ j le.
-                app_elab place called (subst (λ u. Rattle.pat_elab.specs.of_elab_typed.Elaborates.ExpElab W.table A j f before u d.choices) is (d.elab j le)) (b.elab j le);
+                app_elab place called (subst (λ u. Rattle.elab_typed.specs.Elaborates.ExpElab W.table A j f before u d.choices) is (d.elab j le)) (b.elab j le);
             names = new-names C W A l ty t el wi;
             parameters = new-parameters N C W A l ty i t el wi;
           }));

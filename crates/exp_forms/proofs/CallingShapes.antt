@@ -8,7 +8,7 @@ use Rattle.sml_tree.specs.TreeOf.{exp_of}
 use Rattle.sml_tree.specs.declared.tree.Exp.{Exp}
 use Rattle.sml_tree.specs.declared.tree.Joint.{Joint}
 use Rattle.sml_tree.specs.declared.tree.Joint.TheVariants.{AndAlso, OrElse, Infix}
-use Rattle.pat_elab.specs.of_core_elab.Resolves.{IsCalled, called_app, called_built}
+use Rattle.core_elab.specs.Resolves.{IsCalled, called_app, called_built}
 
 pub list-called : (p : Place) (es : List bare.Exp) → IsCalled (list_of p es)
 list-called p [] = called_built p _

@@ -14,7 +14,7 @@ use Rattle.prog_tree.specs.declared.tree.Exp.TheVariants as tree
 use Rattle.prog_tree.specs.declared.tree.Join.{Join}
 use Rattle.prog_tree.specs.declared.tree.Side.TheVariants as side
 use Rattle.prog_tree.proofs.ExpOf.{tree_of-Infix}
-use Rattle.pat_elab.specs.of_elab_typed.Contexts.{Around}
+use Rattle.elab_typed.specs.Contexts.{Around}
 use Rattle.pat_elab.specs.of_elab_state.declared.state.State.{State}
 use Rattle.pat_elab.specs.of_elab_steps.Growing.{HasType, Grows, Always}
 use Rattle.pat_elab.specs.of_elab_steps.World.{World, type_of}

@@ -8,7 +8,7 @@ use Rattle.vid_scope.specs.Entries.{entry_of, with_entries, with_entry}
 use Rattle.vid_scope.specs.declared.vids.VidScope.{VidScope}
 use Rattle.vid_scope.proofs.Latest.{latest_found}
 use Rattle.ir_poly.specs.TestsChecked.{Known}
-use Rattle.pat_elab.specs.of_elab_typed.Contexts.{Around}
+use Rattle.elab_typed.specs.Contexts.{Around}
 use Rattle.pat_elab.specs.of_elab_state.declared.state.State.{State}
 use Rattle.pat_elab.specs.of_elab_steps.Growing.{Grows}
 use Rattle.pat_elab.specs.of_elab_steps.World.{World}

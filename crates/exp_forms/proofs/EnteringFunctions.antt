@@ -6,10 +6,10 @@ use Rattle.sml_tree.specs.Derived.{short}
 use Rattle.sml_tree.specs.declared.ident.Vid.{Vid}
 use Rattle.ir_poly.specs.TestsChecked.{of_type}
 use Rattle.prog_tree.specs.declared.tree.Parameter.{Parameter}
-use Rattle.pat_elab.specs.of_elab_typed.Contexts.{Around}
-use Rattle.pat_elab.specs.of_elab_typed.Elaborates.{Binds, named_elab, variable_elab}
-use Rattle.pat_elab.specs.of_elab_typed.Instances.{as_typed}
-use Rattle.pat_elab.specs.of_elab_typed.Numbers.{type_as}
+use Rattle.elab_typed.specs.Contexts.{Around}
+use Rattle.elab_typed.specs.Elaborates.{Binds, named_elab, variable_elab}
+use Rattle.elab_typed.specs.Instances.{as_typed}
+use Rattle.elab_typed.specs.Numbers.{type_as}
 use Rattle.pat_elab.specs.of_elab_state.declared.state.State.{State}
 use Rattle.pat_elab.specs.of_elab_steps.Growing.{AreTypes, Grows, Always}
 use Rattle.pat_elab.specs.of_elab_steps.World.{World, type_of}

@@ -14,11 +14,11 @@ use Rattle.prog_tree.specs.declared.tree.Function.{Function}
 use Rattle.prog_tree.specs.declared.tree.Function.TheVariants as functions
 use Rattle.prog_tree.specs.declared.tree.Parameter.{Parameter}
 use Rattle.prog_tree.proofs.ExpOf.{function_of-Named}
-use Rattle.pat_elab.specs.of_elab_typed.Contexts.{Around, with_bound}
-use Rattle.pat_elab.specs.of_elab_typed.Elaborates.{fn_elab, last_elab, more_elab}
-use Rattle.pat_elab.specs.of_elab_typed.Instances.{as_typed}
-use Rattle.pat_elab.specs.of_elab_typed.Numbers.{type_as}
-use Rattle.pat_elab.proofs.of_elab_typed.Names.{over-as}
+use Rattle.elab_typed.specs.Contexts.{Around, with_bound}
+use Rattle.elab_typed.specs.Elaborates.{fn_elab, last_elab, more_elab}
+use Rattle.elab_typed.specs.Instances.{as_typed}
+use Rattle.elab_typed.specs.Numbers.{type_as}
+use Rattle.elab_typed.proofs.Names.{over-as}
 use Rattle.pat_elab.specs.of_elab_state.declared.state.State.{State}
 use Rattle.use_elab.specs.Fresh.{images_of}
 use Rattle.pat_elab.specs.of_elab_steps.Growing.{HasType, AreTypes, Grows, Always}

@@ -9,8 +9,8 @@ use Rattle.ir_poly.specs.Prog as prog
 use Rattle.ir_poly.specs.Types.{over, all_over, Constructor}
 use Rattle.prog_tree.specs.TreeOf.{tree_of}
 use Rattle.prog_tree.specs.declared.tree.Exp.{Exp}
-use Rattle.pat_elab.specs.of_elab_typed.Contexts.{Around}
-use Rattle.pat_elab.specs.of_elab_typed.Elaborates.{ExpElab}
+use Rattle.elab_typed.specs.Contexts.{Around}
+use Rattle.elab_typed.specs.Elaborates.{ExpElab}
 use Rattle.pat_elab.specs.of_elab_state.declared.state.State.{State}
 use Rattle.pat_elab.specs.of_elab_steps.Growing.{Grows, Always}
 use Rattle.pat_elab.specs.of_elab_steps.World.{World, type_of}

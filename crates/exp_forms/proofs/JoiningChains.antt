@@ -12,14 +12,14 @@ use Rattle.core_rules.specs.Choices.{no_choice, both}
 use Rattle.core_rules.specs.Objects.{Over}
 use Rattle.ir_poly.specs.Prog as prog
 use Rattle.ir_poly.specs.Types.{over}
-use Rattle.pat_elab.specs.of_core_elab.Resolves.{IsCalled, called_vid}
+use Rattle.core_elab.specs.Resolves.{IsCalled, called_vid}
 use Rattle.prog_tree.specs.TreeOf.{join, tree_of}
 use Rattle.prog_tree.specs.declared.tree.Exp.{Exp}
 use Rattle.prog_tree.specs.declared.tree.Join.{Join}
-use Rattle.pat_elab.specs.of_elab_typed.Numbers.{type_as}
-use Rattle.pat_elab.specs.of_elab_typed.Contexts.{Around}
-use Rattle.pat_elab.specs.of_elab_typed.Elaborates.{app_elab, record_elab, a_field_elab, no_fields_elab}
-use Rattle.pat_elab.specs.of_elab_typed.Instances.{as_typed}
+use Rattle.elab_typed.specs.Numbers.{type_as}
+use Rattle.elab_typed.specs.Contexts.{Around}
+use Rattle.elab_typed.specs.Elaborates.{app_elab, record_elab, a_field_elab, no_fields_elab}
+use Rattle.elab_typed.specs.Instances.{as_typed}
 use Rattle.pat_elab.specs.of_elab_state.declared.state.State.{State}
 use Rattle.pat_elab.specs.of_elab_steps.Growing.{HasType, Grows, Always, IsWithin}
 use Rattle.pat_elab.specs.of_elab_steps.World.{World, type_of}

@@ -15,14 +15,14 @@ use Rattle.core_rules.specs.Words.{same_vid}
 use Rattle.ir_poly.specs.ProgChecked.{pat_onto}
 use Rattle.ir_poly.specs.TestsChecked.{of_type}
 use Rattle.ir_poly.specs.Types.{Constructor}
-use Rattle.pat_elab.specs.of_core_elab.Scopes.{Scope}
+use Rattle.core_elab.specs.Scopes.{Scope}
 use Rattle.prog_tree.specs.TreeOf.{RuleTree, pat_of, tree_of, rule_of}
 use Rattle.prog_tree.specs.TreeOf as tree
 use Rattle.prog_tree.specs.declared.tree.Rule.{Rule}
 use Rattle.prog_tree.proofs.ExpOf.{rule_of-parts}
-use Rattle.pat_elab.specs.of_elab_typed.Contexts.{Around, with_bound}
-use Rattle.pat_elab.specs.of_elab_typed.Elaborates.{ExpElab, PatElab, RulesElab, a_rule_elab, no_rules_elab}
-use Rattle.pat_elab.specs.of_elab_typed.Instances.{as_typed}
+use Rattle.elab_typed.specs.Contexts.{Around, with_bound}
+use Rattle.elab_typed.specs.Elaborates.{ExpElab, PatElab, RulesElab, a_rule_elab, no_rules_elab}
+use Rattle.elab_typed.specs.Instances.{as_typed}
 use Rattle.pat_elab.specs.of_elab_state.declared.state.State.{State}
 use Rattle.pat_elab.specs.of_elab_steps.Growing.{HasType, Grows, Always, IsWithin}
 use Rattle.pat_elab.specs.of_elab_steps.World.{World, type_of, Comes}

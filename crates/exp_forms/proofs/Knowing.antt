@@ -16,10 +16,10 @@ use Rattle.ir_poly.specs.Prog as prog
 use Rattle.ir_poly.specs.ProgChecked.{pat_onto, pats_onto}
 use Rattle.ir_poly.specs.TestsChecked.{Knowns, at, of_type}
 use Rattle.ir_poly.specs.Types.{Constructor}
-use Rattle.pat_elab.specs.of_core_elab.Scopes.{Denotes, variable, constructor, reference, exception, primitive, Scope, empty, scoped, typed_by, inside, plus_scope, denotes_in}
-use Rattle.pat_elab.specs.of_elab_typed.Contexts.{Around}
-use Rattle.pat_elab.specs.of_elab_typed.Elaborates.{PatElab, PatsElab, wild_elab, constant_elab, variable_elab, alone_elab, built_elab, fields_elab, open_elab, con_elab, built_con_elab, typed_elab, as_elab, no_pats_elab, a_pat_elab}
-use Rattle.pat_elab.specs.of_elab_typed.Instances.{as_typed, alone_constructor, alone_exception, alone_given_exception, before_constructor, before_reference, before_exception}
+use Rattle.core_elab.specs.Scopes.{Denotes, variable, constructor, reference, exception, primitive, Scope, empty, scoped, typed_by, inside, plus_scope, denotes_in}
+use Rattle.elab_typed.specs.Contexts.{Around}
+use Rattle.elab_typed.specs.Elaborates.{PatElab, PatsElab, wild_elab, constant_elab, variable_elab, alone_elab, built_elab, fields_elab, open_elab, con_elab, built_con_elab, typed_elab, as_elab, no_pats_elab, a_pat_elab}
+use Rattle.elab_typed.specs.Instances.{as_typed, alone_constructor, alone_exception, alone_given_exception, before_constructor, before_reference, before_exception}
 use Rattle.exp_forms.specs.Binding.{IsKnown, Binding}
 
 -- scopes one behind the other

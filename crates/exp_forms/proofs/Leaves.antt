@@ -18,9 +18,9 @@ use Rattle.prog_tree.specs.TreeOf.{Reading, DecTree, RuleTree, atom_of, node_dec
 use Rattle.prog_tree.specs.declared.tree.Atom.TheVariants as atom
 use Rattle.prog_tree.specs.declared.tree.Exp.{Exp, Exp-F, fold-roll-Exp}
 use Rattle.prog_tree.specs.declared.tree.Exp.TheVariants as tree
-use Rattle.pat_elab.specs.of_elab_typed.Numbers.{type_as}
-use Rattle.pat_elab.specs.of_elab_typed.Elaborates.{ExpElab, constant_exp_elab, raise_elab, typed_exp_elab}
-use Rattle.pat_elab.specs.of_elab_typed.Instances.{as_typed}
+use Rattle.elab_typed.specs.Numbers.{type_as}
+use Rattle.elab_typed.specs.Elaborates.{ExpElab, constant_exp_elab, raise_elab, typed_exp_elab}
+use Rattle.elab_typed.specs.Instances.{as_typed}
 use Rattle.pat_elab.specs.of_elab_state.declared.state.State.{State}
 use Rattle.pat_elab.specs.of_elab_steps.Growing.{HasType, Grows, Always, IsWithin}
 use Rattle.pat_elab.specs.of_elab_steps.World.{type_of}

@@ -8,8 +8,8 @@ use Rattle.sml_tree.specs.declared.ident.BuiltIn.{BuiltIn}
 use Rattle.sml_tree.specs.declared.ident.BuiltIn.TheVariants.{Cons, Nil}
 use Rattle.sml_tree.specs.Derived.{list_of}
 use Rattle.ir_poly.specs.Prog as prog
-use Rattle.pat_elab.specs.of_core_elab.Resolves.{called_built}
-use Rattle.pat_elab.specs.of_core_elab.Scopes.{built_number}
+use Rattle.core_elab.specs.Resolves.{called_built}
+use Rattle.core_elab.specs.Scopes.{built_number}
 use Rattle.prog_tree.specs.TreeOf.{Reading, join, join_of, right_joins, tree_of}
 use Rattle.prog_tree.specs.declared.tree.Exp.{Exp}
 use Rattle.prog_tree.specs.declared.tree.Exp.TheVariants as tree
@@ -17,9 +17,9 @@ use Rattle.prog_tree.specs.declared.tree.Join.{Join}
 use Rattle.prog_tree.specs.declared.tree.Side.TheVariants as side
 use Rattle.prog_tree.specs.declared.tree.Used.TheVariants as used
 use Rattle.prog_tree.proofs.ExpOf.{tree_of-Infix}
-use Rattle.pat_elab.specs.of_elab_typed.Contexts.{Around}
-use Rattle.pat_elab.specs.of_elab_typed.Instances.{as_typed}
-use Rattle.pat_elab.specs.of_elab_typed.Numbers.{type_as}
+use Rattle.elab_typed.specs.Contexts.{Around}
+use Rattle.elab_typed.specs.Instances.{as_typed}
+use Rattle.elab_typed.specs.Numbers.{type_as}
 use Rattle.pat_elab.specs.of_elab_state.declared.state.State.{State}
 use Rattle.pat_elab.specs.of_elab_steps.Growing.{HasType, Grows, Always}
 use Rattle.pat_elab.specs.of_elab_steps.World.{World, type_of}

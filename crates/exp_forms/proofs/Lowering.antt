@@ -7,9 +7,9 @@ use Rattle.core_rules.specs.Choices.{Choices}
 use Rattle.core_rules.specs.Typing.{Bound}
 use Rattle.ir_poly.specs.Prog as prog
 use Rattle.ir_poly.specs.Types.{Constructor}
-use Rattle.pat_elab.specs.of_core_elab.Scopes.{Scope}
-use Rattle.pat_elab.specs.of_elab_typed.Contexts.{Around}
-use Rattle.pat_elab.specs.of_elab_typed.Elaborates.{PatElab, PatsElab, wild_elab, constant_elab, variable_elab, alone_elab, built_elab, fields_elab, open_elab, con_elab, built_con_elab, typed_elab, as_elab, no_pats_elab, a_pat_elab}
+use Rattle.core_elab.specs.Scopes.{Scope}
+use Rattle.elab_typed.specs.Contexts.{Around}
+use Rattle.elab_typed.specs.Elaborates.{PatElab, PatsElab, wild_elab, constant_elab, variable_elab, alone_elab, built_elab, fields_elab, open_elab, con_elab, built_con_elab, typed_elab, as_elab, no_pats_elab, a_pat_elab}
 
 pub record Lower (table : List Constructor) (A : Around) (h : ℕ) (a : bare.Pat) (p : prog.Pat) (t : Typ) (vs : Bound) (c : Choices) (r : Scope) (j : ℕ) : Type 0 where
   pub next : ℕ

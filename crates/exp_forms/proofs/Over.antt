@@ -8,9 +8,9 @@ use Rattle.core_rules.specs.Typing.{Bound}
 use Rattle.ir_poly.specs.TestsChecked.{Knowns}
 use Rattle.ir_poly.specs.Types.{in_scope}
 use Rattle.ir_poly.proofs.ReplaceLemmas.{replace-agree}
-use Rattle.pat_elab.specs.of_core_elab.Scopes.{Scope}
-use Rattle.pat_elab.specs.of_elab_typed.Contexts.{Around, IsOver, with_bound}
-use Rattle.pat_elab.proofs.of_elab_typed.Under.{bound_under, with-bound-under}
+use Rattle.core_elab.specs.Scopes.{Scope}
+use Rattle.elab_typed.specs.Contexts.{Around, IsOver, with_bound}
+use Rattle.elab_typed.proofs.Under.{bound_under, with-bound-under}
 use Rattle.pat_elab.specs.of_elab_steps.World.{World, type_of}
 use Rattle.pat_elab.specs.of_elab_context.Telling.{IsInUse}
 use Rattle.pat_elab.specs.Elaborated.{bound_of}

@@ -18,10 +18,10 @@ use Rattle.prog_tree.specs.TreeOf.{record_of, field_of, tree_of}
 use Rattle.prog_tree.specs.declared.tree.Exp.{Exp}
 use Rattle.prog_tree.specs.declared.tree.Exp.TheVariants as tree
 use Rattle.prog_tree.proofs.ExpOf.{tree_of-Record}
-use Rattle.pat_elab.specs.of_elab_typed.Numbers.{type_as}
-use Rattle.pat_elab.specs.of_elab_typed.Contexts.{Around}
-use Rattle.pat_elab.specs.of_elab_typed.Elaborates.{ExpElab, FieldsElab, no_fields_elab, a_field_elab, record_elab}
-use Rattle.pat_elab.specs.of_elab_typed.Instances.{as_typed}
+use Rattle.elab_typed.specs.Numbers.{type_as}
+use Rattle.elab_typed.specs.Contexts.{Around}
+use Rattle.elab_typed.specs.Elaborates.{ExpElab, FieldsElab, no_fields_elab, a_field_elab, record_elab}
+use Rattle.elab_typed.specs.Instances.{as_typed}
 use Rattle.pat_elab.specs.of_elab_state.declared.state.State.{State}
 use Rattle.pat_elab.specs.of_elab_steps.Growing.{HasType, Grows, Always}
 use Rattle.pat_elab.specs.of_elab_steps.Rows.{row_of}

@@ -10,16 +10,16 @@ use Rattle.core_rules.specs.Objects.{Over, AllOver, Map, joined, Structures, no_
 use Rattle.core_rules.specs.Choices.{Choices, no_choice, both}
 use Rattle.ir_poly.specs.Prog as prog
 use Rattle.ir_poly.specs.Types.{over, all_over}
-use Rattle.pat_elab.specs.of_core_elab.Scopes.{empty}
+use Rattle.core_elab.specs.Scopes.{empty}
 use Rattle.prog_tree.specs.TreeOf.{tree_of, chain_of, sequence_of as sequence_tree}
 use Rattle.prog_tree.specs.declared.tree.Exp.{Exp}
 use Rattle.prog_tree.specs.declared.tree.Exp.TheVariants as tree
 use Rattle.prog_tree.proofs.ExpOf.{tree_of-Sequence, tree_of-Test}
-use Rattle.pat_elab.specs.of_elab_typed.Numbers.{type_as}
-use Rattle.pat_elab.specs.of_elab_typed.Contexts.{Around, with_bound, KeptEnv, plus_kept, kept_values}
-use Rattle.pat_elab.specs.of_elab_typed.Elaborates.{ExpElab, ChainElab, case_elab, chain_elab, a_rule_elab, no_rules_elab, wild_elab, only_elab, and_elab, or_elab}
-use Rattle.pat_elab.specs.of_elab_typed.Instances.{as_typed}
-use Rattle.pat_elab.proofs.of_elab_typed.Names.{over-as}
+use Rattle.elab_typed.specs.Numbers.{type_as}
+use Rattle.elab_typed.specs.Contexts.{Around, with_bound, KeptEnv, plus_kept, kept_values}
+use Rattle.elab_typed.specs.Elaborates.{ExpElab, ChainElab, case_elab, chain_elab, a_rule_elab, no_rules_elab, wild_elab, only_elab, and_elab, or_elab}
+use Rattle.elab_typed.specs.Instances.{as_typed}
+use Rattle.elab_typed.proofs.Names.{over-as}
 use Rattle.pat_elab.specs.of_elab_state.declared.state.State.{State}
 use Rattle.pat_elab.specs.of_elab_steps.Growing.{HasType, Grows, Always}
 use Rattle.pat_elab.specs.of_elab_steps.World.{World, type_of}

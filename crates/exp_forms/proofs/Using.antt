@@ -9,11 +9,11 @@ use Rattle.core_rules.specs.Choices.{Choices}
 use Rattle.core_rules.specs.Typing.{Bound}
 use Rattle.ir_poly.specs.Prog as prog
 use Rattle.ir_poly.specs.Types.{over, Constructor}
-use Rattle.pat_elab.specs.of_core_elab.Scopes.{Scope}
-use Rattle.pat_elab.specs.of_elab_typed.Contexts.{Around}
-use Rattle.pat_elab.specs.of_elab_typed.Elaborates.{PatElab, PatsElab, wild_elab, constant_elab, variable_elab, alone_elab, built_elab, fields_elab, open_elab, con_elab, built_con_elab, typed_elab, as_elab, no_pats_elab, a_pat_elab}
-use Rattle.pat_elab.specs.of_elab_typed.Instances.{as_typed, before_constructor, before_reference, before_exception}
-use Rattle.pat_elab.proofs.of_elab_typed.Names.{over-as}
+use Rattle.core_elab.specs.Scopes.{Scope}
+use Rattle.elab_typed.specs.Contexts.{Around}
+use Rattle.elab_typed.specs.Elaborates.{PatElab, PatsElab, wild_elab, constant_elab, variable_elab, alone_elab, built_elab, fields_elab, open_elab, con_elab, built_con_elab, typed_elab, as_elab, no_pats_elab, a_pat_elab}
+use Rattle.elab_typed.specs.Instances.{as_typed, before_constructor, before_reference, before_exception}
+use Rattle.elab_typed.proofs.Names.{over-as}
 use Rattle.pat_elab.specs.of_elab_steps.World.{World, type_of}
 use Rattle.pat_elab.specs.of_elab_context.Telling.{IsInUse}
 use Rattle.pat_elab.specs.Elaborated.{bound_of}

@@ -22,9 +22,9 @@ use Rattle.core_rules.specs.Typing.{Bound, bound_in, AreDistinct}
 use Rattle.core_rules.proofs.LookUps.{vid-tells, at-joined}
 use Rattle.ir_poly.specs.TestsChecked.{Knowns, Known, of_type}
 use Rattle.ir_poly.specs.TestsChecked as checked
-use Rattle.pat_elab.specs.of_core_elab.Scopes.{variable, Scope, empty, scoped, denotes_in, inside_in, typed_in, along_scope, long_denotes_in}
-use Rattle.pat_elab.specs.of_elab_typed.Contexts.{given, single, kept_in, singles, values_under, with_bound, Around}
-use Rattle.pat_elab.specs.of_elab_typed.Instances.{as_typed}
+use Rattle.core_elab.specs.Scopes.{variable, Scope, empty, scoped, denotes_in, inside_in, typed_in, along_scope, long_denotes_in}
+use Rattle.elab_typed.specs.Contexts.{given, single, kept_in, singles, values_under, with_bound, Around}
+use Rattle.elab_typed.specs.Instances.{as_typed}
 use Rattle.pat_elab.specs.of_elab_steps.World.{World, type_of}
 use Rattle.pat_elab.proofs.of_elab_steps.Changing.{begins-same}
 use Rattle.pat_elab.specs.of_elab_context.Entries.{contents_at, entry_in}

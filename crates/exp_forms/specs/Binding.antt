@@ -6,9 +6,9 @@ use Rattle.sml_tree.specs.declared.ident.Vid.{Vid}
 use Rattle.core_rules.specs.Words.{same_vid}
 use Rattle.core_rules.specs.Typing.{Bound, bound_in, AreDistinct}
 use Rattle.ir_poly.specs.TestsChecked.{Knowns, at, of_type}
-use Rattle.pat_elab.specs.of_core_elab.Scopes.{Denotes, variable, Scope, denotes_in}
-use Rattle.pat_elab.specs.of_elab_typed.Contexts.{Around}
-use Rattle.pat_elab.specs.of_elab_typed.Instances.{as_typed}
+use Rattle.core_elab.specs.Scopes.{Denotes, variable, Scope, denotes_in}
+use Rattle.elab_typed.specs.Contexts.{Around}
+use Rattle.elab_typed.specs.Instances.{as_typed}
 
 -- an identifier that has a type denotes a variable from the k-th on below the j-th, which is known by the type
 abbrev pub IsKnown : Around → ℕ → ℕ → Knowns → Option Denotes → Option Typ → Type 0

@@ -3,7 +3,7 @@ use Rattle.std.specs.Prelude.{map}
 use Rattle.mlc_base.specs.declared.place.Place.{Place}
 use Rattle.sml_tree.specs.BareTree as bare
 use Rattle.prog_tree.specs.TreeOf.{apply_by, argument_of, tree_of}
-use Rattle.pat_elab.specs.of_elab_typed.Contexts.{Around}
+use Rattle.elab_typed.specs.Contexts.{Around}
 use Rattle.pat_elab.specs.of_elab_state.declared.state.State.{State}
 use Rattle.pat_elab.specs.of_elab_steps.Growing.{HasType, Grows}
 use Rattle.pat_elab.specs.of_elab_steps.World.{World, type_of, Comes}

@@ -10,7 +10,7 @@ use Rattle.ir_poly.specs.Prog as prog
 use Rattle.prog_tree.specs.TreeOf.{join, join_of, left_joins, tree_of}
 use Rattle.prog_tree.specs.declared.tree.Exp.{Exp}
 use Rattle.prog_tree.specs.declared.tree.Join.{Join}
-use Rattle.pat_elab.specs.of_elab_typed.Contexts.{Around}
+use Rattle.elab_typed.specs.Contexts.{Around}
 use Rattle.pat_elab.specs.of_elab_state.declared.state.State.{State}
 use Rattle.pat_elab.specs.of_elab_steps.Growing.{HasType, Grows}
 use Rattle.pat_elab.specs.of_elab_steps.World.{World, type_of, Comes}

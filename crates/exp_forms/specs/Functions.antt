@@ -6,8 +6,8 @@ use Rattle.sml_tree.specs.BareTree as bare
 use Rattle.core_rules.specs.Choices.{Choices}
 use Rattle.ir_poly.specs.Prog as prog
 use Rattle.prog_tree.specs.TreeOf.{function_of}
-use Rattle.pat_elab.specs.of_elab_typed.Contexts.{Around}
-use Rattle.pat_elab.specs.of_elab_typed.Elaborates.{FunElab}
+use Rattle.elab_typed.specs.Contexts.{Around}
+use Rattle.elab_typed.specs.Elaborates.{FunElab}
 use Rattle.pat_elab.specs.of_elab_state.declared.state.State.{State}
 use Rattle.pat_elab.specs.of_elab_steps.Growing.{HasType, Grows}
 use Rattle.pat_elab.specs.of_elab_steps.World.{World, type_of, Comes}

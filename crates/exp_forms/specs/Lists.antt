@@ -6,11 +6,11 @@ use Rattle.sml_tree.specs.BareTree as bare
 use Rattle.sml_tree.specs.declared.ident.BuiltIn.TheVariants.{Cons, Nil}
 use Rattle.sml_tree.specs.Derived.{tuple}
 use Rattle.ir_poly.specs.Prog as prog
-use Rattle.pat_elab.specs.of_core_elab.Scopes.{built_number}
+use Rattle.core_elab.specs.Scopes.{built_number}
 use Rattle.prog_tree.specs.TreeOf.{Reading, tree_of}
 use Rattle.prog_tree.specs.declared.tree.Exp.{Exp}
 use Rattle.prog_tree.specs.declared.tree.Join.{Join}
-use Rattle.pat_elab.specs.of_elab_typed.Contexts.{Around}
+use Rattle.elab_typed.specs.Contexts.{Around}
 use Rattle.pat_elab.specs.of_elab_state.declared.state.State.{State}
 use Rattle.pat_elab.specs.of_elab_steps.Growing.{HasType, Grows}
 use Rattle.pat_elab.specs.of_elab_steps.World.{World, type_of, Comes}

@@ -5,10 +5,10 @@ use Rattle.ty_core.specs.Types.{Typ}
 use Rattle.sml_tree.specs.BareTree as bare
 use Rattle.ir_poly.specs.TestsChecked.{of_type}
 use Rattle.prog_tree.specs.declared.tree.Parameter.{Parameter}
-use Rattle.pat_elab.specs.of_elab_typed.Contexts.{Around, with_bound}
-use Rattle.pat_elab.specs.of_elab_typed.Elaborates.{ParameterElab}
-use Rattle.pat_elab.specs.of_elab_typed.Instances.{as_typed}
-use Rattle.pat_elab.specs.of_elab_typed.Numbers.{type_as}
+use Rattle.elab_typed.specs.Contexts.{Around, with_bound}
+use Rattle.elab_typed.specs.Elaborates.{ParameterElab}
+use Rattle.elab_typed.specs.Instances.{as_typed}
+use Rattle.elab_typed.specs.Numbers.{type_as}
 use Rattle.pat_elab.specs.of_elab_state.declared.state.State.{State}
 use Rattle.pat_elab.specs.of_elab_steps.Growing.{HasType, Grows, Always}
 use Rattle.pat_elab.specs.of_elab_steps.World.{World, type_of, Comes}

@@ -10,11 +10,11 @@ use Rattle.core_rules.specs.Words.{same_vid}
 use Rattle.ir_poly.specs.ProgChecked.{pat_onto}
 use Rattle.ir_poly.specs.TestsChecked.{of_type}
 use Rattle.ir_poly.specs.Types.{Constructor}
-use Rattle.pat_elab.specs.of_core_elab.Scopes.{Scope}
+use Rattle.core_elab.specs.Scopes.{Scope}
 use Rattle.prog_tree.specs.TreeOf.{RuleTree, rule_of}
-use Rattle.pat_elab.specs.of_elab_typed.Contexts.{Around, with_bound}
-use Rattle.pat_elab.specs.of_elab_typed.Elaborates.{ExpElab, PatElab}
-use Rattle.pat_elab.specs.of_elab_typed.Instances.{as_typed}
+use Rattle.elab_typed.specs.Contexts.{Around, with_bound}
+use Rattle.elab_typed.specs.Elaborates.{ExpElab, PatElab}
+use Rattle.elab_typed.specs.Instances.{as_typed}
 use Rattle.pat_elab.specs.of_elab_state.declared.state.State.{State}
 use Rattle.pat_elab.specs.of_elab_steps.Growing.{HasType, Grows, Always}
 use Rattle.pat_elab.specs.of_elab_steps.World.{World, type_of, Comes}

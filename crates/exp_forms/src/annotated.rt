@@ -6,11 +6,11 @@ ghost use Rattle.pat_elab.specs.of_elab_context.Telling.{IsContext};
 ghost use Rattle.pat_elab.specs.of_elab_steps.Growing.{HasType};
 ghost use Rattle.use_elab.specs.Elaborated.{IsExp};
 
+use elab_types::refused::Refused;
 use mlc_base::place::Place;
 use pat_elab::annotate::annotate;
 use pat_elab::elab_context::context::Context;
 use pat_elab::elab_state::state::State;
-use pat_elab::elab_types::refused::Refused;
 use sml_tree::tree::Ty;
 use std::alloc::Global;
 use use_elab::typed::TypedExp;

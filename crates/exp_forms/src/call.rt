@@ -1,20 +1,20 @@
 // Applications: a function before its arguments.
 ghost use Rattle.std.specs.Prelude.{IfOk};
 ghost use Rattle.sml_tree.specs.BareTree.{Exp as SourceExp, app};
-ghost use Rattle.pat_elab.specs.of_core_elab.Resolves.{IsCalled};
+ghost use Rattle.core_elab.specs.Resolves.{IsCalled};
 ghost use Rattle.pat_elab.specs.of_elab_context.Telling.{IsContext};
 ghost use Rattle.pat_elab.specs.of_elab_steps.Growing.{Grows, HasType};
 ghost use Rattle.use_elab.specs.Elaborated.{IsExp};
 ghost use Rattle.exp_forms.specs.Calls.{IsCall};
 
 use crate::made::Called;
+use elab_types::refused::Refused;
 use mlc_base::make::boxed;
 use mlc_base::memory::NoMemory;
 use mlc_base::place::Place;
 use pat_elab::elab_context::context::Context;
 use pat_elab::elab_state::state::State;
 use pat_elab::elab_steps::step::{fresh_type, unify, write};
-use pat_elab::elab_types::refused::Refused;
 use prog_tree::tree::Exp;
 use std::alloc::Global;
 use ty_core::mark::Mark;

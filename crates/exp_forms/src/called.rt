@@ -1,7 +1,7 @@
 // Operators of applications.
 ghost use Rattle.std.specs.Prelude.{◌≡◌, true};
 ghost use Rattle.sml_tree.specs.TreeOf.{exp_of};
-ghost use Rattle.pat_elab.specs.of_core_elab.Resolves.{IsCalled};
+ghost use Rattle.core_elab.specs.Resolves.{IsCalled};
 
 use sml_tree::tree::Exp;
 

@@ -10,6 +10,7 @@ ghost use Rattle.use_elab.specs.Elaborated.{IsExp};
 ghost use Rattle.exp_forms.specs.Chains.{IsJoined, IsLeft, IsRight, Operands};
 
 use crate::parts::{Joined, LeftChain, Operator, RightChain};
+use elab_types::refused::Refused;
 use mlc_base::make::boxed;
 use mlc_base::memory::NoMemory;
 use mlc_base::place::Place;
@@ -17,7 +18,6 @@ use pat_elab::built::pairs;
 use pat_elab::elab_context::context::Context;
 use pat_elab::elab_state::state::State;
 use pat_elab::elab_steps::step::{fresh_type, unify, write};
-use pat_elab::elab_types::refused::Refused;
 use prog_tree::tree::{Exp, Join, Side};
 use sml_tree::ident::LongVid;
 use std::alloc::Global;

@@ -11,10 +11,10 @@ ghost use Rattle.exp_forms.specs.Chains.{Operands};
 ghost use Rattle.exp_forms.specs.Choices.{AreJoined};
 
 use crate::series::tests;
+use elab_types::refused::Refused;
 use mlc_base::place::Place;
 use pat_elab::elab_context::context::Context;
 use pat_elab::elab_state::state::State;
-use pat_elab::elab_types::refused::Refused;
 use prog_tree::tree::Exp;
 use std::alloc::Global;
 use use_elab::typed::TypedExp;

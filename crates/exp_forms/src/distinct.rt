@@ -2,13 +2,13 @@
 ghost use Rattle.std.specs.Prelude.{◌≡◌, ◌⊎◌, true, false, IfOk, IfErr};
 ghost use Rattle.core_rules.specs.Restrictions.{distinct};
 ghost use Rattle.core_rules.specs.Words.{same_vid};
-ghost use Rattle.pat_elab.specs.of_elab_types.declared.refused.Refused.TheVariants.{Broken, Memory};
+ghost use Rattle.elab_types.specs.declared.refused.Refused.TheVariants.{Broken, Memory};
 ghost use Rattle.exp_forms.specs.Rules.{vids_of};
 
+use elab_types::refused::Refused;
 use mlc_base::memory::NoMemory;
 use mlc_base::place::Place;
 use pat_elab::bound::BoundVariable;
-use pat_elab::elab_types::refused::Refused;
 use std::alloc::Global;
 use vid_scope::vids::VidScope;
 

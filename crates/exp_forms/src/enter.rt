@@ -8,12 +8,12 @@ ghost use Rattle.exp_forms.specs.Rules.{IsEntered};
 
 use crate::bind::bind_all;
 use crate::distinct::check_once;
+use elab_types::refused::Refused;
 use mlc_base::place::Place;
 use pat_elab::bound::BoundVariable;
 use pat_elab::elab_context::context::Context;
 use pat_elab::elab_state::state::State;
 use pat_elab::elab_steps::step::unify;
-use pat_elab::elab_types::refused::Refused;
 use std::alloc::Global;
 
 /// The type of a pattern is made that of what the rules take, and its variables come into scope.

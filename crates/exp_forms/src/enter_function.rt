@@ -6,13 +6,13 @@ ghost use Rattle.exp_forms.specs.Parameters.{AreEntered, IsEntered, Takes};
 
 use crate::bind::bind_all;
 use crate::functions_made::Entered;
+use elab_types::refused::Refused;
 use mlc_base::make::one;
 use mlc_base::memory::NoMemory;
 use mlc_base::place::Place;
 use pat_elab::elab_context::context::Context;
 use pat_elab::elab_state::state::State;
 use pat_elab::elab_steps::step::write;
-use pat_elab::elab_types::refused::Refused;
 use pat_elab::leaf::bind_variable;
 use prog_tree::tree::Parameter;
 use sml_tree::ident::Vid;

@@ -8,6 +8,7 @@ ghost use Rattle.use_elab.specs.Elaborated.{IsExp};
 ghost use Rattle.exp_forms.specs.Parts.{AreFields, with_labels};
 
 use crate::made::FieldsMade;
+use elab_types::refused::Refused;
 use label_rows::sort::Field;
 use mlc_base::memory::NoMemory;
 use mlc_base::place::Place;
@@ -16,7 +17,6 @@ use pat_elab::elab_context::context::Context;
 use pat_elab::elab_state::state::State;
 use pat_elab::elab_steps::rows::record_type;
 use pat_elab::elab_steps::step::write;
-use pat_elab::elab_types::refused::Refused;
 use prog_tree::tree::Exp;
 use std::alloc::Global;
 use use_elab::typed::TypedExp;

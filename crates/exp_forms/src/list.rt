@@ -10,13 +10,13 @@ ghost use Rattle.exp_forms.specs.Lists.{AreElements, IsListed, cons_of, nil_of};
 
 use crate::built::{LIST, list_types, number_of};
 use crate::parts::Listed;
+use elab_types::refused::Refused;
 use mlc_base::make::{boxed, one};
 use mlc_base::memory::NoMemory;
 use mlc_base::place::Place;
 use pat_elab::elab_context::context::Context;
 use pat_elab::elab_state::state::State;
 use pat_elab::elab_steps::step::{unify, write};
-use pat_elab::elab_types::refused::Refused;
 use prog_tree::tree::{Exp, Join, Side, Used};
 use sml_tree::ident::BuiltIn;
 use std::alloc::Global;

@@ -5,12 +5,12 @@ ghost use Rattle.pat_elab.specs.of_elab_context.Telling.{IsContext};
 ghost use Rattle.pat_elab.specs.of_elab_steps.Growing.{HasType};
 ghost use Rattle.use_elab.specs.Elaborated.{IsExp};
 
+use elab_types::refused::Refused;
 use mlc_base::make::boxed;
 use mlc_base::place::Place;
 use pat_elab::elab_context::context::Context;
 use pat_elab::elab_state::state::State;
 use pat_elab::elab_steps::step::{fresh_type, unify, write};
-use pat_elab::elab_types::refused::Refused;
 use prog_tree::tree::Exp;
 use std::alloc::Global;
 use ty_core::mark::Mark;

@@ -12,13 +12,13 @@ ghost use Rattle.exp_forms.specs.Within.{within};
 ghost use Rattle.exp_forms.specs.Rules.{AreRules, IsEntered};
 
 use crate::rules_made::RulesMade;
+use elab_types::refused::Refused;
 use mlc_base::memory::NoMemory;
 use mlc_base::place::Place;
 use pat_elab::bound::{BoundVariable, TypedPat};
 use pat_elab::elab_context::context::Context;
 use pat_elab::elab_state::state::State;
 use pat_elab::elab_steps::step::{fresh_type, unify};
-use pat_elab::elab_types::refused::Refused;
 use prog_tree::tree::Rule;
 use std::alloc::Global;
 use ty_core::mark::Mark;

@@ -8,13 +8,13 @@ ghost use Rattle.pat_elab.specs.of_elab_steps.World.{type_of};
 ghost use Rattle.use_elab.specs.Elaborated.{IsExp};
 ghost use Rattle.exp_forms.specs.Parts.{AreExps, AreExpsOf, before_last, tests_of};
 
+use elab_types::refused::Refused;
 use mlc_base::make::boxed;
 use mlc_base::memory::NoMemory;
 use mlc_base::place::Place;
 use pat_elab::elab_context::context::Context;
 use pat_elab::elab_state::state::State;
 use pat_elab::elab_steps::step::{apply, unify, write};
-use pat_elab::elab_types::refused::Refused;
 use prog_tree::tree::Exp;
 use std::alloc::Global;
 use ty_core::name::{Equality, TyName};

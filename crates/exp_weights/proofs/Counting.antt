@@ -9,10 +9,10 @@ use Rattle.elab_typed.specs.Numbers.{type_as}
 use Rattle.elab_typed.specs.Elaborates.{counted_elab}
 use Rattle.elab_typed.specs.Instances.{as_typed}
 use Rattle.elab_state.specs.declared.state.State.{State}
-use Rattle.use_elab.specs.of_elab_steps.Growing.{HasType, Grows, Always}
-use Rattle.use_elab.specs.of_elab_steps.World.{type_of}
-use Rattle.use_elab.proofs.of_elab_steps.Growing.{grows_on, type_later, comes_before}
-use Rattle.use_elab.specs.of_elab_context.declared.context.Context.{Context}
+use Rattle.elab_steps.specs.Growing.{HasType, Grows, Always}
+use Rattle.elab_steps.specs.World.{type_of}
+use Rattle.elab_steps.proofs.Growing.{grows_on, type_later, comes_before}
+use Rattle.elab_context.specs.declared.context.Context.{Context}
 use Rattle.use_elab.specs.Elaborated.{ElaboratesExp, IsExp}
 use Rattle.use_elab.specs.declared.typed.TypedExp.{TypedExp}
 

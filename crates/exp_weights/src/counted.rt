@@ -1,17 +1,17 @@
 // An expression with its nodes.
 ghost use Rattle.std.specs.Prelude.{◌≡◌, IfOk};
 ghost use Rattle.sml_tree.specs.BareTree.{Exp as SourceExp};
-ghost use Rattle.use_elab.specs.of_elab_steps.Growing.{HasType};
-ghost use Rattle.use_elab.specs.of_elab_context.Telling.{IsContext};
+ghost use Rattle.elab_steps.specs.Growing.{HasType};
+ghost use Rattle.elab_context.specs.Telling.{IsContext};
 ghost use Rattle.use_elab.specs.Elaborated.{IsExp};
 
+use elab_context::context::Context;
 use elab_state::state::State;
+use elab_steps::step::write;
 use elab_types::refused::Refused;
 use mlc_base::make::boxed;
 use prog_tree::tree::Exp;
 use std::alloc::Global;
-use use_elab::elab_context::context::Context;
-use use_elab::elab_steps::step::write;
 use use_elab::typed::TypedExp;
 
 /// An expression that stands for so many nodes of the source: it elaborates to this as well.

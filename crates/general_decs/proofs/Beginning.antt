@@ -22,11 +22,11 @@ use Rattle.elab_steps.specs.Growing.{Always, AreLive, Grows, HasType}
 use Rattle.elab_steps.specs.Tidy.{IsLive}
 use Rattle.elab_steps.specs.World.{World}
 use Rattle.elab_steps.proofs.Growing.{comes_before, grows_same}
-use Rattle.general_vals.specs.of_elab_context.Telling.{IsContext, IsHeld}
-use Rattle.general_vals.specs.of_elab_context.declared.context.Context.{Context}
-use Rattle.general_vals.specs.of_elab_context.declared.entry.Entry.{Entry}
-use Rattle.general_vals.specs.of_elab_context.declared.entry.Entry.TheVariants.{Constructor, Reference, Initial, Primitive, Raised, Single, Own, General}
-use Rattle.general_vals.proofs.of_elab_context.Reading.{context_later}
+use Rattle.elab_context.specs.Telling.{IsContext, IsHeld}
+use Rattle.elab_context.specs.declared.context.Context.{Context}
+use Rattle.elab_context.specs.declared.entry.Entry.{Entry}
+use Rattle.elab_context.specs.declared.entry.Entry.TheVariants.{Constructor, Reference, Initial, Primitive, Raised, Single, Own, General}
+use Rattle.elab_context.proofs.Reading.{context_later}
 use Rattle.general_decs.specs.Scoped.{CameByName, CameIntoScope, IsBegun, IsFurther}
 
 -- contexts with the same schemes

@@ -39,13 +39,13 @@ use Rattle.elab_steps.specs.Growing.{Grows}
 use Rattle.elab_steps.specs.World.{World, type_of, Comes}
 use Rattle.elab_steps.proofs.Changing.{begins-same}
 use Rattle.elab_steps.proofs.Growing.{grows_on, comes_before}
-use Rattle.general_vals.specs.of_elab_context.Numbered.{IsBelowIf, IsNumbered}
-use Rattle.general_vals.specs.of_elab_context.Telling.{IsFit, IsInUse, Tells}
-use Rattle.general_vals.specs.of_elab_context.declared.context.Context.{Context}
-use Rattle.general_vals.specs.of_elab_context.declared.entry.Entry.{Entry}
-use Rattle.general_vals.specs.of_elab_context.declared.entry.Entry.TheVariants.{Constructor, Reference, Initial, Primitive, Raised, Single, Own, General}
-use Rattle.general_vals.proofs.of_elab_context.Contents.{has_constructors_still}
-use Rattle.general_vals.proofs.of_elab_context.Reading.{numbered_later}
+use Rattle.elab_context.specs.Numbered.{IsBelowIf, IsNumbered}
+use Rattle.elab_context.specs.Telling.{IsFit, IsInUse, Tells}
+use Rattle.elab_context.specs.declared.context.Context.{Context}
+use Rattle.elab_context.specs.declared.entry.Entry.{Entry}
+use Rattle.elab_context.specs.declared.entry.Entry.TheVariants.{Constructor, Reference, Initial, Primitive, Raised, Single, Own, General}
+use Rattle.elab_context.proofs.Contents.{has_constructors_still}
+use Rattle.elab_context.proofs.Reading.{numbered_later}
 use Rattle.rec_groups.specs.of_pat_elab.Elaborated.{AreVariables, bound_of, scope_of}
 use Rattle.rec_groups.specs.of_pat_elab.declared.bound.BoundVariable.{BoundVariable}
 use Rattle.rec_groups.proofs.of_pat_elab.Forms.{onto-plus}

@@ -22,10 +22,10 @@ use Rattle.elab_state.specs.declared.state.State.{State}
 use Rattle.elab_state.proofs.Reading.{parameters-stay}
 use Rattle.elab_steps.specs.Growing.{Grows, HasGeneral}
 use Rattle.elab_steps.proofs.Growing.{general_later, grows_on}
-use Rattle.general_vals.specs.of_elab_context.Telling.{HasList, IsContext, IsHeld}
-use Rattle.general_vals.specs.of_elab_context.declared.context.Context.{Context}
-use Rattle.general_vals.specs.of_elab_context.declared.entry.Entry.{Entry}
-use Rattle.general_vals.proofs.of_elab_context.Reading.{context_later}
+use Rattle.elab_context.specs.Telling.{HasList, IsContext, IsHeld}
+use Rattle.elab_context.specs.declared.context.Context.{Context}
+use Rattle.elab_context.specs.declared.entry.Entry.{Entry}
+use Rattle.elab_context.proofs.Reading.{context_later}
 use Rattle.rec_groups.specs.of_pat_elab.Elaborated.{AreVariables}
 use Rattle.rec_groups.specs.of_pat_elab.declared.bound.BoundVariable.{BoundVariable}
 use Rattle.rec_groups.specs.of_exp_forms.Rules.{vids_of}

@@ -39,12 +39,12 @@ use Rattle.elab_state.specs.declared.state.State.{State}
 use Rattle.elab_steps.specs.Growing.{Grows, IsWithin}
 use Rattle.elab_steps.specs.World.{World, Comes, type_of}
 use Rattle.elab_steps.proofs.Growing.{comes_before, grows_on, grows_same}
-use Rattle.general_vals.specs.of_elab_context.Entries.{entry_in, is_free, limit_of, last_of}
-use Rattle.general_vals.specs.of_elab_context.Numbered.{IsNumbered}
-use Rattle.general_vals.specs.of_elab_context.Telling.{IsFit, IsInUse, Tells, denotes_of, kept_of, known_of}
-use Rattle.general_vals.specs.of_elab_context.declared.context.Context.{Context}
-use Rattle.general_vals.specs.of_elab_context.declared.entry.Entry.{Entry}
-use Rattle.general_vals.specs.of_elab_context.declared.entry.Entry.TheVariants.{Own}
+use Rattle.elab_context.specs.Entries.{entry_in, is_free, limit_of, last_of}
+use Rattle.elab_context.specs.Numbered.{IsNumbered}
+use Rattle.elab_context.specs.Telling.{IsFit, IsInUse, Tells, denotes_of, kept_of, known_of}
+use Rattle.elab_context.specs.declared.context.Context.{Context}
+use Rattle.elab_context.specs.declared.entry.Entry.{Entry}
+use Rattle.elab_context.specs.declared.entry.Entry.TheVariants.{Own}
 use Rattle.vid_scope.specs.Entries.{entry_of}
 use Rattle.rec_groups.specs.of_pat_elab.Elaborated.{AreVariables, HasVariable, bound_of, scope_of}
 use Rattle.rec_groups.specs.of_pat_elab.declared.bound.BoundVariable.{BoundVariable}
@@ -190,7 +190,7 @@ anew-behind bs cs x h o = ap (λ p. is_free (option_or (option_map (λ (b : Boun
   where
     by : (p : Option BoundVariable) → latest cs x ≡ p → is_free (option_or (option_map (λ (b : BoundVariable). Own b.ty b.number) (option_or p (latest bs x))) o) ≡ true
     by (Some b) e = refl
-    by None e = absurd (no (sym (ap (λ p. is_free (option_or (option_map (λ (b : BoundVariable). Own b.ty b.number) p) (Some (Rattle.general_vals.specs.of_elab_context.declared.entry.Entry.TheVariants.Reference 0)))) e) ∙ h (Some (Rattle.general_vals.specs.of_elab_context.declared.entry.Entry.TheVariants.Reference 0))))
+    by None e = absurd (no (sym (ap (λ p. is_free (option_or (option_map (λ (b : BoundVariable). Own b.ty b.number) p) (Some (Rattle.elab_context.specs.declared.entry.Entry.TheVariants.Reference 0)))) e) ∙ h (Some (Rattle.elab_context.specs.declared.entry.Entry.TheVariants.Reference 0))))
       where
         no : false ≡ true → ⊥
         no q = cc

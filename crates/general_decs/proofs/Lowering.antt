@@ -18,7 +18,7 @@ use Rattle.elab_state.specs.declared.state.State.{State}
 use Rattle.elab_steps.specs.Growing.{Grows, HasType}
 use Rattle.elab_steps.proofs.Changing.{Tabled}
 use Rattle.elab_steps.proofs.Growing.{grows_on, comes_before}
-use Rattle.general_vals.specs.of_elab_context.declared.context.Context.{Context}
+use Rattle.elab_context.specs.declared.context.Context.{Context}
 use Rattle.rec_groups.specs.of_pat_elab.declared.bound.BoundVariable.{BoundVariable}
 use Rattle.rec_groups.proofs.of_pat_elab.Forms.{all-later}
 use Rattle.rec_groups.specs.Heads.{with_own}

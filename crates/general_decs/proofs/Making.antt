@@ -17,12 +17,12 @@ use Rattle.elab_state.specs.States.{types_in}
 use Rattle.elab_state.specs.declared.state.State.{State}
 use Rattle.elab_steps.specs.Instances.{begins_as_function}
 use Rattle.elab_steps.specs.World.{World, Comes}
-use Rattle.general_vals.specs.of_elab_context.Entries.{entry_in}
-use Rattle.general_vals.specs.of_elab_context.Telling.{IsContext, IsFit, IsHeld, Tells, kept_of, scheme_at, scheme_of}
-use Rattle.general_vals.specs.of_elab_context.declared.context.Context.{Context}
-use Rattle.general_vals.specs.of_elab_context.declared.entry.Entry.{Entry}
-use Rattle.general_vals.specs.of_elab_context.declared.entry.Entry.TheVariants.{Constructor, Reference, Initial, Primitive, Raised, Single, Own, General}
-use Rattle.general_vals.specs.of_elab_context.declared.entry.Scheme as code
+use Rattle.elab_context.specs.Entries.{entry_in}
+use Rattle.elab_context.specs.Telling.{IsContext, IsFit, IsHeld, Tells, kept_of, scheme_at, scheme_of}
+use Rattle.elab_context.specs.declared.context.Context.{Context}
+use Rattle.elab_context.specs.declared.entry.Entry.{Entry}
+use Rattle.elab_context.specs.declared.entry.Entry.TheVariants.{Constructor, Reference, Initial, Primitive, Raised, Single, Own, General}
+use Rattle.elab_context.specs.declared.entry.Scheme as code
 use Rattle.general_decs.specs.Values.{body_of, makes, makes_if}
 
 -- a constructor of a datatype makes a reference where it is a function to one

@@ -19,8 +19,8 @@ use Rattle.ir_poly.specs.Types.{are_new, in_scope, is_declarable}
 use Rattle.elab_typed.specs.Contexts.{Around, generic}
 use Rattle.elab_typed.specs.Elaborates.{scoped_as}
 use Rattle.elab_steps.specs.World.{World, type_of}
-use Rattle.general_vals.specs.of_elab_context.Telling.{Tells}
-use Rattle.general_vals.specs.of_elab_context.declared.context.Context.{Context}
+use Rattle.elab_context.specs.Telling.{Tells}
+use Rattle.elab_context.specs.declared.context.Context.{Context}
 use Rattle.general_decs.specs.Inside.{Keeps}
 use Rattle.general_decs.specs.Scoped.{CameIntoScope, ScopesThese, tyvar_parameters}
 

@@ -23,11 +23,11 @@ use Rattle.elab_state.proofs.Generalising.{scope-behind}
 use Rattle.elab_state.proofs.Solving.{over-more}
 use Rattle.elab_steps.specs.World.{World, type_of, Comes}
 use Rattle.elab_steps.proofs.Growing.{comes_before, general-later}
-use Rattle.general_vals.specs.of_elab_context.Numbered.{IsNumbered}
-use Rattle.general_vals.specs.of_elab_context.Telling.{IsFit, IsGeneral, IsInUse, Tells, kept_of, denotes_of, known_of, kept_entries, vids_in}
-use Rattle.general_vals.specs.of_elab_context.declared.context.Context.{Context}
-use Rattle.general_vals.specs.of_elab_context.declared.entry.Entry.{Entry}
-use Rattle.general_vals.specs.of_elab_context.declared.entry.Entry.TheVariants.{General}
+use Rattle.elab_context.specs.Numbered.{IsNumbered}
+use Rattle.elab_context.specs.Telling.{IsFit, IsGeneral, IsInUse, Tells, kept_of, denotes_of, known_of, kept_entries, vids_in}
+use Rattle.elab_context.specs.declared.context.Context.{Context}
+use Rattle.elab_context.specs.declared.entry.Entry.{Entry}
+use Rattle.elab_context.specs.declared.entry.Entry.TheVariants.{General}
 use Rattle.rec_groups.specs.of_pat_elab.Elaborated.{AreVariables, HasVariable, bound_of}
 use Rattle.rec_groups.specs.of_pat_elab.declared.bound.BoundVariable.{BoundVariable}
 use Rattle.rec_groups.specs.of_exp_forms.Rules.{vids_of}
@@ -36,7 +36,7 @@ use Rattle.rec_groups.proofs.of_exp_forms.Within.{latest}
 use Rattle.general_vals.proofs.of_general_worlds.General.{open-general}
 use Rattle.general_vals.specs.of_general_worlds.Tidy.{Ends}
 use Rattle.general_vals.proofs.Settling.{settled-held}
-use Rattle.general_vals.specs.of_elab_context.Entries.{last_of}
+use Rattle.elab_context.specs.Entries.{last_of}
 use Rattle.rec_groups.proofs.of_dec_forms.Listed.{kept-listed, last-among, last-first}
 use Rattle.rec_groups.proofs.of_dec_forms.Over.{generals-same}
 use Rattle.rec_groups.proofs.of_dec_forms.Telling.{AreFurther}

@@ -14,11 +14,11 @@ use Rattle.elab_types.specs.declared.scope.TypeScope.{TypeScope}
 use Rattle.elab_state.specs.States.{made, types_in}
 use Rattle.elab_state.specs.declared.state.State.{State}
 use Rattle.elab_steps.specs.Tidy.{IsLive}
-use Rattle.general_vals.specs.of_elab_context.Entries.{entry_in}
-use Rattle.general_vals.specs.of_elab_context.Numbered.{IsBelowIf}
-use Rattle.general_vals.specs.of_elab_context.Telling.{IsContext, IsHeld}
-use Rattle.general_vals.specs.of_elab_context.declared.context.Context.{Context}
-use Rattle.general_vals.specs.of_elab_context.declared.entry.Entry.{Entry}
+use Rattle.elab_context.specs.Entries.{entry_in}
+use Rattle.elab_context.specs.Numbered.{IsBelowIf}
+use Rattle.elab_context.specs.Telling.{IsContext, IsHeld}
+use Rattle.elab_context.specs.declared.context.Context.{Context}
+use Rattle.elab_context.specs.declared.entry.Entry.{Entry}
 use Rattle.general_vals.specs.of_general_worlds.Inner.{deeper}
 use Rattle.rec_groups.specs.of_dec_forms.Entries.{type_scope}
 use Rattle.general_decs.specs.Outside.{outside, types_found, tyvars_onto}

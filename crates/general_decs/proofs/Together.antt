@@ -17,7 +17,7 @@ use Rattle.prog_tree.specs.declared.tree.Function.{Function}
 use Rattle.elab_typed.specs.Numbers.{type_as}
 use Rattle.elab_state.specs.declared.state.State.{State}
 use Rattle.elab_steps.specs.World.{World, Comes, type_of}
-use Rattle.general_vals.specs.of_elab_context.declared.context.Context.{Context}
+use Rattle.elab_context.specs.declared.context.Context.{Context}
 use Rattle.rec_groups.specs.of_pat_elab.Elaborated.{scope_of, scope_onto}
 use Rattle.rec_groups.specs.of_pat_elab.declared.bound.BoundVariable.{BoundVariable}
 use Rattle.rec_groups.specs.Functions.{AreWritten}

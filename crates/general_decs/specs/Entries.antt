@@ -6,8 +6,8 @@ use Rattle.sml_tree.specs.declared.ident.Vid.{Vid}
 use Rattle.elab_state.specs.declared.state.State.{State}
 use Rattle.elab_steps.specs.Growing.{Always, Grows}
 use Rattle.elab_steps.specs.World.{type_of}
-use Rattle.general_vals.specs.of_elab_context.declared.entry.Entry.{Entry}
-use Rattle.general_vals.specs.of_elab_context.declared.entry.Entry.TheVariants.{General}
+use Rattle.elab_context.specs.declared.entry.Entry.{Entry}
+use Rattle.elab_context.specs.declared.entry.Entry.TheVariants.{General}
 use Rattle.rec_groups.specs.of_pat_elab.declared.bound.BoundVariable.{BoundVariable}
 use Rattle.elab_steps.specs.Tidy.{IsTidy}
 use Rattle.general_vals.specs.of_general_worlds.Tidy.{AreOpen}

@@ -19,8 +19,8 @@ use Rattle.elab_types.specs.declared.scope.TypeScope.{TypeScope}
 use Rattle.elab_state.specs.declared.state.State.{State}
 use Rattle.elab_steps.specs.Growing.{Grows}
 use Rattle.elab_steps.specs.World.{World, type_of, Comes}
-use Rattle.general_vals.specs.of_elab_context.Telling.{Tells, IsInUse}
-use Rattle.general_vals.specs.of_elab_context.declared.context.Context.{Context}
+use Rattle.elab_context.specs.Telling.{Tells, IsInUse}
+use Rattle.elab_context.specs.declared.context.Context.{Context}
 use Rattle.rec_groups.specs.of_pat_elab.Elaborated.{AreVariables, IsPat, bound_of, scope_of}
 use Rattle.rec_groups.specs.of_pat_elab.declared.bound.BoundVariable.{BoundVariable}
 use Rattle.rec_groups.specs.of_pat_elab.declared.bound.TypedPat.{TypedPat}

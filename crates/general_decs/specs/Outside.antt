@@ -3,7 +3,7 @@ use Rattle.std.specs.Prelude.{◌-◌, ℕ, List, [], ◌∷◌, map, nat_eq, un
 use Rattle.std.specs.Map.{lookup}
 use Rattle.sml_tree.specs.declared.ident.Tyvar.{Tyvar}
 use Rattle.elab_types.specs.Reading.{left_at}
-use Rattle.general_vals.specs.of_elab_context.declared.context.Context.{Context}
+use Rattle.elab_context.specs.declared.context.Context.{Context}
 use Rattle.rec_groups.specs.of_dec_forms.Entries.{type_scope}
 
 -- where so many type variables are in scope

@@ -11,7 +11,7 @@ use Rattle.elab_state.specs.States.{made}
 use Rattle.elab_state.specs.declared.state.State.{State}
 use Rattle.elab_steps.specs.Growing.{Always, Grows}
 use Rattle.elab_steps.specs.World.{World}
-use Rattle.general_vals.specs.of_elab_context.declared.context.Context.{Context}
+use Rattle.elab_context.specs.declared.context.Context.{Context}
 use Rattle.general_vals.specs.of_general_worlds.Inner.{deeper}
 use Rattle.general_vals.specs.of_general_worlds.Tidy.{Enters}
 

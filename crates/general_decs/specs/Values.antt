@@ -21,11 +21,11 @@ use Rattle.elab_state.specs.States.{types_in}
 use Rattle.elab_state.specs.declared.state.State.{State}
 use Rattle.elab_steps.specs.Instances.{begins_as_function}
 use Rattle.elab_steps.specs.World.{World, Comes}
-use Rattle.general_vals.specs.of_elab_context.Telling.{Tells}
-use Rattle.general_vals.specs.of_elab_context.declared.context.Context.{Context}
-use Rattle.general_vals.specs.of_elab_context.declared.entry.Entry.{Entry}
-use Rattle.general_vals.specs.of_elab_context.declared.entry.Entry.TheVariants.{Constructor, Reference, Initial, Primitive, Raised, Single, Own, General}
-use Rattle.general_vals.specs.of_elab_context.declared.entry.Scheme as code
+use Rattle.elab_context.specs.Telling.{Tells}
+use Rattle.elab_context.specs.declared.context.Context.{Context}
+use Rattle.elab_context.specs.declared.entry.Entry.{Entry}
+use Rattle.elab_context.specs.declared.entry.Entry.TheVariants.{Constructor, Reference, Initial, Primitive, Raised, Single, Own, General}
+use Rattle.elab_context.specs.declared.entry.Scheme as code
 
 -- an answer is right in each environment of which the context tells
 abbrev pub IsRight : State → Context → (Env → Bool) → Bool → Type 0

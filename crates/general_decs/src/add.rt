@@ -2,16 +2,16 @@
 ghost use Rattle.std.specs.Prelude.{◌≡◌, ◌++◌, ◌∷◌, [], List, drop, length, true, false, IfOk};
 ghost use Rattle.sml_tree.specs.TreeOf.{RuleOf};
 ghost use Rattle.elab_types.specs.declared.scope.TypeScope.{TypeScope};
-ghost use Rattle.general_vals.specs.of_elab_context.Telling.{IsContext};
+ghost use Rattle.elab_context.specs.Telling.{IsContext};
 ghost use Rattle.elab_steps.specs.Growing.{Grows, HasType};
 ghost use Rattle.general_vals.specs.of_general_worlds.Inner.{deeper};
 ghost use Rattle.general_decs.specs.Inside.{AreInside, StandBehind, marked_as};
 ghost use Rattle.general_decs.specs.Values.{IsGeneralised};
 
+use elab_context::context::Context;
 use elab_state::state::State;
 use elab_steps::step::{unify, write};
 use elab_types::refused::Refused;
-use general_vals::elab_context::context::Context;
 use mlc_base::memory::NoMemory;
 use mlc_base::place::Place;
 use prog_tree::tree::{Binding, Rule};

@@ -5,14 +5,14 @@ ghost use Rattle.ty_core.specs.Types.{var};
 ghost use Rattle.core_rules.specs.Typing.{mark_of as mark_of_tyvar};
 ghost use Rattle.elab_state.specs.States.{dead_level, made, types_in};
 ghost use Rattle.elab_steps.specs.Growing.{Always, Grows, HasType};
-ghost use Rattle.general_vals.specs.of_elab_context.Telling.{IsContext};
+ghost use Rattle.elab_context.specs.Telling.{IsContext};
 ghost use Rattle.general_vals.specs.of_general_worlds.Inner.{deeper};
 ghost use Rattle.general_vals.specs.of_general_worlds.Tidy.{Enters};
 ghost use Rattle.general_decs.specs.Scoped.{CameByName, CameIntoScope, IsBegun, IsFurther};
 
+use elab_context::context::Context;
 use elab_state::state::State;
 use elab_types::refused::Refused;
-use general_vals::elab_context::context::Context;
 use general_vals::enter::enter;
 use mlc_base::memory::NoMemory;
 use mlc_base::place::Place;

@@ -2,13 +2,13 @@
 ghost use Rattle.std.specs.Prelude.{◌≡◌, ◌<◌, ℕ, length, nat_eq, unwrap_or, IfOk};
 ghost use Rattle.std.specs.Map.{lookup};
 ghost use Rattle.elab_types.specs.Reading.{left_at};
-ghost use Rattle.general_vals.specs.of_elab_context.declared.context.Context.{Context as ContextOf};
+ghost use Rattle.elab_context.specs.declared.context.Context.{Context as ContextOf};
 ghost use Rattle.general_decs.specs.Outside.{outside, types_found, tyvars_onto};
 ghost use Rattle.general_decs.specs.Scoped.{CameByName};
 
 use crate::begin::Begun;
+use elab_context::context::Context;
 use elab_types::scope::TypeScope;
-use general_vals::elab_context::context::Context;
 use mlc_base::memory::NoMemory;
 use sml_tree::ident::Tyvar;
 use std::alloc::Global;

@@ -5,8 +5,8 @@ ghost use Rattle.elab_steps.specs.Tidy.{IsTidy};
 ghost use Rattle.general_vals.specs.Settling.{IsMade, KeepsVariables};
 ghost use Rattle.general_decs.specs.Entries.{AreMade, AreShown, IsShown};
 
+use elab_context::entry::Entry;
 use elab_state::state::State;
-use general_vals::elab_context::entry::Entry;
 use general_vals::settle::settled_type;
 use mlc_base::memory::NoMemory;
 use prog_known::answers::both;

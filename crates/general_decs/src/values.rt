@@ -4,7 +4,7 @@ ghost use Rattle.core_rules.specs.Objects.{long_value_in};
 ghost use Rattle.core_rules.specs.Typing.{is_conexp_in};
 ghost use Rattle.prog_known.specs.Lists.{all_hold};
 ghost use Rattle.sml_tree.specs.TreeOf.{exp_of, long_vid_of};
-ghost use Rattle.general_vals.specs.of_elab_context.Telling.{IsContext, IsHeld};
+ghost use Rattle.elab_context.specs.Telling.{IsContext, IsHeld};
 ghost use Rattle.general_decs.specs.Values.{
   IsConexpAs,
   IsNonExpansiveAs,
@@ -20,10 +20,10 @@ ghost use Rattle.general_decs.specs.Values.{
   vid_makes,
 };
 
+use elab_context::context::Context;
+use elab_context::entry::Entry;
 use elab_state::state::State;
 use elab_steps::step::is_function;
-use general_vals::elab_context::context::Context;
-use general_vals::elab_context::entry::Entry;
 use prog_known::answers::both;
 use sml_tree::ident::{LongVid, Vid};
 use sml_tree::tree::{Exp, ExpField, Joint, Part};

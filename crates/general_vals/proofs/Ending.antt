@@ -17,8 +17,8 @@ use Rattle.ir_tables.specs.Rows.{constructors_at}
 use Rattle.ir_tables.specs.Tables.{parameters_of, parameters_at}
 use Rattle.elab_state.specs.States.{types_in, made, said_in, limit_in, general_in, all_parameters, dead_level}
 use Rattle.elab_state.specs.declared.state.State.{State}
-use Rattle.general_worlds.specs.of_elab_context.Telling.{HasList}
-use Rattle.general_worlds.specs.of_elab_steps.Tidy.{IsTidy, is_parameter}
+use Rattle.elab_context.specs.Telling.{HasList}
+use Rattle.elab_steps.specs.Tidy.{IsTidy, is_parameter}
 use Rattle.general_worlds.specs.Tidy.{AreOuter, Ends, mark_in}
 use Rattle.general_worlds.proofs.Scoping.{scope-either, last-general, earlier-general}
 use Rattle.general_vals.specs.Closing.{is_inner, added, collected, ended, ended_at}

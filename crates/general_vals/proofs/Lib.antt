@@ -1,4 +1,3 @@
-pub use Rattle.general_worlds.proofs.of_elab_context as of_elab_context
 pub use Rattle.general_worlds.proofs as of_general_worlds
 pub mod Collecting
 pub mod Closing

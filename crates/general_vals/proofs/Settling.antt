@@ -16,11 +16,11 @@ use Rattle.ir_tables.specs.Tables.{parameters_of}
 use Rattle.elab_state.specs.States.{types_in, made, said_in, limit_in, general_in, all_parameters, dead_level}
 use Rattle.elab_state.proofs.Typed.{either, in-below}
 use Rattle.elab_state.specs.declared.state.State.{State}
-use Rattle.general_worlds.specs.of_elab_steps.Growing.{Always, HasGeneral, HasType}
-use Rattle.general_worlds.specs.of_elab_steps.Tidy.{IsTidy, is_parameter}
-use Rattle.general_worlds.specs.of_elab_steps.World.{type_of}
-use Rattle.general_worlds.proofs.of_elab_steps.Changing.{Tabled}
-use Rattle.general_worlds.proofs.of_elab_steps.Keeping.{limit-in, or-left, or-right}
+use Rattle.elab_steps.specs.Growing.{Always, HasGeneral, HasType}
+use Rattle.elab_steps.specs.Tidy.{IsTidy, is_parameter}
+use Rattle.elab_steps.specs.World.{type_of}
+use Rattle.elab_steps.proofs.Changing.{Tabled}
+use Rattle.elab_steps.proofs.Keeping.{limit-in, or-left, or-right}
 use Rattle.general_worlds.proofs.Scoping.{lighter}
 use Rattle.general_worlds.specs.Tidy.{AreOpen, Ends}
 use Rattle.general_vals.specs.Settling.{IsMade, KeepsVariables, Settles}

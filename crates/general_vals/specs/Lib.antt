@@ -1,4 +1,3 @@
-pub use Rattle.general_worlds.specs.of_elab_context as of_elab_context
 pub use Rattle.general_worlds.specs as of_general_worlds
 pub mod Closing
 pub mod Settling

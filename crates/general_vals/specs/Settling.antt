@@ -6,7 +6,7 @@ use Rattle.ty_solve.specs.Substitution.{is_below}
 use Rattle.ty_instance.specs.Images.{IsResolved}
 use Rattle.elab_state.specs.States.{types_in, made, said_in, limit_in}
 use Rattle.elab_state.specs.declared.state.State.{State}
-use Rattle.general_worlds.specs.of_elab_steps.Growing.{Begins, HasGeneral, HasType}
+use Rattle.elab_steps.specs.Growing.{Begins, HasGeneral, HasType}
 use Rattle.general_worlds.specs.Tidy.{AreOpen, Ends}
 
 -- k is a type over the variables of the state, also over such as are done with

@@ -7,8 +7,8 @@ ghost use Rattle.ty_solve.specs.SlotsOf.{entry_of};
 ghost use Rattle.ir_poly.specs.Types.{is_declarable};
 ghost use Rattle.ir_tables.specs.Tables.{parameters_at, parameters_of};
 ghost use Rattle.elab_state.specs.States.{limit_in, made, said_in};
-ghost use Rattle.general_worlds.specs.of_elab_context.Telling.{HasList};
-ghost use Rattle.general_worlds.specs.of_elab_steps.Tidy.{IsTidy};
+ghost use Rattle.elab_context.specs.Telling.{HasList};
+ghost use Rattle.elab_steps.specs.Tidy.{IsTidy};
 ghost use Rattle.general_worlds.specs.Tidy.{AreOuter, Ends};
 ghost use Rattle.general_vals.specs.Closing.{added, collected, ended, ended_at, is_inner};
 

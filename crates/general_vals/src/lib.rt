@@ -2,7 +2,6 @@
 #![tactic(auto)]
 
 pub use general_worlds;
-pub use general_worlds::elab_context;
 
 pub mod close;
 pub mod enter;

@@ -5,9 +5,9 @@ ghost use Rattle.ty_table.specs.TypeAt.{type_at};
 ghost use Rattle.ty_solve.specs.Said.{said};
 ghost use Rattle.ty_solve.specs.Substitution.{Fits, is_below, is_in, is_open, sub};
 ghost use Rattle.ty_instance.specs.Images.{IsResolved};
-ghost use Rattle.general_worlds.specs.of_elab_steps.Growing.{Always, Grows, HasType};
-ghost use Rattle.general_worlds.specs.of_elab_steps.World.{type_of};
-ghost use Rattle.general_worlds.specs.of_elab_steps.Tidy.{IsTidy};
+ghost use Rattle.elab_steps.specs.Growing.{Always, Grows, HasType};
+ghost use Rattle.elab_steps.specs.World.{type_of};
+ghost use Rattle.elab_steps.specs.Tidy.{IsTidy};
 ghost use Rattle.general_worlds.specs.Tidy.{AreOpen};
 ghost use Rattle.general_vals.specs.Settling.{IsMade, Settles};
 

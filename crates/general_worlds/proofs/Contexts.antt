@@ -16,9 +16,9 @@ use Rattle.elab_types.specs.declared.scope.TypeScope.{TypeScope}
 use Rattle.elab_state.specs.Namings.{IsAmong}
 use Rattle.elab_state.specs.States.{types_in, made, dead_level}
 use Rattle.elab_state.specs.declared.state.State.{State}
-use Rattle.elab_context.specs.of_elab_steps.Growing.{Grows, HasGeneral, HasType}
-use Rattle.elab_context.specs.of_elab_steps.Instances.{IsScheme}
-use Rattle.elab_context.specs.of_elab_steps.Tidy.{IsLive, IsTidy}
+use Rattle.elab_steps.specs.Growing.{Grows, HasGeneral, HasType}
+use Rattle.elab_steps.specs.Instances.{IsScheme}
+use Rattle.elab_steps.specs.Tidy.{IsLive, IsTidy}
 use Rattle.elab_context.specs.Entries.{entry_in}
 use Rattle.elab_context.specs.Numbered.{IsBelowIf}
 use Rattle.elab_context.specs.Telling.{HasList, IsContext, IsHeld, IsHeldIf}

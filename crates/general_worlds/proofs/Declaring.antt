@@ -13,9 +13,9 @@ use Rattle.ir_tables.specs.Tables.{parameters_of, strings_of}
 use Rattle.elab_state.specs.States.{types_in, made, limit_in, general_in, all_parameters, dead_level}
 use Rattle.elab_state.specs.declared.state.State.{State}
 use Rattle.elab_state.proofs.Typed.{in-below}
-use Rattle.elab_context.specs.of_elab_steps.Growing.{Begins, Grows, HasGeneral, HasType}
-use Rattle.elab_context.specs.of_elab_steps.Tidy.{IsTidy, is_parameter}
-use Rattle.elab_context.proofs.of_elab_steps.Changing.{constructors-same, rows-same}
+use Rattle.elab_steps.specs.Growing.{Begins, Grows, HasGeneral, HasType}
+use Rattle.elab_steps.specs.Tidy.{IsTidy, is_parameter}
+use Rattle.elab_steps.proofs.Changing.{constructors-same, rows-same}
 use Rattle.general_worlds.specs.Tidy.{AreOpen, AreOuter, Ends, Enters}
 
 -- where it begins

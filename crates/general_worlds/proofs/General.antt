@@ -16,9 +16,9 @@ use Rattle.elab_state.specs.States.{types_in, made, said_in, limit_in, general_i
 use Rattle.elab_state.proofs.Solving.{over-deeper}
 use Rattle.elab_state.proofs.Typed.{in-below}
 use Rattle.elab_state.specs.declared.state.State.{State}
-use Rattle.elab_context.specs.of_elab_steps.Growing.{HasGeneral}
-use Rattle.elab_context.specs.of_elab_steps.Tidy.{IsTidy}
-use Rattle.elab_context.specs.of_elab_steps.World.{World, Comes, type_of}
+use Rattle.elab_steps.specs.Growing.{HasGeneral}
+use Rattle.elab_steps.specs.Tidy.{IsTidy}
+use Rattle.elab_steps.specs.World.{World, Comes, type_of}
 use Rattle.elab_context.specs.Telling.{IsGeneral}
 use Rattle.general_worlds.specs.Tidy.{AreOpen}
 use Rattle.general_worlds.proofs.Scoping.{not-in}

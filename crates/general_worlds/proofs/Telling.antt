@@ -18,8 +18,8 @@ use Rattle.elab_types.specs.declared.scope.TypeScope.{TypeScope}
 use Rattle.elab_state.specs.Generalising.{inside}
 use Rattle.elab_state.proofs.Generalising.{scope-front, scope-behind}
 use Rattle.elab_state.proofs.Solving.{over-more}
-use Rattle.elab_context.specs.of_elab_steps.World.{World, type_of}
-use Rattle.elab_context.proofs.of_elab_steps.Changing.{begins-same}
+use Rattle.elab_steps.specs.World.{World, type_of}
+use Rattle.elab_steps.proofs.Changing.{begins-same}
 use Rattle.elab_context.specs.Entries.{entry_in}
 use Rattle.elab_context.proofs.Contents.{has_constructors_still, has_contents_still}
 use Rattle.elab_context.specs.Telling.{Tells, IsFit, IsInUse, kept_of, known_of, function_of}

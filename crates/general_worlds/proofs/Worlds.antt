@@ -16,11 +16,11 @@ use Rattle.elab_state.proofs.Generalising.{scope-front, scope-behind}
 use Rattle.elab_state.proofs.Solving.{over-more, over-deeper}
 use Rattle.elab_state.proofs.Typed.{in-below, over-sub}
 use Rattle.elab_state.specs.declared.state.State.{State}
-use Rattle.elab_context.specs.of_elab_steps.World.{World, Comes}
+use Rattle.elab_steps.specs.World.{World, Comes}
 use Rattle.general_worlds.specs.Tidy.{Ends, mark_in}
 use Rattle.general_worlds.specs.Inner.{inner_admits, IsInside, ComesInside}
 use Rattle.general_worlds.proofs.Scoping.{scope-either, admits-front, admits-behind, new-beside, last-general, earlier-general, not-in, lighter, over-in}
-use Rattle.elab_context.proofs.of_elab_steps.Keeping.{limit-in}
+use Rattle.elab_steps.proofs.Keeping.{limit-in}
 use Rattle.general_worlds.proofs.Admitting.{AgreeIn, meets-same}
 
 module _ (l : ℕ) (qs : List Quantified) (S T : State) (E : Ends l qs S T) (W : World) (c : Comes T W) where

@@ -8,7 +8,7 @@ use Rattle.elab_typed.specs.Contexts.{Around}
 use Rattle.elab_types.specs.declared.scope.TypeScope.{TypeScope}
 use Rattle.elab_state.specs.Generalising.{inside}
 use Rattle.elab_state.specs.declared.state.State.{State}
-use Rattle.elab_context.specs.of_elab_steps.World.{World, Comes, type_of}
+use Rattle.elab_steps.specs.World.{World, Comes, type_of}
 use Rattle.elab_context.specs.declared.context.Context.{Context}
 
 -- which variables admit equality there: the parameters by their marks

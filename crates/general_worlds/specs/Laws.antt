@@ -11,9 +11,9 @@ use Rattle.elab_typed.specs.Elaborates.{inner}
 use Rattle.elab_types.specs.declared.scope.TypeScope.{TypeScope}
 use Rattle.elab_state.specs.declared.state.State.{State}
 use Rattle.elab_state.specs.States.{dead_level, general_in, made}
-use Rattle.elab_context.specs.of_elab_steps.Growing.{Grows, HasGeneral, HasType}
-use Rattle.elab_context.specs.of_elab_steps.Tidy.{IsTidy}
-use Rattle.elab_context.specs.of_elab_steps.World.{World, Comes, type_of}
+use Rattle.elab_steps.specs.Growing.{Grows, HasGeneral, HasType}
+use Rattle.elab_steps.specs.Tidy.{IsTidy}
+use Rattle.elab_steps.specs.World.{World, Comes, type_of}
 use Rattle.elab_context.specs.Telling.{IsContext, IsGeneral, Tells}
 use Rattle.elab_context.specs.declared.context.Context.{Context}
 use Rattle.general_worlds.specs.Tidy.{AreOpen, AreOuter, Ends, Enters}

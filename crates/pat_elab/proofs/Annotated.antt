@@ -1,7 +1,7 @@
 -- Types that are written in patterns.
 use Rattle.std.proofs.Common.{◌≡◌, ℕ, Option, Some, None, refl, sym, subst, ◌∙◌}
 use Rattle.sml_tree.specs.BareTree as bare
-use Rattle.elab_context.specs.of_elab_types.Annotations.{IsTypeOf}
+use Rattle.elab_types.specs.Annotations.{IsTypeOf}
 use Rattle.elab_context.specs.of_elab_typed.Elaborates.{Stands}
 use Rattle.elab_context.specs.of_elab_state.States.{types_in}
 use Rattle.elab_context.specs.of_elab_state.declared.state.State.{State}

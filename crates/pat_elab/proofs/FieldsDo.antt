@@ -20,7 +20,7 @@ use Rattle.core_rules.specs.Choices.{Choices, no_choice, both, further}
 use Rattle.ir_values.specs.Values.{same_label}
 use Rattle.ir_poly.specs.Prog as prog
 use Rattle.ir_poly.specs.Types.{ascend, over, all_over}
-use Rattle.elab_context.specs.of_core_elab.Scopes.{Scope, empty, plus_scope}
+use Rattle.core_elab.specs.Scopes.{Scope, empty, plus_scope}
 use Rattle.prog_tree.specs.TreeOf.{pat_of, pat_field_of, fields_of}
 use Rattle.prog_tree.specs.declared.tree.PatField.{PatField}
 use Rattle.prog_tree.specs.declared.tree.Pat.TheVariants as tree

@@ -8,7 +8,7 @@ use Rattle.sml_tree.specs.declared.ident.Vid.{Vid}
 use Rattle.core_rules.specs.Choices.{no_choice}
 use Rattle.ir_poly.specs.Prog as prog
 use Rattle.ir_poly.specs.Types.{over}
-use Rattle.elab_context.specs.of_core_elab.Scopes.{Scope, empty, scoped, plus_scope, variable}
+use Rattle.core_elab.specs.Scopes.{Scope, empty, scoped, plus_scope, variable}
 use Rattle.prog_tree.specs.TreeOf.{pat_of}
 use Rattle.prog_tree.specs.declared.tree.Pat.{Pat}
 use Rattle.prog_tree.specs.declared.tree.Pat.TheVariants as tree

@@ -17,7 +17,7 @@ use Rattle.ir_tables.specs.Tables.{literal_at}
 use Rattle.ir_tables.specs.declared.tables.Constant.{Constant as ProgramConstant}
 use Rattle.ir_poly.specs.Prog as prog
 use Rattle.ir_poly.specs.Types.{over}
-use Rattle.elab_context.specs.of_core_elab.Scopes.{Denotes, denotes_in, is_free_in}
+use Rattle.core_elab.specs.Scopes.{Denotes, denotes_in, is_free_in}
 use Rattle.prog_tree.specs.TreeOf.{pat_of}
 use Rattle.prog_tree.specs.declared.tree.Pat.TheVariants as tree
 use Rattle.elab_context.specs.of_elab_typed.Contexts.{value_under, Around}
@@ -61,8 +61,8 @@ wild_is S T C place bs r i g h n w e = record {
       record {
         choices = no_choice;
         elab =
-            subst (λ p. PatElab W.table A S.next (wild_pat place) p (type_of W r.ty) [] no_choice Rattle.elab_context.specs.of_core_elab.Scopes.empty T.next) (sym (ap (pat_of W.reading) e ∙ pat_of-Any W.reading))
-            (subst (λ j. PatElab W.table A S.next (wild_pat place) prog.any_pat (type_of W r.ty) [] no_choice Rattle.elab_context.specs.of_core_elab.Scopes.empty j) (sym n) (wild_elab place names));
+            subst (λ p. PatElab W.table A S.next (wild_pat place) p (type_of W r.ty) [] no_choice Rattle.core_elab.specs.Scopes.empty T.next) (sym (ap (pat_of W.reading) e ∙ pat_of-Any W.reading))
+            (subst (λ j. PatElab W.table A S.next (wild_pat place) prog.any_pat (type_of W r.ty) [] no_choice Rattle.core_elab.specs.Scopes.empty j) (sym n) (wild_elab place names));
         names = names;
         parameters = within-parameters S C W A r.ty i t (w W c);
       };
@@ -149,10 +149,10 @@ constant_is S M T C place k d bs r i g h w m g' l n e = record {
       record {
         choices = no_choice;
         elab =
-            subst (λ p. PatElab W.table A S.next (constant_pat place k) p (type_of W r.ty) [] no_choice Rattle.elab_context.specs.of_core_elab.Scopes.empty T.next) (sym (ap (pat_of W.reading) e ∙ pat_of-Constant W.reading d))
-            (subst (λ q. PatElab W.table A S.next (constant_pat place k) (prog.constant_pat q) (type_of W r.ty) [] no_choice Rattle.elab_context.specs.of_core_elab.Scopes.empty T.next) (sym lit)
-            (subst (λ u. PatElab W.table A S.next (constant_pat place k) (prog.constant_pat (literal_of k)) u [] no_choice Rattle.elab_context.specs.of_core_elab.Scopes.empty T.next) (sym is)
-            (subst (λ j. PatElab W.table A S.next (constant_pat place k) (prog.constant_pat (literal_of k)) (constant_type k) [] no_choice Rattle.elab_context.specs.of_core_elab.Scopes.empty j) (sym (n ∙ m)) (constant_elab place k))));
+            subst (λ p. PatElab W.table A S.next (constant_pat place k) p (type_of W r.ty) [] no_choice Rattle.core_elab.specs.Scopes.empty T.next) (sym (ap (pat_of W.reading) e ∙ pat_of-Constant W.reading d))
+            (subst (λ q. PatElab W.table A S.next (constant_pat place k) (prog.constant_pat q) (type_of W r.ty) [] no_choice Rattle.core_elab.specs.Scopes.empty T.next) (sym lit)
+            (subst (λ u. PatElab W.table A S.next (constant_pat place k) (prog.constant_pat (literal_of k)) u [] no_choice Rattle.core_elab.specs.Scopes.empty T.next) (sym is)
+            (subst (λ j. PatElab W.table A S.next (constant_pat place k) (prog.constant_pat (literal_of k)) (constant_type k) [] no_choice Rattle.core_elab.specs.Scopes.empty j) (sym (n ∙ m)) (constant_elab place k))));
         names = subst (Over A.names) (sym is) (base-names A.names wide k);
         parameters = subst (λ u. over A.parameters u ≡ true) (sym is) (base-parameters A.parameters k);
       };

@@ -1,6 +1,3 @@
-pub use Rattle.elab_context.proofs.of_core_elab as of_core_elab
-pub use Rattle.elab_context.proofs.of_elab_types as of_elab_types
-pub use Rattle.elab_context.proofs.of_elab_typed as of_elab_typed
 pub use Rattle.elab_context.proofs as of_elab_context
 pub use Rattle.elab_context.proofs.of_elab_steps as of_elab_steps
 pub mod Trees

@@ -12,7 +12,7 @@ use Rattle.core_rules.specs.Choices.{no_choice}
 use Rattle.ir_poly.specs.Prog as prog
 use Rattle.ir_poly.specs.Types.{over, constructor_of}
 use Rattle.ir_poly.specs.TestsChecked.{HasConstructor}
-use Rattle.elab_context.specs.of_core_elab.Scopes.{built_number}
+use Rattle.core_elab.specs.Scopes.{built_number}
 use Rattle.prog_tree.specs.TreeOf.{pat_of, before}
 use Rattle.prog_tree.specs.declared.tree.Head.TheVariants as head
 use Rattle.prog_tree.specs.declared.tree.Pat.TheVariants as tree

@@ -8,7 +8,7 @@ use Rattle.sml_tree.specs.BareTree as bare
 use Rattle.sml_tree.specs.declared.ident.BuiltIn.TheVariants.{Cons, Nil}
 use Rattle.sml_tree.specs.Derived.{list_pat_of}
 use Rattle.ir_poly.specs.Prog as prog
-use Rattle.elab_context.specs.of_core_elab.Scopes.{built_number}
+use Rattle.core_elab.specs.Scopes.{built_number}
 use Rattle.prog_tree.specs.TreeOf.{pat_of, pat_part_of, join_pats, right_pats, PatPartTree}
 use Rattle.prog_tree.specs.declared.tree.Head.TheVariants as head
 use Rattle.prog_tree.specs.declared.tree.Pair.{Pair}

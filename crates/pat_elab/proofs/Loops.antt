@@ -12,7 +12,7 @@ use Rattle.sml_tree.specs.declared.tree.Pat.TheVariants as node
 use Rattle.sml_tree.specs.declared.tree.PatField.{PatField}
 use Rattle.sml_tree.specs.declared.tree.PatPart.{PatPart}
 use Rattle.prog_tree.specs.declared.tree.PatPart.{PatPart as ProgramPart}
-use Rattle.elab_context.proofs.of_elab_types.Lists.{all-map, next-map-at}
+use Rattle.elab_types.proofs.Lists.{all-map, next-map-at}
 use Rattle.elab_context.specs.of_elab_state.declared.state.State.{State}
 use Rattle.elab_context.specs.of_elab_steps.Growing.{HasType, Grows}
 use Rattle.elab_context.proofs.of_elab_steps.Changing.{if-ok}

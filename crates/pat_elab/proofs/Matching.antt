@@ -24,7 +24,7 @@ use Rattle.ir_poly.specs.Prog.{fixed, held}
 use Rattle.ir_poly.specs.ProgChecked.{fixed_checked, held_checked}
 use Rattle.ir_poly.specs.Types.{nth_type, over}
 use Rattle.ir_poly.specs.TestsChecked.{HasConstructor, alone_type, exception as exception_known}
-use Rattle.elab_context.specs.of_core_elab.Scopes.{Denotes, constructor, reference, exception, empty, long_denotes_in}
+use Rattle.core_elab.specs.Scopes.{Denotes, constructor, reference, exception, empty, long_denotes_in}
 use Rattle.prog_tree.specs.TreeOf.{pat_of, before, before as before_tree}
 use Rattle.prog_tree.specs.declared.tree.Exception.TheVariants as tree_exception
 use Rattle.prog_tree.specs.declared.tree.Head.TheVariants as head

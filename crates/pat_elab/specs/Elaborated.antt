@@ -10,7 +10,7 @@ use Rattle.core_rules.specs.Choices.{Choices}
 use Rattle.core_rules.specs.Typing.{Bound}
 use Rattle.ir_poly.specs.Prog as prog
 use Rattle.ir_poly.specs.Types.{over}
-use Rattle.elab_context.specs.of_core_elab.Scopes.{Scope, empty, scoped, variable}
+use Rattle.core_elab.specs.Scopes.{Scope, empty, scoped, variable}
 use Rattle.prog_tree.specs.TreeOf.{pat_of}
 use Rattle.elab_context.specs.of_elab_typed.Contexts.{Around}
 use Rattle.elab_context.specs.of_elab_typed.Elaborates.{PatElab, Binds, Stands, StandsIf}

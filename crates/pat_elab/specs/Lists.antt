@@ -5,7 +5,7 @@ use Rattle.sml_tree.specs.BareTree as bare
 use Rattle.sml_tree.specs.declared.ident.BuiltIn.TheVariants.{Cons, Nil}
 use Rattle.sml_tree.specs.Derived.{tuple_pat}
 use Rattle.ir_poly.specs.Prog as prog
-use Rattle.elab_context.specs.of_core_elab.Scopes.{built_number}
+use Rattle.core_elab.specs.Scopes.{built_number}
 use Rattle.prog_tree.specs.TreeOf.{pat_of}
 use Rattle.prog_tree.specs.declared.tree.PatPart.{PatPart}
 use Rattle.elab_context.specs.of_elab_typed.Contexts.{Around}

@@ -9,7 +9,7 @@ use elab_context::context::Context;
 use elab_context::elab_state::state::State;
 use elab_context::elab_steps::annotate::annotated;
 use elab_context::elab_steps::step::unify;
-use elab_context::elab_types::refused::Refused;
+use elab_types::refused::Refused;
 use mlc_base::place::Place;
 use sml_tree::tree::Ty;
 use std::alloc::Global;

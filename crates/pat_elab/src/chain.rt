@@ -17,7 +17,7 @@ use crate::parts::{Joined, LeftChain, RightChain};
 use elab_context::context::Context;
 use elab_context::elab_state::state::State;
 use elab_context::elab_steps::step::{fresh_type, unify, write};
-use elab_context::elab_types::refused::Refused;
+use elab_types::refused::Refused;
 use mlc_base::make::boxed;
 use mlc_base::memory::NoMemory;
 use mlc_base::place::Place;

@@ -14,7 +14,7 @@ use elab_context::context::Context;
 use elab_context::elab_state::state::State;
 use elab_context::elab_steps::rows::{open_record_type, record_type};
 use elab_context::elab_steps::step::write;
-use elab_context::elab_types::refused::Refused;
+use elab_types::refused::Refused;
 use label_rows::sort::Field;
 use mlc_base::memory::NoMemory;
 use mlc_base::place::Place;

@@ -2,7 +2,7 @@
 #![tactic(auto)]
 
 pub use elab_context;
-pub use elab_context::{core_elab, elab_state, elab_steps, elab_typed, elab_types};
+pub use elab_context::{elab_state, elab_steps};
 
 pub mod annotate;
 pub mod bound;

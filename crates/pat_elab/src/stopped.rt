@@ -1,9 +1,9 @@
 // Why a pattern has no elaboration.
 ghost use Rattle.std.specs.Prelude.{◌≡◌};
-ghost use Rattle.elab_context.specs.of_elab_types.declared.refused.Refused.TheVariants.{Memory};
+ghost use Rattle.elab_types.specs.declared.refused.Refused.TheVariants.{Memory};
 ghost use Rattle.pat_elab.specs.declared.stopped.Stopped.TheVariants.{Refuses};
 
-use elab_context::elab_types::refused::Refused;
+use elab_types::refused::Refused;
 use mlc_base::memory::NoMemory;
 use mlc_base::place::Place;
 

@@ -16,8 +16,8 @@ use Rattle.project_typed.proofs.Whole.{projects-right}
 use Rattle.elab_state.specs.States.{reading_in, table_in}
 use Rattle.elab_state.specs.declared.state.State.{State}
 use Rattle.elab_steps.specs.Tidy.{AreConstructors}
-use Rattle.run_end.specs.of_elab_worlds.Final.{IsFinal, IsLast, IsOrdered, final_world}
-use Rattle.run_end.proofs.of_elab_worlds.Final.{final-comes, finals-ordered, state-ends}
+use Rattle.elab_worlds.specs.Final.{IsFinal, IsLast, IsOrdered, final_world}
+use Rattle.elab_worlds.proofs.Final.{final-comes, finals-ordered, state-ends}
 use Rattle.elab_finish.specs.of_final_types.Programs.{IsProgramWith}
 use Rattle.elab_finish.proofs.Ending.{final-end}
 use Rattle.match_pass.specs.of_ir_prog.Programs.{body_in, prog_of}

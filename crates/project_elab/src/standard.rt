@@ -10,9 +10,9 @@ use elab_context::context::Context;
 use elab_exps::exps::decs_from;
 use elab_finish::basis_context::basis::{hide_prim, prelude_context};
 use elab_state::state::State;
+use pat_elab::stopped::Stopped;
 use prog_tree::tree::Dec as ProgramDec;
 use run_end::dec_forms::brought::Brought;
-use run_end::pat_elab::stopped::Stopped;
 use sml_tree::tree::Dec;
 use std::alloc::Global;
 

@@ -22,11 +22,11 @@ use Rattle.elab_typed.specs.Numbers.{type_as}
 use Rattle.elab_typed.proofs.Names.{over-as}
 use Rattle.elab_types.proofs.Lists.{drop-next}
 use Rattle.elab_state.specs.declared.state.State.{State}
-use Rattle.dec_forms.specs.of_elab_steps.Growing.{Always, Grows, HasType}
-use Rattle.dec_forms.specs.of_elab_steps.World.{World, type_of}
-use Rattle.dec_forms.proofs.of_elab_steps.Growing.{always_later, comes_before, grows_on, type_later}
-use Rattle.dec_forms.specs.of_elab_context.Telling.{IsInUse}
-use Rattle.dec_forms.specs.of_elab_context.declared.context.Context.{Context}
+use Rattle.elab_steps.specs.Growing.{Always, Grows, HasType}
+use Rattle.elab_steps.specs.World.{World, type_of}
+use Rattle.elab_steps.proofs.Growing.{always_later, comes_before, grows_on, type_later}
+use Rattle.elab_context.specs.Telling.{IsInUse}
+use Rattle.elab_context.specs.declared.context.Context.{Context}
 use Rattle.dec_forms.specs.of_pat_elab.declared.bound.BoundVariable.{BoundVariable}
 use Rattle.dec_forms.specs.of_exp_forms.Functions.{ElaboratesFunction, IsFunction}
 use Rattle.dec_forms.specs.of_exp_forms.Rules.{AreRules}
@@ -187,7 +187,7 @@ bind-ends vs i ns old now fs gs h le = let z : i ≡ 0 = omega (arith, le) in su
 -- none
 pub no_functions : (S : State) (E : Context) → AreFunctions S E [] S [] []
 no_functions S E = record {
-  grows = Rattle.dec_forms.proofs.of_elab_steps.Growing.grows_same S;
+  grows = Rattle.elab_steps.proofs.Growing.grows_same S;
   written = tt;
   gives = λ W c A t. record { choices = []; elab = λ j le. no_function };
 }

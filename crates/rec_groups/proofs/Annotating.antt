@@ -9,8 +9,8 @@ use Rattle.sml_tree.specs.declared.ident.Vid.{Vid}
 use Rattle.elab_typed.specs.Contexts.{Around}
 use Rattle.elab_typed.specs.Elaborates.{head_wild, head_variable, head_typed, head_as}
 use Rattle.elab_state.specs.declared.state.State.{State}
-use Rattle.dec_forms.proofs.of_elab_steps.Growing.{comes_before, grows_on, grows_same}
-use Rattle.dec_forms.specs.of_elab_context.declared.context.Context.{Context}
+use Rattle.elab_steps.proofs.Growing.{comes_before, grows_on, grows_same}
+use Rattle.elab_context.specs.declared.context.Context.{Context}
 use Rattle.dec_forms.specs.of_pat_elab.Elaborated.{IsAnnotated, IsAnnotatedIf}
 use Rattle.rec_groups.specs.Heads.{IsAnnotatedHead, IsHeadIn, is_head}
 
@@ -19,7 +19,7 @@ abbrev NeedsNone : bare.Pat → Type 0
 NeedsNone a = (A : Around) (t : Typ) → IsHeadIn A a t
 
 nothing : (S : State) (E : Context) (a : bare.Pat) (ty : ℕ) → NeedsNone a → IsAnnotatedHead S E a ty S
-nothing S E a ty f = record { grows = grows_same S; next = refl; gives = λ W c A t. f A (Rattle.dec_forms.specs.of_elab_steps.World.type_of W ty) }
+nothing S E a ty f = record { grows = grows_same S; next = refl; gives = λ W c A t. f A (Rattle.elab_steps.specs.World.type_of W ty) }
 
 pub wild_annotated : (S : State) (E : Context) (p : Place) (ty : ℕ) → IsAnnotatedHead S E (bare.wild_pat p) ty S
 wild_annotated S E p ty = nothing S E (bare.wild_pat p) ty (λ A t f. head_wild p f.names)

@@ -8,11 +8,11 @@ use Rattle.sml_tree.specs.declared.ident.Vid.{Vid}
 use Rattle.vid_scope.specs.Entries.{with_entries, with_entry}
 use Rattle.vid_scope.specs.declared.vids.VidScope.{VidScope}
 use Rattle.elab_state.specs.declared.state.State.{State}
-use Rattle.dec_forms.specs.of_elab_context.Numbered.{IsBelowIf}
-use Rattle.dec_forms.specs.of_elab_context.Telling.{IsContext, IsHeld}
-use Rattle.dec_forms.specs.of_elab_context.declared.context.Context.{Context}
-use Rattle.dec_forms.specs.of_elab_context.declared.entry.Entry.{Entry}
-use Rattle.dec_forms.specs.of_elab_context.declared.entry.Entry.TheVariants.{Own}
+use Rattle.elab_context.specs.Numbered.{IsBelowIf}
+use Rattle.elab_context.specs.Telling.{IsContext, IsHeld}
+use Rattle.elab_context.specs.declared.context.Context.{Context}
+use Rattle.elab_context.specs.declared.entry.Entry.{Entry}
+use Rattle.elab_context.specs.declared.entry.Entry.TheVariants.{Own}
 use Rattle.dec_forms.specs.of_pat_elab.Elaborated.{AreVariables}
 use Rattle.dec_forms.specs.of_pat_elab.declared.bound.BoundVariable.{BoundVariable}
 use Rattle.dec_forms.proofs.of_exp_forms.Entering.{context_with}

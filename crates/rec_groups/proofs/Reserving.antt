@@ -13,10 +13,10 @@ use Rattle.core_rules.specs.Restrictions.{is_kept}
 use Rattle.core_elab.specs.Resolves.{HeadTo, head_wild, head_variable, head_typed, head_as}
 use Rattle.core_elab.specs.Scopes.{Scope, scoped, variable}
 use Rattle.elab_state.specs.declared.state.State.{State}
-use Rattle.dec_forms.specs.of_elab_steps.Growing.{Always, Grows, HasType, IsWithin}
-use Rattle.dec_forms.proofs.of_elab_steps.Growing.{always_later, grows_on, grows_same, type_later}
-use Rattle.dec_forms.specs.of_elab_context.Entries.{limit_of}
-use Rattle.dec_forms.specs.of_elab_context.declared.context.Context.{Context}
+use Rattle.elab_steps.specs.Growing.{Always, Grows, HasType, IsWithin}
+use Rattle.elab_steps.proofs.Growing.{always_later, grows_on, grows_same, type_later}
+use Rattle.elab_context.specs.Entries.{limit_of}
+use Rattle.elab_context.specs.declared.context.Context.{Context}
 use Rattle.dec_forms.specs.of_pat_elab.Elaborated.{HasVariable, scope_onto}
 use Rattle.dec_forms.specs.of_pat_elab.declared.bound.BoundVariable.{BoundVariable}
 use Rattle.dec_forms.proofs.of_pat_elab.Forms.{all-later}

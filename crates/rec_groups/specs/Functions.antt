@@ -14,10 +14,10 @@ use Rattle.elab_typed.specs.Contexts.{Around}
 use Rattle.elab_typed.specs.Elaborates.{FunElab}
 use Rattle.elab_typed.specs.Numbers.{type_as}
 use Rattle.elab_state.specs.declared.state.State.{State}
-use Rattle.dec_forms.specs.of_elab_steps.Growing.{Always, Grows}
-use Rattle.dec_forms.specs.of_elab_steps.World.{World, Comes, type_of}
-use Rattle.dec_forms.specs.of_elab_context.Telling.{IsInUse, Tells}
-use Rattle.dec_forms.specs.of_elab_context.declared.context.Context.{Context}
+use Rattle.elab_steps.specs.Growing.{Always, Grows}
+use Rattle.elab_steps.specs.World.{World, Comes, type_of}
+use Rattle.elab_context.specs.Telling.{IsInUse, Tells}
+use Rattle.elab_context.specs.declared.context.Context.{Context}
 use Rattle.rec_groups.specs.Heads.{IsHeadIn, numbers_of}
 use Rattle.rec_groups.specs.declared.head.Head.{Head}
 

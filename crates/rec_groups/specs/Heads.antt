@@ -12,13 +12,13 @@ use Rattle.core_elab.specs.Scopes.{Scope}
 use Rattle.elab_typed.specs.Contexts.{Around, generic}
 use Rattle.elab_typed.specs.Elaborates.{HeadElab}
 use Rattle.elab_state.specs.declared.state.State.{State}
-use Rattle.dec_forms.specs.of_elab_steps.Growing.{Always, Grows, HasType, IsWithin}
-use Rattle.dec_forms.specs.of_elab_steps.World.{World, Comes, type_of}
-use Rattle.dec_forms.specs.of_elab_context.Entries.{limit_of}
-use Rattle.dec_forms.specs.of_elab_context.Telling.{Tells}
-use Rattle.dec_forms.specs.of_elab_context.declared.context.Context.{Context}
-use Rattle.dec_forms.specs.of_elab_context.declared.entry.Entry.{Entry}
-use Rattle.dec_forms.specs.of_elab_context.declared.entry.Entry.TheVariants.{Own}
+use Rattle.elab_steps.specs.Growing.{Always, Grows, HasType, IsWithin}
+use Rattle.elab_steps.specs.World.{World, Comes, type_of}
+use Rattle.elab_context.specs.Entries.{limit_of}
+use Rattle.elab_context.specs.Telling.{Tells}
+use Rattle.elab_context.specs.declared.context.Context.{Context}
+use Rattle.elab_context.specs.declared.entry.Entry.{Entry}
+use Rattle.elab_context.specs.declared.entry.Entry.TheVariants.{Own}
 use Rattle.dec_forms.specs.of_pat_elab.Elaborated.{AreVariables, scope_onto}
 use Rattle.dec_forms.specs.of_pat_elab.declared.bound.BoundVariable.{BoundVariable}
 use Rattle.dec_forms.specs.of_exp_forms.Rules.{vids_of}

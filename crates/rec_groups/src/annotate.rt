@@ -1,13 +1,13 @@
 // Types that are written in the heads of functions.
 ghost use Rattle.std.specs.Prelude.{◌≡◌, IfOk};
 ghost use Rattle.sml_tree.specs.TreeOf.{pat_of, some_ty_of};
-ghost use Rattle.dec_forms.specs.of_elab_context.Telling.{IsContext};
-ghost use Rattle.dec_forms.specs.of_elab_steps.Growing.{HasType};
+ghost use Rattle.elab_context.specs.Telling.{IsContext};
+ghost use Rattle.elab_steps.specs.Growing.{HasType};
 ghost use Rattle.dec_forms.specs.of_pat_elab.Elaborated.{IsAnnotatedIf};
 ghost use Rattle.rec_groups.specs.Heads.{IsAnnotatedHead};
 
-use dec_forms::elab_context::context::Context;
 use dec_forms::pat_elab::annotate::annotate;
+use elab_context::context::Context;
 use elab_state::state::State;
 use elab_types::refused::Refused;
 use mlc_base::place::Place;

@@ -2,16 +2,16 @@
 ghost use Rattle.std.specs.Prelude.{◌≡◌, List, reverse, IfOk};
 ghost use Rattle.std.specs.List.{AllByRecursion};
 ghost use Rattle.vid_scope.specs.Entries.{mark_of};
-ghost use Rattle.dec_forms.specs.of_elab_context.Telling.{IsContext};
+ghost use Rattle.elab_context.specs.Telling.{IsContext};
 ghost use Rattle.elab_state.specs.declared.state.State.{State as StateOf};
 ghost use Rattle.dec_forms.specs.Telling.{with_all};
 ghost use Rattle.dec_forms.specs.of_pat_elab.Elaborated.{AreVariables};
 ghost use Rattle.rec_groups.specs.Heads.{own_entries, with_own};
 
 use crate::head::Head;
-use dec_forms::elab_context::context::Context;
-use dec_forms::elab_context::entry::Entry;
 use dec_forms::pat_elab::bound::BoundVariable;
+use elab_context::context::Context;
+use elab_context::entry::Entry;
 use mlc_base::memory::NoMemory;
 use vid_scope::vids::VidMark;
 

@@ -3,22 +3,22 @@ ghost use Rattle.std.specs.Prelude.{◌≡◌, ◌++◌, ◌∷◌, [], List, ma
 ghost use Rattle.mlc_base.specs.declared.place.Place.{Place as PlaceAt};
 ghost use Rattle.sml_tree.specs.BareTree.{Rules, fn as function_exp};
 ghost use Rattle.sml_tree.specs.TreeOf.{RuleOf, rules_of};
-ghost use Rattle.dec_forms.specs.of_elab_context.Telling.{IsContext};
+ghost use Rattle.elab_context.specs.Telling.{IsContext};
 ghost use Rattle.elab_state.specs.declared.state.State.{State as StateOf};
-ghost use Rattle.dec_forms.specs.of_elab_steps.Growing.{Grows, HasType};
+ghost use Rattle.elab_steps.specs.Growing.{Grows, HasType};
 ghost use Rattle.dec_forms.specs.of_exp_forms.Functions.{IsFunction};
 ghost use Rattle.dec_forms.specs.of_exp_forms.Rules.{AreRules};
 ghost use Rattle.rec_groups.specs.Functions.{AreFunctions};
 ghost use Rattle.rec_groups.specs.Heads.{IsAnnotatedHead, numbers_of};
 
 use crate::head::Head;
-use dec_forms::elab_context::context::Context;
-use dec_forms::elab_steps::step::{unify, write};
 use dec_forms::exp_forms::functions_made::FunctionMade;
 use dec_forms::exp_forms::rules_made::RulesMade;
 use dec_forms::pat_elab::bound::BoundVariable;
 use dec_forms::use_elab::given::functions;
+use elab_context::context::Context;
 use elab_state::state::State;
+use elab_steps::step::{unify, write};
 use elab_types::refused::Refused;
 use mlc_base::memory::NoMemory;
 use mlc_base::place::Place;

@@ -17,10 +17,10 @@ use Rattle.ty_solve.specs.declared.limit.Limit.{Limit}
 use Rattle.ty_solve.specs.declared.subst.Slot.{Slot}
 use Rattle.elab_state.specs.States.{dead_level, limit_in, made, said_in, types_in}
 use Rattle.elab_state.specs.declared.state.State.{State}
-use Rattle.elab_worlds.specs.of_elab_steps.Growing.{Always, Grows, HasType}
-use Rattle.elab_worlds.specs.of_elab_steps.World.{type_of}
-use Rattle.elab_worlds.proofs.of_elab_steps.Changing.{Tabled}
-use Rattle.elab_worlds.proofs.of_elab_steps.Growing.{comes_before}
+use Rattle.elab_steps.specs.Growing.{Always, Grows, HasType}
+use Rattle.elab_steps.specs.World.{type_of}
+use Rattle.elab_steps.proofs.Changing.{Tabled}
+use Rattle.elab_steps.proofs.Growing.{comes_before}
 use Rattle.open_variables.proofs.Limits.{limit-there}
 use Rattle.run_end.specs.Chosen.{AreChosen, HasDefault, IsChosen, IsNamed, LeavesOthers}
 

@@ -10,8 +10,8 @@ use Rattle.ir_poly.specs.Types.{in_scope}
 use Rattle.sml_tree.specs.declared.ident.Vid.{Vid}
 use Rattle.elab_state.specs.States.{dead_level, general_in, limit_in, made, said_in}
 use Rattle.elab_state.specs.declared.state.State.{State}
-use Rattle.elab_worlds.specs.of_elab_steps.Tidy.{IsTidy}
-use Rattle.dec_forms.specs.of_elab_context.declared.entry.Entry.{Entry}
+use Rattle.elab_steps.specs.Tidy.{IsTidy}
+use Rattle.elab_context.specs.declared.entry.Entry.{Entry}
 use Rattle.open_variables.specs.Open.{AreDone, IsDone, is_done_in}
 use Rattle.open_variables.proofs.Limits.{limit-past}
 use Rattle.run_end.specs.Settled.{IsSettledType, own_type, types_brought}

@@ -8,7 +8,7 @@ use Rattle.ty_solve.specs.Weight.{weight, weights, WeighsAt}
 use Rattle.ir_poly.specs.Types.{in_scope}
 use Rattle.elab_state.specs.States.{general_in, said_in, types_in}
 use Rattle.elab_state.specs.declared.state.State.{State}
-use Rattle.elab_worlds.specs.of_elab_steps.World.{World, Comes, type_of}
+use Rattle.elab_steps.specs.World.{World, Comes, type_of}
 use Rattle.open_variables.specs.Open.{Among, Occurs, IsClosed}
 use Rattle.run_end.specs.Settled.{IsSettledType}
 

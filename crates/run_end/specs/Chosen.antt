@@ -8,8 +8,8 @@ use Rattle.ty_core.specs.declared.name.TyName.{TyName}
 use Rattle.ty_solve.specs.Substitution.{free}
 use Rattle.elab_state.specs.States.{dead_level, limit_in, said_in}
 use Rattle.elab_state.specs.declared.state.State.{State}
-use Rattle.elab_worlds.specs.of_elab_steps.Growing.{Always}
-use Rattle.elab_worlds.specs.of_elab_steps.World.{World}
+use Rattle.elab_steps.specs.Growing.{Always}
+use Rattle.elab_steps.specs.World.{World}
 use Rattle.elab_worlds.specs.Final.{default_of}
 
 -- v stands for the default of the class

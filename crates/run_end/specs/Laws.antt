@@ -2,7 +2,7 @@
 use Rattle.std.specs.Prelude.{◌≡◌, ◌<◌, ℕ, length}
 use Rattle.elab_state.specs.States.{types_in}
 use Rattle.elab_state.specs.declared.state.State.{State}
-use Rattle.elab_worlds.specs.of_elab_steps.World.{World, Comes, type_of}
+use Rattle.elab_steps.specs.World.{World, Comes, type_of}
 use Rattle.run_end.specs.Settled.{IsSettledType}
 
 -- In all worlds in which what the state says comes true a settled type stands for the same: no other typing of the run gives it another one.

@@ -7,8 +7,8 @@ use Rattle.sml_tree.specs.declared.ident.Vid.{Vid}
 use Rattle.ir_poly.specs.Types.{in_scope}
 use Rattle.elab_state.specs.States.{general_in, said_in, types_in}
 use Rattle.elab_state.specs.declared.state.State.{State}
-use Rattle.dec_forms.specs.of_elab_context.declared.entry.Entry.{Entry}
-use Rattle.dec_forms.specs.of_elab_context.declared.entry.Entry.TheVariants.{Constructor, Reference, Initial, Primitive, Raised, Single, Own, General}
+use Rattle.elab_context.specs.declared.entry.Entry.{Entry}
+use Rattle.elab_context.specs.declared.entry.Entry.TheVariants.{Constructor, Reference, Initial, Primitive, Raised, Single, Own, General}
 use Rattle.open_variables.specs.Open.{IsClosed}
 use Rattle.dec_forms.specs.declared.brought.Brought.{Brought}
 

@@ -6,8 +6,8 @@ ghost use Rattle.ty_core.specs.declared.mark.Mark.{Mark};
 ghost use Rattle.ty_table.specs.TypeAt.{type_at};
 ghost use Rattle.ty_solve.specs.Substitution.{free};
 ghost use Rattle.elab_state.specs.States.{dead_level, limit_in, made, said_in, types_in};
-ghost use Rattle.elab_worlds.specs.of_elab_steps.Growing.{Always, Grows, HasType};
-ghost use Rattle.elab_worlds.specs.of_elab_steps.World.{type_of};
+ghost use Rattle.elab_steps.specs.Growing.{Always, Grows, HasType};
+ghost use Rattle.elab_steps.specs.World.{type_of};
 ghost use Rattle.elab_worlds.specs.Final.{default_of};
 ghost use Rattle.run_end.specs.Chosen.{AreChosen, HasDefault, IsChosen, IsNamed, LeavesOthers};
 

@@ -2,8 +2,6 @@
 #![tactic(auto)]
 
 pub use dec_forms;
-pub use dec_forms::pat_elab;
-pub use elab_worlds;
 
 pub mod choose;
 pub mod law;

@@ -1,11 +1,11 @@
 // Whether the types that a run of declarations brings into scope are settled.
 ghost use Rattle.std.specs.Prelude.{◌≡◌, ◌↔◌, ◌++◌, IfOk, IsTrue};
 ghost use Rattle.std.specs.Option.{option_to_list};
-ghost use Rattle.elab_worlds.specs.of_elab_steps.Tidy.{IsTidy};
+ghost use Rattle.elab_steps.specs.Tidy.{IsTidy};
 ghost use Rattle.run_end.specs.Settled.{IsSettled, own_type as own_type_of, types_brought};
 
 use dec_forms::brought::Brought;
-use dec_forms::elab_context::entry::Entry;
+use elab_context::entry::Entry;
 use elab_state::state::State;
 use mlc_base::memory::NoMemory;
 use open_variables::done::are_done;

@@ -1,4 +1,3 @@
-pub use Rattle.dec_forms.proofs.of_pat_elab as of_pat_elab
 pub use Rattle.dec_forms.proofs as of_dec_forms
 pub use Rattle.dec_forms.proofs.of_exp_forms as of_exp_forms
 pub mod Scoping

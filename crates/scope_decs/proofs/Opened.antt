@@ -19,11 +19,11 @@ use Rattle.elab_typed.proofs.Under.{kept-env-under}
 use Rattle.elab_state.specs.declared.state.State.{State}
 use Rattle.elab_steps.specs.World.{World}
 use Rattle.elab_steps.proofs.Growing.{grows_same}
-use Rattle.dec_forms.specs.of_elab_context.Entries.{contents_at, entry_in, last_of, member_in}
-use Rattle.dec_forms.specs.of_elab_context.Numbered.{IsBelowIf, IsNumbered}
-use Rattle.dec_forms.specs.of_elab_context.Telling.{IsContext, IsFit, IsHeld, Tells, denotes_of, kept_of}
-use Rattle.dec_forms.specs.of_elab_context.declared.context.Context.{Context}
-use Rattle.dec_forms.specs.of_elab_context.declared.entry.Entry.{Entry}
+use Rattle.elab_context.specs.Entries.{contents_at, entry_in, last_of, member_in}
+use Rattle.elab_context.specs.Numbered.{IsBelowIf, IsNumbered}
+use Rattle.elab_context.specs.Telling.{IsContext, IsFit, IsHeld, Tells, denotes_of, kept_of}
+use Rattle.elab_context.specs.declared.context.Context.{Context}
+use Rattle.elab_context.specs.declared.entry.Entry.{Entry}
 use Rattle.dec_forms.proofs.of_exp_forms.Entering.{context_with}
 use Rattle.dec_forms.specs.Bringing.{Brings, Effect, IsBringing, past}
 use Rattle.dec_forms.specs.Telling.{with_all}

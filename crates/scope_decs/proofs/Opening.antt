@@ -14,9 +14,9 @@ use Rattle.vid_scope.specs.Entries.{entry_of}
 use Rattle.vid_scope.specs.declared.vids.VidScope.{VidScope}
 use Rattle.core_rules.specs.Words.{same_vid}
 use Rattle.core_rules.proofs.LookUps.{vid-tells}
-use Rattle.dec_forms.specs.of_elab_context.Entries.{contents_at, entry_in, last_of, member_in}
-use Rattle.dec_forms.specs.of_elab_context.declared.context.Context.{Context}
-use Rattle.dec_forms.specs.of_elab_context.declared.entry.Entry.{Entry}
+use Rattle.elab_context.specs.Entries.{contents_at, entry_in, last_of, member_in}
+use Rattle.elab_context.specs.declared.context.Context.{Context}
+use Rattle.elab_context.specs.declared.entry.Entry.{Entry}
 use Rattle.scope_decs.specs.Opening.{found_by, members_of, AreOpened, none_opened, one_opened, IsOpened}
 
 append-nil : {A : Type 0} (xs : List A) → xs ++ [] ≡ xs

@@ -14,9 +14,9 @@ use Rattle.elab_typed.specs.Contexts.{generic}
 use Rattle.elab_types.specs.Reading.{entry_of as type_entry_of}
 use Rattle.elab_types.specs.declared.refused.Refused.{Refused}
 use Rattle.elab_types.specs.declared.refused.Refused.TheVariants.{Unbound}
-use Rattle.dec_forms.specs.of_elab_context.Entries.{entry_in, member_in}
-use Rattle.dec_forms.specs.of_elab_context.Telling.{function_of, kept_of}
-use Rattle.dec_forms.specs.of_elab_context.declared.context.Context.{Context}
+use Rattle.elab_context.specs.Entries.{entry_in, member_in}
+use Rattle.elab_context.specs.Telling.{function_of, kept_of}
+use Rattle.elab_context.specs.declared.context.Context.{Context}
 use Rattle.scope_decs.specs.Refusals.{IsOpenRefused, IsUnboundStructureIn, IsUnboundTypeIn, within}
 
 -- what a refusal says is said of what is passed on

@@ -25,15 +25,15 @@ use Rattle.elab_state.specs.declared.state.State.{State}
 use Rattle.elab_steps.specs.World.{World}
 use Rattle.elab_steps.proofs.Changing.{begins-same}
 use Rattle.elab_steps.proofs.Growing.{grows_same}
-use Rattle.dec_forms.specs.of_elab_context.Entries.{constructor_entry, constructors_in, constructors_of, last_of}
-use Rattle.dec_forms.specs.of_elab_context.Numbered.{IsBelowIf, IsNumbered, number_of}
-use Rattle.dec_forms.specs.of_elab_context.Telling.{HasConstructors, IsContext, IsFit, IsHeld, Tells, denotes_of, function_of, kept_of, scope_of_entries}
-use Rattle.dec_forms.specs.of_elab_context.declared.context.Context.{Context}
-use Rattle.dec_forms.specs.of_elab_context.declared.entry.Built.{Built}
-use Rattle.dec_forms.specs.of_elab_context.declared.entry.Built.TheVariants.{Ref, Declared}
-use Rattle.dec_forms.specs.of_elab_context.declared.entry.Entry.{Entry}
-use Rattle.dec_forms.specs.of_elab_context.declared.entry.Scheme.{Scheme}
-use Rattle.dec_forms.proofs.of_elab_context.Contents.{has_constructors_still}
+use Rattle.elab_context.specs.Entries.{constructor_entry, constructors_in, constructors_of, last_of}
+use Rattle.elab_context.specs.Numbered.{IsBelowIf, IsNumbered, number_of}
+use Rattle.elab_context.specs.Telling.{HasConstructors, IsContext, IsFit, IsHeld, Tells, denotes_of, function_of, kept_of, scope_of_entries}
+use Rattle.elab_context.specs.declared.context.Context.{Context}
+use Rattle.elab_context.specs.declared.entry.Built.{Built}
+use Rattle.elab_context.specs.declared.entry.Built.TheVariants.{Ref, Declared}
+use Rattle.elab_context.specs.declared.entry.Entry.{Entry}
+use Rattle.elab_context.specs.declared.entry.Scheme.{Scheme}
+use Rattle.elab_context.proofs.Contents.{has_constructors_still}
 use Rattle.dec_forms.proofs.of_exp_forms.Entering.{context_with, number-known}
 use Rattle.dec_forms.specs.Bringing.{Brings, Effect, ElaboratesWith, IsBringing, past}
 use Rattle.dec_forms.specs.Entries.{Adds, last_at, with_types}

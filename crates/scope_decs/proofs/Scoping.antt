@@ -13,12 +13,12 @@ use Rattle.elab_typed.specs.Contexts.{given, given_values}
 use Rattle.elab_state.specs.States.{types_in}
 use Rattle.elab_state.specs.declared.state.State.{State}
 use Rattle.elab_types.specs.declared.scope.TypeEntry.{TypeEntry}
-use Rattle.dec_forms.specs.of_elab_context.Entries.{entry_in}
-use Rattle.dec_forms.specs.of_elab_context.Numbered.{IsNumbered}
-use Rattle.dec_forms.specs.of_elab_context.Telling.{IsContext, IsHeld}
-use Rattle.dec_forms.specs.of_elab_context.declared.context.Context.{Context}
-use Rattle.dec_forms.specs.of_elab_context.declared.entry.Entry.{Entry}
-use Rattle.dec_forms.specs.of_elab_context.declared.entry.Entry.TheVariants.{Constructor, Reference, Initial, Primitive, Raised, Single, Own, General}
+use Rattle.elab_context.specs.Entries.{entry_in}
+use Rattle.elab_context.specs.Numbered.{IsNumbered}
+use Rattle.elab_context.specs.Telling.{IsContext, IsHeld}
+use Rattle.elab_context.specs.declared.context.Context.{Context}
+use Rattle.elab_context.specs.declared.entry.Entry.{Entry}
+use Rattle.elab_context.specs.declared.entry.Entry.TheVariants.{Constructor, Reference, Initial, Primitive, Raised, Single, Own, General}
 use Rattle.dec_forms.specs.Entries.{with_types}
 
 -- options

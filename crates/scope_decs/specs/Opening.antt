@@ -3,9 +3,9 @@ use Rattle.std.specs.Prelude.{◌≡◌, ◌++◌, ◌∷◌, [], ℕ, List, Opt
 use Rattle.std.specs.Map.{lookup}
 use Rattle.sml_tree.specs.BareTree.{LongIdAt}
 use Rattle.sml_tree.specs.declared.ident.Vid.{Vid}
-use Rattle.dec_forms.specs.of_elab_context.Entries.{contents_at, member_in}
-use Rattle.dec_forms.specs.of_elab_context.declared.context.Context.{Context}
-use Rattle.dec_forms.specs.of_elab_context.declared.entry.Entry.{Entry}
+use Rattle.elab_context.specs.Entries.{contents_at, member_in}
+use Rattle.elab_context.specs.declared.context.Context.{Context}
+use Rattle.elab_context.specs.declared.entry.Entry.{Entry}
 
 -- identifiers that something finds, each as it is found
 abbrev pub found_by : (Vid → Option Entry) → List (Vid × Entry) → List (Vid × Entry)

@@ -9,8 +9,8 @@ use Rattle.elab_typed.specs.Contexts.{Around, generic}
 use Rattle.elab_types.specs.declared.refused.Refused.{Refused}
 use Rattle.elab_types.specs.declared.refused.Refused.TheVariants.{Memory, Unbound}
 use Rattle.elab_steps.specs.World.{World}
-use Rattle.dec_forms.specs.of_elab_context.Telling.{IsUnboundIn, Tells}
-use Rattle.dec_forms.specs.of_elab_context.declared.context.Context.{Context}
+use Rattle.elab_context.specs.Telling.{IsUnboundIn, Tells}
+use Rattle.elab_context.specs.declared.context.Context.{Context}
 
 -- where the context tells of something, the type constructor isn't bound in it
 abbrev pub IsUnboundTypeIn : Context → LongIdAt → Type 0

@@ -2,7 +2,7 @@
 #![tactic(auto)]
 
 pub use dec_forms;
-pub use dec_forms::{exp_forms, pat_elab};
+pub use dec_forms::exp_forms;
 
 pub mod members;
 pub mod replicate;

@@ -7,8 +7,8 @@ ghost use Rattle.elab_types.specs.declared.refused.Refused.TheVariants.{Unbound}
 ghost use Rattle.scope_decs.specs.Opening.{found_by, members_of};
 ghost use Rattle.scope_decs.specs.Refusals.{IsUnboundStructureIn};
 
-use dec_forms::elab_context::context::Context;
-use dec_forms::elab_context::entry::Entry;
+use elab_context::context::Context;
+use elab_context::entry::Entry;
 use elab_types::refused::Refused;
 use mlc_base::memory::NoMemory;
 use sml_tree::ident::Vid;

@@ -5,13 +5,13 @@ ghost use Rattle.sml_tree.specs.TreeOf.{long_id_at_of};
 ghost use Rattle.elab_types.specs.declared.refused.Refused.TheVariants.{Unbound};
 ghost use Rattle.elab_types.specs.Reading.{entry_of};
 ghost use Rattle.elab_state.specs.declared.state.State.{State};
-ghost use Rattle.dec_forms.specs.of_elab_context.Telling.{IsContext};
+ghost use Rattle.elab_context.specs.Telling.{IsContext};
 ghost use Rattle.dec_forms.specs.Bringing.{IsBringing};
 ghost use Rattle.scope_decs.specs.Refusals.{IsReplicateRefused, IsUnboundTypeIn};
 
 use dec_forms::bring::{bring_types, bring_values};
 use dec_forms::brought::Brought;
-use dec_forms::elab_context::context::Context;
+use elab_context::context::Context;
 use elab_types::refused::Refused;
 use elab_types::scope::TypeEntry;
 use mlc_base::place::Place;

@@ -30,7 +30,7 @@ use Rattle.ir_poly.specs.Types.{in_scope, admits_in, over, all_over, changed, Ar
 use Rattle.ir_poly.specs.TestsChecked.{of_type, own, alone_type, exception as exception_known}
 use Rattle.ir_poly.specs.TestsChecked as checked
 use Rattle.ir_tables.specs.Tables.{parameters_of, parameters_at}
-use Rattle.elab_context.specs.of_core_elab.Scopes.{Denotes, variable, constructor, reference, exception, primitive}
+use Rattle.core_elab.specs.Scopes.{Denotes, variable, constructor, reference, exception, primitive}
 use Rattle.prog_tree.specs.TreeOf.{tree_of, atom_of, use_of}
 use Rattle.prog_tree.specs.declared.tree.Exception.TheVariants as tree_exception
 use Rattle.prog_tree.specs.declared.tree.Atom.TheVariants as atom

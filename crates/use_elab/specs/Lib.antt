@@ -1,4 +1,2 @@
-pub use Rattle.elab_context.specs.of_elab_steps as of_elab_steps
-pub use Rattle.elab_context.specs as of_elab_context
 pub mod Elaborated
 pub mod Fresh

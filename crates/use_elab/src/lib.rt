@@ -1,9 +1,6 @@
 // Identifiers in expressions.
 #![tactic(auto)]
 
-pub use elab_context;
-pub use elab_context::elab_steps;
-
 pub mod finish;
 pub mod fresh;
 pub mod general;

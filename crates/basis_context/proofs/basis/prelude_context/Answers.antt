@@ -1,6 +1,6 @@
 use Rattle.std.proofs.Common.{ℕ, List, refl, sym, ap, subst, ◌∙◌}
 use Rattle.elab_state.specs.States.{types_in}
-use Rattle.elab_context.specs.of_elab_steps.Tidy.{IsTidy}
+use Rattle.elab_steps.specs.Tidy.{IsTidy}
 use Rattle.basis_context.specs.Basis.{type_entries, type_list}
 use Rattle.basis_context.proofs.Being.{bases_are, bodies-count, hidden-count, initial_is, integers-count, prelude_is, values-count}
 use Rattle.basis_context.proofs.Whole.{tells_initial, tells_prelude}

@@ -1,6 +1,6 @@
 use Rattle.std.proofs.Common.{length, refl}
 use Rattle.ty_instance.proofs.Going.{longer}
-use Rattle.elab_context.proofs.of_elab_steps.Changing.{if-ok, tabled_grows, written_later}
+use Rattle.elab_steps.proofs.Changing.{if-ok, tabled_grows, written_later}
 use Rattle.basis_context.proofs.tables.basis_of.Goals as goal
 
 pub invariant_of-state : goal.invariant_of-state

@@ -1,7 +1,7 @@
 use Rattle.std.proofs.Common.{Some, refl, ap, sym, ◌∙◌}
 use Rattle.std.proofs.lemmas.Option.{slice_get_within}
 use Rattle.sml_tree.specs.TreeOf.{con_bind_of}
-use Rattle.datatype_forms.specs.of_elab_context.declared.entry.Built.TheVariants.{Declared}
+use Rattle.elab_context.specs.declared.entry.Built.TheVariants.{Declared}
 use Rattle.elab_state.specs.States.{types_in}
 use Rattle.datatype_decs.proofs.Adding.{one_more}
 use Rattle.datatype_decs.proofs.constructors.add_constructor.Goals as goal

@@ -2,7 +2,7 @@ use Rattle.std.proofs.Common.{None, get_or, length, map, take, arith}
 use Rattle.ty_instance.proofs.Going.{longer}
 use Rattle.sml_tree.specs.TreeOf.{con_bind_of}
 use Rattle.elab_state.specs.States.{types_in}
-use Rattle.datatype_forms.proofs.of_elab_steps.Growing.{found-later}
+use Rattle.elab_steps.proofs.Growing.{found-later}
 use Rattle.datatype_forms.proofs.Collecting.{taken_next}
 use Rattle.datatype_forms.proofs.InNames.{take-at}
 use Rattle.datatype_decs.proofs.Adding.{more_next, no_more}

@@ -1,5 +1,5 @@
 use Rattle.std.proofs.Common.{Some, refl}
-use Rattle.datatype_forms.specs.of_elab_context.declared.entry.Scheme as code
+use Rattle.elab_context.specs.declared.entry.Scheme as code
 use Rattle.datatype_decs.proofs.constructors.add_scheme.Goals as goal
 
 pub returns : goal.returns

@@ -5,7 +5,7 @@ use Rattle.sml_tree.specs.declared.tree.ConBind.{ConBind}
 use Rattle.sml_tree.specs.declared.tree.DataBind.{DataBind as Bind}
 use Rattle.ty_instance.proofs.Going.{longer}
 use Rattle.elab_state.specs.States.{types_in}
-use Rattle.datatype_forms.proofs.of_elab_steps.Growing.{found-later}
+use Rattle.elab_steps.proofs.Growing.{found-later}
 use Rattle.datatype_forms.specs.Arguments.{RowBelow, RowHeld}
 use Rattle.datatype_forms.specs.Best.{rows_of}
 use Rattle.datatype_forms.proofs.Best.{standing_length}

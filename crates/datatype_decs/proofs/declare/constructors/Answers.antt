@@ -2,7 +2,7 @@ use Rattle.std.proofs.Common.{List, length, map, sym, ap, subst, ◌∙◌}
 use Rattle.std.proofs.lemmas.List.{length-map}
 use Rattle.ty_core.specs.declared.name.TyName.{TyName}
 use Rattle.sml_tree.specs.TreeOf.{data_bind_of}
-use Rattle.datatype_forms.specs.of_elab_context.Entries.{number_in}
+use Rattle.elab_context.specs.Entries.{number_in}
 use Rattle.elab_state.specs.States.{types_in}
 use Rattle.datatype_forms.specs.Arguments.{AreRowsOf, rows_at}
 use Rattle.datatype_forms.specs.Best.{rows_of}

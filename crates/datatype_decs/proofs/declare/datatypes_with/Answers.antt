@@ -9,9 +9,9 @@ use Rattle.core_rules.specs.Words.{same_vid}
 use Rattle.elab_types.specs.declared.scope.TypeEntry.{TypeEntry}
 use Rattle.elab_types.specs.declared.scope.TypeScope.{TypeScope}
 use Rattle.elab_state.specs.States.{types_in}
-use Rattle.datatype_forms.specs.of_elab_context.declared.context.Context.{Context}
-use Rattle.datatype_forms.specs.of_elab_context.declared.entry.Entry.{Entry}
-use Rattle.datatype_forms.specs.of_elab_context.Telling.{vids_in}
+use Rattle.elab_context.specs.declared.context.Context.{Context}
+use Rattle.elab_context.specs.declared.entry.Entry.{Entry}
+use Rattle.elab_context.specs.Telling.{vids_in}
 use Rattle.datatype_forms.specs.of_dec_forms.Entries.{with_types}
 use Rattle.datatype_forms.specs.of_dec_forms.Telling.{with_all}
 use Rattle.datatype_forms.specs.Abbreviated.{binds_with}

@@ -1,7 +1,7 @@
 use Rattle.std.proofs.Common.{◌∷◌, [], map, refl, sym, ap, subst, ◌∙◌}
 use Rattle.sml_tree.specs.BareTree.{datatype_dec, type_dec}
 use Rattle.sml_tree.specs.TreeOf.{data_bind_of, type_bind_of}
-use Rattle.datatype_forms.specs.of_elab_steps.Growing.{Begins}
+use Rattle.elab_steps.specs.Growing.{Begins}
 use Rattle.datatype_forms.proofs.of_dec_forms.Sequence.{sequence_is}
 use Rattle.datatype_forms.proofs.of_dec_forms.Several.{more_brought, none_brought}
 use Rattle.datatype_forms.specs.Abbreviated.{binds_with}

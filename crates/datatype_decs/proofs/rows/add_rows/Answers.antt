@@ -6,7 +6,7 @@ use Rattle.ty_core.specs.declared.name.TyName.{TyName}
 use Rattle.sml_tree.specs.TreeOf.{con_bind_of, data_bind_of}
 use Rattle.sml_tree.specs.declared.tree.ConBind.{ConBind}
 use Rattle.sml_tree.specs.declared.tree.DataBind.{DataBind as Bind}
-use Rattle.datatype_forms.specs.of_elab_context.Entries.{number_in}
+use Rattle.elab_context.specs.Entries.{number_in}
 use Rattle.elab_state.specs.States.{types_in}
 use Rattle.datatype_forms.specs.Arguments.{row_at, rows_at}
 use Rattle.datatype_forms.specs.Constructed.{AllRows, EachRow, no_rows}

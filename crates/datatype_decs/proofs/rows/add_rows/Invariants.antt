@@ -1,7 +1,7 @@
 use Rattle.std.proofs.Common.{◌≡◌, map, nat_eq, take}
 use Rattle.indexmap.specs.IndexMap.{get}
 use Rattle.sml_tree.specs.TreeOf.{data_bind_of}
-use Rattle.datatype_forms.specs.of_elab_context.Entries.{number_in}
+use Rattle.elab_context.specs.Entries.{number_in}
 use Rattle.elab_state.specs.States.{types_in}
 use Rattle.datatype_forms.specs.Arguments.{rows_at}
 use Rattle.datatype_forms.specs.Constructed.{AllRows}

@@ -1,7 +1,7 @@
 use Rattle.std.proofs.Common.{length, refl}
 use Rattle.ty_instance.proofs.Going.{longer}
 use Rattle.ty_instance.proofs.Putting.{on-ok}
-use Rattle.dec_forms.proofs.of_elab_steps.Changing.{tabled_grows, written_later}
+use Rattle.elab_steps.proofs.Changing.{tabled_grows, written_later}
 use Rattle.datatype_forms.proofs.closed.closed_apply.Goals as goal
 
 pub invariant_of-state : goal.invariant_of-state

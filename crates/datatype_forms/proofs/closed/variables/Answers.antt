@@ -1,6 +1,6 @@
 use Rattle.std.proofs.Common.{length, refl}
 use Rattle.ty_instance.proofs.Going.{longer}
-use Rattle.dec_forms.proofs.of_elab_steps.Changing.{if-ok, tabled_grows, written_later}
+use Rattle.elab_steps.proofs.Changing.{if-ok, tabled_grows, written_later}
 use Rattle.datatype_forms.proofs.closed.variables.Goals as goal
 
 pub invariant_of-state : goal.invariant_of-state

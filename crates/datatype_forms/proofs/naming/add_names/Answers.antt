@@ -1,5 +1,5 @@
 use Rattle.std.proofs.Common.{◌≡◌, ◌+◌, subst, ap, arith}
-use Rattle.dec_forms.specs.of_elab_context.declared.context.Context.{Context}
+use Rattle.elab_context.specs.declared.context.Context.{Context}
 use Rattle.datatype_forms.specs.Steps.{AreNamed}
 use Rattle.datatype_forms.proofs.Stepping.{more_named, none_named}
 use Rattle.datatype_forms.proofs.naming.add_names.Goals as goal

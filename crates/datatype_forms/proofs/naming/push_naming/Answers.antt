@@ -3,7 +3,7 @@ use Rattle.elab_state.specs.Namings.{ComesBefore}
 use Rattle.ty_instance.proofs.Going.{whole}
 use Rattle.elab_state.proofs.Numbering.{namings-push}
 use Rattle.elab_state.proofs.Reading.{written-named}
-use Rattle.dec_forms.proofs.of_elab_steps.Changing.{begins-more}
+use Rattle.elab_steps.proofs.Changing.{begins-more}
 use Rattle.datatype_forms.proofs.Stepping.{naming_pushed}
 use Rattle.datatype_forms.proofs.naming.push_naming.Goals as goal
 

@@ -2,7 +2,7 @@ use Rattle.std.proofs.Common.{[], map, take, subst, sym}
 use Rattle.sml_tree.specs.TreeOf.{con_bind_of}
 use Rattle.elab_types.proofs.Keeping.{holds_later}
 use Rattle.elab_state.specs.States.{types_in}
-use Rattle.dec_forms.proofs.of_closed_types.Entering.{parameters-later}
+use Rattle.closed_types.proofs.Entering.{parameters-later}
 use Rattle.datatype_forms.specs.Reading.{AreArgumentTypes}
 use Rattle.datatype_forms.proofs.Collecting.{row_next, taken_next}
 use Rattle.datatype_forms.proofs.Stepping.{step_on, step_same}

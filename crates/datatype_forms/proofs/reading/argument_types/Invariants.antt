@@ -4,7 +4,7 @@ use Rattle.sml_tree.specs.declared.ident.Tyvar.{Tyvar}
 use Rattle.elab_types.specs.Reading.{Holds}
 use Rattle.elab_types.specs.declared.scope.TypeScope.{TypeScope}
 use Rattle.elab_state.specs.States.{types_in}
-use Rattle.dec_forms.specs.of_closed_types.Parameters.{AreParameters}
+use Rattle.closed_types.specs.Parameters.{AreParameters}
 use Rattle.datatype_forms.specs.Reading.{AreArgumentTypes}
 use Rattle.datatype_forms.specs.Steps.{IsStep}
 use Rattle.datatype_forms.proofs.reading.argument_types.Given as goal

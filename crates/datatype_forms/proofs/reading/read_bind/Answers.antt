@@ -4,8 +4,8 @@ use Rattle.sml_tree.specs.declared.ident.Tyvar.{Tyvar}
 use Rattle.core_rules.specs.Restrictions.{distinct}
 use Rattle.elab_types.proofs.Keeping.{holds_later}
 use Rattle.elab_state.specs.States.{types_in}
-use Rattle.dec_forms.specs.of_closed_types.Parameters.{AreParameters}
-use Rattle.dec_forms.proofs.of_closed_types.Entering.{holds-entered}
+use Rattle.closed_types.specs.Parameters.{AreParameters}
+use Rattle.closed_types.proofs.Entering.{holds-entered}
 use Rattle.dec_forms.proofs.Bodies.{none-left, scope-same}
 use Rattle.datatype_forms.proofs.Collecting.{row_entered}
 use Rattle.datatype_forms.proofs.Stepping.{step_on}

@@ -1,6 +1,6 @@
 use Rattle.sml_tree.specs.TreeOf.{ty_of}
 use Rattle.elab_state.specs.States.{types_in}
-use Rattle.dec_forms.proofs.of_closed_types.Entering.{closed-is}
+use Rattle.closed_types.proofs.Entering.{closed-is}
 use Rattle.datatype_forms.proofs.reading.written_type.Goals as goal
 
 pub returns-clause-is : goal.returns-clause-is

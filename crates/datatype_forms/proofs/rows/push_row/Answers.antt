@@ -1,6 +1,6 @@
 use Rattle.std.proofs.Common.{length, refl, sym, ◌∙◌}
 use Rattle.ty_instance.proofs.Going.{whole}
-use Rattle.dec_forms.proofs.of_elab_steps.Changing.{begins-more}
+use Rattle.elab_steps.proofs.Changing.{begins-more}
 use Rattle.datatype_forms.proofs.StandingRows.{constructors-more}
 use Rattle.datatype_forms.proofs.Stepping.{none_found, row_pushed, rows_kept}
 use Rattle.datatype_forms.proofs.rows.push_row.Goals as goal

@@ -2,7 +2,7 @@ use Rattle.std.proofs.Common.{◌≡◌, List, length, map, nat_eq, true, refl, 
 use Rattle.sml_tree.specs.TreeOf.{ty_of, type_bind_of}
 use Rattle.sml_tree.specs.declared.ident.Tyvar.{Tyvar}
 use Rattle.core_rules.specs.Restrictions.{distinct, no_repetition}
-use Rattle.closed_types.proofs.of_elab_types.Keeping.{holds_later}
+use Rattle.elab_types.proofs.Keeping.{holds_later}
 use Rattle.closed_types.specs.of_elab_state.States.{types_in}
 use Rattle.closed_types.specs.Parameters.{AreParameters}
 use Rattle.closed_types.proofs.Entering.{closed-is, holds-entered}

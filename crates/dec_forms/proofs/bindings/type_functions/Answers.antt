@@ -1,9 +1,9 @@
 use Rattle.std.proofs.Common.{◌≡◌, ◌++◌, ◌∷◌, [], map, take, get_or, refl, sym, ap, subst, ◌∙◌}
 use Rattle.sml_tree.specs.TreeOf.{type_bind_of}
 use Rattle.sml_tree.specs.declared.tree.TypeBind.{TypeBind}
-use Rattle.closed_types.proofs.of_elab_types.Keeping.{holds_later}
-use Rattle.closed_types.specs.of_elab_types.Reading.{Holds}
-use Rattle.closed_types.specs.of_elab_types.declared.scope.TypeScope.{TypeScope}
+use Rattle.elab_types.proofs.Keeping.{holds_later}
+use Rattle.elab_types.specs.Reading.{Holds}
+use Rattle.elab_types.specs.declared.scope.TypeScope.{TypeScope}
 use Rattle.closed_types.specs.of_elab_state.States.{types_in}
 use Rattle.dec_forms.specs.Abbreviations.{AreTypeFunctions, IsTypeFunction}
 use Rattle.dec_forms.proofs.Bodies.{binds-next, no_functions, one_function, same-index}

@@ -1,8 +1,8 @@
 use Rattle.std.proofs.Common.{◌≡◌, ◌++◌, ℕ, List, map, nat_eq, true, refl, sym, ap, ap₂, ◌∙◌}
 use Rattle.sml_tree.specs.TreeOf.{type_bind_of}
 use Rattle.core_rules.specs.Restrictions.{distinct}
-use Rattle.closed_types.specs.of_elab_types.declared.scope.TypeEntry.{TypeEntry}
-use Rattle.closed_types.specs.of_elab_types.declared.scope.TypeScope.{TypeScope}
+use Rattle.elab_types.specs.declared.scope.TypeEntry.{TypeEntry}
+use Rattle.elab_types.specs.declared.scope.TypeScope.{TypeScope}
 use Rattle.exp_forms.specs.of_elab_context.declared.context.Context.{Context}
 use Rattle.dec_forms.specs.Entries.{with_types}
 use Rattle.dec_forms.proofs.DeclaringTypes.{context_of_types, types_declared}

@@ -1,6 +1,6 @@
 use Rattle.std.proofs.Common.{map, refl, ap, ◌∙◌}
 use Rattle.sml_tree.specs.TreeOf.{type_bind_of}
-use Rattle.closed_types.specs.of_elab_types.declared.scope.TypeScope.{TypeScope}
+use Rattle.elab_types.specs.declared.scope.TypeScope.{TypeScope}
 use Rattle.closed_types.specs.of_elab_state.States.{types_in}
 use Rattle.dec_forms.proofs.Bodies.{functions_in, holds_without, scope-same}
 use Rattle.dec_forms.proofs.declare_types.closed_functions.Goals as goal

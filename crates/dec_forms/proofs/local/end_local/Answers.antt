@@ -1,6 +1,6 @@
 use Rattle.std.proofs.Common.{◌≡◌, ◌++◌, ℕ, List, Vec, Global, refl, ap, ap₂, ◌∙◌}
 use Rattle.sml_tree.specs.declared.ident.Vid.{Vid}
-use Rattle.closed_types.specs.of_elab_types.declared.scope.TypeEntry.{TypeEntry}
+use Rattle.elab_types.specs.declared.scope.TypeEntry.{TypeEntry}
 use Rattle.closed_types.proofs.of_elab_steps.Growing.{grows_on}
 use Rattle.exp_forms.specs.of_elab_context.declared.context.Context.{Context}
 use Rattle.exp_forms.specs.of_elab_context.declared.entry.Entry.{Entry}

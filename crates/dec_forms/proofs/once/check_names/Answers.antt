@@ -2,7 +2,7 @@ use Rattle.std.proofs.Common.{◌≡◌, ◌⊎◌, true, false, Bool, List, nat
 use Rattle.std.specs.Prelude.{IfErr, IfOk}
 use Rattle.core_rules.specs.Restrictions.{distinct}
 use Rattle.core_rules.specs.Words.{same_vid}
-use Rattle.closed_types.specs.of_elab_types.declared.refused.Refused.TheVariants.{Broken, Memory}
+use Rattle.elab_types.specs.declared.refused.Refused.TheVariants.{Broken, Memory}
 use Rattle.exp_forms.specs.of_pat_elab.declared.bound.BoundVariable.{BoundVariable}
 use Rattle.exp_forms.specs.Rules.{vids_of}
 use Rattle.dec_forms.proofs.Listed.{named-once}

@@ -5,7 +5,7 @@ use Rattle.sml_tree.specs.declared.tree.Exp.TheVariants as node
 use Rattle.sml_tree.specs.declared.tree.Function.{out-Function}
 use Rattle.elab_steps.specs.Growing.{HasType}
 use Rattle.scope_decs.specs.of_dec_forms.Bringing.{IsBringing}
-use Rattle.exp_weights.specs.of_elab_context.declared.context.Context.{Context}
+use Rattle.elab_context.specs.declared.context.Context.{Context}
 use Rattle.elab_steps.proofs.Changing.{if-ok}
 use Rattle.elab_steps.proofs.Growing.{comes_before, grows_on, grows_same, type_later}
 use Rattle.elab_steps.specs.World.{type_of}

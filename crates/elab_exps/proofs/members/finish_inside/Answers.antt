@@ -1,5 +1,5 @@
 use Rattle.std.proofs.Common.{◌∷◌, [], length, sym, ap, subst, ◌∙◌}
-use Rattle.scope_decs.specs.of_pat_elab.Elaborated.{AreVariables}
+use Rattle.pat_elab.specs.Elaborated.{AreVariables}
 use Rattle.elab_exps.proofs.Grouping.{all_at, ended_stands}
 use Rattle.elab_exps.proofs.members.finish_inside.Goals as goal
 

@@ -1,9 +1,9 @@
 use Rattle.std.proofs.Common.{[], map, subst, sym}
 use Rattle.sml_tree.specs.Derived.{one_or_tuple_pat}
 use Rattle.sml_tree.specs.TreeOf.{pat_of}
-use Rattle.exp_weights.proofs.of_elab_context.Reading.{context_later}
+use Rattle.elab_context.proofs.Reading.{context_later}
 use Rattle.elab_steps.proofs.Growing.{type_later}
-use Rattle.scope_decs.specs.of_pat_elab.Elaborated.{IsPat}
+use Rattle.pat_elab.specs.Elaborated.{IsPat}
 use Rattle.elab_exps.proofs.Heading.{mark_is}
 use Rattle.elab_exps.proofs.parameters.begin_clause.Goals as goal
 

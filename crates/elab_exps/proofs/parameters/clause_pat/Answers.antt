@@ -1,6 +1,6 @@
 use Rattle.std.proofs.Common.{subst}
 use Rattle.elab_steps.proofs.Changing.{if-ok}
-use Rattle.scope_decs.specs.of_pat_elab.Elaborated.{IsPat}
+use Rattle.pat_elab.specs.Elaborated.{IsPat}
 use Rattle.elab_exps.proofs.Taking.{one-pat, several-pats}
 use Rattle.elab_exps.proofs.parameters.clause_pat.Goals as goal
 

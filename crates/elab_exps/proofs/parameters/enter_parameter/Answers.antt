@@ -1,8 +1,8 @@
 use Rattle.std.proofs.Common.{List, refl, ap, subst, ◌∙◌}
 use Rattle.sml_tree.specs.declared.ident.Vid.TheVariants.{Fresh}
-use Rattle.exp_weights.proofs.of_elab_context.Reading.{context_later}
-use Rattle.scope_decs.specs.of_pat_elab.Elaborated.{IsBound}
-use Rattle.scope_decs.specs.of_pat_elab.declared.bound.BoundVariable.{BoundVariable}
+use Rattle.elab_context.proofs.Reading.{context_later}
+use Rattle.pat_elab.specs.Elaborated.{IsBound}
+use Rattle.pat_elab.specs.declared.bound.BoundVariable.{BoundVariable}
 use Rattle.scope_decs.specs.of_exp_forms.Within.{within}
 use Rattle.scope_decs.proofs.of_exp_forms.EnteringFunctions.{entered_is, fresh_context}
 use Rattle.elab_exps.proofs.parameters.enter_parameter.Goals as goal

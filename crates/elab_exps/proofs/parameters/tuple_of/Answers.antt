@@ -1,9 +1,9 @@
 use Rattle.std.proofs.Common.{map, take, arith}
 use Rattle.sml_tree.specs.TreeOf.{pat_of}
-use Rattle.exp_weights.proofs.of_elab_context.Reading.{context_later}
+use Rattle.elab_context.proofs.Reading.{context_later}
 use Rattle.elab_steps.proofs.Growing.{grows_on}
-use Rattle.scope_decs.specs.of_pat_elab.Fields.{numbered}
-use Rattle.scope_decs.proofs.of_pat_elab.Loops.{part_more, parts_end}
+use Rattle.pat_elab.specs.Fields.{numbered}
+use Rattle.pat_elab.proofs.Loops.{part_more, parts_end}
 use Rattle.elab_exps.proofs.parameters.tuple_of.Goals as goal
 
 pub loop-i-init : goal.loop-i-init

@@ -1,6 +1,6 @@
 use Rattle.std.proofs.Common.{map, take}
 use Rattle.sml_tree.specs.TreeOf.{pat_of}
-use Rattle.scope_decs.specs.of_pat_elab.Fields.{AreFields, numbered}
+use Rattle.pat_elab.specs.Fields.{AreFields, numbered}
 use Rattle.elab_exps.proofs.parameters.tuple_of.Given as goal
 
 abbrev pub invariant-loop-i : goal.invariant-loop-i

@@ -1,5 +1,5 @@
 use Rattle.std.proofs.Common.{◌≡◌, ◌≤◌, length, true, false, sym, subst, ◌∙◌}
-use Rattle.elab_steps.specs.of_elab_state.States.{said_in}
+use Rattle.elab_state.specs.States.{said_in}
 use Rattle.elab_worlds.specs.Final.{is_row}
 use Rattle.elab_worlds.proofs.Ordering.{one-more, row-at, seen-settled}
 use Rattle.elab_worlds.proofs.ordered.are_settled.Goals as goal

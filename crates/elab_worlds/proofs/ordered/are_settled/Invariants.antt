@@ -1,5 +1,5 @@
 use Rattle.std.proofs.Common.{◌≡◌, ◌<◌, ℕ, false}
-use Rattle.elab_steps.specs.of_elab_state.States.{said_in}
+use Rattle.elab_state.specs.States.{said_in}
 use Rattle.elab_worlds.specs.Final.{is_row}
 use Rattle.elab_worlds.proofs.ordered.are_settled.Given as goal
 

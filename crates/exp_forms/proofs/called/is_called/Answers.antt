@@ -1,5 +1,5 @@
 use Rattle.std.proofs.Common.{◌∙◌}
-use Rattle.pat_elab.specs.of_core_elab.Resolves.{called_constant, called_vid, called_built, called_fields, called_let, called_typed, called_handle, called_raise}
+use Rattle.core_elab.specs.Resolves.{called_constant, called_vid, called_built, called_fields, called_let, called_typed, called_handle, called_raise}
 use Rattle.sml_tree.specs.TreeOf.{exp_of, part_of}
 use Rattle.exp_forms.proofs.Nodes.{source-Constant, source-Vid, source-BuiltIn, source-Record, source-Tuple, source-List, source-Sequence, source-Let, source-Apply, source-Chain, source-Typed, source-Handle, source-Raise}
 use Rattle.exp_forms.proofs.CallingShapes.{applied-called, called-at, chain-called, list-called, sequence-called, some-there}

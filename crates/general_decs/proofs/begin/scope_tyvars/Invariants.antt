@@ -1,7 +1,7 @@
 use Rattle.std.proofs.Common.{◌≡◌, ◌+◌, take}
 use Rattle.elab_state.specs.States.{made}
 use Rattle.elab_steps.specs.Growing.{Always, Grows}
-use Rattle.general_vals.specs.of_elab_context.Telling.{IsContext}
+use Rattle.elab_context.specs.Telling.{IsContext}
 use Rattle.general_decs.specs.Scoped.{CameByName, CameIntoScope, IsFurther}
 use Rattle.general_decs.proofs.begin.scope_tyvars.Given as goal
 

@@ -1,5 +1,5 @@
 use Rattle.std.proofs.Common.{◌∙◌}
-use Rattle.general_vals.proofs.of_elab_context.Reading.{context_later}
+use Rattle.elab_context.proofs.Reading.{context_later}
 use Rattle.elab_steps.proofs.Changing.{if-ok}
 use Rattle.rec_groups.proofs.of_pat_elab.Forms.{all-later}
 use Rattle.general_decs.proofs.Lowering.{declared-later, outer-later}

@@ -1,6 +1,6 @@
 use Rattle.std.proofs.Common.{◌++◌, List, refl, ap, ◌∙◌}
 use Rattle.sml_tree.specs.declared.ident.Vid.{Vid}
-use Rattle.general_vals.specs.of_elab_context.declared.entry.Entry.{Entry}
+use Rattle.elab_context.specs.declared.entry.Entry.{Entry}
 use Rattle.rec_groups.specs.of_dec_forms.Telling.{with_all}
 use Rattle.general_decs.proofs.Finishing.{finish_brings, finish_context, made-ended}
 use Rattle.general_decs.proofs.finish.finish_lowered.Goals as goal

@@ -2,7 +2,7 @@ use Rattle.std.proofs.Common.{◌≡◌, ◌&&◌, drop}
 use Rattle.prog_known.specs.Lists.{all_hold}
 use Rattle.elab_typed.specs.Contexts.{Around, generic}
 use Rattle.elab_steps.specs.World.{World, Comes}
-use Rattle.general_vals.specs.of_elab_context.Telling.{Tells}
+use Rattle.elab_context.specs.Telling.{Tells}
 use Rattle.general_decs.specs.Values.{exp_is, field_is, part_is}
 use Rattle.general_decs.proofs.values.+values.Given as goal
 

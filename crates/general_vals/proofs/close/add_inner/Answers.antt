@@ -1,5 +1,5 @@
 use Rattle.std.proofs.Common.{◌∙◌, arith}
-use Rattle.general_worlds.proofs.of_elab_steps.Changing.{if-ok}
+use Rattle.elab_steps.proofs.Changing.{if-ok}
 use Rattle.general_vals.proofs.Ending.{inner-added, inner-skipped}
 use Rattle.general_vals.proofs.close.add_inner.Goals as goal
 use Rattle.general_vals.proofs.close.add_inner.Goals.{else-level-reach-via-then-level-reach+else-reach-lt18446744073709551615, else-level-reach-via-else-level-reach}

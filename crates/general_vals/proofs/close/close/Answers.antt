@@ -3,7 +3,7 @@ use Rattle.std.specs.Prelude.{option_map}
 use Rattle.ty_solve.specs.Said.{said}
 use Rattle.elab_state.specs.States.{limit_in}
 use Rattle.ty_solve.specs.Limits.{limit_at}
-use Rattle.general_worlds.specs.of_elab_steps.Tidy.{IsTidy}
+use Rattle.elab_steps.specs.Tidy.{IsTidy}
 use Rattle.general_vals.proofs.Ending.{limits-end, limits-wide, low-enough, ends-with, list-with, tidy-with}
 use Rattle.general_vals.proofs.close.close.Goals as goal
 

@@ -1,7 +1,7 @@
 use Rattle.std.proofs.Common.{length, refl}
 use Rattle.ty_solve.specs.Said.{said}
 use Rattle.ty_instance.proofs.Going.{longer}
-use Rattle.general_worlds.proofs.of_elab_steps.Changing.{if-ok, tabled_grows, written_later}
+use Rattle.elab_steps.proofs.Changing.{if-ok, tabled_grows, written_later}
 use Rattle.general_vals.proofs.Settling.{settled-of, settled-is, settled-settles, settled-open, settled-same, tabled-tidy}
 use Rattle.general_vals.proofs.settle.settled_type.Goals as goal
 

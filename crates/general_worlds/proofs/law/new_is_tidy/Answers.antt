@@ -1,4 +1,4 @@
-use Rattle.elab_context.proofs.of_elab_steps.Keeping.{new-tidy}
+use Rattle.elab_steps.proofs.Keeping.{new-tidy}
 use Rattle.general_worlds.proofs.law.new_is_tidy.Goals as goal
 
 pub returns : goal.returns

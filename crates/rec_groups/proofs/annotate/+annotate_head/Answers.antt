@@ -1,8 +1,8 @@
 use Rattle.std.proofs.Common.{refl, sym, ap, ◌∙◌, arith}
 use Rattle.sml_tree.specs.TreeOf.{pat_of}
-use Rattle.dec_forms.proofs.of_elab_steps.Changing.{if-ok}
-use Rattle.dec_forms.proofs.of_elab_steps.Growing.{type_later}
-use Rattle.dec_forms.proofs.of_elab_context.Reading.{context_later}
+use Rattle.elab_steps.proofs.Changing.{if-ok}
+use Rattle.elab_steps.proofs.Growing.{type_later}
+use Rattle.elab_context.proofs.Reading.{context_later}
 use Rattle.dec_forms.proofs.of_pat_elab.Sizes.{named-size}
 use Rattle.dec_forms.proofs.of_pat_elab.Sources.{source-As, source-BuiltCon, source-BuiltIn, source-Chain, source-Con, source-Constant, source-List, source-Record, source-Tuple, source-Typed, source-Vid, source-Wild}
 use Rattle.rec_groups.proofs.Annotating.{as_annotated, at_source, chain_annotated, list_annotated, other_annotated, typed_annotated, vid_annotated, wild_annotated}

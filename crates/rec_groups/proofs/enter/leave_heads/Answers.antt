@@ -1,6 +1,6 @@
 use Rattle.std.proofs.Common.{ap, ap₂}
-use Rattle.dec_forms.specs.of_elab_context.declared.context.Context.{Context}
-use Rattle.dec_forms.specs.of_elab_context.declared.entry.Entry.{Entry}
+use Rattle.elab_context.specs.declared.context.Context.{Context}
+use Rattle.elab_context.specs.declared.entry.Entry.{Entry}
 use Rattle.vid_scope.specs.declared.vids.VidScope.{VidScope}
 use Rattle.rec_groups.specs.Heads.{own_entries, rising}
 use Rattle.rec_groups.proofs.enter.leave_heads.Goals as goal

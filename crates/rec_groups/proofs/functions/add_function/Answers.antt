@@ -2,7 +2,7 @@ use Rattle.std.proofs.Common.{List, true, ◌++◌, map, ap, ◌∙◌}
 use Rattle.std.specs.Prelude.{reverse}
 use Rattle.dec_forms.specs.of_pat_elab.declared.bound.BoundVariable.{BoundVariable}
 use Rattle.rec_groups.specs.Heads.{numbers_of}
-use Rattle.dec_forms.proofs.of_elab_steps.Growing.{grows_on}
+use Rattle.elab_steps.proofs.Growing.{grows_on}
 use Rattle.rec_groups.proofs.Adding.{function_added}
 use Rattle.rec_groups.proofs.functions.add_function.Goals as goal
 

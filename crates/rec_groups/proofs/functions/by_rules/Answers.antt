@@ -1,5 +1,5 @@
 use Rattle.std.proofs.Common.{refl}
-use Rattle.dec_forms.proofs.of_elab_steps.Growing.{grows_on, always_later}
+use Rattle.elab_steps.proofs.Growing.{grows_on, always_later}
 use Rattle.rec_groups.proofs.Adding.{rules_function}
 use Rattle.rec_groups.proofs.functions.by_rules.Goals as goal
 

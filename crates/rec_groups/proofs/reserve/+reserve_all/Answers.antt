@@ -1,6 +1,6 @@
 use Rattle.std.proofs.Common.{sym, ap, ◌∙◌, arith}
-use Rattle.dec_forms.proofs.of_elab_steps.Changing.{if-ok}
-use Rattle.dec_forms.proofs.of_elab_steps.Growing.{type_later}
+use Rattle.elab_steps.proofs.Changing.{if-ok}
+use Rattle.elab_steps.proofs.Growing.{type_later}
 use Rattle.sml_tree.specs.TreeOf.{pat_of}
 use Rattle.dec_forms.proofs.of_pat_elab.Sources.{source-As, source-Chain, source-Typed, source-Vid, source-Wild}
 use Rattle.rec_groups.proofs.Reserving.{as_reserved, no-parts, reserves_at, typed_reserved, wild_reserved}

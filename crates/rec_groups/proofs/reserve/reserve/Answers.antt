@@ -1,5 +1,5 @@
 use Rattle.std.proofs.Common.{subst}
-use Rattle.dec_forms.specs.of_elab_steps.Growing.{Always, IsWithin}
+use Rattle.elab_steps.specs.Growing.{Always, IsWithin}
 use Rattle.rec_groups.proofs.Reserving.{reserved_is}
 use Rattle.rec_groups.proofs.reserve.reserve.Goals as goal
 

@@ -1,5 +1,5 @@
 use Rattle.std.proofs.Common.{subst, arith}
-use Rattle.dec_forms.proofs.of_elab_steps.Changing.{if-ok}
+use Rattle.elab_steps.proofs.Changing.{if-ok}
 use Rattle.sml_tree.specs.TreeOf.{long_vid_of}
 use Rattle.rec_groups.specs.Heads.{IsTaken}
 use Rattle.rec_groups.proofs.Reserving.{empty-list, vid_reserved}

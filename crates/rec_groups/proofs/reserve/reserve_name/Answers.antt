@@ -1,7 +1,7 @@
 use Rattle.std.proofs.Common.{refl, subst}
 use Rattle.sml_tree.specs.Derived.{short}
 use Rattle.rec_groups.specs.Heads.{IsTaken}
-use Rattle.dec_forms.specs.of_elab_steps.Growing.{Always, IsWithin}
+use Rattle.elab_steps.specs.Growing.{Always, IsWithin}
 use Rattle.rec_groups.proofs.Reserving.{reserved_is, vid_reserved}
 use Rattle.rec_groups.proofs.reserve.reserve_name.Goals as goal
 

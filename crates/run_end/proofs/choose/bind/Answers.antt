@@ -1,6 +1,6 @@
 use Rattle.std.proofs.Common.{refl}
 use Rattle.ty_solve.specs.Said.{said}
-use Rattle.elab_worlds.proofs.of_elab_steps.Changing.{unified_grows, unified_equal}
+use Rattle.elab_steps.proofs.Changing.{unified_grows, unified_equal}
 use Rattle.run_end.proofs.Choosing.{leaves-others}
 use Rattle.run_end.proofs.choose.bind.Goals as goal
 

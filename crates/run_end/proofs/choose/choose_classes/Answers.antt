@@ -1,6 +1,6 @@
 use Rattle.std.proofs.Common.{◌<◌, ◌≤◌, ◌∙◌, arith}
 use Rattle.elab_state.specs.States.{made}
-use Rattle.elab_worlds.proofs.of_elab_steps.Growing.{grows_on}
+use Rattle.elab_steps.proofs.Growing.{grows_on}
 use Rattle.run_end.proofs.Choosing.{ahead-next, chosen-ends, chosen-next}
 use Rattle.run_end.proofs.choose.choose_classes.Goals as goal
 

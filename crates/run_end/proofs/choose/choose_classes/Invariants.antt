@@ -1,6 +1,6 @@
 use Rattle.std.proofs.Common.{◌≡◌, ◌<◌, ◌≤◌, ℕ}
 use Rattle.elab_state.specs.States.{said_in}
-use Rattle.elab_worlds.specs.of_elab_steps.Growing.{Grows}
+use Rattle.elab_steps.specs.Growing.{Grows}
 use Rattle.run_end.specs.Chosen.{IsChosen}
 use Rattle.run_end.proofs.choose.choose_classes.Given as goal
 

@@ -4,8 +4,8 @@ use Rattle.ty_core.specs.Types.{con, none, name}
 use Rattle.ty_core.specs.declared.mark.Mark.{Mark}
 use Rattle.ty_solve.proofs.Holding.{type-stays}
 use Rattle.elab_state.specs.States.{types_in}
-use Rattle.elab_worlds.proofs.of_elab_steps.Changing.{if-ok}
-use Rattle.elab_worlds.proofs.of_elab_steps.Growing.{grows_on, type_later}
+use Rattle.elab_steps.proofs.Changing.{if-ok}
+use Rattle.elab_steps.proofs.Growing.{grows_on, type_later}
 use Rattle.elab_worlds.specs.Final.{default_of}
 use Rattle.run_end.proofs.Choosing.{if-both, stands-for}
 use Rattle.run_end.proofs.choose.choose_one.Goals as goal

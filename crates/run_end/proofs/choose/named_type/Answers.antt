@@ -2,7 +2,7 @@ use Rattle.std.proofs.Common.{[], length, refl}
 use Rattle.std.proofs.lemmas.Option.{get_or_from_slice_get}
 use Rattle.ty_core.specs.Types.{var, con, none, name}
 use Rattle.ty_instance.proofs.Going.{longer}
-use Rattle.elab_worlds.proofs.of_elab_steps.Changing.{applied_grows, applied_is, if-ok, written_later}
+use Rattle.elab_steps.proofs.Changing.{applied_grows, applied_is, if-ok, written_later}
 use Rattle.run_end.proofs.choose.named_type.Goals as goal
 
 pub invariant_of-state : goal.invariant_of-state

@@ -1,6 +1,6 @@
 use Rattle.std.proofs.Common.{length, refl}
 use Rattle.ty_instance.proofs.Going.{longer}
-use Rattle.elab_worlds.proofs.of_elab_steps.Changing.{if-ok, tabled_grows, written_later}
+use Rattle.elab_steps.proofs.Changing.{if-ok, tabled_grows, written_later}
 use Rattle.run_end.proofs.Choosing.{variable-at, variable-type}
 use Rattle.run_end.proofs.choose.variable_type.Goals as goal
 

@@ -1,7 +1,7 @@
 use Rattle.std.proofs.Common.{[], ◌∷◌, ◌++◌, List, refl, ap, ◌∙◌}
 use Rattle.sml_tree.specs.declared.ident.Vid.{Vid}
-use Rattle.dec_forms.specs.of_elab_context.declared.context.Context.{Context}
-use Rattle.dec_forms.specs.of_elab_context.declared.entry.Entry.{Entry}
+use Rattle.elab_context.specs.declared.context.Context.{Context}
+use Rattle.elab_context.specs.declared.entry.Entry.{Entry}
 use Rattle.dec_forms.specs.Entries.{with_types}
 use Rattle.dec_forms.specs.Telling.{with_all}
 use Rattle.scope_decs.proofs.Replicating.{replicate_bringing, replicate_context}

@@ -1,7 +1,7 @@
 use Rattle.std.proofs.Common.{◌++◌, List, map, refl, ap, ◌∙◌}
 use Rattle.sml_tree.specs.TreeOf.{long_id_at_of}
 use Rattle.sml_tree.specs.declared.ident.Vid.{Vid}
-use Rattle.dec_forms.specs.of_elab_context.declared.entry.Entry.{Entry}
+use Rattle.elab_context.specs.declared.entry.Entry.{Entry}
 use Rattle.dec_forms.specs.Telling.{with_all}
 use Rattle.scope_decs.proofs.Opened.{open_bringing, open_context}
 use Rattle.scope_decs.proofs.structures.open.Goals as goal
