@@ -1,7 +1,6 @@
 // Programs of the core, above the prelude.
 
 use crate::calls::{NOTHING, Row, bad_sml, check, check_all, good};
-use crate::core_examples::{LANGUAGES, SEARCHES, STRUCTURES, TEXTS};
 use crate::sources::{LEAVE, RIGHT};
 use std::test::Fail;
 
@@ -414,37 +413,5 @@ const SEVERAL: Row = Row {
 #[test]
 fn a_project_of_the_core_runs(rt: HostRuntime) -> Result<(), Fail> {
     check(&rt, rt.alloc(), &SEVERAL)?;
-    Ok(())
-}
-
-#[test]
-fn searches_run(rt: HostRuntime) -> Result<(), Fail> {
-    for (sml, out) in SEARCHES.iter() {
-        check(&rt, rt.alloc(), &good(sml, out))?;
-    }
-    Ok(())
-}
-
-#[test]
-fn languages_run(rt: HostRuntime) -> Result<(), Fail> {
-    for (sml, out) in LANGUAGES.iter() {
-        check(&rt, rt.alloc(), &good(sml, out))?;
-    }
-    Ok(())
-}
-
-#[test]
-fn structures_run(rt: HostRuntime) -> Result<(), Fail> {
-    for (sml, out) in STRUCTURES.iter() {
-        check(&rt, rt.alloc(), &good(sml, out))?;
-    }
-    Ok(())
-}
-
-#[test]
-fn texts_run(rt: HostRuntime) -> Result<(), Fail> {
-    for (sml, out) in TEXTS.iter() {
-        check(&rt, rt.alloc(), &good(sml, out))?;
-    }
     Ok(())
 }

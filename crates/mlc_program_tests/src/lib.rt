@@ -4,8 +4,6 @@
 #[cfg(test)]
 mod calls;
 #[cfg(test)]
-mod core_examples;
-#[cfg(test)]
 mod core_rows;
 #[cfg(test)]
 mod edge;
