@@ -10,6 +10,4 @@ mod elab_types_tests;
 #[cfg(test)]
 mod initial_types_tests;
 #[cfg(test)]
-mod run_end_tests;
-#[cfg(test)]
 mod vid_scope_tests;

@@ -1,0 +1,5 @@
+// Tests of run_end.
+#![tactic(auto)]
+
+#[cfg(test)]
+mod tests;
