@@ -2,10 +2,6 @@
 #![tactic(auto)]
 
 #[cfg(test)]
-mod captures;
-#[cfg(test)]
-mod captures_large;
-#[cfg(test)]
 mod closure_pass_answer;
 #[cfg(test)]
 mod closure_pass_large;
@@ -13,7 +9,5 @@ mod closure_pass_large;
 mod closure_pass_small;
 #[cfg(test)]
 mod closure_pass_types;
-#[cfg(test)]
-mod eta_code_tests;
 #[cfg(test)]
 mod flow_types_tests;

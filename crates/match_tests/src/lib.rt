@@ -2,12 +2,6 @@
 #![tactic(auto)]
 
 #[cfg(test)]
-mod exp_blocks_tests;
-#[cfg(test)]
-mod exp_steps_tests;
-#[cfg(test)]
-mod general_bindings_tests;
-#[cfg(test)]
 mod match_names_tests;
 #[cfg(test)]
 mod match_pass_large;

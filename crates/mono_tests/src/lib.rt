@@ -4,8 +4,6 @@
 #[cfg(test)]
 mod mono_form_tests;
 #[cfg(test)]
-mod mono_number_tests;
-#[cfg(test)]
 mod mono_pass_answer;
 #[cfg(test)]
 mod mono_pass_large;
@@ -13,5 +11,3 @@ mod mono_pass_large;
 mod mono_pass_small;
 #[cfg(test)]
 mod mono_pass_types;
-#[cfg(test)]
-mod mono_uses_tests;

@@ -19,11 +19,3 @@ mod ir_uses_primitives;
 mod ir_uses_records;
 #[cfg(test)]
 mod ir_uses_uses;
-#[cfg(test)]
-mod prog_known_scopes;
-#[cfg(test)]
-mod prog_known_trees;
-#[cfg(test)]
-mod prog_tree_tests;
-#[cfg(test)]
-mod record_order_orders;

@@ -8,12 +8,6 @@ mod ty_instance_read;
 #[cfg(test)]
 mod ty_instance_tests;
 #[cfg(test)]
-mod ty_limit_make;
-#[cfg(test)]
-mod ty_limit_rows;
-#[cfg(test)]
-mod ty_limit_tests;
-#[cfg(test)]
 mod ty_solve_large;
 #[cfg(test)]
 mod ty_solve_pairs;
