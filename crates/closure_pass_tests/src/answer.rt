@@ -1,12 +1,12 @@
 // What the pass answers for programs of simple types in words.
 
-use crate::closure_pass_types::{EXN, all_types};
-use closure_pass::mono_form::program::Program;
+use crate::types::{EXN, all_types};
 use closure_pass::pass::convert_program;
 use first_form::form::First;
 use initial_names::initial;
 use mlc_base::memory::NoMemory;
 use mlc_runs::pass::{Check, Form};
+use mono_form::program::Program;
 use mono_operations::tables::Tables;
 use mono_types::types::Types;
 use plain_tree::tree::Exp;

@@ -1,11 +1,11 @@
 // What the pass answers for programs of tests in words.
 
-use crate::mono_pass_types::tables;
+use crate::types::tables;
 use ir_tables::tables::Tables;
 use ir_tests::program::Program as Tests;
 use mlc_base::memory::NoMemory;
 use mlc_runs::pass::{Check, Form, PassFault};
-use mono_pass::mono_form::program::Program;
+use mono_form::program::Program;
 use mono_pass::pass::monomorphise_program;
 use std::alloc::Global;
 use tests_given::given::EXN;

@@ -1,8 +1,8 @@
 // Large programs: what takes more than near linear time takes minutes here.
 ghost use Rattle.std.specs.Prelude.{◌<◌, ◌≤◌, ◌^◌};
 
-use crate::closure_pass_answer::{Answer, answered};
-use crate::closure_pass_types::*;
+use crate::answer::{Answer, answered};
+use crate::types::*;
 use ir_tables::tables::Constant;
 use mlc_base::memory::NoMemory;
 use mono_types::types::Types;

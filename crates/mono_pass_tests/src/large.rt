@@ -1,8 +1,8 @@
 // Large programs: what takes more than near linear time takes minutes here.
 ghost use Rattle.std.specs.Prelude.{◌<◌, ◌^◌};
 
-use crate::mono_pass_answer::{Answer, answered};
-use crate::mono_pass_types::*;
+use crate::answer::{Answer, answered};
+use crate::types::*;
 use ir_tables::tables::Tables;
 use mlc_base::memory::NoMemory;
 use mlc_names::label::Label;

@@ -1,7 +1,7 @@
 // Small programs: how many nodes there are when bindings are copied, one copy at unit and one at each further list of types.
 
-use crate::mono_pass_answer::{Answer, answer_of};
-use crate::mono_pass_types::*;
+use crate::answer::{Answer, answer_of};
+use crate::types::*;
 use ir_uses::constructor::{CONS, NIL};
 use mlc_prims::basis::BasisPrimitive;
 use plain_tree::tree::{Case, Parameter};

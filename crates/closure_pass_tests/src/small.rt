@@ -1,7 +1,7 @@
 // Small programs whose functions go through data.
 
-use crate::closure_pass_answer::{Answer, answer_of};
-use crate::closure_pass_types::*;
+use crate::answer::{Answer, answer_of};
+use crate::types::*;
 use ir_uses::constructor::{CONS, NIL};
 use plain_tree::tree::{Case, Parameter};
 use std::test::Fail;

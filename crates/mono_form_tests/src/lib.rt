@@ -1,0 +1,5 @@
+// Tests of whether programs of simple types are well formed.
+#![tactic(auto)]
+
+#[cfg(test)]
+mod tests;
