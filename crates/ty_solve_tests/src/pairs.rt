@@ -1,6 +1,6 @@
 // What unify answers on pairs of types.
 
-use crate::ty_solve_read::{told, variable, variables};
+use crate::read::{told, variable, variables};
 use mlc_base::memory::NoMemory;
 use std::alloc::Global;
 use std::test::Fail;

@@ -1,6 +1,6 @@
 // Large types, and those that share their parts.
 
-use crate::ty_solve_read::{LIST, NONE, answer, bare_answer, one, pair, variable, variables};
+use crate::read::{LIST, NONE, answer, bare_answer, one, pair, variable, variables};
 use mlc_base::memory::NoMemory;
 use std::alloc::Global;
 use std::test::Fail;

@@ -1,6 +1,6 @@
 // Types and substitutions from short texts.
 
-use crate::ty_solve_rows::{fresh_row, has_rows, is_row, rows};
+use crate::rows::{fresh_row, has_rows, is_row, rows};
 use mlc_base::memory::NoMemory;
 use mlc_names::label::Label;
 use std::alloc::Global;

@@ -1,6 +1,6 @@
 // Instances of bodies at new variables.
 
-use crate::ty_instance_read::NONE;
+use crate::read::NONE;
 use mlc_base::memory::NoMemory;
 use std::alloc::Global;
 use std::test::Fail;

@@ -1,6 +1,6 @@
 // Which steps the constructs make.
 
-use crate::match_pass_made::{PLACE, general, joined, kinds, made, number, tables, two_variables};
+use crate::made::{PLACE, general, joined, kinds, made, number, tables, two_variables};
 use ir_tables::tables::Constant;
 use match_pass::compile::compile;
 use mlc_base::make::{boxed, one};

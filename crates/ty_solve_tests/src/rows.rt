@@ -1,6 +1,6 @@
 // Rows from letters, and whether rows are as they were.
 
-use crate::ty_solve_read::read_pair;
+use crate::read::read_pair;
 use mlc_base::memory::NoMemory;
 use mlc_names::label::Label;
 use std::alloc::Global;

@@ -1,6 +1,6 @@
 // Instances of bodies, and types under substitutions.
 
-use crate::ty_instance_read::{NONE, arrow, bind, last, list, read_all, variable, variables};
+use crate::read::{NONE, arrow, bind, last, list, read_all, variable, variables};
 use mlc_base::memory::NoMemory;
 use std::alloc::Global;
 use std::test::Fail;

@@ -1,7 +1,7 @@
 use Rattle.std.proofs.Common.{◌<◌, length, subst, sym, arith}
 use Rattle.ty_table.specs.TypeAt.{AllBelow}
-use Rattle.ty_tests.proofs.Wide.{below-snoc}
-use Rattle.ty_tests.proofs.ty_solve_large.wide.Goals as goal
+use Rattle.ty_solve_tests.proofs.Wide.{below-snoc}
+use Rattle.ty_solve_tests.proofs.large.wide.Goals as goal
 
 pub loop-part-init : goal.loop-part-init
 loop-part-init c = λ lt. subst (AllBelow (length c.args.s.now.types)) (sym c.new-parts.ensures.items) tt

@@ -1,6 +1,6 @@
 // In which order the constructs print, and what is bound where.
 
-use crate::match_pass_made::{PLACE, declared, general, made, two_variables};
+use crate::made::{PLACE, declared, general, made, two_variables};
 use ir_tables::tables::Constant;
 use mlc_base::make::{boxed, one};
 use mlc_base::memory::NoMemory;
