@@ -1,8 +1,6 @@
 // Large programs: what takes more than near linear time takes minutes here.
 
-use crate::ir_prog_make::{
-    integers, labels, level, put_selections, record, record_pat, three, val,
-};
+use crate::make::{integers, labels, level, put_selections, record, record_pat, three, val};
 use ir_prog::program::Program;
 use ir_tables::tables::Tables;
 use mlc_base::make::{both, one};
