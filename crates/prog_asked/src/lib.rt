@@ -1,4 +1,0 @@
-// What the checker says of programs in words.
-#![tactic(auto)]
-
-pub mod asked;

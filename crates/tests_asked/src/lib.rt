@@ -1,4 +1,0 @@
-// What the checker says of programs of tests in words.
-#![tactic(auto)]
-
-pub mod asked;
