@@ -383,11 +383,11 @@ module _ (m : ℕ → Bool) where
     binds-bound d f Typing.no_bind_has = tt
     binds-bound {c} d f (Typing.bind_has p {a = a} {e = b} ph e hh x bh) = (by-parts d (phrase.bind p a b) (pat-bound m c d f ph, (exp-bound d f hh, tt)) (λ i h. behind-none [] i refl h), binds-bound d f bh)
 
-    decs-names : {c : Context} (d : Env) {ds : Decs} {made : ℕ} {e : static.Env} {k : Choices} → Fits c.env d → DecsHave m c ds made e k → Fits e (decs_names d ds)
+    pub decs-names : {c : Context} (d : Env) {ds : Decs} {made : ℕ} {e : static.Env} {k : Choices} → Fits c.env d → DecsHave m c ds made e k → Fits e (decs_names d ds)
     decs-names d f Typing.no_dec_has = nothing-fits
     decs-names d f (Typing.dec_has {d = dc} h k) = fits-plus (dec-names d f h) (decs-names (plus d (dec_names d dc)) (fits-plus f (dec-names d f h)) k)
 
-    dec-names : {c : Context} (d : Env) {dc : Dec} {made : ℕ} {e : static.Env} {k : Choices} → Fits c.env d → DecHas m c dc made e k → Fits e (dec_names d dc)
+    pub dec-names : {c : Context} (d : Env) {dc : Dec} {made : ℕ} {e : static.Env} {k : Choices} → Fits c.env d → DecHas m c dc made e k → Fits e (dec_names d dc)
     dec-names {c} d f (Typing.val_has p p' {as_ = as_} {bs = bs} {rs = rs} extra {vs = vs} {us = us} g fns dist plain rec_) =
         let may = units-may-stand m c (marks_of c as_ bs rs extra) (general-marks (scoped_in c as_ bs rs) extra g) in
         let all : BindsThese (together vs ++ together us) (plus (binds_names d bs) (rec_names rs)) =
