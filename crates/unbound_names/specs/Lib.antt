@@ -1,0 +1,4 @@
+pub mod Covering
+pub mod Nodes
+pub mod Placed
+pub mod Scopes
