@@ -1,5 +1,5 @@
 -- Identifiers that aren't bound, from the parts of a phrase to the phrase.
-use Rattle.std.proofs.Common.{◌≡◌, ℕ, zero, suc, List, [], ◌∷◌, ◌++◌, map, ◌⊎◌, inl, inr, refl, sym, ap, subst, ◌∙◌, arith}
+use Rattle.std.proofs.Common.{◌≡◌, ◌<◌, ℕ, zero, suc, List, [], ◌∷◌, ◌++◌, map, ◌⊎◌, inl, inr, refl, sym, ap, subst, ◌∙◌, arith}
 use Rattle.std.specs.Prelude.{flat_map}
 use Rattle.std.specs.List.{Contains}
 use Rattle.std.proofs.lemmas.List.Elements.{Contains-append_left, Contains-append_right, Contains-append_cases, Contains-push, Contains-push_cases}
@@ -10,12 +10,12 @@ use Rattle.core_rules.specs.Unbound.{Unbound, own_unbound, with_parts, unbound_t
 use Rattle.core_rules.specs.Values.{Env}
 use Rattle.unbound_names.specs.Placed.{At, AnyAt, UnboundAt, place_of}
 
-pub none-in : {A : Type 0} {x : A} → Contains [] x → ⊥
-none-in h = omega (arith, h.1.0)
+pub none-in : {A : Type 0} (x : A) → Contains [] x → ⊥
+none-in x h = let lt : h.0 < 0 = h.1 in omega (arith, lt)
 
 pub first-or-rest : {A : Type 0} (y : A) (ys : List A) {x : A} → Contains (y ∷ ys) x → (y ≡ x) ⊎ Contains ys x
-first-or-rest y ys {x} h = elim (Contains-append_cases (y ∷ []) ys x h) [
-  | inl l ↦ elim (Contains-push_cases [] y x l) [ inl n ↦ absurd (none-in n) | inr e ↦ inl e ]
+first-or-rest {A} y ys {x} h = elim (Contains-append_cases (y ∷ []) ys x h) [
+  | inl l ↦ elim (Contains-push_cases [] y x l) [ inl n ↦ absurd (none-in x n) | inr e ↦ inl e ]
   | inr r ↦ inr r
 ]
 
@@ -30,7 +30,7 @@ pub in-flat : {A B : Type 0} (f : A → List B) (xs : List A) (x : A) (y : B) �
 in-flat {A} f xs x y h k = go xs h
   where
     go : (xs : List A) → Contains xs x → Contains (flat_map f xs) y
-    go [] h = absurd (none-in h)
+    go [] h = absurd (none-in x h)
     go (z ∷ zs) h = elim (first-or-rest z zs h) [
       | inl e ↦ Contains-append_left (f z) (flat_map f zs) y (subst (λ v. Contains (f v) y) (sym e) k)
       | inr r ↦ Contains-append_right (f z) (flat_map f zs) y (go zs r)

@@ -33,7 +33,7 @@ pub record AnyAt (p : Place) (ss : List Scoped) : Type 0 where
 
 -- What a walk through a phrase says: that it has come to an identifier that isn't bound; else the scope is as it was.
 pub record Walked (found : Bool) (old new : List Bound) (P : Env → Type 0) : Type 0 where
-  pub found : IsTrue found → (e : Env) → Covers old e → P e
+  pub right : IsTrue found → (e : Env) → Covers old e → P e
   pub same : found ≡ false → new ≡ old
 
 -- what came into scope
@@ -44,5 +44,5 @@ pub record Brought (old new : List Bound) (names : Env → Env) : Type 0 where
 
 -- the same of declarations: else what they bring is in scope
 pub record Declared (found : Bool) (old new : List Bound) (P : Env → Type 0) (names : Env → Env) : Type 0 where
-  pub found : IsTrue found → (e : Env) → Covers old e → P e
+  pub right : IsTrue found → (e : Env) → Covers old e → P e
   pub brought : found ≡ false → Brought old new names
