@@ -1,1 +1,13 @@
+pub mod Anywhere
+pub mod BindVids
+pub mod Covering
+pub mod DecNodes
+pub mod Enough
+pub mod ExpNodes
+pub mod Finding
+pub mod PatForms
+pub mod PatNodes
+pub mod PatVids
 pub mod Placing
+pub mod TyNodes
+pub mod Variables

@@ -1,4 +1,10 @@
 pub mod Covering
+pub mod Entries
+pub mod Held
 pub mod Nodes
+pub mod Parts
+pub mod Patterns
 pub mod Placed
 pub mod Scopes
+pub mod Types
+pub mod Written

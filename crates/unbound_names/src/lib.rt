@@ -1,6 +1,12 @@
 // Identifiers that aren't bound where they stand.
 #![tactic(auto)]
 
+pub mod basis;
 pub mod bound;
+pub mod datas;
 pub mod held;
+pub mod look_ups;
+pub mod pats;
 pub mod scope;
+pub mod tys;
+pub mod vids;

@@ -1,5 +1,6 @@
 // What is in scope, in the order in which it was bound.
 ghost use Rattle.std.specs.Prelude.{◌≡◌, ◌∷◌, ◌++◌, ◌-◌, ◌≤◌, [], drop, is_some, length, option_map, reverse, take, IfOk, OnErr};
+ghost use Rattle.unbound_names.specs.Held.{structure_held, tycon_held, value_held};
 ghost use Rattle.unbound_names.specs.Scopes.{structure_found, tycon_found, value_found};
 ghost use Rattle.unbound_names.specs.Scopes.{key_of as key_at, structure_key as structure_key_at, tycon_key as tycon_key_at, vid_key as vid_key_at};
 
@@ -63,6 +64,45 @@ fn key_of(bound: &Bound) -> usize
     }
 }
 
+/// Whether what is held is a variable, if it is a value identifier.
+fn variable_of(held: Option<Held>) -> Option<bool>
+    ensures { result ≡ value_held held }
+{
+    match held {
+        Some(Held {
+            bound: Bound::Value(_, variable),
+            before: _,
+        }) => Some(variable),
+        _ => None,
+    }
+}
+
+/// How many constructors what is held has, if it is a type constructor, and how much was bound before it.
+fn count_of(held: Option<Held>) -> Option<(usize, usize)>
+    ensures { result ≡ tycon_held held }
+{
+    match held {
+        Some(Held {
+            bound: Bound::Tycon(_, count),
+            before,
+        }) => Some((count, before)),
+        _ => None,
+    }
+}
+
+/// What what is held has, if it is a structure.
+fn members_of(held: Option<Held>) -> Option<Members>
+    ensures { result ≡ structure_held held }
+{
+    match held {
+        Some(Held {
+            bound: Bound::Structure(_, members),
+            before: _,
+        }) => Some(members),
+        _ => None,
+    }
+}
+
 impl Scope {
     /// Nothing.
     pub fn new(alloc: Global) -> Scope
@@ -85,27 +125,21 @@ impl Scope {
     pub fn value(&self, vid: Vid) -> Option<bool>
         ensures { result ≡ value_found self.now vid }
     {
-        match self.latest.find(vid_key(vid)) {
-            Some(Held { bound: Bound::Value(_, variable), before: _ }) => Some(variable),
-            _ => None,
-        }
+        variable_of(self.latest.find(vid_key(vid)))
     }
 
     /// Whether a type constructor is bound.
     pub fn has_tycon(&self, name: Name) -> bool
         ensures { result ≡ is_some (tycon_found self.now name) }
     {
-        self.latest.find(tycon_key(name)).is_some()
+        count_of(self.latest.find(tycon_key(name))).is_some()
     }
 
     /// What a structure has, if it is bound.
     pub fn structure(&self, name: Name) -> Option<Members>
         ensures { result ≡ structure_found self.now name }
     {
-        match self.latest.find(structure_key(name)) {
-            Some(Held { bound: Bound::Structure(_, members), before: _ }) => Some(members),
-            _ => None,
-        }
+        members_of(self.latest.find(structure_key(name)))
     }
 
     /// Binds something.
@@ -138,11 +172,8 @@ impl Scope {
     fn since(&self, alloc: Global, first: usize) -> Result<Vec<Bound>, NoMemory>
         ensures { IfOk result (λ since. reverse since.items ≡ take (length self.now - first) self.now) }
     {
-        let mut since = Vec::new(alloc);
-        for i in first..self.bound.len() {
-            since.push(self.bound[i])?;
-        }
-        Ok(since)
+        let first = self.bound.len().min(first);
+        Ok(Vec::from_slice(alloc, &self.bound[first..])?)
     }
 
     /// Binds all of these, one after the other.
@@ -168,17 +199,13 @@ impl Scope {
     pub fn constructors(&self, alloc: Global, name: Name) -> Result<Option<Vec<Bound>>, NoMemory>
         ensures { IfOk result (λ found. option_map (λ cs. reverse cs.items) found ≡ tycon_found self.now name) }
     {
-        match self.latest.find(tycon_key(name)) {
-            Some(Held { bound: Bound::Tycon(_, count), before }) => {
-                let mut constructors = Vec::new(alloc);
-                for i in before.saturating_sub(count)..before {
-                    if i < self.bound.len() {
-                        constructors.push(self.bound[i])?;
-                    }
-                }
-                Ok(Some(constructors))
+        match count_of(self.latest.find(tycon_key(name))) {
+            Some((count, before)) => {
+                let last = self.bound.len().min(before);
+                let first = last.saturating_sub(count);
+                Ok(Some(Vec::from_slice(alloc, &self.bound[first..last])?))
             }
-            _ => Ok(None),
+            None => Ok(None),
         }
     }
 }

@@ -1,0 +1,4 @@
+// Identifiers that aren't bound, in expressions and declarations, and in a project.
+#![tactic(auto)]
+
+pub mod exps;
