@@ -1,20 +1,20 @@
 // Identifiers that aren't bound, in expressions and declarations.
-ghost use Rattle.core_rules.specs.Unbound.{all_in, binds_names, dec_names, decs_in, decs_names, rec_names};
-ghost use Rattle.core_rules.specs.Values.{Env, plus};
-ghost use Rattle.sml_tree.specs.Derived.{function_binds};
-ghost use Rattle.sml_tree.specs.TreeOf.{bind_of, binds_of, dec_of, decs_of, function_of};
-ghost use Rattle.std.specs.Prelude.{IfOk, IsTrue, map, ◌∷◌, ◌⊎◌};
+ghost use Rattle.std.specs.Prelude.{map, IfOk, IsTrue};
+ghost use Rattle.sml_tree.specs.TreeOf.{dec_of, decs_of};
+ghost use Rattle.core_rules.specs.Unbound.{all_in, decs_in, decs_names, dec_names};
+ghost use Rattle.core_rules.specs.Values.{Env};
 ghost use Rattle.unbound_names.specs.Covering.{Covers};
 ghost use Rattle.unbound_names.specs.Nodes.{bind_phrase, clause_phrase, dec_phrase, exp_phrase, function_phrase, rule_phrase};
-ghost use Rattle.unbound_names.specs.Parts.{InParts, fun_scopes, joint_unbound, let_scopes, local_names, local_scopes, val_scopes};
-ghost use Rattle.unbound_names.specs.Placed.{AnyAt, At, Declared, UnboundAt, Walked};
+ghost use Rattle.unbound_names.specs.Parts.{joint_unbound, InParts};
+ghost use Rattle.unbound_names.specs.Placed.{At, AnyAt, UnboundAt, Declared, Walked};
 
 use unbound_names::datas::{in_datatype, in_exception, in_open, in_replicate, in_type_dec, in_withtype};
 use unbound_names::look_ups::{is_at, is_unbound_value, is_unbound_vid};
 use unbound_names::pats::{in_pat, in_pats};
 use unbound_names::scope::Scope;
 use unbound_names::tys::in_ty;
-use unbound_names::vids::{bind_functions, bind_pat, bind_pats, bind_recs, bind_vids, push_binds};
+use unbound_names::vids::{bind_functions, bind_pat, bind_pats};
+use crate::vals::{close_val, open_val};
 use mlc_base::memory::NoMemory;
 use mlc_base::place::Place;
 use sml_tree::tree::{Bind, Clause, Dec, Exp, ExpField, Function, Joint, Part, Rule};
@@ -42,91 +42,50 @@ pub fn in_exp(alloc: Global, place: Place, exp: &Exp, scope: &mut Scope) -> Resu
         Exp::Record(_, fields) => in_fields(alloc, place, fields, scope),
         Exp::Tuple(_, parts) => in_exps(alloc, place, parts, scope),
         Exp::List(_, elements) => in_exps(alloc, place, elements, scope),
-        Exp::Sequence(_, first, rest) => in_both(alloc, place, first, rest, scope),
-        Exp::Let(_, decs, body) => in_let(alloc, place, decs, body, scope),
-        Exp::Apply(_, function, arguments) => in_both(alloc, place, function, arguments, scope),
-        Exp::Chain(_, _, first, parts) => in_chain(alloc, place, first, parts, scope),
+        Exp::Sequence(_, first, rest) => {
+            if in_exp(alloc, place, first, scope)? {
+                return Ok(true);
+            }
+            in_exps(alloc, place, rest, scope)
+        }
+        Exp::Let(_, decs, body) => {
+            let before = scope.len();
+            if in_decs(alloc, place, decs, scope)? {
+                return Ok(true);
+            }
+            if in_exp(alloc, place, body, scope)? {
+                return Ok(true);
+            }
+            scope.leave(before);
+            Ok(false)
+        }
+        Exp::Apply(_, function, arguments) => {
+            if in_exp(alloc, place, function, scope)? {
+                return Ok(true);
+            }
+            in_exps(alloc, place, arguments, scope)
+        }
+        Exp::Chain(_, _, first, parts) => {
+            if in_exp(alloc, place, first, scope)? {
+                return Ok(true);
+            }
+            in_parts(alloc, place, parts, scope)
+        }
         Exp::Typed(_, body, ty) => {
             if in_ty(alloc, place, ty, scope) {
                 return Ok(true);
             }
             in_exp(alloc, place, body, scope)
         }
-        Exp::Handle(_, body, rules) => in_handle(alloc, place, body, rules, scope),
+        Exp::Handle(_, body, rules) => {
+            if in_exp(alloc, place, body, scope)? {
+                return Ok(true);
+            }
+            in_rules(alloc, place, rules, scope)
+        }
         Exp::Raise(_, body) => in_exp(alloc, place, body, scope),
         Exp::Fn(_, rules) => in_rules(alloc, place, rules, scope),
     }
-}
-
-/// An expression, and others after it.
-#[cycle(exps)]
-fn in_both(
-    alloc: Global,
-    place: Place,
-    first: &Exp,
-    rest: &[Exp],
-    scope: &mut Scope,
-) -> Result<bool, NoMemory>
-    ensures { IfOk result (λ found. Walked found scope.old scope.new (λ e. AnyAt place (all_in e (map exp_phrase (first.now ∷ rest.now))))) }
-{
-    if in_exp(alloc, place, first, scope)? {
-        return Ok(true);
-    }
-    in_exps(alloc, place, rest, scope)
-}
-
-#[cycle(exps)]
-fn in_let(
-    alloc: Global,
-    place: Place,
-    decs: &[Dec],
-    body: &Exp,
-    scope: &mut Scope,
-) -> Result<bool, NoMemory>
-    ensures { IfOk result (λ found. Walked found scope.old scope.new (λ e. AnyAt place (let_scopes e decs.now body.now))) }
-{
-    let before = scope.len();
-    if in_decs(alloc, place, decs, scope)? {
-        return Ok(true);
-    }
-    if in_exp(alloc, place, body, scope)? {
-        return Ok(true);
-    }
-    scope.leave(before);
-    Ok(false)
-}
-
-#[cycle(exps)]
-fn in_chain(
-    alloc: Global,
-    place: Place,
-    first: &Exp,
-    parts: &[Part],
-    scope: &mut Scope,
-) -> Result<bool, NoMemory>
-    ensures { IfOk result (λ found. Walked found scope.old scope.new (λ e. UnboundAt place e (exp_phrase first.now) ⊎ InParts place e parts.now)) }
-{
-    if in_exp(alloc, place, first, scope)? {
-        return Ok(true);
-    }
-    in_parts(alloc, place, parts, scope)
-}
-
-#[cycle(exps)]
-fn in_handle(
-    alloc: Global,
-    place: Place,
-    body: &Exp,
-    rules: &[Rule],
-    scope: &mut Scope,
-) -> Result<bool, NoMemory>
-    ensures { IfOk result (λ found. Walked found scope.old scope.new
-        (λ e. UnboundAt place e (exp_phrase body.now) ⊎ AnyAt place (all_in e (map rule_phrase rules.now)))) }
-{
-    if in_exp(alloc, place, body, scope)? {
-        return Ok(true);
-    }
-    in_rules(alloc, place, rules, scope)
 }
 
 #[cycle(exps)]
@@ -297,73 +256,6 @@ fn in_functions(
     Ok(false)
 }
 
-/// `val`: looked through, and brought into scope.
-#[cycle(exps)]
-fn in_val(
-    alloc: Global,
-    place: Place,
-    binds: &[Bind],
-    recs: &[Bind],
-    scope: &mut Scope,
-) -> Result<bool, NoMemory>
-    ensures { IfOk result (λ found. Declared found scope.old scope.new (λ e. AnyAt place (val_scopes e binds.now recs.now))
-        (λ e. plus (binds_names e (binds_of (map bind_of binds.now))) (rec_names (binds_of (map bind_of recs.now))))) }
-{
-    if in_binds(alloc, place, binds, scope)? {
-        return Ok(true);
-    }
-    let mut vids = Vec::new(alloc);
-    push_binds(binds, scope, &mut vids)?;
-    let before = scope.len();
-    bind_recs(alloc, recs, scope)?;
-    if in_binds(alloc, place, recs, scope)? {
-        return Ok(true);
-    }
-    scope.leave(before);
-    bind_vids(&vids, scope)?;
-    bind_recs(alloc, recs, scope)?;
-    Ok(false)
-}
-
-/// `fun`.
-#[cycle(exps)]
-fn in_fun(
-    alloc: Global,
-    place: Place,
-    functions: &[Function],
-    scope: &mut Scope,
-) -> Result<bool, NoMemory>
-    ensures { IfOk result (λ found. Declared found scope.old scope.new (λ e. AnyAt place (fun_scopes e functions.now))
-        (λ e. rec_names (function_binds (map function_of functions.now)))) }
-{
-    bind_functions(alloc, functions, scope)?;
-    in_functions(alloc, place, functions, scope)
-}
-
-/// `local`.
-#[cycle(exps)]
-fn in_local(
-    alloc: Global,
-    place: Place,
-    decs: &[Dec],
-    shown: &[Dec],
-    scope: &mut Scope,
-) -> Result<bool, NoMemory>
-    ensures { IfOk result (λ found. Declared found scope.old scope.new (λ e. AnyAt place (local_scopes e decs.now shown.now))
-        (λ e. local_names e decs.now shown.now)) }
-{
-    let from = scope.len();
-    if in_decs(alloc, place, decs, scope)? {
-        return Ok(true);
-    }
-    let to = scope.len();
-    if in_decs(alloc, place, shown, scope)? {
-        return Ok(true);
-    }
-    scope.leave_between(alloc, from, to)?;
-    Ok(false)
-}
-
 /// Declarations, one after the other.
 #[cycle(exps)]
 pub fn in_decs(alloc: Global, place: Place, decs: &[Dec], scope: &mut Scope) -> Result<bool, NoMemory>
@@ -384,14 +276,38 @@ fn in_dec(alloc: Global, place: Place, dec: &Dec, scope: &mut Scope) -> Result<b
     ensures { IfOk result (λ found. Declared found scope.old scope.new (λ e. UnboundAt place e (dec_phrase dec.now)) (λ e. dec_names e (dec_of dec.now))) }
 {
     match dec {
-        Dec::Val(_, _, binds, recs) => in_val(alloc, place, binds, recs, scope),
-        Dec::Fun(_, _, functions) => in_fun(alloc, place, functions, scope),
+        Dec::Val(_, _, binds, recs) => {
+            if in_binds(alloc, place, binds, scope)? {
+                return Ok(true);
+            }
+            let opened = open_val(alloc, binds, recs, scope)?;
+            if in_binds(alloc, place, recs, scope)? {
+                return Ok(true);
+            }
+            close_val(alloc, &opened, recs, scope)?;
+            Ok(false)
+        }
+        Dec::Fun(_, _, functions) => {
+            bind_functions(alloc, functions, scope)?;
+            in_functions(alloc, place, functions, scope)
+        }
         Dec::Abbreviation(_, binds) => in_type_dec(alloc, place, binds, scope),
         Dec::Datatype(_, binds) => in_datatype(alloc, place, binds, scope),
         Dec::Withtype(_, binds, types) => in_withtype(alloc, place, binds, types, scope),
         Dec::Replicate(_, name, long) => in_replicate(alloc, place, *name, long, scope),
         Dec::Exception(_, binds) => in_exception(alloc, place, binds, scope),
-        Dec::Local(_, decs, shown) => in_local(alloc, place, decs, shown, scope),
+        Dec::Local(_, decs, shown) => {
+            let from = scope.len();
+            if in_decs(alloc, place, decs, scope)? {
+                return Ok(true);
+            }
+            let to = scope.len();
+            if in_decs(alloc, place, shown, scope)? {
+                return Ok(true);
+            }
+            scope.leave_between(alloc, from, to)?;
+            Ok(false)
+        }
         Dec::Open(_, longs) => in_open(place, longs, scope),
         Dec::Declarations(_, decs) => in_decs(alloc, place, decs, scope),
     }

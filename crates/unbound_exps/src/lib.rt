@@ -2,3 +2,4 @@
 #![tactic(auto)]
 
 pub mod exps;
+pub mod vals;

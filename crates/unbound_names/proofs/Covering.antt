@@ -1,6 +1,6 @@
 -- What a scope of the code covers, and what its bindings bring.
-use Rattle.std.proofs.Common.{rules, ◌≡◌, ℕ, zero, suc, Bool, true, false, ◌||◌, cond, List, [], ◌∷◌, ◌++◌, map, length, reverse, take, nat_eq, Option, Some, None, option_map, refl, sym, ap, ap₂, subst, ◌∙◌, append_assoc}
-use Rattle.std.specs.Prelude.{flat_map, ⊤}
+use Rattle.std.proofs.Common.{rules, ◌≡◌, ℕ, suc, Bool, true, false, ◌||◌, cond, List, [], ◌∷◌, ◌++◌, map, length, reverse, take, nat_eq, Option, Some, None, option_map, refl, sym, ap, ap₂, subst, ◌∙◌, append_assoc}
+use Rattle.std.specs.Prelude.{flat_map}
 use Rattle.std.specs.List.{AllByRecursion}
 use Rattle.std.specs.Option.{option_or}
 use Rattle.std.proofs.Math.Seq.{take-append_seam}
@@ -14,7 +14,6 @@ use Rattle.sml_tree.specs.Derived.{fresh_pat, short}
 use Rattle.ty_basis.specs.of_ty_core.declared.env.Status.TheVariants.{Constructor, Exception, Variable}
 use Rattle.ty_basis.specs.of_ty_core.declared.env.Status.{Status}
 use Rattle.core_rules.specs.Eval.{cons_env, datatypes_env, types_env}
-use Rattle.core_rules.specs.Fits.{IsOfValues}
 use Rattle.core_rules.specs.Initial.{Entry, dynamic_values}
 use Rattle.core_rules.specs.Match.{is_variable}
 use Rattle.core_rules.specs.Restrictions.{exn_vids}
@@ -143,9 +142,6 @@ replica-brings x cs d l bs e c =
     tycon-covers (cs ++ bs) (plus e d) d x (length cs) (subst (λ z. AreListed z d) (sym (take-append_seam cs bs)) l) (listed-bring cs d l bs e c)
 
 -- What declarations bring.
-
-plain-type : (x : ℕ) → Brings (Tycon x 0 ∷ []) (tycon x nothing nothing)
-plain-type x = replica-brings x [] nothing nothing-listed
 
 pub types-bring : (bs : List bare.TypeBind) → Brings (type_entries (map (λ b. b.tycon) bs)) (types_env bs)
 types-bring [] = nothing-brings

@@ -220,7 +220,7 @@ module _ {A : Type 0} where
       let p : drop (length xs - n) (reverse xs ++ ys) ≡ drop (length xs - n) (reverse xs) ++ ys = drop-append-le (length xs - n) (reverse xs) ys (omega (arith, r)) in
       let q : length (drop (length xs - n) (reverse xs)) ≡ length xs - (length xs - n) = length-drop (length xs - n) (reverse xs) ∙ ap (λ m. m - (length xs - n)) r in
       let s : take (length xs - (length xs - n)) (drop (length xs - n) (reverse xs) ++ ys) ≡ drop (length xs - n) (reverse xs) =
-          ap (λ m. take m (drop (length xs - n) (reverse xs) ++ ys)) (sym q) ∙ take-append_seam (drop (length xs - n) (reverse xs)) ys in
+      ap (λ m. take m (drop (length xs - n) (reverse xs) ++ ys)) (sym q) ∙ take-append_seam (drop (length xs - n) (reverse xs)) ys in
       ap (λ l. reverse (take (length xs - (length xs - n)) l)) p ∙ ap reverse s ∙ reverse-drop (length xs - n) (reverse xs)
       ∙ ap₂ (λ m l. take (m - (length xs - n)) l) r (reverse-reverse xs) ∙ taken-at-most n xs
 
@@ -240,7 +240,7 @@ pub since-view : (items now since old : List Bound) (n m len : ℕ) → reverse 
     → reverse since ≡ take (length old - n) old
 since-view items now since old n m len v w k e p =
     let a : since ≡ drop m items =
-        p ∙ ap (λ l. take (length l - m) (drop m l)) w ∙ ap (λ j. take j (drop m items)) (sym (length-drop m items)) ∙ take_all (length (drop m items)) (drop m items) (omega arith) in
+    p ∙ ap (λ l. take (length l - m) (drop m l)) w ∙ ap (λ j. take j (drop m items)) (sym (length-drop m items)) ∙ take_all (length (drop m items)) (drop m items) (omega arith) in
     let b : length items - m ≡ length items - n = omega (arith, k, e) in
     ap reverse a ∙ reverse-drop m items ∙ ap (λ j. take j (reverse items)) (b ∙ ap (λ j. j - n) (sym (length-reverse items))) ∙ ap (λ l. take (length l - n) l) v
 
@@ -258,7 +258,7 @@ constructors-found items now cs old x n b first last len r hr q v w k l f p =
     let m : last ≡ length h.earlier = (let e = h.before in omega (arith, k, l, e, t)) in
     let g : first ≡ length h.earlier - n = f ∙ ap (λ z. z - n) m in
     let e : cs ≡ take (length h.earlier - (length h.earlier - n)) (drop (length h.earlier - n) (reverse h.earlier ++ reverse h.later)) =
-        p ∙ ap₂ (λ j i. take (j - i) (drop i now)) m g ∙ ap (λ z. take (length h.earlier - (length h.earlier - n)) (drop (length h.earlier - n) z)) s in
+    p ∙ ap₂ (λ j i. take (j - i) (drop i now)) m g ∙ ap (λ z. take (length h.earlier - (length h.earlier - n)) (drop (length h.earlier - n) z)) s in
     ap Some (ap reverse e ∙ last-of-first n h.earlier (reverse h.later)) ∙ sym h.found ∙ ap (λ bs. tycon_found bs x) v
 
 pub none-found : (bs old : List Bound) (x : ℕ) (r : Option (ℕ × ℕ)) → CountHeld bs x r → r ≡ None → bs ≡ old → None ≡ tycon_found old x

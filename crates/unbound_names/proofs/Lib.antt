@@ -5,6 +5,7 @@ pub mod DecNodes
 pub mod Enough
 pub mod ExpNodes
 pub mod Finding
+pub mod Initially
 pub mod PatForms
 pub mod PatNodes
 pub mod PatVids

@@ -1,3 +1,4 @@
+pub mod Basis
 pub mod Covering
 pub mod Entries
 pub mod Held

@@ -7,6 +7,7 @@ pub mod datas;
 pub mod held;
 pub mod look_ups;
 pub mod pats;
+pub mod rows;
 pub mod scope;
 pub mod tys;
 pub mod vids;

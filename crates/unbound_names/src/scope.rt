@@ -69,10 +69,12 @@ fn variable_of(held: Option<Held>) -> Option<bool>
     ensures { result ≡ value_held held }
 {
     match held {
-        Some(Held {
-            bound: Bound::Value(_, variable),
-            before: _,
-        }) => Some(variable),
+        Some(
+            Held {
+                bound: Bound::Value(_, variable),
+                before: _,
+            },
+        ) => Some(variable),
         _ => None,
     }
 }
@@ -82,10 +84,12 @@ fn count_of(held: Option<Held>) -> Option<(usize, usize)>
     ensures { result ≡ tycon_held held }
 {
     match held {
-        Some(Held {
-            bound: Bound::Tycon(_, count),
-            before,
-        }) => Some((count, before)),
+        Some(
+            Held {
+                bound: Bound::Tycon(_, count),
+                before,
+            },
+        ) => Some((count, before)),
         _ => None,
     }
 }
@@ -95,10 +99,12 @@ fn members_of(held: Option<Held>) -> Option<Members>
     ensures { result ≡ structure_held held }
 {
     match held {
-        Some(Held {
-            bound: Bound::Structure(_, members),
-            before: _,
-        }) => Some(members),
+        Some(
+            Held {
+                bound: Bound::Structure(_, members),
+                before: _,
+            },
+        ) => Some(members),
         _ => None,
     }
 }
