@@ -1,3 +1,5 @@
+pub mod Abbreviating
+pub mod Among
 pub mod Anywhere
 pub mod BindVids
 pub mod Covering
