@@ -9,6 +9,7 @@ pub mod ExpNodes
 pub mod Finding
 pub mod PatForms
 pub mod PatNodes
+pub mod PatParts
 pub mod PatVids
 pub mod Placing
 pub mod TyNodes
