@@ -12,5 +12,6 @@ pub mod PatNodes
 pub mod PatParts
 pub mod PatVids
 pub mod Placing
+pub mod Pushing
 pub mod TyNodes
 pub mod Variables

@@ -134,7 +134,14 @@ fn push_rec(pat: &Pat, vids: &mut Vec<Vid>) -> Result<(), NoMemory>
                 Ok(())
             }
         }
-        _ => Ok(()),
+        Pat::Wild(_) => Ok(()),
+        Pat::Constant(_, _) => Ok(()),
+        Pat::BuiltIn(_, _) => Ok(()),
+        Pat::Record(_, _, _) => Ok(()),
+        Pat::Tuple(_, _) => Ok(()),
+        Pat::List(_, _) => Ok(()),
+        Pat::Con(_, _, _, _) => Ok(()),
+        Pat::BuiltCon(_, _, _) => Ok(()),
     }
 }
 
