@@ -1,5 +1,5 @@
 -- A type in which no abbreviations are written out is as it was.
-use Rattle.std.proofs.Common.{◌≡◌, ℕ, List, [], ◌∷◌, Option, None, refl, sym, ap, ap₂, subst, ◌∙◌}
+use Rattle.std.proofs.Common.{◌≡◌, ℕ, List, [], ◌∷◌, None, refl, ap, ap₂, subst}
 use Rattle.mlc_base.specs.declared.place.Place.{Place}
 use Rattle.sml_tree.specs.BareTree as bare
 use Rattle.sml_tree.specs.Derived.{expand_ty, expand_ty_fields, expand_tys, unqualified, written_out}

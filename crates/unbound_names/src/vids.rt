@@ -203,7 +203,11 @@ pub fn bind_recs(alloc: Global, binds: &[Bind], scope: &mut Scope) -> Result<(),
 }
 
 /// Binds functions.
-pub fn bind_functions(alloc: Global, functions: &[Function], scope: &mut Scope) -> Result<(), NoMemory>
+pub fn bind_functions(
+    alloc: Global,
+    functions: &[Function],
+    scope: &mut Scope,
+) -> Result<(), NoMemory>
     ensures { IfOk result (λ _. Brought scope.old scope.new (λ e. rec_names (function_binds (map function_of functions.now)))) }
 {
     let mut vids = Vec::new(alloc);

@@ -29,10 +29,10 @@ in_parts-returns-then-in_pat t c u e k =
 pub in_pat-returns-then-is_at : goal.in_pat-returns-then-is_at
 in_pat-returns-then-is_at t c u e k = elim c.if-len-gt0.branch [
   | in_pat-then-len-gt0 w ↦
-    let lt : 0 < length c.in-Vid.long.qualifiers.items = omega (arith, w.if-len-gt0.true, c.len.ensures) in
-    pat-Vid c.args.place e c.args.pat.now c.in-Vid.at c.in-Vid.long c.in-Vid.is
-    (qualified-at c.args.place c.in-Vid.long.qualifiers.items _ lt
-    (unbound-at c.args.place _ _ (c.is_unbound_value.ensures u e k) (w.is_at.ensures (sym w.value-is ∙ c.if-is_at.true))))
+      let lt : 0 < length c.in-Vid.long.qualifiers.items = omega (arith, w.if-len-gt0.true, c.len.ensures) in
+      pat-Vid c.args.place e c.args.pat.now c.in-Vid.at c.in-Vid.long c.in-Vid.is
+      (qualified-at c.args.place c.in-Vid.long.qualifiers.items _ lt
+      (unbound-at c.args.place _ _ (c.is_unbound_value.ensures u e k) (w.is_at.ensures (sym w.value-is ∙ c.if-is_at.true))))
   | in_pat-else-len-gt0 w ↦ none-above c.len.result w.if-len-gt0.false (sym w.value-is ∙ c.if-is_at.true)
 ]
 

@@ -64,15 +64,15 @@ pub push_vids-returns-in_ok-push_vids-in-Chain : goal.push_vids-returns-in_ok-pu
 push_vids-returns-in_ok-push_vids-in-Chain t c =
     if-ok c.push_parts.result
     (λ u h e v. added-for c.args.vids.now.items c.push_parts.new.vids.items _ _
-        (ap₂ (λ a b. a ++ b) (ap (λ z. pat_vids e (pat_of z)) c.deref-in-Chain.ensures) (ap (flat_map (λ o. pat_vids e (pat_of o.pat))) c.deref-in-Chain-2.ensures.value)
-        ∙ sym (vids-Chain e c.args.pat.now c.in-Chain.field-0 c.in-Chain.field-1 c.in-Chain.first c.in-Chain.parts c.in-Chain.is))
-        (added-both c.args.vids.now.items _ c.push_parts.new.vids.items (pat_vids e (pat_of c.deref-in-Chain.result.now)) (flat_map (λ o. pat_vids e (pat_of o.pat)) c.deref-in-Chain-2.result.now) (c.in_ok-push_vids-in-Chain.ensures e v) (h e v)))
+    (ap₂ (λ a b. a ++ b) (ap (λ z. pat_vids e (pat_of z)) c.deref-in-Chain.ensures) (ap (flat_map (λ o. pat_vids e (pat_of o.pat))) c.deref-in-Chain-2.ensures.value)
+    ∙ sym (vids-Chain e c.args.pat.now c.in-Chain.field-0 c.in-Chain.field-1 c.in-Chain.first c.in-Chain.parts c.in-Chain.is))
+    (added-both c.args.vids.now.items _ c.push_parts.new.vids.items (pat_vids e (pat_of c.deref-in-Chain.result.now)) (flat_map (λ o. pat_vids e (pat_of o.pat)) c.deref-in-Chain-2.result.now) (c.in_ok-push_vids-in-Chain.ensures e v) (h e v)))
     c.push_parts.ensures
 
 pub push_vids-returns-in_ok-push_written-in-As : goal.push_vids-returns-in_ok-push_written-in-As
 push_vids-returns-in_ok-push_written-in-As t c =
     if-ok c.push_vids-in-As.result
     (λ u h e v. added-for c.args.vids.now.items c.push_vids-in-As.new.vids.items _ _
-        (ap (λ z. c.in-As.vid ∷ pat_vids e (pat_of z)) c.deref-in-As.ensures ∙ sym (vids-As e c.args.pat.now c.in-As.field-0 c.in-As.vid c.in-As.field-2 c.in-As.body c.in-As.is))
-        (added-both c.args.vids.now.items _ c.push_vids-in-As.new.vids.items (c.in-As.vid ∷ []) (pat_vids e (pat_of c.deref-in-As.result.now)) c.in_ok-push_written-in-As.ensures (h e v)))
+    (ap (λ z. c.in-As.vid ∷ pat_vids e (pat_of z)) c.deref-in-As.ensures ∙ sym (vids-As e c.args.pat.now c.in-As.field-0 c.in-As.vid c.in-As.field-2 c.in-As.body c.in-As.is))
+    (added-both c.args.vids.now.items _ c.push_vids-in-As.new.vids.items (c.in-As.vid ∷ []) (pat_vids e (pat_of c.deref-in-As.result.now)) c.in_ok-push_written-in-As.ensures (h e v)))
     c.push_vids-in-As.ensures
