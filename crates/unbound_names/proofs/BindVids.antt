@@ -1,5 +1,5 @@
 -- The identifiers that the code's bindings and functions bind.
-use Rattle.std.proofs.Common.{◌≡◌, Bool, true, false, List, [], ◌∷◌, ◌++◌, map, Vec, Box, Global, Option, refl, ap, ap₂, ◌∙◌}
+use Rattle.std.proofs.Common.{◌≡◌, Bool, true, false, List, [], ◌∷◌, ◌++◌, length, map, Vec, Box, Global, Option, refl, ap, ap₂, ◌∙◌}
 use Rattle.std.specs.Prelude.{flat_map}
 use Rattle.mlc_base.specs.declared.place.Place.{Place}
 use Rattle.sml_tree.specs.BareTree as bare
@@ -96,6 +96,15 @@ chain-each false q a (o ∷ os) = left-none q (join_pats (pat_part_of o).joint q
 pub each-Chain : (x : Pat) (q : Place) (r : Bool) (a : Box Pat Global) (os : Vec PatPart Global) → x ≡ pats.Chain q r a os
     → each_vids (pat_of x) ≡ chain_vids (each_vids (pat_of a.value)) os.items
 each-Chain x q r a os s = ap each_vids (chain-is x q r a os s) ∙ chain-each r q (pat_of a.value) os.items
+
+-- one of more operands
+pub each-Chain-more : (x : Pat) (q : Place) (r : Bool) (a : Box Pat Global) (os : Vec PatPart Global) → x ≡ pats.Chain q r a os
+    → (length os.items ≡ 0 → ⊥) → each_vids (pat_of x) ≡ []
+each-Chain-more x q r a os s n = each-Chain x q r a os s ∙ more (each_vids (pat_of a.value)) os.items n
+  where
+    more : (vs : List Vid) (os : List PatPart) → (length os ≡ 0 → ⊥) → chain_vids vs os ≡ []
+    more vs [] n = absurd (n refl)
+    more vs (o ∷ os) n = refl
 
 pub each-Typed : (x : Pat) (q : Place) (a : Box Pat Global) (t : Ty) → x ≡ pats.Typed q a t → each_vids (pat_of x) ≡ each_vids (pat_of a.value)
 each-Typed x q a t s = ap each_vids (typed-is x q a t s)

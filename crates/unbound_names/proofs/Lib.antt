@@ -1,3 +1,5 @@
+pub mod Abbreviating
+pub mod Among
 pub mod Anywhere
 pub mod BindVids
 pub mod Covering
@@ -8,7 +10,9 @@ pub mod Finding
 pub mod Initially
 pub mod PatForms
 pub mod PatNodes
+pub mod PatParts
 pub mod PatVids
 pub mod Placing
+pub mod Pushing
 pub mod TyNodes
 pub mod Variables

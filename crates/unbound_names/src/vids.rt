@@ -134,7 +134,14 @@ fn push_rec(pat: &Pat, vids: &mut Vec<Vid>) -> Result<(), NoMemory>
                 Ok(())
             }
         }
-        _ => Ok(()),
+        Pat::Wild(_) => Ok(()),
+        Pat::Constant(_, _) => Ok(()),
+        Pat::BuiltIn(_, _) => Ok(()),
+        Pat::Record(_, _, _) => Ok(()),
+        Pat::Tuple(_, _) => Ok(()),
+        Pat::List(_, _) => Ok(()),
+        Pat::Con(_, _, _, _) => Ok(()),
+        Pat::BuiltCon(_, _, _) => Ok(()),
     }
 }
 
@@ -196,7 +203,11 @@ pub fn bind_recs(alloc: Global, binds: &[Bind], scope: &mut Scope) -> Result<(),
 }
 
 /// Binds functions.
-pub fn bind_functions(alloc: Global, functions: &[Function], scope: &mut Scope) -> Result<(), NoMemory>
+pub fn bind_functions(
+    alloc: Global,
+    functions: &[Function],
+    scope: &mut Scope,
+) -> Result<(), NoMemory>
     ensures { IfOk result (λ _. Brought scope.old scope.new (λ e. rec_names (function_binds (map function_of functions.now)))) }
 {
     let mut vids = Vec::new(alloc);

@@ -1,0 +1,11 @@
+use Rattle.std.proofs.Common.{sym}
+use Rattle.sml_tree.specs.TreeOf.{pat_of}
+use Rattle.unbound_names.specs.Patterns.{pat_vids}
+use Rattle.unbound_names.proofs.BindVids.{binds-have}
+use Rattle.unbound_names.proofs.Pushing.{added-for, added-last}
+use Rattle.unbound_names.proofs.vids.push_binds.Goals as goal
+
+pub returns : goal.returns
+returns c e v =
+    added-for c.args.vids.now.items c.loop-i.vids.items _ _ (sym (binds-have e c.args.binds.now))
+    (added-last (λ b. pat_vids e (pat_of b.pat)) c.args.binds.now c.loop-i.i c.args.vids.now.items c.loop-i.vids.items c.loop-i-test.false (c.loop-i.invariant e v))
