@@ -9,5 +9,6 @@ pub mod PatForms
 pub mod PatNodes
 pub mod PatVids
 pub mod Placing
+pub mod Qualified
 pub mod TyNodes
 pub mod Variables
