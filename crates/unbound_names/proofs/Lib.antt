@@ -5,6 +5,8 @@ pub mod DecNodes
 pub mod Enough
 pub mod ExpNodes
 pub mod Finding
+pub mod FromEnd
+pub mod Opening
 pub mod PatForms
 pub mod PatNodes
 pub mod PatVids
