@@ -2,6 +2,7 @@ pub mod Anywhere
 pub mod BindVids
 pub mod Covering
 pub mod DecNodes
+pub mod Declaring
 pub mod Enough
 pub mod ExpNodes
 pub mod Finding

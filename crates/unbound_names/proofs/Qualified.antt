@@ -1,6 +1,6 @@
 -- Look-ups behind qualifiers: what structures have is variables.
-use Rattle.std.proofs.Common.{◌≡◌, ◌<◌, ℕ, List, [], ◌∷◌, length, Option, Some, None, refl, sym, ap, subst, arith}
-use Rattle.std.specs.Prelude.{option_and_then}
+use Rattle.std.proofs.Common.{◌≡◌, ◌<◌, ℕ, false, List, [], ◌∷◌, length, Option, Some, None, refl, sym, ap, subst, arith}
+use Rattle.std.specs.Prelude.{is_some, option_and_then}
 use Rattle.sml_tree.specs.declared.ident.Vid.{Vid}
 use Rattle.core_rules.specs.Fits.{IsOfValues}
 use Rattle.core_rules.specs.Initial.{Entry, dynamic_values}
@@ -59,7 +59,7 @@ long-value-none bs e [] x c lt = absurd (omega (arith, lt))
 long-value-none bs e (q ∷ []) x c lt = absurd (omega (arith, lt))
 long-value-none bs e (q ∷ r ∷ qs) x c lt = ap (option_and_then (λ d. value_in d x)) (along-none bs e q r qs c)
 
-pub structure-unbound : (o : Option Members) (p : Option Env) → StructureFits o p → o ≡ None → p ≡ None
+pub structure-unbound : (o : Option Members) (p : Option Env) → StructureFits o p → is_some o ≡ false → p ≡ None
 structure-unbound None None h e = refl
 structure-unbound None (Some d) h e = absurd h
 structure-unbound (Some s) p h e = absurd (cc)
