@@ -3,7 +3,7 @@ use Rattle.std.proofs.Common.{◌≡◌, ◌≤◌, ℕ, zero, Bool, true, false
 use Rattle.std.specs.Prelude.{◌-◌, cond, flat_map, is_some, option_and_then, option_map, unwrap_or}
 use Rattle.std.specs.List.{Contains}
 use Rattle.std.specs.Map.{lookup}
-use Rattle.std.proofs.lemmas.List.{drop_at, length-append, length-map, length-reverse, nil_from_length}
+use Rattle.std.proofs.lemmas.List.{drop_at, length-append, length-map, length-reverse}
 use Rattle.mlc_base.specs.declared.place.Place.{Place}
 use Rattle.sml_tree.specs.BareTree as bare
 use Rattle.sml_tree.specs.Derived.{binding_of, expand_bind, expand_con, expand_some, expand_ty}
@@ -19,7 +19,7 @@ use Rattle.sml_tree.specs.declared.tree.Ty.{Ty}
 use Rattle.sml_tree.specs.declared.tree.TypeBind.{TypeBind}
 use Rattle.core_rules.specs.Eval.{datatypes_env, types_env}
 use Rattle.core_rules.specs.Restrictions.{exn_vids}
-use Rattle.core_rules.specs.Unbound.{Scoped, Unbound, all_in, exns_names, tycons_names, unless_bound, value_at}
+use Rattle.core_rules.specs.Unbound.{Unbound, all_in, exns_names, tycons_names, unless_bound, value_at}
 use Rattle.core_rules.specs.Values.{Env, along, long_value_in, nothing, plus, tycon, tycon_in}
 use Rattle.unbound_names.specs.Covering.{Brings, Covers, TyconFits}
 use Rattle.unbound_names.specs.Entries.{con_entries, data_entries, type_entries}
@@ -28,10 +28,10 @@ use Rattle.unbound_names.specs.Parts.{expanded, some_ty_phrases}
 use Rattle.unbound_names.specs.Placed.{AnyAt, At, Brought, Declared, UnboundAt, place_of}
 use Rattle.unbound_names.specs.Scopes.{tycon_found}
 use Rattle.unbound_names.specs.declared.bound.Bound.{Bound}
-use Rattle.unbound_names.specs.declared.bound.Bound.TheVariants.{Tycon, Value}
+use Rattle.unbound_names.specs.declared.bound.Bound.TheVariants.{Tycon}
 use Rattle.unbound_names.proofs.Covering.{both-bring, datas-bring, exns-bring, nothing-brings, replica-brings, tycons-bring, types-bring}
 use Rattle.unbound_names.proofs.DecNodes.{datatypes-expanded, ex-bind-Same, in-map, tycons-expanded, type-bind-at}
-use Rattle.unbound_names.proofs.Placing.{any-left, any-right, first-in, own-at, parts-at}
+use Rattle.unbound_names.proofs.Placing.{first-in, parts-at}
 
 -- an identifier that isn't bound
 pub at-unbound : {A : Type 0} (p : Place) (o : Option A) (u : Unbound) → place_of u ≡ p → o ≡ None → At p (unless_bound o u)

@@ -1,8 +1,8 @@
 -- What `open` brings.
-use Rattle.std.proofs.Common.{◌≡◌, ◌<◌, ◌≤◌, ◌+◌, ℕ, Bool, true, false, List, [], ◌∷◌, ◌++◌, drop, get_or, length, map, take, Option, Some, None, refl, sym, ap, ap₂, subst, ◌∙◌, append_assoc, arith}
+use Rattle.std.proofs.Common.{◌≡◌, ◌<◌, ◌≤◌, ◌+◌, ℕ, true, List, [], ◌∷◌, ◌++◌, get_or, length, map, take, Option, Some, None, refl, sym, ap, ap₂, subst, ◌∙◌, append_assoc, arith}
 use Rattle.std.specs.Prelude.{is_some, option_and_then, option_map, unwrap_or}
 use Rattle.std.specs.Option.{option_or}
-use Rattle.std.proofs.lemmas.List.{drop_all, drop_more, map_more, take_all}
+use Rattle.std.proofs.lemmas.List.{map_more, take_all}
 use Rattle.sml_tree.specs.BareTree as bare
 use Rattle.sml_tree.specs.TreeOf.{long_id_at_of}
 use Rattle.sml_tree.specs.declared.tree.LongIdAt.{LongIdAt}
@@ -15,7 +15,7 @@ use Rattle.unbound_names.specs.Placed.{Brought}
 use Rattle.unbound_names.specs.Scopes.{structure_found}
 use Rattle.unbound_names.specs.declared.bound.Bound.{Bound}
 use Rattle.unbound_names.specs.declared.bound.Members.{Members}
-use Rattle.unbound_names.proofs.Covering.{both-bring, members-bring, nothing-brings, nothing-plus, plus-assoc}
+use Rattle.unbound_names.proofs.Covering.{both-bring, members-bring, nothing-plus, plus-assoc}
 use Rattle.unbound_names.proofs.Qualified.{long-structure-none, structure-plain}
 
 -- a structure that isn't bound has nothing
@@ -36,13 +36,6 @@ opened-are e (x ∷ xs) h = by (long_structure_in e x) (opened e xs) (opened-are
     by None p k h = absurd (cc)
     by (Some d) None k h = absurd (cc)
     by (Some d) (Some c) k h = ap (plus d) (k refl)
-
-opened-none : (e : Env) (xs : List bare.LongIdAt) → is_some (opened e xs) ≡ false → unwrap_or (opened e xs) nothing ≡ nothing
-opened-none e xs h = by (opened e xs) h
-  where
-    by : (o : Option Env) → is_some o ≡ false → unwrap_or o nothing ≡ nothing
-    by None h = refl
-    by (Some d) h = absurd (cc)
 
 opened-more : (e : Env) (xs : List bare.LongIdAt) (x : bare.LongIdAt) → each_opened e (xs ++ x ∷ []) ≡ plus (each_opened e xs) (one_opened e x)
 opened-more e [] x = sym (nothing-plus (one_opened e x))
@@ -75,18 +68,12 @@ same-structure e d h x = by x.long.qualifiers
     by [] = one x.long.id
     by (q ∷ qs) = ap (λ o. option_and_then (λ d. structure_in d x.long.id) (option_and_then (λ d. along d qs) o)) (one q)
 
--- one after the other
-
+-- what a structure has
 pub structure-brings : (s : Members) (p : Option Env) → StructureFits (Some s) p → Brings (member_entries s) (unwrap_or p nothing)
 structure-brings s None h = absurd h
 structure-brings s (Some d) h = subst (Brings (member_entries s)) (sym h) (members-bring s)
 
-pub unbound-brings : (p : Option Env) → StructureFits None p → Brings [] (unwrap_or p nothing)
-unbound-brings None h = nothing-brings
-unbound-brings (Some d) h = absurd h
-
-pub opens-first : (old : List Bound) (xs : List LongIdAt) → Brought old old (λ e. each_opened e (map long_id_at_of (take 0 xs)))
-opens-first old xs = record { more = []; is = refl; brings = λ e c. nothing-brings }
+-- one after the other
 
 pub opens-next : (old now new : List Bound) (xs : List LongIdAt) (i : ℕ) (x : LongIdAt) → i < length xs → x ≡ get_or xs i x
     → Brought old now (λ e. each_opened e (map long_id_at_of (take i xs))) → Brought now new (λ e. one_opened e (long_id_at_of x))
@@ -98,12 +85,13 @@ opens-next old now new xs i x lt at h k = record {
       let d = each_opened e (map long_id_at_of (take i xs)) in
       let inner : Covers now (plus e d) = subst (λ l. Covers l (plus e d)) (sym h.is) (h.brings e c old e c) in
       let one : Brings k.more (one_opened e (long_id_at_of x)) =
-          subst (λ o. Brings k.more (unwrap_or o nothing)) (same-structure e d (each-plain old e (map long_id_at_of (take i xs)) c) (long_id_at_of x)) (k.brings (plus e d) inner) in
+      subst (λ o. Brings k.more (unwrap_or o nothing)) (same-structure e d (each-plain old e (map long_id_at_of (take i xs)) c) (long_id_at_of x)) (k.brings (plus e d) inner) in
       let all : each_opened e (map long_id_at_of (take (i + 1) xs)) ≡ plus d (one_opened e (long_id_at_of x)) =
-          ap (each_opened e) (map_more long_id_at_of xs i x lt ∙ ap (λ y. map long_id_at_of (take i xs) ++ long_id_at_of y ∷ []) (sym at)) ∙ opened-more e (map long_id_at_of (take i xs)) (long_id_at_of x) in
+      ap (each_opened e) (map_more long_id_at_of xs i x lt ∙ ap (λ y. map long_id_at_of (take i xs) ++ long_id_at_of y ∷ []) (sym at)) ∙ opened-more e (map long_id_at_of (take i xs)) (long_id_at_of x) in
       subst (Brings (k.more ++ h.more)) (sym all) (both-bring h.more k.more d (one_opened e (long_id_at_of x)) (h.brings e c) one);
 }
 
+-- all of them, where all are bound
 pub opens-last : (old now : List Bound) (xs : List LongIdAt) (i : ℕ) → length xs ≤ i → ((e : Env) → Covers old e → true ≡ is_some (opened e (map long_id_at_of xs)))
     → Brought old now (λ e. each_opened e (map long_id_at_of (take i xs))) → Brought old now (λ e. unwrap_or (opened e (map long_id_at_of xs)) nothing)
 opens-last old now xs i le bound h = record {
@@ -112,34 +100,3 @@ opens-last old now xs i le bound h = record {
   brings = λ e c.
       subst (Brings h.more) (ap (λ l. each_opened e (map long_id_at_of l)) (take_all i xs le) ∙ sym (opened-are e (map long_id_at_of xs) (sym (bound e c)))) (h.brings e c);
 }
-
-pub opens-none : (old : List Bound) (xs : List LongIdAt) → ((e : Env) → Covers old e → false ≡ is_some (opened e (map long_id_at_of xs)))
-    → Brought old old (λ e. unwrap_or (opened e (map long_id_at_of xs)) nothing)
-opens-none old xs bound = record {
-  more = [];
-  is = refl;
-  brings = λ e c. subst (Brings []) (sym (opened-none e (map long_id_at_of xs) (sym (bound e c)))) nothing-brings;
-}
-
--- whether all are bound
-
-dropped : (xs : List LongIdAt) (i : ℕ) (x : LongIdAt) → i < length xs → x ≡ get_or xs i x → drop i xs ≡ x ∷ drop (i + 1) xs
-dropped xs i x lt at = drop_more xs i x lt ∙ ap (λ y. y ∷ drop (i + 1) xs) (sym at)
-
-pub all-next : (e : Env) (xs : List LongIdAt) (i : ℕ) (x : LongIdAt) (b : Bool) → i < length xs → x ≡ get_or xs i x → is_some (long_structure_in e (long_id_at_of x)) ≡ true
-    → is_some (opened e (map long_id_at_of (drop i xs))) ≡ b → is_some (opened e (map long_id_at_of (drop (i + 1) xs))) ≡ b
-all-next e xs i x b lt at some h =
-    by (long_structure_in e (long_id_at_of x)) (opened e (map long_id_at_of (drop (i + 1) xs))) some (ap (λ l. is_some (opened e (map long_id_at_of l))) (sym (dropped xs i x lt at)) ∙ h)
-  where
-    by : (o p : Option Env) → is_some o ≡ true → is_some (option_and_then (λ d. option_map (plus d) p) o) ≡ b → is_some p ≡ b
-    by None p s k = absurd (cc)
-    by (Some d) None s k = k
-    by (Some d) (Some c) s k = k
-
-pub all-stops : (e : Env) (xs : List LongIdAt) (i : ℕ) (x : LongIdAt) (b : Bool) → i < length xs → x ≡ get_or xs i x → long_structure_in e (long_id_at_of x) ≡ None
-    → is_some (opened e (map long_id_at_of (drop i xs))) ≡ b → false ≡ b
-all-stops e xs i x b lt at none h =
-    sym (ap (λ l. is_some (opened e (map long_id_at_of l))) (dropped xs i x lt at) ∙ ap (λ o. is_some (option_and_then (λ d. option_map (plus d) (opened e (map long_id_at_of (drop (i + 1) xs)))) o)) none) ∙ h
-
-pub all-last : (e : Env) (xs : List LongIdAt) (i : ℕ) (b : Bool) → length xs ≤ i → is_some (opened e (map long_id_at_of (drop i xs))) ≡ b → true ≡ b
-all-last e xs i b le h = ap (λ l. is_some (opened e (map long_id_at_of l))) (sym (drop_all i xs le)) ∙ h

@@ -1,4 +1,4 @@
-use Rattle.std.proofs.Common.{Some, subst}
+use Rattle.std.proofs.Common.{subst}
 use Rattle.std.proofs.lemmas.Result.{IfOk-weaker}
 use Rattle.sml_tree.specs.TreeOf.{long_id_at_of}
 use Rattle.core_rules.specs.Eval.{long_structure_in}

@@ -3,7 +3,6 @@ use Rattle.std.proofs.lemmas.Result.{IfOk-weaker}
 use Rattle.sml_tree.specs.TreeOf.{type_bind_of}
 use Rattle.core_rules.specs.Eval.{datatypes_env, types_env}
 use Rattle.core_rules.specs.Unbound.{all_in}
-use Rattle.core_rules.specs.Values.{Env, plus}
 use Rattle.unbound_names.specs.Nodes.{type_phrase}
 use Rattle.unbound_names.specs.Parts.{datatype_scopes, expanded, withtype_scopes}
 use Rattle.unbound_names.specs.Placed.{AnyAt}
