@@ -146,7 +146,7 @@ tycons-expanded bs [] = refl
 tycons-expanded bs (d ∷ ds) = ap (tycon d.tycon nothing) (tycons-expanded bs ds)
 
 -- one of the structures of `open`
-opened-at : (p : Place) (e : Env) (xs : List LongIdAt) (y : LongIdAt) → Contains xs y
+pub opened-at : (p : Place) (e : Env) (xs : List LongIdAt) (y : LongIdAt) → Contains xs y
     → At p (unless_bound (long_structure_in e (long_id_at_of y)) (structure_at (long_id_at_of y).place (long_id_at_of y).long))
     → At p (flat_map (λ y. unless_bound (long_structure_in e y) (structure_at y.place y.long)) (map long_id_at_of xs))
 opened-at p e xs y has h = record {

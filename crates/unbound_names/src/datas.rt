@@ -1,5 +1,5 @@
 // Declarations of types and exceptions, replication and `open`.
-ghost use Rattle.core_rules.specs.Eval.{datatypes_env, opened, types_env};
+ghost use Rattle.core_rules.specs.Eval.{datatypes_env, long_structure_in, opened, types_env};
 ghost use Rattle.core_rules.specs.Restrictions.{exn_vids};
 ghost use Rattle.core_rules.specs.Unbound.{all_in, exns_names, tycons_names};
 ghost use Rattle.core_rules.specs.Values.{Env, nothing, plus};
@@ -341,7 +341,10 @@ fn are_structures(longs: &[LongIdAt], scope: &Scope) -> bool
     true
 }
 
-fn bind_structure(long: &LongIdAt, scope: &mut Scope) -> Result<(), NoMemory> {
+/// Brings what a structure has into scope, where it is bound.
+fn bind_structure(long: &LongIdAt, scope: &mut Scope) -> Result<(), NoMemory>
+    ensures { IfOk result (λ _. Brought scope.old scope.new (λ e. unwrap_or (long_structure_in e (long_id_at_of long.now)) nothing)) }
+{
     match find_structure(&long.long, scope) {
         Some(members) => bind_members(scope, members),
         None => Ok(()),

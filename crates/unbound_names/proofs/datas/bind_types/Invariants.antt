@@ -1,0 +1,11 @@
+use Rattle.std.proofs.Common.{◌++◌, map}
+use Rattle.sml_tree.specs.TreeOf.{type_bind_of}
+use Rattle.unbound_names.specs.Entries.{type_entries}
+use Rattle.unbound_names.proofs.FromEnd.{Reaches}
+use Rattle.unbound_names.proofs.datas.bind_types.Given as goal
+
+abbrev pub invariant-loop-i : goal.invariant-loop-i
+invariant-loop-i l = Reaches (λ bs. type_entries (map (λ b. b.tycon) (map type_bind_of bs)) ++ l.fn.scope) l.binds l.i l.scope
+
+abbrev pub decreases-loop-i : goal.decreases-loop-i
+decreases-loop-i l = l.i
