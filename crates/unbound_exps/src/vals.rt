@@ -1,12 +1,12 @@
 // What a `val` binds: behind its own expressions, and in those behind `rec`.
-ghost use Rattle.std.specs.Prelude.{◌≡◌, ◌++◌, ◌-◌, List, drop, filter, length, map, IfOk};
+ghost use Rattle.std.specs.Prelude.{◌≡◌, filter, length, map, IfOk};
 ghost use Rattle.sml_tree.specs.TreeOf.{bind_of, binds_of};
 ghost use Rattle.core_rules.specs.Unbound.{rec_names};
-ghost use Rattle.core_rules.specs.Values.{plus, Env};
-ghost use Rattle.unbound_names.specs.Covering.{is_written, Brings, Covers};
-ghost use Rattle.unbound_names.specs.Patterns.{binds_vids, AreVariables};
+ghost use Rattle.core_rules.specs.Values.{Env};
+ghost use Rattle.unbound_names.specs.Covering.{is_written, Covers};
+ghost use Rattle.unbound_names.specs.Patterns.{binds_vids};
 ghost use Rattle.unbound_names.specs.Placed.{Brought};
-ghost use Rattle.unbound_names.specs.declared.bound.Bound.{Bound as Entry};
+ghost use Rattle.unbound_exps.specs.Closing.{Closes};
 
 use mlc_base::memory::NoMemory;
 use sml_tree::ident::Vid;
@@ -48,8 +48,7 @@ pub fn close_val(
     recs: &[Bind],
     scope: &mut Scope,
 ) -> Result<(), NoMemory>
-    ensures { IfOk result (λ _. (more : List Entry) × (scope.new ≡ more ++ drop (length scope.old - opened.now.before) scope.old)
-        × ((d : Env) → AreVariables opened.now.vids.items d → Brings more (plus d (rec_names (binds_of (map bind_of recs.now)))))) }
+    ensures { IfOk result (λ _. Closes scope.old scope.new opened.now.vids.items opened.now.before (binds_of (map bind_of recs.now))) }
 {
     scope.leave(opened.before);
     bind_vids(&opened.vids, scope)?;

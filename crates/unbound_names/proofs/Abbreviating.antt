@@ -17,7 +17,7 @@ none-is-named [] x = refl
 none-is-named (q ∷ qs) x = refl
 
 mutual
-  as-it-was : (t : bare.Ty) → expand_ty [] t ≡ t
+  pub as-it-was : (t : bare.Ty) → expand_ty [] t ≡ t
   as-it-was (bare.var p a) = refl
   as-it-was (bare.fields p fs) = ap (bare.fields p) (fields-as-they-were fs)
   as-it-was (bare.con p ts q c) = ap₂ (λ l o. written_out p l q c o) (all-as-they-were ts) (none-is-named c.qualifiers c.id)

@@ -300,6 +300,11 @@ dec-Open p e d q xs is y has h =
     dec-are p e d _ (is-Open d q xs is)
     (own-at p e (dec (bare.open_dec q (map long_id_at_of xs.items))) (opened-at p e xs.items y has h))
 
+-- one of its structures, whichever it is
+pub dec-Open-own : (p : Place) (e : Env) (d : Dec) (q : Place) (xs : Vec LongIdAt Global) → d ≡ decs.Open q xs
+    → At p (flat_map (λ y. unless_bound (long_structure_in e y) (structure_at y.place y.long)) (map long_id_at_of xs.items)) → UnboundAt p e (dec_phrase d)
+dec-Open-own p e d q xs is h = dec-are p e d _ (is-Open d q xs is) (own-at p e (dec (bare.open_dec q (map long_id_at_of xs.items))) h)
+
 pub dec-Declarations : (p : Place) (e : Env) (d : Dec) (q : Place) (ds : Vec Dec Global) → d ≡ decs.Declarations q ds
     → AnyAt p (decs_in e (decs_of (map dec_of ds.items))) → UnboundAt p e (dec_phrase d)
 dec-Declarations p e d q ds is h =
