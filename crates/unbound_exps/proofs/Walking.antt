@@ -13,6 +13,7 @@ use Rattle.sml_tree.specs.TreeOf.{dec_of, decs_of}
 use Rattle.sml_tree.specs.declared.ident.Vid.{Vid}
 use Rattle.sml_tree.specs.declared.tree.Dec.{Dec}
 use Rattle.core_rules.proofs.Fitting.{not-false}
+use Rattle.core_rules.specs.Initial.{initial_env, prelude_env}
 use Rattle.core_rules.specs.Unbound.{Scoped, all_in, binds_names, decs_in, decs_names, dec_names, rec_names}
 use Rattle.core_rules.specs.Values.{Env, nothing, plus}
 use Rattle.unbound_names.specs.Covering.{Brings, Covers, is_written}
@@ -22,6 +23,7 @@ use Rattle.unbound_names.specs.Patterns.{AreVariables, binds_vids}
 use Rattle.unbound_names.specs.Placed.{AnyAt, Brought, Declared, UnboundAt, Walked}
 use Rattle.unbound_names.specs.declared.bound.Bound.{Bound}
 use Rattle.unbound_exps.specs.Closing.{Closes}
+use Rattle.unbound_exps.specs.Projects.{standard_env}
 use Rattle.unbound_names.proofs.Covering.{both-bring, nothing-brings, variables-bring-turned}
 use Rattle.unbound_names.proofs.DecNodes.{decs-before, decs-last, in-map, names-longer}
 use Rattle.unbound_names.proofs.Variables.{binds-written}
@@ -236,3 +238,12 @@ ran-found p ds i d b old mid new lt e t g h = record {
 
 pub ran-all : {Q : Env → Type 0} (ds : List Dec) (i : ℕ) (old now : List Bound) → length ds ≤ i → Ran ds i old now → Declared false old now Q (run_names ds)
 ran-all ds i old now le g = record { right = λ h. never h; brought = λ h. subst (λ (l : List Dec). Brought old now (run_names l)) (take_all i ds le) g }
+
+-- The standard basis: its prelude sees the structure of primitives, which is left behind it.
+pub standard-covers : (prelude : bare.Decs) (basis one two new : List Bound) (b : Bound) (from to : ℕ) → Covers basis initial_env → one ≡ b ∷ basis → Covers (b ∷ basis) prelude_env
+    → Brought one two (λ e. decs_names e prelude) → from ≡ length basis → to ≡ length one → new ≡ take (length two - to) two ++ drop (length two - from) two → Covers new (standard_env prelude)
+standard-covers prelude basis one two new b from to c o p g f t e =
+    let k : Covers one prelude_env = subst (λ s. Covers s prelude_env) (sym o) p in
+    subst (λ (s : List Bound). Covers s (standard_env prelude))
+    (sym (e ∙ kept-part g.more (b ∷ []) basis two from to f (t ∙ ap length o) (g.is ∙ ap (λ s. g.more ++ s) o)))
+    (g.brings prelude_env k basis initial_env c)

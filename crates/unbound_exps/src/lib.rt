@@ -2,4 +2,6 @@
 #![tactic(auto)]
 
 pub mod exps;
+pub mod law;
+pub mod project;
 pub mod vals;

@@ -1,0 +1,32 @@
+// Projects, part by part.
+ghost use Rattle.std.specs.Prelude.{IfOk, IfSome, map};
+ghost use Rattle.sml_tree.specs.TreeOf.{dec_of, decs_of};
+ghost use Rattle.unbound_names.specs.Covering.{Covers};
+ghost use Rattle.unbound_exps.specs.Projects.{standard_env};
+
+use crate::exps::in_decs;
+use mlc_base::memory::NoMemory;
+use mlc_base::place::Place;
+use sml_tree::tree::Dec;
+use std::alloc::Global;
+use unbound_names::basis::{basis, with_prim};
+use unbound_names::scope::Scope;
+
+/// What is in scope behind the standard basis, with its prelude. None where something isn't bound in the prelude itself, at the place.
+pub fn standard_scope(
+    alloc: Global,
+    place: Place,
+    prelude: &[Dec],
+) -> Result<Option<Scope>, NoMemory>
+    ensures { IfOk result (λ found. IfSome found (λ scope. Covers scope (standard_env (decs_of (map dec_of prelude.now))))) }
+{
+    let mut scope = basis(alloc)?;
+    let from = scope.len();
+    with_prim(&mut scope)?;
+    let to = scope.len();
+    if in_decs(alloc, place, prelude, &mut scope)? {
+        return Ok(None);
+    }
+    scope.leave_between(alloc, from, to)?;
+    Ok(Some(scope))
+}
