@@ -7,5 +7,6 @@ pub mod Parts
 pub mod Patterns
 pub mod Placed
 pub mod Scopes
+pub mod Twice
 pub mod Types
 pub mod Written
