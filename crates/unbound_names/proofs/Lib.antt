@@ -19,4 +19,5 @@ pub mod Placing
 pub mod Pushing
 pub mod Qualified
 pub mod TyNodes
+pub mod TypedOnce
 pub mod Variables

@@ -8,5 +8,6 @@ pub mod Patterns
 pub mod Placed
 pub mod Scopes
 pub mod Twice
+pub mod TwiceLaw
 pub mod Types
 pub mod Written
