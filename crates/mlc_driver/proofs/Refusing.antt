@@ -1,5 +1,5 @@
 -- Why a project is refused, before its program is known.
-use Rattle.std.proofs.Common.{◌≡◌, ℕ, true, List, Option, Some, None, Err}
+use Rattle.std.proofs.Common.{◌≡◌, ℕ, true, List, Option, Some, None, Err, length}
 use Rattle.mlc_faults.specs.File.{File}
 use Rattle.mlc_faults.specs.declared.fault.Fault.{Fault}
 use Rattle.mlc_outside.specs.Files.{Files}
@@ -10,7 +10,7 @@ use Rattle.mlb_reader.specs.Project.{ProjectOf}
 use Rattle.mlb_reader.specs.Refusals.{IfTold, IfLoadFault}
 use Rattle.mlb_reader.specs.declared.refused.LoadRefused.{LoadRefused}
 use Rattle.mlb_reader.specs.declared.refused.LoadRefused.TheVariants as load
-use Rattle.mlc_driver.specs.Checked.{Breaks, in_loading, in_project}
+use Rattle.mlc_driver.specs.Checked.{Breaks, IsCause, in_loading, in_project}
 use Rattle.mlc_driver.specs.Fault.{is_of_elaboration}
 
 fault_breaks : (files : Option Files) (input : List ℕ) (names : List (List ℕ)) (f : Fault) (reads : List File) → IfTold files (λ t. IsBroken t input f reads) → f.name ≡ None
@@ -29,7 +29,7 @@ loading_breaks T U files input names reads load.Memory b e = tt
 
 -- when it is elaborated
 pub elaborating_breaks : (files : Option Files) (input : List ℕ) (before names : List (List ℕ)) (parts : List Part) (f : Fault) (reads : List File)
-    → IfTold files (λ t. ProjectOf t input before parts reads) → Keeps before names → is_of_elaboration f.code ≡ true
+    → IfTold files (λ t. ProjectOf t input before parts reads) → Keeps before names → is_of_elaboration f.code ≡ true → IsCause before (length reads) parts names f
     → IfTold files (λ t. Breaks t input names f reads)
-elaborating_breaks None input before names parts f reads p k e = tt
-elaborating_breaks (Some t) input before names parts f reads p k e = in_project p k e
+elaborating_breaks None input before names parts f reads p k e c = tt
+elaborating_breaks (Some t) input before names parts f reads p k e c = in_project p k e c

@@ -8,6 +8,9 @@ use Rattle.mlc_faults.specs.declared.code.Code.TheVariants.{Unbound, NoTyping, N
 use Rattle.mlc_faults.specs.declared.fault.Fault as base
 use Rattle.mlc_faults.specs.declared.refused.Refused.{Refused}
 use Rattle.mlc_faults.specs.declared.refused.Refused.TheVariants as refusal
+use Rattle.elab_types.specs.declared.refused.Refused.TheVariants as cause
+use Rattle.pat_elab.specs.declared.stopped.Stopped.{Stopped}
+use Rattle.pat_elab.specs.declared.stopped.Stopped.TheVariants.{Refuses}
 
 -- a refusal, where it is by a fault, tells one of this property
 abbrev pub OnFault : Refused → (base.Fault → Type 0) → Type 0
@@ -33,3 +36,8 @@ pub record IsTold (names : List (List ℕ)) (reads : List File) (f : base.Fault)
   pub code : is_of_elaboration f.code ≡ true
   pub lies : LiesIn f.place reads
   pub held : ForSome f.name (λ n. n < length names)
+
+-- that an identifier isn't bound, and that a restriction is broken, are told at the place that elaboration gave
+pub record Tells (s : Stopped) (f : base.Fault) : Type 0 where
+  pub unbound : f.code ≡ Unbound → s ≡ Refuses (cause.Unbound f.place)
+  pub broken : f.code ≡ Restriction → s ≡ Refuses (cause.Broken f.place)

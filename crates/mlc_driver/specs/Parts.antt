@@ -2,7 +2,7 @@
 use Rattle.std.specs.Prelude.{◌≡◌, [], List, map, ⊤}
 use Rattle.std.specs.List.{AllByRecursion}
 use Rattle.sml_tree.specs.BareTree.{Decs}
-use Rattle.sml_rules.specs.Project.{Part, standard_basis, source}
+use Rattle.sml_rules.specs.Project.{Part}
 use Rattle.core_rules.specs.Project as core
 use Rattle.core_rules.specs.Restrictions.{broken_in}
 use Rattle.ir_poly.specs.WellFormed.{table_of}
@@ -10,12 +10,8 @@ use Rattle.project_elab.specs.of_ir_prog.Programs.{body_in, prog_of}
 use Rattle.project_elab.specs.of_ir_prog.declared.program.Program.{Program}
 use Rattle.project_typed.specs.Laws.{IsProgramOfProject}
 use Rattle.project_elab.specs.Elaborated.{HasElaborated}
+pub use Rattle.refusal_causes.specs.Causes.{part_of_core}
 use Rattle.project_elab.specs.declared.project.Elaborating.{Elaborating}
-
--- a part of the core as a project has it; a source with modules is none
-abbrev pub part_of_core : core.Part → Part
-part_of_core core.standard_basis = standard_basis
-part_of_core (core.source decs) = source decs
 
 -- no phrase of a source breaks a syntactic restriction
 abbrev pub IsLawful : core.Part → Type 0

@@ -16,7 +16,7 @@ ghost use Rattle.mlb_reader.specs.Project.{IsNeeded};
 ghost use Rattle.mlb_reader.specs.Refusals.{IfTold, IfLoadFault, IfNoFile, IfReadFault};
 ghost use Rattle.core_rules.specs.Project.{Part};
 ghost use Rattle.back_end.specs.of_match_pass.Typed.{IsWellTyped};
-ghost use Rattle.mlc_driver.specs.Checked.{Breaks, IsChecked, IsOfProject, Outgrows};
+ghost use Rattle.mlc_driver.specs.Checked.{Breaks, IsCause, IsChecked, IsOfProject, Outgrows};
 ghost use Rattle.mlc_driver.specs.Fault.{IfFault, IsTold};
 ghost use Rattle.mlc_driver.specs.Parts.{IsProgramOver};
 ghost use Rattle.mlc_driver.specs.Same.{Same};
@@ -39,6 +39,7 @@ use mlc_faults::files::Files;
 use mlc_faults::refused::Refused;
 use mlc_names::names::Names;
 use mlc_outside::store::Store;
+use refusal_causes::certain::certain;
 use std::alloc::Global;
 
 /// The program of a project that was loaded, over the prelude, which is read as one file more. A text that is no identifier is put behind all names, so that
@@ -57,6 +58,7 @@ fn check_loaded(
     ensures well_typed { IfOk result (λ c. IsWellTyped c.program) }
     ensures known { IfOk result (λ c. c.known ≤ length names.new) }
     ensures told { IfFault result (λ fault. IsTold names.new files.now fault) }
+    ensures cause { IfFault result (λ fault. IsCause names.old (length files.now) (parts_of project.now) names.new fault) }
 {
     match read_prelude(alloc, names, project.reads) {
         Err(refused) => Err(refused),
@@ -64,7 +66,10 @@ fn check_loaded(
             let known = names.intern(alloc, b" ")?.number();
             match elaborate(alloc, &prelude, &project.parts) {
                 Ok(program) => Ok(Checked { program, known }),
-                Err(stopped) => Err(refused_of(alloc, names, files, project.reads, stopped)),
+                Err(stopped) => {
+                    let certain = certain(alloc, &prelude, &project.parts, stopped)?;
+                    Err(refused_of(alloc, names, files, project.reads, certain))
+                }
             }
         }
     }

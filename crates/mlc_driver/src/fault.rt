@@ -1,9 +1,10 @@
 // How a project is refused that doesn't elaborate.
 
-ghost use Rattle.std.specs.Prelude.{◌≡◌, ◌<◌, true, length, None, IfOk, IsTrue};
+ghost use Rattle.std.specs.Prelude.{◌≡◌, ◌<◌, ◌⊎◌, true, length, None, IfOk, IsTrue};
 ghost use Rattle.mlc_faults.specs.Files.{LiesIn};
+ghost use Rattle.mlc_faults.specs.declared.code.Code.TheVariants.{NoTyping};
 ghost use Rattle.sml_lexer.specs.NameTable.{Keeps};
-ghost use Rattle.mlc_driver.specs.Fault.{is_of_elaboration, IsTold, OnFault};
+ghost use Rattle.mlc_driver.specs.Fault.{is_of_elaboration, IsTold, OnFault, Tells};
 
 use crate::identifier::identifier_at;
 use elab_types::refused::Refused as Cause;
@@ -57,6 +58,27 @@ fn fault_at(code: Code, files: &Files, reads: u32, place: Place) -> Fault
     }
 }
 
+/// The same at its own place, where that lies in the files; else that there is no typing.
+fn fault_there(code: Code, files: &Files, reads: u32, place: Place) -> Fault
+    requires code { is_of_elaboration code ≡ true }
+    requires count { reads ≡ length files.now }
+    requires some { LiesIn (record { file = 0; byte = 0 }) files.now }
+    ensures code { is_of_elaboration result.code ≡ true }
+    ensures lies { LiesIn result.place files.now }
+    ensures unnamed { result.name ≡ None }
+    ensures there { (result.place ≡ place) ⊎ (result.code ≡ NoTyping) }
+{
+    if lies(files, reads, place) {
+        Fault {
+            code,
+            place,
+            name: None,
+        }
+    } else {
+        fault_at(Code::NoTyping, files, reads, place)
+    }
+}
+
 /// That an identifier at a place isn't bound.
 fn unbound_at(
     alloc: Global,
@@ -69,9 +91,10 @@ fn unbound_at(
     requires some { LiesIn (record { file = 0; byte = 0 }) files.now }
     ensures kept { Keeps names.old names.new }
     ensures told { IfOk result (λ fault. IsTold names.new files.now fault) }
+    ensures there { IfOk result (λ fault. (fault.place ≡ place) ⊎ (fault.code ≡ NoTyping)) }
 {
     if !lies(files, reads, place) {
-        return Ok(fault_at(Code::Unbound, files, reads, place));
+        return Ok(fault_at(Code::NoTyping, files, reads, place));
     }
     let name = identifier_at(alloc, names, files.bytes(place.file), place)?;
     Ok(Fault {
@@ -81,7 +104,8 @@ fn unbound_at(
     })
 }
 
-/// What elaboration answered, as a refusal: its place is one of the files that were read.
+/// What elaboration answered, as a refusal: its place is one of the files that were read. That an identifier isn't bound, and that a restriction is broken, are told
+/// at their own place alone.
 pub fn refused_of(
     alloc: Global,
     names: &mut Names,
@@ -93,6 +117,7 @@ pub fn refused_of(
     requires some { LiesIn (record { file = 0; byte = 0 }) files.now }
     ensures kept { Keeps names.old names.new }
     ensures told { OnFault result (λ fault. IsTold names.new files.now fault) }
+    ensures tells { OnFault result (Tells stopped) }
 {
     match stopped {
         Stopped::Foreign(place) => Refused::Fault(fault_at(Code::NotCompiled, files, reads, place)),
@@ -108,7 +133,7 @@ pub fn refused_of(
             reads,
             place,
         )),
-        Stopped::Refuses(Cause::Broken(place)) => Refused::Fault(fault_at(
+        Stopped::Refuses(Cause::Broken(place)) => Refused::Fault(fault_there(
             Code::Restriction,
             files,
             reads,
