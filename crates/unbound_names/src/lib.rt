@@ -9,5 +9,6 @@ pub mod look_ups;
 pub mod pats;
 pub mod rows;
 pub mod scope;
+pub mod sought;
 pub mod tys;
 pub mod vids;
