@@ -33,7 +33,7 @@ use Rattle.unbound_names.specs.declared.sought.Sought.{Sought}
 use Rattle.unbound_names.specs.declared.sought.What.TheVariants as whats
 use Rattle.unbound_names.proofs.Covering.{both-bring, datas-bring, exns-bring, nothing-brings, replica-brings, tycons-bring, types-bring}
 use Rattle.unbound_names.proofs.DecNodes.{datatypes-expanded, ex-bind-Same, tycons-expanded, type-bind-at}
-use Rattle.unbound_names.proofs.Placing.{first-in, parts-at}
+use Rattle.unbound_names.proofs.Placing.{first-in, in-map, parts-at}
 
 -- an identifier that isn't bound
 pub at-unbound : {A : Type 0} (p : Sought) (o : Option A) (u : Unbound) → Asks p whats.Unbound (place_of u) → o ≡ None → At p (unless_bound o u)

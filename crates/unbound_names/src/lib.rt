@@ -10,5 +10,6 @@ pub mod pats;
 pub mod rows;
 pub mod scope;
 pub mod sought;
+pub mod twice;
 pub mod tys;
 pub mod vids;
