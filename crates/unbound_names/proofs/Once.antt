@@ -1,15 +1,16 @@
 -- Identifiers that are in a list twice.
-use Rattle.std.proofs.Common.{◌≡◌, ◌<◌, ◌≤◌, ◌-◌, ℕ, zero, suc, Bool, true, false, not, ◌&&◌, ◌||◌, cond, List, [], ◌∷◌, ◌++◌, length, drop, filter, get_or, Option, Some, None, inl, inr, refl, sym, ap, subst, ◌∙◌, arith}
-use Rattle.std.specs.List.{Contains, list_all}
+use Rattle.std.proofs.Common.{◌≡◌, ◌<◌, ◌≤◌, ◌-◌, ℕ, zero, suc, Bool, true, false, not, ◌&&◌, ◌||◌, cond, List, [], ◌∷◌, ◌++◌, length, drop, filter, get_or, nat_eq, Option, Some, None, refl, sym, ap, subst, ◌∙◌, arith}
+use Rattle.std.specs.List.{list_all}
+use Rattle.std.specs.Map.{lookup}
 use Rattle.std.specs.Prelude.{is_some}
 use Rattle.sml_tree.specs.declared.ident.Vid.{Vid}
+use Rattle.sml_tree.specs.declared.ident.Vid.TheVariants.{Equals, Fresh, Named}
 use Rattle.core_rules.specs.Restrictions.{distinct, is_kept}
 use Rattle.core_rules.specs.Words.{is_in, same_vid}
 use Rattle.vid_scope.specs.Entries.{HasLatest, entry_of}
 use Rattle.vid_scope.specs.declared.vids.VidScope.{VidScope}
 use Rattle.unbound_names.specs.Bindings.{are_proper}
 use Rattle.unbound_names.specs.Covering.{is_written}
-use Rattle.unbound_names.proofs.Placing.{first-or-rest, none-in}
 use Rattle.unbound_names.proofs.Pushing.{Added}
 
 -- those from the i-th on were seen
@@ -30,7 +31,9 @@ pub none-seen : (xs : List Vid) (seen : VidScope Bool) → seen.named ≡ [] →
 none-seen xs seen n f e = record { most = omega arith; is = λ x. none x ∙ sym (ap (λ l. is_in same_vid x l) (past-all xs)) }
   where
     none : (x : Vid) → is_some (entry_of seen x) ≡ false
-    none x = cc
+    none (Named x) = ap (λ l. is_some (lookup (nat_eq x) l)) n
+    none (Fresh k) = ap (λ l. is_some (lookup (nat_eq k) l)) f
+    none Equals = ap (λ l. is_some (lookup (nat_eq 0) l)) e
 
 now-seen : (b c : Bool) (o : Option Bool) → is_some o ≡ c → is_some (cond b (Some true) o) ≡ (b || c)
 now-seen true c o h = refl
@@ -96,27 +99,30 @@ not-more false b c d f g h = and-false (not b) d (g h)
 module _ (p : Vid → Bool) where
   filter-in : (x : Vid) (xs : List Vid) → is_in same_vid x (filter p xs) ≡ true → is_in same_vid x xs ≡ true
   filter-in x [] h = h
-  filter-in x (y ∷ ys) h = by (p y) h
+  filter-in x (y ∷ ys) h = by (p y) (filter-in x ys) h
     where
-      by : (b : Bool) → is_in same_vid x (cond b (y ∷ filter p ys) (filter p ys)) ≡ true → (same_vid x y || is_in same_vid x ys) ≡ true
-      by true h = or-more (same_vid x y) _ _ (filter-in x ys) h
-      by false h = or-right (same_vid x y) _ (filter-in x ys h)
+      by : (b : Bool) → (is_in same_vid x (filter p ys) ≡ true → is_in same_vid x ys ≡ true)
+          → is_in same_vid x (cond b (y ∷ filter p ys) (filter p ys)) ≡ true → (same_vid x y || is_in same_vid x ys) ≡ true
+      by true f h = or-more (same_vid x y) _ _ f h
+      by false f h = or-right (same_vid x y) _ (f h)
 
   filter-twice : (xs : List Vid) → distinct same_vid (filter p xs) ≡ false → distinct same_vid xs ≡ false
   filter-twice [] h = h
-  filter-twice (y ∷ ys) h = by (p y) h
+  filter-twice (y ∷ ys) h = by (p y) (filter-twice ys) h
     where
-      by : (b : Bool) → distinct same_vid (cond b (y ∷ filter p ys) (filter p ys)) ≡ false → (not (is_in same_vid y ys) && distinct same_vid ys) ≡ false
-      by true h = not-more (is_in same_vid y (filter p ys)) (is_in same_vid y ys) _ _ (filter-in y ys) (filter-twice ys) h
-      by false h = and-false (not (is_in same_vid y ys)) _ (filter-twice ys h)
+      by : (b : Bool) → (distinct same_vid (filter p ys) ≡ false → distinct same_vid ys ≡ false)
+          → distinct same_vid (cond b (y ∷ filter p ys) (filter p ys)) ≡ false → (not (is_in same_vid y ys) && distinct same_vid ys) ≡ false
+      by true f h = not-more (is_in same_vid y (filter p ys)) (is_in same_vid y ys) _ _ (filter-in y ys) f h
+      by false f h = and-false (not (is_in same_vid y ys)) _ (f h)
 
   filter-fails : (q : Vid → Bool) (xs : List Vid) → list_all q (filter p xs) ≡ false → list_all q xs ≡ false
   filter-fails q [] h = h
-  filter-fails q (y ∷ ys) h = by (p y) h
+  filter-fails q (y ∷ ys) h = by (p y) (filter-fails q ys) h
     where
-      by : (b : Bool) → list_all q (cond b (y ∷ filter p ys) (filter p ys)) ≡ false → (q y && list_all q ys) ≡ false
-      by true h = and-more (q y) _ _ (filter-fails q ys) h
-      by false h = and-false (q y) _ (filter-fails q ys h)
+      by : (b : Bool) → (list_all q (filter p ys) ≡ false → list_all q ys ≡ false)
+          → list_all q (cond b (y ∷ filter p ys) (filter p ys)) ≡ false → (q y && list_all q ys) ≡ false
+      by true f h = and-more (q y) _ _ f h
+      by false f h = and-false (q y) _ (f h)
 
 -- the identifiers that were added to a list with nothing in it
 added-are : (none got vs xs : List Vid) → none ≡ [] → vs ≡ got → Added none got xs → vs ≡ filter is_written xs
@@ -124,15 +130,6 @@ added-are none got vs xs n s a = s ∙ a ∙ ap (λ l. l ++ filter is_written xs
 
 pub added-twice : (none got vs xs : List Vid) → none ≡ [] → vs ≡ got → Added none got xs → distinct same_vid vs ≡ false → distinct same_vid xs ≡ false
 added-twice none got vs xs n s a h = filter-twice is_written xs (ap (distinct same_vid) (sym (added-are none got vs xs n s a)) ∙ h)
-
--- one that nothing may bind
-
-pub kept-among : (xs : List Vid) (x : Vid) → Contains xs x → is_kept x ≡ true → list_all (λ x. not (is_kept x)) xs ≡ false
-kept-among [] x c k = absurd (none-in x c)
-kept-among (y ∷ ys) x c k = elim (first-or-rest y ys c) [
-  | inl e ↦ ap (λ b. not b && list_all (λ x. not (is_kept x)) ys) (ap is_kept e ∙ k)
-  | inr r ↦ and-false (not (is_kept y)) _ (kept-among ys x r k)
-]
 
 pub added-kept : (none got vs ws xs : List Vid) → none ≡ [] → vs ≡ got → Added none got xs → list_all (λ x. not (is_kept x)) vs ≡ false → are_proper ws xs ≡ false
 added-kept none got vs ws xs n s a h =

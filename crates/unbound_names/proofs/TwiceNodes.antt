@@ -1,11 +1,11 @@
 -- Where identifiers are bound twice: the places, and from what the code looks at to the phrase.
-use Rattle.std.proofs.Common.{◌≡◌, ◌≤◌, ℕ, suc, Bool, true, false, not, ◌&&◌, List, [], ◌∷◌, ◌++◌, map, length, Vec, Box, Global, Option, Some, None, inl, inr, refl, sym, ap, ap₂, subst, ◌∙◌, arith}
-use Rattle.std.specs.Prelude.{flat_map, if◌then◌else◌, option_map}
+use Rattle.std.proofs.Common.{◌≡◌, Bool, true, false, not, ◌&&◌, List, [], ◌∷◌, ◌++◌, map, length, Vec, Box, Global, Option, refl, sym, ap, ap₂, subst, ◌∙◌, arith}
+use Rattle.std.specs.Prelude.{flat_map, if◌then◌else◌}
 use Rattle.std.specs.List.{Contains}
 use Rattle.std.proofs.lemmas.List.Elements.{Contains-append_left, Contains-append_right}
 use Rattle.mlc_base.specs.declared.place.Place.{Place}
 use Rattle.sml_tree.specs.BareTree as bare
-use Rattle.sml_tree.specs.Derived.{Operand, VidAt, chain_of, function_binds, join_pats, left_chain, list_pat_of, one_or_tuple_pat}
+use Rattle.sml_tree.specs.Derived.{Operand, VidAt, chain_of, function_binds, join_pats, left_chain, list_pat_of}
 use Rattle.sml_tree.specs.Derived as derived
 use Rattle.sml_tree.specs.Phrases.{dec, pat, rule}
 use Rattle.sml_tree.specs.TreeOf.{RuleOf, bind_of, binds_of, function_of, long_vid_of, pat_of, pat_part_of, some_ty_of}
@@ -18,11 +18,10 @@ use Rattle.sml_tree.specs.declared.tree.Pat.{Pat}
 use Rattle.sml_tree.specs.declared.tree.Pat.TheVariants as pats
 use Rattle.sml_tree.specs.declared.tree.PatPart.{PatPart}
 use Rattle.sml_tree.specs.declared.tree.Ty.{Ty}
-use Rattle.core_rules.specs.Match.{is_variable}
 use Rattle.core_rules.specs.Restrictions.{distinct, is_kept, unless}
-use Rattle.core_rules.specs.Values.{Env, Found, long_value_in, value_in}
+use Rattle.core_rules.specs.Values.{Env, long_value_in, value_in}
 use Rattle.core_rules.specs.Words.{same_vid}
-use Rattle.unbound_names.specs.Bindings.{AsksOne, are_proper, is_no_variable}
+use Rattle.unbound_names.specs.Bindings.{AsksOne, are_proper}
 use Rattle.unbound_names.specs.Nodes.{pat_phrase}
 use Rattle.unbound_names.specs.Patterns.{binds_vids, pat_vids, rec_vids}
 use Rattle.unbound_names.specs.Placed.{Asks, FoundAt}
@@ -33,7 +32,7 @@ use Rattle.unbound_names.specs.declared.sought.What.TheVariants as whats
 use Rattle.unbound_names.proofs.Anywhere.{standing}
 use Rattle.unbound_names.proofs.BindVids.{bind-is, function-is}
 use Rattle.unbound_names.proofs.PatForms.{as-is, chain-is, list-is, vid-is}
-use Rattle.unbound_names.proofs.Placing.{first-in, first-or-rest, in-flat, none-in, own-twice-at, rest-in}
+use Rattle.unbound_names.proofs.Placing.{first-in, in-flat, own-twice-at, rest-in}
 
 -- places
 
@@ -102,21 +101,6 @@ chain-place x q r a os s n = ap pat_place (chain-is x q r a os s) ∙ at r os.it
     at true (o ∷ os) n = refl
     at false (o ∷ os) n = left-place q (join_pats (pat_part_of o).joint q (pat_of a.value) (pat_part_of o).operand) (map pat_part_of os) refl
 
--- the patterns of a clause, as one
-
-pub one-place : (q : Place) (as_ : List Pat) (a : Pat) → length as_ ≡ 1 → Contains as_ a → pat_place (one_or_tuple_pat q (map pat_of as_)) ≡ pat_place (pat_of a)
-one-place q [] a n c = absurd (omega (arith, n))
-one-place q (b ∷ []) a n c = elim (first-or-rest b [] c) [
-  | inl e ↦ ap (λ z. pat_place (pat_of z)) e
-  | inr r ↦ absurd (none-in a r)
-]
-one-place q (b ∷ d ∷ as_) a n c = absurd (omega (arith, n))
-
-pub tuple-place : (q : Place) (as_ : List Pat) → (length as_ ≡ 1 → ⊥) → pat_place (one_or_tuple_pat q (map pat_of as_)) ≡ q
-tuple-place q [] n = refl
-tuple-place q (b ∷ []) n = absurd (n refl)
-tuple-place q (b ∷ d ∷ as_) n = refl
-
 -- phrases
 
 pub rule-twice : (s : Sought) (e : Env) (q : Place) (a : bare.Pat) (b : bare.Exp) → AsksOne s whats.Twice (q ∷ pat_place a ∷ []) → distinct same_vid (pat_vids e a) ≡ false
@@ -131,20 +115,6 @@ val-twice s e p q as_ bs rs h n =
 
 -- an identifier that stands alone in a pattern
 
-matched-by : (o : Option Found) (r : Option Bool) → r ≡ option_map (λ f. is_variable f.status) o → is_no_variable r ≡ is_matched o
-matched-by None r h = ap is_no_variable h
-matched-by (Some f) r h = ap is_no_variable h
-
-alone-by : (qs : List ℕ) (m k : Bool) (p : Place) → length qs ≤ 0 → m ≡ false → k ≡ true → Contains (alone_kept qs m k p) p
-alone-by [] m k p le n t =
-    subst (λ (c : Bool). Contains (if c then [] else unless (not k) p) p) (sym n)
-    (subst (λ (c : Bool). Contains (unless (not c) p) p) (sym t) (first-in p []))
-alone-by (q ∷ qs) m k p le n t = absurd (omega (arith, le))
-
-pub alone-at : (qs : List ℕ) (o : Option Found) (r : Option Bool) (k : Bool) (p : Place) → length qs ≤ 0 → r ≡ option_map (λ f. is_variable f.status) o → is_no_variable r ≡ false
-    → k ≡ true → Contains (alone_kept qs (is_matched o) k p) p
-alone-at qs o r k p le h n t = alone-by qs (is_matched o) k p le (sym (matched-by o r h) ∙ n) t
-
 pub pat-Vid-twice : (s : Sought) (e : Env) (x : Pat) (q : Place) (v : LongVid) → x ≡ pats.Vid q v → Asks s whats.Twice q
     → Contains (alone_kept v.qualifiers.items (is_matched (long_value_in e (long_vid_of v))) (is_kept v.vid) q) q → FoundAt s e (pat_phrase x)
 pat-Vid-twice s e x q v is h c =
@@ -153,13 +123,6 @@ pat-Vid-twice s e x q v is h c =
     (subst (Contains (own_twice e (pat (bare.vid_pat q (long_vid_of v))))) h.place c))
 
 -- one before `as`
-
-pub matched-as : (o : Option Found) (r : Option Bool) (k : Bool) → r ≡ option_map (λ f. is_variable f.status) o → is_no_variable r ≡ true → (not (is_matched o) && not k) ≡ false
-matched-as o r k h t = ap (λ b. not b && not k) (sym (matched-by o r h) ∙ t)
-
-pub kept-as : (m k : Bool) → k ≡ true → (not m && not k) ≡ false
-kept-as true k t = refl
-kept-as false k t = ap not t
 
 pub pat-As-twice : (s : Sought) (e : Env) (x : Pat) (q : Place) (v : Vid) (t : Option Ty) (a : Box Pat Global) → x ≡ pats.As q v t a → Asks s whats.Twice q
     → (not (is_matched (value_in e v)) && not (is_kept v)) ≡ false → FoundAt s e (pat_phrase x)

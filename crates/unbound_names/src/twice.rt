@@ -89,11 +89,11 @@ pub fn is_twice(alloc: Global, vids: &[Vid]) -> Result<bool, NoMemory>
     let mut i = vids.len();
     while i > 0 {
         i -= 1;
-        let vid = vids[i];
-        if seen.find(vid).is_some() {
+        let vid = &vids[i];
+        if seen.find(*vid).is_some() {
             return Ok(true);
         }
-        seen.bind(vid, true)?;
+        seen.bind(*vid, true)?;
     }
     Ok(false)
 }
