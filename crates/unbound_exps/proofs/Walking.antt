@@ -98,6 +98,11 @@ brought-named n g = record { more = g.more; is = g.is; brings = λ e c. subst (B
 pub declared-true : {P Q : Env → Type 0} {names : Env → Env} (b : Bool) (old mid new : List Bound) → b ≡ true → mid ≡ old → ((e : Env) → P e → Q e) → Walked b mid new P → Declared true old new Q names
 declared-true b old mid new t m f w = record { right = λ h e c. f e (w.right t e (subst (λ s. Covers s e) (sym m) c)); brought = λ n. not-false n }
 
+-- by a look that changes nothing
+pub seen-true : {P Q : Env → Type 0} {names : Env → Env} (b : Bool) (old mid new : List Bound) → b ≡ true → mid ≡ old → ((e : Env) → P e → Q e)
+    → (IsTrue b → (e : Env) → Covers mid e → P e) → Declared true old new Q names
+seen-true b old mid new t m f h = record { right = λ u e c. f e (h t e (subst (λ s. Covers s e) (sym m) c)); brought = λ n. not-false n }
+
 pub declared-inside : {P Q : Env → Type 0} {names' : Env → Env} (names : Env → Env) (b : Bool) (old mid new : List Bound) → b ≡ true → Brought old mid names → ((e : Env) → P (plus e (names e)) → Q e)
     → Walked b mid new P → Declared true old new Q names'
 declared-inside names b old mid new t g f w = record { right = (inside-found names b old mid new t g f w).right; brought = λ n. not-false n }

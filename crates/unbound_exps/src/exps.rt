@@ -1,4 +1,4 @@
-// Identifiers that aren't bound, in expressions and declarations.
+// What is looked for, in expressions and declarations.
 ghost use Rattle.std.specs.Prelude.{map, IfOk, IsTrue};
 ghost use Rattle.sml_tree.specs.TreeOf.{dec_of, decs_of};
 ghost use Rattle.core_rules.specs.Unbound.{all_in, decs_in, decs_names, dec_names};
@@ -13,6 +13,7 @@ use unbound_names::look_ups::{is_at, is_unbound_value, is_unbound_vid};
 use unbound_names::pats::{in_pat, in_pats};
 use unbound_names::scope::Scope;
 use unbound_names::sought::Sought;
+use unbound_names::twice::{is_clause_twice, is_fun_twice, is_rule_twice, is_val_twice};
 use unbound_names::tys::in_ty;
 use unbound_names::vids::{bind_functions, bind_pat, bind_pats};
 use crate::vals::{close_val, open_val};
@@ -20,7 +21,7 @@ use mlc_base::memory::NoMemory;
 use sml_tree::tree::{Bind, Clause, Dec, Exp, ExpField, Function, Joint, Part, Rule};
 use std::alloc::Global;
 
-/// An infix identifier that isn't bound.
+/// An infix identifier that isn't bound, where that is looked for there.
 fn in_joint(sought: &Sought, joint: &Joint, scope: &Scope) -> bool
     ensures { IsTrue result → (e : Env) → Covers scope.now e → At sought.now (joint_unbound e joint.now) }
 {
@@ -30,7 +31,7 @@ fn in_joint(sought: &Sought, joint: &Joint, scope: &Scope) -> bool
     }
 }
 
-/// Whether an identifier at the place isn't bound, in an expression.
+/// Whether what is looked for is in an expression.
 #[cycle(exps)]
 pub fn in_exp(alloc: Global, sought: &Sought, exp: &Exp, scope: &mut Scope) -> Result<bool, NoMemory>
     ensures { IfOk result (λ found. Walked found scope.old scope.new (λ e. FoundAt sought.now e (exp_phrase exp.now))) }
@@ -144,6 +145,9 @@ fn in_parts(
 fn in_rule(alloc: Global, sought: &Sought, rule: &Rule, scope: &mut Scope) -> Result<bool, NoMemory>
     ensures { IfOk result (λ found. Walked found scope.old scope.new (λ e. FoundAt sought.now e (rule_phrase rule.now))) }
 {
+    if is_rule_twice(alloc, sought, rule, scope)? {
+        return Ok(true);
+    }
     if in_pat(alloc, sought, &rule.pat, scope) {
         return Ok(true);
     }
@@ -209,6 +213,9 @@ fn in_clause(
 ) -> Result<bool, NoMemory>
     ensures { IfOk result (λ found. Walked found scope.old scope.new (λ e. FoundAt sought.now e (clause_phrase clause.now))) }
 {
+    if is_clause_twice(alloc, sought, clause, scope)? {
+        return Ok(true);
+    }
     if in_pats(alloc, sought, &clause.pats, scope) {
         return Ok(true);
     }
@@ -276,7 +283,10 @@ fn in_dec(alloc: Global, sought: &Sought, dec: &Dec, scope: &mut Scope) -> Resul
     ensures { IfOk result (λ found. Declared found scope.old scope.new (λ e. FoundAt sought.now e (dec_phrase dec.now)) (λ e. dec_names e (dec_of dec.now))) }
 {
     match dec {
-        Dec::Val(_, _, binds, recs) => {
+        Dec::Val(at, _, binds, recs) => {
+            if is_val_twice(alloc, sought, *at, binds, recs, scope)? {
+                return Ok(true);
+            }
             if in_binds(alloc, sought, binds, scope)? {
                 return Ok(true);
             }
@@ -287,7 +297,10 @@ fn in_dec(alloc: Global, sought: &Sought, dec: &Dec, scope: &mut Scope) -> Resul
             close_val(alloc, &opened, recs, scope)?;
             Ok(false)
         }
-        Dec::Fun(_, _, functions) => {
+        Dec::Fun(at, _, functions) => {
+            if is_fun_twice(alloc, sought, *at, functions)? {
+                return Ok(true);
+            }
             bind_functions(alloc, functions, scope)?;
             in_functions(alloc, sought, functions, scope)
         }

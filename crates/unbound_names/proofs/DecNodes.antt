@@ -28,6 +28,7 @@ use Rattle.core_rules.specs.Eval.{cons_env, datatypes_env, long_structure_in, lo
 use Rattle.core_rules.specs.Unbound.{all_in, binds_names, dec_names, decs_in, decs_names, exns_names, pat_names, rec_names, structure_at, tycon_at, tycons_names, unless_bound, value_at}
 use Rattle.core_rules.specs.Values.{Env, con, declared, long_value_in, nothing, plus, structure, tycon, value}
 use Rattle.ty_basis.specs.of_ty_core.declared.env.Status.TheVariants.{Constructor}
+use Rattle.unbound_names.specs.Bindings.{fun_phrase, val_phrase}
 use Rattle.unbound_names.specs.Nodes.{bind_phrase, clause_phrase, data_phrase, dec_phrase, exn_phrase, fresh_onto, function_phrase, type_phrase}
 use Rattle.unbound_names.specs.Placed.{AnyAt, At, FoundAt}
 use Rattle.unbound_names.specs.declared.sought.Sought.{Sought}
@@ -227,6 +228,15 @@ dec-Val-recs p e d q as_ bs rs is h =
     dec-are p e d _ (is-Val d q as_ bs rs is)
     (parts-at p e (dec (bare.val_dec q as_.place as_.tyvars.items (binds_of (map bind_of bs.items)) (binds_of (map bind_of rs.items))))
     (any-right p (all_in e (bind_list (binds_of (map bind_of bs.items)))) _ (any-are p (plus e (rec_names (binds_of (map bind_of rs.items)))) _ _ (binds-are rs.items) h)))
+
+-- the declaration itself
+pub dec-Val-own : (p : Sought) (e : Env) (d : Dec) (q : Place) (as_ : TyvarSeq) (bs rs : Vec Bind Global) → d ≡ decs.Val q as_ bs rs
+    → FoundAt p e (val_phrase q as_.place as_.tyvars.items bs.items rs.items) → FoundAt p e (dec_phrase d)
+dec-Val-own p e d q as_ bs rs is h = dec-are p e d _ (is-Val d q as_ bs rs is) h
+
+pub dec-Fun-own : (p : Sought) (e : Env) (d : Dec) (q : Place) (as_ : TyvarSeq) (gs : Vec Function Global) → d ≡ decs.Fun q as_ gs
+    → FoundAt p e (fun_phrase q as_.place as_.tyvars.items gs.items) → FoundAt p e (dec_phrase d)
+dec-Fun-own p e d q as_ gs is h = dec-are p e d _ (is-Fun d q as_ gs is) h
 
 pub dec-Fun : (p : Sought) (e : Env) (d : Dec) (q : Place) (as_ : TyvarSeq) (gs : Vec Function Global) → d ≡ decs.Fun q as_ gs
     → AnyAt p (all_in (plus e (rec_names (function_binds (map function_of gs.items)))) (map function_phrase gs.items)) → FoundAt p e (dec_phrase d)

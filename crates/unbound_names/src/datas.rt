@@ -316,7 +316,7 @@ pub fn in_replicate(
     Ok(false)
 }
 
-/// Whether a structure at the place isn't bound.
+/// Whether a structure that isn't bound is looked for and found.
 fn in_structures(sought: &Sought, longs: &[LongIdAt], scope: &Scope) -> bool
     ensures { IsTrue result → (e : Env) → Covers scope.now e → At sought.now (structures_unbound e (map long_id_at_of longs.now)) }
 {

@@ -1,4 +1,4 @@
-// Identifiers that aren't bound, in patterns.
+// What is looked for, in patterns.
 ghost use Rattle.core_rules.specs.Unbound.{all_in};
 ghost use Rattle.core_rules.specs.Values.{Env};
 ghost use Rattle.std.specs.Prelude.{IsTrue, map};
@@ -10,6 +10,7 @@ ghost use Rattle.unbound_names.specs.Placed.{AnyAt, FoundAt};
 use crate::look_ups::{is_at, is_unbound_value, is_unbound_vid};
 use crate::scope::Scope;
 use crate::sought::Sought;
+use crate::twice::{is_kept_alone, is_never_before_as, is_twice_at};
 use crate::tys::in_ty;
 use sml_tree::tree::{Pat, PatField, PatPart, Ty};
 use std::alloc::Global;
@@ -24,7 +25,7 @@ pub fn in_some_ty(alloc: Global, sought: &Sought, ty: &Option<Ty>, scope: &Scope
     }
 }
 
-/// Whether an identifier at the place isn't bound, in a pattern.
+/// Whether what is looked for is in a pattern.
 #[cycle(pats)]
 pub fn in_pat(alloc: Global, sought: &Sought, pat: &Pat, scope: &Scope) -> bool
     ensures { IsTrue result → (e : Env) → Covers scope.now e → FoundAt sought.now e (pat_phrase pat.now) }
@@ -34,6 +35,9 @@ pub fn in_pat(alloc: Global, sought: &Sought, pat: &Pat, scope: &Scope) -> bool
         Pat::Constant(_, _) => false,
         Pat::BuiltIn(_, _) => false,
         Pat::Vid(at, long) => {
+            if is_twice_at(*at, sought) {
+                return is_kept_alone(long, scope);
+            }
             long.qualifiers.len() > 0 && is_at(*at, sought) && is_unbound_value(long, scope)
         }
         Pat::Record(_, fields, _) => in_fields(alloc, sought, fields, scope),
@@ -52,7 +56,10 @@ pub fn in_pat(alloc: Global, sought: &Sought, pat: &Pat, scope: &Scope) -> bool
         Pat::Typed(_, body, ty) => {
             in_pat(alloc, sought, body, scope) || in_ty(alloc, sought, ty, scope)
         }
-        Pat::As(_, _, ty, body) => {
+        Pat::As(at, vid, ty, body) => {
+            if is_twice_at(*at, sought) && is_never_before_as(*vid, scope) {
+                return true;
+            }
             in_some_ty(alloc, sought, ty, scope) || in_pat(alloc, sought, body, scope)
         }
     }

@@ -10,12 +10,13 @@ use Rattle.sml_tree.specs.declared.tree.Pat.{Pat}
 use Rattle.core_rules.specs.Eval.{datatypes_env, opened, types_env}
 use Rattle.core_rules.specs.Unbound.{all_in, decs_in, exns_names, pat_names, rec_names}
 use Rattle.core_rules.specs.Values.{nothing, plus}
+use Rattle.unbound_names.specs.Bindings.{fun_phrase, val_phrase}
 use Rattle.unbound_names.specs.Covering.{is_written}
 use Rattle.unbound_names.specs.Nodes.{bind_phrase, clause_phrase, exn_phrase, exp_phrase, function_phrase, pat_phrase, rule_phrase, type_phrase}
 use Rattle.unbound_names.specs.Parts.{InParts, datatype_scopes, expanded, structures_unbound, withtype_scopes}
 use Rattle.unbound_names.specs.Patterns.{binds_vids}
 use Rattle.unbound_names.specs.Placed.{AnyAt, At, Brought, FoundAt}
-use Rattle.unbound_names.proofs.DecNodes.{datatypes-expanded, dec-Abbreviation, dec-Datatype, dec-Declarations, dec-Exception, dec-Fun, dec-Local-decs, dec-Local-shown, dec-Open-own, dec-Replicate, dec-Val-binds, dec-Val-recs}
+use Rattle.unbound_names.proofs.DecNodes.{datatypes-expanded, dec-Abbreviation, dec-Datatype, dec-Declarations, dec-Exception, dec-Fun, dec-Fun-own, dec-Local-decs, dec-Local-shown, dec-Open-own, dec-Replicate, dec-Val-binds, dec-Val-own, dec-Val-recs}
 use Rattle.unbound_names.proofs.DecNodes.{names-Abbreviation, names-Datatype, names-Declarations, names-Exception, names-Fun, names-Local, names-Open, names-Replicate, names-Val, names-Withtype, nothing-plus}
 use Rattle.unbound_names.proofs.ExpNodes.{bind-in-exp, bind-in-pat, clause-in-exp, clause-in-pats, rule-in-exp, rule-in-pat}
 use Rattle.unbound_names.proofs.ExpNodes.{exp-Apply-first, exp-Apply-rest, exp-Chain-first, exp-Fn, exp-Handle-body, exp-Handle-rules, exp-Let-body, exp-Let-decs, exp-List, exp-Raise, exp-Record}
@@ -23,7 +24,7 @@ use Rattle.unbound_names.proofs.ExpNodes.{exp-Sequence-first, exp-Sequence-rest,
 use Rattle.unbound_names.proofs.PatNodes.{one-or-tuple}
 use Rattle.unbound_exps.proofs.Nodes.{chain-parts, function-found, joint-found, own-value, part-found, plain-datatype, withtype-parts}
 use Rattle.unbound_exps.proofs.Walking.{brought-named, closes-named, declared-from, declared-if, declared-inside, declared-true, first-found, found-true, found-in-decs, functions-if, inside-found, inside-left, list-found, local-kept, looked, looked-true}
-use Rattle.unbound_exps.proofs.Walking.{none-found, ran-all, ran-found, ran-next, ran-none, run_names, second-found, val-closed, walked-if}
+use Rattle.unbound_exps.proofs.Walking.{none-found, ran-all, ran-found, ran-next, ran-none, run_names, second-found, seen-true, val-closed, walked-if}
 use Rattle.unbound_exps.proofs.exps.+exps.Goals as goal
 
 pub in_binds-loop-i-init : goal.in_binds-loop-i-init
@@ -170,21 +171,21 @@ pub in_rule-returns-then-in_pat : goal.in_rule-returns-then-in_pat
 in_rule-returns-then-in_pat t c =
     looked-true _ c.args.scope.now _ _ c.if-in_pat.true refl (λ e u. rule-in-pat c.args.sought.now e c.args.rule.now u) c.in_pat.ensures
 
-pub in_rule-returns-then-branch : goal.in_rule-returns-then-branch
-in_rule-returns-then-branch t c =
-    inside-found (λ e. pat_names e (pat_of c.args.rule.now.pat)) _ c.args.scope.now _ _ c.if-branch.true c.in_ok-bind_pat.ensures (λ e u. rule-in-exp c.args.sought.now e c.args.rule.now u) c.in_ok-in_exp.ensures
+pub in_rule-returns-then-branch-2 : goal.in_rule-returns-then-branch-2
+in_rule-returns-then-branch-2 t c =
+    inside-found (λ e. pat_names e (pat_of c.args.rule.now.pat)) _ c.args.scope.now _ _ c.if-branch-2.true c.in_ok-bind_pat.ensures (λ e u. rule-in-exp c.args.sought.now e c.args.rule.now u) c.in_ok-in_exp.ensures
 
 pub in_clause-returns-then-in_pats : goal.in_clause-returns-then-in_pats
 in_clause-returns-then-in_pats t c =
     looked-true _ c.args.scope.now _ _ c.if-in_pats.true refl (λ e u. clause-in-pats c.args.sought.now e c.args.clause.now (one-or-tuple c.args.sought.now e c.args.clause.now.place c.args.clause.now.pats.items (subst (λ l. AnyAt c.args.sought.now (all_in e (map pat_phrase l))) c.deref.ensures.value u))) c.in_pats.ensures
 
-pub in_clause-returns-then-branch : goal.in_clause-returns-then-branch
-in_clause-returns-then-branch t c =
-    inside-found (λ e. pat_names e (one_or_tuple_pat c.args.clause.now.place (map pat_of c.args.clause.now.pats.items))) _ c.args.scope.now _ _ c.if-branch.true (brought-named (λ e. ap (λ (l : List Pat). pat_names e (one_or_tuple_pat c.args.clause.now.place (map pat_of l))) c.deref-2.ensures.value) (c.in_ok-bind_pats.ensures c.args.clause.now.place)) (λ e u. clause-in-exp c.args.sought.now e c.args.clause.now u) c.in_ok-in_exp.ensures
+pub in_clause-returns-then-branch-2 : goal.in_clause-returns-then-branch-2
+in_clause-returns-then-branch-2 t c =
+    inside-found (λ e. pat_names e (one_or_tuple_pat c.args.clause.now.place (map pat_of c.args.clause.now.pats.items))) _ c.args.scope.now _ _ c.if-branch-2.true (brought-named (λ e. ap (λ (l : List Pat). pat_names e (one_or_tuple_pat c.args.clause.now.place (map pat_of l))) c.deref-2.ensures.value) (c.in_ok-bind_pats.ensures c.args.clause.now.place)) (λ e u. clause-in-exp c.args.sought.now e c.args.clause.now u) c.in_ok-in_exp.ensures
 
 pub in_clause-returns : goal.in_clause-returns
 in_clause-returns t c =
-    inside-left (λ e. pat_names e (one_or_tuple_pat c.args.clause.now.place (map pat_of c.args.clause.now.pats.items))) _ c.len-before.result c.args.scope.now _ _ _ c.if-branch.false c.len-before.ensures (brought-named (λ e. ap (λ (l : List Pat). pat_names e (one_or_tuple_pat c.args.clause.now.place (map pat_of l))) c.deref-2.ensures.value) (c.in_ok-bind_pats.ensures c.args.clause.now.place)) c.in_ok-in_exp.ensures c.leave.ensures
+    inside-left (λ e. pat_names e (one_or_tuple_pat c.args.clause.now.place (map pat_of c.args.clause.now.pats.items))) _ c.len-before.result c.args.scope.now _ _ _ c.if-branch-2.false c.len-before.ensures (brought-named (λ e. ap (λ (l : List Pat). pat_names e (one_or_tuple_pat c.args.clause.now.place (map pat_of l))) c.deref-2.ensures.value) (c.in_ok-bind_pats.ensures c.args.clause.now.place)) c.in_ok-in_exp.ensures c.leave.ensures
 
 pub in_exp-returns-in-Record : goal.in_exp-returns-in-Record
 in_exp-returns-in-Record t c =
@@ -258,21 +259,21 @@ pub in_exp-returns-then-is_at : goal.in_exp-returns-then-is_at
 in_exp-returns-then-is_at t c =
     looked _ c.args.scope.now (λ e u. exp-Vid c.args.sought.now e c.args.exp.now c.in-Vid.at c.in-Vid.long c.in-Vid.is u) (λ h e k. own-value c.args.sought.now e c.in-Vid.at (long_vid_of c.in-Vid.long) (c.is_at.ensures c.if-is_at.true) (c.is_unbound_value.ensures h e k))
 
-pub in_dec-returns-then-branch : goal.in_dec-returns-then-branch
-in_dec-returns-then-branch t c =
-    declared-true _ c.args.scope.now _ _ c.if-branch.true refl (λ e u. dec-Val-binds c.args.sought.now e c.args.dec.now c.in-Val.field-0 c.in-Val.field-1 c.in-Val.binds c.in-Val.recs c.in-Val.is (subst (λ l. AnyAt c.args.sought.now (all_in e (map bind_phrase l))) c.deref.ensures.value u)) c.in_ok-in_binds-in-Val.ensures
-
 pub in_dec-returns-then-branch-2 : goal.in_dec-returns-then-branch-2
 in_dec-returns-then-branch-2 t c =
-    declared-from c.args.scope.now _ _ (c.in_ok-in_binds-in-Val.ensures.same c.if-branch.false) (declared-inside (λ e. rec_names (binds_of (map bind_of c.in-Val.recs.items))) _ c.in_binds.new.scope _ _ c.if-branch-2.true (brought-named (λ e. ap (λ (l : List Bind). rec_names (binds_of (map bind_of l))) c.deref-in-Val-2.ensures.value) c.in_ok-opened-in-Val.ensures.brought) (λ e u. dec-Val-recs c.args.sought.now e c.args.dec.now c.in-Val.field-0 c.in-Val.field-1 c.in-Val.binds c.in-Val.recs c.in-Val.is (subst (λ l. AnyAt c.args.sought.now (all_in (plus e (rec_names (binds_of (map bind_of c.in-Val.recs.items)))) (map bind_phrase l))) c.deref-in-Val-3.ensures.value u)) c.in_ok-in_binds-in-Val-2.ensures)
+    declared-true _ c.args.scope.now _ _ c.if-branch-2.true refl (λ e u. dec-Val-binds c.args.sought.now e c.args.dec.now c.in-Val.at c.in-Val.field-1 c.in-Val.binds c.in-Val.recs c.in-Val.is (subst (λ l. AnyAt c.args.sought.now (all_in e (map bind_phrase l))) c.deref-in-Val-2.ensures.value u)) c.in_ok-in_binds-in-Val.ensures
+
+pub in_dec-returns-then-branch-3 : goal.in_dec-returns-then-branch-3
+in_dec-returns-then-branch-3 t c =
+    declared-from c.args.scope.now _ _ (c.in_ok-in_binds-in-Val.ensures.same c.if-branch-2.false) (declared-inside (λ e. rec_names (binds_of (map bind_of c.in-Val.recs.items))) _ c.in_binds.new.scope _ _ c.if-branch-3.true (brought-named (λ e. ap (λ (l : List Bind). rec_names (binds_of (map bind_of l))) c.deref-in-Val-4.ensures.value) c.in_ok-opened-in-Val.ensures.brought) (λ e u. dec-Val-recs c.args.sought.now e c.args.dec.now c.in-Val.at c.in-Val.field-1 c.in-Val.binds c.in-Val.recs c.in-Val.is (subst (λ l. AnyAt c.args.sought.now (all_in (plus e (rec_names (binds_of (map bind_of c.in-Val.recs.items)))) (map bind_phrase l))) c.deref-in-Val-5.ensures.value u)) c.in_ok-in_binds-in-Val-2.ensures)
 
 pub in_dec-returns-in_ok-close_val-in-Val : goal.in_dec-returns-in_ok-close_val-in-Val
 in_dec-returns-in_ok-close_val-in-Val t c =
-    val-closed c.args.scope.now c.in_binds.new.scope _ _ _ c.in_ok-opened-in-Val.opened.vids.items c.in_ok-opened-in-Val.opened.before (binds_of (map bind_of c.in-Val.binds.items)) (binds_of (map bind_of c.in-Val.recs.items)) (c.in_ok-in_binds-in-Val.ensures.same c.if-branch.false) (brought-named (λ e. ap (λ (l : List Bind). rec_names (binds_of (map bind_of l))) c.deref-in-Val-2.ensures.value) c.in_ok-opened-in-Val.ensures.brought) (c.in_ok-in_binds-in-Val-2.ensures.same c.if-branch-2.false) c.in_ok-opened-in-Val.ensures.before (λ e k. c.in_ok-opened-in-Val.ensures.vids e k ∙ ap (λ (l : List Bind). filter is_written (binds_vids e (binds_of (map bind_of l)))) c.deref-in-Val.ensures.value) (closes-named (ap (λ (l : List Bind). binds_of (map bind_of l)) c.deref-in-Val-4.ensures.value) c.in_ok-close_val-in-Val.ensures) (λ e. names-Val e c.args.dec.now c.in-Val.field-0 c.in-Val.field-1 c.in-Val.binds c.in-Val.recs c.in-Val.is)
+    val-closed c.args.scope.now c.in_binds.new.scope _ _ _ c.in_ok-opened-in-Val.opened.vids.items c.in_ok-opened-in-Val.opened.before (binds_of (map bind_of c.in-Val.binds.items)) (binds_of (map bind_of c.in-Val.recs.items)) (c.in_ok-in_binds-in-Val.ensures.same c.if-branch-2.false) (brought-named (λ e. ap (λ (l : List Bind). rec_names (binds_of (map bind_of l))) c.deref-in-Val-4.ensures.value) c.in_ok-opened-in-Val.ensures.brought) (c.in_ok-in_binds-in-Val-2.ensures.same c.if-branch-3.false) c.in_ok-opened-in-Val.ensures.before (λ e k. c.in_ok-opened-in-Val.ensures.vids e k ∙ ap (λ (l : List Bind). filter is_written (binds_vids e (binds_of (map bind_of l)))) c.deref-in-Val-3.ensures.value) (closes-named (ap (λ (l : List Bind). binds_of (map bind_of l)) c.deref-in-Val-6.ensures.value) c.in_ok-close_val-in-Val.ensures) (λ e. names-Val e c.args.dec.now c.in-Val.at c.in-Val.field-1 c.in-Val.binds c.in-Val.recs c.in-Val.is)
 
 pub in_dec-returns-in_ok-bind_functions-in-Fun : goal.in_dec-returns-in_ok-bind_functions-in-Fun
 in_dec-returns-in_ok-bind_functions-in-Fun t c =
-    functions-if (λ e. AnyAt c.args.sought.now (all_in e (map function_phrase c.deref-in-Fun-2.result.now))) (λ e. (rec_names (function_binds (map function_of c.in-Fun.functions.items)))) c.in_functions.result c.args.scope.now _ _ (brought-named (λ e. ap (λ (l : List Function). rec_names (function_binds (map function_of l))) c.deref-in-Fun.ensures.value) c.in_ok-bind_functions-in-Fun.ensures) (λ e u. dec-Fun c.args.sought.now e c.args.dec.now c.in-Fun.field-0 c.in-Fun.field-1 c.in-Fun.functions c.in-Fun.is (subst (λ l. AnyAt c.args.sought.now (all_in (plus e (rec_names (function_binds (map function_of c.in-Fun.functions.items)))) (map function_phrase l))) c.deref-in-Fun-2.ensures.value u)) (λ e. sym (nothing-plus (rec_names (function_binds (map function_of c.in-Fun.functions.items)))) ∙ sym (names-Fun e c.args.dec.now c.in-Fun.field-0 c.in-Fun.field-1 c.in-Fun.functions c.in-Fun.is)) c.in_functions.ensures
+    functions-if (λ e. AnyAt c.args.sought.now (all_in e (map function_phrase c.deref-in-Fun-3.result.now))) (λ e. (rec_names (function_binds (map function_of c.in-Fun.functions.items)))) c.in_functions.result c.args.scope.now _ _ (brought-named (λ e. ap (λ (l : List Function). rec_names (function_binds (map function_of l))) c.deref-in-Fun-2.ensures.value) c.in_ok-bind_functions-in-Fun.ensures) (λ e u. dec-Fun c.args.sought.now e c.args.dec.now c.in-Fun.at c.in-Fun.field-1 c.in-Fun.functions c.in-Fun.is (subst (λ l. AnyAt c.args.sought.now (all_in (plus e (rec_names (function_binds (map function_of c.in-Fun.functions.items)))) (map function_phrase l))) c.deref-in-Fun-3.ensures.value u)) (λ e. sym (nothing-plus (rec_names (function_binds (map function_of c.in-Fun.functions.items)))) ∙ sym (names-Fun e c.args.dec.now c.in-Fun.at c.in-Fun.field-1 c.in-Fun.functions c.in-Fun.is)) c.in_functions.ensures
 
 pub in_dec-returns-in-Abbreviation : goal.in_dec-returns-in-Abbreviation
 in_dec-returns-in-Abbreviation t c =
@@ -302,14 +303,35 @@ pub in_dec-returns-in-Declarations : goal.in_dec-returns-in-Declarations
 in_dec-returns-in-Declarations t c =
     declared-if c.in_decs-in-Declarations.result c.args.scope.now _ (λ e u. dec-Declarations c.args.sought.now e c.args.dec.now c.in-Declarations.field-0 c.in-Declarations.decs c.in-Declarations.is (subst (λ (l : List Dec). AnyAt c.args.sought.now (decs_in e (decs_of (map dec_of l)))) c.deref-in-Declarations.ensures.value u)) (λ e. ap (λ (l : List Dec). run_names l e) c.deref-in-Declarations.ensures.value ∙ sym (names-Declarations e c.args.dec.now c.in-Declarations.field-0 c.in-Declarations.decs c.in-Declarations.is)) c.in_decs-in-Declarations.ensures
 
-pub in_dec-returns-then-branch-3 : goal.in_dec-returns-then-branch-3
-in_dec-returns-then-branch-3 t c =
-    first-found _ c.args.scope.now _ _ c.if-branch-3.true (λ e u. dec-Local-decs c.args.sought.now e c.args.dec.now c.in-Local.field-0 c.in-Local.decs c.in-Local.shown c.in-Local.is (subst (λ (l : List Dec). AnyAt c.args.sought.now (decs_in e (decs_of (map dec_of l)))) c.deref-in-Local.ensures.value u)) c.in_ok-in_decs-in-Local.ensures
+pub in_dec-returns-then-branch-5 : goal.in_dec-returns-then-branch-5
+in_dec-returns-then-branch-5 t c =
+    first-found _ c.args.scope.now _ _ c.if-branch-5.true (λ e u. dec-Local-decs c.args.sought.now e c.args.dec.now c.in-Local.field-0 c.in-Local.decs c.in-Local.shown c.in-Local.is (subst (λ (l : List Dec). AnyAt c.args.sought.now (decs_in e (decs_of (map dec_of l)))) c.deref-in-Local.ensures.value u)) c.in_ok-in_decs-in-Local.ensures
 
-pub in_dec-returns-then-branch-4 : goal.in_dec-returns-then-branch-4
-in_dec-returns-then-branch-4 t c =
-    second-found _ c.args.scope.now _ _ (run_names c.in-Local.decs.items) c.if-branch-4.true (brought-named (λ e. ap (λ (l : List Dec). run_names l e) c.deref-in-Local.ensures.value) (c.in_ok-in_decs-in-Local.ensures.brought c.if-branch-3.false)) (λ e u. dec-Local-shown c.args.sought.now e c.args.dec.now c.in-Local.field-0 c.in-Local.decs c.in-Local.shown c.in-Local.is (subst (λ (l : List Dec). AnyAt c.args.sought.now (decs_in (plus e ((run_names c.in-Local.decs.items) e)) (decs_of (map dec_of l)))) c.deref-in-Local-2.ensures.value u)) c.in_ok-in_decs-in-Local-2.ensures
+pub in_dec-returns-then-branch-6 : goal.in_dec-returns-then-branch-6
+in_dec-returns-then-branch-6 t c =
+    second-found _ c.args.scope.now _ _ (run_names c.in-Local.decs.items) c.if-branch-6.true (brought-named (λ e. ap (λ (l : List Dec). run_names l e) c.deref-in-Local.ensures.value) (c.in_ok-in_decs-in-Local.ensures.brought c.if-branch-5.false)) (λ e u. dec-Local-shown c.args.sought.now e c.args.dec.now c.in-Local.field-0 c.in-Local.decs c.in-Local.shown c.in-Local.is (subst (λ (l : List Dec). AnyAt c.args.sought.now (decs_in (plus e ((run_names c.in-Local.decs.items) e)) (decs_of (map dec_of l)))) c.deref-in-Local-2.ensures.value u)) c.in_ok-in_decs-in-Local-2.ensures
 
 pub in_dec-returns-in_ok-leave_between-in-Local : goal.in_dec-returns-in_ok-leave_between-in-Local
 in_dec-returns-in_ok-leave_between-in-Local t c =
-    local-kept (run_names c.in-Local.decs.items) (run_names c.in-Local.shown.items) c.len-from.result c.len-to.result c.args.scope.now _ _ _ (brought-named (λ e. ap (λ (l : List Dec). run_names l e) c.deref-in-Local.ensures.value) (c.in_ok-in_decs-in-Local.ensures.brought c.if-branch-3.false)) (brought-named (λ e. ap (λ (l : List Dec). run_names l e) c.deref-in-Local-2.ensures.value) (c.in_ok-in_decs-in-Local-2.ensures.brought c.if-branch-4.false)) c.len-from.ensures c.len-to.ensures c.in_ok-leave_between-in-Local.ensures (λ e. names-Local e c.args.dec.now c.in-Local.field-0 c.in-Local.decs c.in-Local.shown c.in-Local.is)
+    local-kept (run_names c.in-Local.decs.items) (run_names c.in-Local.shown.items) c.len-from.result c.len-to.result c.args.scope.now _ _ _ (brought-named (λ e. ap (λ (l : List Dec). run_names l e) c.deref-in-Local.ensures.value) (c.in_ok-in_decs-in-Local.ensures.brought c.if-branch-5.false)) (brought-named (λ e. ap (λ (l : List Dec). run_names l e) c.deref-in-Local-2.ensures.value) (c.in_ok-in_decs-in-Local-2.ensures.brought c.if-branch-6.false)) c.len-from.ensures c.len-to.ensures c.in_ok-leave_between-in-Local.ensures (λ e. names-Local e c.args.dec.now c.in-Local.field-0 c.in-Local.decs c.in-Local.shown c.in-Local.is)
+
+pub in_rule-returns-then-branch : goal.in_rule-returns-then-branch
+in_rule-returns-then-branch t c = looked-true _ c.args.scope.now _ _ c.if-branch.true refl (λ e u. u) c.in_ok-is_rule_twice.ensures
+
+pub in_clause-returns-then-branch : goal.in_clause-returns-then-branch
+in_clause-returns-then-branch t c = looked-true _ c.args.scope.now _ _ c.if-branch.true refl (λ e u. u) c.in_ok-is_clause_twice.ensures
+
+pub in_dec-returns-then-branch : goal.in_dec-returns-then-branch
+in_dec-returns-then-branch t c =
+    seen-true _ c.args.scope.now _ _ c.if-branch.true refl
+    (λ e u. dec-Val-own c.args.sought.now e c.args.dec.now c.in-Val.at c.in-Val.field-1 c.in-Val.binds c.in-Val.recs c.in-Val.is
+    (subst (λ (l : List Bind). FoundAt c.args.sought.now e (val_phrase c.in-Val.at c.in-Val.field-1.place c.in-Val.field-1.tyvars.items l c.in-Val.recs.items)) c.deref.ensures.value
+    (subst (λ (l : List Bind). FoundAt c.args.sought.now e (val_phrase c.in-Val.at c.in-Val.field-1.place c.in-Val.field-1.tyvars.items c.deref.result.now l)) c.deref-in-Val.ensures.value u)))
+    (λ h e k. c.in_ok-is_val_twice-in-Val.ensures h e k c.in-Val.field-1.place c.in-Val.field-1.tyvars.items)
+
+pub in_dec-returns-then-branch-4 : goal.in_dec-returns-then-branch-4
+in_dec-returns-then-branch-4 t c =
+    seen-true _ c.args.scope.now _ _ c.if-branch-4.true refl
+    (λ e u. dec-Fun-own c.args.sought.now e c.args.dec.now c.in-Fun.at c.in-Fun.field-1 c.in-Fun.functions c.in-Fun.is
+    (subst (λ (l : List Function). FoundAt c.args.sought.now e (fun_phrase c.in-Fun.at c.in-Fun.field-1.place c.in-Fun.field-1.tyvars.items l)) c.deref-in-Fun.ensures.value u))
+    (λ h e k. c.in_ok-is_fun_twice-in-Fun.ensures h e c.in-Fun.field-1.place c.in-Fun.field-1.tyvars.items)

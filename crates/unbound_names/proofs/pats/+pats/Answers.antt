@@ -1,10 +1,11 @@
-use Rattle.std.proofs.Common.{◌<◌, length, subst, ◌∙◌, sym, arith}
+use Rattle.std.proofs.Common.{◌<◌, length, refl, subst, ◌∙◌, sym, arith}
 use Rattle.unbound_names.specs.Nodes.{pat_phrase}
 use Rattle.unbound_names.specs.Parts.{InPatParts}
 use Rattle.unbound_names.specs.Placed.{FoundAt}
 use Rattle.unbound_names.proofs.Among.{among-at, any-at, any-same, unbound-at}
 use Rattle.unbound_names.proofs.PatNodes.{pat-As, pat-BuiltCon, pat-Chain-first, pat-Con, pat-Con-own, pat-List, pat-Record, pat-Tuple, pat-Typed, pat-Typed-ty, pat-Vid}
 use Rattle.unbound_names.proofs.PatParts.{in-joint, in-operand, none-above, pat-As-some, pat-Chain-in, qualified-at}
+use Rattle.unbound_names.proofs.TwiceNodes.{pat-As-twice, pat-Vid-twice}
 use Rattle.unbound_names.proofs.pats.+pats.Goals.{in_pat-then-len-gt0, in_pat-else-len-gt0}
 use Rattle.unbound_names.proofs.pats.+pats.Goals as goal
 
@@ -87,9 +88,17 @@ in_pat-returns-else-in_pat-2 t c u e k =
 
 pub in_pat-returns-then-in_some_ty : goal.in_pat-returns-then-in_some_ty
 in_pat-returns-then-in_some_ty t c u e k =
-    pat-As-some c.args.sought.now e c.args.pat.now c.in-As.field-0 c.in-As.field-1 c.in-As.ty c.in-As.body c.in-As.is (c.in_some_ty.ensures u e k)
+    pat-As-some c.args.sought.now e c.args.pat.now c.in-As.at c.in-As.vid c.in-As.ty c.in-As.body c.in-As.is (c.in_some_ty.ensures u e k)
 
 pub in_pat-returns-else-in_some_ty : goal.in_pat-returns-else-in_some_ty
 in_pat-returns-else-in_some_ty t c u e k =
-    pat-As c.args.sought.now e c.args.pat.now c.in-As.field-0 c.in-As.field-1 c.in-As.ty c.in-As.body c.in-As.is
+    pat-As c.args.sought.now e c.args.pat.now c.in-As.at c.in-As.vid c.in-As.ty c.in-As.body c.in-As.is
     (subst (λ z. FoundAt c.args.sought.now e (pat_phrase z)) c.deref-else-in_some_ty.ensures (c.in_pat-else-in_some_ty.ensures u e k))
+
+pub in_pat-returns-then-is_twice_at : goal.in_pat-returns-then-is_twice_at
+in_pat-returns-then-is_twice_at t c u e k =
+    pat-Vid-twice c.args.sought.now e c.args.pat.now c.in-Vid.at c.in-Vid.long c.in-Vid.is (c.if-is_twice_at.ensures refl) (c.is_kept_alone.ensures u e k c.in-Vid.at)
+
+pub in_pat-returns-then-is_never_before_as : goal.in_pat-returns-then-is_never_before_as
+in_pat-returns-then-is_never_before_as t c u e k =
+    pat-As-twice c.args.sought.now e c.args.pat.now c.in-As.at c.in-As.vid c.in-As.ty c.in-As.body c.in-As.is (c.if-is_twice_at-2.ensures u) (c.if-is_never_before_as.ensures u e k)
