@@ -1,6 +1,5 @@
 -- From the parts of a node to the node, where they are told together.
-use Rattle.std.proofs.Common.{◌≡◌, ◌<◌, ℕ, Bool, true, false, List, [], ◌∷◌, map, length, get_or, Vec, Box, Global, ◌⊎◌, inl, inr, Option, Some, None, ◌++◌, refl, sym, ap, ap₂, subst, ◌∙◌}
-use Rattle.std.specs.List.{Contains}
+use Rattle.std.proofs.Common.{◌≡◌, ◌<◌, ℕ, Bool, true, List, [], ◌∷◌, map, length, get_or, Vec, Box, Global, ◌⊎◌, inl, inr, Option, Some, None, ◌++◌, refl, sym, ap, ap₂, subst}
 use Rattle.std.proofs.lemmas.List.Elements.{Contains-append_cases}
 use Rattle.mlc_base.specs.declared.place.Place.{Place}
 use Rattle.sml_tree.specs.BareTree as bare
@@ -20,7 +19,7 @@ use Rattle.sml_tree.specs.declared.tree.Joint.TheVariants.{AndAlso, OrElse, Infi
 use Rattle.sml_tree.specs.declared.tree.Part.{Part}
 use Rattle.sml_tree.specs.declared.tree.TypeBind.{TypeBind}
 use Rattle.core_rules.proofs.Fitting.{not-false}
-use Rattle.core_rules.specs.Unbound.{Unbound, value_at, unless_bound, Scoped, all_in, tycons_names}
+use Rattle.core_rules.specs.Unbound.{value_at, unless_bound, Scoped, all_in, tycons_names}
 use Rattle.core_rules.specs.Values.{Env, long_value_in, plus}
 use Rattle.unbound_names.specs.Covering.{Covers}
 use Rattle.unbound_names.specs.Nodes.{clause_phrase, data_phrase, dec_phrase, exp_phrase, fresh_onto, function_phrase}

@@ -1,11 +1,10 @@
 -- Walks, one part after the other.
-use Rattle.std.proofs.Common.{◌≡◌, ◌<◌, ◌≤◌, ◌+◌, ◌-◌, ℕ, suc, Bool, true, false, List, [], ◌∷◌, ◌++◌, map, filter, take, drop, length, reverse, get_or, ◌⊎◌, inl, inr, refl, sym, ap, ap₂, subst, ◌∙◌, append_assoc, arith}
+use Rattle.std.proofs.Common.{◌≡◌, ◌<◌, ◌≤◌, ◌+◌, ◌-◌, ℕ, Bool, true, false, List, [], ◌∷◌, ◌++◌, map, filter, take, drop, length, reverse, get_or, refl, sym, ap, ap₂, subst, ◌∙◌, append_assoc, arith}
 use Rattle.std.specs.Prelude.{IfOk, IsTrue, Result, Ok, Err}
 use Rattle.std.specs.List.{Contains}
 use Rattle.std.proofs.Math.Seq.{take-append_seam, drop-append_seam}
 use Rattle.std.proofs.lemmas.List.{append-nil, length-append, take-append-drop, take_all, take_more}
 use Rattle.std.proofs.lemmas.List.Elements.{Contains-get_or}
-use Rattle.mlc_base.specs.declared.memory.NoMemory.{NoMemory}
 use Rattle.sml_tree.specs.BareTree as bare
 use Rattle.sml_tree.specs.Phrases.{Phrase}
 use Rattle.sml_tree.specs.TreeOf.{dec_of, decs_of}
@@ -13,8 +12,8 @@ use Rattle.sml_tree.specs.declared.ident.Vid.{Vid}
 use Rattle.sml_tree.specs.declared.tree.Dec.{Dec}
 use Rattle.core_rules.proofs.Fitting.{not-false}
 use Rattle.core_rules.specs.Initial.{initial_env, prelude_env}
-use Rattle.core_rules.specs.Unbound.{Scoped, all_in, binds_names, decs_in, decs_names, dec_names, rec_names}
-use Rattle.core_rules.specs.Values.{Env, nothing, plus}
+use Rattle.core_rules.specs.Unbound.{all_in, binds_names, decs_in, decs_names, dec_names, rec_names}
+use Rattle.core_rules.specs.Values.{Env, plus}
 use Rattle.unbound_names.specs.Covering.{Brings, Covers, is_written}
 use Rattle.unbound_names.specs.Entries.{variable_entries}
 use Rattle.unbound_names.specs.Nodes.{dec_phrase}

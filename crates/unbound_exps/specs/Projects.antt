@@ -1,5 +1,5 @@
 -- Identifiers that aren't bound in a project.
-use Rattle.std.specs.Prelude.{◌≡◌, List, [], ◌∷◌, ◌++◌}
+use Rattle.std.specs.Prelude.{List, [], ◌∷◌, ◌++◌}
 use Rattle.std.specs.List.{Contains}
 use Rattle.sml_tree.specs.BareTree.{Decs}
 use Rattle.core_rules.specs.Initial.{initial_env, prelude_env}

@@ -8,7 +8,13 @@ ghost use Rattle.unbound_names.specs.Nodes.{bind_phrase, clause_phrase, dec_phra
 ghost use Rattle.unbound_names.specs.Parts.{joint_unbound, InParts};
 ghost use Rattle.unbound_names.specs.Placed.{At, AnyAt, Declared, FoundAt, Walked};
 
-use unbound_names::datas::{in_datatype, in_exception, in_open, in_replicate, in_type_dec, in_withtype};
+use crate::vals::{close_val, open_val};
+use mlc_base::memory::NoMemory;
+use sml_tree::tree::{Bind, Clause, Dec, Exp, ExpField, Function, Joint, Part, Rule};
+use std::alloc::Global;
+use unbound_names::datas::{
+    in_datatype, in_exception, in_open, in_replicate, in_type_dec, in_withtype,
+};
 use unbound_names::look_ups::{is_at, is_unbound_value, is_unbound_vid};
 use unbound_names::pats::{in_pat, in_pats};
 use unbound_names::scope::Scope;
@@ -16,10 +22,6 @@ use unbound_names::sought::Sought;
 use unbound_names::twice::{is_clause_twice, is_fun_twice, is_rule_twice, is_val_twice};
 use unbound_names::tys::in_ty;
 use unbound_names::vids::{bind_functions, bind_pat, bind_pats};
-use crate::vals::{close_val, open_val};
-use mlc_base::memory::NoMemory;
-use sml_tree::tree::{Bind, Clause, Dec, Exp, ExpField, Function, Joint, Part, Rule};
-use std::alloc::Global;
 
 /// An infix identifier that isn't bound, where that is looked for there.
 fn in_joint(sought: &Sought, joint: &Joint, scope: &Scope) -> bool
@@ -33,7 +35,12 @@ fn in_joint(sought: &Sought, joint: &Joint, scope: &Scope) -> bool
 
 /// Whether what is looked for is in an expression.
 #[cycle(exps)]
-pub fn in_exp(alloc: Global, sought: &Sought, exp: &Exp, scope: &mut Scope) -> Result<bool, NoMemory>
+pub fn in_exp(
+    alloc: Global,
+    sought: &Sought,
+    exp: &Exp,
+    scope: &mut Scope,
+) -> Result<bool, NoMemory>
     ensures { IfOk result (λ found. Walked found scope.old scope.new (λ e. FoundAt sought.now e (exp_phrase exp.now))) }
 {
     match exp {
@@ -90,7 +97,12 @@ pub fn in_exp(alloc: Global, sought: &Sought, exp: &Exp, scope: &mut Scope) -> R
 }
 
 #[cycle(exps)]
-fn in_exps(alloc: Global, sought: &Sought, exps: &[Exp], scope: &mut Scope) -> Result<bool, NoMemory>
+fn in_exps(
+    alloc: Global,
+    sought: &Sought,
+    exps: &[Exp],
+    scope: &mut Scope,
+) -> Result<bool, NoMemory>
     ensures { IfOk result (λ found. Walked found scope.old scope.new (λ e. AnyAt sought.now (all_in e (map exp_phrase exps.now)))) }
 {
     for i in 0..exps.len() {
@@ -265,7 +277,12 @@ fn in_functions(
 
 /// Declarations, one after the other.
 #[cycle(exps)]
-pub fn in_decs(alloc: Global, sought: &Sought, decs: &[Dec], scope: &mut Scope) -> Result<bool, NoMemory>
+pub fn in_decs(
+    alloc: Global,
+    sought: &Sought,
+    decs: &[Dec],
+    scope: &mut Scope,
+) -> Result<bool, NoMemory>
     ensures { IfOk result (λ found. Declared found scope.old scope.new (λ e. AnyAt sought.now (decs_in e (decs_of (map dec_of decs.now))))
         (λ e. decs_names e (decs_of (map dec_of decs.now)))) }
 {

@@ -1,4 +1,4 @@
--- Identifiers that aren't bound, from the parts of each node of declarations to the node; and the names that it brings.
+-- What is looked for, from the parts of each node of declarations to the node; and the names that it brings.
 use Rattle.std.proofs.Common.{◌≡◌, ℕ, suc, List, [], ◌∷◌, ◌++◌, map, Vec, Global, Option, Some, inl, inr, refl, sym, ap, ap₂, subst, ◌∙◌}
 use Rattle.std.specs.Prelude.{flat_map, option_map, unwrap_or}
 use Rattle.std.specs.List.{Contains}

@@ -1,4 +1,4 @@
--- Identifiers that aren't bound, from the parts of each node of expressions to the node.
+-- What is looked for, from the parts of each node of expressions to the node.
 use Rattle.std.proofs.Common.{◌≡◌, ℕ, suc, Bool, true, false, List, [], ◌∷◌, map, Vec, Box, Global, ◌⊎◌, inl, inr, refl, sym, ap, ap₂, subst, ◌∙◌}
 use Rattle.std.specs.List.{Contains}
 use Rattle.mlc_base.specs.declared.place.Place.{Place}

@@ -1,10 +1,10 @@
 -- What is looked for, from the parts of a phrase to the phrase.
-use Rattle.std.proofs.Common.{◌≡◌, ◌<◌, ℕ, zero, suc, List, [], ◌∷◌, ◌++◌, map, ◌⊎◌, inl, inr, refl, sym, ap, subst, ◌∙◌, arith}
+use Rattle.std.proofs.Common.{◌≡◌, ◌<◌, suc, List, [], ◌∷◌, ◌++◌, map, ◌⊎◌, inl, inr, sym, subst, arith}
 use Rattle.std.specs.Prelude.{flat_map}
 use Rattle.std.specs.List.{Contains}
 use Rattle.std.proofs.lemmas.List.Elements.{Contains-append_left, Contains-append_right, Contains-append_cases, Contains-push, Contains-push_cases}
 use Rattle.sml_tree.specs.Phrases.{Phrase}
-use Rattle.core_rules.specs.Unbound.{Unbound, own_unbound, Scoped, parts_in}
+use Rattle.core_rules.specs.Unbound.{own_unbound, Scoped, parts_in}
 use Rattle.core_rules.specs.Values.{Env}
 use Rattle.unbound_names.specs.Placed.{AnyAt, At, FoundAt, found_to, own_places, place_of, places_of}
 use Rattle.unbound_names.specs.Twice.{own_twice}

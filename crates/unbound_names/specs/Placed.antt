@@ -1,8 +1,7 @@
 -- What stands at a place: identifiers that aren't bound there, or ones that are bound twice.
-use Rattle.std.specs.Prelude.{◌≡◌, ℕ, zero, suc, Bool, false, List, [], ◌++◌, flat_map, map, IsTrue, Option, Some}
+use Rattle.std.specs.Prelude.{◌≡◌, ℕ, zero, suc, Bool, false, List, [], ◌++◌, flat_map, map, IsTrue}
 use Rattle.std.specs.List.{Contains}
 use Rattle.mlc_base.specs.declared.place.Place.{Place}
-use Rattle.sml_tree.specs.BareTree as bare
 use Rattle.sml_tree.specs.Phrases.{Phrase}
 use Rattle.core_rules.specs.Unbound.{Unbound, value_at, tycon_at, structure_at, own_unbound, parts_in, Scoped}
 use Rattle.core_rules.specs.Values.{Env}

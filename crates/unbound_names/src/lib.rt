@@ -1,4 +1,4 @@
-// Identifiers that aren't bound where they stand.
+// Identifiers that aren't bound where they stand, or that are bound twice.
 #![tactic(auto)]
 
 pub mod basis;

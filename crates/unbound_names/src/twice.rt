@@ -314,7 +314,8 @@ pub fn is_fun_twice(
     place: Place,
     functions: &[Function],
 ) -> Result<bool, NoMemory>
-    ensures { IfOk result (λ twice. IsTrue twice → (e : Env) (at : Byte) (names : List TypeVariable) → FoundAt sought.now e (fun_phrase place at names functions.now)) }
+    ensures { IfOk result (λ twice. IsTrue twice → (e : Env) (at : Byte) (names : List TypeVariable)
+        → FoundAt sought.now e (fun_phrase place at names functions.now)) }
 {
     if is_fun_at(place, functions, sought) {
         are_functions_broken(alloc, functions)

@@ -16,7 +16,8 @@ use scoped_map::scoped::Scoped;
 use sml_tree::tree::{Ty, TyField, TyPart};
 use std::alloc::Global;
 
-/// Whether a type constructor that isn't bound is looked for and found, in a type with the abbreviations of a `withtype` written out. The arguments of these aren't looked at.
+/// Whether a type constructor that isn't bound is looked for and found, in a type with the abbreviations of a `withtype` written out.
+/// The arguments of these aren't looked at.
 #[cycle(tys)]
 pub fn in_written(sought: &Sought, ty: &Ty, within: &Scoped<usize>, scope: &Scope) -> bool
     ensures { IsTrue result → (bs : List BareTypeBind) (e : Env) → AreNamed bs within.now → Covers scope.now e

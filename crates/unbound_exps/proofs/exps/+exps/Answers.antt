@@ -1,4 +1,4 @@
-use Rattle.std.proofs.Common.{◌≡◌, List, [], map, filter, refl, sym, ap, ap₂, subst, ◌∙◌}
+use Rattle.std.proofs.Common.{List, [], map, filter, refl, sym, ap, ap₂, subst, ◌∙◌}
 use Rattle.std.specs.Prelude.{unwrap_or}
 use Rattle.sml_tree.specs.Derived.{function_binds, one_or_tuple_pat}
 use Rattle.sml_tree.specs.TreeOf.{bind_of, binds_of, data_bind_of, dec_of, decs_of, ex_bind_of, function_of, long_id_at_of, long_vid_of, pat_of, type_bind_of}
@@ -15,7 +15,7 @@ use Rattle.unbound_names.specs.Covering.{is_written}
 use Rattle.unbound_names.specs.Nodes.{bind_phrase, clause_phrase, exn_phrase, exp_phrase, function_phrase, pat_phrase, rule_phrase, type_phrase}
 use Rattle.unbound_names.specs.Parts.{InParts, datatype_scopes, expanded, structures_unbound, withtype_scopes}
 use Rattle.unbound_names.specs.Patterns.{binds_vids}
-use Rattle.unbound_names.specs.Placed.{AnyAt, At, Brought, FoundAt}
+use Rattle.unbound_names.specs.Placed.{AnyAt, At, FoundAt}
 use Rattle.unbound_names.proofs.DecNodes.{datatypes-expanded, dec-Abbreviation, dec-Datatype, dec-Declarations, dec-Exception, dec-Fun, dec-Fun-own, dec-Local-decs, dec-Local-shown, dec-Open-own, dec-Replicate, dec-Val-binds, dec-Val-own, dec-Val-recs}
 use Rattle.unbound_names.proofs.DecNodes.{names-Abbreviation, names-Datatype, names-Declarations, names-Exception, names-Fun, names-Local, names-Open, names-Replicate, names-Val, names-Withtype, nothing-plus}
 use Rattle.unbound_names.proofs.ExpNodes.{bind-in-exp, bind-in-pat, clause-in-exp, clause-in-pats, rule-in-exp, rule-in-pat}

@@ -1,4 +1,4 @@
-use Rattle.std.proofs.Common.{ap, subst, sym}
+use Rattle.std.proofs.Common.{subst, sym}
 use Rattle.sml_tree.specs.Derived.{short}
 use Rattle.unbound_names.specs.Parts.{joint_unbound}
 use Rattle.unbound_names.specs.Placed.{At}

@@ -1,4 +1,4 @@
-use Rattle.std.proofs.Common.{map, sym, ap, ◌∙◌}
+use Rattle.std.proofs.Common.{ap, ◌∙◌}
 use Rattle.std.specs.Prelude.{flat_map}
 use Rattle.sml_tree.specs.TreeOf.{pat_of}
 use Rattle.core_rules.specs.Restrictions.{distinct}

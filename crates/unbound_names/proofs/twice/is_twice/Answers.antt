@@ -1,7 +1,6 @@
-use Rattle.std.proofs.Common.{◌≡◌, true, subst, sym}
+use Rattle.std.proofs.Common.{◌≡◌, true}
 use Rattle.std.specs.Prelude.{is_some}
-use Rattle.sml_tree.specs.declared.ident.Vid.{Vid}
-use Rattle.vid_scope.specs.Entries.{HasLatest, entry_of}
+use Rattle.vid_scope.specs.Entries.{entry_of}
 use Rattle.unbound_names.proofs.Once.{one-more-at, seen-twice-at}
 use Rattle.unbound_names.proofs.twice.is_twice.Goals as goal
 
