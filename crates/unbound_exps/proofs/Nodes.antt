@@ -1,6 +1,5 @@
 -- From the parts of a node to the node, where they are told together.
-use Rattle.std.proofs.Common.{◌≡◌, ◌<◌, ℕ, Bool, true, false, List, [], ◌∷◌, map, length, get_or, Vec, Box, Global, ◌⊎◌, inl, inr, Option, Some, None, ◌++◌, refl, sym, ap, ap₂, subst, ◌∙◌}
-use Rattle.std.specs.List.{Contains}
+use Rattle.std.proofs.Common.{◌≡◌, ◌<◌, ℕ, Bool, true, List, [], ◌∷◌, map, length, get_or, Vec, Box, Global, ◌⊎◌, inl, inr, Option, Some, None, ◌++◌, refl, sym, ap, ap₂, subst}
 use Rattle.std.proofs.lemmas.List.Elements.{Contains-append_cases}
 use Rattle.mlc_base.specs.declared.place.Place.{Place}
 use Rattle.sml_tree.specs.BareTree as bare
@@ -20,13 +19,15 @@ use Rattle.sml_tree.specs.declared.tree.Joint.TheVariants.{AndAlso, OrElse, Infi
 use Rattle.sml_tree.specs.declared.tree.Part.{Part}
 use Rattle.sml_tree.specs.declared.tree.TypeBind.{TypeBind}
 use Rattle.core_rules.proofs.Fitting.{not-false}
-use Rattle.core_rules.specs.Unbound.{Unbound, value_at, unless_bound, Scoped, all_in, tycons_names}
+use Rattle.core_rules.specs.Unbound.{value_at, unless_bound, Scoped, all_in, tycons_names}
 use Rattle.core_rules.specs.Values.{Env, long_value_in, plus}
 use Rattle.unbound_names.specs.Covering.{Covers}
 use Rattle.unbound_names.specs.Nodes.{clause_phrase, data_phrase, dec_phrase, exp_phrase, fresh_onto, function_phrase}
 use Rattle.unbound_names.specs.Parts.{InParts, datatype_scopes, joint_unbound, withtype_scopes}
-use Rattle.unbound_names.specs.Placed.{At, AnyAt, UnboundAt, Walked}
+use Rattle.unbound_names.specs.Placed.{AnyAt, Asks, At, FoundAt, Walked}
 use Rattle.unbound_names.specs.declared.bound.Bound.{Bound}
+use Rattle.unbound_names.specs.declared.sought.Sought.{Sought}
+use Rattle.unbound_names.specs.declared.sought.What.TheVariants as whats
 use Rattle.unbound_names.proofs.Covering.{fresh-onto-covers}
 use Rattle.unbound_names.proofs.DecNodes.{dec-Withtype-datas, dec-Withtype-types, function-in-clauses}
 use Rattle.unbound_names.proofs.ExpNodes.{exp-Chain-rest, exp-Chain-vid}
@@ -34,29 +35,29 @@ use Rattle.unbound_names.proofs.Placing.{first-in, none-in}
 use Rattle.unbound_names.proofs.Abbreviating.{as-it-was}
 use Rattle.unbound_exps.proofs.Walking.{any-in, is-in}
 
-none-at : {A : Type 0} (p : Place) → At p [] → A
+none-at : {A : Type 0} (p : Sought) → At p [] → A
 none-at p h = absurd (none-in h.unbound h.is)
 
-pub chain-parts : (p : Place) (e : Env) (x : Exp) (q : Place) (right : Bool) (first : Box Exp Global) (parts : Vec Part Global) → x ≡ exps.Chain q right first parts → InParts p e parts.items
-    → UnboundAt p e (exp_phrase x)
+pub chain-parts : (p : Sought) (e : Env) (x : Exp) (q : Place) (right : Bool) (first : Box Exp Global) (parts : Vec Part Global) → x ≡ exps.Chain q right first parts → InParts p e parts.items
+    → FoundAt p e (exp_phrase x)
 chain-parts p e x q right first parts is h = elim h.at [
   | inl a ↦ joined h.part.joint refl a
   | inr u ↦ exp-Chain-rest p e x q right first parts is (any-in p e (λ (o : Part). exp_phrase o.exp) parts.items h.part h.is u)
 ]
   where
-    joined : (j : Joint) → h.part.joint ≡ j → At p (joint_unbound e j) → UnboundAt p e (exp_phrase x)
+    joined : (j : Joint) → h.part.joint ≡ j → At p (joint_unbound e j) → FoundAt p e (exp_phrase x)
     joined AndAlso f a = none-at p a
     joined OrElse f a = none-at p a
     joined (Infix r v) f a = exp-Chain-vid p e x q right first parts is h.part r v h.is f a
 
-pub part-found : (p : Place) (xs : List Part) (i : ℕ) (x : Part) (b : Bool) (old mid new : List Bound) → i < length xs → x ≡ get_or xs i x → b ≡ true → mid ≡ old
-    → Walked b mid new (λ e. UnboundAt p e (exp_phrase x.exp)) → Walked true old new (λ e. InParts p e xs)
+pub part-found : (p : Sought) (xs : List Part) (i : ℕ) (x : Part) (b : Bool) (old mid new : List Bound) → i < length xs → x ≡ get_or xs i x → b ≡ true → mid ≡ old
+    → Walked b mid new (λ e. FoundAt p e (exp_phrase x.exp)) → Walked true old new (λ e. InParts p e xs)
 part-found p xs i x b old mid new lt e t m w = record {
   right = λ h d c. record { part = x; is = is-in xs i x lt e; at = inr (w.right t d (subst (λ s. Covers s d) (sym m) c)) };
   same = λ n. not-false n;
 }
 
-pub joint-found : (p : Place) (xs : List Part) (i : ℕ) (x : Part) (b : Bool) (old mid new : List Bound) → i < length xs → x ≡ get_or xs i x → b ≡ true → mid ≡ old
+pub joint-found : (p : Sought) (xs : List Part) (i : ℕ) (x : Part) (b : Bool) (old mid new : List Bound) → i < length xs → x ≡ get_or xs i x → b ≡ true → mid ≡ old
     → (b ≡ true → (e : Env) → Covers mid e → At p (joint_unbound e x.joint)) → Walked true old new (λ e. InParts p e xs)
 joint-found p xs i x b old mid new lt e t m w = record {
   right = λ h d c. record { part = x; is = is-in xs i x lt e; at = inl (w t d (subst (λ s. Covers s d) (sym m) c)) };
@@ -64,7 +65,7 @@ joint-found p xs i x b old mid new lt e t m w = record {
 }
 
 -- in the clauses of a function its arguments have variables that no program names
-pub function-found : (p : Place) (gs : List Function) (i : ℕ) (g : Function) (cs : List Clause) (b : Bool) (old mid new : List Bound) → i < length gs → g ≡ get_or gs i g → b ≡ true → mid ≡ old
+pub function-found : (p : Sought) (gs : List Function) (i : ℕ) (g : Function) (cs : List Clause) (b : Bool) (old mid new : List Bound) → i < length gs → g ≡ get_or gs i g → b ≡ true → mid ≡ old
     → cs ≡ (out-Function g).clauses.items → Walked b mid new (λ e. AnyAt p (all_in e (map clause_phrase cs))) → Walked true old new (λ e. AnyAt p (all_in e (map function_phrase gs)))
 function-found p gs i g cs b old mid new lt e t m k w = record {
   right = λ h d c.
@@ -78,8 +79,8 @@ function-found p gs i g cs b old mid new lt e t m k w = record {
 }
 
 -- an identifier that isn't bound
-pub own-value : (p : Place) (e : Env) (q : Place) (x : term.LongVid) → q ≡ p → long_value_in e x ≡ None → At p (unless_bound (long_value_in e x) (value_at q x))
-own-value p e q x f n = subst (λ o. At p (unless_bound o (value_at q x))) (sym n) (record { unbound = value_at q x; is = first-in (value_at q x) []; place = f })
+pub own-value : (p : Sought) (e : Env) (q : Place) (x : term.LongVid) → Asks p whats.Unbound q → long_value_in e x ≡ None → At p (unless_bound (long_value_in e x) (value_at q x))
+own-value p e q x f n = subst (λ o. At p (unless_bound o (value_at q x))) (sym n) (record { unbound = value_at q x; is = first-in (value_at q x) []; place = f.place; what = f.what })
 
 -- Datatypes without abbreviations are as they are written.
 
@@ -99,19 +100,19 @@ phrases-of : (ds : List DataBind) → map data_bind (map data_bind_of ds) ≡ ma
 phrases-of [] = refl
 phrases-of (d ∷ ds) = ap (λ l. data_phrase d ∷ l) (phrases-of ds)
 
-pub plain-datatype : (p : Place) (e : Env) (ds : List DataBind) → AnyAt p (datatype_scopes [] e ds) → AnyAt p (all_in (plus e (tycons_names (map data_bind_of ds))) (map data_phrase ds))
+pub plain-datatype : (p : Sought) (e : Env) (ds : List DataBind) → AnyAt p (datatype_scopes [] e ds) → AnyAt p (all_in (plus e (tycons_names (map data_bind_of ds))) (map data_phrase ds))
 plain-datatype p e ds h =
     subst (λ xs. AnyAt p (all_in (plus e (tycons_names (map data_bind_of ds))) xs)) (phrases-of ds)
     (subst (λ l. AnyAt p (all_in (plus e (tycons_names l)) (map data_bind l))) (no-abbreviations (map data_bind_of ds)) h)
 
-any-parts : (p : Place) (ss ts : List Scoped) → AnyAt p (ss ++ ts) → AnyAt p ss ⊎ AnyAt p ts
+any-parts : (p : Sought) (ss ts : List Scoped) → AnyAt p (ss ++ ts) → AnyAt p ss ⊎ AnyAt p ts
 any-parts p ss ts h = elim (Contains-append_cases ss ts h.scoped h.is) [
   | inl l ↦ inl (record { scoped = h.scoped; is = l; at = h.at })
   | inr r ↦ inr (record { scoped = h.scoped; is = r; at = h.at })
 ]
 
-pub withtype-parts : (p : Place) (e : Env) (d : Dec) (q : Place) (ds : Vec DataBind Global) (bs : Vec TypeBind Global) → d ≡ decs.Withtype q ds bs → AnyAt p (withtype_scopes e ds.items bs.items)
-    → UnboundAt p e (dec_phrase d)
+pub withtype-parts : (p : Sought) (e : Env) (d : Dec) (q : Place) (ds : Vec DataBind Global) (bs : Vec TypeBind Global) → d ≡ decs.Withtype q ds bs → AnyAt p (withtype_scopes e ds.items bs.items)
+    → FoundAt p e (dec_phrase d)
 withtype-parts p e d q ds bs is h = elim (any-parts p _ _ h) [
   | inl a ↦ dec-Withtype-datas p e d q ds bs is a
   | inr b ↦ dec-Withtype-types p e d q ds bs is b

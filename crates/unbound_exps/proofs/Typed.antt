@@ -1,5 +1,5 @@
 -- A project that has a typing has every identifier bound.
-use Rattle.std.proofs.Common.{◌≡◌, ℕ, List, [], ◌∷◌, ◌++◌, Option, Some, None, refl, sym, ap, subst}
+use Rattle.std.proofs.Common.{List, [], ◌∷◌, ◌++◌, Option, Some, None, subst}
 use Rattle.std.specs.List.{Contains}
 use Rattle.ty_core.specs.Types.{no_variable}
 use Rattle.sml_tree.specs.BareTree.{Decs}
@@ -8,7 +8,7 @@ use Rattle.core_rules.proofs.Fitting.{fits-plus, nothing-fits}
 use Rattle.core_rules.proofs.FittingInitial.{initial-fits}
 use Rattle.core_rules.specs.Choices.{Choices}
 use Rattle.core_rules.specs.Fits.{Fits}
-use Rattle.core_rules.specs.Initial.{empty_context, initial_env, prelude_env}
+use Rattle.core_rules.specs.Initial.{empty_context, prelude_env}
 use Rattle.core_rules.specs.Objects.{Context, with_env}
 use Rattle.core_rules.specs.Objects as static
 use Rattle.core_rules.specs.Project.{Part, source, standard_basis, static_standard}

@@ -1,12 +1,10 @@
 -- Walks, one part after the other.
-use Rattle.std.proofs.Common.{◌≡◌, ◌<◌, ◌≤◌, ◌+◌, ◌-◌, ℕ, suc, Bool, true, false, List, [], ◌∷◌, ◌++◌, map, filter, take, drop, length, reverse, get_or, ◌⊎◌, inl, inr, refl, sym, ap, ap₂, subst, ◌∙◌, append_assoc, arith}
+use Rattle.std.proofs.Common.{◌≡◌, ◌<◌, ◌≤◌, ◌+◌, ◌-◌, ℕ, Bool, true, false, List, [], ◌∷◌, ◌++◌, map, filter, take, drop, length, reverse, get_or, refl, sym, ap, ap₂, subst, ◌∙◌, append_assoc, arith}
 use Rattle.std.specs.Prelude.{IfOk, IsTrue, Result, Ok, Err}
 use Rattle.std.specs.List.{Contains}
 use Rattle.std.proofs.Math.Seq.{take-append_seam, drop-append_seam}
 use Rattle.std.proofs.lemmas.List.{append-nil, length-append, take-append-drop, take_all, take_more}
 use Rattle.std.proofs.lemmas.List.Elements.{Contains-get_or}
-use Rattle.mlc_base.specs.declared.place.Place.{Place}
-use Rattle.mlc_base.specs.declared.memory.NoMemory.{NoMemory}
 use Rattle.sml_tree.specs.BareTree as bare
 use Rattle.sml_tree.specs.Phrases.{Phrase}
 use Rattle.sml_tree.specs.TreeOf.{dec_of, decs_of}
@@ -14,18 +12,20 @@ use Rattle.sml_tree.specs.declared.ident.Vid.{Vid}
 use Rattle.sml_tree.specs.declared.tree.Dec.{Dec}
 use Rattle.core_rules.proofs.Fitting.{not-false}
 use Rattle.core_rules.specs.Initial.{initial_env, prelude_env}
-use Rattle.core_rules.specs.Unbound.{Scoped, all_in, binds_names, decs_in, decs_names, dec_names, rec_names}
-use Rattle.core_rules.specs.Values.{Env, nothing, plus}
+use Rattle.core_rules.specs.Unbound.{all_in, binds_names, decs_in, decs_names, dec_names, rec_names}
+use Rattle.core_rules.specs.Values.{Env, plus}
 use Rattle.unbound_names.specs.Covering.{Brings, Covers, is_written}
 use Rattle.unbound_names.specs.Entries.{variable_entries}
 use Rattle.unbound_names.specs.Nodes.{dec_phrase}
 use Rattle.unbound_names.specs.Patterns.{AreVariables, binds_vids}
-use Rattle.unbound_names.specs.Placed.{AnyAt, Brought, Declared, UnboundAt, Walked}
+use Rattle.unbound_names.specs.Placed.{AnyAt, Brought, Declared, FoundAt, Walked}
 use Rattle.unbound_names.specs.declared.bound.Bound.{Bound}
 use Rattle.unbound_exps.specs.Closing.{Closes}
 use Rattle.unbound_exps.specs.Projects.{standard_env}
+use Rattle.unbound_names.specs.declared.sought.Sought.{Sought}
 use Rattle.unbound_names.proofs.Covering.{both-bring, nothing-brings, variables-bring-turned}
-use Rattle.unbound_names.proofs.DecNodes.{decs-before, decs-last, in-map, names-longer}
+use Rattle.unbound_names.proofs.DecNodes.{decs-before, decs-last, names-longer}
+use Rattle.unbound_names.proofs.Placing.{in-map}
 use Rattle.unbound_names.proofs.Variables.{binds-written}
 
 never : {A : Type 0} → IsTrue false → A
@@ -63,11 +63,11 @@ in-all e f xs x h = in-map (λ (y : Phrase). record { scope = e; phrase = y }) (
 pub is-in : {A : Type 0} (xs : List A) (i : ℕ) (x : A) → i < length xs → x ≡ get_or xs i x → Contains xs x
 is-in xs i x lt e = subst (Contains xs) (sym e) (Contains-get_or xs i x lt)
 
-pub any-in : {A : Type 0} (p : Place) (e : Env) (f : A → Phrase) (xs : List A) (x : A) → Contains xs x → UnboundAt p e (f x) → AnyAt p (all_in e (map f xs))
+pub any-in : {A : Type 0} (p : Sought) (e : Env) (f : A → Phrase) (xs : List A) (x : A) → Contains xs x → FoundAt p e (f x) → AnyAt p (all_in e (map f xs))
 any-in p e f xs x h u = record { scoped = record { scope = e; phrase = f x }; is = in-all e f xs x h; at = u }
 
-pub list-found : {A : Type 0} (f : A → Phrase) (p : Place) (xs : List A) (i : ℕ) (x : A) (b : Bool) (old mid new : List Bound) → i < length xs → x ≡ get_or xs i x → b ≡ true → mid ≡ old
-    → Walked b mid new (λ e. UnboundAt p e (f x)) → Walked true old new (λ e. AnyAt p (all_in e (map f xs)))
+pub list-found : {A : Type 0} (f : A → Phrase) (p : Sought) (xs : List A) (i : ℕ) (x : A) (b : Bool) (old mid new : List Bound) → i < length xs → x ≡ get_or xs i x → b ≡ true → mid ≡ old
+    → Walked b mid new (λ e. FoundAt p e (f x)) → Walked true old new (λ e. AnyAt p (all_in e (map f xs)))
 list-found f p xs i x b old mid new lt e t m w = found-true b old mid new t m (λ d u. any-in p d f xs x (is-in xs i x lt e) u) w
 
 -- Into a scope and out of it again.
@@ -96,6 +96,11 @@ brought-named n g = record { more = g.more; is = g.is; brings = λ e c. subst (B
 
 pub declared-true : {P Q : Env → Type 0} {names : Env → Env} (b : Bool) (old mid new : List Bound) → b ≡ true → mid ≡ old → ((e : Env) → P e → Q e) → Walked b mid new P → Declared true old new Q names
 declared-true b old mid new t m f w = record { right = λ h e c. f e (w.right t e (subst (λ s. Covers s e) (sym m) c)); brought = λ n. not-false n }
+
+-- by a look that changes nothing
+pub seen-true : {P Q : Env → Type 0} {names : Env → Env} (b : Bool) (old mid new : List Bound) → b ≡ true → mid ≡ old → ((e : Env) → P e → Q e)
+    → (IsTrue b → (e : Env) → Covers mid e → P e) → Declared true old new Q names
+seen-true b old mid new t m f h = record { right = λ u e c. f e (h t e (subst (λ s. Covers s e) (sym m) c)); brought = λ n. not-false n }
 
 pub declared-inside : {P Q : Env → Type 0} {names' : Env → Env} (names : Env → Env) (b : Bool) (old mid new : List Bound) → b ≡ true → Brought old mid names → ((e : Env) → P (plus e (names e)) → Q e)
     → Walked b mid new P → Declared true old new Q names'
@@ -222,12 +227,12 @@ ran-next ds i d b old mid new lt e f g h = by (h.brought f)
     }
 
 -- what is found in the first ones
-decs-part : (p : Place) (e : Env) (ds es : List Dec) → AnyAt p (decs_in e (decs_of (map dec_of ds))) → AnyAt p (decs_in e (decs_of (map dec_of (ds ++ es))))
+decs-part : (p : Sought) (e : Env) (ds es : List Dec) → AnyAt p (decs_in e (decs_of (map dec_of ds))) → AnyAt p (decs_in e (decs_of (map dec_of (ds ++ es))))
 decs-part p e ds [] h = subst (λ (l : List Dec). AnyAt p (decs_in e (decs_of (map dec_of l)))) (sym (append-nil ds)) h
 decs-part p e ds (d ∷ es) h = subst (λ (l : List Dec). AnyAt p (decs_in e (decs_of (map dec_of l)))) (append_assoc ds (d ∷ []) es) (decs-part p e (ds ++ d ∷ []) es (decs-before p e ds d h))
 
-pub ran-found : {names : Env → Env} {n' : Env → Env} (p : Place) (ds : List Dec) (i : ℕ) (d : Dec) (b : Bool) (old mid new : List Bound) → i < length ds → d ≡ get_or ds i d → b ≡ true → Ran ds i old mid
-    → Declared b mid new (λ e. UnboundAt p e (dec_phrase d)) names → Declared true old new (λ e. AnyAt p (decs_in e (decs_of (map dec_of ds)))) n'
+pub ran-found : {names : Env → Env} {n' : Env → Env} (p : Sought) (ds : List Dec) (i : ℕ) (d : Dec) (b : Bool) (old mid new : List Bound) → i < length ds → d ≡ get_or ds i d → b ≡ true → Ran ds i old mid
+    → Declared b mid new (λ e. FoundAt p e (dec_phrase d)) names → Declared true old new (λ e. AnyAt p (decs_in e (decs_of (map dec_of ds)))) n'
 ran-found p ds i d b old mid new lt e t g h = record {
   right = λ u a c.
       subst (λ (l : List Dec). AnyAt p (decs_in a (decs_of (map dec_of l)))) (ap (λ l. l ++ drop (i + 1) ds) (sym (take-next ds i d lt e)) ∙ take-append-drop (i + 1) ds)

@@ -1,4 +1,4 @@
-// Identifiers that aren't bound, in expressions and declarations.
+// What is looked for, in expressions and declarations.
 ghost use Rattle.std.specs.Prelude.{map, IfOk, IsTrue};
 ghost use Rattle.sml_tree.specs.TreeOf.{dec_of, decs_of};
 ghost use Rattle.core_rules.specs.Unbound.{all_in, decs_in, decs_names, dec_names};
@@ -6,94 +6,107 @@ ghost use Rattle.core_rules.specs.Values.{Env};
 ghost use Rattle.unbound_names.specs.Covering.{Covers};
 ghost use Rattle.unbound_names.specs.Nodes.{bind_phrase, clause_phrase, dec_phrase, exp_phrase, function_phrase, rule_phrase};
 ghost use Rattle.unbound_names.specs.Parts.{joint_unbound, InParts};
-ghost use Rattle.unbound_names.specs.Placed.{At, AnyAt, UnboundAt, Declared, Walked};
+ghost use Rattle.unbound_names.specs.Placed.{At, AnyAt, Declared, FoundAt, Walked};
 
-use unbound_names::datas::{in_datatype, in_exception, in_open, in_replicate, in_type_dec, in_withtype};
+use crate::vals::{close_val, open_val};
+use mlc_base::memory::NoMemory;
+use sml_tree::tree::{Bind, Clause, Dec, Exp, ExpField, Function, Joint, Part, Rule};
+use std::alloc::Global;
+use unbound_names::datas::{
+    in_datatype, in_exception, in_open, in_replicate, in_type_dec, in_withtype,
+};
 use unbound_names::look_ups::{is_at, is_unbound_value, is_unbound_vid};
 use unbound_names::pats::{in_pat, in_pats};
 use unbound_names::scope::Scope;
+use unbound_names::sought::Sought;
+use unbound_names::twice::{is_clause_twice, is_fun_twice, is_rule_twice, is_val_twice};
 use unbound_names::tys::in_ty;
 use unbound_names::vids::{bind_functions, bind_pat, bind_pats};
-use crate::vals::{close_val, open_val};
-use mlc_base::memory::NoMemory;
-use mlc_base::place::Place;
-use sml_tree::tree::{Bind, Clause, Dec, Exp, ExpField, Function, Joint, Part, Rule};
-use std::alloc::Global;
 
-/// An infix identifier that isn't bound.
-fn in_joint(place: Place, joint: &Joint, scope: &Scope) -> bool
-    ensures { IsTrue result → (e : Env) → Covers scope.now e → At place (joint_unbound e joint.now) }
+/// An infix identifier that isn't bound, where that is looked for there.
+fn in_joint(sought: &Sought, joint: &Joint, scope: &Scope) -> bool
+    ensures { IsTrue result → (e : Env) → Covers scope.now e → At sought.now (joint_unbound e joint.now) }
 {
     match joint {
-        Joint::Infix(at, vid) => is_at(*at, place) && is_unbound_vid(*vid, scope),
+        Joint::Infix(at, vid) => is_at(*at, sought) && is_unbound_vid(*vid, scope),
         _ => false,
     }
 }
 
-/// Whether an identifier at the place isn't bound, in an expression.
+/// Whether what is looked for is in an expression.
 #[cycle(exps)]
-pub fn in_exp(alloc: Global, place: Place, exp: &Exp, scope: &mut Scope) -> Result<bool, NoMemory>
-    ensures { IfOk result (λ found. Walked found scope.old scope.new (λ e. UnboundAt place e (exp_phrase exp.now))) }
+pub fn in_exp(
+    alloc: Global,
+    sought: &Sought,
+    exp: &Exp,
+    scope: &mut Scope,
+) -> Result<bool, NoMemory>
+    ensures { IfOk result (λ found. Walked found scope.old scope.new (λ e. FoundAt sought.now e (exp_phrase exp.now))) }
 {
     match exp {
         Exp::Constant(_, _) => Ok(false),
-        Exp::Vid(at, long) => Ok(is_at(*at, place) && is_unbound_value(long, scope)),
+        Exp::Vid(at, long) => Ok(is_at(*at, sought) && is_unbound_value(long, scope)),
         Exp::BuiltIn(_, _) => Ok(false),
-        Exp::Record(_, fields) => in_fields(alloc, place, fields, scope),
-        Exp::Tuple(_, parts) => in_exps(alloc, place, parts, scope),
-        Exp::List(_, elements) => in_exps(alloc, place, elements, scope),
+        Exp::Record(_, fields) => in_fields(alloc, sought, fields, scope),
+        Exp::Tuple(_, parts) => in_exps(alloc, sought, parts, scope),
+        Exp::List(_, elements) => in_exps(alloc, sought, elements, scope),
         Exp::Sequence(_, first, rest) => {
-            if in_exp(alloc, place, first, scope)? {
+            if in_exp(alloc, sought, first, scope)? {
                 return Ok(true);
             }
-            in_exps(alloc, place, rest, scope)
+            in_exps(alloc, sought, rest, scope)
         }
         Exp::Let(_, decs, body) => {
             let before = scope.len();
-            if in_decs(alloc, place, decs, scope)? {
+            if in_decs(alloc, sought, decs, scope)? {
                 return Ok(true);
             }
-            if in_exp(alloc, place, body, scope)? {
+            if in_exp(alloc, sought, body, scope)? {
                 return Ok(true);
             }
             scope.leave(before);
             Ok(false)
         }
         Exp::Apply(_, function, arguments) => {
-            if in_exp(alloc, place, function, scope)? {
+            if in_exp(alloc, sought, function, scope)? {
                 return Ok(true);
             }
-            in_exps(alloc, place, arguments, scope)
+            in_exps(alloc, sought, arguments, scope)
         }
         Exp::Chain(_, _, first, parts) => {
-            if in_exp(alloc, place, first, scope)? {
+            if in_exp(alloc, sought, first, scope)? {
                 return Ok(true);
             }
-            in_parts(alloc, place, parts, scope)
+            in_parts(alloc, sought, parts, scope)
         }
         Exp::Typed(_, body, ty) => {
-            if in_ty(alloc, place, ty, scope) {
+            if in_ty(alloc, sought, ty, scope) {
                 return Ok(true);
             }
-            in_exp(alloc, place, body, scope)
+            in_exp(alloc, sought, body, scope)
         }
         Exp::Handle(_, body, rules) => {
-            if in_exp(alloc, place, body, scope)? {
+            if in_exp(alloc, sought, body, scope)? {
                 return Ok(true);
             }
-            in_rules(alloc, place, rules, scope)
+            in_rules(alloc, sought, rules, scope)
         }
-        Exp::Raise(_, body) => in_exp(alloc, place, body, scope),
-        Exp::Fn(_, rules) => in_rules(alloc, place, rules, scope),
+        Exp::Raise(_, body) => in_exp(alloc, sought, body, scope),
+        Exp::Fn(_, rules) => in_rules(alloc, sought, rules, scope),
     }
 }
 
 #[cycle(exps)]
-fn in_exps(alloc: Global, place: Place, exps: &[Exp], scope: &mut Scope) -> Result<bool, NoMemory>
-    ensures { IfOk result (λ found. Walked found scope.old scope.new (λ e. AnyAt place (all_in e (map exp_phrase exps.now)))) }
+fn in_exps(
+    alloc: Global,
+    sought: &Sought,
+    exps: &[Exp],
+    scope: &mut Scope,
+) -> Result<bool, NoMemory>
+    ensures { IfOk result (λ found. Walked found scope.old scope.new (λ e. AnyAt sought.now (all_in e (map exp_phrase exps.now)))) }
 {
     for i in 0..exps.len() {
-        if in_exp(alloc, place, &exps[i], scope)? {
+        if in_exp(alloc, sought, &exps[i], scope)? {
             return Ok(true);
         }
     }
@@ -103,15 +116,15 @@ fn in_exps(alloc: Global, place: Place, exps: &[Exp], scope: &mut Scope) -> Resu
 #[cycle(exps)]
 fn in_fields(
     alloc: Global,
-    place: Place,
+    sought: &Sought,
     fields: &[ExpField],
     scope: &mut Scope,
 ) -> Result<bool, NoMemory>
-    ensures { IfOk result (λ found. Walked found scope.old scope.new (λ e. AnyAt place (all_in e (map (λ f. exp_phrase f.exp) fields.now)))) }
+    ensures { IfOk result (λ found. Walked found scope.old scope.new (λ e. AnyAt sought.now (all_in e (map (λ f. exp_phrase f.exp) fields.now)))) }
 {
     for i in 0..fields.len() {
         let field = &fields[i];
-        if in_exp(alloc, place, &field.exp, scope)? {
+        if in_exp(alloc, sought, &field.exp, scope)? {
             return Ok(true);
         }
     }
@@ -122,18 +135,18 @@ fn in_fields(
 #[cycle(exps)]
 fn in_parts(
     alloc: Global,
-    place: Place,
+    sought: &Sought,
     parts: &[Part],
     scope: &mut Scope,
 ) -> Result<bool, NoMemory>
-    ensures { IfOk result (λ found. Walked found scope.old scope.new (λ e. InParts place e parts.now)) }
+    ensures { IfOk result (λ found. Walked found scope.old scope.new (λ e. InParts sought.now e parts.now)) }
 {
     for i in 0..parts.len() {
         let part = &parts[i];
-        if in_joint(place, &part.joint, scope) {
+        if in_joint(sought, &part.joint, scope) {
             return Ok(true);
         }
-        if in_exp(alloc, place, &part.exp, scope)? {
+        if in_exp(alloc, sought, &part.exp, scope)? {
             return Ok(true);
         }
     }
@@ -141,15 +154,18 @@ fn in_parts(
 }
 
 #[cycle(exps)]
-fn in_rule(alloc: Global, place: Place, rule: &Rule, scope: &mut Scope) -> Result<bool, NoMemory>
-    ensures { IfOk result (λ found. Walked found scope.old scope.new (λ e. UnboundAt place e (rule_phrase rule.now))) }
+fn in_rule(alloc: Global, sought: &Sought, rule: &Rule, scope: &mut Scope) -> Result<bool, NoMemory>
+    ensures { IfOk result (λ found. Walked found scope.old scope.new (λ e. FoundAt sought.now e (rule_phrase rule.now))) }
 {
-    if in_pat(alloc, place, &rule.pat, scope) {
+    if is_rule_twice(alloc, sought, rule, scope)? {
+        return Ok(true);
+    }
+    if in_pat(alloc, sought, &rule.pat, scope) {
         return Ok(true);
     }
     let before = scope.len();
     bind_pat(alloc, &rule.pat, scope)?;
-    if in_exp(alloc, place, &rule.exp, scope)? {
+    if in_exp(alloc, sought, &rule.exp, scope)? {
         return Ok(true);
     }
     scope.leave(before);
@@ -159,14 +175,14 @@ fn in_rule(alloc: Global, place: Place, rule: &Rule, scope: &mut Scope) -> Resul
 #[cycle(exps)]
 fn in_rules(
     alloc: Global,
-    place: Place,
+    sought: &Sought,
     rules: &[Rule],
     scope: &mut Scope,
 ) -> Result<bool, NoMemory>
-    ensures { IfOk result (λ found. Walked found scope.old scope.new (λ e. AnyAt place (all_in e (map rule_phrase rules.now)))) }
+    ensures { IfOk result (λ found. Walked found scope.old scope.new (λ e. AnyAt sought.now (all_in e (map rule_phrase rules.now)))) }
 {
     for i in 0..rules.len() {
-        if in_rule(alloc, place, &rules[i], scope)? {
+        if in_rule(alloc, sought, &rules[i], scope)? {
             return Ok(true);
         }
     }
@@ -174,26 +190,26 @@ fn in_rules(
 }
 
 #[cycle(exps)]
-fn in_bind(alloc: Global, place: Place, bind: &Bind, scope: &mut Scope) -> Result<bool, NoMemory>
-    ensures { IfOk result (λ found. Walked found scope.old scope.new (λ e. UnboundAt place e (bind_phrase bind.now))) }
+fn in_bind(alloc: Global, sought: &Sought, bind: &Bind, scope: &mut Scope) -> Result<bool, NoMemory>
+    ensures { IfOk result (λ found. Walked found scope.old scope.new (λ e. FoundAt sought.now e (bind_phrase bind.now))) }
 {
-    if in_pat(alloc, place, &bind.pat, scope) {
+    if in_pat(alloc, sought, &bind.pat, scope) {
         return Ok(true);
     }
-    in_exp(alloc, place, &bind.exp, scope)
+    in_exp(alloc, sought, &bind.exp, scope)
 }
 
 #[cycle(exps)]
 fn in_binds(
     alloc: Global,
-    place: Place,
+    sought: &Sought,
     binds: &[Bind],
     scope: &mut Scope,
 ) -> Result<bool, NoMemory>
-    ensures { IfOk result (λ found. Walked found scope.old scope.new (λ e. AnyAt place (all_in e (map bind_phrase binds.now)))) }
+    ensures { IfOk result (λ found. Walked found scope.old scope.new (λ e. AnyAt sought.now (all_in e (map bind_phrase binds.now)))) }
 {
     for i in 0..binds.len() {
-        if in_bind(alloc, place, &binds[i], scope)? {
+        if in_bind(alloc, sought, &binds[i], scope)? {
             return Ok(true);
         }
     }
@@ -203,18 +219,21 @@ fn in_binds(
 #[cycle(exps)]
 fn in_clause(
     alloc: Global,
-    place: Place,
+    sought: &Sought,
     clause: &Clause,
     scope: &mut Scope,
 ) -> Result<bool, NoMemory>
-    ensures { IfOk result (λ found. Walked found scope.old scope.new (λ e. UnboundAt place e (clause_phrase clause.now))) }
+    ensures { IfOk result (λ found. Walked found scope.old scope.new (λ e. FoundAt sought.now e (clause_phrase clause.now))) }
 {
-    if in_pats(alloc, place, &clause.pats, scope) {
+    if is_clause_twice(alloc, sought, clause, scope)? {
+        return Ok(true);
+    }
+    if in_pats(alloc, sought, &clause.pats, scope) {
         return Ok(true);
     }
     let before = scope.len();
     bind_pats(alloc, &clause.pats, scope)?;
-    if in_exp(alloc, place, &clause.exp, scope)? {
+    if in_exp(alloc, sought, &clause.exp, scope)? {
         return Ok(true);
     }
     scope.leave(before);
@@ -224,14 +243,14 @@ fn in_clause(
 #[cycle(exps)]
 fn in_clauses(
     alloc: Global,
-    place: Place,
+    sought: &Sought,
     clauses: &[Clause],
     scope: &mut Scope,
 ) -> Result<bool, NoMemory>
-    ensures { IfOk result (λ found. Walked found scope.old scope.new (λ e. AnyAt place (all_in e (map clause_phrase clauses.now)))) }
+    ensures { IfOk result (λ found. Walked found scope.old scope.new (λ e. AnyAt sought.now (all_in e (map clause_phrase clauses.now)))) }
 {
     for i in 0..clauses.len() {
-        if in_clause(alloc, place, &clauses[i], scope)? {
+        if in_clause(alloc, sought, &clauses[i], scope)? {
             return Ok(true);
         }
     }
@@ -241,15 +260,15 @@ fn in_clauses(
 #[cycle(exps)]
 fn in_functions(
     alloc: Global,
-    place: Place,
+    sought: &Sought,
     functions: &[Function],
     scope: &mut Scope,
 ) -> Result<bool, NoMemory>
-    ensures { IfOk result (λ found. Walked found scope.old scope.new (λ e. AnyAt place (all_in e (map function_phrase functions.now)))) }
+    ensures { IfOk result (λ found. Walked found scope.old scope.new (λ e. AnyAt sought.now (all_in e (map function_phrase functions.now)))) }
 {
     for i in 0..functions.len() {
         let function = &functions[i];
-        if in_clauses(alloc, place, &function.clauses, scope)? {
+        if in_clauses(alloc, sought, &function.clauses, scope)? {
             return Ok(true);
         }
     }
@@ -258,12 +277,17 @@ fn in_functions(
 
 /// Declarations, one after the other.
 #[cycle(exps)]
-pub fn in_decs(alloc: Global, place: Place, decs: &[Dec], scope: &mut Scope) -> Result<bool, NoMemory>
-    ensures { IfOk result (λ found. Declared found scope.old scope.new (λ e. AnyAt place (decs_in e (decs_of (map dec_of decs.now))))
+pub fn in_decs(
+    alloc: Global,
+    sought: &Sought,
+    decs: &[Dec],
+    scope: &mut Scope,
+) -> Result<bool, NoMemory>
+    ensures { IfOk result (λ found. Declared found scope.old scope.new (λ e. AnyAt sought.now (decs_in e (decs_of (map dec_of decs.now))))
         (λ e. decs_names e (decs_of (map dec_of decs.now)))) }
 {
     for i in 0..decs.len() {
-        if in_dec(alloc, place, &decs[i], scope)? {
+        if in_dec(alloc, sought, &decs[i], scope)? {
             return Ok(true);
         }
     }
@@ -272,43 +296,49 @@ pub fn in_decs(alloc: Global, place: Place, decs: &[Dec], scope: &mut Scope) -> 
 
 /// A declaration.
 #[cycle(exps)]
-fn in_dec(alloc: Global, place: Place, dec: &Dec, scope: &mut Scope) -> Result<bool, NoMemory>
-    ensures { IfOk result (λ found. Declared found scope.old scope.new (λ e. UnboundAt place e (dec_phrase dec.now)) (λ e. dec_names e (dec_of dec.now))) }
+fn in_dec(alloc: Global, sought: &Sought, dec: &Dec, scope: &mut Scope) -> Result<bool, NoMemory>
+    ensures { IfOk result (λ found. Declared found scope.old scope.new (λ e. FoundAt sought.now e (dec_phrase dec.now)) (λ e. dec_names e (dec_of dec.now))) }
 {
     match dec {
-        Dec::Val(_, _, binds, recs) => {
-            if in_binds(alloc, place, binds, scope)? {
+        Dec::Val(at, _, binds, recs) => {
+            if is_val_twice(alloc, sought, *at, binds, recs, scope)? {
+                return Ok(true);
+            }
+            if in_binds(alloc, sought, binds, scope)? {
                 return Ok(true);
             }
             let opened = open_val(alloc, binds, recs, scope)?;
-            if in_binds(alloc, place, recs, scope)? {
+            if in_binds(alloc, sought, recs, scope)? {
                 return Ok(true);
             }
             close_val(alloc, &opened, recs, scope)?;
             Ok(false)
         }
-        Dec::Fun(_, _, functions) => {
+        Dec::Fun(at, _, functions) => {
+            if is_fun_twice(alloc, sought, *at, functions)? {
+                return Ok(true);
+            }
             bind_functions(alloc, functions, scope)?;
-            in_functions(alloc, place, functions, scope)
+            in_functions(alloc, sought, functions, scope)
         }
-        Dec::Abbreviation(_, binds) => in_type_dec(alloc, place, binds, scope),
-        Dec::Datatype(_, binds) => in_datatype(alloc, place, binds, scope),
-        Dec::Withtype(_, binds, types) => in_withtype(alloc, place, binds, types, scope),
-        Dec::Replicate(_, name, long) => in_replicate(alloc, place, *name, long, scope),
-        Dec::Exception(_, binds) => in_exception(alloc, place, binds, scope),
+        Dec::Abbreviation(_, binds) => in_type_dec(alloc, sought, binds, scope),
+        Dec::Datatype(_, binds) => in_datatype(alloc, sought, binds, scope),
+        Dec::Withtype(_, binds, types) => in_withtype(alloc, sought, binds, types, scope),
+        Dec::Replicate(_, name, long) => in_replicate(alloc, sought, *name, long, scope),
+        Dec::Exception(_, binds) => in_exception(alloc, sought, binds, scope),
         Dec::Local(_, decs, shown) => {
             let from = scope.len();
-            if in_decs(alloc, place, decs, scope)? {
+            if in_decs(alloc, sought, decs, scope)? {
                 return Ok(true);
             }
             let to = scope.len();
-            if in_decs(alloc, place, shown, scope)? {
+            if in_decs(alloc, sought, shown, scope)? {
                 return Ok(true);
             }
             scope.leave_between(alloc, from, to)?;
             Ok(false)
         }
-        Dec::Open(_, longs) => in_open(place, longs, scope),
-        Dec::Declarations(_, decs) => in_decs(alloc, place, decs, scope),
+        Dec::Open(_, longs) => in_open(sought, longs, scope),
+        Dec::Declarations(_, decs) => in_decs(alloc, sought, decs, scope),
     }
 }

@@ -1,4 +1,4 @@
-// Identifiers that aren't bound, in expressions and declarations, and in a project.
+// Identifiers that aren't bound, or are bound twice, in expressions and declarations, and in a project.
 #![tactic(auto)]
 
 pub mod exps;

@@ -11,6 +11,7 @@ use sml_tree::tree::Dec;
 use std::alloc::Global;
 use unbound_names::basis::{basis, with_prim};
 use unbound_names::scope::Scope;
+use unbound_names::sought::{Sought, What};
 
 /// What is in scope behind the standard basis, with its prelude. None where something isn't bound in the prelude itself, at the place.
 pub fn standard_scope(
@@ -24,7 +25,11 @@ pub fn standard_scope(
     let from = scope.len();
     with_prim(&mut scope)?;
     let to = scope.len();
-    if in_decs(alloc, place, prelude, &mut scope)? {
+    let sought = Sought {
+        what: What::Unbound,
+        place,
+    };
+    if in_decs(alloc, &sought, prelude, &mut scope)? {
         return Ok(None);
     }
     scope.leave_between(alloc, from, to)?;

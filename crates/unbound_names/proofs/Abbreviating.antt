@@ -1,6 +1,5 @@
 -- A type in which no abbreviations are written out is as it was.
 use Rattle.std.proofs.Common.{◌≡◌, ℕ, List, [], ◌∷◌, None, refl, ap, ap₂, subst}
-use Rattle.mlc_base.specs.declared.place.Place.{Place}
 use Rattle.sml_tree.specs.BareTree as bare
 use Rattle.sml_tree.specs.Derived.{expand_ty, expand_ty_fields, expand_tys, unqualified, written_out}
 use Rattle.sml_tree.specs.Phrases.{ty}
@@ -8,9 +7,10 @@ use Rattle.sml_tree.specs.TreeOf.{ty_of}
 use Rattle.sml_tree.specs.declared.tree.Ty.{Ty}
 use Rattle.core_rules.specs.Values.{Env}
 use Rattle.unbound_names.specs.Nodes.{ty_phrase}
-use Rattle.unbound_names.specs.Placed.{UnboundAt}
+use Rattle.unbound_names.specs.Placed.{FoundAt}
 use Rattle.unbound_names.specs.Types.{AreNamed}
 use Rattle.unbound_names.specs.Written.{written_phrase}
+use Rattle.unbound_names.specs.declared.sought.Sought.{Sought}
 
 none-is-named : (qs : List ℕ) (x : ℕ) → unqualified [] qs x ≡ None
 none-is-named [] x = refl
@@ -35,5 +35,5 @@ mutual
 pub none-named : AreNamed [] []
 none-named x = refl
 
-pub as-written : (p : Place) (e : Env) (t : Ty) → UnboundAt p e (written_phrase [] t) → UnboundAt p e (ty_phrase t)
-as-written p e t h = subst (λ (z : bare.Ty). UnboundAt p e (ty z)) (as-it-was (ty_of t)) h
+pub as-written : (p : Sought) (e : Env) (t : Ty) → FoundAt p e (written_phrase [] t) → FoundAt p e (ty_phrase t)
+as-written p e t h = subst (λ (z : bare.Ty). FoundAt p e (ty z)) (as-it-was (ty_of t)) h

@@ -23,12 +23,12 @@ use Rattle.core_rules.specs.Values.{Env}
 use Rattle.unbound_names.specs.Patterns.{binds_vids, chain_vids, each_vids, pat_vids, rec_vids}
 use Rattle.unbound_names.proofs.PatForms.{as-is, built-con-is, built-is, chain-is, con-is, constant-is, list-is, record-is, tuple-is, typed-is, vid-is, wild-is}
 
-bind-is : (b : Bind) → bind_of b ≡ record { place = b.place; pat = pat_of b.pat; exp = exp_of b.exp }
+pub bind-is : (b : Bind) → bind_of b ≡ record { place = b.place; pat = pat_of b.pat; exp = exp_of b.exp }
 bind-is b =
     fold_out-Bind bare.Dec bare.Exp RuleOf derived.Clause ExpFieldOf derived.Function (Operand Joint bare.Exp) RuleOf
     node_dec node_exp node_bind node_clause node_exp_field node_function node_part node_rule b
 
-function-is : (g : Function) → function_of g ≡ record {
+pub function-is : (g : Function) → function_of g ≡ record {
   place = (out-Function g).place;
   vid_place = (out-Function g).vid_place;
   vid = (out-Function g).vid;

@@ -25,40 +25,42 @@ use Rattle.unbound_names.specs.Covering.{Brings, Covers, TyconFits}
 use Rattle.unbound_names.specs.Entries.{con_entries, data_entries, type_entries}
 use Rattle.unbound_names.specs.Nodes.{exn_phrase, type_phrase, ty_phrase}
 use Rattle.unbound_names.specs.Parts.{expanded, some_ty_phrases}
-use Rattle.unbound_names.specs.Placed.{AnyAt, At, Brought, Declared, UnboundAt, place_of}
+use Rattle.unbound_names.specs.Placed.{AnyAt, Asks, At, Brought, Declared, FoundAt, place_of}
 use Rattle.unbound_names.specs.Scopes.{tycon_found}
 use Rattle.unbound_names.specs.declared.bound.Bound.{Bound}
 use Rattle.unbound_names.specs.declared.bound.Bound.TheVariants.{Tycon}
+use Rattle.unbound_names.specs.declared.sought.Sought.{Sought}
+use Rattle.unbound_names.specs.declared.sought.What.TheVariants as whats
 use Rattle.unbound_names.proofs.Covering.{both-bring, datas-bring, exns-bring, nothing-brings, replica-brings, tycons-bring, types-bring}
-use Rattle.unbound_names.proofs.DecNodes.{datatypes-expanded, ex-bind-Same, in-map, tycons-expanded, type-bind-at}
-use Rattle.unbound_names.proofs.Placing.{first-in, parts-at}
+use Rattle.unbound_names.proofs.DecNodes.{datatypes-expanded, ex-bind-Same, tycons-expanded, type-bind-at}
+use Rattle.unbound_names.proofs.Placing.{first-in, in-map, parts-at}
 
 -- an identifier that isn't bound
-pub at-unbound : {A : Type 0} (p : Place) (o : Option A) (u : Unbound) → place_of u ≡ p → o ≡ None → At p (unless_bound o u)
-at-unbound p o u at none = subst (λ o. At p (unless_bound o u)) (sym none) (record { unbound = u; is = first-in u []; place = at })
+pub at-unbound : {A : Type 0} (p : Sought) (o : Option A) (u : Unbound) → Asks p whats.Unbound (place_of u) → o ≡ None → At p (unless_bound o u)
+at-unbound p o u at none = subst (λ o. At p (unless_bound o u)) (sym none) (record { unbound = u; is = first-in u []; place = at.place; what = at.what })
 
 -- one of some phrases
-any-in : (p : Place) (e : Env) (xs : List Phrase) (x : Phrase) → Contains xs x → UnboundAt p e x → AnyAt p (all_in e xs)
+any-in : (p : Sought) (e : Env) (xs : List Phrase) (x : Phrase) → Contains xs x → FoundAt p e x → AnyAt p (all_in e xs)
 any-in p e xs x has h = record { scoped = record { scope = e; phrase = x }; is = in-map (λ x. record { scope = e; phrase = x }) xs x has; at = h }
 
-pub in-types : (p : Place) (e : Env) (bs : List TypeBind) (b : TypeBind) → Contains bs b → UnboundAt p e (ty_phrase b.ty) → AnyAt p (all_in e (map type_phrase bs))
+pub in-types : (p : Sought) (e : Env) (bs : List TypeBind) (b : TypeBind) → Contains bs b → FoundAt p e (ty_phrase b.ty) → AnyAt p (all_in e (map type_phrase bs))
 in-types p e bs b has h = any-in p e (map type_phrase bs) (type_phrase b) (in-map type_phrase bs b has) (type-bind-at p e b h)
 
-pub in-exns : (p : Place) (e : Env) (bs : List ExBind) (b : ExBind) → Contains bs b → UnboundAt p e (exn_phrase b) → AnyAt p (all_in e (map exn_phrase bs))
+pub in-exns : (p : Sought) (e : Env) (bs : List ExBind) (b : ExBind) → Contains bs b → FoundAt p e (exn_phrase b) → AnyAt p (all_in e (map exn_phrase bs))
 in-exns p e bs b has h = any-in p e (map exn_phrase bs) (exn_phrase b) (in-map exn_phrase bs b has) h
 
-pub in-some : (p : Place) (e : Env) (bs : List bare.TypeBind) (o : Option Ty) (t : Ty) → o ≡ Some t → UnboundAt p e (ty (expand_ty bs (ty_of t)))
+pub in-some : (p : Sought) (e : Env) (bs : List bare.TypeBind) (o : Option Ty) (t : Ty) → o ≡ Some t → FoundAt p e (ty (expand_ty bs (ty_of t)))
     → AnyAt p (all_in e (some_ty (expand_some bs (some_ty_of o))))
 in-some p e bs o t is h =
     subst (λ o. AnyAt p (all_in e (some_ty (expand_some bs (some_ty_of o))))) (sym is)
     (any-in p e (ty (expand_ty bs (ty_of t)) ∷ []) _ (first-in (ty (expand_ty bs (ty_of t))) []) h)
 
-pub in-cons : (p : Place) (e : Env) (bs : List bare.TypeBind) (cs : List ConBind) (c : ConBind) → Contains cs c
+pub in-cons : (p : Sought) (e : Env) (bs : List bare.TypeBind) (cs : List ConBind) (c : ConBind) → Contains cs c
     → AnyAt p (all_in e (some_ty (expand_some bs (some_ty_of c.of_ty)))) → AnyAt p (all_in e (map con_bind (map (expand_con bs) (map con_bind_of cs))))
 in-cons p e bs cs c has h =
     any-in p e _ _ (in-map con_bind _ _ (in-map (expand_con bs) _ _ (in-map con_bind_of cs c has))) (parts-at p e (con_bind (expand_con bs (con_bind_of c))) h)
 
-pub in-datas : (p : Place) (e : Env) (bs : List bare.TypeBind) (ds : List DataBind) (d : DataBind) → Contains ds d
+pub in-datas : (p : Sought) (e : Env) (bs : List bare.TypeBind) (ds : List DataBind) (d : DataBind) → Contains ds d
     → AnyAt p (all_in e (map con_bind (map (expand_con bs) (map con_bind_of d.cons.items)))) → AnyAt p (all_in e (map data_bind (expanded bs ds)))
 in-datas p e bs ds d has h =
     any-in p e _ _ (in-map data_bind _ _ (in-map (expand_bind bs) _ _ (in-map data_bind_of ds d has))) (parts-at p e (data_bind (expand_bind bs (data_bind_of d))) h)
@@ -67,13 +69,13 @@ some-are : (o : Option Ty) → some_ty (some_ty_of o) ≡ some_ty_phrases o
 some-are None = refl
 some-are (Some t) = refl
 
-pub exn-New : (p : Place) (e : Env) (b : ExBind) (q : Place) (v : Vid) (o : Option Ty) → b ≡ exn.New q v o → AnyAt p (all_in e (some_ty_phrases o)) → UnboundAt p e (exn_phrase b)
+pub exn-New : (p : Sought) (e : Env) (b : ExBind) (q : Place) (v : Vid) (o : Option Ty) → b ≡ exn.New q v o → AnyAt p (all_in e (some_ty_phrases o)) → FoundAt p e (exn_phrase b)
 exn-New p e b q v o is h =
-    subst (λ z. UnboundAt p e (ex_bind z)) (sym (ap ex_bind_of is))
+    subst (λ z. FoundAt p e (ex_bind z)) (sym (ap ex_bind_of is))
     (parts-at p e (ex_bind (bare.new_exn q v (some_ty_of o))) (subst (λ l. AnyAt p (all_in e l)) (sym (some-are o)) h))
 
-pub exn-Same : (p : Place) (e : Env) (b : ExBind) (q : Place) (v : Vid) (r : Place) (y : LongVid) → b ≡ exn.Same q v r y → r ≡ p → long_value_in e (long_vid_of y) ≡ None
-    → UnboundAt p e (exn_phrase b)
+pub exn-Same : (p : Sought) (e : Env) (b : ExBind) (q : Place) (v : Vid) (r : Place) (y : LongVid) → b ≡ exn.Same q v r y → Asks p whats.Unbound r → long_value_in e (long_vid_of y) ≡ None
+    → FoundAt p e (exn_phrase b)
 exn-Same p e b q v r y is at none = ex-bind-Same p e b q v r y is (at-unbound p (long_value_in e (long_vid_of y)) (value_at r (long_vid_of y)) at none)
 
 -- the names of abbreviations

@@ -1,5 +1,5 @@
 -- Levels as many as a phrase has phrases are enough.
-use Rattle.std.proofs.Common.{◌≡◌, ◌≤◌, ◌+◌, ℕ, zero, suc, List, [], ◌∷◌, ◌++◌, map, length, inl, inr, refl, ap, ap₂, ◌∙◌, arith}
+use Rattle.std.proofs.Common.{◌≡◌, ◌≤◌, ◌+◌, ℕ, zero, suc, List, [], ◌∷◌, ◌++◌, map, length, inl, inr, refl, ap, ap₂, subst, ◌∙◌, arith}
 use Rattle.std.specs.Prelude.{flat_map}
 use Rattle.std.specs.List.{Contains}
 use Rattle.std.proofs.lemmas.List.{length-append, map-append}
@@ -11,7 +11,10 @@ use Rattle.sml_tree.specs.Phrases.{Phrase, exp, pat, ty, dec, rule, bind, type_b
 use Rattle.sml_tree.proofs.Walks.{walk_is_by_parts}
 use Rattle.core_rules.specs.Unbound.{Unbound, Scoped, all_in, dec_names, decs_in, decs_names, own_unbound, parts_in, rec_names, tycons_names, unbound_in, unbound_to, with_parts}
 use Rattle.core_rules.specs.Values.{Env, plus}
-use Rattle.unbound_names.specs.Placed.{At, AnyAt, UnboundAt}
+use Rattle.unbound_names.specs.Placed.{AnyAt, At, FoundAt, found_to, own_places, place_of, places_of}
+use Rattle.unbound_names.specs.Twice.{own_twice, twice_in, twice_to}
+use Rattle.unbound_names.specs.declared.sought.Sought.{Sought}
+use Rattle.unbound_names.specs.declared.sought.What.TheVariants as whats
 use Rattle.unbound_names.proofs.Placing.{first-in, first-or-rest, in-flat, none-in, rest-in}
 
 -- The parts in their scopes are the parts.
@@ -85,24 +88,6 @@ part-fewer e x s h =
 
 -- More levels have what fewer have.
 
-cases-more : {u : Unbound} (us as_ bs : List Unbound) → (Contains as_ u → Contains bs u) → Contains (as_ ++ us) u → Contains (bs ++ us) u
-cases-more {u} us as_ bs f h = elim (Contains-append_cases as_ us u h) [ inl l ↦ Contains-append_left bs us u (f l) | inr r ↦ Contains-append_right bs us u r ]
-
-with-more : (e : Env) (x : Phrase) {u : Unbound} (as_ bs : List Unbound) → (Contains as_ u → Contains bs u) → Contains (with_parts e x as_) u → Contains (with_parts e x bs) u
-with-more e (pat a) {u} as_ bs f h = elim (Contains-append_cases (own_unbound e (pat a)) as_ u h) [
-  | inl l ↦ Contains-append_left (own_unbound e (pat a)) bs u l
-  | inr r ↦ Contains-append_right (own_unbound e (pat a)) bs u (f r)
-]
-with-more e (exp b) as_ bs f h = cases-more (own_unbound e (exp b)) as_ bs f h
-with-more e (ty t) as_ bs f h = cases-more (own_unbound e (ty t)) as_ bs f h
-with-more e (dec d) as_ bs f h = cases-more (own_unbound e (dec d)) as_ bs f h
-with-more e (rule q a b) as_ bs f h = cases-more (own_unbound e (rule q a b)) as_ bs f h
-with-more e (bind q a b) as_ bs f h = cases-more (own_unbound e (bind q a b)) as_ bs f h
-with-more e (type_bind b) as_ bs f h = cases-more (own_unbound e (type_bind b)) as_ bs f h
-with-more e (data_bind b) as_ bs f h = cases-more (own_unbound e (data_bind b)) as_ bs f h
-with-more e (con_bind c) as_ bs f h = cases-more (own_unbound e (con_bind c)) as_ bs f h
-with-more e (ex_bind b) as_ bs f h = cases-more (own_unbound e (ex_bind b)) as_ bs f h
-
 flat-more : {A B : Type 0} (f g : A → List B) (xs : List A) {y : B} → ((x : A) → Contains xs x → Contains (f x) y → Contains (g x) y)
     → Contains (flat_map f xs) y → Contains (flat_map g xs) y
 flat-more f g [] h k = k
@@ -111,26 +96,100 @@ flat-more f g (x ∷ xs) {y} h k = elim (Contains-append_cases (f x) (flat_map f
   | inr r ↦ Contains-append_right (g x) (flat_map g xs) y (flat-more f g xs (λ z. λ c. h z (rest-in x xs c)) r)
 ]
 
-levels-more : (k n : ℕ) (e : Env) (x : Phrase) (u : Unbound) → length (phrases x) ≤ n → Contains (unbound_to k e x) u → Contains (unbound_to n e x) u
-levels-more zero n e x u le h = absurd (none-in u h)
-levels-more (suc k) zero e x u le h = let m = numbers x in absurd (omega (arith, m, le))
-levels-more (suc k) (suc n) e x u le h =
-    with-more e x _ _
-    (flat-more (λ s. unbound_to k s.scope s.phrase) (λ s. unbound_to n s.scope s.phrase) (parts_in e x)
-    (λ s. λ c. let l = part-fewer e x s c in levels-more k n s.scope s.phrase u (omega (arith, l, le)))) h
+both-more : {A : Type 0} (as_ bs cs ds : List A) {y : A} → (Contains as_ y → Contains cs y) → (Contains bs y → Contains ds y)
+    → Contains (as_ ++ bs) y → Contains (cs ++ ds) y
+both-more as_ bs cs ds {y} f g h = elim (Contains-append_cases as_ bs y h) [
+  | inl l ↦ Contains-append_left cs ds y (f l)
+  | inr r ↦ Contains-append_right cs ds y (g r)
+]
 
-pub ends : (p : Place) (e : Env) (x : Phrase) → UnboundAt p e x → At p (unbound_to (length (phrases x)) e x)
-ends p e x h = record {
-  unbound = h.at.unbound;
-  is = levels-more h.levels (length (phrases x)) e x h.at.unbound (omega arith) h.at.is;
-  place = h.at.place;
-}
+module _ (s : Sought) where
+  levels-more : (k n : ℕ) (e : Env) (x : Phrase) → length (phrases x) ≤ n → Contains (found_to s k e x) s.place → Contains (found_to s n e x) s.place
+  levels-more zero n e x le h = absurd (none-in s.place h)
+  levels-more (suc k) zero e x le h = let m = numbers x in absurd (omega (arith, m, le))
+  levels-more (suc k) (suc n) e x le h =
+      both-more (own_places s e x) _ (own_places s e x) _ (λ c. c)
+      (flat-more (λ t. found_to s k t.scope t.phrase) (λ t. found_to s n t.scope t.phrase) (parts_in e x)
+      (λ t. λ c. let l = part-fewer e x t c in levels-more k n t.scope t.phrase (omega (arith, l, le)))) h
 
-pub in-run : (p : Place) (e : Env) (ds : Decs) → AnyAt p (decs_in e ds) → At p (unbound_in e ds)
-in-run p e ds h =
-    let a = ends p h.scoped.scope h.scoped.phrase h.at in
-    record {
-      unbound = a.unbound;
-      is = in-flat (λ s. unbound_to (length (phrases s.phrase)) s.scope s.phrase) (decs_in e ds) h.scoped a.unbound h.is a.is;
-      place = a.place;
-    }
+  ends : (e : Env) (x : Phrase) → FoundAt s e x → Contains (found_to s (length (phrases x)) e x) s.place
+  ends e x h = levels-more h.levels (length (phrases x)) e x (omega arith) h.at
+
+  -- Identifiers that are bound twice, as they are defined.
+
+  twice-by : (k : ℕ) (e : Env) (x : Phrase) → s.what ≡ whats.Twice → Contains (found_to s k e x) s.place → Contains (twice_to k e x) s.place
+  twice-by zero e x w h = h
+  twice-by (suc k) e x w h =
+      both-more (own_places s e x) _ (own_twice e x) _ (subst (λ v. Contains (places_of v e x) s.place) w)
+      (flat-more (λ t. found_to s k t.scope t.phrase) (λ t. twice_to k t.scope t.phrase) (parts_in e x) (λ t. λ c. twice-by k t.scope t.phrase w)) h
+
+  pub twice-in-run : (e : Env) (ds : Decs) → s.what ≡ whats.Twice → AnyAt s (decs_in e ds) → Contains (twice_in e ds) s.place
+  twice-in-run e ds w h =
+      in-flat (λ t. twice_to (length (phrases t.phrase)) t.scope t.phrase) (decs_in e ds) h.scoped s.place h.is
+      (twice-by (length (phrases h.scoped.phrase)) h.scoped.scope h.scoped.phrase w (ends h.scoped.scope h.scoped.phrase h.at))
+
+  -- Identifiers that aren't bound, as they are defined.
+
+  at-left : (us vs : List Unbound) → At s us → At s (us ++ vs)
+  at-left us vs h = record { unbound = h.unbound; is = Contains-append_left us vs h.unbound h.is; place = h.place; what = h.what }
+
+  at-right : (us vs : List Unbound) → At s vs → At s (us ++ vs)
+  at-right us vs h = record { unbound = h.unbound; is = Contains-append_right us vs h.unbound h.is; place = h.place; what = h.what }
+
+  with-inner : (e : Env) (x : Phrase) (us : List Unbound) → At s us → At s (with_parts e x us)
+  with-inner e (pat a) us h = at-right (own_unbound e (pat a)) us h
+  with-inner e (exp b) us h = at-left us (own_unbound e (exp b)) h
+  with-inner e (ty t) us h = at-left us (own_unbound e (ty t)) h
+  with-inner e (dec d) us h = at-left us (own_unbound e (dec d)) h
+  with-inner e (rule q a b) us h = at-left us (own_unbound e (rule q a b)) h
+  with-inner e (bind q a b) us h = at-left us (own_unbound e (bind q a b)) h
+  with-inner e (type_bind b) us h = at-left us (own_unbound e (type_bind b)) h
+  with-inner e (data_bind b) us h = at-left us (own_unbound e (data_bind b)) h
+  with-inner e (con_bind b) us h = at-left us (own_unbound e (con_bind b)) h
+  with-inner e (ex_bind b) us h = at-left us (own_unbound e (ex_bind b)) h
+
+  with-own : (e : Env) (x : Phrase) (us : List Unbound) → At s (own_unbound e x) → At s (with_parts e x us)
+  with-own e (pat a) us h = at-left (own_unbound e (pat a)) us h
+  with-own e (exp b) us h = at-right us (own_unbound e (exp b)) h
+  with-own e (ty t) us h = at-right us (own_unbound e (ty t)) h
+  with-own e (dec d) us h = at-right us (own_unbound e (dec d)) h
+  with-own e (rule q a b) us h = at-right us (own_unbound e (rule q a b)) h
+  with-own e (bind q a b) us h = at-right us (own_unbound e (bind q a b)) h
+  with-own e (type_bind b) us h = at-right us (own_unbound e (type_bind b)) h
+  with-own e (data_bind b) us h = at-right us (own_unbound e (data_bind b)) h
+  with-own e (con_bind b) us h = at-right us (own_unbound e (con_bind b)) h
+  with-own e (ex_bind b) us h = at-right us (own_unbound e (ex_bind b)) h
+
+  placed : (us : List Unbound) → s.what ≡ whats.Unbound → Contains (map place_of us) s.place → At s us
+  placed [] w h = absurd (none-in s.place h)
+  placed (u ∷ us) w h = elim (first-or-rest (place_of u) (map place_of us) h) [
+    | inl e ↦ record { unbound = u; is = first-in u us; place = e; what = w }
+    | inr r ↦ at-right (u ∷ []) us (placed us w r)
+  ]
+
+  flat-at : {A : Type 0} (f : A → List Place) (g : A → List Unbound) (xs : List A) → ((x : A) → Contains (f x) s.place → At s (g x))
+      → Contains (flat_map f xs) s.place → At s (flat_map g xs)
+  flat-at f g [] k h = absurd (none-in s.place h)
+  flat-at f g (x ∷ xs) k h = elim (Contains-append_cases (f x) (flat_map f xs) s.place h) [
+    | inl l ↦ at-left (g x) (flat_map g xs) (k x l)
+    | inr r ↦ at-right (g x) (flat_map g xs) (flat-at f g xs k r)
+  ]
+
+  unbound-by : (k : ℕ) (e : Env) (x : Phrase) → s.what ≡ whats.Unbound → Contains (found_to s k e x) s.place → At s (unbound_to k e x)
+  unbound-by zero e x w h = absurd (none-in s.place h)
+  unbound-by (suc k) e x w h = elim (Contains-append_cases (own_places s e x) _ s.place h) [
+    | inl l ↦ with-own e x _ (placed (own_unbound e x) w (subst (λ v. Contains (places_of v e x) s.place) w l))
+    | inr r ↦
+        with-inner e x _
+        (flat-at (λ t. found_to s k t.scope t.phrase) (λ t. unbound_to k t.scope t.phrase) (parts_in e x) (λ t. unbound-by k t.scope t.phrase w) r)
+  ]
+
+  pub in-run : (e : Env) (ds : Decs) → s.what ≡ whats.Unbound → AnyAt s (decs_in e ds) → At s (unbound_in e ds)
+  in-run e ds w h =
+      let a = unbound-by (length (phrases h.scoped.phrase)) h.scoped.scope h.scoped.phrase w (ends h.scoped.scope h.scoped.phrase h.at) in
+      record {
+        unbound = a.unbound;
+        is = in-flat (λ t. unbound_to (length (phrases t.phrase)) t.scope t.phrase) (decs_in e ds) h.scoped a.unbound h.is a.is;
+        place = a.place;
+        what = w;
+      }

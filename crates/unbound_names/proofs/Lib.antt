@@ -10,6 +10,7 @@ pub mod ExpNodes
 pub mod Finding
 pub mod FromEnd
 pub mod Initially
+pub mod Once
 pub mod Opening
 pub mod PatForms
 pub mod PatNodes
@@ -18,6 +19,7 @@ pub mod PatVids
 pub mod Placing
 pub mod Pushing
 pub mod Qualified
+pub mod TwiceNodes
 pub mod TyNodes
 pub mod TypedOnce
 pub mod Variables

@@ -1,14 +1,16 @@
--- Identifiers that aren't bound, from the parts of a phrase to the phrase.
-use Rattle.std.proofs.Common.{◌≡◌, ◌<◌, ℕ, zero, suc, List, [], ◌∷◌, ◌++◌, map, ◌⊎◌, inl, inr, refl, sym, ap, subst, ◌∙◌, arith}
+-- What is looked for, from the parts of a phrase to the phrase.
+use Rattle.std.proofs.Common.{◌≡◌, ◌<◌, suc, List, [], ◌∷◌, ◌++◌, map, ◌⊎◌, inl, inr, sym, subst, arith}
 use Rattle.std.specs.Prelude.{flat_map}
 use Rattle.std.specs.List.{Contains}
 use Rattle.std.proofs.lemmas.List.Elements.{Contains-append_left, Contains-append_right, Contains-append_cases, Contains-push, Contains-push_cases}
-use Rattle.mlc_base.specs.declared.place.Place.{Place}
-use Rattle.sml_tree.specs.BareTree as bare
-use Rattle.sml_tree.specs.Phrases.{Phrase, exp, pat, ty, dec, rule, bind, type_bind, data_bind, con_bind, ex_bind}
-use Rattle.core_rules.specs.Unbound.{Unbound, own_unbound, with_parts, unbound_to, Scoped, all_in, parts_in}
+use Rattle.sml_tree.specs.Phrases.{Phrase}
+use Rattle.core_rules.specs.Unbound.{own_unbound, Scoped, parts_in}
 use Rattle.core_rules.specs.Values.{Env}
-use Rattle.unbound_names.specs.Placed.{At, AnyAt, UnboundAt, place_of}
+use Rattle.unbound_names.specs.Placed.{AnyAt, At, FoundAt, found_to, own_places, place_of, places_of}
+use Rattle.unbound_names.specs.Twice.{own_twice}
+use Rattle.unbound_names.specs.declared.sought.Sought.{Sought}
+use Rattle.unbound_names.specs.declared.sought.What.{What}
+use Rattle.unbound_names.specs.declared.sought.What.TheVariants as whats
 
 pub none-in : {A : Type 0} (x : A) → Contains [] x → ⊥
 none-in x h = let lt : h.0 < 0 = h.1 in omega (arith, lt)
@@ -36,53 +38,33 @@ in-flat {A} f xs x y h k = go xs h
       | inr r ↦ Contains-append_right (f z) (flat_map f zs) y (go zs r)
     ]
 
-pub at-left : (p : Place) (us vs : List Unbound) → At p us → At p (us ++ vs)
-at-left p us vs h = record { unbound = h.unbound; is = Contains-append_left us vs h.unbound h.is; place = h.place }
+pub in-map : {A B : Type 0} (f : A → B) (xs : List A) (x : A) → Contains xs x → Contains (map f xs) (f x)
+in-map f [] x h = absurd (none-in x h)
+in-map f (y ∷ ys) x h = elim (first-or-rest y ys h) [
+  | inl e ↦ subst (λ z. Contains (f y ∷ map f ys) (f z)) e (first-in (f y) (map f ys))
+  | inr r ↦ rest-in (f y) (map f ys) (in-map f ys x r)
+]
 
-pub at-right : (p : Place) (us vs : List Unbound) → At p vs → At p (us ++ vs)
-at-right p us vs h = record { unbound = h.unbound; is = Contains-append_right us vs h.unbound h.is; place = h.place }
-
-with-inner : (p : Place) (e : Env) (x : Phrase) (us : List Unbound) → At p us → At p (with_parts e x us)
-with-inner p e (pat a) us h = at-right p (own_unbound e (pat a)) us h
-with-inner p e (exp b) us h = at-left p us (own_unbound e (exp b)) h
-with-inner p e (ty t) us h = at-left p us (own_unbound e (ty t)) h
-with-inner p e (dec d) us h = at-left p us (own_unbound e (dec d)) h
-with-inner p e (rule q a b) us h = at-left p us (own_unbound e (rule q a b)) h
-with-inner p e (bind q a b) us h = at-left p us (own_unbound e (bind q a b)) h
-with-inner p e (type_bind b) us h = at-left p us (own_unbound e (type_bind b)) h
-with-inner p e (data_bind b) us h = at-left p us (own_unbound e (data_bind b)) h
-with-inner p e (con_bind b) us h = at-left p us (own_unbound e (con_bind b)) h
-with-inner p e (ex_bind b) us h = at-left p us (own_unbound e (ex_bind b)) h
-
-with-own : (p : Place) (e : Env) (x : Phrase) (us : List Unbound) → At p (own_unbound e x) → At p (with_parts e x us)
-with-own p e (pat a) us h = at-left p (own_unbound e (pat a)) us h
-with-own p e (exp b) us h = at-right p us (own_unbound e (exp b)) h
-with-own p e (ty t) us h = at-right p us (own_unbound e (ty t)) h
-with-own p e (dec d) us h = at-right p us (own_unbound e (dec d)) h
-with-own p e (rule q a b) us h = at-right p us (own_unbound e (rule q a b)) h
-with-own p e (bind q a b) us h = at-right p us (own_unbound e (bind q a b)) h
-with-own p e (type_bind b) us h = at-right p us (own_unbound e (type_bind b)) h
-with-own p e (data_bind b) us h = at-right p us (own_unbound e (data_bind b)) h
-with-own p e (con_bind b) us h = at-right p us (own_unbound e (con_bind b)) h
-with-own p e (ex_bind b) us h = at-right p us (own_unbound e (ex_bind b)) h
+own-of : (s : Sought) (e : Env) (x : Phrase) (w : What) → s.what ≡ w → Contains (places_of w e x) s.place → FoundAt s e x
+own-of s e x w n h = record { levels = 1; at = Contains-append_left (own_places s e x) _ s.place (subst (λ v. Contains (places_of v e x) s.place) (sym n) h) }
 
 -- an identifier of the phrase itself
-pub own-at : (p : Place) (e : Env) (x : Phrase) → At p (own_unbound e x) → UnboundAt p e x
-own-at p e x h = record { levels = 1; at = with-own p e x _ h }
+pub own-at : (s : Sought) (e : Env) (x : Phrase) → At s (own_unbound e x) → FoundAt s e x
+own-at s e x h =
+    own-of s e x whats.Unbound h.what (subst (Contains (map place_of (own_unbound e x))) h.place (in-map place_of (own_unbound e x) h.unbound h.is))
+
+pub own-twice-at : (s : Sought) (e : Env) (x : Phrase) → s.what ≡ whats.Twice → Contains (own_twice e x) s.place → FoundAt s e x
+own-twice-at s e x n h = own-of s e x whats.Twice n h
 
 -- one of its parts
-pub parts-at : (p : Place) (e : Env) (x : Phrase) → AnyAt p (parts_in e x) → UnboundAt p e x
-parts-at p e x h = record {
+pub parts-at : (s : Sought) (e : Env) (x : Phrase) → AnyAt s (parts_in e x) → FoundAt s e x
+parts-at s e x h = record {
   levels = suc h.at.levels;
-  at = with-inner p e x _ (record {
-    unbound = h.at.at.unbound;
-    is = in-flat (λ s. unbound_to h.at.levels s.scope s.phrase) (parts_in e x) h.scoped h.at.at.unbound h.is h.at.at.is;
-    place = h.at.at.place;
-  });
+  at = Contains-append_right (own_places s e x) _ s.place (in-flat (λ t. found_to s h.at.levels t.scope t.phrase) (parts_in e x) h.scoped s.place h.is h.at.at);
 }
 
-pub any-left : (p : Place) (ss ts : List Scoped) → AnyAt p ss → AnyAt p (ss ++ ts)
-any-left p ss ts h = record { scoped = h.scoped; is = Contains-append_left ss ts h.scoped h.is; at = h.at }
+pub any-left : (s : Sought) (ss ts : List Scoped) → AnyAt s ss → AnyAt s (ss ++ ts)
+any-left s ss ts h = record { scoped = h.scoped; is = Contains-append_left ss ts h.scoped h.is; at = h.at }
 
-pub any-right : (p : Place) (ss ts : List Scoped) → AnyAt p ts → AnyAt p (ss ++ ts)
-any-right p ss ts h = record { scoped = h.scoped; is = Contains-append_right ss ts h.scoped h.is; at = h.at }
+pub any-right : (s : Sought) (ss ts : List Scoped) → AnyAt s ts → AnyAt s (ss ++ ts)
+any-right s ss ts h = record { scoped = h.scoped; is = Contains-append_right ss ts h.scoped h.is; at = h.at }

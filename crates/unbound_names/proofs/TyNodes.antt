@@ -15,8 +15,9 @@ use Rattle.sml_tree.specs.declared.tree.TyPart.{TyPart, fold_out-TyPart}
 use Rattle.core_rules.specs.Unbound.{all_in, tycon_at, unless_bound}
 use Rattle.core_rules.specs.Values.{Env, along, tycon_in}
 use Rattle.unbound_names.specs.Nodes.{ty_phrase}
-use Rattle.unbound_names.specs.Placed.{At, AnyAt, UnboundAt}
+use Rattle.unbound_names.specs.Placed.{AnyAt, At, FoundAt}
 use Rattle.unbound_names.specs.Written.{written_phrase}
+use Rattle.unbound_names.specs.declared.sought.Sought.{Sought}
 use Rattle.unbound_names.proofs.Anywhere.{any-cases, any-first, any-none, any-rest, in-parts, standing}
 use Rattle.unbound_names.proofs.Placing.{own-at, parts-at}
 
@@ -42,16 +43,16 @@ numbered-are k (t ∷ ts) = ap (λ l. ty_phrase t ∷ l) (numbered-are (suc k) t
 
 -- the parts of an arrow
 
-arrows-first : (p : Place) (e : Env) (q : Place) (t : bare.Ty) (us : List TyAt) → UnboundAt p e (ty t) → UnboundAt p e (ty (arrows q t us))
+arrows-first : (p : Sought) (e : Env) (q : Place) (t : bare.Ty) (us : List TyAt) → FoundAt p e (ty t) → FoundAt p e (ty (arrows q t us))
 arrows-first p e q t [] h = h
 arrows-first p e q t (u ∷ us) h = parts-at p e (ty (arrows q t (u ∷ us))) (any-first p _ _ h)
 
-arrows-next : (p : Place) (e : Env) (q : Place) (t : bare.Ty) (u : TyAt) (us : List TyAt)
-    → UnboundAt p e (ty (arrows u.place u.ty us)) → UnboundAt p e (ty (arrows q t (u ∷ us)))
+arrows-next : (p : Sought) (e : Env) (q : Place) (t : bare.Ty) (u : TyAt) (us : List TyAt)
+    → FoundAt p e (ty (arrows u.place u.ty us)) → FoundAt p e (ty (arrows q t (u ∷ us)))
 arrows-next p e q t u us h = parts-at p e (ty (arrows q t (u ∷ us))) (any-rest p _ _ (any-first p _ [] h))
 
-arrows-part : (p : Place) (e : Env) (q : Place) (t : bare.Ty) (us : List TyPart)
-    → AnyAt p (all_in e (map (λ o. ty_phrase o.ty) us)) → UnboundAt p e (ty (arrows q t (map ty_part_of us)))
+arrows-part : (p : Sought) (e : Env) (q : Place) (t : bare.Ty) (us : List TyPart)
+    → AnyAt p (all_in e (map (λ o. ty_phrase o.ty) us)) → FoundAt p e (ty (arrows q t (map ty_part_of us)))
 arrows-part p e q t [] h = any-none p h
 arrows-part p e q t (u ∷ us) h =
     let b = ty_part_of u in
@@ -76,30 +77,30 @@ arrow-is : (x : Ty) (q : Place) (t : Box Ty Global) (us : Vec TyPart Global) →
     → ty_of x ≡ arrows q (ty_of t.value) (map ty_part_of us.items)
 arrow-is x q t us s = ap ty_of (s ∙ sym (tys.rolls-Arrow q t us)) ∙ fold-roll-Ty bare.Ty TyFieldOf TyAt node_ty node_ty_field node_ty_part (Ty-F.Arrow q t us)
 
-pub ty-Record : (p : Place) (e : Env) (x : Ty) (q : Place) (fs : Vec TyField Global) → x ≡ tys.Record q fs
-    → AnyAt p (all_in e (map (λ f. ty_phrase f.ty) fs.items)) → UnboundAt p e (ty_phrase x)
+pub ty-Record : (p : Sought) (e : Env) (x : Ty) (q : Place) (fs : Vec TyField Global) → x ≡ tys.Record q fs
+    → AnyAt p (all_in e (map (λ f. ty_phrase f.ty) fs.items)) → FoundAt p e (ty_phrase x)
 ty-Record p e x q fs s h = in-parts p e _ _ _ _ (ap ty (record-is x q fs s)) refl (fields-are fs.items) h
 
-pub ty-Con : (p : Place) (e : Env) (x : Ty) (q : Place) (ts : Vec Ty Global) (r : Place) (c : LongId) → x ≡ tys.Con q ts r c
-    → AnyAt p (all_in e (map ty_phrase ts.items)) → UnboundAt p e (ty_phrase x)
+pub ty-Con : (p : Sought) (e : Env) (x : Ty) (q : Place) (ts : Vec Ty Global) (r : Place) (c : LongId) → x ≡ tys.Con q ts r c
+    → AnyAt p (all_in e (map ty_phrase ts.items)) → FoundAt p e (ty_phrase x)
 ty-Con p e x q ts r c s h = in-parts p e _ _ _ _ (ap ty (con-is x q ts r c s)) refl (list-is ts.items) h
 
 -- the type constructor itself
-pub ty-Con-own : (p : Place) (e : Env) (x : Ty) (q : Place) (ts : Vec Ty Global) (r : Place) (c : LongId) → x ≡ tys.Con q ts r c
-    → At p (unless_bound (option_and_then (λ d. tycon_in d c.id) (along e c.qualifiers.items)) (tycon_at r (long_id_of c))) → UnboundAt p e (ty_phrase x)
+pub ty-Con-own : (p : Sought) (e : Env) (x : Ty) (q : Place) (ts : Vec Ty Global) (r : Place) (c : LongId) → x ≡ tys.Con q ts r c
+    → At p (unless_bound (option_and_then (λ d. tycon_in d c.id) (along e c.qualifiers.items)) (tycon_at r (long_id_of c))) → FoundAt p e (ty_phrase x)
 ty-Con-own p e x q ts r c s h = standing p e _ _ (ap ty (con-is x q ts r c s)) (own-at p e _ h)
 
-pub ty-Product : (p : Place) (e : Env) (x : Ty) (q : Place) (ts : Vec Ty Global) → x ≡ tys.Product q ts
-    → AnyAt p (all_in e (map ty_phrase ts.items)) → UnboundAt p e (ty_phrase x)
+pub ty-Product : (p : Sought) (e : Env) (x : Ty) (q : Place) (ts : Vec Ty Global) → x ≡ tys.Product q ts
+    → AnyAt p (all_in e (map ty_phrase ts.items)) → FoundAt p e (ty_phrase x)
 ty-Product p e x q ts s h = in-parts p e _ _ _ _ (ap ty (product-is x q ts s)) refl (numbered-are 1 ts.items) h
 
-pub ty-Arrow-first : (p : Place) (e : Env) (x : Ty) (q : Place) (t : Box Ty Global) (us : Vec TyPart Global) → x ≡ tys.Arrow q t us
-    → UnboundAt p e (ty_phrase t.value) → UnboundAt p e (ty_phrase x)
+pub ty-Arrow-first : (p : Sought) (e : Env) (x : Ty) (q : Place) (t : Box Ty Global) (us : Vec TyPart Global) → x ≡ tys.Arrow q t us
+    → FoundAt p e (ty_phrase t.value) → FoundAt p e (ty_phrase x)
 ty-Arrow-first p e x q t us s h =
     standing p e _ _ (ap ty (arrow-is x q t us s)) (arrows-first p e q (ty_of t.value) (map ty_part_of us.items) h)
 
-pub ty-Arrow-parts : (p : Place) (e : Env) (x : Ty) (q : Place) (t : Box Ty Global) (us : Vec TyPart Global) → x ≡ tys.Arrow q t us
-    → AnyAt p (all_in e (map (λ o. ty_phrase o.ty) us.items)) → UnboundAt p e (ty_phrase x)
+pub ty-Arrow-parts : (p : Sought) (e : Env) (x : Ty) (q : Place) (t : Box Ty Global) (us : Vec TyPart Global) → x ≡ tys.Arrow q t us
+    → AnyAt p (all_in e (map (λ o. ty_phrase o.ty) us.items)) → FoundAt p e (ty_phrase x)
 ty-Arrow-parts p e x q t us s h = standing p e _ _ (ap ty (arrow-is x q t us s)) (arrows-part p e q (ty_of t.value) us.items h)
 
 -- with abbreviations written out
@@ -117,17 +118,17 @@ module _ (bs : List bare.TypeBind) where
   written-numbered-are k [] = refl
   written-numbered-are k (t ∷ ts) = ap (λ l. written_phrase bs t ∷ l) (written-numbered-are (suc k) ts)
 
-  written-first : (p : Place) (e : Env) (q : Place) (t : bare.Ty) (us : List TyAt)
-      → UnboundAt p e (ty (expand_ty bs t)) → UnboundAt p e (ty (expand_ty bs (arrows q t us)))
+  written-first : (p : Sought) (e : Env) (q : Place) (t : bare.Ty) (us : List TyAt)
+      → FoundAt p e (ty (expand_ty bs t)) → FoundAt p e (ty (expand_ty bs (arrows q t us)))
   written-first p e q t [] h = h
   written-first p e q t (u ∷ us) h = parts-at p e (ty (expand_ty bs (arrows q t (u ∷ us)))) (any-first p _ _ h)
 
-  written-next : (p : Place) (e : Env) (q : Place) (t : bare.Ty) (u : TyAt) (us : List TyAt)
-      → UnboundAt p e (ty (expand_ty bs (arrows u.place u.ty us))) → UnboundAt p e (ty (expand_ty bs (arrows q t (u ∷ us))))
+  written-next : (p : Sought) (e : Env) (q : Place) (t : bare.Ty) (u : TyAt) (us : List TyAt)
+      → FoundAt p e (ty (expand_ty bs (arrows u.place u.ty us))) → FoundAt p e (ty (expand_ty bs (arrows q t (u ∷ us))))
   written-next p e q t u us h = parts-at p e (ty (expand_ty bs (arrows q t (u ∷ us)))) (any-rest p _ _ (any-first p _ [] h))
 
-  written-part : (p : Place) (e : Env) (q : Place) (t : bare.Ty) (us : List TyPart)
-      → AnyAt p (all_in e (map (λ o. written_phrase bs o.ty) us)) → UnboundAt p e (ty (expand_ty bs (arrows q t (map ty_part_of us))))
+  written-part : (p : Sought) (e : Env) (q : Place) (t : bare.Ty) (us : List TyPart)
+      → AnyAt p (all_in e (map (λ o. written_phrase bs o.ty) us)) → FoundAt p e (ty (expand_ty bs (arrows q t (map ty_part_of us))))
   written-part p e q t [] h = any-none p h
   written-part p e q t (u ∷ us) h =
       let b = ty_part_of u in
@@ -136,8 +137,8 @@ module _ (bs : List bare.TypeBind) where
         | inr r ↦ written-part p e b.place b.ty us r
       ])
 
-  pub written-Record : (p : Place) (e : Env) (x : Ty) (q : Place) (fs : Vec TyField Global) → x ≡ tys.Record q fs
-      → AnyAt p (all_in e (map (λ f. written_phrase bs f.ty) fs.items)) → UnboundAt p e (written_phrase bs x)
+  pub written-Record : (p : Sought) (e : Env) (x : Ty) (q : Place) (fs : Vec TyField Global) → x ≡ tys.Record q fs
+      → AnyAt p (all_in e (map (λ f. written_phrase bs f.ty) fs.items)) → FoundAt p e (written_phrase bs x)
   written-Record p e x q fs s h = in-parts p e _ _ _ _ (ap (λ z. ty (expand_ty bs z)) (record-is x q fs s)) refl (written-fields-are fs.items) h
 
   con-written : (x : Ty) (q : Place) (ts : Vec Ty Global) (r : Place) (c : LongId) → x ≡ tys.Con q ts r c → abbreviation bs (long_id_of c) ≡ None
@@ -146,26 +147,26 @@ module _ (bs : List bare.TypeBind) where
       ap (λ z. ty (expand_ty bs z)) (con-is x q ts r c s) ∙ ap (λ o. ty (written_out q (expand_tys bs (tys_of (map ty_of ts.items))) r (long_id_of c) o)) n
 
   -- one that is no abbreviation
-  pub written-Con : (p : Place) (e : Env) (x : Ty) (q : Place) (ts : Vec Ty Global) (r : Place) (c : LongId) → x ≡ tys.Con q ts r c
-      → abbreviation bs (long_id_of c) ≡ None → AnyAt p (all_in e (map (written_phrase bs) ts.items)) → UnboundAt p e (written_phrase bs x)
+  pub written-Con : (p : Sought) (e : Env) (x : Ty) (q : Place) (ts : Vec Ty Global) (r : Place) (c : LongId) → x ≡ tys.Con q ts r c
+      → abbreviation bs (long_id_of c) ≡ None → AnyAt p (all_in e (map (written_phrase bs) ts.items)) → FoundAt p e (written_phrase bs x)
   written-Con p e x q ts r c s n h = in-parts p e _ _ _ _ (con-written x q ts r c s n) refl (written-list-is ts.items) h
 
-  pub written-Con-own : (p : Place) (e : Env) (x : Ty) (q : Place) (ts : Vec Ty Global) (r : Place) (c : LongId) → x ≡ tys.Con q ts r c
+  pub written-Con-own : (p : Sought) (e : Env) (x : Ty) (q : Place) (ts : Vec Ty Global) (r : Place) (c : LongId) → x ≡ tys.Con q ts r c
       → abbreviation bs (long_id_of c) ≡ None
       → At p (unless_bound (option_and_then (λ d. tycon_in d c.id) (along e c.qualifiers.items)) (tycon_at r (long_id_of c)))
-      → UnboundAt p e (written_phrase bs x)
+      → FoundAt p e (written_phrase bs x)
   written-Con-own p e x q ts r c s n h = standing p e _ _ (con-written x q ts r c s n) (own-at p e _ h)
 
-  pub written-Product : (p : Place) (e : Env) (x : Ty) (q : Place) (ts : Vec Ty Global) → x ≡ tys.Product q ts
-      → AnyAt p (all_in e (map (written_phrase bs) ts.items)) → UnboundAt p e (written_phrase bs x)
+  pub written-Product : (p : Sought) (e : Env) (x : Ty) (q : Place) (ts : Vec Ty Global) → x ≡ tys.Product q ts
+      → AnyAt p (all_in e (map (written_phrase bs) ts.items)) → FoundAt p e (written_phrase bs x)
   written-Product p e x q ts s h = in-parts p e _ _ _ _ (ap (λ z. ty (expand_ty bs z)) (product-is x q ts s)) refl (written-numbered-are 1 ts.items) h
 
-  pub written-Arrow-first : (p : Place) (e : Env) (x : Ty) (q : Place) (t : Box Ty Global) (us : Vec TyPart Global) → x ≡ tys.Arrow q t us
-      → UnboundAt p e (written_phrase bs t.value) → UnboundAt p e (written_phrase bs x)
+  pub written-Arrow-first : (p : Sought) (e : Env) (x : Ty) (q : Place) (t : Box Ty Global) (us : Vec TyPart Global) → x ≡ tys.Arrow q t us
+      → FoundAt p e (written_phrase bs t.value) → FoundAt p e (written_phrase bs x)
   written-Arrow-first p e x q t us s h =
       standing p e _ _ (ap (λ z. ty (expand_ty bs z)) (arrow-is x q t us s)) (written-first p e q (ty_of t.value) (map ty_part_of us.items) h)
 
-  pub written-Arrow-parts : (p : Place) (e : Env) (x : Ty) (q : Place) (t : Box Ty Global) (us : Vec TyPart Global) → x ≡ tys.Arrow q t us
-      → AnyAt p (all_in e (map (λ o. written_phrase bs o.ty) us.items)) → UnboundAt p e (written_phrase bs x)
+  pub written-Arrow-parts : (p : Sought) (e : Env) (x : Ty) (q : Place) (t : Box Ty Global) (us : Vec TyPart Global) → x ≡ tys.Arrow q t us
+      → AnyAt p (all_in e (map (λ o. written_phrase bs o.ty) us.items)) → FoundAt p e (written_phrase bs x)
   written-Arrow-parts p e x q t us s h =
       standing p e _ _ (ap (λ z. ty (expand_ty bs z)) (arrow-is x q t us s)) (written-part p e q (ty_of t.value) us.items h)

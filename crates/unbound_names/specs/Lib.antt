@@ -1,4 +1,5 @@
 pub mod Basis
+pub mod Bindings
 pub mod Covering
 pub mod Entries
 pub mod Held

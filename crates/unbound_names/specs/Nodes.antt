@@ -1,5 +1,5 @@
 -- The phrases of the bare tree that nodes of the code's tree stand for.
-use Rattle.std.specs.Prelude.{◌≡◌, ℕ, suc, List, [], ◌∷◌, ◌++◌, map, Option, Some, None}
+use Rattle.std.specs.Prelude.{ℕ, suc, List, [], ◌∷◌, map}
 use Rattle.mlc_base.specs.declared.place.Place.{Place}
 use Rattle.sml_tree.specs.BareTree as bare
 use Rattle.sml_tree.specs.Derived.{fresh_pat, fun_of, one_or_tuple_pat, short}
@@ -16,7 +16,7 @@ use Rattle.sml_tree.specs.declared.tree.Pat.{Pat}
 use Rattle.sml_tree.specs.declared.tree.Rule.{Rule}
 use Rattle.sml_tree.specs.declared.tree.Ty.{Ty}
 use Rattle.sml_tree.specs.declared.tree.TypeBind.{TypeBind}
-use Rattle.core_rules.specs.Unbound.{Scoped, all_in, pat_names}
+use Rattle.core_rules.specs.Unbound.{pat_names}
 use Rattle.core_rules.specs.Values.{Env, plus}
 
 abbrev pub ty_phrase : Ty → Phrase

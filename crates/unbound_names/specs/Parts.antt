@@ -1,7 +1,6 @@
 -- The parts of nodes of the code's tree, with what is in scope there, and what declarations bring.
 use Rattle.std.specs.Prelude.{◌≡◌, List, [], ◌∷◌, ◌++◌, ◌⊎◌, map, flat_map, Option, Some, None, option_and_then, option_map, unwrap_or}
 use Rattle.std.specs.List.{Contains}
-use Rattle.mlc_base.specs.declared.place.Place.{Place}
 use Rattle.sml_tree.specs.BareTree as bare
 use Rattle.sml_tree.specs.Derived.{expand_bind, function_binds, short}
 use Rattle.sml_tree.specs.Phrases.{Phrase, data_bind, ty}
@@ -21,7 +20,8 @@ use Rattle.core_rules.specs.Eval.{datatypes_env, long_structure_in, long_tycon_i
 use Rattle.core_rules.specs.Unbound.{Unbound, value_at, tycon_at, structure_at, unless_bound, Scoped, all_in, decs_in, decs_names, rec_names, tycons_names}
 use Rattle.core_rules.specs.Values.{Env, long_value_in, nothing, plus, tycon}
 use Rattle.unbound_names.specs.Nodes.{bind_phrase, exp_phrase, function_phrase, pat_phrase, type_phrase}
-use Rattle.unbound_names.specs.Placed.{At, AnyAt, UnboundAt}
+use Rattle.unbound_names.specs.Placed.{At, FoundAt}
+use Rattle.unbound_names.specs.declared.sought.Sought.{Sought}
 
 abbrev pub some_ty_phrases : Option Ty → List Phrase
 some_ty_phrases None = []
@@ -34,15 +34,15 @@ joint_unbound e AndAlso = []
 joint_unbound e OrElse = []
 
 -- in one of the parts of a chain: what joins it, or its operand
-pub record InParts (p : Place) (e : Env) (os : List Part) : Type 0 where
+pub record InParts (s : Sought) (e : Env) (os : List Part) : Type 0 where
   pub part : Part
   pub is : Contains os part
-  pub at : At p (joint_unbound e part.joint) ⊎ UnboundAt p e (exp_phrase part.exp)
+  pub at : At s (joint_unbound e part.joint) ⊎ FoundAt s e (exp_phrase part.exp)
 
-pub record InPatParts (p : Place) (e : Env) (os : List PatPart) : Type 0 where
+pub record InPatParts (s : Sought) (e : Env) (os : List PatPart) : Type 0 where
   pub part : PatPart
   pub is : Contains os part
-  pub at : At p (unless_bound (long_value_in e (short part.vid)) (value_at part.vid_place (short part.vid))) ⊎ UnboundAt p e (pat_phrase part.pat)
+  pub at : At s (unless_bound (long_value_in e (short part.vid)) (value_at part.vid_place (short part.vid))) ⊎ FoundAt s e (pat_phrase part.pat)
 
 abbrev pub run_of : List Dec → bare.Decs
 run_of ds = decs_of (map dec_of ds)

@@ -2,10 +2,7 @@
 use Rattle.std.specs.Prelude.{◌≡◌, ℕ, List, is_some, nat_eq}
 use Rattle.std.specs.Map.{lookup}
 use Rattle.sml_tree.specs.BareTree.{TypeBind}
-use Rattle.sml_tree.specs.Derived.{binding_of, expand_ty}
-use Rattle.sml_tree.specs.Phrases.{Phrase, ty}
-use Rattle.sml_tree.specs.TreeOf.{ty_of}
-use Rattle.sml_tree.specs.declared.tree.Ty.{Ty}
+use Rattle.sml_tree.specs.Derived.{binding_of}
 
 -- the names of these abbreviations, each with any number
 abbrev pub AreNamed : List TypeBind → List (ℕ × ℕ) → Type 0

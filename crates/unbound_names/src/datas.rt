@@ -11,7 +11,7 @@ ghost use Rattle.unbound_names.specs.Covering.{Covers};
 ghost use Rattle.unbound_names.specs.Entries.{con_entries, data_entries};
 ghost use Rattle.unbound_names.specs.Nodes.{exn_phrase, type_phrase};
 ghost use Rattle.unbound_names.specs.Parts.{datatype_scopes, expanded, replica_names, replica_unbound, structures_unbound, withtype_scopes};
-ghost use Rattle.unbound_names.specs.Placed.{AnyAt, At, Brought, Declared, UnboundAt};
+ghost use Rattle.unbound_names.specs.Placed.{AnyAt, At, Brought, Declared, FoundAt};
 ghost use Rattle.unbound_names.specs.Types.{AreNamed};
 ghost use Rattle.sml_tree.specs.BareTree.{TypeBind as BareTypeBind};
 
@@ -20,9 +20,9 @@ use crate::bound::Bound;
 use crate::look_ups::{find_structure, is_at, is_unbound_tycon, is_unbound_value};
 use crate::pats::in_some_ty;
 use crate::scope::Scope;
+use crate::sought::Sought;
 use crate::tys::{in_ty, in_written};
 use mlc_base::memory::NoMemory;
-use mlc_base::place::Place;
 use mlc_names::names::Name;
 use scoped_map::scoped::Scoped;
 use sml_tree::ident::Vid;
@@ -30,12 +30,12 @@ use sml_tree::tree::{ConBind, DataBind, ExBind, LongIdAt, Ty, TypeBind};
 use std::alloc::Global;
 
 /// Type constructors that aren't bound, in bindings of types.
-fn in_types(alloc: Global, place: Place, binds: &[TypeBind], scope: &Scope) -> bool
-    ensures { IsTrue result → (e : Env) → Covers scope.now e → AnyAt place (all_in e (map type_phrase binds.now)) }
+fn in_types(alloc: Global, sought: &Sought, binds: &[TypeBind], scope: &Scope) -> bool
+    ensures { IsTrue result → (e : Env) → Covers scope.now e → AnyAt sought.now (all_in e (map type_phrase binds.now)) }
 {
     for i in 0..binds.len() {
         let bind = &binds[i];
-        if in_ty(alloc, place, &bind.ty, scope) {
+        if in_ty(alloc, sought, &bind.ty, scope) {
             return true;
         }
     }
@@ -57,50 +57,50 @@ fn bind_types(binds: &[TypeBind], scope: &mut Scope) -> Result<(), NoMemory>
 /// `type`: looked through, and brought into scope.
 pub fn in_type_dec(
     alloc: Global,
-    place: Place,
+    sought: &Sought,
     binds: &[TypeBind],
     scope: &mut Scope,
 ) -> Result<bool, NoMemory>
-    ensures { IfOk result (λ found. Declared found scope.old scope.new (λ e. AnyAt place (all_in e (map type_phrase binds.now)))
+    ensures { IfOk result (λ found. Declared found scope.old scope.new (λ e. AnyAt sought.now (all_in e (map type_phrase binds.now)))
         (λ e. types_env (map type_bind_of binds.now))) }
 {
-    if in_types(alloc, place, binds, scope) {
+    if in_types(alloc, sought, binds, scope) {
         return Ok(true);
     }
     bind_types(binds, scope)?;
     Ok(false)
 }
 
-fn in_some_written(place: Place, ty: &Option<Ty>, within: &Scoped<usize>, scope: &Scope) -> bool
+fn in_some_written(sought: &Sought, ty: &Option<Ty>, within: &Scoped<usize>, scope: &Scope) -> bool
     ensures { IsTrue result → (bs : List BareTypeBind) (e : Env) → AreNamed bs within.now → Covers scope.now e
-        → AnyAt place (all_in e (some_ty (expand_some bs (some_ty_of ty.now)))) }
+        → AnyAt sought.now (all_in e (some_ty (expand_some bs (some_ty_of ty.now)))) }
 {
     match ty {
-        Some(ty) => in_written(place, ty, within, scope),
+        Some(ty) => in_written(sought, ty, within, scope),
         None => false,
     }
 }
 
-fn in_cons(place: Place, cons: &[ConBind], within: &Scoped<usize>, scope: &Scope) -> bool
+fn in_cons(sought: &Sought, cons: &[ConBind], within: &Scoped<usize>, scope: &Scope) -> bool
     ensures { IsTrue result → (bs : List BareTypeBind) (e : Env) → AreNamed bs within.now → Covers scope.now e
-        → AnyAt place (all_in e (map con_bind (map (expand_con bs) (map con_bind_of cons.now)))) }
+        → AnyAt sought.now (all_in e (map con_bind (map (expand_con bs) (map con_bind_of cons.now)))) }
 {
     for i in 0..cons.len() {
         let con = &cons[i];
-        if in_some_written(place, &con.of_ty, within, scope) {
+        if in_some_written(sought, &con.of_ty, within, scope) {
             return true;
         }
     }
     false
 }
 
-fn in_datas(place: Place, datas: &[DataBind], within: &Scoped<usize>, scope: &Scope) -> bool
+fn in_datas(sought: &Sought, datas: &[DataBind], within: &Scoped<usize>, scope: &Scope) -> bool
     ensures { IsTrue result → (bs : List BareTypeBind) (e : Env) → AreNamed bs within.now → Covers scope.now e
-        → AnyAt place (all_in e (map data_bind (expanded bs datas.now))) }
+        → AnyAt sought.now (all_in e (map data_bind (expanded bs datas.now))) }
 {
     for i in 0..datas.len() {
         let datatype = &datas[i];
-        if in_cons(place, &datatype.cons, within, scope) {
+        if in_cons(sought, &datatype.cons, within, scope) {
             return true;
         }
     }
@@ -154,18 +154,18 @@ fn bind_datas(datas: &[DataBind], scope: &mut Scope) -> Result<(), NoMemory>
 
 /// Datatypes with abbreviations of these names: looked through, and brought into scope.
 fn in_declared(
-    place: Place,
+    sought: &Sought,
     datas: &[DataBind],
     within: &Scoped<usize>,
     scope: &mut Scope,
 ) -> Result<bool, NoMemory>
     ensures { IfOk result (λ found. (bs : List BareTypeBind) → AreNamed bs within.now → Declared found scope.old scope.new
-        (λ e. AnyAt place (datatype_scopes bs e datas.now))
+        (λ e. AnyAt sought.now (datatype_scopes bs e datas.now))
         (λ e. datatypes_env (expanded bs datas.now))) }
 {
     let before = scope.len();
     bind_names(datas, scope)?;
-    if in_datas(place, datas, within, scope) {
+    if in_datas(sought, datas, within, scope) {
         return Ok(true);
     }
     scope.leave(before);
@@ -176,16 +176,16 @@ fn in_declared(
 /// `datatype`.
 pub fn in_datatype(
     alloc: Global,
-    place: Place,
+    sought: &Sought,
     datas: &[DataBind],
     scope: &mut Scope,
 ) -> Result<bool, NoMemory>
     ensures { IfOk result (λ found. Declared found scope.old scope.new
-        (λ e. AnyAt place (datatype_scopes [] e datas.now))
+        (λ e. AnyAt sought.now (datatype_scopes [] e datas.now))
         (λ e. datatypes_env (expanded [] datas.now))) }
 {
     let none = Scoped::new(alloc);
-    in_declared(place, datas, &none, scope)
+    in_declared(sought, datas, &none, scope)
 }
 
 /// The names of abbreviations.
@@ -205,35 +205,35 @@ fn names_of(alloc: Global, types: &[TypeBind]) -> Result<Scoped<usize>, NoMemory
 /// `datatype .. withtype ..`.
 pub fn in_withtype(
     alloc: Global,
-    place: Place,
+    sought: &Sought,
     datas: &[DataBind],
     types: &[TypeBind],
     scope: &mut Scope,
 ) -> Result<bool, NoMemory>
-    ensures { IfOk result (λ found. Declared found scope.old scope.new (λ e. AnyAt place (withtype_scopes e datas.now types.now))
+    ensures { IfOk result (λ found. Declared found scope.old scope.new (λ e. AnyAt sought.now (withtype_scopes e datas.now types.now))
         (λ e. plus (datatypes_env (expanded (map type_bind_of types.now) datas.now)) (types_env (map type_bind_of types.now)))) }
 {
     let names = names_of(alloc, types)?;
-    if in_declared(place, datas, &names, scope)? {
+    if in_declared(sought, datas, &names, scope)? {
         return Ok(true);
     }
-    in_type_dec(alloc, place, types, scope)
+    in_type_dec(alloc, sought, types, scope)
 }
 
-fn in_exn(alloc: Global, place: Place, bind: &ExBind, scope: &Scope) -> bool
-    ensures { IsTrue result → (e : Env) → Covers scope.now e → UnboundAt place e (exn_phrase bind.now) }
+fn in_exn(alloc: Global, sought: &Sought, bind: &ExBind, scope: &Scope) -> bool
+    ensures { IsTrue result → (e : Env) → Covers scope.now e → FoundAt sought.now e (exn_phrase bind.now) }
 {
     match bind {
-        ExBind::New(_, _, ty) => in_some_ty(alloc, place, ty, scope),
-        ExBind::Same(_, _, at, long) => is_at(*at, place) && is_unbound_value(long, scope),
+        ExBind::New(_, _, ty) => in_some_ty(alloc, sought, ty, scope),
+        ExBind::Same(_, _, at, long) => is_at(*at, sought) && is_unbound_value(long, scope),
     }
 }
 
-fn in_exns(alloc: Global, place: Place, binds: &[ExBind], scope: &Scope) -> bool
-    ensures { IsTrue result → (e : Env) → Covers scope.now e → AnyAt place (all_in e (map exn_phrase binds.now)) }
+fn in_exns(alloc: Global, sought: &Sought, binds: &[ExBind], scope: &Scope) -> bool
+    ensures { IsTrue result → (e : Env) → Covers scope.now e → AnyAt sought.now (all_in e (map exn_phrase binds.now)) }
 {
     for i in 0..binds.len() {
-        if in_exn(alloc, place, &binds[i], scope) {
+        if in_exn(alloc, sought, &binds[i], scope) {
             return true;
         }
     }
@@ -263,14 +263,14 @@ fn bind_exns(binds: &[ExBind], scope: &mut Scope) -> Result<(), NoMemory>
 /// `exception`.
 pub fn in_exception(
     alloc: Global,
-    place: Place,
+    sought: &Sought,
     binds: &[ExBind],
     scope: &mut Scope,
 ) -> Result<bool, NoMemory>
-    ensures { IfOk result (λ found. Declared found scope.old scope.new (λ e. AnyAt place (all_in e (map exn_phrase binds.now)))
+    ensures { IfOk result (λ found. Declared found scope.old scope.new (λ e. AnyAt sought.now (all_in e (map exn_phrase binds.now)))
         (λ e. exns_names (map ex_bind_of binds.now))) }
 {
-    if in_exns(alloc, place, binds, scope) {
+    if in_exns(alloc, sought, binds, scope) {
         return Ok(true);
     }
     bind_exns(binds, scope)?;
@@ -301,28 +301,28 @@ fn bind_replica(
 /// `datatype .. = datatype ..`.
 pub fn in_replicate(
     alloc: Global,
-    place: Place,
+    sought: &Sought,
     name: Name,
     long: &LongIdAt,
     scope: &mut Scope,
 ) -> Result<bool, NoMemory>
-    ensures { IfOk result (λ found. Declared found scope.old scope.new (λ e. At place (replica_unbound e (long_id_at_of long.now)))
+    ensures { IfOk result (λ found. Declared found scope.old scope.new (λ e. At sought.now (replica_unbound e (long_id_at_of long.now)))
         (λ e. replica_names e name (long_id_at_of long.now))) }
 {
-    if is_at(long.place, place) && is_unbound_tycon(&long.long, scope) {
+    if is_at(long.place, sought) && is_unbound_tycon(&long.long, scope) {
         return Ok(true);
     }
     bind_replica(alloc, name, long, scope)?;
     Ok(false)
 }
 
-/// Whether a structure at the place isn't bound.
-fn in_structures(place: Place, longs: &[LongIdAt], scope: &Scope) -> bool
-    ensures { IsTrue result → (e : Env) → Covers scope.now e → At place (structures_unbound e (map long_id_at_of longs.now)) }
+/// Whether a structure that isn't bound is looked for and found.
+fn in_structures(sought: &Sought, longs: &[LongIdAt], scope: &Scope) -> bool
+    ensures { IsTrue result → (e : Env) → Covers scope.now e → At sought.now (structures_unbound e (map long_id_at_of longs.now)) }
 {
     for i in 0..longs.len() {
         let long = &longs[i];
-        if is_at(long.place, place) && find_structure(&long.long, scope).is_none() {
+        if is_at(long.place, sought) && find_structure(&long.long, scope).is_none() {
             return true;
         }
     }
@@ -364,11 +364,11 @@ fn bind_opened(longs: &[LongIdAt], scope: &mut Scope) -> Result<(), NoMemory>
 }
 
 /// `open`.
-pub fn in_open(place: Place, longs: &[LongIdAt], scope: &mut Scope) -> Result<bool, NoMemory>
-    ensures { IfOk result (λ found. Declared found scope.old scope.new (λ e. At place (structures_unbound e (map long_id_at_of longs.now)))
+pub fn in_open(sought: &Sought, longs: &[LongIdAt], scope: &mut Scope) -> Result<bool, NoMemory>
+    ensures { IfOk result (λ found. Declared found scope.old scope.new (λ e. At sought.now (structures_unbound e (map long_id_at_of longs.now)))
         (λ e. unwrap_or (opened e (map long_id_at_of longs.now)) nothing)) }
 {
-    if in_structures(place, longs, scope) {
+    if in_structures(sought, longs, scope) {
         return Ok(true);
     }
     bind_opened(longs, scope)?;

@@ -1,4 +1,4 @@
-// Identifiers that aren't bound where they stand.
+// Identifiers that aren't bound where they stand, or that are bound twice.
 #![tactic(auto)]
 
 pub mod basis;
@@ -9,5 +9,7 @@ pub mod look_ups;
 pub mod pats;
 pub mod rows;
 pub mod scope;
+pub mod sought;
+pub mod twice;
 pub mod tys;
 pub mod vids;

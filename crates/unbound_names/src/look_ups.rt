@@ -6,23 +6,29 @@ ghost use Rattle.sml_tree.specs.TreeOf.{long_id_of, long_vid_of};
 ghost use Rattle.std.specs.Prelude.{IsTrue, List, None, is_some, option_and_then, option_map, true, ◌≡◌};
 ghost use Rattle.unbound_names.specs.Covering.{Covers, StructureFits};
 ghost use Rattle.unbound_names.specs.Entries.{member_entries};
+ghost use Rattle.unbound_names.specs.Placed.{Asks};
 ghost use Rattle.unbound_names.specs.Scopes.{value_found};
 ghost use Rattle.unbound_names.specs.Types.{AreNamed};
+ghost use Rattle.unbound_names.specs.declared.sought.What.TheVariants.{Unbound};
 ghost use Rattle.unbound_names.specs.Covering.{is_written as is_source};
 ghost use Rattle.sml_tree.specs.BareTree.{TypeBind as BareTypeBind};
 
 use crate::basis::has_member;
 use crate::bound::Members;
 use crate::scope::Scope;
+use crate::sought::{Sought, What};
 use mlc_base::place::Place;
 use scoped_map::scoped::Scoped;
 use sml_tree::ident::{LongId, LongVid, Vid};
 
-/// Whether a place is the one that is looked for.
-pub fn is_at(place: Place, wanted: Place) -> bool
-    ensures { IsTrue result → place ≡ wanted }
+/// Whether one that isn't bound is looked for, at this place.
+pub fn is_at(place: Place, sought: &Sought) -> bool
+    ensures { IsTrue result → Asks sought.now Unbound place }
 {
-    place == wanted
+    match sought.what {
+        What::Unbound => place == sought.place,
+        What::Twice => false,
+    }
 }
 
 /// Whether a program can name an identifier.

@@ -4,51 +4,52 @@ ghost use Rattle.core_rules.specs.Values.{Env};
 ghost use Rattle.std.specs.Prelude.{IsTrue, List, map};
 ghost use Rattle.unbound_names.specs.Covering.{Covers};
 ghost use Rattle.unbound_names.specs.Nodes.{ty_phrase};
-ghost use Rattle.unbound_names.specs.Placed.{AnyAt, UnboundAt};
+ghost use Rattle.unbound_names.specs.Placed.{AnyAt, FoundAt};
 ghost use Rattle.unbound_names.specs.Types.{AreNamed};
 ghost use Rattle.unbound_names.specs.Written.{written_phrase};
 ghost use Rattle.sml_tree.specs.BareTree.{TypeBind as BareTypeBind};
 
 use crate::look_ups::{is_abbreviation, is_at, is_unbound_tycon};
 use crate::scope::Scope;
-use mlc_base::place::Place;
+use crate::sought::Sought;
 use scoped_map::scoped::Scoped;
 use sml_tree::tree::{Ty, TyField, TyPart};
 use std::alloc::Global;
 
-/// Whether a type constructor at the place isn't bound, in a type with the abbreviations of a `withtype` written out. The arguments of these aren't looked at.
+/// Whether a type constructor that isn't bound is looked for and found, in a type with the abbreviations of a `withtype` written out.
+/// The arguments of these aren't looked at.
 #[cycle(tys)]
-pub fn in_written(place: Place, ty: &Ty, within: &Scoped<usize>, scope: &Scope) -> bool
+pub fn in_written(sought: &Sought, ty: &Ty, within: &Scoped<usize>, scope: &Scope) -> bool
     ensures { IsTrue result → (bs : List BareTypeBind) (e : Env) → AreNamed bs within.now → Covers scope.now e
-        → UnboundAt place e (written_phrase bs ty.now) }
+        → FoundAt sought.now e (written_phrase bs ty.now) }
 {
     match ty {
         Ty::Var(_, _) => false,
-        Ty::Record(_, fields) => in_fields(place, fields, within, scope),
+        Ty::Record(_, fields) => in_fields(sought, fields, within, scope),
         Ty::Con(_, arguments, at, tycon) => {
             if is_abbreviation(tycon, within) {
                 return false;
             }
-            if is_at(*at, place) && is_unbound_tycon(tycon, scope) {
+            if is_at(*at, sought) && is_unbound_tycon(tycon, scope) {
                 return true;
             }
-            in_tys(place, arguments, within, scope)
+            in_tys(sought, arguments, within, scope)
         }
-        Ty::Product(_, parts) => in_tys(place, parts, within, scope),
+        Ty::Product(_, parts) => in_tys(sought, parts, within, scope),
         Ty::Arrow(_, first, parts) => {
-            in_written(place, first, within, scope) || in_parts(place, parts, within, scope)
+            in_written(sought, first, within, scope) || in_parts(sought, parts, within, scope)
         }
     }
 }
 
 #[cycle(tys)]
-fn in_fields(place: Place, fields: &[TyField], within: &Scoped<usize>, scope: &Scope) -> bool
+fn in_fields(sought: &Sought, fields: &[TyField], within: &Scoped<usize>, scope: &Scope) -> bool
     ensures { IsTrue result → (bs : List BareTypeBind) (e : Env) → AreNamed bs within.now → Covers scope.now e
-        → AnyAt place (all_in e (map (λ f. written_phrase bs f.ty) fields.now)) }
+        → AnyAt sought.now (all_in e (map (λ f. written_phrase bs f.ty) fields.now)) }
 {
     for i in 0..fields.len() {
         let field = &fields[i];
-        if in_written(place, &field.ty, within, scope) {
+        if in_written(sought, &field.ty, within, scope) {
             return true;
         }
     }
@@ -56,12 +57,12 @@ fn in_fields(place: Place, fields: &[TyField], within: &Scoped<usize>, scope: &S
 }
 
 #[cycle(tys)]
-fn in_tys(place: Place, tys: &[Ty], within: &Scoped<usize>, scope: &Scope) -> bool
+fn in_tys(sought: &Sought, tys: &[Ty], within: &Scoped<usize>, scope: &Scope) -> bool
     ensures { IsTrue result → (bs : List BareTypeBind) (e : Env) → AreNamed bs within.now → Covers scope.now e
-        → AnyAt place (all_in e (map (written_phrase bs) tys.now)) }
+        → AnyAt sought.now (all_in e (map (written_phrase bs) tys.now)) }
 {
     for i in 0..tys.len() {
-        if in_written(place, &tys[i], within, scope) {
+        if in_written(sought, &tys[i], within, scope) {
             return true;
         }
     }
@@ -69,13 +70,13 @@ fn in_tys(place: Place, tys: &[Ty], within: &Scoped<usize>, scope: &Scope) -> bo
 }
 
 #[cycle(tys)]
-fn in_parts(place: Place, parts: &[TyPart], within: &Scoped<usize>, scope: &Scope) -> bool
+fn in_parts(sought: &Sought, parts: &[TyPart], within: &Scoped<usize>, scope: &Scope) -> bool
     ensures { IsTrue result → (bs : List BareTypeBind) (e : Env) → AreNamed bs within.now → Covers scope.now e
-        → AnyAt place (all_in e (map (λ o. written_phrase bs o.ty) parts.now)) }
+        → AnyAt sought.now (all_in e (map (λ o. written_phrase bs o.ty) parts.now)) }
 {
     for i in 0..parts.len() {
         let part = &parts[i];
-        if in_written(place, &part.ty, within, scope) {
+        if in_written(sought, &part.ty, within, scope) {
             return true;
         }
     }
@@ -83,9 +84,9 @@ fn in_parts(place: Place, parts: &[TyPart], within: &Scoped<usize>, scope: &Scop
 }
 
 /// The same of a type as it is written.
-pub fn in_ty(alloc: Global, place: Place, ty: &Ty, scope: &Scope) -> bool
-    ensures { IsTrue result → (e : Env) → Covers scope.now e → UnboundAt place e (ty_phrase ty.now) }
+pub fn in_ty(alloc: Global, sought: &Sought, ty: &Ty, scope: &Scope) -> bool
+    ensures { IsTrue result → (e : Env) → Covers scope.now e → FoundAt sought.now e (ty_phrase ty.now) }
 {
     let none = Scoped::new(alloc);
-    in_written(place, ty, &none, scope)
+    in_written(sought, ty, &none, scope)
 }

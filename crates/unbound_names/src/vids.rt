@@ -68,7 +68,7 @@ pub fn push_vids(pat: &Pat, scope: &Scope, vids: &mut Vec<Vid>) -> Result<(), No
 }
 
 #[cycle(vids)]
-fn push_pats(pats: &[Pat], scope: &Scope, vids: &mut Vec<Vid>) -> Result<(), NoMemory>
+pub fn push_pats(pats: &[Pat], scope: &Scope, vids: &mut Vec<Vid>) -> Result<(), NoMemory>
     ensures { IfOk result (λ _. (e : Env) → Covers scope.now e
         → vids.new.items ≡ vids.old.items ++ filter is_written (flat_map (λ a. pat_vids e (pat_of a)) pats.now)) }
 {

@@ -1,4 +1,4 @@
-use Rattle.std.proofs.Common.{◌≡◌, ◌++◌, List, map, reverse, sym, ap, ap₂, subst, ◌∙◌}
+use Rattle.std.proofs.Common.{◌++◌, map, reverse, ap, ◌∙◌}
 use Rattle.sml_tree.specs.TreeOf.{bind_of, binds_of}
 use Rattle.unbound_names.specs.Entries.{variable_entries}
 use Rattle.unbound_exps.proofs.Walking.{closed-if}

@@ -8,4 +8,4 @@ use Rattle.unbound_names.proofs.datas.in_replicate.Goals as goal
 pub returns-then-is_unbound_tycon : goal.returns-then-is_unbound_tycon
 returns-then-is_unbound_tycon c =
     let y = long_id_at_of c.args.long.now in
-    declared-found _ _ _ _ (λ e h. at-unbound c.args.place (long_tycon_in e y) (tycon_at y.place y.long) (c.if-is_at.ensures refl) (c.if-is_unbound_tycon.ensures refl e h))
+    declared-found _ _ _ _ (λ e h. at-unbound c.args.sought.now (long_tycon_in e y) (tycon_at y.place y.long) (c.if-is_at.ensures refl) (c.if-is_unbound_tycon.ensures refl e h))

@@ -11,5 +11,5 @@ pub returns-then-is_none : goal.returns-then-is_none
 returns-then-is_none c u e h =
     let x = c.index-longs-i.result in
     let p = long_structure_in e (long_id_at_of x) in
-    opened-at c.args.place e c.args.longs.now x (has-read c.args.longs.now c.loop-i.i x c.loop-i-test.true c.index-longs-i.is)
-    (at-unbound c.args.place p (structure_at x.place (long_id_at_of x).long) (c.if-is_at.ensures u) (structure-unbound c.find_structure.result p (c.find_structure.ensures e h) c.if-is_none.ensures))
+    opened-at c.args.sought.now e c.args.longs.now x (has-read c.args.longs.now c.loop-i.i x c.loop-i-test.true c.index-longs-i.is)
+    (at-unbound c.args.sought.now p (structure_at x.place (long_id_at_of x).long) (c.if-is_at.ensures u) (structure-unbound c.find_structure.result p (c.find_structure.ensures e h) c.if-is_none.ensures))

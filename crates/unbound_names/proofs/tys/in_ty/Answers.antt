@@ -4,4 +4,4 @@ use Rattle.unbound_names.proofs.Abbreviating.{as-written, none-named}
 use Rattle.unbound_names.proofs.tys.in_ty.Goals as goal
 
 pub returns : goal.returns
-returns c u e k = as-written c.args.place e c.args.ty.now (c.in_written.ensures u [] e (subst (AreNamed []) (sym c.new-none.ensures) none-named) k)
+returns c u e k = as-written c.args.sought.now e c.args.ty.now (c.in_written.ensures u [] e (subst (AreNamed []) (sym c.new-none.ensures) none-named) k)
