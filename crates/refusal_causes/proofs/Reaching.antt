@@ -14,14 +14,14 @@ use Rattle.core_rules.specs.Unbound.{decs_in, decs_names}
 use Rattle.core_rules.specs.Values.{Env, nothing, plus}
 use Rattle.mlb_reader.specs.PartOf.{part_of}
 use Rattle.mlb_reader.specs.declared.project.Part.{Part as Read}
-use Rattle.unbound_names.proofs.Covering.{nothing-plus}
-use Rattle.unbound_names.proofs.Enough.{in-run, twice-in-run}
-use Rattle.unbound_names.specs.Covering.{Covers}
-use Rattle.unbound_names.specs.Placed.{AnyAt, At, Brought, Declared}
-use Rattle.unbound_names.specs.declared.bound.Bound.{Bound}
-use Rattle.unbound_names.specs.declared.sought.Sought.{Sought}
-use Rattle.unbound_names.specs.declared.sought.What.TheVariants.{Twice, Unbound}
-use Rattle.unbound_exps.specs.Projects.{env_behind, standard_env}
+use Rattle.name_scopes.proofs.Covering.{nothing-plus}
+use Rattle.name_scopes.proofs.Enough.{in-run, twice-in-run}
+use Rattle.name_scopes.specs.Covering.{Covers}
+use Rattle.name_scopes.specs.Placed.{AnyAt, At, Brought, Declared}
+use Rattle.name_scopes.specs.declared.bound.Bound.{Bound}
+use Rattle.name_scopes.specs.declared.sought.Sought.{Sought}
+use Rattle.name_scopes.specs.declared.sought.What.TheVariants.{Twice, Unbound}
+use Rattle.scope_walks.specs.Projects.{env_behind, standard_env}
 use Rattle.refusal_causes.specs.Causes.{Holds, IsBrokenAt, IsFoundAt, IsUnboundAt, Stands, part_of_core}
 
 -- the first parts are of the core, and the scope covers what is in scope behind them
@@ -152,3 +152,16 @@ broken-there parts i x run p lt is holds g h prelude = record {
   };
   is = inl h;
 }
+
+pub broken-if : {E : Type 0} (r : Result Bool E) (parts : List Read) (i : ℕ) (x : Read) (run : Decs) (p : Place) → i < length parts → x ≡ get_or parts i x → Holds (part_of x) run → Passed parts i
+    → IfOk r (λ b. IsTrue b → Contains (broken_in run) p) → IfOk r (λ b. IsTrue b → (prelude : Decs) → IsBrokenAt prelude (map part_of parts) p)
+broken-if (Ok b) parts i x run p lt is holds g h = λ t. broken-there parts i x run p lt is holds g (h t)
+broken-if (Err u) parts i x run p lt is holds g h = h
+
+pub is-unbound : {E : Type 0} (r : Result Bool E) (prelude : Decs) (parts : List Part) (s : Sought) → s.what ≡ Unbound → IfOk r (λ b. IsTrue b → IsFoundAt s prelude parts) → IfOk r (λ b. IsTrue b → IsUnboundAt prelude parts s.place)
+is-unbound (Ok b) prelude parts s w h = λ t. unbound-by prelude parts s w (h t)
+is-unbound (Err u) prelude parts s w h = h
+
+pub is-broken : {E : Type 0} (r : Result Bool E) (prelude : Decs) (parts : List Part) (s : Sought) → s.what ≡ Twice → IfOk r (λ b. IsTrue b → IsFoundAt s prelude parts) → IfOk r (λ b. IsTrue b → IsBrokenAt prelude parts s.place)
+is-broken (Ok b) prelude parts s w h = λ t. broken-by prelude parts s w (h t)
+is-broken (Err u) prelude parts s w h = h

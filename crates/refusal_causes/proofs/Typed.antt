@@ -7,8 +7,8 @@ use Rattle.sml_rules.specs.Project.{Part, cut, source, standard_basis}
 use Rattle.core_rules.specs.Objects.{Context}
 use Rattle.core_rules.specs.Project as core
 use Rattle.core_rules.specs.Restrictions.{broken_in}
-use Rattle.unbound_exps.proofs.Typed.{twice-behind-has-no-typing, unbound-has-no-typing}
-use Rattle.unbound_names.proofs.Placing.{none-in}
+use Rattle.scope_walks.proofs.Typed.{twice-behind-has-no-typing, unbound-has-no-typing}
+use Rattle.name_scopes.proofs.Placing.{none-in}
 use Rattle.project_typed.specs.Typing.{ProjectHas}
 use Rattle.refusal_causes.specs.Causes.{Holds, IsBrokenAt, IsUnboundAt, Stands, in_cut, in_source, part_of_core}
 use Rattle.refusal_causes.specs.Laws.{IsLawful, NoneIsBroken, NoneIsUnbound}

@@ -11,9 +11,9 @@ use Rattle.core_rules.specs.Values.{nothing}
 use Rattle.elab_types.specs.declared.refused.Refused.TheVariants as cause
 use Rattle.pat_elab.specs.declared.stopped.Stopped.{Stopped}
 use Rattle.pat_elab.specs.declared.stopped.Stopped.TheVariants.{Foreign, NotPrincipal, Refuses}
-use Rattle.unbound_names.specs.Placed.{AnyAt, place_of}
-use Rattle.unbound_names.specs.declared.sought.Sought.{Sought}
-use Rattle.unbound_exps.specs.Projects.{env_behind, twice_behind, unbound_behind}
+use Rattle.name_scopes.specs.Placed.{AnyAt, place_of}
+use Rattle.name_scopes.specs.declared.sought.Sought.{Sought}
+use Rattle.scope_walks.specs.Projects.{env_behind, twice_behind, unbound_behind}
 
 -- a part of the core as a project has it
 abbrev pub part_of_core : core.Part → Part

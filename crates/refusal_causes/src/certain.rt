@@ -7,22 +7,22 @@ ghost use Rattle.mlb_reader.specs.PartOf.{part_of};
 ghost use Rattle.core_rules.specs.Project.{Part as CorePart};
 ghost use Rattle.core_rules.specs.Restrictions.{broken_in};
 ghost use Rattle.core_rules.specs.Values.{nothing, Env};
-ghost use Rattle.unbound_names.specs.Covering.{Covers};
-ghost use Rattle.unbound_exps.specs.Projects.{env_behind};
+ghost use Rattle.name_scopes.specs.Covering.{Covers};
+ghost use Rattle.scope_walks.specs.Projects.{env_behind};
 ghost use Rattle.refusal_causes.specs.Causes.{part_of_core, IsBrokenAt, IsCertain, IsFoundAt, IsUnboundAt};
 
 use elab_types::refused::Refused as Cause;
 use mlb_reader::project::Part;
 use mlc_base::memory::NoMemory;
 use mlc_base::place::Place;
+use name_scopes::scope::Scope;
+use name_scopes::sought::{Sought, What};
 use pat_elab::stopped::Stopped;
 use restrictions::first::first_broken;
+use scope_walks::exps::in_decs;
+use scope_walks::project::standard_scope;
 use sml_tree::tree::Dec;
 use std::alloc::Global;
-use unbound_exps::exps::in_decs;
-use unbound_exps::project::standard_scope;
-use unbound_names::scope::Scope;
-use unbound_names::sought::{Sought, What};
 
 /// Looks through parts behind the standard basis, up to modules.
 fn in_parts(
@@ -112,12 +112,7 @@ fn breaks(alloc: Global, place: Place, parts: &[Part]) -> Result<bool, NoMemory>
     Ok(false)
 }
 
-fn is_broken(
-    alloc: Global,
-    place: Place,
-    prelude: &[Dec],
-    parts: &[Part],
-) -> Result<bool, NoMemory>
+fn is_broken(alloc: Global, place: Place, prelude: &[Dec], parts: &[Part]) -> Result<bool, NoMemory>
     ensures { IfOk result (λ found. IsTrue found → IsBrokenAt (decs_of (map dec_of prelude.now)) (map part_of parts.now) place) }
 {
     if breaks(alloc, place, parts)? {

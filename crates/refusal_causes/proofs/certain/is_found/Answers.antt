@@ -2,8 +2,8 @@ use Rattle.std.proofs.Common.{map, ap, subst}
 use Rattle.std.specs.Prelude.{IfSome}
 use Rattle.sml_tree.specs.TreeOf.{dec_of, decs_of}
 use Rattle.mlb_reader.specs.PartOf.{part_of}
-use Rattle.unbound_names.specs.Covering.{Covers}
-use Rattle.unbound_exps.specs.Projects.{standard_env}
+use Rattle.name_scopes.specs.Covering.{Covers}
+use Rattle.scope_walks.specs.Projects.{standard_env}
 use Rattle.refusal_causes.proofs.Reaching.{basis-if}
 use Rattle.refusal_causes.proofs.certain.is_found.Goals as goal
 

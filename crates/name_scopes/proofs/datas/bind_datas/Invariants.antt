@@ -1,0 +1,12 @@
+use Rattle.std.proofs.Common.{◌++◌, map}
+use Rattle.std.specs.Prelude.{flat_map}
+use Rattle.sml_tree.specs.TreeOf.{data_bind_of}
+use Rattle.name_scopes.specs.Entries.{data_entries}
+use Rattle.name_scopes.proofs.FromEnd.{Reaches}
+use Rattle.name_scopes.proofs.datas.bind_datas.Given as goal
+
+abbrev pub invariant-loop-i : goal.invariant-loop-i
+invariant-loop-i l = Reaches (λ ds. flat_map data_entries (map data_bind_of ds) ++ l.fn.scope) l.datas l.i l.scope
+
+abbrev pub decreases-loop-i : goal.decreases-loop-i
+decreases-loop-i l = l.i

@@ -1,5 +1,0 @@
-use Rattle.unbound_exps.proofs.Typed.{unbound-has-no-typing}
-use Rattle.unbound_exps.proofs.law.unbound_has_no_typing.Goals as goal
-
-pub returns : goal.returns
-returns c = unbound-has-no-typing

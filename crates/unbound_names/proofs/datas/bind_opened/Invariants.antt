@@ -1,8 +1,0 @@
-use Rattle.std.proofs.Common.{map, take}
-use Rattle.sml_tree.specs.TreeOf.{long_id_at_of}
-use Rattle.unbound_names.specs.Placed.{Brought}
-use Rattle.unbound_names.proofs.Opening.{each_opened}
-use Rattle.unbound_names.proofs.datas.bind_opened.Given as goal
-
-abbrev pub invariant-loop-i : goal.invariant-loop-i
-invariant-loop-i l = Brought l.fn.scope l.scope (λ e. each_opened e (map long_id_at_of (take l.i l.longs)))

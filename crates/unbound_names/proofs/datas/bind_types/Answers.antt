@@ -1,6 +1,0 @@
-use Rattle.unbound_names.proofs.Declaring.{types-brought}
-use Rattle.unbound_names.proofs.FromEnd.{reaches-last}
-use Rattle.unbound_names.proofs.datas.bind_types.Goals as goal
-
-pub returns : goal.returns
-returns c = types-brought c.args.binds.now c.args.scope.now c.loop-i.scope (reaches-last _ _ _ _ c.loop-i.invariant c.loop-i-test.false)

@@ -1,9 +1,0 @@
-use Rattle.std.proofs.Common.{ap, nat_eq, ◌∙◌}
-use Rattle.std.specs.Prelude.{is_some}
-use Rattle.std.specs.Map.{lookup}
-use Rattle.unbound_names.proofs.Declaring.{named-are}
-use Rattle.unbound_names.proofs.FromEnd.{reaches-last}
-use Rattle.unbound_names.proofs.datas.names_of.Goals as goal
-
-pub returns : goal.returns
-returns c x = ap (λ l. is_some (lookup (nat_eq x) l)) (reaches-last _ _ _ _ c.loop-i.invariant c.loop-i-test.false) ∙ named-are c.args.types.now x

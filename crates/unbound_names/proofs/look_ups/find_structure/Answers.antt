@@ -1,8 +1,0 @@
-use Rattle.std.proofs.Common.{None, sym, subst, arith}
-use Rattle.unbound_names.specs.Covering.{StructureFits}
-use Rattle.unbound_names.proofs.Qualified.{long-structure-none}
-use Rattle.unbound_names.proofs.look_ups.find_structure.Goals as goal
-
-pub returns-else-len-eq0 : goal.returns-else-len-eq0
-returns-else-len-eq0 c e h =
-    subst (StructureFits None) (sym (long-structure-none c.args.scope.now e c.args.long.now.qualifiers.items c.args.long.now.id h (omega arith))) tt

@@ -1,5 +1,0 @@
-use Rattle.std.proofs.Common.{◌≡◌, ◌++◌, reverse, take}
-use Rattle.unbound_names.proofs.scope.Scope.bind_all.Given as goal
-
-abbrev pub invariant-loop-i : goal.invariant-loop-i
-invariant-loop-i l = l.self ≡ reverse (take l.i l.bounds) ++ l.fn.self

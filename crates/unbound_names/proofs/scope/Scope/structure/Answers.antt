@@ -1,9 +1,0 @@
-use Rattle.std.proofs.Common.{ap, ◌∙◌}
-use Rattle.unbound_names.specs.Scopes.{structure_found}
-use Rattle.unbound_names.proofs.Finding.{found-structure}
-use Rattle.unbound_names.proofs.scope.Scope.structure.Goals as goal
-
-pub returns : goal.returns
-returns c =
-    found-structure c.self.inside.bound.items c.self.inside.latest c.self.invariant c.args.name c.structure_key.result c.find.result c.members_of.result c.structure_key.ensures c.find.ensures
-    c.members_of.ensures ∙ ap (λ bs. structure_found bs c.args.name) c.self.view_is

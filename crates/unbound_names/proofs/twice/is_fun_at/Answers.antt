@@ -1,6 +1,0 @@
-use Rattle.unbound_names.specs.declared.sought.What.TheVariants as whats
-use Rattle.unbound_names.proofs.TwiceNodes.{asks-rest}
-use Rattle.unbound_names.proofs.twice.is_fun_at.Goals as goal
-
-pub returns : goal.returns
-returns c u = asks-rest c.args.sought.now whats.Twice c.args.place _ (c.is_function_at.ensures u)
