@@ -1,22 +1,17 @@
 -- The parts of a project, as those of the rules of the core.
-use Rattle.std.specs.Prelude.{◌≡◌, [], List, map, ⊤}
+use Rattle.std.specs.Prelude.{◌≡◌, List, map}
 use Rattle.std.specs.List.{AllByRecursion}
 use Rattle.sml_tree.specs.BareTree.{Decs}
 use Rattle.sml_rules.specs.Project.{Part}
 use Rattle.core_rules.specs.Project as core
-use Rattle.core_rules.specs.Restrictions.{broken_in}
 use Rattle.ir_poly.specs.WellFormed.{table_of}
 use Rattle.project_elab.specs.of_ir_prog.Programs.{body_in, prog_of}
 use Rattle.project_elab.specs.of_ir_prog.declared.program.Program.{Program}
 use Rattle.project_typed.specs.Laws.{IsProgramOfProject}
 use Rattle.project_elab.specs.Elaborated.{HasElaborated}
 pub use Rattle.refusal_causes.specs.Causes.{part_of_core}
+pub use Rattle.refusal_causes.specs.Laws.{IsLawful}
 use Rattle.project_elab.specs.declared.project.Elaborating.{Elaborating}
-
--- no phrase of a source breaks a syntactic restriction
-abbrev pub IsLawful : core.Part → Type 0
-IsLawful core.standard_basis = ⊤
-IsLawful (core.source decs) = broken_in decs ≡ []
 
 -- the program is that of these parts, over the prelude: they are of the core, have a typing, and it does what they do
 abbrev pub IsProgramOver : Decs → List core.Part → Program → Type 0

@@ -1,12 +1,10 @@
 -- Along the parts of a project.
-use Rattle.std.proofs.Common.{◌≡◌, ◌<◌, ◌+◌, ◌-◌, ℕ, Bool, true, false, List, [], ◌∷◌, ◌++◌, map, take, drop, length, get_or, refl, sym, ap, ap₂, subst, ◌∙◌, append_assoc, inl, inr}
+use Rattle.std.proofs.Common.{◌≡◌, ◌<◌, ◌+◌, ◌-◌, ℕ, Bool, false, List, [], ◌∷◌, ◌++◌, map, take, drop, length, get_or, refl, sym, ap, ap₂, subst, ◌∙◌, append_assoc, inl, inr}
 use Rattle.std.specs.Prelude.{IsTrue, IfOk, Result, Ok, Err}
 use Rattle.std.specs.List.{Contains}
 use Rattle.std.proofs.lemmas.List.{map-append, take-append-drop, take_more, take_rest}
 use Rattle.mlc_base.specs.declared.place.Place.{Place}
 use Rattle.sml_tree.specs.BareTree.{Decs}
-use Rattle.sml_tree.specs.TreeOf.{dec_of, decs_of}
-use Rattle.sml_tree.specs.declared.tree.Dec.{Dec}
 use Rattle.sml_rules.specs.Project.{Part}
 use Rattle.core_rules.specs.Project as core
 use Rattle.core_rules.specs.Restrictions.{broken_in}
@@ -22,7 +20,7 @@ use Rattle.name_scopes.specs.declared.bound.Bound.{Bound}
 use Rattle.name_scopes.specs.declared.sought.Sought.{Sought}
 use Rattle.name_scopes.specs.declared.sought.What.TheVariants.{Twice, Unbound}
 use Rattle.scope_walks.specs.Projects.{env_behind, standard_env}
-use Rattle.refusal_causes.specs.Causes.{Holds, IsBrokenAt, IsFoundAt, IsUnboundAt, Stands, part_of_core}
+use Rattle.refusal_causes.specs.Causes.{Holds, IsBrokenAt, IsFoundAt, IsUnboundAt, part_of_core}
 
 -- the first parts are of the core, and the scope covers what is in scope behind them
 pub record Reached (prelude : Decs) (parts : List Read) (i : ℕ) (e : Env) (scope : List Bound) : Type 0 where

@@ -1,16 +1,14 @@
 -- A project that has a typing has none of the causes.
-use Rattle.std.proofs.Common.{◌≡◌, List, [], ◌∷◌, ◌++◌, map, Option, Some, None, ◌⊎◌, inl, inr, refl, sym, ap, ap₂, subst, ◌∙◌}
+use Rattle.std.proofs.Common.{◌≡◌, List, [], ◌∷◌, ◌++◌, map, Option, Some, None, inl, inr, refl, sym, ap, ap₂, subst}
 use Rattle.std.specs.List.{AllByRecursion, Contains}
-use Rattle.mlc_base.specs.declared.place.Place.{Place}
 use Rattle.sml_tree.specs.BareTree.{Decs}
 use Rattle.sml_rules.specs.Project.{Part, cut, source, standard_basis}
-use Rattle.core_rules.specs.Objects.{Context}
 use Rattle.core_rules.specs.Project as core
 use Rattle.core_rules.specs.Restrictions.{broken_in}
 use Rattle.scope_walks.proofs.Typed.{twice-behind-has-no-typing, unbound-has-no-typing}
 use Rattle.name_scopes.proofs.Placing.{none-in}
 use Rattle.project_typed.specs.Typing.{ProjectHas}
-use Rattle.refusal_causes.specs.Causes.{Holds, IsBrokenAt, IsUnboundAt, Stands, in_cut, in_source, part_of_core}
+use Rattle.refusal_causes.specs.Causes.{Holds, in_cut, in_source, part_of_core}
 use Rattle.refusal_causes.specs.Laws.{IsLawful, NoneIsBroken, NoneIsUnbound}
 
 -- what stands in a project of the core is a source of it
