@@ -1,5 +1,4 @@
 use Rattle.std.proofs.Common.{rules, ◌≡◌, ◌<◌, true, All, length, sym, ap, ◌∙◌, subst, map}
-use Rattle.first_tables.specs.TablesOf.{tables_of}
 use Rattle.ssa_tree.specs.TreeOf.{fun_of}
 use Rattle.ssa_tree.specs.Exceptions.{exceptions}
 use Rattle.ssa_form.specs.Programs.{program_of}
