@@ -9,10 +9,11 @@ use heap_vm::stop::Stop;
 use heap_vm::vm::Vm;
 use ir_code::image::Image;
 use ir_prog::program::Program;
+use machine_emit::refused::EmitRefused;
 use mlc_base::memory::NoMemory;
 use mlc_names::names::Names;
 use mlc_outside::mem_sink::MemSink;
-use mlc_runs::pass::{Check, Form};
+use mlc_runs::pass::{Check, Form, PassFault};
 use prog_words::expressions::Word;
 use prog_words::text::Text;
 use std::alloc::Global;
@@ -50,13 +51,26 @@ impl From<CompileRefused> for NotRun {
     }
 }
 
+impl From<PassFault> for NotRun {
+    fn from(fault: PassFault) -> NotRun {
+        NotRun::Refused(CompileRefused::from(fault))
+    }
+}
+
+impl From<EmitRefused> for NotRun {
+    fn from(refused: EmitRefused) -> NotRun {
+        NotRun::Refused(CompileRefused::from(refused))
+    }
+}
+
 impl From<NoMemory> for NotRun {
     fn from(_error: NoMemory) -> NotRun {
         NotRun::Memory
     }
 }
 
-fn program(alloc: Global, words: &[Word]) -> Result<Program, NotRun> {
+/// The program that these words are.
+pub fn program(alloc: Global, words: &[Word]) -> Result<Program, NotRun> {
     let mut text = Text::new(alloc);
     for i in 0..words.len() {
         text.put(alloc, words[i])?;
@@ -74,7 +88,7 @@ fn program(alloc: Global, words: &[Word]) -> Result<Program, NotRun> {
 }
 
 /// The image of a program that is well formed.
-fn image(alloc: Global, program: Program) -> Result<Image, NotRun> {
+pub fn image(alloc: Global, program: Program) -> Result<Image, NotRun> {
     if program.check(alloc) != Check::Yes {
         return Err(NotRun::IllFormed);
     }

@@ -1,109 +1,84 @@
-// Times the word machine: a loop that counts, and one that keeps its count in the heap.
+// How many instructions of the word machine a turn of some loops takes: as `emit` makes them of SSA form, and as the best code by hand.
 #![tactic(auto)]
 
-ghost use Rattle.std.specs.Prelude.{◌≡◌, ◌+◌, ◌*◌, ◌^◌, ◌≤◌, length};
+mod by_hand;
+mod emitted;
+mod exception;
+mod list;
+mod loops;
+mod measure;
+mod recursion;
+mod reference;
+mod runs;
+mod tail_call;
 
-use heap_vm::stop::Stop;
-use heap_vm::vm::Vm;
-use ir_code::image::Image;
-use ir_code::instr::Instr;
-use mlc_outside::mem_sink::MemSink;
-use std::alloc::Global;
+use crate::loops::{Loop, Version};
+use crate::measure::{instructions_a_turn, nanos_a_turn};
 use std::env;
 use std::process::ExitCode;
 
-/// Counts in slot 0 up to `turns`, and prints the count: four instructions a turn.
-fn counting_loop(turns: u32) -> [Instr; 9] {
-    [
-        Instr::Li {
-            dst: 1,
-            value: turns,
-        },
-        Instr::Li { dst: 2, value: 1 },
-        Instr::ULt {
-            dst: 3,
-            left: 0,
-            right: 1,
-        },
-        Instr::Brz { test: 3, target: 6 },
-        Instr::WAdd {
-            dst: 0,
-            left: 0,
-            right: 2,
-        },
-        Instr::Jmp { target: 2 },
-        Instr::IText { dst: 4, src: 0 },
-        Instr::Print { text: 4 },
-        Instr::End,
-    ]
+/// The most turns: of twice as many no integer is too large, and no heap or stack.
+const MOST_TURNS: u16 = 30_000;
+
+/// What the command line asks for.
+#[derive(Clone, Copy)]
+struct Wanted {
+    turns: u16,
+    /// How many runs of so many turns are timed.
+    runs: u32,
 }
 
-/// Counts in a word of the heap up to `turns`, and prints the count: six instructions a turn.
-fn heap_loop(turns: u32) -> [Instr; 13] {
-    [
-        Instr::Alloc { dst: 0, words: 1 },
-        Instr::Li {
-            dst: 1,
-            value: turns,
-        },
-        Instr::Li { dst: 2, value: 1 },
-        Instr::Ld {
-            dst: 3,
-            base: 0,
-            offset: 0,
-        },
-        Instr::ULt {
-            dst: 4,
-            left: 3,
-            right: 1,
-        },
-        Instr::Brz { test: 4, target: 9 },
-        Instr::WAdd {
-            dst: 3,
-            left: 3,
-            right: 2,
-        },
-        Instr::St {
-            base: 0,
-            offset: 0,
-            src: 3,
-        },
-        Instr::Jmp { target: 3 },
-        Instr::Ld {
-            dst: 3,
-            base: 0,
-            offset: 0,
-        },
-        Instr::IText { dst: 4, src: 3 },
-        Instr::Print { text: 4 },
-        Instr::End,
-    ]
-}
-
-/// What a program prints, if it ends.
-fn output(alloc: Global, code: &[Instr]) -> anyhow::Result<String>
-    requires { 4 * length code.now ≤ 2 ^ 27 }
-{
-    let image = Image::new(Vec::new(alloc), code.to_vec(alloc)?);
-    let mut vm = Vm::new(alloc, image, 1024, 256)?;
-    let mut out = MemSink::new(alloc, 64, Vec::new(alloc))?;
-    match vm.run(u64::MAX, &mut out) {
-        Stop::Ended => Ok(String::from_utf8_lossy(alloc, out.bytes())?),
-        stop => anyhow::bail!("the machine stopped: {stop:?}"),
+/// Prints the instructions a turn of both versions, which are to give the same.
+fn compare(rt: &HostRuntime, of: &Loop, turns: u16) -> anyhow::Result<()> {
+    let emitted = instructions_a_turn(rt.alloc(), of, Version::Emitted, turns)?;
+    let by_hand = instructions_a_turn(rt.alloc(), of, Version::ByHand, turns)?;
+    if emitted.output.as_str() != by_hand.output.as_str() {
+        anyhow::bail!("{}: {} by hand", emitted.output, by_hand.output);
     }
+    println!(rt;
+        "{}: {} emitted, {} by hand; both give {}",
+        of.name, emitted.instructions, by_hand.instructions, by_hand.output
+    )?;
+    Ok(())
+}
+
+/// Prints the time that a turn of both versions takes.
+fn time(rt: &HostRuntime, of: &Loop, wanted: Wanted) -> anyhow::Result<()> {
+    let Wanted { turns, runs } = wanted;
+    let emitted = nanos_a_turn(rt.alloc(), rt, of, Version::Emitted, turns, runs)?;
+    let by_hand = nanos_a_turn(rt.alloc(), rt, of, Version::ByHand, turns, runs)?;
+    println!(rt; "    {emitted} ns and {by_hand} ns")?;
+    Ok(())
+}
+
+fn report(rt: &HostRuntime, of: &Loop, wanted: Wanted) -> anyhow::Result<()> {
+    compare(rt, of, wanted.turns)?;
+    if wanted.runs > 0 {
+        time(rt, of, wanted)?;
+    }
+    Ok(())
+}
+
+fn read_wanted(rt: &HostRuntime) -> anyhow::Result<Wanted> {
+    let mut words = env::args(rt)?;
+    let turns = words.nth(1).and_then(|word| word.parse::<u16>().ok());
+    let runs = words.next().and_then(|word| word.parse::<u32>().ok());
+    Ok(Wanted {
+        turns: turns.unwrap_or(0),
+        runs: runs.unwrap_or(0),
+    })
 }
 
 fn main(rt: HostRuntime) -> anyhow::Result<ExitCode> {
-    let turns = env::args(&rt)?
-        .nth(1)
-        .and_then(|word| word.parse::<u32>().ok());
-    let Some(turns) = turns else {
-        eprintln!(rt; "usage: vm_bench TURNS")?;
+    let wanted = read_wanted(&rt)?;
+    if wanted.turns == 0 || wanted.turns > MOST_TURNS {
+        eprintln!(rt; "usage: vm_bench TURNS [RUNS], with 1 to {MOST_TURNS} turns")?;
         return Ok(ExitCode::from(64));
-    };
-    let counted = output(rt.alloc(), &counting_loop(turns))?;
-    println!(rt; "counted {counted}")?;
-    let heap = output(rt.alloc(), &heap_loop(turns))?;
-    println!(rt; "heap {heap}")?;
+    }
+    report(&rt, &tail_call::LOOP, wanted)?;
+    report(&rt, &recursion::LOOP, wanted)?;
+    report(&rt, &list::LOOP, wanted)?;
+    report(&rt, &reference::LOOP, wanted)?;
+    report(&rt, &exception::LOOP, wanted)?;
     Ok(ExitCode::SUCCESS)
 }
