@@ -1,3 +1,4 @@
 mod Joining
 mod Refusing
 mod Running
+mod Telling

@@ -1,6 +1,7 @@
 -- What a refusal tells.
-use Rattle.std.specs.Prelude.{◌≡◌, ℕ, ◌<◌, Bool, true, false, List, length, Result, Ok, Err, ⊤}
+use Rattle.std.specs.Prelude.{◌≡◌, ◌⊎◌, ℕ, ◌<◌, Bool, true, false, List, length, Result, Ok, Err, ⊤}
 use Rattle.std.specs.Option.{ForSome}
+use Rattle.mlc_base.specs.declared.place.Place.{Place}
 use Rattle.mlc_faults.specs.File.{File}
 use Rattle.mlc_faults.specs.Files.{LiesIn}
 use Rattle.mlc_faults.specs.declared.code.Code.{Code}
@@ -36,6 +37,10 @@ pub record IsTold (names : List (List ℕ)) (reads : List File) (f : base.Fault)
   pub code : is_of_elaboration f.code ≡ true
   pub lies : LiesIn f.place reads
   pub held : ForSome f.name (λ n. n < length names)
+
+-- a fault of this code at this place, or one that tells that there is no typing
+abbrev pub IsThere : Code → Place → base.Fault → Type 0
+IsThere code place f = ((f.code ≡ code) × (f.place ≡ place)) ⊎ (f.code ≡ NoTyping)
 
 -- that an identifier isn't bound, and that a restriction is broken, are told at the place that elaboration gave
 pub record Tells (s : Stopped) (f : base.Fault) : Type 0 where

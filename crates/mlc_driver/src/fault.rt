@@ -1,10 +1,10 @@
 // How a project is refused that doesn't elaborate.
 
-ghost use Rattle.std.specs.Prelude.{◌≡◌, ◌<◌, ◌⊎◌, true, length, None, IfOk, IsTrue};
+ghost use Rattle.std.specs.Prelude.{◌≡◌, ◌<◌, true, length, None, IfOk, IsTrue};
 ghost use Rattle.mlc_faults.specs.Files.{LiesIn};
-ghost use Rattle.mlc_faults.specs.declared.code.Code.TheVariants.{NoTyping};
+ghost use Rattle.mlc_faults.specs.declared.code.Code.TheVariants.{Unbound};
 ghost use Rattle.sml_lexer.specs.NameTable.{Keeps};
-ghost use Rattle.mlc_driver.specs.Fault.{is_of_elaboration, IsTold, OnFault, Tells};
+ghost use Rattle.mlc_driver.specs.Fault.{is_of_elaboration, IsThere, IsTold, OnFault, Tells};
 
 use crate::identifier::identifier_at;
 use elab_types::refused::Refused as Cause;
@@ -66,7 +66,7 @@ fn fault_there(code: Code, files: &Files, reads: u32, place: Place) -> Fault
     ensures code { is_of_elaboration result.code ≡ true }
     ensures lies { LiesIn result.place files.now }
     ensures unnamed { result.name ≡ None }
-    ensures there { (result.place ≡ place) ⊎ (result.code ≡ NoTyping) }
+    ensures there { IsThere code place result }
 {
     if lies(files, reads, place) {
         Fault {
@@ -91,7 +91,7 @@ fn unbound_at(
     requires some { LiesIn (record { file = 0; byte = 0 }) files.now }
     ensures kept { Keeps names.old names.new }
     ensures told { IfOk result (λ fault. IsTold names.new files.now fault) }
-    ensures there { IfOk result (λ fault. (fault.place ≡ place) ⊎ (fault.code ≡ NoTyping)) }
+    ensures there { IfOk result (λ fault. IsThere Unbound place fault) }
 {
     if !lies(files, reads, place) {
         return Ok(fault_at(Code::NoTyping, files, reads, place));
