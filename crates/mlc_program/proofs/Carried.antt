@@ -20,7 +20,7 @@ use Rattle.mlc_program.specs.declared.exit.Exit.TheVariants.{Ended, Uncaught, St
 -- a refusal that is none of loading comes after it
 loaded-at : (f : Files) (c : Command) (names : List (List ℕ)) (fault : Fault) (reads : List File) → ¬ (IsBroken f c.input fault reads) → Breaks f c.input names fault reads → IsLoaded (Some f) c
 loaded-at f c names fault reads none (in_loading b e) = absurd (none b)
-loaded-at f c names fault reads none (in_project {before = before} {parts = parts} p k e) = record { names = before; parts = parts; reads = reads; is_project = p }
+loaded-at f c names fault reads none (in_project {before = before} {parts = parts} p k e w) = record { names = before; parts = parts; reads = reads; is_project = p }
 loaded-at f c names fault reads none (in_size {p = p} o g) = record { names = o.before; parts = o.parts; reads = reads; is_project = o.is_project }
 
 module _ (words : List (List ℕ)) (c : Command) (is : IsCommand words c) (old new : Disk) (out out' : Stream) where
