@@ -279,7 +279,7 @@ fn sources_leave_exceptions_of_the_basis(rt: HostRuntime) -> Result<(), Fail> {
 
 // Sources that are refused, and the line that tells why: E30 at the identifier, which is told whole; E31 at the source's declaration that has no typing; E33 at
 // the smallest phrase that the restriction speaks of.
-const CORE_REFUSED: [(&str, &str); 37] = [
+const CORE_REFUSED: [(&str, &str); 44] = [
     ("fun f x = g x", "p.sml:1.11: E30 unbound identifier g\n"),
     (
         "fun f (Leaf x) = x",
@@ -345,6 +345,28 @@ const CORE_REFUSED: [(&str, &str); 37] = [
     (
         "val r = {a = 1, a = 2}",
         "p.sml:1.9: E33 restriction broken\n",
+    ),
+    (
+        "val f = fn (x, x) => 1",
+        "p.sml:1.12: E33 restriction broken\n",
+    ),
+    ("fun f x x = 1", "p.sml:1.5: E33 restriction broken\n"),
+    (
+        "val f = fn (NONE as y) => 1",
+        "p.sml:1.13: E33 restriction broken\n",
+    ),
+    ("exception E of 'a", "p.sml:1.16: E31 no typing\n"),
+    (
+        "datatype t = A of u v withtype 'a v = int",
+        "p.sml:1.19: E31 no typing\n",
+    ),
+    (
+        "val x = let val y = z in y end",
+        "p.sml:1.21: E30 unbound identifier z\n",
+    ),
+    (
+        "exception E exception F = G",
+        "p.sml:1.27: E30 unbound identifier G\n",
     ),
     ("open S", "p.sml:1.6: E30 unbound identifier S\n"),
     (
