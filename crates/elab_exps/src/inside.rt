@@ -16,6 +16,7 @@ use general_decs::add::add;
 use general_decs::begin::Begun;
 use general_decs::outside::{step_in, step_out};
 use general_decs::values::is_non_expansive;
+use mlc_base::memory::NoMemory;
 use pat_elab::bound::{BoundVariable, TypedPat};
 use pat_elab::elab::elab_pat;
 use pat_elab::stopped::Stopped;
@@ -27,12 +28,14 @@ use sml_tree::tree::{Bind, Exp, Pat};
 use std::alloc::Global;
 use use_elab::typed::TypedExp;
 
-/// What was made of bindings so far: what they bind, whether each of these is generalised, and the program's bindings.
+/// What was made of bindings so far: what they bind, whether each of these is generalised, and the program's bindings; and of each record pattern with `...` in
+/// them whether its binding is generalised.
 #[derive(Drop)]
 pub struct Inside {
     pub bound: Vec<BoundVariable>,
     pub flags: Vec<bool>,
     pub binds: Vec<(Binding, Rule)>,
+    pub flexible: Vec<bool>,
 }
 
 /// No bindings.
@@ -45,6 +48,7 @@ pub fn none_inside(alloc: Global) -> Inside
         bound: Vec::new(alloc),
         flags: Vec::new(alloc),
         binds: Vec::new(alloc),
+        flexible: Vec::new(alloc),
     }
 }
 
@@ -104,6 +108,20 @@ fn binding_pat(
     }
 }
 
+/// Notes of the record patterns with `...` that came last whether their binding is generalised.
+fn ask(
+    state: &State,
+    begun: Begun,
+    general: bool,
+    flexible: &mut Vec<bool>,
+) -> Result<(), NoMemory> {
+    let count = state.flexible.len().saturating_sub(begun.flexible);
+    for _ in flexible.len()..count {
+        flexible.push(general)?;
+    }
+    Ok(())
+}
+
 /// One binding more, with its expression.
 pub fn add_binding(
     alloc: Global,
@@ -134,5 +152,6 @@ pub fn add_binding(
     add(
         alloc, state, context, place, general, pat, exp, bound, flags, binds,
     )?;
+    ask(state, begun, general, &mut inside.flexible)?;
     Ok(())
 }

@@ -19,6 +19,7 @@ impl State {
         ensures general { IfOk result (λ s. general_in s ≡ []) }
         ensures next { IfOk result (λ s. s.next ≡ 0) }
         ensures level { IfOk result (λ s. s.level ≡ 0) }
+        ensures flexible { IfOk result (λ s. s.flexible.items ≡ []) }
     {
         let solver = Solver::new(alloc)?;
         let tables = Tables::new(alloc)?;
@@ -29,6 +30,7 @@ impl State {
             tables,
             next: 0,
             level: 0,
+            flexible: Vec::new(alloc),
         })
     }
 }

@@ -10,3 +10,4 @@ pub mod Instancing
 pub mod Sorting
 pub mod Opening
 pub mod Bounding
+pub mod Flexing

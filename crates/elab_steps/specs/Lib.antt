@@ -10,3 +10,4 @@ pub mod World
 pub mod Growing
 pub mod Instances
 pub mod Rows
+pub mod Flexible

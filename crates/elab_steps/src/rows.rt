@@ -10,6 +10,7 @@ ghost use Rattle.elab_steps.specs.Growing.{HasType, Always, Grows, IsLimited, Is
 ghost use Rattle.elab_steps.specs.Rows.{AreBounded, HasFields, row_of};
 ghost use Rattle.elab_steps.specs.World.{type_of};
 
+use crate::flexible::note_flexible;
 use crate::step::{apply, fresh_row, fresh_type, unify};
 use elab_state::state::State;
 use elab_types::refused::Refused;
@@ -118,7 +119,7 @@ fn bounded_parts(
     Ok(parts)
 }
 
-/// A type of records with these fields and perhaps others, whose variables reach no further than a limit; none of the fields has a label twice.
+/// A type of records with these fields and perhaps others, whose variables reach no further than a limit; none of the fields has a label twice. It is noted.
 pub fn open_record_type(
     alloc: Global,
     state: &mut State,
@@ -147,5 +148,7 @@ pub fn open_record_type(
         labels,
         types,
     };
-    Ok(fresh_row(alloc, state, row, limit)?)
+    let ty = fresh_row(alloc, state, row, limit)?;
+    note_flexible(state, ty)?;
+    Ok(ty)
 }

@@ -1,5 +1,5 @@
 -- What variables stand for at the end of elaboration, and the world that a state tells then.
-use Rattle.std.specs.Prelude.{◌≡◌, ◌++◌, ℕ, Bool, true, false, if◌then◌else◌, List, [], refl}
+use Rattle.std.specs.Prelude.{◌≡◌, ◌++◌, ℕ, true, false, if◌then◌else◌, List, [], refl}
 use Rattle.ty_core.specs.Types.{Typ, var, con, none, labels, name}
 use Rattle.ty_core.specs.Marks.{overloaded}
 use Rattle.ty_core.specs.declared.mark.Class.{Class}
@@ -13,6 +13,7 @@ use Rattle.elab_state.specs.States.{types_in, made, said_in, general_in, numbers
 use Rattle.elab_state.specs.declared.state.State.{State}
 use Rattle.elab_steps.specs.Growing.{Grows}
 use Rattle.elab_steps.specs.Ordered.{is_ordered}
+pub use Rattle.elab_steps.specs.Flexible.{is_row}
 pub use Rattle.elab_steps.specs.Tidy.{AreConstructors, is_parameter}
 use Rattle.elab_steps.specs.Tidy.{IsTidy}
 use Rattle.elab_steps.specs.World.{World, Comes}
@@ -41,11 +42,6 @@ final_at qs g v (row e ks us) = con (labels ks) (subs g us)
 -- g says what each variable of the state stands for in the end
 abbrev pub IsFinal : State → (ℕ → Typ) → Type 0
 IsFinal S g = (v : ℕ) → g v ≡ final_at (general_in S) g v (said_in S v)
-
-abbrev pub is_row : Entry → Bool
-is_row (free k) = false
-is_row (bound t) = false
-is_row (row e ks us) = true
 
 -- the fields of each record are settled, and in each type of the table the labels of records stand in order
 pub record IsOrdered (S : State) : Type 0 where

@@ -60,6 +60,7 @@ pub fn finish(alloc: Global, state: State) -> Result<Finished, NoMemory>
         tables,
         next: _,
         level: _,
+        flexible: _,
     } = state;
     let mut finished = tables;
     match enter_types(alloc, &solver, &namings, &written, &mut finished.types) {

@@ -21,11 +21,12 @@ use std::alloc::Global;
 use ty_core::mark::Mark;
 use ty_solve::limit::Limit;
 
-/// Where a declaration began: its first variable of types, and how many type variables are in scope outside.
+/// Where a declaration began: its first variable of types, how many type variables are in scope outside, and its first record pattern with `...`.
 #[derive(Clone, Copy)]
 pub struct Begun {
     pub first: usize,
     pub tyvars: usize,
+    pub flexible: usize,
 }
 
 /// What is asked of the types of a type variable.
@@ -159,7 +160,12 @@ pub fn begin(
     ensures tyvars { IfOk result (λ b. b.tyvars ≡ length context.old.types.tyvars) }
 {
     let tyvars = context.types.tyvars.len();
+    let flexible = state.flexible.len();
     let first = enter_both(state, context)?;
     scope_tyvars(alloc, state, context, place, scoped)?;
-    Ok(Begun { first, tyvars })
+    Ok(Begun {
+        first,
+        tyvars,
+        flexible,
+    })
 }

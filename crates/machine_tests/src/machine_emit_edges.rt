@@ -91,18 +91,9 @@ fn show(ops: &mut Vec<Op>, shown: Shown) -> Result<(), NoMemory> {
 
 static RAISED: [Op; 2] = [Op::Begin, Op::Raise(9)];
 
-static WHERE_FALSE: [Op; 4] = [
-    Op::Begin,
-    Op::Begin,
-    Op::Do(Action::Is(Constant::Truth(false)), &[], 8),
-    Op::Goto(0, &[8]),
-];
+static WHERE_FALSE: [Op; 4] = [Op::Begin, Op::Begin, Op::Make(0, &[], 8), Op::Goto(0, &[8])];
 
-static WHERE_TRUE: [Op; 3] = [
-    Op::Do(Action::Is(Constant::Truth(true)), &[], 8),
-    Op::Goto(0, &[8]),
-    Op::Label(&[9]),
-];
+static WHERE_TRUE: [Op; 3] = [Op::Make(1, &[], 8), Op::Goto(0, &[8]), Op::Label(&[9])];
 
 /// A test whose outcome is in variable 9.
 fn perform_test(ops: &mut Vec<Op>, when: Op) -> Result<(), NoMemory> {
@@ -136,7 +127,7 @@ static TRUTH: [Op; 8] = [
     Op::Begin,
     Op::Do(Action::Is(Constant::Int(0)), &[], 1),
     Op::Ret(1),
-    Op::When(Test::Is(Constant::Truth(true)), &[0]),
+    Op::Case(0, 1, &[]),
     Op::Do(Action::Is(Constant::Int(1)), &[], 1),
     Op::Ret(1),
     Op::Fun(&[0]),

@@ -1,9 +1,10 @@
--- Names of phrases are held, and their places lie in files.
-use Rattle.std.proofs.Common.{◌≡◌, ℕ, ◌<◌, ◌≤◌, List, [], ◌∷◌, ◌++◌, length, map, take, drop, min, get_or, All, Some, None, refl, ap, subst, sym, ◌∙◌, arith, append_assoc}
+-- Names in sources are held, and their places lie in files.
+use Rattle.std.proofs.Common.{◌≡◌, ℕ, ◌<◌, ◌≤◌, List, [], ◌∷◌, ◌++◌, length, map, take, drop, min, get_or, All, Some, None, refl, ap, subst, sym, ◌∙◌, arith}
+use Rattle.std.specs.Prelude.{⊤}
 use Rattle.std.specs.Option.{ForSome}
 use Rattle.std.proofs.lemmas.Bool.{ltb-true}
 use Rattle.std.proofs.lemmas.List.{get_or_default, length-take, take-append-drop, take-append-le}
-use Rattle.std.proofs.lemmas.List.Elements.{All-append, All-cons, All-nil, All-same, All-weaker}
+use Rattle.std.proofs.lemmas.List.Elements.{All-weaker}
 use Rattle.mlc_faults.specs.File.{File}
 use Rattle.mlc_faults.specs.Files.{LiesIn}
 use Rattle.mlc_base.specs.declared.place.Place.{Place}
@@ -24,18 +25,19 @@ use Rattle.module_code.specs.TreeOf.{top_of}
 use Rattle.module_code.specs.declared.sources.Top.{Top}
 use Rattle.phrase_base.specs.Left.{left}
 use Rattle.phrase_base.specs.declared.source.Source.{Source}
-use Rattle.sml_rules.specs.Basis.{IsTable}
-use Rattle.sml_rules.specs.Phrases.{Phrase, brings_basis, foreign, decs_phrases, parts_phrases}
-use Rattle.sml_rules.specs.Project.{Part, standard_basis, source, cut}
+use Rattle.mlb_reader.specs.Table.{IsTable}
+use Rattle.mlb_reader.specs.Parts.{Part, standard_basis}
 use Rattle.mlc_names.proofs.NamesLemmas.{standard_words-apart}
 use Rattle.mlb_reader.specs.Loading.{Grows, IsKnown, IsPlaceOf}
 use Rattle.mlb_reader.specs.Project.{Loaded, most_bytes}
 use Rattle.mlb_reader.specs.Tops.{part_of_tops}
-use Rattle.mlb_reader.specs.Within.{AllPlacedIn, HoldsAll, HoldsName, PlacedIn}
+use Rattle.mlb_reader.specs.Within.{PartIn, AllPlacedIn, HoldsAll}
 use Rattle.mlb_reader.proofs.FileLemmas.{lies-grown, lies-last}
 use Rattle.mlb_reader.proofs.SourceLemmas.{token-within}
 use Rattle.mlb_reader.proofs.Within.{part-holds, part-placed}
+use Rattle.mlb_reader.proofs.WithinChains.{each-append}
 use Rattle.mlb_reader.proofs.WithinTokens.{kind_name, terminals-hold, terminals-placed}
+use Rattle.mlb_reader.proofs.WithinWeaker.{parts-weaker}
 
 -- One source.
 
@@ -62,59 +64,48 @@ module _ (it : ℕ) (s : Source) (f f' : Fixity) (tokens : List Token) (tops : L
   part-is : part ≡ part_of_tops (bare_tops it s.file h.tree)
   part-is = same ∙ ap part_of_tops h.bare
 
-  pub source-holds : (texts : List (List ℕ)) → it < length texts → HoldsAllNames texts tokens → HoldsAll (length texts) (parts_phrases (part ∷ []))
+  pub source-holds : (texts : List (List ℕ)) → it < length texts → HoldsAllNames texts tokens → HoldsAll (length texts) (part ∷ [])
   source-holds texts named held =
       let kinds = All-weaker (λ (t : Token). HoldsNames texts t.kind) (λ t. ForSome (kind_name t.kind) (λ n. n < length texts)) (λ t k. kind-holds texts t.kind k) tokens held in
-      subst (λ p. HoldsAll (length texts) (parts_phrases (p ∷ []))) (sym part-is) (part-holds (length texts) it s.file f (left s tokens) h.tree h.is.0 named (terminals-hold (length texts) s.star tokens kinds))
+      subst (λ p. HoldsAll (length texts) (p ∷ [])) (sym part-is) (part-holds (length texts) it s.file f (left s tokens) h.tree h.is.0 named (terminals-hold (length texts) s.star tokens kinds))
 
-  pub source-placed : (size : ℕ) → Rises 0 tokens size → AllPlacedIn (IsPlaceOf s.file size) (parts_phrases (part ∷ []))
+  pub source-placed : (size : ℕ) → Rises 0 tokens size → AllPlacedIn (IsPlaceOf s.file size) (part ∷ [])
   source-placed size rises =
       let within : All (λ (t : Token). IsPlaceOf s.file size (record { file = s.file; byte = t.span.first })) tokens = λ k d lt. (refl, token-within 0 size tokens k (get_or tokens k d) rises lt (get_or_default tokens k d _ lt)) in
-      subst (λ p. AllPlacedIn (IsPlaceOf s.file size) (parts_phrases (p ∷ []))) (sym part-is)
+      subst (λ p. AllPlacedIn (IsPlaceOf s.file size) (p ∷ [])) (sym part-is)
       (part-placed (IsPlaceOf s.file size) it s.file f (left s tokens) h.tree h.is.0 (terminals-placed (λ p. IsPlaceOf s.file size (record { file = s.file; byte = p })) s.star tokens within))
 
 -- What was loaded.
 
-phrases-append : (ps qs : List Part) → parts_phrases (ps ++ qs) ≡ parts_phrases ps ++ parts_phrases qs
-phrases-append [] qs = refl
-phrases-append (standard_basis ∷ ps) qs = ap (λ xs. brings_basis ∷ xs) (phrases-append ps qs)
-phrases-append (source ds ∷ ps) qs = ap (λ xs. decs_phrases ds ++ xs) (phrases-append ps qs) ∙ sym (append_assoc (decs_phrases ds) (parts_phrases ps) (parts_phrases qs))
-phrases-append (cut ds p ∷ ps) qs = ap (λ xs. decs_phrases ds ++ foreign p ∷ xs) (phrases-append ps qs) ∙ sym (append_assoc (decs_phrases ds) (foreign p ∷ parts_phrases ps) (parts_phrases qs))
+more-hold : (a b : ℕ) (xs : List Part) → a ≤ b → HoldsAll a xs → HoldsAll b xs
+more-hold a b xs le h = parts-weaker (λ p. ⊤) (λ p. ⊤) (λ n. n < a) (λ n. n < b) (λ p t. t) (λ n lt. omega (arith, lt, le)) xs h
 
-more-hold : (a b : ℕ) (xs : List Phrase) → a ≤ b → HoldsAll a xs → HoldsAll b xs
-more-hold a b xs le h = All-weaker (HoldsName a) (HoldsName b) (λ x k n e. omega (arith, k n e, le)) xs h
-
-more-placed : (P Q : Place → Type 0) (xs : List Phrase) → ((p : Place) → P p → Q p) → AllPlacedIn P xs → AllPlacedIn Q xs
-more-placed P Q xs w h = All-weaker (PlacedIn P) (PlacedIn Q) (λ x k p e. w p (k p e)) xs h
+more-placed : (P Q : Place → Type 0) (xs : List Part) → ((p : Place) → P p → Q p) → AllPlacedIn P xs → AllPlacedIn Q xs
+more-placed P Q xs w h = parts-weaker P Q (λ n. ⊤) (λ n. ⊤) w (λ n t. t) xs h
 
 module _ (b : List (List ℕ)) (s : Loaded) (keeps : Keeps s.names b) (table : IsTable b) (known : IsKnown s) (reads : List File) (grows : Grows s.reads reads) where
-  more-known : (fixities : Fixity) (parts : List Part) → HoldsAll (length b) (parts_phrases parts) → AllPlacedIn (λ place. LiesIn place reads) (parts_phrases parts) → IsKnown (record { names = b; fixities = fixities; parts = s.parts ++ parts; reads = reads })
+  more-known : (fixities : Fixity) (parts : List Part) → HoldsAll (length b) parts → AllPlacedIn (λ place. LiesIn place reads) parts → IsKnown (record { names = b; fixities = fixities; parts = s.parts ++ parts; reads = reads })
   more-known fixities parts held placed = record {
     table = table;
-    held = All-same (HoldsName (length b)) (parts_phrases (s.parts ++ parts)) (parts_phrases s.parts ++ parts_phrases parts) (phrases-append s.parts parts)
-        (All-append (HoldsName (length b)) (parts_phrases s.parts) (parts_phrases parts) (more-hold (length s.names) (length b) (parts_phrases s.parts) (keeps_no_fewer s.names b keeps) known.held) held);
-    placed = All-same (PlacedIn (λ place. LiesIn place reads)) (parts_phrases (s.parts ++ parts)) (parts_phrases s.parts ++ parts_phrases parts) (phrases-append s.parts parts)
-        (All-append (PlacedIn (λ place. LiesIn place reads)) (parts_phrases s.parts) (parts_phrases parts)
-        (more-placed (λ place. LiesIn place s.reads) (λ place. LiesIn place reads) (parts_phrases s.parts) (λ place lies. lies-grown place s.reads reads grows lies) known.placed) placed);
+    held = each-append (PartIn (λ p. ⊤) (λ n. n < length b)) s.parts parts (more-hold (length s.names) (length b) s.parts (keeps_no_fewer s.names b keeps) known.held) held;
+    placed = each-append (PartIn (λ place. LiesIn place reads) (λ n. ⊤)) s.parts parts
+        (more-placed (λ place. LiesIn place s.reads) (λ place. LiesIn place reads) s.parts (λ place lies. lies-grown place s.reads reads grows lies) known.placed) placed;
   }
 
   pub basis-known : (fixities : Fixity) (e : Loaded) → e ≡ record { names = b; fixities = fixities; parts = s.parts ++ standard_basis ∷ []; reads = reads } → IsKnown e
-  basis-known fixities e same =
-      let held : HoldsAll (length b) (brings_basis ∷ []) = All-cons (HoldsName (length b)) brings_basis [] (none-held (length b)) (All-nil (HoldsName (length b))) in
-      let placed : AllPlacedIn (λ place. LiesIn place reads) (brings_basis ∷ []) = All-cons (PlacedIn (λ place. LiesIn place reads)) brings_basis [] (λ p k. absurd (let no : None ≡ Some p = k in cc)) (All-nil (PlacedIn (λ place. LiesIn place reads))) in
-      subst IsKnown (sym same) (more-known fixities (standard_basis ∷ []) held placed)
+  basis-known fixities e same = subst IsKnown (sym same) (more-known fixities (standard_basis ∷ []) (tt, tt) (tt, tt))
 
   pub source-known : (fixities : Fixity) (part : Part) (file : File) (number size : ℕ) (e : Loaded) → reads ≡ s.reads ++ file ∷ [] → number ≡ length s.reads → size ≡ length file.bytes → length file.bytes ≤ most_bytes →
-      HoldsAll (length b) (parts_phrases (part ∷ [])) → AllPlacedIn (IsPlaceOf number size) (parts_phrases (part ∷ [])) → e ≡ record { names = b; fixities = fixities; parts = s.parts ++ part ∷ []; reads = reads } → IsKnown e
+      HoldsAll (length b) (part ∷ []) → AllPlacedIn (IsPlaceOf number size) (part ∷ []) → e ≡ record { names = b; fixities = fixities; parts = s.parts ++ part ∷ []; reads = reads } → IsKnown e
   source-known fixities part file number size e added at sized small held placed same =
-      let lies = more-placed (IsPlaceOf number size) (λ place. LiesIn place reads) (parts_phrases (part ∷ [])) (λ place h. lies-last place s.reads reads file added (h.0 ∙ at) (omega (arith, h.1, sized)) small) placed in
+      let lies = more-placed (IsPlaceOf number size) (λ place. LiesIn place reads) (part ∷ []) (λ place h. lies-last place s.reads reads file added (h.0 ∙ at) (omega (arith, h.1, sized)) small) placed in
       subst IsKnown (sym same) (more-known fixities (part ∷ []) held lies)
 
 pub nothing-known : (s : Loaded) → IsTable s.names → s.parts ≡ [] → IsKnown s
 nothing-known s table e = record {
   table = table;
-  held = subst (λ ps. HoldsAll (length s.names) (parts_phrases ps)) (sym e) (All-nil (HoldsName (length s.names)));
-  placed = subst (λ ps. AllPlacedIn (λ place. LiesIn place s.reads) (parts_phrases ps)) (sym e) (All-nil (PlacedIn (λ place. LiesIn place s.reads)));
+  held = subst (HoldsAll (length s.names)) (sym e) tt;
+  placed = subst (AllPlacedIn (λ place. LiesIn place s.reads)) (sym e) tt;
 }
 
 -- Tables.

@@ -11,7 +11,7 @@ use Rattle.mlc_outside.specs.Files.{Files}
 use Rattle.mlc_outside.specs.Store.{HasFile}
 use Rattle.mlc_names.specs.StandardWords.{standard_words}
 use Rattle.sml_tree.specs.Fixity.{Fixity}
-use Rattle.sml_rules.specs.Project.{Part}
+use Rattle.mlb_reader.specs.Parts.{Part}
 use Rattle.mlb_reader.specs.Broken.{IsBad, IsBroken, IsMissing, fault_at, large_mlb, no_mlb, variable, extension, too_many, too_large, bad_source}
 use Rattle.mlb_reader.specs.Loading.{BreaksAt, BreaksFirst, IsBegun, IsFetched, IsTooLarge, MissesAt, NeedsAt, path_fault}
 use Rattle.mlb_reader.specs.Mlb.{Item, basis_path, has_variable, is_source}

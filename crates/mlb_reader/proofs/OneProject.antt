@@ -23,7 +23,7 @@ use Rattle.module_tree.specs.ModuleGrammar as modules
 use Rattle.module_tree.specs.Scope.{after_tops}
 use Rattle.sml_tree.specs.Terminal.{Terminal, reserved, number, constant, alpha, symbol, star, long_alpha, long_symbol, long_star, type_var, word, char, string, terminal_at, terminal_of, terminals}
 use Rattle.module_grammar.specs.Laws.{OneTree}
-use Rattle.sml_rules.specs.Project.{Part}
+use Rattle.mlb_reader.specs.Parts.{Part}
 use Rattle.mlb_reader.specs.Laws.{OneProject}
 use Rattle.mlb_reader.specs.Mlb.{Item, Reads, no_more, a_blank, a_path, IsPath, is_parted, basis_path, has_variable}
 use Rattle.mlb_reader.specs.Project.{IsSource, Loaded, Loads, no_item, the_basis, a_source, with_basis, with_source, begun}

@@ -17,7 +17,7 @@ use Rattle.module_tree.specs.ModuleBare.{bare_tops}
 use Rattle.module_grammar.specs.Laws.{IsTree}
 use Rattle.module_code.specs.TreeOf.{top_of}
 use Rattle.module_code.specs.declared.sources.Top.{Top}
-use Rattle.sml_rules.specs.Project.{Part}
+use Rattle.mlb_reader.specs.Parts.{Part}
 use Rattle.phrase_base.specs.Left.{left}
 use Rattle.phrase_base.specs.declared.source.Source.{Source}
 use Rattle.mlb_reader.specs.Broken.{IsBad, no_tokens, no_tree}

@@ -8,7 +8,7 @@ use Rattle.module_tree.specs.BareModules as bare
 use Rattle.module_tree.specs.BareModules.{str_top, signature_top, functor_top, core_dec, structure_dec, local_str}
 use Rattle.module_code.specs.TreeOf.{top_of}
 use Rattle.module_code.specs.declared.sources.Top.{Top}
-use Rattle.sml_rules.specs.Project.{Part}
+use Rattle.mlb_reader.specs.Parts.{Part}
 use Rattle.mlb_reader.specs.Tops.{core_before, first_other, part_from, part_of_tops}
 
 abbrev core_top : Dec → bare.Top

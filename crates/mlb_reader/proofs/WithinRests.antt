@@ -1,12 +1,10 @@
--- What holds of all terminals holds of those after a phrase: types, heads of clauses and bindings of names.
+-- What holds of all terminals holds of those after a type, a sequence of type variables, and what is in a directive.
 use Rattle.std.proofs.Common.{ℕ, List, Option}
 use Rattle.std.specs.List.{AllByRecursion}
 use Rattle.sml_tree.specs.declared.ident.Tyvar.{Tyvar}
-use Rattle.sml_tree.specs.declared.ident.Vid.{Vid}
-use Rattle.sml_tree.specs.Terminal.{LongVid, LongId, Terminal}
-use Rattle.sml_tree.specs.Fixity.{Fixity}
-use Rattle.sml_tree.specs.ReadTree.{Placed, Ty, Tys, TyFields, TypeBind, ConBind, DataBind, ExBind}
-use Rattle.sml_tree.specs.Grammar.{ReadsTy, of_tyvar, of_no_ty_row, of_ty_row, of_tycon, of_tycon_1, of_tycon_n, of_product, of_arrow, of_paren_ty, TyRow, last_ty_row, more_ty_row, TyCommas, last_ty, more_tys, Stars, last_star, more_stars, Arrows, last_arrow, more_arrows, MaybeTy, without_ty, with_ty, BindsVid, plain_vid, op_vid, NamesVid, plain_long, qualified, op_long, TyvarCommas, last_tyvar, more_tyvars, Tyvars, no_tyvars, one_tyvar, tyvars_in_brackets, OneTypeBind, type_bind, TypeBinds, last_type_bind, more_type_binds, MaybeOf, without_of, with_of, ConBinds, last_con, more_cons, OneDataBind, data_bind, DataBinds, last_data_bind, more_data_binds, OneExBind, new_exception, same_exception, ExBinds, last_exn, more_exns, Strids, last_strid, more_strids, DirectiveVids, last_vid, more_vids, ReadsPrecedence, no_precedence, a_precedence}
+use Rattle.sml_tree.specs.Terminal.{Terminal}
+use Rattle.sml_tree.specs.ReadTree.{Ty, Tys, TyFields}
+use Rattle.sml_tree.specs.Grammar.{ReadsTy, of_tyvar, of_no_ty_row, of_ty_row, of_tycon, of_tycon_1, of_tycon_n, of_product, of_arrow, of_paren_ty, TyRow, last_ty_row, more_ty_row, TyCommas, last_ty, more_tys, Stars, last_star, more_stars, Arrows, last_arrow, more_arrows, MaybeTy, without_ty, with_ty, TyvarCommas, last_tyvar, more_tyvars, Tyvars, no_tyvars, one_tyvar, tyvars_in_brackets, MaybeOf, without_of, with_of, DirectiveVids, last_vid, more_vids, ReadsPrecedence, no_precedence, a_precedence}
 
 module _ (Q : Terminal → Type 0) where
   abbrev pub Each : List Terminal → Type 0
@@ -44,18 +42,9 @@ module _ (Q : Terminal → Type 0) where
   maybe_ty-rest without_ty g = g
   maybe_ty-rest (with_ty p d) g = ty-rest d g.1
 
-  maybe_of-rest : {i o : List Terminal} {a : Option Ty} → MaybeOf i a o → Each i → Each o
+  pub maybe_of-rest : {i o : List Terminal} {a : Option Ty} → MaybeOf i a o → Each i → Each o
   maybe_of-rest without_of g = g
   maybe_of-rest (with_of p d) g = ty-rest d g.1
-
-  pub binds_vid-rest : {f : Fixity} {i o : List Terminal} {p : ℕ} {v : Placed Vid} → BindsVid f i p v o → Each i → Each o
-  binds_vid-rest (plain_vid v e) g = g.1
-  binds_vid-rest (op_vid p v) g = g.1.1
-
-  names_vid-rest : {f : Fixity} {i o : List Terminal} {p : ℕ} {x : Placed LongVid} → NamesVid f i p x o → Each i → Each o
-  names_vid-rest (plain_long v e) g = g.1
-  names_vid-rest (qualified v) g = g.1
-  names_vid-rest (op_long p v) g = g.1.1
 
   tyvar_commas-rest : {i o : List Terminal} {as_ : List Tyvar} → TyvarCommas i as_ o → Each i → Each o
   tyvar_commas-rest (last_tyvar p q a) g = g.1.1
@@ -65,36 +54,6 @@ module _ (Q : Terminal → Type 0) where
   tyvars-rest no_tyvars g = g
   tyvars-rest (one_tyvar p a) g = g.1
   tyvars-rest (tyvars_in_brackets p d) g = tyvar_commas-rest d g.1
-
-  type_bind-rest : {i o : List Terminal} {b : TypeBind} → OneTypeBind i b o → Each i → Each o
-  type_bind-rest (type_bind r begins as_ c d) g = ty-rest d (tyvars-rest as_ g).1.1
-
-  pub type_binds-rest : {i o : List Terminal} {bs : List TypeBind} → TypeBinds i bs o → Each i → Each o
-  type_binds-rest (last_type_bind d) g = type_bind-rest d g
-  type_binds-rest (more_type_binds p d ds) g = type_binds-rest ds (type_bind-rest d g).1
-
-  cons-rest : {f : Fixity} {i o : List Terminal} {cs : List ConBind} → ConBinds f i cs o → Each i → Each o
-  cons-rest (last_con v d) g = maybe_of-rest d (binds_vid-rest v g)
-  cons-rest (more_cons q v d ds) g = cons-rest ds (maybe_of-rest d (binds_vid-rest v g)).1
-
-  data_bind-rest : {f : Fixity} {i o : List Terminal} {b : DataBind} → OneDataBind f i b o → Each i → Each o
-  data_bind-rest (data_bind r begins as_ c d) g = cons-rest d (tyvars-rest as_ g).1.1
-
-  pub data_binds-rest : {f : Fixity} {i o : List Terminal} {bs : List DataBind} → DataBinds f i bs o → Each i → Each o
-  data_binds-rest (last_data_bind d) g = data_bind-rest d g
-  data_binds-rest (more_data_binds p d ds) g = data_binds-rest ds (data_bind-rest d g).1
-
-  ex_bind-rest : {f : Fixity} {i o : List Terminal} {b : ExBind} → OneExBind f i b o → Each i → Each o
-  ex_bind-rest (new_exception v d) g = maybe_of-rest d (binds_vid-rest v g)
-  ex_bind-rest (same_exception r v x) g = names_vid-rest x (binds_vid-rest v g).1
-
-  pub ex_binds-rest : {f : Fixity} {i o : List Terminal} {bs : List ExBind} → ExBinds f i bs o → Each i → Each o
-  ex_binds-rest (last_exn d) g = ex_bind-rest d g
-  ex_binds-rest (more_exns p d ds) g = ex_binds-rest ds (ex_bind-rest d g).1
-
-  pub strids-rest : {i o : List Terminal} {xs : List (Placed LongId)} → Strids i xs o → Each i → Each o
-  strids-rest (last_strid x) g = g.1
-  strids-rest (more_strids x d) g = strids-rest d g.1
 
   pub directive-rest : {i o : List Terminal} {xs : List ℕ} → DirectiveVids i xs o → Each i → Each o
   directive-rest (last_vid v) g = g.1

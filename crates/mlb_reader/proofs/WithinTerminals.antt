@@ -1,18 +1,15 @@
 -- Places and names of terminals, and those of the identifiers and constants that terminals are.
-use Rattle.std.proofs.Common.{ℕ, ◌<◌, List, [], ◌∷◌, Option, Some, None, IfSome}
+use Rattle.std.proofs.Common.{ℕ, ◌<◌, List, Option, Some, None, IfSome}
 use Rattle.std.specs.List.{AllByRecursion}
 use Rattle.std.specs.Option.{ForSome}
 use Rattle.mlc_base.specs.declared.place.Place.{Place}
 use Rattle.sml_tree.specs.declared.ident.Vid.{Vid}
-use Rattle.sml_tree.specs.declared.ident.Vid.TheVariants.{Named}
 use Rattle.sml_tree.specs.Terminal.{Constant, LongVid, Terminal, reserved, number, constant, alpha, symbol, star, long_alpha, long_symbol, long_star, type_var, IsConstant, is_number, is_constant, IsVid, alpha_vid, symbol_vid, star_vid, IsQualifiedVid, long_alpha_vid, long_symbol_vid, long_star_vid, IsAnyVid, any_named, any_equals, IsAnyLongVid, any_short, any_long}
-use Rattle.sml_tree.specs.Terminal as term
 use Rattle.sml_tree.specs.Fixity.{Fixity}
 use Rattle.sml_tree.specs.Bare.{at}
 use Rattle.sml_tree.specs.ReadTree.{Placed}
 use Rattle.sml_tree.specs.Grammar.{BindsVid, plain_vid, op_vid, NamesVid, plain_long, qualified, op_long}
-use Rattle.sml_rules.specs.Phrases.{Phrase, constant_phrase, long_phrase, long_pat_phrase}
-use Rattle.mlb_reader.specs.Within.{phrase_name, phrase_place}
+use Rattle.mlb_reader.specs.Within.{VidIn}
 
 abbrev pub terminal_place : Terminal → ℕ
 terminal_place (reserved p r) = p
@@ -51,12 +48,6 @@ module _ (file : ℕ) (P : Place → Type 0) (N : ℕ → Type 0) where
   abbrev pub AllGood : List Terminal → Type 0
   AllGood = AllByRecursion IsGood
 
-  abbrev pub IsGoodPhrase : Phrase → Type 0
-  IsGoodPhrase x = IfSome (phrase_place x) P × IfSome (phrase_name x) N
-
-  abbrev pub AllGoodPhrases : List Phrase → Type 0
-  AllGoodPhrases = AllByRecursion IsGoodPhrase
-
   pub vid-good : {t : Terminal} {p x : ℕ} → IsVid t p x → IsGood t → P (at file p) × N x
   vid-good (alpha_vid p x) g = g
   vid-good (symbol_vid p x) g = g
@@ -71,55 +62,40 @@ module _ (file : ℕ) (P : Place → Type 0) (N : ℕ → Type 0) where
   qualified-place (long_symbol_vid p qs x) g = g.0
   qualified-place (long_star_vid p qs x) g = g.0
 
-  pub constant-good : (p : Place) (c : Constant) → P p → IsGoodPhrase (constant_phrase p c)
-  constant-good p (term.int z) h = (h, tt)
-  constant-good p (term.word n) h = (h, tt)
-  constant-good p (term.char n) h = (h, tt)
-  constant-good p (term.string s) h = (h, tt)
+  qualified-vid : {t : Terminal} {p : ℕ} {x : LongVid} → IsQualifiedVid t p x → IsGood t → VidIn P N x.vid
+  qualified-vid (long_alpha_vid p qs x) g = g.1
+  qualified-vid (long_symbol_vid p qs x) g = g.1
+  qualified-vid (long_star_vid p qs x) g = g.1
 
-  -- an identifier as an expression and as a pattern
-  pub record AreGood (p : Place) (x : LongVid) : Type 0 where
-    pub as_exp : IsGoodPhrase (long_phrase p x.qualifiers x.vid)
-    pub as_pat : IsGoodPhrase (long_pat_phrase p x.qualifiers x.vid)
+  -- the identifier's own place, and its name
+  abbrev pub IsGoodVid : ℕ → Vid → Type 0
+  IsGoodVid p v = P (at file p) × VidIn P N v
 
-  named-good : (p : Place) (qs : List ℕ) (x : ℕ) → P p → N x → AreGood p (record { qualifiers = qs; vid = Named x })
-  named-good p [] x h n = record { as_exp = (h, n); as_pat = (h, n) }
-  named-good p (q ∷ qs) x h n = record { as_exp = (h, tt); as_pat = (h, tt) }
+  any_vid-good : {t : Terminal} {q : ℕ} {v : Vid} → IsAnyVid t q v → IsGood t → IsGoodVid q v
+  any_vid-good (any_named v) g = vid-good v g
+  any_vid-good (any_equals q) g = (g.0, tt)
 
-  qualified-good : {t : Terminal} {q : ℕ} {x : LongVid} (p : Place) → P p → IsQualifiedVid t q x → IsGood t → AreGood p x
-  qualified-good p h (long_alpha_vid q qs x) g = named-good p qs x h g.1
-  qualified-good p h (long_symbol_vid q qs x) g = named-good p qs x h g.1
-  qualified-good p h (long_star_vid q qs x) g = named-good p qs x h g.1
-
-  any_place : {t : Terminal} {q : ℕ} {v : Vid} → IsAnyVid t q v → IsGood t → P (at file q)
-  any_place (any_named v) g = (vid-good v g).0
-  any_place (any_equals q) g = g.0
-
-  any_vid-good : {t : Terminal} {q : ℕ} {v : Vid} → IsAnyVid t q v → IsGood t → AreGood (at file q) (record { qualifiers = []; vid = v })
-  any_vid-good (any_named {p} {x} v) g = let h = vid-good v g in named-good (at file p) [] x h.0 h.1
-  any_vid-good (any_equals q) g = record { as_exp = (g.0, tt); as_pat = (g.0, tt) }
-
-  any_long-good : {t : Terminal} {q : ℕ} {x : LongVid} → IsAnyLongVid t q x → IsGood t → AreGood (at file q) x
+  any_long-good : {t : Terminal} {q : ℕ} {x : LongVid} → IsAnyLongVid t q x → IsGood t → IsGoodVid q x.vid
   any_long-good (any_short v) g = any_vid-good v g
-  any_long-good (any_long {p} v) g = qualified-good (at file p) (qualified-place v g) v g
+  any_long-good (any_long v) g = (qualified-place v g, qualified-vid v g)
 
   -- [op] longvid, with the place where it begins and the identifier's own
   pub record NamesGood (p : ℕ) (x : Placed LongVid) (o : List Terminal) : Type 0 where
     pub place : P (at file p)
-    pub are : AreGood (at file x.place) x.it
+    pub own : IsGoodVid x.place x.it.vid
     pub rest : AllGood o
 
   pub names-good : {f : Fixity} {i o : List Terminal} {p : ℕ} {x : Placed LongVid} → NamesVid f i p x o → AllGood i → NamesGood p x o
-  names-good (plain_long {p} {x} v e) g = let h = vid-good v g.0 in record { place = h.0; are = named-good (at file p) [] x h.0 h.1; rest = g.1 }
-  names-good (qualified {p} v) g = let h = qualified-place v g.0 in record { place = h; are = qualified-good (at file p) h v g.0; rest = g.1 }
-  names-good (op_long p v) g = record { place = g.0.0; are = any_long-good v g.1.0; rest = g.1.1 }
+  names-good (plain_long v e) g = let h = vid-good v g.0 in record { place = h.0; own = h; rest = g.1 }
+  names-good (qualified v) g = let h = qualified-place v g.0 in record { place = h; own = (h, qualified-vid v g.0); rest = g.1 }
+  names-good (op_long p v) g = record { place = g.0.0; own = any_long-good v g.1.0; rest = g.1.1 }
 
   -- [op] vid
   pub record BindsGood (p : ℕ) (v : Placed Vid) (o : List Terminal) : Type 0 where
     pub place : P (at file p)
-    pub own : P (at file v.place)
+    pub own : IsGoodVid v.place v.it
     pub rest : AllGood o
 
   pub binds-good : {f : Fixity} {i o : List Terminal} {p : ℕ} {v : Placed Vid} → BindsVid f i p v o → AllGood i → BindsGood p v o
-  binds-good (plain_vid v e) g = let h = vid-good v g.0 in record { place = h.0; own = h.0; rest = g.1 }
-  binds-good (op_vid p v) g = record { place = g.0.0; own = any_place v g.1.0; rest = g.1.1 }
+  binds-good (plain_vid v e) g = let h = vid-good v g.0 in record { place = h.0; own = h; rest = g.1 }
+  binds-good (op_vid p v) g = record { place = g.0.0; own = any_vid-good v g.1.0; rest = g.1.1 }

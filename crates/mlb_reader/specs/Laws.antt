@@ -2,7 +2,7 @@
 use Rattle.std.specs.Prelude.{◌≡◌, ℕ, List}
 use Rattle.mlc_faults.specs.File.{File}
 use Rattle.mlc_outside.specs.Files.{Files}
-use Rattle.sml_rules.specs.Project.{Part}
+use Rattle.mlb_reader.specs.Parts.{Part}
 use Rattle.mlb_reader.specs.Project.{ProjectOf}
 
 -- the files at a path give one project, with one table of names and one list of files that were read

@@ -1,3 +1,4 @@
+pub mod Basis
 pub mod BasisOf
 pub mod Broken
 pub mod Counting
@@ -6,11 +7,13 @@ pub mod Loading
 pub mod Mlb
 pub mod MlbOf
 pub mod PartOf
+pub mod Parts
 pub mod Path
 pub mod Project
 pub mod Reading
 pub mod Refusals
 pub mod Segments
 pub mod Standing
+pub mod Table
 pub mod Tops
 pub mod Within

@@ -7,8 +7,7 @@ use Rattle.mlc_faults.specs.declared.fault.Fault.{Fault}
 use Rattle.mlc_base.specs.declared.place.Place.{Place}
 use Rattle.mlc_outside.specs.Files.{Files}
 use Rattle.mlc_outside.specs.Store.{HasFile}
-use Rattle.sml_rules.specs.Basis.{IsTable}
-use Rattle.sml_rules.specs.Phrases.{parts_phrases}
+use Rattle.mlb_reader.specs.Table.{IsTable}
 use Rattle.mlb_reader.specs.Broken.{IsBroken, IsMissing, fault_at}
 use Rattle.mlb_reader.specs.Counting.{IsCount}
 use Rattle.mlb_reader.specs.Mlb.{Item, IsMlb, has_variable, is_source}
@@ -64,8 +63,8 @@ IsPlaceOf file size place = (place.file ≡ file) × (place.byte ≤ size)
 -- the table is one, the names of all phrases are held, and their places lie in the files
 pub record IsKnown (s : Loaded) : Type 0 where
   pub table : IsTable s.names
-  pub held : HoldsAll (length s.names) (parts_phrases s.parts)
-  pub placed : AllPlacedIn (λ place. LiesIn place s.reads) (parts_phrases s.parts)
+  pub held : HoldsAll (length s.names) s.parts
+  pub placed : AllPlacedIn (λ place. LiesIn place s.reads) s.parts
 
 -- why a path other than that of the standard basis isn't read, after so many reads
 abbrev pub path_fault : Item → ℕ → Option Fault

@@ -1,7 +1,7 @@
 -- The project of the code.
 use Rattle.std.specs.Prelude.{List, map}
 use Rattle.sml_tree.specs.TreeOf.{dec_of, decs_of}
-use Rattle.sml_rules.specs.Project as spec
+use Rattle.mlb_reader.specs.Parts as spec
 use Rattle.mlb_reader.specs.declared.project.Part.{Part}
 use Rattle.mlb_reader.specs.declared.project.Part.TheVariants as code
 use Rattle.mlb_reader.specs.declared.project.Project.{Project}

@@ -12,8 +12,8 @@ use Rattle.module_tree.specs.ReadModules as read
 use Rattle.module_tree.specs.ModuleBare.{bare_tops}
 use Rattle.module_tree.specs.Scope.{after_tops}
 use Rattle.module_grammar.specs.Laws.{IsTree}
-use Rattle.sml_rules.specs.Basis.{standard_fixities}
-use Rattle.sml_rules.specs.Project.{Part, standard_basis}
+use Rattle.mlb_reader.specs.Basis.{standard_fixities}
+use Rattle.mlb_reader.specs.Parts.{Part, standard_basis}
 use Rattle.mlb_reader.specs.Mlb.{Item, IsMlb, basis_path, has_variable, is_source}
 use Rattle.mlb_reader.specs.Path.{clean, path_from}
 use Rattle.mlb_reader.specs.Tops.{part_of_tops}

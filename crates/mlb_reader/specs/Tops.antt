@@ -3,7 +3,7 @@ use Rattle.std.specs.Prelude.{List, [], ◌∷◌, Option, Some, None}
 use Rattle.mlc_base.specs.declared.place.Place.{Place}
 use Rattle.sml_tree.specs.BareTree.{Decs, no_decs, dec}
 use Rattle.module_tree.specs.BareModules.{Top, str_top, signature_top, functor_top, core_dec, structure_dec, local_str}
-use Rattle.sml_rules.specs.Project.{Part, source, cut}
+use Rattle.mlb_reader.specs.Parts.{Part, source, cut}
 
 -- the declarations of the core before the first other one
 abbrev pub core_before : List Top → Decs

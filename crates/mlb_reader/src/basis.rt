@@ -2,7 +2,7 @@
 
 ghost use Rattle.std.specs.Prelude.{◌≡◌, ◌++◌, ◌∷◌, [], true, false, IfOk, OnOk};
 ghost use Rattle.mlc_names.specs.StandardWords.{word_cons, word_plus, word_minus, word_times, word_div, word_mod, word_less_than, word_at_most, word_greater_than, word_at_least, word_assign, word_divide, word_not_equal, word_append, word_concatenate, word_compose};
-ghost use Rattle.sml_rules.specs.Basis.{standard_fixities};
+ghost use Rattle.mlb_reader.specs.Basis.{standard_fixities};
 ghost use Rattle.mlb_reader.specs.BasisOf.{directives_of};
 
 use mlc_base::memory::NoMemory;

@@ -8,8 +8,8 @@ ghost use Rattle.mlc_outside.specs.Faults.{Rose};
 ghost use Rattle.mlc_outside.specs.Store.{HasFile};
 ghost use Rattle.sml_lexer.specs.NameTable.{Keeps};
 ghost use Rattle.mlc_names.specs.StandardWords.{standard_words};
-ghost use Rattle.sml_rules.specs.Basis.{IsTable, standard_fixities};
-ghost use Rattle.sml_rules.specs.Phrases.{parts_phrases};
+ghost use Rattle.mlb_reader.specs.Basis.{standard_fixities};
+ghost use Rattle.mlb_reader.specs.Table.{IsTable};
 ghost use Rattle.mlb_reader.specs.Broken.{IsBroken, IsMissing, fault_at};
 ghost use Rattle.mlb_reader.specs.Counting.{IsCount};
 ghost use Rattle.mlb_reader.specs.Loading.{BreaksAt, BreaksFirst, Grows, IsBegun, IsFetched, IsKnown, IsTooLarge, MissesAt, NeedsAt, loaded_of, path_fault};
@@ -311,8 +311,8 @@ pub fn load<S: Store>(
     ensures project { IfOk result (λ project. IfTold (S.files store.old) (λ f. ProjectOf f path.now names.new (parts_of project) files.new)) }
     ensures count { IfOk result (λ project. project.reads ≡ length files.new) }
     ensures table { OnOk result (IsTable names.new) }
-    ensures held { IfOk result (λ project. HoldsAll (length names.new) (parts_phrases (parts_of project))) }
-    ensures placed { IfOk result (λ project. AllPlacedIn (λ place. LiesIn place files.new) (parts_phrases (parts_of project))) }
+    ensures held { IfOk result (λ project. HoldsAll (length names.new) (parts_of project)) }
+    ensures placed { IfOk result (λ project. AllPlacedIn (λ place. LiesIn place files.new) (parts_of project)) }
     ensures some { OnOk result (LiesIn (record { file = 0; byte = 0 }) files.new) }
     ensures broken { IfLoadFault result (λ fault. IfTold (S.files store.old) (λ f. IsBroken f path.now fault files.new)) }
     ensures fault_lies { IfLoadFault result (λ fault. LiesIn fault.place files.new) }

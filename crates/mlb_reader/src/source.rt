@@ -3,8 +3,7 @@
 ghost use Rattle.std.specs.Prelude.{◌≡◌, ◌≤◌, ◌∷◌, [], length, None, IfOk};
 ghost use Rattle.sml_lexer.specs.Lexes.{IfFault};
 ghost use Rattle.sml_lexer.specs.NameTable.{Keeps};
-ghost use Rattle.sml_rules.specs.Basis.{IsTable};
-ghost use Rattle.sml_rules.specs.Phrases.{parts_phrases};
+ghost use Rattle.mlb_reader.specs.Table.{IsTable};
 ghost use Rattle.mlb_reader.specs.Broken.{IsBad};
 ghost use Rattle.mlb_reader.specs.Loading.{IsPlaceOf};
 ghost use Rattle.mlb_reader.specs.PartOf.{part_of};
@@ -34,8 +33,8 @@ pub fn read_source(
     requires table { IsTable names.old }
     ensures kept { Keeps names.old names.new }
     ensures source { IfOk result (λ part. IsSource names.old file fixities.old bytes.now (part_of part) names.new fixities.new) }
-    ensures held { IfOk result (λ part. HoldsAll (length names.new) (parts_phrases (part_of part ∷ []))) }
-    ensures placed { IfOk result (λ part. AllPlacedIn (IsPlaceOf file (length bytes.now)) (parts_phrases (part_of part ∷ []))) }
+    ensures held { IfOk result (λ part. HoldsAll (length names.new) (part_of part ∷ [])) }
+    ensures placed { IfOk result (λ part. AllPlacedIn (IsPlaceOf file (length bytes.now)) (part_of part ∷ [])) }
     ensures bad { IfFault result (λ fault. IsBad names.old file fixities.old bytes.now fault) }
     ensures file { IfFault result (λ fault. fault.place.file ≡ file) }
     ensures byte { IfFault result (λ fault. fault.place.byte ≤ length bytes.now) }

@@ -2,7 +2,7 @@
 use Rattle.std.proofs.Common.{◌≡◌, refl, map, take, List, [], ◌∷◌, ◌++◌, Result, Ok, Err, IfOk, IsErrAnd, sym, ap, subst, ◌∙◌}
 use Rattle.std.proofs.lemmas.List.{map-append}
 use Rattle.sml_tree.specs.BareTree.{Decs}
-use Rattle.sml_rules.specs.Project.{Part, source}
+use Rattle.mlb_reader.specs.Parts.{Part, source}
 use Rattle.core_rules.specs.Project as core
 use Rattle.core_rules.specs.Restrictions.{broken_in}
 use Rattle.mlb_reader.proofs.WithinChains.{each-append}

@@ -4,7 +4,7 @@ use Rattle.mlc_faults.specs.File.{File}
 use Rattle.mlc_faults.specs.declared.fault.Fault.{Fault}
 use Rattle.mlc_outside.specs.Files.{Files}
 use Rattle.sml_lexer.specs.NameTable.{Keeps}
-use Rattle.sml_rules.specs.Project.{Part}
+use Rattle.mlb_reader.specs.Parts.{Part}
 use Rattle.mlb_reader.specs.Broken.{IsBroken}
 use Rattle.mlb_reader.specs.Project.{ProjectOf}
 use Rattle.mlb_reader.specs.Refusals.{IfTold, IfLoadFault}

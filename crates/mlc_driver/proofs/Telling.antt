@@ -1,5 +1,6 @@
 -- What a refusal tells of its cause.
-use Rattle.std.proofs.Common.{◌≡◌, ◌∙◌, ap, inl, inr, subst, sym}
+use Rattle.std.proofs.Common.{◌≡◌, ◌∙◌, Some, ap, inl, inr, subst, sym}
+use Rattle.std.specs.Prelude.{◌⊎◌}
 use Rattle.std.specs.Bool.{⊤}
 use Rattle.mlc_base.specs.declared.place.Place.{Place}
 use Rattle.mlc_faults.specs.declared.code.Code.{Code}
@@ -8,7 +9,7 @@ use Rattle.mlc_faults.specs.declared.fault.Fault.{Fault}
 use Rattle.elab_types.specs.declared.refused.Refused.TheVariants as cause
 use Rattle.pat_elab.specs.declared.stopped.Stopped.{Stopped}
 use Rattle.pat_elab.specs.declared.stopped.Stopped.TheVariants.{Refuses}
-use Rattle.mlc_driver.specs.Fault.{IsThere, Tells}
+use Rattle.mlc_driver.specs.Fault.{IsThere, Tells, code_of}
 
 abbrev is_unbound : Code → Type 0
 is_unbound Unbound = ⊤
@@ -32,3 +33,12 @@ tells-unbound s p f e (inr n) = untyped s f n
 pub tells-broken : (s : Stopped) (p : Place) (f : Fault) → s ≡ Refuses (cause.Broken p) → IsThere Restriction p f → Tells s f
 tells-broken s p f e (inl h) = record { unbound = λ u. absurd (subst is_restriction (sym h.0 ∙ u) tt); broken = λ r. e ∙ ap (λ q. Refuses (cause.Broken q)) (sym h.1) }
 tells-broken s p f e (inr n) = untyped s f n
+
+-- the code is that of what elaboration answered
+
+pub coded : (s : Stopped) (c : Code) (f : Fault) → code_of s ≡ Some c → f.code ≡ c → (code_of s ≡ Some f.code) ⊎ (f.code ≡ NoTyping)
+coded s c f e h = inl (e ∙ ap Some (sym h))
+
+pub coded-there : (s : Stopped) (c : Code) (p : Place) (f : Fault) → code_of s ≡ Some c → IsThere c p f → (code_of s ≡ Some f.code) ⊎ (f.code ≡ NoTyping)
+coded-there s c p f e (inl h) = inl (e ∙ ap Some (sym h.0))
+coded-there s c p f e (inr n) = inr n

@@ -7,7 +7,7 @@ use Rattle.mlc_outside.specs.Files.{Files}
 use Rattle.mlc_runs.specs.Passes.{greatest_expansion}
 use Rattle.sml_lexer.specs.NameTable.{Keeps}
 use Rattle.sml_tree.specs.BareTree.{Decs}
-use Rattle.sml_rules.specs.Project.{Part}
+use Rattle.mlb_reader.specs.Parts.{Part}
 use Rattle.mlb_reader.specs.Broken.{IsBroken, fault_at}
 use Rattle.mlb_reader.specs.Project.{ProjectOf}
 use Rattle.mlb_reader.specs.Refusals.{IfTold}

@@ -1,5 +1,5 @@
 -- What a refusal tells.
-use Rattle.std.specs.Prelude.{◌≡◌, ◌⊎◌, ℕ, ◌<◌, Bool, true, false, List, length, Result, Ok, Err, ⊤}
+use Rattle.std.specs.Prelude.{◌≡◌, ◌⊎◌, ℕ, ◌<◌, Bool, true, false, List, length, Option, Some, None, Result, Ok, Err, ⊤}
 use Rattle.std.specs.Option.{ForSome}
 use Rattle.mlc_base.specs.declared.place.Place.{Place}
 use Rattle.mlc_faults.specs.File.{File}
@@ -11,7 +11,7 @@ use Rattle.mlc_faults.specs.declared.refused.Refused.{Refused}
 use Rattle.mlc_faults.specs.declared.refused.Refused.TheVariants as refusal
 use Rattle.elab_types.specs.declared.refused.Refused.TheVariants as cause
 use Rattle.pat_elab.specs.declared.stopped.Stopped.{Stopped}
-use Rattle.pat_elab.specs.declared.stopped.Stopped.TheVariants.{Refuses}
+use Rattle.pat_elab.specs.declared.stopped.Stopped.TheVariants.{Foreign, NotPrincipal, Refuses}
 
 -- a refusal, where it is by a fault, tells one of this property
 abbrev pub OnFault : Refused → (base.Fault → Type 0) → Type 0
@@ -31,6 +31,16 @@ is_of_elaboration Restriction = true
 is_of_elaboration TypeTooLarge = true
 is_of_elaboration NotCompiled = true
 is_of_elaboration _ = false
+
+-- the code of what elaboration answered: want of memory has none
+abbrev pub code_of : Stopped → Option Code
+code_of (Refuses (cause.Unbound p)) = Some Unbound
+code_of (Refuses (cause.Mistyped p)) = Some NoTyping
+code_of (Refuses (cause.Broken p)) = Some Restriction
+code_of (Refuses (cause.Large p)) = Some TypeTooLarge
+code_of (Refuses cause.Memory) = None
+code_of (NotPrincipal p) = Some NoPrincipalTyping
+code_of (Foreign p) = Some NotCompiled
 
 -- a fault that elaboration tells: it lies in the files that were read, and its name is held
 pub record IsTold (names : List (List ℕ)) (reads : List File) (f : base.Fault) : Type 0 where

@@ -2,7 +2,7 @@
 use Rattle.std.specs.Prelude.{◌≡◌, List, map}
 use Rattle.std.specs.List.{AllByRecursion}
 use Rattle.sml_tree.specs.BareTree.{Decs}
-use Rattle.sml_rules.specs.Project.{Part}
+use Rattle.mlb_reader.specs.Parts.{Part}
 use Rattle.core_rules.specs.Project as core
 use Rattle.ir_poly.specs.WellFormed.{table_of}
 use Rattle.project_elab.specs.of_ir_prog.Programs.{body_in, prog_of}

@@ -3,8 +3,8 @@ use Rattle.std.specs.Prelude.{ℕ, List}
 use Rattle.sml_lexer.specs.NameTable.{Keeps}
 use Rattle.sml_tree.specs.BareTree.{Decs}
 use Rattle.sml_tree.specs.Fixity.{Fixity}
-use Rattle.sml_rules.specs.Basis.{standard_fixities}
-use Rattle.sml_rules.specs.Project.{source}
+use Rattle.mlb_reader.specs.Basis.{standard_fixities}
+use Rattle.mlb_reader.specs.Parts.{source}
 use Rattle.mlb_reader.specs.Project.{IsSource}
 use Rattle.mlc_driver.specs.declared.prelude.TheConstants.{PRELUDE}
 

@@ -8,7 +8,7 @@ ghost use Rattle.mlc_names.specs.StandardWords.{standard_words};
 ghost use Rattle.mlc_outside.specs.Faults.{Rose};
 ghost use Rattle.sml_lexer.specs.NameTable.{Keeps};
 ghost use Rattle.sml_tree.specs.BareTree.{Decs};
-ghost use Rattle.sml_rules.specs.Basis.{IsTable};
+ghost use Rattle.mlb_reader.specs.Table.{IsTable};
 ghost use Rattle.mlb_reader.specs.Broken.{IsMissing, fault_at};
 ghost use Rattle.mlc_faults.specs.declared.refused.Refused.TheVariants as refusal;
 ghost use Rattle.mlb_reader.specs.PartOf.{parts_of};
@@ -22,7 +22,7 @@ ghost use Rattle.mlc_driver.specs.Parts.{IsProgramOver};
 ghost use Rattle.mlc_driver.specs.Same.{Same};
 
 use crate::checked::Checked;
-use crate::elaborate::elaborate;
+use crate::elaborate::{elaborate, top_declaration};
 use crate::fault::refused_of;
 use crate::prelude::read_prelude;
 use back_end::compile::compile as image_of;
@@ -67,7 +67,8 @@ fn check_loaded(
             match elaborate(alloc, &prelude, &project.parts) {
                 Ok(program) => Ok(Checked { program, known }),
                 Err(stopped) => {
-                    let certain = certain(alloc, &prelude, &project.parts, stopped)?;
+                    let top = top_declaration(&project.parts, stopped);
+                    let certain = certain(alloc, &prelude, &project.parts, stopped, top)?;
                     Err(refused_of(alloc, names, files, project.reads, certain))
                 }
             }

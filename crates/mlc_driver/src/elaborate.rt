@@ -3,7 +3,7 @@
 ghost use Rattle.std.specs.Prelude.{◌≡◌, ◌∷◌, ◌++◌, [], List, map, None, IfOk};
 ghost use Rattle.sml_tree.specs.BareTree.{Decs};
 ghost use Rattle.sml_tree.specs.TreeOf.{dec_of, decs_of};
-ghost use Rattle.sml_rules.specs.Project.{Part as Told};
+ghost use Rattle.mlb_reader.specs.Parts.{Part as Told};
 ghost use Rattle.core_rules.specs.Project.{Part as CorePart, source as core_source};
 ghost use Rattle.core_rules.specs.Restrictions.{broken_in};
 ghost use Rattle.mlb_reader.specs.PartOf.{part_of};
@@ -73,7 +73,8 @@ fn pattern_place(declarations: &[Dec], place: Place) -> Place {
     place
 }
 
-/// Want of a typing, and a type that is too large, are told at the declaration that holds the phrase; what binds an identifier twice, at the smallest phrase.
+/// Want of a typing, and a type that is too large, are told at the declaration that holds the phrase; that no typing is principal, where the run begins; what
+/// binds an identifier twice, at the smallest phrase.
 fn at_declaration(declarations: &[Dec], stopped: Stopped) -> Stopped {
     match stopped {
         Stopped::Refuses(Cause::Broken(place)) => {
@@ -85,7 +86,30 @@ fn at_declaration(declarations: &[Dec], stopped: Stopped) -> Stopped {
         Stopped::Refuses(Cause::Large(place)) => {
             Stopped::Refuses(Cause::Large(holding(declarations, place)))
         }
+        Stopped::NotPrincipal(place) => Stopped::NotPrincipal(first_place(declarations, place)),
         other => other,
+    }
+}
+
+/// Where the declaration begins that holds a place, at the top of one of the parts.
+fn holding_in(parts: &[Part], place: Place) -> Place {
+    let mut holds = place;
+    for part in parts {
+        match part {
+            Part::StandardBasis => {}
+            Part::Source(declarations) => holds = holding(declarations, holds),
+            Part::Cut(declarations, _) => holds = holding(declarations, holds),
+        }
+    }
+    holds
+}
+
+/// Where the declaration begins, at the top of one of the parts, that holds an identifier that isn't bound, or what breaks a restriction.
+pub fn top_declaration(parts: &[Part], stopped: Stopped) -> Place {
+    match stopped {
+        Stopped::Refuses(Cause::Unbound(place)) => holding_in(parts, place),
+        Stopped::Refuses(Cause::Broken(place)) => holding_in(parts, place),
+        _ => Place { file: 0, byte: 0 },
     }
 }
 

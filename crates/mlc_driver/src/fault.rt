@@ -1,10 +1,10 @@
 // How a project is refused that doesn't elaborate.
 
-ghost use Rattle.std.specs.Prelude.{◌≡◌, ◌<◌, true, length, None, IfOk, IsTrue};
+ghost use Rattle.std.specs.Prelude.{◌≡◌, ◌<◌, ◌⊎◌, true, length, None, Some, IfOk, IsTrue};
 ghost use Rattle.mlc_faults.specs.Files.{LiesIn};
-ghost use Rattle.mlc_faults.specs.declared.code.Code.TheVariants.{Unbound};
+ghost use Rattle.mlc_faults.specs.declared.code.Code.TheVariants.{Unbound, NoTyping};
 ghost use Rattle.sml_lexer.specs.NameTable.{Keeps};
-ghost use Rattle.mlc_driver.specs.Fault.{is_of_elaboration, IsThere, IsTold, OnFault, Tells};
+ghost use Rattle.mlc_driver.specs.Fault.{code_of, is_of_elaboration, IsThere, IsTold, OnFault, Tells};
 
 use crate::identifier::identifier_at;
 use elab_types::refused::Refused as Cause;
@@ -104,8 +104,8 @@ fn unbound_at(
     })
 }
 
-/// What elaboration answered, as a refusal: its place is one of the files that were read. That an identifier isn't bound, and that a restriction is broken, are told
-/// at their own place alone.
+/// What elaboration answered, as a refusal: its place is one of the files that were read. That an identifier isn't bound, and that a restriction is broken, are
+/// told at their own place alone.
 pub fn refused_of(
     alloc: Global,
     names: &mut Names,
@@ -118,6 +118,7 @@ pub fn refused_of(
     ensures kept { Keeps names.old names.new }
     ensures told { OnFault result (λ fault. IsTold names.new files.now fault) }
     ensures tells { OnFault result (Tells stopped) }
+    ensures coded { OnFault result (λ fault. (code_of stopped ≡ Some fault.code) ⊎ (fault.code ≡ NoTyping)) }
 {
     match stopped {
         Stopped::Foreign(place) => Refused::Fault(fault_at(Code::NotCompiled, files, reads, place)),

@@ -4,7 +4,7 @@ ghost use Rattle.std.specs.Prelude.{◌≡◌, map, IfOk};
 ghost use Rattle.mlb_reader.specs.Broken.{fault_at};
 ghost use Rattle.mlc_faults.specs.declared.code.Code.TheVariants.{NotCompiled};
 ghost use Rattle.sml_lexer.specs.NameTable.{Keeps};
-ghost use Rattle.sml_rules.specs.Basis.{IsTable};
+ghost use Rattle.mlb_reader.specs.Table.{IsTable};
 ghost use Rattle.sml_tree.specs.TreeOf.{dec_of, decs_of};
 ghost use Rattle.mlc_driver.specs.Fault.{IfFault, OnFault};
 ghost use Rattle.mlc_driver.specs.Preludes.{IsPrelude};

@@ -5,7 +5,7 @@ use Rattle.mlc_outside.specs.Sink.{adds}
 use Rattle.ir_code.specs.Program.{Program}
 use Rattle.ir_code.specs.Run.{End, ended, uncaught, no_heap, no_stack, going}
 use Rattle.heap_vm.specs.Loaded.{told_name}
-use Rattle.sml_rules.specs.Laws.{IsPrefix}
+use Rattle.core_rules.specs.Laws.{IsPrefix}
 use Rattle.mlc_program.specs.Command.{Command}
 use Rattle.mlc_program.specs.Outside.{Stream}
 use Rattle.mlc_program.specs.Statuses.{run_by, Unwritten}

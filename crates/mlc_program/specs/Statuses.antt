@@ -13,8 +13,8 @@ use Rattle.ir_code.specs.Program.{Program}
 use Rattle.ir_code.specs.ImageBytes.{image_bytes, IsProgram}
 use Rattle.ir_code.specs.Run.{RunResult, run_of, End, uncaught}
 use Rattle.sml_tree.specs.BareTree.{Decs}
-use Rattle.sml_rules.specs.Laws.{IsPrefix}
-use Rattle.sml_rules.specs.Project as read
+use Rattle.core_rules.specs.Laws.{IsPrefix}
+use Rattle.mlb_reader.specs.Parts as read
 use Rattle.core_rules.specs.Objects.{Context}
 use Rattle.core_rules.specs.Project.{Part}
 use Rattle.project_typed.specs.Typing.{ProjectHas}

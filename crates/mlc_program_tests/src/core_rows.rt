@@ -355,10 +355,10 @@ const CORE_REFUSED: [(&str, &str); 44] = [
         "val f = fn (NONE as y) => 1",
         "p.sml:1.13: E33 restriction broken\n",
     ),
-    ("exception E of 'a", "p.sml:1.16: E31 no typing\n"),
+    ("exception E of 'a", "p.sml:1.1: E31 no typing\n"),
     (
         "datatype t = A of u v withtype 'a v = int",
-        "p.sml:1.19: E31 no typing\n",
+        "p.sml:1.1: E31 no typing\n",
     ),
     (
         "val x = let val y = z in y end",

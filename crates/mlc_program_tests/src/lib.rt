@@ -2,17 +2,25 @@
 #![tactic(auto)]
 
 #[cfg(test)]
+mod accepted;
+#[cfg(test)]
 mod calls;
 #[cfg(test)]
 mod core_rows;
 #[cfg(test)]
 mod edge;
 #[cfg(test)]
+mod large;
+#[cfg(test)]
 mod limits;
 #[cfg(test)]
 mod nesting;
 #[cfg(test)]
 mod refusals;
+#[cfg(test)]
+mod refused;
+#[cfg(test)]
+mod rules;
 #[cfg(test)]
 mod runs;
 #[cfg(test)]

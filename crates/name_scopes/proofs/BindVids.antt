@@ -1,5 +1,5 @@
 -- The identifiers that the code's bindings and functions bind.
-use Rattle.std.proofs.Common.{◌≡◌, Bool, true, false, List, [], ◌∷◌, ◌++◌, length, map, Vec, Box, Global, Option, refl, ap, ap₂, ◌∙◌}
+use Rattle.std.proofs.Common.{◌≡◌, Bool, true, false, List, [], ◌∷◌, ◌++◌, length, map, Vec, Box, Global, refl, ap, ap₂, ◌∙◌}
 use Rattle.std.specs.Prelude.{flat_map}
 use Rattle.mlc_base.specs.declared.place.Place.{Place}
 use Rattle.sml_tree.specs.BareTree as bare
@@ -7,21 +7,16 @@ use Rattle.sml_tree.specs.Derived.{Operand, chain_of, function_binds, join_pats,
 use Rattle.sml_tree.specs.Derived as derived
 use Rattle.sml_tree.specs.TreeOf.{ExpFieldOf, RuleOf, bind_of, binds_of, clause_of, exp_of, function_of, pat_of, pat_part_of}
 use Rattle.sml_tree.specs.TreeOf.{node_bind, node_clause, node_dec, node_exp, node_exp_field, node_function, node_part, node_rule}
-use Rattle.sml_tree.specs.declared.ident.BuiltIn.{BuiltIn as Built}
-use Rattle.sml_tree.specs.declared.ident.Constant.{Constant as SourceConstant}
-use Rattle.sml_tree.specs.declared.ident.LongVid.{LongVid}
 use Rattle.sml_tree.specs.declared.ident.Vid.{Vid}
 use Rattle.sml_tree.specs.declared.tree.Bind.{Bind, fold_out-Bind}
 use Rattle.sml_tree.specs.declared.tree.Function.{Function, fold_out-Function, out-Function}
 use Rattle.sml_tree.specs.declared.tree.Joint.{Joint}
 use Rattle.sml_tree.specs.declared.tree.Pat.{Pat}
 use Rattle.sml_tree.specs.declared.tree.Pat.TheVariants as pats
-use Rattle.sml_tree.specs.declared.tree.PatField.{PatField}
 use Rattle.sml_tree.specs.declared.tree.PatPart.{PatPart}
-use Rattle.sml_tree.specs.declared.tree.Ty.{Ty}
 use Rattle.core_rules.specs.Values.{Env}
 use Rattle.name_scopes.specs.Patterns.{binds_vids, chain_vids, each_vids, pat_vids, rec_vids}
-use Rattle.name_scopes.proofs.PatForms.{as-is, built-con-is, built-is, chain-is, con-is, constant-is, list-is, record-is, tuple-is, typed-is, vid-is, wild-is}
+use Rattle.name_scopes.proofs.PatForms.{chain-is, list-is}
 
 pub bind-is : (b : Bind) → bind_of b ≡ record { place = b.place; pat = pat_of b.pat; exp = exp_of b.exp }
 bind-is b =
@@ -52,36 +47,12 @@ functions-have (g ∷ gs) = ap₂ (λ x y. x ∷ y) (ap (λ (r : derived.Functio
 
 -- what each node of a recursive binding's pattern binds
 
-pub each-Wild : (x : Pat) (q : Place) → x ≡ pats.Wild q → each_vids (pat_of x) ≡ []
-each-Wild x q s = ap each_vids (wild-is x q s)
-
-pub each-Constant : (x : Pat) (q : Place) (c : SourceConstant) → x ≡ pats.Constant q c → each_vids (pat_of x) ≡ []
-each-Constant x q c s = ap each_vids (constant-is x q c s)
-
-pub each-Vid : (x : Pat) (q : Place) (v : LongVid) → x ≡ pats.Vid q v → each_vids (pat_of x) ≡ v.vid ∷ []
-each-Vid x q v s = ap each_vids (vid-is x q v s)
-
-pub each-BuiltIn : (x : Pat) (q : Place) (b : Built) → x ≡ pats.BuiltIn q b → each_vids (pat_of x) ≡ []
-each-BuiltIn x q b s = ap each_vids (built-is x q b s)
-
-pub each-Record : (x : Pat) (q : Place) (fs : Vec PatField Global) (b : Bool) → x ≡ pats.Record q fs b → each_vids (pat_of x) ≡ []
-each-Record x q fs b s = ap each_vids (record-is x q fs b s)
-
-pub each-Tuple : (x : Pat) (q : Place) (as_ : Vec Pat Global) → x ≡ pats.Tuple q as_ → each_vids (pat_of x) ≡ []
-each-Tuple x q as_ s = ap each_vids (tuple-is x q as_ s)
-
 list-none : (q : Place) (as_ : List bare.Pat) → each_vids (list_pat_of q as_) ≡ []
 list-none q [] = refl
 list-none q (a ∷ as_) = refl
 
 pub each-List : (x : Pat) (q : Place) (as_ : Vec Pat Global) → x ≡ pats.List q as_ → each_vids (pat_of x) ≡ []
 each-List x q as_ s = ap each_vids (list-is x q as_ s) ∙ list-none q (map pat_of as_.items)
-
-pub each-Con : (x : Pat) (q r : Place) (v : LongVid) (a : Box Pat Global) → x ≡ pats.Con q r v a → each_vids (pat_of x) ≡ []
-each-Con x q r v a s = ap each_vids (con-is x q r v a s)
-
-pub each-BuiltCon : (x : Pat) (q : Place) (b : Built) (a : Box Pat Global) → x ≡ pats.BuiltCon q b a → each_vids (pat_of x) ≡ []
-each-BuiltCon x q b a s = ap each_vids (built-con-is x q b a s)
 
 left-none : (q : Place) (a : bare.Pat) (bs : List (Operand VidAt bare.Pat)) → each_vids a ≡ [] → each_vids (left_chain join_pats q a bs) ≡ []
 left-none q a [] h = h
@@ -105,10 +76,3 @@ each-Chain-more x q r a os s n = each-Chain x q r a os s ∙ more (each_vids (pa
     more : (vs : List Vid) (os : List PatPart) → (length os ≡ 0 → ⊥) → chain_vids vs os ≡ []
     more vs [] n = absurd (n refl)
     more vs (o ∷ os) n = refl
-
-pub each-Typed : (x : Pat) (q : Place) (a : Box Pat Global) (t : Ty) → x ≡ pats.Typed q a t → each_vids (pat_of x) ≡ each_vids (pat_of a.value)
-each-Typed x q a t s = ap each_vids (typed-is x q a t s)
-
-pub each-As : (x : Pat) (q : Place) (v : Vid) (t : Option Ty) (a : Box Pat Global) → x ≡ pats.As q v t a
-    → each_vids (pat_of x) ≡ v ∷ each_vids (pat_of a.value)
-each-As x q v t a s = ap each_vids (as-is x q v t a s)

@@ -52,13 +52,6 @@ both-bring more more' d d' h k bs e c =
     let inner : Covers (more' ++ (more ++ bs)) (plus e (plus d d')) = subst (Covers (more' ++ (more ++ bs))) (plus-assoc e d d') (k (more ++ bs) (plus e d) (h bs e c)) in
     rw append_assoc inner
 
--- what is put onto a scope brings the same where it and the environment are told otherwise
-pub brings-same : (more more' : List Bound) (d d' : Env) → Brings more d → more ≡ more' → d ≡ d' → Brings more' d'
-brings-same more more' d d' h p q bs e c = subst (λ z. Covers (z ++ bs) (plus e d')) p (subst (λ z. Covers (more ++ bs) (plus e z)) q (h bs e c))
-
-pub covers-by : (bs more : List Bound) (e d : Env) → Covers bs e → Brings more d → Covers (more ++ bs) (plus e d)
-covers-by bs more e d c h = h bs e c
-
 -- Look-ups in a scope onto which more is put.
 
 pub value-onto : (more bs : List Bound) (x : Vid) → value_found (more ++ bs) x ≡ option_or (value_found more x) (value_found bs x)
@@ -106,14 +99,6 @@ tycon-covers bs e d x n l c = record { values = c.values; tycons = λ y. by y (n
   where
     by : (y : ℕ) (t : Bool) → TyconFits (tycon_found bs y) (tycon_in e y) → TyconFits (cond t (Some (take n bs)) (tycon_found bs y)) (cond t (Some d) (tycon_in e y))
     by y true h = l
-    by y false h = h
-
-pub structure-covers : (bs : List Bound) (e : Env) (x : ℕ) (s : Members) → Covers bs e → Covers (Structure x s ∷ bs) (structure x (dynamic_values (entries_of s)) e)
-structure-covers bs e x s c = record { values = c.values; tycons = c.tycons; structures = λ y. by y (nat_eq y x) (c.structures y) }
-  where
-    by : (y : ℕ) (t : Bool) → StructureFits (structure_found bs y) (structure_in e y)
-        → StructureFits (cond t (Some s) (structure_found bs y)) (cond t (Some (dynamic_values (entries_of s))) (structure_in e y))
-    by y true h = refl
     by y false h = h
 
 -- Values alone.

@@ -1,13 +1,13 @@
 -- What is looked for, from the parts of each node of declarations to the node; and the names that it brings.
-use Rattle.std.proofs.Common.{◌≡◌, ℕ, suc, List, [], ◌∷◌, ◌++◌, map, Vec, Global, Option, Some, inl, inr, refl, sym, ap, ap₂, subst, ◌∙◌}
+use Rattle.std.proofs.Common.{◌≡◌, ℕ, suc, List, [], ◌∷◌, ◌++◌, map, Vec, Global, inl, inr, refl, sym, ap, ap₂, subst, ◌∙◌}
 use Rattle.std.specs.Prelude.{flat_map, option_map, unwrap_or}
 use Rattle.std.specs.List.{Contains}
 use Rattle.mlc_base.specs.declared.place.Place.{Place}
 use Rattle.sml_tree.specs.BareTree as bare
 use Rattle.sml_tree.specs.Derived.{Operand, case_of, clause_rules, expand_bind, expand_con, first_pats, fn_for, fresh_for, fresh_pat, fun_of, function_binds, one_or_tuple, one_or_tuple_pat, short, withtype_of}
 use Rattle.sml_tree.specs.Derived as derived
-use Rattle.sml_tree.specs.Phrases.{bind, bind_list, con_bind, data_bind, dec, ex_bind, exp, rule, rule_list, some_ty, ty, type_bind}
-use Rattle.sml_tree.specs.TreeOf.{ExpFieldOf, RuleOf, bind_of, binds_of, clause_of, data_bind_of, dec_of, decs_of, ex_bind_of, exp_of, function_of, long_id_at_of, long_vid_of, pat_of, some_ty_of, ty_of, type_bind_of}
+use Rattle.sml_tree.specs.Phrases.{bind, bind_list, data_bind, dec, ex_bind, exp, rule, rule_list, ty, type_bind}
+use Rattle.sml_tree.specs.TreeOf.{ExpFieldOf, RuleOf, bind_of, binds_of, clause_of, data_bind_of, dec_of, decs_of, ex_bind_of, exp_of, function_of, long_id_at_of, long_vid_of, pat_of, ty_of, type_bind_of}
 use Rattle.sml_tree.specs.TreeOf.{node_bind, node_clause, node_dec, node_exp, node_exp_field, node_function, node_part, node_rule}
 use Rattle.sml_tree.specs.declared.ident.LongVid.{LongVid}
 use Rattle.sml_tree.specs.declared.ident.Vid.{Vid}
@@ -21,7 +21,6 @@ use Rattle.sml_tree.specs.declared.tree.ExBind.TheVariants as exn
 use Rattle.sml_tree.specs.declared.tree.Function.{Function, fold_out-Function, out-Function}
 use Rattle.sml_tree.specs.declared.tree.Joint.{Joint}
 use Rattle.sml_tree.specs.declared.tree.LongIdAt.{LongIdAt}
-use Rattle.sml_tree.specs.declared.tree.Ty.{Ty}
 use Rattle.sml_tree.specs.declared.tree.TypeBind.{TypeBind}
 use Rattle.sml_tree.specs.declared.tree.TyvarSeq.{TyvarSeq}
 use Rattle.core_rules.specs.Eval.{cons_env, datatypes_env, long_structure_in, long_tycon_in, opened, types_env}
@@ -104,22 +103,6 @@ function-in-clauses p e g h =
 
 pub type-bind-at : (p : Sought) (e : Env) (b : TypeBind) → FoundAt p e (ty (ty_of b.ty)) → FoundAt p e (type_phrase b)
 type-bind-at p e b h = parts-at p e (type_phrase b) (any-here p _ [] h)
-
-con-at : (p : Sought) (e : Env) (c : bare.ConBind) (t : bare.Ty) → c.of_ty ≡ Some t → FoundAt p e (ty t) → FoundAt p e (con_bind c)
-con-at p e c t is h = parts-at p e (con_bind c) (subst (λ o. AnyAt p (all_in e (some_ty o))) (sym is) (any-here p _ [] h))
-
--- a constructor of a datatype
-pub data-bind-at : (p : Sought) (e : Env) (b : bare.DataBind) (c : bare.ConBind) (t : bare.Ty) → Contains b.cons c → c.of_ty ≡ Some t → FoundAt p e (ty t) → FoundAt p e (data_bind b)
-data-bind-at p e b c t has is h = parts-at p e (data_bind b) (record {
-  scoped = record { scope = e; phrase = con_bind c };
-  is = in-map (λ x. record { scope = e; phrase = x }) (map con_bind b.cons) (con_bind c) (in-map con_bind b.cons c has);
-  at = con-at p e c t is h;
-})
-
-pub ex-bind-New : (p : Sought) (e : Env) (b : ExBind) (q : Place) (v : Vid) (o : Option Ty) (t : Ty) → b ≡ exn.New q v o → o ≡ Some t → FoundAt p e (ty (ty_of t)) → FoundAt p e (exn_phrase b)
-ex-bind-New p e b q v o t is some h =
-    subst (λ z. FoundAt p e (ex_bind z)) (sym (ap ex_bind_of is ∙ ap (λ z. bare.new_exn q v (some_ty_of z)) some))
-    (parts-at p e (ex_bind (bare.new_exn q v (Some (ty_of t)))) (any-here p _ [] h))
 
 pub ex-bind-Same : (p : Sought) (e : Env) (b : ExBind) (q : Place) (v : Vid) (r : Place) (y : LongVid) → b ≡ exn.Same q v r y
     → At p (unless_bound (long_value_in e (long_vid_of y)) (value_at r (long_vid_of y))) → FoundAt p e (exn_phrase b)
@@ -297,13 +280,6 @@ pub dec-Local-shown : (p : Sought) (e : Env) (d : Dec) (q : Place) (ds es : Vec 
 dec-Local-shown p e d q ds es is h =
     dec-are p e d _ (is-Local d q ds es is)
     (parts-at p e (dec (bare.local_dec q (decs_of (map dec_of ds.items)) (decs_of (map dec_of es.items)))) (any-right p (decs_in e (decs_of (map dec_of ds.items))) _ h))
-
-pub dec-Open : (p : Sought) (e : Env) (d : Dec) (q : Place) (xs : Vec LongIdAt Global) → d ≡ decs.Open q xs
-    → (y : LongIdAt) → Contains xs.items y → At p (unless_bound (long_structure_in e (long_id_at_of y)) (structure_at (long_id_at_of y).place (long_id_at_of y).long))
-    → FoundAt p e (dec_phrase d)
-dec-Open p e d q xs is y has h =
-    dec-are p e d _ (is-Open d q xs is)
-    (own-at p e (dec (bare.open_dec q (map long_id_at_of xs.items))) (opened-at p e xs.items y has h))
 
 -- one of its structures, whichever it is
 pub dec-Open-own : (p : Sought) (e : Env) (d : Dec) (q : Place) (xs : Vec LongIdAt Global) → d ≡ decs.Open q xs

@@ -1,10 +1,8 @@
 -- Identifiers that are in a list twice.
-use Rattle.std.proofs.Common.{◌≡◌, ◌<◌, ◌≤◌, ◌-◌, ℕ, zero, suc, Bool, true, false, not, ◌&&◌, ◌||◌, cond, List, [], ◌∷◌, ◌++◌, length, drop, filter, get_or, nat_eq, Option, Some, refl, sym, ap, subst, ◌∙◌, arith}
+use Rattle.std.proofs.Common.{◌≡◌, ◌<◌, ◌≤◌, ◌-◌, ℕ, zero, suc, Bool, true, false, not, ◌&&◌, ◌||◌, cond, List, [], ◌∷◌, ◌++◌, length, drop, filter, get_or, Option, Some, refl, sym, ap, subst, ◌∙◌, arith}
 use Rattle.std.specs.List.{list_all}
-use Rattle.std.specs.Map.{lookup}
 use Rattle.std.specs.Prelude.{is_some}
 use Rattle.sml_tree.specs.declared.ident.Vid.{Vid}
-use Rattle.sml_tree.specs.declared.ident.Vid.TheVariants.{Equals, Fresh, Named}
 use Rattle.core_rules.specs.Restrictions.{distinct, is_kept}
 use Rattle.core_rules.specs.Words.{is_in, same_vid}
 use Rattle.vid_scope.specs.Entries.{HasLatest, entry_of}
@@ -18,22 +16,10 @@ pub record Seen (xs : List Vid) (i : ℕ) (seen : VidScope Bool) : Type 0 where
   pub most : i ≤ length xs
   pub is : (x : Vid) → is_some (entry_of seen x) ≡ is_in same_vid x (drop i xs)
 
-past-all : {A : Type 0} (xs : List A) → drop (length xs) xs ≡ []
-past-all [] = refl
-past-all (x ∷ xs) = past-all xs
-
 drop-one : {A : Type 0} (xs : List A) (i : ℕ) (d : A) → i < length xs → drop i xs ≡ get_or xs i d ∷ drop (suc i) xs
 drop-one [] i d lt = absurd (omega arith)
 drop-one (x ∷ xs) zero d lt = refl
 drop-one (x ∷ xs) (suc i) d lt = drop-one xs i d (omega arith)
-
-pub none-seen : (xs : List Vid) (seen : VidScope Bool) → seen.named ≡ [] → seen.fresh ≡ [] → seen.equals ≡ [] → Seen xs (length xs) seen
-none-seen xs seen n f e = record { most = omega arith; is = λ x. none x ∙ sym (ap (λ l. is_in same_vid x l) (past-all xs)) }
-  where
-    none : (x : Vid) → is_some (entry_of seen x) ≡ false
-    none (Named x) = ap (λ l. is_some (lookup (nat_eq x) l)) n
-    none (Fresh k) = ap (λ l. is_some (lookup (nat_eq k) l)) f
-    none Equals = ap (λ l. is_some (lookup (nat_eq 0) l)) e
 
 now-seen : (b c : Bool) (o : Option Bool) → is_some o ≡ c → is_some (cond b (Some true) o) ≡ (b || c)
 now-seen true c o h = refl

@@ -3,10 +3,9 @@ use Rattle.std.proofs.Common.{◌≡◌, Bool, map, Vec, Box, Global, Option, sy
 use Rattle.mlc_base.specs.declared.place.Place.{Place}
 use Rattle.sml_tree.specs.BareTree as bare
 use Rattle.sml_tree.specs.Derived.{Operand, VidAt, chain_of, join_pats, list_pat_of, tuple_pat}
-use Rattle.sml_tree.specs.TreeOf.{PatFieldOf, constant_of, long_vid_of, pat_field_of, pat_fields_of, pat_of, pat_part_of, some_ty_of, ty_of}
+use Rattle.sml_tree.specs.TreeOf.{PatFieldOf, long_vid_of, pat_field_of, pat_fields_of, pat_of, pat_part_of, some_ty_of, ty_of}
 use Rattle.sml_tree.specs.TreeOf.{node_pat, node_pat_field, node_pat_part}
 use Rattle.sml_tree.specs.declared.ident.BuiltIn.{BuiltIn as Built}
-use Rattle.sml_tree.specs.declared.ident.Constant.{Constant as SourceConstant}
 use Rattle.sml_tree.specs.declared.ident.LongVid.{LongVid}
 use Rattle.sml_tree.specs.declared.ident.Vid.{Vid}
 use Rattle.sml_tree.specs.declared.tree.Pat.{Pat, Pat-F, fold-roll-Pat}
@@ -24,17 +23,8 @@ operand_of o = record { joint = record { place = o.vid_place; vid = o.vid }; pla
 pub pat-part : (o : PatPart) → pat_part_of o ≡ operand_of o
 pat-part o = fold_out-PatPart bare.Pat PatFieldOf (Operand VidAt bare.Pat) node_pat node_pat_field node_pat_part o
 
-pub wild-is : (x : Pat) (q : Place) → x ≡ pats.Wild q → pat_of x ≡ bare.wild_pat q
-wild-is x q s = ap pat_of (s ∙ sym (pats.rolls-Wild q)) ∙ fold-roll-Pat bare.Pat PatFieldOf (Operand VidAt bare.Pat) node_pat node_pat_field node_pat_part (Pat-F.Wild q)
-
-pub constant-is : (x : Pat) (q : Place) (c : SourceConstant) → x ≡ pats.Constant q c → pat_of x ≡ bare.constant_pat q (constant_of c)
-constant-is x q c s = ap pat_of (s ∙ sym (pats.rolls-Constant q c)) ∙ fold-roll-Pat bare.Pat PatFieldOf (Operand VidAt bare.Pat) node_pat node_pat_field node_pat_part (Pat-F.Constant q c)
-
 pub vid-is : (x : Pat) (q : Place) (v : LongVid) → x ≡ pats.Vid q v → pat_of x ≡ bare.vid_pat q (long_vid_of v)
 vid-is x q v s = ap pat_of (s ∙ sym (pats.rolls-Vid q v)) ∙ fold-roll-Pat bare.Pat PatFieldOf (Operand VidAt bare.Pat) node_pat node_pat_field node_pat_part (Pat-F.Vid q v)
-
-pub built-is : (x : Pat) (q : Place) (b : Built) → x ≡ pats.BuiltIn q b → pat_of x ≡ bare.built_pat q b
-built-is x q b s = ap pat_of (s ∙ sym (pats.rolls-BuiltIn q b)) ∙ fold-roll-Pat bare.Pat PatFieldOf (Operand VidAt bare.Pat) node_pat node_pat_field node_pat_part (Pat-F.BuiltIn q b)
 
 pub record-is : (x : Pat) (q : Place) (fs : Vec PatField Global) (b : Bool) → x ≡ pats.Record q fs b → pat_of x ≡ bare.fields_pat q (pat_fields_of (map pat_field_of fs.items)) b
 record-is x q fs b s = ap pat_of (s ∙ sym (pats.rolls-Record q fs b)) ∙ fold-roll-Pat bare.Pat PatFieldOf (Operand VidAt bare.Pat) node_pat node_pat_field node_pat_part (Pat-F.Record q fs b)

@@ -5,19 +5,16 @@ use Rattle.std.proofs.lemmas.List.{append-nil}
 use Rattle.mlc_base.specs.declared.place.Place.{Place}
 use Rattle.sml_tree.specs.BareTree as bare
 use Rattle.sml_tree.specs.Derived.{Operand, VidAt, chain_of, join_pats, left_chain, list_pat_of, numbered_pats, one_or_tuple_pat, right_chain, tuple_pat}
-use Rattle.sml_tree.specs.TreeOf.{PatFieldOf, long_vid_of, pat_field_of, pat_fields_of, pat_of, pat_part_of}
-use Rattle.sml_tree.specs.declared.ident.BuiltIn.{BuiltIn as Built}
-use Rattle.sml_tree.specs.declared.ident.Constant.{Constant as SourceConstant}
-use Rattle.sml_tree.specs.declared.ident.LongVid.{LongVid}
+use Rattle.sml_tree.specs.TreeOf.{PatFieldOf, pat_field_of, pat_fields_of, pat_of, pat_part_of}
 use Rattle.sml_tree.specs.declared.ident.Vid.{Vid}
 use Rattle.sml_tree.specs.declared.tree.Pat.{Pat}
 use Rattle.sml_tree.specs.declared.tree.Pat.TheVariants as pats
 use Rattle.sml_tree.specs.declared.tree.PatField.{PatField}
 use Rattle.sml_tree.specs.declared.tree.PatPart.{PatPart}
 use Rattle.sml_tree.specs.declared.tree.Ty.{Ty}
-use Rattle.core_rules.specs.Values.{Env, long_value_in}
-use Rattle.name_scopes.specs.Patterns.{alone_vids, fields_vids, pat_vids}
-use Rattle.name_scopes.proofs.PatForms.{as-is, built-con-is, built-is, chain-is, con-is, constant-is, list-is, pat-field, pat-part, record-is, tuple-is, typed-is, vid-is, wild-is}
+use Rattle.core_rules.specs.Values.{Env}
+use Rattle.name_scopes.specs.Patterns.{fields_vids, pat_vids}
+use Rattle.name_scopes.proofs.PatForms.{as-is, chain-is, list-is, pat-field, pat-part, record-is, tuple-is}
 
 module _ (e : Env) where
   fields-have : (fs : List PatField) → fields_vids e (pat_fields_of (map pat_field_of fs)) ≡ flat_map (λ f. pat_vids e (pat_of f.pat)) fs
@@ -60,18 +57,6 @@ module _ (e : Env) where
   chain-has true q a os = right-has q a os
   chain-has false q a os = left-has q a os
 
-  pub vids-Wild : (x : Pat) (q : Place) → x ≡ pats.Wild q → pat_vids e (pat_of x) ≡ []
-  vids-Wild x q s = ap (pat_vids e) (wild-is x q s)
-
-  pub vids-Constant : (x : Pat) (q : Place) (c : SourceConstant) → x ≡ pats.Constant q c → pat_vids e (pat_of x) ≡ []
-  vids-Constant x q c s = ap (pat_vids e) (constant-is x q c s)
-
-  pub vids-Vid : (x : Pat) (q : Place) (v : LongVid) → x ≡ pats.Vid q v → pat_vids e (pat_of x) ≡ alone_vids (long_value_in e (long_vid_of v)) v.vid
-  vids-Vid x q v s = ap (pat_vids e) (vid-is x q v s)
-
-  pub vids-BuiltIn : (x : Pat) (q : Place) (b : Built) → x ≡ pats.BuiltIn q b → pat_vids e (pat_of x) ≡ []
-  vids-BuiltIn x q b s = ap (pat_vids e) (built-is x q b s)
-
   pub vids-Record : (x : Pat) (q : Place) (fs : Vec PatField Global) (b : Bool) → x ≡ pats.Record q fs b
       → pat_vids e (pat_of x) ≡ flat_map (λ f. pat_vids e (pat_of f.pat)) fs.items
   vids-Record x q fs b s = ap (pat_vids e) (record-is x q fs b s) ∙ fields-have fs.items
@@ -84,18 +69,9 @@ module _ (e : Env) where
       → pat_vids e (pat_of x) ≡ flat_map (λ a. pat_vids e (pat_of a)) as_.items
   vids-List x q as_ s = ap (pat_vids e) (list-is x q as_ s) ∙ list-has q as_.items
 
-  pub vids-Con : (x : Pat) (q r : Place) (v : LongVid) (a : Box Pat Global) → x ≡ pats.Con q r v a → pat_vids e (pat_of x) ≡ pat_vids e (pat_of a.value)
-  vids-Con x q r v a s = ap (pat_vids e) (con-is x q r v a s)
-
-  pub vids-BuiltCon : (x : Pat) (q : Place) (b : Built) (a : Box Pat Global) → x ≡ pats.BuiltCon q b a → pat_vids e (pat_of x) ≡ pat_vids e (pat_of a.value)
-  vids-BuiltCon x q b a s = ap (pat_vids e) (built-con-is x q b a s)
-
   pub vids-Chain : (x : Pat) (q : Place) (r : Bool) (a : Box Pat Global) (os : Vec PatPart Global) → x ≡ pats.Chain q r a os
       → pat_vids e (pat_of x) ≡ pat_vids e (pat_of a.value) ++ flat_map (λ o. pat_vids e (pat_of o.pat)) os.items
   vids-Chain x q r a os s = ap (pat_vids e) (chain-is x q r a os s) ∙ chain-has r q (pat_of a.value) os.items
-
-  pub vids-Typed : (x : Pat) (q : Place) (a : Box Pat Global) (t : Ty) → x ≡ pats.Typed q a t → pat_vids e (pat_of x) ≡ pat_vids e (pat_of a.value)
-  vids-Typed x q a t s = ap (pat_vids e) (typed-is x q a t s)
 
   pub vids-As : (x : Pat) (q : Place) (v : Vid) (t : Option Ty) (a : Box Pat Global) → x ≡ pats.As q v t a
       → pat_vids e (pat_of x) ≡ v ∷ pat_vids e (pat_of a.value)

@@ -37,9 +37,6 @@ use Rattle.name_scopes.proofs.Placing.{first-in, in-flat, own-twice-at, rest-in}
 -- places
 
 module _ (s : Sought) (w : What) where
-  pub asks-first : (p : Place) (ps : List Place) → Asks s w p → AsksOne s w (p ∷ ps)
-  asks-first p ps h = record { what = h.what; is = subst (Contains (p ∷ ps)) h.place (first-in p ps) }
-
   pub asks-rest : (p : Place) (ps : List Place) → AsksOne s w ps → AsksOne s w (p ∷ ps)
   asks-rest p ps h = record { what = h.what; is = rest-in p ps h.is }
 

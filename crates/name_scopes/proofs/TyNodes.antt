@@ -14,7 +14,6 @@ use Rattle.sml_tree.specs.declared.tree.TyField.{TyField, fold_out-TyField}
 use Rattle.sml_tree.specs.declared.tree.TyPart.{TyPart, fold_out-TyPart}
 use Rattle.core_rules.specs.Unbound.{all_in, tycon_at, unless_bound}
 use Rattle.core_rules.specs.Values.{Env, along, tycon_in}
-use Rattle.name_scopes.specs.Nodes.{ty_phrase}
 use Rattle.name_scopes.specs.Placed.{AnyAt, At, FoundAt}
 use Rattle.name_scopes.specs.Written.{written_phrase}
 use Rattle.name_scopes.specs.declared.sought.Sought.{Sought}
@@ -28,38 +27,6 @@ ty-field f = fold_out-TyField bare.Ty TyFieldOf TyAt node_ty node_ty_field node_
 
 ty-part : (o : TyPart) → ty_part_of o ≡ record { place = o.place; ty = ty_of o.ty }
 ty-part o = fold_out-TyPart bare.Ty TyFieldOf TyAt node_ty node_ty_field node_ty_part o
-
-fields-are : (fs : List TyField) → ty_field_list (ty_fields_of (map ty_field_of fs)) ≡ map (λ f. ty_phrase f.ty) fs
-fields-are [] = refl
-fields-are (f ∷ fs) = ap₂ (λ a b. a ∷ b) (ap (λ (r : TyFieldOf). ty r.ty) (ty-field f)) (fields-are fs)
-
-list-is : (ts : List Ty) → ty_list (tys_of (map ty_of ts)) ≡ map ty_phrase ts
-list-is [] = refl
-list-is (t ∷ ts) = ap (λ l. ty_phrase t ∷ l) (list-is ts)
-
-numbered-are : (k : ℕ) (ts : List Ty) → ty_field_list (numbered_tys k (map ty_of ts)) ≡ map ty_phrase ts
-numbered-are k [] = refl
-numbered-are k (t ∷ ts) = ap (λ l. ty_phrase t ∷ l) (numbered-are (suc k) ts)
-
--- the parts of an arrow
-
-arrows-first : (p : Sought) (e : Env) (q : Place) (t : bare.Ty) (us : List TyAt) → FoundAt p e (ty t) → FoundAt p e (ty (arrows q t us))
-arrows-first p e q t [] h = h
-arrows-first p e q t (u ∷ us) h = parts-at p e (ty (arrows q t (u ∷ us))) (any-first p _ _ h)
-
-arrows-next : (p : Sought) (e : Env) (q : Place) (t : bare.Ty) (u : TyAt) (us : List TyAt)
-    → FoundAt p e (ty (arrows u.place u.ty us)) → FoundAt p e (ty (arrows q t (u ∷ us)))
-arrows-next p e q t u us h = parts-at p e (ty (arrows q t (u ∷ us))) (any-rest p _ _ (any-first p _ [] h))
-
-arrows-part : (p : Sought) (e : Env) (q : Place) (t : bare.Ty) (us : List TyPart)
-    → AnyAt p (all_in e (map (λ o. ty_phrase o.ty) us)) → FoundAt p e (ty (arrows q t (map ty_part_of us)))
-arrows-part p e q t [] h = any-none p h
-arrows-part p e q t (u ∷ us) h =
-    let b = ty_part_of u in
-    arrows-next p e q t b (map ty_part_of us) (elim (any-cases p _ _ h) [
-      | inl a ↦ arrows-first p e b.place b.ty (map ty_part_of us) (standing p e _ _ (ap (λ (r : TyAt). ty r.ty) (ty-part u)) a)
-      | inr r ↦ arrows-part p e b.place b.ty us r
-    ])
 
 -- nodes
 
@@ -76,32 +43,6 @@ product-is x q ts s = ap ty_of (s ∙ sym (tys.rolls-Product q ts)) ∙ fold-rol
 arrow-is : (x : Ty) (q : Place) (t : Box Ty Global) (us : Vec TyPart Global) → x ≡ tys.Arrow q t us
     → ty_of x ≡ arrows q (ty_of t.value) (map ty_part_of us.items)
 arrow-is x q t us s = ap ty_of (s ∙ sym (tys.rolls-Arrow q t us)) ∙ fold-roll-Ty bare.Ty TyFieldOf TyAt node_ty node_ty_field node_ty_part (Ty-F.Arrow q t us)
-
-pub ty-Record : (p : Sought) (e : Env) (x : Ty) (q : Place) (fs : Vec TyField Global) → x ≡ tys.Record q fs
-    → AnyAt p (all_in e (map (λ f. ty_phrase f.ty) fs.items)) → FoundAt p e (ty_phrase x)
-ty-Record p e x q fs s h = in-parts p e _ _ _ _ (ap ty (record-is x q fs s)) refl (fields-are fs.items) h
-
-pub ty-Con : (p : Sought) (e : Env) (x : Ty) (q : Place) (ts : Vec Ty Global) (r : Place) (c : LongId) → x ≡ tys.Con q ts r c
-    → AnyAt p (all_in e (map ty_phrase ts.items)) → FoundAt p e (ty_phrase x)
-ty-Con p e x q ts r c s h = in-parts p e _ _ _ _ (ap ty (con-is x q ts r c s)) refl (list-is ts.items) h
-
--- the type constructor itself
-pub ty-Con-own : (p : Sought) (e : Env) (x : Ty) (q : Place) (ts : Vec Ty Global) (r : Place) (c : LongId) → x ≡ tys.Con q ts r c
-    → At p (unless_bound (option_and_then (λ d. tycon_in d c.id) (along e c.qualifiers.items)) (tycon_at r (long_id_of c))) → FoundAt p e (ty_phrase x)
-ty-Con-own p e x q ts r c s h = standing p e _ _ (ap ty (con-is x q ts r c s)) (own-at p e _ h)
-
-pub ty-Product : (p : Sought) (e : Env) (x : Ty) (q : Place) (ts : Vec Ty Global) → x ≡ tys.Product q ts
-    → AnyAt p (all_in e (map ty_phrase ts.items)) → FoundAt p e (ty_phrase x)
-ty-Product p e x q ts s h = in-parts p e _ _ _ _ (ap ty (product-is x q ts s)) refl (numbered-are 1 ts.items) h
-
-pub ty-Arrow-first : (p : Sought) (e : Env) (x : Ty) (q : Place) (t : Box Ty Global) (us : Vec TyPart Global) → x ≡ tys.Arrow q t us
-    → FoundAt p e (ty_phrase t.value) → FoundAt p e (ty_phrase x)
-ty-Arrow-first p e x q t us s h =
-    standing p e _ _ (ap ty (arrow-is x q t us s)) (arrows-first p e q (ty_of t.value) (map ty_part_of us.items) h)
-
-pub ty-Arrow-parts : (p : Sought) (e : Env) (x : Ty) (q : Place) (t : Box Ty Global) (us : Vec TyPart Global) → x ≡ tys.Arrow q t us
-    → AnyAt p (all_in e (map (λ o. ty_phrase o.ty) us.items)) → FoundAt p e (ty_phrase x)
-ty-Arrow-parts p e x q t us s h = standing p e _ _ (ap ty (arrow-is x q t us s)) (arrows-part p e q (ty_of t.value) us.items h)
 
 -- with abbreviations written out
 

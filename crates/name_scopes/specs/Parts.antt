@@ -1,15 +1,12 @@
 -- The parts of nodes of the code's tree, with what is in scope there, and what declarations bring.
-use Rattle.std.specs.Prelude.{◌≡◌, List, [], ◌∷◌, ◌++◌, ◌⊎◌, map, flat_map, Option, Some, None, option_and_then, option_map, unwrap_or}
+use Rattle.std.specs.Prelude.{List, [], ◌∷◌, ◌++◌, ◌⊎◌, map, flat_map, Option, Some, None, option_map, unwrap_or}
 use Rattle.std.specs.List.{Contains}
 use Rattle.sml_tree.specs.BareTree as bare
-use Rattle.sml_tree.specs.Derived.{expand_bind, function_binds, short}
+use Rattle.sml_tree.specs.Derived.{expand_bind, short}
 use Rattle.sml_tree.specs.Phrases.{Phrase, data_bind, ty}
-use Rattle.sml_tree.specs.TreeOf.{bind_of, binds_of, data_bind_of, dec_of, decs_of, function_of, ty_of, type_bind_of}
-use Rattle.sml_tree.specs.declared.tree.Bind.{Bind}
+use Rattle.sml_tree.specs.TreeOf.{data_bind_of, dec_of, decs_of, ty_of, type_bind_of}
 use Rattle.sml_tree.specs.declared.tree.DataBind.{DataBind}
 use Rattle.sml_tree.specs.declared.tree.Dec.{Dec}
-use Rattle.sml_tree.specs.declared.tree.Exp.{Exp}
-use Rattle.sml_tree.specs.declared.tree.Function.{Function}
 use Rattle.sml_tree.specs.declared.tree.Joint.{Joint}
 use Rattle.sml_tree.specs.declared.tree.Joint.TheVariants.{AndAlso, OrElse, Infix}
 use Rattle.sml_tree.specs.declared.tree.Part.{Part}
@@ -17,9 +14,9 @@ use Rattle.sml_tree.specs.declared.tree.PatPart.{PatPart}
 use Rattle.sml_tree.specs.declared.tree.Ty.{Ty}
 use Rattle.sml_tree.specs.declared.tree.TypeBind.{TypeBind}
 use Rattle.core_rules.specs.Eval.{datatypes_env, long_structure_in, long_tycon_in}
-use Rattle.core_rules.specs.Unbound.{Unbound, value_at, tycon_at, structure_at, unless_bound, Scoped, all_in, decs_in, decs_names, rec_names, tycons_names}
+use Rattle.core_rules.specs.Unbound.{Unbound, value_at, tycon_at, structure_at, unless_bound, Scoped, all_in, tycons_names}
 use Rattle.core_rules.specs.Values.{Env, long_value_in, nothing, plus, tycon}
-use Rattle.name_scopes.specs.Nodes.{bind_phrase, exp_phrase, function_phrase, pat_phrase, type_phrase}
+use Rattle.name_scopes.specs.Nodes.{exp_phrase, pat_phrase, type_phrase}
 use Rattle.name_scopes.specs.Placed.{At, FoundAt}
 use Rattle.name_scopes.specs.declared.sought.Sought.{Sought}
 
@@ -46,21 +43,6 @@ pub record InPatParts (s : Sought) (e : Env) (os : List PatPart) : Type 0 where
 
 abbrev pub run_of : List Dec → bare.Decs
 run_of ds = decs_of (map dec_of ds)
-
-abbrev pub let_scopes : Env → List Dec → Exp → List Scoped
-let_scopes e ds b = decs_in e (run_of ds) ++ all_in (plus e (decs_names e (run_of ds))) (exp_phrase b ∷ [])
-
-abbrev pub val_scopes : Env → List Bind → List Bind → List Scoped
-val_scopes e bs rs = all_in e (map bind_phrase bs) ++ all_in (plus e (rec_names (binds_of (map bind_of rs)))) (map bind_phrase rs)
-
-abbrev pub fun_scopes : Env → List Function → List Scoped
-fun_scopes e gs = all_in (plus e (rec_names (function_binds (map function_of gs)))) (map function_phrase gs)
-
-abbrev pub local_scopes : Env → List Dec → List Dec → List Scoped
-local_scopes e ds es = decs_in e (run_of ds) ++ decs_in (plus e (decs_names e (run_of ds))) (run_of es)
-
-abbrev pub local_names : Env → List Dec → List Dec → Env
-local_names e ds es = decs_names (plus e (decs_names e (run_of ds))) (run_of es)
 
 -- datatypes with abbreviations written out
 abbrev pub expanded : List bare.TypeBind → List DataBind → List bare.DataBind

@@ -1,5 +1,5 @@
 -- Identifiers that a pattern or a declaration binds twice, or that nothing may bind: the places where that is told. [Definition 2.9]
-use Rattle.std.specs.Prelude.{ℕ, zero, suc, Bool, true, false, not, ◌&&◌, if◌then◌else◌, List, [], ◌∷◌, ◌++◌, flat_map, length, Option, Some, None}
+use Rattle.std.specs.Prelude.{ℕ, zero, suc, Bool, false, not, ◌&&◌, if◌then◌else◌, List, [], ◌∷◌, ◌++◌, flat_map, length, Option, Some, None}
 use Rattle.std.specs.List.{list_all}
 use Rattle.mlc_base.specs.declared.place.Place.{Place}
 use Rattle.sml_tree.specs.BareTree as bare
@@ -42,7 +42,8 @@ own_twice e (pat (bare.vid_pat p x)) = alone_kept x.qualifiers (is_matched (long
 own_twice e (pat (bare.as_pat p x t a)) = unless (not (is_matched (value_in e x)) && not (is_kept x)) p
 own_twice e (rule p a b) = if distinct same_vid (pat_vids e a) then [] else p ∷ pat_place a ∷ []
 own_twice e (dec (bare.val_dec p q as_ bs rs)) =
-    if distinct same_vid (binds_vids e bs ++ rec_vids rs) && list_all (λ x. not (is_kept x)) (rec_vids rs) then [] else p ∷ binding_places bs ++ binding_places rs
+    if distinct same_vid (binds_vids e bs ++ rec_vids rs) && list_all (λ x. not (is_kept x)) (rec_vids rs) then []
+    else p ∷ binding_places bs ++ binding_places rs
 own_twice e x = []
 
 -- so many levels deep

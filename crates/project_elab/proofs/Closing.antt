@@ -1,5 +1,5 @@
 -- Declarations behind which the state goes on.
-use Rattle.std.proofs.Common.{◌≡◌, List, map, sym, subst, ◌∙◌}
+use Rattle.std.proofs.Common.{◌≡◌, ◌↔◌, ◌⊎◌, ◌&&◌, Bool, true, false, IsTrue, List, map, inl, inr, refl, sym, subst, ◌∙◌}
 use Rattle.sml_tree.specs.BareTree as bare
 use Rattle.prog_tree.specs.TreeOf.{dec_of, decs_of}
 use Rattle.prog_tree.specs.declared.tree.Dec.{Dec}
@@ -42,3 +42,9 @@ module _ (S T U : State) (C D : Context) (ds : List bare.Dec) (g : Grows T U) (e
     stands = record { context = context_later T U D g h.stands.context; level = g.level ∙ h.stands.level };
     schemes = h.schemes;
   }
+
+-- what two answers say together
+pub both-answer : (a b : Bool) (P Q R : Type 0) → IsTrue a ↔ P → (b ≡ true → Q) → (b ≡ false → R) → ((a && b) ≡ true → P × Q) × ((a && b) ≡ false → (P → ⊥) ⊎ R)
+both-answer true true P Q R h q r = ((λ e. (h.0 refl, q refl)), (λ e. cc))
+both-answer true false P Q R h q r = ((λ e. cc), (λ e. inr (r refl)))
+both-answer false b P Q R h q r = ((λ e. cc), (λ e. inl (λ p. let t = h.1 p in cc)))

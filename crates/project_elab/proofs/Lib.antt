@@ -4,3 +4,4 @@ pub mod Standing
 pub mod Closing
 pub mod Sources
 pub mod Finishing
+pub mod Examples

@@ -19,12 +19,14 @@ use elab_exps::exps::decs_from;
 use elab_exps::general_worlds::law::new_is_tidy;
 use elab_finish::final_types::program::program_of;
 use elab_state::state::State;
+use elab_steps::flexible;
 use elab_worlds::ordered::{are_ordered, are_settled};
 use initial_names::initial;
 use match_pass::ir_prog::program::Program;
 use mlc_base::place::Place;
 use mlc_names::names::Name;
 use pat_elab::stopped::Stopped;
+use prog_known::answers::both;
 use prog_tree::tree::Dec as ProgramDec;
 use run_end::choose::{choose_classes, variables_made};
 use run_end::dec_forms::brought::Brought;
@@ -78,7 +80,8 @@ pub fn begin(alloc: Global, prelude: &[Dec]) -> Result<Elaborating, Stopped>
 }
 
 impl Elaborating {
-    /// One source more, with the defaults of the classes that it leaves open. Whether what it brings into scope is settled: if not, it has no principal typing.
+    /// One source more, with the defaults of the classes that it leaves open. Whether what it brings into scope is settled, and the fields of its record
+    /// patterns with `...`: if not, it has no principal typing.
     pub fn source(&mut self, alloc: Global, place: Place, decs: &[Dec]) -> Result<bool, Stopped>
         requires { StandsIn self.old.state self.old.context }
         ensures elaborated { IfOk result (λ _. (prelude : Decs) (parts : List Part) → HasElaborated prelude parts self.old
@@ -86,6 +89,7 @@ impl Elaborating {
         ensures closed { IfOk result (λ settled. IsClosed self.old (map dec_of decs.now) self.new settled) }
     {
         let first = variables_made(&self.state);
+        let first_flexible = self.state.flexible.len();
         let mut brought = Brought::new(alloc);
         decs_from(
             alloc,
@@ -96,7 +100,9 @@ impl Elaborating {
             &mut brought,
         )?;
         choose_classes(alloc, &mut self.state, place, first)?;
-        Ok(is_settled(alloc, &self.state, &brought)?)
+        let settled = is_settled(alloc, &self.state, &brought)?;
+        let are_known = flexible::are_settled(&self.state, first_flexible, &[]);
+        Ok(both(settled, are_known))
     }
 
     /// The program of the project: it is well typed, and does what the project does. Where the fields of a record aren't settled it is refused, at the place.

@@ -2,7 +2,7 @@
 use Rattle.std.proofs.Common.{◌≡◌, List, [], ◌∷◌, ◌++◌, map, Option, Some, None, inl, inr, refl, sym, ap, ap₂, subst}
 use Rattle.std.specs.List.{AllByRecursion, Contains}
 use Rattle.sml_tree.specs.BareTree.{Decs}
-use Rattle.sml_rules.specs.Project.{Part, cut, source, standard_basis}
+use Rattle.mlb_reader.specs.Parts.{Part, cut, source, standard_basis}
 use Rattle.core_rules.specs.Project as core
 use Rattle.core_rules.specs.Restrictions.{broken_in}
 use Rattle.scope_walks.proofs.Typed.{twice-behind-has-no-typing, unbound-has-no-typing}

@@ -3,7 +3,7 @@ use Rattle.std.specs.Prelude.{◌≡◌, List, ◌∷◌, ◌++◌, ◌⊎◌, m
 use Rattle.std.specs.List.{Contains}
 use Rattle.mlc_base.specs.declared.place.Place.{Place}
 use Rattle.sml_tree.specs.BareTree.{Decs}
-use Rattle.sml_rules.specs.Project.{Part, cut, source, standard_basis}
+use Rattle.mlb_reader.specs.Parts.{Part, cut, source, standard_basis}
 use Rattle.core_rules.specs.Project as core
 use Rattle.core_rules.specs.Restrictions.{broken_in}
 use Rattle.core_rules.specs.Unbound.{Unbound, decs_in}
@@ -62,3 +62,9 @@ IsCertain prelude parts (Refuses (cause.Broken p)) = IsBrokenAt prelude parts p
 IsCertain prelude parts (Refuses r) = ⊤
 IsCertain prelude parts (NotPrincipal p) = ⊤
 IsCertain prelude parts (Foreign p) = ⊤
+
+-- what becomes of an answer: it stays, or its cause becomes that there is no typing, at the place q
+pub data Becomes (q : Place) : Stopped → Stopped → Type 0 where
+  stays : (s : Stopped) → Becomes q s s
+  unbound_mistyped : (p : Place) → Becomes q (Refuses (cause.Unbound p)) (Refuses (cause.Mistyped q))
+  broken_mistyped : (p : Place) → Becomes q (Refuses (cause.Broken p)) (Refuses (cause.Mistyped q))

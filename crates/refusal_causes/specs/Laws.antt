@@ -19,4 +19,5 @@ abbrev pub NoneIsUnbound : Type 0
 NoneIsUnbound = (prelude : Decs) (parts : List Part) (c : Context) (p : Place) → ProjectHas prelude parts c → ¬ (IsUnboundAt prelude (map part_of_core parts) p)
 
 abbrev pub NoneIsBroken : Type 0
-NoneIsBroken = (prelude : Decs) (parts : List Part) (c : Context) (p : Place) → AllByRecursion IsLawful parts → ProjectHas prelude parts c → ¬ (IsBrokenAt prelude (map part_of_core parts) p)
+NoneIsBroken = (prelude : Decs) (parts : List Part) (c : Context) (p : Place) → AllByRecursion IsLawful parts → ProjectHas prelude parts c →
+    ¬ (IsBrokenAt prelude (map part_of_core parts) p)

@@ -9,7 +9,7 @@ ghost use Rattle.core_rules.specs.Restrictions.{broken_in};
 ghost use Rattle.core_rules.specs.Values.{nothing, Env};
 ghost use Rattle.name_scopes.specs.Covering.{Covers};
 ghost use Rattle.scope_walks.specs.Projects.{env_behind};
-ghost use Rattle.refusal_causes.specs.Causes.{part_of_core, IsBrokenAt, IsCertain, IsFoundAt, IsUnboundAt};
+ghost use Rattle.refusal_causes.specs.Causes.{part_of_core, Becomes, IsBrokenAt, IsCertain, IsFoundAt, IsUnboundAt};
 
 use elab_types::refused::Refused as Cause;
 use mlb_reader::project::Part;
@@ -125,29 +125,31 @@ fn is_broken(alloc: Global, place: Place, prelude: &[Dec], parts: &[Part]) -> Re
     is_found(alloc, &sought, prelude, parts)
 }
 
-/// What elaboration answered, made certain: where an identifier is bound after all, or no restriction is broken, there is no typing. No project is known to come to
-/// that but one whose unbound type constructor stands in an argument of an abbreviation of a `withtype`.
+/// What elaboration answered, made certain: a cause stays where it is so, and becomes elsewhere that there is no typing, at the place `otherwise`. Known to come
+/// to that are an unbound type constructor in an argument of an abbreviation of a `withtype`, and a type variable that nothing scopes.
 pub fn certain(
     alloc: Global,
     prelude: &[Dec],
     parts: &[Part],
     stopped: Stopped,
+    otherwise: Place,
 ) -> Result<Stopped, NoMemory>
-    ensures { IfOk result (λ answer. IsCertain (decs_of (map dec_of prelude.now)) (map part_of parts.now) answer) }
+    ensures certain { IfOk result (λ answer. IsCertain (decs_of (map dec_of prelude.now)) (map part_of parts.now) answer) }
+    ensures becomes { IfOk result (λ answer. Becomes otherwise stopped answer) }
 {
     match stopped {
         Stopped::Refuses(Cause::Unbound(place)) => {
             if is_unbound(alloc, place, prelude, parts)? {
                 Ok(Stopped::Refuses(Cause::Unbound(place)))
             } else {
-                Ok(Stopped::Refuses(Cause::Mistyped(place)))
+                Ok(Stopped::Refuses(Cause::Mistyped(otherwise)))
             }
         }
         Stopped::Refuses(Cause::Broken(place)) => {
             if is_broken(alloc, place, prelude, parts)? {
                 Ok(Stopped::Refuses(Cause::Broken(place)))
             } else {
-                Ok(Stopped::Refuses(Cause::Mistyped(place)))
+                Ok(Stopped::Refuses(Cause::Mistyped(otherwise)))
             }
         }
         other => Ok(other),

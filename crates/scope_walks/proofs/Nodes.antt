@@ -18,9 +18,11 @@ use Rattle.sml_tree.specs.declared.tree.Joint.{Joint}
 use Rattle.sml_tree.specs.declared.tree.Joint.TheVariants.{AndAlso, OrElse, Infix}
 use Rattle.sml_tree.specs.declared.tree.Part.{Part}
 use Rattle.sml_tree.specs.declared.tree.TypeBind.{TypeBind}
+use Rattle.sml_tree.specs.declared.tree.TyvarSeq.{TyvarSeq}
 use Rattle.core_rules.proofs.Fitting.{not-false}
 use Rattle.core_rules.specs.Unbound.{value_at, unless_bound, Scoped, all_in, tycons_names}
 use Rattle.core_rules.specs.Values.{Env, long_value_in, plus}
+use Rattle.name_scopes.specs.Bindings.{fun_phrase}
 use Rattle.name_scopes.specs.Covering.{Covers}
 use Rattle.name_scopes.specs.Nodes.{clause_phrase, data_phrase, dec_phrase, exp_phrase, fresh_onto, function_phrase}
 use Rattle.name_scopes.specs.Parts.{InParts, datatype_scopes, joint_unbound, withtype_scopes}
@@ -29,10 +31,11 @@ use Rattle.name_scopes.specs.declared.bound.Bound.{Bound}
 use Rattle.name_scopes.specs.declared.sought.Sought.{Sought}
 use Rattle.name_scopes.specs.declared.sought.What.TheVariants as whats
 use Rattle.name_scopes.proofs.Covering.{fresh-onto-covers}
-use Rattle.name_scopes.proofs.DecNodes.{dec-Withtype-datas, dec-Withtype-types, function-in-clauses}
+use Rattle.name_scopes.proofs.DecNodes.{dec-Fun, dec-Fun-own, dec-Withtype-datas, dec-Withtype-types, function-in-clauses}
 use Rattle.name_scopes.proofs.ExpNodes.{exp-Chain-rest, exp-Chain-vid}
 use Rattle.name_scopes.proofs.Placing.{first-in, none-in}
 use Rattle.name_scopes.proofs.Abbreviating.{as-it-was}
+use Rattle.scope_walks.specs.Functions.{IsInFun, fun_names}
 use Rattle.scope_walks.proofs.Walking.{any-in, is-in}
 
 none-at : {A : Type 0} (p : Sought) → At p [] → A
@@ -117,3 +120,9 @@ withtype-parts p e d q ds bs is h = elim (any-parts p _ _ h) [
   | inl a ↦ dec-Withtype-datas p e d q ds bs is a
   | inr b ↦ dec-Withtype-types p e d q ds bs is b
 ]
+
+pub fun-parts : (p : Sought) (e : Env) (d : Dec) (q : Place) (as_ : TyvarSeq) (gs : Vec Function Global) → d ≡ decs.Fun q as_ gs → (fs : List Function) → fs ≡ gs.items → IsInFun p e q fs
+    → FoundAt p e (dec_phrase d)
+fun-parts p e d q as_ gs is fs g (inl h) =
+    dec-Fun-own p e d q as_ gs is (subst (λ (l : List Function). FoundAt p e (fun_phrase q as_.place as_.tyvars.items l)) g (h as_.place as_.tyvars.items))
+fun-parts p e d q as_ gs is fs g (inr h) = dec-Fun p e d q as_ gs is (subst (λ (l : List Function). AnyAt p (all_in (plus e (fun_names l)) (map function_phrase l))) g h)

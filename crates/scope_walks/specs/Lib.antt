@@ -1,2 +1,3 @@
 pub mod Closing
+pub mod Functions
 pub mod Projects

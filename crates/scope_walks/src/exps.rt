@@ -7,9 +7,11 @@ ghost use Rattle.name_scopes.specs.Covering.{Covers};
 ghost use Rattle.name_scopes.specs.Nodes.{bind_phrase, clause_phrase, dec_phrase, exp_phrase, function_phrase, rule_phrase};
 ghost use Rattle.name_scopes.specs.Parts.{joint_unbound, InParts};
 ghost use Rattle.name_scopes.specs.Placed.{At, AnyAt, Declared, FoundAt, Walked};
+ghost use Rattle.scope_walks.specs.Functions.{fun_names, IsInFun};
 
 use crate::vals::{close_val, open_val};
 use mlc_base::memory::NoMemory;
+use mlc_base::place::Place;
 use name_scopes::datas::{
     in_datatype, in_exception, in_open, in_replicate, in_type_dec, in_withtype,
 };
@@ -51,10 +53,7 @@ pub fn in_exp(
         Exp::Tuple(_, parts) => in_exps(alloc, sought, parts, scope),
         Exp::List(_, elements) => in_exps(alloc, sought, elements, scope),
         Exp::Sequence(_, first, rest) => {
-            if in_exp(alloc, sought, first, scope)? {
-                return Ok(true);
-            }
-            in_exps(alloc, sought, rest, scope)
+            Ok(in_exp(alloc, sought, first, scope)? || in_exps(alloc, sought, rest, scope)?)
         }
         Exp::Let(_, decs, body) => {
             let before = scope.len();
@@ -68,28 +67,16 @@ pub fn in_exp(
             Ok(false)
         }
         Exp::Apply(_, function, arguments) => {
-            if in_exp(alloc, sought, function, scope)? {
-                return Ok(true);
-            }
-            in_exps(alloc, sought, arguments, scope)
+            Ok(in_exp(alloc, sought, function, scope)? || in_exps(alloc, sought, arguments, scope)?)
         }
         Exp::Chain(_, _, first, parts) => {
-            if in_exp(alloc, sought, first, scope)? {
-                return Ok(true);
-            }
-            in_parts(alloc, sought, parts, scope)
+            Ok(in_exp(alloc, sought, first, scope)? || in_parts(alloc, sought, parts, scope)?)
         }
         Exp::Typed(_, body, ty) => {
-            if in_ty(alloc, sought, ty, scope) {
-                return Ok(true);
-            }
-            in_exp(alloc, sought, body, scope)
+            Ok(in_ty(alloc, sought, ty, scope) || in_exp(alloc, sought, body, scope)?)
         }
         Exp::Handle(_, body, rules) => {
-            if in_exp(alloc, sought, body, scope)? {
-                return Ok(true);
-            }
-            in_rules(alloc, sought, rules, scope)
+            Ok(in_exp(alloc, sought, body, scope)? || in_rules(alloc, sought, rules, scope)?)
         }
         Exp::Raise(_, body) => in_exp(alloc, sought, body, scope),
         Exp::Fn(_, rules) => in_rules(alloc, sought, rules, scope),
@@ -275,6 +262,24 @@ fn in_functions(
     Ok(false)
 }
 
+/// The functions of a `fun` at a place, of which each is in scope in all.
+#[cycle(exps)]
+fn in_fun(
+    alloc: Global,
+    sought: &Sought,
+    at: Place,
+    functions: &[Function],
+    scope: &mut Scope,
+) -> Result<bool, NoMemory>
+    ensures { IfOk result (λ found. Declared found scope.old scope.new (λ e. IsInFun sought.now e at functions.now) (λ e. fun_names functions.now)) }
+{
+    if is_fun_twice(alloc, sought, at, functions)? {
+        return Ok(true);
+    }
+    bind_functions(alloc, functions, scope)?;
+    in_functions(alloc, sought, functions, scope)
+}
+
 /// Declarations, one after the other.
 #[cycle(exps)]
 pub fn in_decs(
@@ -314,13 +319,7 @@ fn in_dec(alloc: Global, sought: &Sought, dec: &Dec, scope: &mut Scope) -> Resul
             close_val(alloc, &opened, recs, scope)?;
             Ok(false)
         }
-        Dec::Fun(at, _, functions) => {
-            if is_fun_twice(alloc, sought, *at, functions)? {
-                return Ok(true);
-            }
-            bind_functions(alloc, functions, scope)?;
-            in_functions(alloc, sought, functions, scope)
-        }
+        Dec::Fun(at, _, functions) => in_fun(alloc, sought, *at, functions, scope),
         Dec::Abbreviation(_, binds) => in_type_dec(alloc, sought, binds, scope),
         Dec::Datatype(_, binds) => in_datatype(alloc, sought, binds, scope),
         Dec::Withtype(_, binds, types) => in_withtype(alloc, sought, binds, types, scope),

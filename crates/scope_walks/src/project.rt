@@ -1,7 +1,11 @@
 // Projects, part by part.
-ghost use Rattle.std.specs.Prelude.{IfOk, IfSome, map};
+ghost use Rattle.std.specs.Prelude.{◌≡◌, IfOk, IfSome, None, map};
 ghost use Rattle.sml_tree.specs.TreeOf.{dec_of, decs_of};
+ghost use Rattle.core_rules.specs.Initial.{prelude_env};
+ghost use Rattle.core_rules.specs.Unbound.{unbound_in};
 ghost use Rattle.name_scopes.specs.Covering.{Covers};
+ghost use Rattle.name_scopes.specs.Placed.{At};
+ghost use Rattle.name_scopes.specs.declared.sought.What.TheVariants.{Unbound};
 ghost use Rattle.scope_walks.specs.Projects.{standard_env};
 
 use crate::exps::in_decs;
@@ -19,7 +23,9 @@ pub fn standard_scope(
     place: Place,
     prelude: &[Dec],
 ) -> Result<Option<Scope>, NoMemory>
-    ensures { IfOk result (λ found. IfSome found (λ scope. Covers scope (standard_env (decs_of (map dec_of prelude.now))))) }
+    ensures covers { IfOk result (λ found. IfSome found (λ scope. Covers scope (standard_env (decs_of (map dec_of prelude.now))))) }
+    ensures none { IfOk result (λ found. found ≡ None
+        → At (record { what = Unbound; place = place }) (unbound_in prelude_env (decs_of (map dec_of prelude.now)))) }
 {
     let mut scope = basis(alloc)?;
     let from = scope.len();

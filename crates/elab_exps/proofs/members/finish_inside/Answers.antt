@@ -1,4 +1,5 @@
 use Rattle.std.proofs.Common.{◌∷◌, [], length, sym, ap, subst, ◌∙◌}
+use Rattle.elab_steps.specs.Flexible.{AreSettled}
 use Rattle.pat_elab.specs.Elaborated.{AreVariables}
 use Rattle.elab_exps.proofs.Grouping.{all_at, ended_stands}
 use Rattle.elab_exps.proofs.members.finish_inside.Goals as goal
@@ -38,3 +39,6 @@ returns-clause-stands c S C as_ rs gs st h =
     ended_stands S c.finish.new.state C c.finish.new.context c.args.place c.args.place as_ rs gs (c.in_ok-made.made ∷ []) c.args.brought.now c.finish.new.brought st
     (c.in_ok-made.ensures.context S h.from C rs gs st.context h.begins all h.first h.tyvars)
     (c.in_ok-made.ensures.brings S h.from C c.args.place c.args.place as_ rs gs st.context h.begins all h.first h.tyvars h.scopes)
+
+pub returns-clause-settled : goal.returns-clause-settled
+returns-clause-settled c = subst (AreSettled c.finish.new.state c.args.begun.flexible) c.deref-flexible.ensures.value c.in_ok-check_settled.ensures.settled

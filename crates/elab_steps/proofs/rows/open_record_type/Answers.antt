@@ -8,7 +8,7 @@ use Rattle.elab_steps.specs.Rows.{AreBounded}
 use Rattle.elab_steps.specs.World.{type_of}
 use Rattle.elab_steps.proofs.Bounding.{row-fits}
 use Rattle.elab_steps.proofs.Changing.{parts_held}
-use Rattle.elab_steps.proofs.Growing.{comes_before, grows_on}
+use Rattle.elab_steps.proofs.Growing.{comes_before, grows_on, type_later}
 use Rattle.elab_steps.proofs.Opening.{opened}
 use Rattle.elab_steps.proofs.Sorting.{sorted-all}
 use Rattle.elab_steps.proofs.rows.open_record_type.Goals as goal
@@ -29,15 +29,24 @@ fresh_row-requires-clause-fit c =
     (ap (λ l. ascend (map (λ (f : Field). f.label) l)) (sym c.deref.ensures.value) ∙ sym c.are_ascending.ensures ∙ c.if-not-are_ascending.false)
 
 pub returns-clause-grows : goal.returns-clause-grows
-returns-clause-grows c = grows_on c.args.state.now c.bounded_parts.new.state c.fresh_row.new.state c.in_ok-types.ensures.grows c.in_ok-fresh_row.ensures.grows
+returns-clause-grows c =
+    let before = grows_on c.args.state.now c.bounded_parts.new.state c.fresh_row.new.state c.in_ok-types.ensures.grows c.in_ok-ty.ensures.grows in
+    grows_on c.args.state.now c.fresh_row.new.state c.note_flexible.new.state before c.in_ok-note_flexible.ensures.grows
+
+pub returns-clause-is : goal.returns-clause-is
+returns-clause-is c = type_later c.fresh_row.new.state c.note_flexible.new.state c.in_ok-ty.ty c.in_ok-note_flexible.ensures.grows c.in_ok-ty.ensures.is
+
+pub returns-clause-within : goal.returns-clause-within
+returns-clause-within c W w = c.in_ok-ty.ensures.within W (comes_before c.fresh_row.new.state c.note_flexible.new.state W c.in_ok-note_flexible.ensures.grows w)
 
 pub returns-clause-has : goal.returns-clause-has
 returns-clause-has c W w =
     let ys = c.in_ok-fields.fields.items in
-    let t = type_of W c.in_ok-fresh_row.field-0 in
+    let t = type_of W c.in_ok-ty.ty in
     let us = types_of W c.in_ok-types.types.items in
+    let made = comes_before c.fresh_row.new.state c.note_flexible.new.state W c.in_ok-note_flexible.ensures.grows w in
     let same = subst (λ l. AreBounded c.args.state.now c.args.limit l c.bounded_parts.new.state c.in_ok-types.types.items) c.deref-3.ensures.value c.in_ok-types.ensures in
     opened W W.admits false c.args.fields.now ys us t c.in_ok-fields.ensures
     (ap (λ l. ascend (map (λ (f : Field). f.label) l)) (sym c.deref.ensures.value) ∙ sym c.are_ascending.ensures ∙ c.if-not-are_ascending.false)
-    (same.same W (comes_before c.bounded_parts.new.state c.fresh_row.new.state W c.in_ok-fresh_row.ensures.grows w)) (c.in_ok-fresh_row.ensures.ordered W w)
-    (subst (λ ls. Extends W.admits false ls us t) (c.in_ok-labels.ensures ∙ ap (map (λ (f : Field). f.label)) c.deref-2.ensures.value) (c.in_ok-fresh_row.ensures.extends W w))
+    (same.same W (comes_before c.bounded_parts.new.state c.fresh_row.new.state W c.in_ok-ty.ensures.grows made)) (c.in_ok-ty.ensures.ordered W made)
+    (subst (λ ls. Extends W.admits false ls us t) (c.in_ok-labels.ensures ∙ ap (map (λ (f : Field). f.label)) c.deref-2.ensures.value) (c.in_ok-ty.ensures.extends W made))

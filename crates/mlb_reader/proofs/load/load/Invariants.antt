@@ -1,7 +1,7 @@
 use Rattle.std.proofs.Common.{◌≡◌, ◌≤◌, map, take}
 use Rattle.std.specs.String.{string_bytes}
 use Rattle.sml_lexer.specs.NameTable.{Keeps}
-use Rattle.sml_rules.specs.Basis.{standard_fixities}
+use Rattle.mlb_reader.specs.Basis.{standard_fixities}
 use Rattle.mlb_reader.specs.Counting.{IsCount}
 use Rattle.mlb_reader.specs.Loading.{Grows, IsKnown, loaded_of}
 use Rattle.mlb_reader.specs.MlbOf.{item_of}

@@ -30,5 +30,5 @@ loop-i-preserved c = elim c.match-parts-i.branch [
   | in-StandardBasis w ↦ passed-next c.args.parts.now c.loop-i.i c.index-parts-i.result core.standard_basis c.loop-i-test.true c.index-parts-i.is (ap part_of w.in-StandardBasis.is) c.loop-i.invariant
   | in-Source+in_ok-breaks_first-in-Source+else-branch w ↦
       passed-next c.args.parts.now c.loop-i.i c.index-parts-i.result (core.source (decs_of (map dec_of w.deref-in-Source.result.now))) c.loop-i-test.true c.index-parts-i.is
-      (ap part_of w.in-Source.is ∙ ap (λ l. Rattle.sml_rules.specs.Project.source (decs_of (map dec_of l))) (sym w.deref-in-Source.ensures.value)) c.loop-i.invariant
+      (ap part_of w.in-Source.is ∙ ap (λ l. Rattle.mlb_reader.specs.Parts.source (decs_of (map dec_of l))) (sym w.deref-in-Source.ensures.value)) c.loop-i.invariant
 ]

@@ -26,4 +26,4 @@ returns-then-branch c h prelude before e f k =
 pub loop-i-preserved : goal.loop-i-preserved
 loop-i-preserved c =
     going-on c.args.parts.now c.loop-i.i c.index-parts-i.result (decs_of (map dec_of c.deref-in-Source.result.now)) _ c.args.scope.now c.loop-i.scope _ c.loop-i-test.true c.index-parts-i.is
-    (ap part_of c.in-Source.is ∙ ap (λ l. Rattle.sml_rules.specs.Project.source (decs_of (map dec_of l))) (sym c.deref-in-Source.ensures.value)) c.if-branch.false c.loop-i.invariant c.in_ok-in_decs-in-Source.ensures
+    (ap part_of c.in-Source.is ∙ ap (λ l. Rattle.mlb_reader.specs.Parts.source (decs_of (map dec_of l))) (sym c.deref-in-Source.ensures.value)) c.if-branch.false c.loop-i.invariant c.in_ok-in_decs-in-Source.ensures

@@ -1,30 +1,30 @@
-use Rattle.std.proofs.Common.{List, [], map, filter, refl, sym, ap, ap₂, subst, ◌∙◌}
+use Rattle.std.proofs.Common.{List, [], map, filter, inl, inr, refl, sym, ap, ap₂, subst, ◌∙◌}
 use Rattle.std.specs.Prelude.{unwrap_or}
-use Rattle.sml_tree.specs.Derived.{function_binds, one_or_tuple_pat}
-use Rattle.sml_tree.specs.TreeOf.{bind_of, binds_of, data_bind_of, dec_of, decs_of, ex_bind_of, function_of, long_id_at_of, long_vid_of, pat_of, type_bind_of}
+use Rattle.sml_tree.specs.Derived.{one_or_tuple_pat}
+use Rattle.sml_tree.specs.TreeOf.{bind_of, binds_of, data_bind_of, dec_of, decs_of, ex_bind_of, long_id_at_of, long_vid_of, pat_of, type_bind_of}
 use Rattle.sml_tree.specs.declared.tree.Bind.{Bind}
 use Rattle.sml_tree.specs.declared.tree.Dec.{Dec}
 use Rattle.sml_tree.specs.declared.tree.ExpField.{ExpField}
-use Rattle.sml_tree.specs.declared.tree.Function.{Function}
 use Rattle.sml_tree.specs.declared.tree.Pat.{Pat}
 use Rattle.core_rules.specs.Eval.{datatypes_env, opened, types_env}
 use Rattle.core_rules.specs.Unbound.{all_in, decs_in, exns_names, pat_names, rec_names}
 use Rattle.core_rules.specs.Values.{nothing, plus}
-use Rattle.name_scopes.specs.Bindings.{fun_phrase, val_phrase}
+use Rattle.name_scopes.specs.Bindings.{val_phrase}
 use Rattle.name_scopes.specs.Covering.{is_written}
 use Rattle.name_scopes.specs.Nodes.{bind_phrase, clause_phrase, exn_phrase, exp_phrase, function_phrase, pat_phrase, rule_phrase, type_phrase}
 use Rattle.name_scopes.specs.Parts.{InParts, datatype_scopes, expanded, structures_unbound, withtype_scopes}
 use Rattle.name_scopes.specs.Patterns.{binds_vids}
 use Rattle.name_scopes.specs.Placed.{AnyAt, At, FoundAt}
-use Rattle.name_scopes.proofs.DecNodes.{datatypes-expanded, dec-Abbreviation, dec-Datatype, dec-Declarations, dec-Exception, dec-Fun, dec-Fun-own, dec-Local-decs, dec-Local-shown, dec-Open-own, dec-Replicate, dec-Val-binds, dec-Val-own, dec-Val-recs}
+use Rattle.name_scopes.proofs.DecNodes.{datatypes-expanded, dec-Abbreviation, dec-Datatype, dec-Declarations, dec-Exception, dec-Local-decs, dec-Local-shown, dec-Open-own, dec-Replicate, dec-Val-binds, dec-Val-own, dec-Val-recs}
 use Rattle.name_scopes.proofs.DecNodes.{names-Abbreviation, names-Datatype, names-Declarations, names-Exception, names-Fun, names-Local, names-Open, names-Replicate, names-Val, names-Withtype, nothing-plus}
 use Rattle.name_scopes.proofs.ExpNodes.{bind-in-exp, bind-in-pat, clause-in-exp, clause-in-pats, rule-in-exp, rule-in-pat}
 use Rattle.name_scopes.proofs.ExpNodes.{exp-Apply-first, exp-Apply-rest, exp-Chain-first, exp-Fn, exp-Handle-body, exp-Handle-rules, exp-Let-body, exp-Let-decs, exp-List, exp-Raise, exp-Record}
 use Rattle.name_scopes.proofs.ExpNodes.{exp-Sequence-first, exp-Sequence-rest, exp-Tuple, exp-Typed-body, exp-Typed-ty, exp-Vid}
 use Rattle.name_scopes.proofs.PatNodes.{one-or-tuple}
-use Rattle.scope_walks.proofs.Nodes.{chain-parts, function-found, joint-found, own-value, part-found, plain-datatype, withtype-parts}
-use Rattle.scope_walks.proofs.Walking.{brought-named, closes-named, declared-from, declared-if, declared-inside, declared-true, first-found, found-true, found-in-decs, functions-if, inside-found, inside-left, list-found, local-kept, looked, looked-true}
-use Rattle.scope_walks.proofs.Walking.{none-found, ran-all, ran-found, ran-next, ran-none, run_names, second-found, seen-true, val-closed, walked-if}
+use Rattle.scope_walks.specs.Functions.{fun_names}
+use Rattle.scope_walks.proofs.Nodes.{chain-parts, fun-parts, function-found, joint-found, own-value, part-found, plain-datatype, withtype-parts}
+use Rattle.scope_walks.proofs.Walking.{brought-named, closes-named, declared-from, declared-if, declared-inside, declared-true, first-found, found-in-decs, functions-if, inside-found, inside-left, list-found, local-kept, looked, looked-true}
+use Rattle.scope_walks.proofs.Walking.{none-found, ran-all, ran-found, ran-next, ran-none, run_names, second-found, seen-true, val-closed, walked-for, walked-if}
 use Rattle.scope_walks.proofs.exps.+exps.Goals as goal
 
 pub in_binds-loop-i-init : goal.in_binds-loop-i-init
@@ -205,35 +205,35 @@ in_exp-returns-in-Fn t c =
 
 pub in_exp-returns-then-branch : goal.in_exp-returns-then-branch
 in_exp-returns-then-branch t c =
-    found-true _ c.args.scope.now _ _ c.if-branch.true refl (λ e u. exp-Sequence-first c.args.sought.now e c.args.exp.now c.in-Sequence.field-0 c.in-Sequence.first c.in-Sequence.rest c.in-Sequence.is (subst (λ z. FoundAt c.args.sought.now e (exp_phrase z)) c.deref-in-Sequence.ensures u)) c.in_ok-in_exp-in-Sequence.ensures
+    walked-for _ c.args.scope.now _ _ refl (λ e u. exp-Sequence-first c.args.sought.now e c.args.exp.now c.in-Sequence.field-0 c.in-Sequence.first c.in-Sequence.rest c.in-Sequence.is (subst (λ z. FoundAt c.args.sought.now e (exp_phrase z)) c.deref-in-Sequence.ensures u)) c.in_ok-in_exp-in-Sequence.ensures
 
 pub in_exp-returns-then-branch-4 : goal.in_exp-returns-then-branch-4
 in_exp-returns-then-branch-4 t c =
-    found-true _ c.args.scope.now _ _ c.if-branch-4.true refl (λ e u. exp-Apply-first c.args.sought.now e c.args.exp.now c.in-Apply.field-0 c.in-Apply.function c.in-Apply.arguments c.in-Apply.is (subst (λ z. FoundAt c.args.sought.now e (exp_phrase z)) c.deref-in-Apply.ensures u)) c.in_ok-in_exp-in-Apply.ensures
+    walked-for _ c.args.scope.now _ _ refl (λ e u. exp-Apply-first c.args.sought.now e c.args.exp.now c.in-Apply.field-0 c.in-Apply.function c.in-Apply.arguments c.in-Apply.is (subst (λ z. FoundAt c.args.sought.now e (exp_phrase z)) c.deref-in-Apply.ensures u)) c.in_ok-in_exp-in-Apply.ensures
 
 pub in_exp-returns-then-branch-5 : goal.in_exp-returns-then-branch-5
 in_exp-returns-then-branch-5 t c =
-    found-true _ c.args.scope.now _ _ c.if-branch-5.true refl (λ e u. exp-Chain-first c.args.sought.now e c.args.exp.now c.in-Chain.field-0 c.in-Chain.field-1 c.in-Chain.first c.in-Chain.parts c.in-Chain.is (subst (λ z. FoundAt c.args.sought.now e (exp_phrase z)) c.deref-in-Chain.ensures u)) c.in_ok-in_exp-in-Chain.ensures
+    walked-for _ c.args.scope.now _ _ refl (λ e u. exp-Chain-first c.args.sought.now e c.args.exp.now c.in-Chain.field-0 c.in-Chain.field-1 c.in-Chain.first c.in-Chain.parts c.in-Chain.is (subst (λ z. FoundAt c.args.sought.now e (exp_phrase z)) c.deref-in-Chain.ensures u)) c.in_ok-in_exp-in-Chain.ensures
 
 pub in_exp-returns-then-branch-6 : goal.in_exp-returns-then-branch-6
 in_exp-returns-then-branch-6 t c =
-    found-true _ c.args.scope.now _ _ c.if-branch-6.true refl (λ e u. exp-Handle-body c.args.sought.now e c.args.exp.now c.in-Handle.field-0 c.in-Handle.body c.in-Handle.rules c.in-Handle.is (subst (λ z. FoundAt c.args.sought.now e (exp_phrase z)) c.deref-in-Handle.ensures u)) c.in_ok-in_exp-in-Handle.ensures
+    walked-for _ c.args.scope.now _ _ refl (λ e u. exp-Handle-body c.args.sought.now e c.args.exp.now c.in-Handle.field-0 c.in-Handle.body c.in-Handle.rules c.in-Handle.is (subst (λ z. FoundAt c.args.sought.now e (exp_phrase z)) c.deref-in-Handle.ensures u)) c.in_ok-in_exp-in-Handle.ensures
 
-pub in_exp-returns-else-branch : goal.in_exp-returns-else-branch
-in_exp-returns-else-branch t c =
-    walked-if c.in_exps-in-Sequence.result c.args.scope.now _ _ (c.in_ok-in_exp-in-Sequence.ensures.same c.if-branch.false) (λ e u. exp-Sequence-rest c.args.sought.now e c.args.exp.now c.in-Sequence.field-0 c.in-Sequence.first c.in-Sequence.rest c.in-Sequence.is (subst (λ l. AnyAt c.args.sought.now (all_in e (map exp_phrase l))) c.deref-in-Sequence-2.ensures.value u)) c.in_exps-in-Sequence.ensures
+pub in_exp-returns-in_ok-in_exps-in-Sequence : goal.in_exp-returns-in_ok-in_exps-in-Sequence
+in_exp-returns-in_ok-in_exps-in-Sequence t c =
+    walked-for _ c.args.scope.now _ _ (c.in_ok-in_exp-in-Sequence.ensures.same c.if-branch.false) (λ e u. exp-Sequence-rest c.args.sought.now e c.args.exp.now c.in-Sequence.field-0 c.in-Sequence.first c.in-Sequence.rest c.in-Sequence.is (subst (λ l. AnyAt c.args.sought.now (all_in e (map exp_phrase l))) c.deref-else-branch.ensures.value u)) c.in_ok-in_exps-in-Sequence.ensures
 
-pub in_exp-returns-else-branch-4 : goal.in_exp-returns-else-branch-4
-in_exp-returns-else-branch-4 t c =
-    walked-if c.in_exps-in-Apply.result c.args.scope.now _ _ (c.in_ok-in_exp-in-Apply.ensures.same c.if-branch-4.false) (λ e u. exp-Apply-rest c.args.sought.now e c.args.exp.now c.in-Apply.field-0 c.in-Apply.function c.in-Apply.arguments c.in-Apply.is (subst (λ l. AnyAt c.args.sought.now (all_in e (map exp_phrase l))) c.deref-in-Apply-2.ensures.value u)) c.in_exps-in-Apply.ensures
+pub in_exp-returns-in_ok-in_exps-in-Apply : goal.in_exp-returns-in_ok-in_exps-in-Apply
+in_exp-returns-in_ok-in_exps-in-Apply t c =
+    walked-for _ c.args.scope.now _ _ (c.in_ok-in_exp-in-Apply.ensures.same c.if-branch-4.false) (λ e u. exp-Apply-rest c.args.sought.now e c.args.exp.now c.in-Apply.field-0 c.in-Apply.function c.in-Apply.arguments c.in-Apply.is (subst (λ l. AnyAt c.args.sought.now (all_in e (map exp_phrase l))) c.deref-else-branch-4.ensures.value u)) c.in_ok-in_exps-in-Apply.ensures
 
-pub in_exp-returns-else-branch-6 : goal.in_exp-returns-else-branch-6
-in_exp-returns-else-branch-6 t c =
-    walked-if c.in_rules.result c.args.scope.now _ _ (c.in_ok-in_exp-in-Handle.ensures.same c.if-branch-6.false) (λ e u. exp-Handle-rules c.args.sought.now e c.args.exp.now c.in-Handle.field-0 c.in-Handle.body c.in-Handle.rules c.in-Handle.is (subst (λ l. AnyAt c.args.sought.now (all_in e (map rule_phrase l))) c.deref-in-Handle-2.ensures.value u)) c.in_rules.ensures
+pub in_exp-returns-in_ok-in_rules-in-Handle : goal.in_exp-returns-in_ok-in_rules-in-Handle
+in_exp-returns-in_ok-in_rules-in-Handle t c =
+    walked-for _ c.args.scope.now _ _ (c.in_ok-in_exp-in-Handle.ensures.same c.if-branch-6.false) (λ e u. exp-Handle-rules c.args.sought.now e c.args.exp.now c.in-Handle.field-0 c.in-Handle.body c.in-Handle.rules c.in-Handle.is (subst (λ l. AnyAt c.args.sought.now (all_in e (map rule_phrase l))) c.deref-else-branch-6.ensures.value u)) c.in_ok-in_rules-in-Handle.ensures
 
-pub in_exp-returns-else-branch-5 : goal.in_exp-returns-else-branch-5
-in_exp-returns-else-branch-5 t c =
-    walked-if c.in_parts.result c.args.scope.now _ _ (c.in_ok-in_exp-in-Chain.ensures.same c.if-branch-5.false) (λ e u. chain-parts c.args.sought.now e c.args.exp.now c.in-Chain.field-0 c.in-Chain.field-1 c.in-Chain.first c.in-Chain.parts c.in-Chain.is (subst (λ l. InParts c.args.sought.now e l) c.deref-in-Chain-2.ensures.value u)) c.in_parts.ensures
+pub in_exp-returns-in_ok-in_parts-in-Chain : goal.in_exp-returns-in_ok-in_parts-in-Chain
+in_exp-returns-in_ok-in_parts-in-Chain t c =
+    walked-for _ c.args.scope.now _ _ (c.in_ok-in_exp-in-Chain.ensures.same c.if-branch-5.false) (λ e u. chain-parts c.args.sought.now e c.args.exp.now c.in-Chain.field-0 c.in-Chain.field-1 c.in-Chain.first c.in-Chain.parts c.in-Chain.is (subst (λ l. InParts c.args.sought.now e l) c.deref-else-branch-5.ensures.value u)) c.in_ok-in_parts-in-Chain.ensures
 
 pub in_exp-returns-then-branch-2 : goal.in_exp-returns-then-branch-2
 in_exp-returns-then-branch-2 t c =
@@ -245,11 +245,11 @@ in_exp-returns-then-branch-3 t c =
 
 pub in_exp-returns-then-in_ty : goal.in_exp-returns-then-in_ty
 in_exp-returns-then-in_ty t c =
-    looked-true _ c.args.scope.now _ _ c.if-in_ty.true refl (λ e u. exp-Typed-ty c.args.sought.now e c.args.exp.now c.in-Typed.field-0 c.in-Typed.body c.in-Typed.ty c.in-Typed.is u) c.in_ty.ensures
+    looked _ c.args.scope.now (λ e u. exp-Typed-ty c.args.sought.now e c.args.exp.now c.in-Typed.field-0 c.in-Typed.body c.in-Typed.ty c.in-Typed.is u) c.in_ty.ensures
 
-pub in_exp-returns-else-in_ty : goal.in_exp-returns-else-in_ty
-in_exp-returns-else-in_ty t c =
-    walked-if c.in_exp-in-Typed.result c.args.scope.now _ _ refl (λ e u. exp-Typed-body c.args.sought.now e c.args.exp.now c.in-Typed.field-0 c.in-Typed.body c.in-Typed.ty c.in-Typed.is (subst (λ z. FoundAt c.args.sought.now e (exp_phrase z)) c.deref-in-Typed.ensures u)) c.in_exp-in-Typed.ensures
+pub in_exp-returns-in_ok-in_exp-in-Typed : goal.in_exp-returns-in_ok-in_exp-in-Typed
+in_exp-returns-in_ok-in_exp-in-Typed t c =
+    walked-for _ c.args.scope.now _ _ refl (λ e u. exp-Typed-body c.args.sought.now e c.args.exp.now c.in-Typed.field-0 c.in-Typed.body c.in-Typed.ty c.in-Typed.is (subst (λ z. FoundAt c.args.sought.now e (exp_phrase z)) c.deref-else-in_ty.ensures u)) c.in_ok-in_exp-in-Typed.ensures
 
 pub in_exp-returns-in-Raise : goal.in_exp-returns-in-Raise
 in_exp-returns-in-Raise t c =
@@ -271,9 +271,12 @@ pub in_dec-returns-in_ok-close_val-in-Val : goal.in_dec-returns-in_ok-close_val-
 in_dec-returns-in_ok-close_val-in-Val t c =
     val-closed c.args.scope.now c.in_binds.new.scope _ _ _ c.in_ok-opened-in-Val.opened.vids.items c.in_ok-opened-in-Val.opened.before (binds_of (map bind_of c.in-Val.binds.items)) (binds_of (map bind_of c.in-Val.recs.items)) (c.in_ok-in_binds-in-Val.ensures.same c.if-branch-2.false) (brought-named (λ e. ap (λ (l : List Bind). rec_names (binds_of (map bind_of l))) c.deref-in-Val-4.ensures.value) c.in_ok-opened-in-Val.ensures.brought) (c.in_ok-in_binds-in-Val-2.ensures.same c.if-branch-3.false) c.in_ok-opened-in-Val.ensures.before (λ e k. c.in_ok-opened-in-Val.ensures.vids e k ∙ ap (λ (l : List Bind). filter is_written (binds_vids e (binds_of (map bind_of l)))) c.deref-in-Val-3.ensures.value) (closes-named (ap (λ (l : List Bind). binds_of (map bind_of l)) c.deref-in-Val-6.ensures.value) c.in_ok-close_val-in-Val.ensures) (λ e. names-Val e c.args.dec.now c.in-Val.at c.in-Val.field-1 c.in-Val.binds c.in-Val.recs c.in-Val.is)
 
-pub in_dec-returns-in_ok-bind_functions-in-Fun : goal.in_dec-returns-in_ok-bind_functions-in-Fun
-in_dec-returns-in_ok-bind_functions-in-Fun t c =
-    functions-if (λ e. AnyAt c.args.sought.now (all_in e (map function_phrase c.deref-in-Fun-3.result.now))) (λ e. (rec_names (function_binds (map function_of c.in-Fun.functions.items)))) c.in_functions.result c.args.scope.now _ _ (brought-named (λ e. ap (λ (l : List Function). rec_names (function_binds (map function_of l))) c.deref-in-Fun-2.ensures.value) c.in_ok-bind_functions-in-Fun.ensures) (λ e u. dec-Fun c.args.sought.now e c.args.dec.now c.in-Fun.at c.in-Fun.field-1 c.in-Fun.functions c.in-Fun.is (subst (λ l. AnyAt c.args.sought.now (all_in (plus e (rec_names (function_binds (map function_of c.in-Fun.functions.items)))) (map function_phrase l))) c.deref-in-Fun-3.ensures.value u)) (λ e. sym (nothing-plus (rec_names (function_binds (map function_of c.in-Fun.functions.items)))) ∙ sym (names-Fun e c.args.dec.now c.in-Fun.at c.in-Fun.field-1 c.in-Fun.functions c.in-Fun.is)) c.in_functions.ensures
+pub in_dec-returns-in-Fun : goal.in_dec-returns-in-Fun
+in_dec-returns-in-Fun t c =
+    declared-if c.in_fun.result c.args.scope.now _
+    (λ e u. fun-parts c.args.sought.now e c.args.dec.now c.in-Fun.at c.in-Fun.field-1 c.in-Fun.functions c.in-Fun.is c.deref-in-Fun.result.now c.deref-in-Fun.ensures.value u)
+    (λ e. ap fun_names c.deref-in-Fun.ensures.value ∙ sym (nothing-plus (fun_names c.in-Fun.functions.items)) ∙ sym (names-Fun e c.args.dec.now c.in-Fun.at c.in-Fun.field-1 c.in-Fun.functions c.in-Fun.is))
+    c.in_fun.ensures
 
 pub in_dec-returns-in-Abbreviation : goal.in_dec-returns-in-Abbreviation
 in_dec-returns-in-Abbreviation t c =
@@ -303,17 +306,17 @@ pub in_dec-returns-in-Declarations : goal.in_dec-returns-in-Declarations
 in_dec-returns-in-Declarations t c =
     declared-if c.in_decs-in-Declarations.result c.args.scope.now _ (λ e u. dec-Declarations c.args.sought.now e c.args.dec.now c.in-Declarations.field-0 c.in-Declarations.decs c.in-Declarations.is (subst (λ (l : List Dec). AnyAt c.args.sought.now (decs_in e (decs_of (map dec_of l)))) c.deref-in-Declarations.ensures.value u)) (λ e. ap (λ (l : List Dec). run_names l e) c.deref-in-Declarations.ensures.value ∙ sym (names-Declarations e c.args.dec.now c.in-Declarations.field-0 c.in-Declarations.decs c.in-Declarations.is)) c.in_decs-in-Declarations.ensures
 
+pub in_dec-returns-then-branch-4 : goal.in_dec-returns-then-branch-4
+in_dec-returns-then-branch-4 t c =
+    first-found _ c.args.scope.now _ _ c.if-branch-4.true (λ e u. dec-Local-decs c.args.sought.now e c.args.dec.now c.in-Local.field-0 c.in-Local.decs c.in-Local.shown c.in-Local.is (subst (λ (l : List Dec). AnyAt c.args.sought.now (decs_in e (decs_of (map dec_of l)))) c.deref-in-Local.ensures.value u)) c.in_ok-in_decs-in-Local.ensures
+
 pub in_dec-returns-then-branch-5 : goal.in_dec-returns-then-branch-5
 in_dec-returns-then-branch-5 t c =
-    first-found _ c.args.scope.now _ _ c.if-branch-5.true (λ e u. dec-Local-decs c.args.sought.now e c.args.dec.now c.in-Local.field-0 c.in-Local.decs c.in-Local.shown c.in-Local.is (subst (λ (l : List Dec). AnyAt c.args.sought.now (decs_in e (decs_of (map dec_of l)))) c.deref-in-Local.ensures.value u)) c.in_ok-in_decs-in-Local.ensures
-
-pub in_dec-returns-then-branch-6 : goal.in_dec-returns-then-branch-6
-in_dec-returns-then-branch-6 t c =
-    second-found _ c.args.scope.now _ _ (run_names c.in-Local.decs.items) c.if-branch-6.true (brought-named (λ e. ap (λ (l : List Dec). run_names l e) c.deref-in-Local.ensures.value) (c.in_ok-in_decs-in-Local.ensures.brought c.if-branch-5.false)) (λ e u. dec-Local-shown c.args.sought.now e c.args.dec.now c.in-Local.field-0 c.in-Local.decs c.in-Local.shown c.in-Local.is (subst (λ (l : List Dec). AnyAt c.args.sought.now (decs_in (plus e ((run_names c.in-Local.decs.items) e)) (decs_of (map dec_of l)))) c.deref-in-Local-2.ensures.value u)) c.in_ok-in_decs-in-Local-2.ensures
+    second-found _ c.args.scope.now _ _ (run_names c.in-Local.decs.items) c.if-branch-5.true (brought-named (λ e. ap (λ (l : List Dec). run_names l e) c.deref-in-Local.ensures.value) (c.in_ok-in_decs-in-Local.ensures.brought c.if-branch-4.false)) (λ e u. dec-Local-shown c.args.sought.now e c.args.dec.now c.in-Local.field-0 c.in-Local.decs c.in-Local.shown c.in-Local.is (subst (λ (l : List Dec). AnyAt c.args.sought.now (decs_in (plus e ((run_names c.in-Local.decs.items) e)) (decs_of (map dec_of l)))) c.deref-in-Local-2.ensures.value u)) c.in_ok-in_decs-in-Local-2.ensures
 
 pub in_dec-returns-in_ok-leave_between-in-Local : goal.in_dec-returns-in_ok-leave_between-in-Local
 in_dec-returns-in_ok-leave_between-in-Local t c =
-    local-kept (run_names c.in-Local.decs.items) (run_names c.in-Local.shown.items) c.len-from.result c.len-to.result c.args.scope.now _ _ _ (brought-named (λ e. ap (λ (l : List Dec). run_names l e) c.deref-in-Local.ensures.value) (c.in_ok-in_decs-in-Local.ensures.brought c.if-branch-5.false)) (brought-named (λ e. ap (λ (l : List Dec). run_names l e) c.deref-in-Local-2.ensures.value) (c.in_ok-in_decs-in-Local-2.ensures.brought c.if-branch-6.false)) c.len-from.ensures c.len-to.ensures c.in_ok-leave_between-in-Local.ensures (λ e. names-Local e c.args.dec.now c.in-Local.field-0 c.in-Local.decs c.in-Local.shown c.in-Local.is)
+    local-kept (run_names c.in-Local.decs.items) (run_names c.in-Local.shown.items) c.len-from.result c.len-to.result c.args.scope.now _ _ _ (brought-named (λ e. ap (λ (l : List Dec). run_names l e) c.deref-in-Local.ensures.value) (c.in_ok-in_decs-in-Local.ensures.brought c.if-branch-4.false)) (brought-named (λ e. ap (λ (l : List Dec). run_names l e) c.deref-in-Local-2.ensures.value) (c.in_ok-in_decs-in-Local-2.ensures.brought c.if-branch-5.false)) c.len-from.ensures c.len-to.ensures c.in_ok-leave_between-in-Local.ensures (λ e. names-Local e c.args.dec.now c.in-Local.field-0 c.in-Local.decs c.in-Local.shown c.in-Local.is)
 
 pub in_rule-returns-then-branch : goal.in_rule-returns-then-branch
 in_rule-returns-then-branch t c = looked-true _ c.args.scope.now _ _ c.if-branch.true refl (λ e u. u) c.in_ok-is_rule_twice.ensures
@@ -329,9 +332,10 @@ in_dec-returns-then-branch t c =
     (subst (λ (l : List Bind). FoundAt c.args.sought.now e (val_phrase c.in-Val.at c.in-Val.field-1.place c.in-Val.field-1.tyvars.items c.deref.result.now l)) c.deref-in-Val.ensures.value u)))
     (λ h e k. c.in_ok-is_val_twice-in-Val.ensures h e k c.in-Val.field-1.place c.in-Val.field-1.tyvars.items)
 
-pub in_dec-returns-then-branch-4 : goal.in_dec-returns-then-branch-4
-in_dec-returns-then-branch-4 t c =
-    seen-true _ c.args.scope.now _ _ c.if-branch-4.true refl
-    (λ e u. dec-Fun-own c.args.sought.now e c.args.dec.now c.in-Fun.at c.in-Fun.field-1 c.in-Fun.functions c.in-Fun.is
-    (subst (λ (l : List Function). FoundAt c.args.sought.now e (fun_phrase c.in-Fun.at c.in-Fun.field-1.place c.in-Fun.field-1.tyvars.items l)) c.deref-in-Fun.ensures.value u))
-    (λ h e k. c.in_ok-is_fun_twice-in-Fun.ensures h e c.in-Fun.field-1.place c.in-Fun.field-1.tyvars.items)
+pub in_fun-returns-then-branch : goal.in_fun-returns-then-branch
+in_fun-returns-then-branch t c =
+    seen-true _ c.args.scope.now _ _ c.if-branch.true refl (λ e u. inl u) (λ h e k. c.in_ok-is_fun_twice.ensures h e)
+
+pub in_fun-returns : goal.in_fun-returns
+in_fun-returns t c =
+    functions-if (λ e. AnyAt c.args.sought.now (all_in e (map function_phrase c.args.functions.now))) (λ e. fun_names c.args.functions.now) c.in_functions.result c.args.scope.now _ _ c.in_ok-bind_functions.ensures (λ e u. inr u) (λ e. refl) c.in_functions.ensures

@@ -1,7 +1,9 @@
-use Rattle.std.proofs.Common.{map, subst}
+use Rattle.std.proofs.Common.{◌≡◌, [], length, map, sym, subst, ◌∙◌, arith}
 use Rattle.sml_tree.specs.TreeOf.{dec_of}
+use Rattle.elab_steps.specs.Flexible.{AreSettled, OneIsFlexible}
 use Rattle.run_end.specs.Chosen.{AreChosen}
-use Rattle.project_elab.proofs.Closing.{declared-later}
+use Rattle.run_end.specs.Settled.{IsSettled}
+use Rattle.project_elab.proofs.Closing.{both-answer, declared-later}
 use Rattle.project_elab.proofs.Sources.{source-more}
 use Rattle.project_elab.proofs.project.Elaborating.source.Goals as goal
 
@@ -23,6 +25,12 @@ returns-clause-elaborated c =
 pub returns-clause-closed : goal.returns-clause-closed
 returns-clause-closed c =
     let k = c.in_ok-choose_classes.ensures in
+    let U = c.choose_classes.new.state in
+    let n = length c.args.self.now.state.flexible.items in
+    let same : c.len-first_flexible.result ≡ n = omega (arith, c.len-first_flexible.ensures, c.args.self.now.state.flexible.ok.0) in
+    let answers = both-answer c.in_ok-settled.settled c.are_settled-are_known.result (IsSettled U c.decs_from.new.brought) (AreSettled U n []) (OneIsFlexible U n [])
+    c.in_ok-settled.ensures (λ e. subst (λ m. AreSettled U m []) same (c.are_settled-are_known.ensures.settled e))
+    (λ e. subst (λ m. OneIsFlexible U m []) same (c.are_settled-are_known.ensures.open e)) in
     record {
       between = c.decs_from.new.state;
       nothing = c.new-brought.result;
@@ -31,5 +39,6 @@ returns-clause-closed c =
       declared = c.in_ok-decs_from.ensures;
       grows = k.grows;
       chosen = subst (AreChosen c.decs_from.new.state c.choose_classes.new.state) c.variables_made-first.ensures k.chosen;
-      answer = c.in_ok-is_settled.ensures;
+      settled = λ e. answers.0 (sym c.both.ensures ∙ e);
+      unsettled = λ e. answers.1 (sym c.both.ensures ∙ e);
     }

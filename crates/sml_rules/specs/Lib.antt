@@ -1,9 +1,0 @@
-pub mod Basis
-pub mod Broken
-pub mod Eval
-pub mod Laws
-pub mod Meaning
-pub mod Phrases
-pub mod Project
-pub mod Typing
-pub mod Values
