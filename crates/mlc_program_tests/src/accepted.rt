@@ -3,7 +3,8 @@
 use crate::calls::{check, good};
 use std::test::Fail;
 
-const ACCEPTED: [(&str, &str); 80] = [
+// How phrases are written, how far they extend, and in what order they are evaluated.
+const WRITTEN: [(&str, &str); 33] = [
     // Constants and lexis.
     (
         "val () = print (Int.toString (0x10 + ~0xF + ~1 + 007) ^ (if 0wxFF = 0w255 andalso 0w10 <> 0wx10 then \"y\" else \"n\"))",
@@ -139,6 +140,18 @@ const ACCEPTED: [(&str, &str); 80] = [
         "val () = (1 div 0; ()) handle Div => print \"d\" val () = (let val x = 2147483647 + 1 in () end) handle Overflow => print \"o\"",
         "do",
     ),
+];
+
+#[test]
+fn phrases_are_read_and_evaluated(rt: HostRuntime) -> Result<(), Fail> {
+    for (sml, out) in WRITTEN.iter() {
+        check(&rt, rt.alloc(), &good(sml, out))?;
+    }
+    Ok(())
+}
+
+// What patterns match and bind, what identifiers are, and how general they are.
+const NAMED: [(&str, &str); 27] = [
     // Patterns: which rule, and what it binds.
     (
         "fun f (0, _) = \"a\" | f (_, 0) = \"b\" | f _ = \"c\" | f (1, 1) = \"d\" val () = app (print o f) [(0, 0), (1, 0), (1, 1)]",
@@ -257,6 +270,18 @@ const ACCEPTED: [(&str, &str); 80] = [
         "datatype t = A and u = B of int -> int | C of t type 'a k = t val x : (int -> int) k = A val () = if [A] = [x] then print \"y\" else ()",
         "y",
     ),
+];
+
+#[test]
+fn patterns_and_identifiers_have_their_meaning(rt: HostRuntime) -> Result<(), Fail> {
+    for (sml, out) in NAMED.iter() {
+        check(&rt, rt.alloc(), &good(sml, out))?;
+    }
+    Ok(())
+}
+
+// What types are, and exceptions, references and records.
+const TYPED: [(&str, &str); 20] = [
     // Overloading, which the rest of the source may settle, and arithmetic at its edges.
     (
         "fun f x = x + x val y = f 0w2 val less = op < val () = if y = 0w4 andalso less (1, 2) then print \"y\" else ()",
@@ -353,8 +378,8 @@ const ACCEPTED: [(&str, &str); 80] = [
 ];
 
 #[test]
-fn programs_of_the_core_print(rt: HostRuntime) -> Result<(), Fail> {
-    for (sml, out) in ACCEPTED.iter() {
+fn types_are_those_of_the_definition(rt: HostRuntime) -> Result<(), Fail> {
+    for (sml, out) in TYPED.iter() {
         check(&rt, rt.alloc(), &good(sml, out))?;
     }
     Ok(())
