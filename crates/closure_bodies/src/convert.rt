@@ -214,7 +214,7 @@ fn convert_step(
             argument: _,
         } => Ok(push_exception(alloc, steps, *variable, *identifier)?),
         Step::Name(variable, exception) => Ok(push_name(
-            alloc, scope, steps, *variable, *exception,
+            alloc, setting, scope, steps, *variable, *exception,
         )?),
         Step::Group(_, functions) => Ok(push_group(alloc, setting, scope, steps, functions)?),
         Step::Test {

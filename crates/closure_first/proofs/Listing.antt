@@ -28,15 +28,15 @@ functions-are main first new r p e m h =
     sym (append-nil (map fun_of new)) ∙ sym (h []) ∙ ap (λ l. map fun_of l ++ p []) e ∙ ap (λ v. v ∷ p []) m
 
 module _ (n : Numbering) where
-  set-last : (ks : List ℕ) (k : ℕ) → set_of n (ks ++ k ∷ []) ≡ set_of n ks ++ record { tag = k; function = n.function k } ∷ []
+  set-last : (ks : List ℕ) (k : ℕ) → set_of n (ks ++ k ∷ []) ≡ set_of n ks ++ record { tag = n.tag k; function = n.function k } ∷ []
   set-last [] k = refl
-  set-last (j ∷ ks) k = ap (λ l. record { tag = j; function = n.function j } ∷ l) (set-last ks k)
+  set-last (j ∷ ks) k = ap (λ l. record { tag = n.tag j; function = n.function j } ∷ l) (set-last ks k)
 
-  pub set-next : (ks : List ℕ) (i k d g : ℕ) (made new : List Member) → i < length ks → k ≡ get_or ks i d → g ≡ n.function k → new ≡ made ++ record { tag = k; function = g } ∷ []
+  pub set-next : (ks : List ℕ) (i k d t g : ℕ) (made new : List Member) → i < length ks → k ≡ get_or ks i d → t ≡ n.tag k → g ≡ n.function k → new ≡ made ++ record { tag = t; function = g } ∷ []
       → map member_of made ≡ set_of n (take i ks) → map member_of new ≡ set_of n (take (i + 1) ks)
-  set-next ks i k d g made new lt is h m inv =
-      ap (map member_of) m ∙ map-last member_of made (record { tag = k; function = g })
-      ∙ ap₂ (λ l v. l ++ record { tag = k; function = v } ∷ []) inv h ∙ sym (set-last (take i ks) k)
+  set-next ks i k d t g made new lt is b h m inv =
+      ap (map member_of) m ∙ map-last member_of made (record { tag = t; function = g })
+      ∙ ap₂ (λ l v. l ++ record { tag = v; function = g } ∷ []) inv b ∙ ap (λ v. set_of n (take i ks) ++ record { tag = n.tag k; function = v } ∷ []) h ∙ sym (set-last (take i ks) k)
       ∙ ap (set_of n) (sym (take_more ks i d lt ∙ ap (λ y. take i ks ++ y ∷ []) (sym is)))
 
   pub set-all : (ks : List ℕ) (i : ℕ) (made : List Member) → length ks ≤ i → map member_of made ≡ set_of n (take i ks) → map member_of made ≡ set_of n ks

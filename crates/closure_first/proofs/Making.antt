@@ -8,17 +8,16 @@ use Rattle.first_values.specs.Operations.{Member}
 use Rattle.flow_sets.specs.Flow.{Flow}
 use Rattle.closure_convert.specs.Scope.{Table}
 use Rattle.closure_meaning.specs.Convert.{Numbering, shapes, set_of, program}
-use Rattle.closure_bodies.specs.of_flow_types.Flows.{Has, program_with}
-use Rattle.closure_bodies.specs.of_flow_types.declared.flow.Flow as code
+use Rattle.closure_bodies.specs.of_flow_types.Flows.{program_with}
 use Rattle.plain_tree.specs.declared.tree.Exp.{Exp}
 use Rattle.mono_bound.specs.Reads.{mono_of}
 use Rattle.closure_convert.specs.Capture.{table_of}
 use Rattle.closure_bodies.specs.of_closure_whole.Converted.{numbering}
 use Rattle.closure_bodies.specs.of_closure_parts.Indexed.{Kept, texts_of}
-use Rattle.closure_bodies.specs.of_closure_parts.Settings.{Holds}
+use Rattle.closure_bodies.specs.of_closure_parts.Settings.{Holds, HoldsBy}
 use Rattle.closure_bodies.specs.of_closure_parts.declared.setting.Setting.{Setting}
 use Rattle.closure_first.specs.Codes.{functions_of}
-use Rattle.closure_first.specs.Made.{HoldsBy, converted_by}
+use Rattle.closure_first.specs.Made.{converted_by}
 
 module _ (strings : List (List ℕ)) (initial : List ℕ) (types : List table.Row) (expansion : ℕ) where
   pub program-made : (n : Numbering) (F : Flow) (T : Table) (e : Mono types) (ss : List Shape) (sets : List (List Member)) (funs : List out.Fun) → ss ≡ shapes types → sets ≡ map (set_of n) F.sets
@@ -28,12 +27,6 @@ module _ (strings : List (List ℕ)) (initial : List ℕ) (types : List table.Ro
       ap₂ (λ l ts. record { tables = record { initial = initial; strings = strings; types = l; sets = ts }; funs = funs }) a b
       ∙ ap (λ fs. record { tables = record { initial = initial; strings = strings; types = shapes types; sets = map (set_of n) F.sets }; funs = fs }) c
 
--- with other sets
-pub by-sets : (s : Setting) (flow : code.Flow) (types : List table.Row) (strings : List (List ℕ)) (n : Numbering) (F G : Flow) (T : Table) → Holds s types strings n G T → Has flow F
-    → Holds (record s { flow = flow }) types strings n F T
-by-sets s flow types strings n F G T h f =
-    record { functions = h.functions; texts = h.texts; names = h.names; flow = f; captured = h.captured; pieces = h.pieces; places = h.places }
-
 -- by the numbers and captures of the conversion of whole programs, and any sets
 pub converted-from : (setting : Setting) (types : List table.Row) (body : Exp) (us ss : List Kept) (initial : List ℕ) (expansion : ℕ) (F : Flow) (r : out.Program) → us ≡ ss
     → HoldsBy setting (texts_of us) F (program_with initial types expansion (mono_of types (texts_of us) body))
@@ -41,5 +34,5 @@ pub converted-from : (setting : Setting) (types : List table.Row) (body : Exp) (
     → r ≡ converted_by F (texts_of ss) (program_with initial types expansion (mono_of types (texts_of ss) body))
 converted-from setting types body us ss initial expansion F r k x p =
     let q = program_with initial types expansion (mono_of types (texts_of ss) body) in
-    p (numbering (texts_of ss) q) F (table_of types (mono_of types (texts_of ss) body))
+    p (numbering (texts_of ss) F q) F (table_of types (mono_of types (texts_of ss) body))
     (subst (λ l. HoldsBy setting (texts_of l) F (program_with initial types expansion (mono_of types (texts_of l) body))) k x)

@@ -7,12 +7,6 @@ use Rattle.flow_sets.specs.Flow.{Flow}
 use Rattle.closure_convert.specs.Capture.{table_of}
 use Rattle.closure_meaning.specs.Convert.{program}
 use Rattle.closure_bodies.specs.of_closure_whole.Converted.{numbering}
-use Rattle.closure_bodies.specs.of_closure_parts.declared.setting.Setting.{Setting}
-use Rattle.closure_bodies.specs.of_closure_parts.Settings.{Holds}
 
 abbrev pub converted_by : Flow → List (List ℕ) → Program → out.Program
-converted_by F strings p = program (numbering strings p) strings F (table_of p.types p.body) p
-
--- the code has what this conversion is made with
-abbrev pub HoldsBy : Setting → (strings : List (List ℕ)) → Flow → Program → Type 0
-HoldsBy setting strings F p = Holds setting p.types strings (numbering strings p) F (table_of p.types p.body)
+converted_by F strings p = program (numbering strings F p) strings F (table_of p.types p.body) p

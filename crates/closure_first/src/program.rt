@@ -58,8 +58,8 @@ fn set(alloc: Global, setting: &Setting, functions: &[usize]) -> Result<Vec<Memb
 {
     let mut made = Vec::new(alloc);
     for i in 0..functions.len() {
-        let tag = functions[i];
-        let function = setting.code(tag)?;
+        let tag = setting.tags.of(functions[i]);
+        let function = setting.code(functions[i])?;
         made.push(Member { tag, function })?;
     }
     Ok(made)

@@ -14,7 +14,7 @@ ghost use Rattle.closure_meaning.specs.Convert.{Numbering, shapes as shapes_of, 
 ghost use Rattle.closure_bodies.specs.of_closure_parts.Indexed.{texts_of};
 ghost use Rattle.closure_bodies.specs.of_closure_parts.Settings.{Texts, Holds};
 ghost use Rattle.closure_first.specs.Codes.{functions_of};
-ghost use Rattle.closure_first.specs.Made.{HoldsBy, converted_by};
+ghost use Rattle.closure_first.specs.Made.{converted_by};
 
 use crate::above::above;
 use crate::program::{functions, sets};
@@ -84,22 +84,6 @@ pub fn program(
     })
 }
 
-/// What the conversion of a program is for, by these sets.
-fn setting_by(
-    alloc: Global,
-    types: &Types,
-    strings: &[Vec<u8>],
-    flow: Sets,
-    body: &Exp,
-) -> Result<Setting, ScopeFault>
-    ensures { IfOk result (λ setting. (F : Flow) (initial : List ℕ) (expansion : ℕ) → Has flow F
-        → HoldsBy setting (texts_of strings.now) F (program_with initial types.now expansion (mono_of types.now (texts_of strings.now) body.now))) }
-{
-    let mut setting = Setting::new(alloc, types, strings, body)?;
-    setting.flow = flow;
-    Ok(setting)
-}
-
 /// A program that has no function by itself, converted by these sets, and by what its functions capture in the order of binding. Err for want of memory, or
 /// where a variable is bound that is visible already, as it is only where one is bound twice.
 pub fn converted(
@@ -114,7 +98,7 @@ pub fn converted(
         (program_with rest.initial.items types.now rest.expansion (mono_of types.now (texts_of rest.strings.items) body.now))) }
     ensures expansion { IfOk result (λ made. made.expansion ≡ rest.expansion) }
 {
-    let setting = setting_by(alloc, types, &rest.strings, flow, body)?;
+    let setting = Setting::new(alloc, types, &rest.strings, flow, body)?;
     program(alloc, types, &setting, rest, body)
 }
 

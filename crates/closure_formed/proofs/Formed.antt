@@ -1,6 +1,6 @@
 -- The conversion of a program is well formed: its tables, its names, its calls, and what misses.
 use Rattle.std.proofs.Common.{◌≡◌, ℕ, zero, suc, ◌<◌, Bool, true, false, ◌||◌, List, [], ◌∷◌, length, map, Option, Some, None, nat_eq, nat_lt, option_map, if◌then◌else◌, get_or, slice_get, refl, sym, ap, subst, ◌∙◌, arith}
-use Rattle.std.specs.List.{AllByRecursion}
+use Rattle.std.specs.List.{AllByRecursion, concat}
 use Rattle.std.specs.Str.{bytes_eq}
 use Rattle.std.proofs.lemmas.Slice.Eq.{bytes_eq-Decides}
 use Rattle.std.proofs.lemmas.Bool.{lt-ltb}
@@ -27,8 +27,10 @@ use Rattle.closure_convert.proofs.Numbered.{captures-are-right}
 use Rattle.closure_meaning.specs.Convert.{Numbering, numbers_in, codes, constant, call_set, set_of, shapes, tables, var, program}
 use Rattle.closure_whole.specs.Constants.{IsHeld, AreHeld}
 use Rattle.closure_whole.specs.Rising.{above, rising_from, rising}
+use Rattle.closure_whole.specs.Tags.{stand_once, place_in, Count, AreDense}
 use Rattle.closure_whole.specs.Converted.{text_index, numbering}
 use Rattle.closure_whole.specs.Whole.{explicit}
+use Rattle.closure_whole.proofs.Tags.{tags-are-dense}
 use Rattle.closure_whole.proofs.Rise.{falls}
 use Rattle.closure_whole.proofs.Held.{held}
 use Rattle.closure_whole.proofs.Whole.{explicit-well-formed}
@@ -76,18 +78,29 @@ node-there : (types : List table.Row) (t : ℕ) {k : table.Node} (o : Option tab
 node-there types t None q e = absurd (cc)
 node-there types t (Some r) q e = row-below types t q
 
-ascend-sets : (n : Numbering) (sets : List (List ℕ)) → AllByRecursion Ascends sets → AllByRecursion Rise (map (set_of n) sets)
-ascend-sets n [] h = tt
-ascend-sets n (ks ∷ sets) h = (rise ks h.0, ascend-sets n sets h.1)
+-- Tags rise along each set: those that count up, and the numbers of functions where they rise.
+
+count-rises : (tag : ℕ) (ms : List Member) → Count tag ms → Rise ms
+count-rises tag [] h = tt
+count-rises tag (m ∷ []) h = tt
+count-rises tag (m ∷ k ∷ ms) h = let a = h.0 in let b = h.1.0 in (lt-ltb m.tag k.tag (omega (arith, a, b)), count-rises (suc tag) (k ∷ ms) h.1)
+
+dense-rise : (sets : List (List Member)) → AreDense sets → AllByRecursion Rise sets
+dense-rise [] h = tt
+dense-rise (ms ∷ sets) h = (count-rises 0 ms h.0, dense-rise sets h.1)
+
+numbers-rise : (n : Numbering) → ((k : ℕ) → n.tag k ≡ k) → (sets : List (List ℕ)) → AllByRecursion Ascends sets → AllByRecursion Rise (map (set_of n) sets)
+numbers-rise n is [] h = tt
+numbers-rise n is (ks ∷ sets) h = (rise ks h.0, numbers-rise n is sets h.1)
   where
     rise : (ks : List ℕ) → Ascends ks → Rise (set_of n ks)
     rise [] h = tt
     rise (k ∷ []) h = tt
-    rise (k ∷ l ∷ ks) h = (lt-ltb k l h.0, rise (l ∷ ks) h.1)
+    rise (k ∷ l ∷ ks) h = let a = is k in let b = is l in let c = h.0 in (lt-ltb (n.tag k) (n.tag l) (omega (arith, a, b, c)), rise (l ∷ ks) h.1)
 
 module _ (strings : List (List ℕ)) (F : Flow) (p : Program) (w : mono.IsWellFormed p) (orderly : AreOrderly p F) where
   abbrev n : Numbering
-  n = numbering strings p
+  n = numbering strings F p
 
   abbrev caps : Table
   caps = table_of p.types p.body
@@ -147,11 +160,15 @@ module _ (strings : List (List ℕ)) (F : Flow) (p : Program) (w : mono.IsWellFo
   holds : Holds top []
   holds = record { locals = λ x i. absurd (cc); outside = λ y i. absurd (cc) }
 
+  tags-rise : (b : Bool) → stand_once (concat F.sets) ≡ b → AllByRecursion Rise T.sets
+  tags-rise true o = dense-rise T.sets (tags-are-dense strings F p o)
+  tags-rise false o = numbers-rise n (λ k. ap (λ b. if b then place_in F.sets k else k) o) F.sets orderly.ascend
+
   pub formed : AreHeld strings p.body → AreRows p.types → AreBytes strings → first.IsWellFormed (program n strings F caps p)
   formed d rows bytes =
       let k = once-known p.types p.body w.once in
       let c = captures-are-right p w in record {
-        tables = record { initial = w.initial; strings = bytes; types = are-shapes p.types rows; sets = ascend-sets n F.sets orderly.ascend };
+        tables = record { initial = w.initial; strings = bytes; types = are-shapes p.types rows; sets = tags-rise (stand_once (concat F.sets)) refl };
         main = refl;
         scoped = ((scoped p.types n F caps T ar all strings has top known k holds c d w.typed).is, (codes-scoped p.types n F caps T ar all strings has top known k c d w.typed (record { are = tt })).are);
         whole = ((clean-program p.types n F caps top w.typed, (whole p.types n F caps top w.typed).is), (codes-whole p.types n F caps w.typed (record { are = tt })).are);

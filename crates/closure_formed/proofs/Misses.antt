@@ -38,26 +38,26 @@ record OpWhole (o : out.Op) : Type 0 where
 let-keeps : {x : ℕ} {o : out.Op} (e : out.Exp) → OpWhole o → Keeps e (out.let_in x o e)
 let-keeps e h = record { misses = refl; inside = λ i. (h.is, i) }
 
-outer-whole : (cs : List ℕ) (y : ℕ) (w : Way) → OpWhole (outer cs y w)
-outer-whole cs y no_way = record { is = tt }
-outer-whole cs y leads = record { is = tt }
-outer-whole cs y (follows k) = record { is = tt }
+outer-whole : (n : Numbering) (cs : List ℕ) (y : ℕ) (w : Way) → OpWhole (outer n cs y w)
+outer-whole n cs y no_way = record { is = tt }
+outer-whole n cs y leads = record { is = tt }
+outer-whole n cs y (follows k) = record { is = tt }
 
-access-whole : (s : Scope) (y : ℕ) → OpWhole (access s y)
-access-whole s y = by (is_in y s.locals)
+access-whole : (n : Numbering) (s : Scope) (y : ℕ) → OpWhole (access n s y)
+access-whole n s y = by (is_in y s.locals)
   where
-    by : (b : Bool) → OpWhole (if b then out.plain same (var y ∷ []) else outer s.captured y (way y s.group))
+    by : (b : Bool) → OpWhole (if b then out.plain same (var y ∷ []) else outer n s.captured y (way y s.group))
     by true = record { is = tt }
-    by false = outer-whole s.captured y (way y s.group)
+    by false = outer-whole n s.captured y (way y s.group)
 
-ready-keeps : (s : Scope) (ps : List Piece) (e : out.Exp) → Keeps e (ready s ps e)
-ready-keeps s [] e = as-it-is e
-ready-keeps s (alone y ∷ ps) e = by (is_in y s.locals) (ready-keeps s ps e)
+ready-keeps : (n : Numbering) (s : Scope) (ps : List Piece) (e : out.Exp) → Keeps e (ready n s ps e)
+ready-keeps n s [] e = as-it-is e
+ready-keeps n s (alone y ∷ ps) e = by (is_in y s.locals) (ready-keeps n s ps e)
   where
-    by : (b : Bool) → Keeps e (ready s ps e) → Keeps e (if b then ready s ps e else out.let_in (var y) (access s y) (ready s ps e))
+    by : (b : Bool) → Keeps e (ready n s ps e) → Keeps e (if b then ready n s ps e else out.let_in (var y) (access n s y) (ready n s ps e))
     by true h = h
-    by false h = then-keeps h (let-keeps (ready s ps e) (access-whole s y))
-ready-keeps s (those from count ∷ ps) e = ready-keeps s ps e
+    by false h = then-keeps h (let-keeps (ready n s ps e) (access-whole n s y))
+ready-keeps n s (those from count ∷ ps) e = ready-keeps n s ps e
 
 marked-keeps : (k : Option Place) (e : out.Exp) → Keeps e (marked k e)
 marked-keeps None e = as-it-is e
@@ -86,11 +86,11 @@ module _ (types : List table.Row) (n : Numbering) (flow : Flow) (captures : Tabl
   call-whole place s (k ∷ l ∷ ks) f a = record { is = tt }
 
   used-keeps : (b : Bool) (s : Scope) (x y : ℕ) (e : out.Exp) → Keeps e (used n b s x y e)
-  used-keeps true s x y e = then-keeps (packed-keeps x e) (let-keeps (packed x e) (access-whole s y))
-  used-keeps false s x y e = let-keeps e (access-whole s y)
+  used-keeps true s x y e = then-keeps (packed-keeps x e) (let-keeps (packed x e) (access-whole n s y))
+  used-keeps false s x y e = let-keeps e (access-whole n s y)
 
   making-keeps : (s : Scope) (x k : ℕ) (e : out.Exp) → Keeps e (making n types flow captures s x k e)
-  making-keeps s x k e = then-keeps (let-keeps e (record { is = tt })) (ready-keeps s (captures.pieces k) _)
+  making-keeps s x k e = then-keeps (let-keeps e (record { is = tt })) (ready-keeps n s (captures.pieces k) _)
 
   following-keeps : (h : ℕ) (gs : List Member) (e : out.Exp) → Keeps e (following n types flow captures h gs e)
   following-keeps h [] e = as-it-is e
@@ -106,7 +106,7 @@ module _ (types : List table.Row) (n : Numbering) (flow : Flow) (captures : Tabl
 
   name-whole : (s : Scope) (y : Exception (mono types)) → OpWhole (name_of n types flow captures s y)
   name-whole s (fixed i) = record { is = tt }
-  name-whole s (held y) = access-whole s y
+  name-whole s (held y) = access-whole n s y
 
   abbrev conv : Scope → Mono types → out.Exp
   conv s e = convert n types flow captures s e

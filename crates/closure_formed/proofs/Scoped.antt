@@ -17,6 +17,7 @@ use Rattle.ir_mono.specs.Types.{Node, node_at, constructor_at, admits, IsFunctio
 use Rattle.ir_mono.specs.Mono.{mono, Mono}
 use Rattle.ir_mono.specs.Typing as tt
 use Rattle.ir_mono.specs.Typing.{Sort, of_type, exception, Sorts, sort_of, group_sorts, PrimAt, AtomsTyped, no_atoms_typed, an_atom_typed, RowTyped, NameTyped, fixed_typed, held_typed, CaseTyped, literal_typed, con_typed, con_of_typed, exn_typed, exn_of_typed, record_typed, FunTyped, t_last, t_more, FunsTyped, t_no_funs, t_fun}
+use Rattle.first_values.specs.Values.{one}
 use Rattle.first_values.specs.Operations as op
 use Rattle.first_values.specs.Operations.{Tables, Member, Operands}
 use Rattle.first_values.specs.Raising.{may_raise}
@@ -150,25 +151,25 @@ module _ (types : List table.Row) (n : Numbering) (flow : Flow) (captures : Tabl
 
   -- Accesses and closures
 
-  outer-scoped : {xs : List ℕ} (cs : List ℕ) (y : ℕ) (w : Way) → IsIn xs holder → OpFine xs (outer cs y w)
+  outer-scoped : {xs : List ℕ} (cs : List ℕ) (y : ℕ) (w : Way) → IsIn xs holder → OpFine xs (outer n cs y w)
   outer-scoped cs y no_way h = fine (refl, (h, tt))
   outer-scoped cs y leads h = fine (refl, (h, tt))
   outer-scoped cs y (follows k) h = fine (h, tt)
 
-  access-scoped : {xs : List ℕ} (s : Scope) (y : ℕ) → Holds s xs → reaches s y ≡ true → OpFine xs (access s y)
+  access-scoped : {xs : List ℕ} (s : Scope) (y : ℕ) → Holds s xs → reaches s y ≡ true → OpFine xs (access n s y)
   access-scoped {xs} s y h r = by (is_in y s.locals) refl r
     where
-      by : (b : Bool) → is_in y s.locals ≡ b → (b || (is_way (way y s.group) || is_in y s.captured)) ≡ true → OpFine xs (if b then out.plain op.same (var y ∷ []) else outer s.captured y (way y s.group))
+      by : (b : Bool) → is_in y s.locals ≡ b → (b || (is_way (way y s.group) || is_in y s.captured)) ≡ true → OpFine xs (if b then out.plain op.same (var y ∷ []) else outer n s.captured y (way y s.group))
       by true e r = fine (refl, (h.locals y e, tt))
       by false e r = outer-scoped s.captured y (way y s.group) (h.outside y r)
 
-  ready-scoped : (s : Scope) {xs : List ℕ} {ps : List Piece} {zs : List ℕ} {e : out.Exp} → Makes s ps zs → Holds s xs → ((ys : List ℕ) → More xs ys → PiecesIn ys (piece_list ps) → Scoped ys e) → Scoped xs (ready s ps e)
+  ready-scoped : (s : Scope) {xs : List ℕ} {ps : List Piece} {zs : List ℕ} {e : out.Exp} → Makes s ps zs → Holds s xs → ((ys : List ℕ) → More xs ys → PiecesIn ys (piece_list ps) → Scoped ys e) → Scoped xs (ready n s ps e)
   ready-scoped s {xs = xs} makes_none h rest = rest xs (same xs) tt
   ready-scoped s {xs = xs} {e = e} (makes_one y {ps = ps} r p) h rest = by (is_in y s.locals) refl
       (λ i. ready-scoped s p h (λ ys k q. rest ys k (k.are (var y) i, q)))
       (ready-scoped s p (more-holds (one-more (var y) (same xs)) h) (λ ys k q. rest ys (after (var y) k) (k.are (var y) (here (var y) xs), q)))
     where
-      by : (b : Bool) → is_in y s.locals ≡ b → (IsIn xs (var y) → Scoped xs (ready s ps e)) → Scoped (var y ∷ xs) (ready s ps e) → Scoped xs (if b then ready s ps e else out.let_in (var y) (access s y) (ready s ps e))
+      by : (b : Bool) → is_in y s.locals ≡ b → (IsIn xs (var y) → Scoped xs (ready n s ps e)) → Scoped (var y ∷ xs) (ready n s ps e) → Scoped xs (if b then ready n s ps e else out.let_in (var y) (access n s y) (ready n s ps e))
       by true q g k = g (h.locals y q)
       by false q g k = bind (access-scoped s y h r) k
   ready-scoped s {xs = xs} (makes_run from y us row p) h rest =
@@ -180,7 +181,8 @@ module _ (types : List table.Row) (n : Numbering) (flow : Flow) (captures : Tabl
 
   following-scoped : {xs : List ℕ} {e : out.Exp} (h : ℕ) (gs : List Of) → IsIn xs (var h) → ((ys : List ℕ) → More xs ys → ((x : ℕ) → is_in x (names gs) ≡ true → IsIn ys (var x)) → Scoped ys e) → Scoped xs (following n types flow captures h gs e)
   following-scoped {xs} h [] i rest = rest xs (same xs) (λ x j. absurd (cc))
-  following-scoped {xs} h (g ∷ gs) i rest = following-scoped h gs i (λ ys k ns. bind (fine (k.are (var h) i, tt)) (rest (var g.name ∷ ys) (one-more (var g.name) k) (λ x j. by ys ns x (nat_eq x g.name) refl j)))
+  following-scoped {xs = xs} {e = e} h (g ∷ gs) i rest =
+      following-scoped {e = out.let_in (var g.name) (out.make (n.tag g.number) (one (var h) ∷ [])) e} h gs i (λ ys k ns. bind (fine (k.are (var h) i, tt)) (rest (var g.name ∷ ys) (one-more (var g.name) k) (λ x j. by ys ns x (nat_eq x g.name) refl j)))
     where
       by : (ys : List ℕ) → ((x : ℕ) → is_in x (names gs) ≡ true → IsIn ys (var x)) → (x : ℕ) (b : Bool) → nat_eq x g.name ≡ b → (b || is_in x (names gs)) ≡ true → IsIn (var g.name ∷ ys) (var x)
       by ys ns x true q j = subst (λ z. IsIn (var g.name ∷ ys) (var z)) (sym (nat_eq-to x g.name q)) (here (var g.name) ys)

@@ -17,7 +17,7 @@ use Rattle.closure_formed.specs.Tables.{AreRows, AreBytes, AreOrderly}
 abbrev pub ConvertedWellFormed : Type 0
 ConvertedWellFormed =
     (strings : List (List ℕ)) (F : Flow) (p : Program) → mono.IsWellFormed p → IsExplicit p.types [] p.body → AreHeld strings p.body
-    → AreRows p.types → AreBytes strings → AreOrderly p F → first.IsWellFormed (program (numbering strings p) strings F (table_of p.types p.body) p)
+    → AreRows p.types → AreBytes strings → AreOrderly p F → first.IsWellFormed (program (numbering strings F p) strings F (table_of p.types p.body) p)
 
 -- all functions of each type, in rising order, are
 abbrev pub RisingAreOrderly : Type 0

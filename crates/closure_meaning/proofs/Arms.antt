@@ -67,7 +67,7 @@ module _ (C : Setting) (all : List out.Fun) (sound : IsTable C.types) where
   pub record CallsSame (ap1 : Apply (mono C.types)) (ap2 : Calls) : Type 0 where
     pub others : (p : Place) (v a : V) (w : World V) → is_closure v ≡ false → ap1 p v a w ≡ stops went_wrong w
     pub functions : (p : Place) (q : Bool) (c : Code (mono C.types)) (g : ℕ) (env : Env) (r : cells.Values) (a : V) (a' : cells.Value) (w : World V) (u : World cells.Value) → Good C all q g (group_of C.types c) (fun_of C.types c) → AllGood C all true g (group_of C.types c) (group_of C.types c) → SameCaptured C all (C.captures.captured g) env r → S a a' → One a (code_number C.types c) → W w u →
-        Q (at C.flow (result (code_number C.types c))) (ap1 p (closure c env) a w) (ap2 p (C.numbering.function (code_number C.types c)) (cells.cell (code_number C.types c) (rel.held q g r) ∷ a' ∷ []) u)
+        Q (at C.flow (result (code_number C.types c))) (ap1 p (closure c env) a w) (ap2 p (C.numbering.function (code_number C.types c)) (cells.cell (C.numbering.tag (code_number C.types c)) (rel.held q (C.numbering.tag g) r) ∷ a' ∷ []) u)
 
   pub good-of : (q : Bool) (g : ℕ) (fs : Funs (mono C.types)) (f : Fun (mono C.types)) → SolvesFun C.types C.flow f → CodedFun C all q g fs f → FunClosed C.types C.captures g (members C.types fs) f → FunFits C f → (q ≡ true → number_of C.types f ≡ g) → Good C all q g fs f
   good-of q g fs (last x t e) v c l i leads = record { coded = c.0; solves = v; inner = c.1; closed = l; fits = i; leads = leads }

@@ -1,5 +1,5 @@
 -- Conversions by computation, and a program that meets all that the law asks.
-use Rattle.std.proofs.Common.{◌≡◌, ◌≤◌, ℕ, zero, suc, Bool, true, List, [], ◌∷◌, Option, Some, None, false, if◌then◌else◌, nat_eq, nat_lt, refl, ap, sym, ◌∙◌, subst, arith}
+use Rattle.std.proofs.Common.{◌≡◌, ◌≤◌, ℕ, zero, suc, Bool, true, ◌||◌, List, [], ◌∷◌, Option, Some, None, false, if◌then◌else◌, nat_eq, nat_lt, refl, ap, sym, ◌∙◌, subst, arith}
 use Rattle.std.proofs.lemmas.Bool.{eqb-true}
 use mathlib.Core.Logic.{◌⊎◌, inl, inr}
 use Rattle.std.specs.Prelude.{⊤}
@@ -24,12 +24,13 @@ use Rattle.ir_explicit.specs.of_ir_mono.Types.{Row, Node, node, node_at, constru
 use Rattle.ir_explicit.specs.of_ir_mono.Mono.{mono, Mono, Program}
 use Rattle.ir_first.specs.Tree as out
 use Rattle.ir_first.specs.Meaning as tgt
+use Rattle.closure_convert.specs.of_flow_sets.Member.{is_in}
 use Rattle.closure_convert.specs.of_flow_sets.Flow.{Flow, Spot, variable}
 use Rattle.closure_convert.specs.of_flow_sets.ByType.{by_type}
 use Rattle.closure_convert.specs.Capture.{table_of}
 use Rattle.closure_meaning.specs.Convert.{Numbering, program}
 use Rattle.closure_meaning.specs.Fits.{Fits, no_row_fits}
-use Rattle.closure_meaning.specs.Laws.{IsNumbered, setting}
+use Rattle.closure_meaning.specs.Laws.{IsNumbered, TagsApart, setting}
 use Rattle.closure_meaning.proofs.Run.{conversion-by-type}
 
 abbrev row : Node → Row
@@ -53,9 +54,9 @@ let1 x t o e = let_in x tt t o e
 abbrev of_body : E → Program
 of_body e = record { initial = 90 ∷ 91 ∷ 92 ∷ 93 ∷ 94 ∷ 95 ∷ 96 ∷ []; types = types; expansion = 0; body = e }
 
--- functions by their numbers, names from 80 on, one string
+-- functions by their numbers, which are their tags too; names from 80 on, one string
 abbrev numbered : (ℕ → ℕ) → Numbering
-numbered f = record { function = f; text = λ s. 0; is_name = λ x. Rattle.std.specs.Prelude.nat_lt 79 x }
+numbered f = record { function = f; tag = f; text = λ s. 0; is_name = λ x. Rattle.std.specs.Prelude.nat_lt 79 x }
 
 abbrev converted : (ℕ → ℕ) → E → out.Program
 converted f e = program (numbered f) ((104 ∷ []) ∷ []) (by_type (of_body e)) (table_of types e) (of_body e)
@@ -277,6 +278,30 @@ calls-numbered zero k e = let s : 11 ≡ k = cc in ap places (sym s)
 calls-numbered (suc zero) k e = let s : 13 ≡ k = cc in ap places (sym s)
 calls-numbered (suc (suc i)) k e = absurd (cc)
 
+-- both functions are in the set of their type, with tags of their own
+one-of-two : (k : ℕ) → is_in k (11 ∷ 13 ∷ []) ≡ true → (k ≡ 11) ⊎ (k ≡ 13)
+one-of-two k h = by (nat_eq k 11) (nat_eq k 13) refl refl h
+  where
+    by : (a b : Bool) → nat_eq k 11 ≡ a → nat_eq k 13 ≡ b → (a || (b || false)) ≡ true → (k ≡ 11) ⊎ (k ≡ 13)
+    by true b p q h = inl (eqb-true k 11 p)
+    by false true p q h = inr (eqb-true k 13 q)
+    by false false p q h = absurd (cc)
+
+two-apart : (j k : ℕ) → (j ≡ 11) ⊎ (j ≡ 13) → (k ≡ 11) ⊎ (k ≡ 13) → places j ≡ places k → j ≡ k
+two-apart j k (inl p) (inl q) e = p ∙ sym q
+two-apart j k (inl p) (inr q) e = absurd (let s : places 11 ≡ places 13 = ap places (sym p) ∙ (e ∙ ap places q) in cc)
+two-apart j k (inr p) (inl q) e = absurd (let s : places 13 ≡ places 11 = ap places (sym p) ∙ (e ∙ ap places q) in cc)
+two-apart j k (inr p) (inr q) e = p ∙ sym q
+
+calls-apart : TagsApart (numbered places) (by_type (of_body calls))
+calls-apart zero j k i h e = absurd (cc)
+calls-apart (suc zero) j k i h e = absurd (cc)
+calls-apart (suc (suc zero)) j k i h e = two-apart j k (one-of-two j i) (one-of-two k h) e
+calls-apart (suc (suc (suc zero))) j k i h e = absurd (cc)
+calls-apart (suc (suc (suc (suc zero)))) j k i h e = absurd (cc)
+calls-apart (suc (suc (suc (suc (suc zero))))) j k i h e = absurd (cc)
+calls-apart (suc (suc (suc (suc (suc (suc set)))))) j k i h e = absurd (cc)
+
 -- so the law is about it
 calls-kept : (m : ℕ) → does places calls m ≡ source.meaning (of_body calls) m
-calls-kept m = conversion-by-type (numbered places) ((104 ∷ []) ∷ []) (of_body calls) calls-well calls-explicit calls-fit calls-numbered m
+calls-kept m = conversion-by-type (numbered places) ((104 ∷ []) ∷ []) (of_body calls) calls-well calls-explicit calls-fit calls-numbered calls-apart m

@@ -19,7 +19,7 @@ use Rattle.ir_first.specs.Continued as tgt
 use Rattle.closure_convert.specs.of_flow_sets.Member.{is_in}
 use Rattle.closure_convert.specs.of_flow_sets.Flow as spots
 use Rattle.closure_convert.specs.of_flow_sets.Flow.{at}
-use Rattle.closure_convert.proofs.of_flow_sets.Member.{nat_eq-to}
+use Rattle.closure_convert.proofs.of_flow_sets.Member.{nat_eq-to, nat_eq-same, or_left}
 use Rattle.closure_meaning.specs.Convert.{Numbering, label_index, labels_in, set_of}
 use Rattle.closure_meaning.specs.Convert as conv
 use Rattle.closure_meaning.specs.Fits.{Setting}
@@ -27,14 +27,25 @@ use Rattle.closure_meaning.proofs.Related.{Val, IsOneOf, Same, same_record, same
 use Rattle.closure_meaning.proofs.Equality.{labels-one}
 use Rattle.closure_meaning.proofs.Performed.{T, Worlds, Re, turn-then}
 
--- the function of a set's member
-pub member-found : (n : Numbering) (k : ℕ) (ks : List ℕ) → is_in k ks ≡ true → op.member_at k (set_of n ks) ≡ Some (n.function k)
-member-found n k [] h = absurd (cc)
-member-found n k (l ∷ ks) h = go (nat_eq k l) (nat_eq-to k l) h (λ e. member-found n k ks e)
+-- the function of a set's member is found by its tag, which no other of the set has
+pub member-found : (n : Numbering) (k : ℕ) (ks : List ℕ) → is_in k ks ≡ true → ((j : ℕ) → is_in j ks ≡ true → n.tag k ≡ n.tag j → k ≡ j) → op.member_at (n.tag k) (set_of n ks) ≡ Some (n.function k)
+member-found n k [] h apart = absurd (cc)
+member-found n k (l ∷ ks) h apart = by (nat_eq (n.tag k) (n.tag l)) refl (λ i. member-found n k ks i (λ j q. apart j (among j q)))
   where
-    go : (b : Bool) → (b ≡ true → k ≡ l) → (b || is_in k ks) ≡ true → (is_in k ks ≡ true → op.member_at k (set_of n ks) ≡ Some (n.function k)) → (if b then Some (n.function l) else op.member_at k (set_of n ks)) ≡ Some (n.function k)
-    go true e q f = sym (ap (λ z. Some (n.function z)) (e refl))
-    go false e q f = f q
+    later : (b : Bool) → nat_eq k l ≡ b → (b || is_in k ks) ≡ true → nat_eq (n.tag k) (n.tag l) ≡ false → is_in k ks ≡ true
+    later true e i d = absurd (let s : nat_eq (n.tag k) (n.tag l) ≡ true = subst (λ z. nat_eq (n.tag k) (n.tag z) ≡ true) (nat_eq-to k l e) (nat_eq-same (n.tag k)) in cc)
+    later false e i d = i
+
+    among : (j : ℕ) → is_in j ks ≡ true → is_in j (l ∷ ks) ≡ true
+    among j i = either (nat_eq j l) i
+      where
+        either : (b : Bool) {d : Bool} → d ≡ true → (b || d) ≡ true
+        either true e = refl
+        either false e = e
+
+    by : (b : Bool) → nat_eq (n.tag k) (n.tag l) ≡ b → (is_in k ks ≡ true → op.member_at (n.tag k) (set_of n ks) ≡ Some (n.function k)) → (if b then Some (n.function l) else op.member_at (n.tag k) (set_of n ks)) ≡ Some (n.function k)
+    by true e rest = sym (ap (λ z. Some (n.function z)) (apart l (or_left (nat_eq l l) (is_in l ks) (nat_eq-same l)) (nat_eq-to (n.tag k) (n.tag l) e)))
+    by false e rest = rest (later (nat_eq k l) refl h e)
 
 pub set-at : (n : Numbering) (sets : List (List ℕ)) (i : ℕ) → get_or (map (set_of n) sets) i [] ≡ set_of n (get_or sets i [])
 set-at n [] i = refl

@@ -28,6 +28,7 @@ use Rattle.closure_convert.specs.Scope.{Scope, add, add_all, names, reaches}
 use Rattle.closure_convert.specs.Closed.{IsLocal, scope_of, members, leader, IsClosed, ArmsClosed, OpClosed, FunClosed, FunsClosed, AtomsClosed, RowClosed}
 use Rattle.closure_meaning.specs.Convert as conv
 use Rattle.closure_meaning.specs.Convert.{holder, follower, given, spare, var, access, con_tag}
+use Rattle.closure_meaning.specs.Laws.{TagsApart}
 use Rattle.closure_meaning.specs.Fits.{Setting, IsValue, IsName, IsInitial, AtomsFit, RowFits, no_row_fits, a_row_fits, Fits, ArmsFit, OpFits, FunFits, FunsFit}
 use Rattle.closure_meaning.proofs.Related.{Val, IsOneOf, widen, of-none, fun_of, group_of, code_number, Coded, CodedArms, CodedOp, CodedFun, CodedFuns, CodedIn, Good, AllGood, Same, same_literal, same_record, same_con, same_con_of, same_exn, same_exn_of, same_ref, same_primitive, same_address, same_cell, same_closure, SameFields, no_fields_same, a_field_same, Stands, is_name, is_value, SameCaptured, Given, R}
 use Rattle.closure_meaning.proofs.Related as rel
@@ -75,7 +76,7 @@ module _ (C : Setting) (all : List out.Fun) (sound : IsTable C.types) where
   up : {ks ls : List ℕ} {r : Answer V V} {r' : cells.Run cells.Value} → Within ks ls → Q ks r r' → Q ls r r'
   up {ks} {ls} h r = weaker (R C all) (Given C all ls) r (widen-given h)
 
-  module _ (ap1 : Apply (mono C.types)) (ap2 : Calls) (calls : arms.CallsSame C all sound ap1 ap2) where
+  module _ (apart : TagsApart C.numbering C.flow) (ap1 : Apply (mono C.types)) (ap2 : Calls) (calls : arms.CallsSame C all sound ap1 ap2) where
     abbrev ev : out.Exp → cells.Env → World cells.Value → (World cells.Value → cells.Run cells.Value) → cells.Run cells.Value
     ev = tgt.eval TT ap2
 
@@ -94,7 +95,7 @@ module _ (C : Setting) (all : List out.Fun) (sound : IsTable C.types) where
     -- what is left is to make the call
     module _ (p : Place) (fs as_ to : List ℕ) (connects : Connects C.types C.flow fs as_ to) where
       called : (q : Bool) (c : Code (mono C.types)) (g : ℕ) (env : Env) (r : cells.Values) (a : V) (a' : cells.Value) (w : World V) (u : World cells.Value) → Good C all q g (group_of C.types c) (fun_of C.types c) → AllGood C all true g (group_of C.types c) (group_of C.types c) → SameCaptured C all (C.captures.captured g) env r → is_in (code_number C.types c) fs ≡ true → S a a' → IsOneOf C.types a as_ → W w u →
-          Q to (ap1 p (closure c env) a w) (ap2 p (C.numbering.function (code_number C.types c)) (cells.cell (code_number C.types c) (rel.held q g r) ∷ a' ∷ []) u)
+          Q to (ap1 p (closure c env) a w) (ap2 p (C.numbering.function (code_number C.types c)) (cells.cell (C.numbering.tag (code_number C.types c)) (rel.held q (C.numbering.tag g) r) ∷ a' ∷ []) u)
       called q c g env r a a' w u good all_good same_c isin same_a isin_a s =
           let both = connects (code_number C.types c) isin in
           up both.1 (calls.functions p q c g env r a a' w u good all_good same_c same_a (widen C.types a both.0 isin_a) s)
@@ -102,14 +103,15 @@ module _ (C : Setting) (all : List out.Fun) (sound : IsTable C.types) where
       dispatched : (n : ℕ) → Within fs (get_or C.flow.sets n []) → (g a : V) (g' a' : cells.Value) (w : World V) (u : World cells.Value) → S g g' → IsOneOf C.types g fs → S a a' → IsOneOf C.types a as_ → W w u →
           Q to (ap1 p g a w) (or_fail (op.of_closure (get_or (map (conv.set_of C.numbering) C.flow.sets) n []) (Some g') (a' ∷ [])) u (λ f. ap2 p f.function f.arguments u))
       dispatched n within f a f' a' w u (same_closure q c g {env = env} {r = r} good all_good same_c) isin same_a isin_a s =
-          subst (λ o. Q to (ap1 p (closure c env) a w) (or_fail {B = op.Called} (option_map (λ k. record { function = k; arguments = cells.cell (code_number C.types c) (rel.held q g r) ∷ a' ∷ [] }) o) u (λ f. ap2 p f.function f.arguments u)))
-          (sym (ap (op.member_at (code_number C.types c)) (set-at C.numbering C.flow.sets n) ∙ member-found C.numbering (code_number C.types c) (get_or C.flow.sets n []) (within.all (code_number C.types c) isin)))
+          subst (λ o. Q to (ap1 p (closure c env) a w) (or_fail {B = op.Called} (option_map (λ k. record { function = k; arguments = cells.cell (C.numbering.tag (code_number C.types c)) (rel.held q (C.numbering.tag g) r) ∷ a' ∷ [] }) o) u (λ f. ap2 p f.function f.arguments u)))
+          (sym (ap (op.member_at (C.numbering.tag (code_number C.types c))) (set-at C.numbering C.flow.sets n)
+          ∙ member-found C.numbering (code_number C.types c) (get_or C.flow.sets n []) (within.all (code_number C.types c) isin) (λ j i t. apart n (code_number C.types c) j (within.all (code_number C.types c) isin) i t)))
           (called q c g env r a a' w u good all_good same_c isin same_a isin_a s)
       dispatched n within f a f' a' w u _ isin same_a isin_a s = wrong-call p f a w _ refl
 
       directly : (k : ℕ) → Within fs (k ∷ []) → (g a : V) (g' a' : cells.Value) (w : World V) (u : World cells.Value) → S g g' → IsOneOf C.types g fs → S a a' → IsOneOf C.types a as_ → W w u → Q to (ap1 p g a w) (ap2 p (C.numbering.function k) (g' ∷ a' ∷ []) u)
       directly k within f a f' a' w u (same_closure q c g {env = env} {r = r} good all_good same_c) isin same_a isin_a s =
-          subst (λ j. Q to (ap1 p (closure c env) a w) (ap2 p (C.numbering.function j) (cells.cell (code_number C.types c) (rel.held q g r) ∷ a' ∷ []) u)) (nat_eq-to (code_number C.types c) k (unor (nat_eq (code_number C.types c) k) (within.all (code_number C.types c) isin)))
+          subst (λ j. Q to (ap1 p (closure c env) a w) (ap2 p (C.numbering.function j) (cells.cell (C.numbering.tag (code_number C.types c)) (rel.held q (C.numbering.tag g) r) ∷ a' ∷ []) u)) (nat_eq-to (code_number C.types c) k (unor (nat_eq (code_number C.types c) k) (within.all (code_number C.types c) isin)))
           (called q c g env r a a' w u good all_good same_c isin same_a isin_a s)
         where
           unor : (b : Bool) → (b || false) ≡ true → b ≡ true
@@ -183,24 +185,24 @@ module _ (C : Setting) (all : List out.Fun) (sound : IsTable C.types) where
     step {ks} x e go s env ρ u other' known r o' h k = then_do-refines (R C all) (Given C all ks) (Given C all (at C.flow (variable x))) go (λ v z. ev e (cells.bind (var x) v ρ) z other') h (λ v v' w' u' g same. k v v' w' u' ρ g.same g.is known same)
 
     -- a name is brought into the body
-    brought : {ks : List ℕ} (k : ℕ) (s : Scope) (env : Env) (ρ : cells.Env) (y : ℕ) (w : World V) (u : World cells.Value) (other' : World cells.Value → cells.Run cells.Value) (go : Option V → Answer V V) (e : out.Exp) → K s env ρ → reaches s y ≡ true → IsName C y → ((g i : ℕ) → Q ks (go (Some (exn g i))) (ev e (cells.bind k (cells.name i) ρ) u other')) → Q ks (go (look_up y env)) (ev (out.let_in k (access s y) e) ρ u other')
+    brought : {ks : List ℕ} (k : ℕ) (s : Scope) (env : Env) (ρ : cells.Env) (y : ℕ) (w : World V) (u : World cells.Value) (other' : World cells.Value → cells.Run cells.Value) (go : Option V → Answer V V) (e : out.Exp) → K s env ρ → reaches s y ≡ true → IsName C y → ((g i : ℕ) → Q ks (go (Some (exn g i))) (ev e (cells.bind k (cells.name i) ρ) u other')) → Q ks (go (look_up y env)) (ev (out.let_in k (access C.numbering s y) e) ρ u other')
     brought {ks} k s env ρ y w u other' go e known l i h = pick (known y l)
       where
         end : {v : V} {v' : cells.Value} → arms.Named C all sound v v' → Q ks (go (Some v)) (ev e (cells.bind k v' ρ) u other')
         end (arms.named g i) = h g i
 
-        pick : {o : Option V} → Found C all y o (Rattle.closure_meaning.proofs.Known.accessed s y ρ) → Q ks (go o) (ev (out.let_in k (access s y) e) ρ u other')
+        pick : {o : Option V} → Found C all y o (Rattle.closure_meaning.proofs.Known.accessed C.numbering s y ρ) → Q ks (go o) (ev (out.let_in k (access C.numbering s y) e) ρ u other')
         pick (found v v' is is' st isin) =
-            subst (λ o. Q ks (go o) (ev (out.let_in k (access s y) e) ρ u other')) (sym is)
-            (subst (λ a. Q ks (go (Some v)) (then_do a (λ x z. ev e (cells.bind k x ρ) z other'))) (sym (access-is TT ap2 s y ρ u ∙ ap (λ o. or_fail o u (λ x. gives x u)) is')) (end (arms.as-name C all sound i st)))
+            subst (λ o. Q ks (go o) (ev (out.let_in k (access C.numbering s y) e) ρ u other')) (sym is)
+            (subst (λ a. Q ks (go (Some v)) (then_do a (λ x z. ev e (cells.bind k x ρ) z other'))) (sym (access-is C.numbering TT ap2 s y ρ u ∙ ap (λ o. or_fail o u (λ x. gives x u)) is')) (end (arms.as-name C all sound i st)))
 
-    used-value : (s : Scope) (env : Env) (ρ : cells.Env) (y : ℕ) {ks : List ℕ} (w : World V) (u : World cells.Value) → K s env ρ → reaches s y ≡ true → IsValue C y → Within (at C.flow (variable y)) ks → W w u → Q ks (or_fail (look_up y env) w (λ v. gives v w)) (ev_op (access s y) ρ u)
+    used-value : (s : Scope) (env : Env) (ρ : cells.Env) (y : ℕ) {ks : List ℕ} (w : World V) (u : World cells.Value) → K s env ρ → reaches s y ≡ true → IsValue C y → Within (at C.flow (variable y)) ks → W w u → Q ks (or_fail (look_up y env) w (λ v. gives v w)) (ev_op (access C.numbering s y) ρ u)
     used-value s env ρ y {ks} w u known l i within same = pick (known y l)
       where
-        pick : {o : Option V} → Found C all y o (Rattle.closure_meaning.proofs.Known.accessed s y ρ) → Q ks (or_fail o w (λ v. gives v w)) (ev_op (access s y) ρ u)
+        pick : {o : Option V} → Found C all y o (Rattle.closure_meaning.proofs.Known.accessed C.numbering s y ρ) → Q ks (or_fail o w (λ v. gives v w)) (ev_op (access C.numbering s y) ρ u)
         pick (found v v' is is' st isin) =
-            subst (λ o. Q ks (or_fail o w (λ v. gives v w)) (ev_op (access s y) ρ u)) (sym is)
-            (subst (λ a. Q ks (gives v w) a) (sym (access-is TT ap2 s y ρ u ∙ ap (λ o. or_fail o u (λ x. gives x u)) is')) (both_give (record { same = arms.as-value C all sound i st; is = widen C.types v within isin }) same))
+            subst (λ o. Q ks (or_fail o w (λ v. gives v w)) (ev_op (access C.numbering s y) ρ u)) (sym is)
+            (subst (λ a. Q ks (gives v w) a) (sym (access-is C.numbering TT ap2 s y ρ u ∙ ap (λ o. or_fail o u (λ x. gives x u)) is')) (both_give (record { same = arms.as-value C all sound i st; is = widen C.types v within isin }) same))
 
     -- the steps between are no variables of the program
     past-given : (s : Scope) (env : Env) (ρ : cells.Env) (u : cells.Value) → K s env ρ → K s env (cells.bind given u ρ)
@@ -213,7 +215,7 @@ module _ (C : Setting) (all : List out.Fun) (sound : IsTable C.types) where
     Then to x go e s env other' = (v : V) (v' : cells.Value) (w' : World V) (u' : World cells.Value) (ρ' : cells.Env) → S v v' → One v x → K s env ρ' → W w' u' → Q to (go v w') (ev e (cells.bind (var x) v' ρ') u' other')
 
     used-same : (b : Bool) (to : List ℕ) (x y : ℕ) (e : out.Exp) (go : V → World V → Answer V V) (s : Scope) (env : Env) (ρ : cells.Env) (w : World V) (u : World cells.Value) (other' : World cells.Value → cells.Run cells.Value) → C.numbering.is_name y ≡ b → Within (at C.flow (variable y)) (at C.flow (variable x)) → reaches s y ≡ true → K s env ρ → W w u → Then to x go e s env other' → Q to (then_do (or_fail (look_up y env) w (λ v. gives v w)) go) (ev (conv.used C.numbering b s (var x) y e) ρ u other')
-    used-same false to x y e go s env ρ w u other' i v l known same k = step x e go s env ρ u other' known (or_fail (look_up y env) w (λ v. gives v w)) (access s y) (used-value s env ρ y w u known l i v same) k
+    used-same false to x y e go s env ρ w u other' i v l known same k = step x e go s env ρ u other' known (or_fail (look_up y env) w (λ v. gives v w)) (access C.numbering s y) (used-value s env ρ y w u known l i v same) k
     used-same true to x y e go s env ρ w u other' i v l known same k =
         brought given s env ρ y w u other' (λ o. then_do (or_fail o w (λ v. gives v w)) go) (conv.packed (var x) e) known l i (λ g j.
         k (exn g j) (cells.packet j cells.unit) w u (cells.bind spare (cells.cell 0 cells.no_values) (cells.bind given (cells.name j) ρ)) (same_exn g j) tt (past-spare s env (cells.bind given (cells.name j) ρ) (cells.cell 0 cells.no_values) (past-given s env ρ (cells.name j) known)) same)
@@ -356,7 +358,7 @@ module _ (C : Setting) (all : List out.Fun) (sound : IsTable C.types) where
           (set-same p (at C.flow (variable f)) (at C.flow (variable a)) (at C.flow (variable x)) v (C.flow.number (variable f)) (at C.flow (variable f)) f a s env ρ w u refl refl refl refl known l.0 i.0 l.1 i.1 same) k
       op-same (m.fn f) to x e go s env ρ w u other' v c l i known same k =
           making-by C all TT ap2 (Given C all to) (go (closure (alone f) env) w) u other' s env ρ (var x) (number_of C.types f) e l.0 known (λ ρ' r known' same_c.
-          k (closure (alone f) env) (cells.cell (number_of C.types f) r) w u ρ' (same_closure true (alone f) (number_of C.types f) (arms.good-of C all sound true (number_of C.types f) no_funs f v.1 c l.1 i (λ q. refl)) tt same_c) v.0 known' same)
+          k (closure (alone f) env) (cells.cell (C.numbering.tag (number_of C.types f)) r) w u ρ' (same_closure true (alone f) (number_of C.types f) (arms.good-of C all sound true (number_of C.types f) no_funs f v.1 c l.1 i (λ q. refl)) tt same_c) v.0 known' same)
       op-same (m.block b) to x e go s env ρ w u other' v c l i known same k = step x e go s env ρ u other' known (src.eval_op ap1 (m.block b) env w) (out.block (cv s b))
           (eval-same b (at C.flow (variable x)) s env ρ w u fail fail v c l i known same (λ w' u' same'. first_wrong _)) k
       op-same (m.handle b y h) to x e go s env ρ w u other' v c l i known same k = step x e go s env ρ u other' known (src.eval_op ap1 (m.handle b y h) env w) (out.handle (cv s b) (var y) (cv (add y s) h))
@@ -373,5 +375,5 @@ module _ (C : Setting) (all : List out.Fun) (sound : IsTable C.types) where
     body-same (last x t e) env a ρ w u v c i g fs l known same = eval-same e (at C.flow (result x)) (scope_of (C.captures.captured g) (members C.types fs) x) (bind x a env) ρ w u fail fail v c l i.1 known same (λ w' u' same'. first_wrong _)
     body-same (more x t f) env a ρ w u v c i g fs l known same =
         making-by C all TT ap2 (Given C all (at C.flow (result x))) (gives (closure (alone f) (bind x a env)) w) u fail (scope_of (C.captures.captured g) (members C.types fs) x) (bind x a env) ρ given (number_of C.types f) (out.ret given) l.0 known (λ ρ' r known' same_c.
-        subst (λ o. Q (at C.flow (result x)) (gives (closure (alone f) (bind x a env)) w) (or_fail o u (λ v. gives v u))) (sym (here given (cells.cell (number_of C.types f) r) ρ'))
+        subst (λ o. Q (at C.flow (result x)) (gives (closure (alone f) (bind x a env)) w) (or_fail o u (λ v. gives v u))) (sym (here given (cells.cell (C.numbering.tag (number_of C.types f)) r) ρ'))
         (both_give (record { same = same_closure true (alone f) (number_of C.types f) (arms.good-of C all sound true (number_of C.types f) no_funs f v.1 c l.1 i.1 (λ q. refl)) tt same_c; is = v.0 }) same))

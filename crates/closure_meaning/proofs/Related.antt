@@ -68,9 +68,9 @@ module _ (types : List table.Row) where
   of-none v ks i = widen v in-none i
 
 -- what is in the closure of a function alone or the first of its group, and in that of another of the group
-abbrev pub held : Bool → (g : ℕ) → cells.Values → cells.Values
-held true g r = r
-held false g r = cells.value (cells.cell g r) cells.no_values
+abbrev pub held : Bool → (tag : ℕ) → cells.Values → cells.Values
+held true tag r = r
+held false tag r = cells.value (cells.cell tag r) cells.no_values
 
 module _ (C : Setting) (all : List out.Fun) where
   -- the code of a function
@@ -160,7 +160,7 @@ module _ (C : Setting) (all : List out.Fun) where
       -- a function stands for a cell with the captured values, or with such a cell
       same_closure : (q : Bool) (c : Code (mono C.types)) (g : ℕ) {env : Scope (mono C.types)} {r : cells.Values}
           → Good q g (group_of C.types c) (fun_of C.types c) → AllGood true g (group_of C.types c) (group_of C.types c)
-          → SameCaptured (C.captures.captured g) env r → Same (closure c env) (cells.cell (code_number C.types c) (held q g r))
+          → SameCaptured (C.captures.captured g) env r → Same (closure c env) (cells.cell (C.numbering.tag (code_number C.types c)) (held q (C.numbering.tag g) r))
 
     pub data SameFields : (g : ℕ) → List Label → List ℕ → Parts (mono C.types) → cells.Values → Type 0 where
       no_fields_same : {g : ℕ} → SameFields g [] [] no_fields cells.no_values

@@ -30,7 +30,7 @@ use Rattle.closure_convert.specs.Closed.{scope_of, members}
 use Rattle.closure_meaning.specs.Convert as conv
 use Rattle.closure_meaning.specs.Convert.{Numbering, holder, follower, var}
 use Rattle.closure_meaning.specs.Fits.{Setting, IsValue, FunFits}
-use Rattle.closure_meaning.specs.Laws.{setting, MayConvert, ConversionKeeps, ConversionSame, ConversionByType}
+use Rattle.closure_meaning.specs.Laws.{TagsApart, setting, MayConvert, ConversionKeeps, ConversionSame, ConversionByType}
 use Rattle.closure_meaning.proofs.Related.{Val, IsOneOf, fun_of, group_of, code_number, Good, AllGood, Same, same_exn, same_exn_of, SameCaptured, Given, R, held}
 use Rattle.closure_meaning.proofs.Known.{different, here, past, past-holder, known-body, stands}
 use Rattle.closure_meaning.proofs.Performed.{T, Worlds, Re}
@@ -56,7 +56,7 @@ module _ (C : Setting) (all : List out.Fun) (sound : IsTable C.types) where
 
   -- what is bound when a body is entered
   abbrev entered : Bool → (g k : ℕ) → cells.Values → cells.Value → cells.Env
-  entered q g k r a = cells.bind (var k) a (cells.bind (conv.self_name C.numbering C.types C.flow C.captures q) (cells.cell k (held q g r)) [])
+  entered q g k r a = cells.bind (var k) a (cells.bind (conv.self_name C.numbering C.types C.flow C.captures q) (cells.cell (C.numbering.tag k) (held q (C.numbering.tag g) r)) [])
 
   -- a function's body and its code
   abbrev Bodies : Enter → tgt.Evaluator → Type 0
@@ -80,9 +80,9 @@ module _ (C : Setting) (all : List out.Fun) (sound : IsTable C.types) where
       wrong_ p (primitive g b) a w e = refl
 
       enters : (p : Place) (q : Bool) (c : Code (mono C.types)) (g : ℕ) (env : Env) (r : cells.Values) (a : V) (a' : cells.Value) (w : World V) (u : World cells.Value) → Good C all q g (group_of C.types c) (fun_of C.types c) → AllGood C all true g (group_of C.types c) (group_of C.types c) → SameCaptured C all (C.captures.captured g) env r → Same C all a a' → IsOneOf C.types a (at C.flow (variable (code_number C.types c))) → W w u →
-          Q (at C.flow (result (code_number C.types c))) (enter_closure go p (closure c env) a w) (tgt.enter all ev p (C.numbering.function (code_number C.types c)) (cells.cell (code_number C.types c) (held q g r) ∷ a' ∷ []) u)
+          Q (at C.flow (result (code_number C.types c))) (enter_closure go p (closure c env) a w) (tgt.enter all ev p (C.numbering.function (code_number C.types c)) (cells.cell (C.numbering.tag (code_number C.types c)) (held q (C.numbering.tag g) r) ∷ a' ∷ []) u)
       enters p q c g env r a a' w u good all_good same_c same isin s =
-          subst (λ o. Q (at C.flow (result (code_number C.types c))) (enter_closure go p (closure c env) a w) (or_fail o u (λ h. or_fail (cells.bind_all h.params (cells.cell (code_number C.types c) (held q g r) ∷ a' ∷ []) []) u (λ ρ. take_turn p u (λ z. ev h.body ρ z fail))))) (sym good.coded)
+          subst (λ o. Q (at C.flow (result (code_number C.types c))) (enter_closure go p (closure c env) a w) (or_fail o u (λ h. or_fail (cells.bind_all h.params (cells.cell (C.numbering.tag (code_number C.types c)) (held q (C.numbering.tag g) r) ∷ a' ∷ []) []) u (λ ρ. take_turn p u (λ z. ev h.body ρ z fail))))) (sym good.coded)
           (take_turn-refines (R C all) _ p w u (src.body go c env a) _ s (λ w' u' s'. bodies q c g env r a a' w' u' good all_good same_c same isin s'))
 
   -- a body runs in the environment of its group
@@ -98,24 +98,24 @@ module _ (C : Setting) (all : List out.Fun) (sound : IsTable C.types) where
   B c g = conv.body C.numbering C.types C.flow C.captures (scope_of (C.captures.captured g) (members C.types (group_of C.types c)) (code_number C.types c)) (fun_of C.types c)
 
   -- the holder is there when the body begins
-  bodies-same : (ap1 : Apply (mono C.types)) (ap2 : Rattle.ir_first.specs.Meaning.Calls) → CallsSame C all sound ap1 ap2 → Bodies (src.run_fun ap1) (tgt.eval (T C all sound) ap2)
-  bodies-same ap1 ap2 calls true c g env r a a' w u good all_good same_c same isin s =
+  bodies-same : (apart : TagsApart C.numbering C.flow) (ap1 : Apply (mono C.types)) (ap2 : Rattle.ir_first.specs.Meaning.Calls) → CallsSame C all sound ap1 ap2 → Bodies (src.run_fun ap1) (tgt.eval (T C all sound) ap2)
+  bodies-same apart ap1 ap2 calls true c g env r a a' w u good all_good same_c same isin s =
       subst (λ x. Q (at C.flow (result (code_number C.types c))) x (tgt.eval (T C all sound) ap2 (conv.body C.numbering C.types C.flow C.captures (scope_of (C.captures.captured g) (members C.types (group_of C.types c)) (code_number C.types c)) (fun_of C.types c)) (entered true g (code_number C.types c) r a') u fail)) (in-group (src.run_fun ap1) c env a w)
-      (body-same C all sound ap1 ap2 calls (fun_of C.types c) (src.members (group_of C.types c) env) a (entered true g (code_number C.types c) r a') w u good.solves good.inner good.fits g (group_of C.types c) good.closed
+      (body-same C all sound apart ap1 ap2 calls (fun_of C.types c) (src.members (group_of C.types c) env) a (entered true g (code_number C.types c) r a') w u good.solves good.inner good.fits g (group_of C.types c) good.closed
       (known-body C all g (group_of C.types c) env r (code_number C.types c) a a' (entered true g (code_number C.types c) r a') all_good same_c
-      (past-holder (code_number C.types c) a' (cells.bind holder (cells.cell (code_number C.types c) r) []) ∙ (here holder (cells.cell (code_number C.types c) r) [] ∙ ap (λ k. Some (cells.cell k r)) (good.leads refl)))
-      (here (var (code_number C.types c)) a' (cells.bind holder (cells.cell (code_number C.types c) r) [])) (stands C all (code_number C.types c) (value-parameter (fun_of C.types c) good.fits) same) isin) s)
-  bodies-same ap1 ap2 calls false c g env r a a' w u good all_good same_c same isin s =
+      (past-holder (code_number C.types c) a' (cells.bind holder (cells.cell (C.numbering.tag (code_number C.types c)) r) []) ∙ (here holder (cells.cell (C.numbering.tag (code_number C.types c)) r) [] ∙ ap (λ k. Some (cells.cell (C.numbering.tag k) r)) (good.leads refl)))
+      (here (var (code_number C.types c)) a' (cells.bind holder (cells.cell (C.numbering.tag (code_number C.types c)) r) [])) (stands C all (code_number C.types c) (value-parameter (fun_of C.types c) good.fits) same) isin) s)
+  bodies-same apart ap1 ap2 calls false c g env r a a' w u good all_good same_c same isin s =
       subst (λ x. Q (at C.flow (result (code_number C.types c))) x (tgt.eval (T C all sound) ap2 (conv.opening C.numbering C.types C.flow C.captures false (B c g)) (entered false g (code_number C.types c) r a') u fail)) (in-group (src.run_fun ap1) c env a w)
       (subst (λ o. Q (at C.flow (result (code_number C.types c))) (src.run_fun ap1 (fun_of C.types c) (src.members (group_of C.types c) env) a w) (then_do (or_fail (cells.first_some o (Some [])) u (λ vs. op.perform (T C all sound) (op.field 0) vs u)) (λ v z. tgt.eval (T C all sound) ap2 (B c g) (cells.bind holder v (entered false g (code_number C.types c) r a')) z fail))) (sym follows_is)
-      (body-same C all sound ap1 ap2 calls (fun_of C.types c) (src.members (group_of C.types c) env) a (cells.bind holder (cells.cell g r) (entered false g (code_number C.types c) r a')) w u good.solves good.inner good.fits g (group_of C.types c) good.closed
-      (known-body C all g (group_of C.types c) env r (code_number C.types c) a a' (cells.bind holder (cells.cell g r) (entered false g (code_number C.types c) r a')) all_good same_c
-      (here holder (cells.cell g r) (entered false g (code_number C.types c) r a'))
-      (past (var (code_number C.types c)) holder (cells.cell g r) (entered false g (code_number C.types c) r a') (different (var (code_number C.types c)) holder (λ e. omega (arith, e))) ∙ here (var (code_number C.types c)) a' (cells.bind follower (cells.cell (code_number C.types c) (held false g r)) []))
+      (body-same C all sound apart ap1 ap2 calls (fun_of C.types c) (src.members (group_of C.types c) env) a (cells.bind holder (cells.cell (C.numbering.tag g) r) (entered false g (code_number C.types c) r a')) w u good.solves good.inner good.fits g (group_of C.types c) good.closed
+      (known-body C all g (group_of C.types c) env r (code_number C.types c) a a' (cells.bind holder (cells.cell (C.numbering.tag g) r) (entered false g (code_number C.types c) r a')) all_good same_c
+      (here holder (cells.cell (C.numbering.tag g) r) (entered false g (code_number C.types c) r a'))
+      (past (var (code_number C.types c)) holder (cells.cell (C.numbering.tag g) r) (entered false g (code_number C.types c) r a') (different (var (code_number C.types c)) holder (λ e. omega (arith, e))) ∙ here (var (code_number C.types c)) a' (cells.bind follower (cells.cell (C.numbering.tag (code_number C.types c)) (held false (C.numbering.tag g) r)) []))
       (stands C all (code_number C.types c) (value-parameter (fun_of C.types c) good.fits) same) isin) s))
     where
-      follows_is : cells.look_up follower (entered false g (code_number C.types c) r a') ≡ Some (cells.cell (code_number C.types c) (cells.value (cells.cell g r) cells.no_values))
-      follows_is = past follower (var (code_number C.types c)) a' (cells.bind follower (cells.cell (code_number C.types c) (cells.value (cells.cell g r) cells.no_values)) []) (different follower (var (code_number C.types c)) (λ e. omega (arith, e))) ∙ here follower (cells.cell (code_number C.types c) (cells.value (cells.cell g r) cells.no_values)) []
+      follows_is : cells.look_up follower (entered false g (code_number C.types c) r a') ≡ Some (cells.cell (C.numbering.tag (code_number C.types c)) (cells.value (cells.cell (C.numbering.tag g) r) cells.no_values))
+      follows_is = past follower (var (code_number C.types c)) a' (cells.bind follower (cells.cell (C.numbering.tag (code_number C.types c)) (cells.value (cells.cell (C.numbering.tag g) r) cells.no_values)) []) (different follower (var (code_number C.types c)) (λ e. omega (arith, e))) ∙ here follower (cells.cell (C.numbering.tag (code_number C.types c)) (cells.value (cells.cell (C.numbering.tag g) r) cells.no_values)) []
 
   identifier-same : (p : V) (q : cells.Value) (w : World V) (u : World cells.Value) (i : ℕ) → Same C all p q → W w u → src.identifier_of p w ≡ Some i → cells.identifier_of q u ≡ Some i
   identifier-same p q w u i (same_exn g n) s e = ap (λ l. slice_get l n) s.exceptions ∙ e
@@ -135,11 +135,11 @@ module _ (n : Numbering) (strings : List (List ℕ)) (flow : Flow) (captures : T
       stopped : (c : Code (mono p.types)) (env : src.Scope (mono p.types)) (a : Val p.types) (w : World (Val p.types)) (u : World cells.Value) → Worlds C P.funs may.table w u → Re C P.funs may.table (at flow (result (code_number p.types c))) (src.body (λ f env v w. stops out_of_turns w) c env a w) (stops out_of_turns u)
       stopped (alone f) env a w u s = both_stop out_of_turns s
       stopped (one_of f fs) env a w u s = both_stop out_of_turns s
-  apply-same (suc k) = enter-same C P.funs may.table (src.run_fun (apply_closures k)) (tgt.eval P.tables (tgt.apply P k)) (bodies-same C P.funs may.table (apply_closures k) (tgt.apply P k) (apply-same k))
+  apply-same (suc k) = enter-same C P.funs may.table (src.run_fun (apply_closures k)) (tgt.eval P.tables (tgt.apply P k)) (bodies-same C P.funs may.table may.apart (apply_closures k) (tgt.apply P k) (apply-same k))
 
   continued-same : (m : ℕ) → ((explicit.meaning p m).end ≡ wrong → ⊥) → tgt.meaning P m ≡ explicit.meaning p m
   continued-same m never = outcome_of-refines (R C P.funs) (Given C P.funs may.solves.0) src.identifier_of cells.identifier_of (λ a b w u i r s e. identifier-same C P.funs may.table a b w u i r.same s e)
-      (eval-same C P.funs may.table (apply_closures m) (tgt.apply P m) (apply-same m) p.body may.solves.0 top empty [] (record (start m) { exceptions = p.initial }) (record (start m) { exceptions = p.initial }) fail fail
+      (eval-same C P.funs may.table may.apart (apply_closures m) (tgt.apply P m) (apply-same m) p.body may.solves.0 top empty [] (record (start m) { exceptions = p.initial }) (record (start m) { exceptions = p.initial }) fail fail
       may.solves.1 (coded-program C (record { params = []; body = conv.convert n p.types flow captures top p.body }) p.body may.numbered) may.closed may.fits (λ x h. absurd (cc)) (record { output = refl; left = refl; taken = refl; store = none; exceptions = refl }) (λ w' u' s'. first_wrong _)) never
 
 pub conversion-keeps : ConversionKeeps
@@ -151,5 +151,5 @@ pub conversion-same : ConversionSame
 conversion-same n strings flow captures p h x may m = conversion-keeps n strings flow captures p may m (explicit-never-wrong p h x m) ∙ sym (explicit-same p h x m)
 
 pub conversion-by-type : ConversionByType
-conversion-by-type n strings p h x fits numbered m =
-    conversion-same n strings (by_type p) (table_of p.types p.body) p h x (record { table = h.table; fits = fits; solves = by-type-solves p h; closed = captures-are-right p h; numbered = numbered }) m
+conversion-by-type n strings p h x fits numbered apart m =
+    conversion-same n strings (by_type p) (table_of p.types p.body) p h x (record { table = h.table; fits = fits; solves = by-type-solves p h; closed = captures-are-right p h; numbered = numbered; apart = apart }) m

@@ -46,9 +46,11 @@ spare = 3
 abbrev pub var : ℕ → ℕ
 var x = suc (suc (suc (suc x)))
 
--- what numbers stand for in the converted program: the function that has a closure's code, the string, and whether a variable is the name of an exception
+-- what numbers stand for in the converted program: the function that has a closure's code and the tag of its cell, the string, and whether a variable is the
+-- name of an exception
 pub record Numbering : Type 0 where
   pub function : ℕ → ℕ
+  pub tag : ℕ → ℕ
   pub text : List ℕ → ℕ
   pub is_name : ℕ → Bool
 
@@ -154,19 +156,20 @@ piece_list [] = []
 piece_list (alone y ∷ ps) = cells.one (var y) ∷ piece_list ps
 piece_list (those from count ∷ ps) = cells.run holder from count ∷ piece_list ps
 
-abbrev pub outer : List ℕ → ℕ → Way → out.Op
-outer captured x no_way = out.plain (op.field (index_of x captured)) (holder ∷ [])
-outer captured x leads = out.plain op.same (holder ∷ [])
-outer captured x (follows k) = out.make k (cells.one holder ∷ [])
+module _ (n : Numbering) where
+  abbrev pub outer : List ℕ → ℕ → Way → out.Op
+  outer captured x no_way = out.plain (op.field (index_of x captured)) (holder ∷ [])
+  outer captured x leads = out.plain op.same (holder ∷ [])
+  outer captured x (follows k) = out.make (n.tag k) (cells.one holder ∷ [])
 
-abbrev pub access : Scope → ℕ → out.Op
-access s x = if is_in x s.locals then out.plain op.same (var x ∷ []) else outer s.captured x (way x s.group)
+  abbrev pub access : Scope → ℕ → out.Op
+  access s x = if is_in x s.locals then out.plain op.same (var x ∷ []) else outer s.captured x (way x s.group)
 
--- what is not in the body yet is brought there
-abbrev pub ready : Scope → List Piece → out.Exp → out.Exp
-ready s [] e = e
-ready s (alone y ∷ ps) e = if is_in y s.locals then ready s ps e else out.let_in (var y) (access s y) (ready s ps e)
-ready s (those from count ∷ ps) e = ready s ps e
+  -- what is not in the body yet is brought there
+  abbrev pub ready : Scope → List Piece → out.Exp → out.Exp
+  ready s [] e = e
+  ready s (alone y ∷ ps) e = if is_in y s.locals then ready s ps e else out.let_in (var y) (access s y) (ready s ps e)
+  ready s (those from count ∷ ps) e = ready s ps e
 
 abbrev pub unit_cell : out.Op
 unit_cell = out.make 0 []
@@ -195,11 +198,11 @@ module _ (n : Numbering) where
 
   abbrev pub set_of : List ℕ → List op.Member
   set_of [] = []
-  set_of (k ∷ ks) = record { tag = k; function = n.function k } ∷ set_of ks
+  set_of (k ∷ ks) = record { tag = n.tag k; function = n.function k } ∷ set_of ks
 
   abbrev pub used : Bool → Scope → (x y : ℕ) → out.Exp → out.Exp
-  used true s x y e = out.let_in given (access s y) (packed x e)
-  used false s x y e = out.let_in x (access s y) e
+  used true s x y e = out.let_in given (access n s y) (packed x e)
+  used false s x y e = out.let_in x (access n s y) e
 
   module _ (types : List table.Row) (flow : Flow) (captures : Table) where
     abbrev pub atom_list : Atoms (mono types) → List ℕ
@@ -212,12 +215,12 @@ module _ (n : Numbering) where
 
     -- x is the closure of a function alone, or of the first of a group
     abbrev pub making : Scope → (x k : ℕ) → out.Exp → out.Exp
-    making s x k e = ready s (captures.pieces k) (out.let_in x (out.make k (piece_list (captures.pieces k))) e)
+    making s x k e = ready n s (captures.pieces k) (out.let_in x (out.make (n.tag k) (piece_list (captures.pieces k))) e)
 
     -- the others of a group, the last first
     abbrev pub following : (h : ℕ) → List Member → out.Exp → out.Exp
     following h [] e = e
-    following h (g ∷ gs) e = following h gs (out.let_in (var g.name) (out.make g.number (cells.one (var h) ∷ [])) e)
+    following h (g ∷ gs) e = following h gs (out.let_in (var g.name) (out.make (n.tag g.number) (cells.one (var h) ∷ [])) e)
 
     abbrev pub group_in : Scope → List Member → out.Exp → out.Exp
     group_in s [] e = e
@@ -225,7 +228,7 @@ module _ (n : Numbering) where
 
     abbrev pub name_of : Scope → Exception (mono types) → out.Op
     name_of s (fixed i) = out.plain (op.initial i) []
-    name_of s (held y) = access s y
+    name_of s (held y) = access n s y
 
     abbrev mutual
       pub convert : Scope → Mono types → out.Exp

@@ -1,5 +1,5 @@
 -- Places that are found by hash, and where a body finds its variables.
-use Rattle.std.proofs.Common.{◌≡◌, ℕ, zero, suc, ◌+◌, ◌-◌, ◌<◌, ◌≤◌, Bool, true, false, ◌||◌, List, [], ◌∷◌, ◌++◌, map, take, drop, length, reverse, get_or, slice_get, Option, Some, None, option_map, unwrap_or, nat_eq, if◌then◌else◌, refl, sym, ap, ap₂, subst, ◌∙◌, arith}
+use Rattle.std.proofs.Common.{◌≡◌, ℕ, zero, suc, ◌+◌, ◌<◌, ◌≤◌, Bool, true, false, List, [], ◌∷◌, ◌++◌, map, take, drop, length, reverse, get_or, slice_get, Option, Some, None, option_map, unwrap_or, nat_eq, if◌then◌else◌, refl, sym, ap, ap₂, subst, ◌∙◌, arith}
 use Rattle.std.specs.Map.{lookup}
 use Rattle.std.specs.Str.{bytes_eq}
 use Rattle.std.proofs.lemmas.Bool.{eqb-true, eq-eqb}
@@ -14,12 +14,12 @@ use Rattle.closure_convert.specs.Scope.{Scope, Way, no_way, leads, follows, way,
 use Rattle.first_values.specs.Operations as op
 use Rattle.first_values.specs.Values as cells
 use Rattle.ir_first.specs.Tree as out
-use Rattle.closure_meaning.specs.Convert.{holder, var, outer, access, label_index, constructor_index, constructors_in, tag_among, con_tag}
+use Rattle.closure_meaning.specs.Convert.{Numbering, holder, var, outer, access, label_index, constructor_index, constructors_in, tag_among, con_tag}
 use Rattle.flow_types.specs.of_closure_whole.Converted.{text_index}
 use Rattle.capture_scope.specs.declared.scope.Found.{Found}
-use Rattle.capture_scope.specs.declared.scope.Found.TheVariants.{Local, Captured, Leads, Follows, Nowhere}
+use Rattle.capture_scope.specs.declared.scope.Found.TheVariants.{Local, Captured, Leads, Follows}
 use Rattle.capture_scope.specs.Found.{Place, local, captured, leading, following, nowhere, found_of, found_in, found_around}
-use Rattle.closure_parts.specs.Indexed.{Finds, place_in, AreFound, constructor_numbers, label_keys, number_next, label_key, texts_of, is_text, FindsTexts, Kept}
+use Rattle.closure_parts.specs.Indexed.{Finds, AreFound, constructor_numbers, number_next, label_key, texts_of, is_text, FindsTexts, Kept}
 use Rattle.closure_parts.specs.Puts.{sole_of}
 use Rattle.closure_parts.specs.declared.places.Index.{Index}
 use Rattle.flow_types.specs.Kinds.{items_of}
@@ -204,45 +204,45 @@ label-number l (k ∷ ls) = ap₂ (λ (b : Bool) r. if b then zero else suc r) (
 
 -- where a body finds a variable
 
-abbrev op_at : Scope → ℕ → Place → out.Op
-op_at s x local = out.plain op.same (var x ∷ [])
-op_at s x (captured i) = out.plain (op.field i) (holder ∷ [])
-op_at s x leading = out.plain op.same (holder ∷ [])
-op_at s x (following k) = out.make k (cells.one holder ∷ [])
-op_at s x nowhere = out.plain op.same (var x ∷ [])
+abbrev op_at : (tag : ℕ → ℕ) → Scope → ℕ → Place → out.Op
+op_at tag s x local = out.plain op.same (var x ∷ [])
+op_at tag s x (captured i) = out.plain (op.field i) (holder ∷ [])
+op_at tag s x leading = out.plain op.same (holder ∷ [])
+op_at tag s x (following k) = out.make (tag k) (cells.one holder ∷ [])
+op_at tag s x nowhere = out.plain op.same (var x ∷ [])
 
 -- found there, it is read there
-found-access : (s : Scope) (x : ℕ) (p : Place) → p ≡ found_in s x → (p ≡ nowhere → ⊥) → op_at s x p ≡ access s x
-found-access s x p h k = ap (op_at s x) h ∙ inside (is_in x s.locals) (way x s.group) (λ e. k (h ∙ e))
+found-access : (n : Numbering) (s : Scope) (x : ℕ) (p : Place) → p ≡ found_in s x → (p ≡ nowhere → ⊥) → op_at n.tag s x p ≡ access n s x
+found-access n s x p h k = ap (op_at n.tag s x) h ∙ inside (is_in x s.locals) (way x s.group) (λ e. k (h ∙ e))
   where
-    outside : (b : Bool) → ((if b then captured (index_of x s.captured) else nowhere) ≡ nowhere → ⊥) → op_at s x (if b then captured (index_of x s.captured) else nowhere) ≡ out.plain (op.field (index_of x s.captured)) (holder ∷ [])
-    outside true n = refl
-    outside false n = absurd (n refl)
+    outside : (b : Bool) → ((if b then captured (index_of x s.captured) else nowhere) ≡ nowhere → ⊥) → op_at n.tag s x (if b then captured (index_of x s.captured) else nowhere) ≡ out.plain (op.field (index_of x s.captured)) (holder ∷ [])
+    outside true q = refl
+    outside false q = absurd (q refl)
 
-    around : (w : Way) → (found_around s x w ≡ nowhere → ⊥) → op_at s x (found_around s x w) ≡ outer s.captured x w
-    around no_way n = outside (is_in x s.captured) n
-    around leads n = refl
-    around (follows k) n = refl
+    around : (w : Way) → (found_around s x w ≡ nowhere → ⊥) → op_at n.tag s x (found_around s x w) ≡ outer n s.captured x w
+    around no_way q = outside (is_in x s.captured) q
+    around leads q = refl
+    around (follows k) q = refl
 
-    inside : (b : Bool) (w : Way) → ((if b then local else found_around s x w) ≡ nowhere → ⊥) → op_at s x (if b then local else found_around s x w) ≡ (if b then out.plain op.same (var x ∷ []) else outer s.captured x w)
-    inside true w n = refl
-    inside false w n = around w n
+    inside : (b : Bool) (w : Way) → ((if b then local else found_around s x w) ≡ nowhere → ⊥) → op_at n.tag s x (if b then local else found_around s x w) ≡ (if b then out.plain op.same (var x ∷ []) else outer n s.captured x w)
+    inside true w q = refl
+    inside false w q = around w q
 
-module _ (s : Scope) (x : ℕ) (found : Found) (h : found_of found ≡ found_in s x) where
-  access-at : (f : Found) → found ≡ f → (found_of f ≡ nowhere → ⊥) → op_at s x (found_of f) ≡ access s x
-  access-at f e k = found-access s x (found_of f) (ap found_of (sym e) ∙ h) k
+module _ (n : Numbering) (s : Scope) (x : ℕ) (found : Found) (h : found_of found ≡ found_in s x) where
+  access-at : (f : Found) → found ≡ f → (found_of f ≡ nowhere → ⊥) → op_at n.tag s x (found_of f) ≡ access n s x
+  access-at f e k = found-access n s x (found_of f) (ap found_of (sym e) ∙ h) k
 
-  pub access-local : found ≡ Local → out.plain op.same (var x ∷ []) ≡ access s x
+  pub access-local : found ≡ Local → out.plain op.same (var x ∷ []) ≡ access n s x
   access-local e = access-at Local e (λ q. absurd (cc))
 
-  pub access-captured : (i : ℕ) → found ≡ Captured i → out.plain (op.field i) (holder ∷ []) ≡ access s x
+  pub access-captured : (i : ℕ) → found ≡ Captured i → out.plain (op.field i) (holder ∷ []) ≡ access n s x
   access-captured i e = access-at (Captured i) e (λ q. absurd (cc))
 
-  pub access-leads : found ≡ Leads → out.plain op.same (holder ∷ []) ≡ access s x
+  pub access-leads : found ≡ Leads → out.plain op.same (holder ∷ []) ≡ access n s x
   access-leads e = access-at Leads e (λ q. absurd (cc))
 
-  pub access-follows : (k : ℕ) → found ≡ Follows k → out.make k (cells.one holder ∷ []) ≡ access s x
-  access-follows k e = access-at (Follows k) e (λ q. absurd (cc))
+  pub access-follows : (k tag : ℕ) → found ≡ Follows k → tag ≡ n.tag k → out.make tag (cells.one holder ∷ []) ≡ access n s x
+  access-follows k tag e t = ap (λ i. out.make i (cells.one holder ∷ [])) t ∙ access-at (Follows k) e (λ q. absurd (cc))
 
 -- sets
 

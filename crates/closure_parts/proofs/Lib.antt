@@ -8,3 +8,4 @@ pub mod Numbered
 pub mod Whole
 pub mod TextMap
 pub mod NameMap
+pub mod Tagging

@@ -1,15 +1,13 @@
 -- What operations become.
-use Rattle.std.proofs.Common.{◌≡◌, ℕ, zero, suc, Bool, true, false, List, [], ◌∷◌, map, length, get_or, slice_index_or, Option, Some, None, Result, Ok, Err, IfOk, if◌then◌else◌, Vec, Global, refl, sym, ap, ap₂, ◌∙◌}
+use Rattle.std.proofs.Common.{◌≡◌, ℕ, Bool, true, false, List, [], ◌∷◌, map, length, get_or, slice_index_or, Option, Some, None, Result, Ok, Err, IfOk, Vec, Global, refl, sym, ap, ap₂, ◌∙◌}
 use Rattle.mlc_base.specs.declared.place.Place.{Place}
 use Rattle.mlc_names.specs.declared.label.Label.{Label}
 use Rattle.mlc_prims.specs.declared.basis.BasisPrimitive.{BasisPrimitive}
 use Rattle.ir_values.specs.Primitives.{sort_of}
 use Rattle.ir_tables.specs.declared.tables.Constant.{Constant as Literal}
 use Rattle.ir_tables.specs.Tables.{literal_at}
-use Rattle.ir_plain.specs.Tree as m
 use Rattle.ir_mono.specs.Types as table
 use Rattle.ir_mono.specs.Types.{node_at}
-use Rattle.ir_mono.specs.Mono.{mono}
 use Rattle.plain_tree.specs.declared.tree.Field.{Field}
 use Rattle.plain_tree.specs.declared.tree.Operation.{Operation}
 use Rattle.plain_tree.specs.declared.tree.Operation.TheVariants as code
@@ -66,11 +64,11 @@ module _ (n : Numbering) (flow : code_flow.Flow) (F : Flow) (has : Has flow F) (
 -- uses
 
 module _ (n : Numbering) (s : Scope) (x y : ℕ) where
-  pub used-name : (old now new : List Step) (o : out.Op) → n.is_name y ≡ true → o ≡ access s y → Puts old now (out.let_in given o) → Puts now new (packed x) → Puts old new (used n (n.is_name y) s x y)
+  pub used-name : (old now new : List Step) (o : out.Op) → n.is_name y ≡ true → o ≡ access n s y → Puts old now (out.let_in given o) → Puts now new (packed x) → Puts old new (used n (n.is_name y) s x y)
   used-name old now new o t h p q e =
       q e ∙ p (packed x e) ∙ ap (λ v. before old (out.let_in given v (packed x e))) h ∙ ap (λ (b : Bool). before old (used n b s x y e)) (sym t)
 
-  pub used-value : (old new : List Step) (o : out.Op) → n.is_name y ≡ false → o ≡ access s y → Puts old new (out.let_in x o) → Puts old new (used n (n.is_name y) s x y)
+  pub used-value : (old new : List Step) (o : out.Op) → n.is_name y ≡ false → o ≡ access n s y → Puts old new (out.let_in x o) → Puts old new (used n (n.is_name y) s x y)
   used-value old new o t h p e = p e ∙ ap (λ v. before old (out.let_in x v e)) h ∙ ap (λ (b : Bool). before old (used n b s x y e)) (sym t)
 
 -- arguments and fields

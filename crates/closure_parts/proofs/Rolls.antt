@@ -1,5 +1,5 @@
 -- What a node of the code's tree stands for.
-use Rattle.std.proofs.Common.{◌≡◌, ℕ, List, map, Vec, Box, Global, sym, ap, ◌∙◌}
+use Rattle.std.proofs.Common.{◌≡◌, ℕ, map, Vec, Box, Global, sym, ap, ◌∙◌}
 use Rattle.mlc_base.specs.declared.place.Place.{Place}
 use Rattle.ir_first.specs.Tree as f
 use Rattle.first_tables.specs.declared.operation.Test.{Test}

@@ -1,5 +1,5 @@
 -- Variables that are names of exceptions, as they are found.
-use Rattle.std.specs.Prelude.{◌≡◌, ℕ, Bool, true, false, List, Option, nat_eq, unwrap_or}
+use Rattle.std.specs.Prelude.{◌≡◌, ℕ, Bool, true, false, List, nat_eq, unwrap_or}
 use Rattle.std.specs.Map.{lookup}
 use Rattle.flow_sets.specs.ByType.{Bound, bound_in}
 use Rattle.flow_types.specs.of_closure_whole.Converted.{bound_as_name}

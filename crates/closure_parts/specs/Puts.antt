@@ -1,11 +1,11 @@
 -- What steps of the code put before the rest.
-use Rattle.std.specs.Prelude.{◌≡◌, ℕ, Bool, true, false, List, [], ◌∷◌, map, Option, Some, None, if◌then◌else◌}
+use Rattle.std.specs.Prelude.{◌≡◌, ℕ, List, [], ◌∷◌, map, Option, Some, None}
 use Rattle.mlc_base.specs.declared.place.Place.{Place}
 use Rattle.first_values.specs.Operations as op
 use Rattle.first_values.specs.Values as cells
 use Rattle.ir_first.specs.Tree as out
 use Rattle.first_tree.specs.declared.tree.Step.{Step}
-use Rattle.first_tree.specs.TreeOf.{StepTree, step_of, onto}
+use Rattle.first_tree.specs.TreeOf.{step_of, onto}
 use Rattle.plain_tree.specs.declared.tree.Field.{Field}
 use Rattle.closure_meaning.specs.Convert.{Numbering, var}
 

@@ -3,9 +3,11 @@ ghost use Rattle.std.specs.Prelude.{◌≡◌, map, IfOk};
 ghost use Rattle.first_tree.specs.TreeOf.{operation_of};
 ghost use Rattle.first_tables.specs.TablesOf.{plain_of};
 ghost use Rattle.ir_first.specs.Tree as out;
-ghost use Rattle.closure_meaning.specs.Convert.{var, access};
+ghost use Rattle.closure_meaning.specs.Convert.{Numbering, var, access};
 ghost use Rattle.closure_parts.specs.Pieces.{a_plain, a_make};
+ghost use Rattle.closure_parts.specs.Tagged.{HasTags};
 
+use crate::tags::Tags;
 use capture_scope::scope::{Found, Scope};
 use first_tables::operation::{Piece, Plain};
 use first_tree::tree::Operation;
@@ -63,8 +65,13 @@ pub fn cell_of(alloc: Global, tag: usize, part: usize) -> Result<Operation, NoMe
 }
 
 /// Reads a variable where the body finds it. Err also where it doesn't, as never in a program whose uses are all in scope.
-pub fn access(alloc: Global, scope: &Scope, variable: usize) -> Result<Operation, NoMemory>
-    ensures { IfOk result (λ made. operation_of made ≡ access scope.now variable) }
+pub fn access(
+    alloc: Global,
+    tags: &Tags,
+    scope: &Scope,
+    variable: usize,
+) -> Result<Operation, NoMemory>
+    ensures { IfOk result (λ made. (n : Numbering) → HasTags tags.now n → operation_of made ≡ access n scope.now variable) }
 {
     match scope.find(variable) {
         Found::Local => {
@@ -73,7 +80,7 @@ pub fn access(alloc: Global, scope: &Scope, variable: usize) -> Result<Operation
         }
         Found::Captured(place) => plain(alloc, Plain::Field(place), HOLDER),
         Found::Leads => plain(alloc, Plain::Same, HOLDER),
-        Found::Follows(function) => cell_of(alloc, function, HOLDER),
+        Found::Follows(function) => cell_of(alloc, tags.of(function), HOLDER),
         Found::Nowhere => Err(NoMemory),
     }
 }

@@ -11,3 +11,4 @@ pub mod operands;
 pub mod operation;
 pub mod places;
 pub mod setting;
+pub mod tags;

@@ -79,7 +79,7 @@ fn push_use(
     ensures { IfOk result (λ _. (types : List Row) (strings : Texts) (n : Numbering) (F : Flow) (T : Table) → Holds setting.now types strings n F T
         → Puts steps.old.items steps.new.items (used n (n.is_name variable) scope.now name variable)) }
 {
-    let found = access(alloc, scope, variable)?;
+    let found = access(alloc, &setting.tags, scope, variable)?;
     if setting.is_name(variable) {
         push_let(steps, GIVEN, found)?;
         push_packet(alloc, steps, name)

@@ -5,19 +5,21 @@ ghost use Rattle.closure_convert.specs.Capture.{entry_of, pieces_in};
 ghost use Rattle.capture_scope.specs.Found.{pieces_of};
 ghost use Rattle.capture_table.specs.Tables.{numbers_of};
 ghost use Rattle.mono_bound.specs.Reads.{mono_of};
+ghost use Rattle.flow_sets.specs.Flow.{Flow as Sets};
 ghost use Rattle.flow_types.specs.Kinds.{items_of};
-ghost use Rattle.flow_types.specs.Flows.{program_with};
+ghost use Rattle.flow_types.specs.Flows.{Has, program_with};
 ghost use Rattle.closure_parts.specs.Indexed.{texts_of};
 ghost use Rattle.closure_parts.specs.Named.{name_in};
-ghost use Rattle.closure_parts.specs.Settings.{HoldsProgram};
+ghost use Rattle.closure_parts.specs.Settings.{HoldsBy};
 ghost use Rattle.closure_parts.specs.Puts.{sole_of};
 
 use crate::names::find_names;
 use crate::places::{Places, find_places};
+use crate::tags::{Tags, find_tags};
 use capture_scope::piece::Piece as Captured;
 use capture_scope::scope::ScopeFault;
 use capture_table::table::{Captures, find_captures};
-use flow_types::flow::{Flow, flows};
+use flow_types::flow::Flow;
 use indexmap::IndexMap;
 use mlc_base::memory::NoMemory;
 use mono_bound::bound::push_bound;
@@ -26,10 +28,11 @@ use mono_types::types::Types;
 use plain_tree::tree::Exp;
 use std::alloc::Global;
 
-/// The sets of a program, which variables are names of exceptions, what its functions capture, and places of constructors, labels and strings.
+/// The sets of a program, the tags of functions by them, which variables are names of exceptions, what its functions capture, and places of constructors, labels and strings.
 #[derive(Drop)]
 pub struct Setting {
     pub flow: Flow,
+    pub tags: Tags,
     pub names: IndexMap<usize, bool>,
     pub captures: Captures,
     pub places: Places,
@@ -46,25 +49,27 @@ fn sole_of(functions: &[usize]) -> Option<usize>
 }
 
 impl Setting {
-    /// That of a program of these types and strings with this body.
+    /// That of a program of these types and strings with this body, by these sets.
     pub fn new(
         alloc: Global,
         types: &Types,
         strings: &[Vec<u8>],
+        flow: Flow,
         body: &Exp,
     ) -> Result<Setting, ScopeFault>
-        ensures { IfOk result (λ setting. (initial : List ℕ) (expansion : ℕ) → HoldsProgram setting (texts_of strings.now)
-            (program_with initial types.now expansion (mono_of types.now (texts_of strings.now) body.now))) }
+        ensures { IfOk result (λ setting. (F : Sets) (initial : List ℕ) (expansion : ℕ) → Has flow F
+            → HoldsBy setting (texts_of strings.now) F (program_with initial types.now expansion (mono_of types.now (texts_of strings.now) body.now))) }
     {
         bound_is_bound();
         let mut found = Vec::new(alloc);
         push_bound(types, body, &mut found)?;
         let names = find_names(alloc, &found)?;
-        let flow = flows(alloc, types, body)?;
+        let tags = find_tags(alloc, &flow.sets)?;
         let places = find_places(alloc, types, strings)?;
         let captures = find_captures(alloc, body)?;
         Ok(Setting {
             flow,
+            tags,
             names,
             captures,
             places,

@@ -233,17 +233,17 @@ module _ (P : ℕ → Type 0) (types : List table.Row) where
 
   -- Conversion
 
-  outer-none : (cs : List ℕ) (x : ℕ) (w : Way) → All P (op_makes (outer cs x w))
-  outer-none cs x no_way = All-nil P
-  outer-none cs x leads = All-nil P
-  outer-none cs x (follows k) = All-nil P
+  outer-none : (n : Numbering) (cs : List ℕ) (x : ℕ) (w : Way) → All P (op_makes (outer n cs x w))
+  outer-none n cs x no_way = All-nil P
+  outer-none n cs x leads = All-nil P
+  outer-none n cs x (follows k) = All-nil P
 
-  access-none : (s : Scope) (y : ℕ) → All P (op_makes (access s y))
-  access-none s y = by (is_in y s.locals)
+  access-none : (n : Numbering) (s : Scope) (y : ℕ) → All P (op_makes (access n s y))
+  access-none n s y = by (is_in y s.locals)
     where
-      by : (b : Bool) → All P (op_makes (if b then out.plain op.same (var y ∷ []) else outer s.captured y (way y s.group)))
+      by : (b : Bool) → All P (op_makes (if b then out.plain op.same (var y ∷ []) else outer n s.captured y (way y s.group)))
       by true = All-nil P
-      by false = outer-none s.captured y (way y s.group)
+      by false = outer-none n s.captured y (way y s.group)
 
   marked-makes : (k : Option Place) (e : out.Exp) → All P (makes e) → All P (makes (marked k e))
   marked-makes None e h = h
@@ -272,20 +272,20 @@ module _ (P : ℕ → Type 0) (types : List table.Row) where
     call-none p s (k ∷ l ∷ ks) f a = All-nil P
 
     used-none : (b : Bool) (s : Scope) (x y : ℕ) (e : out.Exp) → All P (makes e) → All P (makes (used n b s x y e))
-    used-none true s x y e h = let-none given (access s y) (packed x e) (access-none s y) h
-    used-none false s x y e h = let-none x (access s y) e (access-none s y) h
+    used-none true s x y e h = let-none given (access n s y) (packed x e) (access-none n s y) h
+    used-none false s x y e h = let-none x (access n s y) e (access-none n s y) h
 
-    ready-makes : (s : Scope) (ps : List Piece) (e : out.Exp) → All P (makes e) → All P (makes (ready s ps e))
+    ready-makes : (s : Scope) (ps : List Piece) (e : out.Exp) → All P (makes e) → All P (makes (ready n s ps e))
     ready-makes s [] e h = h
     ready-makes s (alone y ∷ ps) e h = by (is_in y s.locals) (ready-makes s ps e h)
       where
-        by : (b : Bool) → All P (makes (ready s ps e)) → All P (makes (if b then ready s ps e else out.let_in (var y) (access s y) (ready s ps e)))
+        by : (b : Bool) → All P (makes (ready n s ps e)) → All P (makes (if b then ready n s ps e else out.let_in (var y) (access n s y) (ready n s ps e)))
         by true k = k
-        by false k = let-none (var y) (access s y) (ready s ps e) (access-none s y) k
+        by false k = let-none (var y) (access n s y) (ready n s ps e) (access-none n s y) k
     ready-makes s (those from count ∷ ps) e h = ready-makes s ps e h
 
     making-makes : (s : Scope) (x k : ℕ) (e : out.Exp) → All P (makes e) → All P (makes (making n types F T s x k e))
-    making-makes s x k e h = ready-makes s (T.pieces k) (out.let_in x (out.make k (piece_list (T.pieces k))) e) h
+    making-makes s x k e h = ready-makes s (T.pieces k) (out.let_in x (out.make (n.tag k) (piece_list (T.pieces k))) e) h
 
     following-makes : (h : ℕ) (gs : List Member) (e : out.Exp) → All P (makes e) → All P (makes (following n types F T h gs e))
     following-makes h [] e k = k
@@ -297,7 +297,7 @@ module _ (P : ℕ → Type 0) (types : List table.Row) where
 
     name-none : (s : Scope) (y : Exception (mono types)) → All P (op_makes (name_of n types F T s y))
     name-none s (fixed i) = All-nil P
-    name-none s (held y) = access-none s y
+    name-none s (held y) = access-none n s y
 
     mutual
       convert-makes : (s : Scope) (e : E) → Makes e → All P (makes (convert n types F T s e))
@@ -423,5 +423,5 @@ expansion-makes-no-more n p = made-all (Contains (tests_made p.body [])) p.types
 pub whole-makes-no-more : WithoutFunctionsMakesNoMore
 whole-makes-no-more strings p =
     let q = explicit p in
-    program-makes (Contains (tests_made p.body [])) p.types (numbering strings q) (rising q) (table_of p.types q.body) q.body
+    program-makes (Contains (tests_made p.body [])) p.types (numbering strings (rising q) q) (rising q) (table_of p.types q.body) q.body
     (expand-makes (Contains (tests_made p.body [])) p.types [] (above (bound p.types p.body)) p.body (self-makes p))

@@ -1,8 +1,8 @@
 -- What a conversion by given sets keeps, from what is claimed of the function that it computes.
-use Rattle.std.proofs.Common.{◌≡◌, ℕ, zero, suc, ◌+◌, ◌*◌, ◌<◌, ◌≤◌, List, [], ◌∷◌, ◌++◌, length, All, Contains, Option, Some, None, refl, sym, ap, ap₂, ◌∙◌, subst}
+use Rattle.std.proofs.Common.{◌≡◌, ℕ, zero, suc, true, ◌+◌, ◌*◌, ◌<◌, ◌≤◌, List, [], ◌∷◌, ◌++◌, length, All, Contains, Option, Some, None, refl, sym, ap, ap₂, ◌∙◌, subst}
 use Rattle.std.proofs.lemmas.Bool.{lt-ltb}
 use Rattle.std.proofs.lemmas.List.Elements.{All-append, All-weaker, All-contains_itself, Contains-append_left, Contains-append_right}
-use Rattle.std.specs.List.{AllByRecursion}
+use Rattle.std.specs.List.{AllByRecursion, concat}
 use Rattle.mlc_runs.specs.Passes.{BringsNone, initial_exceptions}
 use Rattle.match_compile.specs.Exceptions.{tests_made}
 use Rattle.ir_tables.specs.Tables.{string_at}
@@ -28,6 +28,8 @@ use Rattle.closure_meaning.specs.Convert.{part_types}
 use Rattle.closure_meaning.proofs.Run.{conversion-same}
 use Rattle.closure_formed.specs.of_closure_whole.Constants.{AreHeld}
 use Rattle.closure_formed.specs.of_closure_whole.Converted.{numbering}
+use Rattle.closure_formed.specs.of_closure_whole.Tags.{stand_once, AreDense}
+use Rattle.closure_formed.proofs.of_closure_whole.Tags.{tags-are-apart, tags-are-dense}
 use Rattle.closure_formed.proofs.of_closure_whole.Positions.{places-are}
 use Rattle.closure_formed.proofs.of_closure_whole.Fitting.{program-fits}
 use Rattle.closure_sizes.specs.Laws.{ConversionIsSmall}
@@ -104,12 +106,13 @@ module _ (q : out.Program) (F : Flow) (ss : Strings) (p : Program) (e : q ≡ co
   pub same-outcome : IsReady p → AreHeld ss p.body → SolvesProgram p.types F p.body → (turns : ℕ) → first.meaning q turns ≡ mono.meaning p turns
   same-outcome r h s turns =
       ap (λ v. first.meaning v turns) e
-      ∙ conversion-same (numbering ss p) ss F (table_of p.types p.body) p r.formed r.explicit (record {
+      ∙ conversion-same (numbering ss F p) ss F (table_of p.types p.body) p r.formed r.explicit (record {
         table = r.formed.table;
         fits = program-fits ss p F (table_of p.types p.body) r.formed.initial r.formed (once-known p.types p.body r.formed.once) r.explicit h;
         solves = s;
         closed = captures-are-right p r.formed;
         numbered = places-are p.types p.body r.formed.once;
+        apart = tags-are-apart ss F p;
       }) turns
 
   pub formed : ConvertedWellFormed → IsReady p → AreHeld ss p.body → HasParts p.types → AreBytes ss → AreOrderly p F → first_formed.IsWellFormed q
@@ -118,9 +121,12 @@ module _ (q : out.Program) (F : Flow) (ss : Strings) (p : Program) (e : q ≡ co
   pub kept-exceptions : ConversionMakesNoMore → p.initial ≡ initial_exceptions → BringsNone (tests_made p.body []) (exceptions q)
   kept-exceptions law i =
       exceptions-from q p p.initial (ap (λ (v : out.Program). v.tables.initial) e) i
-      (subst (λ (v : out.Program). All (Contains (tests_made p.body [])) (funs_make v.funs)) (sym e) (law (numbering ss p) ss F (table_of p.types p.body) p))
+      (subst (λ (v : out.Program). All (Contains (tests_made p.body [])) (funs_make v.funs)) (sym e) (law (numbering ss F p) ss F (table_of p.types p.body) p))
+
+  pub kept-dense : stand_once (concat F.sets) ≡ true → AreDense q.tables.sets
+  kept-dense o = subst (λ (v : out.Program). AreDense v.tables.sets) (sym e) (tags-are-dense ss F p o)
 
   pub kept-small : ConversionIsSmall → nodes_funs q.funs ≤ 1 + 4 * nodes p.types p.body + 4 * pieces p.types (table_of p.types p.body) p.body
   kept-small law =
       subst (λ (v : out.Program). nodes_funs v.funs ≤ 1 + 4 * nodes p.types p.body + 4 * pieces p.types (table_of p.types p.body) p.body) (sym e)
-      (law (numbering ss p) ss F (table_of p.types p.body) p)
+      (law (numbering ss F p) ss F (table_of p.types p.body) p)

@@ -16,7 +16,9 @@ use Rattle.eta_expand.specs.Expand.{expand}
 use Rattle.eta_expand.proofs.Formed.{expanded-explicit}
 use Rattle.eta_expand.proofs.Keeps.{expanded-same}
 use Rattle.closure_formed.specs.of_closure_whole.Rising.{above, rising}
+use Rattle.closure_formed.specs.of_closure_whole.Tags.{AreDense}
 use Rattle.closure_formed.specs.of_closure_whole.Whole.{explicit, without_functions}
+use Rattle.closure_formed.proofs.of_closure_whole.Tags.{without-functions-dense}
 use Rattle.closure_formed.proofs.of_closure_whole.Fresh.{fresh}
 use Rattle.closure_formed.proofs.of_closure_whole.Whole.{explicit-well-formed}
 use Rattle.closure_first.specs.Made.{converted_by}
@@ -43,6 +45,9 @@ module _ (types : List table.Row) (ss : Strings) (initial : List ℕ) (expansion
 
   pub whole-same : (turns : ℕ) → IsWellFormed before → mono.meaning now turns ≡ mono.meaning before turns
   whole-same turns w = ap (λ p. mono.meaning p turns) now-explicit ∙ expanded-same (above (bound types before.body)) before w (λ k l. fresh types k before.body l) turns
+
+pub whole-dense : (us : Strings) (p : Program) (q : out.Program) → q ≡ without_functions us p → AreDense q.tables.sets
+whole-dense us p q e = subst (λ (v : out.Program). AreDense v.tables.sets) (sym e) (without-functions-dense us p)
 
 pub whole-exceptions : (us : Strings) (p : Program) (q : out.Program) → q ≡ without_functions us p → WithoutFunctionsMakesNoMore → p.initial ≡ initial_exceptions → BringsNone (tests_made p.body []) (exceptions q)
 whole-exceptions us p q e law i =

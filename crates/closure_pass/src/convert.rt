@@ -1,5 +1,6 @@
 // A program by given sets, and what its conversion keeps.
-ghost use Rattle.std.specs.Prelude.{◌≡◌, ◌∷◌, ◌++◌, ◌+◌, ◌*◌, ◌≤◌, [], ℕ, map, IfOk, IfErr};
+ghost use Rattle.std.specs.Prelude.{◌≡◌, ◌∷◌, ◌++◌, ◌+◌, ◌*◌, ◌≤◌, [], ℕ, map, true, IfOk, IfErr};
+ghost use Rattle.std.specs.List.{concat};
 ghost use Rattle.mlc_runs.specs.Passes.{BringsNone, initial_exceptions};
 ghost use Rattle.mlc_runs.specs.declared.pass.PassFault.TheVariants.{Memory};
 ghost use Rattle.match_compile.specs.Exceptions.{tests_made};
@@ -19,6 +20,7 @@ ghost use Rattle.closure_meaning.specs.Convert.{shapes as shapes_of};
 ghost use Rattle.closure_sizes.specs.Counts.{nodes, pieces};
 ghost use Rattle.closure_first.specs.of_closure_parts.Indexed.{texts_of};
 ghost use Rattle.closure_formed.specs.Tables.{AreOrderly};
+ghost use Rattle.closure_formed.specs.of_closure_whole.Tags.{stand_once, AreDense};
 ghost use Rattle.closure_first.specs.Held.{AreBytes};
 ghost use Rattle.closure_first.specs.Made.{converted_by};
 ghost use Rattle.closure_pass.specs.Given.{given, texts, IsReady};
@@ -67,7 +69,7 @@ fn rest_of(
 }
 
 /// A program that has no function by itself as one without function values, by any sets: of a well formed one, by sets that solve, the outcome is the same at
-/// every number of turns; by orderly ones it is well formed. Its exceptions are those of the program and of the basis, and it is at most four times as large.
+/// every number of turns; by orderly ones it is well formed; where no function stands twice in them, the tags of each are 0, 1, 2 and so on. Its exceptions are those of the program and of the basis, and it is at most four times as large.
 /// None only for want of memory, or where a variable is bound that is visible already, as it is only where one is bound twice.
 pub fn convert(
     alloc: Global,
@@ -87,6 +89,7 @@ pub fn convert(
     ensures well_formed { IsReady (given initial.items types.now expansion (texts_of strings.items) body.now) → HasParts types.now
         → (F : Sets) → Has flow F → AreOrderly (given initial.items types.now expansion (texts_of strings.items) body.now) F
         → IfOk result (λ to. IsWellFormed (program_of to)) }
+    ensures dense { (F : Sets) → Has flow F → stand_once (concat F.sets) ≡ true → IfOk result (λ to. AreDense (program_of to).tables.sets) }
     ensures exceptions { initial.items ≡ initial_exceptions → (F : Sets) → Has flow F
         → IfOk result (λ to. BringsNone (tests_made (mono_of types.now (texts_of strings.items) body.now) []) (exceptions (program_of to))) }
     ensures small { (F : Sets) → Has flow F → IfOk result (λ to. nodes_funs (program_of to).funs

@@ -21,26 +21,26 @@ use Rattle.closure_meaning.specs.Convert.{given, var, Numbering, con_tag, operan
 use Rattle.closure_sizes.specs.Counts as from
 use Rattle.closure_sizes.specs.Laws.{ConversionIsSmall}
 
-outer-nodes : (cs : List ℕ) (x : ℕ) (w : Way) → to.nodes_op (outer cs x w) ≤ 2
-outer-nodes cs x no_way = omega arith
-outer-nodes cs x leads = omega arith
-outer-nodes cs x (follows k) = omega arith
+outer-nodes : (n : Numbering) (cs : List ℕ) (x : ℕ) (w : Way) → to.nodes_op (outer n cs x w) ≤ 2
+outer-nodes n cs x no_way = omega arith
+outer-nodes n cs x leads = omega arith
+outer-nodes n cs x (follows k) = omega arith
 
-access-nodes : (s : Scope) (x : ℕ) → to.nodes_op (access s x) ≤ 2
-access-nodes s x = pick (is_in x s.locals)
+access-nodes : (n : Numbering) (s : Scope) (x : ℕ) → to.nodes_op (access n s x) ≤ 2
+access-nodes n s x = pick (is_in x s.locals)
   where
-    pick : (b : Bool) → to.nodes_op (if b then out.plain same (var x ∷ []) else outer s.captured x (way x s.group)) ≤ 2
+    pick : (b : Bool) → to.nodes_op (if b then out.plain same (var x ∷ []) else outer n s.captured x (way x s.group)) ≤ 2
     pick true = omega arith
-    pick false = outer-nodes s.captured x (way x s.group)
+    pick false = outer-nodes n s.captured x (way x s.group)
 
-ready-nodes : (s : Scope) (ps : List Piece) (e : out.Exp) → to.nodes (ready s ps e) ≤ 3 * length ps + to.nodes e
-ready-nodes s [] e = omega arith
-ready-nodes s (alone y ∷ ps) e = pick (is_in y s.locals) (ready-nodes s ps e) (access-nodes s y)
+ready-nodes : (n : Numbering) (s : Scope) (ps : List Piece) (e : out.Exp) → to.nodes (ready n s ps e) ≤ 3 * length ps + to.nodes e
+ready-nodes n s [] e = omega arith
+ready-nodes n s (alone y ∷ ps) e = pick (is_in y s.locals) (ready-nodes n s ps e) (access-nodes n s y)
   where
-    pick : (b : Bool) → to.nodes (ready s ps e) ≤ 3 * length ps + to.nodes e → to.nodes_op (access s y) ≤ 2 → to.nodes (if b then ready s ps e else out.let_in (var y) (access s y) (ready s ps e)) ≤ 3 * suc (length ps) + to.nodes e
+    pick : (b : Bool) → to.nodes (ready n s ps e) ≤ 3 * length ps + to.nodes e → to.nodes_op (access n s y) ≤ 2 → to.nodes (if b then ready n s ps e else out.let_in (var y) (access n s y) (ready n s ps e)) ≤ 3 * suc (length ps) + to.nodes e
     pick true h k = omega (arith, h)
     pick false h k = omega (arith, h, k)
-ready-nodes s (those i n ∷ ps) e = let h = ready-nodes s ps e in omega (arith, h)
+ready-nodes n s (those i k ∷ ps) e = let h = ready-nodes n s ps e in omega (arith, h)
 
 list-nodes : (ps : List Piece) → length (piece_list ps) ≡ length ps
 list-nodes [] = refl
@@ -80,8 +80,8 @@ module _ (n : Numbering) (types : List table.Row) (flow : Flow) (captures : Tabl
   call-nodes place s (k ∷ l ∷ ks) f a = omega arith
 
   used-nodes : (b : Bool) (s : Scope) (x y : ℕ) (e : out.Exp) → to.nodes (used n b s x y e) ≤ 9 + to.nodes e
-  used-nodes true s x y e = let a = access-nodes s y in omega (arith, a)
-  used-nodes false s x y e = let a = access-nodes s y in omega (arith, a)
+  used-nodes true s x y e = let a = access-nodes n s y in omega (arith, a)
+  used-nodes false s x y e = let a = access-nodes n s y in omega (arith, a)
 
   atoms-nodes : (as_ : Atoms (mono types)) → length (atom_list n types flow captures as_) ≡ from.atoms types as_
   atoms-nodes no_atoms = refl
@@ -93,16 +93,16 @@ module _ (n : Numbering) (types : List table.Row) (flow : Flow) (captures : Tabl
 
   name-nodes : (s : Scope) (y : Exception (mono types)) → to.nodes_op (name_of n types flow captures s y) ≤ 2
   name-nodes s (fixed i) = omega arith
-  name-nodes s (held y) = access-nodes s y
+  name-nodes s (held y) = access-nodes n s y
 
   making-nodes : (s : Scope) (x k : ℕ) (e : out.Exp) → to.nodes (making n types flow captures s x k e) ≤ 4 * from.made types captures k + (2 + to.nodes e)
   making-nodes s x k e =
-      let r = ready-nodes s (captures.pieces k) (out.let_in x (out.make k (piece_list (captures.pieces k))) e) in
+      let r = ready-nodes n s (captures.pieces k) (out.let_in x (out.make (n.tag k) (piece_list (captures.pieces k))) e) in
       let l = list-nodes (captures.pieces k) in omega (arith, r, l)
 
   following-nodes : (h : ℕ) (gs : List Member) (e : out.Exp) → to.nodes (following n types flow captures h gs e) ≤ 3 * length gs + to.nodes e
   following-nodes h [] e = omega arith
-  following-nodes h (g ∷ gs) e = let r = following-nodes h gs (out.let_in (var g.name) (out.make g.number (one (var h) ∷ [])) e) in omega (arith, r)
+  following-nodes h (g ∷ gs) e = let r = following-nodes h gs (out.let_in (var g.name) (out.make (n.tag g.number) (one (var h) ∷ [])) e) in omega (arith, r)
 
   group-nodes : (s : Scope) (fs : Funs (mono types)) (e : out.Exp) → to.nodes (group_in n types flow captures s (members types fs) e) ≤ 4 * from.made types captures (leader types fs) + (3 * length (members types fs) + to.nodes e)
   group-nodes s no_funs e = omega arith

@@ -81,15 +81,15 @@ puts-none-before new g old n h e = h e ∙ ap (λ l. before l (g e)) n
 -- closures
 
 module _ (n : Numbering) (types : List table.Row) (F : Flow) (T : Table) (s : Scope) (old new : List Step) where
-  pub making-put : (x k : ℕ) (ps : List Piece) → ps ≡ T.pieces k → Puts old new (made_of s ps x k) → Puts old new (making n types F T s x k)
-  making-put x k ps h p e = p e ∙ ap (λ l. before old (made_of s l x k e)) h
+  pub making-put : (x k : ℕ) (ps : List Piece) → ps ≡ T.pieces k → Puts old new (made_of n s ps x k) → Puts old new (making n types F T s x k)
+  making-put x k ps h p e = p e ∙ ap (λ l. before old (made_of n s l x k e)) h
 
-  followers-are : (h : ℕ) (gs : List Member) (e : out.Exp) → followers h gs e ≡ following n types F T h gs e
+  followers-are : (h : ℕ) (gs : List Member) (e : out.Exp) → followers n h gs e ≡ following n types F T h gs e
   followers-are h [] e = refl
-  followers-are h (g ∷ gs) e = followers-are h gs (out.let_in (var g.name) (out.make g.number (cells.one (var h) ∷ [])) e)
+  followers-are h (g ∷ gs) e = followers-are h gs (out.let_in (var g.name) (out.make (n.tag g.number) (cells.one (var h) ∷ [])) e)
 
-  pub members-put : (mid : List Step) (x : ℕ) (g : Member) (gs : List Member) → x ≡ var g.name → Puts old mid (making n types F T s x g.number) → Puts mid new (followers g.name gs) → Puts old new (group_in n types F T s (g ∷ gs))
-  members-put mid x g gs h p q e = q e ∙ p (followers g.name gs e) ∙ ap₂ (λ y r. before old (making n types F T s y g.number r)) h (followers-are g.name gs e)
+  pub members-put : (mid : List Step) (x : ℕ) (g : Member) (gs : List Member) → x ≡ var g.name → Puts old mid (making n types F T s x g.number) → Puts mid new (followers n g.name gs) → Puts old new (group_in n types F T s (g ∷ gs))
+  members-put mid x g gs h p q e = q e ∙ p (followers n g.name gs e) ∙ ap₂ (λ y r. before old (making n types F T s y g.number r)) h (followers-are g.name gs e)
 
   pub group-put : (ms ks : List Member) → ms ≡ ks → Puts old new (group_in n types F T s ms) → Puts old new (group_in n types F T s ks)
   group-put ms ks h p e = p e ∙ ap (λ l. before old (group_in n types F T s l e)) h

@@ -84,13 +84,14 @@ pub fn push_exception(
 /// The name of an exception is brought in.
 pub fn push_name(
     alloc: Global,
+    setting: &Setting,
     scope: &Scope,
     steps: &mut Vec<Step>,
     variable: usize,
     exception: Exception,
 ) -> Result<(), NoMemory>
-    ensures { IfOk result (λ _. (types : List Row) (strings : Texts) (n : Numbering) (F : Flow) (T : Table) → Puts steps.old.items steps.new.items
-        (out.let_in (var variable) (name_of n types F T scope.now (exception_of (reading types strings) exception)))) }
+    ensures { IfOk result (λ _. (types : List Row) (strings : Texts) (n : Numbering) (F : Flow) (T : Table) → Holds setting.now types strings n F T
+        → Puts steps.old.items steps.new.items (out.let_in (var variable) (name_of n types F T scope.now (exception_of (reading types strings) exception)))) }
 {
     let name = named(variable)?;
     match exception {
@@ -100,7 +101,7 @@ pub fn push_name(
             Operation::Plain(Plain::Initial(number), Vec::new(alloc)),
         ),
         Exception::Held(held) => {
-            let found = access(alloc, scope, held)?;
+            let found = access(alloc, &setting.tags, scope, held)?;
             push_let(steps, name, found)
         }
     }
@@ -119,7 +120,7 @@ pub fn push_making(
         → Puts steps.old.items steps.new.items (making n types F T scope.now name number)) }
 {
     let pieces = setting.pieces(number);
-    push_closure(alloc, scope, pieces, name, number, steps)
+    push_closure(alloc, &setting.tags, scope, pieces, name, number, steps)
 }
 
 /// The closures of these functions of a group.
@@ -140,7 +141,7 @@ fn push_members(
     let others = rest_of(members);
     let name = named(first.name)?;
     push_making(alloc, setting, scope, steps, name, first.number)?;
-    push_followers(alloc, first.name, others, steps)
+    push_followers(alloc, &setting.tags, first.name, others, steps)
 }
 
 /// The closures of a group.

@@ -39,7 +39,7 @@ module _ (strings : List (List ℕ)) (p : Program) (flow : Flow) (captures : Tab
   types = p.types
 
   abbrev pub C : Setting
-  C = setting (numbering strings p) strings flow captures p
+  C = setting (numbering strings flow p) strings flow captures p
 
   abbrev pub all : List Bound
   all = bound p.types p.body

@@ -1,4 +1,5 @@
 pub mod Rise
+pub mod Tags
 pub mod Transfer
 pub mod Fitting
 pub mod Positions

@@ -21,7 +21,7 @@ at-one t k x bs ks more true e true q i = subst (λ z. is_function t (bound_in z
 at-one t k x bs ks more true e false q i = more (sym (ap (λ c. c || is_in k ks) q) ∙ i)
 at-one t k x bs ks more false e c q i = more i
 
-among-functions : (t k x n : ℕ) (bs : List Bound) → is_in k (functions_from t x n bs) ≡ true → is_function t (bound_in k bs) ≡ true
+pub among-functions : (t k x n : ℕ) (bs : List Bound) → is_in k (functions_from t x n bs) ≡ true → is_function t (bound_in k bs) ≡ true
 among-functions t k x zero bs i = absurd (cc)
 among-functions t k x (suc n) bs i = at-one t k x bs (functions_from t (suc x) n bs) (among-functions t k (suc x) n bs) (is_function t (bound_in x bs)) refl (nat_eq k x) refl i
 

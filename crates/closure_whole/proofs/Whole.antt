@@ -16,6 +16,7 @@ use Rattle.closure_whole.proofs.Fresh.{fresh}
 use Rattle.closure_whole.proofs.Held.{held}
 use Rattle.closure_whole.specs.Converted.{numbering}
 use Rattle.closure_whole.specs.Laws.{RisingSolve, ConvertedSame, WithoutFunctionsSame}
+use Rattle.closure_whole.proofs.Tags.{tags-are-apart}
 use Rattle.closure_whole.proofs.Rise.{rises, falls}
 use Rattle.closure_whole.proofs.Transfer.{SameSets, solves-too}
 use Rattle.closure_whole.proofs.Positions.{places-are}
@@ -32,12 +33,13 @@ rising-solve p w = let s = by-type-solves p w in (s.0, solves-too p.types (by_ty
 
 pub converted-same : ConvertedSame
 converted-same strings p w x h m =
-    conversion-same (numbering strings p) strings (rising p) (table_of p.types p.body) p w x (record {
+    conversion-same (numbering strings (rising p) p) strings (rising p) (table_of p.types p.body) p w x (record {
       table = w.table;
       fits = program-fits strings p (rising p) (table_of p.types p.body) w.initial w (once-known p.types p.body w.once) x h;
       solves = rising-solve p w;
       closed = captures-are-right p w;
       numbered = places-are p.types p.body w.once;
+      apart = tags-are-apart strings (rising p) p;
     }) m
 
 pub explicit-well-formed : (p : Program) → IsWellFormed p → IsWellFormed (explicit p)

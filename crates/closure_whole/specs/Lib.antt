@@ -1,4 +1,5 @@
 pub mod Rising
+pub mod Tags
 pub mod Constants
 pub mod Converted
 pub mod Whole

@@ -101,7 +101,7 @@ convert_step-returns-in_ok-push_block-in-Block-clause-made t c = λ strings n F 
 pub convert_step-returns-in_ok-push_name-in-Name-clause-made : goal.convert_step-returns-in_ok-push_name-in-Name-clause-made
 convert_step-returns-in_ok-push_name-in-Name-clause-made t c = λ strings n F T h.
     name-step n c.args.types.now strings F T c.args.scope.now c.args.step.now c.args.steps.now.items c.push_name.new.steps.items c.in-Name.variable c.in-Name.exception c.in-Name.is
-    (c.in_ok-push_name-in-Name.ensures c.args.types.now strings n F T)
+    (c.in_ok-push_name-in-Name.ensures c.args.types.now strings n F T h)
 
 pub convert_step-returns-in_ok-push_group-in-Group-clause-made : goal.convert_step-returns-in_ok-push_group-in-Group-clause-made
 convert_step-returns-in_ok-push_group-in-Group-clause-made t c = λ strings n F T h.

@@ -7,13 +7,15 @@ use Rattle.closure_parts.proofs.access.access.Goals as goal
 
 pub returns-in_ok-name-in-Local : goal.returns-in_ok-name-in-Local
 returns-in_ok-name-in-Local c =
-    if-ok _ _ c.plain.result (λ m h. h ∙ ap (a_plain op.same) c.in_ok-name-in-Local.ensures ∙ access-local c.args.scope.now c.args.variable c.find.result c.find.ensures c.in-Local.is) c.plain.ensures
+    if-ok _ _ c.plain.result (λ m h n t. h ∙ ap (a_plain op.same) c.in_ok-name-in-Local.ensures ∙ access-local n c.args.scope.now c.args.variable c.find.result c.find.ensures c.in-Local.is) c.plain.ensures
 
 pub returns-in-Captured : goal.returns-in-Captured
-returns-in-Captured c = if-ok _ _ c.plain-in-Captured.result (λ m h. h ∙ access-captured c.args.scope.now c.args.variable c.find.result c.find.ensures c.in-Captured.place c.in-Captured.is) c.plain-in-Captured.ensures
+returns-in-Captured c = if-ok _ _ c.plain-in-Captured.result (λ m h n t. h ∙ access-captured n c.args.scope.now c.args.variable c.find.result c.find.ensures c.in-Captured.place c.in-Captured.is) c.plain-in-Captured.ensures
 
 pub returns-in-Leads : goal.returns-in-Leads
-returns-in-Leads c = if-ok _ _ c.plain-in-Leads.result (λ m h. h ∙ access-leads c.args.scope.now c.args.variable c.find.result c.find.ensures c.in-Leads.is) c.plain-in-Leads.ensures
+returns-in-Leads c = if-ok _ _ c.plain-in-Leads.result (λ m h n t. h ∙ access-leads n c.args.scope.now c.args.variable c.find.result c.find.ensures c.in-Leads.is) c.plain-in-Leads.ensures
 
 pub returns-in-Follows : goal.returns-in-Follows
-returns-in-Follows c = if-ok _ _ c.cell_of.result (λ m h. h ∙ access-follows c.args.scope.now c.args.variable c.find.result c.find.ensures c.in-Follows.function c.in-Follows.is) c.cell_of.ensures
+returns-in-Follows c =
+    if-ok _ _ c.cell_of.result
+    (λ m h n t. h ∙ access-follows n c.args.scope.now c.args.variable c.find.result c.find.ensures c.in-Follows.function c.of.result c.in-Follows.is (c.of.ensures ∙ t c.in-Follows.function)) c.cell_of.ensures

@@ -1,4 +1,4 @@
-use Rattle.std.proofs.Common.{◌≡◌, Some, None, sym, ap, ap₂, ◌∙◌}
+use Rattle.std.proofs.Common.{◌∙◌}
 use Rattle.closure_parts.proofs.Operating.{call-known, call-one-of}
 use Rattle.closure_parts.proofs.operation.call.Goals as goal
 

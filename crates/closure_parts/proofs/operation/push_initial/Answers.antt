@@ -1,6 +1,3 @@
-use Rattle.std.proofs.Common.{refl, ap}
-use Rattle.first_values.specs.Operations as op
-use Rattle.ir_first.specs.Tree as out
 use Rattle.closure_parts.proofs.Operating.{if-ok}
 use Rattle.closure_parts.proofs.Putting.{initial-put}
 use Rattle.closure_parts.proofs.operation.push_initial.Goals as goal

@@ -1,4 +1,4 @@
-use Rattle.std.proofs.Common.{[], ◌∷◌, map, refl, sym, ap, ◌∙◌}
+use Rattle.std.proofs.Common.{[], ◌∷◌, map, ap}
 use Rattle.ir_values.specs.Primitives.{sort_of}
 use Rattle.first_values.specs.Operations as op
 use Rattle.first_tables.specs.TablesOf.{constant_of, piece_of}

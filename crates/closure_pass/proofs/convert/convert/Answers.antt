@@ -3,7 +3,7 @@ use Rattle.first_form.specs.Programs.{program_of}
 use Rattle.closure_first.specs.of_closure_parts.Indexed.{texts_of}
 use Rattle.closure_formed.specs.Tables.{AreBytes}
 use Rattle.closure_pass.specs.Given.{given, texts}
-use Rattle.closure_pass.proofs.Keeping.{program-made, constants, same-outcome, formed, kept-exceptions, kept-small}
+use Rattle.closure_pass.proofs.Keeping.{program-made, constants, same-outcome, formed, kept-dense, kept-exceptions, kept-small}
 use Rattle.closure_pass.proofs.convert.convert.Goals as goal
 
 pub returns-in-Ok-clause-made : goal.returns-in-Ok-clause-made
@@ -23,6 +23,11 @@ returns-in-Ok-clause-well_formed c = λ r t F h o.
     formed (program_of c.in-Ok.to) F (texts ss) (given c.args.initial.items c.args.types.now c.args.expansion ss c.args.body.now) (returns-in-Ok-clause-made c F h) c.conversions_are_well_formed.ensures.explicit r
     (constants c.args.types.now ss c.args.body.now c.args.initial.items c.args.expansion c.trees_read_same.ensures (λ us h. c.constants_are_held.ensures c.args.types.now us h)) t
     (subst AreBytes c.in_ok-rest.ensures.strings c.in_ok-rest.ensures.bytes) o
+
+pub returns-in-Ok-clause-dense : goal.returns-in-Ok-clause-dense
+returns-in-Ok-clause-dense c = λ F h o.
+    let ss = texts_of c.args.strings.items in
+    kept-dense (program_of c.in-Ok.to) F (texts ss) (given c.args.initial.items c.args.types.now c.args.expansion ss c.args.body.now) (returns-in-Ok-clause-made c F h) o
 
 pub returns-in-Ok-clause-exceptions : goal.returns-in-Ok-clause-exceptions
 returns-in-Ok-clause-exceptions c = λ i F h.

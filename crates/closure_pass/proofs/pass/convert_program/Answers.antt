@@ -5,7 +5,7 @@ use Rattle.mono_form.specs.Programs as source
 use Rattle.closure_formed.specs.of_closure_whole.Rising.{rising}
 use Rattle.closure_first.proofs.of_closure_parts.Operating.{if-ok}
 use Rattle.closure_pass.specs.Given.{given, texts}
-use Rattle.closure_pass.proofs.Passing.{now-ready, whole-made, whole-same, whole-exceptions}
+use Rattle.closure_pass.proofs.Passing.{now-ready, whole-made, whole-same, whole-dense, whole-exceptions}
 use Rattle.closure_pass.proofs.pass.convert_program.Goals as goal
 
 pub returns-clause-made : goal.returns-clause-made
@@ -37,6 +37,10 @@ returns-clause-well_formed c = λ w.
     let q = given t.initial.items t.types p.expansion ss c.in_ok-body.body in
     let r = now-ready t.types ss t.initial.items p.expansion p.body c.in_ok-body.body (c.in_ok-body.ensures ss) w.program in
     c.convert.ensures.well_formed r w.parts (rising q) (c.in_ok-flow.ensures.rising ss t.initial.items p.expansion) (c.conversions_are_well_formed.ensures.rising q r.formed)
+
+pub returns-clause-dense : goal.returns-clause-dense
+returns-clause-dense c =
+    if-ok _ _ c.convert.result (λ to h. whole-dense (texts (strings_of c.args.program.tables)) (source.program_of c.args.program) (target.program_of to) h) (returns-clause-made c)
 
 pub returns-clause-exceptions : goal.returns-clause-exceptions
 returns-clause-exceptions c = λ w.

@@ -14,5 +14,5 @@ returns c =
     group-put n types F T c.args.scope.now c.args.steps.now.items c.push_followers.new.steps.items (member_of _ ∷ members_of c.rest_of-others.result.now) _
     (sym (ap members_of (first-and-rest c.args.members.now c.rest_of-others.result.now _ _ c.is_empty.result c.is_empty.ensures c.if-is_empty.false refl c.rest_of-others.ensures)))
     (members-put n types F T c.args.scope.now c.args.steps.now.items c.push_followers.new.steps.items c.push_making.new.steps.items c.in_ok-name.name _ (members_of c.rest_of-others.result.now) c.in_ok-name.ensures
-    (c.in_ok-push_making.ensures types strings n F T h) p))
+    (c.in_ok-push_making.ensures types strings n F T h) (p n h.tags)))
     c.push_followers.ensures

@@ -1,4 +1,4 @@
-use Rattle.std.proofs.Common.{◌≡◌, ◌+◌, arith}
+use Rattle.std.proofs.Common.{arith}
 use Rattle.closure_parts.proofs.Finding.{tag-other, tag-more}
 use Rattle.closure_parts.proofs.places.Places.tag.Goals as goal
 
