@@ -4,6 +4,7 @@ ghost use Rattle.closure_convert.specs.of_flow_sets.Member.{is_in};
 ghost use Rattle.closure_convert.specs.Scope.{names, add, top};
 ghost use Rattle.closure_convert.specs.Closed.{scope_of};
 ghost use Rattle.closure_convert.specs.Capture.{visible, kept, cut};
+ghost use Rattle.closure_convert.specs.Counts.{AreDistinct};
 ghost use Rattle.capture_scope.specs.declared.scope.ScopeFault.TheVariants.{Memory, BoundTwice};
 ghost use Rattle.capture_scope.specs.Seen.{members_of};
 ghost use Rattle.capture_scope.specs.Found.{pieces_of, pieces_back, found_in, found_of, member_found, with_piece, left_to};
@@ -267,11 +268,12 @@ impl Scope {
         Ok(found)
     }
 
-    /// Which of the variables that are seen are used, in order.
+    /// Which of the variables that are seen are used, in order, each once.
     pub fn wanted(&self, alloc: Global, uses: &[usize]) -> Result<Vec<usize>, NoMemory>
-        ensures { IfOk result (λ found. found.items ≡ kept (λ y. is_in y uses.now) (visible self.now)) }
+        ensures kept { IfOk result (λ found. found.items ≡ kept (λ y. is_in y uses.now) (visible self.now)) }
+        ensures once { IfOk result (λ found. AreDistinct found.items) }
     {
-        let _ = &self.seen;
+        let _seen = self.seen.len();
         let mut places = self.places(alloc, uses)?;
         places.sort_unstable();
         self.at_places(alloc, &places)

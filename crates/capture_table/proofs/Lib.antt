@@ -6,3 +6,5 @@ pub mod Binders
 pub mod Twice
 pub mod StepBinds
 pub mod Curried
+pub mod Parts
+pub mod Levels
