@@ -1,5 +1,6 @@
 -- The functions that a curried one gives are those of the table.
-use Rattle.std.proofs.Common.{◌≡◌, ℕ, zero, suc, ◌+◌, ◌<◌, ◌≤◌, Bool, true, false, ◌||◌, List, [], ◌∷◌, ◌++◌, map, take, drop, length, get_or, nat_eq, if◌then◌else◌, refl, sym, ap, ap₂, subst, ◌∙◌, arith}
+use Rattle.std.proofs.Common.{◌≡◌, ℕ, zero, suc, ◌+◌, ◌<◌, ◌≤◌, Bool, true, false, ◌||◌, List, [], ◌∷◌, ◌++◌, map, take, drop, length, get_or, nat_eq, ◌==◌, if◌then◌else◌, refl, sym, ap, ap₂, subst, ◌∙◌, arith}
+use Rattle.std.proofs.lemmas.Bool.{eqb-true}
 use Rattle.std.proofs.lemmas.List.{append-nil, drop_more, length-take-le, length-append}
 use Rattle.flow_sets.specs.Member.{is_in}
 use Rattle.flow_sets.proofs.Member.{nat_eq-to, nat_eq-same, or_left}
@@ -273,3 +274,7 @@ module _ (innermost uses : List ℕ) (parameters : List Parameter) (last : Param
             ∙ sym (assoc now (entry n (pieces_of (made_of count (if b then y.variable ∷ [] else []))) (take count' innermost) ∷ []) (levels uses rest last (take count' innermost)))
             ∙ ap (λ z. z ++ levels uses rest last (take count' innermost)) (sym e),
       )
+
+pub no-levels : (uses : List ℕ) (ys : List Parameter) (last : Parameter) (cs : List ℕ) (old : Entries) (b : Bool) → b ≡ (length ys == 0) → b ≡ true → old ≡ old ++ levels uses ys last cs
+no-levels uses [] last cs old b e t = sym (append-nil old)
+no-levels uses (y ∷ ys) last cs old b e t = let z : length (y ∷ ys) ≡ 0 = eqb-true (length (y ∷ ys)) 0 (sym e ∙ t) in absurd (omega (arith, z))

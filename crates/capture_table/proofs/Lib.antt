@@ -8,3 +8,4 @@ pub mod StepBinds
 pub mod Curried
 pub mod Parts
 pub mod Levels
+mod Examples

@@ -1,5 +1,5 @@
 -- The walk, one part after the other.
-use Rattle.std.proofs.Common.{◌≡◌, ℕ, zero, suc, ◌+◌, ◌-◌, ◌<◌, ◌≤◌, List, [], ◌∷◌, ◌++◌, map, take, drop, length, get_or, refl, sym, ap, ap₂, ◌∙◌, arith}
+use Rattle.std.proofs.Common.{◌≡◌, ℕ, zero, suc, ◌+◌, ◌-◌, ◌<◌, ◌≤◌, Result, Ok, Err, IfOk, List, [], ◌∷◌, ◌++◌, map, take, drop, length, get_or, refl, sym, ap, ap₂, ◌∙◌, arith}
 use Rattle.std.proofs.lemmas.List.{length-append}
 use Rattle.plain_tree.specs.declared.tree.Parameter.{Parameter}
 use Rattle.closure_convert.specs.Scope.{Member, names, Scope, Piece}
@@ -8,7 +8,7 @@ use Rattle.capture_scope.specs.Found.{left_to}
 use Rattle.plain_tree.specs.declared.tree.Function.{Function, fold_out-Function}
 use Rattle.capture_scope.specs.declared.scope.Member as code
 use Rattle.capture_scope.specs.Seen.{member_of, members_of}
-use Rattle.capture_table.specs.Told.{members_told, function_told, node_exp, node_step, node_arm, node_function, more, Entries, Told, StepTold, FunctionTold, all_tables, steps_table, after, backs, marks, functions_table, first_parameter}
+use Rattle.capture_table.specs.Told.{members_told, function_told, node_exp, node_step, node_arm, node_function, more, Entries, Told, StepTold, FunctionTold, all_tables, steps_table, after, backs, marks, functions_table, first_parameter, function_table, exp_told}
 use Rattle.capture_table.proofs.Growing.{assoc, seen, ahead}
 
 -- Leaving what was bound
@@ -167,6 +167,21 @@ module _ {A : Type 0} (f : A → StepTold) (xs : List A) where
 
 pub member-told : (f : Function) → (function_told f).member ≡ record { name = f.variable; number = first_parameter f.parameters.items f.last }
 member-told f = ap (λ (r : FunctionTold). r.member) (fold_out-Function Told StepTold Told FunctionTold node_exp node_step node_arm node_function f)
+
+pub table-told : (f : Function) (ps : List Piece) (cs : List ℕ) (ms : List Member) (es : Entries)
+    → (function_told f).table ps cs ms es ≡ function_table (exp_told f.body).uses f.parameters.items f.last (exp_told f.body).table ps cs ms es
+table-told f ps cs ms es = ap (λ (r : FunctionTold). r.table ps cs ms es) (fold_out-Function Told StepTold Told FunctionTold node_exp node_step node_arm node_function f)
+
+-- one of one parameter gives no function
+pub no-uses : (us vs : List ℕ) (xs : List Parameter) (x : Parameter) (T : Scope → Entries → Entries) (ps : List Piece) (cs : List ℕ) (ms : List Member) (es : Entries) → length xs ≡ 0
+    → function_table us xs x T ps cs ms es ≡ function_table vs xs x T ps cs ms es
+no-uses us vs [] x T ps cs ms es z = refl
+no-uses us vs (y ∷ xs) x T ps cs ms es z = absurd (omega (arith, z))
+
+-- what is told of a table in other words
+pub told-kept : {V E : Type 0} (r : Result V E) (old new : Entries) (A B : Entries → Entries) → ((es : Entries) → A es ≡ B es) → IfOk r (λ _. (es : Entries) → old ++ B es ≡ new ++ es) → IfOk r (λ _. (es : Entries) → old ++ A es ≡ new ++ es)
+told-kept (Ok v) old new A B h k = λ es. ap (λ l. old ++ l) (h es) ∙ k es
+told-kept (Err e) old new A B h k = k
 
 pub members-next : (fs : List Function) (i : ℕ) (f d : Function) (ps : List Parameter) (k : ℕ) (now new : List code.Member) → i < length fs → f ≡ get_or fs i d → ps ≡ f.parameters.items → k ≡ first_parameter ps f.last
     → new ≡ now ++ record { name = f.variable; number = k } ∷ [] → members_of now ≡ members_told (map function_told (take i fs)) → members_of new ≡ members_told (map function_told (take (i + 1) fs))

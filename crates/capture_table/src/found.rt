@@ -1,4 +1,4 @@
-// The entries that are found, whose lists are parts of two lists of all. The functions that a curried one gives share a list: each captures a front of it.
+// The entries that are found, whose lists are parts of two lists of all. The functions that a curried one gives share a list, of which each captures a front.
 ghost use Rattle.std.specs.Prelude.{◌≡◌, ◌<◌, ◌≤◌, ◌++◌, ◌∷◌, [], ℕ, true, List, length, take, drop, slice_get, slice_index_or, slice_range, if◌then◌else◌, IfOk};
 ghost use Rattle.closure_convert.specs.Capture.{captured_in, pieces_in};
 ghost use Rattle.capture_scope.specs.Found.{pieces_of};
@@ -184,6 +184,9 @@ impl Found {
         ensures { IfOk result (λ _. (uses : List ℕ) → drop first innermost.now ≡ used uses (variables_of parameters.now)
             → self.new ≡ self.old ++ levels uses parameters.now last (take first innermost.now)) }
     {
+        if parameters.is_empty() {
+            return Ok(());
+        }
         let from = self.variables.len();
         self.variables.extend_from_slice(innermost)?;
         let mut count = first;

@@ -1,7 +1,7 @@
 // The walk along a program that finds what its functions capture.
-ghost use Rattle.std.specs.Prelude.{◌≡◌, ◌≤◌, ◌+◌, ◌++◌, ◌∷◌, [], ℕ, map, drop, slice_index_or, IfOk, IfErr};
+ghost use Rattle.std.specs.Prelude.{◌≡◌, ◌≤◌, ◌+◌, ◌++◌, ◌∷◌, [], ℕ, List, map, drop, slice_index_or, IfOk, IfErr};
 ghost use Rattle.closure_convert.specs.Counts.{AreDistinct};
-ghost use Rattle.closure_convert.specs.Scope.{names, Scope as Clean};
+ghost use Rattle.closure_convert.specs.Scope.{names, Scope as Clean, Member as Clean_member, Piece as Clean_piece};
 ghost use Rattle.closure_convert.specs.Closed.{scope_of};
 ghost use Rattle.closure_convert.specs.Capture.{visible, cut};
 ghost use Rattle.capture_scope.specs.Seen.{members_of};
@@ -120,6 +120,19 @@ fn push_inner(
     found.push(number_of(parameters, last), captured, &capture.pieces)?;
     found.push_levels(&innermost, captured.len(), parameters, last)?;
     Ok(innermost)
+}
+
+/// The uses of a function of a group, where it gives functions: one of one parameter doesn't ask for them.
+fn uses_of_member(alloc: Global, function: &Function) -> Result<Vec<usize>, NoMemory>
+    ensures { IfOk result (λ uses. (ps : List Clean_piece) (cs : List ℕ) (ms : List Clean_member) (es : Entries) → (function_told function.now).table ps cs ms es
+        ≡ function_table uses.items function.now.parameters.items function.now.last (exp_told function.now.body).table ps cs ms es) }
+{
+    let mut uses = Vec::new(alloc);
+    if function.parameters.is_empty() {
+        return Ok(uses);
+    }
+    push_uses(&function.body, &mut uses)?;
+    Ok(uses)
 }
 
 /// What a case binds.
@@ -515,8 +528,7 @@ fn walk_member(
     ensures twice { IfErr result (λ fault. fault ≡ BoundTwice
         → Repeats ((capture.now.captured.items ++ names scope.old.group) ++ inner_binders function.now)) }
 {
-    let mut uses = Vec::new(alloc);
-    push_uses(&function.body, &mut uses)?;
+    let uses = uses_of_member(alloc, function)?;
     walk_function(
         alloc,
         scope,

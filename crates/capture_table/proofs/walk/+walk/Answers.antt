@@ -6,9 +6,9 @@ use Rattle.closure_convert.specs.Closed.{scope_of}
 use Rattle.closure_convert.specs.Capture.{cut}
 use Rattle.capture_scope.specs.Repeats.{Repeats}
 use Rattle.capture_table.proofs.Levels.{captured-used}
-use Rattle.capture_table.specs.Told.{entry, used_in, more, case_binds, backs, after, marks, members_told, first_parameter, exp_told, step_told, arm_told, function_told}
+use Rattle.capture_table.specs.Told.{entry, used_in, more, case_binds, backs, after, marks, members_told, first_parameter, function_table, exp_told, step_told, arm_told, function_told}
 use Rattle.capture_table.proofs.Curried.{curried-parts, curried-told}
-use Rattle.capture_table.proofs.Walking.{left-is, all-next, all-done, functions-next, functions-done, steps-next, after-next, marks-next, steps-done, after-done, marks-done, back-scope, back-next}
+use Rattle.capture_table.proofs.Walking.{left-is, all-next, all-done, functions-next, functions-done, steps-next, after-next, marks-next, steps-done, after-done, marks-done, back-scope, back-next, told-kept}
 use Rattle.plain_tree.specs.Sums.{joined, variables_of, binders_of, arm_binders}
 use Rattle.closure_convert.specs.Scope.{names}
 use Rattle.closure_convert.specs.Capture.{visible}
@@ -306,3 +306,14 @@ walk_function-returns-clause-table t c = λ es.
     (c.in_ok-innermost.ensures.table T es
     ∙ ap (λ (s : Scope). c.push_inner.new.found ++ T (scope_of s.captured s.group c.args.last.variable) es) (sym (c.in_ok-own.ensures.ok ∙ ap (λ l. record { locals = []; group = []; captured = l }) c.deref-3.ensures.value))
     ∙ c.in_ok-walk_body.ensures.table es)
+
+-- A function of a group
+
+pub walk_member-returns-clause-table : goal.walk_member-returns-clause-table
+walk_member-returns-clause-table t c =
+    let ps = pieces_of c.args.capture.now.pieces.items in
+    let cs = c.args.capture.now.captured.items in
+    let ms = c.args.scope.now.group in
+    let T = (exp_told c.args.function.now.body).table in
+    told-kept c.walk_function.result c.args.found.now c.walk_function.new.found ((function_told c.args.function.now).table ps cs ms) (function_table c.deref-2.result.now c.deref.result.now c.args.function.now.last T ps cs ms)
+    (λ es. c.in_ok-uses.ensures ps cs ms es ∙ ap₂ (λ us xs. function_table us xs c.args.function.now.last T ps cs ms es) (sym c.deref-2.ensures.value) (sym c.deref.ensures.value)) c.walk_function.ensures.table

@@ -3,7 +3,7 @@ use Rattle.plain_tree.specs.declared.tree.Parameter.{Parameter}
 use Rattle.capture_table.specs.Levels.{levels}
 use Rattle.capture_table.specs.Parts.{entries_in, AreWithin}
 use Rattle.capture_table.proofs.Parts.{within-more, longer, stands-last, front-within, front-pushed, same-pieces}
-use Rattle.capture_table.proofs.Levels.{level-next}
+use Rattle.capture_table.proofs.Levels.{level-next, no-levels}
 use Rattle.capture_table.proofs.found.Found.push_levels.Goals.{then-is_used, else-is_used}
 use Rattle.capture_table.proofs.found.Found.push_levels.Goals as goal
 
@@ -60,3 +60,6 @@ loop-i-preserved c =
           (front-pushed vs c.args.innermost.now c.len-from.result s f ps _ c.push_made.new.pieces.items es c.push.new.self.items c.number_after-number.result c.if-is_used.count c.len-made.result c.len.result m made
           c.in_ok-push_made.ensures.made past c.in_ok-push.ensures.items c.loop-i.invariant.within) (c.loop-i.invariant.levels uses h);
     }
+
+pub returns-then-is_empty : goal.returns-then-is_empty
+returns-then-is_empty c = λ uses h. no-levels uses c.args.parameters.now c.args.last (take c.args.first c.args.innermost.now) c.args.self.now c.is_empty.result c.is_empty.ensures c.if-is_empty.true
