@@ -3,3 +3,4 @@ pub mod Seen
 pub mod Finding
 pub mod Picking
 pub mod Repeating
+pub mod Growing

@@ -11,6 +11,7 @@ use Rattle.closure_convert.specs.of_flow_sets.Member.{is_in}
 use Rattle.closure_convert.specs.Scope.{index_of}
 use Rattle.closure_convert.specs.Capture.{kept}
 use Rattle.closure_convert.specs.Counts.{AreDistinct}
+use Rattle.closure_convert.proofs.Curried.{kept-distinct}
 use Rattle.capture_scope.specs.Picked.{is_used, AtPlaces, standing, picked}
 use Rattle.capture_scope.proofs.Lists.{nat-same, or-false, in-append, in-any, place-is, index-in, index-out, index-get, get-in, get-index}
 
@@ -255,3 +256,7 @@ pub wanted-is : (vs us ps qs rs : List ℕ) {E : Type 0} (r : Result (Vec ℕ Gl
     → IfOk r (λ found. found.items ≡ kept (λ y. is_in y us) vs)
 wanted-is vs us ps qs rs (Ok found) a p s e h = h ∙ ap (picked vs 0) e ∙ picked-kept vs us qs (IsNonDecreasingBy-from_sort (λ x. x) qs s) (permuted vs us ps qs p a)
 wanted-is vs us ps qs rs (Err x) a p s e h = h
+
+pub wanted-once : (vs us : List ℕ) {E : Type 0} (r : Result (Vec ℕ Global) E) → AreDistinct vs → IfOk r (λ found. found.items ≡ kept (λ y. is_in y us) vs) → IfOk r (λ found. AreDistinct found.items)
+wanted-once vs us (Ok found) d h = subst AreDistinct (sym h) (kept-distinct (λ y. is_in y us) vs d)
+wanted-once vs us (Err x) d h = h

@@ -1,9 +1,10 @@
 // What the body of a function finds.
-ghost use Rattle.std.specs.Prelude.{◌≡◌, ◌∷◌, ◌++◌, [], length, IfOk, IfErr, OnErr};
+ghost use Rattle.std.specs.Prelude.{◌≡◌, ◌∷◌, ◌++◌, [], length, take, IfOk, IfErr, OnErr};
 ghost use Rattle.closure_convert.specs.of_flow_sets.Member.{is_in};
 ghost use Rattle.closure_convert.specs.Scope.{names, add, top};
 ghost use Rattle.closure_convert.specs.Closed.{scope_of};
 ghost use Rattle.closure_convert.specs.Capture.{visible, kept, cut};
+ghost use Rattle.closure_convert.specs.Counts.{AreDistinct};
 ghost use Rattle.capture_scope.specs.declared.scope.ScopeFault.TheVariants.{Memory, BoundTwice};
 ghost use Rattle.capture_scope.specs.Seen.{members_of};
 ghost use Rattle.capture_scope.specs.Found.{pieces_of, pieces_back, found_in, found_of, member_found, with_piece, left_to};
@@ -190,6 +191,21 @@ impl Scope {
         Ok(())
     }
 
+    /// Leaves all that is bound, for the body of a function alone that captured what was captured here, and more behind it.
+    pub fn grow(&mut self, captured: &[usize]) -> Result<(), ScopeFault>
+        requires alone { self.old.group ≡ [] }
+        requires front { take (length self.old.captured) captured.now ≡ self.old.captured }
+        ensures ok { IfOk result (λ _. self.new ≡ record { locals = []; group = []; captured = captured.now }) }
+        ensures twice { IfErr result (λ fault. fault ≡ BoundTwice → Repeats captured.now) }
+    {
+        self.seen.truncate(self.captured);
+        while self.captured < captured.len() {
+            see(&mut self.seen, captured[self.captured])?;
+            self.captured += 1;
+        }
+        Ok(())
+    }
+
     /// How many variables are seen.
     pub fn len(&self) -> usize
         ensures { result ≡ length (visible self.now) }
@@ -267,11 +283,12 @@ impl Scope {
         Ok(found)
     }
 
-    /// Which of the variables that are seen are used, in order.
+    /// Which of the variables that are seen are used, in order, each once.
     pub fn wanted(&self, alloc: Global, uses: &[usize]) -> Result<Vec<usize>, NoMemory>
-        ensures { IfOk result (λ found. found.items ≡ kept (λ y. is_in y uses.now) (visible self.now)) }
+        ensures kept { IfOk result (λ found. found.items ≡ kept (λ y. is_in y uses.now) (visible self.now)) }
+        ensures once { IfOk result (λ found. AreDistinct found.items) }
     {
-        let _ = &self.seen;
+        let _seen = self.seen.len();
         let mut places = self.places(alloc, uses)?;
         places.sort_unstable();
         self.at_places(alloc, &places)

@@ -6,3 +6,6 @@ pub mod Binders
 pub mod Twice
 pub mod StepBinds
 pub mod Curried
+pub mod Parts
+pub mod Levels
+mod Examples

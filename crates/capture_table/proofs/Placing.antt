@@ -2,18 +2,18 @@
 use Rattle.std.proofs.Common.{◌≡◌, ℕ, zero, suc, ◌+◌, ◌-◌, ◌<◌, ◌≤◌, Bool, true, false, List, [], ◌∷◌, drop, length, Some, None, nat_eq, if◌then◌else◌, get_or, slice_get, refl, sym, ap, ap₂, ◌∙◌, arith}
 use Rattle.std.specs.Map.{lookup}
 use Rattle.std.proofs.lemmas.Bool.{eqb-true, eq-eqb}
-use Rattle.std.proofs.lemmas.List.{drop_more}
 use Rattle.closure_convert.specs.Scope.{index_of}
 use Rattle.closure_convert.specs.Capture as clean
 use Rattle.closure_convert.specs.Capture.{entry_of}
-use Rattle.capture_table.specs.declared.walk.Entry.{Entry}
-use Rattle.capture_table.specs.Tables.{entries_are, numbers_of, place_from, IsIndex}
+use Rattle.capture_table.specs.Tables.{numbers_of, place_from, IsIndex}
 
-pub place-more : (es : List Entry) (n i : ℕ) (e d : Entry) (k : ℕ) → n ≡ i + 1 → i < length es → e ≡ get_or es i d → (if nat_eq k e.number then Some i else place_from n k (entries_are (drop n es))) ≡ place_from i k (entries_are (drop i es))
-place-more es n i e d k m lt is =
-    ap (λ v. if nat_eq k e.number then Some i else place_from v k (entries_are (drop v es))) m
-    ∙ ap (λ v. if nat_eq k e.number then Some i else place_from v k (entries_are (drop (i + 1) es))) (let q : i + 1 ≡ suc i = omega arith in q)
-    ∙ sym (ap (λ l. place_from i k (entries_are l)) (drop_more es i d lt ∙ ap (λ z. z ∷ drop (i + 1) es) (sym is)))
+place-here : (es : List clean.Entry) (i p m k : ℕ) → i < length es → m ≡ get_or (numbers_of es) i 0 → (if nat_eq k m then Some p else place_from (suc p) k (drop (suc i) es)) ≡ place_from p k (drop i es)
+place-here [] i p m k lt is = absurd (omega (arith, lt))
+place-here (e ∷ es) zero p m k lt is = ap (λ v. if nat_eq k v then Some p else place_from (suc p) k es) is
+place-here (e ∷ es) (suc i) p m k lt is = place-here es i p m k (omega (arith, lt)) is
+
+place-more : (es : List clean.Entry) (n i m k : ℕ) → n ≡ i + 1 → i < length es → m ≡ get_or (numbers_of es) i 0 → (if nat_eq k m then Some i else place_from n k (drop n es)) ≡ place_from i k (drop i es)
+place-more es n i m k e lt is = ap (λ v. if nat_eq k m then Some i else place_from v k (drop v es)) (let q : n ≡ suc i = omega (arith, e) in q) ∙ place-here es i i m k lt is
 
 flip : (a b : ℕ) → nat_eq a b ≡ nat_eq b a
 flip a b = by (nat_eq a b) (nat_eq b a) refl refl
@@ -24,18 +24,18 @@ flip a b = by (nat_eq a b) (nat_eq b a) refl refl
     by true false p q = let e : nat_eq b a ≡ true = eq-eqb b a (sym (eqb-true a b p)) in absurd (cc)
     by false true p q = let e : nat_eq a b ≡ true = eq-eqb a b (sym (eqb-true b a q)) in absurd (cc)
 
-pub placed-next : (es : List Entry) (n i : ℕ) (e d : Entry) (now new : List (ℕ × ℕ)) → n ≡ i + 1 → i < length es → e ≡ get_or es i d
-    → ((q : ℕ) → lookup (nat_eq q) new ≡ (if nat_eq e.number q then Some i else lookup (nat_eq q) now)) → ((k : ℕ) → lookup (nat_eq k) now ≡ place_from n k (entries_are (drop n es)))
-    → (k : ℕ) → lookup (nat_eq k) new ≡ place_from i k (entries_are (drop i es))
-placed-next es n i e d now new m lt is put inv k = put k ∙ ap₂ (λ (b : Bool) o. if b then Some i else o) (flip e.number k) (inv k) ∙ place-more es n i e d k m lt is
+pub placed-next : (es : List clean.Entry) (n i v : ℕ) (now new : List (ℕ × ℕ)) → n ≡ i + 1 → i < length es → v ≡ get_or (numbers_of es) i 0
+    → ((q : ℕ) → lookup (nat_eq q) new ≡ (if nat_eq v q then Some i else lookup (nat_eq q) now)) → ((k : ℕ) → lookup (nat_eq k) now ≡ place_from n k (drop n es))
+    → (k : ℕ) → lookup (nat_eq k) new ≡ place_from i k (drop i es)
+placed-next es n i v now new m lt is put inv k = put k ∙ ap₂ (λ (b : Bool) o. if b then Some i else o) (flip v k) (inv k) ∙ place-more es n i v k m lt is
 
-pub placed-all : (es : List Entry) (n : ℕ) (places : List (ℕ × ℕ)) → n ≤ 0 → ((k : ℕ) → lookup (nat_eq k) places ≡ place_from n k (entries_are (drop n es))) → IsIndex (entries_are es) places
-placed-all es n places h inv k = inv k ∙ ap (λ m. place_from m k (entries_are (drop m es))) (let z : n ≡ 0 = omega (arith, h) in z)
+pub placed-all : (es : List clean.Entry) (n : ℕ) (places : List (ℕ × ℕ)) → n ≤ 0 → ((k : ℕ) → lookup (nat_eq k) places ≡ place_from n k (drop n es)) → IsIndex es places
+placed-all es n places h inv k = inv k ∙ ap (λ m. place_from m k (drop m es)) (let z : n ≡ 0 = omega (arith, h) in z)
 
-pub placed-none : (es : List Entry) (n : ℕ) (places : List (ℕ × ℕ)) → length es ≤ n → places ≡ [] → (k : ℕ) → lookup (nat_eq k) places ≡ place_from n k (entries_are (drop n es))
-placed-none es n places h e k = ap (lookup (nat_eq k)) e ∙ ap (λ l. place_from n k (entries_are l)) (sym (gone es n h))
+pub placed-none : (es : List clean.Entry) (n : ℕ) (places : List (ℕ × ℕ)) → length es ≤ n → places ≡ [] → (k : ℕ) → lookup (nat_eq k) places ≡ place_from n k (drop n es)
+placed-none es n places h e k = ap (lookup (nat_eq k)) e ∙ ap (place_from n k) (sym (gone es n h))
   where
-    gone : (es : List Entry) (n : ℕ) → length es ≤ n → drop n es ≡ []
+    gone : (es : List clean.Entry) (n : ℕ) → length es ≤ n → drop n es ≡ []
     gone [] zero h = refl
     gone [] (suc n) h = refl
     gone (x ∷ es) zero h = absurd (omega (arith, h))
@@ -84,7 +84,3 @@ module _ (es : List clean.Entry) (places : List (ℕ × ℕ)) (index : IsIndex e
 
   pub place-none : lookup (nat_eq k) places ≡ None → index_of k (numbers_of es) ≡ length es
   place-none h = (none-from es 0 k (sym (index k) ∙ h)).1
-
-pub entries-long : (es : List Entry) → length (entries_are es) ≡ length es
-entries-long [] = refl
-entries-long (e ∷ es) = ap suc (entries-long es)

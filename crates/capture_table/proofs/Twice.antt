@@ -156,41 +156,18 @@ pub first-twice : (vs : List ℕ) (y x : Parameter) (ys : List Parameter) (zs : 
 first-twice vs y x ys zs n e = twice-in vs (n ∷ []) vs (variables_of (y ∷ ys) ++ zs)
     (λ k. let a : hit k n ≡ hit k y.variable = ap (hit k) e in let b = times-append k (variables_of (y ∷ ys)) zs in omega (arith, a, b))
 
-parameters-part : (k : ℕ) (ys : List Parameter) (i : ℕ) (y d : Parameter) → i < length ys → y ≡ get_or ys i d → times_in k (variables_of (take i ys)) + hit k y.variable ≤ times_in k (variables_of ys)
-parameters-part k [] i y d lt is = absurd (omega (arith, lt))
-parameters-part k (x ∷ ys) zero y d lt is = let a : hit k y.variable ≡ hit k x.variable = ap (λ (v : Parameter). hit k v.variable) is in omega (arith, a)
-parameters-part k (x ∷ ys) (suc i) y d lt is = let r = parameters-part k ys i y d (omega (arith, lt)) is in omega (arith, r)
+parameters-part : (k : ℕ) (ys : List Parameter) (i x : ℕ) (d : Parameter) → i < length ys → x ≡ (get_or ys i d).variable → times_in k (variables_of (take i ys)) + hit k x ≤ times_in k (variables_of ys)
+parameters-part k [] i x d lt is = absurd (omega (arith, lt))
+parameters-part k (y ∷ ys) zero x d lt is = let a : hit k x ≡ hit k y.variable = ap (hit k) is in omega (arith, a)
+parameters-part k (y ∷ ys) (suc i) x d lt is = let r = parameters-part k ys i x d (omega (arith, lt)) is in omega (arith, r)
 
--- a curried function so far: what is captured was captured first, or is a parameter
-abbrev pub CurriedSoFar : (first now : List ℕ) (ys : List Parameter) (i : ℕ) → Type 0
-CurriedSoFar cs cs' ys i = (k : ℕ) → times_in k cs' ≤ times_in k cs + times_in k (variables_of (take i ys))
+pub behind-none : (cs ys : List ℕ) → Repeats (cs ++ names []) → Repeats (cs ++ ys)
+behind-none cs ys = twice-in cs [] cs ys (λ k. omega arith)
 
-module _ (cs now : List ℕ) (ys : List Parameter) (i : ℕ) (y d : Parameter) (n : ℕ) (lt : i < length ys) (is : y ≡ get_or ys i d) (e : n ≡ y.variable) (h : CurriedSoFar cs now ys i) where
-  pub curried-twice : Repeats ((now ++ names []) ++ n ∷ []) → Repeats (cs ++ variables_of ys)
-  curried-twice = twice-in (now ++ names []) (n ∷ []) cs (variables_of ys)
-      (λ k. let a = h k in let b = parameters-part k ys i y d lt is in let c = times-append k now [] in let m : hit k n ≡ hit k y.variable = ap (hit k) e in omega (arith, a, b, c, m))
-
-  pub curried-within : (new uses : List ℕ) → new ≡ used_in (scope_of now [] n) uses → CurriedSoFar cs new ys (i + 1)
-  curried-within new uses u k =
-      let a = h k in
-      let b = next-within k now new [] n uses u in
-      let m : i + 1 ≡ suc i = omega arith in
-      let c : times_in k (variables_of (take (i + 1) ys)) ≡ times_in k (variables_of (take i ys)) + hit k n = ap (λ j. times_in k (variables_of (take j ys))) m ∙ taken k ys i lt is in
-      omega (arith, a, b, c)
-    where
-      taken : (k : ℕ) (ys : List Parameter) (i : ℕ) → i < length ys → y ≡ get_or ys i d → times_in k (variables_of (take (suc i) ys)) ≡ times_in k (variables_of (take i ys)) + hit k n
-      taken k [] i lt is = absurd (omega (arith, lt))
-      taken k (x ∷ ys) zero lt is = let m : hit k n ≡ hit k x.variable = ap (hit k) (e ∙ ap (λ (v : Parameter). v.variable) is) in omega (arith, m)
-      taken k (x ∷ ys) (suc i) lt is = let r = taken k ys i (omega (arith, lt)) is in omega (arith, r)
-
-taken-all : (ys : List Parameter) (i : ℕ) → length ys ≤ i → take i ys ≡ ys
-taken-all [] zero h = refl
-taken-all [] (suc i) h = refl
-taken-all (y ∷ ys) zero h = absurd (omega (arith, h))
-taken-all (y ∷ ys) (suc i) h = ap (λ l. y ∷ l) (taken-all ys i (omega (arith, h)))
-
-pub curried-all : (cs now : List ℕ) (ys : List Parameter) (i : ℕ) → length ys ≤ i → CurriedSoFar cs now ys i → (k : ℕ) → times_in k now ≤ times_in k cs + times_in k (variables_of ys)
-curried-all cs now ys i h inv k = subst (λ l. times_in k now ≤ times_in k cs + times_in k (variables_of l)) (taken-all ys i h) (inv k)
+-- one of several parameters, behind those before it
+pub parameter-twice : (cs : List ℕ) (ys : List Parameter) (i x : ℕ) (d : Parameter) (s : Scope) → i < length ys → x ≡ (get_or ys i d).variable → visible s ≡ cs ++ variables_of (take i ys) → Repeats (visible s ++ x ∷ []) → Repeats (cs ++ variables_of ys)
+parameter-twice cs ys i x d s lt is h = twice-in (visible s) (x ∷ []) cs (variables_of ys)
+    (λ k. let a : times_in k (visible s) ≡ times_in k (cs ++ variables_of (take i ys)) = ap (times_in k) h in let b = times-append k cs (variables_of (take i ys)) in let c = parameters-part k ys i x d lt is in omega (arith, a, b, c))
 
 -- the functions that a curried one gives, and its body
 module _ (vs cs : List ℕ) (ms : List Member) (y x : Parameter) (ys all : List Parameter) (n : ℕ) (uses body : List ℕ) (inner : List ℕ) (a : all ≡ y ∷ ys) (e : n ≡ y.variable) (u : inner ≡ used_in (scope_of cs ms n) uses) where
@@ -204,9 +181,6 @@ module _ (vs cs : List ℕ) (ms : List Member) (y x : Parameter) (ys all : List 
       (λ k. let b = next-within k cs inner ms n uses u in let c = times-append k cs (names ms) in let d = times-append k (variables_of all) (x.variable ∷ body) in
       let f : times_in k (variables_of all) ≡ hit k y.variable + times_in k (variables_of ys) = ap (λ l. times_in k (variables_of l)) a in let g : hit k n ≡ hit k y.variable = ap (hit k) e in
       let i = h k in let j = times-append k last [] in omega (arith, b, c, d, f, g, i, j))
-
-pub curried-first : (cs : List ℕ) (ys : List Parameter) → CurriedSoFar cs cs ys 0
-curried-first cs ys k = omega arith
 
 -- in one scope
 

@@ -1,19 +1,15 @@
 -- The walk, one part after the other.
-use Rattle.std.proofs.Common.{◌≡◌, ℕ, zero, suc, ◌+◌, ◌-◌, ◌<◌, ◌≤◌, List, [], ◌∷◌, ◌++◌, map, take, drop, length, get_or, refl, sym, ap, ap₂, ◌∙◌, arith}
-use Rattle.std.proofs.lemmas.List.{length-append, drop_more}
+use Rattle.std.proofs.Common.{◌≡◌, ℕ, zero, suc, ◌+◌, ◌-◌, ◌<◌, ◌≤◌, Result, Ok, Err, IfOk, List, [], ◌∷◌, ◌++◌, map, take, drop, length, get_or, refl, sym, ap, ap₂, ◌∙◌, arith}
+use Rattle.std.proofs.lemmas.List.{length-append}
 use Rattle.plain_tree.specs.declared.tree.Parameter.{Parameter}
 use Rattle.closure_convert.specs.Scope.{Member, names, Scope, Piece}
-use Rattle.closure_convert.specs.Closed.{scope_of}
-use Rattle.closure_convert.specs.Capture.{onto, visible, cut}
+use Rattle.closure_convert.specs.Capture.{onto, visible}
 use Rattle.capture_scope.specs.Found.{left_to}
 use Rattle.plain_tree.specs.declared.tree.Function.{Function, fold_out-Function}
 use Rattle.capture_scope.specs.declared.scope.Member as code
 use Rattle.capture_scope.specs.Seen.{member_of, members_of}
-use Rattle.capture_scope.specs.Found.{pieces_of}
-use Rattle.capture_table.specs.declared.walk.Entry.{Entry}
-use Rattle.capture_table.specs.Tables.{entry_is, entries_are}
-use Rattle.capture_table.specs.Told.{members_told, function_told, node_exp, node_step, node_arm, node_function, more, Entries, used_in, Told, StepTold, FunctionTold, all_tables, steps_table, after, backs, marks, functions_table, first_parameter, entry, function_table}
-use Rattle.capture_table.proofs.Growing.{assoc, map-last, seen, ahead}
+use Rattle.capture_table.specs.Told.{members_told, function_told, node_exp, node_step, node_arm, node_function, more, Entries, Told, StepTold, FunctionTold, all_tables, steps_table, after, backs, marks, functions_table, first_parameter, function_table, exp_told}
+use Rattle.capture_table.proofs.Growing.{assoc, seen, ahead}
 
 -- Leaving what was bound
 
@@ -167,22 +163,25 @@ module _ {A : Type 0} (f : A → StepTold) (xs : List A) where
       inv es ∙ ap (λ v. now ++ backs (map f (take v xs)) s es) m ∙ ap (λ ts. now ++ backs ts s es) (seen f xs i x e lt is) ∙ ap (λ l. now ++ l) (backs-last (map f (take i xs)) (f x) s es ∙ ap (λ z. (f x).back z (backs (map f (take i xs)) s es)) (sym at))
       ∙ h (backs (map f (take i xs)) s es)
 
--- A curried function
-
-module _ (uses : List ℕ) (last : Parameter) (T : Scope → Entries → Entries) where
-  pub curried-next : (ys : List Parameter) (i : ℕ) (y d : Parameter) (k : ℕ) (ps ps' : List Piece) (cs cs' : List ℕ) (all now new es : Entries) → i < length ys → y ≡ get_or ys i d → k ≡ y.variable
-      → new ≡ now ++ entry k ps cs ∷ [] → cs' ≡ used_in (scope_of cs [] k) uses → ps' ≡ cut (scope_of cs [] k) (used_in (scope_of cs [] k) uses)
-      → all ≡ now ++ function_table uses (drop i ys) last T ps cs [] es → all ≡ new ++ function_table uses (drop (i + 1) ys) last T ps' cs' [] es
-  curried-next ys i y d k ps ps' cs cs' all now new es lt is n e ec ep inv =
-      inv ∙ ap (λ l. now ++ function_table uses l last T ps cs [] es) (drop_more ys i d lt ∙ ap (λ z. z ∷ drop (i + 1) ys) (sym is))
-      ∙ ap (λ v. now ++ entry v ps cs ∷ function_table uses (drop (i + 1) ys) last T (cut (scope_of cs [] v) (used_in (scope_of cs [] v) uses)) (used_in (scope_of cs [] v) uses) [] es) (sym n)
-      ∙ ap₂ (λ p c. now ++ entry k ps cs ∷ function_table uses (drop (i + 1) ys) last T p c [] es) (sym ep) (sym ec)
-      ∙ sym (assoc now (entry k ps cs ∷ []) (function_table uses (drop (i + 1) ys) last T ps' cs' [] es)) ∙ ap (λ l. l ++ function_table uses (drop (i + 1) ys) last T ps' cs' [] es) (sym e)
-
 -- A group's functions
 
 pub member-told : (f : Function) → (function_told f).member ≡ record { name = f.variable; number = first_parameter f.parameters.items f.last }
 member-told f = ap (λ (r : FunctionTold). r.member) (fold_out-Function Told StepTold Told FunctionTold node_exp node_step node_arm node_function f)
+
+pub table-told : (f : Function) (ps : List Piece) (cs : List ℕ) (ms : List Member) (es : Entries)
+    → (function_told f).table ps cs ms es ≡ function_table (exp_told f.body).uses f.parameters.items f.last (exp_told f.body).table ps cs ms es
+table-told f ps cs ms es = ap (λ (r : FunctionTold). r.table ps cs ms es) (fold_out-Function Told StepTold Told FunctionTold node_exp node_step node_arm node_function f)
+
+-- one of one parameter gives no function
+pub no-uses : (us vs : List ℕ) (xs : List Parameter) (x : Parameter) (T : Scope → Entries → Entries) (ps : List Piece) (cs : List ℕ) (ms : List Member) (es : Entries) → length xs ≡ 0
+    → function_table us xs x T ps cs ms es ≡ function_table vs xs x T ps cs ms es
+no-uses us vs [] x T ps cs ms es z = refl
+no-uses us vs (y ∷ xs) x T ps cs ms es z = absurd (omega (arith, z))
+
+-- what is told of a table in other words
+pub told-kept : {V E : Type 0} (r : Result V E) (old new : Entries) (A B : Entries → Entries) → ((es : Entries) → A es ≡ B es) → IfOk r (λ _. (es : Entries) → old ++ B es ≡ new ++ es) → IfOk r (λ _. (es : Entries) → old ++ A es ≡ new ++ es)
+told-kept (Ok v) old new A B h k = λ es. ap (λ l. old ++ l) (h es) ∙ k es
+told-kept (Err e) old new A B h k = k
 
 pub members-next : (fs : List Function) (i : ℕ) (f d : Function) (ps : List Parameter) (k : ℕ) (now new : List code.Member) → i < length fs → f ≡ get_or fs i d → ps ≡ f.parameters.items → k ≡ first_parameter ps f.last
     → new ≡ now ++ record { name = f.variable; number = k } ∷ [] → members_of now ≡ members_told (map function_told (take i fs)) → members_of new ≡ members_told (map function_told (take (i + 1) fs))
@@ -197,14 +196,6 @@ members-next fs i f d ps k now new lt is p n e h =
     more-told : (ts : List FunctionTold) (t : FunctionTold) → members_told (ts ++ t ∷ []) ≡ members_told ts ++ t.member ∷ []
     more-told [] t = refl
     more-told (x ∷ ts) t = ap (λ l. x.member ∷ l) (more-told ts t)
-
--- A body
-
-pub body-told : (T : Scope → Entries → Entries) (old mid new : List Entry) (e : Entry) (x : ℕ) (cs : List ℕ) (s : Scope) (ms : List Member) → e.number ≡ x → cs ≡ e.captured.items → s ≡ scope_of cs ms x → mid ≡ old ++ e ∷ []
-    → ((es : Entries) → entries_are mid ++ T s es ≡ entries_are new ++ es) → (es : Entries) → entries_are old ++ (entry x (pieces_of e.pieces.items) e.captured.items ∷ T (scope_of e.captured.items ms x) es) ≡ entries_are new ++ es
-body-told T old mid new e x cs s ms n c z m h es =
-    ap₂ (λ k l. entries_are old ++ (entry k (pieces_of e.pieces.items) e.captured.items ∷ T l es)) (sym n) (sym (z ∙ ap (λ l. scope_of l ms x) c))
-    ∙ sym (assoc (entries_are old) (entry_is e ∷ []) (T s es)) ∙ ap (λ l. l ++ T s es) (sym (ap entries_are m ∙ map-last entry_is old e)) ∙ h es
 
 -- What is left of a curried function
 

@@ -1,3 +1,5 @@
 pub mod Told
 pub mod Tables
 pub mod Inner
+pub mod Levels
+pub mod Parts

@@ -3,17 +3,9 @@ use Rattle.std.specs.Prelude.{◌≡◌, ℕ, zero, suc, List, [], ◌∷◌, ma
 use Rattle.std.specs.Map.{lookup}
 use Rattle.ir_mono.specs.Types as types
 use Rattle.closure_convert.specs.Capture as clean
-use Rattle.capture_scope.specs.Found.{pieces_of}
-use Rattle.capture_table.specs.declared.walk.Entry.{Entry}
 
 abbrev pub Row : Type 0
 Row = types.Row
-
-abbrev pub entry_is : Entry → clean.Entry
-entry_is e = record { number = e.number; captured = e.captured.items; pieces = pieces_of e.pieces.items }
-
-abbrev pub entries_are : List Entry → List clean.Entry
-entries_are = map entry_is
 
 abbrev pub numbers_of : List clean.Entry → List ℕ
 numbers_of = map (λ e. e.number)

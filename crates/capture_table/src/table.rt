@@ -1,5 +1,5 @@
 // The table of captures.
-ghost use Rattle.std.specs.Prelude.{◌≡◌, [], ℕ, List, slice_get, IfOk, IfErr};
+ghost use Rattle.std.specs.Prelude.{◌≡◌, [], ℕ, true, List, length, take, IfOk, IfErr};
 ghost use Rattle.closure_convert.specs.Scope.{index_of, top};
 ghost use Rattle.closure_convert.specs.Capture.{entry_of, captured_in, pieces_in, tabulate};
 ghost use Rattle.capture_scope.specs.Found.{pieces_of};
@@ -7,9 +7,10 @@ ghost use Rattle.mono_bound.specs.Reads.{mono_of};
 ghost use Rattle.ir_plain.specs.Once.{IsOnce};
 ghost use Rattle.ir_mono.specs.Mono.{mono};
 ghost use Rattle.capture_scope.specs.declared.scope.ScopeFault.TheVariants.{BoundTwice};
-ghost use Rattle.capture_table.specs.Tables.{Row, numbers_of, entries_are, IsIndex};
+ghost use Rattle.capture_table.specs.Tables.{Row, numbers_of, IsIndex};
 
-use crate::walk::{Entry, walk};
+use crate::found::Found;
+use crate::walk::walk;
 use capture_scope::piece::Piece;
 use capture_scope::scope::{Scope, ScopeFault};
 use indexmap::IndexMap;
@@ -21,20 +22,20 @@ use std::marker::Model;
 /// What each function captures, and the pieces of its closure, in the order of their codes; found by number, where the first of each number counts.
 #[derive(Drop)]
 pub struct Captures {
-    entries: Vec<Entry>,
+    found: Found,
     places: IndexMap<usize, usize>,
 }
 
 impl Model for Captures {
     ghost use Rattle.std.specs.Prelude.{List};
     ghost use Rattle.closure_convert.specs.Capture.{Entry as Clean};
-    ghost use Rattle.capture_table.specs.Tables.{entries_are, IsIndex};
+    ghost use Rattle.capture_table.specs.Tables.{IsIndex};
 
     ghost Value = { List Clean };
 
-    ghost view = { λ c. entries_are c.entries.items };
+    ghost view = { λ c. c.found };
 
-    ghost invariant = { λ c. IsIndex (entries_are c.entries.items) c.places.entries };
+    ghost invariant = { λ c. IsIndex c.found c.places.entries };
 }
 
 impl Captures {
@@ -43,7 +44,7 @@ impl Captures {
         ensures { result.now ≡ captured_in (entry_of function self.now) }
     {
         match self.places.get(&function) {
-            Some(place) => captured_at(&self.entries, *place),
+            Some(place) => self.found.captured_at(*place),
             None => &[],
         }
     }
@@ -53,8 +54,22 @@ impl Captures {
         ensures { pieces_of result.now ≡ pieces_in (entry_of function self.now) }
     {
         match self.places.get(&function) {
-            Some(place) => pieces_at(&self.entries, *place),
+            Some(place) => self.found.pieces_at(*place),
             None => &[],
+        }
+    }
+
+    /// Whether it is known that what the first captures is a front of what the second does, as it is of two functions that a curried one gives.
+    pub fn is_front(&self, first: usize, second: usize) -> bool
+        ensures { result ≡ true → take (length (captured_in (entry_of first self.now))) (captured_in (entry_of second self.now))
+            ≡ captured_in (entry_of first self.now) }
+    {
+        match self.places.get(&first) {
+            Some(front) => match self.places.get(&second) {
+                Some(whole) => self.found.is_front(*front, *whole),
+                None => false,
+            },
+            None => false,
         }
     }
 
@@ -64,40 +79,20 @@ impl Captures {
     {
         match self.places.get(&function) {
             Some(place) => *place,
-            None => self.entries.len(),
+            None => self.found.len(),
         }
     }
 }
 
-fn captured_at(entries: &[Entry], place: usize) -> &[usize]
-    ensures { result.now ≡ captured_in (slice_get (entries_are entries.now) place) }
-{
-    if place < entries.len() {
-        entries[place].captured.as_slice()
-    } else {
-        &[]
-    }
-}
-
-fn pieces_at(entries: &[Entry], place: usize) -> &[Piece]
-    ensures { pieces_of result.now ≡ pieces_in (slice_get (entries_are entries.now) place) }
-{
-    if place < entries.len() {
-        entries[place].pieces.as_slice()
-    } else {
-        &[]
-    }
-}
-
 /// The places of entries by number, where the first of each number counts.
-fn find_places(alloc: Global, entries: &[Entry]) -> Result<IndexMap<usize, usize>, NoMemory>
-    ensures { IfOk result (λ places. IsIndex (entries_are entries.now) places.entries) }
+fn find_places(alloc: Global, found: &Found) -> Result<IndexMap<usize, usize>, NoMemory>
+    ensures { IfOk result (λ places. IsIndex found.now places.entries) }
 {
     let mut places = IndexMap::new(alloc);
-    let mut left = entries.len();
+    let mut left = found.len();
     while left > 0 {
         left -= 1;
-        let _ = places.insert(entries[left].number, left)?;
+        let _ = places.insert(found.number_at(left), left)?;
     }
     Ok(places)
 }
@@ -110,8 +105,8 @@ pub fn find_captures(alloc: Global, body: &Exp) -> Result<Captures, ScopeFault>
         → IsOnce {F = mono types} (λ x. x) (mono_of types strings body.now) → ⊥) }
 {
     let mut scope = Scope::new(alloc);
-    let mut entries = Vec::new(alloc);
-    walk(alloc, &mut scope, body, &mut entries)?;
-    let places = find_places(alloc, &entries)?;
-    Ok(Captures { entries, places })
+    let mut found = Found::new(alloc);
+    walk(alloc, &mut scope, body, &mut found)?;
+    let places = find_places(alloc, &found)?;
+    Ok(Captures { found, places })
 }

@@ -1,6 +1,7 @@
 // The walk along a program that finds what its functions capture.
-ghost use Rattle.std.specs.Prelude.{◌≡◌, ◌≤◌, ◌+◌, ◌++◌, ◌∷◌, [], ℕ, map, drop, slice_index_or, IfOk, IfErr};
-ghost use Rattle.closure_convert.specs.Scope.{names, Scope as Clean};
+ghost use Rattle.std.specs.Prelude.{◌≡◌, ◌≤◌, ◌+◌, ◌++◌, ◌∷◌, [], ℕ, List, map, drop, slice_index_or, IfOk, IfErr};
+ghost use Rattle.closure_convert.specs.Counts.{AreDistinct};
+ghost use Rattle.closure_convert.specs.Scope.{names, Scope as Clean, Member as Clean_member, Piece as Clean_piece};
 ghost use Rattle.closure_convert.specs.Closed.{scope_of};
 ghost use Rattle.closure_convert.specs.Capture.{visible, cut};
 ghost use Rattle.capture_scope.specs.Seen.{members_of};
@@ -8,10 +9,11 @@ ghost use Rattle.capture_scope.specs.Found.{pieces_of};
 ghost use Rattle.capture_scope.specs.Repeats.{times_in, Repeats};
 ghost use Rattle.capture_scope.specs.declared.scope.ScopeFault.TheVariants.{Memory, BoundTwice};
 ghost use Rattle.plain_tree.specs.Sums.{joined, variables_of, binders_of, step_binders, arm_binders};
-ghost use Rattle.capture_table.specs.Told.{Entries, entry, used_in, more, case_binds, first_parameter, function_table, all_tables, steps_table, functions_table, functions_use, members_told, after, backs, marks, exp_told, step_told, arm_told, function_told};
-ghost use Rattle.capture_table.specs.Tables.{entry_is, entries_are};
+ghost use Rattle.capture_table.specs.Levels.{used};
+ghost use Rattle.capture_table.specs.Told.{Entries, used_in, more, case_binds, first_parameter, function_table, all_tables, steps_table, functions_table, functions_use, members_told, after, backs, marks, exp_told, step_told, arm_told, function_told};
 ghost use Rattle.capture_table.specs.Inner.{inner_binders};
 
+use crate::found::Found;
 use crate::uses::{push_of_functions, push_uses};
 use capture_scope::piece::Piece;
 use capture_scope::scope::{Member, Scope, ScopeFault};
@@ -19,80 +21,60 @@ use mlc_base::memory::NoMemory;
 use plain_tree::tree::{Arm, Case, Exp, Function, Parameter, Step};
 use std::alloc::Global;
 
-/// What a function captures, by its number, and the pieces of its closure.
+/// What a function captures, and the pieces of its closure.
 #[derive(Drop)]
-pub struct Entry {
-    pub number: usize,
-    pub captured: Vec<usize>,
-    pub pieces: Vec<Piece>,
+struct Capture {
+    captured: Vec<usize>,
+    pieces: Vec<Piece>,
 }
 
 /// What a function captures in a scope, that uses these variables.
-fn capture(alloc: Global, scope: &Scope, uses: &[usize], number: usize) -> Result<Entry, ScopeFault>
-    ensures table { IfOk result (λ made. entry_is made ≡ entry number (cut scope.now (used_in scope.now uses.now)) (used_in scope.now uses.now)) }
+fn find_capture(alloc: Global, scope: &Scope, uses: &[usize]) -> Result<Capture, ScopeFault>
+    ensures captured { IfOk result (λ made. made.captured.items ≡ used_in scope.now uses.now) }
+    ensures pieces { IfOk result (λ made. pieces_of made.pieces.items ≡ cut scope.now (used_in scope.now uses.now)) }
     ensures memory { IfErr result (λ fault. fault ≡ Memory) }
 {
     let captured = scope.wanted(alloc, uses)?;
     let pieces = scope.cut(alloc, &captured)?;
-    Ok(Entry {
-        number,
-        captured,
-        pieces,
-    })
+    Ok(Capture { captured, pieces })
 }
 
-/// The same entry, of another number.
-fn same_as(alloc: Global, shared: &Entry, number: usize) -> Result<Entry, ScopeFault>
-    ensures table { IfOk result (λ made. entry_is made ≡ entry number (pieces_of shared.now.pieces.items) shared.now.captured.items) }
-    ensures memory { IfErr result (λ fault. fault ≡ Memory) }
-{
-    let captured = Vec::from_slice(alloc, &shared.captured)?;
-    let pieces = Vec::from_slice(alloc, &shared.pieces)?;
-    Ok(Entry {
-        number,
-        captured,
-        pieces,
-    })
-}
-
-/// What the function captures that one alone gives when it isn't given all its arguments.
-fn capture_next(
-    alloc: Global,
-    before: &Entry,
-    uses: &[usize],
-    number: usize,
-) -> Result<Entry, ScopeFault>
-    ensures table { IfOk result (λ made. entry_is made
-        ≡ entry number (cut (scope_of before.now.captured.items [] before.now.number)
-        (used_in (scope_of before.now.captured.items [] before.now.number) uses.now))
-        (used_in (scope_of before.now.captured.items [] before.now.number) uses.now)) }
-    ensures twice { IfErr result (λ fault. fault ≡ BoundTwice
-        → Repeats ((before.now.captured.items ++ names []) ++ before.now.number ∷ [])) }
-{
-    let scope = Scope::enter(alloc, &before.captured, &[], before.number)?;
-    capture(alloc, &scope, uses, number)
-}
-
-/// What the function captures that one of a group gives, whose scope this is, when it isn't given all its arguments.
-fn capture_in(
+/// What the function captures that one of a group gives, whose scope this is, when it is given one of several arguments, this parameter.
+fn find_inner(
     alloc: Global,
     scope: &mut Scope,
-    before: &Entry,
+    parameter: usize,
     uses: &[usize],
-    number: usize,
-) -> Result<Entry, ScopeFault>
-    requires { before.now.captured.items ≡ scope.old.captured }
-    ensures table { IfOk result (λ made. entry_is made
-        ≡ entry number (cut (scope_of before.now.captured.items scope.old.group before.now.number)
-        (used_in (scope_of before.now.captured.items scope.old.group before.now.number) uses.now))
-        (used_in (scope_of before.now.captured.items scope.old.group before.now.number) uses.now)) }
-    ensures scope { IfOk result (λ _. scope.new ≡ scope_of scope.old.captured scope.old.group before.now.number) }
+) -> Result<Capture, ScopeFault>
+    ensures captured { IfOk result (λ made. made.captured.items ≡ used_in (scope_of scope.old.captured scope.old.group parameter) uses.now) }
+    ensures pieces { IfOk result (λ made. pieces_of made.pieces.items ≡ cut (scope_of scope.old.captured scope.old.group parameter)
+        (used_in (scope_of scope.old.captured scope.old.group parameter) uses.now)) }
+    ensures scope { IfOk result (λ _. scope.new ≡ scope_of scope.old.captured scope.old.group parameter) }
     ensures twice { IfErr result (λ fault. fault ≡ BoundTwice
-        → Repeats ((before.now.captured.items ++ names scope.old.group) ++ before.now.number ∷ [])) }
+        → Repeats ((scope.old.captured ++ names scope.old.group) ++ parameter ∷ [])) }
 {
-    scope.begin(before.number)?;
-    let made = capture(alloc, scope, uses, number)?;
+    scope.begin(parameter)?;
+    let made = find_capture(alloc, scope, uses)?;
     Ok(made)
+}
+
+/// What the innermost captures of the functions that one alone gives, which captures these, when it isn't given all its arguments.
+fn find_innermost(
+    alloc: Global,
+    captured: &[usize],
+    parameters: &[Parameter],
+    uses: &[usize],
+) -> Result<Vec<usize>, ScopeFault>
+    ensures used { IfOk result (λ all. all.items ≡ used uses.now (captured.now ++ variables_of parameters.now)) }
+    ensures once { IfOk result (λ all. AreDistinct all.items) }
+    ensures twice { IfErr result (λ fault. fault ≡ BoundTwice → Repeats (captured.now ++ variables_of parameters.now)) }
+{
+    let mut scope = Scope::of_group(alloc, captured, &[])?;
+    for i in 0..parameters.len() {
+        scope.add(parameters[i].variable)?;
+    }
+    let all = scope.wanted(alloc, uses)?;
+    Ok(all)
 }
 
 fn number_of(parameters: &[Parameter], last: Parameter) -> usize
@@ -102,17 +84,6 @@ fn number_of(parameters: &[Parameter], last: Parameter) -> usize
         last.variable
     } else {
         parameters[0].variable
-    }
-}
-
-/// The number of what a function gives when it has got so many arguments.
-fn number_at(parameters: &[Parameter], given: usize, last: Parameter) -> usize
-    ensures { result ≡ first_parameter (drop given parameters.now) last }
-{
-    if given < parameters.len() {
-        parameters[given].variable
-    } else {
-        last.variable
     }
 }
 
@@ -127,32 +98,41 @@ fn rest_of(parameters: &[Parameter]) -> &[Parameter]
     }
 }
 
-/// The entries of a function alone, but for the innermost, which is the result.
-fn push_curried(
+/// The entries of a function alone, which captures this, and of those that it gives, when it isn't given all its arguments. What the innermost captures.
+fn push_inner(
     alloc: Global,
-    first: Entry,
+    capture: &Capture,
     parameters: &[Parameter],
     last: Parameter,
     uses: &[usize],
-    found: &mut Vec<Entry>,
-) -> Result<Entry, ScopeFault>
-    requires { first.number ≡ first_parameter parameters.now last }
-    ensures number { IfOk result (λ made. made.number ≡ last.variable) }
-    ensures table { IfOk result (λ made. (T : Clean → Entries → Entries) (es : Entries)
-        → entries_are found.old.items ++ function_table uses.now parameters.now last T (pieces_of first.pieces.items) first.captured.items [] es
-        ≡ entries_are found.new.items ++ function_table uses.now [] last T (pieces_of made.pieces.items) made.captured.items [] es) }
-    ensures within { IfOk result (λ made. (k : ℕ)
-        → times_in k made.captured.items ≤ times_in k first.captured.items + times_in k (variables_of parameters.now)) }
-    ensures twice { IfErr result (λ fault. fault ≡ BoundTwice → Repeats (first.captured.items ++ variables_of parameters.now)) }
+    found: &mut Found,
+) -> Result<Vec<usize>, ScopeFault>
+    requires { capture.now.captured.items ≡ used uses.now capture.now.captured.items }
+    ensures table { IfOk result (λ innermost. (T : Clean → Entries → Entries) (es : Entries)
+        → found.old ++ function_table uses.now parameters.now last T (pieces_of capture.now.pieces.items) capture.now.captured.items [] es
+        ≡ found.new ++ T (scope_of innermost.items [] last.variable) es) }
+    ensures within { IfOk result (λ innermost. (k : ℕ)
+        → times_in k innermost.items ≤ times_in k capture.now.captured.items + times_in k (variables_of parameters.now)) }
+    ensures twice { IfErr result (λ fault. fault ≡ BoundTwice → Repeats (capture.now.captured.items ++ variables_of parameters.now)) }
 {
-    let mut entry = first;
-    for i in 0..parameters.len() {
-        let number = number_at(parameters, i + 1, last);
-        let inner = capture_next(alloc, &entry, uses, number)?;
-        found.push(entry)?;
-        entry = inner;
+    let captured = capture.captured.as_slice();
+    let innermost = find_innermost(alloc, captured, parameters, uses)?;
+    found.push(number_of(parameters, last), captured, &capture.pieces)?;
+    found.push_levels(&innermost, captured.len(), parameters, last)?;
+    Ok(innermost)
+}
+
+/// The uses of a function of a group, where it gives functions: one of one parameter doesn't ask for them.
+fn uses_of_member(alloc: Global, function: &Function) -> Result<Vec<usize>, NoMemory>
+    ensures { IfOk result (λ uses. (ps : List Clean_piece) (cs : List ℕ) (ms : List Clean_member) (es : Entries) → (function_told function.now).table ps cs ms es
+        ≡ function_table uses.items function.now.parameters.items function.now.last (exp_told function.now.body).table ps cs ms es) }
+{
+    let mut uses = Vec::new(alloc);
+    if function.parameters.is_empty() {
+        return Ok(uses);
     }
-    Ok(entry)
+    push_uses(&function.body, &mut uses)?;
+    Ok(uses)
 }
 
 /// What a case binds.
@@ -207,13 +187,8 @@ fn bind_group(scope: &mut Scope, members: &[Member]) -> Result<(), ScopeFault>
 
 /// Puts the entries of the functions in an expression behind those found before. The scope stays as it was.
 #[cycle(walk)]
-pub fn walk(
-    alloc: Global,
-    scope: &mut Scope,
-    e: &Exp,
-    found: &mut Vec<Entry>,
-) -> Result<(), ScopeFault>
-    ensures table { IfOk result (λ _. (es : Entries) → entries_are found.old.items ++ (exp_told e.now).table scope.old es ≡ entries_are found.new.items ++ es) }
+pub fn walk(alloc: Global, scope: &mut Scope, e: &Exp, found: &mut Found) -> Result<(), ScopeFault>
+    ensures table { IfOk result (λ _. (es : Entries) → found.old ++ (exp_told e.now).table scope.old es ≡ found.new ++ es) }
     ensures scope { IfOk result (λ _. scope.new ≡ scope.old) }
     ensures twice { IfErr result (λ fault. fault ≡ BoundTwice → Repeats (visible scope.old ++ binders_of e.now)) }
 {
@@ -247,10 +222,10 @@ fn walk_steps(
     scope: &mut Scope,
     steps: &[Step],
     seen: &mut Vec<usize>,
-    found: &mut Vec<Entry>,
+    found: &mut Found,
 ) -> Result<(), ScopeFault>
     ensures table { IfOk result (λ _. (T : Clean → Entries → Entries) (es : Entries)
-        → entries_are found.old.items ++ steps_table (map step_told steps.now) T scope.old es ≡ entries_are found.new.items ++ T scope.new (backs (map step_told steps.now) scope.old es)) }
+        → found.old ++ steps_table (map step_told steps.now) T scope.old es ≡ found.new ++ T scope.new (backs (map step_told steps.now) scope.old es)) }
     ensures scope { IfOk result (λ _. scope.new ≡ after (map step_told steps.now) scope.old) }
     ensures seen { IfOk result (λ _. seen.new.items ≡ seen.old.items ++ marks (map step_told steps.now) scope.old) }
     ensures twice { IfErr result (λ fault. fault ≡ BoundTwice → Repeats (visible scope.old ++ joined (map step_binders steps.now))) }
@@ -310,9 +285,9 @@ fn walk_step(
     alloc: Global,
     scope: &mut Scope,
     step: &Step,
-    found: &mut Vec<Entry>,
+    found: &mut Found,
 ) -> Result<(), ScopeFault>
-    ensures table { IfOk result (λ _. (es : Entries) → entries_are found.old.items ++ (step_told step.now).front scope.old es ≡ entries_are found.new.items ++ es) }
+    ensures table { IfOk result (λ _. (es : Entries) → found.old ++ (step_told step.now).front scope.old es ≡ found.new ++ es) }
     ensures scope { IfOk result (λ _. scope.new ≡ scope.old) }
     ensures twice { IfErr result (λ fault. fault ≡ BoundTwice → Repeats (visible scope.old ++ step_binders step.now)) }
 {
@@ -326,8 +301,8 @@ fn walk_step(
         } => {
             let mut uses = Vec::new(alloc);
             push_uses(body, &mut uses)?;
-            let entry = capture(alloc, scope, &uses, number_of(parameters, *last))?;
-            walk_alone(alloc, entry, parameters, *last, body, &uses, found)
+            let capture = find_capture(alloc, scope, &uses)?;
+            walk_alone(alloc, &capture, parameters, *last, body, &uses, found)
         }
         Step::Block(_, body) => walk(alloc, scope, body, found),
         Step::Handle {
@@ -349,8 +324,8 @@ fn walk_step(
             let mut uses = Vec::new(alloc);
             push_of_functions(functions, &mut uses)?;
             let group = members_of_group(alloc, functions)?;
-            let entry = capture(alloc, scope, &uses, 0)?;
-            walk_functions(alloc, &entry, &group, functions, found)
+            let capture = find_capture(alloc, scope, &uses)?;
+            walk_functions(alloc, &capture, &group, functions, found)
         }
         Step::Test {
             atom: _,
@@ -376,10 +351,10 @@ fn walk_others(
     scope: &mut Scope,
     steps: &[Step],
     seen: &[usize],
-    found: &mut Vec<Entry>,
+    found: &mut Found,
 ) -> Result<(), ScopeFault>
     ensures table { IfOk result (λ _. (s : Clean) (es : Entries) → scope.old ≡ after (map step_told steps.now) s → seen.now ≡ marks (map step_told steps.now) s
-        → entries_are found.old.items ++ backs (map step_told steps.now) s es ≡ entries_are found.new.items ++ es) }
+        → found.old ++ backs (map step_told steps.now) s es ≡ found.new ++ es) }
     ensures scope { IfOk result (λ _. (s : Clean) → scope.old ≡ after (map step_told steps.now) s → seen.now ≡ marks (map step_told steps.now) s → scope.new ≡ s) }
     ensures twice { IfErr result (λ fault. fault ≡ BoundTwice → (s : Clean) → scope.old ≡ after (map step_told steps.now) s → seen.now ≡ marks (map step_told steps.now) s
         → Repeats (visible s ++ joined (map step_binders steps.now))) }
@@ -401,9 +376,9 @@ fn walk_back(
     alloc: Global,
     scope: &mut Scope,
     step: &Step,
-    found: &mut Vec<Entry>,
+    found: &mut Found,
 ) -> Result<(), ScopeFault>
-    ensures table { IfOk result (λ _. (es : Entries) → entries_are found.old.items ++ (step_told step.now).back scope.old es ≡ entries_are found.new.items ++ es) }
+    ensures table { IfOk result (λ _. (es : Entries) → found.old ++ (step_told step.now).back scope.old es ≡ found.new ++ es) }
     ensures scope { IfOk result (λ _. scope.new ≡ scope.old) }
     ensures twice { IfErr result (λ fault. fault ≡ BoundTwice → Repeats (visible scope.old ++ step_binders step.now)) }
 {
@@ -445,9 +420,9 @@ fn walk_handler(
     scope: &mut Scope,
     packet: usize,
     handler: &Exp,
-    found: &mut Vec<Entry>,
+    found: &mut Found,
 ) -> Result<(), ScopeFault>
-    ensures table { IfOk result (λ _. (es : Entries) → entries_are found.old.items ++ (exp_told handler.now).table (more (packet ∷ []) scope.old) es ≡ entries_are found.new.items ++ es) }
+    ensures table { IfOk result (λ _. (es : Entries) → found.old ++ (exp_told handler.now).table (more (packet ∷ []) scope.old) es ≡ found.new ++ es) }
     ensures scope { IfOk result (λ _. scope.new ≡ scope.old) }
     ensures twice { IfErr result (λ fault. fault ≡ BoundTwice → Repeats (visible scope.old ++ packet ∷ binders_of handler.now)) }
 {
@@ -463,9 +438,9 @@ fn walk_all(
     alloc: Global,
     scope: &mut Scope,
     attempts: &[Exp],
-    found: &mut Vec<Entry>,
+    found: &mut Found,
 ) -> Result<(), ScopeFault>
-    ensures table { IfOk result (λ _. (es : Entries) → entries_are found.old.items ++ all_tables (map exp_told attempts.now) scope.old es ≡ entries_are found.new.items ++ es) }
+    ensures table { IfOk result (λ _. (es : Entries) → found.old ++ all_tables (map exp_told attempts.now) scope.old es ≡ found.new ++ es) }
     ensures scope { IfOk result (λ _. scope.new ≡ scope.old) }
     ensures twice { IfErr result (λ fault. fault ≡ BoundTwice → Repeats (visible scope.old ++ joined (map binders_of attempts.now))) }
 {
@@ -481,9 +456,9 @@ fn walk_arms(
     alloc: Global,
     scope: &mut Scope,
     arms: &[Arm],
-    found: &mut Vec<Entry>,
+    found: &mut Found,
 ) -> Result<(), ScopeFault>
-    ensures table { IfOk result (λ _. (es : Entries) → entries_are found.old.items ++ all_tables (map arm_told arms.now) scope.old es ≡ entries_are found.new.items ++ es) }
+    ensures table { IfOk result (λ _. (es : Entries) → found.old ++ all_tables (map arm_told arms.now) scope.old es ≡ found.new ++ es) }
     ensures scope { IfOk result (λ _. scope.new ≡ scope.old) }
     ensures twice { IfErr result (λ fault. fault ≡ BoundTwice → Repeats (visible scope.old ++ joined (map arm_binders arms.now))) }
 {
@@ -499,9 +474,9 @@ fn walk_arm(
     alloc: Global,
     scope: &mut Scope,
     arm: &Arm,
-    found: &mut Vec<Entry>,
+    found: &mut Found,
 ) -> Result<(), ScopeFault>
-    ensures table { IfOk result (λ _. (es : Entries) → entries_are found.old.items ++ (arm_told arm.now).table scope.old es ≡ entries_are found.new.items ++ es) }
+    ensures table { IfOk result (λ _. (es : Entries) → found.old ++ (arm_told arm.now).table scope.old es ≡ found.new ++ es) }
     ensures scope { IfOk result (λ _. scope.new ≡ scope.old) }
     ensures twice { IfErr result (λ fault. fault ≡ BoundTwice → Repeats (visible scope.old ++ arm_binders arm.now)) }
 {
@@ -512,54 +487,52 @@ fn walk_arm(
     Ok(())
 }
 
-/// The entries of the functions of a group, which captures as the entry says. The scope of its functions is entered once.
+/// The entries of the functions of a group, which captures this. The scope of its functions is entered once.
 #[cycle(walk)]
 fn walk_functions(
     alloc: Global,
-    entry: &Entry,
+    capture: &Capture,
     group: &[Member],
     functions: &[Function],
-    found: &mut Vec<Entry>,
+    found: &mut Found,
 ) -> Result<(), ScopeFault>
-    ensures table { IfOk result (λ _. (es : Entries) → entries_are found.old.items
-        ++ functions_table (map function_told functions.now) (pieces_of entry.now.pieces.items) entry.now.captured.items (members_of group.now) es
-        ≡ entries_are found.new.items ++ es) }
+    ensures table { IfOk result (λ _. (es : Entries) → found.old
+        ++ functions_table (map function_told functions.now) (pieces_of capture.now.pieces.items) capture.now.captured.items (members_of group.now) es
+        ≡ found.new ++ es) }
     ensures twice { IfErr result (λ fault. fault ≡ BoundTwice
-        → Repeats ((entry.now.captured.items ++ names (members_of group.now)) ++ joined (map inner_binders functions.now))) }
+        → Repeats ((capture.now.captured.items ++ names (members_of group.now)) ++ joined (map inner_binders functions.now))) }
 {
-    let mut scope = Scope::of_group(alloc, &entry.captured, group)?;
+    let mut scope = Scope::of_group(alloc, &capture.captured, group)?;
     for i in 0..functions.len() {
         let function = &functions[i];
-        walk_member(alloc, &mut scope, entry, function, found)?;
+        walk_member(alloc, &mut scope, capture, function, found)?;
     }
     Ok(())
 }
 
-/// The entries of a function of the group whose scope this is, and which captures as the entry says.
+/// The entries of a function of the group whose scope this is, and which captures this.
 #[cycle(walk)]
 fn walk_member(
     alloc: Global,
     scope: &mut Scope,
-    entry: &Entry,
+    capture: &Capture,
     function: &Function,
-    found: &mut Vec<Entry>,
+    found: &mut Found,
 ) -> Result<(), ScopeFault>
-    requires { entry.now.captured.items ≡ scope.old.captured }
-    ensures table { IfOk result (λ _. (es : Entries) → entries_are found.old.items
-        ++ (function_told function.now).table (pieces_of entry.now.pieces.items) entry.now.captured.items scope.old.group es
-        ≡ entries_are found.new.items ++ es) }
+    requires { capture.now.captured.items ≡ scope.old.captured }
+    ensures table { IfOk result (λ _. (es : Entries) → found.old
+        ++ (function_told function.now).table (pieces_of capture.now.pieces.items) capture.now.captured.items scope.old.group es
+        ≡ found.new ++ es) }
     ensures captured { IfOk result (λ _. scope.new.captured ≡ scope.old.captured) }
     ensures group { IfOk result (λ _. scope.new.group ≡ scope.old.group) }
     ensures twice { IfErr result (λ fault. fault ≡ BoundTwice
-        → Repeats ((entry.now.captured.items ++ names scope.old.group) ++ inner_binders function.now)) }
+        → Repeats ((capture.now.captured.items ++ names scope.old.group) ++ inner_binders function.now)) }
 {
-    let mut uses = Vec::new(alloc);
-    push_uses(&function.body, &mut uses)?;
-    let own = same_as(alloc, entry, number_of(&function.parameters, function.last))?;
+    let uses = uses_of_member(alloc, function)?;
     walk_function(
         alloc,
         scope,
-        own,
+        capture,
         &function.parameters,
         function.last,
         &function.body,
@@ -568,87 +541,80 @@ fn walk_member(
     )
 }
 
-/// The entries of a function alone that uses these variables, the first of which is given.
+/// The entries of a function alone, which uses these variables and captures this.
 #[cycle(walk)]
 fn walk_alone(
     alloc: Global,
-    first: Entry,
+    capture: &Capture,
     parameters: &[Parameter],
     last: Parameter,
     body: &Exp,
     uses: &[usize],
-    found: &mut Vec<Entry>,
+    found: &mut Found,
 ) -> Result<(), ScopeFault>
-    requires { first.number ≡ first_parameter parameters.now last }
-    ensures table { IfOk result (λ _. (es : Entries) → entries_are found.old.items
-        ++ function_table uses.now parameters.now last (exp_told body.now).table (pieces_of first.pieces.items) first.captured.items [] es
-        ≡ entries_are found.new.items ++ es) }
+    ensures table { IfOk result (λ _. (es : Entries) → found.old
+        ++ function_table uses.now parameters.now last (exp_told body.now).table (pieces_of capture.now.pieces.items) capture.now.captured.items [] es
+        ≡ found.new ++ es) }
     ensures twice { IfErr result (λ fault. fault ≡ BoundTwice
-        → Repeats ((first.captured.items ++ names []) ++ (variables_of parameters.now ++ last.variable ∷ binders_of body.now))) }
+        → Repeats ((capture.now.captured.items ++ names []) ++ (variables_of parameters.now ++ last.variable ∷ binders_of body.now))) }
 {
-    let mut scope = Scope::of_group(alloc, &first.captured, &[])?;
+    let mut scope = Scope::of_group(alloc, &capture.captured, &[])?;
     walk_function(
-        alloc, &mut scope, first, parameters, last, body, uses, found,
+        alloc, &mut scope, capture, parameters, last, body, uses, found,
     )
 }
 
-/// The entries of a function of the group whose scope this is, or of one alone, that uses these variables. The first of them is given.
+/// The entries of a function of the group whose scope this is, or of one alone, which uses these variables and captures this.
 #[cycle(walk)]
 fn walk_function(
     alloc: Global,
     scope: &mut Scope,
-    first: Entry,
+    capture: &Capture,
     parameters: &[Parameter],
     last: Parameter,
     body: &Exp,
     uses: &[usize],
-    found: &mut Vec<Entry>,
+    found: &mut Found,
 ) -> Result<(), ScopeFault>
-    requires number { first.number ≡ first_parameter parameters.now last }
-    requires captured { first.captured.items ≡ scope.old.captured }
-    ensures table { IfOk result (λ _. (es : Entries) → entries_are found.old.items
-        ++ function_table uses.now parameters.now last (exp_told body.now).table (pieces_of first.pieces.items) first.captured.items scope.old.group es
-        ≡ entries_are found.new.items ++ es) }
+    requires { capture.now.captured.items ≡ scope.old.captured }
+    ensures table { IfOk result (λ _. (es : Entries) → found.old
+        ++ function_table uses.now parameters.now last (exp_told body.now).table (pieces_of capture.now.pieces.items) capture.now.captured.items scope.old.group es
+        ≡ found.new ++ es) }
     ensures captured { IfOk result (λ _. scope.new.captured ≡ scope.old.captured) }
     ensures group { IfOk result (λ _. scope.new.group ≡ scope.old.group) }
     ensures twice { IfErr result (λ fault. fault ≡ BoundTwice
-        → Repeats ((first.captured.items ++ names scope.old.group) ++ (variables_of parameters.now ++ last.variable ∷ binders_of body.now))) }
+        → Repeats ((capture.now.captured.items ++ names scope.old.group) ++ (variables_of parameters.now ++ last.variable ∷ binders_of body.now))) }
 {
+    let number = number_of(parameters, last);
+    found.push(number, &capture.captured, &capture.pieces)?;
     if parameters.is_empty() {
-        return walk_body(alloc, scope, first, last, body, found);
+        return walk_body(alloc, scope, last, body, found);
     }
-    let rest = rest_of(parameters);
-    let number = number_of(rest, last);
-    let inner = capture_in(alloc, scope, &first, uses, number)?;
-    found.push(first)?;
-    let innermost = push_curried(alloc, inner, rest, last, uses, found)?;
-    let mut own = Scope::of_group(alloc, &innermost.captured, &[])?;
-    walk_body(alloc, &mut own, innermost, last, body, found)?;
+    let inner = find_inner(alloc, scope, number, uses)?;
+    let innermost = push_inner(alloc, &inner, rest_of(parameters), last, uses, found)?;
+    let mut own = Scope::of_group(alloc, &innermost, &[])?;
+    walk_body(alloc, &mut own, last, body, found)?;
     Ok(())
 }
 
-/// The entry of a function of one parameter, of the group whose scope this is, or alone, and those of its body.
+/// The entries in the body of a function of one parameter, of the group whose scope this is, or alone.
 #[cycle(walk)]
 fn walk_body(
     alloc: Global,
     scope: &mut Scope,
-    entry: Entry,
     last: Parameter,
     body: &Exp,
-    found: &mut Vec<Entry>,
+    found: &mut Found,
 ) -> Result<(), ScopeFault>
-    requires number { entry.number ≡ last.variable }
-    requires captured { entry.captured.items ≡ scope.old.captured }
-    ensures table { IfOk result (λ _. (es : Entries) → entries_are found.old.items
-        ++ function_table [] [] last (exp_told body.now).table (pieces_of entry.pieces.items) entry.captured.items scope.old.group es
-        ≡ entries_are found.new.items ++ es) }
+    ensures table { IfOk result (λ _. (es : Entries) → found.old
+        ++ (exp_told body.now).table (scope_of scope.old.captured scope.old.group last.variable) es
+        ≡ found.new ++ es) }
     ensures captured { IfOk result (λ _. scope.new.captured ≡ scope.old.captured) }
     ensures group { IfOk result (λ _. scope.new.group ≡ scope.old.group) }
     ensures twice { IfErr result (λ fault. fault ≡ BoundTwice
-        → Repeats ((entry.captured.items ++ names scope.old.group) ++ last.variable ∷ binders_of body.now)) }
+        → Repeats ((scope.old.captured ++ names scope.old.group) ++ last.variable ∷ binders_of body.now)) }
 {
     scope.begin(last.variable)?;
-    found.push(entry)?;
     walk(alloc, scope, body, found)?;
     Ok(())
 }

@@ -1,12 +1,10 @@
-use Rattle.std.proofs.Common.{ap}
-use Rattle.capture_table.specs.Tables.{entries_are}
 use Rattle.capture_table.proofs.Agree.{captured-all}
 use Rattle.capture_scope.proofs.Repeating.{fault-passed}
 use Rattle.capture_table.proofs.Twice.{none-twice}
 use Rattle.capture_table.proofs.table.find_captures.Goals as goal
 
 pub returns-clause-table : goal.returns-clause-table
-returns-clause-table c = λ types strings. captured-all types strings c.args.body.now (entries_are c.new-entries.result.items) (entries_are c.walk.new.found.items) c.new-scope.result (ap entries_are c.new-entries.ensures.items) c.new-scope.ensures c.in_ok-walk.ensures.table
+returns-clause-table c = λ types strings. captured-all types strings c.args.body.now c.new-found.result c.walk.new.found c.new-scope.result c.new-found.ensures c.new-scope.ensures c.in_ok-walk.ensures.table
 
 pub returns-in_err-walk-clause-twice : goal.returns-in_err-walk-clause-twice
 returns-in_err-walk-clause-twice c =

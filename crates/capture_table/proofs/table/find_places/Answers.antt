@@ -1,4 +1,4 @@
-use Rattle.std.proofs.Common.{◌-◌, get_or, refl, arith}
+use Rattle.std.proofs.Common.{◌-◌, arith}
 use Rattle.capture_table.proofs.Placing.{placed-next}
 use Rattle.capture_table.proofs.table.find_places.Goals as goal
 
@@ -8,6 +8,6 @@ loop-left-preserved c =
     let q = c.loop-left-test.true in
     record {
       within = omega (arith, w);
-      placed = placed-next c.args.entries.now c.loop-left.left (c.loop-left.left - 1) (get_or c.args.entries.now (c.loop-left.left - 1) c.index-entries-left.result) c.index-entries-left.result c.loop-left.places.entries c.insert.new.self.entries (omega (arith, q)) (omega (arith, w, q))
-          refl c.in_ok-insert.ensures.updates.0 c.loop-left.invariant.placed;
+      placed = placed-next c.args.found.now c.loop-left.left (c.loop-left.left - 1) c.number_at.result c.loop-left.places.entries c.insert.new.self.entries (omega (arith, q)) (omega (arith, w, q))
+          c.number_at.ensures c.in_ok-insert.ensures.updates.0 c.loop-left.invariant.placed;
     }

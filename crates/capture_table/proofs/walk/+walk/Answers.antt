@@ -1,14 +1,14 @@
-use Rattle.std.proofs.Common.{◌≡◌, ◌+◌, ◌-◌, ◌<◌, ◌∙◌, ◌++◌, ◌∷◌, [], map, take, length, get_or, ap, sym, refl, subst, arith}
+use Rattle.std.proofs.Common.{◌≡◌, ◌+◌, ◌-◌, ◌<◌, ◌∙◌, ◌++◌, ◌∷◌, [], map, take, drop, length, get_or, ap, ap₂, sym, refl, subst, arith}
 use Rattle.closure_convert.specs.Scope.{Scope}
 use Rattle.capture_scope.specs.Seen.{members_of}
 use Rattle.capture_scope.specs.Found.{pieces_of}
-use Rattle.closure_convert.specs.Capture as clean
+use Rattle.closure_convert.specs.Closed.{scope_of}
+use Rattle.closure_convert.specs.Capture.{cut}
 use Rattle.capture_scope.specs.Repeats.{Repeats}
-use Rattle.capture_table.specs.Told.{more, case_binds, backs, after, marks, members_told, first_parameter, function_table, exp_told, step_told, arm_told, function_told}
-use Rattle.capture_table.specs.Tables.{entry_is, entries_are}
-use Rattle.capture_table.proofs.Growing.{map-last}
+use Rattle.capture_table.proofs.Levels.{captured-used}
+use Rattle.capture_table.specs.Told.{entry, used_in, more, case_binds, backs, after, marks, members_told, first_parameter, function_table, exp_told, step_told, arm_told, function_told}
 use Rattle.capture_table.proofs.Curried.{curried-parts, curried-told}
-use Rattle.capture_table.proofs.Walking.{left-is, body-told, all-next, all-done, functions-next, functions-done, steps-next, after-next, marks-next, steps-done, after-done, marks-done, back-scope, back-next}
+use Rattle.capture_table.proofs.Walking.{left-is, all-next, all-done, functions-next, functions-done, steps-next, after-next, marks-next, steps-done, after-done, marks-done, back-scope, back-next, told-kept}
 use Rattle.plain_tree.specs.Sums.{joined, variables_of, binders_of, arm_binders}
 use Rattle.closure_convert.specs.Scope.{names}
 use Rattle.closure_convert.specs.Capture.{visible}
@@ -19,22 +19,22 @@ use Rattle.capture_table.proofs.walk.+walk.Goals as goal
 
 pub walk_all-loop-i-preserved : goal.walk_all-loop-i-preserved
 walk_all-loop-i-preserved t c = record {
-  table = all-next exp_told c.args.attempts.now c.loop-i.i c.args.scope.now (entries_are c.args.found.now.items) (entries_are c.loop-i.found.items) c.index-attempts-i.result c.index-attempts-i.result c.loop-i.scope (entries_are c.walk.new.found.items)
+  table = all-next exp_told c.args.attempts.now c.loop-i.i c.args.scope.now c.args.found.now c.loop-i.found c.index-attempts-i.result c.index-attempts-i.result c.loop-i.scope c.walk.new.found
       c.loop-i-test.true c.index-attempts-i.is c.loop-i.invariant.scope c.in_ok-walk.ensures.table c.loop-i.invariant.table;
   scope = c.in_ok-walk.ensures.scope ∙ c.loop-i.invariant.scope;
 }
 
 pub walk_arms-loop-i-preserved : goal.walk_arms-loop-i-preserved
 walk_arms-loop-i-preserved t c = record {
-  table = all-next arm_told c.args.arms.now c.loop-i.i c.args.scope.now (entries_are c.args.found.now.items) (entries_are c.loop-i.found.items) c.index-arms-i.result c.index-arms-i.result c.loop-i.scope (entries_are c.walk_arm.new.found.items)
+  table = all-next arm_told c.args.arms.now c.loop-i.i c.args.scope.now c.args.found.now c.loop-i.found c.index-arms-i.result c.index-arms-i.result c.loop-i.scope c.walk_arm.new.found
       c.loop-i-test.true c.index-arms-i.is c.loop-i.invariant.scope c.in_ok-walk_arm.ensures.table c.loop-i.invariant.table;
   scope = c.in_ok-walk_arm.ensures.scope ∙ c.loop-i.invariant.scope;
 }
 
 pub walk_functions-loop-i-preserved : goal.walk_functions-loop-i-preserved
 walk_functions-loop-i-preserved t c = record {
-  table = functions-next function_told c.args.functions.now c.loop-i.i (pieces_of c.args.entry.now.pieces.items) c.args.entry.now.captured.items (members_of c.args.group.now) (entries_are c.args.found.now.items) (entries_are c.loop-i.found.items)
-      c.index-functions-i.result c.index-functions-i.result c.loop-i.scope.group (entries_are c.walk_member.new.found.items) c.loop-i-test.true c.index-functions-i.is c.loop-i.invariant.group c.in_ok-walk_member.ensures.table c.loop-i.invariant.table;
+  table = functions-next function_told c.args.functions.now c.loop-i.i (pieces_of c.args.capture.now.pieces.items) c.args.capture.now.captured.items (members_of c.args.group.now) c.args.found.now c.loop-i.found
+      c.index-functions-i.result c.index-functions-i.result c.loop-i.scope.group c.walk_member.new.found c.loop-i-test.true c.index-functions-i.is c.loop-i.invariant.group c.in_ok-walk_member.ensures.table c.loop-i.invariant.table;
   captured = c.in_ok-walk_member.ensures.captured ∙ c.loop-i.invariant.captured;
   group = c.in_ok-walk_member.ensures.group ∙ c.loop-i.invariant.group;
 }
@@ -43,17 +43,17 @@ pub walk_steps-loop-i-preserved : goal.walk_steps-loop-i-preserved
 walk_steps-loop-i-preserved t c =
     let b = c.in_ok-bind_step.ensures.scope ∙ ap (more (step_told c.index-steps-i.result).binds) c.in_ok-walk_step.ensures.scope in
     record {
-      table = steps-next step_told c.args.steps.now c.loop-i.i c.index-steps-i.result c.index-steps-i.result c.args.scope.now c.loop-i.scope (entries_are c.args.found.now.items) (entries_are c.loop-i.found.items) (entries_are c.walk_step.new.found.items)
+      table = steps-next step_told c.args.steps.now c.loop-i.i c.index-steps-i.result c.index-steps-i.result c.args.scope.now c.loop-i.scope c.args.found.now c.loop-i.found c.walk_step.new.found
           c.loop-i-test.true c.index-steps-i.is c.loop-i.invariant.scope c.bind_step.new.scope b c.in_ok-walk_step.ensures.table c.loop-i.invariant.table;
-      scope = after-next step_told c.args.steps.now c.loop-i.i c.index-steps-i.result c.index-steps-i.result c.args.scope.now c.loop-i.scope (entries_are c.args.found.now.items) (entries_are c.loop-i.found.items) (entries_are c.walk_step.new.found.items)
+      scope = after-next step_told c.args.steps.now c.loop-i.i c.index-steps-i.result c.index-steps-i.result c.args.scope.now c.loop-i.scope c.args.found.now c.loop-i.found c.walk_step.new.found
           c.loop-i-test.true c.index-steps-i.is c.loop-i.invariant.scope c.bind_step.new.scope b;
-      seen = marks-next step_told c.args.steps.now c.loop-i.i c.index-steps-i.result c.index-steps-i.result c.args.scope.now c.loop-i.scope (entries_are c.args.found.now.items) (entries_are c.loop-i.found.items) (entries_are c.walk_step.new.found.items)
+      seen = marks-next step_told c.args.steps.now c.loop-i.i c.index-steps-i.result c.index-steps-i.result c.args.scope.now c.loop-i.scope c.args.found.now c.loop-i.found c.walk_step.new.found
           c.loop-i-test.true c.index-steps-i.is c.loop-i.invariant.scope c.loop-i.seen.items c.push.new.self.items c.args.seen.now.items c.loop-i.invariant.seen
           (c.in_ok-push.ensures.items ∙ ap (λ n. c.loop-i.seen.items ++ n ∷ []) c.len.ensures);
     }
 
 pub walk_steps-returns-clause-table : goal.walk_steps-returns-clause-table
-walk_steps-returns-clause-table t c = steps-done step_told c.args.steps.now c.loop-i.i c.args.scope.now c.loop-i.scope (entries_are c.args.found.now.items) (entries_are c.loop-i.found.items) c.loop-i-test.false c.loop-i.invariant.table
+walk_steps-returns-clause-table t c = steps-done step_told c.args.steps.now c.loop-i.i c.args.scope.now c.loop-i.scope c.args.found.now c.loop-i.found c.loop-i-test.false c.loop-i.invariant.table
 
 pub walk_steps-returns-clause-scope : goal.walk_steps-returns-clause-scope
 walk_steps-returns-clause-scope t c = after-done step_told c.args.steps.now c.loop-i.i c.args.scope.now c.loop-i.scope c.loop-i-test.false c.loop-i.invariant.scope
@@ -71,27 +71,27 @@ walk_others-loop-left-preserved t c =
     (c.loop-left.invariant.scope s p r) c.leave_to.ensures in
     record {
       within = omega (arith, w);
-      table = λ s es p r. back-next step_told c.args.steps.now c.loop-left.left (c.loop-left.left - 1) c.index-steps-left.result c.index-steps-left.result s c.leave_to.new.self (entries_are c.args.found.now.items) (entries_are c.loop-left.found.items)
-          (entries_are c.walk_back.new.found.items) m lt c.index-steps-left.is (at s p r) c.in_ok-walk_back.ensures.table (λ l. c.loop-left.invariant.table s l p r) es;
+      table = λ s es p r. back-next step_told c.args.steps.now c.loop-left.left (c.loop-left.left - 1) c.index-steps-left.result c.index-steps-left.result s c.leave_to.new.self c.args.found.now c.loop-left.found
+          c.walk_back.new.found m lt c.index-steps-left.is (at s p r) c.in_ok-walk_back.ensures.table (λ l. c.loop-left.invariant.table s l p r) es;
       scope = λ s p r. c.in_ok-walk_back.ensures.scope ∙ at s p r;
     }
 
 pub walk_others-returns-clause-table : goal.walk_others-returns-clause-table
 walk_others-returns-clause-table t c = λ s es p r. c.loop-left.invariant.table s es p r
-    ∙ ap (λ n. entries_are c.loop-left.found.items ++ backs (map step_told (take n c.args.steps.now)) s es) (let h = c.loop-left-test.false in let z : c.loop-left.left ≡ 0 = omega (arith, h) in z)
+    ∙ ap (λ n. c.loop-left.found ++ backs (map step_told (take n c.args.steps.now)) s es) (let h = c.loop-left-test.false in let z : c.loop-left.left ≡ 0 = omega (arith, h) in z)
 
 pub walk_others-returns-clause-scope : goal.walk_others-returns-clause-scope
 walk_others-returns-clause-scope t c = λ s p r. c.loop-left.invariant.scope s p r ∙ ap (λ n. after (map step_told (take n c.args.steps.now)) s) (let h = c.loop-left-test.false in let z : c.loop-left.left ≡ 0 = omega (arith, h) in z)
 
 pub walk_all-returns-clause-table : goal.walk_all-returns-clause-table
-walk_all-returns-clause-table t c = all-done exp_told c.args.attempts.now c.loop-i.i c.args.scope.now (entries_are c.args.found.now.items) (entries_are c.loop-i.found.items) c.loop-i-test.false c.loop-i.invariant.table
+walk_all-returns-clause-table t c = all-done exp_told c.args.attempts.now c.loop-i.i c.args.scope.now c.args.found.now c.loop-i.found c.loop-i-test.false c.loop-i.invariant.table
 
 pub walk_arms-returns-clause-table : goal.walk_arms-returns-clause-table
-walk_arms-returns-clause-table t c = all-done arm_told c.args.arms.now c.loop-i.i c.args.scope.now (entries_are c.args.found.now.items) (entries_are c.loop-i.found.items) c.loop-i-test.false c.loop-i.invariant.table
+walk_arms-returns-clause-table t c = all-done arm_told c.args.arms.now c.loop-i.i c.args.scope.now c.args.found.now c.loop-i.found c.loop-i-test.false c.loop-i.invariant.table
 
 pub walk_functions-returns-clause-table : goal.walk_functions-returns-clause-table
 walk_functions-returns-clause-table t c =
-    functions-done function_told c.args.functions.now c.loop-i.i (pieces_of c.args.entry.now.pieces.items) c.args.entry.now.captured.items (members_of c.args.group.now) (entries_are c.args.found.now.items) (entries_are c.loop-i.found.items)
+    functions-done function_told c.args.functions.now c.loop-i.i (pieces_of c.args.capture.now.pieces.items) c.args.capture.now.captured.items (members_of c.args.group.now) c.args.found.now c.loop-i.found
     c.loop-i-test.false c.loop-i.invariant.table
 
 pub walk_handler-returns-clause-scope : goal.walk_handler-returns-clause-scope
@@ -101,9 +101,7 @@ pub walk_arm-returns-clause-scope : goal.walk_arm-returns-clause-scope
 walk_arm-returns-clause-scope t c = left-is (case_binds c.args.arm.now.case) c.args.scope.now c.walk.new.scope c.leave_to.new.self c.len-len.result c.len-len.ensures (c.in_ok-walk.ensures.scope ∙ c.in_ok-bind_case.ensures.scope) c.leave_to.ensures
 
 pub walk_body-returns-clause-table : goal.walk_body-returns-clause-table
-walk_body-returns-clause-table t c =
-    body-told (exp_told c.args.body.now).table c.args.found.now.items c.push.new.self.items c.walk.new.found.items c.args.entry c.args.last.variable c.args.scope.now.captured c.begin.new.self c.args.scope.now.group c.requires.number
-    (sym c.requires.captured) c.in_ok-begin.ensures.ok c.in_ok-push.ensures.items c.in_ok-walk.ensures.table
+walk_body-returns-clause-table t c = λ es. ap (λ (z : Scope). c.args.found.now ++ (exp_told c.args.body.now).table z es) (sym c.in_ok-begin.ensures.ok) ∙ c.in_ok-walk.ensures.table es
 
 -- Where the walk stops for a variable that is bound twice
 
@@ -162,28 +160,28 @@ walk_handler-returns-in_err-walk-clause-twice t c =
 pub walk_functions-returns-in_err-walk_member-clause-twice : goal.walk_functions-returns-in_err-walk_member-clause-twice
 walk_functions-returns-in_err-walk_member-clause-twice t c =
     twice-passed c.from_residual-in_err-walk_member.result c.in_err-walk_member.field-0.0 c.from_residual-in_err-walk_member.ensures.1 _ _
-    (λ r. part-twice inner_binders (c.args.entry.now.captured.items ++ names (members_of c.args.group.now)) c.args.functions.now c.loop-i.i c.index-functions-i.result c.index-functions-i.result c.loop-i-test.true c.index-functions-i.is
-    (subst (λ m. Repeats ((c.args.entry.now.captured.items ++ names m) ++ inner_binders c.index-functions-i.result)) c.loop-i.invariant.group r)) c.in_err-walk_member.ensures.twice
+    (λ r. part-twice inner_binders (c.args.capture.now.captured.items ++ names (members_of c.args.group.now)) c.args.functions.now c.loop-i.i c.index-functions-i.result c.index-functions-i.result c.loop-i-test.true c.index-functions-i.is
+    (subst (λ m. Repeats ((c.args.capture.now.captured.items ++ names m) ++ inner_binders c.index-functions-i.result)) c.loop-i.invariant.group r)) c.in_err-walk_member.ensures.twice
 
 pub walk_functions-returns-in_err-scope-clause-twice : goal.walk_functions-returns-in_err-scope-clause-twice
 walk_functions-returns-in_err-scope-clause-twice t c =
     twice-passed c.from_residual.result c.in_err-scope.field-0.0 c.from_residual.ensures.1 _ _
-    (unbound-twice c.args.entry.now.captured.items c.deref.result.now (members_of c.args.group.now) (joined (map inner_binders c.args.functions.now)) c.deref.ensures.value) c.in_err-scope.ensures.twice
+    (unbound-twice c.args.capture.now.captured.items c.deref.result.now (members_of c.args.group.now) (joined (map inner_binders c.args.functions.now)) c.deref.ensures.value) c.in_err-scope.ensures.twice
 
 pub walk_alone-returns-in_err-scope-clause-twice : goal.walk_alone-returns-in_err-scope-clause-twice
 walk_alone-returns-in_err-scope-clause-twice t c =
     twice-passed c.from_residual.result c.in_err-scope.field-0.0 c.from_residual.ensures.1 _ _
-    (unbound-twice c.args.first.captured.items c.deref.result.now [] (variables_of c.args.parameters.now ++ c.args.last.variable ∷ binders_of c.args.body.now) c.deref.ensures.value) c.in_err-scope.ensures.twice
+    (unbound-twice c.args.capture.now.captured.items c.deref.result.now [] (variables_of c.args.parameters.now ++ c.args.last.variable ∷ binders_of c.args.body.now) c.deref.ensures.value) c.in_err-scope.ensures.twice
 
 pub walk_body-returns-in_err-begin-clause-twice : goal.walk_body-returns-in_err-begin-clause-twice
 walk_body-returns-in_err-begin-clause-twice t c =
     twice-passed c.from_residual.result c.in_err-begin.field-0.0 c.from_residual.ensures.1 _ _
-    (entered-twice c.args.entry.captured.items c.args.scope.now.captured c.args.scope.now.group c.args.last.variable (binders_of c.args.body.now) (sym c.requires.captured)) c.in_err-begin.ensures.twice
+    (entered-twice c.args.scope.now.captured c.args.scope.now.captured c.args.scope.now.group c.args.last.variable (binders_of c.args.body.now) refl) c.in_err-begin.ensures.twice
 
 pub walk_body-returns-in_err-walk-clause-twice : goal.walk_body-returns-in_err-walk-clause-twice
 walk_body-returns-in_err-walk-clause-twice t c =
     twice-passed c.from_residual-in_err-walk.result c.in_err-walk.field-0.0 c.from_residual-in_err-walk.ensures.1 _ _
-    (body-twice c.args.entry.captured.items c.args.scope.now.captured c.args.scope.now.group c.args.last.variable (binders_of c.args.body.now) c.begin.new.self (sym c.requires.captured) c.in_ok-begin.ensures.ok) c.in_err-walk.ensures.twice
+    (body-twice c.args.scope.now.captured c.args.scope.now.captured c.args.scope.now.group c.args.last.variable (binders_of c.args.body.now) c.begin.new.self refl c.in_ok-begin.ensures.ok) c.in_err-walk.ensures.twice
 
 pub walk-returns-in_err-walk_steps-in-Steps-clause-twice : goal.walk-returns-in_err-walk_steps-in-Steps-clause-twice
 walk-returns-in_err-walk_steps-in-Steps-clause-twice t c =
@@ -238,61 +236,84 @@ walk_step-returns-in_ok-walk-in-Handle-clause-twice t c =
     (handler-twice c.args.scope.now c.args.step.now c.in-Handle.binding c.in-Handle.body c.in-Handle.packet c.in-Handle.handler c.deref-in-Handle-2.result.now c.walk-in-Handle.new.scope c.in-Handle.is c.deref-in-Handle-2.ensures
     c.in_ok-walk-in-Handle.ensures.scope) c.walk_handler.ensures.twice
 
-pub walk_step-returns-in_ok-entry-in-Fn-clause-twice : goal.walk_step-returns-in_ok-entry-in-Fn-clause-twice
-walk_step-returns-in_ok-entry-in-Fn-clause-twice t c =
+pub walk_step-returns-in_ok-capture-in-Fn-clause-twice : goal.walk_step-returns-in_ok-capture-in-Fn-clause-twice
+walk_step-returns-in_ok-capture-in-Fn-clause-twice t c =
     twice-kept c.walk_alone.result _ _
-    (step-fn-twice c.args.scope.now c.args.step.now _ c.in_ok-entry-in-Fn.entry.captured.items c.in-Fn.binding c.in-Fn.parameters c.in-Fn.last c.in-Fn.body c.deref-in-Fn-3.result.now c.deref-in-Fn-4.result.now c.in-Fn.is
-    c.deref-in-Fn-3.ensures.value c.deref-in-Fn-4.ensures (ap (λ (v : clean.Entry). v.captured) c.in_ok-entry-in-Fn.ensures.table)) c.walk_alone.ensures.twice
+    (step-fn-twice c.args.scope.now c.args.step.now _ c.in_ok-capture-in-Fn.capture.captured.items c.in-Fn.binding c.in-Fn.parameters c.in-Fn.last c.in-Fn.body c.deref-in-Fn-2.result.now c.deref-in-Fn-3.result.now c.in-Fn.is
+    c.deref-in-Fn-2.ensures.value c.deref-in-Fn-3.ensures c.in_ok-capture-in-Fn.ensures.captured) c.walk_alone.ensures.twice
 
-pub walk_step-returns-in_ok-entry-in-Group-clause-twice : goal.walk_step-returns-in_ok-entry-in-Group-clause-twice
-walk_step-returns-in_ok-entry-in-Group-clause-twice t c =
+pub walk_step-returns-in_ok-capture-in-Group-clause-twice : goal.walk_step-returns-in_ok-capture-in-Group-clause-twice
+walk_step-returns-in_ok-capture-in-Group-clause-twice t c =
     twice-kept c.walk_functions.result _ _
-    (step-group-twice c.args.scope.now c.args.step.now _ c.in_ok-entry-in-Group.entry.captured.items (members_of c.deref-in-Group-4.result.now) c.in-Group.field-0 c.in-Group.functions c.deref-in-Group-5.result.now c.in-Group.is
-    c.deref-in-Group-5.ensures.value (ap (λ (v : clean.Entry). v.captured) c.in_ok-entry-in-Group.ensures.table)
+    (step-group-twice c.args.scope.now c.args.step.now _ c.in_ok-capture-in-Group.capture.captured.items (members_of c.deref-in-Group-4.result.now) c.in-Group.field-0 c.in-Group.functions c.deref-in-Group-5.result.now c.in-Group.is
+    c.deref-in-Group-5.ensures.value c.in_ok-capture-in-Group.ensures.captured
     (ap members_of c.deref-in-Group-4.ensures.value ∙ c.in_ok-group-in-Group.ensures ∙ ap (λ l. members_told (map function_told l)) (c.deref-in-Group-2.ensures.value ∙ sym c.deref-in-Group-5.ensures.value))) c.walk_functions.ensures.twice
+
+-- A curried function
+
+pub walk_function-push_inner-requires : goal.walk_function-push_inner-requires
+walk_function-push_inner-requires t c = captured-used (scope_of c.args.scope.now.captured c.args.scope.now.group c.number_of-number.result) c.args.uses.now c.in_ok-inner.inner.captured.items c.in_ok-inner.ensures.captured
 
 pub walk_function-returns-in_err-inner-clause-twice : goal.walk_function-returns-in_err-inner-clause-twice
 walk_function-returns-in_err-inner-clause-twice t c =
-    let vs = c.args.first.captured.items ++ names c.args.scope.now.group in
+    let vs = c.args.capture.now.captured.items ++ names c.args.scope.now.group in
     let zs = c.args.last.variable ∷ binders_of c.args.body.now in
-    let a = curried-parts c.args.parameters.now c.rest_of-rest.result.now c.args.last c.is_empty.result c.is_empty.ensures c.if-is_empty.false c.rest_of-rest.ensures in
-    twice-passed c.from_residual.result c.in_err-inner.field-0.0 c.from_residual.ensures.1 _ _
+    let a = curried-parts c.args.parameters.now (drop 1 c.args.parameters.now) c.args.last c.is_empty.result c.is_empty.ensures c.if-is_empty.false refl in
+    twice-passed c.from_residual-in_err-inner.result c.in_err-inner.field-0.0 c.from_residual-in_err-inner.ensures.1 _ _
     (λ r. subst (λ l. Repeats (vs ++ (variables_of l ++ zs))) (sym a)
-    (first-twice vs (get_or c.args.parameters.now 0 c.args.last) c.args.last c.rest_of-rest.result.now zs c.args.first.number (c.requires.number ∙ ap (λ l. first_parameter l c.args.last) a) r)) c.in_err-inner.ensures.twice
+    (first-twice vs (get_or c.args.parameters.now 0 c.args.last) c.args.last (drop 1 c.args.parameters.now) zs c.number_of-number.result (c.number_of-number.ensures ∙ ap (λ l. first_parameter l c.args.last) a)
+    (subst (λ l. Repeats ((l ++ names c.args.scope.now.group) ++ c.number_of-number.result ∷ [])) (sym c.requires) r))) c.in_err-inner.ensures.twice
 
 pub walk_function-returns-in_err-innermost-clause-twice : goal.walk_function-returns-in_err-innermost-clause-twice
 walk_function-returns-in_err-innermost-clause-twice t c =
-    let a = curried-parts c.args.parameters.now c.rest_of-rest.result.now c.args.last c.is_empty.result c.is_empty.ensures c.if-is_empty.false c.rest_of-rest.ensures in
+    let a = curried-parts c.args.parameters.now c.rest_of.result.now c.args.last c.is_empty.result c.is_empty.ensures c.if-is_empty.false c.rest_of.ensures in
     twice-passed c.from_residual-in_err-innermost.result c.in_err-innermost.field-0.0 c.from_residual-in_err-innermost.ensures.1 _ _
-    (inner-twice [] c.args.first.captured.items c.args.scope.now.group (get_or c.args.parameters.now 0 c.args.last) c.args.last c.rest_of-rest.result.now c.args.parameters.now c.args.first.number c.args.uses.now (binders_of c.args.body.now)
-    c.in_ok-inner.inner.captured.items a (c.requires.number ∙ ap (λ l. first_parameter l c.args.last) a) (ap (λ (v : clean.Entry). v.captured) c.in_ok-inner.ensures.table)) c.in_err-innermost.ensures.twice
+    (inner-twice [] c.args.capture.now.captured.items c.args.scope.now.group (get_or c.args.parameters.now 0 c.args.last) c.args.last c.rest_of.result.now c.args.parameters.now c.number_of-number.result c.args.uses.now (binders_of c.args.body.now)
+    c.in_ok-inner.inner.captured.items a (c.number_of-number.ensures ∙ ap (λ l. first_parameter l c.args.last) a)
+    (c.in_ok-inner.ensures.captured ∙ ap (λ l. used_in (scope_of l c.args.scope.now.group c.number_of-number.result) c.args.uses.now) (sym c.requires))) c.in_err-innermost.ensures.twice
 
 pub walk_function-returns-in_err-own-clause-twice : goal.walk_function-returns-in_err-own-clause-twice
 walk_function-returns-in_err-own-clause-twice t c =
-    let a = curried-parts c.args.parameters.now c.rest_of-rest.result.now c.args.last c.is_empty.result c.is_empty.ensures c.if-is_empty.false c.rest_of-rest.ensures in
+    let a = curried-parts c.args.parameters.now c.rest_of.result.now c.args.last c.is_empty.result c.is_empty.ensures c.if-is_empty.false c.rest_of.ensures in
     twice-passed c.from_residual-in_err-own.result c.in_err-own.field-0.0 c.from_residual-in_err-own.ensures.1 _ _
-    (λ r. innermost-twice [] c.args.first.captured.items c.args.scope.now.group (get_or c.args.parameters.now 0 c.args.last) c.args.last c.rest_of-rest.result.now c.args.parameters.now c.args.first.number c.args.uses.now (binders_of c.args.body.now)
-    c.in_ok-inner.inner.captured.items a (c.requires.number ∙ ap (λ l. first_parameter l c.args.last) a) (ap (λ (v : clean.Entry). v.captured) c.in_ok-inner.ensures.table) c.in_ok-innermost.innermost.captured.items c.in_ok-innermost.ensures.within
-    (unbound-twice c.in_ok-innermost.innermost.captured.items c.deref.result.now [] (c.args.last.variable ∷ binders_of c.args.body.now) c.deref.ensures.value r))
+    (λ r. innermost-twice [] c.args.capture.now.captured.items c.args.scope.now.group (get_or c.args.parameters.now 0 c.args.last) c.args.last c.rest_of.result.now c.args.parameters.now c.number_of-number.result c.args.uses.now (binders_of c.args.body.now)
+    c.in_ok-inner.inner.captured.items a (c.number_of-number.ensures ∙ ap (λ l. first_parameter l c.args.last) a)
+    (c.in_ok-inner.ensures.captured ∙ ap (λ l. used_in (scope_of l c.args.scope.now.group c.number_of-number.result) c.args.uses.now) (sym c.requires)) c.in_ok-innermost.innermost.items c.in_ok-innermost.ensures.within
+    (unbound-twice c.in_ok-innermost.innermost.items c.deref-3.result.now [] (c.args.last.variable ∷ binders_of c.args.body.now) c.deref-3.ensures.value r))
     c.in_err-own.ensures.twice
 
 pub walk_function-returns-in_err-walk_body-clause-twice : goal.walk_function-returns-in_err-walk_body-clause-twice
 walk_function-returns-in_err-walk_body-clause-twice t c =
-    let a = curried-parts c.args.parameters.now c.rest_of-rest.result.now c.args.last c.is_empty.result c.is_empty.ensures c.if-is_empty.false c.rest_of-rest.ensures in
+    let a = curried-parts c.args.parameters.now c.rest_of.result.now c.args.last c.is_empty.result c.is_empty.ensures c.if-is_empty.false c.rest_of.ensures in
     twice-passed c.from_residual-in_err-walk_body.result c.in_err-walk_body.field-0.0 c.from_residual-in_err-walk_body.ensures.1 _ _
-    (λ r. innermost-twice [] c.args.first.captured.items c.args.scope.now.group (get_or c.args.parameters.now 0 c.args.last) c.args.last c.rest_of-rest.result.now c.args.parameters.now c.args.first.number c.args.uses.now (binders_of c.args.body.now)
-    c.in_ok-inner.inner.captured.items a (c.requires.number ∙ ap (λ l. first_parameter l c.args.last) a) (ap (λ (v : clean.Entry). v.captured) c.in_ok-inner.ensures.table) c.in_ok-innermost.innermost.captured.items c.in_ok-innermost.ensures.within
-    (subst (λ m. Repeats ((c.in_ok-innermost.innermost.captured.items ++ names m) ++ c.args.last.variable ∷ binders_of c.args.body.now)) (ap (λ (s : Scope). s.group) c.in_ok-own.ensures.ok) r))
+    (λ r. innermost-twice [] c.args.capture.now.captured.items c.args.scope.now.group (get_or c.args.parameters.now 0 c.args.last) c.args.last c.rest_of.result.now c.args.parameters.now c.number_of-number.result c.args.uses.now (binders_of c.args.body.now)
+    c.in_ok-inner.inner.captured.items a (c.number_of-number.ensures ∙ ap (λ l. first_parameter l c.args.last) a)
+    (c.in_ok-inner.ensures.captured ∙ ap (λ l. used_in (scope_of l c.args.scope.now.group c.number_of-number.result) c.args.uses.now) (sym c.requires)) c.in_ok-innermost.innermost.items c.in_ok-innermost.ensures.within
+    (subst (λ (s : Scope). Repeats ((s.captured ++ names s.group) ++ c.args.last.variable ∷ binders_of c.args.body.now))
+    (c.in_ok-own.ensures.ok ∙ ap (λ l. record { locals = []; group = []; captured = l }) c.deref-3.ensures.value) r))
     c.in_err-walk_body.ensures.twice
 
 pub walk_function-returns-clause-table : goal.walk_function-returns-clause-table
 walk_function-returns-clause-table t c = λ es.
-    let a = curried-parts c.args.parameters.now c.rest_of-rest.result.now c.args.last c.is_empty.result c.is_empty.ensures c.if-is_empty.false c.rest_of-rest.ensures in
-    curried-told c.args.uses.now c.args.last (exp_told c.args.body.now).table c.args.parameters.now c.rest_of-rest.result.now (get_or c.args.parameters.now 0 c.args.last) a c.args.first.number (c.requires.number ∙ ap (λ l. first_parameter l c.args.last) a)
-    (pieces_of c.args.first.pieces.items) (pieces_of c.in_ok-inner.inner.pieces.items) c.args.first.captured.items c.in_ok-inner.inner.captured.items c.args.scope.now.group
-    (ap (λ (v : clean.Entry). v.captured) c.in_ok-inner.ensures.table) (ap (λ (v : clean.Entry). v.pieces) c.in_ok-inner.ensures.table)
-    (entries_are c.args.found.now.items) (entries_are c.push.new.self.items) _ (ap entries_are c.in_ok-push.ensures.items ∙ map-last entry_is c.args.found.now.items c.args.first) es
-    (c.in_ok-innermost.ensures.table (exp_told c.args.body.now).table es
-    ∙ ap (λ m. entries_are c.push_curried.new.found.items ++ function_table [] [] c.args.last (exp_told c.args.body.now).table (pieces_of c.in_ok-innermost.innermost.pieces.items) c.in_ok-innermost.innermost.captured.items m es)
-    (sym (ap (λ (s : Scope). s.group) c.in_ok-own.ensures.ok))
+    let a = curried-parts c.args.parameters.now c.rest_of.result.now c.args.last c.is_empty.result c.is_empty.ensures c.if-is_empty.false c.rest_of.ensures in
+    let T = (exp_told c.args.body.now).table in
+    curried-told c.args.uses.now c.args.last T c.args.parameters.now c.rest_of.result.now (get_or c.args.parameters.now 0 c.args.last) a c.number_of-number.result (c.number_of-number.ensures ∙ ap (λ l. first_parameter l c.args.last) a)
+    (pieces_of c.args.capture.now.pieces.items) (pieces_of c.in_ok-inner.inner.pieces.items) c.args.capture.now.captured.items c.in_ok-inner.inner.captured.items c.args.scope.now.group
+    (c.in_ok-inner.ensures.captured ∙ ap (λ l. used_in (scope_of l c.args.scope.now.group c.number_of-number.result) c.args.uses.now) (sym c.requires))
+    (c.in_ok-inner.ensures.pieces ∙ ap (λ l. cut (scope_of l c.args.scope.now.group c.number_of-number.result) (used_in (scope_of l c.args.scope.now.group c.number_of-number.result) c.args.uses.now)) (sym c.requires))
+    c.args.found.now c.push.new.self c.walk_body-2.new.found
+    (c.in_ok-push.ensures ∙ ap₂ (λ p l. c.args.found.now ++ entry c.number_of-number.result (pieces_of p) l ∷ []) c.deref-2.ensures.value c.deref.ensures.value) es
+    (c.in_ok-innermost.ensures.table T es
+    ∙ ap (λ (s : Scope). c.push_inner.new.found ++ T (scope_of s.captured s.group c.args.last.variable) es) (sym (c.in_ok-own.ensures.ok ∙ ap (λ l. record { locals = []; group = []; captured = l }) c.deref-3.ensures.value))
     ∙ c.in_ok-walk_body.ensures.table es)
+
+-- A function of a group
+
+pub walk_member-returns-clause-table : goal.walk_member-returns-clause-table
+walk_member-returns-clause-table t c =
+    let ps = pieces_of c.args.capture.now.pieces.items in
+    let cs = c.args.capture.now.captured.items in
+    let ms = c.args.scope.now.group in
+    let T = (exp_told c.args.function.now.body).table in
+    told-kept c.walk_function.result c.args.found.now c.walk_function.new.found ((function_told c.args.function.now).table ps cs ms) (function_table c.deref-2.result.now c.deref.result.now c.args.function.now.last T ps cs ms)
+    (λ es. c.in_ok-uses.ensures ps cs ms es ∙ ap₂ (λ us xs. function_table us xs c.args.function.now.last T ps cs ms es) (sym c.deref-2.ensures.value) (sym c.deref.ensures.value)) c.walk_function.ensures.table

@@ -1,16 +1,15 @@
-use Rattle.std.proofs.Common.{List, slice_get, sym, ap, ◌∙◌}
+use Rattle.std.proofs.Common.{List, sym, ap, ◌∙◌}
 use Rattle.closure_convert.specs.Capture.{Entry, entry_of, captured_in}
-use Rattle.capture_table.specs.Tables.{entries_are}
 use Rattle.capture_table.proofs.Placing.{entry-some, entry-none}
 use Rattle.capture_table.proofs.table.Captures.captured.Goals as goal
 
 pub returns-in-Some : goal.returns-in-Some
 returns-in-Some c =
-    c.captured_at.ensures ∙ ap (λ l. captured_in (slice_get (entries_are l) c.in-Some.place.now)) c.deref.ensures.value
-    ∙ ap captured_in (entry-some (entries_are c.self.inside.entries.items) c.self.inside.places.entries c.self.invariant c.args.function c.in-Some.place.now (sym c.in-Some.ensures.value))
+    c.captured_at.ensures
+    ∙ ap captured_in (entry-some c.self.inside.found c.self.inside.places.entries c.self.invariant c.args.function c.in-Some.place.now (sym c.in-Some.ensures.value))
     ∙ ap (λ (s : List Entry). captured_in (entry_of c.args.function s)) c.self.view_is
 
 pub returns-in-None : goal.returns-in-None
 returns-in-None c =
     sym (ap (λ (s : List Entry). captured_in (entry_of c.args.function s)) (sym c.self.view_is)
-    ∙ ap captured_in (entry-none (entries_are c.self.inside.entries.items) c.self.inside.places.entries c.self.invariant c.args.function (sym c.in-None.ensures.value)))
+    ∙ ap captured_in (entry-none c.self.inside.found c.self.inside.places.entries c.self.invariant c.args.function (sym c.in-None.ensures.value)))

@@ -1,5 +1,5 @@
 use Rattle.capture_table.proofs.Walking.{first-at, first-past}
-use Rattle.capture_table.proofs.walk.number_at.Goals as goal
+use Rattle.capture_table.proofs.found.number_after.Goals as goal
 
 pub returns-then-given-parameters : goal.returns-then-given-parameters
 returns-then-given-parameters c = first-at c.args.parameters.now c.args.given c.args.last _ c.if-given-parameters.true
