@@ -1,49 +1,29 @@
--- How many nodes the bare tree of each declaration has, without those that have counts of their own, and of a clause.
+-- How many nodes the bare tree of each declaration has, without its bindings, of the head of a function, and of a clause.
 use Rattle.std.proofs.Common.{◌≡◌, ◌≢◌, ℕ, suc, ◌+◌, ◌*◌, List, [], ◌∷◌, length, map, Vec, Global, refl, sym, ap, ◌∙◌, arith}
 use Rattle.std.proofs.lemmas.List.Sums.{sum_by-cons}
 use Rattle.std.specs.Prelude.{sum_by}
 use Rattle.mlc_base.specs.declared.place.Place.{Place}
 use Rattle.sml_tree.specs.BareTree as bare
-use Rattle.sml_tree.specs.Derived.{Operand, clause_rules, first_pats, fn_for, fresh_exp, fresh_for, numbered, numbered_pats, one_or_tuple, one_or_tuple_pat}
+use Rattle.sml_tree.specs.Derived.{Operand, clause_rules, first_pats, fn_for, fresh_for, numbered, one_or_tuple}
 use Rattle.sml_tree.specs.Derived as derived
-use Rattle.sml_tree.specs.TreeOf.{ExpFieldOf, RuleOf, binds_of, pat_of, node_bind, node_clause, node_exp_field, node_function, node_part, node_rule}
-use Rattle.sml_tree.specs.declared.tree.Bind.{Bind, fold-Bind, fold_out-Bind}
-use Rattle.sml_tree.specs.declared.tree.Clause.{Clause, fold_out-Clause}
+use Rattle.sml_tree.specs.TreeOf.{ExpFieldOf, RuleOf, clause_of, dec_of, decs_of, function_of, pat_of}
+use Rattle.sml_tree.specs.TreeOf.{node_dec, node_exp, node_bind, node_clause, node_exp_field, node_function, node_part, node_rule}
 use Rattle.sml_tree.specs.declared.tree.Dec.{Dec, Dec-F, fold-roll-Dec}
 use Rattle.sml_tree.specs.declared.tree.Dec.TheVariants as decs
 use Rattle.sml_tree.specs.declared.tree.Function.{Function, fold_out-Function, out-Function}
 use Rattle.sml_tree.specs.declared.tree.Joint.{Joint}
 use Rattle.sml_tree.specs.declared.tree.Pat.{Pat}
-use Rattle.sml_tree.specs.declared.tree.TyvarSeq.{TyvarSeq}
-use Rattle.exp_weights.specs.Nodes.{binds_count, dec_count, exp_count, exp_fields_count, pat_count, rules_count}
-use Rattle.exp_weights.specs.Own.{function_head, node_own_dec, node_own_exp, own_of}
-use Rattle.exp_weights.specs.Sums.{bind_nodes, dec_nodes, function_nodes, own_clause_of, own_function_of, pat_nodes}
-use Rattle.exp_weights.proofs.ExpNodes.{decs-count}
+use Rattle.exp_weights.specs.Nodes.{exp_count, exp_fields_count, outer_count, outer_dec_count, rules_count}
+use Rattle.exp_weights.specs.Own.{head_count}
+use Rattle.exp_weights.specs.Sums.{dec_nodes, pat_nodes}
 use Rattle.exp_weights.proofs.PatNodes.{numbered-count}
 
--- bindings after `rec`
+-- the heads of functions
 
-abbrev bind_of : Bind → RuleOf
-bind_of = fold-Bind bare.Dec bare.Exp RuleOf derived.Clause ExpFieldOf derived.Function (Operand Joint bare.Exp) RuleOf node_own_dec node_own_exp node_bind node_clause node_exp_field node_function node_part node_rule
+function-is : (g : Function) → function_of g ≡ record { place = (out-Function g).place; vid_place = (out-Function g).vid_place; vid = (out-Function g).vid; clauses = map clause_of (out-Function g).clauses.items }
+function-is = fold_out-Function bare.Dec bare.Exp RuleOf derived.Clause ExpFieldOf derived.Function (Operand Joint bare.Exp) RuleOf node_dec node_exp node_bind node_clause node_exp_field node_function node_part node_rule
 
-bind-is : (b : Bind) → bind_of b ≡ record { place = b.place; pat = pat_of b.pat; exp = own_of b.exp }
-bind-is = fold_out-Bind bare.Dec bare.Exp RuleOf derived.Clause ExpFieldOf derived.Function (Operand Joint bare.Exp) RuleOf node_own_dec node_own_exp node_bind node_clause node_exp_field node_function node_part node_rule
-
-binds-count : (bs : List Bind) → binds_count (binds_of (map bind_of bs)) ≡ sum_by bind_nodes bs
-binds-count [] = refl
-binds-count (b ∷ bs) =
-    let c = sum_by-cons bind_nodes b bs in let h = binds-count bs in
-    let e = ap (λ (x : RuleOf). exp_count x.exp) (bind-is b) in let a = ap (λ (x : RuleOf). pat_count x.pat) (bind-is b) in omega (arith, c, h, e, a)
-
--- functions of `fun`
-
-clause-is : (c : Clause) → own_clause_of c ≡ record { place = c.place; pats = map pat_of c.pats.items; body = own_of c.exp }
-clause-is = fold_out-Clause bare.Dec bare.Exp RuleOf derived.Clause ExpFieldOf derived.Function (Operand Joint bare.Exp) RuleOf node_own_dec node_own_exp node_bind node_clause node_exp_field node_function node_part node_rule
-
-function-is : (g : Function) → own_function_of g ≡ record { place = (out-Function g).place; vid_place = (out-Function g).vid_place; vid = (out-Function g).vid; clauses = map own_clause_of (out-Function g).clauses.items }
-function-is = fold_out-Function bare.Dec bare.Exp RuleOf derived.Clause ExpFieldOf derived.Function (Operand Joint bare.Exp) RuleOf node_own_dec node_own_exp node_bind node_clause node_exp_field node_function node_part node_rule
-
-parameters-count : (p : Place) (k : ℕ) (as_ : List bare.Pat) (e : bare.Exp) → exp_count (fn_for p k as_ e) ≡ length as_ * 3 + exp_count e
+pub parameters-count : (p : Place) (k : ℕ) (as_ : List bare.Pat) (e : bare.Exp) → exp_count (fn_for p k as_ e) ≡ length as_ * 3 + exp_count e
 parameters-count p k [] e = omega arith
 parameters-count p k (a ∷ as_) e = let h = parameters-count p (suc k) as_ e in omega (arith, h)
 
@@ -61,50 +41,37 @@ taken-many p [] l = refl
 taken-many p (a ∷ []) l = absurd (l refl)
 taken-many p (a ∷ b ∷ as_) l = let h = fresh-count p 1 1 (a ∷ b ∷ as_) in omega (arith, h)
 
-head-count : (g : derived.Function) → binds_count (binds_of (function_head g ∷ []))
-    ≡ 4 + length (first_pats g.clauses) * 3 + exp_count (one_or_tuple g.place (fresh_for g.place 1 (first_pats g.clauses)))
-head-count g =
+pub head-is : (g : derived.Function) → head_count g ≡ 4 + length (first_pats g.clauses) * 3 + exp_count (one_or_tuple g.place (fresh_for g.place 1 (first_pats g.clauses)))
+head-is g =
     let on = one_or_tuple g.place (fresh_for g.place 1 (first_pats g.clauses)) in
     let h = parameters-count g.place 1 (first_pats g.clauses) (derived.case_of g.place on bare.no_rules) in omega (arith, h)
 
-count-is : (g : Function) → length (first_pats (own_function_of g).clauses) ≡ length (first_pats (map own_clause_of (out-Function g).clauses.items))
+count-is : (g : Function) → length (first_pats (function_of g).clauses) ≡ length (first_pats (map clause_of (out-Function g).clauses.items))
 count-is g = ap (λ (x : derived.Function). length (first_pats x.clauses)) (function-is g)
 
-pub function-one : (g : Function) → length (first_pats (map own_clause_of (out-Function g).clauses.items)) ≡ 1 → function_nodes g ≡ 8
-function-one g l =
-    let n = count-is g ∙ l in let h = head-count (own_function_of g) in
-    let t = taken-one (own_function_of g).place (first_pats (own_function_of g).clauses) n in omega (arith, n, h, t)
+pub head-one : (g : Function) → length (first_pats (map clause_of (out-Function g).clauses.items)) ≡ 1 → head_count (function_of g) ≡ 8
+head-one g l =
+    let n = count-is g ∙ l in let h = head-is (function_of g) in
+    let t = taken-one (function_of g).place (first_pats (function_of g).clauses) n in omega (arith, n, h, t)
 
-pub function-many : (g : Function) (n : ℕ) → n ≡ length (first_pats (map own_clause_of (out-Function g).clauses.items)) → n ≢ 1 → function_nodes g ≡ n * 4 + 5
-function-many g n is l =
-    let e = count-is g in let h = head-count (own_function_of g) in
-    let t = taken-many (own_function_of g).place (first_pats (own_function_of g).clauses) (λ q. l (is ∙ (sym e ∙ q))) in omega (arith, is, e, h, t)
+pub head-many : (g : Function) (n : ℕ) → n ≡ length (first_pats (map clause_of (out-Function g).clauses.items)) → n ≢ 1 → head_count (function_of g) ≡ n * 4 + 5
+head-many g n is l =
+    let e = count-is g in let h = head-is (function_of g) in
+    let t = taken-many (function_of g).place (first_pats (function_of g).clauses) (λ q. l (is ∙ (sym e ∙ q))) in omega (arith, is, e, h, t)
 
-heads-count : (gs : List Function) → binds_count (binds_of (map function_head (map own_function_of gs))) ≡ sum_by function_nodes gs
-heads-count [] = refl
-heads-count (g ∷ gs) = let c = sum_by-cons function_nodes g gs in let h = heads-count gs in omega (arith, c, h)
+-- declarations
 
--- the nodes
+pub outer-sum : (ds : List Dec) → outer_count (decs_of (map dec_of ds)) ≡ sum_by dec_nodes ds
+outer-sum [] = refl
+outer-sum (d ∷ ds) = let c = sum_by-cons dec_nodes d ds in let h = outer-sum ds in omega (arith, c, h)
 
-pub val-nodes : (p : Place) (as_ : TyvarSeq) (bs cs : Vec Bind Global) → dec_nodes (decs.Val p as_ bs cs) ≡ sum_by bind_nodes cs.items + 1
-val-nodes p as_ bs cs =
-    let e = ap dec_nodes (sym (decs.rolls-Val p as_ bs cs)) ∙ ap dec_count (fold-roll-Dec bare.Dec bare.Exp RuleOf derived.Clause ExpFieldOf derived.Function (Operand Joint bare.Exp) RuleOf node_own_dec node_own_exp node_bind node_clause node_exp_field node_function node_part node_rule (Dec-F.Val p as_ bs cs)) in
-    let h = binds-count cs.items in omega (arith, e, h)
-
-pub fun-nodes : (p : Place) (as_ : TyvarSeq) (gs : Vec Function Global) → dec_nodes (decs.Fun p as_ gs) ≡ sum_by function_nodes gs.items + 1
-fun-nodes p as_ gs =
-    let e = ap dec_nodes (sym (decs.rolls-Fun p as_ gs)) ∙ ap dec_count (fold-roll-Dec bare.Dec bare.Exp RuleOf derived.Clause ExpFieldOf derived.Function (Operand Joint bare.Exp) RuleOf node_own_dec node_own_exp node_bind node_clause node_exp_field node_function node_part node_rule (Dec-F.Fun p as_ gs)) in
-    let h = heads-count gs.items in omega (arith, e, h)
-
-pub local-nodes : (p : Place) (ds es : Vec Dec Global) → dec_nodes (decs.Local p ds es) ≡ sum_by dec_nodes ds.items + sum_by dec_nodes es.items + 1
+pub local-nodes : (p : Place) (ds es : Vec Dec Global) → dec_nodes (decs.Local p ds es) ≡ 1 + (outer_count (decs_of (map dec_of ds.items)) + outer_count (decs_of (map dec_of es.items)))
 local-nodes p ds es =
-    let e = ap dec_nodes (sym (decs.rolls-Local p ds es)) ∙ ap dec_count (fold-roll-Dec bare.Dec bare.Exp RuleOf derived.Clause ExpFieldOf derived.Function (Operand Joint bare.Exp) RuleOf node_own_dec node_own_exp node_bind node_clause node_exp_field node_function node_part node_rule (Dec-F.Local p ds es)) in
-    let h = decs-count ds.items in let k = decs-count es.items in omega (arith, e, h, k)
+    ap dec_nodes (sym (decs.rolls-Local p ds es)) ∙ ap outer_dec_count (fold-roll-Dec bare.Dec bare.Exp RuleOf derived.Clause ExpFieldOf derived.Function (Operand Joint bare.Exp) RuleOf node_dec node_exp node_bind node_clause node_exp_field node_function node_part node_rule (Dec-F.Local p ds es))
 
-pub declarations-nodes : (p : Place) (ds : Vec Dec Global) → dec_nodes (decs.Declarations p ds) ≡ sum_by dec_nodes ds.items + 1
+pub declarations-nodes : (p : Place) (ds : Vec Dec Global) → dec_nodes (decs.Declarations p ds) ≡ 1 + outer_count (decs_of (map dec_of ds.items))
 declarations-nodes p ds =
-    let e = ap dec_nodes (sym (decs.rolls-Declarations p ds)) ∙ ap dec_count (fold-roll-Dec bare.Dec bare.Exp RuleOf derived.Clause ExpFieldOf derived.Function (Operand Joint bare.Exp) RuleOf node_own_dec node_own_exp node_bind node_clause node_exp_field node_function node_part node_rule (Dec-F.Declarations p ds)) in
-    let h = decs-count ds.items in omega (arith, e, h)
+    ap dec_nodes (sym (decs.rolls-Declarations p ds)) ∙ ap outer_dec_count (fold-roll-Dec bare.Dec bare.Exp RuleOf derived.Clause ExpFieldOf derived.Function (Operand Joint bare.Exp) RuleOf node_dec node_exp node_bind node_clause node_exp_field node_function node_part node_rule (Dec-F.Declarations p ds))
 
 -- a clause
 

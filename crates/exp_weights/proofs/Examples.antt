@@ -2,11 +2,13 @@
 use Rattle.std.proofs.Common.{◌≡◌, [], ◌∷◌, refl}
 use Rattle.mlc_base.specs.declared.place.Place.{Place}
 use Rattle.sml_tree.specs.BareTree as bare
-use Rattle.sml_tree.specs.Derived.{app_of, fun_dec_of, if_of, join, join_pats, list_of, list_pat_of, sequence_of, short, tuple}
+use Rattle.sml_tree.specs.BareTree.{bind, dec, fn, let_in, local_dec, no_binds, no_decs, no_rules, open_dec, val_dec}
+use Rattle.sml_tree.specs.Derived.{Clause, Function, app_of, clause_rules, fun_dec_of, if_of, join, join_pats, list_of, list_pat_of, sequence_of, short, tuple}
 use Rattle.sml_tree.specs.Terminal.{string}
 use Rattle.sml_tree.specs.declared.ident.Vid.TheVariants.{Named}
 use Rattle.sml_tree.specs.declared.tree.Joint.TheVariants.{AndAlso, Infix}
-use Rattle.exp_weights.specs.Nodes.{dec_count, exp_count, pat_count}
+use Rattle.exp_weights.specs.Nodes.{bound_count, dec_count, exp_count, outer_count, outer_dec_count, pat_count, rules_count}
+use Rattle.exp_weights.specs.Own.{head_count, with_head}
 
 module _ (p : Place) where
   -- x, as an expression and as a pattern
@@ -54,6 +56,40 @@ module _ (p : Place) where
   a-choice : exp_count (if_of p e e e) ≡ 9
   a-choice = refl
 
+  -- x x = x
+  abbrev clause : Clause
+  clause = record { place = p; pats = a ∷ a ∷ []; body = e }
+
+  abbrev function : Function
+  function = record { place = p; vid_place = p; vid = Named 0; clauses = clause ∷ [] }
+
   -- fun x x x = x: val rec x = fn v1 => fn v2 => case (v1, v2) of (x, x) => x
-  a-function : dec_count (fun_dec_of p p [] (record { place = p; vid_place = p; vid = Named 0; clauses = record { place = p; pats = a ∷ a ∷ []; body = e } ∷ [] } ∷ [])) ≡ 19
+  a-function : dec_count (fun_dec_of p p [] (function ∷ [])) ≡ 19
   a-function = refl
+
+  -- of these the head of the function, x = fn v1 => fn v2 => case (v1, v2) of .., and its clause; one more is the declaration
+  its-head : head_count function ≡ 13
+  its-head = refl
+
+  its-clause : rules_count (clause_rules (clause ∷ [])) ≡ 5
+  its-clause = refl
+
+  -- the head is counted with the first clause alone
+  a-first-clause : with_head 13 0 5 ≡ 18
+  a-first-clause = refl
+
+  a-second-clause : with_head 13 1 5 ≡ 5
+  a-second-clause = refl
+
+  -- x = fn ..: a binding, its pattern and the function
+  a-head-behind-rec : bound_count a (fn p no_rules) ≡ 3
+  a-head-behind-rec = refl
+
+  -- local val x = x in val x = x and x = x; open end: three declarations in one
+  a-local : outer_dec_count (local_dec p (dec (val_dec p p [] (bind p a e no_binds) no_binds) no_decs)
+      (dec (val_dec p p [] (bind p a e (bind p a e no_binds)) no_binds) (dec (open_dec p []) no_decs))) ≡ 4
+  a-local = refl
+
+  -- declarations in an expression are counted with it
+  a-let : outer_count (dec (val_dec p p [] (bind p a (let_in p (dec (open_dec p []) no_decs) e) no_binds) no_binds) no_decs) ≡ 1
+  a-let = refl

@@ -6,7 +6,7 @@ use Rattle.mlc_base.specs.declared.place.Place.{Place}
 use Rattle.sml_tree.specs.BareTree as bare
 use Rattle.sml_tree.specs.Derived.{Operand, app_of, chain_of, join, left_chain, list_of, numbered, right_chain, sequence_of}
 use Rattle.sml_tree.specs.Derived as derived
-use Rattle.sml_tree.specs.TreeOf.{ExpFieldOf, RuleOf, decs_of, exp_fields_of, node_bind, node_clause, node_exp_field, node_function, node_part, node_rule}
+use Rattle.sml_tree.specs.TreeOf.{ExpFieldOf, RuleOf, dec_of, decs_of, exp_fields_of, node_bind, node_clause, node_exp_field, node_function, node_part, node_rule}
 use Rattle.sml_tree.specs.declared.tree.Dec.{Dec}
 use Rattle.sml_tree.specs.declared.tree.Exp.{Exp, Exp-F, fold-roll-Exp}
 use Rattle.sml_tree.specs.declared.tree.Exp.TheVariants as exps
@@ -14,9 +14,10 @@ use Rattle.sml_tree.specs.declared.tree.ExpField.{ExpField, fold-ExpField, fold_
 use Rattle.sml_tree.specs.declared.tree.Joint.{Joint}
 use Rattle.sml_tree.specs.declared.tree.Joint.TheVariants.{AndAlso, OrElse, Infix}
 use Rattle.sml_tree.specs.declared.tree.Part.{Part, fold-Part, fold_out-Part}
-use Rattle.exp_weights.specs.Nodes.{decs_count, exp_count, exp_fields_count}
-use Rattle.exp_weights.specs.Own.{node_own_dec, node_own_exp, own_dec_of, own_of}
-use Rattle.exp_weights.specs.Sums.{dec_nodes, exp_field_nodes, exp_nodes, joint_nodes, part_nodes}
+use Rattle.exp_weights.specs.Nodes.{exp_count, exp_fields_count, outer_count}
+use Rattle.exp_weights.specs.Own.{node_own_dec, node_own_exp, own_of}
+use Rattle.exp_weights.specs.Sums.{exp_field_nodes, exp_nodes, joint_nodes, part_nodes}
+use Rattle.exp_weights.proofs.OwnDecs.{decs-own}
 
 -- the parts of lists
 
@@ -55,7 +56,7 @@ arguments-count : (p : Place) (e : bare.Exp) (es : List Exp) → exp_count (app_
 arguments-count p e [] = omega arith
 arguments-count p e (a ∷ as_) = let c = sum_by-cons exp_nodes a as_ in let h = arguments-count p (bare.app p e (own_of a)) as_ in omega (arith, c, h)
 
-join-count : (j : Joint) (p : Place) (a b : bare.Exp) → exp_count (join j p a b) ≡ exp_count a + (exp_count b + joint_nodes j)
+pub join-count : (j : Joint) (p : Place) (a b : bare.Exp) → exp_count (join j p a b) ≡ exp_count a + (exp_count b + joint_nodes j)
 join-count AndAlso p a b = omega arith
 join-count OrElse p a b = omega arith
 join-count (Infix q v) p a b = omega arith
@@ -81,10 +82,6 @@ chain-count : (r : Bool) (p : Place) (a : bare.Exp) (os : List Part) → exp_cou
 chain-count true p a os = right-count p a os
 chain-count false p a os = left-count p a os
 
-pub decs-count : (ds : List Dec) → decs_count (decs_of (map own_dec_of ds)) ≡ sum_by dec_nodes ds
-decs-count [] = refl
-decs-count (d ∷ ds) = let c = sum_by-cons dec_nodes d ds in let h = decs-count ds in omega (arith, c, h)
-
 -- the nodes
 
 pub record-nodes : (p : Place) (fs : Vec ExpField Global) → exp_nodes (exps.Record p fs) ≡ sum_by exp_field_nodes fs.items + 1
@@ -104,10 +101,10 @@ pub sequence-nodes : (p : Place) (e : Box Exp Global) (es : Vec Exp Global) → 
 sequence-nodes p e es =
     ap exp_nodes (sym (exps.rolls-Sequence p e es)) ∙ (ap exp_count (fold-roll-Exp bare.Dec bare.Exp RuleOf derived.Clause ExpFieldOf derived.Function (Operand Joint bare.Exp) RuleOf node_own_dec node_own_exp node_bind node_clause node_exp_field node_function node_part node_rule (Exp-F.Sequence p e es)) ∙ series-count p (own_of e.value) es.items)
 
-pub let-nodes : (p : Place) (ds : Vec Dec Global) (e : Box Exp Global) → exp_nodes (exps.Let p ds e) ≡ sum_by dec_nodes ds.items + exp_nodes e.value + 1
+pub let-nodes : (p : Place) (ds : Vec Dec Global) (e : Box Exp Global) → exp_nodes (exps.Let p ds e) ≡ outer_count (decs_of (map dec_of ds.items)) + exp_nodes e.value + 1
 let-nodes p ds b =
     let e = ap exp_nodes (sym (exps.rolls-Let p ds b)) ∙ ap exp_count (fold-roll-Exp bare.Dec bare.Exp RuleOf derived.Clause ExpFieldOf derived.Function (Operand Joint bare.Exp) RuleOf node_own_dec node_own_exp node_bind node_clause node_exp_field node_function node_part node_rule (Exp-F.Let p ds b)) in
-    let h = decs-count ds.items in omega (arith, e, h)
+    let h = decs-own ds.items in omega (arith, e, h)
 
 pub apply-nodes : (p : Place) (e : Box Exp Global) (es : Vec Exp Global) → exp_nodes (exps.Apply p e es) ≡ exp_nodes e.value + sum_by exp_nodes es.items + length es.items
 apply-nodes p e es =

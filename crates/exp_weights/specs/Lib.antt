@@ -1,3 +1,4 @@
 pub mod Nodes
 pub mod Own
 pub mod Sums
+pub mod Whole

@@ -66,6 +66,17 @@ abbrev mutual
   binds_count no_binds = 0
   binds_count (bind p a e bs) = 1 + (pat_count a + exp_count e) + binds_count bs
 
+-- The declarations that no expression encloses, with those that stand in `local` and in sequences of them: themselves alone, without their bindings.
+abbrev mutual
+  pub outer_count : Decs → ℕ
+  outer_count no_decs = 0
+  outer_count (dec d ds) = outer_dec_count d + outer_count ds
+
+  pub outer_dec_count : Dec → ℕ
+  outer_dec_count (local_dec p ds es) = 1 + (outer_count ds + outer_count es)
+  outer_dec_count (sequence_dec p ds) = 1 + outer_count ds
+  outer_dec_count d = 1
+
 -- a rule or a binding: itself, its pattern and its right side
 abbrev pub bound_count : Pat → Exp → ℕ
 bound_count a e = 1 + (pat_count a + exp_count e)

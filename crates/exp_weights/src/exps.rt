@@ -2,13 +2,14 @@
 ghost use Rattle.std.specs.Prelude.{◌≡◌, ◌∷◌, [], length, map, sum_by};
 ghost use Rattle.mlc_base.specs.declared.place.Place.{Place as SourcePlace};
 ghost use Rattle.sml_tree.specs.Derived.{clause_rules, first_pats};
-ghost use Rattle.sml_tree.specs.TreeOf.{pat_of};
+ghost use Rattle.sml_tree.specs.TreeOf.{clause_of, function_of, pat_of};
 ghost use Rattle.exp_weights.specs.Nodes.{bound_count, capped, exp_count, rules_count};
-ghost use Rattle.exp_weights.specs.Own.{own_of};
-ghost use Rattle.exp_weights.specs.Sums.{bind_nodes, dec_nodes, exp_field_nodes, exp_nodes, function_nodes, joint_nodes, own_clause_of, part_nodes};
+ghost use Rattle.exp_weights.specs.Own.{head_count, own_of, with_head};
+ghost use Rattle.exp_weights.specs.Sums.{exp_field_nodes, exp_nodes, joint_nodes, part_nodes};
 
+use crate::decs::decs_nodes;
 use crate::pats::{constant_nodes, pat_nodes, pats_nodes};
-use sml_tree::tree::{Bind, Clause, Dec, Exp, ExpField, Function, Joint, Part, Pat};
+use sml_tree::tree::{Clause, Exp, ExpField, Function, Joint, Part, Pat};
 
 #[cycle(exps)]
 fn fields_nodes(fields: &[ExpField]) -> usize
@@ -52,86 +53,6 @@ fn chain_nodes(parts: &[Part]) -> usize
         nodes = nodes
             .saturating_add(operand)
             .saturating_add(joint_nodes(&parts[i].joint));
-    }
-    nodes
-}
-
-/// How many parameters the clauses of a function have.
-fn first_count(clauses: &[Clause]) -> usize
-    ensures { result ≡ length (first_pats (map own_clause_of clauses.now)) }
-{
-    if clauses.is_empty() {
-        return 0;
-    }
-    let pats: &[Pat] = &clauses[0].pats;
-    pats.len()
-}
-
-/// A function of `fun` without its clauses: its binding and its name, and a function of one rule for each parameter, the last of which applies a function
-/// to the parameters' record, or to the one parameter.
-fn function_nodes(function: &Function) -> usize
-    ensures { result ≡ capped (function_nodes function.now) }
-{
-    let count = first_count(&function.clauses);
-    if count == 1 {
-        return 8;
-    }
-    count.saturating_mul(4).saturating_add(5)
-}
-
-fn functions_nodes(functions: &[Function]) -> usize
-    ensures { result ≡ capped (sum_by function_nodes functions.now) }
-{
-    let mut nodes: usize = 0;
-    for i in 0..functions.len() {
-        nodes = nodes.saturating_add(function_nodes(&functions[i]));
-    }
-    nodes
-}
-
-#[cycle(exps)]
-fn recs_nodes(recs: &[Bind]) -> usize
-    ensures { result ≡ capped (sum_by bind_nodes recs.now) }
-{
-    let mut nodes: usize = 0;
-    for i in 0..recs.len() {
-        nodes = nodes
-            .saturating_add(exp_nodes(&recs[i].exp))
-            .saturating_add(pat_nodes(&recs[i].pat))
-            .saturating_add(1);
-    }
-    nodes
-}
-
-/// A declaration, and those inside it: bindings before `rec` are counted for themselves, and so are the rules and clauses of functions.
-#[cycle(exps)]
-fn dec_nodes(dec: &Dec) -> usize
-    ensures { result ≡ capped (dec_nodes dec.now) }
-{
-    match dec {
-        Dec::Val(_, _, _, recs) => recs_nodes(recs).saturating_add(1),
-        Dec::Fun(_, _, functions) => functions_nodes(functions).saturating_add(1),
-        Dec::Abbreviation(_, _)
-        | Dec::Datatype(_, _)
-        | Dec::Replicate(_, _, _)
-        | Dec::Exception(_, _)
-        | Dec::Open(_, _) => 1,
-        // Two declarations in a sequence.
-        Dec::Withtype(_, _, _) => 3,
-        Dec::Local(_, inner, outer) => decs_nodes(inner)
-            .saturating_add(decs_nodes(outer))
-            .saturating_add(1),
-        Dec::Declarations(_, inside) => decs_nodes(inside).saturating_add(1),
-    }
-}
-
-#[cycle(exps)]
-fn decs_nodes(decs: &[Dec]) -> usize
-    ensures { result ≡ capped (sum_by dec_nodes decs.now) }
-{
-    let mut nodes: usize = 0;
-    for i in 0..decs.len() {
-        nodes = nodes.saturating_add(dec_nodes(&decs[i]));
     }
     nodes
 }
@@ -185,4 +106,37 @@ pub fn clause_nodes(pats: &[Pat], exp: &Exp) -> usize
         return inside.saturating_add(1);
     }
     inside.saturating_add(2)
+}
+
+/// How many parameters the clauses of a function have.
+fn first_count(clauses: &[Clause]) -> usize
+    ensures { result ≡ length (first_pats (map clause_of clauses.now)) }
+{
+    if clauses.is_empty() {
+        return 0;
+    }
+    let pats: &[Pat] = &clauses[0].pats;
+    pats.len()
+}
+
+/// The head of a function of `fun`: its binding and its name, and a function of one rule for each parameter, the last of which applies a function to the
+/// parameters' record, or to the one parameter.
+pub fn head_nodes(function: &Function) -> usize
+    ensures { result ≡ capped (head_count (function_of function.now)) }
+{
+    let count = first_count(&function.clauses);
+    if count == 1 {
+        return 8;
+    }
+    count.saturating_mul(4).saturating_add(5)
+}
+
+/// The nodes of one of the rules or clauses of a function: those of the function's head are counted with the first.
+pub fn with_head(head: usize, at: usize, nodes: usize) -> usize
+    ensures { result ≡ capped (with_head head at nodes) }
+{
+    if at == 0 {
+        return head.saturating_add(nodes);
+    }
+    nodes
 }

@@ -2,5 +2,7 @@
 #![tactic(auto)]
 
 pub mod counted;
+pub mod decs;
 pub mod exps;
+pub mod law;
 pub mod pats;

@@ -1,6 +1,5 @@
 use Rattle.std.proofs.Common.{arith}
 use Rattle.exp_weights.proofs.ExpNodes.{record-nodes, tuple-nodes, list-nodes, sequence-nodes, let-nodes, apply-nodes, chain-nodes}
-use Rattle.exp_weights.proofs.DecNodes.{val-nodes, fun-nodes, local-nodes, declarations-nodes}
 use Rattle.exp_weights.proofs.exps.+exps.Goals as goal
 
 pub exp_nodes-returns-in-Record : goal.exp_nodes-returns-in-Record
@@ -52,29 +51,3 @@ exp_nodes-returns-in-Chain t c =
     (let e = chain-nodes c.in-Chain.field-0 c.in-Chain.field-1 c.in-Chain.first c.in-Chain.parts in let q = c.saturating_add-in-Chain.ensures in
     let f = rw c.deref-in-Chain.ensures at c.exp_nodes-in-Chain.ensures in
     let r = rw c.deref-in-Chain-2.ensures.value at c.chain_nodes.ensures in omega (arith, e, q, f, r))
-
-pub dec_nodes-returns-in-Val : goal.dec_nodes-returns-in-Val
-dec_nodes-returns-in-Val t c =
-    rw (c.in-Val.is)
-    (let e = val-nodes c.in-Val.field-0 c.in-Val.field-1 c.in-Val.field-2 c.in-Val.recs in let q = c.saturating_add.ensures in
-    let r = rw c.deref.ensures.value at c.recs_nodes.ensures in omega (arith, e, q, r))
-
-pub dec_nodes-returns-in-Fun : goal.dec_nodes-returns-in-Fun
-dec_nodes-returns-in-Fun t c =
-    rw (c.in-Fun.is)
-    (let e = fun-nodes c.in-Fun.field-0 c.in-Fun.field-1 c.in-Fun.functions in let q = c.saturating_add-in-Fun.ensures in
-    let r = rw c.deref-in-Fun.ensures.value at c.functions_nodes.ensures in omega (arith, e, q, r))
-
-pub dec_nodes-returns-in-Local : goal.dec_nodes-returns-in-Local
-dec_nodes-returns-in-Local t c =
-    rw (c.in-Local.is)
-    (let e = local-nodes c.in-Local.field-0 c.in-Local.inner c.in-Local.outer in let q = c.saturating_add-in-Local-2.ensures in
-    let u = c.saturating_add-in-Local.ensures in
-    let f = rw c.deref-in-Local.ensures.value at c.decs_nodes.ensures in
-    let r = rw c.deref-in-Local-2.ensures.value at c.decs_nodes-in-Local.ensures in omega (arith, e, q, u, f, r))
-
-pub dec_nodes-returns-in-Declarations : goal.dec_nodes-returns-in-Declarations
-dec_nodes-returns-in-Declarations t c =
-    rw (c.in-Declarations.is)
-    (let e = declarations-nodes c.in-Declarations.field-0 c.in-Declarations.inside in let q = c.saturating_add-in-Declarations.ensures in
-    let r = rw c.deref-in-Declarations.ensures.value at c.decs_nodes-in-Declarations.ensures in omega (arith, e, q, r))

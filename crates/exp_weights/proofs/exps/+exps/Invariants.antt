@@ -1,6 +1,6 @@
 use Rattle.std.proofs.Common.{◌≡◌, sum_by, take}
 use Rattle.exp_weights.specs.Nodes.{capped}
-use Rattle.exp_weights.specs.Sums.{bind_nodes, dec_nodes, exp_field_nodes, exp_nodes, part_nodes}
+use Rattle.exp_weights.specs.Sums.{exp_field_nodes, exp_nodes, part_nodes}
 use Rattle.exp_weights.proofs.exps.+exps.Given as goal
 
 abbrev pub invariant-fields_nodes-loop-i : goal.invariant-fields_nodes-loop-i
@@ -11,9 +11,3 @@ invariant-parts_nodes-loop-i l = l.nodes ≡ capped (sum_by exp_nodes (take l.i 
 
 abbrev pub invariant-chain_nodes-loop-i : goal.invariant-chain_nodes-loop-i
 invariant-chain_nodes-loop-i l = l.nodes ≡ capped (sum_by part_nodes (take l.i l.parts))
-
-abbrev pub invariant-recs_nodes-loop-i : goal.invariant-recs_nodes-loop-i
-invariant-recs_nodes-loop-i l = l.nodes ≡ capped (sum_by bind_nodes (take l.i l.recs))
-
-abbrev pub invariant-decs_nodes-loop-i : goal.invariant-decs_nodes-loop-i
-invariant-decs_nodes-loop-i l = l.nodes ≡ capped (sum_by dec_nodes (take l.i l.decs))
