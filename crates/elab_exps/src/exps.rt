@@ -25,7 +25,7 @@ use crate::shapes::{Shape, label_at, operator_of, shape_of};
 use elab_context::context::Context;
 use elab_state::state::State;
 use exp_weights::counted::counted;
-use exp_weights::exps::{bound_nodes, clause_nodes};
+use exp_weights::exps::{bound_nodes, clause_nodes, head_nodes, with_head};
 use general_decs::begin::{Begun, begin};
 use general_decs::rec_groups::annotate::annotate_head;
 use general_decs::rec_groups::enter::leave_heads;
@@ -311,13 +311,14 @@ fn right_of(
     Ok(finish_right(alloc, state, at, made)?)
 }
 
-/// Rules.
+/// Rules, and how many nodes the head has that stands before them.
 #[cycle(exps)]
 fn rules_from(
     alloc: Global,
     state: &mut State,
     context: &mut Context,
     rules: &[Rule],
+    head: usize,
     made: &mut RulesMade,
 ) -> Result<(), Stopped>
     requires context { StandsIn state.old context.old }
@@ -335,7 +336,7 @@ fn rules_from(
         let domain = made.domain;
         let begun = begin_rule(alloc, state, context, place, domain, &rules[i].pat)?;
         let exp = elab_exp(alloc, state, context, &rules[i].exp)?;
-        let nodes = bound_nodes(&rules[i].pat, &rules[i].exp);
+        let nodes = with_head(head, i, bound_nodes(&rules[i].pat, &rules[i].exp));
         let side = counted(alloc, state, context, nodes, exp)?;
         end_rule(alloc, state, context, place, begun, side, made)?;
     }
@@ -356,7 +357,7 @@ fn function_of(
     ensures is { IfOk result (λ r. IsExp state.old context.old (fn_exp place (rules_of (map rule_of rules.now))) state.new r) }
 {
     let mut made = start_function(alloc, state, context)?;
-    rules_from(alloc, state, context, rules, &mut made)?;
+    rules_from(alloc, state, context, rules, 0, &mut made)?;
     Ok(by_rules(alloc, state, context, place, made)?)
 }
 
@@ -377,7 +378,7 @@ fn case_from(
         → IsExp S context.old (app p (fn_exp q (rules_of (map rule_of rules.now))) e) state.new r) }
 {
     let mut made = start_case(alloc, state, context, &taken)?;
-    rules_from(alloc, state, context, rules, &mut made)?;
+    rules_from(alloc, state, context, rules, 0, &mut made)?;
     Ok(case_of(alloc, state, context, place, taken, made)?)
 }
 
@@ -428,7 +429,7 @@ fn handle_of(
     };
     let body = elab_exp(alloc, state, context, body)?;
     let mut made = start_handle(alloc, state, context, &body)?;
-    rules_from(alloc, state, context, rules, &mut made)?;
+    rules_from(alloc, state, context, rules, 0, &mut made)?;
     Ok(handling(alloc, state, context, body, made)?)
 }
 
@@ -595,7 +596,8 @@ fn rec_of(
     };
     annotate_head(alloc, state, context, &bind.pat, ty)?;
     let mut made = start_function(alloc, state, context)?;
-    rules_from(alloc, state, context, rules, &mut made)?;
+    let head = bound_nodes(&bind.pat, &bind.exp);
+    rules_from(alloc, state, context, rules, head, &mut made)?;
     Ok(function_by_rules(alloc, state, context, *place, made)?)
 }
 
@@ -628,13 +630,14 @@ fn recs_from(
     Ok(funs)
 }
 
-/// Clauses, each a rule on what the parameters take.
+/// Clauses, each a rule on what the parameters take, and how many nodes the head has that stands before them.
 #[cycle(exps)]
 fn clauses_from(
     alloc: Global,
     state: &mut State,
     context: &mut Context,
     clauses: &[Clause],
+    head: usize,
     made: &mut RulesMade,
 ) -> Result<(), Stopped>
     requires context { StandsIn state.old context.old }
@@ -652,7 +655,7 @@ fn clauses_from(
         let domain = made.domain;
         let begun = begin_clause(alloc, state, context, place, domain, &clauses[i].pats)?;
         let exp = elab_exp(alloc, state, context, &clauses[i].exp)?;
-        let nodes = clause_nodes(&clauses[i].pats, &clauses[i].exp);
+        let nodes = with_head(head, i, clause_nodes(&clauses[i].pats, &clauses[i].exp));
         let side = counted(alloc, state, context, nodes, exp)?;
         end_rule(alloc, state, context, place, begun, side, made)?;
     }
@@ -668,6 +671,7 @@ fn clauses_on(
     place: Place,
     taken: TypedExp,
     clauses: &[Clause],
+    head: usize,
 ) -> Result<TypedExp, Stopped>
     requires context { StandsIn state.old context.old }
     requires taken { HasType state.old taken.ty }
@@ -676,7 +680,7 @@ fn clauses_on(
         → IsExp S context.old (app p (fn_exp q (rules_of (map clause_rule clauses.now))) e) state.new r) }
 {
     let mut made = start_case(alloc, state, context, &taken)?;
-    clauses_from(alloc, state, context, clauses, &mut made)?;
+    clauses_from(alloc, state, context, clauses, head, &mut made)?;
     Ok(case_of(alloc, state, context, place, taken, made)?)
 }
 
@@ -698,7 +702,8 @@ fn clausal_of(
     let mark = context.values.mark();
     let entered = enter_parameters(alloc, state, context, place, count)?;
     let operand = taken(alloc, state, context, place, count)?;
-    let body = clauses_on(alloc, state, context, place, operand, clauses)?;
+    let head = head_nodes(function);
+    let body = clauses_on(alloc, state, context, place, operand, clauses, head)?;
     leave(context, mark);
     Ok(finish_clauses(alloc, state, entered, body)?)
 }

@@ -102,3 +102,43 @@ fn a_long_chain_runs(rt: HostRuntime) -> Result<(), Fail> {
     check_sml(&rt, rt.alloc(), chain(rt.alloc(), 50_000), row)?;
     Ok(())
 }
+
+/// A string that leaves room for some eleven hundred nodes beside those of the prelude, and a declaration so many times behind it.
+fn behind_a_string(alloc: Global, declaration: &str, times: usize) -> Result<String, NoMemory> {
+    let opened = followed(alloc, "val s = \"", "a", 1_046_576)?;
+    let closed = followed(alloc, opened.as_str(), "\"\n", 1)?;
+    followed(alloc, closed.as_str(), declaration, times)
+}
+
+const TOO_MANY_NODES: Row = Row {
+    err: "p.mlb:1.1: E41 expansion over 1048576 nodes\n",
+    ..REFUSED
+};
+
+#[test]
+fn declarations_and_heads_of_functions_count(rt: HostRuntime) -> Result<(), Fail> {
+    let declaration = "local type t = int in end\n";
+    let recursive = "val rec f = fn _ => ()\n";
+    let function = "fun f _ _ _ _ _ _ _ = ()\n";
+    let inner = "val () = let fun f _ _ _ _ _ _ _ = () in ignore (f 1); ignore (f \"\") end\n";
+    for (text, within, over) in [
+        (declaration, 500, 1_000),
+        (recursive, 100, 200),
+        (function, 20, 40),
+        (inner, 6, 10),
+    ] {
+        check_sml(
+            &rt,
+            rt.alloc(),
+            behind_a_string(rt.alloc(), text, within),
+            NOTHING,
+        )?;
+        check_sml(
+            &rt,
+            rt.alloc(),
+            behind_a_string(rt.alloc(), text, over),
+            TOO_MANY_NODES,
+        )?;
+    }
+    Ok(())
+}

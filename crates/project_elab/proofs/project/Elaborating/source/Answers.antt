@@ -18,7 +18,8 @@ returns-clause-elaborated c =
     let D = c.decs_from.new.context in
     let ds = map dec_of c.args.decs.now in
     let k = c.in_ok-choose_classes.ensures in
-    source-more e (record { state = U; context = D; body = c.decs_from.new.made }) ds c.new-brought.result c.decs_from.new.brought c.requires
+    source-more e (record { state = U; context = D; body = c.decs_from.new.made; nodes = c.saturating_add-self.result }) ds c.new-brought.result c.decs_from.new.brought c.requires
+    (let n = c.decs_nodes.ensures in let s = c.saturating_add-self.ensures in omega (arith, n, s))
     (declared-later e.state T U e.context D ds k.grows k.next e.body.items c.decs_from.new.made.items c.new-brought.result c.decs_from.new.brought
     c.in_ok-decs_from.ensures)
 
