@@ -13,10 +13,10 @@ loop-left-preserved c =
     let q = c.loop-left-test.true in
     let later : List (List ℕ) = items_of (drop c.loop-left.left c.args.sets.now) in
     let all : c.deref.result.now ∷ later ≡ items_of (drop (c.loop-left.left - 1) c.args.sets.now) =
-        sets-left c.args.sets.now c.loop-left.left (c.loop-left.left - 1) c.index-sets-left.result c.index-sets-left.result c.deref.result.now (omega (arith, q)) (omega (arith, w, q)) c.index-sets-left.is c.deref.ensures.value in
+    sets-left c.args.sets.now c.loop-left.left (c.loop-left.left - 1) c.index-sets-left.result c.index-sets-left.result c.deref.result.now (omega (arith, q)) (omega (arith, w, q)) c.index-sets-left.is c.deref.ensures.value in
     let both : c.if-new.once ≡ (c.in_ok-new.new && c.loop-left.once) =
-        elim c.if-new.branch
-        [ then-new v ↦ v.once-is ∙ sym (ap (λ (b : Bool). b && c.loop-left.once) v.if-new.true) | else-new v ↦ v.once-is ∙ v.if-new.false ∙ sym (ap (λ (b : Bool). b && c.loop-left.once) v.if-new.false) ] in
+    elim c.if-new.branch
+    [ then-new v ↦ v.once-is ∙ sym (ap (λ (b : Bool). b && c.loop-left.once) v.if-new.true) | else-new v ↦ v.once-is ∙ v.if-new.false ∙ sym (ap (λ (b : Bool). b && c.loop-left.once) v.if-new.false) ] in
     record {
       within = omega (arith, w);
       placed = λ k. c.in_ok-new.ensures.places later c.loop-left.invariant.placed k ∙ ap (λ l. placed l k) all;
