@@ -3,4 +3,3 @@ pub mod Seen
 pub mod Finding
 pub mod Picking
 pub mod Repeating
-pub mod Growing

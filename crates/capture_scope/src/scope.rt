@@ -1,5 +1,5 @@
 // What the body of a function finds.
-ghost use Rattle.std.specs.Prelude.{◌≡◌, ◌∷◌, ◌++◌, [], length, take, IfOk, IfErr, OnErr};
+ghost use Rattle.std.specs.Prelude.{◌≡◌, ◌∷◌, ◌++◌, [], length, IfOk, IfErr, OnErr};
 ghost use Rattle.closure_convert.specs.of_flow_sets.Member.{is_in};
 ghost use Rattle.closure_convert.specs.Scope.{names, add, top};
 ghost use Rattle.closure_convert.specs.Closed.{scope_of};
@@ -188,21 +188,6 @@ impl Scope {
     {
         self.leave_to(0);
         self.add(parameter)?;
-        Ok(())
-    }
-
-    /// Leaves all that is bound, for the body of a function alone that captured what was captured here, and more behind it.
-    pub fn grow(&mut self, captured: &[usize]) -> Result<(), ScopeFault>
-        requires alone { self.old.group ≡ [] }
-        requires front { take (length self.old.captured) captured.now ≡ self.old.captured }
-        ensures ok { IfOk result (λ _. self.new ≡ record { locals = []; group = []; captured = captured.now }) }
-        ensures twice { IfErr result (λ fault. fault ≡ BoundTwice → Repeats captured.now) }
-    {
-        self.seen.truncate(self.captured);
-        while self.captured < captured.len() {
-            see(&mut self.seen, captured[self.captured])?;
-            self.captured += 1;
-        }
         Ok(())
     }
 

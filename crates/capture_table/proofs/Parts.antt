@@ -2,6 +2,7 @@
 use Rattle.std.proofs.Common.{◌≡◌, ℕ, zero, suc, ◌+◌, ◌-◌, ◌<◌, ◌≤◌, List, [], ◌∷◌, ◌++◌, take, drop, length, get_or, slice_get, Some, None, refl, sym, ap, ap₂, subst, ◌∙◌, arith}
 use Rattle.std.proofs.lemmas.List.{take-append-le, drop-append-le, take-take, length-drop, length-append}
 use Rattle.closure_convert.specs.Capture as clean
+use Rattle.closure_convert.specs.Capture.{captured_in, pieces_in}
 use Rattle.capture_scope.specs.declared.piece.Piece as code_piece
 use Rattle.capture_scope.specs.Found.{pieces_of}
 use Rattle.capture_table.specs.declared.found.Part.{Part}

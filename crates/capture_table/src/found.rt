@@ -134,19 +134,6 @@ impl Found {
         }
     }
 
-    /// Whether it is known that what the first captures is a front of what the second does: where both are parts of one list.
-    pub fn is_front(&self, first: usize, second: usize) -> bool
-        ensures { result ≡ true → take (length (captured_in (slice_get self.now first))) (captured_in (slice_get self.now second))
-            ≡ captured_in (slice_get self.now first) }
-    {
-        if first >= self.entries.len() || second >= self.entries.len() {
-            return false;
-        }
-        let front = self.entries[first].captured;
-        let whole = self.entries[second].captured;
-        front.from == whole.from && front.to <= whole.to
-    }
-
     /// The pieces of the closure of the function at a place.
     pub fn pieces_at(&self, place: usize) -> &[Piece]
         ensures { pieces_of result.now ≡ pieces_in (slice_get self.now place) }

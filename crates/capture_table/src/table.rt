@@ -1,5 +1,5 @@
 // The table of captures.
-ghost use Rattle.std.specs.Prelude.{◌≡◌, [], ℕ, true, List, length, take, IfOk, IfErr};
+ghost use Rattle.std.specs.Prelude.{◌≡◌, [], ℕ, List, slice_get, IfOk, IfErr};
 ghost use Rattle.closure_convert.specs.Scope.{index_of, top};
 ghost use Rattle.closure_convert.specs.Capture.{entry_of, captured_in, pieces_in, tabulate};
 ghost use Rattle.capture_scope.specs.Found.{pieces_of};
@@ -56,20 +56,6 @@ impl Captures {
         match self.places.get(&function) {
             Some(place) => self.found.pieces_at(*place),
             None => &[],
-        }
-    }
-
-    /// Whether it is known that what the first captures is a front of what the second does, as it is of two functions that a curried one gives.
-    pub fn is_front(&self, first: usize, second: usize) -> bool
-        ensures { result ≡ true → take (length (captured_in (entry_of first self.now))) (captured_in (entry_of second self.now))
-            ≡ captured_in (entry_of first self.now) }
-    {
-        match self.places.get(&first) {
-            Some(front) => match self.places.get(&second) {
-                Some(whole) => self.found.is_front(*front, *whole),
-                None => false,
-            },
-            None => false,
         }
     }
 
