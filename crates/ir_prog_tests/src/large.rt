@@ -149,12 +149,18 @@ fn put(alloc: Global, text: &mut Text, large: Large) -> Made<()> {
     }
 }
 
+/// This, where all parts were taken.
+fn if_done(text: &Text, says: Check) -> Check {
+    if text.is_done() { says } else { Check::Memory }
+}
+
 /// What the checker says of a large program.
 fn judged(alloc: Global, large: Large) -> Made<Check> {
     let mut text = Text::new(alloc);
     put(alloc, &mut text, large)?;
     let body = text.body(alloc);
-    Ok(answered(alloc, GIVEN, EXN, body).says)
+    let says = answered(alloc, GIVEN, EXN, body).says;
+    Ok(if_done(&text, says))
 }
 
 #[test]

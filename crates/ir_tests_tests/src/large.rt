@@ -128,11 +128,17 @@ fn put(alloc: Global, text: &mut Text, large: Large) -> Result<(), NoMemory> {
     }
 }
 
+/// This, where all parts were taken.
+fn if_done(text: &Text, says: Check) -> Check {
+    if text.is_done() { says } else { Check::Memory }
+}
+
 /// What the checker says of a large program.
 fn judged(alloc: Global, large: Large) -> Result<Check, NoMemory> {
     let mut text = Text::new(alloc);
     put(alloc, &mut text, large)?;
-    Ok(answered(alloc, &mut text, GIVEN, EXN).says)
+    let says = answered(alloc, &mut text, GIVEN, EXN).says;
+    Ok(if_done(&text, says))
 }
 
 #[test]
