@@ -69,7 +69,8 @@ fn rest_of(
 }
 
 /// A program that has no function by itself as one without function values, by any sets: of a well formed one, by sets that solve, the outcome is the same at
-/// every number of turns; by orderly ones it is well formed; where no function stands twice in them, the tags of each are 0, 1, 2 and so on. Its exceptions are those of the program and of the basis, and it is at most four times as large.
+/// every number of turns; by orderly ones it is well formed; where no function stands twice in them, the tags of each are 0, 1, 2 and so on. Its exceptions are
+/// those of the program and of the basis, and it is at most four times as large.
 /// None only for want of memory, or where a variable is bound that is visible already, as it is only where one is bound twice.
 pub fn convert(
     alloc: Global,

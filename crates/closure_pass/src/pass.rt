@@ -23,8 +23,8 @@ use mono_form::program::Program;
 use std::alloc::Global;
 
 /// A program without function values, and what it keeps of a well formed one: the outcome at every number of turns; that it is well formed; its exceptions and
-/// its expansion. What is a function by itself becomes a `fn`, and the sets are all functions of each type, with the tags 0, 1, 2 and so on in each. None only for want of memory or of numbers, or
-/// where a variable is bound twice.
+/// its expansion. What is a function by itself becomes a `fn`, and the sets are all functions of each type, with the tags 0, 1, 2 and so on in each. None only
+/// for want of memory or of numbers, or where a variable is bound twice.
 pub fn convert_program(alloc: Global, program: Program) -> Result<First, PassFault>
     ensures made { IfOk result (λ to. target.program_of to ≡ without_functions (texts (strings_of program.tables)) (source.program_of program)) }
     ensures same { source.IsWellFormed program → IfOk result (λ to. (turns : ℕ) → meaning (target.program_of to) turns ≡ source.meaning program turns) }

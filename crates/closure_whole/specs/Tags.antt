@@ -1,4 +1,5 @@
--- Tags of functions. Where no function stands twice in the sets, its place in its set is its tag, so those of a set are 0, 1, 2 and so on; elsewhere its number is.
+-- Tags of functions. Where no function stands twice in the sets, its place in its set is its tag, so those of a set are 0, 1, 2 and so on; elsewhere its number
+-- is.
 use Rattle.std.specs.Prelude.{◌≡◌, ℕ, zero, suc, Bool, true, false, List, [], ◌∷◌, if◌then◌else◌, ⊤}
 use Rattle.std.specs.List.{AllByRecursion, concat}
 use Rattle.first_values.specs.Operations.{Member}
